@@ -1,0 +1,4 @@
+pub mod Scan
+pub mod Codes
+pub mod Text
+pub mod ChainScans

@@ -1,0 +1,6 @@
+//! The model of a scan chain: TAP controllers, scans, and the meaning of SVF text.
+#![tactic(auto)]
+
+mod scan;
+
+pub use scan::Shape;
