@@ -1,0 +1,314 @@
+// The chain file.
+ghost use Rattle.std.specs.Prelude.{◌≡◌, ◌<◌, ◌≤◌, ◌^◌, List, map, length, IfOk, IsTrue, Some, None, option_map, option_copied, codes, if◌then◌else◌};
+ghost use Rattle.std.specs.Str.{bytes_eq};
+ghost use Rattle.board_files.specs.Reading.{Gives};
+ghost use Rattle.board_files.specs.ChainLines.{package_of, decimal_from, length_of, is_bit, device_of, bypass_of, inert_of, supply_of, pull_of, link_of, statement_of, chain_line, chain_lines};
+
+use crate::fault::LineFault;
+use crate::words::{
+    first_line, is_part, is_symbol, is_word, one_of, three_of, two_of, upper, words,
+};
+use board_defs::Name;
+use std::alloc::{AllocError, Global};
+use std::marker::Model;
+
+#[derive(Drop)]
+pub enum ChainStatement {
+    Device {
+        part: Name,
+        entity: Name,
+        package: Option<Name>,
+    },
+    Bypass {
+        part: Name,
+        length: u32,
+    },
+    Inert {
+        part: Name,
+    },
+    Supply {
+        net: Name,
+    },
+    Pull {
+        net: Name,
+        value: bool,
+    },
+    Link {
+        part: Name,
+        first: Name,
+        second: Name,
+    },
+}
+
+#[derive(Drop)]
+pub struct ChainLine {
+    pub line: u32,
+    pub statement: ChainStatement,
+}
+
+/// A chain file, seen as the list of its lines.
+#[derive(Drop)]
+pub struct ChainFile {
+    lines: Vec<ChainLine>,
+}
+
+impl Model for ChainFile {
+    ghost use Rattle.std.specs.Prelude.{List};
+    ghost use Rattle.board_files.specs.declared.chain_file.ChainLine.{ChainLine};
+
+    ghost Value = { List ChainLine };
+
+    ghost view = { λ a. a.lines.items };
+}
+
+impl ChainFile {
+    pub fn of(lines: Vec<ChainLine>) -> ChainFile
+        ensures { result ≡ lines.items }
+    {
+        ChainFile { lines }
+    }
+
+    pub fn lines(&self) -> &[ChainLine]
+        ensures { result.now ≡ self.now }
+    {
+        &self.lines
+    }
+}
+
+/// The lines of a chain file, or its first faulty line.
+pub fn chain(alloc: Global, bytes: &[u8]) -> Result<ChainFile, LineFault>
+    requires { length bytes.now < 2 ^ 32 }
+    ensures { Gives result (chain_lines bytes.now) }
+{
+    let mut lines = Vec::new(alloc);
+    let mut rest = Some(bytes);
+    let mut number = 1usize;
+    while let Some(text) = rest {
+        let (line, after) = first_line(text);
+        let words = words(alloc, line)?;
+        if !words.is_empty() {
+            lines.push(chain_line(alloc, number as u32, &words)?)?;
+        }
+        number += 1;
+        rest = after;
+    }
+    Ok(ChainFile::of(lines))
+}
+
+fn chain_line(alloc: Global, line: u32, words: &[&[u8]]) -> Result<ChainLine, LineFault>
+    ensures { Gives result (chain_line line (map (λ w. w.now) words.now)) }
+{
+    match words {
+        [] => Err(LineFault::Statement(line)),
+        [name, rest @ ..] => {
+            let statement = statement(alloc, line, name, rest)?;
+            Ok(ChainLine { line, statement })
+        }
+    }
+}
+
+#[tactic(auto, unfolding(crate::specs::ChainLines::statement_of))]
+fn statement(
+    alloc: Global,
+    line: u32,
+    name: &[u8],
+    words: &[&[u8]],
+) -> Result<ChainStatement, LineFault>
+    ensures { Gives result (statement_of line name.now (map (λ w. w.now) words.now)) }
+{
+    if name == b"DEVICE".as_slice() {
+        device(alloc, line, three_of(words))
+    } else if name == b"BYPASS".as_slice() {
+        bypass(alloc, line, two_of(words))
+    } else if name == b"INERT".as_slice() {
+        inert(alloc, line, one_of(words))
+    } else if name == b"SUPPLY".as_slice() {
+        supply(alloc, line, one_of(words))
+    } else if name == b"PULL".as_slice() {
+        pull(alloc, line, two_of(words))
+    } else if name == b"LINK".as_slice() {
+        link(alloc, line, three_of(words))
+    } else {
+        Err(LineFault::Statement(line))
+    }
+}
+
+fn package_of(alloc: Global, word: &[u8]) -> Result<Option<Name>, AllocError>
+    ensures { IfOk result (λ name. name ≡ package_of word.now) }
+{
+    if word == b"-".as_slice() {
+        Ok(None)
+    } else {
+        Ok(Some(upper(alloc, word)?))
+    }
+}
+
+fn device(
+    alloc: Global,
+    line: u32,
+    words: Option<(&[u8], &[u8], &[u8])>,
+) -> Result<ChainStatement, LineFault>
+    ensures { Gives result (device_of line (option_map (λ w. (w.0.now, w.1.now, w.2.now)) words.entry)) }
+{
+    match words {
+        None => Err(LineFault::Statement(line)),
+        Some((part, entity, package)) => {
+            if is_part(part) && is_word(entity) && is_word(package) {
+                Ok(ChainStatement::Device {
+                    part: Name::of(alloc, part)?,
+                    entity: upper(alloc, entity)?,
+                    package: package_of(alloc, package)?,
+                })
+            } else {
+                Err(LineFault::Word(line))
+            }
+        }
+    }
+}
+
+/// The number that at most three digits spell.
+fn decimal(word: &[u8]) -> Option<u32>
+    requires { length word.now ≤ 3 }
+    ensures { result ≡ decimal_from 0 word.now }
+{
+    let mut n = 0u32;
+    for digit in word {
+        if !digit.is_ascii_digit() {
+            return None;
+        }
+        n = 10 * n + u32::from(*digit - b'0');
+    }
+    Some(n)
+}
+
+fn length_of(word: &[u8]) -> Option<u32>
+    ensures { result ≡ length_of word.now }
+{
+    if word.len() <= 3 {
+        match decimal(word) {
+            Some(n) => { if 2 <= n && n <= 255 { Some(n) } else { None } }
+            None => None,
+        }
+    } else {
+        None
+    }
+}
+
+fn bypass(
+    alloc: Global,
+    line: u32,
+    words: Option<(&[u8], &[u8])>,
+) -> Result<ChainStatement, LineFault>
+    ensures { Gives result (bypass_of line (option_map (λ w. (w.0.now, w.1.now)) words.entry)) }
+{
+    match words {
+        None => Err(LineFault::Statement(line)),
+        Some((part, digits)) => {
+            if is_part(part) && is_word(digits) {
+                match length_of(digits) {
+                    Some(length) => Ok(ChainStatement::Bypass {
+                        part: Name::of(alloc, part)?,
+                        length,
+                    }),
+                    None => Err(LineFault::Number(line)),
+                }
+            } else {
+                Err(LineFault::Word(line))
+            }
+        }
+    }
+}
+
+fn inert(alloc: Global, line: u32, word: Option<&[u8]>) -> Result<ChainStatement, LineFault>
+    ensures { Gives result (inert_of line (option_copied word.entry)) }
+{
+    match word {
+        None => Err(LineFault::Statement(line)),
+        Some(part) => {
+            if is_part(part) {
+                Ok(ChainStatement::Inert {
+                    part: Name::of(alloc, part)?,
+                })
+            } else {
+                Err(LineFault::Word(line))
+            }
+        }
+    }
+}
+
+fn supply(alloc: Global, line: u32, word: Option<&[u8]>) -> Result<ChainStatement, LineFault>
+    ensures { Gives result (supply_of line (option_copied word.entry)) }
+{
+    match word {
+        None => Err(LineFault::Statement(line)),
+        Some(net) => {
+            if is_word(net) {
+                Ok(ChainStatement::Supply {
+                    net: Name::of(alloc, net)?,
+                })
+            } else {
+                Err(LineFault::Word(line))
+            }
+        }
+    }
+}
+
+fn pull(
+    alloc: Global,
+    line: u32,
+    words: Option<(&[u8], &[u8])>,
+) -> Result<ChainStatement, LineFault>
+    ensures { Gives result (pull_of line (option_map (λ w. (w.0.now, w.1.now)) words.entry)) }
+{
+    match words {
+        None => Err(LineFault::Statement(line)),
+        Some((net, value)) => {
+            if is_word(net) && is_word(value) {
+                match bit_of(value) {
+                    Some(value) => Ok(ChainStatement::Pull {
+                        net: Name::of(alloc, net)?,
+                        value,
+                    }),
+                    None => Err(LineFault::Number(line)),
+                }
+            } else {
+                Err(LineFault::Word(line))
+            }
+        }
+    }
+}
+
+fn bit_of(word: &[u8]) -> Option<bool>
+    ensures { result ≡ (if is_bit word.now then Some (bytes_eq word.now (codes "1")) else None) }
+{
+    if word == b"0".as_slice() {
+        Some(false)
+    } else if word == b"1".as_slice() {
+        Some(true)
+    } else {
+        None
+    }
+}
+
+fn link(
+    alloc: Global,
+    line: u32,
+    words: Option<(&[u8], &[u8], &[u8])>,
+) -> Result<ChainStatement, LineFault>
+    ensures { Gives result (link_of line (option_map (λ w. (w.0.now, w.1.now, w.2.now)) words.entry)) }
+{
+    match words {
+        None => Err(LineFault::Statement(line)),
+        Some((part, first, second)) => {
+            if is_part(part) && is_symbol(first) && is_symbol(second) {
+                Ok(ChainStatement::Link {
+                    part: Name::of(alloc, part)?,
+                    first: upper(alloc, first)?,
+                    second: upper(alloc, second)?,
+                })
+            } else {
+                Err(LineFault::Word(line))
+            }
+        }
+    }
+}

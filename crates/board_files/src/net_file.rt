@@ -1,0 +1,143 @@
+// The net file.
+ghost use Rattle.std.specs.Prelude.{◌≡◌, ◌<◌, ◌^◌, ◌∷◌, List, map, length, Option, Some, None};
+ghost use Rattle.std.specs.List.{before_first, after_first};
+ghost use Rattle.board_files.specs.Words.{is_dot};
+ghost use Rattle.board_files.specs.Reading.{Gives, GivesBy};
+ghost use Rattle.board_files.specs.NetLines.{pin_of, pins_of, net_of, net_line, net_lines};
+
+use crate::fault::LineFault;
+use crate::words::{cut_at, first_line, is_filled, is_word, upper, words};
+use board_defs::{Items, Name};
+use std::alloc::Global;
+use std::marker::Model;
+
+#[derive(Drop)]
+pub struct PinWord {
+    pub part: Name,
+    pub pin: Name,
+}
+
+/// A line of a net file. Its first pin is word 3.
+#[derive(Drop)]
+pub struct NetLine {
+    pub line: u32,
+    pub name: Name,
+    pub pins: Items<PinWord>,
+}
+
+/// A net file, seen as the list of its lines.
+#[derive(Drop)]
+pub struct NetFile {
+    lines: Vec<NetLine>,
+}
+
+impl Model for NetFile {
+    ghost use Rattle.std.specs.Prelude.{List};
+    ghost use Rattle.board_files.specs.declared.net_file.NetLine.{NetLine};
+
+    ghost Value = { List NetLine };
+
+    ghost view = { λ a. a.lines.items };
+}
+
+impl NetFile {
+    pub fn of(lines: Vec<NetLine>) -> NetFile
+        ensures { result ≡ lines.items }
+    {
+        NetFile { lines }
+    }
+
+    pub fn lines(&self) -> &[NetLine]
+        ensures { result.now ≡ self.now }
+    {
+        &self.lines
+    }
+}
+
+/// The lines of a net file, or its first faulty line.
+pub fn nets(alloc: Global, bytes: &[u8]) -> Result<NetFile, LineFault>
+    requires { length bytes.now < 2 ^ 32 }
+    ensures { Gives result (net_lines bytes.now) }
+{
+    let mut lines = Vec::new(alloc);
+    let mut rest = Some(bytes);
+    let mut number = 1usize;
+    while let Some(text) = rest {
+        let (line, after) = first_line(text);
+        let words = words(alloc, line)?;
+        if !words.is_empty() {
+            lines.push(net_line(alloc, number as u32, &words)?)?;
+        }
+        number += 1;
+        rest = after;
+    }
+    Ok(NetFile::of(lines))
+}
+
+fn net_line(alloc: Global, line: u32, words: &[&[u8]]) -> Result<NetLine, LineFault>
+    ensures { Gives result (net_line line (map (λ w. w.now) words.now)) }
+{
+    match words {
+        [keyword, rest @ ..] if *keyword == b"NET".as_slice() => net(alloc, line, rest),
+        _ => Err(LineFault::Statement(line)),
+    }
+}
+
+#[tactic(auto, unfolding(crate::specs::NetLines::net_of))]
+fn net(alloc: Global, line: u32, words: &[&[u8]]) -> Result<NetLine, LineFault>
+    ensures { Gives result (net_of line (map (λ w. w.now) words.now)) }
+{
+    match words {
+        [name, rest @ ..] => {
+            if is_word(name) {
+                let pins = pins(alloc, line, rest)?;
+                Ok(NetLine {
+                    line,
+                    name: Name::of(alloc, name)?,
+                    pins: Items::of(pins),
+                })
+            } else {
+                Err(LineFault::Word(line))
+            }
+        }
+        [] => Err(LineFault::Statement(line)),
+    }
+}
+
+fn pins(alloc: Global, line: u32, words: &[&[u8]]) -> Result<Vec<PinWord>, LineFault>
+    ensures { GivesBy (λ pins. pins.items) result (pins_of line (map (λ w. w.now) words.now)) }
+{
+    let mut pins = Vec::new(alloc);
+    for word in words {
+        pins.push(pin(alloc, line, word)?)?;
+    }
+    Ok(pins)
+}
+
+fn pin(alloc: Global, line: u32, word: &[u8]) -> Result<PinWord, LineFault>
+    ensures { Gives result (pin_of line word.now) }
+{
+    if !is_word(word) {
+        return Err(LineFault::Word(line));
+    }
+    let (part, pin) = cut(word);
+    if is_filled(part) && is_filled(pin) {
+        Ok(PinWord {
+            part: Name::of(alloc, part)?,
+            pin: upper(alloc, pin)?,
+        })
+    } else {
+        Err(LineFault::Word(line))
+    }
+}
+
+/// What stands before and behind the first `.`.
+fn cut(word: &[u8]) -> (&[u8], &[u8])
+    ensures before { result.0.now ≡ before_first is_dot word.now }
+    ensures after { result.1.now ≡ after_first is_dot word.now }
+{
+    match cut_at(word, b'.') {
+        Some((part, pin)) => (part, pin),
+        None => (word, &word[word.len()..]),
+    }
+}
