@@ -5,4 +5,4 @@ mod device;
 mod items;
 
 pub use device::Mode;
-pub use items::{Items, Name};
+pub use items::{Items, Name, Spot};

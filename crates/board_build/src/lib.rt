@@ -1,0 +1,12 @@
+//! The board that a chain file, a net file and its devices denote.
+#![tactic(auto)]
+
+mod fault;
+mod names;
+mod selection;
+
+pub use fault::BoardFault;
+pub use selection::select;
+
+#[cfg(test)]
+mod tests;
