@@ -1,5 +1,5 @@
 -- The lines of a chain file.
-use Rattle.std.specs.Prelude.{ℕ, ◌+◌, ◌*◌, ◌-◌, Bool, ◌&&◌, ◌||◌, List, [], ◌∷◌, length, nat_le, Option, Some, None, Result, Ok, Err, codes, if◌then◌else◌}
+use Rattle.std.specs.Prelude.{ℕ, ◌+◌, ◌*◌, ◌-◌, ◌≤◌, Bool, ◌&&◌, ◌||◌, List, [], ◌∷◌, length, nat_le, Option, Some, None, Result, Ok, Err, codes, if◌then◌else◌}
 use Rattle.std.specs.Str.{bytes_eq}
 use Rattle.std.specs.Char.{is_ascii_digit}
 use Rattle.board_files.specs.declared.fault.LineFault.{LineFault}
@@ -84,3 +84,12 @@ chain_line n (name ∷ words) = statement_of n name words >>= (λ said. Ok (reco
 -- the lines of a chain file, or its first faulty line
 abbrev pub chain_lines : List ℕ → Result (List ChainLine) LineFault
 chain_lines text = text_of chain_line text
+
+-- the length of a BYPASS line is from 2 to 255
+abbrev pub HasLength : ChainStatement → Type 0
+HasLength (Bypass part bits) = (2 ≤ bits) × (bits ≤ 255)
+HasLength (Device part entity pack) = Unit {0}
+HasLength (Inert part) = Unit {0}
+HasLength (Supply net) = Unit {0}
+HasLength (Pull net value) = Unit {0}
+HasLength (Link part first second) = Unit {0}

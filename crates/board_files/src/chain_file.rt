@@ -1,8 +1,9 @@
 // The chain file.
-ghost use Rattle.std.specs.Prelude.{◌≡◌, ◌<◌, ◌≤◌, ◌^◌, List, map, length, IfOk, IsTrue, Some, None, option_map, option_copied, codes, if◌then◌else◌};
+ghost use Rattle.std.specs.Prelude.{◌≡◌, ◌<◌, ◌≤◌, ◌^◌, List, map, length, vec_len, IfOk, IsTrue, Some, None, option_map, option_copied, codes, if◌then◌else◌};
 ghost use Rattle.std.specs.Str.{bytes_eq};
-ghost use Rattle.board_files.specs.Reading.{Gives};
-ghost use Rattle.board_files.specs.ChainLines.{package_of, decimal_from, length_of, is_bit, device_of, bypass_of, inert_of, supply_of, pull_of, link_of, statement_of, chain_line, chain_lines};
+ghost use Rattle.std.specs.List.{AllByRecursion};
+ghost use Rattle.board_files.specs.Reading.{Gives, GivesBy};
+ghost use Rattle.board_files.specs.ChainLines.{package_of, decimal_from, length_of, is_bit, device_of, bypass_of, inert_of, supply_of, pull_of, link_of, statement_of, chain_line, chain_lines, HasLength};
 
 use crate::fault::LineFault;
 use crate::words::{
@@ -75,10 +76,23 @@ impl ChainFile {
     }
 }
 
-/// The lines of a chain file, or its first faulty line.
+/// Reads a chain file: its lines with their numbers, or the first line that is no statement, with
+/// the first of the faults Statement, Word and Number that it has. Any bytes may stand in it.
 pub fn chain(alloc: Global, bytes: &[u8]) -> Result<ChainFile, LineFault>
     requires { length bytes.now < 2 ^ 32 }
-    ensures { Gives result (chain_lines bytes.now) }
+    ensures read { Gives result (chain_lines bytes.now) }
+    ensures lengths { IfOk result (AllByRecursion (λ line. HasLength line.statement)) }
+    ensures count { IfOk result (λ file. length file ≤ length bytes.now) }
+{
+    let lines = read_lines(alloc, bytes)?;
+    Ok(ChainFile::of(lines))
+}
+
+// The lines of a chain file, or its first faulty line.
+fn read_lines(alloc: Global, bytes: &[u8]) -> Result<Vec<ChainLine>, LineFault>
+    requires { length bytes.now < 2 ^ 32 }
+    ensures read { GivesBy (λ lines. lines.items) result (chain_lines bytes.now) }
+    ensures count { IfOk result (λ lines. vec_len lines ≤ length bytes.now) }
 {
     let mut lines = Vec::new(alloc);
     let mut rest = Some(bytes);
@@ -92,7 +106,7 @@ pub fn chain(alloc: Global, bytes: &[u8]) -> Result<ChainFile, LineFault>
         number += 1;
         rest = after;
     }
-    Ok(ChainFile::of(lines))
+    Ok(lines)
 }
 
 fn chain_line(alloc: Global, line: u32, words: &[&[u8]]) -> Result<ChainLine, LineFault>
