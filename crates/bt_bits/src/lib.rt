@@ -1,6 +1,12 @@
 //! Rows of bits and lines of bytes.
 #![tactic(auto)]
 
+mod digits;
 mod line;
+mod row;
 
-pub use line::Line;
+pub use line::{Line, MAX_LINE};
+pub use row::{HexFault, Row};
+
+#[cfg(test)]
+mod tests;
