@@ -86,9 +86,9 @@ pub fn push_digits(bits: &[bool], from: usize, count: usize, line: &mut Line)
     let end = from + count;
     let mut at = from;
     while at < end {
-        let some = PIECE.min(end - at);
-        push_piece(bits, at, some, line);
-        at += some;
+        let part = PIECE.min(end - at);
+        push_piece(bits, at, part, line);
+        at += part;
     }
 }
 
@@ -127,9 +127,8 @@ fn read_whole(text: &[u8], bits: &mut Vec<bool>) -> bool
     ensures most { length bits.new.items ≤ 4 * length text.now }
     ensures capacity { vec_capacity bits.old ≤ vec_capacity bits.new }
 {
-    let count = text.len();
-    for k in 0..count {
-        let Some(four) = digit_bits(text[count - 1 - k]) else {
+    for at in (0..text.len()).rev() {
+        let Some(four) = digit_bits(text[at]) else {
             return false;
         };
         bits.extend_from_slice(&four).unwrap();

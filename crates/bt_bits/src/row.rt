@@ -18,7 +18,8 @@ pub enum HexFault {
     Digit,
 }
 
-/// A list of bits, of which the first is shifted first, with a room. Its memory is taken when it is made.
+/// The bits of one register, the one that is shifted first at place 0, and a room that is never left. Its memory is
+/// taken when it is made.
 #[derive(Drop)]
 pub struct Row {
     bits: Vec<bool>,
@@ -60,13 +61,16 @@ impl Row {
         self.bits.resize(len as usize, false).unwrap();
     }
 
+    /// How many bits the row has.
     #[inline]
     pub fn len(&self) -> u32
-        ensures { result ≡ length self.now.bits }
+        ensures value { result ≡ length self.now.bits }
+        ensures within { result ≤ self.now.room }
     {
         self.bits.len() as u32
     }
 
+    /// One bit.
     #[inline]
     pub fn get(&self, i: u32) -> bool
         requires { i < length self.now.bits }

@@ -7,5 +7,5 @@ pub loop-at-preserved : goal.loop-at-preserved
 loop-at-preserved c = record {
   after = omega arith;
   within = omega arith;
-  pushed = pushed_more c.args.line.now c.loop-at.line c.push_piece.new.line (hex_text c.args.bits.now) c.args.from c.loop-at.at c.min-some.result c.loop-at.invariant.after c.loop-at.invariant.pushed c.push_piece.ensures;
+  pushed = pushed_more c.args.line.now c.loop-at.line c.push_piece.new.line (hex_text c.args.bits.now) c.args.from c.loop-at.at c.min-part.result c.loop-at.invariant.after c.loop-at.invariant.pushed c.push_piece.ensures;
 }
