@@ -2,3 +2,16 @@ pub mod Scan
 pub mod Codes
 pub mod Text
 pub mod ChainScans
+pub mod Tap
+pub mod TestLogic
+pub mod Register
+pub mod Part
+pub mod Chain
+pub mod Run
+pub mod Clocks
+pub mod SvfTokens
+pub mod SvfStatements
+pub mod Svf
+pub mod Registers
+pub mod Transport
+pub mod ChainTest

@@ -2,5 +2,7 @@
 #![tactic(auto)]
 
 mod scan;
+mod tap;
 
 pub use scan::Shape;
+pub use tap::TapState;

@@ -1,0 +1,3 @@
+pub mod SampleStates
+pub mod SampleTexts
+pub mod SampleRun

@@ -1,0 +1,41 @@
+-- What a chain knows of a part's test logic, and what an instruction code means to the part (IEEE 1149.1-1990, sections 6 and 7).
+use Rattle.std.specs.Prelude.{ℕ, Bool, false, cond, List, Option, Some, None}
+use Rattle.std.specs.Bool.{beq}
+use Rattle.std.specs.Cmp.Lexicographic.{pointwise}
+use Rattle.std.specs.List.{list_all}
+
+-- the current instruction. Sample is SAMPLE/PRELOAD; Idcode is that of a part whose identification code is known
+pub data Instruction : Type 0 where
+  Extest : Instruction
+  Sample : Instruction
+  Bypass : Instruction
+  Idcode : Instruction
+  Other : Instruction
+
+-- the lengths of the instruction and the boundary register; the EXTEST code and the preload code, where the part is described;
+-- what Test-Logic-Reset selects, where that is known; and the code that Idcode loads. Of a code the bit nearest TDO stands first
+pub record TestLogic : Type 0 where
+  pub ir_length : ℕ
+  pub boundary_length : ℕ
+  pub extest : Option (List Bool)
+  pub preload : Option (List Bool)
+  pub at_reset : Option Instruction
+  pub idcode : List Bool
+
+abbrev pub all_ones : List Bool → Bool
+all_ones bits = list_all (λ b. b) bits
+
+-- the bits are this code
+abbrev pub is_code : Option (List Bool) → List Bool → Bool
+is_code None bits = false
+is_code (Some code) bits = pointwise beq code bits
+
+-- the instruction that a code means: in each part the code of ones is BYPASS
+abbrev pub instruction_of : TestLogic → List Bool → Instruction
+instruction_of logic code =
+    cond (all_ones code) Bypass (cond (is_code logic.extest code) Extest (cond (is_code logic.preload code) Sample Other))
+
+-- the instruction in Test-Logic-Reset: where it is not known, BYPASS or another, as the part likes
+abbrev pub reset_instruction : Option Instruction → Bool → Instruction
+reset_instruction (Some instruction) other = instruction
+reset_instruction None other = cond other Other Bypass
