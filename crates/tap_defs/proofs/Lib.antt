@@ -1,3 +1,15 @@
+pub mod ListLemmas
+pub mod MoveLemmas
+pub mod RunLemmas
+pub mod DataLemmas
+pub mod CodeLemmas
+pub mod HeadLemmas
+pub mod InstructLemmas
+pub mod ChainTestLemmas
+pub mod FieldLemmas
+pub mod TokenLemmas
+pub mod StatementLemmas
+pub mod MeaningLemmas
 pub mod SampleStates
 pub mod SampleTexts
 pub mod SampleRun

@@ -1,7 +1,8 @@
 -- The statements of an SVF text (SVF Revision E), as far as this product writes them; any other statement has no meaning.
 use Rattle.std.specs.Prelude.{ℕ, Bool, true, false, ◌&&◌, List, [], ◌∷◌, ◌++◌, map, Option, Some, None, option_map, option_and_then, codes, bytes_eq}
 use Rattle.std.specs.Prelude.{if◌then◌else◌, nat_lt}
-use Rattle.std.specs.Str.{all_ascii_digits}
+use Rattle.std.specs.Char.{is_ascii_digit}
+use Rattle.std.specs.List.{list_all}
 use Rattle.std.specs.Str.Parse.{digits_value}
 use Rattle.bt_bits.specs.Hex.{field_bits}
 use Rattle.tap_defs.specs.Scan.{ScanBit, Scan, scan_bits}
@@ -50,7 +51,7 @@ bits_of_fields n _ = None
 
 -- the length of a scan: a decimal number, and not 0
 abbrev pub length_of : List ℕ → Option ℕ
-length_of word = if all_ascii_digits word && nat_lt 0 (digits_value 10 word) then Some (digits_value 10 word) else None
+length_of word = if list_all is_ascii_digit word && nat_lt 0 (digits_value 10 word) then Some (digits_value 10 word) else None
 
 abbrev pub scan_command : List ℕ → Option Bool
 scan_command word =

@@ -1,6 +1,7 @@
 //! The model of a scan chain: TAP controllers, scans, and the meaning of SVF text.
 #![tactic(auto)]
 
+pub mod law;
 mod scan;
 mod tap;
 
