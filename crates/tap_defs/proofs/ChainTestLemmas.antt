@@ -1,5 +1,6 @@
 -- The chain test passes on the chains that it is for, and fails on those with another number of parts.
-use Rattle.std.proofs.Common.{◌≡◌, ◌≢◌, ℕ, zero, suc, ◌+◌, ◌^◌, ◌<◌, ◌≤◌, Bool, true, false, cond, ◌&&◌, List, [], ◌∷◌, ◌++◌, length, map, take, drop, replicate, refl, sym, ◌∙◌, ap, subst, append_assoc, length-append, arith}
+use Rattle.std.proofs.Common.{◌≡◌, ◌≢◌, ℕ, zero, suc, ◌+◌, ◌^◌, ◌<◌, ◌≤◌, Bool, true, false, cond, ◌&&◌, List, [], ◌∷◌, ◌++◌, length, map, take, drop}
+use Rattle.std.proofs.Common.{replicate, refl, sym, ◌∙◌, ap, subst, append_assoc, length-append, arith}
 use Rattle.std.proofs.Math.Bool.{and-true}
 use Rattle.std.proofs.lemmas.Bool.{and_parts, and_from, and_right}
 use Rattle.std.proofs.lemmas.List.{length-map, length-replicate}
@@ -16,7 +17,7 @@ use Rattle.tap_defs.specs.Codes.{code_bits}
 use Rattle.tap_defs.specs.Text.{AllSized}
 use Rattle.tap_defs.specs.ChainScans.{marks, compared, chain_scans, chain_text}
 use Rattle.tap_defs.specs.Clocks.{sdr_clocks, sir_clocks, head_clocks, test_clocks}
-use Rattle.tap_defs.specs.Registers.{ir_registers, dr_capture, dr_captures, data_captured, codes_captured, pins_at, AllIn, AllSelectingIn}
+use Rattle.tap_defs.specs.ChainRegisters.{ir_registers, dr_capture, dr_captures, data_captured, codes_captured, pins_at, AllIn, AllSelectingIn}
 use Rattle.tap_defs.specs.Transport.{ScansCodes, scan_passes}
 use Rattle.tap_defs.specs.ChainTest.{ir_lengths, AreIrLengths, IsChainTest}
 use Rattle.tap_defs.proofs.ListLemmas.{cons_path, take_front}
@@ -68,12 +69,15 @@ abbrev AllBypass : List ChainPart → Type 0
 AllBypass [] = Unit {0}
 AllBypass (p ∷ ps) = (p.state.current ≡ Bypass) × AllBypass ps
 
-bypass_by : (ps : List ChainPart) → map (λ p. p.state.current) ps ≡ map (λ p. instruction_of p.logic p.state.ir) ps → all_ones (joined (ir_registers ps)) ≡ true → AllBypass ps
+bypass_by : (ps : List ChainPart) → map (λ p. p.state.current) ps ≡ map (λ p. instruction_of p.logic p.state.ir) ps →
+    all_ones (joined (ir_registers ps)) ≡ true → AllBypass ps
 bypass_by [] e h = tt
 bypass_by (p ∷ ps) e h =
     let head : p.state.current ≡ instruction_of p.logic p.state.ir = cc e in
     let tail : map (λ p. p.state.current) ps ≡ map (λ p. instruction_of p.logic p.state.ir) ps = cc e in
-    let both = and_parts (all_ones (joined (ir_registers ps))) (all_ones p.state.ir) (sym (list_all-append (λ b. b) (joined (ir_registers ps)) p.state.ir) ∙ h) in
+    let both =
+    and_parts (all_ones (joined (ir_registers ps))) (all_ones p.state.ir)
+    (sym (list_all-append (λ b. b) (joined (ir_registers ps)) p.state.ir) ∙ h) in
     (head ∙ ones_bypass p.logic p.state.ir both.1, bypass_by ps tail both.0)
 
 not_other : (i : Instruction) → i ≡ Bypass → i ≢ Other
@@ -88,10 +92,12 @@ zero_behind : (k : ℕ) → replicate k false ++ false ∷ [] ≡ false ∷ repl
 zero_behind zero = refl
 zero_behind (suc k) = cons_path refl (zero_behind k)
 
-loads_zeros : (ps : List ChainPart) (pins : ℕ → List Bool) (free : ℕ → FreeBits) → AllBypass ps → joined (dr_captures pins free ps) ≡ replicate (length ps) false
+loads_zeros : (ps : List ChainPart) (pins : ℕ → List Bool) (free : ℕ → FreeBits) → AllBypass ps →
+    joined (dr_captures pins free ps) ≡ replicate (length ps) false
 loads_zeros [] pins free h = refl
 loads_zeros (p ∷ ps) pins free h =
-    ap (λ (i : Instruction). joined (dr_captures (λ k. pins (suc k)) (λ k. free (suc k)) ps) ++ dr_capture p.logic (pins 0) (free 0) i (length p.state.boundary)) h.0
+    let others : List Bool = joined (dr_captures (λ k. pins (suc k)) (λ k. free (suc k)) ps) in
+    ap (λ (i : Instruction). others ++ dr_capture p.logic (pins 0) (free 0) i (length p.state.boundary)) h.0
     ∙ ap (λ (r : List Bool). r ++ false ∷ []) (loads_zeros ps (λ k. pins (suc k)) (λ k. free (suc k)) h.1)
     ∙ zero_behind (length ps)
 
@@ -152,7 +158,10 @@ module _ (lengths : List ℕ) (are : AreIrLengths lengths) (most : sum lengths �
   code_size = length-instructs (ones lengths) ∙ length-joined-sum (ones lengths) ∙ ap (λ (l : List ℕ). sum l) (lengths-ones lengths)
 
   count_size : length count_part ≡ length marks + length lengths
-  count_size = length-compared (marks ++ zeros) (zeros ++ marks) same_size ∙ length-append marks zeros ∙ ap (λ (n : ℕ). length marks + n) (length-replicate (length lengths) false)
+  count_size =
+      length-compared (marks ++ zeros) (zeros ++ marks) same_size
+      ∙ length-append marks zeros
+      ∙ ap (λ (n : ℕ). length marks + n) (length-replicate (length lengths) false)
 
   few_parts : length lengths ≤ sum lengths
   few_parts = wide_sum lengths (room_by lengths are.wide)
@@ -209,11 +218,14 @@ module _ (lengths : List ℕ) (are : AreIrLengths lengths) (most : sum lengths �
     abbrev stream : List Bool
     stream = joined captured ++ tdi_bits code_part
 
-    code_scan : ScansCodes code_part (take (length code_part) stream) (drop (length code_part) stream) (tdos wiring (sir_clocks code_part) f6 headed) headed coded
+    code_scan : ScansCodes code_part (take (length code_part) stream) (drop (length code_part) stream)
+        (tdos wiring (sir_clocks code_part) f6 headed) headed coded
     code_scan = long_code_transport wiring code_part f6 headed (head_idles wiring choices chain) some_codes
 
     coded_count : length coded ≡ length parts
-    coded_count = count_by_logics coded parts (run_logics wiring (sir_clocks code_part) f6 headed ∙ run_logics wiring head_clocks choices chain ∙ start.logics_are)
+    coded_count =
+        count_by_logics coded parts
+        (run_logics wiring (sir_clocks code_part) f6 headed ∙ run_logics wiring head_clocks choices chain ∙ start.logics_are)
 
     -- with no more instruction bits every part has BYPASS
     all_bypass : sum (ir_lengths parts) ≤ sum lengths → AllBypass coded
@@ -257,7 +269,8 @@ module _ (lengths : List ℕ) (are : AreIrLengths lengths) (most : sum lengths �
       ∙ ap (λ (r : List Bool). scan_passes count_part r) (sym (append_assoc zeros marks zeros))
       ∙ compared_passes (marks ++ zeros) (zeros ++ marks) zeros (omega (arith, same_size)))
 
-  fails : (wiring : Wiring) (parts : List TestLogic) → length parts ≢ length lengths → sum (ir_lengths parts) ≤ sum lengths → FailsOn wiring parts (test_clocks (chain_scans lengths))
+  fails : (wiring : Wiring) (parts : List TestLogic) → length parts ≢ length lengths → sum (ir_lengths parts) ≤ sum lengths →
+      FailsOn wiring parts (test_clocks (chain_scans lengths))
   fails wiring parts other few chain choices start =
       both_decide wiring parts chain choices start
       ∙ and_right (codes_pass wiring parts chain choices start) (counts_pass wiring parts chain choices start)

@@ -5,13 +5,13 @@ use Rattle.tap_defs.specs.declared.tap.TapState.{TapState}
 use Rattle.tap_defs.specs.declared.tap.TapState.TheVariants.{RunTestIdle, CaptureIR, ShiftIR, Exit1IR, UpdateIR}
 use Rattle.tap_defs.specs.Tap.{next_state}
 use Rattle.tap_defs.specs.TestLogic.{TestLogic, instruction_of}
-use Rattle.tap_defs.specs.Register.{captured_ir}
+use Rattle.tap_defs.specs.ShiftRegister.{captured_ir}
 use Rattle.tap_defs.specs.Part.{PartState, FreeBits, part_after, part_tdo}
 use Rattle.tap_defs.specs.Chain.{ChainPart, chain_after, chain_tdo}
 use Rattle.tap_defs.specs.Run.{Wiring, Clock, Choices, clock_after, clock_tdo, later, choices_after, run, tdos, run_passes}
 use Rattle.tap_defs.specs.Scan.{ScanBit, tdi_bits, joined}
 use Rattle.tap_defs.specs.Clocks.{plain, shift_clock, shift_clocks, sir_clocks}
-use Rattle.tap_defs.specs.Registers.{ir_registers, ir_captures, codes_captured, pins_at, AllIn}
+use Rattle.tap_defs.specs.ChainRegisters.{ir_registers, ir_captures, codes_captured, pins_at, AllIn}
 use Rattle.tap_defs.specs.Transport.{CodeFrame, code_frame, scan_passes, CodeTransport, LongCodeTransport}
 use Rattle.tap_defs.proofs.ListLemmas.{cons_path, take_front, drop_front, length-joined, shift_is, length-shifted, length-captured_ir}
 use Rattle.tap_defs.proofs.MoveLemmas.{with_tap, at_tap, moved_to, chain_moves, map-moved_to, ir_captures-moved_to, moved_in, run_moves}
@@ -27,7 +27,8 @@ record Captures (logic : TestLogic) (free : FreeBits) (s after : PartState) : Ty
   frame : SameFrame logic s after
   tap : after.tap ≡ ShiftIR
 
-part_captures : (logic : TestLogic) (pins : List Bool) (free : FreeBits) (tdi : Bool) (s : PartState) → s.tap ≡ CaptureIR → Captures logic free s (part_after logic pins free false tdi s)
+part_captures : (logic : TestLogic) (pins : List Bool) (free : FreeBits) (tdi : Bool) (s : PartState) → s.tap ≡ CaptureIR →
+    Captures logic free s (part_after logic pins free false tdi s)
 part_captures logic pins free tdi s e =
     at_tap (λ w. Captures logic free w (part_after logic pins free false tdi w)) CaptureIR s e (record { code = refl; frame = refl; tap = refl })
 
@@ -36,7 +37,8 @@ record ChainCaptures (codes : List (List Bool)) (ps after : List ChainPart) : Ty
   frames : map code_frame after ≡ map code_frame ps
   taps : AllIn ShiftIR after
 
-chain_captures : (ps : List ChainPart) (pins : ℕ → List Bool) (free : ℕ → FreeBits) (tdi : Bool) → AllIn CaptureIR ps → ChainCaptures (ir_captures free ps) ps (chain_after ps pins free false tdi)
+chain_captures : (ps : List ChainPart) (pins : ℕ → List Bool) (free : ℕ → FreeBits) (tdi : Bool) → AllIn CaptureIR ps →
+    ChainCaptures (ir_captures free ps) ps (chain_after ps pins free false tdi)
 chain_captures [] pins free tdi h = record { codes_are = refl; frames = refl; taps = tt }
 chain_captures (p ∷ ps) pins free tdi h =
     let e = part_captures p.logic (pins 0) (free 0) tdi p.state h.0 in
@@ -69,7 +71,8 @@ record ChainShifts (t : TapState) (tdi out : Bool) (ps after : List ChainPart) :
   frames : map code_frame after ≡ map code_frame ps
   taps : AllIn t after
 
-chain_shifts : (ps : List ChainPart) (pins : ℕ → List Bool) (free : ℕ → FreeBits) (tms tdi : Bool) → AllIn ShiftIR ps → ChainShifts (next_state ShiftIR tms) tdi (chain_tdo ps free tdi) ps (chain_after ps pins free tms tdi)
+chain_shifts : (ps : List ChainPart) (pins : ℕ → List Bool) (free : ℕ → FreeBits) (tms tdi : Bool) → AllIn ShiftIR ps →
+    ChainShifts (next_state ShiftIR tms) tdi (chain_tdo ps free tdi) ps (chain_after ps pins free tms tdi)
 chain_shifts [] pins free tms tdi h = record { register = refl; sizes = refl; frames = refl; taps = tt }
 chain_shifts (p ∷ ps) pins free tms tdi h =
     let out : Bool = part_tdo (free 0) tdi p.state in
@@ -124,7 +127,8 @@ record Updates (logic : TestLogic) (s after : PartState) : Type 0 where
   frame : SameFrame logic s after
   tap : after.tap ≡ UpdateIR
 
-part_updates : (logic : TestLogic) (pins : List Bool) (free : FreeBits) (tdi : Bool) (s : PartState) → s.tap ≡ Exit1IR → Updates logic s (part_after logic pins free true tdi s)
+part_updates : (logic : TestLogic) (pins : List Bool) (free : FreeBits) (tdi : Bool) (s : PartState) → s.tap ≡ Exit1IR →
+    Updates logic s (part_after logic pins free true tdi s)
 part_updates logic pins free tdi s e =
     at_tap (λ w. Updates logic w (part_after logic pins free true tdi w)) Exit1IR s e (record { code = refl; current = refl; frame = refl; tap = refl })
 
@@ -134,7 +138,8 @@ record ChainUpdates (ps after : List ChainPart) : Type 0 where
   frames : map code_frame after ≡ map code_frame ps
   taps : AllIn UpdateIR after
 
-chain_updates : (ps : List ChainPart) (pins : ℕ → List Bool) (free : ℕ → FreeBits) (tdi : Bool) → AllIn Exit1IR ps → ChainUpdates ps (chain_after ps pins free true tdi)
+chain_updates : (ps : List ChainPart) (pins : ℕ → List Bool) (free : ℕ → FreeBits) (tdi : Bool) → AllIn Exit1IR ps →
+    ChainUpdates ps (chain_after ps pins free true tdi)
 chain_updates [] pins free tdi h = record { codes_are = refl; currents = refl; frames = refl; taps = tt }
 chain_updates (p ∷ ps) pins free tdi h =
     let e = part_updates p.logic (pins 0) (free 0) tdi p.state h.0 in
@@ -180,7 +185,8 @@ long_code_transport wiring (b ∷ bits) choices ps h some =
     let captured : List (List Bool) = codes_captured choices ps in
     let n4 : List ChainPart = clock_after wiring (plain false) (choices 3) n3 in
     let capture : ChainCaptures captured ps n4 =
-    subst (λ (qs : List ChainPart). ChainCaptures captured ps (clock_after wiring (plain false) (choices 3) qs)) (sym n3_is) (captures_moved wiring choices ps) in
+    subst (λ (qs : List ChainPart). ChainCaptures captured ps (clock_after wiring (plain false) (choices 3) qs)) (sym n3_is)
+    (captures_moved wiring choices ps) in
     -- the shifts
     let f4 : Choices = later (later (later (later choices))) in
     let shift = all_shifts wiring b bits f4 n4 capture.taps in
@@ -195,7 +201,8 @@ long_code_transport wiring (b ∷ bits) choices ps h some =
     let after_is : run wiring clocks choices ps ≡ map (moved_to RunTestIdle) n6 = run-append wiring shifts tail f4 n4 ∙ n7_is in
     -- what leaves, and what is held
     let early : List Bool = tdos wiring (front ++ plain false ∷ []) choices ps in
-    let tdo_is : tdos wiring clocks choices ps ≡ early ++ (out ++ tdos wiring tail f5 n5) = ap (λ (r : List Bool). early ++ r) (tdos-append wiring shifts tail f4 n4) in
+    let tdo_is : tdos wiring clocks choices ps ≡ early ++ (out ++ tdos wiring tail f5 n5) =
+    ap (λ (r : List Bool). early ++ r) (tdos-append wiring shifts tail f4 n4) in
     let count : length out ≡ length (b ∷ bits) = shift.count ∙ length-map (b ∷ bits) (λ x. x.tdi) in
     let stream : List Bool = joined captured ++ tdi_bits (b ∷ bits) in
     let stream_is : out ++ joined (ir_registers n5) ≡ stream =

@@ -10,7 +10,7 @@ use Rattle.tap_defs.specs.Chain.{ChainPart, pin_states, chain_after, chain_tdo}
 use Rattle.tap_defs.specs.Run.{Wiring, Clock, Choices, clock_after, clock_tdo, later, choices_after, run, tdos, run_passes}
 use Rattle.tap_defs.specs.Scan.{ScanBit, tdi_bits, joined}
 use Rattle.tap_defs.specs.Clocks.{plain, shift_clock, shift_clocks, sdr_clocks}
-use Rattle.tap_defs.specs.Registers.{data_register, data_registers, held_bits, all_held, dr_capture, dr_captures, pins_at, data_captured, AllSelectingIn}
+use Rattle.tap_defs.specs.ChainRegisters.{data_register, data_registers, held_bits, all_held, dr_capture, dr_captures, pins_at, data_captured, AllSelectingIn}
 use Rattle.tap_defs.specs.Transport.{DataFrame, data_frame, scan_passes, DataTransport, LongDataTransport}
 use Rattle.tap_defs.proofs.ListLemmas.{cons_path, take_front, drop_front, shift_is, length-shifted}
 use Rattle.tap_defs.proofs.MoveLemmas.{at_tap, moved_to, chain_moves, map-moved_to, dr_captures-moved_to, moved_selecting, all_in, run_moves}
@@ -22,7 +22,8 @@ record Captures (register : List Bool) (logic : TestLogic) (s after : PartState)
   frame : (◌≡◌ {A = DataFrame} (data_frame (record { logic = logic; state = after })) (data_frame (record { logic = logic; state = s })))
   selecting : (after.tap ≡ ShiftDR) × (after.current ≢ Other)
 
-captures_by : (logic : TestLogic) (pins : List Bool) (free : FreeBits) (tdi : Bool) (ir : List Bool) (i : Instruction) (boundary : List Bool) (bypass : Bool) (code latches : List Bool) → i ≢ Other →
+captures_by : (logic : TestLogic) (pins : List Bool) (free : FreeBits) (tdi : Bool) (ir : List Bool) (i : Instruction) (boundary : List Bool)
+    (bypass : Bool) (code latches : List Bool) → i ≢ Other →
     let s : PartState = record { tap = CaptureDR; ir = ir; current = i; boundary = boundary; bypass = bypass; identification = code; latches = latches } in
     Captures (dr_capture logic pins free i (length boundary)) logic s (part_after logic pins free false tdi s)
 captures_by logic pins free tdi ir Extest b y c l h = record { register_is = refl; frame = refl; selecting = (refl, h) }
@@ -42,7 +43,8 @@ record ChainCaptures (registers : List (List Bool)) (ps after : List ChainPart) 
   frames : map data_frame after ≡ map data_frame ps
   selecting : AllSelectingIn ShiftDR after
 
-chain_captures : (ps : List ChainPart) (pins : ℕ → List Bool) (free : ℕ → FreeBits) (tdi : Bool) → AllSelectingIn CaptureDR ps → ChainCaptures (dr_captures pins free ps) ps (chain_after ps pins free false tdi)
+chain_captures : (ps : List ChainPart) (pins : ℕ → List Bool) (free : ℕ → FreeBits) (tdi : Bool) → AllSelectingIn CaptureDR ps →
+    ChainCaptures (dr_captures pins free ps) ps (chain_after ps pins free false tdi)
 chain_captures [] pins free tdi h = record { registers_are = refl; frames = refl; selecting = tt }
 chain_captures (p ∷ ps) pins free tdi h =
     let e = part_captures p.logic (pins 0) (free 0) tdi p.state h.0.0 h.0.1 in
@@ -60,7 +62,8 @@ record Shifts (t : TapState) (logic : TestLogic) (tdi out : Bool) (s after : Par
   frame : (◌≡◌ {A = DataFrame} (data_frame (record { logic = logic; state = after })) (data_frame (record { logic = logic; state = s })))
   selecting : (after.tap ≡ t) × (after.current ≢ Other)
 
-shifts_by : (logic : TestLogic) (pins : List Bool) (free : FreeBits) (tms tdi : Bool) (ir : List Bool) (i : Instruction) (boundary : List Bool) (bypass : Bool) (code latches : List Bool) → i ≢ Other →
+shifts_by : (logic : TestLogic) (pins : List Bool) (free : FreeBits) (tms tdi : Bool) (ir : List Bool) (i : Instruction)
+    (boundary : List Bool) (bypass : Bool) (code latches : List Bool) → i ≢ Other →
     let s : PartState = record { tap = ShiftDR; ir = ir; current = i; boundary = boundary; bypass = bypass; identification = code; latches = latches } in
     Shifts (next_state ShiftDR tms) logic tdi (part_tdo free tdi s) s (part_after logic pins free tms tdi s)
 shifts_by logic pins free true tdi ir Extest b y c l h = record { register = shift_is b tdi; size = length-shifted b tdi; frame = refl; selecting = (refl, h) }
@@ -86,7 +89,8 @@ record ChainShifts (t : TapState) (tdi out : Bool) (ps after : List ChainPart) :
   frames : map data_frame after ≡ map data_frame ps
   selecting : AllSelectingIn t after
 
-chain_shifts : (ps : List ChainPart) (pins : ℕ → List Bool) (free : ℕ → FreeBits) (tms tdi : Bool) → AllSelectingIn ShiftDR ps → ChainShifts (next_state ShiftDR tms) tdi (chain_tdo ps free tdi) ps (chain_after ps pins free tms tdi)
+chain_shifts : (ps : List ChainPart) (pins : ℕ → List Bool) (free : ℕ → FreeBits) (tms tdi : Bool) → AllSelectingIn ShiftDR ps →
+    ChainShifts (next_state ShiftDR tms) tdi (chain_tdo ps free tdi) ps (chain_after ps pins free tms tdi)
 chain_shifts [] pins free tms tdi h = record { register = refl; sizes = refl; frames = refl; selecting = tt }
 chain_shifts (p ∷ ps) pins free tms tdi h =
     let out : Bool = part_tdo (free 0) tdi p.state in
@@ -140,7 +144,8 @@ record Updates (logic : TestLogic) (s after : PartState) : Type 0 where
   frame : (◌≡◌ {A = DataFrame} (data_frame (record { logic = logic; state = after })) (data_frame (record { logic = logic; state = s })))
   selecting : (after.tap ≡ UpdateDR) × (after.current ≢ Other)
 
-updates_by : (logic : TestLogic) (pins : List Bool) (free : FreeBits) (tdi : Bool) (ir : List Bool) (i : Instruction) (boundary : List Bool) (bypass : Bool) (code latches : List Bool) → i ≢ Other →
+updates_by : (logic : TestLogic) (pins : List Bool) (free : FreeBits) (tdi : Bool) (ir : List Bool) (i : Instruction) (boundary : List Bool)
+    (bypass : Bool) (code latches : List Bool) → i ≢ Other →
     let s : PartState = record { tap = Exit1DR; ir = ir; current = i; boundary = boundary; bypass = bypass; identification = code; latches = latches } in
     Updates logic s (part_after logic pins free true tdi s)
 updates_by logic pins free tdi ir Extest b y c l h = record { held = refl; frame = refl; selecting = (refl, h) }
@@ -149,7 +154,8 @@ updates_by logic pins free tdi ir Bypass b y c l h = record { held = refl; frame
 updates_by logic pins free tdi ir Idcode b y c l h = record { held = refl; frame = refl; selecting = (refl, h) }
 updates_by logic pins free tdi ir Other b y c l h = absurd (h refl)
 
-part_updates : (logic : TestLogic) (pins : List Bool) (free : FreeBits) (tdi : Bool) (s : PartState) → s.tap ≡ Exit1DR → s.current ≢ Other → Updates logic s (part_after logic pins free true tdi s)
+part_updates : (logic : TestLogic) (pins : List Bool) (free : FreeBits) (tdi : Bool) (s : PartState) → s.tap ≡ Exit1DR → s.current ≢ Other →
+    Updates logic s (part_after logic pins free true tdi s)
 part_updates logic pins free tdi s e h =
     at_tap (λ w. Updates logic w (part_after logic pins free true tdi w)) Exit1DR s e
     (updates_by logic pins free tdi s.ir s.current s.boundary s.bypass s.identification s.latches h)
@@ -159,7 +165,8 @@ record ChainUpdates (ps after : List ChainPart) : Type 0 where
   frames : map data_frame after ≡ map data_frame ps
   selecting : AllSelectingIn UpdateDR after
 
-chain_updates : (ps : List ChainPart) (pins : ℕ → List Bool) (free : ℕ → FreeBits) (tdi : Bool) → AllSelectingIn Exit1DR ps → ChainUpdates ps (chain_after ps pins free true tdi)
+chain_updates : (ps : List ChainPart) (pins : ℕ → List Bool) (free : ℕ → FreeBits) (tdi : Bool) → AllSelectingIn Exit1DR ps →
+    ChainUpdates ps (chain_after ps pins free true tdi)
 chain_updates [] pins free tdi h = record { held = refl; frames = refl; selecting = tt }
 chain_updates (p ∷ ps) pins free tdi h =
     let e = part_updates p.logic (pins 0) (free 0) tdi p.state h.0.0 h.0.1 in
@@ -204,7 +211,8 @@ long_data_transport wiring (b ∷ bits) choices ps h some =
     let captured : List (List Bool) = data_captured wiring choices ps in
     let n3 : List ChainPart = clock_after wiring (plain false) (choices 2) n2 in
     let capture : ChainCaptures captured ps n3 =
-    subst (λ (qs : List ChainPart). ChainCaptures captured ps (clock_after wiring (plain false) (choices 2) qs)) (sym n2_is) (captures_moved wiring choices ps h) in
+    subst (λ (qs : List ChainPart). ChainCaptures captured ps (clock_after wiring (plain false) (choices 2) qs)) (sym n2_is)
+    (captures_moved wiring choices ps h) in
     -- the shifts
     let f3 : Choices = later (later (later choices)) in
     let shift = all_shifts wiring b bits f3 n3 capture.selecting in
@@ -220,7 +228,8 @@ long_data_transport wiring (b ∷ bits) choices ps h some =
     let after_is : run wiring clocks choices ps ≡ map (moved_to RunTestIdle) n5 = run-append wiring shifts tail f3 n3 ∙ n6_is in
     -- what leaves, and what is held
     let early : List Bool = tdos wiring (front ++ plain false ∷ []) choices ps in
-    let tdo_is : tdos wiring clocks choices ps ≡ early ++ (out ++ tdos wiring tail f4 n4) = ap (λ (r : List Bool). early ++ r) (tdos-append wiring shifts tail f3 n3) in
+    let tdo_is : tdos wiring clocks choices ps ≡ early ++ (out ++ tdos wiring tail f4 n4) =
+    ap (λ (r : List Bool). early ++ r) (tdos-append wiring shifts tail f3 n3) in
     let count : length out ≡ length (b ∷ bits) = shift.count ∙ length-map (b ∷ bits) (λ x. x.tdi) in
     let stream : List Bool = joined captured ++ tdi_bits (b ∷ bits) in
     let stream_is : out ++ joined (data_registers n4) ≡ stream =
@@ -255,8 +264,10 @@ pub data_transport : DataTransport
 data_transport wiring bits choices ps h some size =
     let captured : List (List Bool) = data_captured wiring choices ps in
     let s = long_data_transport wiring bits choices ps h some in
-    let leaving : take (length bits) (joined captured ++ tdi_bits bits) ≡ joined captured = take_front (length bits) (joined captured) (tdi_bits bits) (sym size) in
-    let staying : drop (length bits) (joined captured ++ tdi_bits bits) ≡ tdi_bits bits = drop_front (length bits) (joined captured) (tdi_bits bits) (sym size) in
+    let leaving : take (length bits) (joined captured ++ tdi_bits bits) ≡ joined captured =
+    take_front (length bits) (joined captured) (tdi_bits bits) (sym size) in
+    let staying : drop (length bits) (joined captured ++ tdi_bits bits) ≡ tdi_bits bits =
+    drop_front (length bits) (joined captured) (tdi_bits bits) (sym size) in
     record {
       leaves = s.leaves ∙ leaving;
       compares = s.compares ∙ ap (λ (r : List Bool). scan_passes bits r) leaving;

@@ -1,5 +1,6 @@
 -- The digits of some bits, read as a field, give the bits.
-use Rattle.std.proofs.Common.{◌≡◌, ℕ, Bool, true, false, cond, not, List, [], ◌∷◌, ◌++◌, length, take, Option, Some, None, refl, sym, ◌∙◌, ap, append_assoc, length-append, eq-eqb, arith}
+use Rattle.std.proofs.Common.{◌≡◌, ℕ, Bool, true, false, cond, not, List, [], ◌∷◌, ◌++◌, length, take, Option, Some, None, refl, sym, ◌∙◌, ap}
+use Rattle.std.proofs.Common.{append_assoc, length-append, eq-eqb, arith}
 use Rattle.std.proofs.lemmas.List.{append-nil}
 use Rattle.std.proofs.Math.Seq.{take-append_seam, drop-append_seam}
 use Rattle.std.specs.Prelude.{option_and_then}
@@ -84,7 +85,8 @@ pub field_bits-hex_text : (bits : List Bool) → field_bits (length bits) (hex_t
 field_bits-hex_text bits =
     let p = padded bits in
     let n : ℕ = length bits in
-    ap (λ (b : Bool). cond b (option_and_then (cut_to n) (text_bits (hex_text bits))) None) (eq-eqb (length (hex_text bits)) (digit_count n) (length-hex_text bits))
+    ap (λ (b : Bool). cond b (option_and_then (cut_to n) (text_bits (hex_text bits))) None)
+    (eq-eqb (length (hex_text bits)) (digit_count n) (length-hex_text bits))
     ∙ ap (λ (r : Option (List Bool)). option_and_then (cut_to n) r) p.read_is
     ∙ ap (λ (r : List Bool). cond (list_all not r) (Some (take n (bits ++ p.zeros))) None) (drop-append_seam bits p.zeros)
     ∙ ap (λ (b : Bool). cond b (Some (take n (bits ++ p.zeros))) None) p.are_zero

@@ -11,7 +11,7 @@ use Rattle.tap_defs.specs.Chain.{ChainPart, chain_after, logics, AllAreStates, I
 use Rattle.tap_defs.specs.Run.{Wiring, Clock, Choices, clock_tdi, clock_after, later, choices_after, run, tdos, run_passes}
 use Rattle.tap_defs.specs.Scan.{Scan}
 use Rattle.tap_defs.specs.Clocks.{all_clocks, reset_clocks, head_clocks, test_clocks}
-use Rattle.tap_defs.specs.Registers.{ir_registers, pins_at, AllIn}
+use Rattle.tap_defs.specs.ChainRegisters.{ir_registers, pins_at, AllIn}
 use Rattle.tap_defs.specs.ChainTest.{ir_lengths}
 use Rattle.tap_defs.proofs.ListLemmas.{cons_path, length-shifted, length-captured_ir}
 use Rattle.tap_defs.proofs.MoveLemmas.{way}
@@ -50,7 +50,8 @@ new_ir UpdateDR Other logic free s = refl
 new_ir TestLogicReset i logic free s = refl
 new_ir _ _ logic free s = refl
 
-part_ir : (logic : TestLogic) (pins : List Bool) (free : FreeBits) (tms tdi : Bool) (s : PartState) → length (part_after logic pins free tms tdi s).ir ≡ length s.ir
+part_ir : (logic : TestLogic) (pins : List Bool) (free : FreeBits) (tms tdi : Bool) (s : PartState) →
+    length (part_after logic pins free tms tdi s).ir ≡ length s.ir
 part_ir logic pins free tms tdi s =
     ap (λ (r : List Bool). length r)
     (new_ir (next_state s.tap tms) s.current logic free (record (old_state_acts s.tap s.current logic pins free tdi s) { tap = next_state s.tap tms }))
@@ -85,7 +86,8 @@ new_tap UpdateDR Other logic free s = refl
 new_tap TestLogicReset i logic free s = refl
 new_tap _ _ logic free s = refl
 
-part_tap : (logic : TestLogic) (pins : List Bool) (free : FreeBits) (tms tdi : Bool) (s : PartState) → (part_after logic pins free tms tdi s).tap ≡ next_state s.tap tms
+part_tap : (logic : TestLogic) (pins : List Bool) (free : FreeBits) (tms tdi : Bool) (s : PartState) →
+    (part_after logic pins free tms tdi s).tap ≡ next_state s.tap tms
 part_tap logic pins free tms tdi s =
     new_tap (next_state s.tap tms) s.current logic free (record (old_state_acts s.tap s.current logic pins free tdi s) { tap = next_state s.tap tms })
 

@@ -1,12 +1,12 @@
 -- A scan of instructions under which each part gets its code.
 use Rattle.std.proofs.Common.{◌≡◌, ℕ, suc, ◌≤◌, Bool, true, ◌&&◌, List, [], ◌∷◌, ◌++◌, length, map, refl, sym, ◌∙◌, ap, arith}
 use Rattle.std.proofs.lemmas.List.{map-append, length-map}
-use Rattle.tap_defs.specs.Register.{filled, captured_ir}
+use Rattle.tap_defs.specs.ShiftRegister.{filled, captured_ir}
 use Rattle.tap_defs.specs.Part.{FreeBits}
 use Rattle.tap_defs.specs.Chain.{ChainPart}
 use Rattle.tap_defs.specs.Scan.{tdi_bits, joined}
 use Rattle.tap_defs.specs.Codes.{sent, code_bits}
-use Rattle.tap_defs.specs.Registers.{ir_registers, ir_captures}
+use Rattle.tap_defs.specs.ChainRegisters.{ir_registers, ir_captures}
 use Rattle.tap_defs.specs.Transport.{scan_passes}
 use Rattle.tap_defs.proofs.ListLemmas.{cons_path, length-joined}
 use Rattle.tap_defs.proofs.RunLemmas.{scan_passes-append}
@@ -59,10 +59,9 @@ abbrev pub AllRoom : List ℕ → Type 0
 AllRoom [] = Unit {0}
 AllRoom (n ∷ lengths) = (2 ≤ n) × AllRoom lengths
 
-pub instructs_pass : (codes : List (List Bool)) (ps : List ChainPart) (free : ℕ → FreeBits) → map length codes ≡ map length (ir_registers ps) → AllRoom (map length (ir_registers ps)) →
-    scan_passes (joined (map code_bits codes)) (joined (ir_captures free ps)) ≡ true
-instructs_pass [] [] free e room = refl
-instructs_pass [] (p ∷ ps) free e room = cc e
+pub instructs_pass : (codes : List (List Bool)) (ps : List ChainPart) (free : ℕ → FreeBits) → map length codes ≡ map length (ir_registers ps) →
+    AllRoom (map length (ir_registers ps)) → scan_passes (joined (map code_bits codes)) (joined (ir_captures free ps)) ≡ true
+instructs_pass [] ps free e room = refl
 instructs_pass (c ∷ codes) [] free e room = cc e
 instructs_pass (c ∷ codes) (p ∷ ps) free e room =
     let head : length c ≡ length p.state.ir = cc e in

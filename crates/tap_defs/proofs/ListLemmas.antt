@@ -2,7 +2,7 @@
 use Rattle.std.proofs.Common.{◌≡◌, ℕ, zero, suc, Bool, List, [], ◌∷◌, ◌++◌, length, map, take, drop, refl, ◌∙◌, ap, subst, arith, length-append}
 use Rattle.std.proofs.Math.Seq.{take-append_seam, drop-append_seam}
 use Rattle.tap_defs.specs.Scan.{joined}
-use Rattle.tap_defs.specs.Register.{shifted_out, shifted, filled, captured_ir}
+use Rattle.tap_defs.specs.ShiftRegister.{shifted_out, shifted, filled, captured_ir}
 
 pub cons_path : {A : Type 0} {x y : A} {xs ys : List A} → x ≡ y → xs ≡ ys → x ∷ xs ≡ y ∷ ys
 cons_path p q = cc

@@ -1,5 +1,6 @@
 -- The text of a list of scans means the clocks of the head, of the scans and of the tail.
-use Rattle.std.proofs.Common.{◌≡◌, ℕ, zero, suc, ◌^◌, ◌<◌, ◌==◌, Bool, true, false, cond, not, ◌&&◌, ◌||◌, List, [], ◌∷◌, ◌++◌, length, map, Option, Some, None, refl, sym, ◌∙◌, ap, append_assoc}
+use Rattle.std.proofs.Common.{◌≡◌, ℕ, zero, suc, ◌^◌, ◌<◌, ◌==◌, Bool, true, false, cond, not, ◌&&◌, ◌||◌, List, [], ◌∷◌, ◌++◌, length, map, Option}
+use Rattle.std.proofs.Common.{Some, None, refl, sym, ◌∙◌, ap, append_assoc}
 use Rattle.std.proofs.lemmas.Bool.{and_parts, and_from, not-true}
 use Rattle.std.proofs.lemmas.List.{append-nil}
 use Rattle.std.specs.List.{list_all}
@@ -13,7 +14,8 @@ use Rattle.tap_defs.specs.SvfTokens.{Token, Word, Open, Close, End, without_comm
 use Rattle.tap_defs.specs.SvfStatements.{Statement, TrstOff, EndIrIdle, EndDrIdle, StateReset, StateIdle, ScanOf, statement_of, statements_of}
 use Rattle.tap_defs.specs.Svf.{Standing, may_scan, followed_by, clocks_of, at_start, text_statements, meaning}
 use Rattle.tap_defs.proofs.ListLemmas.{cons_path}
-use Rattle.tap_defs.proofs.TokenLemmas.{is_bare, all_append, all_bare, hex_text_plain, decimal_plain, worded, words_of, field_tokens, compare_tokens, scan_tokens, form_read}
+use Rattle.tap_defs.proofs.TokenLemmas.{is_bare, all_append, all_bare, hex_text_plain, decimal_plain, worded, words_of, field_tokens, compare_tokens}
+use Rattle.tap_defs.proofs.TokenLemmas.{scan_tokens, form_read}
 use Rattle.tap_defs.proofs.StatementLemmas.{statement_is}
 
 -- the statements of tokens
@@ -55,11 +57,13 @@ worded_inner : (words : List (List ℕ)) (tokens : List Token) → list_all is_i
 worded_inner [] tokens = refl
 worded_inner (w ∷ words) tokens = worded_inner words tokens
 
-field_inner : (long : Bool) (name : List ℕ) (bits : List Bool) (tokens : List Token) → list_all is_inner (field_tokens long name bits tokens) ≡ list_all is_inner tokens
+field_inner : (long : Bool) (name : List ℕ) (bits : List Bool) (tokens : List Token) →
+    list_all is_inner (field_tokens long name bits tokens) ≡ list_all is_inner tokens
 field_inner long name bits tokens = worded_inner (words_of long (hex_text bits)) (Close ∷ tokens)
 
 scan_inner : (long : Bool) (scan : Scan) → list_all is_inner (scan_tokens long scan) ≡ true
-scan_inner long scan = field_inner long (codes "TDI") (tdi_bits scan.bits) (compare_tokens long scan.bits (compares scan.bits)) ∙ by_compares (compares scan.bits)
+scan_inner long scan =
+    field_inner long (codes "TDI") (tdi_bits scan.bits) (compare_tokens long scan.bits (compares scan.bits)) ∙ by_compares (compares scan.bits)
   where
     by_compares : (b : Bool) → list_all is_inner (compare_tokens long scan.bits b) ≡ true
     by_compares false = refl
@@ -101,7 +105,8 @@ bare_stays (b ∷ c ∷ text) h =
     ∙ ap (λ (t : Bool). cond (t && (c == 47)) cut kept) (not-true (b == 47) neither.1)
     ∙ cons_path refl (bare_stays (c ∷ text) both.1)
 
-all_more : (x : ℕ) (xs ys : List ℕ) → (list_all is_bare xs ≡ true → list_all is_bare ys ≡ true) → list_all is_bare (x ∷ xs) ≡ true → list_all is_bare (x ∷ ys) ≡ true
+all_more : (x : ℕ) (xs ys : List ℕ) → (list_all is_bare xs ≡ true → list_all is_bare ys ≡ true) → list_all is_bare (x ∷ xs) ≡ true →
+    list_all is_bare (x ∷ ys) ≡ true
 all_more x xs ys f h = let both = and_parts (is_bare x) (list_all is_bare xs) h in and_from (is_bare x) (list_all is_bare ys) both.0 (f both.1)
 
 broken_bare : (room : ℕ) (digits : List ℕ) → list_all is_bare digits ≡ true → list_all is_bare (broken room digits) ≡ true
@@ -134,7 +139,8 @@ form_bare long scan fits =
     let tail : List ℕ = compare_text long scan.bits (compares scan.bits) in
     by_command scan.ir (n ++ (gap long ∷ codes "TDI (" ++ (tdi ++ tail)))
     ∙ all_append is_bare n (gap long ∷ codes "TDI (" ++ (tdi ++ tail)) (all_bare n (decimal_plain (length scan.bits) fits))
-    (gap_bare long (codes "TDI (" ++ (tdi ++ tail)) (all_append is_bare tdi tail (laid_bare long (tdi_bits scan.bits)) (compare_bare long scan.bits (compares scan.bits))))
+    (gap_bare long (codes "TDI (" ++ (tdi ++ tail))
+    (all_append is_bare tdi tail (laid_bare long (tdi_bits scan.bits)) (compare_bare long scan.bits (compares scan.bits))))
   where
     by_command : (ir : Bool) (rest : List ℕ) → list_all is_bare (command_word ir ++ (32 ∷ rest)) ≡ list_all is_bare rest
     by_command true rest = refl
@@ -156,18 +162,31 @@ head_statements = TrstOff ∷ EndIrIdle ∷ EndDrIdle ∷ StateReset ∷ StateId
 abbrev tail_statements : List Statement
 tail_statements = StateReset ∷ []
 
-head_read : (rest : List ℕ) (more : List Statement) → statements_in (tokens_from [] rest) ≡ Some more →
-    statements_in (tokens_from [] (head_text ++ rest)) ≡ Some (head_statements ++ more)
-unfolding tokens_from
-head_read rest more e = by_pieces (pieces_from [] (tokens_from [] rest)) e
+-- a statement of two words, and those after it
+abbrev said : List ℕ → List ℕ → Option (List (List Token)) → Option (List (List Token))
+said a b pieces = option_map (λ more. (Word a ∷ Word b ∷ []) ∷ more) pieces
+
+abbrev after_head : Option (List (List Token)) → Option (List (List Token))
+after_head pieces =
+    said (codes "TRST") (codes "OFF") (said (codes "ENDIR") (codes "IDLE") (said (codes "ENDDR") (codes "IDLE")
+    (said (codes "STATE") (codes "RESET") (said (codes "STATE") (codes "IDLE") pieces))))
+
+abbrev head_then : Option (List Statement) → Option (List Statement)
+head_then statements = option_map (λ more. head_statements ++ more) statements
+
+head_pieces : (o : Option (List (List Token))) → option_and_then statements_of (after_head o) ≡ head_then (option_and_then statements_of o)
+head_pieces None = refl
+head_pieces (Some pieces) = by_statements (statements_of pieces)
   where
-    by_pieces : (o : Option (List (List Token))) → option_and_then statements_of o ≡ Some more →
-        option_and_then statements_of (option_map (λ ss. (Word (codes "TRST") ∷ Word (codes "OFF") ∷ []) ∷ ss) (option_map (λ ss. (Word (codes "ENDIR") ∷ Word (codes "IDLE") ∷ []) ∷ ss)
-        (option_map (λ ss. (Word (codes "ENDDR") ∷ Word (codes "IDLE") ∷ []) ∷ ss) (option_map (λ ss. (Word (codes "STATE") ∷ Word (codes "RESET") ∷ []) ∷ ss)
-        (option_map (λ ss. (Word (codes "STATE") ∷ Word (codes "IDLE") ∷ []) ∷ ss) o))))) ≡ Some (head_statements ++ more)
-    by_pieces None q = cc q
-    by_pieces (Some pieces) q =
-        ap (λ (r : Option (List Statement)). option_map (λ ss. TrstOff ∷ ss) (option_map (λ ss. EndIrIdle ∷ ss) (option_map (λ ss. EndDrIdle ∷ ss) (option_map (λ ss. StateReset ∷ ss) (option_map (λ ss. StateIdle ∷ ss) r))))) q
+    by_statements : (o : Option (List Statement)) →
+        option_map (λ more. TrstOff ∷ more) (option_map (λ more. EndIrIdle ∷ more) (option_map (λ more. EndDrIdle ∷ more)
+        (option_map (λ more. StateReset ∷ more) (option_map (λ more. StateIdle ∷ more) o)))) ≡ head_then o
+    by_statements None = refl
+    by_statements (Some more) = refl
+
+head_read : (rest : List ℕ) → statements_in (tokens_from [] (head_text ++ rest)) ≡ head_then (statements_in (tokens_from [] rest))
+unfolding tokens_from
+head_read rest = head_pieces (pieces_from [] (tokens_from [] rest))
 
 tail_read : statements_in (tokens_from [] tail_text) ≡ Some tail_statements
 unfolding tokens_from
@@ -177,7 +196,8 @@ pub text_read : (scans : List Scan) → AllSized scans → text_statements (svf_
 unfolding text_statements svf_text
 text_read scans h =
     ap (λ (text : List ℕ). statements_in (tokens_from [] text)) (bare_stays (head_text ++ (scan_texts scans ++ tail_text)) (text_bare scans h))
-    ∙ head_read (scan_texts scans ++ tail_text) (scan_statements scans ++ tail_statements) (scans_read scans tail_text tail_statements h tail_read)
+    ∙ head_read (scan_texts scans ++ tail_text)
+    ∙ ap head_then (scans_read scans tail_text tail_statements h tail_read)
 
 -- their clocks. After the head the controllers are in Run-Test/Idle, and scans end there
 abbrev idle : Standing

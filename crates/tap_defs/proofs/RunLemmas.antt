@@ -36,12 +36,14 @@ pub and_assoc : (x y z : Bool) → (x && (y && z)) ≡ ((x && y) && z)
 and_assoc true y z = refl
 and_assoc false y z = refl
 
-pub run_passes-append : (xs ys : List Clock) (os ps : List Bool) → length os ≡ length xs → run_passes (xs ++ ys) (os ++ ps) ≡ (run_passes xs os && run_passes ys ps)
+pub run_passes-append : (xs ys : List Clock) (os ps : List Bool) → length os ≡ length xs →
+    run_passes (xs ++ ys) (os ++ ps) ≡ (run_passes xs os && run_passes ys ps)
 run_passes-append [] ys [] ps e = refl
 run_passes-append [] ys (o ∷ os) ps e = absurd (omega (arith, e))
 run_passes-append (x ∷ xs) ys [] ps e = absurd (omega (arith, e))
 run_passes-append (x ∷ xs) ys (o ∷ os) ps e =
-    ap (λ (r : Bool). bit_passes x.expect o && r) (run_passes-append xs ys os ps (omega (arith, e))) ∙ and_assoc (bit_passes x.expect o) (run_passes xs os) (run_passes ys ps)
+    ap (λ (r : Bool). bit_passes x.expect o && r) (run_passes-append xs ys os ps (omega (arith, e)))
+    ∙ and_assoc (bit_passes x.expect o) (run_passes xs os) (run_passes ys ps)
 
 -- two lists of clocks, one after the other
 pub two_pass : (wiring : Wiring) (xs ys : List Clock) (choices : Choices) (ps : List ChainPart) →
@@ -49,10 +51,12 @@ pub two_pass : (wiring : Wiring) (xs ys : List Clock) (choices : Choices) (ps : 
     ≡ (run_passes xs (tdos wiring xs choices ps) && run_passes ys (tdos wiring ys (choices_after xs choices) (run wiring xs choices ps)))
 two_pass wiring xs ys choices ps =
     ap (λ (o : List Bool). run_passes (xs ++ ys) o) (tdos-append wiring xs ys choices ps)
-    ∙ run_passes-append xs ys (tdos wiring xs choices ps) (tdos wiring ys (choices_after xs choices) (run wiring xs choices ps)) (length-tdos wiring xs choices ps)
+    ∙ run_passes-append xs ys (tdos wiring xs choices ps) (tdos wiring ys (choices_after xs choices) (run wiring xs choices ps))
+    (length-tdos wiring xs choices ps)
 
 -- the shift clocks of a scan, and clocks after them that compare nothing
-pub shifts_pass : (b : ScanBit) (bits : List ScanBit) (out more : List Bool) (rest : List Clock) → length out ≡ length (b ∷ bits) → run_passes rest more ≡ true →
+pub shifts_pass : (b : ScanBit) (bits : List ScanBit) (out more : List Bool) (rest : List Clock) → length out ≡ length (b ∷ bits) →
+    run_passes rest more ≡ true →
     run_passes (shift_clocks (b ∷ bits) ++ rest) (out ++ more) ≡ scan_passes (b ∷ bits) out
 shifts_pass b bits [] more rest e h = absurd (omega (arith, e))
 shifts_pass b [] (o ∷ []) more rest e h = ap (λ (r : Bool). bit_passes b.expect o && r) h
@@ -65,9 +69,11 @@ scan_passes_take [] out = refl
 scan_passes_take (b ∷ bits) [] = refl
 scan_passes_take (b ∷ bits) (o ∷ out) = ap (λ (r : Bool). bit_passes b.expect o && r) (scan_passes_take bits out)
 
-pub scan_passes-append : (bs cs : List ScanBit) (os ps : List Bool) → length bs ≡ length os → scan_passes (bs ++ cs) (os ++ ps) ≡ (scan_passes bs os && scan_passes cs ps)
+pub scan_passes-append : (bs cs : List ScanBit) (os ps : List Bool) → length bs ≡ length os →
+    scan_passes (bs ++ cs) (os ++ ps) ≡ (scan_passes bs os && scan_passes cs ps)
 scan_passes-append [] cs [] ps e = refl
 scan_passes-append [] cs (o ∷ os) ps e = absurd (omega (arith, e))
 scan_passes-append (b ∷ bs) cs [] ps e = absurd (omega (arith, e))
 scan_passes-append (b ∷ bs) cs (o ∷ os) ps e =
-    ap (λ (r : Bool). bit_passes b.expect o && r) (scan_passes-append bs cs os ps (omega (arith, e))) ∙ and_assoc (bit_passes b.expect o) (scan_passes bs os) (scan_passes cs ps)
+    ap (λ (r : Bool). bit_passes b.expect o && r) (scan_passes-append bs cs os ps (omega (arith, e)))
+    ∙ and_assoc (bit_passes b.expect o) (scan_passes bs os) (scan_passes cs ps)

@@ -3,7 +3,7 @@ use Rattle.std.proofs.Common.{◌≡◌, ℕ, true, false, List, [], ◌∷◌, 
 use Rattle.tap_defs.specs.declared.tap.TapState.TheVariants.{PauseDR, ShiftIR}
 use Rattle.tap_defs.specs.TestLogic.{TestLogic, Sample, Other}
 use Rattle.tap_defs.specs.Part.{PartState, FreeBits}
-use Rattle.tap_defs.specs.Chain.{ChainPart}
+use Rattle.tap_defs.specs.Chain.{ChainPart, IsChainOf}
 use Rattle.tap_defs.specs.Run.{Clock, Choices, Wiring, tdos, run_passes}
 use Rattle.tap_defs.specs.Clocks.{test_clocks}
 use Rattle.tap_defs.proofs.SampleTexts.{off, on, two_parts_scans}
@@ -33,6 +33,16 @@ two = record { logic = plain_logic 4; state = pausing } ∷ record { logic = pla
 
 abbrev pub one : List ChainPart
 one = record { logic = plain_logic 6; state = record pausing { ir = on ∷ on ∷ on ∷ on ∷ on ∷ on ∷ [] } } ∷ []
+
+-- these are states of such parts
+pub two_start : IsChainOf (plain_logic 4 ∷ plain_logic 2 ∷ []) two
+two_start = record {
+  logics_are = refl;
+  states_are = (
+    record { ir = refl; boundary = refl; identification = refl; latches = refl },
+    (record { ir = refl; boundary = refl; identification = refl; latches = refl }, tt),
+  );
+}
 
 abbrev pub clocks : List Clock
 clocks = test_clocks two_parts_scans

@@ -1,5 +1,6 @@
 -- The tokens of a scan are its statement.
-use Rattle.std.proofs.Common.{◌≡◌, ℕ, ◌^◌, ◌<◌, Bool, true, false, cond, ◌&&◌, ◌||◌, List, [], ◌∷◌, ◌++◌, length, map, Option, Some, None, refl, sym, ◌∙◌, ap, append_assoc}
+use Rattle.std.proofs.Common.{◌≡◌, ℕ, ◌^◌, ◌<◌, Bool, true, false, cond, ◌&&◌, ◌||◌, List, [], ◌∷◌, ◌++◌, length, map, Option, Some, None, refl, sym}
+use Rattle.std.proofs.Common.{◌∙◌, ap, append_assoc}
 use Rattle.std.proofs.lemmas.Bool.{lt-ltb, and_from}
 use Rattle.std.proofs.lemmas.Fmt.{decimal_is_IsNumeral}
 use Rattle.std.proofs.lemmas.List.{append-nil, length-map}
@@ -32,7 +33,8 @@ abbrev field : List ℕ → List Bool → Field
 field name bits = record { name = name; digits = hex_text bits }
 
 field_goes_on : (f : Field) (words : List (List ℕ)) (tokens : List Token) →
-    fields_from (Some f) (worded words (Close ∷ tokens)) ≡ option_map (λ fields. record f { digits = f.digits ++ run_on words } ∷ fields) (fields_from None tokens)
+    fields_from (Some f) (worded words (Close ∷ tokens))
+    ≡ option_map (λ fields. record f { digits = f.digits ++ run_on words } ∷ fields) (fields_from None tokens)
 field_goes_on f [] tokens = ap (λ (d : List ℕ). option_map (λ fields. record f { digits = d } ∷ fields) (fields_from None tokens)) (sym (append-nil f.digits))
 field_goes_on f (w ∷ words) tokens =
     field_goes_on (record f { digits = f.digits ++ w }) words tokens
@@ -55,7 +57,8 @@ compare_fields_are long bits true =
     ∙ ap (λ (o : Option (List Field)). option_map (λ fields. field (codes "TDO") (tdo_bits bits) ∷ fields) o) (field_is long (codes "MASK") (mask_bits bits) [])
 
 fields_are : (long : Bool) (bits : List ScanBit) (b : Bool) →
-    fields_from None (field_tokens long (codes "TDI") (tdi_bits bits) (compare_tokens long bits b)) ≡ Some (field (codes "TDI") (tdi_bits bits) ∷ compare_fields bits b)
+    fields_from None (field_tokens long (codes "TDI") (tdi_bits bits) (compare_tokens long bits b))
+    ≡ Some (field (codes "TDI") (tdi_bits bits) ∷ compare_fields bits b)
 fields_are long bits b =
     field_is long (codes "TDI") (tdi_bits bits) (compare_tokens long bits b)
     ∙ ap (λ (o : Option (List Field)). option_map (λ fields. field (codes "TDI") (tdi_bits bits) ∷ fields) o) (compare_fields_are long bits b)
@@ -82,14 +85,16 @@ sent_are (b ∷ bits) h = by_expect b.tdi b.expect (sent_are bits) h
     by_expect tdi None ih q = cons_path refl (ih q)
     by_expect tdi (Some e) ih q = cc q
 
-bits_are : (bits : List ScanBit) (b : Bool) → compares bits ≡ b → bits_of_fields (length bits) (field (codes "TDI") (tdi_bits bits) ∷ compare_fields bits b) ≡ Some bits
+bits_are : (bits : List ScanBit) (b : Bool) → compares bits ≡ b →
+    bits_of_fields (length bits) (field (codes "TDI") (tdi_bits bits) ∷ compare_fields bits b) ≡ Some bits
 bits_are bits false h =
     ap (λ (o : Option (List Bool)). option_map (map sent) o) (digits_are bits (λ b. b.tdi)) ∙ ap (λ (r : List ScanBit). Some r) (sent_are bits h)
 bits_are bits true h =
-    ap (λ (o : Option (List Bool)). compared_bits o (bits_of (codes "TDO") (length bits) (field (codes "TDO") (tdo_bits bits))) (bits_of (codes "MASK") (length bits) (field (codes "MASK") (mask_bits bits))))
-    (digits_are bits (λ b. b.tdi))
-    ∙ ap (λ (o : Option (List Bool)). compared_bits (Some (tdi_bits bits)) o (bits_of (codes "MASK") (length bits) (field (codes "MASK") (mask_bits bits))))
-    (digits_are bits (λ b. unwrap_or b.expect false))
+    let n : ℕ = length bits in
+    let tdo : Option (List Bool) = bits_of (codes "TDO") n (field (codes "TDO") (tdo_bits bits)) in
+    let mask : Option (List Bool) = bits_of (codes "MASK") n (field (codes "MASK") (mask_bits bits)) in
+    ap (λ (o : Option (List Bool)). compared_bits o tdo mask) (digits_are bits (λ b. b.tdi))
+    ∙ ap (λ (o : Option (List Bool)). compared_bits (Some (tdi_bits bits)) o mask) (digits_are bits (λ b. unwrap_or b.expect false))
     ∙ ap (λ (o : Option (List Bool)). compared_bits (Some (tdi_bits bits)) (Some (tdo_bits bits)) o) (digits_are bits (λ b. is_some b.expect))
     ∙ ap (λ (r : List ScanBit). Some r) (scan_bits_are bits)
 
@@ -97,8 +102,8 @@ pub statement_is : (long : Bool) (scan : Scan) → 0 < length scan.bits → leng
 statement_is long scan some fits =
     let n : ℕ = length scan.bits in
     let tokens : List Token = field_tokens long (codes "TDI") (tdi_bits scan.bits) (compare_tokens long scan.bits (compares scan.bits)) in
-    let fields : List Field = field (codes "TDI") (tdi_bits scan.bits) ∷ compare_fields scan.bits (compares scan.bits) in
-    ap (λ (o : Option Bool). scan_by o (option_and_then (λ m. option_and_then (bits_of_fields m) (fields_from None tokens)) (length_of (decimal n)))) (command_is scan.ir)
-    ∙ ap (λ (o : Option ℕ). scan_by (Some scan.ir) (option_and_then (λ m. option_and_then (bits_of_fields m) (fields_from None tokens)) o)) (length_is n some fits)
+    let bits_by : Option ℕ → Option (List ScanBit) = λ (o : Option ℕ). option_and_then (λ m. option_and_then (bits_of_fields m) (fields_from None tokens)) o in
+    ap (λ (o : Option Bool). scan_by o (bits_by (length_of (decimal n)))) (command_is scan.ir)
+    ∙ ap (λ (o : Option ℕ). scan_by (Some scan.ir) (bits_by o)) (length_is n some fits)
     ∙ ap (λ (o : Option (List Field)). scan_by (Some scan.ir) (option_and_then (bits_of_fields n) o)) (fields_are long scan.bits (compares scan.bits))
     ∙ ap (λ (o : Option (List ScanBit)). scan_by (Some scan.ir) o) (bits_are scan.bits (compares scan.bits) refl)

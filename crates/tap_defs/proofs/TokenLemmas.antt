@@ -1,5 +1,6 @@
 -- The text of a scan, token by token.
-use Rattle.std.proofs.Common.{◌≡◌, ℕ, zero, suc, ◌+◌, ◌^◌, ◌<◌, ◌%◌, ◌==◌, Bool, true, false, cond, not, ◌&&◌, List, [], ◌∷◌, ◌++◌, length, refl, sym, ◌∙◌, ap, append_assoc, length-append, arith}
+use Rattle.std.proofs.Common.{◌≡◌, ℕ, zero, suc, ◌+◌, ◌^◌, ◌<◌, ◌%◌, ◌==◌, Bool, true, false, cond, not, ◌&&◌, List, [], ◌∷◌, ◌++◌, length, refl, sym}
+use Rattle.std.proofs.Common.{◌∙◌, ap, append_assoc, length-append, arith}
 use Rattle.std.proofs.lemmas.Bool.{and_parts, and_from, not-true}
 use Rattle.std.proofs.lemmas.Fmt.{decimal_by_steps, decimal_nonempty}
 use Rattle.std.proofs.lemmas.List.{append-nil, length-map}
@@ -232,12 +233,14 @@ scan_tokens long scan =
     Word (command_word scan.ir) ∷ Word (decimal (length scan.bits))
     ∷ field_tokens long (codes "TDI") (tdi_bits scan.bits) (compare_tokens long scan.bits (compares scan.bits))
 
-field_tokens-append : (long : Bool) (name : List ℕ) (bits : List Bool) (ts us : List Token) → field_tokens long name bits ts ++ us ≡ field_tokens long name bits (ts ++ us)
+field_tokens-append : (long : Bool) (name : List ℕ) (bits : List Bool) (ts us : List Token) →
+    field_tokens long name bits ts ++ us ≡ field_tokens long name bits (ts ++ us)
 field_tokens-append long name bits ts us = ap (λ (r : List Token). Word name ∷ Open ∷ r) (worded-append (words_of long (hex_text bits)) (Close ∷ ts) us)
 
 -- a field's text after its name, where what follows is read
 mask_read : (long : Bool) (bits : List Bool) (rest : List ℕ) → 0 < length bits →
-    tokens_from [] (gap long ∷ codes "MASK (" ++ (laid long (hex_text bits) ++ (codes ");" ++ rest))) ≡ field_tokens long (codes "MASK") bits (End ∷ tokens_from [] rest)
+    tokens_from [] (gap long ∷ codes "MASK (" ++ (laid long (hex_text bits) ++ (codes ");" ++ rest)))
+    ≡ field_tokens long (codes "MASK") bits (End ∷ tokens_from [] rest)
 unfolding tokens_from
 mask_read long bits rest h =
     gap_first long (codes "MASK (" ++ (laid long (hex_text bits) ++ (codes ");" ++ rest)))
@@ -271,7 +274,8 @@ compare_read long bits true rest h =
     let mask_tokens : List Token = field_tokens long (codes "MASK") (mask_bits bits) end in
     let regroup : (gap long ∷ codes "TDO (" ++ (tdo ++ 41 ∷ mask_field)) ++ 10 ∷ rest ≡ gap long ∷ codes "TDO (" ++ (tdo ++ 41 ∷ mask_long) =
     ap (λ (r : List ℕ). gap long ∷ codes "TDO (" ++ r)
-    (append_assoc tdo (41 ∷ mask_field) (10 ∷ rest) ∙ ap (λ (r : List ℕ). tdo ++ (41 ∷ gap long ∷ codes "MASK (" ++ r)) (append_assoc mask (codes ");") (10 ∷ rest))) in
+    (append_assoc tdo (41 ∷ mask_field) (10 ∷ rest)
+    ∙ ap (λ (r : List ℕ). tdo ++ (41 ∷ gap long ∷ codes "MASK (" ++ r)) (append_assoc mask (codes ");") (10 ∷ rest))) in
     let tokens_are : compare_tokens long bits true ++ end ≡ field_tokens long (codes "TDO") (tdo_bits bits) mask_tokens =
     field_tokens-append long (codes "TDO") (tdo_bits bits) (field_tokens long (codes "MASK") (mask_bits bits) []) end
     ∙ ap (λ (r : List Token). field_tokens long (codes "TDO") (tdo_bits bits) r) (field_tokens-append long (codes "MASK") (mask_bits bits) [] end) in
@@ -306,4 +310,6 @@ form_read long scan rest h fits =
     ∙ ap (λ (r : List ℕ). before (tokens_from [] r)) (append_assoc tdi tail (10 ∷ rest))
     ∙ ap before (compare_read long scan.bits (compares scan.bits) rest h)
     ∙ ap before
-    (sym (worded-append (words_of long (hex_text (tdi_bits scan.bits))) (Close ∷ compare_tokens long scan.bits (compares scan.bits)) (End ∷ tokens_from [] rest)))
+    (sym
+    (worded-append (words_of long (hex_text (tdi_bits scan.bits))) (Close ∷ compare_tokens long scan.bits (compares scan.bits))
+    (End ∷ tokens_from [] rest)))

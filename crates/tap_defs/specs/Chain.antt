@@ -1,5 +1,5 @@
 -- One TCK cycle of a chain: all parts take the same TMS, and the TDO of each is the TDI of the next in the same cycle
--- (IEEE 1149.1-1990, section 4, the serial connection of test access ports).
+-- (IEEE 1149.1-1990, section 3, the interconnection of components).
 use Rattle.std.specs.Prelude.{◌≡◌, ℕ, suc, Bool, List, [], ◌∷◌, map}
 use Rattle.tap_defs.specs.TestLogic.{TestLogic}
 use Rattle.tap_defs.specs.Part.{PartState, PinState, pin_state, FreeBits, part_after, part_tdo, IsStateOf}

@@ -4,7 +4,7 @@ pub mod Text
 pub mod ChainScans
 pub mod Tap
 pub mod TestLogic
-pub mod Register
+pub mod ShiftRegister
 pub mod Part
 pub mod Chain
 pub mod Run
@@ -12,6 +12,6 @@ pub mod Clocks
 pub mod SvfTokens
 pub mod SvfStatements
 pub mod Svf
-pub mod Registers
+pub mod ChainRegisters
 pub mod Transport
 pub mod ChainTest

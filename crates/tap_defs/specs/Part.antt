@@ -4,7 +4,7 @@ use Rattle.tap_defs.specs.declared.tap.TapState.{TapState}
 use Rattle.tap_defs.specs.declared.tap.TapState.TheVariants.{TestLogicReset, CaptureDR, ShiftDR, UpdateDR, CaptureIR, ShiftIR, UpdateIR}
 use Rattle.tap_defs.specs.Tap.{next_state}
 use Rattle.tap_defs.specs.TestLogic.{Instruction, Extest, Sample, Bypass, Idcode, Other, TestLogic, instruction_of, reset_instruction}
-use Rattle.tap_defs.specs.Register.{shifted_out, shifted, filled, captured_ir}
+use Rattle.tap_defs.specs.ShiftRegister.{shifted_out, shifted, filled, captured_ir}
 
 -- the TAP state, the instruction register, the current instruction, the boundary register, the bypass register,
 -- the identification register, and the update latches of the boundary cells

@@ -6,7 +6,7 @@ use Rattle.tap_defs.specs.Chain.{ChainPart}
 use Rattle.tap_defs.specs.Run.{Choices, Wiring, run, tdos, bit_passes, run_passes}
 use Rattle.tap_defs.specs.Scan.{ScanBit, tdi_bits, joined}
 use Rattle.tap_defs.specs.Clocks.{sdr_clocks, sir_clocks}
-use Rattle.tap_defs.specs.Registers.{all_held, ir_registers, data_captured, codes_captured, AllIn, AllSelectingIn}
+use Rattle.tap_defs.specs.ChainRegisters.{all_held, ir_registers, data_captured, codes_captured, AllIn, AllSelectingIn}
 
 -- every compared bit of a scan is as expected, where these bits leave
 abbrev pub scan_passes : List ScanBit → List Bool → Bool

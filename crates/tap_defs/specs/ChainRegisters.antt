@@ -2,7 +2,7 @@
 use Rattle.std.specs.Prelude.{◌≡◌, ◌≢◌, ℕ, suc, Bool, false, List, [], ◌∷◌, length, map}
 use Rattle.tap_defs.specs.declared.tap.TapState.{TapState}
 use Rattle.tap_defs.specs.TestLogic.{TestLogic, Instruction, Extest, Sample, Bypass, Idcode, Other}
-use Rattle.tap_defs.specs.Register.{filled, captured_ir}
+use Rattle.tap_defs.specs.ShiftRegister.{filled, captured_ir}
 use Rattle.tap_defs.specs.Part.{PartState, FreeBits}
 use Rattle.tap_defs.specs.Chain.{ChainPart, pin_states}
 use Rattle.tap_defs.specs.Run.{Wiring, Choice, Choices}
