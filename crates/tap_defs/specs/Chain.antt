@@ -9,6 +9,7 @@ pub record ChainPart : Type 0 where
   pub logic : TestLogic
   pub state : PartState
 
+-- what all pins show, part by part
 abbrev pub pin_states : List ChainPart → List PinState
 pin_states parts = map (λ p. pin_state p.state) parts
 
@@ -24,9 +25,11 @@ abbrev pub chain_tdo : List ChainPart → (ℕ → FreeBits) → Bool → Bool
 chain_tdo [] free tdi = tdi
 chain_tdo (p ∷ parts) free tdi = chain_tdo parts (λ k. free (suc k)) (part_tdo (free 0) tdi p.state)
 
+-- the parts without their states
 abbrev pub logics : List ChainPart → List TestLogic
 logics parts = map (λ p. p.logic) parts
 
+-- each state is one of its part
 abbrev pub AllAreStates : List ChainPart → Type 0
 AllAreStates [] = Unit {0}
 AllAreStates (p ∷ parts) = IsStateOf p.logic p.state × AllAreStates parts

@@ -7,7 +7,7 @@ use Rattle.tap_defs.specs.Part.{PartState, FreeBits}
 use Rattle.tap_defs.specs.Chain.{ChainPart, pin_states}
 use Rattle.tap_defs.specs.Run.{Wiring, Choice, Choices}
 
--- of the registers that stand between TDI and TDO in Shift-DR the one that an instruction selects
+-- of these registers the one that an instruction puts between TDI and TDO
 abbrev pub selected_by : Instruction → List Bool → Bool → List Bool → List Bool
 selected_by Extest boundary bypass identification = boundary
 selected_by Sample boundary bypass identification = boundary
@@ -15,9 +15,11 @@ selected_by Bypass boundary bypass identification = bypass ∷ []
 selected_by Idcode boundary bypass identification = identification
 selected_by Other boundary bypass identification = []
 
+-- the register between TDI and TDO in Shift-DR
 abbrev pub data_register : PartState → List Bool
 data_register s = selected_by s.current s.boundary s.bypass s.identification
 
+-- those of all parts
 abbrev pub data_registers : List ChainPart → List (List Bool)
 data_registers parts = map (λ p. data_register p.state) parts
 
@@ -25,9 +27,11 @@ data_registers parts = map (λ p. data_register p.state) parts
 abbrev pub held_bits : PartState → List Bool
 held_bits s = selected_by s.current s.latches s.bypass s.identification
 
+-- what all parts hold
 abbrev pub all_held : List ChainPart → List (List Bool)
 all_held parts = map (λ p. held_bits p.state) parts
 
+-- the instruction registers of all parts
 abbrev pub ir_registers : List ChainPart → List (List Bool)
 ir_registers parts = map (λ p. p.state.ir) parts
 
@@ -39,16 +43,19 @@ dr_capture logic pins free Bypass n = false ∷ []
 dr_capture logic pins free Idcode n = logic.idcode
 dr_capture logic pins free Other n = []
 
+-- what Capture-DR loads in all parts
 abbrev pub dr_captures : (ℕ → List Bool) → (ℕ → FreeBits) → List ChainPart → List (List Bool)
 dr_captures pins free [] = []
 dr_captures pins free (p ∷ parts) =
     dr_capture p.logic (pins 0) (free 0) p.state.current (length p.state.boundary)
     ∷ dr_captures (λ k. pins (suc k)) (λ k. free (suc k)) parts
 
+-- what Capture-IR loads in all parts
 abbrev pub ir_captures : (ℕ → FreeBits) → List ChainPart → List (List Bool)
 ir_captures free [] = []
 ir_captures free (p ∷ parts) = captured_ir p.state.ir (free 0).ir ∷ ir_captures (λ k. free (suc k)) parts
 
+-- what the pins give the boundary cells, part by part
 abbrev pub pins_at : Wiring → Choice → List ChainPart → ℕ → List Bool
 pins_at wiring choice parts = wiring (pin_states parts) choice
 

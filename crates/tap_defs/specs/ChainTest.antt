@@ -4,6 +4,7 @@ use Rattle.tap_defs.specs.TestLogic.{TestLogic}
 use Rattle.tap_defs.specs.Run.{Clock, Wiring, PassesOn, FailsOn}
 use Rattle.tap_defs.specs.Svf.{meaning}
 
+-- the instruction lengths of parts
 abbrev pub ir_lengths : List TestLogic → List ℕ
 ir_lengths parts = map (λ p. p.ir_length) parts
 

@@ -7,10 +7,11 @@ use Rattle.tap_defs.specs.Run.{Clock}
 abbrev pub plain : Bool → Clock
 plain tms = record { tms = tms; tdi = None; expect = None }
 
+-- a clock that shifts this bit in
 abbrev pub shift_clock : Bool → ScanBit → Clock
 shift_clock tms bit = record { tms = tms; tdi = Some bit.tdi; expect = bit.expect }
 
--- TMS is 0, but 1 in the last
+-- the clocks that shift these bits in: TMS is 0, but 1 in the last
 abbrev pub shift_clocks : List ScanBit → List Clock
 shift_clocks [] = []
 shift_clocks (b ∷ []) = shift_clock true b ∷ []
@@ -24,13 +25,16 @@ sdr_clocks bits = plain true ∷ plain false ∷ plain false ∷ (shift_clocks b
 abbrev pub sir_clocks : List ScanBit → List Clock
 sir_clocks bits = plain true ∷ plain true ∷ plain false ∷ plain false ∷ (shift_clocks bits ++ plain true ∷ plain false ∷ [])
 
+-- those of SIR or of SDR
 abbrev pub clocks_by : Bool → List ScanBit → List Clock
 clocks_by true bits = sir_clocks bits
 clocks_by false bits = sdr_clocks bits
 
+-- the clocks of a scan
 abbrev pub scan_clocks : Scan → List Clock
 scan_clocks scan = clocks_by scan.ir scan.bits
 
+-- the clocks of scans, one after another
 abbrev pub all_clocks : List Scan → List Clock
 all_clocks [] = []
 all_clocks (s ∷ scans) = scan_clocks s ++ all_clocks scans

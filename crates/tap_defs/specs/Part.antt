@@ -6,8 +6,7 @@ use Rattle.tap_defs.specs.Tap.{next_state}
 use Rattle.tap_defs.specs.TestLogic.{Instruction, Extest, Sample, Bypass, Idcode, Other, TestLogic, instruction_of, reset_instruction}
 use Rattle.tap_defs.specs.ShiftRegister.{shifted_out, shifted, filled, captured_ir}
 
--- the TAP state, the instruction register, the current instruction, the boundary register, the bypass register,
--- the identification register, and the update latches of the boundary cells
+-- the state of a part's test logic: its controller, its registers, the current instruction, and the update latches of the boundary cells
 pub record PartState : Type 0 where
   pub tap : TapState
   pub ir : List Bool
@@ -22,16 +21,19 @@ pub record PinState : Type 0 where
   pub current : Instruction
   pub latches : List Bool
 
+-- what a part in this state shows
 abbrev pub pin_state : PartState → PinState
 pin_state s = record { current = s.current; latches = s.latches }
 
--- what one cycle leaves open: whatever these bits are, the part may do so.
--- The bits that Capture-IR and Capture-DR load, those of the latches, that of TDO, and whether reset selects an instruction other than BYPASS
+-- what one cycle leaves open: whatever these bits are, the part may do so
 pub record FreeBits : Type 0 where
+  -- what Capture-IR and Capture-DR load where nothing decides it, and what the latches become
   pub ir : ℕ → Bool
   pub cells : ℕ → Bool
   pub latches : ℕ → Bool
+  -- TDO outside the shift states
   pub tdo : Bool
+  -- whether Test-Logic-Reset selects another instruction than BYPASS, where that is not known
   pub other : Bool
 
 -- what the old state does to the registers. Under EXTEST Capture-DR loads what the pins give the boundary cells
@@ -57,7 +59,7 @@ tdo_in ShiftDR Bypass free tdi s = s.bypass
 tdo_in ShiftDR Idcode free tdi s = shifted_out s.identification tdi
 tdo_in _ _ free tdi s = free.tdo
 
--- what the new state does
+-- what the new state does to the current instruction and the latches
 abbrev pub new_state_acts : TapState → Instruction → TestLogic → FreeBits → PartState → PartState
 new_state_acts UpdateIR i logic free s = record s { current = instruction_of logic s.ir }
 new_state_acts UpdateDR Extest logic free s = record s { latches = s.boundary }

@@ -25,6 +25,7 @@ Choices = ℕ → Choice
 abbrev pub Wiring : Type 0
 Wiring = List PinState → Choice → ℕ → List Bool
 
+-- TDI in a clock
 abbrev pub clock_tdi : Clock → Choice → Bool
 clock_tdi c choice = unwrap_or c.tdi choice.tdi
 

@@ -16,6 +16,7 @@ abbrev pub may_scan : Standing → Bool → Bool
 may_scan standing true = standing.idle && standing.ends_ir
 may_scan standing false = standing.idle && standing.ends_dr
 
+-- these clocks, and more where there are more
 abbrev pub followed_by : List Clock → Option (List Clock) → Option (List Clock)
 followed_by clocks more = option_map (λ cs. clocks ++ cs) more
 

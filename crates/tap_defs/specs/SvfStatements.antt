@@ -53,15 +53,18 @@ bits_of_fields n _ = None
 abbrev pub length_of : List ℕ → Option ℕ
 length_of word = if list_all is_ascii_digit word && nat_lt 0 (digits_value 10 word) then Some (digits_value 10 word) else None
 
+-- whether the word is SIR, where it is SIR or SDR
 abbrev pub scan_command : List ℕ → Option Bool
 scan_command word =
     if bytes_eq word (command_word true) then Some true else (
     if bytes_eq word (command_word false) then Some false else None)
 
+-- a scan of this kind with these bits
 abbrev pub scan_by : Option Bool → Option (List ScanBit) → Option Statement
 scan_by (Some ir) (Some bits) = Some (ScanOf (record { ir = ir; bits = bits }))
 scan_by _ _ = None
 
+-- the statements of two words
 abbrev pub two_words : List ℕ → List ℕ → Option Statement
 two_words a b =
     if bytes_eq a (codes "TRST") && bytes_eq b (codes "OFF") then Some TrstOff else (
@@ -77,6 +80,7 @@ statement_of (Word command ∷ Word n ∷ t ∷ tokens) =
     scan_by (scan_command command) (option_and_then (λ m. option_and_then (bits_of_fields m) (fields_from None (t ∷ tokens))) (length_of n))
 statement_of _ = None
 
+-- the statements that these are, where each is one
 abbrev pub statements_of : List (List Token) → Option (List Statement)
 statements_of [] = Some []
 statements_of (piece ∷ pieces) = option_and_then (λ s. option_map (λ more. s ∷ more) (statements_of pieces)) (statement_of piece)

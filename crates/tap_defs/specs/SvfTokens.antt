@@ -10,6 +10,7 @@ without_comments false (b ∷ []) = cond (b == 33) [] (b ∷ [])
 without_comments false (b ∷ c ∷ bytes) =
     cond ((b == 33) || ((b == 47) && (c == 47))) (without_comments true (c ∷ bytes)) (b ∷ without_comments false (c ∷ bytes))
 
+-- a word, ( or ), or ;
 pub data Token : Type 0 where
   Word : List ℕ → Token
   Open : Token

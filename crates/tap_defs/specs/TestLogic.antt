@@ -12,20 +12,24 @@ pub data Instruction : Type 0 where
   Idcode : Instruction
   Other : Instruction
 
--- the lengths of the instruction and the boundary register; the EXTEST code and the preload code, where the part is described;
--- what Test-Logic-Reset selects, where that is known; and the code that Idcode loads. Of a code the bit nearest TDO stands first
+-- a part as the chain knows it. The first bit of a code is nearest TDO
 pub record TestLogic : Type 0 where
+  -- the lengths of the instruction register and of the boundary register
   pub ir_length : ℕ
   pub boundary_length : ℕ
+  -- the EXTEST code and the preload code, where the part is described
   pub extest : Option (List Bool)
   pub preload : Option (List Bool)
+  -- what Test-Logic-Reset selects, where that is known
   pub at_reset : Option Instruction
+  -- the identification code, which Idcode loads
   pub idcode : List Bool
 
+-- no bit is 0
 abbrev pub all_ones : List Bool → Bool
 all_ones bits = list_all (λ b. b) bits
 
--- the bits are this code
+-- there is this code, and the bits are it
 abbrev pub is_code : Option (List Bool) → List Bool → Bool
 is_code None bits = false
 is_code (Some code) bits = pointwise beq code bits

@@ -20,6 +20,7 @@ pub record DataFrame : Type 0 where
   pub current : Instruction
   pub ir : List Bool
 
+-- the same of a part of a chain
 abbrev pub data_frame : ChainPart → DataFrame
 data_frame p = record { logic = p.logic; current = p.state.current; ir = p.state.ir }
 
@@ -41,6 +42,7 @@ pub record CodeFrame : Type 0 where
   pub identification : List Bool
   pub latches : List Bool
 
+-- the same of a part of a chain
 abbrev pub code_frame : ChainPart → CodeFrame
 code_frame p = record {
   logic = p.logic;
