@@ -99,6 +99,25 @@ pub forty_parts_text : chain_text (replicate 40 2) ≡ whole (
 unfolding svf_text digits
 forty_parts_text = refl
 
+-- 80 characters stand in one line, and 81 in several; a field of 64 digits has one line, and a longer one has more
+abbrev pub zero_digits : ℕ → List ℕ
+zero_digits n = replicate n 48
+
+pub eighty_text : svf_text (sdr (replicate 260 (sent off)) ∷ []) ≡ whole ((codes "SDR 260 TDI (" ++ (zero_digits 65 ++ codes ");")) ∷ [])
+unfolding svf_text digits
+eighty_text = refl
+
+pub eighty_one_text : svf_text (sdr (replicate 264 (sent off)) ∷ [])
+    ≡ whole (codes "SDR 264" ∷ (codes "TDI (" ++ zero_digits 64) ∷ codes "00);" ∷ [])
+unfolding svf_text digits
+eighty_one_text = refl
+
+pub full_lines_text : svf_text (sir (replicate 256 (read off off)) ∷ []) ≡ whole (
+    codes "SIR 256" ∷ (codes "TDI (" ++ (zero_digits 64 ++ codes ")")) ∷ (codes "TDO (" ++ (zero_digits 64 ++ codes ")"))
+    ∷ (codes "MASK (" ++ (replicate 64 70 ++ codes ");")) ∷ [])
+unfolding svf_text digits
+full_lines_text = refl
+
 -- these lines right after the head
 abbrev pub headed : List (List ℕ) → Option (List Clock)
 headed more = meaning (head_text ++ lines more)
