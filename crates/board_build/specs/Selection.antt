@@ -3,7 +3,7 @@ use Rattle.std.specs.Prelude.{ℕ, List, length, map, nat_eq, nat_lt, slice_get,
 use Rattle.first_places.specs.Places.{first_place, first_repeat}
 use Rattle.board_files.specs.declared.chain_file.ChainLine.{ChainLine}
 use Rattle.bsdl_parser.specs.declared.entity.Entity.{Entity}
-use Rattle.board_defs.specs.declared.items.Spot.{Spot}
+use Rattle.board_defs.specs.declared.spot.Spot.{Spot}
 use Rattle.board_build.specs.declared.fault.BoardFault.{BoardFault}
 use Rattle.board_build.specs.declared.fault.BoardFault.TheVariants.{NoChain, PartTwice, NoEntity, EntityTwice, Limit}
 use Rattle.board_build.specs.declared.names.Naming.TheVariants.{Part, Entity as EntityName}

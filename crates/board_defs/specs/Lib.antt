@@ -1,0 +1,9 @@
+pub mod DeviceRules
+pub mod Pins
+pub mod BoardRules
+pub mod Settings
+pub mod Coverage
+pub mod Decided
+pub mod Passes
+pub mod Faults
+pub mod Laws

@@ -1,4 +1,76 @@
 // A device, as its description gives it.
+ghost use Rattle.std.specs.Prelude.{◌≡◌, ℕ, ◌<◌, ◌^◌, length, slice_get, Some, IfOk};
+ghost use Rattle.board_defs.specs.DeviceRules.{IsDevice};
+
+use crate::items::{Items, Name};
+use std::alloc::{AllocError, Global};
+use std::marker::Model;
+
+/// A bit of a pattern: 0, 1, or X, which fits both.
+#[derive(Clone, Copy, Debug, PartialEq, Eq)]
+pub enum Symbol {
+    Zero,
+    One,
+    Any,
+}
+
+/// The pattern of a register, the bit nearest TDO first; fewer than 2^32 symbols.
+#[derive(Debug, Drop)]
+pub struct Code {
+    symbols: Vec<Symbol>,
+}
+
+impl Model for Code {
+    ghost use Rattle.std.specs.Prelude.{List, ◌<◌, ◌^◌, length};
+    ghost use Rattle.board_defs.specs.declared.device.Symbol.{Symbol};
+
+    ghost Value = { List Symbol };
+
+    ghost view = { λ a. a.symbols.items };
+
+    ghost invariant = { λ a. length a.symbols.items < 2 ^ 32 };
+}
+
+impl Code {
+    /// The code with these symbols.
+    pub fn of(alloc: Global, symbols: &[Symbol]) -> Result<Code, AllocError>
+        requires { length symbols.now < 2 ^ 32 }
+        ensures { IfOk result (λ code. code ≡ symbols.now) }
+    {
+        Ok(Code {
+            symbols: symbols.to_vec(alloc)?,
+        })
+    }
+
+    /// The code of these symbols, which it takes over.
+    pub fn from_vec(symbols: Vec<Symbol>) -> Code
+        requires { length symbols.items < 2 ^ 32 }
+        ensures { result ≡ symbols.items }
+    {
+        Code { symbols }
+    }
+
+    pub fn symbols(&self) -> &[Symbol]
+        ensures value { result.now ≡ self.now }
+        ensures short { length self.now < 2 ^ 32 }
+    {
+        &self.symbols
+    }
+
+    pub fn len(&self) -> u32
+        ensures { result ≡ length self.now }
+    {
+        self.symbols.len() as u32
+    }
+
+    /// The symbol at this place, counted from the bit nearest TDO.
+    pub fn at(&self, i: u32) -> Symbol
+        requires { i < length self.now }
+        ensures { slice_get self.now i ≡ Some result }
+    {
+        self.symbols[i as usize]
+    }
+}
 
 /// The mode of a port.
 #[derive(Clone, Copy, Debug, PartialEq, Eq)]
@@ -8,4 +80,115 @@ pub enum Mode {
     Both,
     Buffer,
     Linkage,
+}
+
+/// The function of an entry of the boundary register.
+#[derive(Clone, Copy, Debug, PartialEq, Eq)]
+pub enum Role {
+    Input,
+    Output2,
+    Output3,
+    Control,
+    ControlR,
+    Internal,
+    Clock,
+    Bidir,
+    ObserveOnly,
+}
+
+/// The edition of IEEE 1149.1 that a description follows. That of 2001 splits SAMPLE/PRELOAD
+/// in two, and no longer requires that EXTEST be all zeros.
+#[derive(Clone, Copy, Debug, PartialEq, Eq)]
+pub enum Edition {
+    Old,
+    Of2001,
+}
+
+/// The control cell of a driver, and the value at which it disables the driver.
+#[derive(Clone, Copy, Debug, PartialEq, Eq)]
+pub struct Control {
+    pub cell: u32,
+    pub disable: bool,
+}
+
+/// An entry of the boundary register.
+#[derive(Clone, Copy, Debug, PartialEq, Eq)]
+pub struct Cell {
+    /// The number of the boundary cell, 0 nearest TDO.
+    pub num: u32,
+    pub role: Role,
+    /// The number of the port bit, among the device's port bits.
+    pub bit: Option<u32>,
+    pub safe: Symbol,
+    pub ctl: Option<Control>,
+}
+
+/// A bit of a port.
+#[derive(Debug, Drop)]
+pub struct PortBit {
+    /// The number of the port.
+    pub port: u32,
+    /// The index, for a bit of a vector.
+    pub index: Option<u32>,
+    pub mode: Mode,
+    /// The pin of the chosen pin map, where the map names the port.
+    pub pin: Option<Name>,
+    /// Whether the port is of the test access port.
+    pub tap: bool,
+    /// Whether the compliance patterns name the bit.
+    pub compliance: bool,
+}
+
+/// A device as the plain record of its description.
+#[derive(Debug, Drop)]
+pub struct RawDevice {
+    pub entity: Name,
+    pub package: Name,
+    pub edition: Edition,
+    pub ports: Items<Name>,
+    /// The length of the instruction register.
+    pub ir: u32,
+    /// The code of the instruction that preloads the boundary register.
+    pub sample: Code,
+    pub extest: Code,
+    /// The pattern of the identification code, where there is one.
+    pub idcode: Option<Code>,
+    /// The length of the boundary register.
+    pub boundary: u32,
+    pub bits: Items<PortBit>,
+    pub cells: Items<Cell>,
+}
+
+/// A device that keeps the rules of a device.
+#[derive(Debug, Drop)]
+pub struct Device {
+    raw: RawDevice,
+}
+
+impl Model for Device {
+    ghost use Rattle.board_defs.specs.declared.device.RawDevice.{RawDevice};
+
+    ghost Value = { RawDevice };
+
+    ghost use Rattle.board_defs.specs.DeviceRules.{IsDevice};
+
+    ghost view = { λ a. a.raw };
+
+    ghost invariant = { λ a. IsDevice a.raw };
+}
+
+impl Device {
+    pub fn new(raw: RawDevice) -> Device
+        requires { IsDevice raw }
+        ensures { result ≡ raw }
+    {
+        Device { raw }
+    }
+
+    pub fn raw(&self) -> &RawDevice
+        ensures value { result.now ≡ self.now }
+        ensures rules { IsDevice self.now }
+    {
+        &self.raw
+    }
 }

@@ -1,8 +1,24 @@
 //! The vocabulary of boards: names, devices, boards, settings and faults.
 #![tactic(auto)]
 
+mod board;
+mod coverage;
 mod device;
+mod fault;
 mod items;
+pub mod law;
+mod lengths;
+mod pins;
+mod setting;
+mod spot;
 
-pub use device::Mode;
-pub use items::{Items, Name, Spot};
+pub use board::{Board, Ctl, Drive, Net, NetPin, Part, PartKind, PinAt, PinRef, RawBoard};
+pub use coverage::Reason;
+pub use device::{Cell, Code, Control, Device, Edition, Mode, PortBit, RawDevice, Role, Symbol};
+pub use fault::{Kind, Single};
+pub use items::{Items, Name};
+pub use setting::Setting;
+pub use spot::Spot;
+
+#[cfg(test)]
+mod tests;

@@ -2,6 +2,20 @@
 //! interconnect test needs them), and what a text says of its entity.
 #![tactic(auto)]
 
+mod answer;
+mod attributes;
+mod cursor;
+mod draft;
 mod entity;
+mod fault;
+mod file;
+mod items;
+pub mod law;
+mod numbers;
+mod ports;
+mod stop;
+mod strings;
 
+pub use answer::parse;
 pub use entity::{Attr, AttrValue, Constant, Entity, Port, Range};
+pub use fault::ParseFault;

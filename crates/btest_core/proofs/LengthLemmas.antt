@@ -2,6 +2,7 @@
 use Rattle.std.proofs.Common.{◌≡◌, ℕ, ◌≤◌, Bool, true, false, List, [], ◌∷◌, length, nat_lt, Option, Some, None, Result, Ok, Err, refl, ap, sym, ◌∙◌, arith}
 use Rattle.std.specs.Prelude.{option_map, option_and_then, position, is_none, if◌then◌else◌}
 use Rattle.std.specs.List.{AllByRecursion}
+use Rattle.std.proofs.lemmas.List.Elements.{All-from_recursion}
 use Rattle.std.proofs.lemmas.Grind.{common_steps}
 use Rattle.board_files.specs.declared.chain_file.ChainLine.{ChainLine}
 use Rattle.board_files.specs.declared.chain_file.ChainStatement.{ChainStatement}
@@ -121,7 +122,7 @@ lengths_in_bounds lines numbers said lengths =
     record {
       some = omega (arith, count, selected.some);
       most = omega (arith, count, selected.few);
-      each = each_length lines lengths;
+      each = All-from_recursion InBounds (bypass_lengths lines) (each_length lines lengths);
     }
 
 -- the selection behind an answer as a fault of the inputs

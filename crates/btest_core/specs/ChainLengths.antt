@@ -1,6 +1,6 @@
 -- The instruction lengths of a chain.
 use Rattle.std.specs.Prelude.{ℕ, ◌≤◌, List, [], length, Option, Some, None, Result, Ok}
-use Rattle.std.specs.List.{AllByRecursion, filter_map}
+use Rattle.std.specs.List.{All, filter_map}
 use Rattle.board_files.specs.declared.chain_file.ChainLine.{ChainLine}
 use Rattle.board_files.specs.declared.chain_file.ChainStatement.{ChainStatement}
 use Rattle.board_files.specs.declared.chain_file.ChainStatement.TheVariants.{Device, Bypass, Inert, Supply, Pull, Link}
@@ -29,4 +29,4 @@ chain_lengths text = in_chain (chain_lines text) >>= (λ lines. in_board (select
 pub record AreLengths (lengths : List ℕ) : Type 0 where
   pub some : 1 ≤ length lengths
   pub most : length lengths ≤ 255
-  pub each : AllByRecursion (λ n. (2 ≤ n) × (n ≤ 255)) lengths
+  pub each : All (λ n. (2 ≤ n) × (n ≤ 255)) lengths

@@ -1,0 +1,17 @@
+pub mod Places
+pub mod BoardLemmas
+pub mod ControlOrder
+pub mod Driving
+pub mod Pairwise
+pub mod SafeSettings
+pub mod Covered
+pub mod Reasons
+mod Samples
+pub mod Members
+pub mod PassSettings
+pub mod PassesKept
+pub mod PassesReach
+pub mod SingleFaults
+mod Checks
+mod DeviceChecks
+mod BoardChecks

@@ -1,0 +1,79 @@
+-- What a test can cover: each term says that some safe setting does it.
+use Rattle.std.specs.Prelude.{◌≡◌, ◌≢◌, ◌<◌, ℕ, true, false, Some, None, slice_get}
+use Rattle.std.specs.List.{list_any}
+use Rattle.board_defs.specs.declared.board.NetPin.{NetPin}
+use Rattle.board_defs.specs.declared.board.Net.{Net}
+use Rattle.board_defs.specs.declared.board.RawBoard.{RawBoard}
+use Rattle.board_defs.specs.declared.board.Ctl.{Ctl}
+use Rattle.board_defs.specs.declared.board.Drive.TheVariants.{By}
+use Rattle.board_defs.specs.declared.coverage.Reason.{Reason}
+use Rattle.board_defs.specs.declared.coverage.Reason.TheVariants.{Supply, TestPort, Dark, NoDriver, Blocked, NoReceiver}
+use Rattle.board_defs.specs.Pins.{drive, receives, is_test_pin, is_dark}
+use Rattle.board_defs.specs.BoardRules.{Stands}
+use Rattle.board_defs.specs.Settings.{Enabling, just, both, enables, IsSafe, ObservesBy, ObservesNet}
+
+-- the setting enables the pin at this place of net n, and observes the net
+abbrev pub TestsDriver : RawBoard → Enabling → ℕ → ℕ → Type 0
+TestsDriver board setting n place = (net : Net) × (slice_get board.nets n ≡ Some net) × ObservesBy board setting net place
+
+-- the pin at this place of net n receives, and the setting observes the net by a driver on another pin
+abbrev pub TestsReceiver : RawBoard → Enabling → ℕ → ℕ → Type 0
+TestsReceiver board setting n place =
+    (net : Net) × (pin : NetPin) × (driver : ℕ) × (slice_get board.nets n ≡ Some net) × (slice_get net.pins place ≡ Some pin) × (receives board pin ≡ true) × (driver ≢ place) × ObservesBy board setting net driver
+
+-- some safe setting does
+abbrev pub SomeSafe : RawBoard → (Enabling → Type 0) → Type 0
+SomeSafe board P = (setting : Enabling) × IsSafe board setting × P setting
+
+abbrev pub IsCovered : RawBoard → ℕ → Type 0
+IsCovered board n = SomeSafe board (λ setting. ObservesNet board setting n)
+
+-- one safe setting observes both nets
+abbrev pub ArePaired : RawBoard → ℕ → ℕ → Type 0
+ArePaired board a b = (a ≢ b) × SomeSafe board (λ setting. ObservesNet board setting a × ObservesNet board setting b)
+
+abbrev pub IsTestedDriver : RawBoard → ℕ → ℕ → Type 0
+IsTestedDriver board n place = SomeSafe board (λ setting. TestsDriver board setting n place)
+
+abbrev pub IsTestedReceiver : RawBoard → ℕ → ℕ → Type 0
+IsTestedReceiver board n place = SomeSafe board (λ setting. TestsReceiver board setting n place)
+
+-- the setting of the control alone is safe, and it controls a tested driver
+abbrev pub IsUseful : RawBoard → Ctl → Type 0
+IsUseful board c = IsSafe board (just c) × (n : ℕ) × (net : Net) × (place : ℕ) × (pin : NetPin) × (slice_get board.nets n ≡ Some net) × (slice_get net.pins place ≡ Some pin) × (drive board net pin ≡ Some (By c)) × IsTestedDriver board n place
+
+-- the setting of the two controls is safe
+abbrev pub AreTogether : RawBoard → Ctl → Ctl → Type 0
+AreTogether board a b = IsSafe board (both a b)
+
+-- no pin of the net is a driver
+abbrev pub HasNoDriver : RawBoard → ℕ → Net → Type 0
+HasNoDriver board n net = (place : ℕ) (pin : NetPin) → Stands board n net place pin → drive board net pin ≡ None
+
+-- no safe setting enables a driver on the net
+abbrev pub IsBlocked : RawBoard → ℕ → Net → Type 0
+IsBlocked board n net = (setting : Enabling) (place : ℕ) (pin : NetPin) → IsSafe board setting → Stands board n net place pin → enables board setting pin ≡ false
+
+-- what a reason says of a net that is not covered
+abbrev pub Holds : RawBoard → ℕ → Net → Reason → Type 0
+Holds board n net Supply = net.supply ≡ true
+Holds board n net TestPort = list_any (is_test_pin board) net.pins ≡ true
+Holds board n net Dark = list_any (is_dark board) net.pins ≡ true
+Holds board n net NoDriver = HasNoDriver board n net
+Holds board n net Blocked = IsBlocked board n net
+Holds board n net NoReceiver = Unit {0}
+
+-- the order in which the reasons are tried
+abbrev pub rank : Reason → ℕ
+rank Supply = 0
+rank TestPort = 1
+rank Dark = 2
+rank NoDriver = 3
+rank Blocked = 4
+rank NoReceiver = 5
+
+-- why a net is not covered: the first reason that holds of it
+pub record IsReason (board : RawBoard) (n : ℕ) (net : Net) (reason : Reason) : Type 0 where
+  pub uncovered : IsCovered board n → ⊥
+  pub holds : Holds board n net reason
+  pub first : (other : Reason) → rank other < rank reason → Holds board n net other → ⊥

@@ -1,0 +1,59 @@
+-- The single faults of a board, in order.
+use Rattle.std.specs.Prelude.{◌<◌, ◌⊎◌, ℕ, Bool, true, false, ◌||◌, List, [], ◌∷◌, ◌++◌, map, filter, length}
+use Rattle.std.specs.List.{flat_map, enumerate_from, range_with_len}
+use Rattle.board_defs.specs.declared.board.Net.{Net}
+use Rattle.board_defs.specs.declared.board.PinRef.{PinRef}
+use Rattle.board_defs.specs.declared.board.RawBoard.{RawBoard}
+use Rattle.board_defs.specs.declared.fault.Kind.TheVariants.{And, Or, First, Second}
+use Rattle.board_defs.specs.declared.fault.Single.{Single}
+use Rattle.board_defs.specs.declared.fault.Single.TheVariants.{StuckNet, OpenPin, Short}
+use Rattle.board_defs.specs.Coverage.{IsCovered, ArePaired, IsTestedDriver, IsTestedReceiver}
+use Rattle.board_defs.specs.Decided.{is_covered, are_paired, is_tested_driver, is_tested_receiver}
+use Rattle.board_defs.specs.Passes.{pairs_within}
+
+abbrev pub Numbered : Type 0
+Numbered = ℕ × Net
+
+-- the nets with their numbers, in net order
+abbrev pub numbered_nets : RawBoard → List Numbered
+numbered_nets board = enumerate_from 0 board.nets
+
+abbrev pub covered_nets : RawBoard → List Numbered
+covered_nets board = filter (λ net. is_covered board net.1) (numbered_nets board)
+
+-- the pins of a net that are tested as driver or as receiver, in pin order
+abbrev pub is_tested_pin : RawBoard → Net → ℕ → Bool
+is_tested_pin board net place = is_tested_driver board net place || is_tested_receiver board net place
+
+abbrev pub tested_pins_in : RawBoard → Numbered → List PinRef
+tested_pins_in board net = map (λ place. record { net = net.0; place = place }) (filter (is_tested_pin board net.1) (range_with_len 0 (length net.1.pins)))
+
+abbrev pub tested_pins : RawBoard → List PinRef
+tested_pins board = flat_map (tested_pins_in board) (numbered_nets board)
+
+-- the pairs of nets that one safe setting observes, in pair order
+abbrev pub paired_nets : RawBoard → List (Numbered × Numbered)
+paired_nets board = filter (λ pair. are_paired board pair.0.1 pair.1.1) (pairs_within (numbered_nets board))
+
+-- each covered net stuck, each tested pin open, with 0 and then 1, and each two paired nets shorted in each way
+abbrev pub stuck_faults : ℕ → List Single
+stuck_faults net = StuckNet net false ∷ StuckNet net true ∷ []
+
+abbrev pub open_faults : PinRef → List Single
+open_faults pin = OpenPin pin false ∷ OpenPin pin true ∷ []
+
+abbrev pub short_faults : ℕ → ℕ → List Single
+short_faults a b = Short a b And ∷ Short a b Or ∷ Short a b First ∷ Short a b Second ∷ []
+
+-- the single faults of the board, in order
+abbrev pub singles : RawBoard → List Single
+singles board =
+    flat_map (λ net. stuck_faults net.0) (covered_nets board)
+    ++ flat_map open_faults (tested_pins board)
+    ++ flat_map (λ pair. short_faults pair.0.0 pair.1.0) (paired_nets board)
+
+-- a single fault of the board
+abbrev pub IsSingle : RawBoard → Single → Type 0
+IsSingle board (StuckNet net value) = IsCovered board net
+IsSingle board (OpenPin pin value) = IsTestedDriver board pin.net pin.place ⊎ IsTestedReceiver board pin.net pin.place
+IsSingle board (Short a b kind) = (a < b) × ArePaired board a b

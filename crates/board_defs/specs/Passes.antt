@@ -1,0 +1,149 @@
+-- The passes of a board: first until each tested driver is enabled, then until each two paired nets are observed by one pass.
+use Rattle.std.specs.Prelude.{◌≡◌, ◌⊎◌, ℕ, Bool, true, false, not, ◌&&◌, List, [], ◌∷◌, ◌++◌, map, filter, filter_map, find, fold, take, length, Option, Some, None, slice_get, cond}
+use Rattle.std.specs.List.{list_any, list_all, flat_map, enumerate_from, range_with_len}
+use Rattle.board_defs.specs.declared.board.PartKind.{PartKind}
+use Rattle.board_defs.specs.declared.board.PartKind.TheVariants.{Described, Bypass}
+use Rattle.board_defs.specs.declared.board.Net.{Net}
+use Rattle.board_defs.specs.declared.board.Ctl.{Ctl}
+use Rattle.board_defs.specs.declared.board.RawBoard.{RawBoard}
+use Rattle.board_defs.specs.declared.board.Drive.{Drive}
+use Rattle.board_defs.specs.declared.board.Drive.TheVariants.{AlwaysOn, OneSided, By}
+use Rattle.board_defs.specs.Settings.{Enabling, holds, inserted, IsSafe, ObservesNet}
+use Rattle.board_defs.specs.Coverage.{IsCovered, ArePaired, IsTestedDriver, IsTestedReceiver, TestsDriver, TestsReceiver}
+use Rattle.board_defs.specs.Decided.{is_useful, are_together, are_compatible, is_tested_driver, place_drive}
+
+-- the cells of a part as controls, and those of the chain, in control order
+abbrev pub cells_of : ℕ → PartKind → List Ctl
+cells_of part (Described device) = map (λ cell. record { part = part; cell = cell }) (range_with_len 0 device.boundary)
+cells_of part (Bypass n) = []
+
+abbrev pub all_cells : RawBoard → List Ctl
+all_cells board = flat_map (λ part. cells_of part.0 part.1.kind) (enumerate_from 0 board.chain)
+
+-- the useful controls, in control order
+abbrev pub useful_controls : RawBoard → List Ctl
+useful_controls board = filter (is_useful board) (all_cells board)
+
+-- the tested drivers of a net, in pin order
+abbrev pub tested_drive : RawBoard → Net → ℕ → Option Drive
+tested_drive board net place = cond (is_tested_driver board net place) (place_drive board net place) None
+
+abbrev pub tested_drivers : RawBoard → Net → List Drive
+tested_drivers board net = filter_map (tested_drive board net) (range_with_len 0 (length net.pins))
+
+-- the setting enables the driver
+abbrev pub is_enabled : List Ctl → Drive → Bool
+is_enabled setting AlwaysOn = true
+is_enabled setting OneSided = false
+is_enabled setting (By c) = holds setting c
+
+-- the setting with the control of the driver
+abbrev pub with_driver : List Ctl → Drive → List Ctl
+with_driver setting AlwaysOn = setting
+with_driver setting OneSided = setting
+with_driver setting (By c) = inserted c setting
+
+-- the control is together with all controls of the setting
+abbrev pub fits : RawBoard → List Ctl → Ctl → Bool
+fits board setting c = list_all (are_together board c) setting
+
+-- no earlier pass enables the tested drivers of a useful control
+abbrev pub is_new : List (List Ctl) → Ctl → Bool
+is_new earlier c = not (list_any (λ pass. holds pass c) earlier)
+
+-- goes through the controls in order, and adds each that the test accepts for the setting so far
+abbrev pub walk : (List Ctl → Ctl → Bool) → List Ctl → List Ctl → List Ctl
+walk accepts controls setting = fold (λ s c. cond (accepts s c) (inserted c s) s) setting controls
+
+-- first walk: each useful control that fits and controls a tested driver which no earlier pass enables
+abbrev pub first_walk : RawBoard → List Ctl → List (List Ctl) → List Ctl → List Ctl
+first_walk board useful earlier setting = walk (λ s c. is_new earlier c && fits board s c) useful setting
+
+-- second walk: each useful control that fits
+abbrev pub second_walk : RawBoard → List Ctl → List Ctl → List Ctl
+second_walk board useful setting = walk (fits board) useful setting
+
+-- the pass for a tested driver that no earlier pass enables
+abbrev pub driver_pass : RawBoard → List Ctl → List (List Ctl) → Drive → List Ctl
+driver_pass board useful earlier d = second_walk board useful (first_walk board useful earlier (with_driver [] d))
+
+abbrev pub add_for_driver : RawBoard → List Ctl → List (List Ctl) → Drive → List (List Ctl)
+add_for_driver board useful passes d = cond (list_any (λ pass. is_enabled pass d) passes) passes (passes ++ driver_pass board useful passes d ∷ [])
+
+-- the passes until each of the drivers is enabled
+abbrev pub driver_passes : RawBoard → List Ctl → List Drive → List (List Ctl)
+driver_passes board useful drivers = fold (add_for_driver board useful) [] drivers
+
+-- one pass observes both nets, each by one of its tested drivers
+abbrev pub shows : List Drive → List Ctl → Bool
+shows drivers pass = list_any (is_enabled pass) drivers
+
+abbrev pub are_shown : List (List Ctl) → List Drive → List Drive → Bool
+are_shown passes a b = list_any (λ pass. shows a pass && shows b pass) passes
+
+-- the pairs of one of the first list and one of the second, in order
+abbrev pub pairs_of : {X : Type 0} → List X → List X → List (X × X)
+pairs_of xs ys = flat_map (λ x. map (λ y. (x, y)) ys) xs
+
+-- the pairs of an item and a later one, in order
+abbrev pub pairs_within : {X : Type 0} → List X → List (X × X)
+pairs_within [] = []
+pairs_within (x ∷ xs) = map (λ y. (x, y)) xs ++ pairs_within xs
+
+-- the first tested drivers of two nets that one safe setting enables
+abbrev pub first_pair : RawBoard → List Drive → List Drive → Option (Drive × Drive)
+first_pair board a b = find (λ pair. are_compatible board (Some pair.0) (Some pair.1)) (pairs_of a b)
+
+-- the pass for two paired nets that no pass so far observes together
+abbrev pub pair_pass : RawBoard → List Ctl → Drive × Drive → List Ctl
+pair_pass board useful pair = second_walk board useful (with_driver (with_driver [] pair.0) pair.1)
+
+abbrev pub with_pair : RawBoard → List Ctl → List (List Ctl) → Option (Drive × Drive) → List (List Ctl)
+with_pair board useful passes None = passes
+with_pair board useful passes (Some pair) = passes ++ pair_pass board useful pair ∷ []
+
+abbrev pub add_for_nets : RawBoard → List Ctl → List (List Ctl) → List Drive × List Drive → List (List Ctl)
+add_for_nets board useful passes nets = cond (are_shown passes nets.0 nets.1) passes (with_pair board useful passes (first_pair board nets.0 nets.1))
+
+-- and on, until each two of the nets that are paired are observed by one pass
+abbrev pub pair_passes : RawBoard → List Ctl → List (List Ctl) → List (List Drive) → List (List Ctl)
+pair_passes board useful passes nets = fold (add_for_nets board useful) passes (pairs_within nets)
+
+abbrev pub drivers_by_net : RawBoard → List (List Drive)
+drivers_by_net board = map (tested_drivers board) board.nets
+
+-- the passes of the board
+abbrev pub passes_of : RawBoard → List (List Ctl)
+passes_of board =
+    let useful : List Ctl = useful_controls board in
+    let nets : List (List Drive) = drivers_by_net board in
+    pair_passes board useful (driver_passes board useful (flat_map (λ drivers. drivers) nets)) nets
+
+-- some pass does
+abbrev pub SomePass : List (List Ctl) → (Enabling → Type 0) → Type 0
+SomePass passes P = (x : ℕ) × (pass : List Ctl) × (slice_get passes x ≡ Some pass) × P (holds pass)
+
+-- the pass enables a tested driver that no earlier pass enables, in a net that it observes
+pub record EnablesNew (board : RawBoard) (earlier : List (List Ctl)) (pass : List Ctl) : Type 0 where
+  pub net : ℕ
+  pub place : ℕ
+  pub tested : IsTestedDriver board net place
+  pub enables : TestsDriver board (holds pass) net place
+  pub first : SomePass earlier (λ setting. TestsDriver board setting net place) → ⊥
+
+-- the pass observes two paired nets that no earlier pass observes together
+pub record ObservesNew (board : RawBoard) (earlier : List (List Ctl)) (pass : List Ctl) : Type 0 where
+  pub low : ℕ
+  pub high : ℕ
+  pub paired : ArePaired board low high
+  pub observes : ObservesNet board (holds pass) low × ObservesNet board (holds pass) high
+  pub first : SomePass earlier (λ setting. ObservesNet board setting low × ObservesNet board setting high) → ⊥
+
+-- what passes are to do: each is safe, what some safe setting does, some pass does, and each does something that no earlier one does
+pub record ArePasses (board : RawBoard) (passes : List (List Ctl)) : Type 0 where
+  pub safe : (x : ℕ) (pass : List Ctl) → slice_get passes x ≡ Some pass → IsSafe board (holds pass)
+  pub nets : (n : ℕ) → IsCovered board n → SomePass passes (λ setting. ObservesNet board setting n)
+  pub pairs : (a b : ℕ) → ArePaired board a b → SomePass passes (λ setting. ObservesNet board setting a × ObservesNet board setting b)
+  pub drivers : (n place : ℕ) → IsTestedDriver board n place → SomePass passes (λ setting. TestsDriver board setting n place)
+  pub receivers : (n place : ℕ) → IsTestedReceiver board n place → SomePass passes (λ setting. TestsReceiver board setting n place)
+  pub needed : (x : ℕ) (pass : List Ctl) → slice_get passes x ≡ Some pass → EnablesNew board (take x passes) pass ⊎ ObservesNew board (take x passes) pass

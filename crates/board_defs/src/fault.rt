@@ -1,0 +1,21 @@
+// Single faults of a board.
+use crate::board::PinRef;
+
+/// How two shorted nets read.
+#[derive(Clone, Copy, Debug, PartialEq, Eq)]
+pub enum Kind {
+    And,
+    Or,
+    /// The first net dominates.
+    First,
+    /// The second net dominates.
+    Second,
+}
+
+/// A single fault. Nets are given by their numbers.
+#[derive(Clone, Copy, Debug, PartialEq, Eq)]
+pub enum Single {
+    StuckNet { net: u32, value: bool },
+    OpenPin { pin: PinRef, value: bool },
+    Short { a: u32, b: u32, kind: Kind },
+}

@@ -1,0 +1,23 @@
+//! Laws of boards: each function does nothing, and its contract is the law. A function calls one
+//! to have the law in its proof.
+ghost use Rattle.board_defs.specs.Laws.{SafeByPairs, TermsDecided, PassesKept, SinglesListed};
+
+/// A setting is safe exactly where each of its controls alone and every two of them are.
+pub fn safe_by_pairs()
+    ensures { SafeByPairs }
+{}
+
+/// Questions about single controls and pairs decide what some safe setting can do.
+pub fn terms_decided()
+    ensures { TermsDecided }
+{}
+
+/// The passes of a board are safe, do what some safe setting does, and each has a reason.
+pub fn passes_kept()
+    ensures { PassesKept }
+{}
+
+/// The single faults of a board are those of its covered nets, tested pins and paired nets.
+pub fn singles_listed()
+    ensures { SinglesListed }
+{}

@@ -1,0 +1,412 @@
+// The questions about a board's pins, over the plain records.
+ghost use Rattle.std.specs.Prelude.{◌≡◌, ◌≤◌, ◌^◌, ◌<◌, ◌&&◌, option_copied, option_and_then, length, slice_get};
+ghost use Rattle.std.specs.List.{list_any};
+ghost use Rattle.board_defs.specs.DeviceRules.{is_driving, is_reading, is_receiving, is_writing, is_loading, is_controlling, is_inner, may_receive, may_drive, is_linkage, bit_of, is_on, drives_bit, reads_bit, driving_entry};
+ghost use Rattle.board_defs.specs.BoardRules.{IsBoard};
+ghost use Rattle.board_defs.specs.Pins.{described, instruction_length, data_length, instruction_bits, data_bits, device_at, entry_at, bit_at, is_pinned, is_test_bit, is_test_pin, is_dark_bit, is_dark_in, is_dark, guards, guarded, is_pulled_to, lets_switch, drive_by, drive, switches_by, switches_entry, switches, receives_bit, receives_in, receives, drive_at, switches_at, receives_at};
+
+use crate::board::{Ctl, Drive, Net, NetPin, Part, PartKind, PinAt, PinRef, RawBoard};
+use crate::device::{Cell, Control, Mode, PortBit, RawDevice, Role, Symbol};
+
+impl Role {
+    /// Whether an entry drives its port: OUTPUT2, OUTPUT3 and BIDIR.
+    pub fn is_driving(self) -> bool
+        ensures { result ≡ is_driving self }
+    {
+        matches!(self, Role::Output2 | Role::Output3 | Role::Bidir)
+    }
+
+    /// Whether an entry reads its port: INPUT, CLOCK, OBSERVE_ONLY and BIDIR.
+    pub fn is_reading(self) -> bool
+        ensures { result ≡ is_reading self }
+    {
+        matches!(
+            self,
+            Role::Input | Role::Clock | Role::ObserveOnly | Role::Bidir
+        )
+    }
+
+    /// Whether an entry is one of a receiver: INPUT, CLOCK and BIDIR.
+    pub fn is_receiving(self) -> bool
+        ensures { result ≡ is_receiving self }
+    {
+        matches!(self, Role::Input | Role::Clock | Role::Bidir)
+    }
+
+    /// Whether an entry takes its value from the update latch: OUTPUT2, OUTPUT3, BIDIR, CONTROL,
+    /// CONTROLR and INTERNAL.
+    pub fn is_writing(self) -> bool
+        ensures { result ≡ is_writing self }
+    {
+        self.is_driving() || self.is_inner()
+    }
+
+    /// Whether an entry gives the capture its value: a reading entry, or INTERNAL.
+    pub fn is_loading(self) -> bool
+        ensures { result ≡ is_loading self }
+    {
+        self.is_reading() || matches!(self, Role::Internal)
+    }
+
+    /// Whether an entry makes its cell a control cell: CONTROL and CONTROLR.
+    pub fn is_controlling(self) -> bool
+        ensures { result ≡ is_controlling self }
+    {
+        matches!(self, Role::Control | Role::ControlR)
+    }
+
+    /// Whether an entry is on no port: CONTROL, CONTROLR and INTERNAL.
+    pub fn is_inner(self) -> bool
+        ensures { result ≡ is_inner self }
+    {
+        matches!(self, Role::Control | Role::ControlR | Role::Internal)
+    }
+}
+
+impl Mode {
+    /// Whether the part receives from such a pin: in and inout.
+    pub fn may_receive(self) -> bool
+        ensures { result ≡ may_receive self }
+    {
+        matches!(self, Mode::Inward | Mode::Both)
+    }
+
+    /// Whether the part may drive such a pin: out, inout and buffer.
+    pub fn may_drive(self) -> bool
+        ensures { result ≡ may_drive self }
+    {
+        matches!(self, Mode::Outward | Mode::Both | Mode::Buffer)
+    }
+
+    pub fn is_linkage(self) -> bool
+        ensures { result ≡ is_linkage self }
+    {
+        matches!(self, Mode::Linkage)
+    }
+}
+
+impl Symbol {
+    /// The bit that is used for it: X is taken as 0.
+    pub fn bit(self) -> bool
+        ensures { result ≡ bit_of self }
+    {
+        matches!(self, Symbol::One)
+    }
+}
+
+impl Cell {
+    /// Whether the entry is on this port bit.
+    pub fn is_on(&self, bit: u32) -> bool
+        ensures { result ≡ is_on bit self.now.bit }
+    {
+        match self.bit {
+            Some(b) => b == bit,
+            None => false,
+        }
+    }
+
+    fn drives(&self, bit: u32) -> bool
+        ensures { result ≡ drives_bit bit self.now }
+    {
+        self.is_on(bit) && self.role.is_driving()
+    }
+
+    fn reads(&self, bit: u32) -> bool
+        ensures { result ≡ reads_bit bit self.now }
+    {
+        self.is_on(bit) && self.role.is_receiving()
+    }
+}
+
+impl RawDevice {
+    /// The driving entry of a port bit.
+    pub fn driving_entry(&self, bit: u32) -> Option<Cell>
+        ensures { result ≡ driving_entry self.now bit }
+    {
+        self.cells
+            .as_slice()
+            .iter()
+            .copied()
+            .find(|cell| cell.drives(bit))
+    }
+
+    fn has_entry(&self, bit: u32) -> bool
+        ensures { result ≡ list_any (λ cell. is_on bit cell.bit) self.now.cells }
+    {
+        self.cells.as_slice().iter().any(|cell| cell.is_on(bit))
+    }
+
+    fn has_driving_entry(&self, bit: u32) -> bool
+        ensures { result ≡ list_any (drives_bit bit) self.now.cells }
+    {
+        self.cells.as_slice().iter().any(|cell| cell.drives(bit))
+    }
+
+    fn has_receiving_entry(&self, bit: u32) -> bool
+        ensures { result ≡ list_any (reads_bit bit) self.now.cells }
+    {
+        self.cells.as_slice().iter().any(|cell| cell.reads(bit))
+    }
+
+    fn port_bit(&self, bit: u32) -> Option<&PortBit>
+        ensures { option_copied result ≡ slice_get self.now.bits bit }
+    {
+        self.bits.as_slice().get(bit as usize)
+    }
+
+    fn is_dark(&self, n: u32) -> bool
+        ensures { result ≡ is_dark_bit self.now n (slice_get self.now.bits n) }
+    {
+        let any = self.has_entry(n);
+        let driven = self.has_driving_entry(n);
+        match self.port_bit(n) {
+            None => true,
+            Some(bit) => {
+                if bit.tap {
+                    false
+                } else if bit.mode.is_linkage() {
+                    true
+                } else if any {
+                    bit.mode.may_drive() && !driven
+                } else {
+                    true
+                }
+            }
+        }
+    }
+
+    fn receives(&self, n: u32) -> bool
+        ensures { result ≡ receives_bit self.now n (slice_get self.now.bits n) }
+    {
+        match self.port_bit(n) {
+            None => false,
+            Some(bit) => bit.mode.may_receive() && self.has_receiving_entry(n),
+        }
+    }
+}
+
+impl PartKind {
+    /// The device, where the part is described.
+    pub fn device(&self) -> Option<&RawDevice>
+        ensures { option_copied result ≡ described self.now }
+    {
+        match self {
+            PartKind::Described(device) => Some(device.raw()),
+            PartKind::Bypass(_) => None,
+        }
+    }
+}
+
+impl RawBoard {
+    /// The device of a part of the chain, where it is described.
+    pub fn device(&self, part: u32) -> Option<&RawDevice>
+        ensures { option_copied result ≡ device_at self.now part }
+    {
+        match self.chain.as_slice().get(part as usize) {
+            Some(part) => part.kind.device(),
+            None => None,
+        }
+    }
+
+    /// The driving entry of a port bit of a part.
+    pub fn driving_entry(&self, at: PinAt) -> Option<Cell>
+        ensures { result ≡ entry_at self.now at }
+    {
+        match self.device(at.part) {
+            Some(device) => device.driving_entry(at.bit),
+            None => None,
+        }
+    }
+
+    /// A port bit of a part.
+    pub fn port_bit(&self, at: PinAt) -> Option<&PortBit>
+        ensures { option_copied result ≡ bit_at self.now at }
+    {
+        match self.device(at.part) {
+            Some(device) => device.port_bit(at.bit),
+            None => None,
+        }
+    }
+
+    /// Whether the port bit has a pin of the chosen pin map.
+    pub fn is_pinned(&self, at: PinAt) -> bool
+        ensures { result ≡ is_pinned self.now at }
+    {
+        match self.port_bit(at) {
+            Some(bit) => bit.pin.is_some(),
+            None => false,
+        }
+    }
+
+    /// Whether the pin is of the test access port or named in the compliance patterns.
+    pub fn is_test_pin(&self, pin: &NetPin) -> bool
+        ensures { result ≡ is_test_pin self.now pin.now }
+    {
+        match pin.at {
+            None => false,
+            Some(at) => match self.port_bit(at) {
+                Some(bit) => bit.tap || bit.compliance,
+                None => false,
+            },
+        }
+    }
+
+    /// Whether what drives the pin is not known: it may be driven by something that no setting
+    /// controls.
+    pub fn is_dark(&self, pin: &NetPin) -> bool
+        ensures { result ≡ is_dark self.now pin.now }
+    {
+        match pin.at {
+            None => !pin.inert,
+            Some(at) => match self.device(at.part) {
+                Some(device) => device.is_dark(at.bit),
+                None => true,
+            },
+        }
+    }
+
+    fn guards(&self, pin: &NetPin) -> bool
+        ensures { result ≡ guards self.now pin.now }
+    {
+        self.is_test_pin(pin) || self.is_dark(pin)
+    }
+
+    fn any_guards(&self, pins: &[NetPin]) -> bool
+        ensures { result ≡ list_any (guards self.now) pins.now }
+    {
+        pins.iter().any(|pin| self.guards(pin))
+    }
+
+    /// Whether no driver of the net may be enabled.
+    pub fn is_guarded(&self, net: &Net) -> bool
+        ensures { result ≡ guarded self.now net.now }
+    {
+        if net.supply {
+            true
+        } else {
+            self.any_guards(net.pins.as_slice())
+        }
+    }
+
+    fn lets_switch(&self, net: &Net, value: bool) -> bool
+        ensures { result ≡ lets_switch self.now net.now value }
+    {
+        !self.is_guarded(net) && is_pull(value, net.pull)
+    }
+
+    fn drive_by(&self, net: &Net, part: u32, cell: Cell) -> Drive
+        ensures { result ≡ drive_by self.now net.now part cell cell.ctl }
+    {
+        match cell.ctl {
+            None => Drive::AlwaysOn,
+            Some(control) => {
+                let by = Drive::By(Ctl {
+                    part,
+                    cell: control.cell,
+                });
+                if control.cell == cell.num {
+                    if self.lets_switch(net, control.disable) {
+                        by
+                    } else {
+                        Drive::OneSided
+                    }
+                } else {
+                    by
+                }
+            }
+        }
+    }
+
+    /// How the pin drives the net; None where it is no driver.
+    pub fn drive(&self, net: &Net, pin: &NetPin) -> Option<Drive>
+        ensures { result ≡ drive self.now net.now pin.now }
+    {
+        match pin.at {
+            None => None,
+            Some(at) => match self.driving_entry(at) {
+                None => None,
+                Some(cell) => Some(self.drive_by(net, at.part, cell)),
+            },
+        }
+    }
+
+    fn switches_by(&self, net: &Net, cell: Cell) -> bool
+        ensures { result ≡ switches_by self.now net.now cell cell.ctl }
+    {
+        match cell.ctl {
+            None => false,
+            Some(control) => { control.cell == cell.num && self.lets_switch(net, control.disable) }
+        }
+    }
+
+    /// Whether the pin is a switching driver of the net.
+    pub fn switches(&self, net: &Net, pin: &NetPin) -> bool
+        ensures { result ≡ switches self.now net.now pin.now }
+    {
+        match pin.at {
+            None => false,
+            Some(at) => match self.driving_entry(at) {
+                None => false,
+                Some(cell) => self.switches_by(net, cell),
+            },
+        }
+    }
+
+    /// Whether the pin is a receiver.
+    pub fn receives(&self, pin: &NetPin) -> bool
+        ensures { result ≡ receives self.now pin.now }
+    {
+        match pin.at {
+            None => false,
+            Some(at) => match self.device(at.part) {
+                Some(device) => device.receives(at.bit),
+                None => false,
+            },
+        }
+    }
+
+    pub(crate) fn drive_at(&self, pin: PinRef) -> Option<Drive>
+        ensures { result ≡ drive_at self.now pin }
+    {
+        match self.nets.as_slice().get(pin.net as usize) {
+            None => None,
+            Some(net) => match net.pins.as_slice().get(pin.place as usize) {
+                None => None,
+                Some(pin) => self.drive(net, pin),
+            },
+        }
+    }
+
+    pub(crate) fn switches_at(&self, pin: PinRef) -> bool
+        ensures { result ≡ switches_at self.now pin }
+    {
+        match self.nets.as_slice().get(pin.net as usize) {
+            None => false,
+            Some(net) => match net.pins.as_slice().get(pin.place as usize) {
+                None => false,
+                Some(pin) => self.switches(net, pin),
+            },
+        }
+    }
+
+    pub(crate) fn receives_at(&self, pin: PinRef) -> bool
+        ensures { result ≡ receives_at self.now pin }
+    {
+        match self.nets.as_slice().get(pin.net as usize) {
+            None => false,
+            Some(net) => match net.pins.as_slice().get(pin.place as usize) {
+                None => false,
+                Some(pin) => self.receives(pin),
+            },
+        }
+    }
+}
+
+fn is_pull(value: bool, pull: Option<bool>) -> bool
+    ensures { result ≡ is_pulled_to value pull }
+{
+    match pull {
+        None => false,
+        Some(b) => value == b,
+    }
+}

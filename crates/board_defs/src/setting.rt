@@ -1,0 +1,119 @@
+// A setting: a set of controls.
+ghost use Rattle.std.specs.Prelude.{◌≡◌, ◌≤◌, [], length, slice_get, OnOk, OnErr};
+ghost use Rattle.std.specs.List.{prefix_len};
+ghost use Rattle.board_defs.specs.Settings.{holds, inserted, precedes, same_ctl, IsInControlOrder};
+
+use crate::board::Ctl;
+use std::alloc::{AllocError, Global};
+use std::marker::Model;
+
+/// A set of controls, seen as the list of them in control order without repeats.
+#[derive(Debug, Drop)]
+pub struct Setting {
+    controls: Vec<Ctl>,
+}
+
+impl Model for Setting {
+    ghost use Rattle.std.specs.Prelude.{List};
+    ghost use Rattle.board_defs.specs.declared.board.Ctl.{Ctl};
+    ghost use Rattle.board_defs.specs.Settings.{IsInControlOrder};
+
+    ghost Value = { List Ctl };
+
+    ghost view = { λ a. a.controls.items };
+
+    ghost invariant = { λ a. IsInControlOrder a.controls.items };
+}
+
+impl Setting {
+    /// The setting without controls.
+    pub fn new(alloc: Global) -> Setting
+        ensures { result ≡ [] }
+    {
+        Setting {
+            controls: Vec::new(alloc),
+        }
+    }
+
+    /// The setting of these controls, which stand in control order without repeats.
+    pub fn of(controls: Vec<Ctl>) -> Setting
+        requires { IsInControlOrder controls.items }
+        ensures { result ≡ controls.items }
+    {
+        Setting { controls }
+    }
+
+    pub fn controls(&self) -> &[Ctl]
+        ensures value { result.now ≡ self.now }
+        ensures order { IsInControlOrder self.now }
+    {
+        &self.controls
+    }
+
+    /// Whether the setting holds the control.
+    pub fn has(&self, c: Ctl) -> bool
+        ensures { result ≡ holds self.now c }
+    {
+        has_control(&self.controls, c)
+    }
+
+    /// Adds the control at its place in control order, where it is not there. A refusal of
+    /// memory changes nothing.
+    pub fn add(&mut self, c: Ctl) -> Result<(), AllocError>
+        ensures added { OnOk result (self.new ≡ inserted c self.old) }
+        ensures same { OnErr result (self.new ≡ self.old) }
+    {
+        add_control(&mut self.controls, c)
+    }
+}
+
+fn comes_before(a: Ctl, b: Ctl) -> bool
+    ensures { result ≡ precedes a b }
+{
+    a.part < b.part || (a.part == b.part && a.cell < b.cell)
+}
+
+fn is_same(a: Ctl, b: Ctl) -> bool
+    ensures { result ≡ same_ctl a b }
+{
+    a.part == b.part && a.cell == b.cell
+}
+
+/// How many controls come before this one.
+fn place_of(controls: &[Ctl], c: Ctl) -> usize
+    requires { IsInControlOrder controls.now }
+    ensures place { result ≡ prefix_len (λ d. precedes d c) controls.now }
+    ensures within { result ≤ length controls.now }
+{
+    controls.partition_point(|d| comes_before(*d, c))
+}
+
+fn control_at(controls: &[Ctl], place: usize) -> Option<Ctl>
+    ensures { result ≡ slice_get controls.now place }
+{
+    controls.get(place).copied()
+}
+
+fn has_control(controls: &[Ctl], c: Ctl) -> bool
+    requires { IsInControlOrder controls.now }
+    ensures { result ≡ holds controls.now c }
+{
+    match control_at(controls, place_of(controls, c)) {
+        Some(d) => is_same(c, d),
+        None => false,
+    }
+}
+
+fn add_control(controls: &mut Vec<Ctl>, c: Ctl) -> Result<(), AllocError>
+    requires { IsInControlOrder controls.old.items }
+    ensures added { OnOk result (controls.new.items ≡ inserted c controls.old.items) }
+    ensures same { OnErr result (controls.new.items ≡ controls.old.items) }
+    ensures order { IsInControlOrder controls.new.items }
+{
+    if has_control(controls, c) {
+        return Ok(());
+    }
+    let place = place_of(controls, c);
+    controls.insert(place, c)?;
+    Ok(())
+}

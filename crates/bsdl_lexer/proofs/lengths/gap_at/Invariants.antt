@@ -1,0 +1,15 @@
+use Rattle.std.proofs.Common.{◌≡◌, ◌+◌, ◌-◌, ◌≤◌, length, take, drop, false}
+use Rattle.bsdl_lexer.specs.Tokens.{line_feeds}
+use Rattle.bsdl_lexer.specs.Lengths.{gap_len}
+use Rattle.bsdl_lexer.proofs.lengths.gap_at.Given as goal
+
+abbrev pub invariant-loop-next : goal.invariant-loop-next
+invariant-loop-next l = record {
+  within : l.length ≤ length l.bytes;
+  rest : gap_len false l.bytes ≡ l.length + gap_len l.in_comment (drop l.length l.bytes);
+  counted : l.lines ≡ line_feeds (take l.length l.bytes);
+  few : l.lines ≤ l.length;
+}
+
+abbrev pub decreases-loop-next : goal.decreases-loop-next
+decreases-loop-next l = length l.bytes - l.length

@@ -1,0 +1,5 @@
+pub mod Forms
+pub mod Tokens
+pub mod Answer
+pub mod Lengths
+pub mod Steps

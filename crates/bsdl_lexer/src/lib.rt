@@ -1,0 +1,13 @@
+//! The tokens of BSDL texts (IEEE 1149.1b-1994; IEEE 1149.1-2001, B.5).
+#![tactic(auto)]
+
+pub mod law;
+mod lengths;
+mod text;
+mod token;
+
+pub use text::{TOKEN_LIMIT, lex};
+pub use token::{LexFault, Token, TokenKind};
+
+#[cfg(test)]
+mod tests;

@@ -1,0 +1,109 @@
+//! All tokens of a text.
+ghost use Rattle.std.specs.Prelude.{◌≡◌, ◌≤◌, ◌<◌, ◌^◌, ◌+◌, ◌++◌, ◌∷◌, [], List, Result, length, take, drop, false, IsTrue, ◌↔◌, OnOk, OnErr, IfOk, IfSome, IfErr, alloc_error};
+ghost use Rattle.bsdl_lexer.specs.declared.token.Token.{Token};
+ghost use Rattle.bsdl_lexer.specs.declared.token.LexFault.{LexFault};
+ghost use Rattle.bsdl_lexer.specs.Answer.{IsAnswer, AreFirst, UnlessMemory};
+ghost use Rattle.bsdl_lexer.specs.Steps.{bad_byte, step_at, step};
+
+use crate::lengths::{gap_at, token_found};
+use crate::token::{LexFault, Token};
+use std::alloc::AllocError;
+
+/// How many tokens a text may have.
+pub const TOKEN_LIMIT: usize = 1_048_576;
+
+fn fault_at(byte: u8, line: u32) -> LexFault
+    ensures { result ≡ bad_byte byte line }
+{
+    if byte == b'"' {
+        LexFault::OpenString(line)
+    } else {
+        LexFault::Byte(line)
+    }
+}
+
+/// The token at the front of the bytes, which stand at this place and on this line.
+fn token_from(bytes: &[u8], start: usize, line: u32) -> Result<Option<Token>, LexFault>
+    requires { start + length bytes.now < 2 ^ 32 }
+    ensures { result ≡ step_at start line bytes.now }
+{
+    match bytes {
+        [] => Ok(None),
+        [first, ..] => match token_found(bytes) {
+            None => Err(fault_at(*first, line)),
+            Some((kind, length)) => Ok(Some(Token {
+                kind,
+                start: start as u32,
+                end: (start + length) as u32,
+                line,
+            })),
+        },
+    }
+}
+
+/// The next token behind the place, which is on this line.
+fn next_token(bytes: &[u8], place: usize, line: u32) -> Result<Option<Token>, LexFault>
+    requires short { length bytes.now < 2 ^ 32 }
+    requires within { place ≤ length bytes.now }
+    requires few { line ≤ 1 + place }
+    ensures { result ≡ step bytes.now place line }
+{
+    let gap = gap_at(&bytes[place..]);
+    let start = place + gap.length;
+    if start == bytes.len() {
+        return Ok(None);
+    }
+    token_from(&bytes[start..], start, line + gap.lines)
+}
+
+fn is_full(tokens: &[Token]) -> bool
+    ensures { IsTrue result ↔ (length tokens.now ≡ TOKEN_LIMIT) }
+{
+    tokens.len() == TOKEN_LIMIT
+}
+
+fn add(out: &mut Vec<Token>, token: Token) -> Result<(), LexFault>
+    ensures ok { OnOk result (out.new.items ≡ out.old.items ++ token ∷ []) }
+    ensures err { IfErr result (λ fault. fault ≡ LexFault.Memory alloc_error) }
+    ensures unchanged { OnErr result (out.new.items ≡ out.old.items) }
+{
+    match out.push(token) {
+        Ok(()) => Ok(()),
+        Err(_) => Err(LexFault::Memory(AllocError)),
+    }
+}
+
+fn add_tokens(bytes: &[u8], out: &mut Vec<Token>) -> Result<(), LexFault>
+    requires short { length bytes.now < 2 ^ 32 }
+    requires empty { out.old.items ≡ [] }
+    ensures answer { UnlessMemory result (IsAnswer bytes.now out.new.items result) }
+    ensures first { AreFirst bytes.now out.new.items }
+{
+    let mut place = 0usize;
+    let mut line = 1u32;
+    while let Some(token) = next_token(bytes, place, line)? {
+        if is_full(out) {
+            return Err(LexFault::TooMany(token.line));
+        }
+        add(out, token)?;
+        place = token.end as usize;
+        line = token.line;
+    }
+    Ok(())
+}
+
+/// Adds the tokens of the text to an empty list. A text is any bytes.
+///
+/// At the first bad place `out` holds the tokens before it. Where memory is refused, `out`
+/// holds the first of the tokens that it would hold.
+pub fn lex(bytes: &[u8], out: &mut Vec<Token>) -> Result<(), LexFault>
+    requires short { length bytes.now < 2 ^ 32 }
+    requires empty { out.old.items ≡ [] }
+    // All tokens, or those before the first bad place, with its kind and its line.
+    ensures answer { UnlessMemory result (IsAnswer bytes.now out.new.items result) }
+    // There is no other answer.
+    ensures only { UnlessMemory result ((tokens : List Token) (other : Result (Unit {0}) LexFault) → IsAnswer bytes.now tokens other → (tokens ≡ out.new.items) × (other ≡ result)) }
+    ensures first { AreFirst bytes.now out.new.items }
+{
+    add_tokens(bytes, out)
+}

@@ -1,0 +1,111 @@
+-- Each attribute of an entity that is derived has the kind of value of its number.
+use Rattle.std.proofs.Common.{◌≡◌, ℕ, List, [], ◌∷◌, ◌++◌, Bool, true, false, cond, IsTrue, Option, Some, None, refl, sym, ap, subst, codes}
+use Rattle.std.proofs.lemmas.List.Elements.{All-nil, All-cons, All-append}
+use Rattle.std.specs.List.{All}
+use Rattle.std.specs.Str.{bytes_eq}
+use Rattle.grammars.specs.Turn.{Turn}
+use Rattle.grammars.proofs.Keeps.{Keeps, BehindTurn, keeps_place, keeps_done, keeps_in_turn, keeps_turns, keeps_nothing}
+use Rattle.bsdl_parser.specs.declared.entity.Attr.{Attr}
+use Rattle.bsdl_parser.specs.declared.entity.AttrValue.{AttrValue}
+use Rattle.bsdl_parser.specs.declared.entity.Entity.{Entity}
+use Rattle.bsdl_parser.specs.declared.draft.ItemWord.{ItemWord}
+use Rattle.bsdl_parser.specs.declared.draft.ItemWord.TheVariants as words
+use Rattle.bsdl_parser.specs.declared.draft.AttrForm.{AttrForm}
+use Rattle.bsdl_parser.specs.declared.draft.AttrForm.TheVariants as forms
+use Rattle.bsdl_parser.specs.Lexeme.{Lexeme}
+use Rattle.bsdl_parser.specs.Places.{Phrase, some_if}
+use Rattle.bsdl_parser.specs.Bsdl.{used, plain_value, port_value, clock_value, number_value, text_value, value_of, attribute_of, attribute_name, attribute, listed, Items, no_items, item_of, item, file}
+use Rattle.bsdl_parser.specs.Answer.{Derives}
+use Rattle.bsdl_parser.specs.Entity.{is_among, HasKind, HaveKinds}
+
+-- the fact holds of each value of the phrase
+abbrev Yields : {A : Type 0} → Phrase A → (A → Type 0) → Type 0
+Yields g Fact = (n : ℕ) → Keeps (λ token. 0) g n (λ m a. Fact a)
+
+-- an attribute with this number has this form
+abbrev FitsForm : ℕ → AttrForm → Type 0
+FitsForm number forms.Plain = number ≡ 1
+FitsForm number forms.Port = IsTrue (is_among (2 ∷ 3 ∷ 4 ∷ 5 ∷ 11 ∷ []) number)
+FitsForm number forms.Clock = IsTrue (is_among (2 ∷ 3 ∷ 4 ∷ 5 ∷ 11 ∷ []) number)
+FitsForm number forms.Number = IsTrue (is_among (6 ∷ 9 ∷ []) number)
+FitsForm number forms.Text = IsTrue (is_among (7 ∷ 8 ∷ 10 ∷ 12 ∷ 13 ∷ 14 ∷ []) number)
+
+abbrev FitsKnown : Option (ℕ × AttrForm) → Type 0
+FitsKnown None = Unit {0}
+FitsKnown (Some known) = FitsForm known.0 known.1
+
+fits_if : (b : Bool) (known rest : Option (ℕ × AttrForm)) → FitsKnown known → FitsKnown rest → FitsKnown (cond b known rest)
+fits_if true known rest h k = h
+fits_if false known rest h k = k
+
+used_fits : (name : List ℕ) → FitsKnown (used name)
+used_fits name =
+    fits_if (bytes_eq name (codes "PIN_MAP")) _ _ refl (
+    fits_if (bytes_eq name (codes "TAP_SCAN_IN")) _ _ refl (
+    fits_if (bytes_eq name (codes "TAP_SCAN_OUT")) _ _ refl (
+    fits_if (bytes_eq name (codes "TAP_SCAN_MODE")) _ _ refl (
+    fits_if (bytes_eq name (codes "TAP_SCAN_CLOCK")) _ _ refl (
+    fits_if (bytes_eq name (codes "INSTRUCTION_LENGTH")) _ _ refl (
+    fits_if (bytes_eq name (codes "INSTRUCTION_OPCODE")) _ _ refl (
+    fits_if (bytes_eq name (codes "INSTRUCTION_CAPTURE")) _ _ refl (
+    fits_if (bytes_eq name (codes "BOUNDARY_LENGTH")) _ _ refl (
+    fits_if (bytes_eq name (codes "BOUNDARY_REGISTER")) _ _ refl (
+    fits_if (bytes_eq name (codes "TAP_SCAN_RESET")) _ _ refl (
+    fits_if (bytes_eq name (codes "IDCODE_REGISTER")) _ _ refl (
+    fits_if (bytes_eq name (codes "COMPLIANCE_PATTERNS")) _ _ refl (
+    last_fits (bytes_eq name (codes "COMPONENT_CONFORMANCE")))))))))))))))
+  where
+    last_fits : (b : Bool) → FitsKnown (some_if b (14, forms.Text))
+    last_fits true = refl
+    last_fits false = tt
+
+-- a value has the kind of each number that its form fits
+value_kind : (form : AttrForm) → Yields (value_of form) (λ value. (number : ℕ) → FitsForm number form → HasKind number value)
+unfolding plain_value port_value clock_value number_value text_value
+value_kind forms.Plain n = keeps_in_turn keeps_nothing (λ _ _ _. keeps_in_turn keeps_nothing (λ _ _ _. keeps_in_turn keeps_nothing (λ _ _ _. keeps_done (λ number h. h))))
+value_kind forms.Port n = keeps_in_turn keeps_nothing (λ _ _ _. keeps_in_turn keeps_nothing (λ _ _ _. keeps_in_turn keeps_nothing (λ _ _ _. keeps_done (λ number h. h))))
+value_kind forms.Clock n =
+    keeps_in_turn keeps_nothing (λ _ _ _. keeps_in_turn keeps_nothing (λ _ _ _. keeps_in_turn keeps_nothing (λ _ _ _. keeps_in_turn keeps_nothing (λ _ _ _.
+    keeps_in_turn keeps_nothing (λ _ _ _. keeps_in_turn keeps_nothing (λ _ _ _. keeps_in_turn keeps_nothing (λ _ _ _. keeps_done (λ number h. h))))))))
+value_kind forms.Number n = keeps_in_turn keeps_nothing (λ _ _ _. keeps_in_turn keeps_nothing (λ _ _ _. keeps_in_turn keeps_nothing (λ _ _ _. keeps_done (λ number h. h))))
+value_kind forms.Text n = keeps_in_turn keeps_nothing (λ _ _ _. keeps_in_turn keeps_nothing (λ _ _ _. keeps_done (λ number h. h)))
+
+abbrev AttrKind : Attr → Type 0
+AttrKind attr = HasKind attr.number attr.value
+
+attribute_of_kind : (known : Option (ℕ × AttrForm)) → FitsKnown known → Yields (attribute_of known) (λ one. All AttrKind (listed one))
+attribute_of_kind None fits n = keeps_in_turn keeps_nothing (λ _ _ _. keeps_done (All-nil AttrKind))
+attribute_of_kind (Some known) fits n = keeps_in_turn (value_kind known.1 n) (λ value m h. keeps_done (All-cons AttrKind _ [] (h known.0 fits) (All-nil AttrKind)))
+
+attribute_kind : Yields attribute (λ one. All AttrKind (listed one))
+unfolding attribute
+attribute_kind n = keeps_in_turn (name_fits n) (λ known m fits. attribute_of_kind known fits m)
+  where
+    name_fits : Yields attribute_name FitsKnown
+    name_fits n = keeps_in_turn keeps_nothing (λ name m _. keeps_done (used_fits name))
+
+abbrev ItemKinds : Items → Type 0
+ItemKinds items = All AttrKind items.attributes
+
+item_of_kind : (before : Items) → ItemKinds before → (word : ItemWord) → (n : ℕ) → Keeps (λ token. 0) (item_of before word) n (BehindTurn (λ m items. ItemKinds items) (λ m items. ItemKinds items))
+unfolding item_of
+item_of_kind before h words.Generic n = keeps_in_turn keeps_nothing (λ _ _ _. keeps_done h)
+item_of_kind before h words.Port n = keeps_in_turn keeps_nothing (λ _ _ _. keeps_done h)
+item_of_kind before h words.Use n = keeps_in_turn keeps_nothing (λ _ _ _. keeps_done h)
+item_of_kind before h words.Constant n = keeps_in_turn keeps_nothing (λ _ _ _. keeps_done h)
+item_of_kind before h words.Attribute n = keeps_in_turn (attribute_kind n) (λ one m k. keeps_done (All-append AttrKind before.attributes (listed one) h k))
+item_of_kind before h words.End n = keeps_done h
+
+item_kind : (before : Items) (n : ℕ) → ItemKinds before → Keeps (λ token. 0) (item before) n (BehindTurn (λ m items. ItemKinds items) (λ m items. ItemKinds items))
+unfolding item
+item_kind before n h = keeps_in_turn keeps_nothing (λ word m _. item_of_kind before h word m)
+
+file_kinds : Yields file HaveKinds
+unfolding file
+file_kinds n =
+    keeps_in_turn keeps_nothing (λ _ _ _. keeps_in_turn keeps_nothing (λ name _ _. keeps_in_turn keeps_nothing (λ _ m _.
+    keeps_in_turn (keeps_turns item_kind no_items m (All-nil AttrKind)) (λ items _ h. keeps_in_turn keeps_nothing (λ _ _ _. keeps_in_turn keeps_nothing (λ _ _ _. keeps_done h))))))
+
+-- of what the tokens derive
+pub have_kinds : (tokens : List Lexeme) (entity : Entity) → Derives tokens entity → HaveKinds entity
+have_kinds tokens entity h = (file_kinds 0).kept tokens entity h

@@ -1,0 +1,7 @@
+pub mod Spelled
+pub mod Integers
+pub mod Decided
+pub mod Stopped
+pub mod AttributeKinds
+pub mod Sizes
+pub mod Answers

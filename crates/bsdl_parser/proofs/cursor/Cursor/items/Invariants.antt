@@ -1,0 +1,12 @@
+use Rattle.std.proofs.Common.{◌≡◌, length}
+use Rattle.grammars.specs.Grammar.{turns, reader_of}
+use Rattle.bsdl_parser.specs.Bsdl.{item, no_items}
+use Rattle.bsdl_parser.specs.Views.{items_of}
+use Rattle.bsdl_parser.proofs.cursor.Cursor.items.Given as goal
+
+-- what is left gives what the whole gives
+abbrev pub invariant-loop-draft : goal.invariant-loop-draft
+invariant-loop-draft l = reader_of (turns item (items_of l.draft)) l.self ≡ reader_of (turns item no_items) l.fn.self
+
+abbrev pub decreases-loop-draft : goal.decreases-loop-draft
+decreases-loop-draft l = length l.self

@@ -1,0 +1,63 @@
+-- The answer to a text: the entity that its tokens derive, or the first fault.
+use Rattle.std.specs.Prelude.{◌≡◌, ℕ, ◌+◌, ◌-◌, List, [], ◌∷◌, ◌++◌, length, take, count_by, ◌==◌, ◌⊎◌, IsTrue, Result, Ok, Err, codes}
+use Rattle.grammars.specs.Grammar.{production_of}
+use Rattle.bsdl_parser.specs.declared.entity.Entity.{Entity}
+use Rattle.bsdl_parser.specs.declared.fault.ParseFault.{ParseFault}
+use Rattle.bsdl_parser.specs.declared.fault.ParseFault.TheVariants.{Expected, Package, Memory}
+use Rattle.bsdl_parser.specs.Lexeme.{Lexeme}
+use Rattle.bsdl_parser.specs.Places.{is_the_word}
+use Rattle.bsdl_parser.specs.Bsdl.{file}
+
+-- the tokens are a whole file, and this is its entity
+abbrev pub Derives : List Lexeme → Entity → Type 0
+Derives tokens entity = (production_of file).Whole tokens entity
+
+-- the tokens begin some file
+abbrev pub BeginsFile : List Lexeme → Type 0
+BeginsFile tokens = (production_of file).Cut tokens
+
+-- the first token that no file can have behind the tokens before it
+pub record IsStray (tokens before : List Lexeme) (token : Lexeme) (after : List Lexeme) : Type 0 where
+  pub split : tokens ≡ before ++ token ∷ after
+  pub begins : BeginsFile before
+  pub stray : BeginsFile (before ++ token ∷ []) → ⊥
+
+-- the word `package`, at the start of the text or right behind a whole file
+pub record StartsPackage (before : List Lexeme) (token : Lexeme) : Type 0 where
+  pub word : IsTrue (is_the_word (codes "PACKAGE") token)
+  pub place : (before ≡ []) ⊎ ((entity : Entity) × Derives before entity)
+
+-- a stray token on this line, of which this holds
+pub record StraysAt (tokens : List Lexeme) (line : ℕ) (IsSuch : List Lexeme → Lexeme → Type 0) : Type 0 where
+  pub before : List Lexeme
+  pub token : Lexeme
+  pub after : List Lexeme
+  pub stray : IsStray tokens before token after
+  pub line_is : line ≡ token.line
+  pub such : IsSuch before token
+
+-- every token can stand, and a file would go on
+pub record IsUnfinished (tokens : List Lexeme) : Type 0 where
+  pub begins : BeginsFile tokens
+  pub no_entity : (entity : Entity) → Derives tokens entity → ⊥
+
+-- the line of the last byte, or 1; byte 10 belongs to the line that it ends
+abbrev pub last_line : List ℕ → ℕ
+last_line text = 1 + count_by (λ byte. byte == 10) (take (length text - 1) text)
+
+abbrev pub IsFault : List ℕ → List Lexeme → ParseFault → Type 0
+IsFault text tokens (Expected line) =
+    StraysAt tokens line (λ before token. StartsPackage before token → ⊥) ⊎ (IsUnfinished tokens × (line ≡ last_line text))
+IsFault text tokens (Package line) = StraysAt tokens line StartsPackage
+IsFault text tokens (Memory error) = ⊥
+
+abbrev pub IsAnswer : List ℕ → List Lexeme → Result Entity ParseFault → Type 0
+IsAnswer text tokens (Ok entity) = Derives tokens entity
+IsAnswer text tokens (Err fault) = IsFault text tokens fault
+
+-- the fact, where memory was not refused
+abbrev pub UnlessMemory : Result Entity ParseFault → Type 0 → Type 0
+UnlessMemory (Err (Memory error)) P = Unit {0}
+UnlessMemory (Err (Expected line)) P = P
+UnlessMemory (Err (Package line)) P = P
+UnlessMemory (Ok entity) P = P

@@ -1,0 +1,44 @@
+-- What holds of every entity that is read.
+use Rattle.std.specs.Prelude.{◌≡◌, ℕ, ◌^◌, ◌<◌, List, [], ◌∷◌, length, Bool, ◌==◌, IsTrue, All, IfSome}
+use Rattle.std.specs.List.{list_any}
+use Rattle.bsdl_parser.specs.declared.entity.AttrValue.{AttrValue}
+use Rattle.bsdl_parser.specs.declared.entity.AttrValue.TheVariants as values
+use Rattle.bsdl_parser.specs.declared.entity.Entity.{Entity}
+
+abbrev pub is_among : List ℕ → ℕ → Bool
+is_among numbers number = list_any (λ k. k == number) numbers
+
+-- an attribute with this number has a value of this kind
+abbrev pub HasKind : ℕ → AttrValue → Type 0
+HasKind number values.Plain = number ≡ 1
+HasKind number (values.Port port) = IsTrue (is_among (2 ∷ 3 ∷ 4 ∷ 5 ∷ 11 ∷ []) number)
+HasKind number (values.Number value) = IsTrue (is_among (6 ∷ 9 ∷ []) number)
+HasKind number (values.Text text) = IsTrue (is_among (7 ∷ 8 ∷ 10 ∷ 12 ∷ 13 ∷ 14 ∷ []) number)
+
+-- each attribute has a number from 1 to 14, and the kind of value of that number
+abbrev pub HaveKinds : Entity → Type 0
+HaveKinds entity = All (λ attribute. HasKind attribute.number attribute.value) entity.attributes
+
+-- fewer than 2^32 bytes or items
+abbrev pub IsShort : {X : Type 0} → List X → Type 0
+IsShort xs = length xs < 2 ^ 32
+
+abbrev pub HasShortText : AttrValue → Type 0
+HasShortText values.Plain = Unit {0}
+HasShortText (values.Port port) = IsShort port
+HasShortText (values.Number value) = Unit {0}
+HasShortText (values.Text text) = IsShort text
+
+-- each list of the entity and each name and text in it are short
+pub record IsSmall (entity : Entity) : Type 0 where
+  pub name : IsShort entity.name
+  pub fallback : IfSome entity.fallback IsShort
+  pub ports : IsShort entity.ports
+  pub port_names : All (λ port. IsShort port.name) entity.ports
+  pub uses : IsShort entity.uses
+  pub used_names : All IsShort entity.uses
+  pub constants : IsShort entity.constants
+  pub constant_names : All (λ constant. IsShort constant.name) entity.constants
+  pub constant_texts : All (λ constant. IsShort constant.text) entity.constants
+  pub attributes : IsShort entity.attributes
+  pub attribute_texts : All (λ attribute. HasShortText attribute.value) entity.attributes

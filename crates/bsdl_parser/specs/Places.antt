@@ -1,0 +1,101 @@
+-- What fits one token's place, and its value.
+use Rattle.std.specs.Prelude.{ℕ, ◌+◌, ◌-◌, ◌*◌, List, length, fold, Bool, true, false, ◌&&◌, if◌then◌else◌, Option, Some, None, nat_le, nat_lt, codes}
+use Rattle.std.specs.List.{list_all, slice_range}
+use Rattle.std.specs.Str.{bytes_eq}
+use Rattle.std.specs.Char.{is_ascii_digit}
+use Rattle.bsdl_lexer.specs.declared.token.TokenKind.{TokenKind}
+use Rattle.bsdl_lexer.specs.declared.token.TokenKind.TheVariants as kinds
+use Rattle.board_defs.specs.declared.device.Mode.{Mode}
+use Rattle.board_defs.specs.declared.device.Mode.TheVariants.{Inward, Outward, Both, Buffer, Linkage}
+use Rattle.grammars.specs.Grammar.{Grammar, place}
+use Rattle.bsdl_parser.specs.Lexeme.{Lexeme}
+
+-- the grammar of a part of a BSDL text
+abbrev pub Phrase : Type 0 → Type 1
+Phrase A = Grammar Lexeme A
+
+abbrev pub is_word : TokenKind → Bool
+is_word kinds.Word = true
+is_word _ = false
+
+abbrev pub is_number : TokenKind → Bool
+is_number kinds.Number = true
+is_number _ = false
+
+abbrev pub is_text : TokenKind → Bool
+is_text kinds.Text = true
+is_text _ = false
+
+abbrev pub is_mark : TokenKind → Bool
+is_mark kinds.Mark = true
+is_mark _ = false
+
+abbrev pub some_if : {A : Type 0} → Bool → A → Option A
+some_if true a = Some a
+some_if false a = None
+
+abbrev pub is_the_word : List ℕ → Lexeme → Bool
+is_the_word name token = is_word token.kind && bytes_eq token.spelled name
+
+abbrev pub is_the_mark : List ℕ → Lexeme → Bool
+is_the_mark name token = is_mark token.kind && bytes_eq token.spelled name
+
+-- this word, of either case
+abbrev pub keyword : List ℕ → Phrase (Unit {0})
+keyword name = place (λ token. some_if (is_the_word name token) tt)
+
+-- this mark
+abbrev pub mark : List ℕ → Phrase (Unit {0})
+mark name = place (λ token. some_if (is_the_mark name token) tt)
+
+-- one of two words: whether it is the first
+abbrev pub either_word : List ℕ → List ℕ → Phrase Bool
+either_word first second = place (λ token. if is_the_word first token then Some true else some_if (is_the_word second token) false)
+
+-- one of two marks: whether it is the first
+abbrev pub either_mark : List ℕ → List ℕ → Phrase Bool
+either_mark first second = place (λ token. if is_the_mark first token then Some true else some_if (is_the_mark second token) false)
+
+abbrev pub any_word : Phrase (List ℕ)
+any_word = place (λ token. some_if (is_word token.kind) token.spelled)
+
+abbrev pub any_number : Phrase (Unit {0})
+any_number = place (λ token. some_if (is_number token.kind) tt)
+
+-- the bytes between the quotes
+abbrev pub contents : List ℕ → List ℕ
+contents spelled = slice_range spelled 1 (length spelled - 1)
+
+abbrev pub any_text : Phrase (List ℕ)
+any_text = place (λ token. some_if (is_text token.kind) (contents token.spelled))
+
+-- 1 to 9 digits
+abbrev pub is_integer : List ℕ → Bool
+is_integer spelled = nat_lt 0 (length spelled) && (nat_le (length spelled) 9 && list_all is_ascii_digit spelled)
+
+abbrev pub decimal : List ℕ → ℕ
+decimal digits = fold (λ number digit. 10 * number + (digit - 48)) 0 digits
+
+-- a number of 1 to 9 digits without point and exponent
+abbrev pub integer : Phrase ℕ
+integer = place (λ token. some_if (is_number token.kind && is_integer token.spelled) (decimal token.spelled))
+
+-- "in" | "out" | "inout" | "buffer" | "linkage"
+abbrev pub mode_of : List ℕ → Option Mode
+mode_of word =
+    if bytes_eq word (codes "IN") then Some Inward else
+    if bytes_eq word (codes "OUT") then Some Outward else
+    if bytes_eq word (codes "INOUT") then Some Both else
+    if bytes_eq word (codes "BUFFER") then Some Buffer else
+    some_if (bytes_eq word (codes "LINKAGE")) Linkage
+
+abbrev pub mode : Phrase Mode
+mode = place (λ token. if is_word token.kind then mode_of token.spelled else None)
+
+-- any token: whether it is another than this mark
+abbrev pub other_than : List ℕ → Phrase Bool
+other_than name = place (λ token. Some (if is_the_mark name token then false else true))
+
+-- a word, or this mark: whether it is the word
+abbrev pub word_or_mark : List ℕ → Phrase Bool
+word_or_mark name = place (λ token. if is_word token.kind then Some true else some_if (is_the_mark name token) false)

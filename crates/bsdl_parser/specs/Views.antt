@@ -1,0 +1,14 @@
+-- What contracts see of the items so far.
+use Rattle.bsdl_parser.specs.declared.draft.Draft.{Draft}
+use Rattle.bsdl_parser.specs.Bsdl.{Items}
+
+abbrev pub items_of : Draft → Items
+items_of draft = record {
+  has_generic = draft.has_generic;
+  fallback = draft.fallback;
+  has_port = draft.has_port;
+  ports = draft.ports.items;
+  uses = draft.uses.items;
+  constants = draft.constants.items;
+  attributes = draft.attributes.items;
+}

@@ -1,0 +1,85 @@
+//! The entity of a text, or its first fault.
+ghost use Rattle.std.specs.Prelude.{◌≡◌, ◌+◌, ◌<◌, ◌^◌, length, count_by, ◌==◌, Result, IfOk};
+ghost use Rattle.bsdl_lexer.specs.Tokens.{AreTokens};
+ghost use Rattle.grammars.specs.Grammar.{reader_of};
+ghost use Rattle.bsdl_parser.specs.declared.entity.Entity.{Entity};
+ghost use Rattle.bsdl_parser.specs.declared.fault.ParseFault.{ParseFault};
+ghost use Rattle.bsdl_parser.specs.Lexeme.{lexemes};
+ghost use Rattle.bsdl_parser.specs.Bsdl.{file};
+ghost use Rattle.bsdl_parser.specs.Entity.{HaveKinds, IsSmall};
+ghost use Rattle.bsdl_parser.specs.Judged.{fault_at, judged};
+ghost use Rattle.bsdl_parser.specs.Answer.{IsAnswer, UnlessMemory, last_line};
+
+use crate::cursor::Cursor;
+use crate::entity::Entity;
+use crate::fault::ParseFault;
+use crate::stop::Stop;
+use bsdl_lexer::Token;
+use std::alloc::Global;
+
+fn count_line_feeds(bytes: &[u8]) -> usize
+    ensures { result ≡ count_by (λ byte. byte == 10) bytes.now }
+{
+    bytes.iter().filter(|byte| **byte == b'\n').count()
+}
+
+/// The line of the last byte.
+fn last_line_of(text: &[u8]) -> u32
+    requires { length text.now < 2 ^ 32 }
+    ensures { result ≡ last_line text.now }
+{
+    match text {
+        [] => 1,
+        [front @ .., _] => 1 + count_line_feeds(front) as u32,
+    }
+}
+
+fn fault(starts_package: bool, line: u32) -> ParseFault
+    ensures { result ≡ fault_at starts_package line }
+{
+    if starts_package {
+        ParseFault::Package(line)
+    } else {
+        ParseFault::Expected(line)
+    }
+}
+
+fn judge(alloc: Global, text: &[u8], tokens: &[Token]) -> Result<Entity, ParseFault>
+    requires { length text.now < 2 ^ 32 }
+    ensures { UnlessMemory result (result ≡ judged text.now (lexemes text.now tokens.now) (reader_of file (lexemes text.now tokens.now))) }
+{
+    let mut cursor = Cursor::new(alloc, text, tokens);
+    match cursor.file() {
+        Ok(entity) => match cursor.front() {
+            None => Ok(entity),
+            Some(front) => Err(fault(front.is_package, front.line)),
+        },
+        Err(Stop::Memory(error)) => Err(ParseFault::Memory(error)),
+        Err(Stop::Stray) => match cursor.front() {
+            None => Err(ParseFault::Expected(last_line_of(text))),
+            Some(front) => {
+                let is_first = cursor.len() == tokens.len();
+                Err(fault(front.is_package && is_first, front.line))
+            }
+        },
+    }
+}
+
+/// The entity that the tokens of the text derive, or its first fault.
+///
+/// The tokens are those that `bsdl_lexer::lex` finds in the text. Where memory is refused nothing
+/// is made.
+pub fn parse(alloc: Global, bytes: &[u8], tokens: &[Token]) -> Result<Entity, ParseFault>
+    requires short { length bytes.now < 2 ^ 32 }
+    requires tokens { AreTokens bytes.now tokens.now }
+    // The entity is the one that the tokens derive, or the fault is that of the first token that cannot stand.
+    ensures answer { UnlessMemory result (IsAnswer bytes.now (lexemes bytes.now tokens.now) result) }
+    // There is no other answer.
+    ensures only { UnlessMemory result ((other : Result Entity ParseFault) → IsAnswer bytes.now (lexemes bytes.now tokens.now) other → other ≡ result) }
+
+    // What the entity keeps.
+    ensures kinds { IfOk result HaveKinds }
+    ensures small { IfOk result IsSmall }
+{
+    judge(alloc, bytes, tokens)
+}

@@ -1,0 +1,170 @@
+//! Attribute items: those that are used, and those that are read over.
+ghost use Rattle.std.specs.Prelude.{◌≡◌, map};
+ghost use Rattle.std.specs.Char.{to_ascii_uppercase};
+ghost use Rattle.grammars.specs.Turn.{turn_of};
+ghost use Rattle.grammars.specs.Grammar.{turns, reader_of};
+ghost use Rattle.bsdl_parser.specs.Gives.{Gives};
+ghost use Rattle.bsdl_parser.specs.Bsdl.{used, of_class, plain_value, port_value, clock_value, number_value, text_value, value_of, skipped_token, attribute_name, attribute};
+
+use crate::cursor::{Cursor, spells, upper_name};
+use crate::draft::AttrForm;
+use crate::entity::{Attr, AttrValue};
+use crate::stop::Stop;
+
+/// The number and the form of an attribute that is used.
+fn used_attribute(name: &[u8]) -> Option<(u32, AttrForm)>
+    ensures { result ≡ used (map to_ascii_uppercase name.now) }
+{
+    if spells(name, b"PIN_MAP") {
+        Some((1, AttrForm::Plain))
+    } else if spells(name, b"TAP_SCAN_IN") {
+        Some((2, AttrForm::Port))
+    } else if spells(name, b"TAP_SCAN_OUT") {
+        Some((3, AttrForm::Port))
+    } else if spells(name, b"TAP_SCAN_MODE") {
+        Some((4, AttrForm::Port))
+    } else if spells(name, b"TAP_SCAN_CLOCK") {
+        Some((5, AttrForm::Clock))
+    } else if spells(name, b"INSTRUCTION_LENGTH") {
+        Some((6, AttrForm::Number))
+    } else if spells(name, b"INSTRUCTION_OPCODE") {
+        Some((7, AttrForm::Text))
+    } else if spells(name, b"INSTRUCTION_CAPTURE") {
+        Some((8, AttrForm::Text))
+    } else if spells(name, b"BOUNDARY_LENGTH") {
+        Some((9, AttrForm::Number))
+    } else if spells(name, b"BOUNDARY_REGISTER") {
+        Some((10, AttrForm::Text))
+    } else if spells(name, b"TAP_SCAN_RESET") {
+        Some((11, AttrForm::Port))
+    } else if spells(name, b"IDCODE_REGISTER") {
+        Some((12, AttrForm::Text))
+    } else if spells(name, b"COMPLIANCE_PATTERNS") {
+        Some((13, AttrForm::Text))
+    } else if spells(name, b"COMPONENT_CONFORMANCE") {
+        Some((14, AttrForm::Text))
+    } else {
+        None
+    }
+}
+
+impl<'a> Cursor<'a> {
+    fn attribute_name(&mut self) -> Result<Option<(u32, AttrForm)>, Stop>
+        ensures { Gives (reader_of attribute_name) self.old self.new result (λ known. known) }
+    {
+        let name = self.word_bytes()?;
+        Ok(used_attribute(name))
+    }
+
+    /// `of`, a word, the class and `is`.
+    #[tactic(auto, unfolding(crate::specs::Bsdl::of_class))]
+    fn of_class(&mut self, class: &[u8]) -> Result<&'a [u8], Stop>
+        ensures { Gives (reader_of (of_class class.now)) self.old self.new result (λ word. map to_ascii_uppercase word.now) }
+    {
+        self.keyword(b"OF")?;
+        let word = self.word_bytes()?;
+        self.mark(b":")?;
+        self.keyword(class)?;
+        self.keyword(b"IS")?;
+        Ok(word)
+    }
+
+    #[tactic(auto, unfolding(crate::specs::Bsdl::plain_value))]
+    fn plain_value(&mut self) -> Result<AttrValue, Stop>
+        ensures { Gives (reader_of plain_value) self.old self.new result (λ value. value) }
+    {
+        self.of_class(b"ENTITY")?;
+        self.keyword(b"PHYSICAL_PIN_MAP")?;
+        self.mark(b";")?;
+        Ok(AttrValue::Plain)
+    }
+
+    #[tactic(auto, unfolding(crate::specs::Bsdl::port_value))]
+    fn port_value(&mut self) -> Result<AttrValue, Stop>
+        ensures { Gives (reader_of port_value) self.old self.new result (λ value. value) }
+    {
+        let port = self.of_class(b"SIGNAL")?;
+        self.keyword(b"TRUE")?;
+        self.mark(b";")?;
+        Ok(AttrValue::Port(upper_name(self.allocator(), port)?))
+    }
+
+    #[tactic(auto, unfolding(crate::specs::Bsdl::clock_value))]
+    fn clock_value(&mut self) -> Result<AttrValue, Stop>
+        ensures { Gives (reader_of clock_value) self.old self.new result (λ value. value) }
+    {
+        let port = self.of_class(b"SIGNAL")?;
+        self.mark(b"(")?;
+        self.number()?;
+        self.mark(b",")?;
+        self.either_word(b"BOTH", b"LOW")?;
+        self.mark(b")")?;
+        self.mark(b";")?;
+        Ok(AttrValue::Port(upper_name(self.allocator(), port)?))
+    }
+
+    #[tactic(auto, unfolding(crate::specs::Bsdl::number_value))]
+    fn number_value(&mut self) -> Result<AttrValue, Stop>
+        ensures { Gives (reader_of number_value) self.old self.new result (λ value. value) }
+    {
+        self.of_class(b"ENTITY")?;
+        let number = self.integer()?;
+        self.mark(b";")?;
+        Ok(AttrValue::Number(number))
+    }
+
+    #[tactic(auto, unfolding(crate::specs::Bsdl::text_value))]
+    fn text_value(&mut self) -> Result<AttrValue, Stop>
+        ensures { Gives (reader_of text_value) self.old self.new result (λ value. value) }
+    {
+        self.of_class(b"ENTITY")?;
+        let text = self.string(b";")?;
+        Ok(AttrValue::Text(text))
+    }
+
+    fn value(&mut self, form: AttrForm) -> Result<AttrValue, Stop>
+        ensures { Gives (reader_of (value_of form)) self.old self.new result (λ value. value) }
+    {
+        match form {
+            AttrForm::Plain => self.plain_value(),
+            AttrForm::Port => self.port_value(),
+            AttrForm::Clock => self.clock_value(),
+            AttrForm::Number => self.number_value(),
+            AttrForm::Text => self.text_value(),
+        }
+    }
+
+    /// One token that is read over, and whether another follows.
+    #[tactic(auto, unfolding(crate::specs::Bsdl::skipped_token))]
+    fn skipped_token(&mut self) -> Result<bool, Stop>
+        ensures { Gives (reader_of (skipped_token tt)) self.old self.new result (λ more. turn_of more tt) }
+    {
+        let more = self.other_than(b";")?;
+        Ok(more)
+    }
+
+    /// All tokens up to the next `;`, and that.
+    fn skipped(&mut self) -> Result<(), Stop>
+        ensures { Gives (reader_of (turns skipped_token tt)) self.old self.new result (λ x. x) }
+    {
+        'tokens: while self.skipped_token()? {}
+        Ok(())
+    }
+
+    /// An attribute item behind its first word. One that is not used is read over.
+    #[tactic(auto, unfolding(crate::specs::Bsdl::attribute))]
+    pub(crate) fn attribute_item(&mut self) -> Result<Option<Attr>, Stop>
+        ensures { Gives (reader_of attribute) self.old self.new result (λ attribute. attribute) }
+    {
+        match self.attribute_name()? {
+            Some((number, form)) => {
+                let value = self.value(form)?;
+                Ok(Some(Attr { number, value }))
+            }
+            None => {
+                self.skipped()?;
+                Ok(None)
+            }
+        }
+    }
+}

@@ -1,0 +1,343 @@
+//! The tokens that are left, read from the front.
+ghost use Rattle.std.specs.Prelude.{◌≡◌, ◌↔◌, [], ◌∷◌, map, length, nat_eq, zip, IfOk, IsTrue, MatchOption};
+ghost use Rattle.std.specs.List.{list_all};
+ghost use Rattle.std.specs.Str.{bytes_eq};
+ghost use Rattle.std.specs.Char.{to_ascii_uppercase};
+ghost use Rattle.grammars.specs.Grammar.{reader_of};
+ghost use Rattle.bsdl_parser.specs.Lexeme.{bytes_of, lexeme_of, lexemes};
+ghost use Rattle.bsdl_parser.specs.Places as places;
+ghost use Rattle.bsdl_parser.specs.Gives.{Gives};
+
+use crate::numbers::integer_in;
+use crate::stop::Stop;
+use board_defs::{Mode, Name};
+use bsdl_lexer::{Token, TokenKind};
+use std::alloc::{AllocError, Global};
+use std::marker::Model;
+
+/// Of the next token, whether it is the word `package`, and its line.
+#[derive(Clone, Copy)]
+pub(crate) struct Front {
+    pub is_package: bool,
+    pub line: u32,
+}
+
+/// The tokens of a text that are left, and the allocator for what is made of them.
+#[derive(Drop)]
+pub(crate) struct Cursor<'a> {
+    alloc: Global,
+    pub text: &'a [u8],
+    pub rest: &'a [Token],
+}
+
+impl<'a> Model for Cursor<'a> {
+    ghost use Rattle.std.specs.Prelude.{List};
+    ghost use Rattle.bsdl_parser.specs.Lexeme.{Lexeme, lexemes};
+
+    ghost Value = { List Lexeme };
+
+    ghost view = { λ c. lexemes c.text.now c.rest.now };
+}
+
+pub(crate) fn bytes_at<'t>(text: &'t [u8], token: &Token) -> &'t [u8]
+    ensures { result.now ≡ bytes_of text.now token.now }
+{
+    let end = (token.end as usize).min(text.len());
+    let start = token.start as usize;
+    if start <= end { &text[start..end] } else { &[] }
+}
+
+fn each_agrees(bytes: &[u8], name: &[u8]) -> bool
+    ensures { result ≡ list_all (λ pair. nat_eq (to_ascii_uppercase pair.0) pair.1) (zip bytes.now name.now) }
+{
+    bytes
+        .iter()
+        .zip(name)
+        .all(|(byte, letter)| byte.to_ascii_uppercase() == *letter)
+}
+
+/// Whether the bytes in upper case are the name.
+#[tactic(auto, using(crate::proofs::Spelled::differs))]
+pub(crate) fn spells(bytes: &[u8], name: &[u8]) -> bool
+    ensures { result ≡ bytes_eq (map to_ascii_uppercase bytes.now) name.now }
+{
+    if bytes.len() == name.len() {
+        each_agrees(bytes, name)
+    } else {
+        false
+    }
+}
+
+pub(crate) fn is_word(kind: TokenKind) -> bool
+    ensures { result ≡ places.is_word kind }
+{
+    matches!(kind, TokenKind::Word)
+}
+
+fn is_number(kind: TokenKind) -> bool
+    ensures { result ≡ places.is_number kind }
+{
+    matches!(kind, TokenKind::Number)
+}
+
+fn is_text(kind: TokenKind) -> bool
+    ensures { result ≡ places.is_text kind }
+{
+    matches!(kind, TokenKind::Text)
+}
+
+fn is_mark(kind: TokenKind) -> bool
+    ensures { result ≡ places.is_mark kind }
+{
+    matches!(kind, TokenKind::Mark)
+}
+
+fn is_the_word(text: &[u8], token: &Token, name: &[u8]) -> bool
+    ensures { result ≡ places.is_the_word name.now (lexeme_of text.now token.now) }
+{
+    is_word(token.kind) && spells(bytes_at(text, token), name)
+}
+
+fn is_the_mark(text: &[u8], token: &Token, name: &[u8]) -> bool
+    ensures { result ≡ places.is_the_mark name.now (lexeme_of text.now token.now) }
+{
+    is_mark(token.kind) && spells(bytes_at(text, token), name)
+}
+
+/// What stands between the quotes.
+fn unquoted(bytes: &[u8]) -> &[u8]
+    ensures { map to_ascii_uppercase result.now ≡ places.contents (map to_ascii_uppercase bytes.now) }
+{
+    match bytes {
+        [_, inner @ .., _] => inner,
+        _ => &[],
+    }
+}
+
+fn mode_named(bytes: &[u8]) -> Option<Mode>
+    ensures { result ≡ places.mode_of (map to_ascii_uppercase bytes.now) }
+{
+    if spells(bytes, b"IN") {
+        Some(Mode::Inward)
+    } else if spells(bytes, b"OUT") {
+        Some(Mode::Outward)
+    } else if spells(bytes, b"INOUT") {
+        Some(Mode::Both)
+    } else if spells(bytes, b"BUFFER") {
+        Some(Mode::Buffer)
+    } else if spells(bytes, b"LINKAGE") {
+        Some(Mode::Linkage)
+    } else {
+        None
+    }
+}
+
+/// The name with these bytes in upper case.
+pub(crate) fn upper_name(alloc: Global, bytes: &[u8]) -> Result<Name, AllocError>
+    ensures { IfOk result (λ name. name ≡ map to_ascii_uppercase bytes.now) }
+{
+    let mut upper = bytes.to_vec(alloc)?;
+    upper.as_mut_slice().make_ascii_uppercase();
+    Ok(Name::from_vec(upper))
+}
+
+impl<'a> Cursor<'a> {
+    ghost use Rattle.bsdl_parser.specs.Judged.{front_of};
+
+    pub(crate) fn new(alloc: Global, text: &'a [u8], tokens: &'a [Token]) -> Self
+        ensures { result ≡ lexemes text.now tokens.now }
+    {
+        Cursor {
+            alloc,
+            text,
+            rest: tokens,
+        }
+    }
+
+    pub(crate) fn allocator(&self) -> Global {
+        self.alloc
+    }
+
+    /// How many tokens are left.
+    pub(crate) fn len(&self) -> usize
+        ensures { result ≡ length self.now }
+    {
+        self.rest.len()
+    }
+
+    pub(crate) fn front(&self) -> Option<Front>
+        ensures { result ≡ front_of self.now }
+    {
+        match self.rest {
+            [] => None,
+            [token, ..] => Some(Front {
+                is_package: is_the_word(self.text, token, b"PACKAGE"),
+                line: token.line,
+            }),
+        }
+    }
+
+    /// This word, in either case.
+    pub(crate) fn keyword(&mut self, name: &[u8]) -> Result<(), Stop>
+        ensures { Gives (reader_of (places.keyword name.now)) self.old self.new result (λ x. x) }
+    {
+        match self.rest {
+            [token, rest @ ..] if is_the_word(self.text, token, name) => {
+                self.rest = rest;
+                Ok(())
+            }
+            _ => Err(Stop::Stray),
+        }
+    }
+
+    /// This mark.
+    pub(crate) fn mark(&mut self, name: &[u8]) -> Result<(), Stop>
+        ensures { Gives (reader_of (places.mark name.now)) self.old self.new result (λ x. x) }
+    {
+        match self.rest {
+            [token, rest @ ..] if is_the_mark(self.text, token, name) => {
+                self.rest = rest;
+                Ok(())
+            }
+            _ => Err(Stop::Stray),
+        }
+    }
+
+    /// One of two words: whether it is the first.
+    pub(crate) fn either_word(&mut self, first: &[u8], second: &[u8]) -> Result<bool, Stop>
+        ensures { Gives (reader_of (places.either_word first.now second.now)) self.old self.new result (λ x. x) }
+    {
+        match self.rest {
+            [token, rest @ ..] if is_the_word(self.text, token, first) => {
+                self.rest = rest;
+                Ok(true)
+            }
+            [token, rest @ ..] if is_the_word(self.text, token, second) => {
+                self.rest = rest;
+                Ok(false)
+            }
+            _ => Err(Stop::Stray),
+        }
+    }
+
+    /// One of two marks: whether it is the first.
+    pub(crate) fn either_mark(&mut self, first: &[u8], second: &[u8]) -> Result<bool, Stop>
+        ensures { Gives (reader_of (places.either_mark first.now second.now)) self.old self.new result (λ x. x) }
+    {
+        match self.rest {
+            [token, rest @ ..] if is_the_mark(self.text, token, first) => {
+                self.rest = rest;
+                Ok(true)
+            }
+            [token, rest @ ..] if is_the_mark(self.text, token, second) => {
+                self.rest = rest;
+                Ok(false)
+            }
+            _ => Err(Stop::Stray),
+        }
+    }
+
+    /// A word, or this mark: whether it is the word.
+    pub(crate) fn word_or_mark(&mut self, name: &[u8]) -> Result<bool, Stop>
+        ensures { Gives (reader_of (places.word_or_mark name.now)) self.old self.new result (λ x. x) }
+    {
+        match self.rest {
+            [token, rest @ ..] if is_word(token.kind) => {
+                self.rest = rest;
+                Ok(true)
+            }
+            [token, rest @ ..] if is_the_mark(self.text, token, name) => {
+                self.rest = rest;
+                Ok(false)
+            }
+            _ => Err(Stop::Stray),
+        }
+    }
+
+    /// Any token: whether it is another than this mark.
+    pub(crate) fn other_than(&mut self, name: &[u8]) -> Result<bool, Stop>
+        ensures { Gives (reader_of (places.other_than name.now)) self.old self.new result (λ x. x) }
+    {
+        match self.rest {
+            [] => Err(Stop::Stray),
+            [token, rest @ ..] => {
+                self.rest = rest;
+                Ok(!is_the_mark(self.text, token, name))
+            }
+        }
+    }
+
+    pub(crate) fn number(&mut self) -> Result<(), Stop>
+        ensures { Gives (reader_of places.any_number) self.old self.new result (λ x. x) }
+    {
+        match self.rest {
+            [token, rest @ ..] if is_number(token.kind) => {
+                self.rest = rest;
+                Ok(())
+            }
+            _ => Err(Stop::Stray),
+        }
+    }
+
+    /// A number of 1 to 9 digits without point and exponent.
+    pub(crate) fn integer(&mut self) -> Result<u32, Stop>
+        ensures { Gives (reader_of places.integer) self.old self.new result (λ x. x) }
+    {
+        match self.rest {
+            [token, rest @ ..] if is_number(token.kind) => {
+                let number = integer_in(bytes_at(self.text, token)).ok_or(Stop::Stray)?;
+                self.rest = rest;
+                Ok(number)
+            }
+            _ => Err(Stop::Stray),
+        }
+    }
+
+    /// Any word, as it stands in the text.
+    pub(crate) fn word_bytes(&mut self) -> Result<&'a [u8], Stop>
+        ensures { Gives (reader_of places.any_word) self.old self.new result (λ bytes. map to_ascii_uppercase bytes.now) }
+    {
+        match self.rest {
+            [token, rest @ ..] if is_word(token.kind) => {
+                self.rest = rest;
+                Ok(bytes_at(self.text, token))
+            }
+            _ => Err(Stop::Stray),
+        }
+    }
+
+    /// Any word, in upper case.
+    pub(crate) fn word(&mut self) -> Result<Name, Stop>
+        ensures { Gives (reader_of places.any_word) self.old self.new result (λ name. name) }
+    {
+        let bytes = self.word_bytes()?;
+        Ok(upper_name(self.alloc, bytes)?)
+    }
+
+    /// The contents of any text, as they stand in the text.
+    pub(crate) fn text_bytes(&mut self) -> Result<&'a [u8], Stop>
+        ensures { Gives (reader_of places.any_text) self.old self.new result (λ bytes. map to_ascii_uppercase bytes.now) }
+    {
+        match self.rest {
+            [token, rest @ ..] if is_text(token.kind) => {
+                self.rest = rest;
+                Ok(unquoted(bytes_at(self.text, token)))
+            }
+            _ => Err(Stop::Stray),
+        }
+    }
+
+    /// The mode of a port.
+    pub(crate) fn mode(&mut self) -> Result<Mode, Stop>
+        ensures { Gives (reader_of places.mode) self.old self.new result (λ mode. mode) }
+    {
+        match self.rest {
+            [token, rest @ ..] if is_word(token.kind) => {
+                let mode = mode_named(bytes_at(self.text, token)).ok_or(Stop::Stray)?;
+                self.rest = rest;
+                Ok(mode)
+            }
+            _ => Err(Stop::Stray),
+        }
+    }
+}

@@ -1,0 +1,56 @@
+//! A whole file.
+ghost use Rattle.std.specs.Prelude.{◌≡◌};
+ghost use Rattle.grammars.specs.Grammar.{reader_of};
+ghost use Rattle.bsdl_parser.specs.Gives.{Gives};
+ghost use Rattle.bsdl_parser.specs.Bsdl.{file, close_of, entity_of};
+ghost use Rattle.bsdl_parser.specs.Views.{items_of};
+
+use crate::cursor::Cursor;
+use crate::draft::Draft;
+use crate::entity::Entity;
+use crate::stop::Stop;
+use board_defs::{Items, Name};
+
+fn entity_from(name: Name, draft: Draft) -> Entity
+    ensures { result ≡ entity_of name (items_of draft) }
+{
+    let Draft {
+        has_generic: _,
+        fallback,
+        has_port: _,
+        ports,
+        uses,
+        constants,
+        attributes,
+    } = draft;
+    Entity {
+        name,
+        fallback,
+        ports: Items::of(ports),
+        uses: Items::of(uses),
+        constants: Items::of(constants),
+        attributes: Items::of(attributes),
+    }
+}
+
+impl<'a> Cursor<'a> {
+    fn close(&mut self, is_named: bool) -> Result<(), Stop>
+        ensures { Gives (reader_of (close_of is_named)) self.old self.new result (λ x. x) }
+    {
+        if is_named { self.mark(b";") } else { Ok(()) }
+    }
+
+    /// The entity of the file at the front.
+    #[tactic(auto, unfolding(crate::specs::Bsdl::file))]
+    pub(crate) fn file(&mut self) -> Result<Entity, Stop>
+        ensures { Gives (reader_of file) self.old self.new result (λ entity. entity) }
+    {
+        self.keyword(b"ENTITY")?;
+        let name = self.word()?;
+        self.keyword(b"IS")?;
+        let draft = self.items()?;
+        let is_named = self.word_or_mark(b";")?;
+        self.close(is_named)?;
+        Ok(entity_from(name, draft))
+    }
+}

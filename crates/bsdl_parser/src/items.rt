@@ -1,0 +1,153 @@
+//! The items of a file, one after another.
+ghost use Rattle.std.specs.Prelude.{◌≡◌, map};
+ghost use Rattle.std.specs.Char.{to_ascii_uppercase};
+ghost use Rattle.grammars.specs.Turn.{turn_of};
+ghost use Rattle.grammars.specs.Grammar.{turns, reader_of};
+ghost use Rattle.bsdl_parser.specs.Gives.{Gives};
+ghost use Rattle.bsdl_parser.specs.Bsdl.{fallback, generic, used_package, constant, item_word, item_begin, item, no_items};
+ghost use Rattle.bsdl_parser.specs.Views.{items_of};
+
+use crate::cursor::{Cursor, bytes_at, is_word, spells};
+use crate::draft::{Draft, ItemWord};
+use crate::entity::Constant;
+use crate::stop::Stop;
+use board_defs::Name;
+
+/// What the word begins behind the items so far.
+fn begun(word: &[u8], draft: &Draft) -> Option<ItemWord>
+    ensures { result ≡ item_word (items_of draft.now) (map to_ascii_uppercase word.now) }
+{
+    if spells(word, b"GENERIC") {
+        if draft.has_generic {
+            None
+        } else {
+            Some(ItemWord::Generic)
+        }
+    } else if spells(word, b"PORT") {
+        if draft.has_port {
+            None
+        } else {
+            Some(ItemWord::Port)
+        }
+    } else if spells(word, b"USE") {
+        Some(ItemWord::Use)
+    } else if spells(word, b"CONSTANT") {
+        Some(ItemWord::Constant)
+    } else if spells(word, b"ATTRIBUTE") {
+        Some(ItemWord::Attribute)
+    } else if spells(word, b"END") && draft.has_generic && draft.has_port {
+        Some(ItemWord::End)
+    } else {
+        None
+    }
+}
+
+impl<'a> Cursor<'a> {
+    fn fallback_if(&mut self, is_given: bool) -> Result<Option<Name>, Stop>
+        ensures { Gives (reader_of (fallback is_given)) self.old self.new result (λ name. name) }
+    {
+        if is_given {
+            self.mark(b"=")?;
+            Ok(Some(self.string(b")")?))
+        } else {
+            Ok(None)
+        }
+    }
+
+    /// A generic item behind its first word: the default of PHYSICAL_PIN_MAP.
+    #[tactic(auto, unfolding(crate::specs::Bsdl::generic))]
+    fn generic_item(&mut self) -> Result<Option<Name>, Stop>
+        ensures { Gives (reader_of generic) self.old self.new result (λ name. name) }
+    {
+        self.mark(b"(")?;
+        self.keyword(b"PHYSICAL_PIN_MAP")?;
+        self.mark(b":")?;
+        self.keyword(b"STRING")?;
+        let is_given = self.either_mark(b":", b")")?;
+        let fallback = self.fallback_if(is_given)?;
+        self.mark(b";")?;
+        Ok(fallback)
+    }
+
+    /// A use item behind its first word: the package.
+    #[tactic(auto, unfolding(crate::specs::Bsdl::used_package))]
+    fn use_item(&mut self) -> Result<Name, Stop>
+        ensures { Gives (reader_of used_package) self.old self.new result (λ name. name) }
+    {
+        let name = self.word()?;
+        self.mark(b".")?;
+        self.keyword(b"ALL")?;
+        self.mark(b";")?;
+        Ok(name)
+    }
+
+    /// A constant item behind its first word.
+    #[tactic(auto, unfolding(crate::specs::Bsdl::constant))]
+    fn constant_item(&mut self) -> Result<Constant, Stop>
+        ensures { Gives (reader_of constant) self.old self.new result (λ constant. constant) }
+    {
+        let name = self.word()?;
+        self.mark(b":")?;
+        self.keyword(b"PIN_MAP_STRING")?;
+        self.mark(b":")?;
+        self.mark(b"=")?;
+        let text = self.string(b";")?;
+        Ok(Constant { name, text })
+    }
+
+    fn item_begin(&mut self, draft: &Draft) -> Result<ItemWord, Stop>
+        ensures { Gives (reader_of (item_begin (items_of draft.now))) self.old self.new result (λ word. word) }
+    {
+        match self.rest {
+            [token, rest @ ..] if is_word(token.kind) => {
+                let word = begun(bytes_at(self.text, token), draft).ok_or(Stop::Stray)?;
+                self.rest = rest;
+                Ok(word)
+            }
+            _ => Err(Stop::Stray),
+        }
+    }
+
+    /// One item, added to those before, and whether it was an item and not the end.
+    #[tactic(auto, unfolding(crate::specs::Bsdl::item, crate::specs::Bsdl::item_of))]
+    fn item(&mut self, draft: &mut Draft) -> Result<bool, Stop>
+        ensures { Gives (reader_of (item (items_of draft.old))) self.old self.new result (λ more. turn_of more (items_of draft.new)) }
+    {
+        match self.item_begin(draft)? {
+            ItemWord::Generic => {
+                draft.fallback = self.generic_item()?;
+                draft.has_generic = true;
+            }
+            ItemWord::Port => {
+                draft.ports = self.port_item()?;
+                draft.has_port = true;
+            }
+            ItemWord::Use => draft.uses.push(self.use_item()?)?,
+            ItemWord::Constant => draft.constants.push(self.constant_item()?)?,
+            ItemWord::Attribute => {
+                if let Some(attribute) = self.attribute_item()? {
+                    draft.attributes.push(attribute)?;
+                }
+            }
+            ItemWord::End => return Ok(false),
+        }
+        Ok(true)
+    }
+
+    /// The items up to the word `end`, and that word.
+    pub(crate) fn items(&mut self) -> Result<Draft, Stop>
+        ensures { Gives (reader_of (turns item no_items)) self.old self.new result (λ draft. items_of draft) }
+    {
+        let mut draft = Draft {
+            has_generic: false,
+            fallback: None,
+            has_port: false,
+            ports: Vec::new(self.allocator()),
+            uses: Vec::new(self.allocator()),
+            constants: Vec::new(self.allocator()),
+            attributes: Vec::new(self.allocator()),
+        };
+        while self.item(&mut draft)? {}
+        Ok(draft)
+    }
+}

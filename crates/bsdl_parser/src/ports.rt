@@ -1,0 +1,101 @@
+//! The port item: groups of ports.
+ghost use Rattle.std.specs.Prelude.{◌≡◌, ◌++◌, [], OnOk};
+ghost use Rattle.grammars.specs.Turn.{turn_of};
+ghost use Rattle.grammars.specs.Grammar.{turns, reader_of};
+ghost use Rattle.bsdl_parser.specs.Gives.{Gives};
+ghost use Rattle.bsdl_parser.specs.Bsdl.{port_name, range, range_of, ports_of, port_group, ports};
+
+use crate::cursor::Cursor;
+use crate::entity::{Port, Range};
+use crate::stop::Stop;
+use board_defs::{Mode, Name};
+use std::alloc::AllocError;
+
+/// Adds a port for each name.
+fn add_ports(
+    ports: &mut Vec<Port>,
+    names: Vec<Name>,
+    mode: Mode,
+    range: Option<Range>,
+) -> Result<(), AllocError>
+    ensures { OnOk result (ports.new.items ≡ ports.old.items ++ ports_of names.items mode range) }
+{
+    for name in names {
+        ports.push(Port { name, mode, range })?;
+    }
+    Ok(())
+}
+
+impl<'a> Cursor<'a> {
+    /// One name, added to those before, and whether another follows.
+    #[tactic(auto, unfolding(crate::specs::Bsdl::port_name))]
+    fn port_name(&mut self, names: &mut Vec<Name>) -> Result<bool, Stop>
+        ensures { Gives (reader_of (port_name names.old.items)) self.old self.new result (λ more. turn_of more names.new.items) }
+    {
+        let name = self.word()?;
+        names.push(name)?;
+        self.either_mark(b",", b":")
+    }
+
+    fn port_names(&mut self) -> Result<Vec<Name>, Stop>
+        ensures { Gives (reader_of (turns port_name [])) self.old self.new result (λ names. names.items) }
+    {
+        let mut names = Vec::new(self.allocator());
+        while self.port_name(&mut names)? {}
+        Ok(names)
+    }
+
+    #[tactic(auto, unfolding(crate::specs::Bsdl::range))]
+    fn range(&mut self) -> Result<Range, Stop>
+        ensures { Gives (reader_of range) self.old self.new result (λ range. range) }
+    {
+        self.mark(b"(")?;
+        let left = self.integer()?;
+        let up = self.either_word(b"TO", b"DOWNTO")?;
+        let right = self.integer()?;
+        self.mark(b")")?;
+        Ok(Range { left, right, up })
+    }
+
+    fn range_if(&mut self, is_vector: bool) -> Result<Option<Range>, Stop>
+        ensures { Gives (reader_of (range_of is_vector)) self.old self.new result (λ range. range) }
+    {
+        if is_vector {
+            Ok(Some(self.range()?))
+        } else {
+            Ok(None)
+        }
+    }
+
+    /// One group, added to the ports before, and whether another follows.
+    #[tactic(auto, unfolding(crate::specs::Bsdl::port_group, crate::specs::Bsdl::group))]
+    fn port_group(&mut self, ports: &mut Vec<Port>) -> Result<bool, Stop>
+        ensures { Gives (reader_of (port_group ports.old.items)) self.old self.new result (λ more. turn_of more ports.new.items) }
+    {
+        let names = self.port_names()?;
+        let mode = self.mode()?;
+        let is_vector = self.either_word(b"BIT_VECTOR", b"BIT")?;
+        let range = self.range_if(is_vector)?;
+        add_ports(ports, names, mode, range)?;
+        self.either_mark(b";", b")")
+    }
+
+    fn port_groups(&mut self) -> Result<Vec<Port>, Stop>
+        ensures { Gives (reader_of (turns port_group [])) self.old self.new result (λ ports. ports.items) }
+    {
+        let mut ports = Vec::new(self.allocator());
+        while self.port_group(&mut ports)? {}
+        Ok(ports)
+    }
+
+    /// A port item behind its first word.
+    #[tactic(auto, unfolding(crate::specs::Bsdl::ports))]
+    pub(crate) fn port_item(&mut self) -> Result<Vec<Port>, Stop>
+        ensures { Gives (reader_of ports) self.old self.new result (λ ports. ports.items) }
+    {
+        self.mark(b"(")?;
+        let ports = self.port_groups()?;
+        self.mark(b";")?;
+        Ok(ports)
+    }
+}

@@ -1,0 +1,28 @@
+//! Why reading stopped.
+ghost use Rattle.std.specs.Prelude.{◌≡◌, alloc_error};
+ghost use Rattle.bsdl_parser.specs.declared.stop.Stop.TheVariants.{Memory};
+
+use std::alloc::{AllocError, AllocFailed};
+
+/// Memory was refused, or the next token cannot stand.
+#[derive(Clone, Copy)]
+pub(crate) enum Stop {
+    Memory(AllocError),
+    Stray,
+}
+
+impl From<AllocError> for Stop {
+    ghost from_gives = { λ _ stop. stop ≡ Memory alloc_error };
+
+    fn from(error: AllocError) -> Self {
+        Stop::Memory(error)
+    }
+}
+
+impl<T: Drop> From<AllocFailed<T>> for Stop {
+    ghost from_gives = { λ _ stop. stop ≡ Memory alloc_error };
+
+    fn from(_failed: AllocFailed<T>) -> Self {
+        Stop::Memory(AllocError)
+    }
+}

@@ -1,0 +1,3 @@
+pub mod PieceLemmas
+pub mod Parses
+pub mod RunLemmas

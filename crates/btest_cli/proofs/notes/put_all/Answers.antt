@@ -1,0 +1,15 @@
+use Rattle.bt_base.proofs.Cuts.{puts_err}
+use Rattle.btest_cli.proofs.PieceLemmas.{puts_first, puts_cut, whole-split}
+use Rattle.std.proofs.Common.{arith}
+use Rattle.btest_cli.proofs.notes.put_all.Goals as goal
+
+pub returns-in_err-put : goal.returns-in_err-put
+returns-in_err-put g c = puts_err _ c.put.ensures c.in_err-put.was c.from_residual.ensures.0
+
+pub loop-piece-init : goal.loop-piece-init
+loop-piece-init g c = puts_first c.put.ensures c.in_ok-put.was
+
+pub returns-in_err-put-2 : goal.returns-in_err-put-2
+returns-in_err-put-2 g c =
+    puts_cut _ c.loop-piece.invariant c.put-in-loop-piece.ensures c.in_err-put-2.was c.from_residual-in_err-put-2.ensures.0
+    (whole-split c.args.first.now c.args.others.now c.loop-piece.piece-index _ (omega arith))

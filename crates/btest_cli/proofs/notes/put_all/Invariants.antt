@@ -1,0 +1,10 @@
+use Rattle.std.proofs.Common.{Ok, take, map, ◌++◌}
+use Rattle.bt_base.specs.Puts.{Puts}
+use Rattle.bt_base.specs.declared.sink.PutFault.{PutFault}
+use Rattle.btest_cli.specs.Refusals.{whole}
+use Rattle.btest_cli.proofs.notes.put_all.Given as goal
+
+-- the pieces so far were put
+abbrev pub invariant-loop-piece : goal.invariant-loop-piece
+invariant-loop-piece g l =
+    Puts {T = Unit {0}} {E = PutFault} (g.N.Sink.shown l.fn.notes) (g.N.Sink.shown l.notes) (l.first ++ whole (map (λ p. p.now) (take l.piece-index l.others))) (Ok tt)

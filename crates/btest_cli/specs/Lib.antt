@@ -1,0 +1,9 @@
+pub mod Words
+pub mod CommandView
+pub mod App
+pub mod Texts
+pub mod Refusals
+pub mod NamesView
+pub mod Outcome
+pub mod Failures
+pub mod RunOf

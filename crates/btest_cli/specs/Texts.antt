@@ -1,0 +1,31 @@
+-- The texts that a command reads.
+use Rattle.std.specs.Prelude.{◌≡◌, ℕ, List, [], ◌∷◌, length, Option, Some, None, nat_lt, if◌then◌else◌}
+use Rattle.btest_cli.specs.Words.{Text}
+
+-- the most bytes of a chain file, a net file or a BSDL text
+abbrev pub most_bytes : ℕ
+most_bytes = 4194304
+
+-- what reading the texts of names gives: the texts, or the name of the first that is too long
+pub data Reading : Type 0 where
+  Read : List Text → Reading
+  TooLong : Text → Reading
+
+abbrev pub and_text : Text → Option Reading → Option Reading
+and_text text None = None
+and_text text (Some (Read texts)) = Some (Read (text ∷ texts))
+and_text text (Some (TooLong name)) = Some (TooLong name)
+
+abbrev pub read_first : Text → Option Text → Option Reading → Option Reading
+read_first name None rest = None
+read_first name (Some text) rest = if nat_lt most_bytes (length text) then Some (TooLong name) else and_text text rest
+
+-- what reading these names in order gives, where the store holds a text for each that is read
+abbrev pub reading_of : (Text → Option Text) → List Text → Option Reading
+reading_of held [] = Some (Read [])
+reading_of held (name ∷ names) = read_first name (held name) (reading_of held names)
+
+-- where the store tells what it holds, this is what reading the names gives
+abbrev pub IsRead : Option (Text → Option Text) → List Text → Reading → Type 0
+IsRead None names reading = Unit {0}
+IsRead (Some held) names reading = reading_of held names ≡ Some reading

@@ -1,0 +1,197 @@
+// The lines on standard error.
+ghost use Rattle.std.specs.Prelude.{◌≡◌, ◌++◌, List, map, decimal};
+ghost use Rattle.bt_base.specs.Puts.{Puts};
+ghost use Rattle.btest_cli.specs.Refusals.{whole, about, at_line, at_spot, line_fault_line, board_fault_line, limit_line, input_fault_line, text_name, long_line, read_line, usage_line, write_line, memory_line};
+ghost use Rattle.btest_cli.specs.NamesView.{names_view};
+
+use board_build::BoardFault;
+use board_defs::Spot;
+use board_files::LineFault;
+use bt_base::{PutFault, Sink};
+use btest_core::InputFault;
+use itoa::Buffer;
+
+/// The names of a command's texts, by which the lines of refusal tell them apart.
+#[derive(Clone, Copy)]
+pub struct Names<'a> {
+    pub chain: &'a str,
+    pub nets: &'a str,
+    pub bsdl: &'a [&'a str],
+}
+
+// Puts a piece, and then others in order.
+pub fn put_all<N: Sink>(first: &[u8], others: &[&[u8]], notes: &mut N) -> Result<(), PutFault>
+    ensures { Puts (N.shown notes.old) (N.shown notes.new) (first.now ++ whole (map (λ p. p.now) others.now)) result }
+{
+    notes.put(first)?;
+    for piece in others {
+        notes.put(piece)?;
+    }
+    Ok(())
+}
+
+// Puts a line of a text, and what is wrong with it.
+fn put_at_line<N: Sink>(name: &str, line: u32, wrong: &[u8], notes: &mut N) -> Result<(), PutFault>
+    ensures { Puts (N.shown notes.old) (N.shown notes.new) (at_line name.now line wrong.now) result }
+{
+    let mut number = Buffer::new();
+    let number = number.format(line).as_bytes();
+    put_all(
+        name.as_bytes(),
+        &[b" line ".as_slice(), number, wrong],
+        notes,
+    )
+}
+
+// Puts a word of a line of a text, and what is wrong with it.
+fn put_at_spot<N: Sink>(name: &str, spot: Spot, wrong: &[u8], notes: &mut N) -> Result<(), PutFault>
+    ensures { Puts (N.shown notes.old) (N.shown notes.new) (at_spot name.now spot wrong.now) result }
+{
+    let mut line = Buffer::new();
+    let line = line.format(spot.line).as_bytes();
+    let mut word = Buffer::new();
+    let word = word.format(spot.word).as_bytes();
+    put_all(
+        name.as_bytes(),
+        &[
+            b" line ".as_slice(),
+            line,
+            b" word ".as_slice(),
+            word,
+            wrong,
+        ],
+        notes,
+    )
+}
+
+// Puts what is wrong with a text.
+fn put_about<N: Sink>(name: &str, wrong: &[u8], notes: &mut N) -> Result<(), PutFault>
+    ensures { Puts (N.shown notes.old) (N.shown notes.new) (about name.now wrong.now) result }
+{
+    put_all(name.as_bytes(), &[wrong], notes)
+}
+
+// Puts the line of a faulty line of a chain or net file.
+fn put_line_fault<N: Sink>(name: &str, fault: &LineFault, notes: &mut N) -> Result<(), PutFault>
+    ensures { Puts (N.shown notes.old) (N.shown notes.new) (line_fault_line name.now fault.now) result }
+{
+    match fault {
+        LineFault::Statement(line) => put_at_line(name, *line, b": no statement\n", notes),
+        LineFault::Word(line) => put_at_line(name, *line, b": word not allowed\n", notes),
+        LineFault::Number(line) => put_at_line(name, *line, b": number not allowed\n", notes),
+        LineFault::Memory(_) => put_memory(notes),
+    }
+}
+
+// Puts the line of a limit, by its number.
+fn put_limit<N: Sink>(which: u32, notes: &mut N) -> Result<(), PutFault>
+    ensures { Puts (N.shown notes.old) (N.shown notes.new) (limit_line which) result }
+{
+    match which {
+        1 => notes.put(b"limit: chain parts\n"),
+        2 => notes.put(b"limit: boundary bits\n"),
+        3 => notes.put(b"limit: nets\n"),
+        _ => notes.put(b"limit: pins\n"),
+    }
+}
+
+// Puts the line of a board rule that fails.
+fn put_board_fault<N: Sink>(names: Names, fault: &BoardFault, notes: &mut N) -> Result<(), PutFault>
+    ensures { Puts (N.shown notes.old) (N.shown notes.new) (board_fault_line (names_view names.entry) fault.now) result }
+{
+    let Names { chain, nets, .. } = names;
+    match fault {
+        BoardFault::NoChain => put_about(chain, b": no part in the chain\n", notes),
+        BoardFault::PartTwice(at) => put_at_line(chain, at.line, b": part twice\n", notes),
+        BoardFault::NoEntity(at) => put_at_line(chain, at.line, b": entity not given\n", notes),
+        BoardFault::EntityTwice(text) => {
+            put_about(
+                text_name(names.bsdl, *text),
+                b": entity given twice\n",
+                notes,
+            )
+        }
+        BoardFault::NoPin(at) => put_at_spot(nets, *at, b": no such pin\n", notes),
+        BoardFault::PinTwice(at) => put_at_spot(nets, *at, b": pin in two nets\n", notes),
+        BoardFault::InertInChain(at) => {
+            put_at_line(chain, at.line, b": inert part in the chain\n", notes)
+        }
+        BoardFault::NoSupplyNet(at) => {
+            put_at_line(chain, at.line, b": supply net not there\n", notes)
+        }
+        BoardFault::GuardedDriver(at) => {
+            put_at_spot(nets, *at, b": driver on a guarded net\n", notes)
+        }
+        BoardFault::TwoAlwaysOn(at) => {
+            put_at_spot(nets, *at, b": two drivers always on\n", notes)
+        }
+        BoardFault::Limit(which) => put_limit(*which, notes),
+        BoardFault::NoPullNet(at) => {
+            put_at_line(chain, at.line, b": pulled net not there\n", notes)
+        }
+        BoardFault::PullTwice(at) => put_at_line(chain, at.line, b": net pulled twice\n", notes),
+        BoardFault::Memory(_) => put_memory(notes),
+    }
+}
+
+// The name of a BSDL text, by its number from 0.
+fn text_name<'a>(names: &[&'a str], text: u32) -> &'a str
+    ensures { result.now ≡ text_name (map (λ n. n.now) names.now) text }
+{
+    match names.get(text as usize) {
+        Some(name) => name,
+        None => "",
+    }
+}
+
+/// Puts the line of the first fault of the texts.
+pub fn put_input_fault<N: Sink>(
+    names: Names,
+    fault: &InputFault,
+    notes: &mut N,
+) -> Result<(), PutFault>
+    ensures { Puts (N.shown notes.old) (N.shown notes.new) (input_fault_line (names_view names.entry) fault.now) result }
+{
+    match fault {
+        InputFault::Chain(fault) => put_line_fault(names.chain, fault, notes),
+        InputFault::Board(fault) => put_board_fault(names, fault, notes),
+        InputFault::Memory(_) => put_memory(notes),
+    }
+}
+
+/// Puts the line of a text that is too long.
+pub fn put_too_long<N: Sink>(name: &str, notes: &mut N) -> Result<(), PutFault>
+    ensures { Puts (N.shown notes.old) (N.shown notes.new) (long_line name.now) result }
+{
+    put_about(name, b": longer than 4194304 bytes\n", notes)
+}
+
+/// Puts the line of a text that was not read.
+pub fn put_not_read<N: Sink>(name: &str, notes: &mut N) -> Result<(), PutFault>
+    ensures { Puts (N.shown notes.old) (N.shown notes.new) (read_line name.now) result }
+{
+    put_all(b"cannot read ", &[name.as_bytes(), b"\n"], notes)
+}
+
+/// Puts the line of words that are no command.
+pub fn put_usage<N: Sink>(notes: &mut N) -> Result<(), PutFault>
+    ensures { Puts (N.shown notes.old) (N.shown notes.new) usage_line result }
+{
+    notes.put(
+        b"usage: btest chain, device, cover, svf, diagnose, make, ident, walk, groups or batch\n",
+    )
+}
+
+/// Puts the line of a put that failed.
+pub fn put_not_written<N: Sink>(notes: &mut N) -> Result<(), PutFault>
+    ensures { Puts (N.shown notes.old) (N.shown notes.new) write_line result }
+{
+    notes.put(b"cannot write\n")
+}
+
+/// Puts the line of want of memory.
+pub fn put_memory<N: Sink>(notes: &mut N) -> Result<(), PutFault>
+    ensures { Puts (N.shown notes.old) (N.shown notes.new) memory_line result }
+{
+    notes.put(b"out of memory\n")
+}

@@ -1,0 +1,69 @@
+-- Each grammar is decided by its reader.
+use Rattle.std.proofs.Common.{◌≡◌, ℕ, ◌<◌, List, length, ◌⊎◌, inl, inr, Option, sym, ◌∙◌, ap}
+use Rattle.grammars.specs.Turn.{Turn, again, last}
+use Rattle.grammars.specs.Grammar.{Grammar, place, done, in_turn, turns, production_of, reader_of}
+use Rattle.grammars.proofs.Exact.{Decides, decides_place, decides_done, decides_bind}
+use Rattle.grammars.proofs.Turns.{Shrinks, Keeps, keeps, decides_turns, shrinks_place, shrinks_first, shrinks_second, turns_once}
+use Rattle.grammars.specs.Reader.{Outcome, after, found, refused}
+use Rattle.grammars.specs.Reader as reader
+
+-- at least one token
+abbrev pub TakesToken : {T A : Type 0} → Grammar T A → Type 0
+TakesToken (place value) = Unit {0}
+TakesToken (done a) = ⊥
+TakesToken (in_turn {A} p q) = TakesToken p ⊎ ((a : A) → TakesToken (q a))
+TakesToken (turns turn before) = ⊥
+
+-- each turn takes a token
+abbrev pub EachTurnTakes : {T A : Type 0} → Grammar T A → Type 0
+EachTurnTakes (place value) = Unit {0}
+EachTurnTakes (done a) = Unit {0}
+EachTurnTakes (in_turn {A} p q) = EachTurnTakes p × ((a : A) → EachTurnTakes (q a))
+EachTurnTakes (turns {S} turn before) = (s : S) → TakesToken (turn s) × EachTurnTakes (turn s)
+
+pub record Read {T A : Type 0} (g : Grammar T A) : Type 0 where
+  pub decides : Decides (production_of g) (reader_of g)
+  pub shrinks : TakesToken g → Shrinks (reader_of g)
+
+pub read_grammar : {T A : Type 0} (g : Grammar T A) → EachTurnTakes g → Read g
+read_grammar (place value) h = record { decides = decides_place value; shrinks = λ k. shrinks_place value }
+read_grammar (done a) h = record { decides = decides_done a; shrinks = λ k. absurd k }
+read_grammar (in_turn p q) h = record {
+  decides = decides_bind (read_grammar p h.0).decides (λ a. (read_grammar (q a) (h.1 a)).decides);
+  shrinks = λ k. elim k [
+    | inl t ↦ shrinks_first ((read_grammar p h.0).shrinks t) (λ a. keeps (read_grammar (q a) (h.1 a)).decides)
+    | inr t ↦ shrinks_second (keeps (read_grammar p h.0).decides) (λ a. (read_grammar (q a) (h.1 a)).shrinks (t a))
+  ];
+}
+read_grammar (turns turn before) h = record {
+  decides = decides_turns (λ s. (read_grammar (turn s) (h s).1).decides) (λ s. (read_grammar (turn s) (h s).1).shrinks (h s).0) before;
+  shrinks = λ k. absurd k;
+}
+
+pub decides_grammar : {T A : Type 0} (g : Grammar T A) → EachTurnTakes g → Decides (production_of g) (reader_of g)
+decides_grammar g h = (read_grammar g h).decides
+
+-- reading any number of turns, one at a time
+pub turn_at : {T S A : Type 0} (turn : S → Grammar T (Turn S A)) → ((s : S) → TakesToken (turn s) × EachTurnTakes (turn s)) → (s : S) (tokens : List T)
+    → reader_of (turns turn s) tokens ≡ after (reader_of (turn s) tokens) (reader.follow (λ s. reader_of (turns turn s)))
+turn_at turn h s tokens = turns_once (λ s. reader_of (turn s)) (λ s. (read_grammar (turn s) (h s).1).shrinks (h s).0) s tokens
+
+-- A loop that reads one turn after another.
+pub goes_on : {T S A : Type 0} (turn : S → Grammar T (Turn S A)) → ((s : S) → TakesToken (turn s) × EachTurnTakes (turn s)) → (s s' : S) (tokens rest : List T) (outcome : Outcome T A)
+    → reader_of (turns turn s) tokens ≡ outcome → reader_of (turn s) tokens ≡ found (again s') rest → reader_of (turns turn s') rest ≡ outcome
+goes_on turn h s s' tokens rest outcome so_far e =
+    sym (ap (λ o. after o (reader.follow (λ s. reader_of (turns turn s)))) e) ∙ sym (turn_at turn h s tokens) ∙ so_far
+
+pub ends : {T S A : Type 0} (turn : S → Grammar T (Turn S A)) → ((s : S) → TakesToken (turn s) × EachTurnTakes (turn s)) → (s : S) (a : A) (tokens rest : List T) (outcome : Outcome T A)
+    → reader_of (turns turn s) tokens ≡ outcome → reader_of (turn s) tokens ≡ found (last a) rest → outcome ≡ found a rest
+ends turn h s a tokens rest outcome so_far e =
+    sym so_far ∙ turn_at turn h s tokens ∙ ap (λ o. after o (reader.follow (λ s. reader_of (turns turn s)))) e
+
+pub stops : {T S A : Type 0} (turn : S → Grammar T (Turn S A)) → ((s : S) → TakesToken (turn s) × EachTurnTakes (turn s)) → (s : S) (tokens rest : List T) (outcome : Outcome T A)
+    → reader_of (turns turn s) tokens ≡ outcome → reader_of (turn s) tokens ≡ refused rest → outcome ≡ refused rest
+stops turn h s tokens rest outcome so_far e =
+    sym so_far ∙ turn_at turn h s tokens ∙ ap (λ o. after o (reader.follow (λ s. reader_of (turns turn s)))) e
+
+pub turn_shrinks : {T S A : Type 0} (turn : S → Grammar T (Turn S A)) → ((s : S) → TakesToken (turn s) × EachTurnTakes (turn s)) → (s : S) (t : Turn S A) (tokens rest : List T)
+    → reader_of (turn s) tokens ≡ found t rest → length rest < length tokens
+turn_shrinks turn h s t tokens rest e = (read_grammar (turn s) (h s).1).shrinks (h s).0 tokens t rest e

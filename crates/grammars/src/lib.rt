@@ -1,0 +1,5 @@
+//! Grammars as data: which token lists they derive with which values, which lists begin such a
+//! list, and the law that reading from left to right decides both.
+//!
+//! The crate has definitions (`specs/`) and their laws (`proofs/`) alone.
+#![tactic(auto)]

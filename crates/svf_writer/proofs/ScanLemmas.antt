@@ -1,0 +1,151 @@
+-- Lemmas on scans and their rows.
+use Rattle.std.proofs.Common.{◌≡◌, ℕ, ◌+◌, ◌<◌, ◌≤◌, zero, suc, Bool, true, false, cond, ltb, List, [], ◌∷◌, ◌++◌, length, get_or, Option, None, Some, is_some, unwrap_or, refl, sym, ap, ◌∙◌, append_assoc, length-append, arith}
+use Rattle.std.proofs.lemmas.List.{length-map}
+use Rattle.std.proofs.lemmas.Bool.{lt-ltb, le-ltb}
+use Rattle.std.specs.Prelude.{decimal, ◌||◌, codes}
+use Rattle.std.specs.List.{list_any}
+use Rattle.bt_bits.specs.Hex.{hex_text, digit_count}
+use Rattle.bt_bits.proofs.HexLemmas.{length-hex_text}
+use Rattle.tap_defs.specs.Scan.{ScanBit, Scan, scan_bits, tdi_bits, tdo_bits, mask_bits, compares}
+use Rattle.tap_defs.specs.Text.{command_word, form, scan_text, gap, laid, compare_text}
+use Rattle.svf_writer.specs.Rows.{IsMasked, rest_text, fields_text, fields_length, fields_lines}
+
+masked_bit : (o m : Bool) → (o ≡ true → m ≡ true) → unwrap_or (cond m (Some o) None) false ≡ o
+masked_bit o true masked = refl
+masked_bit false false masked = refl
+masked_bit true false masked = let bad : false ≡ true = masked refl in absurd cc
+
+mask_bit : (o m : Bool) → is_some (cond m (Some o) None) ≡ m
+mask_bit o true = refl
+mask_bit o false = refl
+
+-- the rows of a scan that is made of rows
+pub tdi_bits-scan_bits : (tdi tdo mask : List Bool) → length tdo ≡ length tdi → length mask ≡ length tdi → tdi_bits (scan_bits tdi tdo mask) ≡ tdi
+tdi_bits-scan_bits [] tdo mask o m = refl
+tdi_bits-scan_bits (i ∷ is) [] mask o m = absurd (omega arith)
+tdi_bits-scan_bits (i ∷ is) (o' ∷ os) [] o m = absurd (omega arith)
+tdi_bits-scan_bits (i ∷ is) (o' ∷ os) (m' ∷ ms) o m = ap (λ t. i ∷ t) (tdi_bits-scan_bits is os ms (omega arith) (omega arith))
+
+pub tdo_bits-scan_bits : (tdi tdo mask : List Bool) → length tdo ≡ length tdi → length mask ≡ length tdi → IsMasked tdo mask → tdo_bits (scan_bits tdi tdo mask) ≡ tdo
+tdo_bits-scan_bits [] [] mask o m masked = refl
+tdo_bits-scan_bits [] (o' ∷ os) mask o m masked = absurd (omega arith)
+tdo_bits-scan_bits (i ∷ is) [] mask o m masked = absurd (omega arith)
+tdo_bits-scan_bits (i ∷ is) (o' ∷ os) [] o m masked = absurd (omega arith)
+tdo_bits-scan_bits (i ∷ is) (o' ∷ os) (m' ∷ ms) o m masked =
+    ap (λ b. b ∷ tdo_bits (scan_bits is os ms)) (masked_bit o' m' (masked 0))
+    ∙ ap (λ t. o' ∷ t) (tdo_bits-scan_bits is os ms (omega arith) (omega arith) (λ k. masked (suc k)))
+
+pub mask_bits-scan_bits : (tdi tdo mask : List Bool) → length tdo ≡ length tdi → length mask ≡ length tdi → mask_bits (scan_bits tdi tdo mask) ≡ mask
+mask_bits-scan_bits [] tdo [] o m = refl
+mask_bits-scan_bits [] tdo (m' ∷ ms) o m = absurd (omega arith)
+mask_bits-scan_bits (i ∷ is) [] mask o m = absurd (omega arith)
+mask_bits-scan_bits (i ∷ is) (o' ∷ os) [] o m = absurd (omega arith)
+mask_bits-scan_bits (i ∷ is) (o' ∷ os) (m' ∷ ms) o m =
+    ap (λ b. b ∷ mask_bits (scan_bits is os ms)) (mask_bit o' m') ∙ ap (λ t. m' ∷ t) (mask_bits-scan_bits is os ms (omega arith) (omega arith))
+
+-- something is compared where the mask has a 1
+pub list_any-mask_bits : (bits : List ScanBit) → list_any (λ bit. bit) (mask_bits bits) ≡ compares bits
+list_any-mask_bits [] = refl
+list_any-mask_bits (b ∷ bits) = ap (λ t. is_some b.expect || t) (list_any-mask_bits bits)
+
+expected : (expect : Option Bool) → cond (is_some expect) (Some (unwrap_or expect false)) None ≡ expect
+expected None = refl
+expected (Some o) = refl
+
+-- the scan that its rows make
+pub scan_bits-rows : (bits : List ScanBit) → scan_bits (tdi_bits bits) (tdo_bits bits) (mask_bits bits) ≡ bits
+scan_bits-rows [] = refl
+scan_bits-rows (b ∷ bits) =
+    ap (λ (e : Option Bool). (let bit : ScanBit = record { tdi = b.tdi; expect = e } in bit) ∷ scan_bits (tdi_bits bits) (tdo_bits bits) (mask_bits bits)) (expected b.expect)
+    ∙ ap (λ t. b ∷ t) (scan_bits-rows bits)
+
+one_expected : (expect : Option Bool) → unwrap_or expect false ≡ true → is_some expect ≡ true
+one_expected None one = one
+one_expected (Some o) one = refl
+
+pub IsMasked-rows : (bits : List ScanBit) → IsMasked (tdo_bits bits) (mask_bits bits)
+IsMasked-rows [] i one = one
+IsMasked-rows (b ∷ bits) zero one = one_expected b.expect one
+IsMasked-rows (b ∷ bits) (suc i) one = IsMasked-rows bits i one
+
+pub compares-scan_bits : (tdi tdo mask : List Bool) → length tdo ≡ length tdi → length mask ≡ length tdi → compares (scan_bits tdi tdo mask) ≡ list_any (λ bit. bit) mask
+compares-scan_bits tdi tdo mask o m = sym (list_any-mask_bits (scan_bits tdi tdo mask)) ∙ ap (list_any (λ bit. bit)) (mask_bits-scan_bits tdi tdo mask o m)
+
+pub length-scan_bits : (tdi tdo mask : List Bool) → length tdo ≡ length tdi → length mask ≡ length tdi → length (scan_bits tdi tdo mask) ≡ length tdi
+length-scan_bits tdi tdo mask o m = sym (length-map (scan_bits tdi tdo mask) (λ b. b.tdi)) ∙ ap length (tdi_bits-scan_bits tdi tdo mask o m)
+
+-- what a scan of rows is written from
+pub record Written (tdi tdo mask : List Bool) (compare : Bool) : Type 0 where
+  pub same_tdo : length tdo ≡ length tdi
+  pub same_mask : length mask ≡ length tdi
+  pub compared : compare ≡ list_any (λ bit. bit) mask
+  pub masked : IsMasked tdo mask
+
+compare_text-rows : (long : Bool) (tdi tdo mask : List Bool) (compare : Bool) → Written tdi tdo mask compare → compare_text long (scan_bits tdi tdo mask) compare ≡ rest_text long tdo mask compare
+compare_text-rows long tdi tdo mask false w = refl
+compare_text-rows long tdi tdo mask true w =
+    ap (λ t. 41 ∷ gap long ∷ codes "TDO (" ++ (laid long (hex_text t) ++ (41 ∷ gap long ∷ codes "MASK (" ++ (laid long (hex_text (mask_bits (scan_bits tdi tdo mask))) ++ codes ");"))))
+    (tdo_bits-scan_bits tdi tdo mask w.same_tdo w.same_mask w.masked)
+    ∙ ap (λ t. 41 ∷ gap long ∷ codes "TDO (" ++ (laid long (hex_text tdo) ++ (41 ∷ gap long ∷ codes "MASK (" ++ (laid long (hex_text t) ++ codes ");"))))
+    (mask_bits-scan_bits tdi tdo mask w.same_tdo w.same_mask)
+
+-- the scan of rows
+abbrev pub scan_of : Bool → List Bool → List Bool → List Bool → Scan
+scan_of ir tdi tdo mask = record { ir = ir; bits = scan_bits tdi tdo mask }
+
+-- how its text begins
+abbrev pub head_of : Bool → List Bool → List ℕ
+head_of ir tdi = command_word ir ++ 32 ∷ decimal (length tdi)
+
+form-rows : (long ir : Bool) (tdi tdo mask : List Bool) (compare : Bool) → Written tdi tdo mask compare → form long (scan_of ir tdi tdo mask) ≡ head_of ir tdi ++ fields_text long tdi tdo mask compare
+form-rows long ir tdi tdo mask compare w =
+    let bits = scan_bits tdi tdo mask in
+    ap (λ n. command_word ir ++ (32 ∷ decimal n ++ (gap long ∷ codes "TDI (" ++ (laid long (hex_text (tdi_bits bits)) ++ compare_text long bits (compares bits))))) (length-scan_bits tdi tdo mask w.same_tdo w.same_mask)
+    ∙ ap (λ t. command_word ir ++ (32 ∷ decimal (length tdi) ++ (gap long ∷ codes "TDI (" ++ (laid long (hex_text t) ++ compare_text long bits (compares bits))))) (tdi_bits-scan_bits tdi tdo mask w.same_tdo w.same_mask)
+    ∙ ap (λ c. command_word ir ++ (32 ∷ decimal (length tdi) ++ (gap long ∷ codes "TDI (" ++ (laid long (hex_text tdi) ++ compare_text long bits c)))) (compares-scan_bits tdi tdo mask w.same_tdo w.same_mask ∙ sym w.compared)
+    ∙ ap (λ t. command_word ir ++ (32 ∷ decimal (length tdi) ++ (gap long ∷ codes "TDI (" ++ (laid long (hex_text tdi) ++ t)))) (compare_text-rows long tdi tdo mask compare w)
+    ∙ sym (append_assoc (command_word ir) (32 ∷ decimal (length tdi)) (fields_text long tdi tdo mask compare))
+
+length-fields_text : (tdi tdo mask : List Bool) (compare : Bool) → Written tdi tdo mask compare → length (fields_text false tdi tdo mask compare) ≡ fields_length compare (digit_count (length tdi))
+length-fields_text tdi tdo mask true w =
+    simp length-append (omega (arith, length-hex_text tdi, length-hex_text tdo, length-hex_text mask, ap digit_count w.same_tdo, ap digit_count w.same_mask))
+length-fields_text tdi tdo mask false w = simp length-append (omega (arith, length-hex_text tdi))
+
+length-form : (ir : Bool) (tdi tdo mask : List Bool) (compare : Bool) → Written tdi tdo mask compare → length (form false (scan_of ir tdi tdo mask)) ≡ length (head_of ir tdi) + fields_length compare (digit_count (length tdi))
+length-form ir tdi tdo mask compare w =
+    ap length (form-rows false ir tdi tdo mask compare w) ∙ length-append (head_of ir tdi) (fields_text false tdi tdo mask compare)
+    ∙ ap (λ n. length (head_of ir tdi) + n) (length-fields_text tdi tdo mask compare w)
+
+fields_text-lines : (tdi tdo mask : List Bool) (compare : Bool) → fields_text true tdi tdo mask compare ++ 10 ∷ [] ≡ 10 ∷ fields_lines tdi tdo mask compare
+fields_text-lines tdi tdo mask true = simp append_assoc
+fields_text-lines tdi tdo mask false = simp append_assoc
+
+-- a scan that has room in one line
+pub scan_text-short : (ir : Bool) (tdi tdo mask : List Bool) (compare : Bool) → Written tdi tdo mask compare → length (head_of ir tdi) + fields_length compare (digit_count (length tdi)) ≤ 80 → scan_text (scan_of ir tdi tdo mask) ≡ head_of ir tdi ++ (fields_text false tdi tdo mask compare ++ 10 ∷ [])
+scan_text-short ir tdi tdo mask compare w short =
+    let fits : ltb 80 (length (form false (scan_of ir tdi tdo mask))) ≡ false =
+    ap (ltb 80) (length-form ir tdi tdo mask compare w) ∙ le-ltb 80 (length (head_of ir tdi) + fields_length compare (digit_count (length tdi))) short in
+    ap (λ long. form long (scan_of ir tdi tdo mask) ++ 10 ∷ []) fits
+    ∙ ap (λ t. t ++ 10 ∷ []) (form-rows false ir tdi tdo mask compare w)
+    ∙ append_assoc (head_of ir tdi) (fields_text false tdi tdo mask compare) (10 ∷ [])
+
+-- a longer scan
+pub scan_text-long : (ir : Bool) (tdi tdo mask : List Bool) (compare : Bool) → Written tdi tdo mask compare → 80 < length (head_of ir tdi) + fields_length compare (digit_count (length tdi)) → scan_text (scan_of ir tdi tdo mask) ≡ (head_of ir tdi ++ 10 ∷ []) ++ fields_lines tdi tdo mask compare
+scan_text-long ir tdi tdo mask compare w more =
+    let long : ltb 80 (length (form false (scan_of ir tdi tdo mask))) ≡ true =
+    ap (ltb 80) (length-form ir tdi tdo mask compare w) ∙ lt-ltb 80 (length (head_of ir tdi) + fields_length compare (digit_count (length tdi))) more in
+    ap (λ long. form long (scan_of ir tdi tdo mask) ++ 10 ∷ []) long
+    ∙ ap (λ t. t ++ 10 ∷ []) (form-rows true ir tdi tdo mask compare w)
+    ∙ append_assoc (head_of ir tdi) (fields_text true tdi tdo mask compare) (10 ∷ [])
+    ∙ ap (λ t. head_of ir tdi ++ t) (fields_text-lines tdi tdo mask compare)
+    ∙ sym (append_assoc (head_of ir tdi) (10 ∷ []) (fields_lines tdi tdo mask compare))
+
+-- rows that hold the bits of a scan make that scan, and are masked
+pub scan_of_rows : (bits : List ScanBit) (tdi tdo mask : List Bool) → tdi ≡ tdi_bits bits → tdo ≡ tdo_bits bits → mask ≡ mask_bits bits → scan_bits tdi tdo mask ≡ bits
+scan_of_rows bits tdi tdo mask is_tdi is_tdo is_mask =
+    ap (λ t. scan_bits t tdo mask) is_tdi ∙ ap (λ t. scan_bits (tdi_bits bits) t mask) is_tdo ∙ ap (scan_bits (tdi_bits bits) (tdo_bits bits)) is_mask
+    ∙ scan_bits-rows bits
+
+pub masked_rows : (bits : List ScanBit) (tdo mask : List Bool) → tdo ≡ tdo_bits bits → mask ≡ mask_bits bits → IsMasked tdo mask
+masked_rows bits tdo mask is_tdo is_mask i one =
+    ap (λ t. get_or t i false) is_mask ∙ IsMasked-rows bits i (sym (ap (λ t. get_or t i false) is_tdo) ∙ one)

@@ -1,0 +1,22 @@
+-- The bits of the two scans of the chain test.
+use Rattle.std.specs.Prelude.{ℕ, ◌+◌, ◌≤◌, Bool, true, false, List, ◌++◌, length, map, replicate, slice_set, sum}
+use Rattle.tap_defs.specs.Scan.{ScanBit}
+use Rattle.tap_defs.specs.Codes.{instructs}
+use Rattle.tap_defs.specs.ChainScans.{marks, compared}
+
+-- room for both scans of parts with these instruction lengths
+pub record IsRoom (lengths : List ℕ) (room : ℕ) : Type 0 where
+  pub codes : sum lengths ≤ room
+  pub marks : length lengths + 8 ≤ room
+
+-- the code of ones, BYPASS, for each part
+abbrev pub bypass_bits : List ℕ → List ScanBit
+bypass_bits lengths = (instructs (map (λ n. replicate n true) lengths)).bits
+
+-- the marks, which leave as many positions later as there are parts
+abbrev pub mark_bits : ℕ → List ScanBit
+mark_bits parts = compared (marks ++ replicate parts false) (replicate parts false ++ marks)
+
+-- the marks are set from a place on
+abbrev pub marked : ℕ → List Bool → List Bool
+marked at bits = slice_set (slice_set (slice_set (slice_set bits at true) (at + 2) true) (at + 5) true) (at + 7) true

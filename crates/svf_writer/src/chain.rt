@@ -1,0 +1,205 @@
+// The text of the chain test.
+ghost use Rattle.std.specs.Prelude.{◌≡◌, ◌+◌, ◌<◌, ◌≤◌, true, false, length, sum, replicate, slice_set, All};
+ghost use Rattle.bt_base.specs.Puts.{Puts};
+ghost use Rattle.tap_defs.specs.Scan.{tdi_bits, tdo_bits, mask_bits};
+ghost use Rattle.tap_defs.specs.Text.{scan_text, scan_texts};
+ghost use Rattle.tap_defs.specs.ChainScans.{chain_scans};
+ghost use Rattle.svf_writer.specs.Chain.{bypass_bits, mark_bits, marked, IsRoom};
+
+use crate::write_scan;
+use bt_base::{PutFault, Sink};
+use bt_bits::{Line, Row};
+use tap_defs::Shape;
+
+// How many bits the marks of the data scan have.
+const MARKS: u32 = 8;
+
+// Makes a row so many ones.
+fn fill_ones(len: u32, row: &mut Row)
+    requires { len ≤ row.old.room }
+    ensures bits { row.new.bits ≡ replicate len true }
+    ensures room { row.new.room ≡ row.old.room }
+{
+    row.clear(len);
+    for at in 0..len {
+        row.set(at, true);
+    }
+}
+
+// Sets the marks, A5, from a place on.
+fn set_marks(at: u32, row: &mut Row)
+    requires few { at ≤ 255 }
+    requires bits { at + 8 ≤ length row.old.bits }
+    ensures bits { row.new.bits ≡ marked at row.old.bits }
+    ensures room { row.new.room ≡ row.old.room }
+{
+    row.set(at, true);
+    row.set(at + 2, true);
+    row.set(at + 5, true);
+    row.set(at + 7, true);
+}
+
+// Fills the rows of the data scan of so many parts: the marks are shifted in, and come out as many places later.
+fn fill_marks(parts: u32, tdi: &mut Row, tdo: &mut Row, mask: &mut Row)
+    requires few { parts ≤ 255 }
+    requires tdi_room { parts + 8 ≤ tdi.old.room }
+    requires tdo_room { parts + 8 ≤ tdo.old.room }
+    requires mask_room { parts + 8 ≤ mask.old.room }
+    ensures tdi { tdi.new.bits ≡ tdi_bits (mark_bits parts) }
+    ensures tdo { tdo.new.bits ≡ tdo_bits (mark_bits parts) }
+    ensures mask { mask.new.bits ≡ mask_bits (mark_bits parts) }
+    ensures tdi_kept { tdi.new.room ≡ tdi.old.room }
+    ensures tdo_kept { tdo.new.room ≡ tdo.old.room }
+    ensures mask_kept { mask.new.room ≡ mask.old.room }
+{
+    tdi.clear(parts + MARKS);
+    set_marks(0, tdi);
+    tdo.clear(parts + MARKS);
+    set_marks(parts, tdo);
+    fill_ones(parts + MARKS, mask);
+}
+
+// Sets what is compared of one part's instruction, whose lowest bit has this position: 01 in the two lowest bits.
+fn set_capture(at: u32, tdo: &mut Row, mask: &mut Row)
+    requires few { at ≤ 65535 }
+    requires tdo { at < length tdo.old.bits }
+    requires mask { at + 1 < length mask.old.bits }
+    ensures tdo { tdo.new.bits ≡ slice_set tdo.old.bits at true }
+    ensures mask { mask.new.bits ≡ slice_set (slice_set mask.old.bits at true) (at + 1) true }
+    ensures tdo_kept { tdo.new.room ≡ tdo.old.room }
+    ensures mask_kept { mask.new.room ≡ mask.old.room }
+{
+    tdo.set(at, true);
+    mask.set(at, true);
+    mask.set(at + 1, true);
+}
+
+// Sets what is compared of the parts' instructions, the last part's first.
+fn set_captures(lengths: &[u32], tdo: &mut Row, mask: &mut Row)
+    requires each { All (λ n. 2 ≤ n) lengths.now }
+    requires total { sum lengths.now ≤ 65535 }
+    requires tdo { tdo.old.bits ≡ replicate (sum lengths.now) false }
+    requires mask { mask.old.bits ≡ replicate (sum lengths.now) false }
+    ensures tdo { tdo.new.bits ≡ tdo_bits (bypass_bits lengths.now) }
+    ensures mask { mask.new.bits ≡ mask_bits (bypass_bits lengths.now) }
+    ensures tdo_kept { tdo.new.room ≡ tdo.old.room }
+    ensures mask_kept { mask.new.room ≡ mask.old.room }
+{
+    let mut at = 0;
+    for i in (0..lengths.len()).rev() {
+        set_capture(at, tdo, mask);
+        at += lengths[i];
+    }
+}
+
+// How many instruction bits the parts have.
+fn bits_of(lengths: &[u32]) -> u32
+    requires { sum lengths.now ≤ 65535 }
+    ensures { result ≡ sum lengths.now }
+{
+    lengths.iter().sum()
+}
+
+// Fills the rows of the instruction scan: ones are shifted in, and 01 comes out of each part.
+fn fill_codes(lengths: &[u32], tdi: &mut Row, tdo: &mut Row, mask: &mut Row)
+    requires each { All (λ n. 2 ≤ n) lengths.now }
+    requires total { sum lengths.now ≤ 65535 }
+    requires tdi_room { sum lengths.now ≤ tdi.old.room }
+    requires tdo_room { sum lengths.now ≤ tdo.old.room }
+    requires mask_room { sum lengths.now ≤ mask.old.room }
+    ensures tdi { tdi.new.bits ≡ tdi_bits (bypass_bits lengths.now) }
+    ensures tdo { tdo.new.bits ≡ tdo_bits (bypass_bits lengths.now) }
+    ensures mask { mask.new.bits ≡ mask_bits (bypass_bits lengths.now) }
+    ensures tdi_kept { tdi.new.room ≡ tdi.old.room }
+    ensures tdo_kept { tdo.new.room ≡ tdo.old.room }
+    ensures mask_kept { mask.new.room ≡ mask.old.room }
+{
+    let total = bits_of(lengths);
+    fill_ones(total, tdi);
+    tdo.clear(total);
+    mask.clear(total);
+    set_captures(lengths, tdo, mask);
+}
+
+// Puts the instruction scan.
+fn write_codes<K: Sink>(
+    lengths: &[u32],
+    tdi: &mut Row,
+    tdo: &mut Row,
+    mask: &mut Row,
+    line: &mut Line,
+    out: &mut K,
+) -> Result<(), PutFault>
+    requires some { 0 < length lengths.now }
+    requires each { All (λ n. 2 ≤ n) lengths.now }
+    requires total { sum lengths.now ≤ 65535 }
+    requires tdi_room { sum lengths.now ≤ tdi.old.room }
+    requires tdo_room { sum lengths.now ≤ tdo.old.room }
+    requires mask_room { sum lengths.now ≤ mask.old.room }
+    ensures text { Puts (K.shown out.old) (K.shown out.new)
+        (scan_text (record { ir = true; bits = bypass_bits lengths.now })) result }
+    ensures tdi { tdi.new.room ≡ tdi.old.room }
+    ensures tdo { tdo.new.room ≡ tdo.old.room }
+    ensures mask { mask.new.room ≡ mask.old.room }
+{
+    fill_codes(lengths, tdi, tdo, mask);
+    let shape = Shape {
+        ir: true,
+        compare: true,
+    };
+    write_scan(shape, tdi, tdo, mask, line, out)
+}
+
+// Puts the data scan of so many parts.
+fn write_marks<K: Sink>(
+    parts: u32,
+    tdi: &mut Row,
+    tdo: &mut Row,
+    mask: &mut Row,
+    line: &mut Line,
+    out: &mut K,
+) -> Result<(), PutFault>
+    requires few { parts ≤ 255 }
+    requires tdi_room { parts + 8 ≤ tdi.old.room }
+    requires tdo_room { parts + 8 ≤ tdo.old.room }
+    requires mask_room { parts + 8 ≤ mask.old.room }
+    ensures text { Puts (K.shown out.old) (K.shown out.new)
+        (scan_text (record { ir = false; bits = mark_bits parts })) result }
+    ensures tdi { tdi.new.room ≡ tdi.old.room }
+    ensures tdo { tdo.new.room ≡ tdo.old.room }
+    ensures mask { mask.new.room ≡ mask.old.room }
+{
+    fill_marks(parts, tdi, tdo, mask);
+    let shape = Shape {
+        ir: false,
+        compare: true,
+    };
+    write_scan(shape, tdi, tdo, mask, line, out)
+}
+
+/// Puts the two scans of the chain test of parts with these instruction lengths, in the order from TDI to TDO. The
+/// first shifts ones, BYPASS, into every instruction register and compares the 01 that each loads in Capture-IR. The
+/// second shifts A5 through the bypass registers and compares it as many positions later as there are parts. There are
+/// 1 to 255 parts with lengths from 2 to 255, and the rows have room for both scans. No memory is taken.
+pub fn write_chain<K: Sink>(
+    lengths: &[u32],
+    tdi: &mut Row,
+    tdo: &mut Row,
+    mask: &mut Row,
+    line: &mut Line,
+    out: &mut K,
+) -> Result<(), PutFault>
+    requires some { 0 < length lengths.now }
+    requires parts { length lengths.now ≤ 255 }
+    requires each { All (λ n. (2 ≤ n) × (n ≤ 255)) lengths.now }
+    requires tdi_room { IsRoom lengths.now tdi.old.room }
+    requires tdo_room { IsRoom lengths.now tdo.old.room }
+    requires mask_room { IsRoom lengths.now mask.old.room }
+    ensures text { Puts (K.shown out.old) (K.shown out.new) (scan_texts (chain_scans lengths.now)) result }
+    ensures tdi { tdi.new.room ≡ tdi.old.room }
+    ensures tdo { tdo.new.room ≡ tdo.old.room }
+    ensures mask { mask.new.room ≡ mask.old.room }
+{
+    write_codes(lengths, tdi, tdo, mask, line, out)?;
+    write_marks(lengths.len() as u32, tdi, tdo, mask, line, out)
+}

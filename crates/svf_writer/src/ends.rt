@@ -1,0 +1,24 @@
+// The lines before and after the scans of a text.
+ghost use Rattle.bt_base.specs.Puts.{Puts};
+ghost use Rattle.tap_defs.specs.Text.{head_text, tail_text};
+
+use bt_base::{PutFault, Sink};
+
+/// Puts the lines that stand before the scans: TRST* is not driven, a scan ends in Run-Test/Idle, and the test begins
+/// there after a reset.
+pub fn write_head<K: Sink>(out: &mut K) -> Result<(), PutFault>
+    ensures { Puts (K.shown out.old) (K.shown out.new) head_text result }
+{
+    out.put(b"TRST OFF;\n")?;
+    out.put(b"ENDIR IDLE;\n")?;
+    out.put(b"ENDDR IDLE;\n")?;
+    out.put(b"STATE RESET;\n")?;
+    out.put(b"STATE IDLE;\n")
+}
+
+/// Puts the line that stands after the scans: a reset.
+pub fn write_tail<K: Sink>(out: &mut K) -> Result<(), PutFault>
+    ensures { Puts (K.shown out.old) (K.shown out.new) tail_text result }
+{
+    out.put(b"STATE RESET;\n")
+}

@@ -1,0 +1,13 @@
+//! The text of scans in the Serial Vector Format, Revision E.
+#![tactic(auto)]
+
+mod chain;
+mod ends;
+mod scan;
+
+pub use chain::write_chain;
+pub use ends::{write_head, write_tail};
+pub use scan::write_scan;
+
+#[cfg(test)]
+mod tests;

@@ -1,0 +1,214 @@
+// The text of one scan.
+ghost use Rattle.std.specs.Prelude.{◌≡◌, ◌+◌, ◌*◌, ◌<◌, ◌≤◌, [], ◌∷◌, ◌++◌, true, false, length, take, drop, decimal};
+ghost use Rattle.std.specs.List.{list_any};
+ghost use Rattle.bt_base.specs.Puts.{Puts};
+ghost use Rattle.bt_bits.specs.Hex.{hex_text, digit_count};
+ghost use Rattle.tap_defs.specs.Scan.{scan_bits};
+ghost use Rattle.tap_defs.specs.Text.{command_word, broken, scan_text};
+ghost use Rattle.svf_writer.specs.Rows.{IsMasked, fields_text, fields_length, fields_lines};
+
+use bt_base::{PutFault, Sink};
+use bt_bits::{Line, Row};
+use tap_defs::Shape;
+
+// How many characters a scan in one line has at most.
+const MAX_SHORT: usize = 80;
+
+// How many digits a line of a longer scan has at most.
+const LINE_DIGITS: u32 = 64;
+
+#[tactic(auto, using(bt_bits::proofs::DecimalLemmas::decimal_is_short))]
+// Begins a line with the command and the length of a scan.
+fn begin(ir: bool, len: u32, line: &mut Line)
+    ensures text { line.new ≡ command_word ir ++ 32 ∷ decimal len }
+    ensures short { length line.new ≤ 24 }
+{
+    line.clear();
+    line.push(if ir { b"SIR " } else { b"SDR " });
+    line.push_number(u64::from(len));
+}
+
+// How many digits a row's field has.
+fn digit_count(row: &Row) -> u32
+    requires { length row.now.bits ≤ 65535 }
+    ensures { result ≡ digit_count (length row.now.bits) }
+{
+    row.len().div_ceil(4)
+}
+
+// Appends a field's label and its digits.
+fn push_field(label: &[u8], row: &Row, line: &mut Line)
+    requires bits { length row.now.bits ≤ 65535 }
+    requires room { length line.old + length label.now + digit_count (length row.now.bits) ≤ 1024 }
+    ensures text { line.new ≡ line.old ++ (label.now ++ hex_text row.now.bits) }
+    ensures longer { length line.new ≡ length line.old + length label.now + digit_count (length row.now.bits) }
+{
+    line.push(label);
+    row.put_hex(0, digit_count(row), line);
+}
+
+// Ends the line of a scan with its fields.
+fn push_fields(compare: bool, tdi: &Row, tdo: &Row, mask: &Row, line: &mut Line)
+    requires bits { length tdi.now.bits ≤ 65535 }
+    requires tdo { length tdo.now.bits ≡ length tdi.now.bits }
+    requires mask { length mask.now.bits ≡ length tdi.now.bits }
+    requires room { length line.old + 3 * digit_count (length tdi.now.bits) ≤ 1000 }
+    ensures { line.new ≡ line.old ++ (fields_text false tdi.now.bits tdo.now.bits mask.now.bits compare ++ 10 ∷ []) }
+{
+    push_field(b" TDI (", tdi, line);
+    if compare {
+        push_field(b") TDO (", tdo, line);
+        push_field(b") MASK (", mask, line);
+    }
+    line.push(b");\n");
+}
+
+// How long the fields of a scan are in one line.
+fn fields_length(compare: bool, digits: u32) -> usize
+    requires { digits ≤ 65535 }
+    ensures { result ≡ fields_length compare digits }
+{
+    let digits = digits as usize;
+    if compare {
+        b" TDI () TDO () MASK ();".len() + 3 * digits
+    } else {
+        b" TDI ();".len() + digits
+    }
+}
+
+// Ends a line with as many digits as it has room for, puts it, and leaves it empty.
+fn put_full_line<K: Sink>(
+    row: &Row,
+    from: u32,
+    line: &mut Line,
+    out: &mut K,
+) -> Result<(), PutFault>
+    requires digits { from + 64 ≤ digit_count (length row.now.bits) }
+    requires room { length line.old ≤ 6 }
+    ensures text { Puts (K.shown out.old) (K.shown out.new)
+        (line.old ++ (take 64 (drop from (hex_text row.now.bits)) ++ 10 ∷ [])) result }
+    ensures empty { line.new ≡ [] }
+{
+    row.put_hex(from, LINE_DIGITS, line);
+    line.push(b"\n");
+    let done = out.put(line.bytes());
+    line.clear();
+    done
+}
+
+// Puts a field in lines: a label, digits in lines of 64, and an end.
+fn put_field<K: Sink>(
+    label: &[u8],
+    row: &Row,
+    end: &[u8],
+    line: &mut Line,
+    out: &mut K,
+) -> Result<(), PutFault>
+    requires bits { length row.now.bits ≤ 65535 }
+    requires label { length label.now ≤ 6 }
+    requires end { length end.now ≤ 3 }
+    ensures { Puts (K.shown out.old) (K.shown out.new) (label.now ++ (broken 64 (hex_text row.now.bits) ++ end.now)) result }
+{
+    let count = digit_count(row);
+    let mut from = 0;
+    line.clear();
+    line.push(label);
+    while count - from > LINE_DIGITS {
+        put_full_line(row, from, line, out)?;
+        from += LINE_DIGITS;
+    }
+    row.put_hex(from, count - from, line);
+    line.push(end);
+    out.put(line.bytes())
+}
+
+// Puts the fields of a scan that is compared, each in lines of its own.
+fn put_compared<K: Sink>(
+    tdi: &Row,
+    tdo: &Row,
+    mask: &Row,
+    line: &mut Line,
+    out: &mut K,
+) -> Result<(), PutFault>
+    requires bits { length tdi.now.bits ≤ 65535 }
+    requires tdo { length tdo.now.bits ≡ length tdi.now.bits }
+    requires mask { length mask.now.bits ≡ length tdi.now.bits }
+    ensures { Puts (K.shown out.old) (K.shown out.new)
+        (fields_lines tdi.now.bits tdo.now.bits mask.now.bits true) result }
+{
+    put_field(b"TDI (", tdi, b")\n", line, out)?;
+    put_field(b"TDO (", tdo, b")\n", line, out)?;
+    put_field(b"MASK (", mask, b");\n", line, out)
+}
+
+// Puts the fields of a scan, each in lines of its own.
+fn put_fields<K: Sink>(
+    compare: bool,
+    tdi: &Row,
+    tdo: &Row,
+    mask: &Row,
+    line: &mut Line,
+    out: &mut K,
+) -> Result<(), PutFault>
+    requires bits { length tdi.now.bits ≤ 65535 }
+    requires tdo { length tdo.now.bits ≡ length tdi.now.bits }
+    requires mask { length mask.now.bits ≡ length tdi.now.bits }
+    ensures { Puts (K.shown out.old) (K.shown out.new)
+        (fields_lines tdi.now.bits tdo.now.bits mask.now.bits compare) result }
+{
+    if compare {
+        put_compared(tdi, tdo, mask, line, out)
+    } else {
+        put_field(b"TDI (", tdi, b");\n", line, out)
+    }
+}
+
+// Puts the line of a longer scan's command, and then its fields.
+fn put_lines<K: Sink>(
+    compare: bool,
+    tdi: &Row,
+    tdo: &Row,
+    mask: &Row,
+    line: &mut Line,
+    out: &mut K,
+) -> Result<(), PutFault>
+    requires bits { length tdi.now.bits ≤ 65535 }
+    requires tdo { length tdo.now.bits ≡ length tdi.now.bits }
+    requires mask { length mask.now.bits ≡ length tdi.now.bits }
+    requires room { length line.old ≤ 24 }
+    ensures { Puts (K.shown out.old) (K.shown out.new)
+        ((line.old ++ 10 ∷ []) ++ fields_lines tdi.now.bits tdo.now.bits mask.now.bits compare) result }
+{
+    line.push(b"\n");
+    out.put(line.bytes())?;
+    put_fields(compare, tdi, tdo, mask, line, out)
+}
+
+/// Puts the statement of a scan, in one line where that has at most 80 characters, and else each field in lines of
+/// at most 64 digits (SVF Revision E, SIR and SDR). The rows have one length, from 1 to 65,535, and `shape.compare`
+/// says whether the mask has a 1. Each line goes out in one put, and no memory is taken.
+pub fn write_scan<K: Sink>(
+    shape: Shape,
+    tdi: &Row,
+    tdo: &Row,
+    mask: &Row,
+    line: &mut Line,
+    out: &mut K,
+) -> Result<(), PutFault>
+    requires some { 0 < length tdi.now.bits }
+    requires bits { length tdi.now.bits ≤ 65535 }
+    requires tdo { length tdo.now.bits ≡ length tdi.now.bits }
+    requires mask { length mask.now.bits ≡ length tdi.now.bits }
+    requires compare { shape.compare ≡ list_any (λ bit. bit) mask.now.bits }
+    requires masked { IsMasked tdo.now.bits mask.now.bits }
+    ensures { Puts (K.shown out.old) (K.shown out.new)
+        (scan_text (record { ir = shape.ir; bits = scan_bits tdi.now.bits tdo.now.bits mask.now.bits })) result }
+{
+    begin(shape.ir, tdi.len(), line);
+    if line.len() + fields_length(shape.compare, digit_count(tdi)) <= MAX_SHORT {
+        push_fields(shape.compare, tdi, tdo, mask, line);
+        out.put(line.bytes())
+    } else {
+        put_lines(shape.compare, tdi, tdo, mask, line, out)
+    }
+}

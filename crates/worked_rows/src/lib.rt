@@ -1,0 +1,7 @@
+//! Worked examples of whole runs, through the top call.
+#![tactic(auto)]
+
+#[cfg(test)]
+mod chain;
+#[cfg(test)]
+mod runs;

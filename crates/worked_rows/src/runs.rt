@@ -1,0 +1,49 @@
+// One run on texts and sinks in memory, and what it left.
+use bt_base::{MemSink, MemStore, OpenGate};
+use btest_cli::{Status, run};
+use std::alloc::{AllocError, Global};
+
+/// What a run is given, and what it left.
+pub struct Bench {
+    pub store: MemStore,
+    pub out: MemSink,
+    pub notes: MemSink,
+}
+
+impl Bench {
+    /// A store that holds these texts, and sinks with ample room.
+    pub fn with_texts(alloc: Global, texts: &[(&str, &[u8])]) -> Result<Bench, AllocError> {
+        let mut store = MemStore::new(alloc);
+        for (name, bytes) in texts {
+            store.add(name, bytes)?;
+        }
+        Ok(Bench {
+            store,
+            out: MemSink::with_room(alloc, 100_000)?,
+            notes: MemSink::with_room(alloc, 1_000)?,
+        })
+    }
+
+    /// Runs a command line, whose words are separated by spaces.
+    pub fn run(&mut self, rt: &HostRuntime, line: &str) -> Result<Status, AllocError> {
+        let alloc = rt.alloc();
+        let mut words = Vec::new(alloc);
+        for word in line.split(' ') {
+            words.push(String::from_str(alloc, word)?)?;
+        }
+        Ok(self.run_words(rt, &words))
+    }
+
+    /// Runs the words of a command line.
+    pub fn run_words(&mut self, rt: &HostRuntime, words: &[String]) -> Status {
+        run(
+            rt,
+            rt.alloc(),
+            words,
+            &mut self.store,
+            &mut self.out,
+            &mut self.notes,
+            &OpenGate,
+        )
+    }
+}
