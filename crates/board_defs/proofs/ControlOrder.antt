@@ -31,9 +31,6 @@ precedes_trans a b c h k = grind (arith, nat_tests)
 precedes_or : (a b : Ctl) → precedes a b ≡ false → same_ctl b a ≡ false → precedes b a ≡ true
 precedes_or a b h k = grind (arith, nat_tests)
 
-some_same : (x y : Ctl) → Some x ≡ Some y → x ≡ y
-some_same x y h = cc h
-
 order_head : (d : Ctl) (list : List Ctl) → IsInControlOrder (d ∷ list) → All (λ e. IsTrue (precedes d e)) list
 order_head d list h k e less = h 0 (suc k) e (omega arith) (omega arith)
 

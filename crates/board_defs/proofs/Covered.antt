@@ -95,7 +95,7 @@ tested_driver_of board s n net place rules safe en o =
       λ c h. k.1 c (ap (λ w. needed w c) (sym at_place) ∙ h),
     )
 
-drives_pin : (board : RawBoard) (net : Net) (pin : Option NetPin) → can_enable board (drive_in board net pin) ≡ true → (p : NetPin) × (pin ≡ Some p)
+pub drives_pin : (board : RawBoard) (net : Net) (pin : Option NetPin) → can_enable board (drive_in board net pin) ≡ true → (p : NetPin) × (pin ≡ Some p)
 drives_pin board net None h = cc h
 drives_pin board net (Some p) h = (p, refl)
 

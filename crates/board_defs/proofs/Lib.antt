@@ -15,3 +15,6 @@ pub mod SingleFaults
 mod Checks
 mod DeviceChecks
 mod BoardChecks
+pub mod CodeLemmas
+pub mod Ordered
+pub mod PassWords

@@ -117,7 +117,7 @@ pub driver_pass_together : (board : RawBoard) (useful : List Ctl) (passes : List
 driver_pass_together board useful passes d rules safe h = second_walk_together board useful (first_walk board useful passes (with_driver [] d)) rules safe (first_walk_together board useful passes (with_driver [] d) rules safe (start_together board d rules h))
 
 -- the two drivers of a pair
-both_together : (board : RawBoard) (d e : Drive) → IsBoard board → are_compatible board (Some d) (Some e) ≡ true → AllTogether board (with_driver (with_driver [] d) e)
+pub both_together : (board : RawBoard) (d e : Drive) → IsBoard board → are_compatible board (Some d) (Some e) ≡ true → AllTogether board (with_driver (with_driver [] d) e)
 both_together board OneSided e rules h = cc h
 both_together board AlwaysOn e rules h = start_together board e rules h
 both_together board (By c) OneSided rules h = cc h
@@ -133,12 +133,12 @@ pub pair_pass_together : (board : RawBoard) (useful : List Ctl) (pair : Drive ×
 pair_pass_together board useful pair rules safe h = second_walk_together board useful (with_driver (with_driver [] pair.0) pair.1) rules safe (both_together board pair.0 pair.1 rules h)
 
 -- a pass enables the drivers that it was made for
-with_enables : (s : List Ctl) (d : Drive) (board : RawBoard) → can_enable board (Some d) ≡ true → is_enabled (with_driver s d) d ≡ true
+pub with_enables : (s : List Ctl) (d : Drive) (board : RawBoard) → can_enable board (Some d) ≡ true → is_enabled (with_driver s d) d ≡ true
 with_enables s AlwaysOn board h = refl
 with_enables s OneSided board h = h
 with_enables s (By c) board h = inserted_has c s
 
-with_keeps : (s : List Ctl) (d e : Drive) → is_enabled s e ≡ true → is_enabled (with_driver s d) e ≡ true
+pub with_keeps : (s : List Ctl) (d e : Drive) → is_enabled s e ≡ true → is_enabled (with_driver s d) e ≡ true
 with_keeps s AlwaysOn e h = h
 with_keeps s OneSided e h = h
 with_keeps s (By c) AlwaysOn h = refl

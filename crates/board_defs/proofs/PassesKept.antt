@@ -55,7 +55,7 @@ pub tested_can_drive : (board : RawBoard) (net : Net) (d : Drive) → Tested boa
 tested_can_drive board net d t = ap (can_enable board) (sym t.drives) ∙ tested_can board net t.place t.tested
 
 -- a setting that enables a driver holds what it needs
-enabled_needs : (pass : List Ctl) (w : Option Drive) (d : Drive) → w ≡ Some d → is_enabled pass d ≡ true → (c : Ctl) → needed w c ≡ true → holds pass c ≡ true
+pub enabled_needs : (pass : List Ctl) (w : Option Drive) (d : Drive) → w ≡ Some d → is_enabled pass d ≡ true → (c : Ctl) → needed w c ≡ true → holds pass c ≡ true
 enabled_needs pass w d e h c k = by_drive d h (sym (ap (λ (v : Option Drive). needed v c) e) ∙ k)
   where
     by_drive : (d : Drive) → is_enabled pass d ≡ true → needed (Some d) c ≡ true → holds pass c ≡ true
@@ -81,7 +81,7 @@ shows_observes board net pass h =
     let t : Tested board net r.0 = tested_has board net r.0 r.1 in
     (t.place, enabled_observes board net t.place r.0 pass t.tested t.drives r.2)
 
-observes_shows : (board : RawBoard) (n : ℕ) (net : Net) (pass : List Ctl) → IsBoard board → IsSafe board (holds pass) → slice_get board.nets n ≡ Some net → ObservesNet board (holds pass) n → shows (tested_drivers board net) pass ≡ true
+pub observes_shows : (board : RawBoard) (n : ℕ) (net : Net) (pass : List Ctl) → IsBoard board → IsSafe board (holds pass) → slice_get board.nets n ≡ Some net → ObservesNet board (holds pass) n → shows (tested_drivers board net) pass ≡ true
 observes_shows board n net pass rules safe en (other, eo, (place, o)) =
     let same : other ≡ net = net_same board n net other en eo in
     let P : Net → Type 0 = λ v. ObservesBy board (holds pass) v place in

@@ -12,7 +12,7 @@ use Rattle.board_defs.specs.declared.coverage.Reason.TheVariants.{Supply, TestPo
 use Rattle.board_defs.specs.Pins.{drive, is_test_pin, is_dark}
 use Rattle.board_defs.specs.BoardRules.{IsBoard}
 use Rattle.board_defs.specs.Settings.{enables}
-use Rattle.board_defs.specs.Coverage.{IsCovered, HasNoDriver, IsBlocked, Holds, rank, IsReason}
+use Rattle.board_defs.specs.Coverage.{IsCovered, HasNoDriver, IsBlocked, ReasonHolds, reason_rank, IsReason}
 use Rattle.board_defs.specs.Decided.{can_enable, is_covered, first_reason, reason_of}
 use Rattle.board_defs.proofs.Places.{Found, any_place, any_at}
 use Rattle.board_defs.proofs.Covered.{needed, needed_safe, needed_enables, can_enable_of, covered_is, covered_true}
@@ -49,11 +49,11 @@ some_can board n net rules en h blocks =
     (blocks (needed d) r.place r.item (needed_safe board d rules r.passes) (record { on_board = en; in_net = r.stands }))
     (needed_enables board net r.item (needed d) r.passes (λ c k. k))
 
--- none of the reasons below this rank holds
+-- none of the reasons below this reason_rank holds
 none_below : (board : RawBoard) (n : ℕ) (net : Net) (limit : ℕ) → limit ≤ 5 →
     (0 < limit → net.supply ≡ false) → (1 < limit → list_any (is_test_pin board) net.pins ≡ false) → (2 < limit → list_any (is_dark board) net.pins ≡ false) →
     (3 < limit → HasNoDriver board n net → ⊥) → (4 < limit → IsBlocked board n net → ⊥) →
-    (other : Reason) → rank other < limit → Holds board n net other → ⊥
+    (other : Reason) → reason_rank other < limit → ReasonHolds board n net other → ⊥
 none_below board n net limit most supply test dark driver can Supply less h = both_ways net.supply (supply less) h
 none_below board n net limit most supply test dark driver can TestPort less h = both_ways (list_any (is_test_pin board) net.pins) (test less) h
 none_below board n net limit most supply test dark driver can Dark less h = both_ways (list_any (is_dark board) net.pins) (dark less) h
@@ -66,7 +66,7 @@ first_is board n net rules en uncovered =
     by_supply net.supply refl (list_any (is_test_pin board) net.pins) refl (list_any (is_dark board) net.pins) refl
     (not (list_any (λ (p : NetPin). is_some (drive board net p)) net.pins)) refl (not (list_any (λ (p : NetPin). can_enable board (drive board net p)) net.pins)) refl
   where
-    reason : (r : Reason) → Holds board n net r → ((other : Reason) → rank other < rank r → Holds board n net other → ⊥) → IsReason board n net r
+    reason : (r : Reason) → ReasonHolds board n net r → ((other : Reason) → reason_rank other < reason_rank r → ReasonHolds board n net other → ⊥) → IsReason board n net r
     reason r h f = record { uncovered = uncovered; holds = h; first = f }
 
     by_supply : (s : Bool) → net.supply ≡ s → (t : Bool) → list_any (is_test_pin board) net.pins ≡ t → (d : Bool) → list_any (is_dark board) net.pins ≡ d →

@@ -1,6 +1,6 @@
 -- The list of single faults has exactly the single faults.
-use Rattle.std.proofs.Common.{◌≡◌, ◌≢◌, ℕ, zero, suc, ◌+◌, ◌<◌, Bool, true, false, List, [], ◌∷◌, ◌++◌, length, Some, refl, ◌∙◌, ap, subst, arith, ◌⊎◌, inl, inr}
-use Rattle.std.specs.Prelude.{slice_get, filter, Contains}
+use Rattle.std.proofs.Common.{sym, ◌≡◌, ◌≢◌, ℕ, zero, suc, ◌+◌, ◌<◌, Bool, true, false, List, [], ◌∷◌, ◌++◌, length, Some, refl, ◌∙◌, ap, subst, arith, ◌⊎◌, inl, inr}
+use Rattle.std.specs.Prelude.{slice_get, filter, Contains, AllPairs}
 use Rattle.std.specs.List.{flat_map, enumerate_from, range_with_len}
 use Rattle.std.proofs.lemmas.Bool.{or_left, or_right, or_cases}
 use Rattle.std.proofs.lemmas.Option.{slice_get_within}
@@ -15,8 +15,9 @@ use Rattle.board_defs.specs.BoardRules.{IsBoard}
 use Rattle.board_defs.specs.Coverage.{IsCovered, ArePaired, IsTestedDriver, IsTestedReceiver}
 use Rattle.board_defs.specs.Decided.{is_covered, are_paired, is_tested_driver, is_tested_receiver}
 use Rattle.board_defs.specs.Passes.{pairs_within}
-use Rattle.board_defs.specs.Faults.{Numbered, numbered_nets, covered_nets, is_tested_pin, tested_pins_in, tested_pins, paired_nets, stuck_faults, open_faults, short_faults, singles, IsSingle}
+use Rattle.board_defs.specs.Faults.{Numbered, numbered_nets, covered_nets, is_tested_pin, tested_pins_in, tested_pins, paired_nets, stuck_faults, open_faults, short_faults, singles, PinPrecedes, kind_rank, SinglePrecedes, IsSingle}
 use Rattle.board_defs.proofs.Members.{Has, has_contains, contains_has, has_left, has_right, has_append, has_map, map_has, has_flat_map, flat_map_has, has_filter, filter_has, has_range, has_enumerate, enumerate_has, has_at, has_pairs_within, Apart, pairs_within_has}
+use Rattle.board_defs.proofs.Ordered.{InOrder, PairPrecedes, order_pairs, order_append, order_flat_map, order_filter, order_map, order_range, order_enumerate, order_pairs_within}
 use Rattle.board_defs.proofs.Covered.{covered_is, covered_true, paired_is, paired_true, tested_driver_is, tested_driver_true, tested_receiver_is, tested_receiver_true, tested_below}
 
 -- a numbered net is the net of that number
@@ -204,3 +205,138 @@ single_listed board rules s h = has_contains (singles board) s (by_case s h)
     by_case (StuckNet net value) h = has_left (stuck ++ opens) shorts (StuckNet net value) (has_left stuck opens (StuckNet net value) (stuck_has board rules net value h))
     by_case (OpenPin pin value) h = has_left (stuck ++ opens) shorts (OpenPin pin value) (has_right stuck opens (OpenPin pin value) (open_has board rules pin value h))
     by_case (Short a b kind) h = has_right (stuck ++ opens) shorts (Short a b kind) (short_has board rules a b kind h.0 h.1)
+
+-- the forms of the faults in the three lists
+stuck_form : (n : ℕ) (s : Single) → Has (stuck_faults n) s → (v : Bool) × (StuckNet n v ≡ s)
+stuck_form n s (inl e) = (false, e)
+stuck_form n s (inr (inl e)) = (true, e)
+stuck_form n s (inr (inr k)) = absurd k
+
+open_form : (pin : PinRef) (s : Single) → Has (open_faults pin) s → (v : Bool) × (OpenPin pin v ≡ s)
+open_form pin s (inl e) = (false, e)
+open_form pin s (inr (inl e)) = (true, e)
+open_form pin s (inr (inr k)) = absurd k
+
+short_form : (a b : ℕ) (s : Single) → Has (short_faults a b) s → (kind : Kind) × (Short a b kind ≡ s)
+short_form a b s (inl e) = (And, e)
+short_form a b s (inr (inl e)) = (Or, e)
+short_form a b s (inr (inr (inl e))) = (First, e)
+short_form a b s (inr (inr (inr (inl e)))) = (Second, e)
+short_form a b s (inr (inr (inr (inr k)))) = absurd k
+
+precedes_as : (a b s t : Single) → a ≡ s → b ≡ t → SinglePrecedes a b → SinglePrecedes s t
+precedes_as a b s t e f h =
+    let P : Single → Type 0 = λ v. SinglePrecedes v b in
+    let Q : Single → Type 0 = λ v. SinglePrecedes s v in
+    subst Q f (subst P e h)
+
+-- nets by their numbers
+abbrev Lower : Numbered → Numbered → Type 0
+Lower p q = p.0 < q.0
+
+-- each list is in order
+stuck_order : (board : RawBoard) → InOrder SinglePrecedes (flat_map (λ net. stuck_faults net.0) (covered_nets board))
+stuck_order board =
+    order_flat_map (λ (p q : Numbered). p.0 < q.0) SinglePrecedes (λ net. stuck_faults net.0) (covered_nets board)
+    (order_filter (λ (p q : Numbered). p.0 < q.0) (λ net. is_covered board net.1) (numbered_nets board) (order_enumerate 0 board.nets))
+    (λ net h. (λ s m. by_second net.0 s m, (λ s m. absurd m, tt)))
+    (λ p q less s t hs ht.
+    let a = stuck_form p.0 s hs in
+    let b = stuck_form q.0 t ht in
+    precedes_as (StuckNet p.0 a.0) (StuckNet q.0 b.0) s t a.1 b.1 (inl less))
+  where
+    by_second : (n : ℕ) (s : Single) → Has (StuckNet n true ∷ []) s → SinglePrecedes (StuckNet n false) s
+    by_second n s (inl e) = precedes_as (StuckNet n false) (StuckNet n true) (StuckNet n false) s refl e (inr (refl, refl, refl))
+    by_second n s (inr k) = absurd k
+
+pin_order : (board : RawBoard) → InOrder PinPrecedes (tested_pins board)
+pin_order board =
+    order_flat_map (λ (p q : Numbered). p.0 < q.0) PinPrecedes (tested_pins_in board) (numbered_nets board) (order_enumerate 0 board.nets)
+    (λ net h. order_map (λ (x y : ℕ). x < y) PinPrecedes (λ place. let pin : PinRef = record { net = net.0; place = place } in pin) (filter (is_tested_pin board net.1) (range_with_len 0 (length net.1.pins)))
+    (λ x y less. inr (refl, less)) (order_filter (λ (x y : ℕ). x < y) (is_tested_pin board net.1) (range_with_len 0 (length net.1.pins)) (order_range 0 (length net.1.pins))))
+    (λ p q less a b ha hb. inl (across p q less a b (of_net p a ha) (of_net q b hb)))
+  where
+    of_net : (net : Numbered) (pin : PinRef) → Has (tested_pins_in board net) pin → pin.net ≡ net.0
+    of_net net pin h = let r = map_has (λ place. let p : PinRef = record { net = net.0; place = place } in p) (filter (is_tested_pin board net.1) (range_with_len 0 (length net.1.pins))) pin h in ap (λ (p : PinRef). p.net) (sym r.2)
+
+    across : (p q : Numbered) → p.0 < q.0 → (a b : PinRef) → a.net ≡ p.0 → b.net ≡ q.0 → a.net < b.net
+    across p q less a b ea eb = omega (arith, ea, eb)
+
+open_order : (board : RawBoard) → InOrder SinglePrecedes (flat_map open_faults (tested_pins board))
+open_order board =
+    order_flat_map PinPrecedes SinglePrecedes open_faults (tested_pins board) (pin_order board)
+    (λ pin h. (λ s m. by_second pin s m, (λ s m. absurd m, tt)))
+    (λ p q before s t hs ht.
+    let a = open_form p s hs in
+    let b = open_form q t ht in
+    precedes_as (OpenPin p a.0) (OpenPin q b.0) s t a.1 b.1 (inl before))
+  where
+    by_second : (pin : PinRef) (s : Single) → Has (OpenPin pin true ∷ []) s → SinglePrecedes (OpenPin pin false) s
+    by_second pin s (inl e) = precedes_as (OpenPin pin false) (OpenPin pin true) (OpenPin pin false) s refl e (inr (refl, refl, refl))
+    by_second pin s (inr k) = absurd k
+
+short_order : (board : RawBoard) → InOrder SinglePrecedes (flat_map (λ pair. short_faults pair.0.0 pair.1.0) (paired_nets board))
+short_order board =
+    order_flat_map (PairPrecedes Lower) SinglePrecedes (λ pair. short_faults pair.0.0 pair.1.0) (paired_nets board)
+    (order_filter (PairPrecedes Lower) (λ pair. are_paired board pair.0.1 pair.1.1) (pairs_within (numbered_nets board)) (order_pairs_within Lower (numbered_nets board) (order_enumerate 0 board.nets)))
+    (λ pair h. kinds pair.0.0 pair.1.0)
+    (λ p q before s t hs ht.
+    let a = short_form p.0.0 p.1.0 s hs in
+    let b = short_form q.0.0 q.1.0 t ht in
+    precedes_as (Short p.0.0 p.1.0 a.0) (Short q.0.0 q.1.0 b.0) s t a.1 b.1 (across p q a.0 b.0 before))
+  where
+    across : (p q : Numbered × Numbered) (k l : Kind) → PairPrecedes Lower p q → SinglePrecedes (Short p.0.0 p.1.0 k) (Short q.0.0 q.1.0 l)
+    across p q k l (inl less) = inl less
+    across p q k l (inr (same, less)) = inr (inl (ap (λ (m : Numbered). m.0) same, less))
+
+    later : (a b : ℕ) (k l : Kind) → kind_rank k < kind_rank l → (s : Single) → Short a b l ≡ s → SinglePrecedes (Short a b k) s
+    later a b k l less s e = precedes_as (Short a b k) (Short a b l) (Short a b k) s refl e (inr (inr (refl, refl, less)))
+
+    after_and : (a b : ℕ) (s : Single) → Has (Short a b Or ∷ Short a b First ∷ Short a b Second ∷ []) s → SinglePrecedes (Short a b And) s
+    after_and a b s (inl e) = later a b And Or (omega arith) s e
+    after_and a b s (inr (inl e)) = later a b And First (omega arith) s e
+    after_and a b s (inr (inr (inl e))) = later a b And Second (omega arith) s e
+    after_and a b s (inr (inr (inr k))) = absurd k
+
+    after_or : (a b : ℕ) (s : Single) → Has (Short a b First ∷ Short a b Second ∷ []) s → SinglePrecedes (Short a b Or) s
+    after_or a b s (inl e) = later a b Or First (omega arith) s e
+    after_or a b s (inr (inl e)) = later a b Or Second (omega arith) s e
+    after_or a b s (inr (inr k)) = absurd k
+
+    after_first : (a b : ℕ) (s : Single) → Has (Short a b Second ∷ []) s → SinglePrecedes (Short a b First) s
+    after_first a b s (inl e) = later a b First Second (omega arith) s e
+    after_first a b s (inr k) = absurd k
+
+    kinds : (a b : ℕ) → InOrder SinglePrecedes (short_faults a b)
+    kinds a b = (after_and a b, (after_or a b, (after_first a b, (λ s m. absurd m, tt))))
+
+pub singles_order : (board : RawBoard) → AllPairs SinglePrecedes (singles board)
+singles_order board = order_pairs SinglePrecedes (singles board) (order_append SinglePrecedes (stuck ++ opens) shorts (order_append SinglePrecedes stuck opens (stuck_order board) (open_order board) first_two) (short_order board) third)
+  where
+    stuck : List Single
+    stuck = flat_map (λ (net : Numbered). stuck_faults net.0) (covered_nets board)
+
+    opens : List Single
+    opens = flat_map open_faults (tested_pins board)
+
+    shorts : List Single
+    shorts = flat_map (λ (pair : Numbered × Numbered). short_faults pair.0.0 pair.1.0) (paired_nets board)
+
+    of_stuck : (s : Single) → Has stuck s → (n : ℕ) × (v : Bool) × (StuckNet n v ≡ s)
+    of_stuck s h = let r = flat_map_has (λ (net : Numbered). stuck_faults net.0) (covered_nets board) s h in let f = stuck_form r.0.0 s r.2 in (r.0.0, f.0, f.1)
+
+    of_opens : (s : Single) → Has opens s → (pin : PinRef) × (v : Bool) × (OpenPin pin v ≡ s)
+    of_opens s h = let r = flat_map_has open_faults (tested_pins board) s h in let f = open_form r.0 s r.2 in (r.0, f.0, f.1)
+
+    of_shorts : (s : Single) → Has shorts s → (a : ℕ) × (b : ℕ) × (kind : Kind) × (Short a b kind ≡ s)
+    of_shorts s h = let r = flat_map_has (λ (pair : Numbered × Numbered). short_faults pair.0.0 pair.1.0) (paired_nets board) s h in let f = short_form r.0.0.0 r.0.1.0 s r.2 in (r.0.0.0, r.0.1.0, f.0, f.1)
+
+    first_two : (s t : Single) → Has stuck s → Has opens t → SinglePrecedes s t
+    first_two s t hs ht = let a = of_stuck s hs in let b = of_opens t ht in precedes_as (StuckNet a.0 a.1) (OpenPin b.0 b.1) s t a.2 b.2 tt
+
+    third : (s t : Single) → Has (stuck ++ opens) s → Has shorts t → SinglePrecedes s t
+    third s t hs ht = by_part (has_append stuck opens s hs) (of_shorts t ht)
+      where
+        by_part : Has stuck s ⊎ Has opens s → (a : ℕ) × (b : ℕ) × (kind : Kind) × (Short a b kind ≡ t) → SinglePrecedes s t
+        by_part (inl h) b = let a = of_stuck s h in precedes_as (StuckNet a.0 a.1) (Short b.0 b.1 b.2) s t a.2 b.3 tt
+        by_part (inr h) b = let a = of_opens s h in precedes_as (OpenPin a.0 a.1) (Short b.0 b.1 b.2) s t a.2 b.3 tt

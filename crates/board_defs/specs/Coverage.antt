@@ -25,6 +25,7 @@ TestsReceiver board setting n place =
 abbrev pub SomeSafe : RawBoard → (Enabling → Type 0) → Type 0
 SomeSafe board P = (setting : Enabling) × IsSafe board setting × P setting
 
+-- some safe setting observes the net
 abbrev pub IsCovered : RawBoard → ℕ → Type 0
 IsCovered board n = SomeSafe board (λ setting. ObservesNet board setting n)
 
@@ -32,9 +33,11 @@ IsCovered board n = SomeSafe board (λ setting. ObservesNet board setting n)
 abbrev pub ArePaired : RawBoard → ℕ → ℕ → Type 0
 ArePaired board a b = (a ≢ b) × SomeSafe board (λ setting. ObservesNet board setting a × ObservesNet board setting b)
 
+-- some safe setting enables the driver and observes its net
 abbrev pub IsTestedDriver : RawBoard → ℕ → ℕ → Type 0
 IsTestedDriver board n place = SomeSafe board (λ setting. TestsDriver board setting n place)
 
+-- some safe setting observes the net of the receiver by a driver on another pin
 abbrev pub IsTestedReceiver : RawBoard → ℕ → ℕ → Type 0
 IsTestedReceiver board n place = SomeSafe board (λ setting. TestsReceiver board setting n place)
 
@@ -55,25 +58,25 @@ abbrev pub IsBlocked : RawBoard → ℕ → Net → Type 0
 IsBlocked board n net = (setting : Enabling) (place : ℕ) (pin : NetPin) → IsSafe board setting → Stands board n net place pin → enables board setting pin ≡ false
 
 -- what a reason says of a net that is not covered
-abbrev pub Holds : RawBoard → ℕ → Net → Reason → Type 0
-Holds board n net Supply = net.supply ≡ true
-Holds board n net TestPort = list_any (is_test_pin board) net.pins ≡ true
-Holds board n net Dark = list_any (is_dark board) net.pins ≡ true
-Holds board n net NoDriver = HasNoDriver board n net
-Holds board n net Blocked = IsBlocked board n net
-Holds board n net NoReceiver = Unit {0}
+abbrev pub ReasonHolds : RawBoard → ℕ → Net → Reason → Type 0
+ReasonHolds board n net Supply = net.supply ≡ true
+ReasonHolds board n net TestPort = list_any (is_test_pin board) net.pins ≡ true
+ReasonHolds board n net Dark = list_any (is_dark board) net.pins ≡ true
+ReasonHolds board n net NoDriver = HasNoDriver board n net
+ReasonHolds board n net Blocked = IsBlocked board n net
+ReasonHolds board n net NoReceiver = Unit {0}
 
 -- the order in which the reasons are tried
-abbrev pub rank : Reason → ℕ
-rank Supply = 0
-rank TestPort = 1
-rank Dark = 2
-rank NoDriver = 3
-rank Blocked = 4
-rank NoReceiver = 5
+abbrev pub reason_rank : Reason → ℕ
+reason_rank Supply = 0
+reason_rank TestPort = 1
+reason_rank Dark = 2
+reason_rank NoDriver = 3
+reason_rank Blocked = 4
+reason_rank NoReceiver = 5
 
 -- why a net is not covered: the first reason that holds of it
 pub record IsReason (board : RawBoard) (n : ℕ) (net : Net) (reason : Reason) : Type 0 where
   pub uncovered : IsCovered board n → ⊥
-  pub holds : Holds board n net reason
-  pub first : (other : Reason) → rank other < rank reason → Holds board n net other → ⊥
+  pub holds : ReasonHolds board n net reason
+  pub first : (other : Reason) → reason_rank other < reason_rank reason → ReasonHolds board n net other → ⊥

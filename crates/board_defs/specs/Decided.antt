@@ -32,6 +32,7 @@ any_other p i [] = false
 any_other p zero (x ∷ xs) = list_any p xs
 any_other p (suc i) (x ∷ xs) = p x || any_other p i xs
 
+-- the pin is a driver that is always on
 abbrev pub is_always_on : Option Drive → Bool
 is_always_on None = false
 is_always_on (Some AlwaysOn) = true
@@ -57,10 +58,12 @@ is_closed board net = guarded board net || list_any (λ p. is_always_on (drive b
 abbrev pub admits : RawBoard → Ctl → Net → Bool
 admits board c net = at_most_one (λ p. is_by c (drive board net p)) net.pins && not (drives_net board c net && is_closed board net)
 
+-- the pin is at this place of the chain
 abbrev pub is_at : PinAt → Option PinAt → Bool
 is_at at None = false
 is_at at (Some b) = (b.part == at.part) && (b.bit == at.bit)
 
+-- the net lets the pin switch, and the pin stands in it
 abbrev pub is_switched : RawBoard → PinAt → Bool → Net → Bool
 is_switched board at value net = lets_switch board net value && list_any (λ p. is_at at p.at) net.pins
 
@@ -68,6 +71,7 @@ is_switched board at value net = lets_switch board net value && list_any (λ p. 
 abbrev pub is_switching : RawBoard → PinAt → Bool → Bool
 is_switching board at value = list_any (is_switched board at value) board.nets
 
+-- the entry's control, where it is the entry's own cell
 abbrev pub own_where : Cell → Option Control → Option Control
 own_where cell None = None
 own_where cell (Some control) = cond (control.cell == cell.num) (Some control) None
@@ -76,14 +80,17 @@ own_where cell (Some control) = cond (control.cell == cell.num) (Some control) N
 abbrev pub own_control : RawBoard → PinAt → Option Control
 own_control board at = option_and_then (λ cell. own_where cell cell.ctl) (entry_at board at)
 
+-- a driver there is one-sided, and this is its cell
 abbrev pub is_one_sided_by : RawBoard → ℕ → PinAt → Option Control → Bool
 is_one_sided_by board cell at None = false
 is_one_sided_by board cell at (Some control) = (control.cell == cell) && is_pinned board at && not (is_switching board at control.disable)
 
+-- the number of port bits of a device
 abbrev pub bit_count : Option RawDevice → ℕ
 bit_count None = 0
 bit_count (Some device) = length device.bits
 
+-- the number of port bits of a part
 abbrev pub port_bits : RawBoard → ℕ → ℕ
 port_bits board part = bit_count (device_at board part)
 
@@ -110,6 +117,7 @@ can_enable board (Some AlwaysOn) = true
 can_enable board (Some OneSided) = false
 can_enable board (Some (By c)) = is_safe_alone board c
 
+-- how a pin of the net drives it, where there is one
 abbrev pub drive_in : RawBoard → Net → Option NetPin → Option Drive
 drive_in board net pin = option_and_then (λ p. drive board net p) pin
 
@@ -139,6 +147,7 @@ are_compatible board (Some (By c)) (Some OneSided) = false
 are_compatible board (Some (By c)) (Some AlwaysOn) = is_safe_alone board c
 are_compatible board (Some (By c)) (Some (By d)) = are_together board c d
 
+-- one safe setting enables the tested drivers at these places of the two nets
 abbrev pub pairs_at : RawBoard → Net → Net → ℕ → ℕ → Bool
 pairs_at board a b i j = is_tested_driver board a i && is_tested_driver board b j && are_compatible board (place_drive board a i) (place_drive board b j)
 
@@ -150,6 +159,7 @@ are_paired board a b = any_below (length a.pins) (λ i. any_below (length b.pins
 abbrev pub tests_by_at : RawBoard → Ctl → Net → ℕ → Bool
 tests_by_at board c net place = is_by c (place_drive board net place) && is_tested_driver board net place
 
+-- the control enables some tested driver of the net
 abbrev pub tests_by : RawBoard → Ctl → Net → Bool
 tests_by board c net = any_below (length net.pins) (tests_by_at board c net)
 

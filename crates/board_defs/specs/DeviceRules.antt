@@ -94,6 +94,7 @@ may_drive Buffer = true
 may_drive Inward = false
 may_drive Linkage = false
 
+-- a port of power, ground or another connection that is not digital
 abbrev pub is_linkage : Mode → Bool
 is_linkage Linkage = true
 is_linkage Inward = false
@@ -112,9 +113,11 @@ abbrev pub is_on : ℕ → Option ℕ → Bool
 is_on bit None = false
 is_on bit (Some b) = b == bit
 
+-- a driving entry of this port bit
 abbrev pub drives_bit : ℕ → Cell → Bool
 drives_bit bit cell = is_on bit cell.bit && is_driving cell.role
 
+-- a receiver's entry of this port bit
 abbrev pub reads_bit : ℕ → Cell → Bool
 reads_bit bit cell = is_on bit cell.bit && is_receiving cell.role
 
@@ -126,13 +129,15 @@ driving_entry device bit = find (drives_bit bit) device.cells
 abbrev pub entry_of : (Role → Bool) → RawDevice → ℕ → Option Cell
 entry_of roles device cell = find (λ entry. (entry.num == cell) && roles entry.role) device.cells
 
--- the reading entry of a cell, and the entry that its update latch is for: there is at most one of each
+-- the reading entry of a cell: there is at most one
 abbrev pub reading_entry : RawDevice → ℕ → Option Cell
 reading_entry device cell = entry_of is_reading device cell
 
+-- the entry that the update latch of a cell is for: there is at most one
 abbrev pub writing_entry : RawDevice → ℕ → Option Cell
 writing_entry device cell = entry_of is_writing device cell
 
+-- the first of two entries that is there
 abbrev pub or_entry : Option Cell → Option Cell → Option Cell
 or_entry None second = second
 or_entry (Some first) second = Some first
@@ -141,10 +146,12 @@ or_entry (Some first) second = Some first
 abbrev pub safe_value : RawDevice → ℕ → Option Symbol
 safe_value device cell = option_map (λ entry. entry.safe) (or_entry (writing_entry device cell) (reading_entry device cell))
 
+-- the control is this cell
 abbrev pub is_control_of : ℕ → Option Control → Bool
 is_control_of cell None = false
 is_control_of cell (Some control) = control.cell == cell
 
+-- the disable value that an entry gives
 abbrev pub disable_in : ℕ → Option Cell → Option Bool
 disable_in cell None = None
 disable_in cell (Some entry) = option_map (λ control. control.disable) entry.ctl

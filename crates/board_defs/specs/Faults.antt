@@ -1,9 +1,10 @@
 -- The single faults of a board, in order.
-use Rattle.std.specs.Prelude.{◌<◌, ◌⊎◌, ℕ, Bool, true, false, ◌||◌, List, [], ◌∷◌, ◌++◌, map, filter, length}
+use Rattle.std.specs.Prelude.{◌≡◌, ◌<◌, ◌⊎◌, ℕ, Bool, true, false, ◌||◌, List, [], ◌∷◌, ◌++◌, map, filter, length}
 use Rattle.std.specs.List.{flat_map, enumerate_from, range_with_len}
 use Rattle.board_defs.specs.declared.board.Net.{Net}
 use Rattle.board_defs.specs.declared.board.PinRef.{PinRef}
 use Rattle.board_defs.specs.declared.board.RawBoard.{RawBoard}
+use Rattle.board_defs.specs.declared.fault.Kind.{Kind}
 use Rattle.board_defs.specs.declared.fault.Kind.TheVariants.{And, Or, First, Second}
 use Rattle.board_defs.specs.declared.fault.Single.{Single}
 use Rattle.board_defs.specs.declared.fault.Single.TheVariants.{StuckNet, OpenPin, Short}
@@ -11,6 +12,7 @@ use Rattle.board_defs.specs.Coverage.{IsCovered, ArePaired, IsTestedDriver, IsTe
 use Rattle.board_defs.specs.Decided.{is_covered, are_paired, is_tested_driver, is_tested_receiver}
 use Rattle.board_defs.specs.Passes.{pairs_within}
 
+-- a net with its number
 abbrev pub Numbered : Type 0
 Numbered = ℕ × Net
 
@@ -18,16 +20,19 @@ Numbered = ℕ × Net
 abbrev pub numbered_nets : RawBoard → List Numbered
 numbered_nets board = enumerate_from 0 board.nets
 
+-- the covered nets with their numbers, in net order
 abbrev pub covered_nets : RawBoard → List Numbered
 covered_nets board = filter (λ net. is_covered board net.1) (numbered_nets board)
 
--- the pins of a net that are tested as driver or as receiver, in pin order
+-- the pin at this place is tested as driver or as receiver
 abbrev pub is_tested_pin : RawBoard → Net → ℕ → Bool
 is_tested_pin board net place = is_tested_driver board net place || is_tested_receiver board net place
 
+-- the tested pins of a net, in pin order
 abbrev pub tested_pins_in : RawBoard → Numbered → List PinRef
 tested_pins_in board net = map (λ place. record { net = net.0; place = place }) (filter (is_tested_pin board net.1) (range_with_len 0 (length net.1.pins)))
 
+-- the tested pins of the board, in pin order
 abbrev pub tested_pins : RawBoard → List PinRef
 tested_pins board = flat_map (tested_pins_in board) (numbered_nets board)
 
@@ -35,13 +40,15 @@ tested_pins board = flat_map (tested_pins_in board) (numbered_nets board)
 abbrev pub paired_nets : RawBoard → List (Numbered × Numbered)
 paired_nets board = filter (λ pair. are_paired board pair.0.1 pair.1.1) (pairs_within (numbered_nets board))
 
--- each covered net stuck, each tested pin open, with 0 and then 1, and each two paired nets shorted in each way
+-- the net stuck at 0 or 1
 abbrev pub stuck_faults : ℕ → List Single
 stuck_faults net = StuckNet net false ∷ StuckNet net true ∷ []
 
+-- the pin open, reading 0 or 1
 abbrev pub open_faults : PinRef → List Single
 open_faults pin = OpenPin pin false ∷ OpenPin pin true ∷ []
 
+-- the two nets shorted, in each way
 abbrev pub short_faults : ℕ → ℕ → List Single
 short_faults a b = Short a b And ∷ Short a b Or ∷ Short a b First ∷ Short a b Second ∷ []
 
@@ -57,3 +64,26 @@ abbrev pub IsSingle : RawBoard → Single → Type 0
 IsSingle board (StuckNet net value) = IsCovered board net
 IsSingle board (OpenPin pin value) = IsTestedDriver board pin.net pin.place ⊎ IsTestedReceiver board pin.net pin.place
 IsSingle board (Short a b kind) = (a < b) × ArePaired board a b
+
+-- pin order: by net, then by place
+abbrev pub PinPrecedes : PinRef → PinRef → Type 0
+PinPrecedes p q = (p.net < q.net) ⊎ ((p.net ≡ q.net) × (p.place < q.place))
+
+-- the order of the kinds of a short
+abbrev pub kind_rank : Kind → ℕ
+kind_rank And = 0
+kind_rank Or = 1
+kind_rank First = 2
+kind_rank Second = 3
+
+-- the order of single faults: stuck nets in net order, open pins in pin order, shorts in pair order and then by kind; 0 before 1
+abbrev pub SinglePrecedes : Single → Single → Type 0
+SinglePrecedes (StuckNet n v) (StuckNet m w) = (n < m) ⊎ ((n ≡ m) × (v ≡ false) × (w ≡ true))
+SinglePrecedes (StuckNet n v) (OpenPin q w) = Unit {0}
+SinglePrecedes (StuckNet n v) (Short c d l) = Unit {0}
+SinglePrecedes (OpenPin p v) (StuckNet m w) = ⊥
+SinglePrecedes (OpenPin p v) (OpenPin q w) = PinPrecedes p q ⊎ ((p ≡ q) × (v ≡ false) × (w ≡ true))
+SinglePrecedes (OpenPin p v) (Short c d l) = Unit {0}
+SinglePrecedes (Short a b k) (StuckNet m w) = ⊥
+SinglePrecedes (Short a b k) (OpenPin q w) = ⊥
+SinglePrecedes (Short a b k) (Short c d l) = (a < c) ⊎ (((a ≡ c) × (b < d)) ⊎ ((a ≡ c) × (b ≡ d) × (kind_rank k < kind_rank l)))

@@ -1,16 +1,20 @@
 -- The laws of boards, each carried by a function of its own.
-use Rattle.std.specs.Prelude.{◌≡◌, ◌≢◌, ◌↔◌, ℕ, Some, slice_get, MatchOption, Contains}
+use Rattle.std.specs.Prelude.{◌≡◌, ◌≢◌, ◌↔◌, ℕ, true, List, [], Some, slice_get, MatchOption, Contains, AllPairs}
 use Rattle.std.specs.Bool.{Decides}
+use Rattle.board_defs.specs.declared.board.NetPin.{NetPin}
 use Rattle.board_defs.specs.declared.board.Net.{Net}
 use Rattle.board_defs.specs.declared.board.Ctl.{Ctl}
 use Rattle.board_defs.specs.declared.board.RawBoard.{RawBoard}
+use Rattle.board_defs.specs.declared.board.Drive.{Drive}
+use Rattle.board_defs.specs.declared.board.Drive.TheVariants.{By}
 use Rattle.board_defs.specs.declared.fault.Single.{Single}
-use Rattle.board_defs.specs.BoardRules.{IsBoard}
-use Rattle.board_defs.specs.Settings.{Enabling, just, IsSafe, IsPairwiseSafe}
+use Rattle.board_defs.specs.BoardRules.{Stands, IsBoard}
+use Rattle.board_defs.specs.Pins.{drive}
+use Rattle.board_defs.specs.Settings.{Enabling, holds, just, enables, IsInControlOrder, IsSafe, IsPairwiseSafe, ObservesNet}
 use Rattle.board_defs.specs.Coverage.{IsCovered, ArePaired, IsTestedDriver, IsTestedReceiver, IsUseful, AreTogether, IsReason}
-use Rattle.board_defs.specs.Decided.{is_safe_alone, are_together, is_useful, is_covered, are_paired, is_tested_driver, is_tested_receiver, reason_of}
-use Rattle.board_defs.specs.Passes.{passes_of, ArePasses}
-use Rattle.board_defs.specs.Faults.{singles, IsSingle}
+use Rattle.board_defs.specs.Decided.{is_safe_alone, are_together, are_compatible, is_useful, is_covered, are_paired, is_tested_driver, is_tested_receiver, reason_of}
+use Rattle.board_defs.specs.Passes.{useful_controls, tested_drivers, is_enabled, with_driver, fits, is_new, shows, passes_of, SomePass, ArePasses}
+use Rattle.board_defs.specs.Faults.{singles, SinglePrecedes, IsSingle}
 
 -- a setting is safe exactly where each of its controls alone and every two of them are
 abbrev pub SafeByPairs : Type 0
@@ -27,13 +31,54 @@ pub record DecidesTerms (board : RawBoard) : Type 0 where
   pub reason : (n : ℕ) (net : Net) → slice_get board.nets n ≡ Some net → MatchOption (reason_of board net) (IsCovered board n) (λ reason. IsReason board n net reason)
   pub tested_receiver : (n : ℕ) (net : Net) (place : ℕ) → slice_get board.nets n ≡ Some net → Decides (is_tested_receiver board net place) (IsTestedReceiver board n place)
 
+-- the tests decide the terms of every board
 abbrev pub TermsDecided : Type 0
 TermsDecided = (board : RawBoard) → IsBoard board → DecidesTerms board
 
--- the passes of a board do what passes are to do
-abbrev pub PassesKept : Type 0
-PassesKept = (board : RawBoard) → IsBoard board → ArePasses board (passes_of board)
+-- the net has a tested driver that is enabled in this way
+pub record HasTestedDriver (board : RawBoard) (n : ℕ) (net : Net) (d : Drive) : Type 0 where
+  pub place : ℕ
+  pub pin : NetPin
+  pub stands : Stands board n net place pin
+  pub drives : drive board net pin ≡ Some d
+  pub tested : IsTestedDriver board n place
 
--- the list of single faults has exactly the single faults
+-- the control controls a tested driver that no earlier pass enables
+pub record ControlsNew (board : RawBoard) (earlier : List (List Ctl)) (c : Ctl) : Type 0 where
+  pub n : ℕ
+  pub net : Net
+  pub place : ℕ
+  pub pin : NetPin
+  pub stands : Stands board n net place pin
+  pub drives : drive board net pin ≡ Some (By c)
+  pub tested : IsTestedDriver board n place
+  pub new : SomePass earlier (λ setting. enables board setting pin ≡ true) → ⊥
+
+-- the words in which the passes of a board are made say what they name, of all safe settings
+pub record SaysPasses (board : RawBoard) : Type 0 where
+  pub useful_in_order : IsInControlOrder (useful_controls board)
+  pub useful : (c : Ctl) → Decides (holds (useful_controls board) c) (IsUseful board c)
+  pub drivers : (n : ℕ) (net : Net) (d : Drive) → slice_get board.nets n ≡ Some net → Contains (tested_drivers board net) d ↔ HasTestedDriver board n net d
+  pub enabled : (n : ℕ) (net : Net) (place : ℕ) (pin : NetPin) (d : Drive) (pass : List Ctl) → Stands board n net place pin → IsTestedDriver board n place → drive board net pin ≡ Some d → is_enabled pass d ≡ enables board (holds pass) pin
+  pub fits_all : (setting : List Ctl) (c : Ctl) → Decides (fits board setting c) ((d : Ctl) → holds setting d ≡ true → AreTogether board c d)
+  pub new : (earlier : List (List Ctl)) (c : Ctl) → IsUseful board c → Decides (is_new earlier c) (ControlsNew board earlier c)
+  pub shown : (n : ℕ) (net : Net) (pass : List Ctl) → slice_get board.nets n ≡ Some net → IsSafe board (holds pass) → Decides (shows (tested_drivers board net) pass) (ObservesNet board (holds pass) n)
+  pub compatible : (m n : ℕ) (a b : Net) (d e : Drive) → HasTestedDriver board m a d → HasTestedDriver board n b e → Decides (are_compatible board (Some d) (Some e)) (IsSafe board (holds (with_driver (with_driver [] d) e)))
+
+-- the passes of a board say what they name, and do what passes are to do
+pub record PassesAre (board : RawBoard) : Type 0 where
+  pub said : SaysPasses board
+  pub kept : ArePasses board (passes_of board)
+
+-- so of every board
+abbrev pub PassesKept : Type 0
+PassesKept = (board : RawBoard) → IsBoard board → PassesAre board
+
+-- the list of single faults has exactly the single faults, each once and in order
+pub record ListsSingles (board : RawBoard) : Type 0 where
+  pub exactly : (single : Single) → Contains (singles board) single ↔ IsSingle board single
+  pub in_order : AllPairs SinglePrecedes (singles board)
+
+-- so of every board
 abbrev pub SinglesListed : Type 0
-SinglesListed = (board : RawBoard) (single : Single) → IsBoard board → Contains (singles board) single ↔ IsSingle board single
+SinglesListed = (board : RawBoard) → IsBoard board → ListsSingles board

@@ -12,11 +12,12 @@ use Rattle.board_defs.specs.Settings.{Enabling, holds, inserted, IsSafe, Observe
 use Rattle.board_defs.specs.Coverage.{IsCovered, ArePaired, IsTestedDriver, IsTestedReceiver, TestsDriver, TestsReceiver}
 use Rattle.board_defs.specs.Decided.{is_useful, are_together, are_compatible, is_tested_driver, place_drive}
 
--- the cells of a part as controls, and those of the chain, in control order
+-- the cells of a part as controls, in control order
 abbrev pub cells_of : ℕ → PartKind → List Ctl
 cells_of part (Described device) = map (λ cell. record { part = part; cell = cell }) (range_with_len 0 device.boundary)
 cells_of part (Bypass n) = []
 
+-- the cells of the chain as controls, in control order
 abbrev pub all_cells : RawBoard → List Ctl
 all_cells board = flat_map (λ part. cells_of part.0 part.1.kind) (enumerate_from 0 board.chain)
 
@@ -24,10 +25,11 @@ all_cells board = flat_map (λ part. cells_of part.0 part.1.kind) (enumerate_fro
 abbrev pub useful_controls : RawBoard → List Ctl
 useful_controls board = filter (is_useful board) (all_cells board)
 
--- the tested drivers of a net, in pin order
+-- how the pin at this place is enabled, where it is a tested driver
 abbrev pub tested_drive : RawBoard → Net → ℕ → Option Drive
 tested_drive board net place = cond (is_tested_driver board net place) (place_drive board net place) None
 
+-- how the tested drivers of a net are enabled, in pin order
 abbrev pub tested_drivers : RawBoard → Net → List Drive
 tested_drivers board net = filter_map (tested_drive board net) (range_with_len 0 (length net.pins))
 
@@ -67,6 +69,7 @@ second_walk board useful setting = walk (fits board) useful setting
 abbrev pub driver_pass : RawBoard → List Ctl → List (List Ctl) → Drive → List Ctl
 driver_pass board useful earlier d = second_walk board useful (first_walk board useful earlier (with_driver [] d))
 
+-- the passes, and one more for the driver where none so far enables it
 abbrev pub add_for_driver : RawBoard → List Ctl → List (List Ctl) → Drive → List (List Ctl)
 add_for_driver board useful passes d = cond (list_any (λ pass. is_enabled pass d) passes) passes (passes ++ driver_pass board useful passes d ∷ [])
 
@@ -74,10 +77,11 @@ add_for_driver board useful passes d = cond (list_any (λ pass. is_enabled pass 
 abbrev pub driver_passes : RawBoard → List Ctl → List Drive → List (List Ctl)
 driver_passes board useful drivers = fold (add_for_driver board useful) [] drivers
 
--- one pass observes both nets, each by one of its tested drivers
+-- the pass enables a tested driver of the net, and so observes it
 abbrev pub shows : List Drive → List Ctl → Bool
 shows drivers pass = list_any (is_enabled pass) drivers
 
+-- one of the passes shows both nets
 abbrev pub are_shown : List (List Ctl) → List Drive → List Drive → Bool
 are_shown passes a b = list_any (λ pass. shows a pass && shows b pass) passes
 
@@ -98,17 +102,20 @@ first_pair board a b = find (λ pair. are_compatible board (Some pair.0) (Some p
 abbrev pub pair_pass : RawBoard → List Ctl → Drive × Drive → List Ctl
 pair_pass board useful pair = second_walk board useful (with_driver (with_driver [] pair.0) pair.1)
 
+-- the passes, and one more for the two drivers where there are two
 abbrev pub with_pair : RawBoard → List Ctl → List (List Ctl) → Option (Drive × Drive) → List (List Ctl)
 with_pair board useful passes None = passes
 with_pair board useful passes (Some pair) = passes ++ pair_pass board useful pair ∷ []
 
+-- the passes, and one more for the two nets where they are paired and none so far shows both
 abbrev pub add_for_nets : RawBoard → List Ctl → List (List Ctl) → List Drive × List Drive → List (List Ctl)
 add_for_nets board useful passes nets = cond (are_shown passes nets.0 nets.1) passes (with_pair board useful passes (first_pair board nets.0 nets.1))
 
--- and on, until each two of the nets that are paired are observed by one pass
+-- the passes, and more until each two of the nets that are paired are observed by one pass
 abbrev pub pair_passes : RawBoard → List Ctl → List (List Ctl) → List (List Drive) → List (List Ctl)
 pair_passes board useful passes nets = fold (add_for_nets board useful) passes (pairs_within nets)
 
+-- the tested drivers, net by net
 abbrev pub drivers_by_net : RawBoard → List (List Drive)
 drivers_by_net board = map (tested_drivers board) board.nets
 

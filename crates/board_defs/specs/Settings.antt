@@ -15,16 +15,19 @@ use Rattle.board_defs.specs.Pins.{drive, receives, guarded, entry_at, is_pinned}
 abbrev pub Enabling : Type 0
 Enabling = Ctl → Bool
 
+-- the two controls are one
 abbrev pub same_ctl : Ctl → Ctl → Bool
 same_ctl a b = (a.part == b.part) && (a.cell == b.cell)
 
--- the set that a list gives, the set of one control, and that of two
+-- the set that a list gives
 abbrev pub holds : List Ctl → Enabling
 holds list c = list_any (same_ctl c) list
 
+-- the set of one control
 abbrev pub just : Ctl → Enabling
 just a c = same_ctl c a
 
+-- the set of two controls
 abbrev pub both : Ctl → Ctl → Enabling
 both a b c = same_ctl c a || same_ctl c b
 
@@ -46,6 +49,7 @@ abbrev pub enables_by : Enabling → ℕ → Option Control → Bool
 enables_by setting part None = true
 enables_by setting part (Some control) = setting (record { part = part; cell = control.cell })
 
+-- the setting enables a driver by its driving entry
 abbrev pub enables_entry : Enabling → ℕ → Option Cell → Bool
 enables_entry setting part None = false
 enables_entry setting part (Some cell) = enables_by setting part cell.ctl
@@ -54,10 +58,12 @@ enables_entry setting part (Some cell) = enables_by setting part cell.ctl
 abbrev pub enables_at : RawBoard → Enabling → PinAt → Bool
 enables_at board setting at = enables_entry setting at.part (entry_at board at)
 
+-- the setting enables a driver at this place of the chain
 abbrev pub enables_where : RawBoard → Enabling → Option PinAt → Bool
 enables_where board setting None = false
 enables_where board setting (Some at) = enables_at board setting at
 
+-- the setting enables a driver on the pin
 abbrev pub enables : RawBoard → Enabling → NetPin → Bool
 enables board setting pin = enables_where board setting pin.at
 
@@ -83,6 +89,7 @@ pub record ObservesBy (board : RawBoard) (setting : Enabling) (net : Net) (place
   pub another : other ≢ place
   pub reads : receives board reader ≡ true
 
+-- the setting observes the net, by some pin
 abbrev pub Observes : RawBoard → Enabling → Net → Type 0
 Observes board setting net = (place : ℕ) × ObservesBy board setting net place
 

@@ -103,6 +103,7 @@ impl Model for Board {
 }
 
 impl Board {
+    /// The board of a record that keeps the rules.
     pub fn new(raw: RawBoard) -> Board
         requires { IsBoard raw }
         ensures { result ≡ raw }
@@ -110,6 +111,7 @@ impl Board {
         Board { raw }
     }
 
+    /// The record, which keeps the rules.
     pub fn raw(&self) -> &RawBoard
         ensures value { result.now ≡ self.now }
         ensures rules { IsBoard self.now }

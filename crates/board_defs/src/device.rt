@@ -1,5 +1,5 @@
 // A device, as its description gives it.
-ghost use Rattle.std.specs.Prelude.{◌≡◌, ℕ, ◌<◌, ◌^◌, length, slice_get, Some, IfOk};
+ghost use Rattle.std.specs.Prelude.{◌≡◌, ◌==◌, ◌<◌, ◌^◌, length, slice_get, Some, IfOk};
 ghost use Rattle.board_defs.specs.DeviceRules.{IsDevice};
 
 use crate::items::{Items, Name};
@@ -50,6 +50,7 @@ impl Code {
         Code { symbols }
     }
 
+    /// The symbols, the one nearest TDO first.
     pub fn symbols(&self) -> &[Symbol]
         ensures value { result.now ≡ self.now }
         ensures short { length self.now < 2 ^ 32 }
@@ -57,10 +58,18 @@ impl Code {
         &self.symbols
     }
 
+    /// How many symbols the code has.
     pub fn len(&self) -> u32
         ensures { result ≡ length self.now }
     {
         self.symbols.len() as u32
+    }
+
+    /// Whether the code has no symbol.
+    pub fn is_empty(&self) -> bool
+        ensures { result ≡ (length self.now == 0) }
+    {
+        self.symbols.is_empty()
     }
 
     /// The symbol at this place, counted from the bit nearest TDO.
@@ -72,7 +81,7 @@ impl Code {
     }
 }
 
-/// The mode of a port.
+/// The mode of a port: in, out, inout, buffer or linkage.
 #[derive(Clone, Copy, Debug, PartialEq, Eq)]
 pub enum Mode {
     Inward,
@@ -82,7 +91,7 @@ pub enum Mode {
     Linkage,
 }
 
-/// The function of an entry of the boundary register.
+/// The function of an entry of the boundary register (IEEE 1149.1-2001, annex B).
 #[derive(Clone, Copy, Debug, PartialEq, Eq)]
 pub enum Role {
     Input,
@@ -111,14 +120,17 @@ pub struct Control {
     pub disable: bool,
 }
 
-/// An entry of the boundary register.
+/// An entry of the boundary register. A cell of the register may have two: one that reads and
+/// one that the update latch is for.
 #[derive(Clone, Copy, Debug, PartialEq, Eq)]
 pub struct Cell {
     /// The number of the boundary cell, 0 nearest TDO.
     pub num: u32,
     pub role: Role,
-    /// The number of the port bit, among the device's port bits.
+    /// The number of the port bit, among the device's port bits; none for CONTROL, CONTROLR and
+    /// INTERNAL.
     pub bit: Option<u32>,
+    /// The value that the designer asks for while the cell is not used.
     pub safe: Symbol,
     pub ctl: Option<Control>,
 }
@@ -146,15 +158,16 @@ pub struct RawDevice {
     pub package: Name,
     pub edition: Edition,
     pub ports: Items<Name>,
-    /// The length of the instruction register.
+    /// The length of the instruction register, from 2 to 255.
     pub ir: u32,
     /// The code of the instruction that preloads the boundary register.
     pub sample: Code,
     pub extest: Code,
     /// The pattern of the identification code, where there is one.
     pub idcode: Option<Code>,
-    /// The length of the boundary register.
+    /// The length of the boundary register, from 1 to 65,535.
     pub boundary: u32,
+    /// The port bits in the order of the ports, those of a vector from left to right.
     pub bits: Items<PortBit>,
     pub cells: Items<Cell>,
 }
@@ -178,6 +191,7 @@ impl Model for Device {
 }
 
 impl Device {
+    /// The device of a record that keeps the rules.
     pub fn new(raw: RawDevice) -> Device
         requires { IsDevice raw }
         ensures { result ≡ raw }
@@ -185,6 +199,7 @@ impl Device {
         Device { raw }
     }
 
+    /// The record, which keeps the rules.
     pub fn raw(&self) -> &RawDevice
         ensures value { result.now ≡ self.now }
         ensures rules { IsDevice self.now }

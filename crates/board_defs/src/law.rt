@@ -12,12 +12,14 @@ pub fn terms_decided()
     ensures { TermsDecided }
 {}
 
-/// The passes of a board are safe, do what some safe setting does, and each has a reason.
+/// The passes of a board are safe, do together what all safe settings can do, and each does
+/// something that no earlier one does; and the words in which they are made mean what they say.
 pub fn passes_kept()
     ensures { PassesKept }
 {}
 
-/// The single faults of a board are those of its covered nets, tested pins and paired nets.
+/// The list of single faults has exactly those of the board's covered nets, tested pins and
+/// paired nets, each once and in order.
 pub fn singles_listed()
     ensures { SinglesListed }
 {}

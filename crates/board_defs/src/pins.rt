@@ -78,6 +78,7 @@ impl Mode {
         matches!(self, Mode::Outward | Mode::Both | Mode::Buffer)
     }
 
+    /// Whether the port is of power, ground or another connection that is not digital.
     pub fn is_linkage(self) -> bool
         ensures { result ≡ is_linkage self }
     {
@@ -251,8 +252,7 @@ impl RawBoard {
         }
     }
 
-    /// Whether what drives the pin is not known: it may be driven by something that no setting
-    /// controls.
+    /// Whether the pin is dark: something that no setting controls may drive it.
     pub fn is_dark(&self, pin: &NetPin) -> bool
         ensures { result ≡ is_dark self.now pin.now }
     {

@@ -43,6 +43,7 @@ impl Setting {
         Setting { controls }
     }
 
+    /// The controls in control order: by the part's place in the chain, then by the cell.
     pub fn controls(&self) -> &[Ctl]
         ensures value { result.now ≡ self.now }
         ensures order { IsInControlOrder self.now }

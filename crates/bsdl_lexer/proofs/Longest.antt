@@ -73,10 +73,6 @@ exponent_at_least : (xs ys : List ℕ) → IsExponent xs → length xs ≤ expon
 exponent_at_least [] ys h = omega arith
 exponent_at_least (x ∷ xs) ys h = rw h.0 (let k : 1 + length xs ≤ signed_len (xs ++ ys) = signed_at_least xs ys h.1 in omega arith)
 
--- what stands behind the digits of a number, where the fraction takes n bytes
-at_fraction : (n : ℕ) (bytes : List ℕ) → ℕ
-at_fraction n bytes = n + exponent_len (drop n bytes)
-
 drop-front : (xs ys : List ℕ) → drop (length xs) (xs ++ ys) ≡ ys
 drop-front [] ys = refl
 drop-front (x ∷ xs) ys = drop-front xs ys

@@ -1,25 +1,24 @@
 -- What a step finds stands in the text, and what stands there is found by a step.
-use Rattle.std.proofs.Common.{◌≡◌, ℕ, ◌+◌, ◌-◌, ◌<◌, ◌≤◌, List, [], ◌∷◌, ◌++◌, length, take, drop, Bool, true, false, cond, Option, Some, None, Result, Ok, Err, refl, sym, ◌∙◌, ap, subst, arith, length-drop, nat_eq, slice_get, inl, inr}
+use Rattle.std.proofs.Common.{◌≡◌, ℕ, ◌+◌, ◌-◌, ◌<◌, ◌≤◌, List, [], ◌∷◌, ◌++◌, length, take, drop, Bool, true, false, cond, Option, Some, None, Result, Ok, Err, refl, sym, ◌∙◌, ap, subst, arith, length-drop, nat_eq}
 use Rattle.std.proofs.Math.Seq.{take-add, drop-length}
 use Rattle.std.proofs.lemmas.Bool.Decides.{nat_tests}
 use Rattle.std.proofs.lemmas.List.{take-append-drop}
-use Rattle.std.specs.List.{prefix_len, list_all, slice_range}
+use Rattle.std.specs.List.{slice_range}
 use Rattle.bsdl_lexer.specs.declared.token.Token.{Token}
 use Rattle.bsdl_lexer.specs.declared.token.TokenKind.{TokenKind}
-use Rattle.bsdl_lexer.specs.declared.token.TokenKind.TheVariants.{Text}
 use Rattle.bsdl_lexer.specs.declared.token.LexFault.{LexFault}
-use Rattle.bsdl_lexer.specs.declared.token.LexFault.TheVariants.{Byte, OpenString, TooMany, Memory}
-use Rattle.bsdl_lexer.specs.Forms.{HasForm, begins_comment, begins_gap, is_text_byte, line_feed, carriage_return, quote}
+use Rattle.bsdl_lexer.specs.declared.token.LexFault.TheVariants.{Byte, OpenString}
+use Rattle.bsdl_lexer.specs.Forms.{begins_comment, begins_gap, quote}
 use Rattle.bsdl_lexer.specs.Tokens.{line_feeds, line_of, Separates, IsToken}
-use Rattle.bsdl_lexer.specs.Answer.{BeginsToken, BeginsOpenText, BeginsNothing, EndsOpen}
-use Rattle.bsdl_lexer.specs.Lengths.{gap_len, token_at, closed_len}
-use Rattle.bsdl_lexer.specs.Steps.{bad_byte, token_of, step_with, step_at, step_past, step}
+use Rattle.bsdl_lexer.specs.Answer.{BeginsToken, BeginsOpenText, BeginsNothing}
+use Rattle.bsdl_lexer.specs.Lengths.{gap_len, token_at}
+use Rattle.bsdl_lexer.specs.Steps.{bad_byte, token_of, step_with, step_at, step}
 use Rattle.bsdl_lexer.proofs.Longest.{IsWithin, within}
-use Rattle.bsdl_lexer.proofs.Found.{IsFront, found_front, some_token, same_token}
+use Rattle.bsdl_lexer.proofs.Found.{IsFront, found_front, some_token}
 use Rattle.bsdl_lexer.proofs.Gaps.{ends_gap}
 use Rattle.bsdl_lexer.proofs.OpenTexts.{begins_open, open_no_token, open_no_gap}
 use Rattle.bsdl_lexer.proofs.LineFeeds.{line_feeds-append, no_line_feeds}
-use Rattle.bsdl_lexer.proofs.Places.{drop-sum, range_from, separates_found, separates_to, no_gap, some_bytes, token_is_found, found_is_token}
+use Rattle.bsdl_lexer.proofs.Places.{drop-sum, separates_found, separates_to, no_gap, some_bytes, token_is_found, found_is_token}
 
 -- the line of a place further on
 pub line_past : (text : List ℕ) (place n line : ℕ) → line ≡ line_of text place → line + line_feeds (take n (drop place text)) ≡ line_of text (place + n)

@@ -1,12 +1,10 @@
 -- Each attribute of an entity that is derived has the kind of value of its number.
-use Rattle.std.proofs.Common.{◌≡◌, ℕ, List, [], ◌∷◌, ◌++◌, Bool, true, false, cond, IsTrue, Option, Some, None, refl, sym, ap, subst, codes}
+use Rattle.std.proofs.Common.{◌≡◌, ℕ, List, [], ◌∷◌, Bool, true, false, cond, IsTrue, Option, Some, None, refl, codes}
 use Rattle.std.proofs.lemmas.List.Elements.{All-nil, All-cons, All-append}
 use Rattle.std.specs.List.{All}
 use Rattle.std.specs.Str.{bytes_eq}
-use Rattle.grammars.specs.Turn.{Turn}
-use Rattle.grammars.proofs.Keeps.{Keeps, BehindTurn, keeps_place, keeps_done, keeps_in_turn, keeps_turns, keeps_nothing}
+use Rattle.grammars.proofs.Keeps.{Keeps, BehindTurn, keeps_done, keeps_in_turn, keeps_turns, keeps_nothing}
 use Rattle.bsdl_parser.specs.declared.entity.Attr.{Attr}
-use Rattle.bsdl_parser.specs.declared.entity.AttrValue.{AttrValue}
 use Rattle.bsdl_parser.specs.declared.entity.Entity.{Entity}
 use Rattle.bsdl_parser.specs.declared.draft.ItemWord.{ItemWord}
 use Rattle.bsdl_parser.specs.declared.draft.ItemWord.TheVariants as words

@@ -1,5 +1,5 @@
 -- The names and texts of an entity are no longer than its text, and its lists have no more items than the text has bytes.
-use Rattle.std.proofs.Common.{◌≡◌, ℕ, ◌+◌, ◌-◌, ◌<◌, ◌≤◌, List, [], ◌∷◌, ◌++◌, ◌^◌, ◌∙◌, length, map, take, drop, Bool, true, false, Option, Some, None, refl, sym, ap, subst, arith, length-append, length-drop, length-take}
+use Rattle.std.proofs.Common.{◌≡◌, ℕ, ◌+◌, ◌-◌, ◌<◌, ◌≤◌, List, [], ◌∷◌, ◌++◌, ◌^◌, ◌∙◌, length, map, drop, Bool, true, false, Option, Some, None, refl, ap, subst, arith, length-append, length-drop, length-take}
 use Rattle.std.proofs.lemmas.List.{length-map}
 use Rattle.std.proofs.lemmas.List.Elements.{All-nil, All-cons, All-weaker}
 use Rattle.std.specs.List.{All, slice_range}
@@ -10,7 +10,6 @@ use Rattle.bsdl_lexer.specs.Tokens.{IsToken, Stand, AreTokens}
 use Rattle.bsdl_lexer.proofs.Places.{some_bytes, length-range}
 use Rattle.board_defs.specs.declared.device.Mode.{Mode}
 use Rattle.grammars.specs.Turn.{Turn, turn_of}
-use Rattle.grammars.specs.Grammar.{turns}
 use Rattle.grammars.proofs.Keeps.{Keeps, BehindTurn, total, total-append, keeps_place, keeps_done, keeps_in_turn, keeps_turns, keeps_more}
 use Rattle.bsdl_parser.specs.declared.entity.Range.{Range}
 use Rattle.bsdl_parser.specs.declared.entity.Port.{Port}
@@ -25,7 +24,7 @@ use Rattle.bsdl_parser.specs.declared.draft.AttrForm.{AttrForm}
 use Rattle.bsdl_parser.specs.declared.draft.AttrForm.TheVariants as forms
 use Rattle.bsdl_parser.specs.Lexeme.{Lexeme, lexeme_of, lexemes}
 use Rattle.bsdl_parser.specs.Places.{Phrase, some_if, is_word, is_text, any_word, any_text, contents}
-use Rattle.bsdl_parser.specs.Bsdl.{string_piece, string, fallback, generic, port_name, range, range_of, ports_of, group, port_group, ports, used_package, constant, of_class, plain_value, port_value, clock_value, number_value, text_value, value_of, attribute_of, attribute, listed, Items, no_items, item_of, item_begin, item_word, item, file}
+use Rattle.bsdl_parser.specs.Bsdl.{string_piece, string, fallback, generic, port_name, ports_of, group, port_group, ports, used_package, constant, of_class, plain_value, port_value, clock_value, number_value, text_value, value_of, attribute_of, attribute, listed, Items, no_items, item_of, item_begin, item, file}
 use Rattle.bsdl_parser.specs.Answer.{Derives}
 use Rattle.bsdl_parser.specs.Entity.{HasShortText, IsSmall}
 

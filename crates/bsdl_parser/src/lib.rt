@@ -19,3 +19,6 @@ mod strings;
 pub use answer::parse;
 pub use entity::{Attr, AttrValue, Constant, Entity, Port, Range};
 pub use fault::ParseFault;
+
+#[cfg(test)]
+mod tests;

@@ -1,5 +1,5 @@
 -- A reader decides a production: on a whole list it answers the value, and on a cut it runs out of tokens.
-use Rattle.std.proofs.Common.{◌≡◌, ℕ, zero, suc, ◌+◌, Bool, true, false, List, [], ◌∷◌, ◌++◌, length, Option, Some, None, IsSome, ◌⊎◌, inl, inr, refl, sym, ◌∙◌, ap, subst, arith, append_assoc, append-nil}
+use Rattle.std.proofs.Common.{◌≡◌, true, false, List, [], ◌∷◌, ◌++◌, Option, Some, None, IsSome, inl, inr, refl, sym, ◌∙◌, ap, subst, append_assoc, append-nil}
 use Rattle.grammars.specs.Production.{Production}
 use Rattle.grammars.specs.Production as production
 use Rattle.grammars.specs.Reader.{Reader, Outcome, found, refused, after}

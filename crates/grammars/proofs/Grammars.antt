@@ -1,9 +1,9 @@
 -- Each grammar is decided by its reader.
-use Rattle.std.proofs.Common.{◌≡◌, ℕ, ◌<◌, List, length, ◌⊎◌, inl, inr, Option, sym, ◌∙◌, ap}
+use Rattle.std.proofs.Common.{◌≡◌, ◌<◌, List, length, ◌⊎◌, inl, inr, sym, ◌∙◌, ap}
 use Rattle.grammars.specs.Turn.{Turn, again, last}
 use Rattle.grammars.specs.Grammar.{Grammar, place, done, in_turn, turns, production_of, reader_of}
 use Rattle.grammars.proofs.Exact.{Decides, decides_place, decides_done, decides_bind}
-use Rattle.grammars.proofs.Turns.{Shrinks, Keeps, keeps, decides_turns, shrinks_place, shrinks_first, shrinks_second, turns_once}
+use Rattle.grammars.proofs.Turns.{Shrinks, keeps, decides_turns, shrinks_place, shrinks_first, shrinks_second, turns_once}
 use Rattle.grammars.specs.Reader.{Outcome, after, found, refused}
 use Rattle.grammars.specs.Reader as reader
 

@@ -1,13 +1,11 @@
 -- A loop that reads a list, entry by entry.
-use Rattle.std.proofs.Common.{◌≡◌, ℕ, zero, suc, ◌+◌, ◌*◌, ◌<◌, ◌≤◌, Bool, true, false, List, [], ◌∷◌, ◌++◌, length, inl, inr, refl, sym, ◌∙◌, ap, subst, arith, length-append}
-use Rattle.grammars.specs.Turn.{Turn, again, last, turn_of}
-use Rattle.grammars.specs.Production.{Production, Follows}
-use Rattle.grammars.specs.Reader.{Reader, Outcome, found, refused, after}
-use Rattle.grammars.specs.Reader as reader
+use Rattle.std.proofs.Common.{◌≡◌, ℕ, zero, suc, ◌+◌, ◌*◌, ◌<◌, ◌≤◌, Bool, true, false, List, [], ◌∷◌, ◌++◌, length, inl, refl, sym, ◌∙◌, ap, subst, arith, length-append}
+use Rattle.grammars.specs.Turn.{turn_of}
+use Rattle.grammars.specs.Reader.{found, refused}
 use Rattle.grammars.specs.Grammar.{Grammar, turns, production_of, reader_of}
 use Rattle.grammars.specs.Lists.{list_turn, list_of, Fronts, GoesWrongAt}
 use Rattle.grammars.proofs.Exact.{Reads, Decides, IsLocalAt, reads_on, front_alone}
-use Rattle.grammars.proofs.Grammars.{TakesToken, EachTurnTakes, Read, read_grammar, decides_grammar, goes_on, ends, stops, turn_shrinks}
+use Rattle.grammars.proofs.Grammars.{TakesToken, EachTurnTakes, read_grammar, decides_grammar, goes_on, ends, stops, turn_shrinks}
 
 -- what a list is made of can be read
 pub record CanRead {T A : Type 0} (entry : Grammar T A) (more : Grammar T Bool) : Type 0 where

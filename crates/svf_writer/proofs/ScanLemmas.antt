@@ -1,14 +1,15 @@
 -- Lemmas on scans and their rows.
-use Rattle.std.proofs.Common.{◌≡◌, ℕ, ◌+◌, ◌<◌, ◌≤◌, zero, suc, Bool, true, false, cond, ltb, List, [], ◌∷◌, ◌++◌, length, get_or, Option, None, Some, is_some, unwrap_or, refl, sym, ap, ◌∙◌, append_assoc, length-append, arith}
+use Rattle.std.proofs.Common.{◌≡◌, ℕ, ◌+◌, ◌<◌, ◌≤◌, zero, suc, Bool, true, false, cond, ltb, List, [], ◌∷◌, ◌++◌, length, get_or, Option, None, Some, is_some, unwrap_or, replicate, refl, sym, ap, subst, inl, inr, ◌∙◌, append_assoc, length-append, arith}
 use Rattle.std.proofs.lemmas.List.{length-map}
-use Rattle.std.proofs.lemmas.Bool.{lt-ltb, le-ltb}
+use Rattle.std.proofs.lemmas.Bool.{lt-ltb, le-ltb, cases_lt}
 use Rattle.std.specs.Prelude.{decimal, ◌||◌, codes}
 use Rattle.std.specs.List.{list_any}
 use Rattle.bt_bits.specs.Hex.{hex_text, digit_count}
 use Rattle.bt_bits.proofs.HexLemmas.{length-hex_text}
 use Rattle.tap_defs.specs.Scan.{ScanBit, Scan, scan_bits, tdi_bits, tdo_bits, mask_bits, compares}
 use Rattle.tap_defs.specs.Text.{command_word, form, scan_text, gap, laid, compare_text}
-use Rattle.svf_writer.specs.Rows.{IsMasked, rest_text, fields_text, fields_length, fields_lines}
+use Rattle.svf_writer.specs.Fields.{command_text, rest_text, fields_text, fields_length, fields_lines}
+use Rattle.svf_writer.specs.Rows.{IsMasked}
 
 masked_bit : (o m : Bool) → (o ≡ true → m ≡ true) → unwrap_or (cond m (Some o) None) false ≡ o
 masked_bit o true masked = refl
@@ -93,11 +94,7 @@ compare_text-rows long tdi tdo mask true w =
 abbrev pub scan_of : Bool → List Bool → List Bool → List Bool → Scan
 scan_of ir tdi tdo mask = record { ir = ir; bits = scan_bits tdi tdo mask }
 
--- how its text begins
-abbrev pub head_of : Bool → List Bool → List ℕ
-head_of ir tdi = command_word ir ++ 32 ∷ decimal (length tdi)
-
-form-rows : (long ir : Bool) (tdi tdo mask : List Bool) (compare : Bool) → Written tdi tdo mask compare → form long (scan_of ir tdi tdo mask) ≡ head_of ir tdi ++ fields_text long tdi tdo mask compare
+form-rows : (long ir : Bool) (tdi tdo mask : List Bool) (compare : Bool) → Written tdi tdo mask compare → form long (scan_of ir tdi tdo mask) ≡ command_text ir tdi ++ fields_text long tdi tdo mask compare
 form-rows long ir tdi tdo mask compare w =
     let bits = scan_bits tdi tdo mask in
     ap (λ n. command_word ir ++ (32 ∷ decimal n ++ (gap long ∷ codes "TDI (" ++ (laid long (hex_text (tdi_bits bits)) ++ compare_text long bits (compares bits))))) (length-scan_bits tdi tdo mask w.same_tdo w.same_mask)
@@ -111,34 +108,50 @@ length-fields_text tdi tdo mask true w =
     simp length-append (omega (arith, length-hex_text tdi, length-hex_text tdo, length-hex_text mask, ap digit_count w.same_tdo, ap digit_count w.same_mask))
 length-fields_text tdi tdo mask false w = simp length-append (omega (arith, length-hex_text tdi))
 
-length-form : (ir : Bool) (tdi tdo mask : List Bool) (compare : Bool) → Written tdi tdo mask compare → length (form false (scan_of ir tdi tdo mask)) ≡ length (head_of ir tdi) + fields_length compare (digit_count (length tdi))
+length-form : (ir : Bool) (tdi tdo mask : List Bool) (compare : Bool) → Written tdi tdo mask compare → length (form false (scan_of ir tdi tdo mask)) ≡ length (command_text ir tdi) + fields_length compare (digit_count (length tdi))
 length-form ir tdi tdo mask compare w =
-    ap length (form-rows false ir tdi tdo mask compare w) ∙ length-append (head_of ir tdi) (fields_text false tdi tdo mask compare)
-    ∙ ap (λ n. length (head_of ir tdi) + n) (length-fields_text tdi tdo mask compare w)
+    ap length (form-rows false ir tdi tdo mask compare w) ∙ length-append (command_text ir tdi) (fields_text false tdi tdo mask compare)
+    ∙ ap (λ n. length (command_text ir tdi) + n) (length-fields_text tdi tdo mask compare w)
 
 fields_text-lines : (tdi tdo mask : List Bool) (compare : Bool) → fields_text true tdi tdo mask compare ++ 10 ∷ [] ≡ 10 ∷ fields_lines tdi tdo mask compare
 fields_text-lines tdi tdo mask true = simp append_assoc
 fields_text-lines tdi tdo mask false = simp append_assoc
 
 -- a scan that has room in one line
-pub scan_text-short : (ir : Bool) (tdi tdo mask : List Bool) (compare : Bool) → Written tdi tdo mask compare → length (head_of ir tdi) + fields_length compare (digit_count (length tdi)) ≤ 80 → scan_text (scan_of ir tdi tdo mask) ≡ head_of ir tdi ++ (fields_text false tdi tdo mask compare ++ 10 ∷ [])
+pub scan_text-short : (ir : Bool) (tdi tdo mask : List Bool) (compare : Bool) → Written tdi tdo mask compare → length (command_text ir tdi) + fields_length compare (digit_count (length tdi)) ≤ 80 → scan_text (scan_of ir tdi tdo mask) ≡ command_text ir tdi ++ (fields_text false tdi tdo mask compare ++ 10 ∷ [])
 scan_text-short ir tdi tdo mask compare w short =
     let fits : ltb 80 (length (form false (scan_of ir tdi tdo mask))) ≡ false =
-    ap (ltb 80) (length-form ir tdi tdo mask compare w) ∙ le-ltb 80 (length (head_of ir tdi) + fields_length compare (digit_count (length tdi))) short in
+    ap (ltb 80) (length-form ir tdi tdo mask compare w) ∙ le-ltb 80 (length (command_text ir tdi) + fields_length compare (digit_count (length tdi))) short in
     ap (λ long. form long (scan_of ir tdi tdo mask) ++ 10 ∷ []) fits
     ∙ ap (λ t. t ++ 10 ∷ []) (form-rows false ir tdi tdo mask compare w)
-    ∙ append_assoc (head_of ir tdi) (fields_text false tdi tdo mask compare) (10 ∷ [])
+    ∙ append_assoc (command_text ir tdi) (fields_text false tdi tdo mask compare) (10 ∷ [])
 
 -- a longer scan
-pub scan_text-long : (ir : Bool) (tdi tdo mask : List Bool) (compare : Bool) → Written tdi tdo mask compare → 80 < length (head_of ir tdi) + fields_length compare (digit_count (length tdi)) → scan_text (scan_of ir tdi tdo mask) ≡ (head_of ir tdi ++ 10 ∷ []) ++ fields_lines tdi tdo mask compare
+pub scan_text-long : (ir : Bool) (tdi tdo mask : List Bool) (compare : Bool) → Written tdi tdo mask compare → 80 < length (command_text ir tdi) + fields_length compare (digit_count (length tdi)) → scan_text (scan_of ir tdi tdo mask) ≡ (command_text ir tdi ++ 10 ∷ []) ++ fields_lines tdi tdo mask compare
 scan_text-long ir tdi tdo mask compare w more =
     let long : ltb 80 (length (form false (scan_of ir tdi tdo mask))) ≡ true =
-    ap (ltb 80) (length-form ir tdi tdo mask compare w) ∙ lt-ltb 80 (length (head_of ir tdi) + fields_length compare (digit_count (length tdi))) more in
+    ap (ltb 80) (length-form ir tdi tdo mask compare w) ∙ lt-ltb 80 (length (command_text ir tdi) + fields_length compare (digit_count (length tdi))) more in
     ap (λ long. form long (scan_of ir tdi tdo mask) ++ 10 ∷ []) long
     ∙ ap (λ t. t ++ 10 ∷ []) (form-rows true ir tdi tdo mask compare w)
-    ∙ append_assoc (head_of ir tdi) (fields_text true tdi tdo mask compare) (10 ∷ [])
-    ∙ ap (λ t. head_of ir tdi ++ t) (fields_text-lines tdi tdo mask compare)
-    ∙ sym (append_assoc (head_of ir tdi) (10 ∷ []) (fields_lines tdi tdo mask compare))
+    ∙ append_assoc (command_text ir tdi) (fields_text true tdi tdo mask compare) (10 ∷ [])
+    ∙ ap (λ t. command_text ir tdi ++ t) (fields_text-lines tdi tdo mask compare)
+    ∙ sym (append_assoc (command_text ir tdi) (10 ∷ []) (fields_lines tdi tdo mask compare))
+
+-- the line that the command begins, where the fields have room in it
+pub line_short : (ir : Bool) (tdi tdo mask : List Bool) (compare : Bool) (line : List ℕ) → Written tdi tdo mask compare → line ≡ command_text ir tdi → length line + fields_length compare (digit_count (length tdi)) ≤ 80 → line ++ (fields_text false tdi tdo mask compare ++ 10 ∷ []) ≡ scan_text (scan_of ir tdi tdo mask)
+line_short ir tdi tdo mask compare line w begun short =
+    ap (λ t. t ++ (fields_text false tdi tdo mask compare ++ 10 ∷ [])) begun
+    ∙ sym (scan_text-short ir tdi tdo mask compare w (subst (λ t. length t + fields_length compare (digit_count (length tdi)) ≤ 80) begun short))
+
+not_short : (n : ℕ) → (n ≤ 80 → false ≡ true) → 80 < n
+not_short n refused = elim (cases_lt 80 n) [ inl more ↦ more | inr short ↦ (let bad : false ≡ true = refused short in absurd cc) ]
+
+-- and where they have none
+pub line_long : (ir : Bool) (tdi tdo mask : List Bool) (compare : Bool) (line : List ℕ) → Written tdi tdo mask compare → line ≡ command_text ir tdi → (length line + fields_length compare (digit_count (length tdi)) ≤ 80 → false ≡ true) → (line ++ 10 ∷ []) ++ fields_lines tdi tdo mask compare ≡ scan_text (scan_of ir tdi tdo mask)
+line_long ir tdi tdo mask compare line w begun refused =
+    ap (λ t. (t ++ 10 ∷ []) ++ fields_lines tdi tdo mask compare) begun
+    ∙ sym (scan_text-long ir tdi tdo mask compare w
+    (subst (λ t. 80 < length t + fields_length compare (digit_count (length tdi))) begun (not_short (length line + fields_length compare (digit_count (length tdi))) refused)))
 
 -- rows that hold the bits of a scan make that scan, and are masked
 pub scan_of_rows : (bits : List ScanBit) (tdi tdo mask : List Bool) → tdi ≡ tdi_bits bits → tdo ≡ tdo_bits bits → mask ≡ mask_bits bits → scan_bits tdi tdo mask ≡ bits
@@ -149,3 +162,12 @@ scan_of_rows bits tdi tdo mask is_tdi is_tdo is_mask =
 pub masked_rows : (bits : List ScanBit) (tdo mask : List Bool) → tdo ≡ tdo_bits bits → mask ≡ mask_bits bits → IsMasked tdo mask
 masked_rows bits tdo mask is_tdo is_mask i one =
     ap (λ t. get_or t i false) is_mask ∙ IsMasked-rows bits i (sym (ap (λ t. get_or t i false) is_tdo) ∙ one)
+
+pub scan_text-rows : (ir : Bool) (bits : List ScanBit) (tdi tdo mask : List Bool) → tdi ≡ tdi_bits bits → tdo ≡ tdo_bits bits → mask ≡ mask_bits bits → scan_text (scan_of ir tdi tdo mask) ≡ scan_text (record { ir = ir; bits = bits })
+scan_text-rows ir bits tdi tdo mask is_tdi is_tdo is_mask =
+    ap (λ (bits : List ScanBit). let scan : Scan = record { ir = ir; bits = bits } in scan_text scan) (scan_of_rows bits tdi tdo mask is_tdi is_tdo is_mask)
+
+-- nothing is compared under a mask of zeros
+pub none_compared : (n : ℕ) → list_any (λ bit. bit) (replicate n false) ≡ false
+none_compared zero = refl
+none_compared (suc n) = none_compared n

@@ -1,13 +1,8 @@
 -- The bits of the two scans of the chain test.
-use Rattle.std.specs.Prelude.{ℕ, ◌+◌, ◌≤◌, Bool, true, false, List, ◌++◌, length, map, replicate, slice_set, sum}
+use Rattle.std.specs.Prelude.{ℕ, ◌+◌, Bool, true, false, List, ◌++◌, map, replicate, slice_set}
 use Rattle.tap_defs.specs.Scan.{ScanBit}
 use Rattle.tap_defs.specs.Codes.{instructs}
 use Rattle.tap_defs.specs.ChainScans.{marks, compared}
-
--- room for both scans of parts with these instruction lengths
-pub record IsRoom (lengths : List ℕ) (room : ℕ) : Type 0 where
-  pub codes : sum lengths ≤ room
-  pub marks : length lengths + 8 ≤ room
 
 -- the code of ones, BYPASS, for each part
 abbrev pub bypass_bits : List ℕ → List ScanBit

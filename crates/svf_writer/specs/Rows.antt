@@ -1,29 +1,11 @@
--- What rows have to keep that are written as a scan, and the texts of their fields.
-use Rattle.std.specs.Prelude.{◌≡◌, ℕ, ◌+◌, ◌*◌, Bool, true, false, List, ◌∷◌, ◌++◌, slice_index_or, codes}
-use Rattle.bt_bits.specs.Hex.{hex_text}
-use Rattle.tap_defs.specs.Text.{gap, laid, broken}
+-- What has to hold of rows that are written as scans.
+use Rattle.std.specs.Prelude.{◌≡◌, ℕ, ◌+◌, ◌≤◌, Bool, true, false, List, length, slice_index_or, sum}
 
 -- a bit of TDO is 1 only where that of MASK is 1
 abbrev pub IsMasked : List Bool → List Bool → Type 0
 IsMasked tdo mask = (i : ℕ) → slice_index_or tdo i false ≡ true → slice_index_or mask i false ≡ true
 
--- from the end of TDI on: TDO and MASK, where something is compared
-abbrev pub rest_text : Bool → List Bool → List Bool → Bool → List ℕ
-rest_text long tdo mask false = codes ");"
-rest_text long tdo mask true =
-    41 ∷ gap long ∷ codes "TDO (" ++ (laid long (hex_text tdo) ++ (41 ∷ gap long ∷ codes "MASK (" ++ (laid long (hex_text mask) ++ codes ");")))
-
--- the fields of a scan
-abbrev pub fields_text : Bool → List Bool → List Bool → List Bool → Bool → List ℕ
-fields_text long tdi tdo mask compare = gap long ∷ codes "TDI (" ++ (laid long (hex_text tdi) ++ rest_text long tdo mask compare)
-
--- how long the fields are in one line
-abbrev pub fields_length : Bool → ℕ → ℕ
-fields_length true digits = 3 * digits + 23
-fields_length false digits = digits + 8
-
--- the fields in lines of their own
-abbrev pub fields_lines : List Bool → List Bool → List Bool → Bool → List ℕ
-fields_lines tdi tdo mask false = codes "TDI (" ++ (broken 64 (hex_text tdi) ++ codes ");\n")
-fields_lines tdi tdo mask true =
-    (codes "TDI (" ++ (broken 64 (hex_text tdi) ++ codes ")\n")) ++ ((codes "TDO (" ++ (broken 64 (hex_text tdo) ++ codes ")\n")) ++ (codes "MASK (" ++ (broken 64 (hex_text mask) ++ codes ");\n")))
+-- room for both scans of the chain test of parts with these instruction lengths
+pub record IsRoom (lengths : List ℕ) (room : ℕ) : Type 0 where
+  pub codes : sum lengths ≤ room
+  pub marks : length lengths + 8 ≤ room

@@ -4,7 +4,8 @@ ghost use Rattle.bt_base.specs.Puts.{Puts};
 ghost use Rattle.tap_defs.specs.Scan.{tdi_bits, tdo_bits, mask_bits};
 ghost use Rattle.tap_defs.specs.Text.{scan_text, scan_texts};
 ghost use Rattle.tap_defs.specs.ChainScans.{chain_scans};
-ghost use Rattle.svf_writer.specs.Chain.{bypass_bits, mark_bits, marked, IsRoom};
+ghost use Rattle.svf_writer.specs.Chain.{bypass_bits, mark_bits, marked};
+ghost use Rattle.svf_writer.specs.Rows.{IsRoom};
 
 use crate::write_scan;
 use bt_base::{PutFault, Sink};
@@ -62,8 +63,8 @@ fn fill_marks(parts: u32, tdi: &mut Row, tdo: &mut Row, mask: &mut Row)
 // Sets what is compared of one part's instruction, whose lowest bit has this position: 01 in the two lowest bits.
 fn set_capture(at: u32, tdo: &mut Row, mask: &mut Row)
     requires few { at ≤ 65535 }
-    requires tdo { at < length tdo.old.bits }
-    requires mask { at + 1 < length mask.old.bits }
+    requires tdo { at + 2 ≤ length tdo.old.bits }
+    requires mask { at + 2 ≤ length mask.old.bits }
     ensures tdo { tdo.new.bits ≡ slice_set tdo.old.bits at true }
     ensures mask { mask.new.bits ≡ slice_set (slice_set mask.old.bits at true) (at + 1) true }
     ensures tdo_kept { tdo.new.room ≡ tdo.old.room }
@@ -180,7 +181,9 @@ fn write_marks<K: Sink>(
 /// Puts the two scans of the chain test of parts with these instruction lengths, in the order from TDI to TDO. The
 /// first shifts ones, BYPASS, into every instruction register and compares the 01 that each loads in Capture-IR. The
 /// second shifts A5 through the bypass registers and compares it as many positions later as there are parts. There are
-/// 1 to 255 parts with lengths from 2 to 255, and the rows have room for both scans. No memory is taken.
+/// 1 to 255 parts with lengths from 2 to 255, and the rows have room for both scans. No memory is taken, and the rows
+/// and the line serve to write in: nothing is said of what they hold afterwards. It fails only where the sink does, and
+/// then a prefix of the text was put.
 pub fn write_chain<K: Sink>(
     lengths: &[u32],
     tdi: &mut Row,

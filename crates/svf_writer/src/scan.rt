@@ -1,11 +1,12 @@
 // The text of one scan.
-ghost use Rattle.std.specs.Prelude.{◌≡◌, ◌+◌, ◌*◌, ◌<◌, ◌≤◌, [], ◌∷◌, ◌++◌, true, false, length, take, drop, decimal};
+ghost use Rattle.std.specs.Prelude.{◌≡◌, ◌↔◌, ◌+◌, ◌*◌, ◌<◌, ◌≤◌, [], ◌∷◌, ◌++◌, true, false, length, take, drop, IsTrue};
 ghost use Rattle.std.specs.List.{list_any};
 ghost use Rattle.bt_base.specs.Puts.{Puts};
 ghost use Rattle.bt_bits.specs.Hex.{hex_text, digit_count};
 ghost use Rattle.tap_defs.specs.Scan.{scan_bits};
-ghost use Rattle.tap_defs.specs.Text.{command_word, broken, scan_text};
-ghost use Rattle.svf_writer.specs.Rows.{IsMasked, fields_text, fields_length, fields_lines};
+ghost use Rattle.tap_defs.specs.Text.{broken, scan_text};
+ghost use Rattle.svf_writer.specs.Fields.{command_text, fields_text, fields_length, fields_lines};
+ghost use Rattle.svf_writer.specs.Rows.{IsMasked};
 
 use bt_base::{PutFault, Sink};
 use bt_bits::{Line, Row};
@@ -17,15 +18,15 @@ const MAX_SHORT: usize = 80;
 // How many digits a line of a longer scan has at most.
 const LINE_DIGITS: u32 = 64;
 
-#[tactic(auto, using(bt_bits::proofs::DecimalLemmas::decimal_is_short))]
 // Begins a line with the command and the length of a scan.
-fn begin(ir: bool, len: u32, line: &mut Line)
-    ensures text { line.new ≡ command_word ir ++ 32 ∷ decimal len }
+#[tactic(auto, using(bt_bits::proofs::DecimalLemmas::decimal_is_short))]
+fn begin(ir: bool, tdi: &Row, line: &mut Line)
+    ensures text { line.new ≡ command_text ir tdi.now.bits }
     ensures short { length line.new ≤ 24 }
 {
     line.clear();
     line.push(if ir { b"SIR " } else { b"SDR " });
-    line.push_number(u64::from(len));
+    line.push_number(u64::from(tdi.len()));
 }
 
 // How many digits a row's field has.
@@ -94,6 +95,14 @@ fn put_full_line<K: Sink>(
     let done = out.put(line.bytes());
     line.clear();
     done
+}
+
+// Whether the fields of a scan have room in the line that its command begins.
+fn has_room(compare: bool, tdi: &Row, line: &Line) -> bool
+    requires { length tdi.now.bits ≤ 65535 }
+    ensures { IsTrue result ↔ (length line.now + fields_length compare (digit_count (length tdi.now.bits)) ≤ 80) }
+{
+    line.len() + fields_length(compare, digit_count(tdi)) <= MAX_SHORT
 }
 
 // Puts a field in lines: a label, digits in lines of 64, and an end.
@@ -186,7 +195,9 @@ fn put_lines<K: Sink>(
 
 /// Puts the statement of a scan, in one line where that has at most 80 characters, and else each field in lines of
 /// at most 64 digits (SVF Revision E, SIR and SDR). The rows have one length, from 1 to 65,535, and `shape.compare`
-/// says whether the mask has a 1. Each line goes out in one put, and no memory is taken.
+/// says whether the mask has a 1; a bit of TDO is 1 only where that of the mask is 1. Each line goes out in one put. No
+/// memory is taken, and the line serves to write in. It fails only where the sink does, and then a prefix of the text
+/// was put.
 pub fn write_scan<K: Sink>(
     shape: Shape,
     tdi: &Row,
@@ -204,8 +215,8 @@ pub fn write_scan<K: Sink>(
     ensures { Puts (K.shown out.old) (K.shown out.new)
         (scan_text (record { ir = shape.ir; bits = scan_bits tdi.now.bits tdo.now.bits mask.now.bits })) result }
 {
-    begin(shape.ir, tdi.len(), line);
-    if line.len() + fields_length(shape.compare, digit_count(tdi)) <= MAX_SHORT {
+    begin(shape.ir, tdi, line);
+    if has_room(shape.compare, tdi, line) {
         push_fields(shape.compare, tdi, tdo, mask, line);
         out.put(line.bytes())
     } else {

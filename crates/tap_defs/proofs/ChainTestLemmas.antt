@@ -236,7 +236,8 @@ module _ (lengths : List ℕ) (are : AreIrLengths lengths) (most : sum lengths �
         ∙ ones_left (joined captured) (joined (ones lengths)) (length code_part) (omega (arith, captured_size, code_size, few)) (ones_are lengths))
 
     -- and the second scan reads as many zeros as there are parts, and the marks behind them
-    counts_read : sum (ir_lengths parts) ≤ sum lengths → counts_pass ≡ scan_passes count_part (replicate (length parts) false ++ (marks ++ zeros))
+    counts_read : sum (ir_lengths parts) ≤ sum lengths →
+        counts_pass ≡ scan_passes count_part (replicate (length parts) false ++ (marks ++ zeros))
     counts_read few =
         let bypass = all_bypass few in
         let loaded : List (List Bool) = data_captured wiring f7 coded in
@@ -257,7 +258,8 @@ module _ (lengths : List ℕ) (are : AreIrLengths lengths) (most : sum lengths �
         ∙ ap (λ (r : List Bool). scan_passes code_part r) (take_front (length code_part) (joined captured) (tdi_bits code_part) size)
         ∙ instructs_pass (ones lengths) headed (f6 3).parts fits room
 
-  passes : (wiring : Wiring) (parts : List TestLogic) → ir_lengths parts ≡ lengths → PassesOn wiring parts (test_clocks (chain_scans lengths))
+  passes : (wiring : Wiring) (parts : List TestLogic) → ir_lengths parts ≡ lengths →
+      PassesOn wiring parts (test_clocks (chain_scans lengths))
   passes wiring parts e chain choices start =
       let few : sum (ir_lengths parts) ≤ sum lengths = omega (arith, ap (λ (l : List ℕ). sum l) e) in
       let same : length parts ≡ length lengths = sym (length-map parts (λ p. p.ir_length)) ∙ ap (λ (l : List ℕ). length l) e in

@@ -32,7 +32,8 @@ captures_by logic pins free tdi ir Bypass b y c l h = record { register_is = ref
 captures_by logic pins free tdi ir Idcode b y c l h = record { register_is = refl; frame = refl; selecting = (refl, h) }
 captures_by logic pins free tdi ir Other b y c l h = absurd (h refl)
 
-part_captures : (logic : TestLogic) (pins : List Bool) (free : FreeBits) (tdi : Bool) (s : PartState) → s.tap ≡ CaptureDR → s.current ≢ Other →
+part_captures : (logic : TestLogic) (pins : List Bool) (free : FreeBits) (tdi : Bool) (s : PartState) → s.tap ≡ CaptureDR →
+    s.current ≢ Other →
     Captures (dr_capture logic pins free s.current (length s.boundary)) logic s (part_after logic pins free false tdi s)
 part_captures logic pins free tdi s e h =
     at_tap (λ w. Captures (dr_capture logic pins free w.current (length w.boundary)) logic w (part_after logic pins free false tdi w)) CaptureDR s e
@@ -76,7 +77,8 @@ shifts_by logic pins free true tdi ir Idcode b y c l h = record { register = shi
 shifts_by logic pins free false tdi ir Idcode b y c l h = record { register = shift_is c tdi; size = length-shifted c tdi; frame = refl; selecting = (refl, h) }
 shifts_by logic pins free tms tdi ir Other b y c l h = absurd (h refl)
 
-part_shifts : (logic : TestLogic) (pins : List Bool) (free : FreeBits) (tms tdi : Bool) (s : PartState) → s.tap ≡ ShiftDR → s.current ≢ Other →
+part_shifts : (logic : TestLogic) (pins : List Bool) (free : FreeBits) (tms tdi : Bool) (s : PartState) → s.tap ≡ ShiftDR →
+    s.current ≢ Other →
     Shifts (next_state ShiftDR tms) logic tdi (part_tdo free tdi s) s (part_after logic pins free tms tdi s)
 part_shifts logic pins free tms tdi s e h =
     at_tap (λ w. Shifts (next_state ShiftDR tms) logic tdi (part_tdo free tdi w) w (part_after logic pins free tms tdi w)) ShiftDR s e

@@ -18,11 +18,13 @@ use Rattle.tap_defs.proofs.MoveLemmas.{way}
 use Rattle.tap_defs.proofs.RunLemmas.{run_keeps, two_pass}
 
 -- the parts of a chain stay
-chain_logics : (ps : List ChainPart) (pins : ℕ → List Bool) (free : ℕ → FreeBits) (tms tdi : Bool) → logics (chain_after ps pins free tms tdi) ≡ logics ps
+pub chain_logics : (ps : List ChainPart) (pins : ℕ → List Bool) (free : ℕ → FreeBits) (tms tdi : Bool) →
+    logics (chain_after ps pins free tms tdi) ≡ logics ps
 chain_logics [] pins free tms tdi = refl
 chain_logics (p ∷ ps) pins free tms tdi = cons_path refl (chain_logics ps (λ k. pins (suc k)) (λ k. free (suc k)) tms (part_tdo (free 0) tdi p.state))
 
-pub run_logics : (wiring : Wiring) (cs : List Clock) (choices : Choices) (ps : List ChainPart) → logics (run wiring cs choices ps) ≡ logics ps
+pub run_logics : (wiring : Wiring) (cs : List Clock) (choices : Choices) (ps : List ChainPart) →
+    logics (run wiring cs choices ps) ≡ logics ps
 run_logics wiring cs choices ps =
     run_keeps (λ (qs : List ChainPart). logics qs ≡ logics ps) wiring
     (λ c choice qs e. chain_logics qs (pins_at wiring choice qs) choice.parts c.tms (clock_tdi c choice) ∙ e) cs choices ps refl
@@ -42,7 +44,8 @@ old_ir ShiftDR Bypass logic pins free tdi s = refl
 old_ir ShiftDR Idcode logic pins free tdi s = refl
 old_ir _ _ logic pins free tdi s = refl
 
-new_ir : (t : TapState) (i : Instruction) (logic : TestLogic) (free : FreeBits) (s : PartState) → (new_state_acts t i logic free s).ir ≡ s.ir
+new_ir : (t : TapState) (i : Instruction) (logic : TestLogic) (free : FreeBits) (s : PartState) →
+    (new_state_acts t i logic free s).ir ≡ s.ir
 new_ir UpdateIR i logic free s = refl
 new_ir UpdateDR Extest logic free s = refl
 new_ir UpdateDR Sample logic free s = refl
@@ -60,17 +63,19 @@ part_ir logic pins free tms tdi s =
 abbrev pub ir_sizes : List ChainPart → List ℕ
 ir_sizes ps = map length (ir_registers ps)
 
-chain_ir : (ps : List ChainPart) (pins : ℕ → List Bool) (free : ℕ → FreeBits) (tms tdi : Bool) → ir_sizes (chain_after ps pins free tms tdi) ≡ ir_sizes ps
+chain_ir : (ps : List ChainPart) (pins : ℕ → List Bool) (free : ℕ → FreeBits) (tms tdi : Bool) →
+    ir_sizes (chain_after ps pins free tms tdi) ≡ ir_sizes ps
 chain_ir [] pins free tms tdi = refl
 chain_ir (p ∷ ps) pins free tms tdi =
     cons_path (part_ir p.logic (pins 0) (free 0) tms tdi p.state) (chain_ir ps (λ k. pins (suc k)) (λ k. free (suc k)) tms (part_tdo (free 0) tdi p.state))
 
-pub run_ir : (wiring : Wiring) (cs : List Clock) (choices : Choices) (ps : List ChainPart) → ir_sizes (run wiring cs choices ps) ≡ ir_sizes ps
+pub run_ir : (wiring : Wiring) (cs : List Clock) (choices : Choices) (ps : List ChainPart) →
+    ir_sizes (run wiring cs choices ps) ≡ ir_sizes ps
 run_ir wiring cs choices ps =
     run_keeps (λ (qs : List ChainPart). ir_sizes qs ≡ ir_sizes ps) wiring
     (λ c choice qs e. chain_ir qs (pins_at wiring choice qs) choice.parts c.tms (clock_tdi c choice) ∙ e) cs choices ps refl
 
-states_ir : (ps : List ChainPart) → AllAreStates ps → ir_sizes ps ≡ ir_lengths (logics ps)
+pub states_ir : (ps : List ChainPart) → AllAreStates ps → ir_sizes ps ≡ ir_lengths (logics ps)
 states_ir [] h = refl
 states_ir (p ∷ ps) h = cons_path h.0.ir (states_ir ps h.1)
 
@@ -78,7 +83,8 @@ pub chain_lengths : (parts : List TestLogic) (ps : List ChainPart) → IsChainOf
 chain_lengths parts ps h = states_ir ps h.states_are ∙ ap (λ (l : List TestLogic). ir_lengths l) h.logics_are
 
 -- the TAP moves by the table
-new_tap : (t : TapState) (i : Instruction) (logic : TestLogic) (free : FreeBits) (s : PartState) → (new_state_acts t i logic free s).tap ≡ s.tap
+new_tap : (t : TapState) (i : Instruction) (logic : TestLogic) (free : FreeBits) (s : PartState) →
+    (new_state_acts t i logic free s).tap ≡ s.tap
 new_tap UpdateIR i logic free s = refl
 new_tap UpdateDR Extest logic free s = refl
 new_tap UpdateDR Sample logic free s = refl
@@ -86,7 +92,7 @@ new_tap UpdateDR Other logic free s = refl
 new_tap TestLogicReset i logic free s = refl
 new_tap _ _ logic free s = refl
 
-part_tap : (logic : TestLogic) (pins : List Bool) (free : FreeBits) (tms tdi : Bool) (s : PartState) →
+pub part_tap : (logic : TestLogic) (pins : List Bool) (free : FreeBits) (tms tdi : Bool) (s : PartState) →
     (part_after logic pins free tms tdi s).tap ≡ next_state s.tap tms
 part_tap logic pins free tms tdi s =
     new_tap (next_state s.tap tms) s.current logic free (record (old_state_acts s.tap s.current logic pins free tdi s) { tap = next_state s.tap tms })
@@ -108,7 +114,8 @@ led_in : (u : TapState) (ps : List ChainPart) → AllLead u [] ps → AllIn u ps
 led_in u [] h = tt
 led_in u (p ∷ ps) h = (h.0, led_in u ps h.1)
 
-run_leads : (wiring : Wiring) (u : TapState) (cs : List Clock) (choices : Choices) (ps : List ChainPart) → AllLead u cs ps → AllIn u (run wiring cs choices ps)
+run_leads : (wiring : Wiring) (u : TapState) (cs : List Clock) (choices : Choices) (ps : List ChainPart) → AllLead u cs ps →
+    AllIn u (run wiring cs choices ps)
 unfolding run
 run_leads wiring u [] choices ps h = led_in u ps h
 run_leads wiring u (c ∷ cs) choices ps h =

@@ -47,7 +47,8 @@ tdi_bits-instructs (c ∷ codes) =
     ∙ ap (λ (r : List Bool). joined codes ++ r) (tdi_bits-code_bits c)
 
 -- what a part captures has 01 in the two lowest bits
-code_passes : (code ir : List Bool) (free : ℕ → Bool) → length code ≡ length ir → 2 ≤ length ir → scan_passes (code_bits code) (captured_ir ir free) ≡ true
+code_passes : (code ir : List Bool) (free : ℕ → Bool) → length code ≡ length ir → 2 ≤ length ir →
+    scan_passes (code_bits code) (captured_ir ir free) ≡ true
 code_passes code [] free e h = absurd (omega (arith, h))
 code_passes code (x ∷ []) free e h = absurd (omega (arith, h))
 code_passes [] (x ∷ y ∷ ir) free e h = absurd (omega (arith, e))
@@ -59,7 +60,8 @@ abbrev pub AllRoom : List ℕ → Type 0
 AllRoom [] = Unit {0}
 AllRoom (n ∷ lengths) = (2 ≤ n) × AllRoom lengths
 
-pub instructs_pass : (codes : List (List Bool)) (ps : List ChainPart) (free : ℕ → FreeBits) → map length codes ≡ map length (ir_registers ps) →
+pub instructs_pass : (codes : List (List Bool)) (ps : List ChainPart) (free : ℕ → FreeBits) →
+    map length codes ≡ map length (ir_registers ps) →
     AllRoom (map length (ir_registers ps)) → scan_passes (joined (map code_bits codes)) (joined (ir_captures free ps)) ≡ true
 instructs_pass [] ps free e room = refl
 instructs_pass (c ∷ codes) [] free e room = cc e

@@ -13,3 +13,31 @@ pub mod MeaningLemmas
 pub mod SampleStates
 pub mod SampleTexts
 pub mod SampleRun
+pub mod ScanLemmas
+pub mod StateLemmas
+pub mod InTestLemmas
+pub mod RowScanLemmas
+pub mod WrongLemmas
+pub mod LiveLemmas
+pub mod FeedingLemmas
+pub mod ReadingLemmas
+pub mod DetectionLemmas
+pub mod TraceLemmas
+pub mod PassingLemmas
+pub mod QuietLemmas
+pub mod NetRuleLemmas
+pub mod EntryLemmas
+pub mod WholeLemmas
+pub mod CalmLemmas
+pub mod CodeBitLemmas
+pub mod PlanLemmas
+pub mod BoardTestLemmas
+pub mod ResponseLemmas
+pub mod WidthLemmas
+pub mod SampleBoards
+mod SampleTests
+mod SampleNets
+pub mod SingleLemmas
+pub mod ScanPlaceLemmas
+mod SampleBoardRuns
+mod SampleQuiet

@@ -15,7 +15,8 @@ pub drop_front : {A : Type 0} (n : ℕ) (front rest : List A) → length front �
 drop_front n front rest e = subst (λ (m : ℕ). drop m (front ++ rest) ≡ rest) e (drop-append_seam front rest)
 
 -- registers that are as long each are as long joined
-pub length-joined : {A B : Type 0} (rs : List (List A)) (qs : List (List B)) → map length rs ≡ map length qs → length (joined rs) ≡ length (joined qs)
+pub length-joined : {A B : Type 0} (rs : List (List A)) (qs : List (List B)) → map length rs ≡ map length qs →
+    length (joined rs) ≡ length (joined qs)
 length-joined [] [] e = refl
 length-joined [] (q ∷ qs) e = cc e
 length-joined (r ∷ rs) [] e = cc e

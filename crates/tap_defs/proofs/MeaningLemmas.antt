@@ -82,7 +82,8 @@ one_scan scan rest some fits =
 abbrev scan_statements : List Scan → List Statement
 scan_statements scans = map ScanOf scans
 
-scans_read : (scans : List Scan) (rest : List ℕ) (more : List Statement) → AllSized scans → statements_in (tokens_from [] rest) ≡ Some more →
+scans_read : (scans : List Scan) (rest : List ℕ) (more : List Statement) → AllSized scans →
+    statements_in (tokens_from [] rest) ≡ Some more →
     statements_in (tokens_from [] (scan_texts scans ++ rest)) ≡ Some (scan_statements scans ++ more)
 scans_read [] rest more h e = e
 scans_read (s ∷ scans) rest more h e =
@@ -192,7 +193,8 @@ tail_read : statements_in (tokens_from [] tail_text) ≡ Some tail_statements
 unfolding tokens_from
 tail_read = refl
 
-pub text_read : (scans : List Scan) → AllSized scans → text_statements (svf_text scans) ≡ Some (head_statements ++ (scan_statements scans ++ tail_statements))
+pub text_read : (scans : List Scan) → AllSized scans →
+    text_statements (svf_text scans) ≡ Some (head_statements ++ (scan_statements scans ++ tail_statements))
 unfolding text_statements svf_text
 text_read scans h =
     ap (λ (text : List ℕ). statements_in (tokens_from [] text)) (bare_stays (head_text ++ (scan_texts scans ++ tail_text)) (text_bare scans h))

@@ -44,7 +44,8 @@ changes UpdateDR = true
 changes UpdateIR = true
 changes _ = false
 
-old_rests : (t : TapState) (i : Instruction) (logic : TestLogic) (pins : List Bool) (free : FreeBits) (tdi : Bool) (s : PartState) → rests t ≡ true →
+old_rests : (t : TapState) (i : Instruction) (logic : TestLogic) (pins : List Bool) (free : FreeBits) (tdi : Bool) (s : PartState) →
+    rests t ≡ true →
     old_state_acts t i logic pins free tdi s ≡ s
 old_rests CaptureDR i logic pins free tdi s e = cc e
 old_rests ShiftDR i logic pins free tdi s e = cc e
@@ -52,7 +53,8 @@ old_rests CaptureIR i logic pins free tdi s e = cc e
 old_rests ShiftIR i logic pins free tdi s e = cc e
 old_rests _ _ logic pins free tdi s e = refl
 
-new_rests : (t : TapState) (i : Instruction) (logic : TestLogic) (free : FreeBits) (s : PartState) → changes t ≡ false → new_state_acts t i logic free s ≡ s
+new_rests : (t : TapState) (i : Instruction) (logic : TestLogic) (free : FreeBits) (s : PartState) → changes t ≡ false →
+    new_state_acts t i logic free s ≡ s
 new_rests TestLogicReset i logic free s e = cc e
 new_rests UpdateDR i logic free s e = cc e
 new_rests UpdateIR i logic free s e = cc e
@@ -65,7 +67,8 @@ part_moves logic pins free tms tdi s e f =
     ap (λ (w : PartState). new_state_acts u s.current logic free (record w { tap = u })) (old_rests s.tap s.current logic pins free tdi s e)
     ∙ new_rests u s.current logic free (with_tap u s) f
 
-pub chain_moves : (t : TapState) (ps : List ChainPart) (pins : ℕ → List Bool) (free : ℕ → FreeBits) (tms tdi : Bool) → AllIn t ps → rests t ≡ true →
+pub chain_moves : (t : TapState) (ps : List ChainPart) (pins : ℕ → List Bool) (free : ℕ → FreeBits) (tms tdi : Bool) → AllIn t ps →
+    rests t ≡ true →
     changes (next_state t tms) ≡ false → chain_after ps pins free tms tdi ≡ map (moved_to (next_state t tms)) ps
 chain_moves t [] pins free tms tdi h e f = refl
 chain_moves t (p ∷ ps) pins free tms tdi h e f =
@@ -86,7 +89,8 @@ pub dr_captures-moved_to : (t : TapState) (ps : List ChainPart) (pins : ℕ → 
 dr_captures-moved_to t [] pins free = refl
 dr_captures-moved_to t (p ∷ ps) pins free = cons_path refl (dr_captures-moved_to t ps (λ k. pins (suc k)) (λ k. free (suc k)))
 
-pub ir_captures-moved_to : (t : TapState) (ps : List ChainPart) (free : ℕ → FreeBits) → ir_captures free (map (moved_to t) ps) ≡ ir_captures free ps
+pub ir_captures-moved_to : (t : TapState) (ps : List ChainPart) (free : ℕ → FreeBits) →
+    ir_captures free (map (moved_to t) ps) ≡ ir_captures free ps
 ir_captures-moved_to t [] free = refl
 ir_captures-moved_to t (p ∷ ps) free = cons_path refl (ir_captures-moved_to t ps (λ k. free (suc k)))
 
@@ -120,7 +124,8 @@ abbrev pub is_clear : TapState → List Clock → Bool
 is_clear t [] = true
 is_clear t (c ∷ cs) = (rests t && not (changes (next_state t c.tms))) && is_clear (next_state t c.tms) cs
 
-pub run_moves : (wiring : Wiring) (t : TapState) (cs : List Clock) (choices : Choices) (ps : List ChainPart) → AllIn t ps → is_clear t cs ≡ true →
+pub run_moves : (wiring : Wiring) (t : TapState) (cs : List Clock) (choices : Choices) (ps : List ChainPart) → AllIn t ps →
+    is_clear t cs ≡ true →
     run wiring cs choices ps ≡ map (moved_to (way t cs)) ps
 unfolding run
 run_moves wiring t [] choices ps h e = moved_nowhere t ps h

@@ -19,7 +19,8 @@ unfolding run tdos
 tdos-append wiring [] ys choices ps = refl
 tdos-append wiring (x ∷ xs) ys choices ps = cons_path refl (tdos-append wiring xs ys (later choices) (clock_after wiring x (choices 0) ps))
 
-pub length-tdos : (wiring : Wiring) (cs : List Clock) (choices : Choices) (ps : List ChainPart) → length (tdos wiring cs choices ps) ≡ length cs
+pub length-tdos : (wiring : Wiring) (cs : List Clock) (choices : Choices) (ps : List ChainPart) →
+    length (tdos wiring cs choices ps) ≡ length cs
 unfolding tdos
 length-tdos wiring [] choices ps = refl
 length-tdos wiring (c ∷ cs) choices ps = ap suc (length-tdos wiring cs (later choices) (clock_after wiring c (choices 0) ps))

@@ -50,7 +50,8 @@ abbrev compare_fields : List ScanBit → Bool → List Field
 compare_fields bits true = field (codes "TDO") (tdo_bits bits) ∷ field (codes "MASK") (mask_bits bits) ∷ []
 compare_fields bits false = []
 
-compare_fields_are : (long : Bool) (bits : List ScanBit) (b : Bool) → fields_from None (compare_tokens long bits b) ≡ Some (compare_fields bits b)
+compare_fields_are : (long : Bool) (bits : List ScanBit) (b : Bool) →
+    fields_from None (compare_tokens long bits b) ≡ Some (compare_fields bits b)
 compare_fields_are long bits false = refl
 compare_fields_are long bits true =
     field_is long (codes "TDO") (tdo_bits bits) (field_tokens long (codes "MASK") (mask_bits bits) [])
@@ -80,7 +81,8 @@ sent_are : (bits : List ScanBit) → compares bits ≡ false → map sent (tdi_b
 sent_are [] h = refl
 sent_are (b ∷ bits) h = by_expect b.tdi b.expect (sent_are bits) h
   where
-    by_expect : (tdi : Bool) (expect : Option Bool) → (compares bits ≡ false → map sent (tdi_bits bits) ≡ bits) → (is_some expect || compares bits) ≡ false →
+    by_expect : (tdi : Bool) (expect : Option Bool) → (compares bits ≡ false → map sent (tdi_bits bits) ≡ bits) →
+        (is_some expect || compares bits) ≡ false →
         sent tdi ∷ map sent (tdi_bits bits) ≡ record { tdi = tdi; expect = expect } ∷ bits
     by_expect tdi None ih q = cons_path refl (ih q)
     by_expect tdi (Some e) ih q = cc q
@@ -98,7 +100,8 @@ bits_are bits true h =
     ∙ ap (λ (o : Option (List Bool)). compared_bits (Some (tdi_bits bits)) (Some (tdo_bits bits)) o) (digits_are bits (λ b. is_some b.expect))
     ∙ ap (λ (r : List ScanBit). Some r) (scan_bits_are bits)
 
-pub statement_is : (long : Bool) (scan : Scan) → 0 < length scan.bits → length scan.bits < 2 ^ 64 → statement_of (scan_tokens long scan) ≡ Some (ScanOf scan)
+pub statement_is : (long : Bool) (scan : Scan) → 0 < length scan.bits → length scan.bits < 2 ^ 64 →
+    statement_of (scan_tokens long scan) ≡ Some (ScanOf scan)
 statement_is long scan some fits =
     let n : ℕ = length scan.bits in
     let tokens : List Token = field_tokens long (codes "TDI") (tdi_bits scan.bits) (compare_tokens long scan.bits (compares scan.bits)) in

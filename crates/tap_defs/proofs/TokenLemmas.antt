@@ -112,7 +112,8 @@ pub decimal_plain : (n : ℕ) → n < 2 ^ 64 → list_all is_plain (decimal n) �
 decimal_plain n h = all_by is_ascii_digit is_plain digit_plain (decimal n) (decimal_digits n h)
 
 -- words
-solid_goes_on : (word : List ℕ) (b : ℕ) (rest : List ℕ) → is_solid b ≡ true → tokens_from word (b ∷ rest) ≡ tokens_from (word ++ b ∷ []) rest
+solid_goes_on : (word : List ℕ) (b : ℕ) (rest : List ℕ) → is_solid b ≡ true →
+    tokens_from word (b ∷ rest) ≡ tokens_from (word ++ b ∷ []) rest
 unfolding tokens_from
 solid_goes_on word b rest h =
     let x = and_parts (not (is_blank b)) (not (b == 40) && (not (b == 41) && not (b == 59))) h in
@@ -215,7 +216,8 @@ unfolding tokens_from
 gap_first true rest = refl
 gap_first false rest = refl
 
-number_read : (long : Bool) (n : ℕ) (rest : List ℕ) → n < 2 ^ 64 → tokens_from [] (decimal n ++ gap long ∷ rest) ≡ Word (decimal n) ∷ tokens_from [] rest
+number_read : (long : Bool) (n : ℕ) (rest : List ℕ) → n < 2 ^ 64 →
+    tokens_from [] (decimal n ++ gap long ∷ rest) ≡ Word (decimal n) ∷ tokens_from [] rest
 number_read long n rest h =
     word_goes_on [] (decimal n) (gap long ∷ rest) (all_solid (decimal n) (decimal_plain n h)) ∙ gap_ends long (decimal n) rest (decimal_nonempty n h)
 

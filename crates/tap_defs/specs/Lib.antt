@@ -15,3 +15,11 @@ pub mod Svf
 pub mod ChainRegisters
 pub mod Transport
 pub mod ChainTest
+pub mod FaultSet
+pub mod NetBits
+pub mod OnBoard
+pub mod Quiet
+pub mod TestRows
+pub mod BoardScans
+pub mod BoardTest
+pub mod Explaining

@@ -1,10 +1,24 @@
-//! The laws of the chain model, as contracts of functions that do nothing: a caller knows the law after the call.
-ghost use Rattle.std.specs.Prelude.{◌≡◌, ℕ, ◌≤◌, List, sum, Some};
+//! The laws of the model, as contracts of functions that do nothing: a caller knows the law after the call.
+ghost use Rattle.std.specs.Prelude.{◌≡◌, ℕ, ◌+◌, ◌^◌, ◌≤◌, List, sum, Some, slice_get};
+ghost use Rattle.board_defs.specs.declared.board.Ctl.{Ctl};
+ghost use Rattle.board_defs.specs.declared.board.Net.{Net};
+ghost use Rattle.board_defs.specs.declared.board.RawBoard.{RawBoard};
+ghost use Rattle.board_defs.specs.declared.fault.Single.{Single};
+ghost use Rattle.board_defs.specs.BoardRules.{IsBoard};
+ghost use Rattle.board_defs.specs.Faults.{IsSingle};
+ghost use Rattle.board_defs.specs.Decided.{is_covered};
+ghost use Rattle.board_defs.specs.Passes.{ArePasses};
+ghost use Rattle.board_defs.specs.Settings.{IsSafe, holds};
+ghost use Rattle.tap_defs.specs.BoardScans.{AreTestScans, test_scans, pass_text, board_text, walk_text};
+ghost use Rattle.tap_defs.specs.BoardTest.{IsBoardTest, IsHarmless};
 ghost use Rattle.tap_defs.specs.ChainScans.{chain_text};
 ghost use Rattle.tap_defs.specs.ChainTest.{AreIrLengths, IsChainTest};
 ghost use Rattle.tap_defs.specs.Clocks.{test_clocks};
 ghost use Rattle.tap_defs.specs.Scan.{Scan};
 ghost use Rattle.tap_defs.specs.Svf.{meaning};
+ghost use Rattle.tap_defs.specs.Explaining.{set_of};
+ghost use Rattle.tap_defs.specs.FaultSet.{IsObservable, IsNonempty};
+ghost use Rattle.tap_defs.specs.TestRows.{CodesTell, IsCodeWidth, code_width, observed_count, is_observed};
 ghost use Rattle.tap_defs.specs.Text.{svf_text, AllSized};
 ghost use Rattle.tap_defs.specs.Transport.{DataTransport, LongDataTransport, CodeTransport, LongCodeTransport};
 
@@ -32,4 +46,51 @@ pub fn texts_mean()
 /// parts and no more instruction bits in total.
 pub fn chain_tests()
     ensures { (lengths : List ℕ) → AreIrLengths lengths → sum lengths ≤ 65535 → IsChainTest lengths (chain_text lengths) }
+{}
+
+/// Codes from 1 to n have both bits below this width, and each two of them differ in some.
+pub fn codes_tell()
+    ensures { (n width : ℕ) → n + 2 ≤ 2 ^ width → CodesTell n width }
+{}
+
+/// The width of n codes is the least that is enough for them.
+pub fn code_widths()
+    ensures { (n : ℕ) → IsCodeWidth n (code_width n) }
+{}
+
+/// Where passes do what some safe setting does, the nets that some pass observes, which have the codes, are the covered nets.
+pub fn codes_number_covered()
+    ensures { (board : RawBoard) → IsBoard board → (passes : List (List Ctl)) → ArePasses board passes → (n : ℕ) (net : Net) → slice_get board.nets n ≡ Some net → is_observed board passes net ≡ is_covered board net }
+{}
+
+/// A test has three scans, and then for each pass a scan for each row and one for the quiet row.
+pub fn scans_placed()
+    ensures { (board : RawBoard) (passes : List (List Ctl)) (width : ℕ) → AreTestScans board passes width (test_scans board passes width) }
+{}
+
+/// The text of safe passes passes on the board without faults, and is quiet whatever is faulty.
+pub fn passes_harmless()
+    ensures { (board : RawBoard) (passes : List (List Ctl)) (width : ℕ) → IsBoard board → ((x : ℕ) (pass : List Ctl) → slice_get passes x ≡ Some pass → IsSafe board (holds pass)) → IsHarmless board (pass_text board passes width) }
+{}
+
+/// The text of passes is a test of the board, where the passes do what some safe setting does and the codes have enough bits for the
+/// nets that are observed.
+pub fn boards_tested()
+    ensures { (board : RawBoard) (passes : List (List Ctl)) (width : ℕ) → IsBoard board → ArePasses board passes → observed_count board passes + 2 ≤ 2 ^ width → IsBoardTest board (pass_text board passes width) }
+{}
+
+/// The text of the board's own passes is a test of the board.
+pub fn board_texts_test()
+    ensures { (board : RawBoard) → IsBoard board → IsBoardTest board (board_text board) }
+{}
+
+/// The text of a safe walk passes on the board without faults, and is quiet whatever is faulty.
+pub fn walks_harmless()
+    ensures { (board : RawBoard) (walk : List Ctl) → IsBoard board → IsSafe board (holds walk) → IsHarmless board (walk_text board walk) }
+{}
+
+/// Each single fault of a board, as a fault set, is observable and not empty.
+pub fn singles_observable()
+    ensures observable { (board : RawBoard) (single : Single) → IsSingle board single → IsObservable board (set_of single) }
+    ensures nonempty { (single : Single) → IsNonempty (set_of single) }
 {}

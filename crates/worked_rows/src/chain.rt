@@ -5,8 +5,11 @@ use btest_cli::Status;
 use std::test::Fail;
 
 const HEAD: &str = "TRST OFF;\nENDIR IDLE;\nENDDR IDLE;\nSTATE RESET;\nSTATE IDLE;\n";
+
 const TAIL: &str = "STATE RESET;\n";
+
 const TWO_PARTS: &str = "BYPASS U1 4\nBYPASS U2 2";
+
 const TWO_PARTS_SCANS: &str =
     "SIR 6 TDI (3F) TDO (05) MASK (0F);\nSDR 10 TDI (0A5) TDO (294) MASK (3FF);\n";
 
@@ -19,7 +22,10 @@ fn writes_the_two_scans(rt: HostRuntime) -> Result<(), Fail> {
     }
     let cases = [
         (TWO_PARTS, TWO_PARTS_SCANS),
-        ("# ours\r\n\tBYPASS  U1\t4 # first\n\nBYPASS U2 002\n\n", TWO_PARTS_SCANS),
+        (
+            "# ours\r\n\tBYPASS  U1\t4 # first\n\nBYPASS U2 002\n\n",
+            TWO_PARTS_SCANS,
+        ),
         (
             "BYPASS U1 2\nSUPPLY V.CC\nPULL N 1\nINERT R1\nLINK R2 1 a_2",
             "SIR 2 TDI (3) TDO (1) MASK (3);\nSDR 9 TDI (0A5) TDO (14A) MASK (1FF);\n",
@@ -72,11 +78,20 @@ fn refuses_the_first_fault(rt: HostRuntime) -> Result<(), Fail> {
         (b"PULL N 2", "c line 1: number not allowed\n"),
         (b"LINK R1 1 2-", "c line 1: word not allowed\n"),
         (b"DEVICE U1 DRV", "c line 1: no statement\n"),
-        (b"BYPASS U1 2\nBYPASS U2 2\nBYPASS U1 3", "c line 3: part twice\n"),
+        (
+            b"BYPASS U1 2\nBYPASS U2 2\nBYPASS U1 3",
+            "c line 3: part twice\n",
+        ),
         (b"BYPASS U1 2\nDEVICE U1 DRV -", "c line 2: part twice\n"),
         (b"DEVICE U1 DRV -", "c line 1: entity not given\n"),
-        (b"DEVICE U1 DRV -\nBYPASS U9 3\nBYPASS U9 3", "c line 3: part twice\n"),
-        (b"DEVICE U1 DRV -\nBYPASS U9 1", "c line 2: number not allowed\n"),
+        (
+            b"DEVICE U1 DRV -\nBYPASS U9 3\nBYPASS U9 3",
+            "c line 3: part twice\n",
+        ),
+        (
+            b"DEVICE U1 DRV -\nBYPASS U9 1",
+            "c line 2: number not allowed\n",
+        ),
         (many.as_bytes(), "limit: chain parts\n"),
     ];
     for (file, line) in cases {
@@ -107,10 +122,21 @@ fn a_text_has_a_limit(rt: HostRuntime) -> Result<(), Fail> {
 #[test]
 fn words_that_are_no_command_fetch_nothing(rt: HostRuntime) -> Result<(), Fail> {
     let alloc = rt.alloc();
-    let usage: &[u8] = b"usage: btest chain, device, cover, svf, diagnose, make, ident, walk, groups or batch\n";
+    let usage: &[u8] =
+        b"usage: btest chain, device, cover, svf, diagnose, make, ident, walk, groups or batch\n";
     let lines = [
-        "chain", "help", "chain -c", "chain c d", "chain c ", "Chain c", "svf c", "make -- 2",
-        "diagnose 0 g c n drv rcv", "diagnose 65 g c n drv rcv", "--version", "-h",
+        "chain",
+        "help",
+        "chain -c",
+        "chain c d",
+        "chain c ",
+        "Chain c",
+        "svf c",
+        "make -- 2",
+        "diagnose 0 g c n drv rcv",
+        "diagnose 65 g c n drv rcv",
+        "--version",
+        "-h",
     ];
     for line in lines {
         let mut bench = Bench::with_texts(alloc, &[("c", TWO_PARTS.as_bytes())])?;
@@ -145,18 +171,22 @@ fn a_text_that_is_not_read_is_named(rt: HostRuntime) -> Result<(), Fail> {
 fn a_put_that_fails_leaves_what_was_put(rt: HostRuntime) -> Result<(), Fail> {
     let alloc = rt.alloc();
     let text = format!(in alloc; "{HEAD}{TWO_PARTS_SCANS}{TAIL}")?;
-    let mut lines = 0usize;
-    let mut taken = 0usize;
+    let mut before = String::new(alloc);
+    let mut call = 1u32;
     for line in text.split_inclusive('\n') {
         let mut bench = Bench::with_texts(alloc, &[("c", TWO_PARTS.as_bytes())])?;
-        bench.out.fail_at(lines as u32 + 1, 2)?;
+        bench.out.fail_at(call, 0)?;
         assert_eq!(rt; bench.run(&rt, "chain c")?, Status::WriteFault);
         assert_eq!(rt; bench.notes.bytes(), b"cannot write\n".as_slice());
-        assert_eq!(rt; bench.out.bytes(), &text.as_bytes()[..taken + 2]);
-        lines += 1;
-        taken += line.len();
+        assert_eq!(rt; bench.out.bytes(), before.as_bytes());
+        before.push_str(line)?;
+        call = call.saturating_add(1);
     }
-    assert_eq!(rt; lines, 8);
+    assert_eq!(rt; call, 9);
+    let mut bench = Bench::with_texts(alloc, &[("c", TWO_PARTS.as_bytes())])?;
+    bench.out.fail_at(3, 2)?;
+    assert_eq!(rt; bench.run(&rt, "chain c")?, Status::WriteFault);
+    assert_eq!(rt; bench.out.bytes(), b"TRST OFF;\nENDIR IDLE;\nEN".as_slice());
     Ok(())
 }
 

@@ -2,9 +2,12 @@
 use bt_base::{MemSink, MemStore, OpenGate};
 use btest_cli::{Status, run};
 use std::alloc::{AllocError, Global};
+use std::thread::Threads;
 
 /// What a run is given, and what it left.
+#[derive(Drop)]
 pub struct Bench {
+    alloc: Global,
     pub store: MemStore,
     pub out: MemSink,
     pub notes: MemSink,
@@ -18,6 +21,7 @@ impl Bench {
             store.add(name, bytes)?;
         }
         Ok(Bench {
+            alloc,
             store,
             out: MemSink::with_room(alloc, 100_000)?,
             notes: MemSink::with_room(alloc, 1_000)?,
@@ -25,20 +29,19 @@ impl Bench {
     }
 
     /// Runs a command line, whose words are separated by spaces.
-    pub fn run(&mut self, rt: &HostRuntime, line: &str) -> Result<Status, AllocError> {
-        let alloc = rt.alloc();
-        let mut words = Vec::new(alloc);
+    pub fn run(&mut self, rt: &impl Threads, line: &str) -> Result<Status, AllocError> {
+        let mut words = Vec::new(self.alloc);
         for word in line.split(' ') {
-            words.push(String::from_str(alloc, word)?)?;
+            words.push(String::from_str(self.alloc, word)?)?;
         }
         Ok(self.run_words(rt, &words))
     }
 
     /// Runs the words of a command line.
-    pub fn run_words(&mut self, rt: &HostRuntime, words: &[String]) -> Status {
+    pub fn run_words(&mut self, rt: &impl Threads, words: &[String]) -> Status {
         run(
             rt,
-            rt.alloc(),
+            self.alloc,
             words,
             &mut self.store,
             &mut self.out,

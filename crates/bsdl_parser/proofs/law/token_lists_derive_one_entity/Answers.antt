@@ -1,4 +1,3 @@
-use Rattle.std.proofs.Common.{Ok}
 use Rattle.bsdl_parser.proofs.Answers.{one_entity}
 use Rattle.bsdl_parser.proofs.law.token_lists_derive_one_entity.Goals as goal
 

@@ -1,10 +1,8 @@
-use Rattle.std.proofs.Common.{true, List, length, sym, ap, ◌∙◌, arith}
+use Rattle.std.proofs.Common.{true, length, sym, ap, ◌∙◌, arith}
 use Rattle.std.specs.List.{list_any}
-use Rattle.tap_defs.specs.Scan.{ScanBit, Scan}
-use Rattle.tap_defs.specs.Text.{scan_text}
 use Rattle.svf_writer.specs.Chain.{bypass_bits}
 use Rattle.svf_writer.proofs.FieldLemmas.{puts_same}
-use Rattle.svf_writer.proofs.ScanLemmas.{scan_of_rows, masked_rows}
+use Rattle.svf_writer.proofs.ScanLemmas.{masked_rows, scan_text-rows}
 use Rattle.svf_writer.proofs.ChainLemmas.{length-bypass_tdi, bypass_bits-compared, sum_some}
 use Rattle.svf_writer.proofs.chain.write_codes.Goals as goal
 
@@ -24,5 +22,4 @@ write_scan-requires-clause-masked g c = masked_rows (bypass_bits c.args.lengths.
 
 pub returns-clause-text : goal.returns-clause-text
 returns-clause-text g c =
-    puts_same (ap (λ (bits : List ScanBit). let scan : Scan = record { ir = true; bits = bits } in scan_text scan)
-    (scan_of_rows (bypass_bits c.args.lengths.now) _ _ _ c.fill_codes.ensures.tdi c.fill_codes.ensures.tdo c.fill_codes.ensures.mask)) c.write_scan.ensures
+    puts_same (scan_text-rows true (bypass_bits c.args.lengths.now) _ _ _ c.fill_codes.ensures.tdi c.fill_codes.ensures.tdo c.fill_codes.ensures.mask) c.write_scan.ensures

@@ -1,9 +1,7 @@
-use Rattle.std.proofs.Common.{false, List, length, ap, arith}
-use Rattle.tap_defs.specs.Scan.{ScanBit, Scan}
-use Rattle.tap_defs.specs.Text.{scan_text}
+use Rattle.std.proofs.Common.{false, length, ap, arith}
 use Rattle.svf_writer.specs.Chain.{mark_bits}
 use Rattle.svf_writer.proofs.FieldLemmas.{puts_same}
-use Rattle.svf_writer.proofs.ScanLemmas.{scan_of_rows, masked_rows}
+use Rattle.svf_writer.proofs.ScanLemmas.{masked_rows, scan_text-rows}
 use Rattle.svf_writer.proofs.ChainLemmas.{length-mark_bits}
 use Rattle.svf_writer.proofs.chain.write_marks.Goals as goal
 
@@ -15,5 +13,4 @@ write_scan-requires-clause-masked g c = masked_rows (mark_bits c.args.parts) _ _
 
 pub returns-clause-text : goal.returns-clause-text
 returns-clause-text g c =
-    puts_same (ap (λ (bits : List ScanBit). let scan : Scan = record { ir = false; bits = bits } in scan_text scan)
-    (scan_of_rows (mark_bits c.args.parts) _ _ _ c.fill_marks.ensures.tdi c.fill_marks.ensures.tdo c.fill_marks.ensures.mask)) c.write_scan.ensures
+    puts_same (scan_text-rows false (mark_bits c.args.parts) _ _ _ c.fill_marks.ensures.tdi c.fill_marks.ensures.tdo c.fill_marks.ensures.mask) c.write_scan.ensures

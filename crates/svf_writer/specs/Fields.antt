@@ -1,0 +1,29 @@
+-- The parts of the text of a scan, from its rows.
+use Rattle.std.specs.Prelude.{ℕ, ◌+◌, ◌*◌, Bool, true, false, List, ◌∷◌, ◌++◌, length, codes, decimal}
+use Rattle.bt_bits.specs.Hex.{hex_text}
+use Rattle.tap_defs.specs.Text.{command_word, gap, laid, broken}
+
+-- the command and the length
+abbrev pub command_text : Bool → List Bool → List ℕ
+command_text ir tdi = command_word ir ++ 32 ∷ decimal (length tdi)
+
+-- from the end of TDI on: TDO and MASK, where something is compared
+abbrev pub rest_text : Bool → List Bool → List Bool → Bool → List ℕ
+rest_text long tdo mask false = codes ");"
+rest_text long tdo mask true =
+    41 ∷ gap long ∷ codes "TDO (" ++ (laid long (hex_text tdo) ++ (41 ∷ gap long ∷ codes "MASK (" ++ (laid long (hex_text mask) ++ codes ");")))
+
+-- the fields
+abbrev pub fields_text : Bool → List Bool → List Bool → List Bool → Bool → List ℕ
+fields_text long tdi tdo mask compare = gap long ∷ codes "TDI (" ++ (laid long (hex_text tdi) ++ rest_text long tdo mask compare)
+
+-- how long the fields are in one line
+abbrev pub fields_length : Bool → ℕ → ℕ
+fields_length true digits = 3 * digits + 23
+fields_length false digits = digits + 8
+
+-- the fields in lines of their own
+abbrev pub fields_lines : List Bool → List Bool → List Bool → Bool → List ℕ
+fields_lines tdi tdo mask false = codes "TDI (" ++ (broken 64 (hex_text tdi) ++ codes ");\n")
+fields_lines tdi tdo mask true =
+    (codes "TDI (" ++ (broken 64 (hex_text tdi) ++ codes ")\n")) ++ ((codes "TDO (" ++ (broken 64 (hex_text tdo) ++ codes ")\n")) ++ (codes "MASK (" ++ (broken 64 (hex_text mask) ++ codes ");\n")))

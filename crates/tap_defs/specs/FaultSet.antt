@@ -1,0 +1,42 @@
+-- Sets of faults of a board: stuck nets, open pins and shorts.
+use Rattle.std.specs.Prelude.{◌≡◌, ◌≢◌, ◌⊎◌, ℕ, Bool, Option, Some, None}
+use Rattle.board_defs.specs.declared.board.RawBoard.{RawBoard}
+use Rattle.board_defs.specs.Coverage.{IsCovered, ArePaired, IsTestedDriver, IsTestedReceiver}
+
+-- how the nets of a short read: as the And or as the Or of what they are driven to, or as one of them, the dominant net
+pub data ShortKind : Type 0 where
+  And : ShortKind
+  Or : ShortKind
+  Dominant : ℕ → ShortKind
+
+-- the constant of each stuck net, the constant of each open pin (a net, and a place in it), the short that each net is in, and the
+-- kind of each short. So a net is stuck at most once, a pin is open at most once, and shorts share no net
+pub record FaultSet : Type 0 where
+  pub stuck : ℕ → Option Bool
+  pub opened : ℕ → ℕ → Option Bool
+  pub short : ℕ → Option ℕ
+  pub kind : ℕ → ShortKind
+
+-- the empty set
+abbrev pub no_faults : FaultSet
+no_faults = record { stuck = λ n. None; opened = λ n i. None; short = λ n. None; kind = λ k. And }
+
+-- no stuck net is in a short; each short has two or more nets, all covered; and a dominant net is one of them
+pub record IsFaultSet (board : RawBoard) (faults : FaultSet) : Type 0 where
+  pub disjoint : (n : ℕ) (v : Bool) → faults.stuck n ≡ Some v → faults.short n ≡ None
+  pub several : (n k : ℕ) → faults.short n ≡ Some k → (m : ℕ) × (m ≢ n) × (faults.short m ≡ Some k)
+  pub covered : (n k : ℕ) → faults.short n ≡ Some k → IsCovered board n
+  pub dominant : (n k d : ℕ) → faults.short n ≡ Some k → faults.kind k ≡ Dominant d → faults.short d ≡ Some k
+
+-- each stuck net is covered, each open pin is tested as driver or as receiver, and each short has two nets that are paired
+pub record IsObservable (board : RawBoard) (faults : FaultSet) : Type 0 where
+  pub is_set : IsFaultSet board faults
+  pub stuck : (n : ℕ) (v : Bool) → faults.stuck n ≡ Some v → IsCovered board n
+  pub opened : (n i : ℕ) (v : Bool) → faults.opened n i ≡ Some v → IsTestedDriver board n i ⊎ IsTestedReceiver board n i
+  pub shorts : (n k : ℕ) → faults.short n ≡ Some k → (a b : ℕ) × (faults.short a ≡ Some k) × (faults.short b ≡ Some k) × ArePaired board a b
+
+-- there is at least one fault
+pub data IsNonempty (faults : FaultSet) : Type 0 where
+  some_stuck : (n : ℕ) (v : Bool) → faults.stuck n ≡ Some v → IsNonempty faults
+  some_open : (n i : ℕ) (v : Bool) → faults.opened n i ≡ Some v → IsNonempty faults
+  some_short : (n k : ℕ) → faults.short n ≡ Some k → IsNonempty faults
