@@ -26,7 +26,9 @@ fn main(rt: HostRuntime) -> ExitCode {
             if error.kind() == io::ErrorKind::OutOfMemory {
                 return ExitCode::from(Status::NoMemory as u8);
             }
-            let _ = notes.put(b"usage: btest chain, device, cover, svf, diagnose, make, ident, walk, groups or batch\n");
+            let _ = notes.put(
+                b"usage: btest chain, device, cover, svf, diagnose, make, ident, walk, groups or batch\n",
+            );
             return ExitCode::from(Status::Usage as u8);
         }
     };

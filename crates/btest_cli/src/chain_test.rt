@@ -18,8 +18,8 @@ use crate::texts::fetch_text;
 use bt_base::{FetchFault, PutFault, Sink, Store};
 use btest_core::{InputFault, read_chain};
 use std::alloc::Global;
-use tap_defs::law::chain_tests;
 use svf_writer::{write_chain, write_head, write_tail};
+use tap_defs::law::chain_tests;
 
 /// Reads a chain file, and puts the text that tests the length of its chain. All memory is taken
 /// before the first put.
@@ -51,11 +51,7 @@ pub fn chain<S: Store, K: Sink>(
 }
 
 // The instruction lengths of the chain that a file describes.
-fn fetch_lengths<S: Store>(
-    alloc: Global,
-    file: &str,
-    store: &mut S,
-) -> Result<Vec<u32>, Failure>
+fn fetch_lengths<S: Store>(alloc: Global, file: &str, store: &mut S) -> Result<Vec<u32>, Failure>
     ensures held { S.held store.new ≡ S.held store.old }
     ensures lengths { IfOk result (λ lengths. LengthsAreRead (S.held store.old) file.now lengths.items) }
     ensures too_long { IsErrOf result Failure.TooLong → IsRead (S.held store.old) (file.now ∷ []) (TooLong file.now) }

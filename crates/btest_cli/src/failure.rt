@@ -40,11 +40,7 @@ pub fn status_of(failure: &Failure) -> Status
 }
 
 /// Puts the line of a failure of `chain` with this file.
-pub fn put_failure<N: Sink>(
-    file: &str,
-    failure: &Failure,
-    notes: &mut N,
-) -> Result<(), PutFault>
+pub fn put_failure<N: Sink>(file: &str, failure: &Failure, notes: &mut N) -> Result<(), PutFault>
     ensures { Puts (N.shown notes.old) (N.shown notes.new) (failure_line file.now failure.now) result }
 {
     match failure {

@@ -5,10 +5,10 @@ mod chain_test;
 mod failure;
 mod notes;
 mod rows;
-mod top;
 mod status;
 mod texts;
+mod top;
 mod words;
 
-pub use top::run;
 pub use status::Status;
+pub use top::run;

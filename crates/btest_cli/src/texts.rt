@@ -10,11 +10,7 @@ use std::alloc::Global;
 pub const MOST_BYTES: u32 = 4_194_304;
 
 /// Fetches the text of a name.
-pub fn fetch_text<S: Store>(
-    alloc: Global,
-    name: &str,
-    store: &mut S,
-) -> Result<Vec<u8>, FetchFault>
+pub fn fetch_text<S: Store>(alloc: Global, name: &str, store: &mut S) -> Result<Vec<u8>, FetchFault>
     ensures held { S.held store.new ≡ S.held store.old }
     ensures later { (n : List ℕ) → S.faults store.old n ≤ S.faults store.new n }
     ensures text { IfOk result (λ text. IsRead (S.held store.old) (name.now ∷ []) (Read (text.items ∷ []))) }
