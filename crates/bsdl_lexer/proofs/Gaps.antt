@@ -4,6 +4,7 @@ use Rattle.std.proofs.lemmas.Bool.Decides.{nat_tests}
 use Rattle.std.specs.List.{list_all}
 use Rattle.bsdl_lexer.specs.Forms.{IsGap, nothing, blank, comment, last_comment, is_blank, begins_comment, begins_gap, line_feed, dash}
 use Rattle.bsdl_lexer.specs.Lengths.{gap_len}
+use Rattle.bsdl_lexer.proofs.Longest.{both_true}
 
 abbrev pub stays : ℕ → Bool
 stays byte = not (byte == line_feed)
@@ -38,11 +39,7 @@ behind_dash more rest h = go h.words h.split h.free
       | inl k ↦ (let z : dash ∷ rest ≡ [] = e ∙ k.0 in cc)
       | inr k ↦ (let z : dash ∷ rest ≡ line_feed ∷ k.0 = e ∙ k.1 in absurd (let y : dash ≡ line_feed = cc in omega arith))
     ]
-    go (w ∷ words) e f = record { words = words; tail = h.tail; split = cc; free = both_true (stays w) (list_all stays words) f; ends = h.ends }
-      where
-        both_true : (a b : Bool) → (a && b) ≡ true → b ≡ true
-        both_true true b h = h
-        both_true false b h = cc
+    go (w ∷ words) e f = record { words = words; tail = h.tail; split = cc; free = (both_true (stays w) (list_all stays words) f).1; ends = h.ends }
 
 longer_rest : (first : ℕ) (more rest : List ℕ) → nat_eq first line_feed ≡ false → CommentRest more rest → CommentRest more (first ∷ rest)
 longer_rest first more rest n h = record { words = first ∷ h.words; tail = h.tail; split = ap (λ xs. first ∷ xs) h.split; free = rw n h.free; ends = h.ends }

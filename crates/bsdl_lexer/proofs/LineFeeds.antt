@@ -1,5 +1,5 @@
 -- Lines end only between tokens.
-use Rattle.std.proofs.Common.{◌≡◌, ℕ, ◌+◌, List, [], ◌∷◌, ◌++◌, Bool, true, false, ◌&&◌, inl, inr, refl, ◌∙◌, ap, arith, nat_eq, cond, sym}
+use Rattle.std.proofs.Common.{◌≡◌, ℕ, ◌+◌, List, [], ◌∷◌, ◌++◌, Bool, true, false, inl, inr, refl, ◌∙◌, ap, arith, nat_eq, cond, sym}
 use Rattle.std.proofs.lemmas.Bool.Decides.{nat_tests}
 use Rattle.std.proofs.lemmas.List.Sums.{sum_by-cons, sum_by-append}
 use Rattle.std.specs.List.{list_all}
@@ -8,16 +8,13 @@ use Rattle.bsdl_lexer.specs.declared.token.TokenKind.{TokenKind}
 use Rattle.bsdl_lexer.specs.declared.token.TokenKind.TheVariants.{Word, Number, Text, Mark}
 use Rattle.bsdl_lexer.specs.Forms.{HasForm, IsDigits, IsSigned, IsFraction, IsExponent, is_word_byte, is_text_byte, is_sign, is_exponent_letter, point, is_mark, quote, line_feed}
 use Rattle.bsdl_lexer.specs.Tokens.{line_feeds}
+use Rattle.bsdl_lexer.proofs.Longest.{both_true}
 
 pub line_feeds-append : (xs ys : List ℕ) → line_feeds (xs ++ ys) ≡ line_feeds xs + line_feeds ys
 line_feeds-append xs ys = sum_by-append (λ byte. cond (nat_eq byte line_feed) 1 0) xs ys
 
 line_feeds-cons : (x : ℕ) (xs : List ℕ) → line_feeds (x ∷ xs) ≡ cond (nat_eq x line_feed) 1 0 + line_feeds xs
 line_feeds-cons x xs = sum_by-cons (λ byte. cond (nat_eq byte line_feed) 1 0) x xs
-
-both_true : (a b : Bool) → (a && b) ≡ true → (a ≡ true) × (b ≡ true)
-both_true true b h = (refl, h)
-both_true false b h = cc
 
 -- a test that a line feed does not pass
 other_byte : (p : ℕ → Bool) (x : ℕ) → p line_feed ≡ false → p x ≡ true → nat_eq x line_feed ≡ false

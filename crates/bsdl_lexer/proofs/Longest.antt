@@ -8,7 +8,7 @@ use Rattle.bsdl_lexer.specs.declared.token.TokenKind.TheVariants.{Word, Number, 
 use Rattle.bsdl_lexer.specs.Forms.{IsWord, IsDigits, IsFraction, IsSigned, IsExponent, IsNumber, IsText, HasForm, is_word_byte, is_text_byte, is_mark, is_exponent_letter, is_sign, begins_comment, quote, point}
 use Rattle.bsdl_lexer.specs.Lengths.{with_digits, fraction_len, signed_len, exponent_len, number_len, closed_len, token_at}
 
-both_true : (a b : Bool) → (a && b) ≡ true → (a ≡ true) × (b ≡ true)
+pub both_true : (a b : Bool) → (a && b) ≡ true → (a ≡ true) × (b ≡ true)
 both_true true b h = (refl, h)
 both_true false b h = cc
 
@@ -179,17 +179,21 @@ text_within first others more h =
     not_comment [] e = e
     not_comment (y ∷ ys) e = e
 
-pub within : (kind : TokenKind) (word more : List ℕ) → HasForm kind word → begins_comment (word ++ more) ≡ false → IsWithin (word ++ more) kind (length word)
-within Word [] more h n = absurd h
-within Word (first ∷ others) more h n = word_within first others more n h
-within Number [] more h n = absurd (empty h.whole h.parts h.digits)
+-- every form has a byte
+pub no_empty : (kind : TokenKind) → HasForm kind [] → ⊥
+no_empty Word h = h
+no_empty Number h = empty h.whole h.parts h.digits
   where
     empty : (whole : List ℕ) → [] ≡ whole ++ (h.fraction ++ h.exponent) → IsDigits whole → ⊥
     empty [] e d = d
     empty (x ∷ xs) e d = cc
+no_empty Text h = cc h.quoted
+no_empty Mark h = h
+
+pub within : (kind : TokenKind) (word more : List ℕ) → HasForm kind word → begins_comment (word ++ more) ≡ false → IsWithin (word ++ more) kind (length word)
+within kind [] more h n = absurd (no_empty kind h)
+within Word (first ∷ others) more h n = word_within first others more n h
 within Number (first ∷ others) more h n = number_within first others more n h
-within Text [] more h n = cc h.quoted
 within Text (first ∷ others) more h n = text_within first others more h
-within Mark [] more h n = absurd h
 within Mark (first ∷ []) more h n = mark_within first more n h
 within Mark (first ∷ second ∷ others) more h n = absurd h

@@ -1,5 +1,5 @@
 -- A quote begins a token, or a text that ends open.
-use Rattle.std.proofs.Common.{◌≡◌, ℕ, suc, List, [], ◌∷◌, ◌++◌, Bool, true, false, ◌&&◌, cond, Option, Some, None, ◌⊎◌, inl, inr, refl, sym, ◌∙◌, ap, arith, nat_eq, slice_get, IsTrue}
+use Rattle.std.proofs.Common.{◌≡◌, ℕ, suc, List, [], ◌∷◌, ◌++◌, Bool, true, false, cond, Option, Some, None, ◌⊎◌, inl, inr, refl, sym, ◌∙◌, ap, arith, nat_eq, slice_get, IsTrue}
 use Rattle.std.proofs.lemmas.Bool.Decides.{nat_tests}
 use Rattle.std.specs.List.{prefix_len, list_all}
 use Rattle.bsdl_lexer.specs.declared.token.TokenKind.{TokenKind}
@@ -7,6 +7,7 @@ use Rattle.bsdl_lexer.specs.declared.token.TokenKind.TheVariants.{Text}
 use Rattle.bsdl_lexer.specs.Forms.{begins_gap, is_text_byte, line_feed, carriage_return, quote}
 use Rattle.bsdl_lexer.specs.Answer.{BeginsOpenText, EndsOpen}
 use Rattle.bsdl_lexer.specs.Lengths.{token_at, closed_len}
+use Rattle.bsdl_lexer.proofs.Longest.{both_true}
 
 -- the byte behind the longest front that may stand in a text
 byte_behind : List ℕ → Option ℕ
@@ -44,10 +45,6 @@ line_end x h n = go (nat_eq x line_feed) refl
     go : (b : Bool) → nat_eq x line_feed ≡ b → (x ≡ line_feed) ⊎ (x ≡ carriage_return)
     go true e = inl (grind (arith, nat_tests))
     go false e = inr (grind (arith, nat_tests))
-
-both_true : (a b : Bool) → (a && b) ≡ true → (a ≡ true) × (b ≡ true)
-both_true true b h = (refl, h)
-both_true false b h = cc
 
 -- the bytes behind a quote, up to where the text ends open
 record Open (others : List ℕ) : Type 0 where

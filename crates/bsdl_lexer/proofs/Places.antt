@@ -9,11 +9,11 @@ use Rattle.std.specs.Char.{is_ascii_alphabetic, is_ascii_digit}
 use Rattle.bsdl_lexer.specs.declared.token.Token.{Token}
 use Rattle.bsdl_lexer.specs.declared.token.TokenKind.{TokenKind}
 use Rattle.bsdl_lexer.specs.declared.token.TokenKind.TheVariants.{Word, Number, Text, Mark}
-use Rattle.bsdl_lexer.specs.Forms.{HasForm, IsDigits, IsGap, is_blank, is_mark, begins_comment, begins_gap, quote}
+use Rattle.bsdl_lexer.specs.Forms.{HasForm, IsGap, is_blank, is_mark, begins_comment, begins_gap, quote}
 use Rattle.bsdl_lexer.specs.Tokens.{line_of, Separates, IsToken}
 use Rattle.bsdl_lexer.specs.Lengths.{gap_len, token_at}
 use Rattle.bsdl_lexer.specs.Steps.{token_of}
-use Rattle.bsdl_lexer.proofs.Longest.{IsWithin, within, number_first}
+use Rattle.bsdl_lexer.proofs.Longest.{IsWithin, within, no_empty, number_first}
 use Rattle.bsdl_lexer.proofs.Found.{IsFront, found_front, some_token, same_token}
 use Rattle.bsdl_lexer.proofs.Gaps.{gap_front, only_gap, gap_len-le}
 
@@ -62,16 +62,6 @@ first_no_blank Number first others h = digit_no_blank first (number_first first 
 first_no_blank Text first others h = let same : first ≡ quote = cc h.quoted in rw same refl
 first_no_blank Mark first [] h = mark_no_blank first h
 first_no_blank Mark first (second ∷ others) h = absurd h
-
-pub no_empty : (kind : TokenKind) → HasForm kind [] → ⊥
-no_empty Word h = h
-no_empty Number h = empty h.whole h.parts h.digits
-  where
-    empty : (whole : List ℕ) → [] ≡ whole ++ (h.fraction ++ h.exponent) → IsDigits whole → ⊥
-    empty [] e d = d
-    empty (x ∷ xs) e d = cc
-no_empty Text h = cc h.quoted
-no_empty Mark h = h
 
 -- where a token begins no gap does
 pub no_gap : (kind : TokenKind) (n : ℕ) (rest : List ℕ) → HasForm kind (take n rest) → begins_comment rest ≡ false → begins_gap rest ≡ false

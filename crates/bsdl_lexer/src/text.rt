@@ -1,5 +1,5 @@
 //! All tokens of a text.
-ghost use Rattle.std.specs.Prelude.{◌≡◌, ◌≤◌, ◌<◌, ◌^◌, ◌+◌, ◌++◌, ◌∷◌, [], List, Result, length, take, drop, false, IsTrue, ◌↔◌, OnOk, OnErr, IfOk, IfSome, IfErr, alloc_error};
+ghost use Rattle.std.specs.Prelude.{◌≡◌, ◌≤◌, ◌<◌, ◌^◌, ◌+◌, ◌++◌, ◌∷◌, [], List, Result, length, IsTrue, ◌↔◌, OnOk, OnErr, IfErr, alloc_error};
 ghost use Rattle.bsdl_lexer.specs.declared.token.Token.{Token};
 ghost use Rattle.bsdl_lexer.specs.declared.token.LexFault.{LexFault};
 ghost use Rattle.bsdl_lexer.specs.Answer.{IsAnswer, AreFirst, UnlessMemory};

@@ -15,6 +15,7 @@ use Rattle.bsdl_parser.specs.Bsdl.{file}
 use Rattle.bsdl_parser.specs.Answer.{Derives, IsStray, StartsPackage, IsUnfinished, last_line, IsFault, IsAnswer, UnlessMemory}
 use Rattle.bsdl_parser.specs.Judged.{is_package, fault_at, judged}
 use Rattle.grammars.proofs.Exact.{RunsOut, Reads, Refuses, IsLocalAt, reads_on}
+use Rattle.bsdl_parser.proofs.Integers.{both_true}
 use Rattle.bsdl_parser.proofs.Decided.{decides_file}
 use Rattle.bsdl_parser.proofs.AttributeKinds.{have_kinds}
 use Rattle.bsdl_parser.proofs.Sizes.{is_small}
@@ -108,10 +109,6 @@ no_front (t ∷ before) after tokens token e h =
     let len : length tokens ≡ length ((t ∷ before) ++ token ∷ after) = ap length e in
     let more : length ((t ∷ before) ++ token ∷ after) ≡ length (t ∷ before) + length (token ∷ after) = length-append (t ∷ before) (token ∷ after) in
     absurd (grind (arith, nat_tests))
-
-both_true : (a b : Bool) → (a && b) ≡ true → (a ≡ true) × (b ≡ true)
-both_true true b h = (refl, h)
-both_true false b h = cc
 
 starts_inside : (before after tokens : List Lexeme) (token : Lexeme) → tokens ≡ before ++ token ∷ after → (is_package token && nat_eq (length (token ∷ after)) (length tokens)) ≡ true → StartsPackage before token
 starts_inside before after tokens token e h =

@@ -1,5 +1,5 @@
 //! The entity of a text, or its first fault.
-ghost use Rattle.std.specs.Prelude.{◌≡◌, ◌+◌, ◌<◌, ◌^◌, length, count_by, ◌==◌, Result, IfOk};
+ghost use Rattle.std.specs.Prelude.{◌≡◌, ◌<◌, ◌^◌, length, count_by, ◌==◌, Result, IfOk};
 ghost use Rattle.bsdl_lexer.specs.Tokens.{AreTokens};
 ghost use Rattle.grammars.specs.Grammar.{reader_of};
 ghost use Rattle.bsdl_parser.specs.declared.entity.Entity.{Entity};

@@ -4,7 +4,7 @@ ghost use Rattle.bt_base.specs.Counts.{Rose};
 ghost use Rattle.bt_base.specs.Puts.{Puts};
 ghost use Rattle.tap_defs.specs.ChainScans.{chain_text};
 ghost use Rattle.tap_defs.specs.ChainTest.{IsChainTest};
-ghost use Rattle.svf_writer.specs.Chain.{IsRoom};
+ghost use Rattle.svf_writer.specs.Rows.{IsRoom};
 ghost use Rattle.btest_core.specs.declared.fault.InputFault.{InputFault};
 ghost use Rattle.btest_core.specs.ChainLengths.{chain_lengths, AreLengths};
 ghost use Rattle.btest_cli.specs.declared.failure.Failure.{Failure as Lost};

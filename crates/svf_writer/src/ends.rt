@@ -4,7 +4,7 @@ ghost use Rattle.tap_defs.specs.Text.{head_text, tail_text};
 
 use bt_base::{PutFault, Sink};
 
-/// Puts the lines that stand before the scans: TRST* is not driven, a scan ends in Run-Test/Idle, and the test begins
+/// Puts the lines that stand before the scans: TRST* is inactive, a scan ends in Run-Test/Idle, and the test begins
 /// there after a reset. It fails only where the sink does, and then a prefix of the text was put.
 pub fn write_head<K: Sink>(out: &mut K) -> Result<(), PutFault>
     ensures { Puts (K.shown out.old) (K.shown out.new) head_text result }

@@ -318,7 +318,7 @@ quiet_expects board k device cell = by_entry (reading_entry device cell)
     by_entry None = refl
     by_entry (Some e) = cond_none (is_receiving e.role) (expect_pin board quiet_row k e.bit) (by_pin e.bit)
 
-quiet_silent : (board : RawBoard) (now : TestRow) (k : ℕ) (ps : List Part) →
+pub quiet_silent : (board : RawBoard) (now : TestRow) (k : ℕ) (ps : List Part) →
     AllSilent (joined (bits_by_part board (record { now = now; before = quiet_row }) k ps))
 quiet_silent board now k [] = tt
 quiet_silent board now k (p ∷ ps) =

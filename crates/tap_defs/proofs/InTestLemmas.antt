@@ -6,6 +6,7 @@ use Rattle.board_defs.specs.declared.board.PartKind.{PartKind}
 use Rattle.board_defs.specs.declared.board.PartKind.TheVariants.{Described, Bypass as WithoutDescription}
 use Rattle.tap_defs.specs.declared.tap.TapState.TheVariants.{RunTestIdle}
 use Rattle.tap_defs.specs.BoardScans.{row_bits, RowScan}
+use Rattle.tap_defs.specs.RowCaptures.{registers}
 use Rattle.tap_defs.specs.OnBoard.{test_logic, board_wiring}
 use Rattle.tap_defs.specs.Run.{Choice}
 use Rattle.tap_defs.specs.FaultSet.{FaultSet}
@@ -25,15 +26,6 @@ pub record InTest (board : RawBoard) (row : List (List Bool)) (chain : List Chai
   pub logics_are : map (λ n. n.logic) chain ≡ map (λ p. test_logic p.kind) board.chain
   pub currents : map (λ n. n.state.current) chain ≡ map (λ p. in_test p.kind) board.chain
   pub stays : all_held chain ≡ row
-
-abbrev pub register_of : PartKind → List Bool → List Bool
-register_of (Described device) pins = pins
-register_of (WithoutDescription n) pins = false ∷ []
-
--- what the parts load, from what their pins have
-abbrev pub registers : (ℕ → List Bool) → List Part → List (List Bool)
-registers pins [] = []
-registers pins (p ∷ ps) = register_of p.kind (pins 0) ∷ registers (λ k. pins (suc k)) ps
 
 abbrev pub shifted_row : RawBoard → RowScan → List (List Bool)
 shifted_row board t = map tdi_bits (row_bits board t)

@@ -41,3 +41,4 @@ pub mod SingleLemmas
 pub mod ScanPlaceLemmas
 mod SampleBoardRuns
 mod SampleQuiet
+pub mod CaptureLemmas

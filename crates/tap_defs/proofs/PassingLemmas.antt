@@ -25,7 +25,8 @@ use Rattle.tap_defs.specs.ChainRegisters.{pins_at}
 use Rattle.tap_defs.specs.TestRows.{TestRow, observing_driver, row_bit, expect_bit, expect_entry, expect_pin, expect_place, expect_observed, only_if}
 use Rattle.tap_defs.specs.BoardScans.{RowScan, part_bits, row_bits}
 use Rattle.std.proofs.lemmas.Bool.{and_parts, both_ways, eq-eqb, eqb-true}
-use Rattle.tap_defs.proofs.InTestLemmas.{InTest, register_of, registers, shifted_row}
+use Rattle.tap_defs.specs.RowCaptures.{register_of, registers}
+use Rattle.tap_defs.proofs.InTestLemmas.{InTest, shifted_row}
 use Rattle.tap_defs.proofs.ScanLemmas.{parts_pass}
 use Rattle.tap_defs.proofs.RowScanLemmas.{bits_fit, captured_fits}
 use Rattle.tap_defs.proofs.WrongLemmas.{registers_at, bits_at}

@@ -13,13 +13,15 @@ use Rattle.tap_defs.specs.FaultSet.{FaultSet}
 use Rattle.tap_defs.specs.NetBits.{captured_by}
 use Rattle.tap_defs.specs.Run.{choices_after, Clock, Choice, Choices, run, tdos, run_passes}
 use Rattle.tap_defs.specs.OnBoard.{board_wiring}
-use Rattle.tap_defs.specs.Scan.{ScanBit, joined}
+use Rattle.std.proofs.lemmas.List.{length-map}
+use Rattle.tap_defs.specs.Scan.{ScanBit, joined, tdi_bits}
 use Rattle.tap_defs.specs.Clocks.{sdr_clocks}
 use Rattle.tap_defs.specs.ChainRegisters.{all_held, dr_capture, dr_captures, pins_at}
 use Rattle.tap_defs.specs.Transport.{DataFrame, data_frame, scan_passes}
 use Rattle.tap_defs.specs.BoardScans.{RowScan, part_bits, bits_by_part, row_bits, row_clocks}
 use Rattle.tap_defs.proofs.ListLemmas.{cons_path, length-joined, length-filled}
-use Rattle.tap_defs.proofs.InTestLemmas.{in_test, InTest, register_of, registers, shifted_row, SomeWrong}
+use Rattle.tap_defs.specs.RowCaptures.{register_of, registers}
+use Rattle.tap_defs.proofs.InTestLemmas.{in_test, InTest, shifted_row, SomeWrong}
 use Rattle.tap_defs.proofs.DataLemmas.{data_transport}
 use Rattle.tap_defs.proofs.ScanLemmas.{joined_same, tdi_bits-joined, lengths-tdi_bits, and_false}
 use Rattle.tap_defs.proofs.RunLemmas.{two_pass}
@@ -62,9 +64,9 @@ bits_fit board t k (p ∷ ps) pins q = cons_path (one p.kind (λ device e. q 0 p
     one (Described device) h = length-filled device.boundary _ ∙ sym (h device refl)
     one (Bypass n) h = refl
 
--- one scan of a pass
-pub record RowScanDone (board : RawBoard) (faults : FaultSet) (t : RowScan) (free : Choice) (out : List Bool) (chain next : List ChainPart) : Type 0 where
-  pub compares : run_passes (sdr_clocks (joined (row_bits board t))) out ≡ scan_passes (joined (row_bits board t)) (joined (registers (pins_at (board_wiring board faults) free chain) board.chain))
+-- a scan of a pass, with any bits compared
+pub record RowScanDone (board : RawBoard) (faults : FaultSet) (t : RowScan) (bits : List ScanBit) (free : Choice) (out : List Bool) (chain next : List ChainPart) : Type 0 where
+  pub compares : run_passes (sdr_clocks bits) out ≡ scan_passes bits (joined (registers (pins_at (board_wiring board faults) free chain) board.chain))
   pub in_test : InTest board (shifted_row board t) next
 
 pub logics_of : (chain ms : List ChainPart) → map data_frame chain ≡ map data_frame ms → map (λ n. n.logic) chain ≡ map (λ n. n.logic) ms
@@ -74,17 +76,17 @@ pub currents_of : (chain ms : List ChainPart) → map data_frame chain ≡ map d
     map (λ n. n.state.current) chain ≡ map (λ n. n.state.current) ms
 currents_of chain ms e = sym (map-map (λ f. f.current) data_frame chain) ∙ ap (λ (fs : List DataFrame). map (λ f. f.current) fs) e ∙ map-map (λ f. f.current) data_frame ms
 
-pub row_scan_done : (board : RawBoard) (faults : FaultSet) (t : RowScan) (free : Choices) (row : List (List Bool)) (chain : List ChainPart) →
-    InTest board row chain → 0 < length (joined (row_bits board t)) →
-    let bits : List ScanBit = joined (row_bits board t) in
-    RowScanDone board faults t (free 2) (tdos (board_wiring board faults) (sdr_clocks bits) free chain) chain (run (board_wiring board faults) (sdr_clocks bits) free chain)
-row_scan_done board faults t free row chain h pos =
-    let bits : List ScanBit = joined (row_bits board t) in
+pub row_scan_by : (board : RawBoard) (faults : FaultSet) (t : RowScan) (bits : List ScanBit) → tdi_bits bits ≡ tdi_bits (joined (row_bits board t)) →
+    (free : Choices) (row : List (List Bool)) (chain : List ChainPart) → InTest board row chain → 0 < length bits →
+    RowScanDone board faults t bits (free 2) (tdos (board_wiring board faults) (sdr_clocks bits) free chain) chain (run (board_wiring board faults) (sdr_clocks bits) free chain)
+row_scan_by board faults t bits shifts free row chain h pos =
     let pins : ℕ → List Bool = pins_at (board_wiring board faults) (free 2) chain in
     let rs : List (List Bool) = registers pins board.chain in
     let regs : dr_captures pins (free 2).parts chain ≡ rs = loaded_registers chain board.chain pins (free 2).parts h.currents in
     let fit : map length (row_bits board t) ≡ map length rs = bits_fit board t 0 board.chain pins (captured_fits board faults (free 2) chain) in
-    let len : length bits ≡ length (joined (dr_captures pins (free 2).parts chain)) = length-joined (row_bits board t) rs fit ∙ sym (ap (λ (r : List (List Bool)). length (joined r)) regs) in
+    let size : length bits ≡ length (joined (row_bits board t)) =
+    sym (length-map bits (λ b. b.tdi)) ∙ ap (λ (r : List Bool). length r) shifts ∙ length-map (joined (row_bits board t)) (λ b. b.tdi) in
+    let len : length bits ≡ length (joined (dr_captures pins (free 2).parts chain)) = size ∙ length-joined (row_bits board t) rs fit ∙ sym (ap (λ (r : List (List Bool)). length (joined r)) regs) in
     let d = data_transport (board_wiring board faults) bits free chain h.idle pos len in
     let next : List ChainPart = run (board_wiring board faults) (sdr_clocks bits) free chain in
     record {
@@ -96,9 +98,16 @@ row_scan_done board faults t free row chain h pos =
         stays =
             joined_same (all_held next) (shifted_row board t)
             (d.lengths ∙ ap (λ (r : List (List Bool)). map length r) regs ∙ sym fit ∙ sym (lengths-tdi_bits (row_bits board t)))
-            (d.stays ∙ tdi_bits-joined (row_bits board t));
+            (d.stays ∙ shifts ∙ tdi_bits-joined (row_bits board t));
       };
     }
+
+-- with the bits of the test compared
+pub row_scan_done : (board : RawBoard) (faults : FaultSet) (t : RowScan) (free : Choices) (row : List (List Bool)) (chain : List ChainPart) →
+    InTest board row chain → 0 < length (joined (row_bits board t)) →
+    let bits : List ScanBit = joined (row_bits board t) in
+    RowScanDone board faults t bits (free 2) (tdos (board_wiring board faults) (sdr_clocks bits) free chain) chain (run (board_wiring board faults) (sdr_clocks bits) free chain)
+row_scan_done board faults t free row chain h pos = row_scan_by board faults t (joined (row_bits board t)) refl free row chain h pos
 
 -- scans of which one is wrong fail in every run
 pub fails_by : (board : RawBoard) (faults : FaultSet) → ((t : RowScan) → 0 < length (joined (row_bits board t))) →

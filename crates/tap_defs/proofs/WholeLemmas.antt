@@ -21,7 +21,8 @@ use Rattle.tap_defs.proofs.RunLemmas.{two_pass, run-append}
 use Rattle.tap_defs.proofs.EntryLemmas.{quiet_compares, row_scan_some, whole_passes_as, f3, entered, in_test_after}
 use Rattle.tap_defs.proofs.RowScanLemmas.{fails_by, row_scan_done}
 use Rattle.tap_defs.proofs.PassingLemmas.{good_scan}
-use Rattle.tap_defs.proofs.InTestLemmas.{InTest, registers, shifted_row}
+use Rattle.tap_defs.specs.RowCaptures.{registers}
+use Rattle.tap_defs.proofs.InTestLemmas.{InTest, shifted_row}
 use Rattle.tap_defs.proofs.DetectionLemmas.{IsPlan, detected}
 
 pub clocks-append : (board : RawBoard) (xs ys : List RowScan) → row_clocks board (xs ++ ys) ≡ row_clocks board xs ++ row_clocks board ys

@@ -26,7 +26,8 @@ use Rattle.tap_defs.specs.ChainRegisters.{pins_at}
 use Rattle.tap_defs.specs.TestRows.{TestRow, observing_driver, row_bit, expect_bit, expect_entry, expect_pin, expect_place, expect_observed, only_if}
 use Rattle.tap_defs.specs.BoardScans.{RowScan, part_bits, bits_by_part, row_bits}
 use Rattle.std.proofs.lemmas.Bool.{false_from_ne_true}
-use Rattle.tap_defs.proofs.InTestLemmas.{InTest, register_of, registers, shifted_row, IsWrong}
+use Rattle.tap_defs.specs.RowCaptures.{register_of, registers}
+use Rattle.tap_defs.proofs.InTestLemmas.{InTest, shifted_row, IsWrong}
 use Rattle.tap_defs.proofs.ScanLemmas.{part_passes, cell_passes, filled_at}
 use Rattle.tap_defs.proofs.RowScanLemmas.{bits_fit, captured_fits}
 

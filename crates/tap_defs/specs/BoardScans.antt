@@ -105,9 +105,16 @@ pub record AreTestScans (board : RawBoard) (passes : List (List Ctl)) (width : �
       slice_get scans (3 + (x * suc width + j))
       ≡ Some (scan_of_row board (record { now = row_now (code_row board passes pass) width j; before = row_before (code_row board passes pass) j }))
 
--- the scans of the board's test: those of the board's passes, with codes wide enough for the nets that they observe
+-- the scans of data of the board's test after the EXTEST codes: those of the board's passes, with codes wide enough for the nets that
+-- they observe
+abbrev pub svf_row_scans : RawBoard → List RowScan
+svf_row_scans board =
+    let passes : List (List Ctl) = passes_of board in
+    row_scans (code_row board passes) (code_width (observed_count board passes)) passes
+
+-- the scans of the board's test
 abbrev pub svf_scans : RawBoard → List Scan
-svf_scans board = test_scans board (passes_of board) (code_width (observed_count board (passes_of board)))
+svf_scans board = board_scans board (svf_row_scans board)
 
 -- the text of the board's test
 abbrev pub board_text : RawBoard → List ℕ

@@ -21,5 +21,6 @@ pub mod OnBoard
 pub mod Quiet
 pub mod TestRows
 pub mod BoardScans
+pub mod RowCaptures
 pub mod BoardTest
 pub mod Explaining

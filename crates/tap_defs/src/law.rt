@@ -1,5 +1,5 @@
 //! The laws of the model, as contracts of functions that do nothing: a caller knows the law after the call.
-ghost use Rattle.std.specs.Prelude.{◌≡◌, ℕ, ◌+◌, ◌^◌, ◌≤◌, List, sum, Some, slice_get};
+ghost use Rattle.std.specs.Prelude.{◌≡◌, ◌↔◌, ℕ, ◌+◌, ◌^◌, ◌≤◌, Bool, List, map, sum, Some, slice_get};
 ghost use Rattle.board_defs.specs.declared.board.Ctl.{Ctl};
 ghost use Rattle.board_defs.specs.declared.board.Net.{Net};
 ghost use Rattle.board_defs.specs.declared.board.RawBoard.{RawBoard};
@@ -9,16 +9,18 @@ ghost use Rattle.board_defs.specs.Faults.{IsSingle};
 ghost use Rattle.board_defs.specs.Decided.{is_covered};
 ghost use Rattle.board_defs.specs.Passes.{ArePasses};
 ghost use Rattle.board_defs.specs.Settings.{IsSafe, holds};
-ghost use Rattle.tap_defs.specs.BoardScans.{AreTestScans, test_scans, pass_text, board_text, walk_text};
+ghost use Rattle.tap_defs.specs.BoardScans.{RowScan, board_scans, scan_of_row, AreTestScans, test_scans, pass_text, board_text, walk_text};
 ghost use Rattle.tap_defs.specs.BoardTest.{IsBoardTest, IsHarmless};
 ghost use Rattle.tap_defs.specs.ChainScans.{chain_text};
 ghost use Rattle.tap_defs.specs.ChainTest.{AreIrLengths, IsChainTest};
 ghost use Rattle.tap_defs.specs.Clocks.{test_clocks};
+ghost use Rattle.tap_defs.specs.OnBoard.{PassOnBoard};
+ghost use Rattle.tap_defs.specs.RowCaptures.{CapturesPass};
 ghost use Rattle.tap_defs.specs.Scan.{Scan};
 ghost use Rattle.tap_defs.specs.Svf.{meaning};
-ghost use Rattle.tap_defs.specs.Explaining.{set_of};
-ghost use Rattle.tap_defs.specs.FaultSet.{IsObservable, IsNonempty};
-ghost use Rattle.tap_defs.specs.TestRows.{CodesTell, IsCodeWidth, code_width, observed_count, is_observed};
+ghost use Rattle.tap_defs.specs.Explaining.{set_of, scans_by_log};
+ghost use Rattle.tap_defs.specs.FaultSet.{FaultSet, IsObservable, IsNonempty};
+ghost use Rattle.tap_defs.specs.TestRows.{quiet_row, CodesTell, IsCodeWidth, code_width, observed_count, is_observed};
 ghost use Rattle.tap_defs.specs.Text.{svf_text, AllSized};
 ghost use Rattle.tap_defs.specs.Transport.{DataTransport, LongDataTransport, CodeTransport, LongCodeTransport};
 
@@ -93,4 +95,9 @@ pub fn walks_harmless()
 pub fn singles_observable()
     ensures observable { (board : RawBoard) (single : Single) → IsSingle board single → IsObservable board (set_of single) }
     ensures nonempty { (single : Single) → IsNonempty (set_of single) }
+{}
+
+/// A log is what every run of a test compares, under some faults, exactly where it is what the rows in the latches let the cells capture.
+pub fn logs_captured()
+    ensures { (board : RawBoard) (faults : FaultSet) (scans : List RowScan) (log : List (List Bool)) → IsBoard board → PassOnBoard board faults (test_clocks (scans_by_log (board_scans board scans) log)) ↔ CapturesPass board faults quiet_row scans (scans_by_log (map (scan_of_row board) scans) log) }
 {}

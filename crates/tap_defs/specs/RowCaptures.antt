@@ -1,0 +1,52 @@
+-- What a scan of data captures while a row is in the latches, whatever is faulty: the net bits decide it, and no clock is run.
+use Rattle.std.specs.Prelude.{◌≡◌, ℕ, suc, Bool, true, false, List, [], ◌∷◌}
+use Rattle.board_defs.specs.declared.board.PartKind.{PartKind}
+use Rattle.board_defs.specs.declared.board.PartKind.TheVariants.{Described, Bypass as WithoutDescription}
+use Rattle.board_defs.specs.declared.board.Part.{Part}
+use Rattle.board_defs.specs.declared.board.RawBoard.{RawBoard}
+use Rattle.tap_defs.specs.TestLogic.{Instruction, Extest, Bypass}
+use Rattle.tap_defs.specs.ShiftRegister.{filled}
+use Rattle.tap_defs.specs.Part.{PinState}
+use Rattle.tap_defs.specs.Run.{Choice}
+use Rattle.tap_defs.specs.Scan.{Scan, joined}
+use Rattle.tap_defs.specs.Transport.{scan_passes}
+use Rattle.tap_defs.specs.FaultSet.{FaultSet}
+use Rattle.tap_defs.specs.OnBoard.{board_wiring}
+use Rattle.tap_defs.specs.TestRows.{TestRow, row_bit}
+use Rattle.tap_defs.specs.BoardScans.{RowScan}
+
+-- what a part shows while the row is in the latches: a described part is under EXTEST, each other part in BYPASS
+abbrev pub shown_by_part : RawBoard → TestRow → ℕ → PartKind → PinState
+shown_by_part board row part (Described device) = record { current = Extest; latches = filled device.boundary (λ cell. row_bit board row part device cell) }
+shown_by_part board row part (WithoutDescription n) = record { current = Bypass; latches = [] }
+
+-- what these parts show, of which the first has this number
+abbrev pub shown_by_parts : RawBoard → TestRow → ℕ → List Part → List PinState
+shown_by_parts board row part [] = []
+shown_by_parts board row part (p ∷ parts) = shown_by_part board row part p.kind ∷ shown_by_parts board row (suc part) parts
+
+-- what all parts show
+abbrev pub row_states : RawBoard → TestRow → List PinState
+row_states board row = shown_by_parts board row 0 board.chain
+
+-- what the data register of a part loads, where its pins have these bits: a part in BYPASS loads 0
+abbrev pub register_of : PartKind → List Bool → List Bool
+register_of (Described device) pins = pins
+register_of (WithoutDescription n) pins = false ∷ []
+
+-- what the parts load, from what their pins have
+abbrev pub registers : (ℕ → List Bool) → List Part → List (List Bool)
+registers pins [] = []
+registers pins (p ∷ parts) = register_of p.kind (pins 0) ∷ registers (λ k. pins (suc k)) parts
+
+-- the bits that a scan captures while the row is in the latches, the bit nearest TDO first
+abbrev pub row_captured : RawBoard → FaultSet → TestRow → Choice → List Bool
+row_captured board faults row choice = joined (registers (board_wiring board faults (row_states board row) choice) board.chain)
+
+-- each of these scans passes by what it captures while the row is in the latches that the scan before it shifted in, whatever the
+-- free bits are
+abbrev pub CapturesPass : RawBoard → FaultSet → TestRow → List RowScan → List Scan → Type 0
+CapturesPass board faults row [] scans = Unit {0}
+CapturesPass board faults row (t ∷ ts) [] = Unit {0}
+CapturesPass board faults row (t ∷ ts) (scan ∷ scans) =
+    ((choice : Choice) → scan_passes scan.bits (row_captured board faults row choice) ≡ true) × CapturesPass board faults t.now ts scans
