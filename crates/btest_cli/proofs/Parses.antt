@@ -1,6 +1,6 @@
 -- What `clap` makes of plain words.
-use Rattle.std.proofs.Common.{◌≡◌, refl, sym, ap, subst, ◌∙◌, true, false, Bool, List, [], ◌∷◌, ◌++◌, codes, ℕ, zero, suc, nat_eq, cond, Option, Some, None, inl, inr, ◌⊎◌, append_assoc, append-nil}
-use Rattle.std.specs.Prelude.{fold, is_some, ◌||◌, ◌&&◌, not, find, unwrap_or, option_and_then, option_map, if◌then◌else◌, slice_get, length, nat_le}
+use Rattle.std.proofs.Common.{◌≡◌, refl, sym, ap, subst, ◌∙◌, true, false, Bool, List, [], ◌∷◌, ◌++◌, codes, ℕ, nat_eq, cond, Some, None, inl, inr, ◌⊎◌, append_assoc, append-nil}
+use Rattle.std.specs.Prelude.{fold, is_some, ◌||◌, ◌&&◌, not, find, unwrap_or, option_and_then, option_map, if◌then◌else◌, slice_get}
 use Rattle.std.specs.Str.{bytes_eq}
 use Rattle.std.proofs.lemmas.Slice.Eq.{bytes_eq-Decides}
 use Rattle.std.specs.Option.{option_map_or}
@@ -9,12 +9,12 @@ use Rattle.clap.specs.declared.error.kind.ErrorKind.TheVariants as kind
 use Rattle.clap.specs.declared.parser.matches.ValueSource.TheVariants.{CommandLine}
 use Rattle.clap.specs.Values.{reading_of}
 use Rattle.clap.specs.Facts.{parser_of_value}
-use Rattle.clap.specs.Walk.{rows_after, after_step, subcommand_met, subcommand_or_other, word_met, value, trailing, long_or_other, short_or_plain, at_row, more_values, answers_to, Held, Names, Row, Rule, Text, Walk, Waiting, walk, walked, walk_from, nothing_held, idle, positional, with_default, has_row, settled, finished}
-use Rattle.clap.specs.Simple.{subcommand_of, label_of, App, Shape, built, names_of, entered, argument_words}
+use Rattle.clap.specs.Walk.{after_step, subcommand_met, subcommand_or_other, word_met, value, trailing, long_or_other, short_or_plain, at_row, more_values, answers_to, Held, Names, Row, Rule, Text, Walk, walk, walked, walk_from, nothing_held, idle, positional, with_default, has_row, settled, finished}
+use Rattle.clap.specs.Simple.{label_of, App, Shape, built, names_of, entered}
 use Rattle.clap.specs.Kinds.{Kinds, IsAmong, or_else}
 use Rattle.clap.specs.declared.error.kind.ErrorKind.{ErrorKind}
 use Rattle.std.specs.List.{list_all}
-use Rattle.clap.specs.Faults.{given_default_fault, other_fault, flag_word_fault, bundle_fault, step_fault, fault_of, built_fault, level_fault, entered_fault, walk_fault, turn_fault, defaults_fault, default_fault, settle_fault, check_fault, is_simple_and_free}
+use Rattle.clap.specs.Faults.{given_default_fault, other_fault, flag_word_fault, bundle_fault, step_fault, fault_of, level_fault, entered_fault, walk_fault, turn_fault, defaults_fault, default_fault, settle_fault, check_fault, is_simple_and_free}
 use Rattle.clap.proofs.OnLiterals.{clap_on_literals}
 use Rattle.btest_cli.specs.Words.{is_plain}
 use Rattle.btest_cli.specs.App.{btest_app, names_rule, has_file, is_accepted}

@@ -1,6 +1,5 @@
 -- Texts that go out in pieces.
 use Rattle.std.proofs.Common.{◌≡◌, ℕ, ◌<◌, List, [], ◌∷◌, ◌++◌, length, take, drop, map, Result, Ok, Err, IsErr, refl, sym, ap, ◌∙◌, subst, append_assoc, append-nil, Bor, get_or, ◌+◌}
-use Rattle.std.specs.List.{flat_map}
 use Rattle.std.proofs.lemmas.List.{drop_more, take-append-drop}
 use Rattle.bt_base.specs.Puts.{Puts, Shown}
 use Rattle.bt_base.proofs.Cuts.{puts_ok, puts_err}

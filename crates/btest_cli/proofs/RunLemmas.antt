@@ -1,10 +1,9 @@
 -- Runs of a command: what a failure leaves, and that nothing is missing.
-use Rattle.std.proofs.Common.{◌≡◌, ◌≢◌, ◌⊎◌, ℕ, zero, suc, ◌<◌, length, arith, List, [], ◌∷◌, take, Option, Some, None, Result, Ok, Err, refl, sym, ap, ◌∙◌, subst, inl, inr}
+use Rattle.std.proofs.Common.{◌≡◌, ◌≢◌, ℕ, zero, suc, ◌<◌, length, arith, List, [], ◌∷◌, Option, Some, Result, Ok, Err, refl, sym, ap, ◌∙◌, subst, inl, inr}
 use Rattle.std.specs.Prelude.{Contains, slice_index_or}
 use Rattle.bt_base.specs.Counts.{Rose}
-use Rattle.bt_base.specs.Puts.{Puts, Shown, Takes}
+use Rattle.bt_base.specs.Puts.{Puts, Shown}
 use Rattle.btest_core.specs.declared.fault.InputFault.{InputFault}
-use Rattle.btest_core.specs.ChainLengths.{chain_lengths}
 use Rattle.btest_cli.specs.declared.status.Status.{Status}
 use Rattle.btest_cli.specs.declared.status.Status.TheVariants as status
 use Rattle.btest_cli.specs.declared.failure.Failure.{Failure}
@@ -13,7 +12,7 @@ use Rattle.btest_cli.specs.Words.{Text, Command, Chain, names_of}
 use Rattle.btest_cli.specs.Texts.{Reading, Read, TooLong, IsRead, reading_of}
 use Rattle.btest_cli.specs.Refusals.{input_fault_line, long_line}
 use Rattle.btest_cli.specs.Failures.{failure_line, status_of}
-use Rattle.btest_cli.specs.Outcome.{Held, IsCutShort, IsDone, IsNotRead, IsRefused, IsComplete, FaultIsRead, IsWorth, Settles, SomeRose, TookOrCut, by_lengths, chain_names, outcome}
+use Rattle.btest_cli.specs.Outcome.{Held, IsCutShort, IsDone, IsComplete, FaultIsRead, IsWorth, Settles, SomeRose, TookOrCut, by_lengths, chain_names, outcome}
 use Rattle.btest_cli.specs.RunOf.{IsRunOf}
 
 -- a line that was put, or not whole
