@@ -10,9 +10,9 @@ use Rattle.board_build.specs.declared.names.Naming.TheVariants.{Part, Entity as 
 use Rattle.board_build.specs.Names.{Named, same_name, named, names_of}
 use Rattle.board_build.specs.Faults.{◌then◌, unless}
 
--- this word of the line on which the name at the place stands
-abbrev pub spot_at : List Named → ℕ → ℕ → Option Spot
-spot_at list word place = option_map (λ n. record { line = n.0; word = word }) (slice_get list place)
+-- the line on which the name at the place stands. A chain line is named whole, as its word 1
+abbrev pub spot_at : List Named → ℕ → Option Spot
+spot_at list place = option_map (λ n. record { line = n.0; word = 1 }) (slice_get list place)
 
 -- neither a DEVICE nor a BYPASS line
 unfoldable pub no_chain : List Named → Option BoardFault
@@ -20,7 +20,7 @@ no_chain parts = if nat_eq (length parts) 0 then Some NoChain else None
 
 -- the first part that stands a second time
 unfoldable pub part_twice : List Named → Option BoardFault
-part_twice parts = option_map PartTwice (option_and_then (spot_at parts 2) (first_repeat same_name (names_of parts)))
+part_twice parts = option_map PartTwice (option_and_then (spot_at parts) (first_repeat same_name (names_of parts)))
 
 -- where the entity of each described part stands among the texts
 abbrev pub entity_places : List Named → List (List ℕ) → List (Option ℕ)
@@ -28,7 +28,7 @@ entity_places devices entities = map (first_place same_name entities) (names_of 
 
 -- the first entity that no text has
 unfoldable pub no_entity : List Named → List (Option ℕ) → Option BoardFault
-no_entity devices places = option_map NoEntity (option_and_then (spot_at devices 3) (position is_none places))
+no_entity devices places = option_map NoEntity (option_and_then (spot_at devices) (position is_none places))
 
 -- the first text whose entity an earlier text has
 unfoldable pub entity_twice : List (List ℕ) → Option BoardFault

@@ -5,6 +5,7 @@ mod fault;
 mod names;
 mod selection;
 
+pub use board_defs::Spot;
 pub use fault::BoardFault;
 pub use selection::select;
 

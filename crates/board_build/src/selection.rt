@@ -121,12 +121,12 @@ fn chain_limit(parts: &[(u32, &[u8])]) -> Option<BoardFault>
     }
 }
 
-/// This word of the line on which the name at the place stands.
-pub fn spot_at(named: &[(u32, &[u8])], word: u32, place: usize) -> Option<Spot>
-    ensures { result ≡ spot_at (map (λ n. (n.0, n.1.now)) named.now) word place }
+/// The line on which the name at the place stands. A chain line is named whole, as its word 1.
+pub fn spot_at(named: &[(u32, &[u8])], place: usize) -> Option<Spot>
+    ensures { result ≡ spot_at (map (λ n. (n.0, n.1.now)) named.now) place }
 {
     match named.get(place) {
-        Some(n) => Some(Spot { line: n.0, word }),
+        Some(n) => Some(Spot { line: n.0, word: 1 }),
         None => None,
     }
 }
@@ -138,7 +138,7 @@ fn part_twice(alloc: Global, parts: &[(u32, &[u8])]) -> Result<Option<BoardFault
 {
     let names = names_of(alloc, parts)?;
     match first_repeat_of(alloc, &names)? {
-        Some(place) => Ok(spot_at(parts, 2, place as usize).map(BoardFault::PartTwice)),
+        Some(place) => Ok(spot_at(parts, place as usize).map(BoardFault::PartTwice)),
         None => Ok(None),
     }
 }
@@ -154,7 +154,7 @@ fn no_entity(devices: &[(u32, &[u8])], places: &[Option<u32>]) -> Option<BoardFa
     ensures { result ≡ no_entity (map (λ n. (n.0, n.1.now)) devices.now) places.now }
 {
     match missing(places) {
-        Some(place) => spot_at(devices, 3, place).map(BoardFault::NoEntity),
+        Some(place) => spot_at(devices, place).map(BoardFault::NoEntity),
         None => None,
     }
 }

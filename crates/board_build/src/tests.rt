@@ -21,39 +21,56 @@ fn entities(alloc: Global, names: &[&[u8]]) -> Result<Vec<Entity>, AllocError> {
     Ok(entities)
 }
 
-/// The fault's number and its numbers, or zeros.
-fn fault_of(rt: &HostRuntime, text: &str, names: &[&[u8]]) -> Result<(u32, u32, u32), Fail> {
-    let file = chain(rt.alloc(), text.as_bytes())?;
-    let entities = entities(rt.alloc(), names)?;
-    if file.lines().len() > 1000 || entities.len() > 1000 {
-        return Ok((99, 0, 0));
+fn is_shared<T: Send + Sync>() {}
+
+#[test]
+fn values_may_be_shared() {
+    is_shared::<BoardFault>();
+    is_shared::<Spot>();
+}
+
+// Whether this is how the chain is refused, and at which line or text.
+fn is_refused(
+    alloc: Global,
+    text: &[u8],
+    names: &[&[u8]],
+    wanted: &str,
+    at: u32,
+) -> Result<bool, Fail> {
+    if text.len() > 1000 || names.len() > 1000 {
+        return Ok(false);
     }
-    Ok(match select(rt.alloc(), &file, &entities) {
-        Ok(_) => (0, 0, 0),
-        Err(BoardFault::NoChain) => (1, 0, 0),
-        Err(BoardFault::PartTwice(spot)) => (2, spot.line, spot.word),
-        Err(BoardFault::NoEntity(spot)) => (3, spot.line, spot.word),
-        Err(BoardFault::EntityTwice(text)) => (4, text, 0),
-        Err(BoardFault::Limit(which)) => (11, which, 0),
-        Err(_) => (12, 0, 0),
-    })
+    let file = chain(alloc, text)?;
+    let entities = entities(alloc, names)?;
+    if entities.len() > 1000 {
+        return Ok(false);
+    }
+    let answer = match select(alloc, &file, &entities) {
+        Ok(_) => ("", 0),
+        Err(BoardFault::NoChain) => ("no part", 0),
+        Err(BoardFault::PartTwice(spot)) => ("part twice", spot.line),
+        Err(BoardFault::NoEntity(spot)) => ("no entity", spot.line),
+        Err(BoardFault::EntityTwice(text)) => ("entity twice", text),
+        Err(_) => ("other", 0),
+    };
+    Ok(answer.0 == wanted && answer.1 == at)
 }
 
 #[test]
 fn selections(rt: HostRuntime) -> Result<(), Fail> {
-    let both = [b"DRV".as_slice(), b"RCV".as_slice()];
-    let twice = [b"DRV".as_slice(), b"RCV".as_slice(), b"DRV".as_slice()];
-    let cases = [
-        ("DEVICE U1 DRV -\nDEVICE U2 RCV -", (0, 0, 0)),
-        ("SUPPLY V", (1, 0, 0)),
-        ("DEVICE U1 DRV -\nBYPASS U1 3", (2, 2, 2)),
-        ("DEVICE U1 XYZ -\nDEVICE U2 RCV -", (3, 1, 3)),
-        ("DEVICE U1 XYZ -\nDEVICE U1 RCV -", (2, 2, 2)),
-    ];
-    for (text, wanted) in cases {
-        assert_eq!(rt; fault_of(&rt, text, &both)?, wanted, "{text}");
-    }
-    assert_eq!(rt; fault_of(&rt, "DEVICE U1 DRV -", &twice)?, (4, 2, 0));
+    let alloc = rt.alloc();
+    let both: [&[u8]; 2] = [b"DRV", b"RCV"];
+    let twice: [&[u8]; 3] = [b"DRV", b"RCV", b"DRV"];
+    let two = b"DEVICE U1 DRV -\nDEVICE U2 RCV -";
+    assert!(rt; is_refused(alloc, two, &both, "", 0)?);
+    assert!(rt; is_refused(alloc, b"SUPPLY V", &both, "no part", 0)?);
+    let again = b"DEVICE U1 DRV -\nBYPASS U1 3";
+    assert!(rt; is_refused(alloc, again, &both, "part twice", 2)?);
+    let unknown = b"DEVICE U1 XYZ -\nDEVICE U2 RCV -";
+    assert!(rt; is_refused(alloc, unknown, &both, "no entity", 1)?);
+    let worse = b"DEVICE U1 XYZ -\nDEVICE U1 RCV -";
+    assert!(rt; is_refused(alloc, worse, &both, "part twice", 2)?);
+    assert!(rt; is_refused(alloc, b"DEVICE U1 DRV -", &twice, "entity twice", 2)?);
     Ok(())
 }
 

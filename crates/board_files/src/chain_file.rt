@@ -13,27 +13,34 @@ use board_defs::Name;
 use std::alloc::{AllocError, Global};
 use std::marker::Model;
 
+/// A statement of a chain file. Entity, package and pin names are in upper case.
 #[derive(Drop)]
 pub enum ChainStatement {
+    /// A part with a description; no package stands for the default of the description.
     Device {
         part: Name,
         entity: Name,
         package: Option<Name>,
     },
+    /// A part that is known by the length of its instruction register, 2 to 255 bits.
     Bypass {
         part: Name,
         length: u32,
     },
+    /// A part whose pins neither drive nor connect.
     Inert {
         part: Name,
     },
+    /// A net that carries a supply.
     Supply {
         net: Name,
     },
+    /// A net with a pull resistor to a value.
     Pull {
         net: Name,
         value: bool,
     },
+    /// A series part, which joins the nets of two of its pins.
     Link {
         part: Name,
         first: Name,
@@ -41,6 +48,7 @@ pub enum ChainStatement {
     },
 }
 
+/// A statement with the number of its line, from 1.
 #[derive(Drop)]
 pub struct ChainLine {
     pub line: u32,

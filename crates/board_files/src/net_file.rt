@@ -11,13 +11,14 @@ use board_defs::{Items, Name};
 use std::alloc::Global;
 use std::marker::Model;
 
+/// A pin of a net: its part, and its name in upper case.
 #[derive(Drop)]
 pub struct PinWord {
     pub part: Name,
     pub pin: Name,
 }
 
-/// A line of a net file. Its first pin is word 3.
+/// A line of a net file, with its number from 1. Its first pin is word 3.
 #[derive(Drop)]
 pub struct NetLine {
     pub line: u32,

@@ -1,8 +1,8 @@
 //! The program: the words of the command line, the files and the standard streams.
 #![tactic(auto)]
 
-use bt_base::{HostSink, HostStore, OpenGate, Sink};
-use btest_cli::{Status, run};
+use bt_base::{HostSink, HostStore, OpenGate};
+use btest_cli::{Status, put_usage, run};
 use std::alloc::Global;
 use std::process::ExitCode;
 use std::rt::Env;
@@ -26,9 +26,7 @@ fn main(rt: HostRuntime) -> ExitCode {
             if error.kind() == io::ErrorKind::OutOfMemory {
                 return ExitCode::from(Status::NoMemory as u8);
             }
-            let _ = notes.put(
-                b"usage: btest chain, device, cover, svf, diagnose, make, ident, walk, groups or batch\n",
-            );
+            let _ = put_usage(&mut notes);
             return ExitCode::from(Status::Usage as u8);
         }
     };

@@ -1,3 +1,4 @@
 pub mod PieceLemmas
 pub mod Parses
+pub mod ReadingLemmas
 pub mod RunLemmas

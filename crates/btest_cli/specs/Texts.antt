@@ -25,7 +25,7 @@ abbrev pub reading_of : (Text → Option Text) → List Text → Option Reading
 reading_of held [] = Some (Read [])
 reading_of held (name ∷ names) = read_first name (held name) (reading_of held names)
 
--- where the store tells what it holds, this is what reading the names gives
+-- this is what reading the names gives: where the store tells what it holds, from that, else from some texts
 abbrev pub IsRead : Option (Text → Option Text) → List Text → Reading → Type 0
-IsRead None names reading = Unit {0}
+IsRead None names reading = (texts : Text → Option Text) × (reading_of texts names ≡ Some reading)
 IsRead (Some held) names reading = reading_of held names ≡ Some reading

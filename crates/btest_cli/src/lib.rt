@@ -10,5 +10,6 @@ mod texts;
 mod top;
 mod words;
 
+pub use notes::put_usage;
 pub use status::Status;
 pub use top::run;

@@ -21,6 +21,8 @@ pub fn fetch_text<S: Store>(alloc: Global, name: &str, store: &mut S) -> Result<
     let mut text = Vec::new(alloc);
     match store.fetch(name, &mut text, MOST_BYTES) {
         Ok(()) => Ok(text),
-        Err(fault) => Err(fault),
+        Err(FetchFault::Failed) => Err(FetchFault::Failed),
+        Err(FetchFault::TooLong) => Err(FetchFault::TooLong),
+        Err(FetchFault::Memory(e)) => Err(FetchFault::Memory(e)),
     }
 }

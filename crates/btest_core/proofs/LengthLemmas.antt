@@ -51,8 +51,8 @@ none_described : (devices : List Named) → no_entity devices (entity_places dev
 unfolding no_entity
 none_described [] e = refl
 none_described (d ∷ devices) e =
-    let found = ap (λ o. option_map NoEntity (option_and_then (spot_at (d ∷ devices) 3) o)) (first_none (entity_places devices [])) in
-    let clash : ◌≡◌ {A = Option BoardFault} (Some (NoEntity (record { line = d.0; word = 3 }))) None = sym found ∙ e in
+    let found = ap (λ o. option_map NoEntity (option_and_then (spot_at (d ∷ devices)) o)) (first_none (entity_places devices [])) in
+    let clash : ◌≡◌ {A = Option BoardFault} (Some (NoEntity (record { line = d.0; word = 1 }))) None = sym found ∙ e in
     absurd cc
 
 record Selected (lines : List ChainLine) : Type 0 where
