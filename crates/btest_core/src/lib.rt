@@ -6,3 +6,6 @@ mod fault;
 
 pub use chain::read_chain;
 pub use fault::InputFault;
+
+#[cfg(test)]
+mod tests;

@@ -1,24 +1,22 @@
 -- What scans of data compare on a board is a function of the rows, the faults and the free bits.
-use Rattle.std.proofs.Common.{◌≡◌, ◌↔◌, ℕ, zero, suc, ◌+◌, ◌<◌, Bool, true, false, cond, not, ◌&&◌, ◌||◌, List, [], ◌∷◌, ◌++◌, length, map, replicate, Option, Some, None, refl, sym, ◌∙◌, ap, subst, arith, append_assoc}
+use Rattle.std.proofs.Common.{◌≡◌, ◌↔◌, ℕ, suc, ◌<◌, Bool, true, false, cond, ◌&&◌, ◌||◌, List, [], ◌∷◌, ◌++◌, length, map, replicate, Option, Some, None, refl, sym, ◌∙◌, ap, subst, arith, append_assoc}
 use Rattle.std.specs.Prelude.{is_some}
 use Rattle.std.proofs.lemmas.Bool.{and_parts, and_from}
 use Rattle.std.proofs.lemmas.List.{length-map, length-replicate}
-use Rattle.std.proofs.lemmas.Simd.{map-map}
 use Rattle.board_defs.specs.declared.board.PartKind.{PartKind}
 use Rattle.board_defs.specs.declared.board.PartKind.TheVariants.{Described, Bypass as WithoutDescription}
 use Rattle.board_defs.specs.declared.board.Part.{Part}
 use Rattle.board_defs.specs.declared.board.RawBoard.{RawBoard}
-use Rattle.board_defs.specs.declared.fault.Single.{Single}
 use Rattle.board_defs.specs.BoardRules.{IsBoard}
 use Rattle.tap_defs.specs.declared.tap.TapState.TheVariants.{RunTestIdle}
 use Rattle.tap_defs.specs.TestLogic.{TestLogic, Instruction, Extest, Bypass}
 use Rattle.tap_defs.specs.ShiftRegister.{filled}
 use Rattle.tap_defs.specs.Part.{PartState, PinState, IsStateOf}
-use Rattle.tap_defs.specs.Chain.{ChainPart, pin_states, logics, AllAreStates, IsChainOf}
-use Rattle.tap_defs.specs.ChainRegisters.{selected_by, held_bits, all_held, pins_at}
+use Rattle.tap_defs.specs.Chain.{ChainPart, pin_states, logics, AllAreStates}
+use Rattle.tap_defs.specs.ChainRegisters.{selected_by, held_bits, all_held}
 use Rattle.tap_defs.specs.Run.{Clock, Choice, Choices, Wiring, choices_after, clock_after, later, run, tdos, run_passes, bit_passes}
 use Rattle.tap_defs.specs.Scan.{ScanBit, Scan, tdi_bits, joined, compares}
-use Rattle.tap_defs.specs.Clocks.{plain, shift_clocks, sdr_clocks, sir_clocks, all_clocks, head_clocks, reset_clocks, test_clocks, scan_clocks}
+use Rattle.tap_defs.specs.Clocks.{plain, shift_clocks, sdr_clocks, sir_clocks, all_clocks, head_clocks, test_clocks, scan_clocks}
 use Rattle.tap_defs.specs.Transport.{scan_passes}
 use Rattle.tap_defs.specs.FaultSet.{FaultSet}
 use Rattle.tap_defs.specs.OnBoard.{test_logic, board_wiring, board_logics, IsBoardChain, PassOnBoard}
@@ -27,17 +25,12 @@ use Rattle.tap_defs.specs.Codes.{code_bits, instructs}
 use Rattle.tap_defs.specs.BoardScans.{RowScan, part_bits, bits_by_part, row_bits, scan_of_row, first_row_scan, board_scans, preload_code, extest_code}
 use Rattle.tap_defs.specs.Explaining.{uncompared, bits_by_log, is_compared, scans_by_log}
 use Rattle.tap_defs.specs.RowCaptures.{shown_by_part, shown_by_parts, row_states, registers, row_captured, CapturesPass}
-use Rattle.tap_defs.proofs.ListLemmas.{cons_path}
+use Rattle.tap_defs.proofs.ListLemmas.{cons_path, map-filled}
 use Rattle.tap_defs.proofs.InTestLemmas.{in_test, InTest, shifted_row}
 use Rattle.tap_defs.proofs.RunLemmas.{two_pass, run-append}
 use Rattle.tap_defs.proofs.RowScanLemmas.{row_scan_by}
 use Rattle.tap_defs.proofs.EntryLemmas.{stays_of, row_scan_some, AllSilent, quiet_silent, entered, f3, scan2, in_test_after}
 use Rattle.tap_defs.proofs.HeadLemmas.{scans_decide}
-
--- a list made of given items, with a function on each
-map-filled : {A B : Type 0} (g : A → B) (n : ℕ) (f : ℕ → A) → map g (filled n f) ≡ filled n (λ k. g (f k))
-map-filled g zero f = refl
-map-filled g (suc n) f = cons_path refl (map-filled g n (λ k. f (suc k)))
 
 no_items : {A : Type 0} (xs : List A) → length xs ≡ 0 → xs ≡ []
 no_items [] e = refl

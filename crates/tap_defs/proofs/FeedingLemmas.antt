@@ -1,7 +1,7 @@
 -- What an observed net is fed while a row of a pass is in the latches.
 use Rattle.std.proofs.Common.{◌≡◌, ◌≢◌, ℕ, zero, suc, ◌+◌, ◌==◌, Bool, true, false, cond, not, ◌&&◌, List, [], ◌∷◌, Option, Some, None, refl, sym, ◌∙◌, ap, subst, arith}
 use Rattle.std.specs.Prelude.{slice_get, unwrap_or, option_map, option_and_then}
-use Rattle.std.specs.List.{list_any, list_all}
+use Rattle.std.specs.List.{list_all}
 use Rattle.board_defs.specs.declared.device.Control.{Control}
 use Rattle.board_defs.specs.declared.device.Cell.{Cell}
 use Rattle.board_defs.specs.declared.device.RawDevice.{RawDevice}
@@ -11,19 +11,17 @@ use Rattle.board_defs.specs.declared.board.PinAt.{PinAt}
 use Rattle.board_defs.specs.declared.board.NetPin.{NetPin}
 use Rattle.board_defs.specs.declared.board.Net.{Net}
 use Rattle.board_defs.specs.declared.board.RawBoard.{RawBoard}
-use Rattle.board_defs.specs.DeviceRules.{is_driving, drives_bit, driving_entry, is_on, disable_of, is_control_of}
+use Rattle.board_defs.specs.DeviceRules.{is_driving, drives_bit, driving_entry, is_on}
 use Rattle.board_defs.specs.Pins.{device_at, described, entry_at, guarded, is_same, is_pinned}
 use Rattle.board_defs.specs.Settings.{Enabling, enables, enables_where, enables_entry, enables_by, IsSafe, SwitchesAt}
-use Rattle.board_defs.proofs.Places.{any_at}
 use Rattle.tap_defs.specs.Part.{PinState}
 use Rattle.tap_defs.specs.Chain.{ChainPart, pin_states}
 use Rattle.tap_defs.specs.FaultSet.{FaultSet, no_faults}
 use Rattle.tap_defs.specs.NetBits.{Place, place_of, in_extest, latch, live, live_where, live_entry, is_on_by, driver_bit, extest_where, ruled, Feeding, Unruled, Undriven, Driven, Contended, counted, feeding_from, feeding, unshorted_bit, or_else}
-use Rattle.tap_defs.specs.Quiet.{controls_driver, safe_bit}
-use Rattle.tap_defs.specs.TestRows.{TestRow, steady_bit, data_bit, data_pin, data_place, data_observed, only_if, driving_cell, observing_driver, observing_driver_by, first_enabled, reads_beside}
+use Rattle.tap_defs.specs.TestRows.{TestRow, steady_bit, data_bit, data_pin, data_place, data_observed, only_if, observing_driver, observing_driver_by, first_enabled, reads_beside}
 use Rattle.std.proofs.lemmas.Bool.{and_parts, both_ways, eq-eqb, false_from_ne_true, eqb-true}
 use Rattle.tap_defs.proofs.InTestLemmas.{InTest, shifted_row}
-use Rattle.tap_defs.proofs.LiveLemmas.{IsWired, found, find_some, latch_is, extest_is, dead_if_off, on_is}
+use Rattle.tap_defs.proofs.LiveLemmas.{IsWired, found, find_some, control_on, latch_is, extest_is, dead_if_off, on_is}
 
 -- what the rules of a board say of a pin of a net: it is of no described part, or it is where the net file says
 pub data PinRules (board : RawBoard) (n : ℕ) (net : Net) (i : ℕ) (p : NetPin) : Type 0 where
@@ -52,7 +50,7 @@ first_by : (board : RawBoard) (setting : Enabling) (m d : ℕ) (p : NetPin) (ps 
 first_by board setting m d p ps ih true q e = let z : m ≡ d = cc e in (0, p, omega (arith, z), refl, q)
 first_by board setting m d p ps ih false q e = let r = ih e in (suc r.0, r.1, omega (arith, r.2), r.3, r.4)
 
-first_at : (board : RawBoard) (setting : Enabling) (m d : ℕ) (ps : List NetPin) → first_enabled board setting m ps ≡ Some d →
+pub first_at : (board : RawBoard) (setting : Enabling) (m d : ℕ) (ps : List NetPin) → first_enabled board setting m ps ≡ Some d →
     (i : ℕ) × (q : NetPin) × (d ≡ m + i) × (slice_get ps i ≡ Some q) × (enables board setting q ≡ true)
 first_at board setting m d [] e = cc e
 first_at board setting m d (p ∷ ps) e = first_by board setting m d p ps (first_at board setting (suc m) d ps) (enables board setting p) refl e
@@ -79,14 +77,14 @@ observing_at board setting net d e = go (guarded board net) refl e
         record { pin = r.1; stands = subst (λ (i : ℕ). slice_get net.pins i ≡ Some r.1) z r.3; enabled = r.4; unguarded = q }
 
 -- nobody but the pin at place d is live
-all_dead : (board : RawBoard) (pin_state : List PinState) (m : ℕ) (ps : List NetPin) →
+pub all_dead : (board : RawBoard) (pin_state : List PinState) (m : ℕ) (ps : List NetPin) →
     ((i : ℕ) (p : NetPin) → slice_get ps i ≡ Some p → live board pin_state p ≡ false) → feeding_from board pin_state m ps ≡ Undriven
 all_dead board pin_state m [] q = refl
 all_dead board pin_state m (p ∷ ps) q =
     ap (λ (b : Bool). counted b m (driver_bit board pin_state p.at) (feeding_from board pin_state (suc m) ps)) (q 0 p refl)
     ∙ all_dead board pin_state (suc m) ps (λ i. q (suc i))
 
-feeding_one : (board : RawBoard) (pin_state : List PinState) (m i : ℕ) (ps : List NetPin) (d : NetPin) → slice_get ps i ≡ Some d →
+pub feeding_one : (board : RawBoard) (pin_state : List PinState) (m i : ℕ) (ps : List NetPin) (d : NetPin) → slice_get ps i ≡ Some d →
     ((x : ℕ) (p : NetPin) → slice_get ps x ≡ Some p → x ≢ i → live board pin_state p ≡ false) →
     feeding_from board pin_state m ps ≡ counted (live board pin_state d) (m + i) (driver_bit board pin_state d.at) Undriven
 feeding_one board pin_state m i [] d e q = cc e
@@ -102,7 +100,7 @@ feeding_one board pin_state m (suc i) (p ∷ ps) d e q =
     ∙ feeding_one board pin_state (suc m) i ps d e (λ x r h k. q (suc x) r h (λ z. k (omega (arith, z))))
     ∙ ap (λ (x : ℕ). counted (live board pin_state d) x (driver_bit board pin_state d.at) Undriven) w
 
-all_pass : (f : NetPin → Bool) (ps : List NetPin) → ((i : ℕ) (p : NetPin) → slice_get ps i ≡ Some p → f p ≡ true) → list_all f ps ≡ true
+pub all_pass : (f : NetPin → Bool) (ps : List NetPin) → ((i : ℕ) (p : NetPin) → slice_get ps i ≡ Some p → f p ≡ true) → list_all f ps ≡ true
 all_pass f [] q = refl
 all_pass f (p ∷ ps) q = ap (λ (b : Bool). b && list_all f ps) (q 0 p refl) ∙ all_pass f ps (λ i. q (suc i))
 
@@ -229,30 +227,7 @@ module _ (board : RawBoard) (row : TestRow) (safe : IsSafe board row.setting) (n
 
       other_cell : (control : Control) → e.ctl ≡ Some control → row.setting (record { part = at.part; cell = control.cell }) ≡ true →
           (control.cell == e.num) ≡ false → latch (pin_states chain) at.part control.cell ≡ not control.disable
-      other_cell control q on apart_is =
-          let controls : list_any (controls_driver board at.part control.cell) device.cells ≡ true =
-          any_at (controls_driver board at.part control.cell) device.cells i e ei
-          (ap (λ (o : Option Control). is_control_of control.cell o && is_driving e.role && unwrap_or (option_map (λ bit. is_pinned board (record { part = at.part; bit = bit })) e.bit) false) q
-          ∙ ap (λ (y : Bool). y && is_driving e.role && unwrap_or (option_map (λ bit. is_pinned board (record { part = at.part; bit = bit })) e.bit) false) (eq-eqb control.cell control.cell refl)
-          ∙ ap (λ (y : Bool). y && unwrap_or (option_map (λ bit. is_pinned board (record { part = at.part; bit = bit })) e.bit) false) parts.1
-          ∙ ap (λ (o : Option ℕ). unwrap_or (option_map (λ bit. is_pinned board (record { part = at.part; bit = bit })) o) false) (on_is at.bit e.bit parts.0)
-          ∙ pinned) in
-          latch_is board (record { now = row; before = before }) chain at.part part device h ek ed control.cell (wired.below i e control ei q)
-          ∙ ap (λ (o : Option Bool). unwrap_or o (steady_bit board row.setting at.part device control.cell)) (no_data (driving_cell device control.cell) refl)
-          ∙ ap (λ (y : Bool). cond y (cond (row.setting (record { part = at.part; cell = control.cell })) (not (unwrap_or (disable_of device control.cell) false)) (unwrap_or (disable_of device control.cell) false)) (unwrap_or (safe_bit device control.cell) false)) controls
-          ∙ ap (λ (y : Bool). cond y (not (unwrap_or (disable_of device control.cell) false)) (unwrap_or (disable_of device control.cell) false)) on
-          ∙ ap (λ (o : Option Bool). not (unwrap_or o false)) (wired.one_disable i e control ei q)
-        where
-          no_data : (o : Option Cell) → driving_cell device control.cell ≡ o →
-              option_and_then (λ c. data_pin board row at.part c.bit) o ≡ None
-          no_data None z = refl
-          no_data (Some c) z =
-              let f = found (λ x. (x.num == control.cell) && is_driving x.role) device.cells c z in
-              let fc = and_parts (c.num == control.cell) (is_driving c.role) f.0 in
-              let num : c.num ≡ control.cell = eqb-true c.num control.cell fc.0 in
-              let same : c ≡ e = wired.own i f.1.0 e c control ei q parts.1 f.1.1 fc.1 num in
-              let back : control.cell ≡ e.num = sym num ∙ ap (λ (x : Cell). x.num) same in
-              absurd (both_ways (control.cell == e.num) apart_is (ap (λ (x : ℕ). control.cell == x) (sym back) ∙ eq-eqb control.cell control.cell refl))
+      other_cell control q on apart_is = control_on board row before chain at part device h ek ed wired pinned e i de ei control q on apart_is
 
       off_means : (o : Option Control) → e.ctl ≡ o → enables_by row.setting at.part o ≡ true →
           is_on_by (pin_states chain) at.part o ≡ false → net.pull ≡ Some v

@@ -1,6 +1,5 @@
 -- What the chain of a board under test holds between two scans, and which scans are wrong.
-use Rattle.std.proofs.Common.{◌≡◌, false, [], suc, ◌⊎◌, List, ◌∷◌, Bool, ℕ, map}
-use Rattle.board_defs.specs.declared.board.Part.{Part}
+use Rattle.std.proofs.Common.{◌≡◌, false, [], ◌⊎◌, List, ◌∷◌, Bool, map}
 use Rattle.board_defs.specs.declared.board.RawBoard.{RawBoard}
 use Rattle.board_defs.specs.declared.board.PartKind.{PartKind}
 use Rattle.board_defs.specs.declared.board.PartKind.TheVariants.{Described, Bypass as WithoutDescription}

@@ -42,3 +42,6 @@ pub mod ScanPlaceLemmas
 mod SampleBoardRuns
 mod SampleQuiet
 pub mod CaptureLemmas
+pub mod FixedLemmas
+pub mod OneResponseLemmas
+pub mod DrivingLemmas

@@ -38,6 +38,11 @@ pub length-filled : {A : Type 0} (n : ℕ) (f : ℕ → A) → length (filled n 
 length-filled zero f = refl
 length-filled (suc n) f = ap suc (length-filled n (λ k. f (suc k)))
 
+-- a list made of given items, with a function on each
+pub map-filled : {A B : Type 0} (g : A → B) (n : ℕ) (f : ℕ → A) → map g (filled n f) ≡ filled n (λ k. g (f k))
+map-filled g zero f = refl
+map-filled g (suc n) f = cons_path refl (map-filled g n (λ k. f (suc k)))
+
 pub length-captured_ir : (bits : List Bool) (free : ℕ → Bool) → length (captured_ir bits free) ≡ length bits
 length-captured_ir [] free = refl
 length-captured_ir (a ∷ []) free = refl

@@ -25,7 +25,7 @@ use Rattle.tap_defs.specs.ChainRegisters.{held_bits, selected_by}
 use Rattle.tap_defs.specs.Quiet.{controls_driver, safe_bit}
 use Rattle.tap_defs.specs.TestRows.{TestRow, row_bit, steady_bit, data_bit, data_pin, data_place, driving_cell, expect_bit}
 use Rattle.tap_defs.specs.BoardScans.{RowScan, part_bits, row_bits}
-use Rattle.std.proofs.lemmas.Bool.{and_parts, eq-eqb, eqb-true}
+use Rattle.std.proofs.lemmas.Bool.{and_parts, eq-eqb, eqb-true, both_ways}
 use Rattle.tap_defs.proofs.InTestLemmas.{in_test, InTest, shifted_row}
 use Rattle.tap_defs.proofs.ScanLemmas.{filled_at}
 use Rattle.tap_defs.proofs.WrongLemmas.{bits_at}
@@ -209,3 +209,36 @@ dead_if_off board row before chain k b part device h ek ed wired pinned off idle
     go (Some c) e =
         let f = found (drives_bit b) device.cells c e in
         by_ctl c f.1.0 f.0 f.1.1 c.ctl refl (sym (ap (λ (o : Option Cell). enables_entry row.setting k o) e) ∙ off_entry)
+
+-- a control that the setting holds, and that is another cell than the driver's, enables the driver
+pub control_on : (board : RawBoard) (row before : TestRow) (chain : List ChainPart) (at : PinAt) (part : Part) (device : RawDevice) →
+    InTest board (shifted_row board (record { now = row; before = before })) chain → slice_get board.chain at.part ≡ Some part →
+    part.kind ≡ Described device → IsWired device → is_pinned board at ≡ true → (e : Cell) (i : ℕ) → drives_bit at.bit e ≡ true →
+    slice_get device.cells i ≡ Some e → (control : Control) → e.ctl ≡ Some control →
+    row.setting (record { part = at.part; cell = control.cell }) ≡ true → (control.cell == e.num) ≡ false →
+    latch (pin_states chain) at.part control.cell ≡ not control.disable
+control_on board row before chain at part device h ek ed wired pinned e i de ei control q on apart_is =
+    let parts = and_parts (is_on at.bit e.bit) (is_driving e.role) de in
+    let controls : list_any (controls_driver board at.part control.cell) device.cells ≡ true =
+    any_at (controls_driver board at.part control.cell) device.cells i e ei
+    (ap (λ (o : Option Control). is_control_of control.cell o && is_driving e.role && unwrap_or (option_map (λ bit. is_pinned board (record { part = at.part; bit = bit })) e.bit) false) q
+    ∙ ap (λ (y : Bool). y && is_driving e.role && unwrap_or (option_map (λ bit. is_pinned board (record { part = at.part; bit = bit })) e.bit) false) (eq-eqb control.cell control.cell refl)
+    ∙ ap (λ (y : Bool). y && unwrap_or (option_map (λ bit. is_pinned board (record { part = at.part; bit = bit })) e.bit) false) parts.1
+    ∙ ap (λ (o : Option ℕ). unwrap_or (option_map (λ bit. is_pinned board (record { part = at.part; bit = bit })) o) false) (on_is at.bit e.bit parts.0)
+    ∙ pinned) in
+    latch_is board (record { now = row; before = before }) chain at.part part device h ek ed control.cell (wired.below i e control ei q)
+    ∙ ap (λ (o : Option Bool). unwrap_or o (steady_bit board row.setting at.part device control.cell)) (no_data (driving_cell device control.cell) refl)
+    ∙ ap (λ (y : Bool). cond y (cond (row.setting (record { part = at.part; cell = control.cell })) (not (unwrap_or (disable_of device control.cell) false)) (unwrap_or (disable_of device control.cell) false)) (unwrap_or (safe_bit device control.cell) false)) controls
+    ∙ ap (λ (y : Bool). cond y (not (unwrap_or (disable_of device control.cell) false)) (unwrap_or (disable_of device control.cell) false)) on
+    ∙ ap (λ (o : Option Bool). not (unwrap_or o false)) (wired.one_disable i e control ei q)
+  where
+    no_data : (o : Option Cell) → driving_cell device control.cell ≡ o → option_and_then (λ c. data_pin board row at.part c.bit) o ≡ None
+    no_data None z = refl
+    no_data (Some c) z =
+        let parts = and_parts (is_on at.bit e.bit) (is_driving e.role) de in
+        let f = found (λ x. (x.num == control.cell) && is_driving x.role) device.cells c z in
+        let fc = and_parts (c.num == control.cell) (is_driving c.role) f.0 in
+        let num : c.num ≡ control.cell = eqb-true c.num control.cell fc.0 in
+        let same : c ≡ e = wired.own i f.1.0 e c control ei q parts.1 f.1.1 fc.1 num in
+        let back : control.cell ≡ e.num = sym num ∙ ap (λ (x : Cell). x.num) same in
+        absurd (both_ways (control.cell == e.num) apart_is (ap (λ (x : ℕ). control.cell == x) (sym back) ∙ eq-eqb control.cell control.cell refl))

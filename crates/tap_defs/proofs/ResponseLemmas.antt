@@ -22,7 +22,7 @@ driven_bit (Some u) pull v = unwrap_or pull u
 abbrev pub response : FaultSet → ℕ → ℕ → ℕ → Option Bool → Bool → Bool
 response faults n driver place pull v = unwrap_or (faults.opened n place) (unwrap_or (faults.stuck n) (driven_bit (faults.opened n driver) pull v))
 
-plain_is : (faults : FaultSet) (d n : ℕ) (pull : Option Bool) (v : Bool) (f : Feeding) → Carries d pull v f →
+pub plain_is : (faults : FaultSet) (d n : ℕ) (pull : Option Bool) (v : Bool) (f : Feeding) → Carries d pull v f →
     unshorted_bit faults n pull f ≡ Some (driven_bit (faults.opened n d) pull v)
 plain_is faults d n pull v f (driven e) = ap (λ (x : Feeding). unshorted_bit faults n pull x) e ∙ by_open (faults.opened n d) pull
   where

@@ -11,6 +11,7 @@ use Rattle.board_defs.specs.Coverage.{IsCovered, ArePaired, IsTestedDriver, IsTe
 use Rattle.board_defs.specs.Faults.{IsSingle}
 use Rattle.tap_defs.specs.FaultSet.{Dominant, IsObservable, IsNonempty, some_stuck, some_open, some_short}
 use Rattle.tap_defs.specs.Explaining.{set_of, short_kind}
+use Rattle.tap_defs.specs.RowCaptures.{NoOpenShorted}
 
 -- what a test gives where it is there
 given : {A : Type 0} (t : Bool) (x y : A) → cond t (Some x) None ≡ Some y → (t ≡ true) × (x ≡ y)
@@ -119,3 +120,8 @@ single_nonempty (OpenPin pin value) =
     (ap (λ (t : Bool). cond (t && (pin.place == pin.place)) (Some value) None) (eq-eqb pin.net pin.net refl)
     ∙ ap (λ (t : Bool). cond t (Some value) None) (eq-eqb pin.place pin.place refl))
 single_nonempty (Short a b kind) = some_short a 0 (ap (λ (t : Bool). cond (t || (a == b)) (Some 0) None) (eq-eqb a a refl))
+
+pub single_no_open_shorted : (single : Single) → NoOpenShorted (set_of single)
+single_no_open_shorted (StuckNet net value) n k i e = refl
+single_no_open_shorted (OpenPin pin value) n k i e = nothing k e
+single_no_open_shorted (Short a b kind) n k i e = refl

@@ -22,5 +22,6 @@ pub mod Quiet
 pub mod TestRows
 pub mod BoardScans
 pub mod RowCaptures
+pub mod RowDriving
 pub mod BoardTest
 pub mod Explaining

@@ -1,14 +1,14 @@
 -- What a scan of data captures while a row is in the latches, whatever is faulty: the net bits decide it, and no clock is run.
-use Rattle.std.specs.Prelude.{◌≡◌, ℕ, suc, Bool, true, false, List, [], ◌∷◌}
+use Rattle.std.specs.Prelude.{◌≡◌, ℕ, suc, Bool, true, false, List, [], ◌∷◌, Option, Some, None}
 use Rattle.board_defs.specs.declared.board.PartKind.{PartKind}
 use Rattle.board_defs.specs.declared.board.PartKind.TheVariants.{Described, Bypass as WithoutDescription}
 use Rattle.board_defs.specs.declared.board.Part.{Part}
 use Rattle.board_defs.specs.declared.board.RawBoard.{RawBoard}
-use Rattle.tap_defs.specs.TestLogic.{Instruction, Extest, Bypass}
+use Rattle.tap_defs.specs.TestLogic.{Extest, Bypass}
 use Rattle.tap_defs.specs.ShiftRegister.{filled}
 use Rattle.tap_defs.specs.Part.{PinState}
 use Rattle.tap_defs.specs.Run.{Choice}
-use Rattle.tap_defs.specs.Scan.{Scan, joined}
+use Rattle.tap_defs.specs.Scan.{ScanBit, Scan, joined}
 use Rattle.tap_defs.specs.Transport.{scan_passes}
 use Rattle.tap_defs.specs.FaultSet.{FaultSet}
 use Rattle.tap_defs.specs.OnBoard.{board_wiring}
@@ -50,3 +50,19 @@ CapturesPass board faults row [] scans = Unit {0}
 CapturesPass board faults row (t ∷ ts) [] = Unit {0}
 CapturesPass board faults row (t ∷ ts) (scan ∷ scans) =
     ((choice : Choice) → scan_passes scan.bits (row_captured board faults row choice) ≡ true) × CapturesPass board faults t.now ts scans
+
+-- two bits are the same, where they are compared
+abbrev pub AgreeAt : Option Bool → Bool → Bool → Type 0
+AgreeAt None x y = Unit {0}
+AgreeAt (Some expected) x y = x ≡ y
+
+-- what two captures give is the same in each bit that the scan compares
+abbrev pub AgreeWhereCompared : List ScanBit → List Bool → List Bool → Type 0
+AgreeWhereCompared [] xs ys = Unit {0}
+AgreeWhereCompared (bit ∷ bits) [] ys = Unit {0}
+AgreeWhereCompared (bit ∷ bits) (x ∷ xs) [] = Unit {0}
+AgreeWhereCompared (bit ∷ bits) (x ∷ xs) (y ∷ ys) = AgreeAt bit.expect x y × AgreeWhereCompared bits xs ys
+
+-- no open pin stands on a shorted net
+abbrev pub NoOpenShorted : FaultSet → Type 0
+NoOpenShorted faults = (n k i : ℕ) → faults.short n ≡ Some k → faults.opened n i ≡ None

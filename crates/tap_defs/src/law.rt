@@ -1,5 +1,5 @@
 //! The laws of the model, as contracts of functions that do nothing: a caller knows the law after the call.
-ghost use Rattle.std.specs.Prelude.{◌≡◌, ◌↔◌, ℕ, ◌+◌, ◌^◌, ◌≤◌, Bool, List, map, sum, Some, slice_get};
+ghost use Rattle.std.specs.Prelude.{◌≡◌, ◌↔◌, ℕ, ◌+◌, ◌^◌, ◌≤◌, Bool, false, List, map, sum, Some, slice_get};
 ghost use Rattle.board_defs.specs.declared.board.Ctl.{Ctl};
 ghost use Rattle.board_defs.specs.declared.board.Net.{Net};
 ghost use Rattle.board_defs.specs.declared.board.RawBoard.{RawBoard};
@@ -8,19 +8,23 @@ ghost use Rattle.board_defs.specs.BoardRules.{IsBoard};
 ghost use Rattle.board_defs.specs.Faults.{IsSingle};
 ghost use Rattle.board_defs.specs.Decided.{is_covered};
 ghost use Rattle.board_defs.specs.Passes.{ArePasses};
+ghost use Rattle.board_defs.specs.Pins.{guarded};
 ghost use Rattle.board_defs.specs.Settings.{IsSafe, holds};
-ghost use Rattle.tap_defs.specs.BoardScans.{RowScan, board_scans, scan_of_row, AreTestScans, test_scans, pass_text, board_text, walk_text};
+ghost use Rattle.tap_defs.specs.BoardScans.{RowScan, row_bits, board_scans, scan_of_row, AreTestScans, test_scans, pass_text, board_text, walk_text};
 ghost use Rattle.tap_defs.specs.BoardTest.{IsBoardTest, IsHarmless};
 ghost use Rattle.tap_defs.specs.ChainScans.{chain_text};
 ghost use Rattle.tap_defs.specs.ChainTest.{AreIrLengths, IsChainTest};
 ghost use Rattle.tap_defs.specs.Clocks.{test_clocks};
+ghost use Rattle.tap_defs.specs.NetBits.{feeding};
 ghost use Rattle.tap_defs.specs.OnBoard.{PassOnBoard};
-ghost use Rattle.tap_defs.specs.RowCaptures.{CapturesPass};
-ghost use Rattle.tap_defs.specs.Scan.{Scan};
+ghost use Rattle.tap_defs.specs.RowCaptures.{AgreeWhereCompared, CapturesPass, NoOpenShorted, row_captured, row_states};
+ghost use Rattle.tap_defs.specs.RowDriving.{row_feeding};
+ghost use Rattle.tap_defs.specs.Run.{Choice};
+ghost use Rattle.tap_defs.specs.Scan.{Scan, joined};
 ghost use Rattle.tap_defs.specs.Svf.{meaning};
 ghost use Rattle.tap_defs.specs.Explaining.{set_of, scans_by_log};
-ghost use Rattle.tap_defs.specs.FaultSet.{FaultSet, IsObservable, IsNonempty};
-ghost use Rattle.tap_defs.specs.TestRows.{quiet_row, CodesTell, IsCodeWidth, code_width, observed_count, is_observed};
+ghost use Rattle.tap_defs.specs.FaultSet.{FaultSet, IsFaultSet, IsObservable, IsNonempty};
+ghost use Rattle.tap_defs.specs.TestRows.{TestRow, quiet_row, CodesTell, IsCodeWidth, code_width, observed_count, is_observed};
 ghost use Rattle.tap_defs.specs.Text.{svf_text, AllSized};
 ghost use Rattle.tap_defs.specs.Transport.{DataTransport, LongDataTransport, CodeTransport, LongCodeTransport};
 
@@ -91,13 +95,25 @@ pub fn walks_harmless()
     ensures { (board : RawBoard) (walk : List Ctl) → IsBoard board → IsSafe board (holds walk) → IsHarmless board (walk_text board walk) }
 {}
 
-/// Each single fault of a board, as a fault set, is observable and not empty.
+/// Each single fault of a board, as a fault set, is observable and not empty, and has no open pin on a shorted net.
 pub fn singles_observable()
     ensures observable { (board : RawBoard) (single : Single) → IsSingle board single → IsObservable board (set_of single) }
     ensures nonempty { (single : Single) → IsNonempty (set_of single) }
+    ensures no_open_shorted { (single : Single) → NoOpenShorted (set_of single) }
 {}
 
 /// A log is what every run of a test compares, under some faults, exactly where it is what the rows in the latches let the cells capture.
 pub fn logs_captured()
     ensures { (board : RawBoard) (faults : FaultSet) (scans : List RowScan) (log : List (List Bool)) → IsBoard board → PassOnBoard board faults (test_clocks (scans_by_log (board_scans board scans) log)) ↔ CapturesPass board faults quiet_row scans (scans_by_log (map (scan_of_row board) scans) log) }
+{}
+
+/// Where no open pin stands on a shorted net, a row gives one response: each bit that is compared is the same for all free bits.
+pub fn one_response()
+    ensures { (board : RawBoard) (faults : FaultSet) (scan : RowScan) → IsBoard board → IsFaultSet board faults → NoOpenShorted faults → IsSafe board scan.before.setting → (choice other : Choice) → AgreeWhereCompared (joined (row_bits board scan)) (row_captured board faults scan.before choice) (row_captured board faults scan.before other) }
+{}
+
+/// While a row of a safe setting is in the latches, each net that is not guarded is driven by the driver that the setting enables, with
+/// the bit of its cell; a switching driver that holds its disable value drives nothing.
+pub fn rows_drive()
+    ensures { (board : RawBoard) (row : TestRow) (n : ℕ) (net : Net) → IsBoard board → IsSafe board row.setting → slice_get board.nets n ≡ Some net → guarded board net ≡ false → feeding board (row_states board row) net ≡ row_feeding board row net }
 {}

@@ -203,3 +203,10 @@ fn a_sink_without_room_fails(rt: HostRuntime) -> Result<(), Fail> {
     assert_eq!(rt; bench.notes.bytes(), b"c: no".as_slice());
     Ok(())
 }
+
+fn is_shared<T: Send + Sync>() {}
+
+#[test]
+fn a_status_may_be_shared() {
+    is_shared::<Status>();
+}

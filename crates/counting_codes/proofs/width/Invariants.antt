@@ -1,0 +1,13 @@
+use Rattle.std.proofs.Common.{◌≡◌, ℕ, ◌+◌, ◌-◌, ◌^◌, ◌<◌}
+use Rattle.counting_codes.proofs.width.Given as goal
+
+-- no less width is enough
+abbrev pub invariant-loop-words : goal.invariant-loop-words
+invariant-loop-words l = record {
+  words : l.words ≡ 2 ^ l.width;
+  few : l.width < l.words;
+  least : (less : ℕ) → less < l.width → 2 ^ less < l.n + 2;
+}
+
+abbrev pub decreases-loop-words : goal.decreases-loop-words
+decreases-loop-words l = l.n + 2 - l.words

@@ -1,0 +1,11 @@
+//! What the codes are worth, as the contract of a function that does nothing: a caller knows the law after the call.
+ghost use Rattle.std.specs.Prelude.{◌≡◌, ◌≢◌, ℕ, ◌+◌, ◌^◌, ◌<◌, ◌≤◌};
+ghost use Rattle.std.specs.Int.{bit_at};
+
+/// Below a width that is enough for n codes, each code from 1 to n has a bit 0 and a bit 1, and two different codes differ in
+/// some bit.
+pub fn codes_tell()
+    ensures zero { (n width : ℕ) → n + 2 ≤ 2 ^ width → (c : ℕ) → 1 ≤ c → c ≤ n → (j : ℕ) × (j < width) × (bit_at c j ≡ 0) }
+    ensures one { (n width : ℕ) → n + 2 ≤ 2 ^ width → (c : ℕ) → 1 ≤ c → c ≤ n → (j : ℕ) × (j < width) × (bit_at c j ≡ 1) }
+    ensures differ { (n width : ℕ) → n + 2 ≤ 2 ^ width → (c d : ℕ) → 1 ≤ c → c ≤ n → 1 ≤ d → d ≤ n → c ≢ d → (j : ℕ) × (j < width) × (bit_at c j ≢ bit_at d j) }
+{}

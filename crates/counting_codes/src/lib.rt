@@ -1,0 +1,33 @@
+//! Counting codes: the number of a net, from 1, written in just enough bits that no code is all zeros or all ones.
+#![tactic(auto)]
+
+ghost use Rattle.std.specs.Prelude.{◌≡◌, ◌==◌, ℕ, ◌+◌, ◌^◌, ◌<◌, ◌≤◌};
+ghost use Rattle.std.specs.Int.{bit_at};
+
+pub mod law;
+
+/// The number of bits of the codes from 1 to n: the least that leaves the words of all zeros and all ones unused.
+pub fn width(n: u32) -> u32
+    requires { n ≤ 16382 }
+    ensures enough { n + 2 ≤ 2 ^ result }
+    ensures least { (less : ℕ) → less < result → 2 ^ less < n + 2 }
+{
+    let mut width = 1;
+    let mut words = 2u32;
+    while words < n + 2 {
+        words *= 2;
+        width += 1;
+    }
+    width
+}
+
+/// Bit `j` of a code, bit 0 the least.
+pub fn bit(code: u32, j: u32) -> bool
+    requires { j < 32 }
+    ensures { result ≡ (bit_at code j == 1) }
+{
+    (code >> j) & 1 == 1
+}
+
+#[cfg(test)]
+mod tests;
