@@ -12,7 +12,7 @@ demo: build
 
 # Leaves the proved program, and prints where it is.
 build:
-	@cd crates/btest && rt run >/dev/null 2>&1; test -x out/btest
+	@cd crates/btest && rt run >/dev/null 2>&1 </dev/null; test -x out/btest
 	@echo 'the program: $(PROGRAM)'
 
 # The gate: proofs, edits that must fail, tests and programs.
