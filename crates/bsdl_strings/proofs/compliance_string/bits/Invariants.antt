@@ -1,0 +1,12 @@
+use Rattle.std.proofs.Common.{◌≡◌, length}
+use Rattle.grammars.specs.Grammar.{turns, reader_of}
+use Rattle.bsdl_strings.specs.Pieces.{pieces}
+use Rattle.bsdl_strings.specs.Strings.{bit_turn, bits}
+use Rattle.bsdl_strings.proofs.compliance_string.bits.Given as goal
+
+-- what is left gives what the whole gives
+abbrev pub invariant-bits : goal.invariant-bits
+invariant-bits l = reader_of (turns bit_turn l.bits.items) (pieces l.rest) ≡ reader_of bits (pieces l.text)
+
+abbrev pub decreases-bits : goal.decreases-bits
+decreases-bits l = length (pieces l.rest)

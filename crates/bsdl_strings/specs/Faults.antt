@@ -1,0 +1,16 @@
+-- The fault of a string that stopped.
+use Rattle.std.specs.Prelude.{ℕ, ◌+◌}
+use Rattle.bsdl_strings.specs.declared.stop.Stop.{Stop}
+use Rattle.bsdl_strings.specs.declared.stop.Stop.TheVariants as stops
+use Rattle.bsdl_strings.specs.declared.fault.StringFault.{StringFault}
+use Rattle.bsdl_strings.specs.declared.fault.StringFault.TheVariants as faults
+
+-- the fault after so many whole entries
+abbrev pub fault_of : Stop → ℕ → StringFault
+fault_of (stops.Memory error) entries = faults.Memory error
+fault_of (stops.At rest) entries = faults.At (entries + 1)
+
+-- the number of the entry has this property, where there is one: want of memory says nothing
+abbrev pub FaultIs : (ℕ → Type 0) → StringFault → Type 0
+FaultIs P (faults.At number) = P number
+FaultIs P (faults.Memory error) = Unit {0}

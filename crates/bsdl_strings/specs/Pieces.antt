@@ -1,0 +1,39 @@
+-- The pieces of an inner string: runs of letters, digits and `_`, single other bytes, and its end.
+use Rattle.std.specs.Prelude.{ℕ, ◌==◌, List, [], ◌∷◌, Bool, true, false, ◌&&◌, ◌||◌, if◌then◌else◌}
+use Rattle.std.specs.Char.{is_ascii_alphanumeric}
+
+-- space and tab
+abbrev pub is_blank : ℕ → Bool
+is_blank byte = (byte == 32) || (byte == 9)
+
+-- a letter, a digit or `_`
+abbrev pub is_word_byte : ℕ → Bool
+is_word_byte byte = is_ascii_alphanumeric byte || (byte == 95)
+
+-- the first byte is a letter, a digit or `_`
+abbrev pub starts_word : List ℕ → Bool
+starts_word [] = false
+starts_word (byte ∷ bytes) = is_word_byte byte
+
+-- the first byte is a blank
+abbrev pub starts_blank : List ℕ → Bool
+starts_blank [] = false
+starts_blank (byte ∷ bytes) = is_blank byte
+
+-- the first piece with this byte before it
+abbrev pub longer : ℕ → List (List ℕ) → List (List ℕ)
+longer byte [] = (byte ∷ []) ∷ []
+longer byte (piece ∷ pieces) = (byte ∷ piece) ∷ pieces
+
+-- the empty piece stands for the end
+abbrev pub is_end : List ℕ → Bool
+is_end [] = true
+is_end (byte ∷ bytes) = false
+
+-- The pieces of a text, with the end as the last. Blanks stand between them and belong to none.
+unfoldable pub pieces : List ℕ → List (List ℕ)
+pieces [] = [] ∷ []
+pieces (byte ∷ bytes) =
+    if is_blank byte then pieces bytes else
+    if is_word_byte byte && starts_word bytes then longer byte (pieces bytes) else
+    (byte ∷ []) ∷ pieces bytes

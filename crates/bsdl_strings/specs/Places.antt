@@ -1,0 +1,166 @@
+-- What fits the place of one piece, and its value. Letters have no case, and names are taken in upper case.
+use Rattle.std.specs.Prelude.{ℕ, ◌+◌, ◌-◌, ◌*◌, ◌==◌, List, [], ◌∷◌, length, map, reverse, fold, Bool, true, false, ◌&&◌, ◌||◌, if◌then◌else◌, Option, Some, None, nat_le, nat_lt, codes}
+use Rattle.std.specs.List.{list_all}
+use Rattle.std.specs.Str.{bytes_eq}
+use Rattle.std.specs.Char.{is_ascii_digit, is_ascii_alphabetic, to_ascii_uppercase}
+use Rattle.board_defs.specs.declared.device.Symbol.{Symbol}
+use Rattle.board_defs.specs.declared.device.Symbol.TheVariants.{Zero, One, Any}
+use Rattle.board_defs.specs.declared.device.Role.{Role}
+use Rattle.board_defs.specs.declared.device.Role.TheVariants as roles
+use Rattle.grammars.specs.Grammar.{Grammar, place}
+use Rattle.bsdl_strings.specs.Pieces.{is_word_byte, is_end}
+
+-- `(`
+abbrev pub open_mark : ℕ
+open_mark = 40
+
+-- `)`
+abbrev pub close_mark : ℕ
+close_mark = 41
+
+-- `*`
+abbrev pub star : ℕ
+star = 42
+
+-- `,`
+abbrev pub comma : ℕ
+comma = 44
+
+-- `:`
+abbrev pub colon : ℕ
+colon = 58
+
+-- the value, where the test holds
+abbrev pub some_if : {A : Type 0} → Bool → A → Option A
+some_if true a = Some a
+some_if false a = None
+
+-- the piece in upper case
+abbrev pub upper : List ℕ → List ℕ
+upper piece = map to_ascii_uppercase piece
+
+-- the piece is this byte alone
+abbrev pub is_mark : ℕ → List ℕ → Bool
+is_mark byte [] = false
+is_mark byte (first ∷ []) = first == byte
+is_mark byte (first ∷ second ∷ bytes) = false
+
+-- the first byte is a letter
+abbrev pub starts_with_letter : List ℕ → Bool
+starts_with_letter [] = false
+starts_with_letter (first ∷ bytes) = is_ascii_alphabetic first
+
+-- letters, digits and `_`, at least one
+abbrev pub is_pin : List ℕ → Bool
+is_pin piece = nat_lt 0 (length piece) && list_all is_word_byte piece
+
+-- a letter, and then letters, digits and `_`
+abbrev pub is_word : List ℕ → Bool
+is_word piece = starts_with_letter piece && list_all is_word_byte piece
+
+-- 1 to 9 digits
+abbrev pub is_index : List ℕ → Bool
+is_index piece = nat_lt 0 (length piece) && (nat_le (length piece) 9 && list_all is_ascii_digit piece)
+
+-- what decimal digits mean
+abbrev pub decimal : List ℕ → ℕ
+decimal digits = fold (λ number digit. 10 * number + (digit - 48)) 0 digits
+
+-- 0, 1 or X
+abbrev pub is_symbol : ℕ → Bool
+is_symbol byte = (byte == 48) || ((byte == 49) || (to_ascii_uppercase byte == 88))
+
+-- X fits 0 and 1
+abbrev pub symbol_of : ℕ → Symbol
+symbol_of byte = if byte == 48 then Zero else if byte == 49 then One else Any
+
+-- one or more of 0, 1 and X
+abbrev pub is_code : List ℕ → Bool
+is_code piece = nat_lt 0 (length piece) && list_all is_symbol piece
+
+-- the rightmost character is the bit nearest TDO, which stands first in a code
+abbrev pub code_of : List ℕ → List Symbol
+code_of piece = map symbol_of (reverse piece)
+
+-- the function of a cell by its name
+abbrev pub role_of : List ℕ → Option Role
+role_of word =
+    if bytes_eq word (codes "INPUT") then Some roles.Input else
+    if bytes_eq word (codes "OUTPUT2") then Some roles.Output2 else
+    if bytes_eq word (codes "OUTPUT3") then Some roles.Output3 else
+    if bytes_eq word (codes "CONTROL") then Some roles.Control else
+    if bytes_eq word (codes "CONTROLR") then Some roles.ControlR else
+    if bytes_eq word (codes "INTERNAL") then Some roles.Internal else
+    if bytes_eq word (codes "CLOCK") then Some roles.Clock else
+    if bytes_eq word (codes "BIDIR") then Some roles.Bidir else
+    some_if (bytes_eq word (codes "OBSERVE_ONLY")) roles.ObserveOnly
+
+-- what a driver gives while it is disabled: by each of these it does not drive
+abbrev pub is_result : List ℕ → Bool
+is_result word =
+    bytes_eq word (codes "Z") || (bytes_eq word (codes "WEAK0") || (bytes_eq word (codes "WEAK1") ||
+    (bytes_eq word (codes "PULL0") || (bytes_eq word (codes "PULL1") || bytes_eq word (codes "KEEPER")))))
+
+-- the grammar of a part of a string
+abbrev pub Part : Type 0 → Type 1
+Part A = Grammar (List ℕ) A
+
+-- this mark
+abbrev pub mark : ℕ → Part (Unit {0})
+mark byte = place (λ piece. some_if (is_mark byte piece) tt)
+
+-- one of two marks: whether it is the first
+abbrev pub either_mark : ℕ → ℕ → Part Bool
+either_mark first second = place (λ piece. if is_mark first piece then Some true else some_if (is_mark second piece) false)
+
+-- a comma, or the end of the string: whether it is the comma
+abbrev pub comma_or_end : Part Bool
+comma_or_end = place (λ piece. if is_mark comma piece then Some true else some_if (is_end piece) false)
+
+-- a word, in upper case
+abbrev pub word : Part (List ℕ)
+word = place (λ piece. some_if (is_word piece) (upper piece))
+
+-- a pin, in upper case
+abbrev pub pin : Part (List ℕ)
+pin = place (λ piece. some_if (is_pin piece) (upper piece))
+
+-- a pin, or the parenthesis of several
+abbrev pub pin_or_open : Part (Option (List ℕ))
+pin_or_open = place (λ piece. if is_mark open_mark piece then Some None else some_if (is_pin piece) (Some (upper piece)))
+
+-- a word, or `*`
+abbrev pub word_or_star : Part (Option (List ℕ))
+word_or_star = place (λ piece. if is_mark star piece then Some None else some_if (is_word piece) (Some (upper piece)))
+
+-- an index, by its number
+abbrev pub index : Part ℕ
+index = place (λ piece. some_if (is_index piece) (decimal piece))
+
+-- a code, from the bit nearest TDO on
+abbrev pub code : Part (List Symbol)
+code = place (λ piece. some_if (is_code piece) (code_of piece))
+
+-- safe = 0 | 1 | X
+abbrev pub safe_value : Part Symbol
+safe_value = place (λ piece. if is_mark 48 piece then Some Zero else if is_mark 49 piece then Some One else some_if (bytes_eq (upper piece) (codes "X")) Any)
+
+-- value = 0 | 1: whether it is 1
+abbrev pub bit_value : Part Bool
+bit_value = either_mark 49 48
+
+-- function = INPUT | OUTPUT2 | OUTPUT3 | CONTROL | CONTROLR | INTERNAL | CLOCK | BIDIR | OBSERVE_ONLY
+abbrev pub role : Part Role
+role = place (λ piece. role_of (upper piece))
+
+-- result = Z | WEAK0 | WEAK1 | PULL0 | PULL1 | KEEPER
+abbrev pub result_word : Part (Unit {0})
+result_word = place (λ piece. some_if (is_result (upper piece)) tt)
+
+-- what follows the word of a compliance bit: None for an index, else whether another bit comes
+abbrev pub after_bit : Part (Option Bool)
+after_bit = place (λ piece. if is_mark open_mark piece then Some None else if is_mark comma piece then Some (Some true) else some_if (is_mark close_mark piece) (Some false))
+
+-- the end of the string
+abbrev pub the_end : Part (Unit {0})
+the_end = place (λ piece. some_if (is_end piece) tt)

@@ -1,0 +1,206 @@
+-- The grammars of the strings inside a BSDL text (IEEE 1149.1-2001, Annex B, as far as they are used), and the value that a string has. Above each production stands its EBNF line.
+use Rattle.std.specs.Prelude.{◌≡◌, ℕ, ◌+◌, List, [], ◌∷◌, ◌++◌, length, Bool, true, false, Option, Some, None, IsTrue, ◌⊎◌}
+use Rattle.std.specs.List.{take_while}
+use Rattle.board_defs.specs.declared.device.Symbol.{Symbol}
+use Rattle.board_defs.specs.declared.device.Control.{Control}
+use Rattle.grammars.specs.Turn.{Turn, turn_of}
+use Rattle.grammars.specs.Production.{Follows}
+use Rattle.grammars.specs.Grammar.{done, turns, production_of, ◌>>=◌}
+use Rattle.grammars.specs.Lists.{list_of, GoesWrongAt}
+use Rattle.bsdl_strings.specs.declared.values.MapEntry.{MapEntry}
+use Rattle.bsdl_strings.specs.declared.values.Opcode.{Opcode}
+use Rattle.bsdl_strings.specs.declared.values.PortWord.{PortWord}
+use Rattle.bsdl_strings.specs.declared.values.PortWord.TheVariants.{Star, Plain, Index}
+use Rattle.bsdl_strings.specs.declared.values.Entry.{Entry}
+use Rattle.bsdl_strings.specs.declared.values.Compliance.{Compliance}
+use Rattle.bsdl_strings.specs.Pieces.{pieces}
+use Rattle.bsdl_strings.specs.Places.{Part, mark, either_mark, comma_or_end, word, pin, pin_or_open, word_or_star, after_bit, the_end, index, code, safe_value, bit_value, role, result_word, open_mark, close_mark, comma, colon, is_symbol, is_code, code_of}
+
+-- a comma, or the parenthesis that closes
+abbrev pub comma_or_close : Part Bool
+comma_or_close = either_mark comma close_mark
+
+-- pin | "(" pin { "," pin } ")", behind the one pin or the first parenthesis
+abbrev pub pins_of : Option (List ℕ) → Part (List (List ℕ))
+pins_of (Some name) = done (name ∷ [])
+pins_of None = list_of pin comma_or_close
+
+-- map = word ":" pin | word ":" "(" pin { "," pin } ")"
+unfoldable pub map_entry : Part MapEntry
+map_entry = do
+  port ← word
+  _ ← mark colon
+  first ← pin_or_open
+  pins ← pins_of first
+  done (record { port = port; pins = pins })
+
+-- op = word "(" code { "," code } ")"
+unfoldable pub opcode : Part Opcode
+opcode = do
+  name ← word
+  _ ← mark open_mark
+  codes ← list_of code comma_or_close
+  done (record { name = name; codes = codes })
+
+-- [ "(" index ")" ] ",", behind the word of a place and the first mark
+abbrev pub indexed : List ℕ → Bool → Part PortWord
+indexed name false = done (Plain name)
+indexed name true = do
+  i ← index
+  _ ← mark close_mark
+  _ ← mark comma
+  done (Index name i)
+
+-- what stands behind the `*` or the word of a place
+abbrev pub place_of : Option (List ℕ) → Part PortWord
+place_of None = do
+  _ ← mark comma
+  done Star
+place_of (Some name) = do
+  opens ← either_mark open_mark comma
+  indexed name opens
+
+-- place = "*" | word | word "(" index ")", with the comma behind it
+unfoldable pub port_place : Part PortWord
+port_place = do
+  first ← word_or_star
+  place_of first
+
+-- index "," value "," result ")", behind the comma, where one comes
+abbrev pub control_of : Bool → Part (Option Control)
+control_of false = done None
+control_of true = do
+  cell ← index
+  _ ← mark comma
+  disable ← bit_value
+  _ ← mark comma
+  _ ← result_word
+  _ ← mark close_mark
+  done (Some (record { cell = cell; disable = disable }))
+
+-- [ "," index "," value "," result ] ")"
+unfoldable pub control : Part (Option Control)
+control = do
+  more ← comma_or_close
+  control_of more
+
+-- index "(" word ",", where the word, the name of a cell, is not used
+unfoldable pub cell : Part ℕ
+cell = do
+  num ← index
+  _ ← mark open_mark
+  _ ← word
+  _ ← mark comma
+  done num
+
+-- entry = index "(" word "," place "," function "," safe [ "," index "," value "," result ] ")"
+unfoldable pub entry : Part Entry
+entry = do
+  num ← cell
+  port ← port_place
+  role ← role
+  _ ← mark comma
+  safe ← safe_value
+  ctl ← control
+  done (record { num = num; port = port; role = role; safe = safe; ctl = ctl })
+
+-- what stands behind the word of a compliance bit
+abbrev pub bit_of : List ℕ → Option Bool → Part (PortWord × Bool)
+bit_of name (Some more) = done (Plain name, more)
+bit_of name None = do
+  i ← index
+  _ ← mark close_mark
+  more ← comma_or_close
+  done (Index name i, more)
+
+-- bit = word | word "(" index ")", with the mark behind it: whether it is a comma, and another bit comes
+unfoldable pub bit : Part (PortWord × Bool)
+bit = do
+  name ← word
+  next ← after_bit
+  bit_of name next
+
+-- bit { "," bit } ")"
+unfoldable pub bit_turn : List PortWord → Part (Turn (List PortWord) (List PortWord))
+bit_turn before = do
+  one ← bit
+  done (turn_of one.1 (before ++ one.0 ∷ []))
+
+-- all bits up to the parenthesis that closes
+abbrev pub bits : Part (List PortWord)
+bits = turns bit_turn []
+
+-- "(" bit { "," bit } ")"
+unfoldable pub first_parenthesis : Part (List PortWord)
+first_parenthesis = do
+  _ ← mark open_mark
+  bits
+
+-- "(" code { "," code } ")", and the end of the string
+unfoldable pub second_parenthesis : Part (List (List Symbol))
+second_parenthesis = do
+  _ ← mark open_mark
+  patterns ← list_of code comma_or_close
+  _ ← the_end
+  done patterns
+
+-- compliance = "(" bit { "," bit } ")" "(" code { "," code } ")"
+unfoldable pub compliance : Part Compliance
+compliance = do
+  ports ← first_parenthesis
+  patterns ← second_parenthesis
+  done (record { ports = ports; patterns = patterns })
+
+-- the string is a list of such entries with this value
+abbrev pub IsListOf : {A : Type 0} → Part A → List ℕ → List A → Type 0
+IsListOf entry text values = (production_of (list_of entry comma_or_end)).Whole (pieces text) values
+
+-- the string is no list of such entries, and the entry behind the whole ones at its front, each with its comma, has this number
+abbrev pub IsNoListOf : {A : Type 0} → Part A → List ℕ → ℕ → Type 0
+IsNoListOf entry text number = GoesWrongAt entry comma_or_end number (pieces text)
+
+-- pin map = map { "," map }
+abbrev pub IsPinMap : List ℕ → List MapEntry → Type 0
+IsPinMap text = IsListOf map_entry text
+
+-- no pin map, from the entry with this number on
+abbrev pub IsNoPinMap : List ℕ → ℕ → Type 0
+IsNoPinMap text = IsNoListOf map_entry text
+
+-- opcodes = op { "," op }
+abbrev pub AreOpcodes : List ℕ → List Opcode → Type 0
+AreOpcodes text = IsListOf opcode text
+
+-- no opcode string, from the entry with this number on
+abbrev pub AreNoOpcodes : List ℕ → ℕ → Type 0
+AreNoOpcodes text = IsNoListOf opcode text
+
+-- boundary = entry { "," entry }
+abbrev pub IsBoundary : List ℕ → List Entry → Type 0
+IsBoundary text = IsListOf entry text
+
+-- no boundary register, from the entry with this number on
+abbrev pub IsNoBoundary : List ℕ → ℕ → Type 0
+IsNoBoundary text = IsNoListOf entry text
+
+-- pattern = code, and no blank: one or more of 0, 1 and X, and nothing else
+abbrev pub IsPattern : List ℕ → List Symbol → Type 0
+IsPattern text value = IsTrue (is_code text) × (value ≡ code_of text)
+
+-- the string is no pattern, and the first character that is not 0, 1 or X has this place, from 1; it is 1 for an empty string
+pub record IsNoPattern (text : List ℕ) (number : ℕ) : Type 0 where
+  pub no_value : (value : List Symbol) → IsPattern text value → ⊥
+  pub place : number ≡ length (take_while is_symbol text) + 1
+
+-- the string is a compliance string with this value
+abbrev pub IsCompliance : List ℕ → Compliance → Type 0
+IsCompliance text value = (production_of compliance).Whole (pieces text) value
+
+-- a whole first parenthesis stands at the front
+abbrev pub HasFirstParenthesis : List ℕ → Type 0
+HasFirstParenthesis text = Follows (production_of first_parenthesis) (λ ports rest. Unit {0}) (pieces text)
+
+-- the string is no compliance string, and the number is 1 where it has no whole first parenthesis and 2 where it has one
+pub record IsNoCompliance (text : List ℕ) (number : ℕ) : Type 0 where
+  pub no_value : (value : Compliance) → IsCompliance text value → ⊥
+  pub place : ((number ≡ 1) × ¬ HasFirstParenthesis text) ⊎ ((number ≡ 2) × HasFirstParenthesis text)

@@ -1,0 +1,97 @@
+//! A compliance string: bits in one parenthesis, and patterns in another.
+ghost use Rattle.std.specs.Prelude.{◌<◌, [], IfOk, IfErr};
+ghost use Rattle.grammars.specs.Reader.{found};
+ghost use Rattle.grammars.specs.Grammar.{reader_of};
+ghost use Rattle.bsdl_strings.specs.Pieces.{pieces};
+ghost use Rattle.bsdl_strings.specs.Gives.{Gives};
+ghost use Rattle.bsdl_strings.specs.Faults.{FaultIs};
+ghost use Rattle.bsdl_strings.specs.Strings.{bit_of, bit as any_bit, bits as any_bits, first_parenthesis as the_first, second_parenthesis as the_second, IsCompliance, IsNoCompliance};
+
+use crate::entries::codes;
+use crate::fault::StringFault;
+use crate::places::{either_mark, end, index, mark, mark_after_bit, word};
+use crate::stop::Stop;
+use crate::strings::fault;
+use crate::values::{Compliance, PortWord};
+use board_defs::{Code, Items, Name};
+use std::alloc::Global;
+
+fn bit_from(
+    name: Name,
+    next: Option<bool>,
+    text: &[u8],
+) -> Result<((PortWord, bool), &[u8]), Stop<'_>>
+    ensures { Gives (λ x. found x.0 (pieces x.1.now)) result (reader_of (bit_of name next) (pieces text.now)) }
+{
+    match next {
+        Some(more) => Ok(((PortWord::Plain(name), more), text)),
+        None => {
+            let (i, rest) = index(text)?;
+            let rest = mark(rest, b')')?;
+            let (more, rest) = either_mark(rest, b',', b')')?;
+            Ok(((PortWord::Index(name, i), more), rest))
+        }
+    }
+}
+
+/// A compliance bit, and whether another comes.
+#[tactic(auto, unfolding(crate::specs::Strings::bit))]
+fn bit(alloc: Global, text: &[u8]) -> Result<((PortWord, bool), &[u8]), Stop<'_>>
+    ensures { Gives (λ x. found x.0 (pieces x.1.now)) result (reader_of any_bit (pieces text.now)) }
+{
+    let (name, rest) = word(alloc, text)?;
+    let (next, rest) = mark_after_bit(rest)?;
+    bit_from(name, next, rest)
+}
+
+/// Bits up to the parenthesis that closes.
+fn bits(alloc: Global, text: &[u8]) -> Result<(Items<PortWord>, &[u8]), Stop<'_>>
+    ensures { Gives (λ x. found x.0 (pieces x.1.now)) result (reader_of any_bits (pieces text.now)) }
+{
+    let mut bits = Vec::new(alloc);
+    let mut rest = text;
+    'bits: loop {
+        let ((one, more), next) = bit(alloc, rest)?;
+        bits.push(one)?;
+        rest = next;
+        if !more {
+            return Ok((Items::of(bits), rest));
+        }
+    }
+}
+
+#[tactic(auto, unfolding(crate::specs::Strings::first_parenthesis))]
+fn first_parenthesis(alloc: Global, text: &[u8]) -> Result<(Items<PortWord>, &[u8]), Stop<'_>>
+    ensures { Gives (λ x. found x.0 (pieces x.1.now)) result (reader_of the_first (pieces text.now)) }
+{
+    let rest = mark(text, b'(')?;
+    bits(alloc, rest)
+}
+
+#[tactic(auto, unfolding(crate::specs::Strings::second_parenthesis))]
+fn second_parenthesis(alloc: Global, text: &[u8]) -> Result<Items<Code>, Stop<'_>>
+    ensures { Gives (λ x. found x []) result (reader_of the_second (pieces text.now)) }
+{
+    let rest = mark(text, b'(')?;
+    let (patterns, rest) = codes(alloc, rest)?;
+    end(rest)?;
+    Ok(patterns)
+}
+
+/// The compliance bits, and the patterns that they may have.
+///
+/// `StringFault::At` comes exactly where the text is no compliance string, with 1 where no
+/// parenthesis of bits stands whole at its front, and 2 where one does.
+pub fn compliance(alloc: Global, text: &[u8]) -> Result<Compliance, StringFault>
+    ensures value { IfOk result (λ value. IsCompliance text.now value) }
+    ensures fault { IfErr result (FaultIs (IsNoCompliance text.now)) }
+{
+    let (ports, rest) = match first_parenthesis(alloc, text) {
+        Ok(found) => found,
+        Err(stop) => return Err(fault(stop, 0)),
+    };
+    match second_parenthesis(alloc, rest) {
+        Ok(patterns) => Ok(Compliance { ports, patterns }),
+        Err(stop) => Err(fault(stop, 1)),
+    }
+}

@@ -1,0 +1,189 @@
+//! The entries of pin maps, opcode strings and boundary registers, and their parts.
+ghost use Rattle.std.specs.Prelude.{◌≡◌, [], ◌∷◌, IfOk};
+ghost use Rattle.grammars.specs.Reader.{found};
+ghost use Rattle.grammars.specs.Grammar.{reader_of};
+ghost use Rattle.grammars.specs.Lists.{list_of};
+ghost use Rattle.bsdl_strings.specs.Pieces.{pieces};
+ghost use Rattle.bsdl_strings.specs.Gives.{Gives};
+ghost use Rattle.bsdl_strings.specs.Places.{pin as any_pin, code as any_code};
+ghost use Rattle.bsdl_strings.specs.Strings.{comma_or_close, pins_of, map_entry as any_map_entry, opcode as any_opcode, indexed as index_after, place_of, port_place as any_port_place, control_of, control as any_control, cell as any_cell, entry as any_entry};
+
+use crate::places::{
+    code, either_mark, index, mark, pin, pin_or_group, result_of_disabling, role, safe, word,
+    word_unless_star,
+};
+use crate::stop::Stop;
+use crate::values::{Entry, MapEntry, Opcode, PortWord};
+use board_defs::{Code, Control, Items, Name};
+use std::alloc::{AllocError, Global};
+
+/// Pins up to the parenthesis that closes.
+fn pins(alloc: Global, text: &[u8]) -> Result<(Items<Name>, &[u8]), Stop<'_>>
+    ensures { Gives (λ x. found x.0 (pieces x.1.now)) result (reader_of (list_of any_pin comma_or_close) (pieces text.now)) }
+{
+    let mut pins = Vec::new(alloc);
+    let mut rest = text;
+    loop {
+        let (one, after) = pin(alloc, rest)?;
+        pins.push(one)?;
+        let (more, next) = either_mark(after, b',', b')')?;
+        rest = next;
+        if !more {
+            return Ok((Items::of(pins), rest));
+        }
+    }
+}
+
+/// Codes up to the parenthesis that closes.
+pub(crate) fn codes(alloc: Global, text: &[u8]) -> Result<(Items<Code>, &[u8]), Stop<'_>>
+    ensures { Gives (λ x. found x.0 (pieces x.1.now)) result (reader_of (list_of any_code comma_or_close) (pieces text.now)) }
+{
+    let mut codes = Vec::new(alloc);
+    let mut rest = text;
+    loop {
+        let (one, after) = code(alloc, rest)?;
+        codes.push(one)?;
+        let (more, next) = either_mark(after, b',', b')')?;
+        rest = next;
+        if !more {
+            return Ok((Items::of(codes), rest));
+        }
+    }
+}
+
+#[tactic(auto, unfolding(crate::specs::Strings::map_entry))]
+pub(crate) fn map_entry(alloc: Global, text: &[u8]) -> Result<(MapEntry, &[u8]), Stop<'_>>
+    ensures { Gives (λ x. found x.0 (pieces x.1.now)) result (reader_of any_map_entry (pieces text.now)) }
+{
+    let (port, rest) = word(alloc, text)?;
+    let rest = mark(rest, b':')?;
+    let (first, rest) = pin_or_group(alloc, rest)?;
+    let (pins, rest) = pins_from(alloc, first, rest)?;
+    Ok((MapEntry { port, pins }, rest))
+}
+
+/// The one pin, or the pins of the group.
+fn pins_from(
+    alloc: Global,
+    first: Option<Name>,
+    text: &[u8],
+) -> Result<(Items<Name>, &[u8]), Stop<'_>>
+    ensures { Gives (λ x. found x.0 (pieces x.1.now)) result (reader_of (pins_of first) (pieces text.now)) }
+{
+    match first {
+        Some(pin) => Ok((one_pin(alloc, pin)?, text)),
+        None => pins(alloc, text),
+    }
+}
+
+fn one_pin(alloc: Global, pin: Name) -> Result<Items<Name>, AllocError>
+    ensures { IfOk result (λ pins. pins ≡ pin ∷ []) }
+{
+    let mut pins = Vec::new(alloc);
+    pins.push(pin)?;
+    Ok(Items::of(pins))
+}
+
+#[tactic(auto, unfolding(crate::specs::Strings::opcode))]
+pub(crate) fn opcode(alloc: Global, text: &[u8]) -> Result<(Opcode, &[u8]), Stop<'_>>
+    ensures { Gives (λ x. found x.0 (pieces x.1.now)) result (reader_of any_opcode (pieces text.now)) }
+{
+    let (name, rest) = word(alloc, text)?;
+    let rest = mark(rest, b'(')?;
+    let (codes, rest) = codes(alloc, rest)?;
+    Ok((Opcode { name, codes }, rest))
+}
+
+/// What follows the word of a place.
+fn indexed(name: Name, opens: bool, text: &[u8]) -> Result<(PortWord, &[u8]), Stop<'_>>
+    ensures { Gives (λ x. found x.0 (pieces x.1.now)) result (reader_of (index_after name opens) (pieces text.now)) }
+{
+    if opens {
+        let (i, rest) = index(text)?;
+        let rest = mark(rest, b')')?;
+        let rest = mark(rest, b',')?;
+        Ok((PortWord::Index(name, i), rest))
+    } else {
+        Ok((PortWord::Plain(name), text))
+    }
+}
+
+fn place_from(first: Option<Name>, text: &[u8]) -> Result<(PortWord, &[u8]), Stop<'_>>
+    ensures { Gives (λ x. found x.0 (pieces x.1.now)) result (reader_of (place_of first) (pieces text.now)) }
+{
+    match first {
+        None => Ok((PortWord::Star, mark(text, b',')?)),
+        Some(name) => {
+            let (opens, rest) = either_mark(text, b'(', b',')?;
+            indexed(name, opens, rest)
+        }
+    }
+}
+
+/// The place of an entry, and the comma after it.
+#[tactic(auto, unfolding(crate::specs::Strings::port_place))]
+fn port_place(alloc: Global, text: &[u8]) -> Result<(PortWord, &[u8]), Stop<'_>>
+    ensures { Gives (λ x. found x.0 (pieces x.1.now)) result (reader_of any_port_place (pieces text.now)) }
+{
+    let (first, rest) = word_unless_star(alloc, text)?;
+    place_from(first, rest)
+}
+
+fn control_from(comes: bool, text: &[u8]) -> Result<(Option<Control>, &[u8]), Stop<'_>>
+    ensures { Gives (λ x. found x.0 (pieces x.1.now)) result (reader_of (control_of comes) (pieces text.now)) }
+{
+    if comes {
+        let (cell, rest) = index(text)?;
+        let rest = mark(rest, b',')?;
+        let (disable, rest) = either_mark(rest, b'1', b'0')?;
+        let rest = mark(rest, b',')?;
+        let rest = result_of_disabling(rest)?;
+        let rest = mark(rest, b')')?;
+        Ok((Some(Control { cell, disable }), rest))
+    } else {
+        Ok((None, text))
+    }
+}
+
+/// What stands between the safe value and the parenthesis that closes an entry.
+#[tactic(auto, unfolding(crate::specs::Strings::control))]
+fn control(text: &[u8]) -> Result<(Option<Control>, &[u8]), Stop<'_>>
+    ensures { Gives (λ x. found x.0 (pieces x.1.now)) result (reader_of any_control (pieces text.now)) }
+{
+    let (comes, rest) = either_mark(text, b',', b')')?;
+    control_from(comes, rest)
+}
+
+/// A number and the name of a cell, up to the comma after the name.
+#[tactic(auto, unfolding(crate::specs::Strings::cell))]
+fn cell(alloc: Global, text: &[u8]) -> Result<(u32, &[u8]), Stop<'_>>
+    ensures { Gives (λ x. found x.0 (pieces x.1.now)) result (reader_of any_cell (pieces text.now)) }
+{
+    let (num, rest) = index(text)?;
+    let rest = mark(rest, b'(')?;
+    let (_, rest) = word(alloc, rest)?;
+    let rest = mark(rest, b',')?;
+    Ok((num, rest))
+}
+
+#[tactic(auto, unfolding(crate::specs::Strings::entry))]
+pub(crate) fn entry(alloc: Global, text: &[u8]) -> Result<(Entry, &[u8]), Stop<'_>>
+    ensures { Gives (λ x. found x.0 (pieces x.1.now)) result (reader_of any_entry (pieces text.now)) }
+{
+    let (num, rest) = cell(alloc, text)?;
+    let (port, rest) = port_place(alloc, rest)?;
+    let (role, rest) = role(rest)?;
+    let rest = mark(rest, b',')?;
+    let (safe, rest) = safe(rest)?;
+    let (ctl, rest) = control(rest)?;
+    Ok((
+        Entry {
+            num,
+            port,
+            role,
+            safe,
+            ctl,
+        },
+        rest,
+    ))
+}

@@ -1,0 +1,66 @@
+//! The pieces of an inner string, one at a time.
+ghost use Rattle.std.specs.Prelude.{◌≡◌, [], ◌∷◌, length, MatchOption, IfSome, true, false, ◌≤◌};
+ghost use Rattle.std.specs.List.{take_while};
+ghost use Rattle.bsdl_strings.specs.Pieces.{is_blank, is_word_byte, starts_word, starts_blank, is_end, pieces};
+
+fn is_space(byte: u8) -> bool
+    ensures { result ≡ is_blank byte }
+{
+    byte == b' ' || byte == b'\t'
+}
+
+pub(crate) fn joins_word(byte: u8) -> bool
+    ensures { result ≡ is_word_byte byte }
+{
+    byte.is_ascii_alphanumeric() || byte == b'_'
+}
+
+fn blanks(text: &[u8]) -> usize
+    ensures count { result ≡ length (take_while is_blank text.now) }
+    ensures within { result ≤ length text.now }
+{
+    text.iter().take_while(|byte| is_space(**byte)).count()
+}
+
+fn word_bytes(text: &[u8]) -> usize
+    ensures count { result ≡ length (take_while is_word_byte text.now) }
+    ensures within { result ≤ length text.now }
+{
+    text.iter().take_while(|byte| joins_word(**byte)).count()
+}
+
+/// The text from its first byte on that is no blank.
+fn past_blanks(text: &[u8]) -> &[u8]
+    ensures same { pieces result.now ≡ pieces text.now }
+    ensures no_blank { starts_blank result.now ≡ false }
+{
+    text.split_at(blanks(text)).1
+}
+
+/// A run of letters, digits and `_`, and the text after it.
+fn word_piece(text: &[u8]) -> (&[u8], &[u8])
+    requires { starts_word text.now ≡ true }
+    ensures pieces { pieces text.now ≡ result.0.now ∷ pieces result.1.now }
+    ensures some { is_end result.0.now ≡ false }
+{
+    text.split_at(word_bytes(text))
+}
+
+/// The piece at the front and the text after it; None at the end.
+#[tactic(auto, unfolding(crate::specs::Pieces::pieces))]
+pub(crate) fn next_piece(text: &[u8]) -> Option<(&[u8], &[u8])>
+    ensures pieces { MatchOption result (pieces text.now ≡ [] ∷ []) (λ x. pieces text.now ≡ x.0.now ∷ pieces x.1.now) }
+    ensures some { IfSome result (λ x. is_end x.0.now ≡ false) }
+{
+    let text = past_blanks(text);
+    match text {
+        [] => None,
+        [first, rest @ ..] => {
+            if joins_word(*first) {
+                Some(word_piece(text))
+            } else {
+                Some((text.split_at(1).0, rest))
+            }
+        }
+    }
+}

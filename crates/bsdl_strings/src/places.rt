@@ -1,0 +1,353 @@
+//! One piece's place: what stands at the front, and the text after it.
+ghost use Rattle.std.specs.Prelude.{◌≡◌, ◌+◌, ◌-◌, ◌*◌, ◌<◌, ◌≤◌, ◌^◌, [], map, length, IsTrue, IfOk, nat_eq, zip};
+ghost use Rattle.std.specs.List.{list_all, take_while};
+ghost use Rattle.std.specs.Str.{bytes_eq};
+ghost use Rattle.std.specs.Char.{is_ascii_digit, to_ascii_uppercase};
+ghost use Rattle.grammars.specs.Reader.{found};
+ghost use Rattle.grammars.specs.Grammar.{reader_of};
+ghost use Rattle.bsdl_strings.specs.Pieces.{is_word_byte, pieces};
+ghost use Rattle.bsdl_strings.specs.Gives.{Gives, more_of};
+ghost use Rattle.bsdl_strings.specs.Places.{upper, is_pin, is_index, is_code, is_symbol, symbol_of, code_of, decimal, role_of, is_result, comma_or_end, word_or_star, pin_or_open, safe_value, result_word, after_bit, the_end};
+ghost use Rattle.bsdl_strings.specs.Places.{is_mark as is_the_mark, is_word as is_any_word, mark as the_mark, either_mark as either_of_marks, word as any_word, pin as any_pin, index as any_index, code as any_code, role as any_role};
+
+use crate::pieces::{joins_word, next_piece};
+use crate::stop::Stop;
+use board_defs::{Code, Name, Role, Symbol};
+use std::alloc::{AllocError, Global};
+
+fn is_mark(piece: &[u8], byte: u8) -> bool
+    ensures { result ≡ is_the_mark byte piece.now }
+{
+    match piece {
+        [only] => *only == byte,
+        _ => false,
+    }
+}
+
+fn are_word_bytes(piece: &[u8]) -> bool
+    ensures { result ≡ list_all is_word_byte piece.now }
+{
+    piece.iter().all(|byte| joins_word(*byte))
+}
+
+fn names_pin(piece: &[u8]) -> bool
+    ensures { result ≡ is_pin piece.now }
+{
+    !piece.is_empty() && are_word_bytes(piece)
+}
+
+fn is_word(piece: &[u8]) -> bool
+    ensures { result ≡ is_any_word piece.now }
+{
+    match piece {
+        [first, ..] => first.is_ascii_alphabetic() && are_word_bytes(piece),
+        [] => false,
+    }
+}
+
+fn are_digits(piece: &[u8]) -> bool
+    ensures { result ≡ list_all is_ascii_digit piece.now }
+{
+    piece.iter().all(|byte| byte.is_ascii_digit())
+}
+
+fn is_short_number(piece: &[u8]) -> bool
+    ensures { result ≡ is_index piece.now }
+{
+    !piece.is_empty() && piece.len() <= 9 && are_digits(piece)
+}
+
+/// What 1 to 9 digits mean.
+fn decimal_of(digits: &[u8]) -> u32
+    requires { IsTrue (is_index digits.now) }
+    ensures { result ≡ decimal digits.now }
+{
+    let mut number = 0u32;
+    for digit in digits {
+        number = 10 * number + (digit - b'0') as u32;
+    }
+    number
+}
+
+fn fits_symbol(byte: u8) -> bool
+    ensures { result ≡ is_symbol byte }
+{
+    byte == b'0' || byte == b'1' || byte.to_ascii_uppercase() == b'X'
+}
+
+fn symbol(byte: u8) -> Symbol
+    ensures { result ≡ symbol_of byte }
+{
+    match byte {
+        b'0' => Symbol::Zero,
+        b'1' => Symbol::One,
+        _ => Symbol::Any,
+    }
+}
+
+fn are_symbols(piece: &[u8]) -> bool
+    ensures { result ≡ list_all is_symbol piece.now }
+{
+    piece.iter().all(|byte| fits_symbol(*byte))
+}
+
+/// How many characters of a code stand at the front.
+pub(crate) fn leading_symbols(text: &[u8]) -> usize
+    ensures count { result ≡ length (take_while is_symbol text.now) }
+    ensures within { result ≤ length text.now }
+{
+    text.iter().take_while(|byte| fits_symbol(**byte)).count()
+}
+
+pub(crate) fn spells_code(piece: &[u8]) -> bool
+    ensures { result ≡ is_code piece.now }
+{
+    !piece.is_empty() && are_symbols(piece)
+}
+
+fn symbols_from(alloc: Global, piece: &[u8]) -> Result<Vec<Symbol>, AllocError>
+    ensures { IfOk result (λ symbols. symbols.items ≡ code_of piece.now) }
+{
+    piece.iter().rev().map(|byte| symbol(*byte)).collect(alloc)
+}
+
+/// The code that these characters spell.
+pub(crate) fn code_from(alloc: Global, piece: &[u8]) -> Result<Code, AllocError>
+    requires { length piece.now < 2 ^ 32 }
+    ensures { IfOk result (λ code. code ≡ code_of piece.now) }
+{
+    Ok(Code::from_vec(symbols_from(alloc, piece)?))
+}
+
+/// The same of a piece of any length: one too long for a code is refused as one for which there
+/// is no memory. No text whose length is bounded has such a piece.
+fn short_code_from(alloc: Global, piece: &[u8]) -> Result<Code, AllocError>
+    ensures { IfOk result (λ code. code ≡ code_of piece.now) }
+{
+    if piece.len() <= u32::MAX as usize {
+        code_from(alloc, piece)
+    } else {
+        Err(AllocError)
+    }
+}
+
+fn each_agrees(bytes: &[u8], name: &[u8]) -> bool
+    ensures { result ≡ list_all (λ pair. nat_eq (to_ascii_uppercase pair.0) pair.1) (zip bytes.now name.now) }
+{
+    bytes
+        .iter()
+        .zip(name)
+        .all(|(byte, letter)| byte.to_ascii_uppercase() == *letter)
+}
+
+/// Whether the piece in upper case is the name.
+#[tactic(auto, using(crate::proofs::Spelled::differs))]
+fn spells(piece: &[u8], name: &[u8]) -> bool
+    ensures { result ≡ bytes_eq (upper piece.now) name.now }
+{
+    if piece.len() == name.len() {
+        each_agrees(piece, name)
+    } else {
+        false
+    }
+}
+
+/// The name with these bytes in upper case.
+fn upper_name(alloc: Global, bytes: &[u8]) -> Result<Name, AllocError>
+    ensures { IfOk result (λ name. name ≡ upper bytes.now) }
+{
+    let mut upper = bytes.to_vec(alloc)?;
+    upper.as_mut_slice().make_ascii_uppercase();
+    Ok(Name::from_vec(upper))
+}
+
+/// The text after this mark.
+pub(crate) fn mark(text: &[u8], byte: u8) -> Result<&[u8], Stop<'_>>
+    ensures { Gives (λ rest. found tt (pieces rest.now)) result (reader_of (the_mark byte) (pieces text.now)) }
+{
+    match next_piece(text) {
+        Some((piece, rest)) if is_mark(piece, byte) => Ok(rest),
+        _ => Err(Stop::At(text)),
+    }
+}
+
+/// One of two marks: whether it is the first.
+pub(crate) fn either_mark(text: &[u8], first: u8, second: u8) -> Result<(bool, &[u8]), Stop<'_>>
+    ensures { Gives (λ x. found x.0 (pieces x.1.now)) result (reader_of (either_of_marks first second) (pieces text.now)) }
+{
+    match next_piece(text) {
+        Some((piece, rest)) if is_mark(piece, first) => Ok((true, rest)),
+        Some((piece, rest)) if is_mark(piece, second) => Ok((false, rest)),
+        _ => Err(Stop::At(text)),
+    }
+}
+
+/// A letter, and then letters, digits and `_`.
+pub(crate) fn word(alloc: Global, text: &[u8]) -> Result<(Name, &[u8]), Stop<'_>>
+    ensures { Gives (λ x. found x.0 (pieces x.1.now)) result (reader_of any_word (pieces text.now)) }
+{
+    match next_piece(text) {
+        Some((piece, rest)) if is_word(piece) => Ok((upper_name(alloc, piece)?, rest)),
+        _ => Err(Stop::At(text)),
+    }
+}
+
+/// Letters, digits and `_`, at least one.
+pub(crate) fn pin(alloc: Global, text: &[u8]) -> Result<(Name, &[u8]), Stop<'_>>
+    ensures { Gives (λ x. found x.0 (pieces x.1.now)) result (reader_of any_pin (pieces text.now)) }
+{
+    match next_piece(text) {
+        Some((piece, rest)) if names_pin(piece) => Ok((upper_name(alloc, piece)?, rest)),
+        _ => Err(Stop::At(text)),
+    }
+}
+
+/// A number of 1 to 9 digits.
+pub(crate) fn index(text: &[u8]) -> Result<(u32, &[u8]), Stop<'_>>
+    ensures { Gives (λ x. found x.0 (pieces x.1.now)) result (reader_of any_index (pieces text.now)) }
+{
+    match next_piece(text) {
+        Some((piece, rest)) if is_short_number(piece) => Ok((decimal_of(piece), rest)),
+        _ => Err(Stop::At(text)),
+    }
+}
+
+/// One or more of 0, 1 and X.
+pub(crate) fn code(alloc: Global, text: &[u8]) -> Result<(Code, &[u8]), Stop<'_>>
+    ensures { Gives (λ x. found x.0 (pieces x.1.now)) result (reader_of any_code (pieces text.now)) }
+{
+    match next_piece(text) {
+        Some((piece, rest)) if spells_code(piece) => Ok((short_code_from(alloc, piece)?, rest)),
+        _ => Err(Stop::At(text)),
+    }
+}
+
+/// A comma, or the end: the text after the comma, or None at the end.
+pub(crate) fn comma(text: &[u8]) -> Result<Option<&[u8]>, Stop<'_>>
+    ensures { Gives (λ x. more_of x) result (reader_of comma_or_end (pieces text.now)) }
+{
+    match next_piece(text) {
+        None => Ok(None),
+        Some((piece, rest)) if is_mark(piece, b',') => Ok(Some(rest)),
+        _ => Err(Stop::At(text)),
+    }
+}
+
+/// A pin, or None for the parenthesis of several.
+pub(crate) fn pin_or_group(alloc: Global, text: &[u8]) -> Result<(Option<Name>, &[u8]), Stop<'_>>
+    ensures { Gives (λ x. found x.0 (pieces x.1.now)) result (reader_of pin_or_open (pieces text.now)) }
+{
+    match next_piece(text) {
+        Some((piece, rest)) if is_mark(piece, b'(') => Ok((None, rest)),
+        Some((piece, rest)) if names_pin(piece) => Ok((Some(upper_name(alloc, piece)?), rest)),
+        _ => Err(Stop::At(text)),
+    }
+}
+
+/// A word, or None for `*`.
+pub(crate) fn word_unless_star(
+    alloc: Global,
+    text: &[u8],
+) -> Result<(Option<Name>, &[u8]), Stop<'_>>
+    ensures { Gives (λ x. found x.0 (pieces x.1.now)) result (reader_of word_or_star (pieces text.now)) }
+{
+    match next_piece(text) {
+        Some((piece, rest)) if is_mark(piece, b'*') => Ok((None, rest)),
+        Some((piece, rest)) if is_word(piece) => Ok((Some(upper_name(alloc, piece)?), rest)),
+        _ => Err(Stop::At(text)),
+    }
+}
+
+/// A safe value: 0, 1 or X.
+pub(crate) fn safe(text: &[u8]) -> Result<(Symbol, &[u8]), Stop<'_>>
+    ensures { Gives (λ x. found x.0 (pieces x.1.now)) result (reader_of safe_value (pieces text.now)) }
+{
+    match next_piece(text) {
+        Some((piece, rest)) if is_mark(piece, b'0') => Ok((Symbol::Zero, rest)),
+        Some((piece, rest)) if is_mark(piece, b'1') => Ok((Symbol::One, rest)),
+        Some((piece, rest)) if spells(piece, b"X") => Ok((Symbol::Any, rest)),
+        _ => Err(Stop::At(text)),
+    }
+}
+
+fn role_named(piece: &[u8]) -> Option<Role>
+    ensures { result ≡ role_of (upper piece.now) }
+{
+    if spells(piece, b"INPUT") {
+        Some(Role::Input)
+    } else if spells(piece, b"OUTPUT2") {
+        Some(Role::Output2)
+    } else if spells(piece, b"OUTPUT3") {
+        Some(Role::Output3)
+    } else if spells(piece, b"CONTROL") {
+        Some(Role::Control)
+    } else if spells(piece, b"CONTROLR") {
+        Some(Role::ControlR)
+    } else if spells(piece, b"INTERNAL") {
+        Some(Role::Internal)
+    } else if spells(piece, b"CLOCK") {
+        Some(Role::Clock)
+    } else if spells(piece, b"BIDIR") {
+        Some(Role::Bidir)
+    } else if spells(piece, b"OBSERVE_ONLY") {
+        Some(Role::ObserveOnly)
+    } else {
+        None
+    }
+}
+
+/// The function of a cell.
+pub(crate) fn role(text: &[u8]) -> Result<(Role, &[u8]), Stop<'_>>
+    ensures { Gives (λ x. found x.0 (pieces x.1.now)) result (reader_of any_role (pieces text.now)) }
+{
+    match next_piece(text) {
+        None => Err(Stop::At(text)),
+        Some((piece, rest)) => match role_named(piece) {
+            Some(role) => Ok((role, rest)),
+            None => Err(Stop::At(text)),
+        },
+    }
+}
+
+fn names_result(piece: &[u8]) -> bool
+    ensures { result ≡ is_result (upper piece.now) }
+{
+    spells(piece, b"Z")
+        || spells(piece, b"WEAK0")
+        || spells(piece, b"WEAK1")
+        || spells(piece, b"PULL0")
+        || spells(piece, b"PULL1")
+        || spells(piece, b"KEEPER")
+}
+
+/// What a driver gives while it is disabled. In each case it does not drive.
+pub(crate) fn result_of_disabling(text: &[u8]) -> Result<&[u8], Stop<'_>>
+    ensures { Gives (λ rest. found tt (pieces rest.now)) result (reader_of result_word (pieces text.now)) }
+{
+    match next_piece(text) {
+        Some((piece, rest)) if names_result(piece) => Ok(rest),
+        _ => Err(Stop::At(text)),
+    }
+}
+
+/// What follows the word of a compliance bit: None for an index, else whether another bit comes.
+pub(crate) fn mark_after_bit(text: &[u8]) -> Result<(Option<bool>, &[u8]), Stop<'_>>
+    ensures { Gives (λ x. found x.0 (pieces x.1.now)) result (reader_of after_bit (pieces text.now)) }
+{
+    match next_piece(text) {
+        Some((piece, rest)) if is_mark(piece, b'(') => Ok((None, rest)),
+        Some((piece, rest)) if is_mark(piece, b',') => Ok((Some(true), rest)),
+        Some((piece, rest)) if is_mark(piece, b')') => Ok((Some(false), rest)),
+        _ => Err(Stop::At(text)),
+    }
+}
+
+/// The end of the string.
+pub(crate) fn end(text: &[u8]) -> Result<(), Stop<'_>>
+    ensures { Gives (λ x. found tt []) result (reader_of the_end (pieces text.now)) }
+{
+    match next_piece(text) {
+        None => Ok(()),
+        Some(_) => Err(Stop::At(text)),
+    }
+}

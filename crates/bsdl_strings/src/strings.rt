@@ -1,0 +1,128 @@
+//! Lists of entries, and patterns.
+ghost use Rattle.std.specs.Prelude.{◌≡◌, ◌<◌, ◌^◌, length, IfOk, IfErr};
+ghost use Rattle.bsdl_strings.specs.Faults.{fault_of, FaultIs};
+ghost use Rattle.bsdl_strings.specs.Strings.{IsPinMap, IsNoPinMap, AreOpcodes, AreNoOpcodes, IsBoundary, IsNoBoundary, IsPattern, IsNoPattern};
+
+use crate::entries::{entry, map_entry, opcode};
+use crate::fault::StringFault;
+use crate::places::{code_from, comma, leading_symbols, spells_code};
+use crate::stop::Stop;
+use crate::values::{Entry, MapEntry, Opcode};
+use board_defs::Code;
+use std::alloc::Global;
+
+/// The fault of a list that stopped after so many entries.
+pub(crate) fn fault(stop: Stop<'_>, entries: usize) -> StringFault
+    requires { entries < 2 ^ 31 }
+    ensures { result ≡ fault_of stop.entry entries }
+{
+    match stop {
+        Stop::Memory(error) => StringFault::Memory(error),
+        Stop::At(_) => StringFault::At(entries as u32 + 1),
+    }
+}
+
+/// The entries of a pin map, in order: each a port with its pins.
+///
+/// `StringFault::At` comes exactly where the text is no pin map, with the number of the first
+/// entry that does not stand whole.
+pub fn pin_map(alloc: Global, text: &[u8]) -> Result<Vec<MapEntry>, StringFault>
+    requires { length text.now < 2 ^ 32 }
+    ensures value { IfOk result (λ maps. IsPinMap text.now maps.items) }
+    ensures fault { IfErr result (FaultIs (IsNoPinMap text.now)) }
+{
+    let mut maps = Vec::new(alloc);
+    let mut rest = text;
+    'entries: loop {
+        let (one, after) = match map_entry(alloc, rest) {
+            Ok(found) => found,
+            Err(stop) => return Err(fault(stop, maps.len())),
+        };
+        match comma(after) {
+            Err(stop) => return Err(fault(stop, maps.len())),
+            Ok(more) => {
+                maps.push(one)?;
+                match more {
+                    None => return Ok(maps),
+                    Some(next) => rest = next,
+                }
+            }
+        }
+    }
+}
+
+/// The entries of an opcode string, in order: each an instruction with its codes.
+///
+/// `StringFault::At` comes exactly where the text is no opcode string, with the number of the
+/// first entry that does not stand whole.
+pub fn opcodes(alloc: Global, text: &[u8]) -> Result<Vec<Opcode>, StringFault>
+    requires { length text.now < 2 ^ 32 }
+    ensures value { IfOk result (λ ops. AreOpcodes text.now ops.items) }
+    ensures fault { IfErr result (FaultIs (AreNoOpcodes text.now)) }
+{
+    let mut ops = Vec::new(alloc);
+    let mut rest = text;
+    'entries: loop {
+        let (one, after) = match opcode(alloc, rest) {
+            Ok(found) => found,
+            Err(stop) => return Err(fault(stop, ops.len())),
+        };
+        match comma(after) {
+            Err(stop) => return Err(fault(stop, ops.len())),
+            Ok(more) => {
+                ops.push(one)?;
+                match more {
+                    None => return Ok(ops),
+                    Some(next) => rest = next,
+                }
+            }
+        }
+    }
+}
+
+/// The entries of a boundary register, in order.
+///
+/// `StringFault::At` comes exactly where the text is no boundary register, with the number of
+/// the first entry that does not stand whole.
+pub fn boundary(alloc: Global, text: &[u8]) -> Result<Vec<Entry>, StringFault>
+    requires { length text.now < 2 ^ 32 }
+    ensures value { IfOk result (λ cells. IsBoundary text.now cells.items) }
+    ensures fault { IfErr result (FaultIs (IsNoBoundary text.now)) }
+{
+    let mut cells = Vec::new(alloc);
+    let mut rest = text;
+    'entries: loop {
+        let (one, after) = match entry(alloc, rest) {
+            Ok(found) => found,
+            Err(stop) => return Err(fault(stop, cells.len())),
+        };
+        match comma(after) {
+            Err(stop) => return Err(fault(stop, cells.len())),
+            Ok(more) => {
+                cells.push(one)?;
+                match more {
+                    None => return Ok(cells),
+                    Some(next) => rest = next,
+                }
+            }
+        }
+    }
+}
+
+/// The code that a pattern spells: its rightmost character is the bit nearest TDO. A pattern has
+/// no blank, also not at its ends.
+///
+/// `StringFault::At` comes exactly where the text is no pattern, with the place, from 1, of the
+/// first character that is not 0, 1 or X, or 1 for an empty text.
+pub fn pattern(alloc: Global, text: &[u8]) -> Result<Code, StringFault>
+    requires { length text.now < 2 ^ 32 }
+    ensures value { IfOk result (λ code. IsPattern text.now code) }
+    ensures fault { IfErr result (FaultIs (IsNoPattern text.now)) }
+{
+    if spells_code(text) {
+        Ok(code_from(alloc, text)?)
+    } else {
+        let front = leading_symbols(text);
+        Err(StringFault::At(front as u32 + 1))
+    }
+}

@@ -1,0 +1,49 @@
+//! The values of the strings. Names are in upper case, and lists are in the order of the string.
+use board_defs::{Code, Control, Items, Name, Role, Symbol};
+
+/// An entry of a pin map: a port, and its pins.
+#[derive(Debug, Drop)]
+pub struct MapEntry {
+    pub port: Name,
+    /// One pin for each bit of the port, from left to right of its range.
+    pub pins: Items<Name>,
+}
+
+/// An entry of an opcode string: an instruction, and its codes.
+#[derive(Debug, Drop)]
+pub struct Opcode {
+    pub name: Name,
+    pub codes: Items<Code>,
+}
+
+/// A port bit as a string names it.
+#[derive(Debug, Drop)]
+pub enum PortWord {
+    /// `*`, in the place of a port where a cell has none.
+    Star,
+    /// A port without an index.
+    Plain(Name),
+    /// A port with an index of at most nine digits.
+    Index(Name, u32),
+}
+
+/// An entry of a boundary register.
+#[derive(Debug, Drop)]
+pub struct Entry {
+    /// The number of the boundary cell, 0 nearest TDO.
+    pub num: u32,
+    pub port: PortWord,
+    /// The function of the cell.
+    pub role: Role,
+    /// The value that the designer asks for while the cell is not used.
+    pub safe: Symbol,
+    /// The control cell and the disable value, where the entry has them.
+    pub ctl: Option<Control>,
+}
+
+/// The compliance bits, and the patterns that they may have.
+#[derive(Debug, Drop)]
+pub struct Compliance {
+    pub ports: Items<PortWord>,
+    pub patterns: Items<Code>,
+}
