@@ -8,7 +8,7 @@ cd "$work"
 
 for i in $(seq 1 255); do echo "BYPASS U$i 255"; done >wide.chain
 { yes '# a comment of some length, as a person would write it' | head -c 3900000; echo; yes '' | head -c 200000; echo 'BYPASS U1 4'; } >comments.chain
-head -c 4194304 /dev/zero | tr '\0' 'x' >one-line.chain
+printf '%4194304s' '' | tr ' ' 'x' >one-line.chain
 
 figure() {
     local name=$1
