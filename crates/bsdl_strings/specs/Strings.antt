@@ -1,4 +1,4 @@
--- The grammars of the strings inside a BSDL text (IEEE 1149.1-2001, Annex B, as far as they are used), and the value that a string has. Above each production stands its EBNF line.
+-- The grammars of the strings inside a BSDL text (IEEE 1149.1b-1994 and IEEE 1149.1-2001, Annex B, as far as an interconnect test needs them), and the value that a string has. Above each production stands its EBNF line.
 use Rattle.std.specs.Prelude.{◌≡◌, ℕ, ◌+◌, List, [], ◌∷◌, ◌++◌, length, Bool, true, false, Option, Some, None, IsTrue, ◌⊎◌}
 use Rattle.std.specs.List.{take_while}
 use Rattle.board_defs.specs.declared.device.Symbol.{Symbol}
@@ -42,7 +42,7 @@ opcode = do
   codes ← list_of code comma_or_close
   done (record { name = name; codes = codes })
 
--- [ "(" index ")" ] ",", behind the word of a place and the first mark
+-- what stands behind the word of a place and its first mark: index ")" "," behind a parenthesis, and nothing behind a comma
 abbrev pub indexed : List ℕ → Bool → Part PortWord
 indexed name false = done (Plain name)
 indexed name true = do
@@ -120,13 +120,13 @@ bit = do
   next ← after_bit
   bit_of name next
 
--- bit { "," bit } ")"
+-- one bit, with the comma or the parenthesis behind it
 unfoldable pub bit_turn : List PortWord → Part (Turn (List PortWord) (List PortWord))
 bit_turn before = do
   one ← bit
   done (turn_of one.1 (before ++ one.0 ∷ []))
 
--- all bits up to the parenthesis that closes
+-- bit { "," bit } ")"
 abbrev pub bits : Part (List PortWord)
 bits = turns bit_turn []
 

@@ -24,8 +24,8 @@ pub(crate) fn fault(stop: Stop<'_>, entries: usize) -> StringFault
 
 /// The entries of a pin map, in order: each a port with its pins.
 ///
-/// `StringFault::At` comes exactly where the text is no pin map, with the number of the first
-/// entry that does not stand whole.
+/// `StringFault::At` comes exactly where the text is no pin map, with one more than
+/// the number of whole entries, each with its comma, that stand at its front.
 pub fn pin_map(alloc: Global, text: &[u8]) -> Result<Vec<MapEntry>, StringFault>
     requires { length text.now < 2 ^ 32 }
     ensures value { IfOk result (λ maps. IsPinMap text.now maps.items) }
@@ -53,8 +53,8 @@ pub fn pin_map(alloc: Global, text: &[u8]) -> Result<Vec<MapEntry>, StringFault>
 
 /// The entries of an opcode string, in order: each an instruction with its codes.
 ///
-/// `StringFault::At` comes exactly where the text is no opcode string, with the number of the
-/// first entry that does not stand whole.
+/// `StringFault::At` comes exactly where the text is no opcode string, with one more than the
+/// number of whole entries, each with its comma, that stand at its front.
 pub fn opcodes(alloc: Global, text: &[u8]) -> Result<Vec<Opcode>, StringFault>
     requires { length text.now < 2 ^ 32 }
     ensures value { IfOk result (λ ops. AreOpcodes text.now ops.items) }
@@ -82,8 +82,8 @@ pub fn opcodes(alloc: Global, text: &[u8]) -> Result<Vec<Opcode>, StringFault>
 
 /// The entries of a boundary register, in order.
 ///
-/// `StringFault::At` comes exactly where the text is no boundary register, with the number of
-/// the first entry that does not stand whole.
+/// `StringFault::At` comes exactly where the text is no boundary register, with one more than
+/// the number of whole entries, each with its comma, that stand at its front.
 pub fn boundary(alloc: Global, text: &[u8]) -> Result<Vec<Entry>, StringFault>
     requires { length text.now < 2 ^ 32 }
     ensures value { IfOk result (λ cells. IsBoundary text.now cells.items) }

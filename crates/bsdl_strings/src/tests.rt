@@ -328,3 +328,15 @@ fn boundary_registers(rt: HostRuntime) -> Result<(), Fail> {
     }
     Ok(())
 }
+
+fn is_shared<T: Send + Sync>() {}
+
+#[test]
+fn values_may_be_shared() {
+    is_shared::<MapEntry>();
+    is_shared::<Opcode>();
+    is_shared::<PortWord>();
+    is_shared::<Entry>();
+    is_shared::<Compliance>();
+    is_shared::<StringFault>();
+}

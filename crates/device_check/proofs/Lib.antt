@@ -1,0 +1,9 @@
+mod TextLemmas
+mod OrderLemmas
+mod StringLemmas
+mod SearchLemmas
+mod AnswerLemmas
+mod OneAnswer
+mod SomeAnswer
+pub mod ListingLemmas
+mod ListingRuns

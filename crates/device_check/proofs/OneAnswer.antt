@@ -1,0 +1,168 @@
+-- There is one answer.
+use Rattle.std.proofs.Common.{◌≡◌, ℕ, List, [], ◌∷◌, length, Option, Some, None, Result, Ok, Err, ◌⊎◌, inl, inr, refl, sym, ◌∙◌, ap, subst}
+use Rattle.std.specs.List.{take_while}
+use Rattle.board_defs.specs.declared.device.RawDevice.{RawDevice}
+use Rattle.board_defs.specs.declared.device.Symbol.{Symbol}
+use Rattle.bsdl_parser.specs.declared.entity.Entity.{Entity}
+use Rattle.bsdl_strings.specs.declared.values.Compliance.{Compliance}
+use Rattle.grammars.specs.Reader.{Outcome, found, refused}
+use Rattle.grammars.specs.Grammar.{production_of, reader_of}
+use Rattle.grammars.specs.Lists.{list_of}
+use Rattle.grammars.proofs.Grammars.{decides_grammar, EachTurnTakes}
+use Rattle.grammars.proofs.ListReaders.{CanRead, each_takes, one_value}
+use Rattle.bsdl_strings.specs.Pieces.{pieces}
+use Rattle.bsdl_strings.specs.Places.{Part, comma_or_end, code_of}
+use Rattle.bsdl_strings.specs.Strings.{map_entry, opcode, entry, IsListOf, IsNoListOf, IsPattern, IsNoPattern, IsCompliance, IsNoCompliance, HasFirstParenthesis}
+use Rattle.bsdl_strings.specs.Strings as strings_of
+use Rattle.bsdl_strings.proofs.Lists.{can_maps, can_opcodes, can_entries}
+use Rattle.bsdl_strings.proofs.ComplianceLemmas.{compliance_takes}
+use Rattle.device_rules.specs.declared.broken.Broken.{Broken}
+use Rattle.device_rules.specs.Rules.{first_rule}
+use Rattle.device_rules.specs.Raw.{raw_device}
+use Rattle.device_check.specs.declared.fault.DeviceFault.{DeviceFault}
+use Rattle.device_check.specs.declared.fault.DeviceFault.TheVariants.{Rule, Text, Memory}
+use Rattle.device_check.specs.declared.strings.Strings.{Strings}
+use Rattle.device_check.specs.Attributes.{needed_text, text_of, pin_map_text}
+use Rattle.device_check.specs.Needed.{v1}
+use Rattle.device_check.specs.DeviceStrings.{MayBe, MayLeave, DeviceString, pin_map, opcodes, capture, idcode, compliance, boundary, attribute_of, IsRead, Leaves, LeavesFirst, in_order, AreStrings}
+use Rattle.device_check.specs.SoundDevice.{draft_of, IsSound, FailsRule, IsFirst, IsAnswer, UnlessMemory}
+use Rattle.device_check.proofs.StringLemmas.{one_number}
+
+-- the place at which a pattern leaves its grammar is one
+one_place : (text : List ℕ) (n m : ℕ) → IsNoPattern text n → IsNoPattern text m → n ≡ m
+one_place text n m x y = x.place ∙ sym y.place
+
+one_parenthesis : (text : List ℕ) (n m : ℕ) → IsNoCompliance text n → IsNoCompliance text m → n ≡ m
+one_parenthesis text n m x y = elim x.place [
+  | inl a ↦ elim y.place [ inl b ↦ a.0 ∙ sym b.0 | inr b ↦ absurd (a.1 b.1) ]
+  | inr a ↦ elim y.place [ inl b ↦ absurd (b.1 a.1) | inr b ↦ a.0 ∙ sym b.0 ]
+]
+
+maybe_once : (IsNo : List ℕ → ℕ → Type 0) → ((text : List ℕ) (n m : ℕ) → IsNo text n → IsNo text m → n ≡ m) → (text : Option (List ℕ)) (n m : ℕ) → MayLeave IsNo text n → MayLeave IsNo text m → n ≡ m
+maybe_once IsNo once None n m x y = absurd x
+maybe_once IsNo once (Some text) n m x y = once text n m x y
+
+-- a string leaves its grammar at one entry
+leaves_once : (entity : Entity) (given : Option (List ℕ)) (string : DeviceString) (n m : ℕ) → Leaves entity given string n → Leaves entity given string m → n ≡ m
+leaves_once entity given pin_map n m x y = one_number (pieces (pin_map_text entity given)) n m x y
+leaves_once entity given opcodes n m x y = one_number (pieces (needed_text entity 7)) n m x y
+leaves_once entity given capture n m x y = one_place (needed_text entity 8) n m x y
+leaves_once entity given idcode n m x y = maybe_once IsNoPattern one_place (text_of entity 12) n m x y
+leaves_once entity given compliance n m x y = maybe_once IsNoCompliance one_parenthesis (text_of entity 13) n m x y
+leaves_once entity given boundary n m x y = one_number (pieces (needed_text entity 10)) n m x y
+
+maybe_not : {A : Type 0} (Is : List ℕ → A → Type 0) (IsNo : List ℕ → ℕ → Type 0) → ((text : List ℕ) (value : A) (n : ℕ) → Is text value → IsNo text n → ⊥) → (text : Option (List ℕ)) (value : Option A) (n : ℕ) → MayBe Is text value → MayLeave IsNo text n → ⊥
+maybe_not Is IsNo never None value n x y = y
+maybe_not Is IsNo never (Some text) None n x y = x
+maybe_not Is IsNo never (Some text) (Some value) n x y = never text value n x y
+
+-- a string that is read does not leave its grammar
+read_not_left : (entity : Entity) (given : Option (List ℕ)) (string : DeviceString) (n : ℕ) → IsRead entity given string → Leaves entity given string n → ⊥
+read_not_left entity given pin_map n x y = y.no_value x.0 x.1
+read_not_left entity given opcodes n x y = y.no_value x.0 x.1
+read_not_left entity given capture n x y = y.no_value x.0 x.1
+read_not_left entity given idcode n x y = maybe_not IsPattern IsNoPattern (λ text value n a b. b.no_value value a) (text_of entity 12) x.0 n x.1 y
+read_not_left entity given compliance n x y = maybe_not IsCompliance IsNoCompliance (λ text value n a b. b.no_value value a) (text_of entity 13) x.0 n x.1 y
+read_not_left entity given boundary n x y = y.no_value x.0 x.1
+
+-- the first string that leaves its grammar is one
+one_first : (entity : Entity) (given : Option (List ℕ)) (strings : List DeviceString) (a n b m : ℕ) → LeavesFirst entity given strings a n → LeavesFirst entity given strings b m → (a ≡ b) × (n ≡ m)
+one_first entity given [] a n b m x y = absurd x
+one_first entity given (string ∷ strings) a n b m x y = by x y (λ u v. one_first entity given strings a n b m u v)
+  where
+    by : LeavesFirst entity given (string ∷ strings) a n → LeavesFirst entity given (string ∷ strings) b m → (LeavesFirst entity given strings a n → LeavesFirst entity given strings b m → (a ≡ b) × (n ≡ m)) → (a ≡ b) × (n ≡ m)
+    by (inl u) (inl v) again = (u.0 ∙ sym v.0, leaves_once entity given string n m u.1 v.1)
+    by (inl u) (inr v) again = absurd (read_not_left entity given string n v.0 u.1)
+    by (inr u) (inl v) again = absurd (read_not_left entity given string m u.0 v.1)
+    by (inr u) (inr v) again = again u.1 v.1
+
+-- where all strings are read none leaves its grammar first
+none_first : (entity : Entity) (given : Option (List ℕ)) (strings : List DeviceString) (a n : ℕ) → ((string : DeviceString) → IsRead entity given string) → LeavesFirst entity given strings a n → ⊥
+none_first entity given [] a n read x = x
+none_first entity given (string ∷ strings) a n read x = elim x [ inl u ↦ read_not_left entity given string n (read string) u.1 | inr u ↦ none_first entity given strings a n read u.1 ]
+
+each_read : (entity : Entity) (given : Option (List ℕ)) (strings : Strings) → AreStrings entity given strings → (string : DeviceString) → IsRead entity given string
+each_read entity given strings h pin_map = (strings.map, h.map_is)
+each_read entity given strings h opcodes = (strings.opcodes, h.opcodes_are)
+each_read entity given strings h capture = (strings.capture, h.capture_is)
+each_read entity given strings h idcode = (strings.idcode, h.idcode_is)
+each_read entity given strings h compliance = (strings.compliance, h.compliance_is)
+each_read entity given strings h boundary = (strings.entries, h.entries_are)
+
+maybe_same : {A : Type 0} (Is : List ℕ → A → Type 0) → ((text : List ℕ) (a b : A) → Is text a → Is text b → a ≡ b) → (text : Option (List ℕ)) (a b : Option A) → MayBe Is text a → MayBe Is text b → a ≡ b
+maybe_same Is same None None None x y = refl
+maybe_same Is same None None (Some b) x y = absurd y
+maybe_same Is same None (Some a) b x y = absurd x
+maybe_same Is same (Some text) None b x y = absurd x
+maybe_same Is same (Some text) (Some a) None x y = absurd y
+maybe_same Is same (Some text) (Some a) (Some b) x y = ap Some (same text a b x y)
+
+one_code : (text : List ℕ) (a b : List Symbol) → IsPattern text a → IsPattern text b → a ≡ b
+one_code text a b x y = x.1 ∙ sym y.1
+
+one_compliance : (text : List ℕ) (a b : Compliance) → IsCompliance text a → IsCompliance text b → a ≡ b
+one_compliance text a b x y = one_value strings_of.compliance compliance_takes (pieces text) a b x y
+
+-- the values of the strings are one
+one_strings : (entity : Entity) (given : Option (List ℕ)) (s t : Strings) → AreStrings entity given s → AreStrings entity given t → s ≡ t
+one_strings entity given s t x y =
+    let map = one_value (list_of map_entry comma_or_end) (each_takes can_maps) (pieces (pin_map_text entity given)) s.map t.map x.map_is y.map_is in
+    let ops = one_value (list_of opcode comma_or_end) (each_takes can_opcodes) (pieces (needed_text entity 7)) s.opcodes t.opcodes x.opcodes_are y.opcodes_are in
+    let code = one_code (needed_text entity 8) s.capture t.capture x.capture_is y.capture_is in
+    let id = maybe_same IsPattern one_code (text_of entity 12) s.idcode t.idcode x.idcode_is y.idcode_is in
+    let comp = maybe_same IsCompliance one_compliance (text_of entity 13) s.compliance t.compliance x.compliance_is y.compliance_is in
+    let cells = one_value (list_of entry comma_or_end) (each_takes can_entries) (pieces (needed_text entity 10)) s.entries t.entries x.entries_are y.entries_are in
+    let same : ◌≡◌ {A = Strings} (record { map = s.map; opcodes = s.opcodes; capture = s.capture; idcode = s.idcode; compliance = s.compliance; entries = s.entries })
+    (record { map = t.map; opcodes = t.opcodes; capture = t.capture; idcode = t.idcode; compliance = t.compliance; entries = t.entries }) = rw (map, ops, code, id, comp, cells) refl in
+    same
+
+some_is : {A : Type 0} (a b : A) → ◌≡◌ {A = Option A} (Some a) (Some b) → a ≡ b
+some_is a b e = cc e
+
+none_is_some : {A : Type 0} {P : Type 0} (o : Option A) (a : A) → o ≡ None → o ≡ Some a → P
+none_is_some o a e f = cc (e, f)
+
+same_rule : (a n b m : ℕ) → ◌≡◌ {A = Broken} (record { rule = a; item = n }) (record { rule = b; item = m }) → Rule a n ≡ Rule b m
+same_rule a n b m e = ap (λ broken. Rule broken.rule broken.item) e
+
+both_rules : (a n b m : ℕ) → a ≡ b → n ≡ m → ◌≡◌ {A = DeviceFault} (Rule a n) (Rule b m)
+both_rules a n b m e f = rw (e, f) refl
+
+both_texts : (a n b m : ℕ) → a ≡ b → n ≡ m → ◌≡◌ {A = DeviceFault} (Text a n) (Text b m)
+both_texts a n b m e f = rw (e, f) refl
+
+pub one_answer : (entity : Entity) (given : Option (List ℕ)) (x y : Result RawDevice DeviceFault) → IsAnswer entity given x → IsAnswer entity given y → x ≡ y
+one_answer entity given (Ok d) (Ok e) x y =
+    let same = one_strings entity given x.strings y.strings x.read y.read in
+    ap Ok (x.device_is ∙ ap (λ s. raw_device (draft_of entity given s)) same ∙ sym y.device_is)
+one_answer entity given (Ok d) (Err (Rule b m)) x (inl y) = none_is_some (v1 entity given) m x.needed y.1
+one_answer entity given (Ok d) (Err (Rule b m)) x (inr y) =
+    let same = one_strings entity given x.strings y.strings x.read y.read in
+    none_is_some (first_rule (draft_of entity given y.strings)) (record { rule = b; item = m }) (sym (ap (λ s. first_rule (draft_of entity given s)) same) ∙ x.kept) y.broken
+one_answer entity given (Ok d) (Err (Text b m)) x y = absurd (none_first entity given in_order b m (each_read entity given x.strings x.read) y.leaves)
+one_answer entity given (Ok d) (Err (Memory e)) x y = absurd y
+one_answer entity given (Err (Rule a n)) (Ok d) (inl x) y = none_is_some (v1 entity given) n y.needed x.1
+one_answer entity given (Err (Rule a n)) (Ok d) (inr x) y =
+    let same = one_strings entity given x.strings y.strings x.read y.read in
+    none_is_some (first_rule (draft_of entity given y.strings)) (record { rule = a; item = n }) y.kept (sym (ap (λ s. first_rule (draft_of entity given s)) same) ∙ x.broken)
+one_answer entity given (Err (Rule a n)) (Err (Rule b m)) (inl x) (inl y) = ap Err (both_rules a n b m (x.0 ∙ sym y.0) (some_is n m (sym x.1 ∙ y.1)))
+one_answer entity given (Err (Rule a n)) (Err (Rule b m)) (inl x) (inr y) = none_is_some (v1 entity given) n y.needed x.1
+one_answer entity given (Err (Rule a n)) (Err (Rule b m)) (inr x) (inl y) = none_is_some (v1 entity given) m x.needed y.1
+one_answer entity given (Err (Rule a n)) (Err (Rule b m)) (inr x) (inr y) =
+    let same = one_strings entity given x.strings y.strings x.read y.read in
+    ap Err (same_rule a n b m (some_is (record { rule = a; item = n }) (record { rule = b; item = m }) (sym x.broken ∙ ap (λ s. first_rule (draft_of entity given s)) same ∙ y.broken)))
+one_answer entity given (Err (Rule a n)) (Err (Text b m)) (inl x) y = none_is_some (v1 entity given) n y.needed x.1
+one_answer entity given (Err (Rule a n)) (Err (Text b m)) (inr x) y = absurd (none_first entity given in_order b m (each_read entity given x.strings x.read) y.leaves)
+one_answer entity given (Err (Rule a n)) (Err (Memory e)) x y = absurd y
+one_answer entity given (Err (Text a n)) (Ok d) x y = absurd (none_first entity given in_order a n (each_read entity given y.strings y.read) x.leaves)
+one_answer entity given (Err (Text a n)) (Err (Rule b m)) x (inl y) = none_is_some (v1 entity given) m x.needed y.1
+one_answer entity given (Err (Text a n)) (Err (Rule b m)) x (inr y) = absurd (none_first entity given in_order a n (each_read entity given y.strings y.read) x.leaves)
+one_answer entity given (Err (Text a n)) (Err (Text b m)) x y = let same = one_first entity given in_order a n b m x.leaves y.leaves in ap Err (both_texts a n b m same.0 same.1)
+one_answer entity given (Err (Text a n)) (Err (Memory e)) x y = absurd y
+one_answer entity given (Err (Memory e)) y x z = absurd x
+
+pub only_answer : (entity : Entity) (given : Option (List ℕ)) (result : Result RawDevice DeviceFault) → UnlessMemory result (IsAnswer entity given result) → UnlessMemory result ((other : Result RawDevice DeviceFault) → IsAnswer entity given other → other ≡ result)
+only_answer entity given (Ok d) h = λ other k. one_answer entity given other (Ok d) k h
+only_answer entity given (Err (Rule a n)) h = λ other k. one_answer entity given other (Err (Rule a n)) k h
+only_answer entity given (Err (Text a n)) h = λ other k. one_answer entity given other (Err (Text a n)) k h
+only_answer entity given (Err (Memory e)) h = tt

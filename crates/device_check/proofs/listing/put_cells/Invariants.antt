@@ -1,0 +1,16 @@
+use Rattle.std.proofs.Common.{◌≡◌, ◌-◌, ◌≤◌, [], length, Ok}
+use Rattle.bt_base.specs.declared.sink.PutFault.{PutFault}
+use Rattle.line_printer.specs.Prints.{Prints}
+use Rattle.device_check.specs.DeviceText.{cell_lines}
+use Rattle.device_check.proofs.listing.put_cells.Given as goal
+
+-- the cells below a number were put
+abbrev pub invariant-loop-from : goal.invariant-loop-from
+invariant-loop-from g l = record {
+  within : l.from ≤ l.device.boundary;
+  room : length l.table ≡ 1024;
+  printed : Prints {T = Unit {0}} {E = PutFault} (g.K.Sink.shown l.fn.out) (g.K.Sink.shown l.out) [] [] (cell_lines l.device.ports l.device.bits l.device.cells 0 l.from) (Ok tt);
+}
+
+abbrev pub decreases-loop-from : goal.decreases-loop-from
+decreases-loop-from g l = l.device.boundary - l.from

@@ -1,0 +1,17 @@
+-- What the listing of a device goes by.
+use Rattle.std.specs.Prelude.{ℕ, ◌≤◌, List, [], ◌∷◌}
+use Rattle.board_defs.specs.declared.device.Cell.{Cell}
+use Rattle.board_defs.specs.declared.device.PortBit.{PortBit}
+use Rattle.device_check.specs.declared.listing_table.Entries.{Entries}
+use Rattle.device_check.specs.declared.listing_table.Entries.TheVariants.{Nothing, One, Two}
+
+-- the entries that were found of a cell
+abbrev pub entries_in : Entries → List Cell
+entries_in Nothing = []
+entries_in (One first) = first ∷ []
+entries_in (Two first second) = first ∷ second ∷ []
+
+-- the bits stand in the order of their ports, which begin with this one or a later one
+abbrev pub Rises : ℕ → List PortBit → Type 0
+Rises port [] = Unit {0}
+Rises port (bit ∷ bits) = (port ≤ bit.port) × Rises bit.port bits

@@ -1,0 +1,68 @@
+//! The device of an entity, or its first fault.
+ghost use Rattle.std.specs.Prelude.{◌≡◌, None, Result, IfOk, option_copied};
+ghost use Rattle.board_defs.specs.declared.device.RawDevice.{RawDevice};
+ghost use Rattle.bsdl_parser.specs.Entity.{IsSmall};
+ghost use Rattle.device_rules.specs.Rules.{IsShort};
+ghost use Rattle.device_rules.specs.Raw.{HasLengths};
+ghost use Rattle.device_check.specs.declared.fault.DeviceFault.{DeviceFault};
+ghost use Rattle.device_check.specs.Needed.{v1};
+ghost use Rattle.device_check.specs.DeviceStrings.{AreStrings};
+ghost use Rattle.device_check.specs.Reading.{IsJudged};
+ghost use Rattle.device_check.specs.SoundDevice.{draft_of, IsAnswer, UnlessMemory};
+
+use crate::draft::draft_of;
+use crate::fault::DeviceFault;
+use crate::needed::wrong_attribute;
+use crate::strings::read_strings;
+use board_defs::Device;
+use bsdl_parser::Entity;
+use device_rules::{Draft, first_rule, raw_device};
+use std::alloc::Global;
+
+/// The device of a draft, or the first of the rules V2 to V14 that fails.
+fn judge(alloc: Global, draft: &Draft) -> Result<Device, DeviceFault>
+    requires short { IsShort draft.now }
+    requires lengths { HasLengths draft.now }
+    ensures { IsJudged draft.now result }
+{
+    match first_rule(alloc, draft)? {
+        Some(broken) => Err(DeviceFault::Rule {
+            number: broken.rule,
+            item: broken.item,
+        }),
+        None => Ok(Device::new(raw_device(alloc, draft)?)),
+    }
+}
+
+#[tactic(auto, using(crate::proofs::AnswerLemmas::needs_answer, crate::proofs::AnswerLemmas::text_answer, crate::proofs::AnswerLemmas::short_draft, crate::proofs::AnswerLemmas::judged_answer))]
+fn answer(alloc: Global, entity: &Entity, package: Option<&[u8]>) -> Result<Device, DeviceFault>
+    requires small { IsSmall entity.now }
+    ensures { UnlessMemory result (IsAnswer entity.now (option_copied «package».entry) result) }
+{
+    if let Some(item) = wrong_attribute(entity, package) {
+        return Err(DeviceFault::Rule { number: 1, item });
+    }
+    let strings = match read_strings(alloc, entity, package) {
+        Ok(strings) => strings,
+        Err(fault) => return Err(fault),
+    };
+    let draft = draft_of(alloc, entity, package, strings)?;
+    judge(alloc, &draft)
+}
+
+/// The device that the entity describes in this package, or in that of the generic's default
+/// where none is given.
+///
+/// The rules are tried in the order V1, the strings of the pin map and of INSTRUCTION_OPCODE,
+/// INSTRUCTION_CAPTURE, IDCODE_REGISTER, COMPLIANCE_PATTERNS and BOUNDARY_REGISTER, then V2 to
+/// V14, and the first that fails is the fault. Where memory is refused nothing is made.
+#[tactic(auto, using(crate::proofs::OneAnswer::only_answer))]
+pub fn device(alloc: Global, entity: &Entity, package: Option<&[u8]>) -> Result<Device, DeviceFault>
+    requires small { IsSmall entity.now }
+    // The device is the sound one of the entity, or the fault is the first step that fails.
+    ensures answer { UnlessMemory result (IsAnswer entity.now (option_copied «package».entry) result) }
+    // There is no other answer.
+    ensures only { UnlessMemory result ((other : Result RawDevice DeviceFault) → IsAnswer entity.now (option_copied «package».entry) other → other ≡ result) }
+{
+    answer(alloc, entity, package)
+}

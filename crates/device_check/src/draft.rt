@@ -1,0 +1,83 @@
+//! What an entity says of a device, taken together.
+ghost use Rattle.std.specs.Prelude.{◌≡◌, IfOk, option_copied};
+ghost use Rattle.device_check.specs.Attributes.{needed_port, port_of};
+ghost use Rattle.device_check.specs.SoundDevice.{taps_of, draft_of};
+
+use crate::attributes::{edition, needed_number, needed_port, package_name, port_of};
+use crate::strings::Strings;
+use board_defs::{Items, Name};
+use bsdl_parser::{Entity, Port};
+use device_rules::{Draft, TapPorts};
+use std::alloc::{AllocError, Global};
+
+fn copied_port(alloc: Global, port: &Port) -> Result<Port, AllocError>
+    ensures { IfOk result (λ copy. copy ≡ port.now) }
+{
+    Ok(Port {
+        name: Name::of(alloc, port.name.bytes())?,
+        mode: port.mode,
+        range: port.range,
+    })
+}
+
+fn copied_ports(alloc: Global, ports: &[Port]) -> Result<Vec<Port>, AllocError>
+    ensures { IfOk result (λ copies. copies.items ≡ ports.now) }
+{
+    let mut copies = Vec::new(alloc);
+    for port in ports {
+        copies.push(copied_port(alloc, port)?)?;
+    }
+    Ok(copies)
+}
+
+fn reset_port(alloc: Global, entity: &Entity) -> Result<Option<Name>, AllocError>
+    ensures { IfOk result (λ port. port ≡ port_of entity.now 11) }
+{
+    match port_of(entity, 11) {
+        Some(port) => Ok(Some(Name::of(alloc, port)?)),
+        None => Ok(None),
+    }
+}
+
+/// The ports that the TAP attributes name.
+fn taps_of(alloc: Global, entity: &Entity) -> Result<TapPorts, AllocError>
+    ensures { IfOk result (λ taps. taps ≡ taps_of entity.now) }
+{
+    Ok(TapPorts {
+        scan_in: Name::of(alloc, needed_port(entity, 2))?,
+        scan_out: Name::of(alloc, needed_port(entity, 3))?,
+        mode: Name::of(alloc, needed_port(entity, 4))?,
+        clock: Name::of(alloc, needed_port(entity, 5))?,
+        reset: reset_port(alloc, entity)?,
+    })
+}
+
+/// What the entity says, with the package and the values of its strings.
+pub(crate) fn draft_of(
+    alloc: Global,
+    entity: &Entity,
+    package: Option<&[u8]>,
+    strings: Strings,
+) -> Result<Draft, AllocError>
+    ensures { IfOk result (λ draft. draft ≡ draft_of entity.now (option_copied «package».entry) strings) }
+{
+    let name = Name::of(alloc, entity.name.bytes())?;
+    let package = Name::of(alloc, package_name(entity, package))?;
+    let ports = copied_ports(alloc, entity.ports.as_slice())?;
+    let taps = taps_of(alloc, entity)?;
+    Ok(Draft {
+        entity: name,
+        package,
+        edition: edition(entity),
+        ports: Items::of(ports),
+        taps,
+        ir: needed_number(entity, 6),
+        opcodes: strings.opcodes,
+        capture: strings.capture,
+        idcode: strings.idcode,
+        compliance: strings.compliance,
+        boundary: needed_number(entity, 9),
+        map: strings.map,
+        entries: strings.entries,
+    })
+}

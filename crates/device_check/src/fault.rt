@@ -1,0 +1,39 @@
+//! Why an entity describes no device.
+ghost use Rattle.std.specs.Prelude.{◌≡◌, alloc_error};
+ghost use Rattle.device_check.specs.declared.fault.DeviceFault.TheVariants.{Memory};
+
+use std::alloc::{AllocError, AllocFailed};
+use thiserror::Error;
+
+/// The first rule of a device or string that fails, or want of memory.
+#[derive(Clone, Copy, Debug, PartialEq, Eq, Error)]
+pub enum DeviceFault {
+    /// A rule, by its number from 1 to 14, and the first item that breaks it.
+    ///
+    /// At rule 1 the item is the number of an attribute, or 15 for the pin map of the package.
+    /// At the others it is that of `device_rules::Broken`.
+    #[error("rule V{number} item {item}")]
+    Rule { number: u32, item: u32 },
+    /// A string that leaves its grammar: the number of its attribute, or 15 for the pin map of
+    /// the package, and the entry, from 1, at which it does.
+    #[error("attribute {attribute} entry {entry}")]
+    Text { attribute: u32, entry: u32 },
+    #[error("out of memory")]
+    Memory(AllocError),
+}
+
+impl From<AllocError> for DeviceFault {
+    ghost from_gives = { λ e fault. fault ≡ Memory e };
+
+    fn from(e: AllocError) -> DeviceFault {
+        DeviceFault::Memory(e)
+    }
+}
+
+impl<T: Drop> From<AllocFailed<T>> for DeviceFault {
+    ghost from_gives = { λ _ fault. fault ≡ Memory alloc_error };
+
+    fn from(e: AllocFailed<T>) -> DeviceFault {
+        DeviceFault::Memory(AllocError::from(e))
+    }
+}

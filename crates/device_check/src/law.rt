@@ -1,0 +1,12 @@
+//! Laws of the definitions, each the contract of a function that does nothing.
+ghost use Rattle.std.specs.Prelude.{◌≡◌, ℕ, List, Option, Result};
+ghost use Rattle.board_defs.specs.declared.device.RawDevice.{RawDevice};
+ghost use Rattle.bsdl_parser.specs.declared.entity.Entity.{Entity};
+ghost use Rattle.device_check.specs.declared.fault.DeviceFault.{DeviceFault};
+ghost use Rattle.device_check.specs.SoundDevice.{IsAnswer};
+
+/// An entity has exactly one answer for each package: its sound device, or its first fault.
+pub fn entities_have_one_answer()
+    ensures some { (entity : Entity) (given : Option (List ℕ)) → (answer : Result RawDevice DeviceFault) × IsAnswer entity given answer }
+    ensures one { (entity : Entity) (given : Option (List ℕ)) (answer other : Result RawDevice DeviceFault) → IsAnswer entity given answer → IsAnswer entity given other → answer ≡ other }
+{}

@@ -1,0 +1,22 @@
+//! What a BSDL text says of a device, whether the device is one that an interconnect test can use
+//! (IEEE 1149.1b-1994 and IEEE 1149.1-2001, Annex B), and its listing.
+#![tactic(auto)]
+
+mod answer;
+mod attributes;
+mod draft;
+mod fault;
+pub mod law;
+mod listing;
+mod listing_table;
+mod needed;
+mod strings;
+
+pub use answer::device;
+pub use fault::DeviceFault;
+pub use listing::write_device;
+
+#[cfg(test)]
+mod listing_tests;
+#[cfg(test)]
+mod tests;

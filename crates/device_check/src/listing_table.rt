@@ -1,0 +1,68 @@
+// The entries of a block of cells.
+ghost use Rattle.std.specs.Prelude.{◌≡◌, ◌==◌, ◌<◌, ◌≤◌, ◌+◌, ℕ, [], ◌∷◌, ◌++◌, length, map, slice_index_or, if◌then◌else◌};
+ghost use Rattle.std.specs.List.{range_with_len};
+ghost use Rattle.device_check.specs.DeviceText.{entries_of};
+ghost use Rattle.device_check.specs.ListingForms.{entries_in};
+
+use board_defs::Cell;
+
+/// The entries of a cell: one that reads, one that the update latch is for, or both.
+#[derive(Clone, Copy)]
+pub enum Entries {
+    Nothing,
+    One(Cell),
+    Two(Cell, Cell),
+}
+
+impl Entries {
+    // With another entry after those that are there.
+    fn and(self, cell: Cell) -> Entries
+        requires { length (entries_in self) < 2 }
+        ensures { entries_in result ≡ entries_in self ++ cell ∷ [] }
+    {
+        match self {
+            Entries::Nothing => Entries::One(cell),
+            Entries::One(first) => Entries::Two(first, cell),
+            Entries::Two(..) => unreachable!(),
+        }
+    }
+}
+
+// Adds an entry where its cell is one of the block.
+fn add_entry(cell: Cell, from: u32, table: &mut [Entries])
+    requires { (k : ℕ) → k < length table.old → cell.num ≡ from + k → length (entries_in (slice_index_or table.old k Entries.Nothing)) < 2 }
+    ensures length { length table.new ≡ length table.old }
+    ensures entries { (k : ℕ) → k < length table.old
+        → entries_in (slice_index_or table.new k Entries.Nothing)
+        ≡ entries_in (slice_index_or table.old k Entries.Nothing) ++ (if cell.num == from + k then cell ∷ [] else []) }
+{
+    if cell.num < from {
+        return;
+    }
+    let at = (cell.num - from) as usize;
+    if at < table.len() {
+        table[at] = table[at].and(cell);
+    }
+}
+
+// Makes each place of a table empty.
+fn clear(table: &mut [Entries])
+    ensures length { length table.new ≡ length table.old }
+    ensures nothing { (k : ℕ) → k < length table.new → slice_index_or table.new k Entries.Nothing ≡ Entries.Nothing }
+{
+    for at in 0..table.len() {
+        table[at] = Entries::Nothing;
+    }
+}
+
+/// Fills a table with the entries of the cells from a number on.
+pub fn fill_entries(cells: &[Cell], from: u32, table: &mut [Entries])
+    requires { (num : ℕ) → length (entries_of num cells.now) ≤ 2 }
+    ensures entries { map entries_in table.new ≡ map (λ num. entries_of num cells.now) (range_with_len from (length table.old)) }
+    ensures length { length table.new ≡ length table.old }
+{
+    clear(table);
+    for cell in cells {
+        add_entry(*cell, from, table);
+    }
+}

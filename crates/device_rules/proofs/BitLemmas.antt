@@ -1,0 +1,300 @@
+-- Where the bits of ports stand.
+use Rattle.std.proofs.Common.{◌≡◌, ℕ, zero, suc, ◌+◌, ◌<◌, ◌≤◌, Bool, true, false, ◌&&◌, ◌||◌, cond, not, List, [], ◌∷◌, ◌++◌, length, take, drop, get_or, Option, Some, None, refl, sym, ap, subst, ◌∙◌, arith, nat_lt}
+use Rattle.std.specs.Prelude.{if◌then◌else◌, option_map, slice_get, find}
+use Rattle.std.specs.List.{list_any, position_from, position_or_len}
+use Rattle.std.specs.Str.{bytes_eq}
+use Rattle.std.proofs.lemmas.List.Sums.{sum_by-cons, sum_by_more}
+use Rattle.std.proofs.lemmas.Slice.Eq.{bytes_eq-Decides}
+use Rattle.std.proofs.lemmas.List.Folds.{list_any-append}
+use Rattle.std.proofs.lemmas.List.{drop_more, take-append-drop}
+use Rattle.std.proofs.lemmas.List.Folds.{find_at}
+use Rattle.std.proofs.lemmas.Option.{slice_get_past, slice_get-get_or}
+use Rattle.std.proofs.lemmas.Iterator.Adapters.{position_from-zero}
+use Rattle.std.proofs.lemmas.Bool.Decides.{nat_tests}
+use Rattle.bsdl_parser.specs.declared.entity.Port.{Port}
+use Rattle.device_rules.specs.Items.{first_from, or_else}
+use Rattle.device_rules.specs.Ports.{in_order, width, bits_of, port_named, breaks_port, v2, indexes, bits_along, bits_of_port, bits_from, port_bits, has_index, is_bit, is_named, bit_number, Bit}
+use Rattle.bsdl_strings.specs.declared.values.PortWord.TheVariants.{Star}
+use Rattle.device_rules.specs.Index.{place_in}
+use Rattle.device_rules.proofs.RangeLemmas.{place_found, place_within, length_indexes}
+use Rattle.device_rules.proofs.RuleLemmas.{holds}
+
+-- the first place in two lists
+place_append_by : {A : Type 0} (p : A → Bool) (n : ℕ) (xs ys : List A) (b : Bool) → position_from p (n + 1) (xs ++ ys) ≡ or_else (position_from p (n + 1) xs) (position_from p (n + 1 + length xs) ys)
+    → cond b (Some n) (position_from p (n + 1) (xs ++ ys)) ≡ or_else (cond b (Some n) (position_from p (n + 1) xs)) (position_from p (n + suc (length xs)) ys)
+place_append_by p n xs ys true e = refl
+place_append_by p n xs ys false e =
+    let sums : n + 1 + length xs ≡ n + suc (length xs) = omega arith in
+    e ∙ ap (λ k. or_else (position_from p (n + 1) xs) (position_from p k ys)) sums
+
+place_append : {A : Type 0} (p : A → Bool) (n : ℕ) (xs ys : List A) → position_from p n (xs ++ ys) ≡ or_else (position_from p n xs) (position_from p (n + length xs) ys)
+place_append p n [] ys = let sums : n ≡ n + zero = omega arith in ap (λ k. position_from p k ys) sums
+place_append p n (x ∷ xs) ys = place_append_by p n xs ys (p x) (place_append p (n + 1) xs ys)
+
+none_along : (name : List ℕ) (at : Option ℕ) (number : ℕ) (port : Port) (place : ℕ) (ixs : List (Option ℕ)) (n : ℕ) → bytes_eq port.name name ≡ false → position_from (is_bit name at) n (bits_along number port place ixs) ≡ None
+none_along name at number port place [] n e = refl
+none_along name at number port place (i ∷ ixs) n e =
+    ap (λ b. cond (b && has_index at i) (Some n) (position_from (is_bit name at) (n + 1) (bits_along number port (place + 1) ixs))) e ∙ none_along name at number port (place + 1) ixs (n + 1) e
+
+some_along : (name : List ℕ) (at : Option ℕ) (number : ℕ) (port : Port) (place : ℕ) (ixs : List (Option ℕ)) (n : ℕ) → bytes_eq port.name name ≡ true → position_from (is_bit name at) n (bits_along number port place ixs) ≡ position_from (has_index at) n ixs
+some_along name at number port place [] n e = refl
+some_along name at number port place (i ∷ ixs) n e =
+    ap (λ b. cond (b && has_index at i) (Some n) (position_from (is_bit name at) (n + 1) (bits_along number port (place + 1) ixs))) e
+    ∙ ap (λ o. cond (has_index at i) (Some n) o) (some_along name at number port (place + 1) ixs (n + 1) e)
+
+pub length_along : (number : ℕ) (port : Port) (place : ℕ) (ixs : List (Option ℕ)) → length (bits_along number port place ixs) ≡ length ixs
+length_along number port place [] = refl
+length_along number port place (i ∷ ixs) = ap suc (length_along number port (place + 1) ixs)
+
+left_false : (a b : Bool) → (a || b) ≡ false → a ≡ false
+left_false true b e = cc e
+left_false false b e = refl
+
+right_false : (a b : Bool) → (a || b) ≡ false → b ≡ false
+right_false true b e = cc e
+right_false false b e = e
+
+none_among : (name : List ℕ) (at : Option ℕ) (number n : ℕ) (ports : List Port) → list_any (port_named name) ports ≡ false → position_from (is_bit name at) n (bits_from number ports) ≡ None
+none_among name at number n [] e = refl
+none_among name at number n (port ∷ ports) e =
+    let here : bytes_eq port.name name ≡ false = left_false _ (list_any (port_named name) ports) e in
+    let later : list_any (port_named name) ports ≡ false = right_false (bytes_eq port.name name) _ e in
+    place_append (is_bit name at) n (bits_of_port number port) (bits_from (number + 1) ports)
+    ∙ ap (λ o. or_else o (position_from (is_bit name at) (n + length (bits_of_port number port)) (bits_from (number + 1) ports))) (none_along name at number port 0 (indexes port.range) n here)
+    ∙ none_among name at (number + 1) (n + length (bits_of_port number port)) ports later
+
+-- no later port has the name of a port, and the ranges are in order
+abbrev pub Apart : List Port → Type 0
+Apart [] = Unit {0}
+Apart (port ∷ ports) = (in_order port.range ≡ true) × (list_any (port_named port.name) ports ≡ false) × Apart ports
+
+length_bits : (number : ℕ) (port : Port) → in_order port.range ≡ true → length (bits_of_port number port) ≡ width port.range
+length_bits number port e = length_along number port 0 (indexes port.range) ∙ length_indexes port.range e
+
+none_else : {A : Type 0} (o : Option A) → or_else o None ≡ o
+none_else None = refl
+none_else (Some a) = refl
+
+-- the place of a bit, by the ports
+abbrev located : List ℕ → Option ℕ → ℕ → List Port → Option ℕ
+located name at start [] = None
+located name at start (port ∷ ports) = cond (bytes_eq port.name name) (option_map (λ k. start + k) (place_in port.range at)) (located name at (start + width port.range) ports)
+
+located_by : (name : List ℕ) (at : Option ℕ) (number start : ℕ) (port : Port) (ports : List Port) (b : Bool) → bytes_eq port.name name ≡ b → Apart (port ∷ ports)
+    → position_from (is_bit name at) (start + width port.range) (bits_from (number + 1) ports) ≡ located name at (start + width port.range) ports
+    → position_from (is_bit name at) start (bits_from number (port ∷ ports)) ≡ cond b (option_map (λ k. start + k) (place_in port.range at)) (located name at (start + width port.range) ports)
+located_by name at number start port ports true e apart later =
+    let is : port.name ≡ name = named e in
+    let others : list_any (port_named name) ports ≡ false = subst (λ n. list_any (port_named n) ports ≡ false) is apart.1 in
+    place_append (is_bit name at) start (bits_of_port number port) (bits_from (number + 1) ports)
+    ∙ ap (λ o. or_else (position_from (is_bit name at) start (bits_of_port number port)) o) (none_among name at (number + 1) (start + length (bits_of_port number port)) ports others)
+    ∙ none_else (position_from (is_bit name at) start (bits_of_port number port))
+    ∙ some_along name at number port 0 (indexes port.range) start e
+    ∙ place_found port.range at start apart.0
+  where
+    named : bytes_eq port.name name ≡ true → port.name ≡ name
+    named e = grind (arith, bytes_eq-Decides)
+located_by name at number start port ports false e apart later =
+    place_append (is_bit name at) start (bits_of_port number port) (bits_from (number + 1) ports)
+    ∙ ap (λ o. or_else o (position_from (is_bit name at) (start + length (bits_of_port number port)) (bits_from (number + 1) ports))) (none_along name at number port 0 (indexes port.range) start e)
+    ∙ ap (λ k. position_from (is_bit name at) (start + k) (bits_from (number + 1) ports)) (length_bits number port apart.0)
+    ∙ later
+
+located_is : (name : List ℕ) (at : Option ℕ) (number start : ℕ) (ports : List Port) → Apart ports → position_from (is_bit name at) start (bits_from number ports) ≡ located name at start ports
+located_is name at number start [] apart = refl
+located_is name at number start (port ∷ ports) apart = located_by name at number start port ports (bytes_eq port.name name) refl apart (located_is name at (number + 1) (start + width port.range) ports apart.2)
+
+-- a search that begins one later
+place_later_by : {A : Type 0} (p : A → Bool) (n : ℕ) (x : A) (xs : List A) (b : Bool) → position_from p (n + 1 + 1) xs ≡ option_map (λ k. k + 1) (position_from p (n + 1) xs) → cond b (Some (n + 1)) (position_from p (n + 1 + 1) xs) ≡ option_map (λ k. k + 1) (cond b (Some n) (position_from p (n + 1) xs))
+place_later_by p n x xs true e = refl
+place_later_by p n x xs false e = e
+
+place_later : {A : Type 0} (p : A → Bool) (n : ℕ) (xs : List A) → position_from p (n + 1) xs ≡ option_map (λ k. k + 1) (position_from p n xs)
+place_later p n [] = refl
+place_later p n (x ∷ xs) = place_later_by p n x xs (p x) (place_later p (n + 1) xs)
+
+-- no port has the name
+nowhere_by : (name : List ℕ) (at : Option ℕ) (start : ℕ) (port : Port) (ports : List Port) (b : Bool) → (position_from (port_named name) 0 ports ≡ None → located name at (start + width port.range) ports ≡ None)
+    → cond b (Some 0) (position_from (port_named name) 1 ports) ≡ None → cond b (option_map (λ k. start + k) (place_in port.range at)) (located name at (start + width port.range) ports) ≡ None
+nowhere_by name at start port ports true later e = cc e
+nowhere_by name at start port ports false later e = later (none_before (position_from (port_named name) 0 ports) (sym (place_later (port_named name) 0 ports) ∙ e))
+  where
+    none_before : (o : Option ℕ) → option_map (λ k. k + 1) o ≡ None → o ≡ None
+    none_before None e = refl
+    none_before (Some k) e = cc e
+
+nowhere : (name : List ℕ) (at : Option ℕ) (start : ℕ) (ports : List Port) → position_from (port_named name) 0 ports ≡ None → located name at start ports ≡ None
+nowhere name at start [] e = refl
+nowhere name at start (port ∷ ports) e = nowhere_by name at start port ports (bytes_eq port.name name) (λ none. nowhere name at (start + width port.range) ports none) e
+
+-- a port has the name
+there_by : (name : List ℕ) (at : Option ℕ) (start n : ℕ) (d port : Port) (ports : List Port) (b : Bool)
+    → ((m : ℕ) → position_from (port_named name) 0 ports ≡ Some m → located name at (start + width port.range) ports ≡ option_map (λ k. start + width port.range + bits_of (take m ports) + k) (place_in (get_or ports m d).range at))
+    → cond b (Some 0) (position_from (port_named name) 1 ports) ≡ Some n
+    → cond b (option_map (λ k. start + k) (place_in port.range at)) (located name at (start + width port.range) ports) ≡ option_map (λ k. start + bits_of (take n (port ∷ ports)) + k) (place_in (get_or (port ∷ ports) n d).range at)
+there_by name at start n d port ports true later e = first n (first_is e)
+  where
+    first_is : Some 0 ≡ Some n → 0 ≡ n
+    first_is e = cc e
+
+    same_sums : (o : Option ℕ) → option_map (λ k. start + k) o ≡ option_map (λ k. start + 0 + k) o
+    same_sums None = refl
+    same_sums (Some k) = let sums : start + k ≡ start + 0 + k = omega arith in ap Some sums
+
+    first : (n : ℕ) → 0 ≡ n → option_map (λ k. start + k) (place_in port.range at) ≡ option_map (λ k. start + bits_of (take n (port ∷ ports)) + k) (place_in (get_or (port ∷ ports) n d).range at)
+    first n e = subst (λ n. option_map (λ k. start + k) (place_in port.range at) ≡ option_map (λ k. start + bits_of (take n (port ∷ ports)) + k) (place_in (get_or (port ∷ ports) n d).range at)) e (same_sums (place_in port.range at))
+there_by name at start n d port ports false later e = next (position_from (port_named name) 0 ports) refl (sym (place_later (port_named name) 0 ports) ∙ e)
+  where
+    sums : (m : ℕ) (o : Option ℕ) → option_map (λ k. start + width port.range + bits_of (take m ports) + k) o ≡ option_map (λ k. start + bits_of (port ∷ take m ports) + k) o
+    sums m None = refl
+    sums m (Some k) =
+        let bits : bits_of (port ∷ take m ports) ≡ width port.range + bits_of (take m ports) = sum_by-cons (λ port. width port.range) port (take m ports) in
+        let sums : start + width port.range + bits_of (take m ports) + k ≡ start + bits_of (port ∷ take m ports) + k = omega (arith, bits) in
+        ap Some sums
+
+    shifted : (m : ℕ) → suc m ≡ n → position_from (port_named name) 0 ports ≡ Some m → located name at (start + width port.range) ports ≡ option_map (λ k. start + bits_of (take n (port ∷ ports)) + k) (place_in (get_or (port ∷ ports) n d).range at)
+    shifted m e f = subst (λ n. located name at (start + width port.range) ports ≡ option_map (λ k. start + bits_of (take n (port ∷ ports)) + k) (place_in (get_or (port ∷ ports) n d).range at)) e
+        (later m f ∙ sums m (place_in (get_or ports m d).range at))
+
+    next : (o : Option ℕ) → position_from (port_named name) 0 ports ≡ o → option_map (λ k. k + 1) o ≡ Some n → located name at (start + width port.range) ports ≡ option_map (λ k. start + bits_of (take n (port ∷ ports)) + k) (place_in (get_or (port ∷ ports) n d).range at)
+    next None f e = cc e
+    next (Some m) f e = let is : m + 1 ≡ n = cc e in shifted m (omega (arith, is)) f
+
+there : (name : List ℕ) (at : Option ℕ) (start n : ℕ) (d : Port) (ports : List Port) → position_from (port_named name) 0 ports ≡ Some n
+    → located name at start ports ≡ option_map (λ k. start + bits_of (take n ports) + k) (place_in (get_or ports n d).range at)
+there name at start n d [] e = cc e
+there name at start n d (port ∷ ports) e = there_by name at start n d port ports (bytes_eq port.name name) (λ m f. there name at (start + width port.range) m d ports f) e
+
+-- what V2 says of the ports that are left, after those before
+abbrev Fresh : List Port → List Port → Type 0
+Fresh before [] = Unit {0}
+Fresh before (port ∷ ports) = (list_any (port_named port.name) before ≡ false) × Fresh before ports
+
+fresh_less : (before : List Port) (port : Port) (ports : List Port) → Fresh (before ++ port ∷ []) ports → Fresh before ports × (list_any (port_named port.name) ports ≡ false)
+fresh_less before port [] h = (tt, refl)
+fresh_less before port (later ∷ ports) h =
+    let rest = fresh_less before port ports h.1 in
+    let both : (list_any (port_named later.name) before || (bytes_eq port.name later.name || false)) ≡ false = sym (list_any-append (port_named later.name) before (port ∷ [])) ∙ h.0 in
+    let here : bytes_eq later.name port.name ≡ false = turned port.name later.name (left_false _ _ (right_false (list_any (port_named later.name) before) _ both)) in
+    ((left_false _ (bytes_eq port.name later.name || false) both, rest.0), both_false _ _ here rest.1)
+  where
+    both_false : (a b : Bool) → a ≡ false → b ≡ false → (a || b) ≡ false
+    both_false a b e f = rw e f
+
+    turned : (a b : List ℕ) → bytes_eq a b ≡ false → bytes_eq b a ≡ false
+    turned a b e = grind (arith, bytes_eq-Decides)
+
+abbrev KeptFrom : List Port → List Port → Type 0
+KeptFrom before ports = Fresh before ports × Apart ports
+
+kept_by : (before : List Port) (port : Port) (ports : List Port) (b : Bool) → breaks_port before port ≡ b → (first_from breaks_port (before ++ port ∷ []) ports ≡ None → KeptFrom (before ++ port ∷ []) ports)
+    → (if b then Some (length before + 1) else first_from breaks_port (before ++ port ∷ []) ports) ≡ None → KeptFrom before (port ∷ ports)
+kept_by before port ports true e later h = cc h
+kept_by before port ports false e later h =
+    let rest = later h in
+    let less = fresh_less before port ports rest.0 in
+    let fresh : list_any (port_named port.name) before ≡ false = left_false _ (not (in_order port.range) || nat_lt 65535 (bits_of before + width port.range)) e in
+    let ordered : not (in_order port.range) ≡ false = left_false _ (nat_lt 65535 (bits_of before + width port.range)) (right_false (list_any (port_named port.name) before) _ e) in
+    ((fresh, less.0), (is_true (in_order port.range) ordered, less.1, rest.1))
+  where
+    is_true : (b : Bool) → not b ≡ false → b ≡ true
+    is_true true e = refl
+    is_true false e = cc e
+
+kept_from : (before ports : List Port) → first_from breaks_port before ports ≡ None → KeptFrom before ports
+kept_from before [] e = (tt, tt)
+kept_from before (port ∷ ports) e = kept_by before port ports (breaks_port before port) refl (kept_from (before ++ port ∷ []) ports) e
+
+-- where V2 holds, names differ and ranges are in order
+pub apart : (ports : List Port) → v2 ports ≡ None → Apart ports
+unfolding v2
+apart ports e = (kept_from [] ports e).1
+
+-- the first place of an item, against the item
+at_by : {A : Type 0} (p : A → Bool) (xs : List A) (n : ℕ) (b : Bool) → nat_lt (position_or_len p xs) (length xs) ≡ b → cond b (Some (position_or_len p xs)) None ≡ Some n → (n < length xs) × (find p xs ≡ slice_get xs n)
+at_by p xs n true e f =
+    let is : position_or_len p xs ≡ n = cc f in
+    (subst (λ k. k < length xs) is (less (position_or_len p xs) (length xs) e), find_at p xs ∙ ap (slice_get xs) is)
+  where
+    less : (a b : ℕ) → nat_lt a b ≡ true → a < b
+    less a b e = grind (arith, nat_tests)
+at_by p xs n false e f = cc f
+
+at_first : {A : Type 0} (p : A → Bool) (xs : List A) (n : ℕ) → position_from p 0 xs ≡ Some n → (n < length xs) × (find p xs ≡ slice_get xs n)
+at_first p xs n e = at_by p xs n (nat_lt (position_or_len p xs) (length xs)) refl (position_from-zero p xs ∙ e)
+
+pub number_below : {A : Type 0} (p : A → Bool) (xs : List A) (n : ℕ) → position_from p 0 xs ≡ Some n → n < length xs
+number_below p xs n e = (at_first p xs n e).0
+
+pub found_at : {A : Type 0} (p : A → Bool) (xs : List A) (n : ℕ) → position_from p 0 xs ≡ Some n → slice_get xs n ≡ find p xs
+found_at p xs n e = sym (at_first p xs n e).1
+
+nothing_by : {A : Type 0} (p : A → Bool) (xs : List A) (b : Bool) → nat_lt (position_or_len p xs) (length xs) ≡ b → cond b (Some (position_or_len p xs)) None ≡ None → None ≡ find p xs
+nothing_by p xs true e f = cc f
+nothing_by p xs false e f = sym (find_at p xs ∙ slice_get_past xs (position_or_len p xs) (not_less (position_or_len p xs) (length xs) e))
+  where
+    not_less : (a b : ℕ) → nat_lt a b ≡ false → b ≤ a
+    not_less a b e = grind (arith, nat_tests)
+
+pub nothing_found : {A : Type 0} (p : A → Bool) (xs : List A) → position_from p 0 xs ≡ None → None ≡ find p xs
+nothing_found p xs e = nothing_by p xs (nat_lt (position_or_len p xs) (length xs)) refl (position_from-zero p xs ∙ e)
+
+-- the bits before a port and those of the port are few, where V2 holds
+pub bits_few : (ports : List Port) (i : ℕ) (port : Port) → v2 ports ≡ None → i < length ports → get_or ports i port ≡ port → bits_of (take i ports) + width port.range ≤ 65535
+unfolding v2
+bits_few ports i port e less is =
+    let cut : ports ≡ take i ports ++ port ∷ drop (i + 1) ports =
+    sym (take-append-drop i ports) ∙ ap (λ xs. take i ports ++ xs) (drop_more ports i port less ∙ ap (λ x. x ∷ drop (i + 1) ports) is) in
+    let fits : breaks_port (take i ports) port ≡ false = holds breaks_port ports e (take i ports) port (drop (i + 1) ports) cut in
+    few (bits_of (take i ports) + width port.range) (right_false (not (in_order port.range)) _ (right_false (list_any (port_named port.name) (take i ports)) _ fits))
+  where
+    few : (n : ℕ) → nat_lt 65535 n ≡ false → n ≤ 65535
+    few n e = grind (arith, nat_tests)
+
+-- the bits of one port more
+pub bits_more : (ports : List Port) (i : ℕ) (port : Port) → i < length ports → get_or ports i port ≡ port → bits_of (take (i + 1) ports) ≡ bits_of (take i ports) + width port.range
+bits_more ports i port less is =
+    sum_by_more (λ port. width port.range) ports i port less ∙ ap (λ p. bits_of (take i ports) + width p.range) is
+
+pub found_item : {A : Type 0} (p : A → Bool) (xs : List A) (n : ℕ) (x : A) → position_from p 0 xs ≡ Some n → get_or xs n x ≡ x → Some x ≡ find p xs
+found_item p xs n x e is = sym (slice_get-get_or xs n x (number_below p xs n e) ∙ ap Some is) ∙ found_at p xs n e
+
+-- the number of a bit, by the number of its port
+abbrev bit_by : List Port → List ℕ → Option ℕ → Option ℕ
+bit_by ports name at = position_from (is_bit name at) 0 (port_bits ports)
+
+pub nowhere_bit : (ports : List Port) (name : List ℕ) (at : Option ℕ) → v2 ports ≡ None → position_from (port_named name) 0 ports ≡ None → None ≡ bit_by ports name at
+nowhere_bit ports name at kept e = sym (located_is name at 0 0 ports (apart ports kept) ∙ nowhere name at 0 ports e)
+
+there_bit : (ports : List Port) (name : List ℕ) (at : Option ℕ) (n : ℕ) (port : Port) → v2 ports ≡ None → position_from (port_named name) 0 ports ≡ Some n → get_or ports n port ≡ port
+    → bit_by ports name at ≡ option_map (λ k. bits_of (take n ports) + k) (place_in port.range at)
+there_bit ports name at n port kept e is =
+    located_is name at 0 0 ports (apart ports kept) ∙ there name at 0 n port ports e ∙ ap (λ p. option_map (λ k. 0 + bits_of (take n ports) + k) (place_in p.range at)) is ∙ same (place_in port.range at)
+  where
+    same : (o : Option ℕ) → option_map (λ k. 0 + bits_of (take n ports) + k) o ≡ option_map (λ k. bits_of (take n ports) + k) o
+    same None = refl
+    same (Some k) = let sums : 0 + bits_of (take n ports) + k ≡ bits_of (take n ports) + k = omega arith in ap Some sums
+
+pub outside_bit : (ports : List Port) (name : List ℕ) (at : Option ℕ) (n : ℕ) (port : Port) → v2 ports ≡ None → position_from (port_named name) 0 ports ≡ Some n → get_or ports n port ≡ port
+    → place_in port.range at ≡ None → None ≡ bit_by ports name at
+outside_bit ports name at n port kept e is none = sym (there_bit ports name at n port kept e is ∙ ap (option_map (λ k. bits_of (take n ports) + k)) none)
+
+pub inside_bit : (ports : List Port) (name : List ℕ) (at : Option ℕ) (n k start : ℕ) (port : Port) → v2 ports ≡ None → position_from (port_named name) 0 ports ≡ Some n → get_or ports n port ≡ port
+    → place_in port.range at ≡ Some k → start ≡ bits_of (take n ports) → Some (start + k) ≡ bit_by ports name at
+inside_bit ports name at n k start port kept e is here before =
+    ap (λ m. Some (m + k)) before ∙ sym (there_bit ports name at n port kept e is ∙ ap (option_map (λ k. bits_of (take n ports) + k)) here)
+
+pub bit_fits : (ports : List Port) (name : List ℕ) (at : Option ℕ) (n k start : ℕ) (port : Port) → v2 ports ≡ None → position_from (port_named name) 0 ports ≡ Some n → get_or ports n port ≡ port
+    → place_in port.range at ≡ Some k → start ≡ bits_of (take n ports) → start + k < 65536
+bit_fits ports name at n k start port kept e is here before =
+    let few = bits_few ports n port kept (number_below (port_named name) ports n e) is in
+    let within = place_within port.range at k here in
+    omega (arith, few, within, before)
+
+star_by : (n : ℕ) (bits : List Bit) → position_from (is_named Star) n bits ≡ None
+star_by n [] = refl
+star_by n (bit ∷ bits) = star_by (n + 1) bits
+
+-- `*` names no port bit
+pub star_bit : (ports : List Port) → bit_number ports Star ≡ None
+star_bit ports = star_by 0 (port_bits ports)

@@ -1,0 +1,66 @@
+-- Cell numbers that are below the length of the register.
+use Rattle.std.proofs.Common.{◌≡◌, ◌≢◌, ℕ, ◌<◌, ◌≤◌, ◌==◌, Bool, true, false, ◌&&◌, cond, List, [], ◌∷◌, Option, Some, None, refl, sym, ◌∙◌, ap, arith, nat_le, find}
+use Rattle.std.specs.Prelude.{option_map, All}
+use Rattle.std.proofs.lemmas.List.Folds.{list_any_none}
+use Rattle.std.proofs.lemmas.List.Elements.{All-weaker, All-nil, All-cons}
+use Rattle.std.proofs.lemmas.Bool.Decides.{nat_tests}
+use Rattle.board_defs.specs.declared.device.Role.{Role}
+use Rattle.bsdl_strings.specs.declared.values.Entry.{Entry}
+use Rattle.board_defs.specs.DeviceRules.{is_controlling}
+use Rattle.device_rules.specs.Items.{or_else}
+use Rattle.device_rules.specs.Cells.{is_entry_of, is_control_of, has_control_entry, too_large, v8}
+
+another_cell : (cell boundary : ℕ) (entry : Entry) → boundary ≤ cell → entry.num < boundary → is_control_of cell entry ≡ false
+another_cell cell boundary entry le lt = ap (λ b. b && is_controlling entry.role) (differs entry.num cell (omega arith))
+  where
+    differs : (m n : ℕ) → m < n → (m == n) ≡ false
+    differs m n lt = grind (arith, nat_tests)
+
+-- a number that is too large has no entry
+pub no_control_there : (cell boundary : ℕ) (entries : List Entry) → boundary ≤ cell → All (λ entry. entry.num < boundary) entries → false ≡ has_control_entry entries cell
+no_control_there cell boundary entries le below = sym (list_any_none (is_control_of cell) entries
+    (All-weaker (λ entry. entry.num < boundary) (λ entry. is_control_of cell entry ≡ false) (λ entry lt. another_cell cell boundary entry le lt) entries below))
+
+below_step : (boundary : ℕ) (entry : Entry) (entries : List Entry) (b : Bool) → nat_le boundary entry.num ≡ b → (too_large boundary entries ≡ None → All (λ entry. entry.num < boundary) entries)
+    → option_map (λ entry. entry.num) (cond b (Some entry) (find (λ entry. nat_le boundary entry.num) entries)) ≡ None → All (λ entry. entry.num < boundary) (entry ∷ entries)
+below_step boundary entry entries true is h e = cc
+below_step boundary entry entries false is h e = All-cons (λ entry. entry.num < boundary) entry entries (smaller boundary entry.num is) (h e)
+  where
+    smaller : (m n : ℕ) → nat_le m n ≡ false → n < m
+    smaller m n e = grind (arith, nat_tests)
+
+none_too_large : (boundary : ℕ) (entries : List Entry) → too_large boundary entries ≡ None → All (λ entry. entry.num < boundary) entries
+none_too_large boundary [] e = All-nil (λ entry. entry.num < boundary)
+none_too_large boundary (entry ∷ entries) e = below_step boundary entry entries (nat_le boundary entry.num) refl (none_too_large boundary entries) e
+
+first_none : (a b : Option ℕ) → or_else a b ≡ None → a ≡ None
+first_none None b e = refl
+first_none (Some n) b e = e
+
+-- where V8 holds each cell number is below the length
+pub all_below : (boundary : ℕ) (entries : List Entry) → v8 boundary entries ≡ None → All (λ entry. entry.num < boundary) entries
+unfolding v8
+all_below boundary entries e = none_too_large boundary entries (first_none (too_large boundary entries) _ e)
+
+-- what an entry counts for
+eqb_refl : (n : ℕ) → (n == n) ≡ true
+eqb_refl n = grind (arith, nat_tests)
+
+apart : (m n : ℕ) → n ≢ m → (m == n) ≡ false
+apart m n h = grind (arith, nat_tests)
+
+both_false : (b : Bool) → (b && false) ≡ false
+both_false true = refl
+both_false false = refl
+
+pub counts_here : (kind : Role → Bool) (entry : Entry) → kind entry.role ≡ true → (is_entry_of entry.num entry && kind entry.role) ≡ true
+counts_here kind entry e = ap (λ b. b && kind entry.role) (eqb_refl entry.num) ∙ e
+
+pub counts_nowhere_else : (kind : Role → Bool) (entry : Entry) (n : ℕ) → n ≢ entry.num → (is_entry_of n entry && kind entry.role) ≡ false
+counts_nowhere_else kind entry n h = ap (λ b. b && kind entry.role) (apart entry.num n h)
+
+pub counts_nowhere : (kind : Role → Bool) (entry : Entry) (n : ℕ) → kind entry.role ≡ false → (is_entry_of n entry && kind entry.role) ≡ false
+counts_nowhere kind entry n e = ap (λ b. is_entry_of n entry && b) e ∙ both_false (is_entry_of n entry)
+
+pub counts_above : (kind : Role → Bool) (entry : Entry) (bound n : ℕ) → bound ≤ entry.num → n < bound → (is_entry_of n entry && kind entry.role) ≡ false
+counts_above kind entry bound n le lt = counts_nowhere_else kind entry n (λ e. absurd (omega arith))

@@ -1,0 +1,32 @@
+use Rattle.std.proofs.Common.{◌+◌, take, sym, ◌∙◌, ap, subst, arith}
+use Rattle.device_rules.specs.Cells.{loads_cell}
+use Rattle.board_defs.specs.DeviceRules.{is_loading}
+use Rattle.device_rules.specs.Tables.{Counts}
+use Rattle.device_rules.proofs.TableLemmas.{counts_kept, counts_more, counts_fit}
+use Rattle.device_rules.proofs.CellLemmas.{counts_here, counts_nowhere_else, counts_nowhere, counts_above}
+use Rattle.device_rules.proofs.cells.loader_counts.Goals as goal
+use Rattle.device_rules.proofs.cells.loader_counts.Goals.{then-is_loader+then-entry-boundary, then-is_loader+else-entry-boundary, else-is_loader}
+
+pub count_one-requires-clause-room : goal.count_one-requires-clause-room
+count_one-requires-clause-room c =
+    let few = counts_fit loads_cell c.args.entries.now c.args.boundary c.loop-entry.entry-index c.entry-item.result.num c.loop-entry.table.items c.loop-entry-test.true c.if-entry-boundary.true c.loop-entry.invariant in
+    omega (arith, few, c.requires)
+
+pub loop-entry-preserved : goal.loop-entry-preserved
+loop-entry-preserved c =
+    let entry = c.entry-item.result in
+    let P = λ (t : _). Counts loads_cell (take (c.loop-entry.entry-index + 1) c.args.entries.now) c.args.boundary t in
+    elim c.if-is_loader.branch [
+      | then-is_loader+then-entry-boundary w ↦
+          subst P (sym (ap (λ t. t.items) w.table-is ∙ w.count_one.ensures))
+          (counts_more loads_cell c.args.entries.now c.args.boundary c.loop-entry.entry-index entry entry.num c.loop-entry.table.items c.loop-entry-test.true (sym c.entry-item.is) w.if-entry-boundary.true
+          (counts_here is_loading entry (sym c.is_loader.ensures ∙ w.if-is_loader.true)) (counts_nowhere_else is_loading entry) c.loop-entry.invariant)
+      | then-is_loader+else-entry-boundary w ↦
+          subst P (sym (ap (λ t. t.items) w.table-is))
+          (counts_kept loads_cell c.args.entries.now c.args.boundary c.loop-entry.entry-index entry c.loop-entry.table.items c.loop-entry-test.true (sym c.entry-item.is)
+          (λ n lt. counts_above is_loading entry c.args.boundary n w.if-entry-boundary.false lt) c.loop-entry.invariant)
+      | else-is_loader w ↦
+          subst P (sym (ap (λ t. t.items) w.table-is))
+          (counts_kept loads_cell c.args.entries.now c.args.boundary c.loop-entry.entry-index entry c.loop-entry.table.items c.loop-entry-test.true (sym c.entry-item.is)
+          (λ n lt. counts_nowhere is_loading entry n (sym c.is_loader.ensures ∙ w.if-is_loader.false)) c.loop-entry.invariant)
+    ]

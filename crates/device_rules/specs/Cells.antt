@@ -1,0 +1,96 @@
+-- The rules about the cells of the boundary register.
+use Rattle.std.specs.Prelude.{ℕ, ◌==◌, List, Bool, true, false, ◌&&◌, ◌||◌, not, if◌then◌else◌, Option, Some, None, nat_lt, nat_le, find, option_map, count_by}
+use Rattle.std.specs.List.{list_any}
+use Rattle.board_defs.specs.declared.device.Role.{Role}
+use Rattle.board_defs.specs.declared.device.Role.TheVariants.{Input, Output2, Output3, Control as ControlRole, ControlR, Internal, Clock, Bidir, ObserveOnly}
+use Rattle.board_defs.specs.declared.device.Control.{Control}
+use Rattle.board_defs.specs.DeviceRules.{is_controlling, is_loading, is_writing}
+use Rattle.bsdl_strings.specs.declared.values.Entry.{Entry}
+use Rattle.device_rules.specs.Items.{first_break, least_below, or_else}
+use Rattle.device_rules.specs.Instructions.{same_bit}
+
+abbrev pub is_entry_of : ℕ → Entry → Bool
+is_entry_of cell entry = entry.num == cell
+
+-- the first entry whose cell number is too large
+abbrev pub too_large : ℕ → List Entry → Option ℕ
+too_large boundary entries = option_map (λ entry. entry.num) (find (λ entry. nat_le boundary entry.num) entries)
+
+abbrev pub is_missing : List Entry → ℕ → Bool
+is_missing entries cell = not (list_any (is_entry_of cell) entries)
+
+-- V8: each cell number is below the length of the register, and each number below it occurs
+unfoldable pub v8 : ℕ → List Entry → Option ℕ
+v8 boundary entries = or_else (too_large boundary entries) (least_below (is_missing entries) boundary)
+
+-- OUTPUT3 and BIDIR have a control
+abbrev pub needs_control : Role → Bool
+needs_control Output3 = true
+needs_control Bidir = true
+needs_control Input = false
+needs_control Output2 = false
+needs_control ControlRole = false
+needs_control ControlR = false
+needs_control Internal = false
+needs_control Clock = false
+needs_control ObserveOnly = false
+
+-- OUTPUT2 may have one, and no other may
+abbrev pub may_have_control : Role → Bool
+may_have_control Output2 = true
+may_have_control Output3 = true
+may_have_control Bidir = true
+may_have_control Input = false
+may_have_control ControlRole = false
+may_have_control ControlR = false
+may_have_control Internal = false
+may_have_control Clock = false
+may_have_control ObserveOnly = false
+
+abbrev pub is_control_of : ℕ → Entry → Bool
+is_control_of cell entry = (entry.num == cell) && is_controlling entry.role
+
+-- some entry of the cell is a CONTROL or CONTROLR
+abbrev pub has_control_entry : List Entry → ℕ → Bool
+has_control_entry entries cell = list_any (is_control_of cell) entries
+
+abbrev pub breaks_control_of : List Entry → Entry → Option Control → Bool
+breaks_control_of entries entry None = needs_control entry.role
+breaks_control_of entries entry (Some control) = if may_have_control entry.role then not ((control.cell == entry.num) || has_control_entry entries control.cell) else true
+
+abbrev pub breaks_control : List Entry → Entry → Bool
+breaks_control entries entry = breaks_control_of entries entry entry.ctl
+
+-- V10: OUTPUT3 and BIDIR have a control, the others but OUTPUT2 have none, and a control is the entry's own cell or a cell with a CONTROL or CONTROLR entry
+unfoldable pub v10 : List Entry → Option ℕ
+v10 entries = first_break (λ before entry. breaks_control entries entry) entries
+
+abbrev pub is_disabled_by : Bool → ℕ → Option Control → Bool
+is_disabled_by value cell None = false
+is_disabled_by value cell (Some control) = (control.cell == cell) && same_bit control.disable value
+
+-- the cell controls the entry, with this disable value
+abbrev pub controls_entry : Bool → ℕ → Entry → Bool
+controls_entry value cell entry = is_disabled_by value cell entry.ctl
+
+abbrev pub has_two_values : List Entry → ℕ → Bool
+has_two_values entries cell = list_any (controls_entry true cell) entries && list_any (controls_entry false cell) entries
+
+-- V11: all entries with one control cell have one disable value
+unfoldable pub v11 : ℕ → List Entry → Option ℕ
+v11 boundary entries = least_below (has_two_values entries) boundary
+
+-- INPUT, CLOCK, OBSERVE_ONLY, BIDIR and INTERNAL
+abbrev pub loads_cell : ℕ → Entry → Bool
+loads_cell cell entry = is_entry_of cell entry && is_loading entry.role
+
+-- OUTPUT2, OUTPUT3, CONTROL, CONTROLR, BIDIR and INTERNAL
+abbrev pub writes_cell : ℕ → Entry → Bool
+writes_cell cell entry = is_entry_of cell entry && is_writing entry.role
+
+abbrev pub is_crowded : List Entry → ℕ → Bool
+is_crowded entries cell = nat_lt 1 (count_by (loads_cell cell) entries) || nat_lt 1 (count_by (writes_cell cell) entries)
+
+-- V12: a cell has at most one entry that gives its capture a value, and at most one that takes its value from the update latch
+unfoldable pub v12 : ℕ → List Entry → Option ℕ
+v12 boundary entries = least_below (is_crowded entries) boundary

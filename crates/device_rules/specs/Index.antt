@@ -1,0 +1,65 @@
+-- Where ports and their bits stand.
+use Rattle.std.specs.Prelude.{◌≡◌, ℕ, ◌+◌, ◌-◌, ◌<◌, List, [], length, take, nat_eq, Bool, false, ◌&&◌, if◌then◌else◌, Option, Some, None, nat_le, slice_index}
+use Rattle.std.specs.Borrow.{Bor}
+use Rattle.std.specs.Str.{bytes_eq}
+use Rattle.std.specs.List.{list_any}
+use Rattle.std.specs.Option.{option_eq}
+use Rattle.indexmap.specs.IndexMap.{get_by}
+use Rattle.bsdl_parser.specs.declared.entity.Port.{Port}
+use Rattle.bsdl_parser.specs.declared.entity.Range.{Range}
+use Rattle.device_rules.specs.declared.port_index.PortIndex.{PortIndex}
+use Rattle.bsdl_strings.specs.declared.values.Compliance.{Compliance}
+use Rattle.bsdl_strings.specs.declared.values.PortWord.{PortWord}
+use Rattle.bsdl_strings.specs.declared.values.PortWord.TheVariants.{Star, Plain, Index}
+use Rattle.device_rules.specs.Ports.{Bit, bits_of, port_number}
+
+-- how many bits stand before each port
+pub record AreStarts (ports : List Port) (starts : List ℕ) : Type 0 where
+  pub size : length starts ≡ length ports
+  pub each : (n : ℕ) → n < length ports → slice_index starts n ≡ bits_of (take n ports)
+
+-- the index of these ports
+pub record IsIndex (ports : List Port) (index : PortIndex) : Type 0 where
+  pub places : (q : Bor (List ℕ)) → get_by (λ n. bytes_eq q.now n.now) index.places ≡ port_number ports q.now
+  pub starts : AreStarts ports index.starts.items
+
+-- the place of an index within a range, from left to right
+abbrev pub place_in : Option Range → Option ℕ → Option ℕ
+place_in None None = Some 0
+place_in None (Some number) = None
+place_in (Some range) None = None
+place_in (Some range) (Some number) =
+    if range.up then (if nat_le range.left number && nat_le number range.right then Some (number - range.left) else None) else
+    if nat_le range.right number && nat_le number range.left then Some (range.left - number) else None
+
+-- the index at a place of a range, from left to right
+abbrev pub index_at : Option Range → ℕ → Option ℕ
+index_at None place = None
+index_at (Some range) place = Some (if range.up then range.left + place else range.left - place)
+
+-- the bit at this place of a port
+abbrev pub bit_of : ℕ → Port → ℕ → Bit
+bit_of number port place = record { port = number; name = port.name; index = index_at port.range place; place = place; mode = port.mode }
+
+-- the name and the index of the bit that a word names
+abbrev pub key_of : PortWord → Option (List ℕ × Option ℕ)
+key_of Star = None
+key_of (Plain name) = Some (name, None)
+key_of (Index name number) = Some (name, Some number)
+
+abbrev pub is_key : Option (List ℕ × Option ℕ) → List ℕ → Option ℕ → Bool
+is_key None name index = false
+is_key (Some key) name index = bytes_eq key.0 name && option_eq nat_eq key.1 index
+
+-- a word names the bit with this name and index
+abbrev pub names_bit : List ℕ → Option ℕ → PortWord → Bool
+names_bit name index word = is_key (key_of word) name index
+
+-- the words of the compliance patterns
+abbrev pub words_of : Option Compliance → List PortWord
+words_of None = []
+words_of (Some compliance) = compliance.ports
+
+-- the test passes for the bits that these words name
+abbrev pub Marked : (Bor (List ℕ) × Option ℕ → Bool) → List PortWord → Type 0
+Marked is words = (name : Bor (List ℕ)) (index : Option ℕ) → is (name, index) ≡ list_any (names_bit name.now index) words

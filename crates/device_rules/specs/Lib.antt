@@ -1,0 +1,13 @@
+pub mod Items
+pub mod Tables
+pub mod Ports
+pub mod Taps
+pub mod PinMap
+pub mod Instructions
+pub mod Cells
+pub mod Places
+pub mod Rules
+pub mod Raw
+pub mod Index
+pub mod Seen
+pub mod Named

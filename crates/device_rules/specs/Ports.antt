@@ -1,0 +1,97 @@
+-- The ports and their bits.
+use Rattle.std.specs.Prelude.{ℕ, ◌+◌, ◌-◌, List, [], ◌∷◌, ◌++◌, map, Bool, true, false, ◌&&◌, ◌||◌, not, if◌then◌else◌, Option, Some, None, is_none, nat_lt, nat_le, sum_by, find, option_and_then}
+use Rattle.std.specs.List.{list_any, position_from}
+use Rattle.std.specs.Str.{bytes_eq}
+use Rattle.board_defs.specs.declared.device.Mode.{Mode}
+use Rattle.board_defs.specs.DeviceRules.{range_indexes, is_on}
+use Rattle.bsdl_parser.specs.declared.entity.Port.{Port}
+use Rattle.bsdl_parser.specs.declared.entity.Range.{Range}
+use Rattle.bsdl_strings.specs.declared.values.PortWord.{PortWord}
+use Rattle.bsdl_strings.specs.declared.values.PortWord.TheVariants.{Star, Plain, Index}
+use Rattle.device_rules.specs.Items.{first_break}
+
+-- a `to` range goes up, and a `downto` range down
+abbrev pub in_order : Option Range → Bool
+in_order None = true
+in_order (Some range) = if range.up then nat_le range.left range.right else nat_le range.right range.left
+
+-- how many bits a port has
+abbrev pub width : Option Range → ℕ
+width None = 1
+width (Some range) = (if range.up then range.right - range.left else range.left - range.right) + 1
+
+abbrev pub bits_of : List Port → ℕ
+bits_of ports = sum_by (λ port. width port.range) ports
+
+abbrev pub port_named : List ℕ → Port → Bool
+port_named name port = bytes_eq port.name name
+
+abbrev pub breaks_port : List Port → Port → Bool
+breaks_port before port = list_any (port_named port.name) before || (not (in_order port.range) || nat_lt 65535 (bits_of before + width port.range))
+
+-- V2: names differ, ranges are in order, and there are at most 65,535 bits up to and with each port
+unfoldable pub v2 : List Port → Option ℕ
+v2 ports = first_break breaks_port ports
+
+-- the port with this name, and its number from 0
+abbrev pub port_of : List Port → List ℕ → Option Port
+port_of ports name = find (port_named name) ports
+
+abbrev pub port_number : List Port → List ℕ → Option ℕ
+port_number ports name = position_from (port_named name) 0 ports
+
+-- A bit of a port: the number and the name of the port, the index for a bit of a vector, the place among the bits of the port, from left to right, and the mode.
+pub record Bit : Type 0 where
+  pub port : ℕ
+  pub name : List ℕ
+  pub index : Option ℕ
+  pub place : ℕ
+  pub mode : Mode
+
+-- a plain port has one bit, without an index; the bits of a vector stand from left to right of its range
+abbrev pub indexes : Option Range → List (Option ℕ)
+indexes None = None ∷ []
+indexes (Some range) = map Some (range_indexes range.left range.right)
+
+-- the bits of a port with these indexes, from this place on
+abbrev pub bits_along : ℕ → Port → ℕ → List (Option ℕ) → List Bit
+bits_along number port place [] = []
+bits_along number port place (index ∷ indexes) = record { port = number; name = port.name; index = index; place = place; mode = port.mode } ∷ bits_along number port (place + 1) indexes
+
+abbrev pub bits_of_port : ℕ → Port → List Bit
+bits_of_port number port = bits_along number port 0 (indexes port.range)
+
+abbrev pub bits_from : ℕ → List Port → List Bit
+bits_from number [] = []
+bits_from number (port ∷ ports) = bits_of_port number port ++ bits_from (number + 1) ports
+
+-- the bits of all ports, in the order of the ports
+abbrev pub port_bits : List Port → List Bit
+port_bits ports = bits_from 0 ports
+
+-- no index for a plain port, and this index for a bit of a vector
+abbrev pub has_index : Option ℕ → Option ℕ → Bool
+has_index None index = is_none index
+has_index (Some number) index = is_on number index
+
+abbrev pub is_bit : List ℕ → Option ℕ → Bit → Bool
+is_bit name index bit = bytes_eq bit.name name && has_index index bit.index
+
+-- a word without an index names the bit of a plain port, and one with an index a bit of a vector
+abbrev pub is_named : PortWord → Bit → Bool
+is_named Star bit = false
+is_named (Plain name) bit = is_bit name None bit
+is_named (Index name index) bit = is_bit name (Some index) bit
+
+-- the number, from 0, of the port bit that a word names
+abbrev pub bit_number : List Port → PortWord → Option ℕ
+bit_number ports word = position_from (is_named word) 0 (port_bits ports)
+
+abbrev pub name_in : PortWord → Option (List ℕ)
+name_in Star = None
+name_in (Plain name) = Some name
+name_in (Index name index) = Some name
+
+-- the port that a word names
+abbrev pub named_port : List Port → PortWord → Option Port
+named_port ports word = option_and_then (port_of ports) (name_in word)

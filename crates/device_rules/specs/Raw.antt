@@ -1,0 +1,74 @@
+-- The device that a text without a broken rule describes.
+use Rattle.std.specs.Prelude.{ℕ, ◌≤◌, List, map, Bool, false, Option, Some, None, find, option_and_then, slice_get}
+use Rattle.std.specs.List.{list_any}
+use Rattle.board_defs.specs.declared.device.Cell.{Cell}
+use Rattle.board_defs.specs.declared.device.PortBit.{PortBit}
+use Rattle.board_defs.specs.declared.device.RawDevice.{RawDevice}
+use Rattle.bsdl_parser.specs.declared.entity.Port.{Port}
+use Rattle.bsdl_strings.specs.declared.values.Compliance.{Compliance}
+use Rattle.bsdl_strings.specs.declared.values.Entry.{Entry}
+use Rattle.bsdl_strings.specs.declared.values.MapEntry.{MapEntry}
+use Rattle.device_rules.specs.declared.draft.Draft.{Draft}
+use Rattle.device_rules.specs.declared.draft.TapPorts.{TapPorts}
+use Rattle.device_rules.specs.Ports.{Bit, port_bits, is_named, bit_number}
+use Rattle.device_rules.specs.Taps.{is_among, tap_names}
+use Rattle.device_rules.specs.PinMap.{maps_port}
+use Rattle.device_rules.specs.Instructions.{preload, extest}
+
+-- the pins of a port follow its range from left to right; a port that the map does not name has none
+abbrev pub pin_of : List MapEntry → Bit → Option (List ℕ)
+pin_of entries bit = option_and_then (λ entry. slice_get entry.pins bit.place) (find (maps_port bit.name) entries)
+
+-- the compliance patterns name the bit
+abbrev pub in_compliance : Option Compliance → Bit → Bool
+in_compliance None bit = false
+in_compliance (Some compliance) bit = list_any (λ word. is_named word bit) compliance.ports
+
+abbrev pub port_bit : List MapEntry → TapPorts → Option Compliance → Bit → PortBit
+port_bit entries taps compliance bit = record {
+  port = bit.port;
+  index = bit.index;
+  mode = bit.mode;
+  pin = pin_of entries bit;
+  tap = is_among (tap_names taps) bit.name;
+  compliance = in_compliance compliance bit;
+}
+
+-- the bits of the ports in their order, those of a vector from left to right of its range
+unfoldable pub raw_bits : List Port → List MapEntry → TapPorts → Option Compliance → List PortBit
+raw_bits ports entries taps compliance = map (port_bit entries taps compliance) (port_bits ports)
+
+abbrev pub cell_of : List Port → Entry → Cell
+cell_of ports entry = record {
+  num = entry.num;
+  role = entry.role;
+  bit = bit_number ports entry.port;
+  safe = entry.safe;
+  ctl = entry.ctl;
+}
+
+-- the entries in the order of the text, each with the number of its port bit
+unfoldable pub raw_cells : List Port → List Entry → List Cell
+raw_cells ports entries = map (cell_of ports) entries
+
+abbrev pub raw_device : Draft → RawDevice
+raw_device draft = record {
+  entity = draft.entity;
+  «package» = draft.«package»;
+  edition = draft.edition;
+  ports = map (λ port. port.name) draft.ports;
+  ir = draft.ir;
+  sample = preload draft.edition draft.opcodes;
+  extest = extest draft.edition draft.ir draft.opcodes;
+  idcode = draft.idcode;
+  boundary = draft.boundary;
+  bits = raw_bits draft.ports draft.map draft.taps draft.compliance;
+  cells = raw_cells draft.ports draft.entries;
+}
+
+-- the lengths of the registers are in their ranges
+pub record HasLengths (draft : Draft) : Type 0 where
+  pub ir_least : 2 ≤ draft.ir
+  pub ir_most : draft.ir ≤ 255
+  pub boundary_least : 1 ≤ draft.boundary
+  pub boundary_most : draft.boundary ≤ 65535

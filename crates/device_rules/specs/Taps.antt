@@ -1,0 +1,72 @@
+-- The rule about the test access port and the compliance patterns.
+use Rattle.std.specs.Prelude.{ℕ, List, [], ◌∷◌, ◌++◌, length, Bool, true, false, ◌&&◌, ◌||◌, ◌==◌, not, Option, Some, None, is_none, is_some}
+use Rattle.std.specs.List.{list_any, list_all}
+use Rattle.std.specs.Str.{bytes_eq}
+use Rattle.board_defs.specs.declared.device.Mode.{Mode}
+use Rattle.board_defs.specs.declared.device.Mode.TheVariants.{Inward, Outward, Both, Buffer, Linkage}
+use Rattle.bsdl_parser.specs.declared.entity.Port.{Port}
+use Rattle.bsdl_strings.specs.declared.values.Compliance.{Compliance}
+use Rattle.device_rules.specs.declared.draft.TapPorts.{TapPorts}
+use Rattle.device_rules.specs.Items.{or_else, broken_by}
+use Rattle.device_rules.specs.Ports.{port_of, bit_number}
+
+abbrev pub is_inward : Mode → Bool
+is_inward Inward = true
+is_inward Outward = false
+is_inward Both = false
+is_inward Buffer = false
+is_inward Linkage = false
+
+abbrev pub is_outward : Mode → Bool
+is_outward Outward = true
+is_outward Inward = false
+is_outward Both = false
+is_outward Buffer = false
+is_outward Linkage = false
+
+-- a port of type bit, of such a mode
+abbrev pub is_plain : (Mode → Bool) → Option Port → Bool
+is_plain mode None = false
+is_plain mode (Some port) = is_none port.range && mode port.mode
+
+abbrev pub is_among : List (List ℕ) → List ℕ → Bool
+is_among names name = list_any (bytes_eq name) names
+
+-- a TAP attribute names another port than those before it, of type bit and of such a mode
+abbrev pub breaks_tap : (Mode → Bool) → List Port → List (List ℕ) → List ℕ → Bool
+breaks_tap mode ports before name = is_among before name || not (is_plain mode (port_of ports name))
+
+-- TRST* need not be there
+abbrev pub reset_breaks : List Port → List (List ℕ) → Option (List ℕ) → Bool
+reset_breaks ports before None = false
+reset_breaks ports before (Some name) = breaks_tap is_inward ports before name
+
+-- the names of TDI, TDO, TMS and TCK, in the order of their attributes
+abbrev pub four_taps : TapPorts → List (List ℕ)
+four_taps taps = taps.scan_in ∷ taps.scan_out ∷ taps.mode ∷ taps.clock ∷ []
+
+abbrev pub listed : Option (List ℕ) → List (List ℕ)
+listed None = []
+listed (Some name) = name ∷ []
+
+-- the names of the TAP ports
+abbrev pub tap_names : TapPorts → List (List ℕ)
+tap_names taps = four_taps taps ++ listed taps.reset
+
+-- the first of TAP_SCAN_IN, TAP_SCAN_OUT, TAP_SCAN_MODE, TAP_SCAN_CLOCK and TAP_SCAN_RESET that breaks the rule, by its number
+abbrev pub wrong_tap : List Port → TapPorts → Option ℕ
+wrong_tap ports taps =
+    or_else (broken_by 2 (breaks_tap is_inward ports [] taps.scan_in))
+    (or_else (broken_by 3 (breaks_tap is_outward ports (taps.scan_in ∷ []) taps.scan_out))
+    (or_else (broken_by 4 (breaks_tap is_inward ports (taps.scan_in ∷ taps.scan_out ∷ []) taps.mode))
+    (or_else (broken_by 5 (breaks_tap is_inward ports (taps.scan_in ∷ taps.scan_out ∷ taps.mode ∷ []) taps.clock))
+    (broken_by 11 (reset_breaks ports (four_taps taps) taps.reset)))))
+
+-- compliance bits are port bits, and each pattern has a character for each of them
+abbrev pub complies : List Port → Option Compliance → Bool
+complies ports None = true
+complies ports (Some compliance) = list_all (λ word. is_some (bit_number ports word)) compliance.ports && list_all (λ pattern. length pattern == length compliance.ports) compliance.patterns
+
+-- V3: the number of the first TAP attribute that breaks the rule, or that of COMPLIANCE_PATTERNS
+unfoldable pub v3 : List Port → TapPorts → Option Compliance → Option ℕ
+v3 ports taps compliance = or_else (wrong_tap ports taps) (broken_by 13 (not (complies ports compliance)))

@@ -1,0 +1,33 @@
+//! Laws of the definitions, each the contract of a function that does nothing.
+ghost use Rattle.std.specs.Prelude.{◌≡◌, ℕ, List, None};
+ghost use Rattle.bsdl_parser.specs.declared.entity.Port.{Port};
+ghost use Rattle.bsdl_strings.specs.declared.values.Entry.{Entry};
+ghost use Rattle.bsdl_strings.specs.declared.values.MapEntry.{MapEntry};
+ghost use Rattle.bsdl_strings.specs.declared.values.Opcode.{Opcode};
+ghost use Rattle.device_rules.specs.declared.draft.Draft.{Draft};
+ghost use Rattle.device_rules.specs.declared.draft.TapPorts.{TapPorts};
+ghost use Rattle.device_rules.specs.Items.{IsFound, IsLeast};
+ghost use Rattle.device_rules.specs.Ports.{breaks_port, v2};
+ghost use Rattle.device_rules.specs.PinMap.{breaks_map, v4};
+ghost use Rattle.device_rules.specs.Instructions.{breaks_opcode, v5};
+ghost use Rattle.device_rules.specs.Cells.{breaks_control, has_two_values, is_crowded, v10, v11, v12};
+ghost use Rattle.device_rules.specs.Places.{breaks_place, breaks_driver, breaks_mode, v9, v13, v14};
+ghost use Rattle.device_rules.specs.Rules.{first_rule, KeepsRules};
+
+/// Where no rule is broken, each rule finds nothing.
+pub fn all_rules_hold()
+    ensures { (draft : Draft) → first_rule draft ≡ None → KeepsRules draft }
+{}
+
+/// Where a rule finds nothing it holds, and else it finds the first item that breaks it.
+pub fn finds_the_first()
+    ensures v2 { (ports : List Port) → IsFound breaks_port ports (v2 ports) }
+    ensures v4 { (ports : List Port) (entries : List MapEntry) → IsFound (breaks_map ports) entries (v4 ports entries) }
+    ensures v5 { (ir : ℕ) (ops : List Opcode) → IsFound (breaks_opcode ir) ops (v5 ir ops) }
+    ensures v9 { (ports : List Port) (entries : List Entry) → IsFound (λ before entry. breaks_place ports entry) entries (v9 ports entries) }
+    ensures v10 { (entries : List Entry) → IsFound (λ before entry. breaks_control entries entry) entries (v10 entries) }
+    ensures v11 { (boundary : ℕ) (entries : List Entry) → IsLeast (has_two_values entries) boundary (v11 boundary entries) }
+    ensures v12 { (boundary : ℕ) (entries : List Entry) → IsLeast (is_crowded entries) boundary (v12 boundary entries) }
+    ensures v13 { (ports : List Port) (entries : List Entry) → IsFound (breaks_driver ports) entries (v13 ports entries) }
+    ensures v14 { (ports : List Port) (taps : TapPorts) (entries : List Entry) → IsFound (λ before entry. breaks_mode ports taps entry) entries (v14 ports taps entries) }
+{}

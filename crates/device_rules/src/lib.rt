@@ -1,0 +1,26 @@
+//! The rules that what a BSDL text says of a device keeps (IEEE 1149.1b-1994 and
+//! IEEE 1149.1-2001, Annex B, as far as an interconnect test needs them), and the device that it
+//! then describes.
+#![tactic(auto)]
+
+mod broken;
+mod cells;
+mod compliance;
+mod draft;
+mod instructions;
+pub mod law;
+mod pin_map;
+mod places;
+mod port_index;
+mod ports;
+mod raw;
+mod rules;
+mod taps;
+
+pub use broken::Broken;
+pub use draft::{Draft, TapPorts};
+pub use raw::raw_device;
+pub use rules::first_rule;
+
+#[cfg(test)]
+mod tests;

@@ -1,0 +1,83 @@
+//! The rule about the pin map.
+ghost use Rattle.std.specs.Prelude.{◌≡◌, ◌<◌, ◌^◌, ◌++◌, ◌||◌, not, List, ℕ, false, length, IfOk};
+ghost use Rattle.std.specs.Option.{option_copied};
+ghost use Rattle.std.specs.Str.{bytes_eq};
+ghost use Rattle.std.specs.HashSet.{contains};
+ghost use Rattle.device_rules.specs.Index.{IsIndex};
+ghost use Rattle.device_rules.specs.Seen.{Knows};
+ghost use Rattle.device_rules.specs.Ports.{port_of};
+ghost use Rattle.device_rules.specs.PinMap.{has_width, some_repeats, v4};
+
+use crate::port_index::{PortIndex, port_at};
+use crate::ports::bit_count;
+use board_defs::Name;
+use bsdl_parser::Port;
+use bsdl_strings::MapEntry;
+use std::alloc::{AllocError, Global};
+use std::collections::HashSet;
+
+fn has_width(port: Option<&Port>, count: usize) -> bool
+    ensures { result ≡ has_width (option_copied port.entry) count }
+{
+    match port {
+        Some(port) => bit_count(port.range) == count as u64,
+        None => false,
+    }
+}
+
+/// Whether an entry names a port, and has as many pins as the port has bits.
+fn fits_port(ports: &[Port], index: &PortIndex, entry: &MapEntry) -> bool
+    requires { IsIndex ports.now index.now }
+    ensures { result ≡ has_width (port_of ports.now entry.now.port) (length entry.now.pins) }
+{
+    has_width(port_at(ports, index, entry.port.bytes()), entry.pins.len())
+}
+
+fn is_broken(known: bool, fits: bool, repeats: bool) -> bool
+    ensures { result ≡ (known || (not fits || repeats)) }
+{
+    known || !fits || repeats
+}
+
+/// Whether one of the pins was seen, or stands earlier among them. They are seen from then on.
+fn some_repeats<'a>(seen: &mut HashSet<&'a [u8]>, pins: &'a [Name]) -> Result<bool, AllocError>
+    ensures answer { IfOk result (λ repeats. (before : List (List ℕ)) → Knows (contains (λ x y. bytes_eq x.now y.now) seen.old) before → repeats ≡ some_repeats before pins.now) }
+    ensures seen { IfOk result (λ repeats. (before : List (List ℕ)) → Knows (contains (λ x y. bytes_eq x.now y.now) seen.old) before → repeats ≡ false → Knows (contains (λ x y. bytes_eq x.now y.now) seen.new) (before ++ pins.now)) }
+{
+    for pin in pins {
+        let name = pin.bytes();
+        if seen.contains(name) {
+            return Ok(true);
+        }
+        seen.insert(name)?;
+    }
+    Ok(false)
+}
+
+/// V4: the first entry that names no port, one that came before or one with another number of
+/// bits, or that has a pin that came before.
+#[tactic(auto, unfolding(crate::specs::PinMap::v4))]
+pub(crate) fn wrong_map_entry(
+    alloc: Global,
+    ports: &[Port],
+    index: &PortIndex,
+    entries: &[MapEntry],
+) -> Result<Option<u32>, AllocError>
+    requires index { IsIndex ports.now index.now }
+    requires short { length entries.now < 2 ^ 32 }
+    ensures { IfOk result (λ item. item ≡ v4 ports.now entries.now) }
+{
+    let mut named: HashSet<&[u8]> = HashSet::new(alloc);
+    let mut pins: HashSet<&[u8]> = HashSet::new(alloc);
+    for (i, entry) in entries.iter().enumerate() {
+        let name = entry.port.bytes();
+        let known = named.contains(name);
+        let fits = fits_port(ports, index, entry);
+        let repeats = some_repeats(&mut pins, entry.pins.as_slice())?;
+        if is_broken(known, fits, repeats) {
+            return Ok(Some(i as u32 + 1));
+        }
+        named.insert(name)?;
+    }
+    Ok(None)
+}

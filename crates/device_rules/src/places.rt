@@ -1,0 +1,155 @@
+//! The rules about the ports on which boundary entries are.
+ghost use Rattle.std.specs.Prelude.{◌≡◌, ◌<◌, ◌^◌, ◌&&◌, not, None, length, IfOk};
+ghost use Rattle.std.specs.Option.{option_copied};
+ghost use Rattle.board_defs.specs.DeviceRules.{is_driving, is_inner, may_drive};
+ghost use Rattle.device_rules.specs.Ports.{v2, bit_number, named_port};
+ghost use Rattle.device_rules.specs.Index.{IsIndex};
+ghost use Rattle.device_rules.specs.Places.{is_star, breaks_place, v9, driven_bit, breaks_driver, v13, breaks_mode, v14};
+
+use crate::draft::TapPorts;
+use crate::port_index::{PortIndex, bit_at, port_at};
+use crate::taps::is_tap;
+use board_defs::{Mode, Role};
+use bsdl_parser::Port;
+use bsdl_strings::{Entry, PortWord};
+use std::alloc::{AllocError, Global};
+use std::collections::HashSet;
+
+fn is_driver(role: Role) -> bool
+    ensures { result ≡ is_driving role }
+{
+    matches!(role, Role::Output2 | Role::Output3 | Role::Bidir)
+}
+
+fn is_inner(role: Role) -> bool
+    ensures { result ≡ is_inner role }
+{
+    matches!(role, Role::Control | Role::ControlR | Role::Internal)
+}
+
+fn can_drive(mode: Mode) -> bool
+    ensures { result ≡ may_drive mode }
+{
+    matches!(mode, Mode::Outward | Mode::Both | Mode::Buffer)
+}
+
+fn is_star(word: &PortWord) -> bool
+    ensures { result ≡ is_star word.now }
+{
+    matches!(word, PortWord::Star)
+}
+
+fn breaks_place(ports: &[Port], index: &PortIndex, entry: &Entry) -> bool
+    requires index { IsIndex ports.now index.now }
+    requires ports { v2 ports.now ≡ None }
+    ensures { result ≡ breaks_place ports.now entry.now }
+{
+    if is_inner(entry.role) {
+        !is_star(&entry.port)
+    } else {
+        bit_at(ports, index, &entry.port).is_none()
+    }
+}
+
+/// V9: the first entry that is at `*` and is to be on a port bit, or is not at `*` and is to be,
+/// or names no port bit.
+#[tactic(auto, unfolding(crate::specs::Places::v9))]
+pub(crate) fn wrong_place(ports: &[Port], index: &PortIndex, entries: &[Entry]) -> Option<u32>
+    requires index { IsIndex ports.now index.now }
+    requires ports { v2 ports.now ≡ None }
+    requires short { length entries.now < 2 ^ 32 }
+    ensures { result ≡ v9 ports.now entries.now }
+{
+    for (i, entry) in entries.iter().enumerate() {
+        if breaks_place(ports, index, entry) {
+            return Some(i as u32 + 1);
+        }
+    }
+    None
+}
+
+/// The port bit that an entry drives.
+fn driven_bit(ports: &[Port], index: &PortIndex, entry: &Entry) -> Option<u32>
+    requires index { IsIndex ports.now index.now }
+    requires ports { v2 ports.now ≡ None }
+    ensures { result ≡ driven_bit ports.now entry.now }
+{
+    if is_driver(entry.role) {
+        bit_at(ports, index, &entry.port)
+    } else {
+        None
+    }
+}
+
+/// V13: the first entry that drives a port bit which an earlier one drives.
+#[tactic(auto, unfolding(crate::specs::Places::v13))]
+pub(crate) fn second_driver(
+    alloc: Global,
+    ports: &[Port],
+    index: &PortIndex,
+    entries: &[Entry],
+) -> Result<Option<u32>, AllocError>
+    requires index { IsIndex ports.now index.now }
+    requires ports { v2 ports.now ≡ None }
+    requires short { length entries.now < 2 ^ 32 }
+    ensures { IfOk result (λ item. item ≡ v13 ports.now entries.now) }
+{
+    let mut driven: HashSet<u32> = HashSet::new(alloc);
+    for (i, entry) in entries.iter().enumerate() {
+        if let Some(bit) = driven_bit(ports, index, entry) {
+            if driven.contains(&bit) {
+                return Ok(Some(i as u32 + 1));
+            }
+            driven.insert(bit)?;
+        }
+    }
+    Ok(None)
+}
+
+/// The port that a word names.
+fn named_port<'a>(ports: &'a [Port], index: &PortIndex, word: &PortWord) -> Option<&'a Port>
+    requires { IsIndex ports.now index.now }
+    ensures { option_copied result ≡ named_port ports.now word.now }
+{
+    match word {
+        PortWord::Star => None,
+        PortWord::Plain(name) => port_at(ports, index, name.bytes()),
+        PortWord::Index(name, _) => port_at(ports, index, name.bytes()),
+    }
+}
+
+fn drives_wrongly(role: Role, mode: Mode) -> bool
+    ensures { result ≡ (is_driving role && not (may_drive mode)) }
+{
+    is_driver(role) && !can_drive(mode)
+}
+
+fn is_misfit(ports: &[Port], index: &PortIndex, taps: &TapPorts, entry: &Entry) -> bool
+    requires { IsIndex ports.now index.now }
+    ensures { result ≡ breaks_mode ports.now taps.now entry.now }
+{
+    match named_port(ports, index, &entry.port) {
+        None => false,
+        Some(port) => is_tap(taps, port.name.bytes()) || drives_wrongly(entry.role, port.mode),
+    }
+}
+
+/// V14: the first entry on a TAP port, or that drives a port of mode in or linkage.
+#[tactic(auto, unfolding(crate::specs::Places::v14))]
+pub(crate) fn misfit(
+    ports: &[Port],
+    index: &PortIndex,
+    taps: &TapPorts,
+    entries: &[Entry],
+) -> Option<u32>
+    requires index { IsIndex ports.now index.now }
+    requires short { length entries.now < 2 ^ 32 }
+    ensures { result ≡ v14 ports.now taps.now entries.now }
+{
+    for (i, entry) in entries.iter().enumerate() {
+        if is_misfit(ports, index, taps, entry) {
+            return Some(i as u32 + 1);
+        }
+    }
+    None
+}

@@ -1,0 +1,60 @@
+//! The rule about the ports.
+ghost use Rattle.std.specs.Prelude.{◌≡◌, ◌<◌, ◌^◌, length, IfOk};
+ghost use Rattle.device_rules.specs.Ports.{in_order, width, v2};
+
+use bsdl_parser::{Port, Range};
+use std::alloc::{AllocError, Global};
+use std::collections::HashSet;
+
+pub(crate) fn is_in_order(range: Option<Range>) -> bool
+    ensures { result ≡ in_order range }
+{
+    match range {
+        None => true,
+        Some(range) => {
+            if range.up {
+                range.left <= range.right
+            } else {
+                range.right <= range.left
+            }
+        }
+    }
+}
+
+pub(crate) fn bit_count(range: Option<Range>) -> u64
+    ensures count { result ≡ width range }
+    ensures fits { result < 2 ^ 33 }
+{
+    match range {
+        None => 1,
+        Some(range) => {
+            if range.up {
+                u64::from(range.right.saturating_sub(range.left)) + 1
+            } else {
+                u64::from(range.left.saturating_sub(range.right)) + 1
+            }
+        }
+    }
+}
+
+/// V2: the first port with a name that came before, a range out of order, or a bit too many.
+#[tactic(auto, unfolding(crate::specs::Ports::v2))]
+pub(crate) fn wrong_port(alloc: Global, ports: &[Port]) -> Result<Option<u32>, AllocError>
+    requires { length ports.now < 2 ^ 32 }
+    ensures { IfOk result (λ item. item ≡ v2 ports.now) }
+{
+    let mut seen: HashSet<&[u8]> = HashSet::new(alloc);
+    let mut bits = 0u64;
+    for (i, port) in ports.iter().enumerate() {
+        let name = port.name.bytes();
+        let known = seen.contains(name);
+        let ordered = is_in_order(port.range);
+        let more = bits + bit_count(port.range);
+        if known || !ordered || 65535 < more {
+            return Ok(Some(i as u32 + 1));
+        }
+        seen.insert(name)?;
+        bits = more;
+    }
+    Ok(None)
+}

@@ -1,0 +1,176 @@
+//! The rule about the test access port and the compliance patterns.
+ghost use Rattle.std.specs.Prelude.{◌≡◌, None, List, ℕ, length, map, ◌==◌, is_some};
+ghost use Rattle.std.specs.Option.{option_copied};
+ghost use Rattle.std.specs.List.{list_any, list_all};
+ghost use Rattle.std.specs.Str.{bytes_eq};
+ghost use Rattle.device_rules.specs.Ports.{v2, bit_number, port_of};
+ghost use Rattle.device_rules.specs.Index.{IsIndex};
+ghost use Rattle.device_rules.specs.Taps.{is_inward, is_outward, is_plain, breaks_tap, reset_breaks, wrong_tap, complies, v3, listed, tap_names, is_among};
+
+use crate::draft::TapPorts;
+use crate::port_index::{PortIndex, bit_at, port_at};
+use board_defs::{Code, Mode, Name};
+use bsdl_parser::Port;
+use bsdl_strings::{Compliance, PortWord};
+
+/// Whether a TAP attribute names a port of type bit and of this mode.
+fn is_plain_in(port: Option<&Port>) -> bool
+    ensures { result ≡ is_plain is_inward (option_copied port.entry) }
+{
+    match port {
+        Some(port) => port.range.is_none() && matches!(port.mode, Mode::Inward),
+        None => false,
+    }
+}
+
+fn is_plain_out(port: Option<&Port>) -> bool
+    ensures { result ≡ is_plain is_outward (option_copied port.entry) }
+{
+    match port {
+        Some(port) => port.range.is_none() && matches!(port.mode, Mode::Outward),
+        None => false,
+    }
+}
+
+fn is_lent(names: &[&[u8]], name: &[u8]) -> bool
+    ensures { result ≡ list_any (λ other. bytes_eq name.now other.now) names.now }
+{
+    names.iter().any(|other| name == *other)
+}
+
+fn is_in(names: &[&[u8]], name: &[u8]) -> bool
+    ensures { result ≡ is_among (map (λ n. n.now) names.now) name.now }
+{
+    is_lent(names, name)
+}
+
+fn breaks_inward(ports: &[Port], index: &PortIndex, before: &[&[u8]], name: &[u8]) -> bool
+    requires { IsIndex ports.now index.now }
+    ensures { result ≡ breaks_tap is_inward ports.now (map (λ n. n.now) before.now) name.now }
+{
+    is_in(before, name) || !is_plain_in(port_at(ports, index, name))
+}
+
+fn breaks_outward(ports: &[Port], index: &PortIndex, before: &[&[u8]], name: &[u8]) -> bool
+    requires { IsIndex ports.now index.now }
+    ensures { result ≡ breaks_tap is_outward ports.now (map (λ n. n.now) before.now) name.now }
+{
+    is_in(before, name) || !is_plain_out(port_at(ports, index, name))
+}
+
+fn breaks_reset(ports: &[Port], index: &PortIndex, before: &[&[u8]], reset: &Option<Name>) -> bool
+    requires { IsIndex ports.now index.now }
+    ensures { result ≡ reset_breaks ports.now (map (λ n. n.now) before.now) reset.now }
+{
+    match reset {
+        Some(name) => breaks_inward(ports, index, before, name.bytes()),
+        None => false,
+    }
+}
+
+/// The number of the first TAP attribute that names no port of its own, of type bit and of its
+/// mode.
+fn wrong_tap(ports: &[Port], index: &PortIndex, taps: &TapPorts) -> Option<u32>
+    requires { IsIndex ports.now index.now }
+    ensures { result ≡ wrong_tap ports.now taps.now }
+{
+    let names = [
+        taps.scan_in.bytes(),
+        taps.scan_out.bytes(),
+        taps.mode.bytes(),
+        taps.clock.bytes(),
+    ];
+    if breaks_inward(ports, index, &names[..0], names[0]) {
+        Some(2)
+    } else if breaks_outward(ports, index, &names[..1], names[1]) {
+        Some(3)
+    } else if breaks_inward(ports, index, &names[..2], names[2]) {
+        Some(4)
+    } else if breaks_inward(ports, index, &names[..3], names[3]) {
+        Some(5)
+    } else if breaks_reset(ports, index, &names, &taps.reset) {
+        Some(11)
+    } else {
+        None
+    }
+}
+
+/// Whether a port is of the test access port.
+pub fn is_tap(taps: &TapPorts, name: &[u8]) -> bool
+    ensures { result ≡ is_among (tap_names taps.now) name.now }
+{
+    name == taps.scan_in.bytes()
+        || name == taps.scan_out.bytes()
+        || name == taps.mode.bytes()
+        || name == taps.clock.bytes()
+        || is_reset(&taps.reset, name)
+}
+
+fn is_reset(reset: &Option<Name>, name: &[u8]) -> bool
+    ensures { result ≡ is_among (listed reset.now) name.now }
+{
+    match reset {
+        Some(reset) => name == reset.bytes(),
+        None => false,
+    }
+}
+
+fn are_bits(ports: &[Port], index: &PortIndex, words: &[PortWord]) -> bool
+    requires index { IsIndex ports.now index.now }
+    requires ports { v2 ports.now ≡ None }
+    ensures { result ≡ list_all (λ word. is_some (bit_number ports.now word)) words.now }
+{
+    for word in words {
+        if bit_at(ports, index, word).is_none() {
+            return false;
+        }
+    }
+    true
+}
+
+fn have_length(count: usize, patterns: &[Code]) -> bool
+    ensures { result ≡ list_all (λ pattern. length pattern == count) patterns.now }
+{
+    patterns
+        .iter()
+        .all(|pattern| pattern.symbols().len() == count)
+}
+
+fn complies(ports: &[Port], index: &PortIndex, compliance: &Option<Compliance>) -> bool
+    requires index { IsIndex ports.now index.now }
+    requires ports { v2 ports.now ≡ None }
+    ensures { result ≡ complies ports.now compliance.now }
+{
+    match compliance {
+        None => true,
+        Some(compliance) => {
+            are_bits(ports, index, compliance.ports.as_slice())
+                && have_length(compliance.ports.len(), compliance.patterns.as_slice())
+        }
+    }
+}
+
+/// V3: the number of the first TAP attribute that breaks the rule, or that of
+/// COMPLIANCE_PATTERNS.
+#[tactic(auto, unfolding(crate::specs::Taps::v3))]
+pub(crate) fn wrong_attribute(
+    ports: &[Port],
+    index: &PortIndex,
+    taps: &TapPorts,
+    compliance: &Option<Compliance>,
+) -> Option<u32>
+    requires index { IsIndex ports.now index.now }
+    requires ports { v2 ports.now ≡ None }
+    ensures { result ≡ v3 ports.now taps.now compliance.now }
+{
+    match wrong_tap(ports, index, taps) {
+        Some(number) => Some(number),
+        None => {
+            if complies(ports, index, compliance) {
+                None
+            } else {
+                Some(13)
+            }
+        }
+    }
+}

@@ -1,0 +1,65 @@
+-- The items that were seen, and what they leave of those that come after them.
+use Rattle.std.proofs.Common.{◌≡◌, ℕ, ◌+◌, ◌<◌, Bool, true, false, cond, ◌||◌, List, [], ◌∷◌, ◌++◌, length, take, drop, get_or, Option, Some, refl, sym, ap, ◌∙◌, append_assoc}
+use Rattle.std.proofs.lemmas.List.{drop_more, take_more}
+use Rattle.std.proofs.lemmas.List.Folds.{list_any-append}
+use Rattle.std.specs.List.{list_any}
+use Rattle.first_places.specs.Places.{once_from, repeated_from}
+
+seen_more : {I : Type 0} (items : List I) (i : ℕ) (x : I) → i < length items → get_or items i x ≡ x → take i items ++ x ∷ [] ≡ take (i + 1) items
+seen_more items i x within read = ap (λ y. take i items ++ y ∷ []) (sym read) ∙ sym (take_more items i x within)
+
+cut_at : {I : Type 0} (items : List I) (i : ℕ) (x : I) → i < length items → get_or items i x ≡ x → drop i items ≡ x ∷ drop (i + 1) items
+cut_at items i x within read = drop_more items i x within ∙ ap (λ y. y ∷ drop (i + 1) items) read
+
+either : (a b : Bool) → (a || (b || false)) ≡ cond b true a
+either true true = refl
+either true false = refl
+either false true = refl
+either false false = refl
+
+-- the set of those seen, one item on
+pub seen_step : {I : Type 0} (test : I → Bool) (items : List I) (i : ℕ) (x : I) (new old : Bool) → i < length items → get_or items i x ≡ x →
+    old ≡ list_any test (take i items) → new ≡ cond (test x) true old → new ≡ list_any test (take (i + 1) items)
+seen_step test items i x new old within read was now =
+    now ∙ ap (cond (test x) true) was ∙ sym (either (list_any test (take i items)) (test x)) ∙ sym (list_any-append test (take i items) (x ∷ [])) ∙ ap (list_any test) (seen_more items i x within read)
+
+-- an item that equals none before it is kept
+pub once_new : {I : Type 0} (eq : I → I → Bool) (items : List I) (i : ℕ) (x : I) (done all : List I) → i < length items → get_or items i x ≡ x →
+    list_any (λ s. eq s x) (take i items) ≡ false → all ≡ done ++ once_from eq (take i items) (drop i items) →
+    all ≡ (done ++ x ∷ []) ++ once_from eq (take (i + 1) items) (drop (i + 1) items)
+once_new eq items i x done all within read fresh same =
+    same ∙ ap (λ l. done ++ once_from eq (take i items) l) (cut_at items i x within read)
+    ∙ ap (λ b. done ++ cond b (once_from eq (take i items ++ x ∷ []) (drop (i + 1) items)) (x ∷ once_from eq (take i items ++ x ∷ []) (drop (i + 1) items))) fresh
+    ∙ ap (λ s. done ++ x ∷ once_from eq s (drop (i + 1) items)) (seen_more items i x within read)
+    ∙ sym (append_assoc done (x ∷ []) (once_from eq (take (i + 1) items) (drop (i + 1) items)))
+
+-- an item that equals one before it is left out
+pub once_old : {I : Type 0} (eq : I → I → Bool) (items : List I) (i : ℕ) (x : I) (done all : List I) → i < length items → get_or items i x ≡ x →
+    list_any (λ s. eq s x) (take i items) ≡ true → all ≡ done ++ once_from eq (take i items) (drop i items) →
+    all ≡ done ++ once_from eq (take (i + 1) items) (drop (i + 1) items)
+once_old eq items i x done all within read there same =
+    same ∙ ap (λ l. done ++ once_from eq (take i items) l) (cut_at items i x within read)
+    ∙ ap (λ b. done ++ cond b (once_from eq (take i items ++ x ∷ []) (drop (i + 1) items)) (x ∷ once_from eq (take i items ++ x ∷ []) (drop (i + 1) items))) there
+    ∙ ap (λ s. done ++ once_from eq s (drop (i + 1) items)) (seen_more items i x within read)
+
+pub repeated_new : {I : Type 0} (eq : I → I → Bool) (items : List I) (i : ℕ) (x : I) (all : Option I) → i < length items → get_or items i x ≡ x →
+    list_any (λ s. eq s x) (take i items) ≡ false → all ≡ repeated_from eq (take i items) (drop i items) → all ≡ repeated_from eq (take (i + 1) items) (drop (i + 1) items)
+repeated_new eq items i x all within read fresh same =
+    same ∙ ap (repeated_from eq (take i items)) (cut_at items i x within read)
+    ∙ ap (λ b. cond b (Some x) (repeated_from eq (take i items ++ x ∷ []) (drop (i + 1) items))) fresh
+    ∙ ap (λ s. repeated_from eq s (drop (i + 1) items)) (seen_more items i x within read)
+
+pub repeated_old : {I : Type 0} (eq : I → I → Bool) (items : List I) (i : ℕ) (x : I) (all : Option I) → i < length items → get_or items i x ≡ x →
+    list_any (λ s. eq s x) (take i items) ≡ true → all ≡ repeated_from eq (take i items) (drop i items) → all ≡ Some x
+repeated_old eq items i x all within read there same =
+    same ∙ ap (repeated_from eq (take i items)) (cut_at items i x within read)
+    ∙ ap (λ b. cond b (Some x) (repeated_from eq (take i items ++ x ∷ []) (drop (i + 1) items))) there
+
+-- an item is kept unless it was seen
+pub once_step : {I : Type 0} (eq : I → I → Bool) (items : List I) (i : ℕ) (x : I) (done kept all : List I) (was : Bool) → i < length items → get_or items i x ≡ x →
+    was ≡ list_any (λ s. eq s x) (take i items) → kept ≡ cond was done (done ++ x ∷ []) → all ≡ done ++ once_from eq (take i items) (drop i items) →
+    all ≡ kept ++ once_from eq (take (i + 1) items) (drop (i + 1) items)
+once_step {I} eq items i x done kept all false within read found taken same =
+    once_new eq items i x done all within read (sym found) same ∙ ap (λ (k : List I). k ++ once_from eq (take (i + 1) items) (drop (i + 1) items)) (sym taken)
+once_step {I} eq items i x done kept all true within read found taken same =
+    once_old eq items i x done all within read (sym found) same ∙ ap (λ (k : List I). k ++ once_from eq (take (i + 1) items) (drop (i + 1) items)) (sym taken)
