@@ -1,13 +1,13 @@
 // The names on the lines of a chain file.
 ghost use Rattle.std.specs.Prelude.{◌≡◌, ◌<◌, ◌≤◌, ◌^◌, vec_len, List, length, ℕ, map, IfOk, option_map, option_copied, Option};
 ghost use Rattle.std.proofs.Common.{Bor};
-ghost use Rattle.first_places.specs.Places.{first_place, first_repeat};
+ghost use Rattle.first_places.specs.Places.{first_place, first_repeat, once};
 ghost use Rattle.indexmap.specs.IndexMap.{get_by};
 ghost use Rattle.board_build.specs.Names.{name_of, named, names_of, same_name};
 
 use board_defs::Name;
 use board_files::{ChainLine, ChainStatement};
-use first_places::{first_places, first_repeat};
+use first_places::{first_places, first_repeat, once};
 use indexmap::IndexMap;
 use std::alloc::{AllocError, Global};
 
@@ -55,7 +55,8 @@ pub fn named<'a>(
 
 /// The names without their lines.
 pub fn names_of<'a>(alloc: Global, named: &[(u32, &'a [u8])]) -> Result<Vec<&'a [u8]>, AllocError>
-    ensures { IfOk result (λ names. map (λ n. n.now) names.items ≡ names_of (map (λ n. (n.0, n.1.now)) named.now)) }
+    ensures names { IfOk result (λ names. map (λ n. n.now) names.items ≡ names_of (map (λ n. (n.0, n.1.now)) named.now)) }
+    ensures count { IfOk result (λ names. vec_len names ≡ length named.now) }
 {
     let mut names = Vec::new(alloc);
     for n in named {
@@ -114,4 +115,12 @@ pub fn places_among(
 {
     let known = first_places_of(alloc, others)?;
     places_by(alloc, names, &known)
+}
+
+/// The different names, each at its first place.
+pub fn once_names<'a>(alloc: Global, names: &[&'a [u8]]) -> Result<Vec<&'a [u8]>, AllocError>
+    ensures once { IfOk result (λ kept. map (λ n. n.now) kept.items ≡ once same_name (map (λ n. n.now) names.now)) }
+    ensures few { IfOk result (λ kept. vec_len kept ≤ length names.now) }
+{
+    once(alloc, names)
 }

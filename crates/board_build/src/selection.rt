@@ -1,6 +1,9 @@
 // Which entity each described part of a chain is of.
-ghost use Rattle.std.specs.Prelude.{◌≡◌, ◌<◌, ◌^◌, map, length, vec_len, IfOk, unwrap_or, Option, position, is_none};
+ghost use Rattle.std.specs.Prelude.{◌≡◌, ◌<◌, ◌^◌, All, map, length, vec_len, IfOk, unwrap_or, Option, position, is_none};
 ghost use Rattle.board_build.specs.Faults.{Gives};
+ghost use Rattle.board_build.specs.Names.{named};
+ghost use Rattle.board_build.specs.declared.names.Naming.TheVariants.{Entity as EntityName};
+ghost use Rattle.board_build.specs.ChainParts.{IsChain};
 ghost use Rattle.board_build.specs.Selection.{spot_at, no_chain, part_twice, no_entity, entity_twice, chain_limit, first_fault, entity_names, entity_places, answer, selection};
 
 use crate::fault::BoardFault;
@@ -12,6 +15,21 @@ use std::alloc::{AllocError, Global};
 
 /// The number of each DEVICE line's entity, or the first fault of the chain.
 pub fn select(alloc: Global, chain: &ChainFile, entities: &[Entity]) -> Result<Vec<u32>, BoardFault>
+    requires chain { length chain.now < 2 ^ 32 }
+    requires entities { length entities.now < 2 ^ 32 }
+    ensures numbers { Gives (λ numbers. numbers.items) result (selection chain.now entities.now) }
+    ensures chain { IfOk result (λ numbers. IsChain chain.now) }
+    ensures count { IfOk result (λ numbers. vec_len numbers ≡ length (named EntityName chain.now)) }
+    ensures within { IfOk result (λ numbers. All (λ number. number < length entities.now) numbers.items) }
+{
+    entity_numbers(alloc, chain, entities)
+}
+
+fn entity_numbers(
+    alloc: Global,
+    chain: &ChainFile,
+    entities: &[Entity],
+) -> Result<Vec<u32>, BoardFault>
     requires chain { length chain.now < 2 ^ 32 }
     requires entities { length entities.now < 2 ^ 32 }
     ensures { Gives (λ numbers. numbers.items) result (selection chain.now entities.now) }

@@ -1,6 +1,6 @@
 // The net file.
-ghost use Rattle.std.specs.Prelude.{◌≡◌, ◌<◌, ◌^◌, ◌∷◌, List, map, length, Option, Some, None};
-ghost use Rattle.std.specs.List.{before_first, after_first};
+ghost use Rattle.std.specs.Prelude.{◌≡◌, ◌+◌, ◌<◌, ◌≤◌, ◌^◌, ◌∷◌, List, map, length, IfOk, Option, Some, None};
+ghost use Rattle.std.specs.List.{AllByRecursion, before_first, after_first};
 ghost use Rattle.board_files.specs.Words.{is_dot};
 ghost use Rattle.board_files.specs.Reading.{Gives, GivesBy};
 ghost use Rattle.board_files.specs.NetLines.{pin_of, pins_of, net_of, net_line, net_lines};
@@ -55,8 +55,18 @@ impl NetFile {
     }
 }
 
-/// The lines of a net file, or its first faulty line.
+/// The lines of a net file, or its first faulty line. A text has no more lines with words than
+/// bytes, and no line has more words.
 pub fn nets(alloc: Global, bytes: &[u8]) -> Result<NetFile, LineFault>
+    requires { length bytes.now < 2 ^ 32 }
+    ensures read { Gives result (net_lines bytes.now) }
+    ensures count { IfOk result (λ file. length file ≤ length bytes.now) }
+    ensures pins { IfOk result (AllByRecursion (λ line. length line.pins + 2 ≤ length bytes.now)) }
+{
+    read_lines(alloc, bytes)
+}
+
+fn read_lines(alloc: Global, bytes: &[u8]) -> Result<NetFile, LineFault>
     requires { length bytes.now < 2 ^ 32 }
     ensures { Gives result (net_lines bytes.now) }
 {

@@ -1,0 +1,221 @@
+-- Lent and marked words against the words of the definitions.
+use Rattle.std.proofs.Common.{◌≡◌, ℕ, zero, suc, ◌+◌, ◌<◌, ◌==◌, Bool, true, false, cond, not, ◌&&◌, List, [], ◌∷◌, ◌++◌, length, map, take, get_or, set, Option, Some, None, refl, sym, ap, subst, ◌∙◌, arith, append_assoc, Bor}
+use Rattle.std.specs.Prelude.{slice_get, find, filter, is_none, is_some, zip, option_map, option_and_then, unwrap_or, nat_lt, if◌then◌else◌}
+use Rattle.std.specs.List.{list_any}
+use Rattle.std.proofs.lemmas.List.{map-append, length-map}
+use Rattle.std.proofs.lemmas.List.Elements.{filter_agree}
+use Rattle.first_places.specs.Places.{once_from, once, repeated_from, first_repeated, first_place, first_value}
+use Rattle.board_files.specs.declared.chain_file.ChainLine.{ChainLine}
+use Rattle.board_files.specs.declared.net_file.NetLine.{NetLine}
+use Rattle.board_defs.specs.declared.device.Control.{Control}
+use Rattle.board_defs.specs.declared.device.Cell.{Cell}
+use Rattle.board_defs.specs.declared.device.RawDevice.{RawDevice}
+use Rattle.board_defs.specs.declared.spot.Spot.{Spot}
+use Rattle.board_defs.specs.declared.board.Part.{Part}
+use Rattle.board_defs.specs.declared.board.PinAt.{PinAt}
+use Rattle.board_defs.specs.declared.board.NetPin.{NetPin}
+use Rattle.board_defs.specs.declared.board.Net.{Net}
+use Rattle.board_defs.specs.declared.board.RawBoard.{RawBoard}
+use Rattle.board_defs.specs.declared.board.Drive.{Drive}
+use Rattle.board_defs.specs.declared.board.Drive.TheVariants.{AlwaysOn, OneSided, By}
+use Rattle.board_defs.specs.DeviceRules.{driving_entry}
+use Rattle.board_defs.specs.Pins.{drive, drive_by, drive_where, entry_at, device_at, lets_switch}
+use Rattle.board_build.proofs.NameLemmas.{any-map}
+use Rattle.board_build.specs.declared.fault.BoardFault.{BoardFault}
+use Rattle.board_build.specs.declared.fault.BoardFault.TheVariants.{Limit, NoPin, PinTwice, GuardedDriver, TwoAlwaysOn}
+use Rattle.board_build.specs.declared.names.Naming.TheVariants.{Inert, Supply}
+use Rattle.board_build.specs.Faults.{◌then◌, unless}
+use Rattle.board_build.specs.Names.{named, names_of, same_name}
+use Rattle.board_build.specs.NetWords.{Pin, NetWord, lent_word, lent_pin, same_pin, same_place, net_of, pin_of, spot_of, is_among, net_names, standing_words, pins_of_net}
+use Rattle.board_build.specs.ChainParts.{PinPlace, pin_places, place_of_pin, described_names}
+use Rattle.board_build.specs.LineRules.{Pulled, pulls_of, pull_of_net}
+use Rattle.board_build.specs.BoardNets.{Marks, marks_of, net_pin, board_net, nets_from, board_nets, board_with}
+use Rattle.board_build.specs.BoardRules.{data_limit, net_limit, pin_limit, have_same_pin, is_unknown, no_pin, pin_twice, is_always_on, drives_always, always_on as drivers_of, is_kept, guarded_driver, two_always_on, limit_fault, pin_fault, line_fault, driver_fault, board_fault, board_answer}
+use Rattle.board_build.specs.Marked.{Marked, mark, mark_by, is_free, is_free_bit, is_free_at, device_of, pin_with, group_of, number_of, place_of, net_with, nets_with, net_by, board_by, pin_in, same_pins, marked_limit, marked_unknown, marked_twice, marked_pins, marked_guarded, marked_two, marked_drivers, file_fault, always_on, marked_fault, marked_answer}
+
+-- a question about each lent item
+pub map_seen : {A B C : Type 0} (f : A → C) (view : A → B) (g : B → C) → ((a : A) → f a ≡ g (view a)) → (xs : List A) → map f xs ≡ map g (map view xs)
+map_seen f view g same [] = refl
+map_seen {A} {B} {C} f view g same (x ∷ xs) = ap (λ (c : C). c ∷ map f xs) (same x) ∙ ap (λ (v : List C). g (view x) ∷ v) (map_seen f view g same xs)
+
+pub find-map : {A B C : Type 0} (f : A → B) (p : B → Bool) (h : B → C) (xs : List A) → option_map h (find p (map f xs)) ≡ option_map (λ x. h (f x)) (find (λ x. p (f x)) xs)
+find-map f p h [] = refl
+find-map f p h (x ∷ xs) = by_test (p (f x)) (find-map f p h xs)
+  where
+    by_test : (b : Bool) → option_map h (find p (map f xs)) ≡ option_map (λ x. h (f x)) (find (λ x. p (f x)) xs) → option_map h (cond b (Some (f x)) (find p (map f xs))) ≡ option_map (λ x. h (f x)) (cond b (Some x) (find (λ x. p (f x)) xs))
+    by_test true e = refl
+    by_test false e = e
+
+pub filter-map : {A B : Type 0} (f : A → B) (p : B → Bool) (xs : List A) → filter p (map f xs) ≡ map f (filter (λ x. p (f x)) xs)
+filter-map f p [] = refl
+filter-map {A} {B} f p (x ∷ xs) = by_test (p (f x)) (filter-map f p xs)
+  where
+    by_test : (b : Bool) → filter p (map f xs) ≡ map f (filter (λ x. p (f x)) xs) → cond b (f x ∷ filter p (map f xs)) (filter p (map f xs)) ≡ map f (cond b (x ∷ filter (λ x. p (f x)) xs) (filter (λ x. p (f x)) xs))
+    by_test true e = ap (λ (v : List B). f x ∷ v) e
+    by_test false e = e
+
+once_from-map : {A B : Type 0} (f : A → B) (eq : B → B → Bool) (seen xs : List A) → map f (once_from (λ a b. eq (f a) (f b)) seen xs) ≡ once_from eq (map f seen) (map f xs)
+once_from-map f eq seen [] = refl
+once_from-map {A} {B} f eq seen (x ∷ xs) =
+    by_test (list_any (λ s. eq (f s) (f x)) seen) (once_from-map f eq (seen ++ x ∷ []) xs ∙ ap (λ (v : List B). once_from eq v (map f xs)) (map-append f seen (x ∷ [])))
+    ∙ ap (λ b. cond b (once_from eq (map f seen ++ f x ∷ []) (map f xs)) (f x ∷ once_from eq (map f seen ++ f x ∷ []) (map f xs))) (any-map f (λ s. eq s (f x)) seen)
+  where
+    by_test : (b : Bool) → map f (once_from (λ a b. eq (f a) (f b)) (seen ++ x ∷ []) xs) ≡ once_from eq (map f seen ++ f x ∷ []) (map f xs) →
+        map f (cond b (once_from (λ a b. eq (f a) (f b)) (seen ++ x ∷ []) xs) (x ∷ once_from (λ a b. eq (f a) (f b)) (seen ++ x ∷ []) xs)) ≡ cond b (once_from eq (map f seen ++ f x ∷ []) (map f xs)) (f x ∷ once_from eq (map f seen ++ f x ∷ []) (map f xs))
+    by_test true e = e
+    by_test false e = ap (λ (v : List B). f x ∷ v) e
+
+pub once-map : {A B : Type 0} (f : A → B) (eq : B → B → Bool) (xs : List A) → map f (once (λ a b. eq (f a) (f b)) xs) ≡ once eq (map f xs)
+once-map f eq xs = once_from-map f eq [] xs
+
+repeated_from-map : {A B C : Type 0} (f : A → B) (eq : B → B → Bool) (h : B → C) (seen xs : List A) → option_map h (repeated_from eq (map f seen) (map f xs)) ≡ option_map (λ x. h (f x)) (repeated_from (λ a b. eq (f a) (f b)) seen xs)
+repeated_from-map f eq h seen [] = refl
+repeated_from-map {A} {B} {C} f eq h seen (x ∷ xs) =
+    ap (λ b. option_map h (cond b (Some (f x)) (repeated_from eq (map f seen ++ f x ∷ []) (map f xs)))) (sym (any-map f (λ s. eq s (f x)) seen))
+    ∙ by_test (list_any (λ s. eq (f s) (f x)) seen) (ap (λ (v : List B). option_map h (repeated_from eq v (map f xs))) (sym (map-append f seen (x ∷ []))) ∙ repeated_from-map f eq h (seen ++ x ∷ []) xs)
+  where
+    by_test : (b : Bool) → option_map h (repeated_from eq (map f seen ++ f x ∷ []) (map f xs)) ≡ option_map (λ x. h (f x)) (repeated_from (λ a b. eq (f a) (f b)) (seen ++ x ∷ []) xs) →
+        option_map h (cond b (Some (f x)) (repeated_from eq (map f seen ++ f x ∷ []) (map f xs))) ≡ option_map (λ x. h (f x)) (cond b (Some x) (repeated_from (λ a b. eq (f a) (f b)) (seen ++ x ∷ []) xs))
+    by_test true e = refl
+    by_test false e = e
+
+pub repeated-map : {A B C : Type 0} (f : A → B) (eq : B → B → Bool) (h : B → C) (xs : List A) → option_map h (first_repeated eq (map f xs)) ≡ option_map (λ x. h (f x)) (first_repeated (λ a b. eq (f a) (f b)) xs)
+repeated-map f eq h xs = repeated_from-map f eq h [] xs
+
+-- how a driver drives is known of its entry alone, as far as it is always on
+free_drive : (board : RawBoard) (net : Net) (part : ℕ) (cell : Cell) (o : Option Control) → is_always_on (Some (drive_by board net part cell o)) ≡ is_none o
+free_drive board net part cell None = refl
+free_drive board net part cell (Some control) = by_tests (control.cell == cell.num) (lets_switch board net control.disable)
+  where
+    by_tests : (a b : Bool) → is_always_on (Some (cond a (cond b (By (record { part = part; cell = control.cell })) OneSided) (By (record { part = part; cell = control.cell })))) ≡ false
+    by_tests true true = refl
+    by_tests true false = refl
+    by_tests false b = refl
+
+free_entry : (board : RawBoard) (net : Net) (part : ℕ) (o : Option Cell) → is_always_on (option_map (λ cell. drive_by board net part cell cell.ctl) o) ≡ is_free o
+free_entry board net part None = refl
+free_entry board net part (Some cell) = free_drive board net part cell cell.ctl
+
+free_device : (o : Option RawDevice) (bit : ℕ) → is_free (option_and_then (λ device. driving_entry device bit) o) ≡ is_free_bit o bit
+free_device None bit = refl
+free_device (Some device) bit = refl
+
+free_at : (board : RawBoard) (net : Net) (o : Option PinAt) → is_always_on (drive_where board net o) ≡ is_free_at board.chain o
+free_at board net None = refl
+free_at board net (Some at) = free_entry board net at.part (entry_at board at) ∙ free_device (device_at board at.part) at.bit
+
+in_range : {A : Type 0} (xs : List A) (n : ℕ) → is_some (slice_get xs n) ≡ nat_lt n (length xs)
+in_range [] n = grind arith
+in_range (x ∷ xs) zero = grind arith
+in_range (x ∷ xs) (suc n) = let below : nat_lt n (length xs) ≡ nat_lt (suc n) (suc (length xs)) = grind arith in in_range xs n ∙ below
+
+drives_where : (board : RawBoard) (marks : Marks) (pin : Pin) (o : Option Net) (b : Bool) → is_some o ≡ b → drives_always board marks pin o ≡ (b && is_free_at board.chain (place_of_pin marks.places pin))
+drives_where board marks pin None b e = ap (λ t. t && is_free_at board.chain (place_of_pin marks.places pin)) e
+drives_where board marks pin (Some net) b e = free_at board net (place_of_pin marks.places pin) ∙ ap (λ t. t && is_free_at board.chain (place_of_pin marks.places pin)) e
+
+module _ (chain : List ChainLine) (parts : List Part) (names : List (List ℕ)) (words : List NetWord) where
+  abbrev marks : Marks
+  marks = marks_of chain parts
+
+  abbrev marked : NetWord → Marked
+  marked = mark parts (pin_places parts) (names_of (named Inert chain))
+
+  abbrev board : RawBoard
+  board = record { chain = parts; nets = board_nets marks words names }
+
+  pins_same : (ws : List NetWord) → map pin_with (map marked ws) ≡ map (net_pin marks) (map pin_of ws)
+  pins_same [] = refl
+  pins_same (w ∷ ws) = ap (λ (v : List NetPin). net_pin marks (pin_of w) ∷ v) (pins_same ws)
+
+  group_same : (n : ℕ) → group_of (map marked words) n ≡ map (net_pin marks) (pins_of_net words n)
+  group_same n = ap (map pin_with) (filter-map marked (λ m. number_of m == n) words) ∙ pins_same (filter (λ w. net_of w == n) words)
+
+  net_same : (n : ℕ) (name : List ℕ) → net_with (names_of (named Supply chain)) (pulls_of chain) (map marked words) n name ≡ board_net marks words n name
+  net_same n name = ap (λ (pins : List NetPin). let net : Net = record { name = name; supply = is_among marks.supplies name; pull = pull_of_net marks.pulls name; pins = pins } in net) (group_same n)
+
+  nets_same : (n : ℕ) (list : List (List ℕ)) → nets_with (names_of (named Supply chain)) (pulls_of chain) (map marked words) n list ≡ nets_from marks words n list
+  nets_same n [] = refl
+  nets_same n (name ∷ list) =
+      ap (λ (net : Net). net ∷ nets_with (names_of (named Supply chain)) (pulls_of chain) (map marked words) (n + 1) list) (net_same n name)
+      ∙ ap (λ (v : List Net). board_net marks words n name ∷ v) (nets_same (n + 1) list)
+
+  pub board_same : board_by chain parts names (map marked words) ≡ board
+  board_same = ap (λ (v : List Net). let b : RawBoard = record { chain = parts; nets = v } in b) (nets_same 0 names)
+
+  pub limit_same : marked_limit (map marked words) ≡ pin_limit words
+  unfolding marked_limit pin_limit
+  limit_same = ap (λ n. if nat_lt 65535 n then Some (Limit 4) else None) (ap length (sym (once-map marked same_pins words)) ∙ length-map (once have_same_pin words) marked)
+
+  pub unknown_same : marked_unknown (map marked words) ≡ no_pin (described_names parts) (pin_places parts) words
+  unfolding marked_unknown no_pin
+  unknown_same = find-map marked (λ (m : Marked). m.described && is_none m.at) (λ (m : Marked). NoPin (place_of m)) words
+
+  pub twice_same : marked_twice (map marked words) ≡ pin_twice words
+  unfolding marked_twice pin_twice
+  twice_same = repeated-map marked same_pins (λ (m : Marked). PinTwice (place_of m)) words
+
+  pub drivers_same : always_on (length board.nets) (map marked words) ≡ map marked (drivers_of board marks words)
+  drivers_same =
+      filter-map marked (λ m. nat_lt (number_of m) (length board.nets) && m.always_on) words
+      ∙ ap (map marked) (filter_agree _ _ (λ w. sym (drives_where board marks (pin_of w) (slice_get board.nets (net_of w)) (nat_lt (net_of w) (length board.nets)) (in_range board.nets (net_of w)))) words)
+
+  pub guarded_same : (ds : List NetWord) → marked_guarded board (map marked ds) ≡ guarded_driver board ds
+  unfolding marked_guarded guarded_driver
+  guarded_same ds = find-map marked (λ (m : Marked). is_kept board (slice_get board.nets (number_of m))) (λ (m : Marked). GuardedDriver (place_of m)) ds
+
+  pub two_same : (ds : List NetWord) → marked_two (map marked ds) ≡ two_always_on ds
+  unfolding marked_two two_always_on
+  two_same ds = repeated-map marked (λ (a b : Marked). number_of a == number_of b) (λ (m : Marked). TwoAlwaysOn (place_of m)) ds
+
+  pub driver_fault_same : marked_drivers board (map marked (drivers_of board marks words)) ≡ driver_fault board (drivers_of board marks words)
+  unfolding marked_drivers driver_fault
+  driver_fault_same =
+      ap (λ (a : Option BoardFault). a then marked_two (map marked (drivers_of board marks words))) (guarded_same (drivers_of board marks words))
+      ∙ ap (λ (b : Option BoardFault). guarded_driver board (drivers_of board marks words) then b) (two_same (drivers_of board marks words))
+
+-- the rules in either order of their composition
+order : {F : Type 0} (d n l u t c r : Option F) → ((d then (n then l)) then ((u then t) then (c then r))) ≡ ((d then (n then ((l then (u then t)) then c))) then r)
+order (Some f) n l u t c r = refl
+order None (Some f) l u t c r = refl
+order None None (Some f) u t c r = refl
+order None None None (Some f) t c r = refl
+order None None None None (Some f) c r = refl
+order None None None None None c r = refl
+
+joined : {F : Type 0} (d n c : Option F) (l l' u u' t t' r r' : Option F) → l ≡ l' → u ≡ u' → t ≡ t' → r ≡ r' →
+    ((d then (n then ((l then (u then t)) then c))) then r) ≡ ((d then (n then l')) then ((u' then t') then (c then r')))
+joined d n c l l' u u' t t' r r' el eu et er =
+    ap (λ v. (d then (n then ((v then (u then t)) then c))) then r) el
+    ∙ ap (λ v. (d then (n then ((l' then (v then t)) then c))) then r) eu
+    ∙ ap (λ v. (d then (n then ((l' then (u' then v)) then c))) then r) et
+    ∙ ap (λ v. (d then (n then ((l' then (u' then t')) then c))) then v) er
+    ∙ sym (order d n l' u' t' c r')
+
+pub fault_same : (chain : List ChainLine) (nets : List NetLine) (parts : List Part) →
+    marked_fault chain parts (net_names nets) (map (mark parts (pin_places parts) (names_of (named Inert chain))) (standing_words nets)) ≡ board_fault chain nets parts
+unfolding marked_fault file_fault marked_pins board_fault limit_fault pin_fault
+fault_same chain nets parts =
+    let names = net_names nets in
+    let words = standing_words nets in
+    let mk = mark parts (pin_places parts) (names_of (named Inert chain)) in
+    let board = board_with chain nets parts in
+    let drivers : marked_drivers (board_by chain parts names (map mk words)) (always_on (length (board_by chain parts names (map mk words)).nets) (map mk words)) ≡ driver_fault board (drivers_of board (marks_of chain parts) words) =
+    ap (λ (b : RawBoard). marked_drivers b (always_on (length b.nets) (map mk words))) (board_same chain parts names words)
+    ∙ ap (marked_drivers board) (drivers_same chain parts names words)
+    ∙ driver_fault_same chain parts names words in
+    joined (data_limit parts) (net_limit names) (line_fault chain names) _ _ _ _ _ _ _ _ (limit_same chain parts names words) (unknown_same chain parts names words) (twice_same chain parts names words) drivers
+
+pub answer_same : (chain : List ChainLine) (nets : List NetLine) (parts : List Part) →
+    marked_answer chain parts (net_names nets) (map (mark parts (pin_places parts) (names_of (named Inert chain))) (standing_words nets)) ≡ board_answer chain nets parts
+unfolding marked_answer board_answer
+answer_same chain nets parts =
+    ap (λ fault. unless fault (board_by chain parts (net_names nets) (map (mark parts (pin_places parts) (names_of (named Inert chain))) (standing_words nets)))) (fault_same chain nets parts)
+    ∙ ap (unless (board_fault chain nets parts)) (board_same chain parts (net_names nets) (standing_words nets))
+
+-- the value of a lent key
+pub value_lent : {A K V : Type 0} (view : A → K) (eq : K → K → Bool) (items : List (A × V)) (q : A) → first_value (λ a b. eq (view a) (view b)) items q ≡ first_value eq (map (λ (i : A × V). (view i.0, i.1)) items) (view q)
+value_lent {A} {K} {V} view eq items q = sym (find-map (λ (i : A × V). let p : K × V = (view i.0, i.1) in p) (λ (p : K × V). eq p.0 (view q)) (λ (p : K × V). p.1) items)
+
+pub map-map : {A B C : Type 0} (f : A → B) (g : B → C) (xs : List A) → map g (map f xs) ≡ map (λ x. g (f x)) xs
+map-map f g [] = refl
+map-map {A} {B} {C} f g (x ∷ xs) = ap (λ (v : List C). g (f x) ∷ v) (map-map f g xs)

@@ -1,0 +1,144 @@
+-- What is known where a rule finds no fault.
+use Rattle.std.proofs.Common.{◌≡◌, ◌≢◌, ℕ, suc, ◌+◌, ◌<◌, ◌≤◌, ◌==◌, Bool, true, false, cond, ◌||◌, List, [], ◌∷◌, length, map, get_or, Option, Some, None, refl, sym, ap, subst, ◌∙◌, arith, ◌⊎◌, inl, inr, nat_lt}
+use Rattle.std.specs.Prelude.{slice_get, find, filter, sum_by, is_some, is_none, position, option_map, option_and_then, All}
+use Rattle.std.specs.List.{list_any, AllByRecursion, position_from}
+use Rattle.std.specs.Cmp.Lexicographic.{same_text}
+use Rattle.std.proofs.lemmas.Iterator.Adapters.{position_from-zero}
+use Rattle.std.proofs.lemmas.List.Quantifiers.{position-Some}
+use Rattle.std.proofs.lemmas.List.{length-map}
+use Rattle.std.proofs.lemmas.Option.{slice_get-get_or}
+use Rattle.board_defs.proofs.Members.{Has, has_map}
+use Rattle.first_places.specs.Places.{once, first_place, first_repeated}
+use Rattle.board_files.specs.declared.chain_file.ChainLine.{ChainLine}
+use Rattle.board_defs.specs.declared.board.Part.{Part}
+use Rattle.board_defs.specs.declared.board.RawBoard.{RawBoard}
+use Rattle.board_defs.specs.declared.spot.Spot.{Spot}
+use Rattle.board_defs.specs.Pins.{data_length}
+use Rattle.board_build.specs.declared.fault.BoardFault.{BoardFault}
+use Rattle.board_build.specs.declared.fault.BoardFault.TheVariants.{Limit, InertInChain}
+use Rattle.board_build.specs.declared.names.Naming.TheVariants.{Part as PartName, Inert, Supply, Pull}
+use Rattle.board_build.specs.Faults.{◌then◌}
+use Rattle.board_build.specs.Names.{Named, named, names_of, same_name}
+use Rattle.board_build.specs.NetWords.{Pin, NetWord, net_of, pin_of, is_among}
+use Rattle.board_build.specs.Selection.{spot_at}
+use Rattle.board_build.specs.ChainParts.{PinPlace, pin_places, described_names}
+use Rattle.board_build.specs.LineRules.{places_of, inert_in_chain, no_supply_net, no_pull_net, pull_twice}
+use Rattle.board_build.specs.BoardNets.{Marks}
+use Rattle.board_build.specs.BoardRules.{data_limit, net_limit, pin_limit, have_same_pin, is_unknown, no_pin, pin_twice, is_kept, guarded_driver, two_always_on, limit_fault, pin_fault, line_fault, driver_fault}
+use Rattle.board_build.proofs.ApartLemmas.{Apart, unrepeated, unrepeated_apart}
+use Rattle.board_build.proofs.PartLemmas.{not_among}
+
+pub then_none : {F : Type 0} (a b : Option F) → (a then b) ≡ None → (a ≡ None) × (b ≡ None)
+then_none None b e = (refl, e)
+then_none (Some f) b e = cc e
+
+map_none : {A B : Type 0} (f : A → B) (o : Option A) → option_map f o ≡ None → o ≡ None
+map_none f None e = refl
+map_none f (Some a) e = cc e
+
+pub limit_kept : (k n : ℕ) (fault : BoardFault) → cond (nat_lt k n) (Some fault) None ≡ None → n ≤ k
+limit_kept k n fault h = by_test (nat_lt k n) refl h
+  where
+    by_test : (b : Bool) → nat_lt k n ≡ b → cond b (Some fault) None ≡ None → n ≤ k
+    by_test true e f = cc f
+    by_test false e f = grind arith
+
+-- the first fault of the limits
+pub record LimitsKept (parts : List Part) (names : List (List ℕ)) (words : List NetWord) : Type 0 where
+  pub bits : sum_by (λ part. data_length part.kind) parts ≤ 65535
+  pub nets : length names ≤ 16382
+  pub pins : length (once have_same_pin words) ≤ 65535
+
+pub limits_kept : (parts : List Part) (names : List (List ℕ)) (words : List NetWord) → limit_fault parts names words ≡ None → LimitsKept parts names words
+unfolding limit_fault data_limit net_limit pin_limit
+limits_kept parts names words e =
+    let first = then_none _ _ e in
+    let second = then_none _ _ first.1 in
+    record {
+      bits = limit_kept 65535 (sum_by (λ part. data_length part.kind) parts) (Limit 2) first.0;
+      nets = limit_kept 16382 (length names) (Limit 3) second.0;
+      pins = limit_kept 65535 (length (once have_same_pin words)) (Limit 4) second.1;
+    }
+
+pub record PinsKept (parts : List Part) (words : List NetWord) : Type 0 where
+  pub known : find (λ word. is_unknown (described_names parts) (pin_places parts) (pin_of word)) words ≡ None
+  pub whole : once have_same_pin words ≡ words
+  pub differ : Apart (λ a b. have_same_pin a b ≡ false) words
+
+pub pins_kept : (parts : List Part) (words : List NetWord) → pin_fault parts words ≡ None → PinsKept parts words
+unfolding pin_fault no_pin pin_twice
+pins_kept parts words e =
+    let first = then_none _ _ e in
+    let once_ = map_none _ _ first.1 in
+    record {
+      known = map_none _ _ first.0;
+      whole = unrepeated have_same_pin words once_;
+      differ = unrepeated_apart have_same_pin words once_;
+    }
+
+-- a rule that names the line of the first place that passes
+no_place : {A : Type 0} (fault : Spot → BoardFault) (list : List Named) (test : A → Bool) (xs : List A) → length xs ≡ length list → option_map fault (option_and_then (spot_at list) (position test xs)) ≡ None → position test xs ≡ None
+no_place {A} fault list test xs count e = by_place (position test xs) refl e
+  where
+    by_place : (o : Option ℕ) → position test xs ≡ o → option_map fault (option_and_then (spot_at list) o) ≡ None → o ≡ None
+    by_place None f k = refl
+    by_place (Some n) f k = absurd (there (slice_get list n) (stands n f) k)
+      where
+        there : (s : Option Named) → s ≢ None → option_map fault (option_map (λ (m : Named). let spot : Spot = record { line = m.0; word = 1 } in spot) s) ≡ None → ⊥
+        there None wrong h = wrong refl
+        there (Some m) wrong h = cc h
+
+        low : (ys : List A) (n : ℕ) → position test ys ≡ Some n → n < length ys
+        low [] n f = cc f
+        low (y ∷ ys) n f = (position-Some test (y ∷ ys) n y f).0
+
+        stands : (n : ℕ) → position test xs ≡ Some n → slice_get list n ≢ None
+        stands n f none =
+            let d : Named = (0, []) in
+            let within : n < length xs = low xs n f in
+            let less : n < length list = subst (λ m. n < m) count within in
+            let got : slice_get list n ≡ Some (get_or list n d) = slice_get-get_or list n d less in
+            cc (sym got ∙ none)
+
+none_at : {A : Type 0} (test : A → Bool) (n : ℕ) (xs : List A) (x : A) → position_from test n xs ≡ None → Has xs x → test x ≡ false
+none_at test n [] x e h = absurd h
+none_at {A} test n (y ∷ ys) x e h = by_test (none_at test (n + 1) ys x) (test y) refl e h
+  where
+    by_test : (position_from test (n + 1) ys ≡ None → Has ys x → test x ≡ false) → (b : Bool) → test y ≡ b → cond b (Some n) (position_from test (n + 1) ys) ≡ None → (y ≡ x) ⊎ Has ys x → test x ≡ false
+    by_test rest true t k p = cc k
+    by_test rest false t k (inl same) = sym (ap test same) ∙ t
+    by_test rest false t k (inr p) = rest k p
+
+among_has : (names : List (List ℕ)) (x : List ℕ) (n : ℕ) → is_some (position_from (λ k. same_name k x) n names) ≡ true → Has names x
+among_has [] x n h = cc h
+among_has (name ∷ names) x n h = by_test (among_has names x (n + 1)) (same_name name x) refl h
+  where
+    by_test : (is_some (position_from (λ k. same_name k x) (n + 1) names) ≡ true → Has names x) → (b : Bool) → same_name name x ≡ b → is_some (cond b (Some n) (position_from (λ k. same_name k x) (n + 1) names)) ≡ true → (name ≡ x) ⊎ Has names x
+    by_test rest true e k = inl (same_text name x (sym e))
+    by_test rest false e k = inr (rest k)
+
+-- no part of the chain is inert
+pub not_inert : (inerts : List Named) (parts : List (List ℕ)) → inert_in_chain inerts parts ≡ None → (x : List ℕ) → is_among (names_of inerts) x ≡ true → AllByRecursion (λ name. name ≢ x) parts
+unfolding inert_in_chain
+not_inert inerts parts e x among =
+    let count : length (places_of inerts parts) ≡ length inerts = length-map (names_of inerts) (first_place same_name parts) ∙ length-map inerts (λ n. n.1) in
+    let none : position is_some (places_of inerts parts) ≡ None = no_place InertInChain inerts is_some (places_of inerts parts) count e in
+    let from : position_from is_some 0 (places_of inerts parts) ≡ None = sym (position_from-zero is_some (places_of inerts parts)) ∙ none in
+    not_among parts x (none_at is_some 0 (places_of inerts parts) (first_place same_name parts x) from (has_map (first_place same_name parts) (names_of inerts) x (among_has (names_of inerts) x 0 among)))
+
+pub inert_kept : (chain : List ChainLine) (names : List (List ℕ)) → line_fault chain names ≡ None → inert_in_chain (named Inert chain) (names_of (named PartName chain)) ≡ None
+unfolding line_fault
+inert_kept chain names e = (then_none _ _ e).0
+
+pub record DriversKept (board : RawBoard) (drivers : List NetWord) : Type 0 where
+  pub free : find (λ word. is_kept board (slice_get board.nets (net_of word))) drivers ≡ None
+  pub single : Apart (λ a b. (net_of a == net_of b) ≡ false) drivers
+
+pub drivers_kept : (board : RawBoard) (drivers : List NetWord) → driver_fault board drivers ≡ None → DriversKept board drivers
+unfolding driver_fault guarded_driver two_always_on
+drivers_kept board drivers e =
+    let both = then_none _ _ e in
+    record {
+      free = map_none _ _ both.0;
+      single = unrepeated_apart (λ a b. net_of a == net_of b) drivers (map_none _ _ both.1);
+    }

@@ -1,0 +1,29 @@
+-- What the marked words of the files say of their board.
+use Rattle.std.proofs.Common.{◌≡◌, ℕ, List, map, None, sym, subst, ◌∙◌, ap}
+use Rattle.std.specs.Prelude.{All}
+use Rattle.board_files.specs.declared.chain_file.ChainLine.{ChainLine}
+use Rattle.board_files.specs.declared.net_file.NetLine.{NetLine}
+use Rattle.board_defs.specs.declared.board.Part.{Part}
+use Rattle.board_defs.specs.declared.board.RawBoard.{RawBoard}
+use Rattle.board_defs.specs.BoardRules.{IsBoard, IsPart}
+use Rattle.board_build.specs.declared.names.Naming.TheVariants.{Part as PartName, Inert}
+use Rattle.board_build.specs.Names.{named, names_of}
+use Rattle.board_build.specs.NetWords.{net_names, standing_words}
+use Rattle.board_build.specs.ChainParts.{IsChain, pin_places}
+use Rattle.board_build.specs.BoardRules.{board_answer}
+use Rattle.board_build.specs.Marked.{Marked, mark, board_by, marked_fault, marked_answer}
+use Rattle.board_build.proofs.MarkLemmas.{board_same, fault_same, answer_same}
+use Rattle.board_build.proofs.LawLemmas.{is_board}
+
+-- where no rule finds a fault, the record is a board
+pub sound_by : (chain : List ChainLine) (nets : List NetLine) (parts : List Part) (names : List (List ℕ)) (words : List Marked) → IsChain chain → map (λ part. part.name) parts ≡ names_of (named PartName chain) → All (λ part. IsPart part.kind) parts →
+    names ≡ net_names nets → words ≡ map (mark parts (pin_places parts) (names_of (named Inert chain))) (standing_words nets) → marked_fault chain parts names words ≡ None → IsBoard (board_by chain parts names words)
+sound_by chain nets parts names words selected named_ kinds en ew =
+    let P : List (List ℕ) → Type 0 = λ v. marked_fault chain parts v words ≡ None → IsBoard (board_by chain parts v words) in
+    let Q : List Marked → Type 0 = λ v. marked_fault chain parts (net_names nets) v ≡ None → IsBoard (board_by chain parts (net_names nets) v) in
+    subst P (sym en) (subst Q (sym ew) (λ e. subst IsBoard (sym (board_same chain parts (net_names nets) (standing_words nets))) (is_board chain nets parts selected named_ kinds (sym (fault_same chain nets parts) ∙ e))))
+
+pub answer_by : (chain : List ChainLine) (nets : List NetLine) (parts : List Part) (names : List (List ℕ)) (words : List Marked) →
+    names ≡ net_names nets → words ≡ map (mark parts (pin_places parts) (names_of (named Inert chain))) (standing_words nets) → marked_answer chain parts names words ≡ board_answer chain nets parts
+answer_by chain nets parts names words en ew =
+    ap (λ v. marked_answer chain parts v words) en ∙ ap (marked_answer chain parts (net_names nets)) ew ∙ answer_same chain nets parts

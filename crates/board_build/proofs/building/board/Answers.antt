@@ -1,0 +1,18 @@
+-- The parts have the names of the chain's lines.
+use Rattle.std.proofs.Common.{◌≡◌, length, map, ap, sym, subst, ◌∙◌, arith}
+use Rattle.std.specs.Prelude.{All}
+use Rattle.std.proofs.lemmas.List.Elements.{All-from_recursion}
+use Rattle.board_files.specs.ChainLines.{HasLength}
+use Rattle.board_build.specs.declared.names.Naming.TheVariants.{Part as PartName, Entity}
+use Rattle.board_build.specs.Faults.{Gives}
+use Rattle.board_build.specs.Names.{named, names_of}
+use Rattle.board_build.specs.NetWords.{IsShort}
+use Rattle.board_build.specs.ChainParts.{chain_parts}
+use Rattle.board_build.specs.BoardRules.{board_answer, board_of}
+use Rattle.board_build.proofs.PartLemmas.{parts_named}
+use Rattle.board_build.proofs.building.board.Goals as goal
+
+pub board_of-requires-clause-names : goal.board_of-requires-clause-names
+board_of-requires-clause-names c =
+    let count : length c.args.devices.items ≡ length (named Entity c.args.chain.now) = omega (arith, c.requires.devices, c.args.devices.ok.0) in
+    ap (map (λ part. part.name)) (c.in_ok-parts.ensures.parts ∙ ap (λ v. chain_parts v c.args.devices.items) c.lines-lines.ensures) ∙ parts_named c.args.chain.now c.args.devices.items count ∙ sym (ap (λ v. names_of (named PartName v)) c.lines-lines.ensures)

@@ -1,0 +1,29 @@
+-- The marked words are those of the definitions.
+use Rattle.std.proofs.Common.{◌≡◌, map, ap, subst, ◌∙◌}
+use Rattle.first_places.specs.Places.{once}
+use Rattle.board_build.specs.declared.names.Naming.TheVariants.{Inert}
+use Rattle.board_build.specs.Faults.{Gives}
+use Rattle.board_build.specs.Names.{named, names_of}
+use Rattle.board_build.specs.NetWords.{lent_word, same_place, words_of, net_names, standing_words}
+use Rattle.board_build.specs.ChainParts.{pin_places}
+use Rattle.board_build.specs.Marked.{mark, seen}
+use Rattle.board_build.proofs.SoundLemmas.{sound_by, answer_by}
+use Rattle.board_build.proofs.building.board_of.Goals as goal
+
+pub answer-requires-clause-sound : goal.answer-requires-clause-sound
+answer-requires-clause-sound c =
+    let inerts = names_of (named Inert c.args.chain.now) in
+    let words : map lent_word c.in_ok-words.words.items ≡ standing_words c.args.nets.now = c.in_ok-words.ensures ∙ ap (λ v. once same_place (words_of (map (λ n. n.now) v) c.args.nets.now)) c.deref.ensures.value ∙ ap (λ v. once same_place (words_of v c.args.nets.now)) c.in_ok-names.ensures.names in
+    let marked : map seen c.in_ok-marked.marked.items ≡ map (mark c.args.parts.items (pin_places c.args.parts.items) inerts) (standing_words c.args.nets.now) =
+    c.in_ok-marked.ensures ∙ ap (λ v. map (mark v (pin_places v) inerts) (map lent_word c.deref-3.result.now)) c.deref-2.ensures.value
+    ∙ ap (λ v. map (mark c.args.parts.items (pin_places c.args.parts.items) inerts) (map lent_word v)) c.deref-3.ensures.value ∙ ap (map (mark c.args.parts.items (pin_places c.args.parts.items) inerts)) words in
+    sound_by c.args.chain.now c.args.nets.now c.args.parts.items _ _ c.requires.selected c.requires.names c.requires.parts (ap (map (λ n. n.now)) c.deref-4.ensures.value ∙ c.in_ok-names.ensures.names) (ap (map seen) c.deref-5.ensures.value ∙ marked)
+
+pub returns : goal.returns
+returns c =
+    let inerts = names_of (named Inert c.args.chain.now) in
+    let words : map lent_word c.in_ok-words.words.items ≡ standing_words c.args.nets.now = c.in_ok-words.ensures ∙ ap (λ v. once same_place (words_of (map (λ n. n.now) v) c.args.nets.now)) c.deref.ensures.value ∙ ap (λ v. once same_place (words_of v c.args.nets.now)) c.in_ok-names.ensures.names in
+    let marked : map seen c.in_ok-marked.marked.items ≡ map (mark c.args.parts.items (pin_places c.args.parts.items) inerts) (standing_words c.args.nets.now) =
+    c.in_ok-marked.ensures ∙ ap (λ v. map (mark v (pin_places v) inerts) (map lent_word c.deref-3.result.now)) c.deref-2.ensures.value
+    ∙ ap (λ v. map (mark c.args.parts.items (pin_places c.args.parts.items) inerts) (map lent_word v)) c.deref-3.ensures.value ∙ ap (map (mark c.args.parts.items (pin_places c.args.parts.items) inerts)) words in
+    subst (Gives (λ board. board) c.answer.result) (answer_by c.args.chain.now c.args.nets.now c.args.parts.items _ _ (ap (map (λ n. n.now)) c.deref-4.ensures.value ∙ c.in_ok-names.ensures.names) (ap (map seen) c.deref-5.ensures.value ∙ marked)) c.answer.ensures

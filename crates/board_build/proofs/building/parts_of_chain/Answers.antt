@@ -1,0 +1,12 @@
+-- The parts have the names of the chain's lines.
+use Rattle.std.proofs.Common.{◌≡◌, length, map, ap, ◌∙◌, arith}
+use Rattle.board_build.specs.declared.names.Naming.TheVariants.{Entity}
+use Rattle.board_build.specs.Names.{named}
+use Rattle.board_build.specs.ChainParts.{chain_parts}
+use Rattle.board_build.proofs.PartLemmas.{parts_named}
+use Rattle.board_build.proofs.building.parts_of_chain.Goals as goal
+
+pub returns-clause-names : goal.returns-clause-names
+returns-clause-names c =
+    let count : length c.args.devices.items ≡ length (named Entity c.args.chain.now) = omega (arith, c.requires.devices, c.args.devices.ok.0) in
+    ap (map (λ part. part.name)) (c.in_ok-parts.ensures.parts ∙ ap (λ v. chain_parts v c.args.devices.items) c.lines-lines.ensures) ∙ parts_named c.args.chain.now c.args.devices.items count

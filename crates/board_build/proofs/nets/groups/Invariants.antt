@@ -1,0 +1,10 @@
+use Rattle.std.proofs.Common.{◌≡◌, ◌<◌, ℕ, [], map, take, get_or, vec_len}
+use Rattle.board_build.specs.Marked.{group_of, seen}
+use Rattle.board_build.proofs.nets.groups.Given as goal
+
+-- each net has its pins of the words so far
+abbrev pub invariant-loop-i : goal.invariant-loop-i
+invariant-loop-i l = record {
+  count : vec_len l.groups ≡ l.count;
+  groups : (n : ℕ) → n < l.count → get_or (map (λ g. g.items) l.groups.items) n [] ≡ group_of (map seen (take l.i l.words)) n;
+}

@@ -1,0 +1,12 @@
+-- The same pin is repeated.
+use Rattle.std.proofs.Common.{◌∙◌, ap}
+use Rattle.std.specs.Prelude.{option_map}
+use Rattle.first_places.specs.Places.{first_repeated}
+use Rattle.board_build.specs.declared.fault.BoardFault.TheVariants.{PinTwice}
+use Rattle.board_build.proofs.NameLemmas.{if_ok_map}
+use Rattle.board_build.proofs.SeenLemmas.{same_lent, twice_seen}
+use Rattle.board_build.proofs.rules.marked_twice.Goals as goal
+
+pub returns : goal.returns
+returns c =
+    if_ok_map _ _ (λ fault e. e ∙ ap (λ v. option_map (λ p. PinTwice p.1) (first_repeated same_lent v)) (c.deref.ensures.value ∙ c.in_ok-pins.ensures) ∙ twice_seen c.args.words.now) c.pin_twice.result c.pin_twice.ensures

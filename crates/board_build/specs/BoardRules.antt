@@ -1,0 +1,109 @@
+-- The rules that a board's files keep, and the order in which they are tried.
+use Rattle.std.specs.Prelude.{ℕ, ◌==◌, Bool, true, false, ◌&&◌, ◌||◌, List, map, filter, find, length, nat_lt, nat_eq, slice_get, sum_by, Option, Some, None, Result, option_map, is_none, if◌then◌else◌}
+use Rattle.std.specs.List.{list_any}
+use Rattle.first_places.specs.Places.{once, first_repeated}
+use Rattle.board_files.specs.declared.chain_file.ChainLine.{ChainLine}
+use Rattle.board_files.specs.declared.net_file.NetLine.{NetLine}
+use Rattle.board_defs.specs.declared.device.RawDevice.{RawDevice}
+use Rattle.board_defs.specs.declared.board.Part.{Part}
+use Rattle.board_defs.specs.declared.board.Net.{Net}
+use Rattle.board_defs.specs.declared.board.RawBoard.{RawBoard}
+use Rattle.board_defs.specs.declared.board.Drive.{Drive}
+use Rattle.board_defs.specs.declared.board.Drive.TheVariants.{AlwaysOn, OneSided, By}
+use Rattle.board_defs.specs.Pins.{data_length, drive, is_test_pin}
+use Rattle.board_build.specs.declared.fault.BoardFault.{BoardFault}
+use Rattle.board_build.specs.declared.fault.BoardFault.TheVariants.{Limit, NoPin, PinTwice, GuardedDriver, TwoAlwaysOn}
+use Rattle.board_build.specs.declared.names.Naming.TheVariants.{Part as PartName, Inert, Supply, Pull}
+use Rattle.board_build.specs.Faults.{◌then◌, unless}
+use Rattle.board_build.specs.Names.{named, names_of}
+use Rattle.board_build.specs.NetWords.{Pin, NetWord, same_pin, net_of, pin_of, spot_of, is_among, net_names, standing_words}
+use Rattle.board_build.specs.ChainParts.{PinPlace, chain_parts, pin_places, place_of_pin, described_names}
+use Rattle.board_build.specs.LineRules.{inert_in_chain, no_supply_net, no_pull_net, pull_twice}
+use Rattle.board_build.specs.BoardNets.{Marks, marks_of, net_pin, board_with}
+
+-- at most 65,535 bits in a data scan: the boundary cells of the described parts, and one for each other part
+unfoldable pub data_limit : List Part → Option BoardFault
+data_limit parts = if nat_lt 65535 (sum_by (λ part. data_length part.kind) parts) then Some (Limit 2) else None
+
+-- at most 16,382 nets
+unfoldable pub net_limit : List (List ℕ) → Option BoardFault
+net_limit names = if nat_lt 16382 (length names) then Some (Limit 3) else None
+
+-- the pins of two words are the same
+abbrev pub have_same_pin : NetWord → NetWord → Bool
+have_same_pin a b = same_pin (pin_of a) (pin_of b)
+
+-- at most 65,535 different pins in nets
+unfoldable pub pin_limit : List NetWord → Option BoardFault
+pin_limit words = if nat_lt 65535 (length (once have_same_pin words)) then Some (Limit 4) else None
+
+-- the pin's part is described, and the chosen pin map has no such pin
+abbrev pub is_unknown : List (List ℕ) → List PinPlace → Pin → Bool
+is_unknown described places pin = is_among described pin.0 && is_none (place_of_pin places pin)
+
+-- the first pin of a described part that its pin map has not
+unfoldable pub no_pin : List (List ℕ) → List PinPlace → List NetWord → Option BoardFault
+no_pin described places words = option_map (λ word. NoPin (spot_of word)) (find (λ word. is_unknown described places (pin_of word)) words)
+
+-- the first pin that stands earlier in another net: each counts once in a net
+unfoldable pub pin_twice : List NetWord → Option BoardFault
+pin_twice words = option_map (λ word. PinTwice (spot_of word)) (first_repeated have_same_pin words)
+
+abbrev pub is_always_on : Option Drive → Bool
+is_always_on None = false
+is_always_on (Some AlwaysOn) = true
+is_always_on (Some OneSided) = false
+is_always_on (Some (By c)) = false
+
+-- the pin is an always-on driver of the net
+abbrev pub drives_always : RawBoard → Marks → Pin → Option Net → Bool
+drives_always board marks pin None = false
+drives_always board marks pin (Some net) = is_always_on (drive board net (net_pin marks pin))
+
+-- the words of always-on drivers
+abbrev pub always_on : RawBoard → Marks → List NetWord → List NetWord
+always_on board marks words = filter (λ word. drives_always board marks (pin_of word) (slice_get board.nets (net_of word))) words
+
+-- a supply net, or one with a TAP or compliance pin
+abbrev pub is_kept : RawBoard → Option Net → Bool
+is_kept board None = false
+is_kept board (Some net) = net.supply || list_any (is_test_pin board) net.pins
+
+-- the first always-on driver on a supply net or on a net with a TAP or compliance pin
+unfoldable pub guarded_driver : RawBoard → List NetWord → Option BoardFault
+guarded_driver board drivers = option_map (λ word. GuardedDriver (spot_of word)) (find (λ word. is_kept board (slice_get board.nets (net_of word))) drivers)
+
+-- the first always-on driver whose net has an always-on driver at an earlier place
+unfoldable pub two_always_on : List NetWord → Option BoardFault
+two_always_on drivers = option_map (λ word. TwoAlwaysOn (spot_of word)) (first_repeated (λ a b. net_of a == net_of b) drivers)
+
+-- the limits
+unfoldable pub limit_fault : List Part → List (List ℕ) → List NetWord → Option BoardFault
+limit_fault parts names words = data_limit parts then net_limit names then pin_limit words
+
+-- the rules on the pins of the net file
+unfoldable pub pin_fault : List Part → List NetWord → Option BoardFault
+pin_fault parts words = no_pin (described_names parts) (pin_places parts) words then pin_twice words
+
+-- the rules on INERT, SUPPLY and PULL lines
+unfoldable pub line_fault : List ChainLine → List (List ℕ) → Option BoardFault
+line_fault chain names =
+    inert_in_chain (named Inert chain) (names_of (named PartName chain)) then no_supply_net (named Supply chain) names then no_pull_net (named Pull chain) names then pull_twice (named Pull chain)
+
+-- the rules on always-on drivers
+unfoldable pub driver_fault : RawBoard → List NetWord → Option BoardFault
+driver_fault board drivers = guarded_driver board drivers then two_always_on drivers
+
+-- the rules in their order
+unfoldable pub board_fault : List ChainLine → List NetLine → List Part → Option BoardFault
+board_fault chain nets parts =
+    limit_fault parts (net_names nets) (standing_words nets) then pin_fault parts (standing_words nets) then line_fault chain (net_names nets)
+    then driver_fault (board_with chain nets parts) (always_on (board_with chain nets parts) (marks_of chain parts) (standing_words nets))
+
+-- the board of these parts, or the first fault
+unfoldable pub board_answer : List ChainLine → List NetLine → List Part → Result RawBoard BoardFault
+board_answer chain nets parts = unless (board_fault chain nets parts) (board_with chain nets parts)
+
+-- the board that the files and the devices denote, or the first fault
+abbrev pub board_of : List ChainLine → List NetLine → List RawDevice → Result RawBoard BoardFault
+board_of chain nets devices = board_answer chain nets (chain_parts chain devices)

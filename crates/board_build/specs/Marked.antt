@@ -1,0 +1,171 @@
+-- Net words with what is known of their pins, as the code keeps them.
+use Rattle.std.specs.Prelude.{ℕ, ◌+◌, ◌==◌, Bool, false, ◌&&◌, List, [], ◌∷◌, ◌++◌, length, map, filter, find, nat_lt, slice_get, Option, Some, None, Result, option_and_then, option_map, is_none, if◌then◌else◌}
+use Rattle.std.proofs.Common.{Bor, get_or, set}
+use Rattle.std.specs.Option.{option_to_list}
+use Rattle.board_defs.specs.declared.device.Cell.{Cell}
+use Rattle.board_defs.specs.declared.device.RawDevice.{RawDevice}
+use Rattle.board_defs.specs.declared.board.Part.{Part}
+use Rattle.board_defs.specs.declared.board.PinAt.{PinAt}
+use Rattle.board_defs.specs.declared.board.NetPin.{NetPin}
+use Rattle.board_defs.specs.declared.board.Net.{Net}
+use Rattle.board_defs.specs.declared.spot.Spot.{Spot}
+use Rattle.board_defs.specs.DeviceRules.{driving_entry}
+use Rattle.board_defs.specs.Pins.{described}
+use Rattle.board_files.specs.declared.chain_file.ChainLine.{ChainLine}
+use Rattle.board_defs.specs.declared.board.RawBoard.{RawBoard}
+use Rattle.first_places.specs.Places.{once, first_repeated}
+use Rattle.board_build.specs.declared.fault.BoardFault.{BoardFault}
+use Rattle.board_build.specs.declared.fault.BoardFault.TheVariants.{Limit, NoPin, PinTwice, GuardedDriver, TwoAlwaysOn}
+use Rattle.board_build.specs.declared.names.Naming.TheVariants.{Supply}
+use Rattle.board_build.specs.Faults.{◌then◌, unless}
+use Rattle.board_build.specs.Names.{named, names_of}
+use Rattle.board_build.specs.LineRules.{Pulled, pulls_of, pull_of_net}
+use Rattle.board_build.specs.BoardRules.{data_limit, net_limit, line_fault, is_kept}
+use Rattle.board_build.specs.declared.marked.MarkedWord.{MarkedWord}
+use Rattle.board_build.specs.NetWords.{Pin, NetWord, same_pin, net_of, pin_of, spot_of, is_among}
+use Rattle.board_build.specs.ChainParts.{PinPlace, place_of_pin, described_names}
+
+-- the driving entry is there and has no control
+abbrev pub is_free : Option Cell → Bool
+is_free None = false
+is_free (Some cell) = is_none cell.ctl
+
+-- the same of a port bit of a device
+abbrev pub is_free_bit : Option RawDevice → ℕ → Bool
+is_free_bit None bit = false
+is_free_bit (Some device) bit = is_free (driving_entry device bit)
+
+abbrev pub device_of : List Part → ℕ → Option RawDevice
+device_of parts n = option_and_then (λ part. described part.kind) (slice_get parts n)
+
+-- an always-on driver stands at this place of the chain
+abbrev pub is_free_at : List Part → Option PinAt → Bool
+is_free_at parts None = false
+is_free_at parts (Some at) = is_free_bit (device_of parts at.part) at.bit
+
+-- a word, and of its pin: whether its part is described, where it is, whether its part is inert, and whether it is an always-on driver
+pub record Marked : Type 0 where
+  pub word : NetWord
+  pub described : Bool
+  pub at : Option PinAt
+  pub inert : Bool
+  pub always_on : Bool
+
+abbrev pub mark : List Part → List PinPlace → List (List ℕ) → NetWord → Marked
+mark parts places inerts word = record {
+  word = word;
+  described = is_among (described_names parts) (pin_of word).0;
+  at = place_of_pin places (pin_of word);
+  inert = is_among inerts (pin_of word).0;
+  always_on = is_free_at parts (place_of_pin places (pin_of word));
+}
+
+-- a marked word as the code has it
+abbrev pub seen : MarkedWord → Marked
+seen m = record {
+  word = ((m.net, (m.part.now, m.pin.now)), m.spot);
+  described = m.described;
+  at = m.at;
+  inert = m.inert;
+  always_on = m.always_on;
+}
+
+-- the marking of a lent word, by what is asked of its pin
+abbrev pub mark_by : List Part → (Bor (List ℕ) → Bool) → (Bor (List ℕ) × Bor (List ℕ) → Option PinAt) → (Bor (List ℕ) → Bool) → (ℕ × (Bor (List ℕ) × Bor (List ℕ))) × Spot → MarkedWord
+mark_by parts described place inert w = record {
+  net = w.0.0;
+  part = w.0.1.0;
+  pin = w.0.1.1;
+  spot = w.1;
+  described = described w.0.1.0;
+  at = place w.0.1;
+  inert = inert w.0.1.0;
+  always_on = is_free_at parts (place w.0.1);
+}
+
+-- a net by its lent name and its pins
+abbrev pub net_by : (Bor (List ℕ) → Bool) → (Bor (List ℕ) → Option Bool) → Bor (List ℕ) × List NetPin → Net
+net_by supply pull p = record { name = p.0.now; supply = supply p.0; pull = pull p.0; pins = p.1 }
+
+abbrev pub number_of : Marked → ℕ
+number_of m = net_of m.word
+
+abbrev pub place_of : Marked → Spot
+place_of m = spot_of m.word
+
+-- the pin of a net
+abbrev pub pin_with : Marked → NetPin
+pin_with m = record { part = (pin_of m.word).0; pin = (pin_of m.word).1; at = m.at; inert = m.inert }
+
+-- the pins of the net of this number
+abbrev pub group_of : List Marked → ℕ → List NetPin
+group_of words n = map pin_with (filter (λ m. number_of m == n) words)
+
+-- the groups after a word, if there is one
+abbrev pub groups_after : Option MarkedWord → ℕ → List (List NetPin) → List (List NetPin)
+groups_after None count groups = groups
+groups_after (Some word) count groups = if nat_lt word.net count then set groups word.net (get_or groups word.net [] ++ pin_with (seen word) ∷ []) else groups
+
+-- the nets after a name and a group, if there are both
+abbrev pub nets_after : {A G N : Type 0} → (A × G → N) → Option A → Option G → List N → List N
+nets_after f None group nets = nets
+nets_after f (Some name) group nets = nets ++ option_to_list (option_map (λ g. f (name, g)) group)
+
+-- the marks after a word, if there is one
+abbrev pub marks_after : {A N : Type 0} → (A → N) → Option A → List N → List N
+marks_after f None marks = marks
+marks_after f (Some word) marks = marks ++ f word ∷ []
+
+abbrev pub net_with : List (List ℕ) → List Pulled → List Marked → ℕ → List ℕ → Net
+net_with supplies pulls words n name = record { name = name; supply = is_among supplies name; pull = pull_of_net pulls name; pins = group_of words n }
+
+-- the nets from number n on
+abbrev pub nets_with : List (List ℕ) → List Pulled → List Marked → ℕ → List (List ℕ) → List Net
+nets_with supplies pulls words n [] = []
+nets_with supplies pulls words n (name ∷ names) = net_with supplies pulls words n name ∷ nets_with supplies pulls words (n + 1) names
+
+-- the board of the marked words
+abbrev pub board_by : List ChainLine → List Part → List (List ℕ) → List Marked → RawBoard
+board_by chain parts names words = record { chain = parts; nets = nets_with (names_of (named Supply chain)) (pulls_of chain) words 0 names }
+
+abbrev pub pin_in : Marked → Pin
+pin_in m = pin_of m.word
+
+abbrev pub same_pins : Marked → Marked → Bool
+same_pins a b = same_pin (pin_in a) (pin_in b)
+
+-- the rules on marked words
+unfoldable pub marked_limit : List Marked → Option BoardFault
+marked_limit words = if nat_lt 65535 (length (once same_pins words)) then Some (Limit 4) else None
+
+unfoldable pub marked_unknown : List Marked → Option BoardFault
+marked_unknown words = option_map (λ m. NoPin (place_of m)) (find (λ m. m.described && is_none m.at) words)
+
+unfoldable pub marked_twice : List Marked → Option BoardFault
+marked_twice words = option_map (λ m. PinTwice (place_of m)) (first_repeated same_pins words)
+
+unfoldable pub marked_guarded : RawBoard → List Marked → Option BoardFault
+marked_guarded board drivers = option_map (λ m. GuardedDriver (place_of m)) (find (λ m. is_kept board (slice_get board.nets (number_of m))) drivers)
+
+unfoldable pub marked_two : List Marked → Option BoardFault
+marked_two drivers = option_map (λ m. TwoAlwaysOn (place_of m)) (first_repeated (λ a b. number_of a == number_of b) drivers)
+
+unfoldable pub marked_drivers : RawBoard → List Marked → Option BoardFault
+marked_drivers board drivers = marked_guarded board drivers then marked_two drivers
+
+unfoldable pub marked_pins : List Marked → Option BoardFault
+marked_pins words = marked_limit words then marked_unknown words then marked_twice words
+
+unfoldable pub file_fault : List ChainLine → List Part → List (List ℕ) → List Marked → Option BoardFault
+file_fault chain parts names words = data_limit parts then net_limit names then marked_pins words then line_fault chain names
+
+-- the words of always-on drivers that stand on a net
+abbrev pub always_on : ℕ → List Marked → List Marked
+always_on nets words = filter (λ m. nat_lt (number_of m) nets && m.always_on) words
+
+unfoldable pub marked_fault : List ChainLine → List Part → List (List ℕ) → List Marked → Option BoardFault
+marked_fault chain parts names words =
+    file_fault chain parts names words then marked_drivers (board_by chain parts names words) (always_on (length (board_by chain parts names words).nets) words)
+
+unfoldable pub marked_answer : List ChainLine → List Part → List (List ℕ) → List Marked → Result RawBoard BoardFault
+marked_answer chain parts names words = unless (marked_fault chain parts names words) (board_by chain parts names words)

@@ -1,0 +1,159 @@
+// Net words with what is known of their pins.
+ghost use Rattle.std.specs.Prelude.{◌≡◌, ◌<◌, ◌≤◌, ◌^◌, vec_len, length, map, IfOk, OnOk, is_none, is_some, option_copied, slice_get};
+ghost use Rattle.indexmap.specs.IndexMap.{get_by};
+ghost use Rattle.board_defs.specs.DeviceRules.{driving_entry};
+ghost use Rattle.board_build.specs.Names.{named, names_of, same_name};
+ghost use Rattle.board_build.specs.declared.names.Naming.TheVariants.{Inert};
+ghost use Rattle.board_build.specs.NetWords.{lent_pin, lent_word, same_pin};
+ghost use Rattle.board_build.specs.ChainParts.{pin_places};
+ghost use Rattle.board_build.specs.Marked.{device_of, is_free, is_free_at, is_free_bit, mark, mark_by, marks_after, seen};
+
+use crate::line_rules::names_in;
+use crate::names::{Naming, first_places_of, place_of};
+use crate::parts::{described_names, pin_places, places_by_pin};
+use crate::words::{NetWord, PinName};
+use board_defs::{Cell, Part, PinAt, RawDevice, Spot};
+use board_files::ChainLine;
+use indexmap::IndexMap;
+use std::alloc::{AllocError, Global};
+
+/// A word of a net file that names a pin, and what is known of the pin.
+#[derive(Clone, Copy)]
+pub struct MarkedWord<'a> {
+    /// The number of the net.
+    pub net: u32,
+    pub part: &'a [u8],
+    pub pin: &'a [u8],
+    pub spot: Spot,
+    /// Whether the pin's part is described.
+    pub described: bool,
+    /// Where the pin is in the chain.
+    pub at: Option<PinAt>,
+    /// Whether the pin's part is inert.
+    pub inert: bool,
+    /// Whether the pin is an always-on driver.
+    pub always_on: bool,
+}
+
+fn is_free(entry: Option<Cell>) -> bool
+    ensures { result ≡ is_free entry }
+{
+    match entry {
+        Some(cell) => cell.ctl.is_none(),
+        None => false,
+    }
+}
+
+fn device_of(parts: &[Part], number: u32) -> Option<&RawDevice>
+    ensures { option_copied result ≡ device_of parts.now number }
+{
+    match parts.get(number as usize) {
+        Some(part) => part.kind.device(),
+        None => None,
+    }
+}
+
+/// Whether an always-on driver stands at this place of the chain.
+fn is_free_at(parts: &[Part], at: Option<PinAt>) -> bool
+    ensures { result ≡ is_free_at parts.now at }
+{
+    match at {
+        None => false,
+        Some(at) => match device_of(parts, at.part) {
+            Some(device) => is_free(device.driving_entry(at.bit)),
+            None => false,
+        },
+    }
+}
+
+/// Whether the name is one of these.
+pub fn is_known(names: &IndexMap<&[u8], u32>, name: &[u8]) -> bool
+    ensures { result ≡ is_some (get_by (λ n. same_name name.now n.now) names.now) }
+{
+    place_of(names, name).is_some()
+}
+
+fn place_of_pin(places: &IndexMap<PinName<'_>, PinAt>, pin: &PinName<'_>) -> Option<PinAt>
+    ensures { result ≡ get_by (λ p. same_pin (lent_pin pin.now) (lent_pin p)) places.now }
+{
+    places.get(pin).copied()
+}
+
+fn mark<'a>(
+    word: &NetWord<'a>,
+    parts: &[Part],
+    places: &IndexMap<PinName<'_>, PinAt>,
+    described: &IndexMap<&[u8], u32>,
+    inerts: &IndexMap<&[u8], u32>,
+) -> MarkedWord<'a>
+    ensures { result ≡ mark_by parts.now (λ q. is_some (get_by (λ n. same_name q.now n.now) described.now)) (λ q. get_by (λ p. same_pin (lent_pin q) (lent_pin p)) places.now) (λ q. is_some (get_by (λ n. same_name q.now n.now) inerts.now)) word.now }
+{
+    let at = place_of_pin(places, &word.0.1);
+    MarkedWord {
+        net: word.0.0,
+        part: word.0.1.0,
+        pin: word.0.1.1,
+        spot: word.1,
+        described: is_known(described, word.0.1.0),
+        at,
+        inert: is_known(inerts, word.0.1.0),
+        always_on: is_free_at(parts, at),
+    }
+}
+
+fn mark_at<'a>(
+    marked: &mut Vec<MarkedWord<'a>>,
+    words: &[NetWord<'a>],
+    place: usize,
+    parts: &[Part],
+    places: &IndexMap<PinName<'_>, PinAt>,
+    described: &IndexMap<&[u8], u32>,
+    inerts: &IndexMap<&[u8], u32>,
+) -> Result<(), AllocError>
+    ensures { OnOk result (marked.new.items ≡ marks_after (mark_by parts.now (λ q. is_some (get_by (λ n. same_name q.now n.now) described.now)) (λ q. get_by (λ p. same_pin (lent_pin q) (lent_pin p)) places.now) (λ q. is_some (get_by (λ n. same_name q.now n.now) inerts.now))) (slice_get words.now place) marked.old.items) }
+{
+    match words.get(place) {
+        Some(word) => {
+            marked.push(mark(word, parts, places, described, inerts))?;
+            Ok(())
+        }
+        None => Ok(()),
+    }
+}
+
+fn mark_all<'a>(
+    alloc: Global,
+    words: &[NetWord<'a>],
+    parts: &[Part],
+    places: &IndexMap<PinName<'_>, PinAt>,
+    described: &IndexMap<&[u8], u32>,
+    inerts: &IndexMap<&[u8], u32>,
+) -> Result<Vec<MarkedWord<'a>>, AllocError>
+    ensures { IfOk result (λ marked. marked.items ≡ map (mark_by parts.now (λ q. is_some (get_by (λ n. same_name q.now n.now) described.now)) (λ q. get_by (λ p. same_pin (lent_pin q) (lent_pin p)) places.now) (λ q. is_some (get_by (λ n. same_name q.now n.now) inerts.now))) words.now) }
+{
+    let mut marked = Vec::new(alloc);
+    for i in 0..words.len() {
+        mark_at(&mut marked, words, i, parts, places, described, inerts)?;
+    }
+    Ok(marked)
+}
+
+/// The words, each with what is known of its pin.
+pub fn marked_words<'a>(
+    alloc: Global,
+    lines: &[ChainLine],
+    parts: &[Part],
+    words: &[NetWord<'a>],
+) -> Result<Vec<MarkedWord<'a>>, AllocError>
+    requires lines { length lines.now < 2 ^ 32 }
+    requires parts { length parts.now < 2 ^ 32 }
+    ensures { IfOk result (λ marked. map seen marked.items ≡ map (mark parts.now (pin_places parts.now) (names_of (named Inert lines.now))) (map lent_word words.now)) }
+{
+    let places = pin_places(alloc, parts)?;
+    let by_pin = places_by_pin(alloc, &places)?;
+    let names = described_names(alloc, parts)?;
+    let by_name = first_places_of(alloc, &names)?;
+    let inerts = names_in(alloc, lines, Naming::Inert)?;
+    let by_inert = first_places_of(alloc, &inerts)?;
+    mark_all(alloc, words, parts, &by_pin, &by_name, &by_inert)
+}

@@ -1,0 +1,209 @@
+// The nets of a board, from the words that name their pins.
+ghost use Rattle.std.specs.Prelude.{◌≡◌, ◌<◌, ◌^◌, ◌∷◌, [], ◌++◌, ℕ, List, vec_len, length, map, zip, drop, slice_get, nat_lt, IfOk, OnOk, Option, option_map, is_some, if◌then◌else◌};
+ghost use Rattle.std.specs.Option.{option_to_list};
+ghost use Rattle.std.specs.Vec.Iter.{into_iter_items};
+ghost use Rattle.std.proofs.Common.{get_or, set};
+ghost use Rattle.indexmap.specs.IndexMap.{get_by};
+ghost use Rattle.board_build.specs.Names.{named, names_of, same_name};
+ghost use Rattle.board_build.specs.declared.names.Naming.TheVariants.{Supply};
+ghost use Rattle.board_build.specs.LineRules.{pulls_of};
+ghost use Rattle.board_build.specs.Marked.{board_by, group_of, groups_after, net_by, nets_after, nets_with, pin_with, seen};
+
+use crate::line_rules::{names_in, pull_of_net, pulls_by_net, pulls_of};
+use crate::marked::{MarkedWord, is_known};
+use crate::names::{Naming, first_places_of};
+use board_defs::{Items, Name, Net, NetPin, Part, RawBoard};
+use board_files::ChainLine;
+use indexmap::IndexMap;
+use std::alloc::{AllocError, Global};
+use std::vec::IntoIter;
+
+fn pin_with(alloc: Global, word: &MarkedWord<'_>) -> Result<NetPin, AllocError>
+    ensures { IfOk result (λ pin. pin ≡ pin_with (seen word.now)) }
+{
+    Ok(NetPin {
+        part: Name::of(alloc, word.part)?,
+        pin: Name::of(alloc, word.pin)?,
+        at: word.at,
+        inert: word.inert,
+    })
+}
+
+fn push_pin(groups: &mut Vec<Vec<NetPin>>, number: usize, pin: NetPin) -> Result<(), AllocError>
+    requires { number < vec_len groups.old }
+    ensures count { OnOk result (vec_len groups.new ≡ vec_len groups.old) }
+    ensures groups { OnOk result (map (λ g. g.items) groups.new.items ≡ set (map (λ g. g.items) groups.old.items) number (get_or (map (λ g. g.items) groups.old.items) number [] ++ pin ∷ [])) }
+{
+    groups[number].push(pin)?;
+    Ok(())
+}
+
+/// Adds the pin of a word to the group of its net.
+fn add_word(
+    alloc: Global,
+    groups: &mut Vec<Vec<NetPin>>,
+    word: &MarkedWord<'_>,
+) -> Result<(), AllocError>
+    ensures count { OnOk result (vec_len groups.new ≡ vec_len groups.old) }
+    ensures groups { OnOk result (map (λ g. g.items) groups.new.items ≡ (if nat_lt word.now.net (vec_len groups.old) then set (map (λ g. g.items) groups.old.items) word.now.net (get_or (map (λ g. g.items) groups.old.items) word.now.net [] ++ pin_with (seen word.now) ∷ []) else map (λ g. g.items) groups.old.items)) }
+{
+    let number = word.net as usize;
+    if number < groups.len() {
+        let pin = pin_with(alloc, word)?;
+        push_pin(groups, number, pin)?;
+    }
+    Ok(())
+}
+
+fn add_at(
+    alloc: Global,
+    groups: &mut Vec<Vec<NetPin>>,
+    words: &[MarkedWord<'_>],
+    place: usize,
+) -> Result<(), AllocError>
+    ensures count { OnOk result (vec_len groups.new ≡ vec_len groups.old) }
+    ensures groups { OnOk result (map (λ g. g.items) groups.new.items ≡ groups_after (slice_get words.now place) (vec_len groups.old) (map (λ g. g.items) groups.old.items)) }
+{
+    match words.get(place) {
+        Some(word) => add_word(alloc, groups, word),
+        None => Ok(()),
+    }
+}
+
+fn empty_groups(alloc: Global, count: usize) -> Result<Vec<Vec<NetPin>>, AllocError>
+    ensures count { IfOk result (λ groups. vec_len groups ≡ count) }
+    ensures empty { IfOk result (λ groups. (n : ℕ) → get_or (map (λ g. g.items) groups.items) n [] ≡ []) }
+{
+    let mut groups = Vec::new(alloc);
+    for _ in 0..count {
+        groups.push(Vec::new(alloc))?;
+    }
+    Ok(groups)
+}
+
+/// The pins of each net.
+fn groups(
+    alloc: Global,
+    count: usize,
+    words: &[MarkedWord<'_>],
+) -> Result<Vec<Vec<NetPin>>, AllocError>
+    ensures count { IfOk result (λ groups. vec_len groups ≡ count) }
+    ensures groups { IfOk result (λ groups. (n : ℕ) → n < count → get_or (map (λ g. g.items) groups.items) n [] ≡ group_of (map seen words.now) n) }
+{
+    let mut groups = empty_groups(alloc, count)?;
+    for i in 0..words.len() {
+        add_at(alloc, &mut groups, words, i)?;
+    }
+    Ok(groups)
+}
+
+fn net(
+    alloc: Global,
+    name: &[u8],
+    supplies: &IndexMap<&[u8], u32>,
+    pulls: &IndexMap<&[u8], bool>,
+    pins: Vec<NetPin>,
+) -> Result<Net, AllocError>
+    ensures { IfOk result (λ net. net ≡ record { name = name.now; supply = is_some (get_by (λ n. same_name name.now n.now) supplies.now); pull = get_by (λ n. same_name name.now n.now) pulls.now; pins = pins.items }) }
+{
+    Ok(Net {
+        name: Name::of(alloc, name)?,
+        supply: is_known(supplies, name),
+        pull: pull_of_net(pulls, name),
+        pins: Items::of(pins),
+    })
+}
+
+fn next_group(groups: &mut IntoIter<Vec<NetPin>>) -> Option<Vec<NetPin>>
+    ensures head { option_map (λ g. g.items) result ≡ slice_get (map (λ g. g.items) (into_iter_items groups.old)) 0 }
+    ensures rest { map (λ g. g.items) (into_iter_items groups.new) ≡ drop 1 (map (λ g. g.items) (into_iter_items groups.old)) }
+{
+    groups.next()
+}
+
+/// Adds the net of the next group.
+fn push_net(
+    alloc: Global,
+    nets: &mut Vec<Net>,
+    name: &[u8],
+    supplies: &IndexMap<&[u8], u32>,
+    pulls: &IndexMap<&[u8], bool>,
+    group: Option<Vec<NetPin>>,
+) -> Result<(), AllocError>
+    ensures { OnOk result (nets.new.items ≡ nets.old.items ++ option_to_list (option_map (λ g. record { name = name.now; supply = is_some (get_by (λ n. same_name name.now n.now) supplies.now); pull = get_by (λ n. same_name name.now n.now) pulls.now; pins = g }) (option_map (λ g. g.items) group))) }
+{
+    if let Some(pins) = group {
+        nets.push(net(alloc, name, supplies, pulls, pins)?)?;
+    }
+    Ok(())
+}
+
+fn push_at(
+    alloc: Global,
+    nets: &mut Vec<Net>,
+    names: &[&[u8]],
+    place: usize,
+    supplies: &IndexMap<&[u8], u32>,
+    pulls: &IndexMap<&[u8], bool>,
+    group: Option<Vec<NetPin>>,
+) -> Result<(), AllocError>
+    ensures { OnOk result (nets.new.items ≡ nets_after (net_by (λ q. is_some (get_by (λ n. same_name q.now n.now) supplies.now)) (λ q. get_by (λ n. same_name q.now n.now) pulls.now)) (slice_get names.now place) (option_map (λ g. g.items) group) nets.old.items) }
+{
+    match names.get(place) {
+        Some(name) => push_net(alloc, nets, name, supplies, pulls, group),
+        None => Ok(()),
+    }
+}
+
+fn nets_by(
+    alloc: Global,
+    names: &[&[u8]],
+    supplies: &IndexMap<&[u8], u32>,
+    pulls: &IndexMap<&[u8], bool>,
+    groups: Vec<Vec<NetPin>>,
+) -> Result<Vec<Net>, AllocError>
+    ensures { IfOk result (λ nets. nets.items ≡ map (net_by (λ q. is_some (get_by (λ n. same_name q.now n.now) supplies.now)) (λ q. get_by (λ n. same_name q.now n.now) pulls.now)) (zip names.now (map (λ g. g.items) groups.items))) }
+{
+    let mut nets = Vec::new(alloc);
+    let mut groups = groups.into_iter();
+    for i in 0..names.len() {
+        let group = next_group(&mut groups);
+        push_at(alloc, &mut nets, names, i, supplies, pulls, group)?;
+    }
+    Ok(nets)
+}
+
+fn board_nets(
+    alloc: Global,
+    lines: &[ChainLine],
+    names: &[&[u8]],
+    words: &[MarkedWord<'_>],
+) -> Result<Vec<Net>, AllocError>
+    requires { length lines.now < 2 ^ 32 }
+    ensures { IfOk result (λ nets. nets.items ≡ nets_with (names_of (named Supply lines.now)) (pulls_of lines.now) (map seen words.now) 0 (map (λ n. n.now) names.now)) }
+{
+    let supplies = names_in(alloc, lines, Naming::Supply)?;
+    let by_supply = first_places_of(alloc, &supplies)?;
+    let pulls = pulls_of(alloc, lines)?;
+    let by_pull = pulls_by_net(alloc, &pulls)?;
+    let groups = groups(alloc, names.len(), words)?;
+    nets_by(alloc, names, &by_supply, &by_pull, groups)
+}
+
+/// The board of these parts and words.
+pub fn board_by(
+    alloc: Global,
+    lines: &[ChainLine],
+    parts: Vec<Part>,
+    names: &[&[u8]],
+    words: &[MarkedWord<'_>],
+) -> Result<RawBoard, AllocError>
+    requires { length lines.now < 2 ^ 32 }
+    ensures { IfOk result (λ board. board ≡ board_by lines.now parts.items (map (λ n. n.now) names.now) (map seen words.now)) }
+{
+    let nets = board_nets(alloc, lines, names, words)?;
+    Ok(RawBoard {
+        chain: Items::of(parts),
+        nets: Items::of(nets),
+    })
+}

@@ -1,0 +1,288 @@
+// The rules that a board's files keep, in their order.
+ghost use Rattle.std.specs.Prelude.{◌≡◌, ◌<◌, ◌≤◌, ◌^◌, ◌==◌, ◌&&◌, length, vec_len, map, filter, find, nat_lt, sum_by, slice_get, unwrap_or, IfOk, Option, Some, None, option_map, is_none, false, if◌then◌else◌};
+ghost use Rattle.std.specs.List.{list_any};
+ghost use Rattle.first_places.specs.Places.{first_repeated, once};
+ghost use Rattle.board_defs.specs.Pins.{data_length, is_test_pin};
+ghost use Rattle.board_build.specs.declared.fault.BoardFault.TheVariants.{Limit, NoPin, PinTwice, GuardedDriver, TwoAlwaysOn};
+ghost use Rattle.board_build.specs.NetWords.{lent_pin, same_pin};
+ghost use Rattle.board_build.specs.BoardRules.{data_limit, net_limit, is_kept};
+ghost use Rattle.board_build.specs.Marked.{always_on, file_fault, marked_drivers, marked_guarded, marked_limit, marked_pins, marked_twice, marked_two, marked_unknown, seen};
+
+use crate::fault::BoardFault;
+use crate::line_rules::line_fault;
+use crate::marked::MarkedWord;
+use crate::words::PinName;
+use board_defs::{Net, NetPin, Part, RawBoard, Spot};
+use board_files::ChainLine;
+use first_places::{first_repeated, once_by};
+use std::alloc::{AllocError, Global};
+
+/// The bits of a data scan of the whole chain.
+fn data_bits(parts: &[Part]) -> u64
+    requires { length parts.now ≤ 255 }
+    ensures { result ≡ sum_by (λ part. data_length part.kind) parts.now }
+{
+    let mut bits = 0u64;
+    for part in parts {
+        bits += part.kind.data_length() as u64;
+    }
+    bits
+}
+
+#[tactic(auto, unfolding(crate::specs::BoardRules::data_limit))]
+fn data_limit(parts: &[Part]) -> Option<BoardFault>
+    requires { length parts.now ≤ 255 }
+    ensures { result ≡ data_limit parts.now }
+{
+    if 65535 < data_bits(parts) {
+        Some(BoardFault::Limit(2))
+    } else {
+        None
+    }
+}
+
+#[tactic(auto, unfolding(crate::specs::BoardRules::net_limit))]
+fn net_limit(names: &[&[u8]]) -> Option<BoardFault>
+    ensures { result ≡ net_limit (map (λ n. n.now) names.now) }
+{
+    if 16382 < names.len() {
+        Some(BoardFault::Limit(3))
+    } else {
+        None
+    }
+}
+
+/// The words by their pins.
+fn by_pin<'a>(
+    alloc: Global,
+    words: &[MarkedWord<'a>],
+) -> Result<Vec<(PinName<'a>, Spot)>, AllocError>
+    ensures { IfOk result (λ pins. pins.items ≡ map (λ w. ((w.part, w.pin), w.spot)) words.now) }
+{
+    let mut pins = Vec::new(alloc);
+    for word in words {
+        pins.push(((word.part, word.pin), word.spot))?;
+    }
+    Ok(pins)
+}
+
+fn count_pins(alloc: Global, pins: &[(PinName<'_>, Spot)]) -> Result<usize, AllocError>
+    ensures { IfOk result (λ count. count ≡ length (once (λ a b. same_pin (lent_pin a.0) (lent_pin b.0)) pins.now)) }
+{
+    let different = once_by(alloc, pins)?;
+    Ok(different.len())
+}
+
+fn pin_limit(alloc: Global, pins: &[(PinName<'_>, Spot)]) -> Result<Option<BoardFault>, AllocError>
+    ensures { IfOk result (λ fault. fault ≡ (if nat_lt 65535 (length (once (λ a b. same_pin (lent_pin a.0) (lent_pin b.0)) pins.now)) then Some (Limit 4) else None)) }
+{
+    let count = count_pins(alloc, pins)?;
+    if 65535 < count {
+        Ok(Some(BoardFault::Limit(4)))
+    } else {
+        Ok(None)
+    }
+}
+
+fn pin_twice(alloc: Global, pins: &[(PinName<'_>, Spot)]) -> Result<Option<BoardFault>, AllocError>
+    ensures { IfOk result (λ fault. fault ≡ option_map (λ p. PinTwice p.1) (first_repeated (λ a b. same_pin (lent_pin a.0) (lent_pin b.0)) pins.now)) }
+{
+    match first_repeated(alloc, pins)? {
+        Some(spot) => Ok(Some(BoardFault::PinTwice(spot))),
+        None => Ok(None),
+    }
+}
+
+fn unknown_pin(words: &[MarkedWord<'_>]) -> Option<BoardFault>
+    ensures { result ≡ option_map (λ w. NoPin w.spot) (find (λ w. w.described && is_none w.at) words.now) }
+{
+    for word in words {
+        if word.described && word.at.is_none() {
+            return Some(BoardFault::NoPin(word.spot));
+        }
+    }
+    None
+}
+
+fn marked_limit(alloc: Global, words: &[MarkedWord<'_>]) -> Result<Option<BoardFault>, AllocError>
+    ensures { IfOk result (λ fault. fault ≡ marked_limit (map seen words.now)) }
+{
+    let pins = by_pin(alloc, words)?;
+    pin_limit(alloc, &pins)
+}
+
+fn marked_unknown(words: &[MarkedWord<'_>]) -> Option<BoardFault>
+    ensures { result ≡ marked_unknown (map seen words.now) }
+{
+    unknown_pin(words)
+}
+
+fn marked_twice(alloc: Global, words: &[MarkedWord<'_>]) -> Result<Option<BoardFault>, AllocError>
+    ensures { IfOk result (λ fault. fault ≡ marked_twice (map seen words.now)) }
+{
+    let pins = by_pin(alloc, words)?;
+    pin_twice(alloc, &pins)
+}
+
+/// The rules on pins, in their order.
+#[tactic(auto, unfolding(crate::specs::Marked::marked_pins))]
+fn pin_fault(alloc: Global, words: &[MarkedWord<'_>]) -> Result<Option<BoardFault>, AllocError>
+    ensures { IfOk result (λ fault. fault ≡ marked_pins (map seen words.now)) }
+{
+    if let Some(fault) = marked_limit(alloc, words)? {
+        return Ok(Some(fault));
+    }
+    if let Some(fault) = marked_unknown(words) {
+        return Ok(Some(fault));
+    }
+    marked_twice(alloc, words)
+}
+
+/// The rules on the files, in their order.
+#[tactic(auto, unfolding(crate::specs::Marked::file_fault))]
+pub fn file_fault(
+    alloc: Global,
+    lines: &[ChainLine],
+    parts: &[Part],
+    names: &[&[u8]],
+    words: &[MarkedWord<'_>],
+) -> Result<Option<BoardFault>, AllocError>
+    requires lines { length lines.now < 2 ^ 32 }
+    requires parts { length parts.now ≤ 255 }
+    requires names { length names.now < 2 ^ 32 }
+    ensures { IfOk result (λ fault. fault ≡ file_fault lines.now parts.now (map (λ n. n.now) names.now) (map seen words.now)) }
+{
+    if let Some(fault) = data_limit(parts) {
+        return Ok(Some(fault));
+    }
+    if let Some(fault) = net_limit(names) {
+        return Ok(Some(fault));
+    }
+    if let Some(fault) = pin_fault(alloc, words)? {
+        return Ok(Some(fault));
+    }
+    line_fault(alloc, lines, names)
+}
+
+fn any_test_pin(board: &RawBoard, pins: &[NetPin]) -> bool
+    ensures { result ≡ list_any (is_test_pin board.now) pins.now }
+{
+    pins.iter().any(|pin| board.is_test_pin(pin))
+}
+
+/// Whether no always-on driver may stand on the net.
+fn is_kept(board: &RawBoard, net: &Net) -> bool
+    ensures { result ≡ is_kept board.now (Some net.now) }
+{
+    if net.supply {
+        true
+    } else {
+        any_test_pin(board, net.pins.as_slice())
+    }
+}
+
+fn kept_nets(alloc: Global, board: &RawBoard) -> Result<Vec<bool>, AllocError>
+    ensures { IfOk result (λ kept. kept.items ≡ map (λ net. is_kept board.now (Some net)) board.now.nets) }
+{
+    let nets = board.nets.as_slice();
+    nets.iter().map(|net| is_kept(board, net)).collect(alloc)
+}
+
+fn always_on<'a>(
+    alloc: Global,
+    nets: usize,
+    words: &[MarkedWord<'a>],
+) -> Result<Vec<MarkedWord<'a>>, AllocError>
+    ensures { IfOk result (λ drivers. drivers.items ≡ filter (λ w. nat_lt w.net nets && w.always_on) words.now) }
+{
+    let mut drivers = Vec::new(alloc);
+    for word in words {
+        if (word.net as usize) < nets && word.always_on {
+            drivers.push(*word)?;
+        }
+    }
+    Ok(drivers)
+}
+
+fn is_flagged(flags: &[bool], number: u32) -> bool
+    ensures { result ≡ unwrap_or (slice_get flags.now number) false }
+{
+    match flags.get(number as usize) {
+        Some(flag) => *flag,
+        None => false,
+    }
+}
+
+fn guarded_driver(kept: &[bool], drivers: &[MarkedWord<'_>]) -> Option<BoardFault>
+    ensures { result ≡ option_map (λ w. GuardedDriver w.spot) (find (λ w. unwrap_or (slice_get kept.now w.net) false) drivers.now) }
+{
+    for word in drivers {
+        if is_flagged(kept, word.net) {
+            return Some(BoardFault::GuardedDriver(word.spot));
+        }
+    }
+    None
+}
+
+fn by_net(alloc: Global, words: &[MarkedWord<'_>]) -> Result<Vec<(u32, Spot)>, AllocError>
+    ensures { IfOk result (λ nets. nets.items ≡ map (λ w. (w.net, w.spot)) words.now) }
+{
+    let mut nets = Vec::new(alloc);
+    for word in words {
+        nets.push((word.net, word.spot))?;
+    }
+    Ok(nets)
+}
+
+fn two_always_on(alloc: Global, drivers: &[(u32, Spot)]) -> Result<Option<BoardFault>, AllocError>
+    ensures { IfOk result (λ fault. fault ≡ option_map (λ p. TwoAlwaysOn p.1) (first_repeated (λ a b. a.0 == b.0) drivers.now)) }
+{
+    match first_repeated(alloc, drivers)? {
+        Some(spot) => Ok(Some(BoardFault::TwoAlwaysOn(spot))),
+        None => Ok(None),
+    }
+}
+
+fn marked_drivers<'a>(
+    alloc: Global,
+    nets: usize,
+    words: &[MarkedWord<'a>],
+) -> Result<Vec<MarkedWord<'a>>, AllocError>
+    ensures { IfOk result (λ drivers. map seen drivers.items ≡ always_on nets (map seen words.now)) }
+{
+    always_on(alloc, nets, words)
+}
+
+fn marked_guarded(
+    alloc: Global,
+    board: &RawBoard,
+    drivers: &[MarkedWord<'_>],
+) -> Result<Option<BoardFault>, AllocError>
+    ensures { IfOk result (λ fault. fault ≡ marked_guarded board.now (map seen drivers.now)) }
+{
+    let kept = kept_nets(alloc, board)?;
+    Ok(guarded_driver(&kept, drivers))
+}
+
+fn marked_two(alloc: Global, drivers: &[MarkedWord<'_>]) -> Result<Option<BoardFault>, AllocError>
+    ensures { IfOk result (λ fault. fault ≡ marked_two (map seen drivers.now)) }
+{
+    let nets = by_net(alloc, drivers)?;
+    two_always_on(alloc, &nets)
+}
+
+/// The rules on always-on drivers, in their order.
+#[tactic(auto, unfolding(crate::specs::Marked::marked_drivers))]
+pub fn driver_fault(
+    alloc: Global,
+    board: &RawBoard,
+    words: &[MarkedWord<'_>],
+) -> Result<Option<BoardFault>, AllocError>
+    ensures { IfOk result (λ fault. fault ≡ marked_drivers board.now (always_on (length board.now.nets) (map seen words.now))) }
+{
+    let drivers = marked_drivers(alloc, board.nets.len(), words)?;
+    if let Some(fault) = marked_guarded(alloc, board, &drivers)? {
+        return Ok(Some(fault));
+    }
+    marked_two(alloc, &drivers)
+}

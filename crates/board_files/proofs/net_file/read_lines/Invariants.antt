@@ -1,0 +1,17 @@
+use Rattle.std.proofs.Common.{◌≡◌, ◌+◌, ◌≤◌, length}
+use Rattle.std.specs.Prelude.{IfSome, option_copied}
+use Rattle.board_files.specs.Words.{lines_of}
+use Rattle.board_files.specs.Reading.{lines_from, text_of}
+use Rattle.board_files.specs.NetLines.{net_line}
+use Rattle.board_files.proofs.LineLemmas.{front, text_left}
+use Rattle.board_files.proofs.net_file.read_lines.Given as goal
+
+-- the lines so far, and then those of the text that is left
+abbrev pub invariant-loop-rest : goal.invariant-loop-rest
+invariant-loop-rest l = record {
+  read : text_of net_line l.bytes ≡ front l.lines.items (lines_from net_line l.number (lines_of (option_copied l.rest)));
+  place : IfSome l.rest (λ text. l.number + length text.now ≤ 1 + length l.bytes);
+}
+
+abbrev pub decreases-loop-rest : goal.decreases-loop-rest
+decreases-loop-rest l = text_left (option_copied l.rest)

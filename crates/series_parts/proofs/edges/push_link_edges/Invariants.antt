@@ -1,0 +1,7 @@
+use Rattle.std.proofs.Common.{◌≡◌, ◌++◌, drop}
+use Rattle.series_parts.specs.Edges.{link_edges}
+use Rattle.series_parts.proofs.edges.push_link_edges.Given as goal
+
+-- the edges so far, and then those of the lines that are left
+abbrev pub invariant-loop-line : goal.invariant-loop-line
+invariant-loop-line l = l.fn.edges.items ++ link_edges l.pins l.lines ≡ l.edges.items ++ link_edges l.pins (drop l.line-index l.lines)

@@ -1,0 +1,7 @@
+use Rattle.std.proofs.Common.{◌≡◌, map, take}
+use Rattle.series_parts.specs.Edges.{renamed}
+use Rattle.series_parts.specs.Joining.{joined_net}
+use Rattle.series_parts.proofs.files.joined_nets.Given as goal
+
+abbrev pub invariant-loop-line : goal.invariant-loop-line
+invariant-loop-line l = l.joined.items ≡ map (joined_net (renamed l.names (map (λ n. n.now) l.least))) (take l.line-index l.lines)

@@ -1,0 +1,7 @@
+-- The pin is looked up by its two names.
+use Rattle.std.proofs.Common.{◌∙◌, ap}
+use Rattle.series_parts.specs.Edges.{pin_place}
+use Rattle.series_parts.proofs.pins.Pins.place_of.Goals as goal
+
+pub returns : goal.returns
+returns c = c.copied.ensures ∙ c.get.ensures.value ∙ c.self.invariant (c.args.part, c.args.pin) ∙ ap (λ lines. pin_place lines c.args.part.now c.args.pin.now) c.self.view_is

@@ -1,0 +1,79 @@
+-- The joined files as a function of the files.
+use Rattle.std.specs.Prelude.{◌≡◌, ◌&&◌, ◌||◌, Bool, List, [], ◌∷◌, map, find, filter_map, Option, Some, None, Result, Ok, Err, option_map, option_and_then, unwrap_or}
+use Rattle.board_files.specs.declared.chain_file.ChainLine.{ChainLine}
+use Rattle.board_files.specs.declared.chain_file.ChainStatement.{ChainStatement}
+use Rattle.board_files.specs.declared.chain_file.ChainStatement.TheVariants.{Device, Bypass, Inert, Supply, Pull, Link}
+use Rattle.board_files.specs.declared.net_file.NetLine.{NetLine}
+use Rattle.board_defs.specs.declared.spot.Spot.{Spot}
+use Rattle.series_parts.specs.declared.fault.LinkFault.{LinkFault}
+use Rattle.series_parts.specs.declared.fault.LinkFault.TheVariants.{NoLinkPin, Memory}
+use Rattle.series_parts.specs.declared.joining.Joined.{Joined}
+use Rattle.series_parts.specs.Nets.{Word, same_word, net_names, net_of}
+use Rattle.series_parts.specs.LinkPins.{missing_link_pin}
+
+-- two nets that a LINK line joins
+abbrev pub Pair : Type 0
+Pair = Word × Word
+
+abbrev pub pair_of : Option Word → Option Word → Option Pair
+pair_of a b = option_and_then (λ a. option_map (λ b. (a, b)) b) a
+
+-- the nets of the two pins of a LINK line
+abbrev pub link_on : List NetLine → ChainStatement → Option Pair
+link_on nets (Link part first second) = pair_of (net_of nets part first) (net_of nets part second)
+link_on nets (Device part entity pack) = None
+link_on nets (Bypass part bits) = None
+link_on nets (Inert part) = None
+link_on nets (Supply net) = None
+link_on nets (Pull net value) = None
+
+abbrev pub links : List NetLine → List ChainLine → List Pair
+links nets chain = filter_map (λ line. link_on nets line.statement) chain
+
+-- whether some of these links lead from one net to the other: without the first of them, or by way of it
+abbrev pub leads : List Pair → Word → Word → Bool
+leads [] a b = same_word a b
+leads (link ∷ links) a b = leads links a b || ((leads links a link.0 && leads links link.1 b) || (leads links a link.1 && leads links link.0 b))
+
+-- the first net that is joined with this one, or itself where none is there
+unfoldable pub joined_name : List Pair → List Word → Word → Word
+joined_name links names name = unwrap_or (find (leads links name) names) name
+
+abbrev pub joined_statement : (Word → Word) → ChainStatement → ChainStatement
+joined_statement rename (Link part first second) = Inert part
+joined_statement rename (Supply net) = Supply (rename net)
+joined_statement rename (Pull net value) = Pull (rename net) value
+joined_statement rename (Device part entity pack) = Device part entity pack
+joined_statement rename (Bypass part bits) = Bypass part bits
+joined_statement rename (Inert part) = Inert part
+
+abbrev pub joined_line : (Word → Word) → ChainLine → ChainLine
+joined_line rename line = record { line = line.line; statement = joined_statement rename line.statement }
+
+abbrev pub joined_net : (Word → Word) → NetLine → NetLine
+joined_net rename line = record { line = line.line; name = rename line.name; pins = line.pins }
+
+-- the new name of each net
+abbrev pub renaming : List ChainLine → List NetLine → Word → Word
+renaming chain nets = joined_name (links nets chain) (net_names nets)
+
+abbrev pub joined_chain : List ChainLine → List NetLine → List ChainLine
+joined_chain chain nets = map (joined_line (renaming chain nets)) chain
+
+abbrev pub joined_nets : List ChainLine → List NetLine → List NetLine
+joined_nets chain nets = map (joined_net (renaming chain nets)) nets
+
+-- the value, where no pin is missing
+abbrev pub unless : {V : Type 0} → Option Spot → V → Result V LinkFault
+unless None value = Ok value
+unless (Some spot) value = Err (NoLinkPin spot)
+
+-- the joined files, or the first pin of a LINK line that stands in no net
+abbrev pub joined_files : List ChainLine → List NetLine → Result Joined LinkFault
+joined_files chain nets = unless (missing_link_pin nets chain) (record { chain = joined_chain chain nets; nets = joined_nets chain nets })
+
+-- an answer is this one, unless memory ran out
+abbrev pub Gives : Result Joined LinkFault → Result Joined LinkFault → Type 0
+Gives (Ok joined) answer = answer ≡ Ok joined
+Gives (Err (NoLinkPin spot)) answer = answer ≡ Err (NoLinkPin spot)
+Gives (Err (Memory e)) answer = Unit {0}

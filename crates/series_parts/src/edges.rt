@@ -1,0 +1,95 @@
+// The edges between lines of joined nets.
+ghost use Rattle.std.specs.Prelude.{All, ◌≡◌, ◌<◌, ◌^◌, ◌++◌, length, unwrap_or, IfOk, OnOk};
+ghost use Rattle.series_parts.specs.Nets.{net_names};
+ghost use Rattle.series_parts.specs.Edges.{edge_between, edge_of, edge_on, edges, link_edges, name_edges, name_place};
+
+use crate::names::Names;
+use crate::pins::Pins;
+use board_files::{ChainLine, ChainStatement};
+use std::alloc::{AllocError, Global};
+
+/// An edge, where both ends are there.
+fn edge_of(first: Option<u32>, second: Option<u32>) -> Option<(usize, usize)>
+    ensures { result ≡ edge_of first second }
+{
+    match (first, second) {
+        (Some(first), Some(second)) => Some((first as usize, second as usize)),
+        _ => None,
+    }
+}
+
+/// The edge between the lines of two pins of a part.
+#[tactic(auto, unfolding(crate::specs::Edges::edge_between))]
+fn edge_between(pins: &Pins<'_>, part: &[u8], first: &[u8], second: &[u8]) -> Option<(usize, usize)>
+    ensures { result ≡ edge_between pins.now part.now first.now second.now }
+{
+    edge_of(pins.place_of(part, first), pins.place_of(part, second))
+}
+
+/// The edge of a LINK line.
+fn edge_on(pins: &Pins<'_>, statement: &ChainStatement) -> Option<(usize, usize)>
+    ensures { result ≡ edge_on pins.now statement.now }
+{
+    match statement {
+        ChainStatement::Link {
+            part,
+            first,
+            second,
+        } => edge_between(pins, part.bytes(), first.bytes(), second.bytes()),
+        _ => None,
+    }
+}
+
+/// Adds an edge for each LINK line.
+fn push_link_edges(
+    edges: &mut Vec<(usize, usize)>,
+    pins: &Pins<'_>,
+    lines: &[ChainLine],
+) -> Result<(), AllocError>
+    ensures { OnOk result (edges.new.items ≡ edges.old.items ++ link_edges pins.now lines.now) }
+{
+    for line in lines {
+        if let Some(edge) = edge_on(pins, &line.statement) {
+            edges.push(edge)?;
+        }
+    }
+    Ok(())
+}
+
+/// The first line with the name of this line.
+fn first_of(names: &Names<'_>, name: &[u8], place: usize) -> usize
+    ensures { result ≡ unwrap_or (name_place names.now name.now) place }
+{
+    match names.place_of(name) {
+        Some(first) => first as usize,
+        None => place,
+    }
+}
+
+/// An edge from each line to the first line of its name.
+fn name_edges(alloc: Global, names: &Names<'_>) -> Result<Vec<(usize, usize)>, AllocError>
+    ensures { IfOk result (λ edges. edges.items ≡ name_edges names.now 0 names.now) }
+{
+    let mut edges = Vec::new(alloc);
+    for place in 0..names.len() {
+        let first = first_of(names, names.at(place), place);
+        edges.push((place, first))?;
+    }
+    Ok(edges)
+}
+
+/// The edges between lines of joined nets.
+pub fn edges(
+    alloc: Global,
+    chain: &[ChainLine],
+    names: &Names<'_>,
+    pins: &Pins<'_>,
+) -> Result<Vec<(usize, usize)>, AllocError>
+    requires { names.now ≡ net_names pins.now }
+    ensures edges { IfOk result (λ list. list.items ≡ edges pins.now chain.now) }
+    ensures within { IfOk result (λ list. All (λ e. (e.0 < length names.now) × (e.1 < length names.now)) list.items) }
+{
+    let mut edges = name_edges(alloc, names)?;
+    push_link_edges(&mut edges, pins, chain)?;
+    Ok(edges)
+}

@@ -1,0 +1,32 @@
+// Why files have no joined files.
+ghost use Rattle.std.specs.Prelude.{◌≡◌, alloc_error};
+ghost use Rattle.series_parts.specs.declared.fault.LinkFault.TheVariants.{Memory};
+
+use board_defs::Spot;
+use std::alloc::{AllocError, AllocFailed};
+
+/// The first pin of a LINK line that stands in no net, or want of memory.
+#[derive(Debug, Drop, thiserror::Error)]
+pub enum LinkFault {
+    /// The line of the chain file, and the pin's word: 3 or 4.
+    #[error("a pin of a LINK line is in no net")]
+    NoLinkPin(Spot),
+    #[error("out of memory")]
+    Memory(AllocError),
+}
+
+impl From<AllocError> for LinkFault {
+    ghost from_gives = { λ e fault. fault ≡ Memory e };
+
+    fn from(e: AllocError) -> LinkFault {
+        LinkFault::Memory(e)
+    }
+}
+
+impl<T: Drop> From<AllocFailed<T>> for LinkFault {
+    ghost from_gives = { λ _ fault. fault ≡ Memory alloc_error };
+
+    fn from(e: AllocFailed<T>) -> LinkFault {
+        LinkFault::Memory(AllocError::from(e))
+    }
+}

@@ -1,0 +1,168 @@
+// The lines of files under new names of nets.
+ghost use Rattle.std.specs.Prelude.{◌≡◌, map, IfOk};
+ghost use Rattle.series_parts.specs.Edges.{renamed};
+ghost use Rattle.series_parts.specs.Joining.{joined_line, joined_net, joined_statement};
+
+use crate::names::Names;
+use board_defs::{Items, Name};
+use board_files::{ChainLine, ChainStatement, NetLine, PinWord};
+use std::alloc::{AllocError, Global};
+
+fn copy(alloc: Global, name: &Name) -> Result<Name, AllocError>
+    ensures { IfOk result (λ copy. copy ≡ name.now) }
+{
+    Name::of(alloc, name.bytes())
+}
+
+fn copy_package(alloc: Global, chosen: &Option<Name>) -> Result<Option<Name>, AllocError>
+    ensures { IfOk result (λ copy. copy ≡ chosen.now) }
+{
+    match chosen {
+        Some(name) => Ok(Some(copy(alloc, name)?)),
+        None => Ok(None),
+    }
+}
+
+fn copy_pin(alloc: Global, pin: &PinWord) -> Result<PinWord, AllocError>
+    ensures { IfOk result (λ copy. copy ≡ pin.now) }
+{
+    Ok(PinWord {
+        part: copy(alloc, &pin.part)?,
+        pin: copy(alloc, &pin.pin)?,
+    })
+}
+
+fn copy_pins(alloc: Global, pins: &[PinWord]) -> Result<Vec<PinWord>, AllocError>
+    ensures { IfOk result (λ copies. copies.items ≡ pins.now) }
+{
+    let mut copies = Vec::new(alloc);
+    for pin in pins {
+        copies.push(copy_pin(alloc, pin)?)?;
+    }
+    Ok(copies)
+}
+
+/// The new name of a net, where those of the lines are known.
+#[tactic(auto, unfolding(crate::specs::Edges::renamed))]
+fn renamed<'a>(names: &Names<'_>, least: &[&'a [u8]], name: &'a [u8]) -> &'a [u8]
+    ensures { result.now ≡ renamed names.now (map (λ n. n.now) least.now) name.now }
+{
+    match names.place_of(name) {
+        Some(place) => match least.get(place as usize) {
+            Some(least) => *least,
+            None => name,
+        },
+        None => name,
+    }
+}
+
+fn rename(
+    alloc: Global,
+    names: &Names<'_>,
+    least: &[&[u8]],
+    name: &Name,
+) -> Result<Name, AllocError>
+    ensures { IfOk result (λ new. new ≡ renamed names.now (map (λ n. n.now) least.now) name.now) }
+{
+    Name::of(alloc, renamed(names, least, name.bytes()))
+}
+
+fn joined_net(
+    alloc: Global,
+    names: &Names<'_>,
+    least: &[&[u8]],
+    line: &NetLine,
+) -> Result<NetLine, AllocError>
+    ensures { IfOk result (λ new. new ≡ joined_net (renamed names.now (map (λ n. n.now) least.now)) line.now) }
+{
+    let pins = copy_pins(alloc, line.pins.as_slice())?;
+    Ok(NetLine {
+        line: line.line,
+        name: rename(alloc, names, least, &line.name)?,
+        pins: Items::of(pins),
+    })
+}
+
+/// The lines of a net file under the new names of their nets.
+pub fn joined_nets(
+    alloc: Global,
+    names: &Names<'_>,
+    least: &[&[u8]],
+    lines: &[NetLine],
+) -> Result<Vec<NetLine>, AllocError>
+    ensures { IfOk result (λ new. new.items ≡ map (joined_net (renamed names.now (map (λ n. n.now) least.now))) lines.now) }
+{
+    let mut joined = Vec::new(alloc);
+    for line in lines {
+        joined.push(joined_net(alloc, names, least, line)?)?;
+    }
+    Ok(joined)
+}
+
+fn joined_statement(
+    alloc: Global,
+    names: &Names<'_>,
+    least: &[&[u8]],
+    statement: &ChainStatement,
+) -> Result<ChainStatement, AllocError>
+    ensures { IfOk result (λ new. new ≡ joined_statement (renamed names.now (map (λ n. n.now) least.now)) statement.now) }
+{
+    match statement {
+        ChainStatement::Device {
+            part,
+            entity,
+            package,
+        } => Ok(ChainStatement::Device {
+            part: copy(alloc, part)?,
+            entity: copy(alloc, entity)?,
+            package: copy_package(alloc, package)?,
+        }),
+        ChainStatement::Bypass { part, length } => Ok(ChainStatement::Bypass {
+            part: copy(alloc, part)?,
+            length: *length,
+        }),
+        ChainStatement::Inert { part } => Ok(ChainStatement::Inert {
+            part: copy(alloc, part)?,
+        }),
+        ChainStatement::Supply { net } => Ok(ChainStatement::Supply {
+            net: rename(alloc, names, least, net)?,
+        }),
+        ChainStatement::Pull { net, value } => Ok(ChainStatement::Pull {
+            net: rename(alloc, names, least, net)?,
+            value: *value,
+        }),
+        ChainStatement::Link { part, .. } => Ok(ChainStatement::Inert {
+            part: copy(alloc, part)?,
+        }),
+    }
+}
+
+fn joined_line(
+    alloc: Global,
+    names: &Names<'_>,
+    least: &[&[u8]],
+    line: &ChainLine,
+) -> Result<ChainLine, AllocError>
+    ensures { IfOk result (λ new. new ≡ joined_line (renamed names.now (map (λ n. n.now) least.now)) line.now) }
+{
+    Ok(ChainLine {
+        line: line.line,
+        statement: joined_statement(alloc, names, least, &line.statement)?,
+    })
+}
+
+/// The lines of a chain file under the new names of their nets, and INERT lines for LINK lines.
+pub fn joined_chain(
+    alloc: Global,
+    names: &Names<'_>,
+    least: &[&[u8]],
+    lines: &[ChainLine],
+) -> Result<Vec<ChainLine>, AllocError>
+    ensures { IfOk result (λ new. new.items ≡ map (joined_line (renamed names.now (map (λ n. n.now) least.now))) lines.now) }
+{
+    let mut joined = Vec::new(alloc);
+    for line in lines {
+        joined.push(joined_line(alloc, names, least, line)?)?;
+    }
+    Ok(joined)
+}

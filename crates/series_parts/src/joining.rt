@@ -1,0 +1,54 @@
+// The joined files.
+ghost use Rattle.std.specs.Prelude.{◌≡◌, ◌<◌, ◌^◌, length, IfOk};
+ghost use Rattle.series_parts.specs.JoinedFiles.{AreJoinedFiles};
+ghost use Rattle.series_parts.specs.Joining.{Gives, joined_chain, joined_files, joined_nets};
+
+use crate::fault::LinkFault;
+use crate::files;
+use crate::least::least_names;
+use crate::missing::missing_link_pin;
+use crate::names::Names;
+use crate::pins::Pins;
+use board_files::{ChainFile, ChainLine, NetFile, NetLine};
+use std::alloc::{AllocError, Global};
+
+/// A chain file and a net file in which joined nets have one name, and no LINK line stands.
+#[derive(Drop)]
+pub struct Joined {
+    pub chain: ChainFile,
+    pub nets: NetFile,
+}
+
+/// The files with the new names.
+fn renamed_files(
+    alloc: Global,
+    chain: &[ChainLine],
+    nets: &[NetLine],
+    pins: &Pins<'_>,
+) -> Result<Joined, AllocError>
+    requires nets { length nets.now < 2 ^ 32 }
+    requires pins { pins.now ≡ nets.now }
+    ensures { IfOk result (λ joined. joined ≡ record { chain = joined_chain chain.now nets.now; nets = joined_nets chain.now nets.now }) }
+{
+    let names = Names::of(alloc, nets)?;
+    let least = least_names(alloc, chain, &names, pins)?;
+    Ok(Joined {
+        chain: ChainFile::of(files::joined_chain(alloc, &names, &least, chain)?),
+        nets: NetFile::of(files::joined_nets(alloc, &names, &least, nets)?),
+    })
+}
+
+/// The joined files of a chain file and a net file, or the first LINK line and word whose pin
+/// stands in no net.
+pub fn join(alloc: Global, chain: &ChainFile, nets: &NetFile) -> Result<Joined, LinkFault>
+    requires chain { length chain.now < 2 ^ 32 }
+    requires nets { length nets.now < 2 ^ 32 }
+    ensures answer { Gives result (joined_files chain.now nets.now) }
+    ensures joined { IfOk result (λ joined. AreJoinedFiles chain.now nets.now joined.chain joined.nets) }
+{
+    let pins = Pins::of(alloc, nets.lines())?;
+    if let Some(spot) = missing_link_pin(&pins, chain.lines()) {
+        return Err(LinkFault::NoLinkPin(spot));
+    }
+    Ok(renamed_files(alloc, chain.lines(), nets.lines(), &pins)?)
+}

@@ -1,0 +1,19 @@
+//! Series parts: the nets that they join, and the files of the board with these nets joined.
+#![tactic(auto)]
+
+mod classes;
+mod edges;
+mod fault;
+mod files;
+mod joining;
+pub mod law;
+mod least;
+mod missing;
+mod names;
+mod pins;
+
+pub use fault::LinkFault;
+pub use joining::{Joined, join};
+
+#[cfg(test)]
+mod tests;

@@ -1,0 +1,88 @@
+// The names on the lines of a net file.
+ghost use Rattle.std.specs.Prelude.{◌≡◌, [], ◌<◌, ◌^◌, get_or, length, map, vec_len, IfOk, List, ℕ};
+ghost use Rattle.std.proofs.Common.{Bor};
+ghost use Rattle.indexmap.specs.IndexMap.{get_by};
+ghost use Rattle.first_places.specs.Places.{first_place};
+ghost use Rattle.series_parts.specs.Nets.{net_names, same_word};
+ghost use Rattle.series_parts.specs.Edges.{name_place};
+
+use board_files::NetLine;
+use first_places::first_places;
+use indexmap::IndexMap;
+use std::alloc::{AllocError, Global};
+use std::marker::Model;
+
+/// The names of the lines, in order.
+fn net_names<'a>(alloc: Global, lines: &'a [NetLine]) -> Result<Vec<&'a [u8]>, AllocError>
+    ensures names { IfOk result (λ names. map (λ n. n.now) names.items ≡ net_names lines.now) }
+    ensures count { IfOk result (λ names. vec_len names ≡ length lines.now) }
+{
+    let mut names = Vec::new(alloc);
+    for line in lines {
+        names.push(line.name.bytes())?;
+    }
+    Ok(names)
+}
+
+/// The first line of each name.
+fn name_places<'a>(alloc: Global, names: &[&'a [u8]]) -> Result<IndexMap<&'a [u8], u32>, AllocError>
+    requires { length names.now < 2 ^ 32 }
+    ensures { IfOk result (λ places. (q : Bor (List ℕ)) → get_by (λ n. same_word q.now n.now) places ≡ name_place (map (λ n. n.now) names.now) q.now) }
+{
+    first_places(alloc, names)
+}
+
+/// The names on the lines of a net file, seen as their list.
+#[derive(Drop)]
+pub struct Names<'a> {
+    names: Vec<&'a [u8]>,
+    places: IndexMap<&'a [u8], u32>,
+}
+
+impl<'a> Model for Names<'a> {
+    ghost use Rattle.std.specs.Prelude.{◌≡◌, [], List, ℕ, map};
+    ghost use Rattle.std.proofs.Common.{Bor};
+    ghost use Rattle.indexmap.specs.IndexMap.{get_by};
+    ghost use Rattle.series_parts.specs.Nets.{same_word};
+    ghost use Rattle.series_parts.specs.Edges.{name_place};
+
+    ghost Value = { List (List ℕ) };
+
+    ghost view = { λ a. map (λ n. n.now) a.names.items };
+
+    ghost invariant = { λ a. (q : Bor (List ℕ)) → get_by (λ n. same_word q.now n.now) a.places ≡ name_place (map (λ n. n.now) a.names.items) q.now };
+}
+
+impl<'a> Names<'a> {
+    /// The names of these lines.
+    pub fn of(alloc: Global, lines: &'a [NetLine]) -> Result<Names<'a>, AllocError>
+        requires { length lines.now < 2 ^ 32 }
+        ensures { IfOk result (λ names. names ≡ net_names lines.now) }
+    {
+        let names = net_names(alloc, lines)?;
+        let places = name_places(alloc, &names)?;
+        Ok(Names { names, places })
+    }
+
+    /// The first line with this name.
+    pub fn place_of(&self, name: &[u8]) -> Option<u32>
+        ensures { result ≡ name_place self.now name.now }
+    {
+        self.places.get(&name).copied()
+    }
+
+    /// How many lines there are.
+    pub fn len(&self) -> usize
+        ensures { result ≡ length self.now }
+    {
+        self.names.len()
+    }
+
+    /// The name on a line.
+    pub fn at(&self, place: usize) -> &'a [u8]
+        requires { place < length self.now }
+        ensures { result.now ≡ get_or self.now place [] }
+    {
+        self.names[place]
+    }
+}

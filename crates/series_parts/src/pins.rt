@@ -1,0 +1,85 @@
+// The lines on which the pins of the nets stand first.
+ghost use Rattle.std.specs.Prelude.{◌≡◌, ◌<◌, ◌^◌, ◌&&◌, cond, length, IfOk, OnOk, List, ℕ, Some};
+ghost use Rattle.std.proofs.Common.{Bor};
+ghost use Rattle.indexmap.specs.IndexMap.{get_by};
+ghost use Rattle.series_parts.specs.Nets.{same_word, has_word};
+ghost use Rattle.series_parts.specs.Edges.{pin_place};
+
+use board_files::{NetLine, PinWord};
+use indexmap::IndexMap;
+use std::alloc::{AllocError, Global};
+use std::marker::Model;
+
+/// A pin by its part and its name.
+type PinKey<'a> = (&'a [u8], &'a [u8]);
+
+/// Puts the pins of a line at its place.
+fn put_pins<'a>(
+    places: &mut IndexMap<PinKey<'a>, u32>,
+    words: &'a [PinWord],
+    place: u32,
+) -> Result<(), AllocError>
+    ensures { OnOk result ((q : Bor (List ℕ) × Bor (List ℕ)) → get_by (λ p. same_word q.0.now p.0.now && same_word q.1.now p.1.now) places.new ≡ cond (has_word q.0.now q.1.now words.now) (Some place) (get_by (λ p. same_word q.0.now p.0.now && same_word q.1.now p.1.now) places.old)) }
+{
+    for word in words {
+        places.insert((word.part.bytes(), word.pin.bytes()), place)?;
+    }
+    Ok(())
+}
+
+/// The first line of each pin.
+fn pin_places<'a>(
+    alloc: Global,
+    lines: &'a [NetLine],
+) -> Result<IndexMap<PinKey<'a>, u32>, AllocError>
+    requires { length lines.now < 2 ^ 32 }
+    ensures { IfOk result (λ places. (q : Bor (List ℕ) × Bor (List ℕ)) → get_by (λ p. same_word q.0.now p.0.now && same_word q.1.now p.1.now) places ≡ pin_place lines.now q.0.now q.1.now) }
+{
+    let mut places = IndexMap::new(alloc);
+    let mut i = lines.len();
+    while 0 < i {
+        i -= 1;
+        put_pins(&mut places, lines[i].pins.as_slice(), i as u32)?;
+    }
+    Ok(places)
+}
+
+/// The pins of the lines of a net file, seen as the list of the lines.
+#[derive(Drop)]
+pub struct Pins<'a> {
+    lines: &'a [NetLine],
+    places: IndexMap<PinKey<'a>, u32>,
+}
+
+impl<'a> Model for Pins<'a> {
+    ghost use Rattle.std.specs.Prelude.{◌≡◌, ◌&&◌, List, ℕ};
+    ghost use Rattle.std.proofs.Common.{Bor};
+    ghost use Rattle.indexmap.specs.IndexMap.{get_by};
+    ghost use Rattle.board_files.specs.declared.net_file.NetLine.{NetLine};
+    ghost use Rattle.series_parts.specs.Nets.{same_word};
+    ghost use Rattle.series_parts.specs.Edges.{pin_place};
+
+    ghost Value = { List NetLine };
+
+    ghost view = { λ a. a.lines.now };
+
+    ghost invariant = { λ a. (q : Bor (List ℕ) × Bor (List ℕ)) → get_by (λ p. same_word q.0.now p.0.now && same_word q.1.now p.1.now) a.places ≡ pin_place a.lines.now q.0.now q.1.now };
+}
+
+impl<'a> Pins<'a> {
+    /// The pins of these lines.
+    pub fn of(alloc: Global, lines: &'a [NetLine]) -> Result<Pins<'a>, AllocError>
+        requires { length lines.now < 2 ^ 32 }
+        ensures { IfOk result (λ pins. pins ≡ lines.now) }
+    {
+        let places = pin_places(alloc, lines)?;
+        Ok(Pins { lines, places })
+    }
+
+    /// The first line with this pin.
+    pub fn place_of(&self, part: &[u8], pin: &[u8]) -> Option<u32>
+        ensures { result ≡ pin_place self.now part.now pin.now }
+    {
+        self.places.get(&(part, pin)).copied()
+    }
+}
