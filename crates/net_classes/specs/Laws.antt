@@ -1,0 +1,20 @@
+-- What the lists of driven nets say.
+use Rattle.std.specs.Prelude.{◌≡◌, ℕ, false, List, Contains}
+use Rattle.std.specs.Bool.{Decides}
+use Rattle.board_defs.specs.declared.board.Ctl.{Ctl}
+use Rattle.board_defs.specs.declared.board.RawBoard.{RawBoard}
+use Rattle.board_defs.specs.Decided.{share_net}
+use Rattle.board_defs.specs.Settings.{same_ctl}
+use Rattle.net_classes.specs.Kept.{driven_nets, shared_nets}
+
+-- the two lists have a number in common
+abbrev pub HaveCommon : List ℕ → List ℕ → Type 0
+HaveCommon xs ys = (n : ℕ) × Contains xs n × Contains ys n
+
+-- two controls control drivers of one net exactly where a number is among the driven nets of both; and, where they differ, among the nets that each shares
+pub record SaysShared (board : RawBoard) (a b : Ctl) : Type 0 where
+  pub by_driven : Decides (share_net board a b) (HaveCommon (driven_nets board a) (driven_nets board b))
+  pub by_shared : same_ctl a b ≡ false → Decides (share_net board a b) (HaveCommon (shared_nets board a) (shared_nets board b))
+
+abbrev pub NetsAreShared : Type 0
+NetsAreShared = (board : RawBoard) (a b : Ctl) → SaysShared board a b

@@ -1,0 +1,11 @@
+pub mod Kept
+pub mod Laws
+pub mod Found
+pub mod Entries
+pub mod Facts
+pub mod Switching
+pub mod Shared
+pub mod Tables
+pub mod Rows
+pub mod Answers
+pub mod Pairs

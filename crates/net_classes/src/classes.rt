@@ -1,0 +1,116 @@
+// The classes of a board.
+ghost use Rattle.std.specs.Prelude.{◌≡◌, map, IfOk};
+ghost use Rattle.board_defs.specs.BoardRules.{IsBoard};
+ghost use Rattle.net_classes.specs.Entries.{entry_table};
+ghost use Rattle.net_classes.specs.Facts.{net_facts_of};
+ghost use Rattle.net_classes.specs.Kept.{AreClasses, table};
+ghost use Rattle.net_classes.specs.Tables.{AreTables};
+
+use crate::controls::{Tables, control_rows, mark_useful};
+use crate::entries::{BitEntries, entry_table};
+use crate::facts::{NetFacts, all_net_facts};
+use crate::net_numbers::NetNumbers;
+use crate::shared::{contended_nets, shared_table};
+use crate::switching::pulled_bits;
+use crate::tested::net_classes;
+use crate::useful::useful_controls;
+use board_defs::{Board, Ctl, Drive, Items, RawBoard, Reason};
+use std::alloc::{AllocError, Global};
+
+/// What some safe setting does with a pin of a net.
+#[derive(Clone, Copy, Debug, PartialEq, Eq)]
+pub struct PinClass {
+    /// Whether the pin is a tested driver.
+    pub driver_tested: bool,
+    /// Whether the pin is a tested receiver.
+    pub receiver_tested: bool,
+}
+
+/// What safe settings do with a net.
+#[derive(Debug, Drop)]
+pub struct NetClass {
+    /// Why the net is not covered, where it is not.
+    pub reason: Option<Reason>,
+    /// How the tested drivers are enabled, in pin order.
+    pub drivers: Items<Drive>,
+    /// The pins in their order.
+    pub pins: Items<PinClass>,
+}
+
+/// What is known of a control.
+#[derive(Debug, Drop)]
+pub struct ControlClass {
+    /// The nets with a driver that the control controls, in net order.
+    pub nets: NetNumbers,
+    /// Whether the setting of the control alone is safe.
+    pub safe: bool,
+    /// Whether it is safe alone and controls a tested driver.
+    pub useful: bool,
+}
+
+/// The classes of a board: its nets, the cells of its parts as controls, the useful controls, and
+/// the nets that each control shares with another one.
+#[derive(Debug, Drop)]
+pub struct Classes {
+    pub(crate) nets: Vec<NetClass>,
+    pub(crate) controls: Vec<Vec<ControlClass>>,
+    pub(crate) useful: Vec<Ctl>,
+    pub(crate) shared: Vec<Vec<NetNumbers>>,
+}
+
+fn facts_of(
+    alloc: Global,
+    board: &RawBoard,
+    entries: &[Vec<BitEntries>],
+) -> Result<Vec<NetFacts>, AllocError>
+    requires rules { IsBoard board.now }
+    requires entries { table entries.now ≡ entry_table board.now.chain }
+    ensures { IfOk result (λ facts. facts.items ≡ map (net_facts_of board.now) board.now.nets) }
+{
+    let facts = all_net_facts(alloc, entries, board)?;
+    Ok(facts)
+}
+
+fn tables_of(
+    alloc: Global,
+    board: &RawBoard,
+    entries: Vec<Vec<BitEntries>>,
+    facts: &[NetFacts],
+) -> Result<Tables, AllocError>
+    requires rules { IsBoard board.now }
+    requires entries { table entries.items ≡ entry_table board.now.chain }
+    requires facts { facts.now ≡ map (net_facts_of board.now) board.now.nets }
+    ensures { IfOk result (λ tables. AreTables board.now tables) }
+{
+    let low = pulled_bits(alloc, board.chain.as_slice(), facts, false)?;
+    let high = pulled_bits(alloc, board.chain.as_slice(), facts, true)?;
+    Ok(Tables { entries, low, high })
+}
+
+fn classify_record(alloc: Global, board: &RawBoard) -> Result<Classes, AllocError>
+    requires { IsBoard board.now }
+    ensures { IfOk result (λ classes. AreClasses board.now classes) }
+{
+    let entries = entry_table(alloc, board.chain.as_slice())?;
+    let facts = facts_of(alloc, board, &entries)?;
+    let tables = tables_of(alloc, board, entries, &facts)?;
+    let mut controls = control_rows(alloc, &tables, board, &facts)?;
+    let nets = net_classes(alloc, &controls, &facts)?;
+    mark_useful(&mut controls, &nets);
+    let useful = useful_controls(alloc, &controls, board)?;
+    let flags = contended_nets(alloc, &facts)?;
+    let shared = shared_table(alloc, &flags, &controls)?;
+    Ok(Classes {
+        nets,
+        controls,
+        useful,
+        shared,
+    })
+}
+
+/// The classes of the board.
+pub fn classify(alloc: Global, board: &Board) -> Result<Classes, AllocError>
+    ensures { IfOk result (λ classes. AreClasses board.now classes) }
+{
+    classify_record(alloc, board.raw())
+}

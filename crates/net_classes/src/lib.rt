@@ -1,0 +1,21 @@
+//! The classes of a board: what each of its nets, pins and controls can do in some safe setting.
+#![tactic(auto)]
+
+mod classes;
+mod controls;
+mod entries;
+mod facts;
+mod found;
+pub mod law;
+mod net_numbers;
+mod questions;
+mod shared;
+mod switching;
+mod tested;
+mod useful;
+
+pub use classes::{Classes, ControlClass, NetClass, PinClass, classify};
+pub use net_numbers::NetNumbers;
+
+#[cfg(test)]
+mod tests;

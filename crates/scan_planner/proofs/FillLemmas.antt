@@ -1,0 +1,268 @@
+-- What a plan's tables fill in is the scan.
+use Rattle.std.proofs.Common.{◌≡◌, ℕ, zero, suc, ◌<◌, ◌≤◌, Bool, true, false, cond, List, [], ◌∷◌, length, map, get_or, replicate, Option, Some, None, is_some, unwrap_or, refl, sym, ap, ◌∙◌, subst, arith, length-append}
+use Rattle.std.specs.Prelude.{slice_get, sum_by, All}
+use Rattle.std.specs.List.{list_any}
+use Rattle.std.proofs.lemmas.List.{length-map}
+use Rattle.std.proofs.lemmas.List.Sums.{sum_by-cons}
+use Rattle.std.proofs.lemmas.Option.{slice_get-get_or, get_or_from_slice_get}
+use Rattle.board_defs.specs.declared.board.PartKind.{PartKind}
+use Rattle.board_defs.specs.declared.board.PartKind.TheVariants.{Described, Bypass}
+use Rattle.board_defs.specs.declared.board.Part.{Part}
+use Rattle.board_defs.specs.declared.board.Net.{Net}
+use Rattle.board_defs.specs.declared.board.RawBoard.{RawBoard}
+use Rattle.board_defs.specs.declared.board.Ctl.{Ctl}
+use Rattle.board_defs.specs.BoardRules.{IsBoard}
+use Rattle.board_defs.specs.Pins.{instruction_length, instruction_bits, data_bits}
+use Rattle.board_defs.specs.Settings.{holds}
+use Rattle.board_defs.proofs.BoardLemmas.{chain_length}
+use Rattle.board_defs.proofs.Members.{Has, has_at, has_place, contains_has, has_contains}
+use Rattle.board_defs.proofs.Places.{any_at}
+use Rattle.tap_defs.specs.declared.scan.Shape.{Shape}
+use Rattle.tap_defs.specs.OnBoard.{test_logic}
+use Rattle.tap_defs.specs.Scan.{ScanBit, Scan, joined, tdi_bits, tdo_bits, mask_bits, scan_bits}
+use Rattle.tap_defs.specs.Codes.{instructs}
+use Rattle.tap_defs.specs.TestRows.{TestRow, quiet_row, code_row, code_of_net, code_bit, net_code_bit, is_observed, observing_driver, row_bit, expect_bit}
+use Rattle.tap_defs.specs.BoardScans.{RowScan, row_bits, first_row_scan, test_scans, preload_code, extest_code}
+use Rattle.tap_defs.proofs.InstructLemmas.{length-instructs}
+use Rattle.tap_defs.proofs.EntryLemmas.{CodesFit, parts_of, preload_fits, extest_fits, row_scan_some, codes_total}
+use Rattle.scan_planner.specs.declared.tables.FixedRows.{FixedRows}
+use Rattle.scan_planner.specs.declared.tables.HeldCell.{HeldCell}
+use Rattle.scan_planner.specs.declared.tables.DriverCell.{DriverCell}
+use Rattle.scan_planner.specs.declared.tables.ReaderCell.{ReaderCell}
+use Rattle.scan_planner.specs.declared.tables.PassCells.{PassCells}
+use Rattle.scan_planner.specs.declared.tables.PlanTables.{PlanTables}
+use Rattle.scan_planner.specs.Laid.{laid, steady}
+use Rattle.scan_planner.specs.Assigned.{assigned, driver_bit, set_compared}
+use Rattle.scan_planner.specs.Tables.{AreRowsOf, IsHeldCell, IsDriverCell, IsReaderCell, ArePassCells}
+use Rattle.scan_planner.specs.Plans.{IsPlanOf, FillsScan}
+use Rattle.scan_planner.proofs.LaidLemmas.{laid_at, length-laid, laid_same, zeros_laid, tdi_laid, tdo_laid, mask_laid}
+use Rattle.scan_planner.proofs.HeldLemmas.{quiet_steady, control_below, controls_any, held_laid}
+use Rattle.scan_planner.proofs.DriverLemmas.{drivers_laid}
+use Rattle.scan_planner.proofs.ReaderLemmas.{ReadersOf, quiet_expect, set_compared_is, tdo_compared, mask_compared}
+use Rattle.scan_planner.proofs.PinLemmas.{Standing, standing, read_at, drives_by, entry_on}
+
+-- the scan that its rows make
+expected : (expect : Option Bool) → cond (is_some expect) (Some (unwrap_or expect false)) None ≡ expect
+expected None = refl
+expected (Some o) = refl
+
+scan_bits-rows : (bits : List ScanBit) → scan_bits (tdi_bits bits) (tdo_bits bits) (mask_bits bits) ≡ bits
+scan_bits-rows [] = refl
+scan_bits-rows (b ∷ bits) =
+    ap (λ (e : Option Bool). (let bit : ScanBit = record { tdi = b.tdi; expect = e } in bit) ∷ scan_bits (tdi_bits bits) (tdo_bits bits) (mask_bits bits)) (expected b.expect)
+    ∙ ap (λ t. b ∷ t) (scan_bits-rows bits)
+
+one_expected : (expect : Option Bool) → unwrap_or expect false ≡ true → is_some expect ≡ true
+one_expected None one = one
+one_expected (Some o) one = refl
+
+rows_masked : (bits : List ScanBit) (i : ℕ) → get_or (tdo_bits bits) i false ≡ true → get_or (mask_bits bits) i false ≡ true
+rows_masked [] i one = one
+rows_masked (b ∷ bits) zero one = one_expected b.expect one
+rows_masked (b ∷ bits) (suc i) one = rows_masked bits i one
+
+-- rows that are those of scan k fill it in
+pub fills : (board : RawBoard) (passes : List (List Ctl)) (width k : ℕ) (scan : Scan) (shape : Shape) (tdi tdo mask : List Bool) → slice_get (test_scans board passes width) k ≡ Some scan →
+    0 < length scan.bits → length scan.bits ≤ 65535 → tdi ≡ tdi_bits scan.bits → tdo ≡ tdo_bits scan.bits → mask ≡ mask_bits scan.bits → shape.ir ≡ scan.ir →
+    shape.compare ≡ list_any (λ bit. bit) mask → FillsScan board passes width k shape tdi tdo mask
+fills board passes width k scan shape tdi tdo mask placed some most is_tdi is_tdo is_mask is_ir compare =
+    let long : length tdi ≡ length scan.bits = ap (λ (l : List Bool). length l) is_tdi ∙ length-map scan.bits (λ b. b.tdi) in
+    let bits : scan_bits tdi tdo mask ≡ scan.bits =
+    ap (λ t. scan_bits t tdo mask) is_tdi ∙ ap (λ t. scan_bits (tdi_bits scan.bits) t mask) is_tdo ∙ ap (scan_bits (tdi_bits scan.bits) (tdo_bits scan.bits)) is_mask ∙ scan_bits-rows scan.bits in
+    record {
+      scan = placed ∙ sym (ap (λ (b : Bool). Some (record { ir = b; bits = scan_bits tdi tdo mask })) is_ir ∙ ap (λ (l : List ScanBit). Some (record { ir = scan.ir; bits = l })) bits);
+      some = omega (arith, some, long);
+      most = omega (arith, most, long);
+      tdo_length = ap (λ (l : List Bool). length l) is_tdo ∙ length-map scan.bits (λ b. unwrap_or b.expect false) ∙ sym long;
+      mask_length = ap (λ (l : List Bool). length l) is_mask ∙ length-map scan.bits (λ b. is_some b.expect) ∙ sym long;
+      compare = compare;
+      masked = λ i one. ap (λ (l : List Bool). get_or l i false) is_mask ∙ rows_masked scan.bits i (sym (ap (λ (l : List Bool). get_or l i false) is_tdo) ∙ one);
+    }
+
+-- scans of instructions
+ir_length_is : (kind : PartKind) → (test_logic kind).ir_length ≡ instruction_length kind
+ir_length_is (Described device) = refl
+ir_length_is (Bypass n) = refl
+
+codes_bits : (code : PartKind → List Bool) (parts : List Part) → CodesFit code parts → length (joined (map (λ p. code p.kind) parts)) ≡ sum_by (λ p. instruction_length p.kind) parts
+codes_bits code [] fit = refl
+codes_bits code (p ∷ parts) fit =
+    omega (arith, length-append (joined (map (λ q. code q.kind) parts)) (code p.kind), codes_bits code parts fit.1, fit.0, ir_length_is p.kind, sum_by-cons (λ (q : Part). instruction_length q.kind) p parts)
+
+pub record IsSized (bits : List ScanBit) (size : ℕ) : Type 0 where
+  pub some : 0 < length bits
+  pub most : length bits ≤ 65535
+  pub size_is : length bits ≡ size
+
+code_sized : (board : RawBoard) → IsBoard board → (code : PartKind → List Bool) → CodesFit code board.chain → IsSized ((instructs (map (λ p. code p.kind) board.chain)).bits) (instruction_bits board)
+code_sized board rules code fit =
+    let size : length ((instructs (map (λ p. code p.kind) board.chain)).bits) ≡ instruction_bits board = length-instructs (map (λ p. code p.kind) board.chain) ∙ codes_bits code board.chain fit in
+    record {
+      some = omega (arith, length-instructs (map (λ p. code p.kind) board.chain), codes_total code board.chain fit (parts_of board rules), rules.chain_some);
+      most = omega (arith, size, chain_length board.chain rules.parts, rules.chain_most);
+      size_is = size;
+    }
+
+pub preload_sized : (board : RawBoard) → IsBoard board → IsSized ((instructs (map (λ p. preload_code p.kind) board.chain)).bits) (instruction_bits board)
+preload_sized board rules = code_sized board rules preload_code (preload_fits board.chain (parts_of board rules))
+
+pub extest_sized : (board : RawBoard) → IsBoard board → IsSized ((instructs (map (λ p. extest_code p.kind) board.chain)).bits) (instruction_bits board)
+extest_sized board rules = code_sized board rules extest_code (extest_fits board.chain (parts_of board rules))
+
+-- the length of a row of such a scan
+pub tdi_length : {bits : List ScanBit} {size : ℕ} {rows : FixedRows} → IsSized bits size → AreRowsOf bits rows → length rows.tdi ≡ size
+tdi_length {bits} {size} {rows} s r = ap (λ (l : List Bool). length l) r.tdi ∙ length-map bits (λ b. b.tdi) ∙ s.size_is
+
+pub tdo_length : {bits : List ScanBit} {rows : FixedRows} → AreRowsOf bits rows → length rows.tdo ≡ length rows.tdi
+tdo_length {bits} {rows} r = ap (λ (l : List Bool). length l) r.tdo ∙ length-map bits (λ b. unwrap_or b.expect false) ∙ sym (ap (λ (l : List Bool). length l) r.tdi ∙ length-map bits (λ b. b.tdi))
+
+pub mask_length : {bits : List ScanBit} {rows : FixedRows} → AreRowsOf bits rows → length rows.mask ≡ length rows.tdi
+mask_length {bits} {rows} r = ap (λ (l : List Bool). length l) r.mask ∙ length-map bits (λ b. is_some b.expect) ∙ sym (ap (λ (l : List Bool). length l) r.tdi ∙ length-map bits (λ b. b.tdi))
+
+-- scans of data
+pub row_sized : (board : RawBoard) → IsBoard board → (scan : RowScan) → IsSized (joined (row_bits board scan)) (data_bits board)
+row_sized board rules scan =
+    let size : length (joined (row_bits board scan)) ≡ data_bits board =
+    sym (length-map (joined (row_bits board scan)) (λ b. b.tdi)) ∙ ap (λ (l : List Bool). length l) (tdi_laid board scan) ∙ length-laid (λ part device cell. row_bit board scan.now part device cell) board in
+    record { some = row_scan_some board rules scan; most = omega (arith, size, rules.data_most); size_is = size }
+
+-- what holds of each item of a list
+all_has : {X : Type 0} (P : X → Type 0) (xs : List X) → ((x : X) → Has xs x → P x) → All P xs
+all_has P xs each k d less = each (get_or xs k d) (has_at xs k (get_or xs k d) (slice_get-get_or xs k d less))
+
+some_at : {X : Type 0} (xs : List X) (k : ℕ) → k < length xs → (x : X) × (slice_get xs k ≡ Some x)
+some_at [] k less = absurd (omega (arith, less))
+some_at (x ∷ xs) zero less = (x, refl)
+some_at (x ∷ xs) (suc k) less = some_at xs k (omega (arith, less))
+
+-- nothing is compared after the quiet row
+pub quiet_tdo : (board : RawBoard) (scan : RowScan) → scan.before ≡ quiet_row → replicate (data_bits board) false ≡ tdo_bits (joined (row_bits board scan))
+quiet_tdo board scan e =
+    zeros_laid board
+    ∙ laid_same board (λ part device cell. false) (λ part device cell. unwrap_or (expect_bit board quiet_row part device cell) false) (λ part device cell. sym (ap (λ (o : Option Bool). unwrap_or o false) (quiet_expect board part device cell)))
+    ∙ sym (tdo_laid board scan ∙ ap (λ (row : TestRow). laid (λ part device cell. unwrap_or (expect_bit board row part device cell) false) board) e)
+
+pub quiet_mask : (board : RawBoard) (scan : RowScan) → scan.before ≡ quiet_row → replicate (data_bits board) false ≡ mask_bits (joined (row_bits board scan))
+quiet_mask board scan e =
+    zeros_laid board
+    ∙ laid_same board (λ part device cell. false) (λ part device cell. is_some (expect_bit board quiet_row part device cell)) (λ part device cell. sym (ap (λ (o : Option Bool). is_some o) (quiet_expect board part device cell)))
+    ∙ sym (mask_laid board scan ∙ ap (λ (row : TestRow). laid (λ part device cell. is_some (expect_bit board row part device cell)) board) e)
+
+module _ (board : RawBoard) (rules : IsBoard board) (plan : PlanTables) (p : IsPlanOf board plan) where
+  quiet_laid : plan.quiet ≡ laid (steady board (λ c. false)) board
+  quiet_laid =
+      p.tables.quiet ∙ tdi_laid board first_row_scan
+      ∙ laid_same board (λ part device cell. row_bit board quiet_row part device cell) (steady board (λ c. false)) (quiet_steady board)
+
+  pub quiet_length : length plan.quiet ≡ data_bits board
+  quiet_length = ap (λ (l : List Bool). length l) quiet_laid ∙ length-laid (steady board (λ c. false)) board
+
+  -- the quiet row is the same whatever is compared
+  pub quiet_is : (scan : RowScan) → scan.now ≡ quiet_row → plan.quiet ≡ tdi_bits (joined (row_bits board scan))
+  quiet_is scan e =
+      p.tables.quiet ∙ tdi_laid board first_row_scan
+      ∙ sym (tdi_laid board scan ∙ ap (λ (row : TestRow). laid (λ part device cell. row_bit board row part device cell) board) e)
+
+  readers_of : ReadersOf board plan.readers
+  readers_of n net e =
+      let t = p.tables.readers n net e in
+      let same : get_or plan.readers n [] ≡ t.0 = get_or_from_slice_get plan.readers n t.0 [] t.1 in (
+        λ r h. (t.2 r).0 (has_contains t.0 r (subst (λ (l : List ReaderCell). Has l r) same h)),
+        λ r is. subst (λ (l : List ReaderCell). Has l r) (sym same) (contains_has t.0 r ((t.2 r).1 is)),
+      )
+
+  reader_within : (net : Net) (r : ReaderCell) → IsReaderCell board net r → r.position < data_bits board
+  reader_within net r s =
+      let place = has_place s.device.cells s.entry (contains_has s.device.cells s.entry s.is_entry) in
+      omega (arith, s.position_is, (laid_at (steady board (λ c. false)) board s.at.part s.device s.entry.num s.is_device ((read_at board rules s.at.part s.device s.is_device).num_below place.0 s.entry place.1)).0)
+
+  pub readers_within : All (λ cells. All (λ r. r.position < data_bits board) cells) plan.readers
+  readers_within k d less =
+      let within : k < length board.nets = omega (arith, less, p.tables.readers_length) in
+      let net = some_at board.nets k within in
+      let t = p.tables.readers k net.0 net.1 in
+      let same : t.0 ≡ get_or plan.readers k d = sym (get_or_from_slice_get plan.readers k t.0 d t.1) in
+      subst (λ (l : List ReaderCell). All (λ r. r.position < data_bits board) l) same
+      (all_has (λ r. r.position < data_bits board) t.0 (λ r has. reader_within net.0 r ((t.2 r).0 (has_contains t.0 r has))))
+
+  module _ (x : ℕ) (less : x < length plan.passes) where
+    abbrev pass : List Ctl
+    pass = get_or plan.passes x []
+
+    stands : slice_get plan.passes x ≡ Some pass
+    stands = slice_get-get_or plan.passes x [] less
+
+    -- the cells of the pass
+    pub cells_are : (cells : PassCells) → cells ≡ get_or plan.cells x cells → ArePassCells board pass cells
+    cells_are cells is =
+        let t = p.tables.cells x pass stands in
+        let same : t.0 ≡ cells = sym (is ∙ get_or_from_slice_get plan.cells x t.0 cells t.1) in
+        subst (λ (v : PassCells). ArePassCells board pass v) same t.2
+
+    pub cells_there : x < length plan.cells
+    cells_there = let t = p.tables.cells x pass stands in Rattle.std.proofs.lemmas.Option.slice_get_within plan.cells x t.0 t.1
+
+    module _ (cells : PassCells) (are : ArePassCells board pass cells) where
+      held_only : (h : HeldCell) → Has cells.held h → IsHeldCell board pass h
+      held_only h has = (are.held h).0 (has_contains cells.held h has)
+
+      driver_only : (d : DriverCell) → Has cells.drivers d → IsDriverCell board pass d
+      driver_only d has = (are.drivers d).0 (has_contains cells.drivers d has)
+
+      pub held_within : All (λ h. h.position < data_bits board) cells.held
+      held_within = all_has (λ h. h.position < data_bits board) cells.held (λ h has.
+          let s = held_only h has in
+          let below : s.control.cell < s.device.boundary = control_below board rules s.control s.device s.is_device (controls_any board s.control s.device s.is_device (p.plannable.controls x pass s.control stands s.is_held)) in
+          omega (arith, s.position_is, (laid_at (steady board (λ c. false)) board s.control.part s.device s.control.cell s.is_device below).0))
+
+      driver_within : (d : DriverCell) → Has cells.drivers d → d.position < data_bits board
+      driver_within d has =
+          let s = driver_only d has in
+          let t : Standing board d.net s.net d.place s.at = standing board rules d.net s.net d.place s.pin s.at s.is_net s.is_pin s.is_at in
+          let drives = drives_by t.device s.at.bit s.entry (sym (entry_on board s.at t.device t.is_device) ∙ s.is_entry) in
+          omega (arith, s.position_is, (laid_at (steady board (λ c. false)) board s.at.part t.device s.entry.num t.is_device (t.wired.num_below drives.index s.entry drives.stands)).0)
+
+      pub drivers_within : All (λ d. d.position < data_bits board) cells.drivers
+      drivers_within = all_has (λ d. d.position < data_bits board) cells.drivers driver_within
+
+      pub drivers_on_nets : All (λ d. d.net < length board.nets) cells.drivers
+      drivers_on_nets = all_has (λ d. d.net < length board.nets) cells.drivers (λ d has. let s = driver_only d has in Rattle.std.proofs.lemmas.Option.slice_get_within board.nets d.net s.net s.is_net)
+
+      -- what a net carries is what its code's bit says
+      abbrev carried : ℕ → ℕ → Option Bool
+      carried j n = Some (net_code_bit board plan.passes j n)
+
+      carries : (j : ℕ) (d : DriverCell) → Has cells.drivers d → carried j d.net ≡ Some (driver_bit plan.codes j d)
+      carries j d has =
+          let s = driver_only d has in
+          let observed : is_observed board plan.passes s.net ≡ true = any_at (λ (q : List Ctl). is_some (observing_driver board (holds q) s.net)) plan.passes x pass stands (ap (λ (o : Option ℕ). is_some o) s.observing) in
+          let code : get_or plan.codes d.net 0 ≡ code_of_net board plan.passes d.net =
+          p.codes_are d.net s.net s.is_net ∙ ap (λ (b : Bool). cond b (code_of_net board plan.passes d.net) 0) observed in
+          sym (ap (λ (n : ℕ). Some (code_bit n j)) code)
+
+      -- a row of the pass
+      pub code_row_is : (j : ℕ) (scan : RowScan) → scan.now ≡ code_row board plan.passes pass j →
+          assigned (λ d. d.position) (driver_bit plan.codes j) (assigned (λ h. h.position) (λ h. h.bit) plan.quiet cells.held) cells.drivers ≡ tdi_bits (joined (row_bits board scan))
+      code_row_is j scan e =
+          ap (λ (l : List Bool). assigned (λ d. d.position) (driver_bit plan.codes j) (assigned (λ h. h.position) (λ h. h.bit) l cells.held) cells.drivers) quiet_laid
+          ∙ ap (λ (l : List Bool). assigned (λ d. d.position) (driver_bit plan.codes j) l cells.drivers)
+          (held_laid board rules pass (λ c has. p.plannable.controls x pass c stands has) cells.held held_only (λ h is. contains_has cells.held h ((are.held h).1 is)))
+          ∙ drivers_laid board rules pass (carried j) (driver_bit plan.codes j) cells.drivers driver_only (λ d is. contains_has cells.drivers d ((are.drivers d).1 is)) (carries j)
+          ∙ sym (tdi_laid board scan ∙ ap (λ (row : TestRow). laid (λ part device cell. row_bit board row part device cell) board) e)
+
+      -- what is compared of it
+      pub tdo_is : (j : ℕ) (scan : RowScan) → scan.before ≡ code_row board plan.passes pass j →
+          set_compared (driver_bit plan.codes j) plan.readers (replicate (data_bits board) false) cells.drivers ≡ tdo_bits (joined (row_bits board scan))
+      tdo_is j scan e =
+          ap (λ (l : List Bool). set_compared (driver_bit plan.codes j) plan.readers l cells.drivers) (zeros_laid board)
+          ∙ set_compared_is (driver_bit plan.codes j) plan.readers cells.drivers (laid (λ part device cell. false) board)
+          ∙ tdo_compared board rules pass (carried j) (driver_bit plan.codes j) cells.drivers driver_only (λ d is. contains_has cells.drivers d ((are.drivers d).1 is)) (carries j) plan.readers readers_of
+          ∙ sym (tdo_laid board scan ∙ ap (λ (row : TestRow). laid (λ part device cell. unwrap_or (expect_bit board row part device cell) false) board) e)
+
+      pub mask_is : (j : ℕ) (scan : RowScan) → scan.before ≡ code_row board plan.passes pass j →
+          set_compared (λ d. true) plan.readers (replicate (data_bits board) false) cells.drivers ≡ mask_bits (joined (row_bits board scan))
+      mask_is j scan e =
+          ap (λ (l : List Bool). set_compared (λ d. true) plan.readers l cells.drivers) (zeros_laid board)
+          ∙ set_compared_is (λ d. true) plan.readers cells.drivers (laid (λ part device cell. false) board)
+          ∙ mask_compared board rules pass (carried j) (driver_bit plan.codes j) cells.drivers driver_only (λ d is. contains_has cells.drivers d ((are.drivers d).1 is)) (carries j) plan.readers readers_of
+          ∙ sym (mask_laid board scan ∙ ap (λ (row : TestRow). laid (λ part device cell. is_some (expect_bit board row part device cell)) board) e)

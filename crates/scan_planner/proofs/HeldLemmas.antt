@@ -1,0 +1,106 @@
+-- The quiet row with the controls of a pass at what enables their drivers.
+use Rattle.std.proofs.Common.{◌≡◌, ℕ, ◌+◌, ◌<◌, ◌==◌, Bool, true, false, not, cond, ◌&&◌, List, Option, Some, None, unwrap_or, refl, sym, ap, ◌∙◌, subst, ◌⊎◌, inl, inr}
+use Rattle.std.specs.Prelude.{option_and_then, option_map}
+use Rattle.std.specs.List.{list_any}
+use Rattle.std.proofs.lemmas.Bool.{and_parts}
+use Rattle.board_defs.specs.declared.device.Cell.{Cell}
+use Rattle.board_defs.specs.declared.device.RawDevice.{RawDevice}
+use Rattle.board_defs.specs.declared.board.RawBoard.{RawBoard}
+use Rattle.board_defs.specs.declared.board.Ctl.{Ctl}
+use Rattle.board_defs.specs.BoardRules.{IsBoard}
+use Rattle.board_defs.specs.DeviceRules.{is_control_of, is_driving, disable_of}
+use Rattle.board_defs.specs.Pins.{device_at, is_pinned}
+use Rattle.board_defs.specs.Settings.{holds}
+use Rattle.board_defs.proofs.Members.{Has}
+use Rattle.tap_defs.specs.NetBits.{Place, place_of}
+use Rattle.tap_defs.specs.Quiet.{controls_driver, safe_bit}
+use Rattle.tap_defs.specs.TestRows.{quiet_row, driving_cell, data_bit, data_pin, data_place, data_observed, only_if, observing_driver, steady_bit, row_bit}
+use Rattle.tap_defs.proofs.ReadingLemmas.{any_is}
+use Rattle.tap_defs.proofs.QuietLemmas.{control_is}
+use Rattle.scan_planner.specs.declared.tables.HeldCell.{HeldCell}
+use Rattle.scan_planner.specs.Plans.{controls_in, controls_some}
+use Rattle.scan_planner.specs.Tables.{first_position, IsHeldCell}
+use Rattle.scan_planner.specs.Laid.{laid, steady}
+use Rattle.scan_planner.specs.Assigned.{assigned}
+use Rattle.scan_planner.proofs.LaidLemmas.{CellOf, Sets, assigned_laid}
+use Rattle.scan_planner.proofs.PinLemmas.{wired_at}
+
+no_bit : (t : Bool) → only_if t None ≡ None
+no_bit true = refl
+no_bit false = refl
+
+-- no cell carries a net's bit in the quiet row
+quiet_data : (board : RawBoard) (part : ℕ) (device : RawDevice) (cell : ℕ) → data_bit board quiet_row part device cell ≡ None
+quiet_data board part device cell = by_cell (driving_cell device cell)
+  where
+    by_driver : (p : Place) (o : Option ℕ) → data_observed None p.place o ≡ None
+    by_driver p None = refl
+    by_driver p (Some driver) = no_bit (driver == p.place)
+
+    by_place : (o : Option Place) → data_place board quiet_row o ≡ None
+    by_place None = refl
+    by_place (Some p) = by_driver p (observing_driver board (λ c. false) p.net)
+
+    by_bit : (o : Option ℕ) → data_pin board quiet_row part o ≡ None
+    by_bit None = refl
+    by_bit (Some b) = by_place (place_of (record { part = part; bit = b }) 0 board.nets)
+
+    by_cell : (o : Option Cell) → option_and_then (λ e. data_pin board quiet_row part e.bit) o ≡ None
+    by_cell None = refl
+    by_cell (Some e) = by_bit e.bit
+
+pub quiet_steady : (board : RawBoard) (part : ℕ) (device : RawDevice) (cell : ℕ) → row_bit board quiet_row part device cell ≡ steady board (λ c. false) part device cell
+quiet_steady board part device cell =
+    ap (λ (o : Option Bool). unwrap_or o (steady_bit board (λ c. false) part device cell)) (quiet_data board part device cell)
+
+-- the cell of a control that controls a driver is one of its device
+pub control_below : (board : RawBoard) → IsBoard board → (c : Ctl) (device : RawDevice) → device_at board c.part ≡ Some device →
+    list_any (controls_driver board c.part c.cell) device.cells ≡ true → c.cell < device.boundary
+control_below board rules c device e any =
+    let x = any_is (controls_driver board c.part c.cell) device.cells any in
+    let driver = and_parts (is_control_of c.cell x.1.ctl && is_driving x.1.role) (unwrap_or (option_map (λ bit. is_pinned board (record { part = c.part; bit = bit })) x.1.bit) false) x.3 in
+    let k = control_is c.cell x.1.ctl (and_parts (is_control_of c.cell x.1.ctl) (is_driving x.1.role) driver.0).0 in
+    subst (λ (n : ℕ). n < device.boundary) k.2 ((wired_at board rules c.part device e).below x.0 x.1 k.0 x.2 k.1)
+
+-- a control of a pass controls a driver of its device
+pub controls_any : (board : RawBoard) (c : Ctl) (device : RawDevice) → device_at board c.part ≡ Some device → controls_some board c ≡ true →
+    list_any (controls_driver board c.part c.cell) device.cells ≡ true
+controls_any board c device e controls = sym (ap (λ (o : Option RawDevice). controls_in board c o) e) ∙ controls
+
+pub held_laid : (board : RawBoard) → IsBoard board → (pass : List Ctl) → ((c : Ctl) → holds pass c ≡ true → controls_some board c ≡ true) →
+    (cells : List HeldCell) → ((h : HeldCell) → Has cells h → IsHeldCell board pass h) → ((h : HeldCell) → IsHeldCell board pass h → Has cells h) →
+    assigned (λ h. h.position) (λ h. h.bit) (laid (steady board (λ c. false)) board) cells ≡ laid (steady board (holds pass)) board
+held_laid board rules pass controls cells only every =
+    assigned_laid (λ h. h.position) (λ h. h.bit) cells board (steady board (λ c. false)) (steady board (holds pass)) right cover
+  where
+    right : (h : HeldCell) → Has cells h → Sets board (steady board (holds pass)) h.position h.bit
+    right h has =
+        let s = only h has in
+        let any : list_any (controls_driver board s.control.part s.control.cell) s.device.cells ≡ true =
+        controls_any board s.control s.device s.is_device (controls s.control s.is_held) in
+        let off : Bool = unwrap_or (disable_of s.device s.control.cell) false in
+        record {
+          part = s.control.part;
+          device = s.device;
+          cell = s.control.cell;
+          is_cell = record { is_device = s.is_device; below = control_below board rules s.control s.device s.is_device any };
+          place_is = s.position_is;
+          bit_is = ap (λ (b : Bool). cond b (cond (holds pass s.control) (not off) off) (unwrap_or (safe_bit s.device s.control.cell) false)) any
+              ∙ ap (λ (b : Bool). cond b (not off) off) s.is_held
+              ∙ sym s.bit_is;
+        }
+
+    cover : (part : ℕ) (device : RawDevice) (cell : ℕ) → CellOf board part device cell →
+        (steady board (λ c. false) part device cell ≡ steady board (holds pass) part device cell) ⊎ ((h : HeldCell) × Has cells h × (h.position ≡ first_position board part + cell))
+    cover part device cell c = by_test (holds pass (record { part = part; cell = cell })) refl
+      where
+        off : Bool
+        off = unwrap_or (disable_of device cell) false
+
+        by_test : (b : Bool) → holds pass (record { part = part; cell = cell }) ≡ b →
+            (steady board (λ c. false) part device cell ≡ steady board (holds pass) part device cell) ⊎ ((h : HeldCell) × Has cells h × (h.position ≡ first_position board part + cell))
+        by_test true e =
+            let h : HeldCell = record { position = first_position board part + cell; bit = not off } in
+            inr (h, every h (record { control = record { part = part; cell = cell }; is_held = e; device = device; is_device = c.is_device; position_is = refl; bit_is = refl }), refl)
+        by_test false e =
+            inl (ap (λ (b : Bool). cond (list_any (controls_driver board part cell) device.cells) (cond b (not off) off) (unwrap_or (safe_bit device cell) false)) (sym e))

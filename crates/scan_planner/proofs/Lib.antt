@@ -1,0 +1,12 @@
+pub mod AssignLemmas
+pub mod LaidLemmas
+pub mod PinLemmas
+pub mod HeldLemmas
+pub mod DriverLemmas
+pub mod ReaderLemmas
+pub mod RowLemmas
+pub mod FillLemmas
+pub mod BuildLemmas
+pub mod CodeLemmas
+pub mod TableLemmas
+pub mod PlanLemmas

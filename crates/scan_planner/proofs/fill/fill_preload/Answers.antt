@@ -1,0 +1,33 @@
+use Rattle.std.proofs.Common.{◌∙◌, map, arith}
+use Rattle.tap_defs.specs.Scan.{Scan}
+use Rattle.tap_defs.specs.Codes.{instructs}
+use Rattle.tap_defs.specs.BoardScans.{preload_code}
+use Rattle.tap_defs.proofs.ScanPlaceLemmas.{scans_placed}
+use Rattle.scan_planner.proofs.FillLemmas.{fills, preload_sized, tdi_length}
+use Rattle.scan_planner.proofs.fill.fill_preload.Goals as goal
+
+pub copy_rows-requires-clause-few : goal.copy_rows-requires-clause-few
+copy_rows-requires-clause-few c =
+    let s = preload_sized c.args.board.now c.raw.ensures.rules in omega (arith, tdi_length s c.requires.plan.tables.preload, s.most, s.size_is)
+
+pub copy_rows-requires-clause-tdi_room : goal.copy_rows-requires-clause-tdi_room
+copy_rows-requires-clause-tdi_room c =
+    let s = preload_sized c.args.board.now c.raw.ensures.rules in omega (arith, tdi_length s c.requires.plan.tables.preload, c.requires.tdi_room.instructions)
+
+pub copy_rows-requires-clause-tdo_room : goal.copy_rows-requires-clause-tdo_room
+copy_rows-requires-clause-tdo_room c =
+    let s = preload_sized c.args.board.now c.raw.ensures.rules in omega (arith, tdi_length s c.requires.plan.tables.preload, c.requires.tdo_room.instructions)
+
+pub copy_rows-requires-clause-mask_room : goal.copy_rows-requires-clause-mask_room
+copy_rows-requires-clause-mask_room c =
+    let s = preload_sized c.args.board.now c.raw.ensures.rules in omega (arith, tdi_length s c.requires.plan.tables.preload, c.requires.mask_room.instructions)
+
+pub returns-clause-filled : goal.returns-clause-filled
+returns-clause-filled c =
+    let board = c.args.board.now in
+    let plan = c.args.tables.now in
+    let s = preload_sized board c.raw.ensures.rules in
+    let scan : Scan = instructs (map (λ part. preload_code part.kind) board.chain) in
+    fills board plan.passes plan.width 0 scan _ _ _ _ (scans_placed board plan.passes plan.width).preload s.some s.most
+    (c.copy_rows.ensures.tdi ∙ c.requires.plan.tables.preload.tdi) (c.copy_rows.ensures.tdo ∙ c.requires.plan.tables.preload.tdo) (c.copy_rows.ensures.mask ∙ c.requires.plan.tables.preload.mask)
+    c.shape_of.ensures.ir c.shape_of.ensures.compare

@@ -1,0 +1,26 @@
+use Rattle.std.proofs.Common.{◌-◌, ◌++◌, List, Bool, get_or, ap, sym, ◌∙◌, arith}
+use Rattle.board_defs.specs.declared.board.Part.{Part}
+use Rattle.board_defs.specs.Pins.{instruction_length}
+use Rattle.scan_planner.specs.Codes.{code_for, captured_bits, compared_bits}
+use Rattle.scan_planner.proofs.CodeLemmas.{step_tdi, step_tdo, step_mask}
+use Rattle.scan_planner.proofs.instructions.rows_of.Goals as goal
+
+pub loop-i-preserved : goal.loop-i-preserved
+loop-i-preserved c =
+    let chain = c.args.chain.now in
+    let i = c.loop-i.i in
+    let p : Part = c.index-chain-i.result in
+    let q : Part = get_or chain (i - 1) p in
+    record {
+      tdi = c.in_ok-push_code.ensures
+          ∙ ap (λ (l : List Bool). l ++ code_for c.args.instruction q.kind) c.loop-i.invariant.tdi
+          ∙ sym (step_tdi c.args.instruction chain c.requires i p (omega arith) (omega arith));
+      tdo = c.in_ok-push_capture.ensures.tdo
+          ∙ ap (λ n. c.loop-i.tdo.items ++ captured_bits n) c.instruction_length.ensures
+          ∙ ap (λ (l : List Bool). l ++ captured_bits (instruction_length q.kind)) c.loop-i.invariant.tdo
+          ∙ sym (step_tdo c.args.instruction chain c.requires i p (omega arith) (omega arith));
+      mask = c.in_ok-push_capture.ensures.mask
+          ∙ ap (λ n. c.loop-i.mask.items ++ compared_bits n) c.instruction_length.ensures
+          ∙ ap (λ (l : List Bool). l ++ compared_bits (instruction_length q.kind)) c.loop-i.invariant.mask
+          ∙ sym (step_mask c.args.instruction chain c.requires i p (omega arith) (omega arith));
+    }

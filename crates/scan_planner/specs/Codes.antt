@@ -1,0 +1,45 @@
+-- The codes of nets, and the instructions of the scans of instructions.
+use Rattle.std.specs.Prelude.{◌≡◌, ℕ, suc, ◌-◌, ◌<◌, ◌≤◌, Bool, true, false, cond, List, [], ◌∷◌, All, length, replicate, take, count_by, slice_index_or}
+use Rattle.board_defs.specs.declared.board.PartKind.{PartKind}
+use Rattle.board_defs.specs.declared.board.Part.{Part}
+use Rattle.board_defs.specs.declared.board.Ctl.{Ctl}
+use Rattle.board_defs.specs.Pins.{instruction_length}
+use Rattle.board_defs.specs.Settings.{holds}
+use Rattle.tap_defs.specs.BoardScans.{preload_code, extest_code}
+use Rattle.scan_planner.specs.declared.codes.NetCodes.{NetCodes}
+use Rattle.scan_planner.specs.declared.nets.NetDriver.{NetDriver}
+use Rattle.scan_planner.specs.declared.tables.ReaderCell.{ReaderCell}
+use Rattle.scan_planner.specs.Building.{is_seen}
+use Rattle.scan_planner.specs.declared.instructions.Instruction.{Instruction}
+use Rattle.scan_planner.specs.declared.instructions.Instruction.TheVariants.{Preload, Extest}
+
+-- the code of a part
+abbrev pub code_for : Instruction → PartKind → List Bool
+code_for Preload kind = preload_code kind
+code_for Extest kind = extest_code kind
+
+-- a code fills the instruction register of each part, which has two bits or more
+pub record IsCoded (instruction : Instruction) (kind : PartKind) : Type 0 where
+  pub least : 2 ≤ instruction_length kind
+  pub length_is : length (code_for instruction kind) ≡ instruction_length kind
+
+abbrev pub AreCoded : Instruction → List Part → Type 0
+AreCoded instruction chain = All (λ part. IsCoded instruction part.kind) chain
+
+-- what an instruction register of this length gives in a scan, where it is compared, and where it is
+abbrev pub captured_bits : ℕ → List Bool
+captured_bits length = true ∷ replicate (length - 1) false
+
+abbrev pub compared_bits : ℕ → List Bool
+compared_bits length = true ∷ true ∷ replicate (length - 2) false
+
+-- which nets some pass observes, by their drivers and compared cells
+pub record AreSeen (passes : List (List Ctl)) (drivers : List (List NetDriver)) (readers : List (List ReaderCell)) (seen : List Bool) : Type 0 where
+  pub count : length seen ≡ length drivers
+  pub each : (n : ℕ) → n < length drivers → slice_index_or seen n false ≡ is_seen passes holds (slice_index_or drivers n []) (slice_index_or readers n [])
+
+-- the nets that are observed are numbered from 1, and the others have 0
+pub record AreCodes (seen : List Bool) (codes : NetCodes) : Type 0 where
+  pub count_is : codes.count ≡ count_by (λ b. b) seen
+  pub length_is : length codes.codes ≡ length seen
+  pub each : (n : ℕ) → n < length seen → slice_index_or codes.codes n 0 ≡ cond (slice_index_or seen n false) (suc (count_by (λ b. b) (take n seen))) 0

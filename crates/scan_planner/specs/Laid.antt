@@ -1,0 +1,36 @@
+-- A row of data as a bit for each boundary cell of each described part.
+use Rattle.std.specs.Prelude.{ℕ, suc, Bool, false, List, [], ◌∷◌}
+use Rattle.board_defs.specs.declared.device.RawDevice.{RawDevice}
+use Rattle.board_defs.specs.declared.board.PartKind.{PartKind}
+use Rattle.board_defs.specs.declared.board.PartKind.TheVariants.{Described, Bypass}
+use Rattle.board_defs.specs.declared.board.Part.{Part}
+use Rattle.board_defs.specs.declared.board.RawBoard.{RawBoard}
+use Rattle.board_defs.specs.declared.board.Ctl.{Ctl}
+use Rattle.tap_defs.specs.ShiftRegister.{filled}
+use Rattle.tap_defs.specs.Scan.{joined}
+use Rattle.tap_defs.specs.TestRows.{steady_bit}
+
+-- a bit for each cell of each described part
+abbrev pub CellBits : Type 0
+CellBits = ℕ → RawDevice → ℕ → Bool
+
+-- the bits of a part: those of its cells, and a 0 for a part without a description
+abbrev pub part_laid : CellBits → ℕ → PartKind → List Bool
+part_laid g part (Described device) = filled device.boundary (λ cell. g part device cell)
+part_laid g part (Bypass n) = false ∷ []
+
+abbrev pub parts_laid : CellBits → ℕ → List Part → List (List Bool)
+parts_laid g part [] = []
+parts_laid g part (p ∷ parts) = part_laid g part p.kind ∷ parts_laid g (suc part) parts
+
+-- the bits of all parts as they are shifted
+abbrev pub laid : CellBits → RawBoard → List Bool
+laid g board = joined (parts_laid g 0 board.chain)
+
+-- the bits of cells that carry no net's bit, under a setting
+abbrev pub steady : RawBoard → (Ctl → Bool) → ℕ → RawDevice → ℕ → Bool
+steady board setting part device cell = steady_bit board setting part device cell
+
+-- the bits of the quiet row
+abbrev pub quiet_bits : RawBoard → ℕ → RawDevice → ℕ → Bool
+quiet_bits board part device cell = steady_bit board (λ c. false) part device cell

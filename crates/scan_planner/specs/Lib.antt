@@ -1,0 +1,6 @@
+pub mod Tables
+pub mod Plans
+pub mod Assigned
+pub mod Building
+pub mod Codes
+pub mod Laid

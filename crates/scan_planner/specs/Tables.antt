@@ -1,0 +1,86 @@
+-- What a plan keeps of a board: rows that every test of it has, and the positions at which the rows of a pass differ from the quiet row.
+use Rattle.std.specs.Prelude.{◌≡◌, ◌↔◌, ℕ, suc, ◌+◌, true, false, not, List, length, map, drop, sum_by, Some, slice_get, unwrap_or, Contains}
+use Rattle.board_defs.specs.declared.device.Cell.{Cell}
+use Rattle.board_defs.specs.declared.device.RawDevice.{RawDevice}
+use Rattle.board_defs.specs.declared.board.PinAt.{PinAt}
+use Rattle.board_defs.specs.declared.board.NetPin.{NetPin}
+use Rattle.board_defs.specs.declared.board.Net.{Net}
+use Rattle.board_defs.specs.declared.board.RawBoard.{RawBoard}
+use Rattle.board_defs.specs.declared.board.Ctl.{Ctl}
+use Rattle.board_defs.specs.DeviceRules.{reads_bit, disable_of}
+use Rattle.board_defs.specs.Pins.{data_length, device_at, entry_at, receives_where}
+use Rattle.board_defs.specs.Settings.{holds}
+use Rattle.tap_defs.specs.Scan.{ScanBit, joined, tdi_bits, tdo_bits, mask_bits}
+use Rattle.tap_defs.specs.Codes.{instructs}
+use Rattle.tap_defs.specs.TestRows.{observing_driver}
+use Rattle.tap_defs.specs.BoardScans.{row_bits, first_row_scan, preload_code, extest_code}
+use Rattle.scan_planner.specs.declared.tables.FixedRows.{FixedRows}
+use Rattle.scan_planner.specs.declared.tables.HeldCell.{HeldCell}
+use Rattle.scan_planner.specs.declared.tables.DriverCell.{DriverCell}
+use Rattle.scan_planner.specs.declared.tables.ReaderCell.{ReaderCell}
+use Rattle.scan_planner.specs.declared.tables.PassCells.{PassCells}
+use Rattle.scan_planner.specs.declared.tables.PlanTables.{PlanTables}
+
+-- the position of a part's first bit in a scan of data: behind those of the parts after it
+abbrev pub first_position : RawBoard → ℕ → ℕ
+first_position board part = sum_by (λ p. data_length p.kind) (drop (suc part) board.chain)
+
+-- the rows of a scan with these bits
+pub record AreRowsOf (bits : List ScanBit) (rows : FixedRows) : Type 0 where
+  pub tdi : rows.tdi ≡ tdi_bits bits
+  pub tdo : rows.tdo ≡ tdo_bits bits
+  pub mask : rows.mask ≡ mask_bits bits
+
+-- the cell of a control of the pass, with the opposite of its disable value
+pub record IsHeldCell (board : RawBoard) (pass : List Ctl) (h : HeldCell) : Type 0 where
+  pub control : Ctl
+  pub is_held : holds pass control ≡ true
+  pub device : RawDevice
+  pub is_device : device_at board control.part ≡ Some device
+  pub position_is : h.position ≡ first_position board control.part + control.cell
+  pub bit_is : h.bit ≡ not (unwrap_or (disable_of device control.cell) false)
+
+-- the cell of the driver by which the pass observes a net
+pub record IsDriverCell (board : RawBoard) (pass : List Ctl) (d : DriverCell) : Type 0 where
+  pub net : Net
+  pub is_net : slice_get board.nets d.net ≡ Some net
+  pub observing : observing_driver board (holds pass) net ≡ Some d.place
+  pub pin : NetPin
+  pub is_pin : slice_get net.pins d.place ≡ Some pin
+  pub at : PinAt
+  pub is_at : pin.at ≡ Some at
+  pub entry : Cell
+  pub is_entry : entry_at board at ≡ Some entry
+  pub position_is : d.position ≡ first_position board at.part + entry.num
+
+-- a cell of a receiver on the net that is compared: INPUT, CLOCK or BIDIR
+pub record IsReaderCell (board : RawBoard) (net : Net) (r : ReaderCell) : Type 0 where
+  pub pin : NetPin
+  pub is_pin : slice_get net.pins r.place ≡ Some pin
+  pub at : PinAt
+  pub is_at : pin.at ≡ Some at
+  pub receives : receives_where board (Some at) ≡ true
+  pub device : RawDevice
+  pub is_device : device_at board at.part ≡ Some device
+  pub entry : Cell
+  pub is_entry : Contains device.cells entry
+  pub reads : reads_bit at.bit entry ≡ true
+  pub position_is : r.position ≡ first_position board at.part + entry.num
+
+-- the cells in which the rows of a pass differ from the quiet row, each in some place
+pub record ArePassCells (board : RawBoard) (pass : List Ctl) (cells : PassCells) : Type 0 where
+  pub held : (h : HeldCell) → Contains cells.held h ↔ IsHeldCell board pass h
+  pub drivers : (d : DriverCell) → Contains cells.drivers d ↔ IsDriverCell board pass d
+
+-- the compared cells of a net, each in some place
+abbrev pub AreReaders : RawBoard → Net → List ReaderCell → Type 0
+AreReaders board net readers = (r : ReaderCell) → Contains readers r ↔ IsReaderCell board net r
+
+-- the tables of a plan for the board
+pub record ArePlanTables (board : RawBoard) (plan : PlanTables) : Type 0 where
+  pub preload : AreRowsOf ((instructs (map (λ part. preload_code part.kind) board.chain)).bits) plan.preload
+  pub extest : AreRowsOf ((instructs (map (λ part. extest_code part.kind) board.chain)).bits) plan.extest
+  pub quiet : plan.quiet ≡ tdi_bits (joined (row_bits board first_row_scan))
+  pub cells : (x : ℕ) (pass : List Ctl) → slice_get plan.passes x ≡ Some pass → (cells : PassCells) × (slice_get plan.cells x ≡ Some cells) × ArePassCells board pass cells
+  pub readers : (n : ℕ) (net : Net) → slice_get board.nets n ≡ Some net → (readers : List ReaderCell) × (slice_get plan.readers n ≡ Some readers) × AreReaders board net readers
+  pub readers_length : length plan.readers ≡ length board.nets

@@ -1,0 +1,290 @@
+// Fills rows with a scan.
+ghost use Rattle.std.specs.Prelude.{◌≡◌, ◌+◌, ◌*◌, ◌<◌, ◌≤◌, [], suc, length, Some, slice_get, slice_index_or};
+ghost use Rattle.std.specs.List.{list_any};
+ghost use Rattle.board_defs.specs.Pins.{data_bits};
+ghost use Rattle.tap_defs.specs.BoardScans.{row_bits};
+ghost use Rattle.tap_defs.specs.Scan.{joined, tdi_bits, tdo_bits, mask_bits};
+ghost use Rattle.scan_planner.specs.Tables.{ArePassCells};
+ghost use Rattle.scan_planner.specs.Plans.{IsPlanOf, IsRoom, FillsScan, scan_count, scan_of_pass};
+
+use crate::rows::{compare_nets, copy_bits, has_one, set_drivers, set_held};
+use crate::tables::{FixedRows, PassCells, PlanTables};
+use board_defs::Board;
+use bt_bits::Row;
+use tap_defs::Shape;
+
+// The kind of a scan with this mask.
+fn shape_of(ir: bool, mask: &Row) -> Shape
+    ensures ir { result.ir ≡ ir }
+    ensures compare { result.compare ≡ list_any (λ bit. bit) mask.now.bits }
+{
+    Shape {
+        ir,
+        compare: has_one(mask),
+    }
+}
+
+// Copies the rows of a scan.
+fn copy_rows(rows: &FixedRows, tdi: &mut Row, tdo: &mut Row, mask: &mut Row)
+    requires few { length rows.now.tdi ≤ 65535 }
+    requires tdo_length { length rows.now.tdo ≡ length rows.now.tdi }
+    requires mask_length { length rows.now.mask ≡ length rows.now.tdi }
+    requires tdi_room { length rows.now.tdi ≤ tdi.old.room }
+    requires tdo_room { length rows.now.tdi ≤ tdo.old.room }
+    requires mask_room { length rows.now.tdi ≤ mask.old.room }
+    ensures tdi { tdi.new.bits ≡ rows.now.tdi }
+    ensures tdo { tdo.new.bits ≡ rows.now.tdo }
+    ensures mask { mask.new.bits ≡ rows.now.mask }
+    ensures tdi_kept { tdi.new.room ≡ tdi.old.room }
+    ensures tdo_kept { tdo.new.room ≡ tdo.old.room }
+    ensures mask_kept { mask.new.room ≡ mask.old.room }
+{
+    copy_bits(rows.tdi.as_slice(), tdi);
+    copy_bits(rows.tdo.as_slice(), tdo);
+    copy_bits(rows.mask.as_slice(), mask);
+}
+
+// The first scan, which shifts the preload codes in.
+fn fill_preload(
+    board: &Board,
+    tables: &PlanTables,
+    tdi: &mut Row,
+    tdo: &mut Row,
+    mask: &mut Row,
+) -> Shape
+    requires plan { IsPlanOf board.now tables.now }
+    requires tdi_room { IsRoom board.now tdi.old.room }
+    requires tdo_room { IsRoom board.now tdo.old.room }
+    requires mask_room { IsRoom board.now mask.old.room }
+    ensures filled { FillsScan board.now tables.now.passes tables.now.width 0 result tdi.new.bits tdo.new.bits mask.new.bits }
+    ensures tdi_kept { tdi.new.room ≡ tdi.old.room }
+    ensures tdo_kept { tdo.new.room ≡ tdo.old.room }
+    ensures mask_kept { mask.new.room ≡ mask.old.room }
+{
+    let _ = board.raw();
+    copy_rows(&tables.preload, tdi, tdo, mask);
+    shape_of(true, mask)
+}
+
+// The third scan, which shifts the EXTEST codes in.
+fn fill_extest(
+    board: &Board,
+    tables: &PlanTables,
+    tdi: &mut Row,
+    tdo: &mut Row,
+    mask: &mut Row,
+) -> Shape
+    requires plan { IsPlanOf board.now tables.now }
+    requires tdi_room { IsRoom board.now tdi.old.room }
+    requires tdo_room { IsRoom board.now tdo.old.room }
+    requires mask_room { IsRoom board.now mask.old.room }
+    ensures filled { FillsScan board.now tables.now.passes tables.now.width 2 result tdi.new.bits tdo.new.bits mask.new.bits }
+    ensures tdi_kept { tdi.new.room ≡ tdi.old.room }
+    ensures tdo_kept { tdo.new.room ≡ tdo.old.room }
+    ensures mask_kept { mask.new.room ≡ mask.old.room }
+{
+    let _ = board.raw();
+    copy_rows(&tables.extest, tdi, tdo, mask);
+    shape_of(true, mask)
+}
+
+// The second scan, which shifts the quiet row in and compares nothing.
+fn fill_quiet(
+    board: &Board,
+    tables: &PlanTables,
+    tdi: &mut Row,
+    tdo: &mut Row,
+    mask: &mut Row,
+) -> Shape
+    requires plan { IsPlanOf board.now tables.now }
+    requires tdi_room { data_bits board.now ≤ tdi.old.room }
+    requires tdo_room { data_bits board.now ≤ tdo.old.room }
+    requires mask_room { data_bits board.now ≤ mask.old.room }
+    ensures filled { FillsScan board.now tables.now.passes tables.now.width 1 result tdi.new.bits tdo.new.bits mask.new.bits }
+    ensures tdi_kept { tdi.new.room ≡ tdi.old.room }
+    ensures tdo_kept { tdo.new.room ≡ tdo.old.room }
+    ensures mask_kept { mask.new.room ≡ mask.old.room }
+{
+    let _ = board.raw();
+    let len = board.dr_bits();
+    copy_bits(tables.quiet.as_slice(), tdi);
+    tdo.clear(len);
+    mask.clear(len);
+    shape_of(false, mask)
+}
+
+fn cells_at(cells: &[PassCells], pass: usize) -> &PassCells
+    requires { pass < length cells.now }
+    ensures { slice_get cells.now pass ≡ Some result.now }
+{
+    &cells[pass]
+}
+
+// The cells of a pass.
+fn pass_cells<'a>(board: &Board, tables: &'a PlanTables, pass: usize) -> &'a PassCells
+    requires plan { IsPlanOf board.now tables.now }
+    requires pass { pass < length tables.now.passes }
+    ensures { ArePassCells board.now (slice_index_or tables.now.passes pass []) result.now }
+{
+    let _ = board.raw();
+    cells_at(tables.cells.as_slice(), pass)
+}
+
+// Shifts row `j` of a pass in.
+fn fill_code_row(board: &Board, tables: &PlanTables, pass: usize, j: u32, tdi: &mut Row)
+    requires plan { IsPlanOf board.now tables.now }
+    requires pass { pass < length tables.now.passes }
+    requires row { j < tables.now.width }
+    requires few { tables.now.width ≤ 14 }
+    requires room { data_bits board.now ≤ tdi.old.room }
+    ensures bits { tdi.new.bits ≡ tdi_bits (joined (row_bits board.now (scan_of_pass board.now tables.now pass j))) }
+    ensures kept { tdi.new.room ≡ tdi.old.room }
+{
+    let _ = board.raw();
+    let cells = pass_cells(board, tables, pass);
+    copy_bits(tables.quiet.as_slice(), tdi);
+    set_held(cells.held.as_slice(), tdi);
+    set_drivers(cells.drivers.as_slice(), tables.codes.as_slice(), j, tdi);
+}
+
+// Shifts row `j` of a pass in, or the quiet row after the last.
+fn fill_now(board: &Board, tables: &PlanTables, pass: usize, j: u32, tdi: &mut Row)
+    requires plan { IsPlanOf board.now tables.now }
+    requires pass { pass < length tables.now.passes }
+    requires few { tables.now.width ≤ 14 }
+    requires room { data_bits board.now ≤ tdi.old.room }
+    ensures bits { tdi.new.bits ≡ tdi_bits (joined (row_bits board.now (scan_of_pass board.now tables.now pass j))) }
+    ensures kept { tdi.new.room ≡ tdi.old.room }
+{
+    let _ = board.raw();
+    if j < tables.width {
+        fill_code_row(board, tables, pass, j, tdi)
+    } else {
+        copy_bits(tables.quiet.as_slice(), tdi)
+    }
+}
+
+// Compares row `j` of a pass, over rows of zeros.
+fn compare_row(
+    board: &Board,
+    tables: &PlanTables,
+    pass: usize,
+    j: u32,
+    tdo: &mut Row,
+    mask: &mut Row,
+)
+    requires plan { IsPlanOf board.now tables.now }
+    requires pass { pass < length tables.now.passes }
+    requires row { j < 14 }
+    requires tdo_room { data_bits board.now ≤ tdo.old.room }
+    requires mask_room { data_bits board.now ≤ mask.old.room }
+    ensures tdo { tdo.new.bits ≡ tdo_bits (joined (row_bits board.now (scan_of_pass board.now tables.now pass (suc j)))) }
+    ensures mask { mask.new.bits ≡ mask_bits (joined (row_bits board.now (scan_of_pass board.now tables.now pass (suc j)))) }
+    ensures tdo_kept { tdo.new.room ≡ tdo.old.room }
+    ensures mask_kept { mask.new.room ≡ mask.old.room }
+{
+    let _ = board.raw();
+    let cells = pass_cells(board, tables, pass);
+    let len = board.dr_bits();
+    tdo.clear(len);
+    mask.clear(len);
+    compare_nets(
+        cells.drivers.as_slice(),
+        tables.readers.as_slice(),
+        tables.codes.as_slice(),
+        j,
+        tdo,
+        mask,
+    );
+}
+
+// Compares the row before row `j` of a pass, and nothing before the first.
+fn fill_before(
+    board: &Board,
+    tables: &PlanTables,
+    pass: usize,
+    j: u32,
+    tdo: &mut Row,
+    mask: &mut Row,
+)
+    requires plan { IsPlanOf board.now tables.now }
+    requires pass { pass < length tables.now.passes }
+    requires row { j ≤ 14 }
+    requires tdo_room { data_bits board.now ≤ tdo.old.room }
+    requires mask_room { data_bits board.now ≤ mask.old.room }
+    ensures tdo { tdo.new.bits ≡ tdo_bits (joined (row_bits board.now (scan_of_pass board.now tables.now pass j))) }
+    ensures mask { mask.new.bits ≡ mask_bits (joined (row_bits board.now (scan_of_pass board.now tables.now pass j))) }
+    ensures tdo_kept { tdo.new.room ≡ tdo.old.room }
+    ensures mask_kept { mask.new.room ≡ mask.old.room }
+{
+    let _ = board.raw();
+    if j > 0 {
+        compare_row(board, tables, pass, j - 1, tdo, mask)
+    } else {
+        let len = board.dr_bits();
+        tdo.clear(len);
+        mask.clear(len)
+    }
+}
+
+// Scan `j` of a pass.
+fn fill_pass(
+    board: &Board,
+    tables: &PlanTables,
+    pass: usize,
+    j: u32,
+    tdi: &mut Row,
+    tdo: &mut Row,
+    mask: &mut Row,
+) -> Shape
+    requires plan { IsPlanOf board.now tables.now }
+    requires pass { pass < length tables.now.passes }
+    requires row { j ≤ tables.now.width }
+    requires few { tables.now.width ≤ 14 }
+    requires tdi_room { data_bits board.now ≤ tdi.old.room }
+    requires tdo_room { data_bits board.now ≤ tdo.old.room }
+    requires mask_room { data_bits board.now ≤ mask.old.room }
+    ensures filled { FillsScan board.now tables.now.passes tables.now.width (3 + (pass * suc tables.now.width + j)) result tdi.new.bits tdo.new.bits mask.new.bits }
+    ensures tdi_kept { tdi.new.room ≡ tdi.old.room }
+    ensures tdo_kept { tdo.new.room ≡ tdo.old.room }
+    ensures mask_kept { mask.new.room ≡ mask.old.room }
+{
+    let _ = board.raw();
+    fill_now(board, tables, pass, j, tdi);
+    fill_before(board, tables, pass, j, tdo, mask);
+    shape_of(false, mask)
+}
+
+/// Fills the rows with scan `k`.
+pub fn fill_scan(
+    board: &Board,
+    tables: &PlanTables,
+    k: u64,
+    tdi: &mut Row,
+    tdo: &mut Row,
+    mask: &mut Row,
+) -> Shape
+    requires plan { IsPlanOf board.now tables.now }
+    requires scan { k < scan_count tables.now }
+    requires few { tables.now.width ≤ 14 }
+    requires tdi_room { IsRoom board.now tdi.old.room }
+    requires tdo_room { IsRoom board.now tdo.old.room }
+    requires mask_room { IsRoom board.now mask.old.room }
+    ensures filled { FillsScan board.now tables.now.passes tables.now.width k result tdi.new.bits tdo.new.bits mask.new.bits }
+    ensures tdi_kept { tdi.new.room ≡ tdi.old.room }
+    ensures tdo_kept { tdo.new.room ≡ tdo.old.room }
+    ensures mask_kept { mask.new.room ≡ mask.old.room }
+{
+    if k == 0 {
+        fill_preload(board, tables, tdi, tdo, mask)
+    } else if k == 1 {
+        fill_quiet(board, tables, tdi, tdo, mask)
+    } else if k == 2 {
+        fill_extest(board, tables, tdi, tdo, mask)
+    } else {
+        let scans = u64::from(tables.width) + 1;
+        let pass = (k - 3) / scans;
+        let j = (k - 3) % scans;
+        fill_pass(board, tables, pass as usize, j as u32, tdi, tdo, mask)
+    }
+}

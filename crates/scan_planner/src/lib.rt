@@ -1,0 +1,19 @@
+//! The scans of a board's test, made one at a time from its passes.
+#![tactic(auto)]
+
+mod build;
+mod codes;
+mod fill;
+mod instructions;
+mod nets;
+mod passes;
+mod plan;
+mod positions;
+mod quiet;
+mod rows;
+mod tables;
+
+pub use plan::Plan;
+
+#[cfg(test)]
+mod tests;

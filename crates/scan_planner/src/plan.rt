@@ -1,0 +1,90 @@
+// A plan, and its counts.
+ghost use Rattle.std.specs.Prelude.{◌≡◌, ◌+◌, ◌*◌, ◌<◌, ◌≤◌, ◌^◌, suc, length, slice_index_or, IfOk};
+ghost use Rattle.scan_planner.specs.Plans.{ArePlannable, IsPlanOf, IsRoom, FillsScan, scan_count};
+
+use crate::build::tables_of;
+use crate::fill::fill_scan;
+use crate::tables::PlanTables;
+use board_defs::{Board, Items, Setting};
+use bt_bits::Row;
+use std::alloc::{AllocError, Global};
+use std::marker::Model;
+use tap_defs::Shape;
+
+/// The plan of a board's test: its passes, and what each scan is made of. It keeps no scan.
+#[derive(Debug, Drop)]
+pub struct Plan {
+    tables: PlanTables,
+}
+
+impl Model for Plan {
+    ghost use Rattle.std.specs.Prelude.{◌<◌, ◌≤◌, ◌^◌, length};
+    ghost use Rattle.scan_planner.specs.declared.tables.PlanTables.{PlanTables};
+
+    ghost Value = { PlanTables };
+
+    ghost view = { λ a. a.tables };
+
+    ghost invariant = { λ a. (length a.tables.passes < 2 ^ 32) × (a.tables.width ≤ 14) };
+}
+
+impl Plan {
+    /// The plan of these passes, each of which is safe and has only controls of drivers of the board. The nets that
+    /// some pass observes are numbered from 1, in net order; these numbers are their codes.
+    pub fn new(alloc: Global, board: &Board, passes: Vec<Setting>) -> Result<Plan, AllocError>
+        requires few { length passes.items < 2 ^ 32 }
+        requires plannable { ArePlannable board.now passes.items }
+        ensures plan { IfOk result (λ plan. IsPlanOf board.now plan) }
+        ensures passes { IfOk result (λ plan. plan.passes ≡ passes.items) }
+    {
+        let tables = tables_of(alloc, board, Items::of(passes))?;
+        Ok(Plan { tables })
+    }
+
+    /// The number of scans of the test.
+    pub fn scans(&self) -> u64
+        ensures { result ≡ scan_count self.now }
+    {
+        3 + self.tables.passes.len() as u64 * (u64::from(self.tables.width) + 1)
+    }
+
+    /// The number of rows of the test, each of which is compared once.
+    pub fn rows(&self) -> u64
+        ensures { result ≡ length self.now.passes * self.now.width }
+    {
+        self.tables.passes.len() as u64 * u64::from(self.tables.width)
+    }
+
+    /// The passes of the test.
+    pub fn passes(&self) -> &[Setting]
+        ensures { result.now ≡ self.now.passes }
+    {
+        self.tables.passes.as_slice()
+    }
+
+    /// The code of a net: its number, from 1, among the nets that some pass observes, and 0 for every other net.
+    pub fn code(&self, net: u32) -> u32
+        ensures { result ≡ slice_index_or self.now.codes net 0 }
+    {
+        match self.tables.codes.as_slice().get(net as usize) {
+            Some(code) => *code,
+            None => 0,
+        }
+    }
+
+    /// Fills the rows with scan `k` of the test, counted from 0, and tells its kind. The board is that of the plan,
+    /// `k` is below the number of scans, and each row has room for the longer register. No memory is taken.
+    pub fn fill(&self, board: &Board, k: u64, tdi: &mut Row, tdo: &mut Row, mask: &mut Row) -> Shape
+        requires plan { IsPlanOf board.now self.now }
+        requires scan { k < scan_count self.now }
+        requires tdi_room { IsRoom board.now tdi.old.room }
+        requires tdo_room { IsRoom board.now tdo.old.room }
+        requires mask_room { IsRoom board.now mask.old.room }
+        ensures filled { FillsScan board.now self.now.passes self.now.width k result tdi.new.bits tdo.new.bits mask.new.bits }
+        ensures tdi_kept { tdi.new.room ≡ tdi.old.room }
+        ensures tdo_kept { tdo.new.room ≡ tdo.old.room }
+        ensures mask_kept { mask.new.room ≡ mask.old.room }
+    {
+        fill_scan(board, &self.tables, k, tdi, tdo, mask)
+    }
+}

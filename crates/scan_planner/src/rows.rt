@@ -1,0 +1,107 @@
+// Bits that are set in rows.
+ghost use Rattle.std.specs.Prelude.{◌≡◌, ◌<◌, ◌≤◌, true, length, All};
+ghost use Rattle.std.specs.List.{list_any};
+ghost use Rattle.scan_planner.specs.Assigned.{assigned, driver_bit, set_readers, set_compared};
+
+use crate::tables::{DriverCell, HeldCell, ReaderCell};
+use board_defs::Items;
+use bt_bits::Row;
+use counting_codes::bit;
+
+/// Makes a row these bits.
+pub fn copy_bits(bits: &[bool], row: &mut Row)
+    requires few { length bits.now ≤ 65535 }
+    requires room { length bits.now ≤ row.old.room }
+    ensures bits { row.new.bits ≡ bits.now }
+    ensures room { row.new.room ≡ row.old.room }
+{
+    let len = bits.len() as u32;
+    row.clear(len);
+    for i in 0..len {
+        row.set(i, bits[i as usize]);
+    }
+}
+
+/// Whether some bit of a row is 1.
+pub fn has_one(row: &Row) -> bool
+    ensures { result ≡ list_any (λ bit. bit) row.now.bits }
+{
+    for i in 0..row.len() {
+        if row.get(i) {
+            return true;
+        }
+    }
+    false
+}
+
+/// Sets the cells of the controls of a pass.
+pub fn set_held(held: &[HeldCell], row: &mut Row)
+    requires { All (λ h. h.position < length row.old.bits) held.now }
+    ensures bits { row.new.bits ≡ assigned (λ h. h.position) (λ h. h.bit) row.old.bits held.now }
+    ensures room { row.new.room ≡ row.old.room }
+{
+    for cell in held {
+        row.set(cell.position, cell.bit);
+    }
+}
+
+/// Sets the cells of drivers to bit `j` of the codes of their nets.
+pub fn set_drivers(drivers: &[DriverCell], codes: &[u32], j: u32, row: &mut Row)
+    requires bit { j < 32 }
+    requires nets { All (λ d. d.net < length codes.now) drivers.now }
+    requires within { All (λ d. d.position < length row.old.bits) drivers.now }
+    ensures bits { row.new.bits ≡ assigned (λ d. d.position) (driver_bit codes.now j) row.old.bits drivers.now }
+    ensures room { row.new.room ≡ row.old.room }
+{
+    for cell in drivers {
+        row.set(cell.position, bit(codes[cell.net as usize], j));
+    }
+}
+
+// Sets what is compared of a net at the cells that read it, but for those at the driver's place.
+fn compare_net(readers: &[ReaderCell], place: u32, bit: bool, tdo: &mut Row, mask: &mut Row)
+    requires tdo_within { All (λ r. r.position < length tdo.old.bits) readers.now }
+    requires mask_within { All (λ r. r.position < length mask.old.bits) readers.now }
+    ensures tdo { tdo.new.bits ≡ set_readers place bit tdo.old.bits readers.now }
+    ensures mask { mask.new.bits ≡ set_readers place true mask.old.bits readers.now }
+    ensures tdo_kept { tdo.new.room ≡ tdo.old.room }
+    ensures mask_kept { mask.new.room ≡ mask.old.room }
+{
+    for cell in readers {
+        if cell.place != place {
+            tdo.set(cell.position, bit);
+            mask.set(cell.position, true);
+        }
+    }
+}
+
+/// Sets what is compared of the nets of these drivers: bit `j` of their codes.
+pub fn compare_nets(
+    drivers: &[DriverCell],
+    readers: &[Items<ReaderCell>],
+    codes: &[u32],
+    j: u32,
+    tdo: &mut Row,
+    mask: &mut Row,
+)
+    requires bit { j < 32 }
+    requires codes { All (λ d. d.net < length codes.now) drivers.now }
+    requires nets { All (λ d. d.net < length readers.now) drivers.now }
+    requires tdo_within { All (λ cells. All (λ r. r.position < length tdo.old.bits) cells) readers.now }
+    requires mask_within { All (λ cells. All (λ r. r.position < length mask.old.bits) cells) readers.now }
+    ensures tdo { tdo.new.bits ≡ set_compared (driver_bit codes.now j) readers.now tdo.old.bits drivers.now }
+    ensures mask { mask.new.bits ≡ set_compared (λ d. true) readers.now mask.old.bits drivers.now }
+    ensures tdo_kept { tdo.new.room ≡ tdo.old.room }
+    ensures mask_kept { mask.new.room ≡ mask.old.room }
+{
+    for cell in drivers {
+        let net = cell.net as usize;
+        compare_net(
+            readers[net].as_slice(),
+            cell.place,
+            bit(codes[net], j),
+            tdo,
+            mask,
+        );
+    }
+}
