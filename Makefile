@@ -9,6 +9,10 @@ demo: build
 	@$(PROGRAM) chain examples/four-parts.chain
 	@echo '$$ btest chain examples/part-twice.chain'
 	@$(PROGRAM) chain examples/part-twice.chain; echo "status $$?"
+	@echo '$$ btest device examples/octal-buffer.bsd'
+	@$(PROGRAM) device examples/octal-buffer.bsd
+	@echo '$$ btest chain examples/driver.chain examples/driver.bsd'
+	@$(PROGRAM) chain examples/driver.chain examples/driver.bsd
 
 # Leaves the proved program, and prints where it is.
 build:

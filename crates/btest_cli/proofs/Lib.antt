@@ -1,4 +1,4 @@
 pub mod PieceLemmas
-pub mod Parses
+pub mod AnswerLemmas
 pub mod ReadingLemmas
 pub mod RunLemmas

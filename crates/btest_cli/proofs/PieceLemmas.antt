@@ -3,7 +3,7 @@ use Rattle.std.proofs.Common.{◌≡◌, ℕ, ◌<◌, List, [], ◌∷◌, ◌+
 use Rattle.std.proofs.lemmas.List.{drop_more, take-append-drop}
 use Rattle.bt_base.specs.Puts.{Puts, Shown}
 use Rattle.bt_base.proofs.Cuts.{puts_ok, puts_err}
-use Rattle.btest_cli.specs.Words.{Text}
+use Rattle.command_line.specs.Words.{Text}
 use Rattle.btest_cli.specs.Refusals.{whole}
 
 -- the first piece alone

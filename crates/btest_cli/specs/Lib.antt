@@ -1,9 +1,7 @@
-pub mod Words
-pub mod CommandView
-pub mod App
 pub mod Texts
 pub mod Refusals
 pub mod NamesView
 pub mod Outcome
+pub mod Answers
 pub mod Failures
 pub mod RunOf

@@ -1,80 +1,73 @@
--- What a command gives, and what a run of it leaves at each status.
+-- What a command gives for texts, and what a run of it leaves at each status.
 use Rattle.std.specs.Prelude.{◌≡◌, ◌⊎◌, ℕ, List, [], ◌∷◌, take, Option, Some, Result, Ok, Err, map, String, string_bytes, IfSome, Contains}
 use Rattle.std.specs.declared.alloc.Global.{Global}
 use Rattle.bt_base.specs.Counts.{Rose}
 use Rattle.bt_base.specs.Puts.{Shown, Takes}
 use Rattle.tap_defs.specs.ChainScans.{chain_text}
 use Rattle.tap_defs.specs.ChainTest.{IsChainTest}
+use Rattle.device_check.specs.DeviceText.{device_text}
 use Rattle.btest_core.specs.declared.fault.InputFault.{InputFault}
-use Rattle.btest_core.specs.ChainLengths.{chain_lengths, AreLengths}
+use Rattle.btest_core.specs.DevicesRead.{IsDeviceText}
+use Rattle.btest_core.specs.BoardRead.{AreChainLengths, AreLengths}
+use Rattle.command_line.specs.Words.{Text, Command, Chain, Device, command_of, names_of}
 use Rattle.btest_cli.specs.declared.status.Status.{Status}
 use Rattle.btest_cli.specs.declared.status.Status.TheVariants.{Done, Refused, NoMemory}
-use Rattle.btest_cli.specs.Words.{Text, Command, Chain, command_of, names_of}
-use Rattle.btest_cli.specs.Texts.{Reading, Read, TooLong, reading_of, IsRead}
-use Rattle.btest_cli.specs.Refusals.{Names, input_fault_line, long_line, read_line}
+use Rattle.btest_cli.specs.Texts.{Held, Reading, Read, TooLong, reading_of, IsRead}
+use Rattle.btest_cli.specs.Refusals.{Names, roles_of, input_fault_line, long_line, read_line}
 
--- the names of the texts of `chain`
-abbrev pub chain_names : Text → Names
-chain_names file = record { chain = file; nets = []; bsdl = [] }
+-- what is found in the texts, as the text that is put for it, or the line of their first fault
+abbrev pub IsSaid : {A : Type 0} → Names → (A → Text) → (Result A InputFault → Type 0) → Result Text Text → Type 0
+IsSaid {A} names text_of IsFound outcome =
+    ((value : A) × IsFound (Ok value) × (outcome ≡ Ok (text_of value))) ⊎ ((fault : InputFault) × IsFound (Err fault) × (outcome ≡ Err (input_fault_line names fault)))
 
--- the text of the chain test, or the line of the first fault of the chain file
-abbrev pub by_lengths : Text → Result (List ℕ) InputFault → Result Text Text
-by_lengths file (Ok lengths) = Ok (chain_text lengths)
-by_lengths file (Err fault) = Err (input_fault_line (chain_names file) fault)
-
--- what a command gives for texts: the text that it puts, or the line of the first fault
-abbrev pub gives : Command → List Text → Result Text Text
-gives (Chain file) [] = Err []
-gives (Chain file) (text ∷ texts) = by_lengths file (chain_lengths text)
+-- what a command gives for texts, of which it has one for each of its names: the text that it puts, or the line of the first fault
+abbrev pub IsGiven : Command → List Text → Result Text Text → Type 0
+IsGiven (Chain chain names) [] outcome = ⊥
+IsGiven (Chain chain names) (text ∷ texts) outcome = IsSaid (roles_of (Chain chain names)) chain_text (AreChainLengths text texts) outcome
+IsGiven (Device name) [] outcome = ⊥
+IsGiven (Device name) (text ∷ []) outcome = IsSaid (roles_of (Device name)) device_text (IsDeviceText text) outcome
+IsGiven (Device name) (text ∷ other ∷ others) outcome = ⊥
 
 -- the same for what was read: a text that is too long is the first fault
-abbrev pub outcome : Command → Reading → Result Text Text
-outcome command (Read texts) = gives command texts
-outcome command (TooLong name) = Err (long_line name)
-
--- what a store tells that it holds, if it does
-abbrev pub Held : Type 0
-Held = Option (Text → Option Text)
-
--- a chain file was read, and its chain has these instruction lengths
-pub record LengthsAreRead (held : Held) (file : Text) (lengths : List ℕ) : Type 0 where
-  pub text : Text
-  pub read : IsRead held (file ∷ []) (Read (text ∷ []))
-  pub are : chain_lengths text ≡ Ok lengths
-  pub bounds : AreLengths lengths
-
--- a chain file was read, and this is its first fault
-pub record FaultIsRead (held : Held) (file : Text) (fault : InputFault) : Type 0 where
-  pub text : Text
-  pub read : IsRead held (file ∷ []) (Read (text ∷ []))
-  pub are : chain_lengths text ≡ Err fault
+abbrev pub IsOutcome : Command → Reading → Result Text Text → Type 0
+IsOutcome command (Read texts) outcome = IsGiven command texts outcome
+IsOutcome command (TooLong name) outcome = outcome ≡ Err (long_line name)
 
 -- the texts were read, and the sink took the text that they give
 pub record IsDone (held : Held) (command : Command) (old new : Shown) : Type 0 where
   pub reading : Reading
   pub read : IsRead held (names_of command) reading
   pub text : Text
-  pub gives : outcome command reading ≡ Ok text
+  pub gives : IsOutcome command reading (Ok text)
   pub takes : Takes old new text
 
--- a chain file was read, and the sink took a text that tests the length of its chain
-pub record TestsChain (held : Held) (file : Text) (old new : Shown) : Type 0 where
+-- the sink took a text that tests the length of the chain that these texts describe
+pub record TestsChain (chain : Text) (texts : List Text) (old new : Shown) : Type 0 where
   pub lengths : List ℕ
-  pub read : LengthsAreRead held file lengths
+  pub are : AreChainLengths chain texts (Ok lengths)
+  pub bounds : AreLengths lengths
   pub text : Text
   pub tests : IsChainTest lengths text
   pub takes : Takes old new text
 
--- what the text is worth that a command puts
-abbrev pub IsWorth : Held → Command → Shown → Shown → Type 0
-IsWorth held (Chain file) old new = TestsChain held file old new
+-- what the text is worth that a command puts for texts: a chain test, as what it tests; a listing says no more than what it is
+abbrev pub IsWorthFor : Command → List Text → Shown → Shown → Type 0
+IsWorthFor (Chain chain names) [] old new = ⊥
+IsWorthFor (Chain chain names) (text ∷ texts) old new = TestsChain text texts old new
+IsWorthFor (Device name) texts old new = Unit {0}
+
+-- the texts were read, and what was put for them is worth that
+pub record IsWorth (held : Held) (command : Command) (old new : Shown) : Type 0 where
+  pub texts : List Text
+  pub read : IsRead held (names_of command) (Read texts)
+  pub worth : IsWorthFor command texts old new
 
 -- the texts were read, and the sink took some first bytes of the text that they give
 pub record IsCutShort (held : Held) (command : Command) (old new : Shown) : Type 0 where
   pub reading : Reading
   pub read : IsRead held (names_of command) reading
   pub text : Text
-  pub gives : outcome command reading ≡ Ok text
+  pub gives : IsOutcome command reading (Ok text)
   pub bytes : ℕ
   pub takes : Takes old new (take bytes text)
 
@@ -87,7 +80,7 @@ pub record IsRefused (held : Held) (command : Command) (old new : Shown) : Type 
   pub reading : Reading
   pub read : IsRead held (names_of command) reading
   pub line : Text
-  pub gives : outcome command reading ≡ Err line
+  pub gives : IsOutcome command reading (Err line)
   pub noted : TookOrCut old new line
 
 -- the count of one of these names rose
@@ -114,4 +107,4 @@ Settles rose (Err line) status = (status ≡ Refused) ⊎ (status ≡ NoMemory)
 -- where the store tells texts for the names of the command and no count of theirs rose, their outcome settles the status
 abbrev pub IsComplete : Held → Command → Type 0 → Type 0 → Status → Type 0
 IsComplete held command store_rose out_rose status =
-    (texts : Text → Option Text) (reading : Reading) → held ≡ Some texts → reading_of texts (names_of command) ≡ Some reading → (store_rose → ⊥) → Settles out_rose (outcome command reading) status
+    (texts : Text → Option Text) (reading : Reading) (outcome : Result Text Text) → held ≡ Some texts → reading_of texts (names_of command) ≡ Some reading → IsOutcome command reading outcome → (store_rose → ⊥) → Settles out_rose outcome status

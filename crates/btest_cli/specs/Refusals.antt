@@ -6,9 +6,17 @@ use Rattle.board_files.specs.declared.fault.LineFault.{LineFault}
 use Rattle.board_files.specs.declared.fault.LineFault.TheVariants as line
 use Rattle.board_build.specs.declared.fault.BoardFault.{BoardFault}
 use Rattle.board_build.specs.declared.fault.BoardFault.TheVariants as board
+use Rattle.bsdl_lexer.specs.declared.token.LexFault.{LexFault}
+use Rattle.bsdl_lexer.specs.declared.token.LexFault.TheVariants as lex
+use Rattle.bsdl_parser.specs.declared.fault.ParseFault.{ParseFault}
+use Rattle.bsdl_parser.specs.declared.fault.ParseFault.TheVariants as parse
+use Rattle.device_check.specs.declared.fault.DeviceFault.{DeviceFault}
+use Rattle.device_check.specs.declared.fault.DeviceFault.TheVariants as device
+use Rattle.series_parts.specs.declared.fault.LinkFault.{LinkFault}
+use Rattle.series_parts.specs.declared.fault.LinkFault.TheVariants as link
 use Rattle.btest_core.specs.declared.fault.InputFault.{InputFault}
 use Rattle.btest_core.specs.declared.fault.InputFault.TheVariants as input
-use Rattle.btest_cli.specs.Words.{Text}
+use Rattle.command_line.specs.Words.{Text, Command, Chain, Device}
 
 -- pieces, one after the other
 abbrev pub whole : List Text → Text
@@ -80,8 +88,57 @@ board_fault_line names (board.NoPullNet spot) = at_line names.chain spot.line (c
 board_fault_line names (board.PullTwice spot) = at_line names.chain spot.line (codes ": net pulled twice\n")
 board_fault_line names (board.Memory e) = memory_line
 
+-- the first bad place of a BSDL text
+abbrev pub lex_fault_line : Text → LexFault → Text
+lex_fault_line name (lex.Byte n) = at_line name n (codes ": byte not allowed\n")
+lex_fault_line name (lex.OpenString n) = at_line name n (codes ": string not closed\n")
+lex_fault_line name (lex.TooMany n) = at_line name n (codes ": too many tokens\n")
+lex_fault_line name (lex.Memory e) = memory_line
+
+-- the first token that can't stand in a BSDL text
+abbrev pub parse_fault_line : Text → ParseFault → Text
+parse_fault_line name (parse.Expected n) = at_line name n (codes ": not in the grammar\n")
+parse_fault_line name (parse.Package n) = at_line name n (codes ": package text\n")
+parse_fault_line name (parse.Memory e) = memory_line
+
+-- the attribute with this number, of those whose strings are read
+abbrev pub attribute_name : ℕ → Text
+attribute_name n =
+    if n == 7 then codes "INSTRUCTION_OPCODE" else (if n == 8 then codes "INSTRUCTION_CAPTURE"
+    else (if n == 10 then codes "BOUNDARY_REGISTER" else (if n == 12 then codes "IDCODE_REGISTER"
+    else (if n == 13 then codes "COMPLIANCE_PATTERNS" else codes "PIN_MAP_STRING"))))
+
+-- a rule of a device, with the first item that breaks it
+abbrev pub rule_line : Text → ℕ → ℕ → Text
+rule_line name number item = whole (name ∷ codes ": rule V" ∷ decimal number ∷ codes " item " ∷ decimal item ∷ codes "\n" ∷ [])
+
+-- a string of a device, with the entry at which it leaves its grammar
+abbrev pub string_line : Text → ℕ → ℕ → Text
+string_line name attribute entry = whole (name ∷ codes ": " ∷ attribute_name attribute ∷ codes " entry " ∷ decimal entry ∷ codes "\n" ∷ [])
+
+-- the first rule or string of a device that fails
+abbrev pub device_fault_line : Text → DeviceFault → Text
+device_fault_line name (device.Rule number item) = rule_line name number item
+device_fault_line name (device.Text attribute entry) = string_line name attribute entry
+device_fault_line name (device.Memory e) = memory_line
+
+-- the first pin of a LINK line that stands in no net
+abbrev pub link_fault_line : Text → LinkFault → Text
+link_fault_line name (link.NoLinkPin spot) = at_spot name spot (codes ": link pin not in a net\n")
+link_fault_line name (link.Memory e) = memory_line
+
 -- the first fault of the texts
 abbrev pub input_fault_line : Names → InputFault → Text
 input_fault_line names (input.Chain fault) = line_fault_line names.chain fault
+input_fault_line names (input.Nets fault) = line_fault_line names.nets fault
+input_fault_line names (input.Lex text fault) = lex_fault_line (text_name names.bsdl text) fault
+input_fault_line names (input.Parse text fault) = parse_fault_line (text_name names.bsdl text) fault
 input_fault_line names (input.Board fault) = board_fault_line names fault
+input_fault_line names (input.Device text fault) = device_fault_line (text_name names.bsdl text) fault
+input_fault_line names (input.Link fault) = link_fault_line names.chain fault
 input_fault_line names (input.Memory e) = memory_line
+
+-- the names of the texts of a command, by what they hold
+abbrev pub roles_of : Command → Names
+roles_of (Chain chain bsdl) = record { chain = chain; nets = []; bsdl = bsdl }
+roles_of (Device bsdl) = record { chain = []; nets = []; bsdl = bsdl ∷ [] }

@@ -4,9 +4,10 @@ use Rattle.bt_base.specs.Counts.{Rose}
 use Rattle.bt_base.specs.Puts.{Shown}
 use Rattle.btest_cli.specs.declared.status.Status.{Status}
 use Rattle.btest_cli.specs.declared.status.Status.TheVariants.{Done, Refused, Usage, ReadFault, WriteFault, NoMemory}
-use Rattle.btest_cli.specs.Words.{Text, Command, names_of}
+use Rattle.command_line.specs.Words.{Text, Command, names_of}
 use Rattle.btest_cli.specs.Refusals.{write_line, memory_line}
-use Rattle.btest_cli.specs.Outcome.{Held, IsCutShort, IsDone, IsNotRead, IsRefused, IsWorth, TookOrCut}
+use Rattle.btest_cli.specs.Texts.{Held}
+use Rattle.btest_cli.specs.Outcome.{IsCutShort, IsDone, IsNotRead, IsRefused, IsWorth, TookOrCut}
 
 pub record IsRunOf (command : Command) (held : Held) (before now : Text → ℕ) (out out' notes notes' : Shown) (status : Status) : Type 0 where
   pub no_usage : status ≢ Usage

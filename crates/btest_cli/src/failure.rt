@@ -1,9 +1,9 @@
 // Why a command put no whole text, its status and its line.
 ghost use Rattle.std.specs.Prelude.{◌≡◌};
 ghost use Rattle.bt_base.specs.Puts.{Puts};
-ghost use Rattle.btest_cli.specs.Failures.{failure_line, status_of};
+ghost use Rattle.btest_cli.specs.Answers.{unput_of};
+ghost use Rattle.btest_cli.specs.Failures.{unread_status, unread_line, unput_status, unput_line};
 ghost use Rattle.btest_cli.specs.NamesView.{names_view};
-ghost use Rattle.btest_cli.specs.Outcome.{chain_names};
 
 use crate::notes::{
     Names, put_input_fault, put_memory, put_not_read, put_not_written, put_too_long,
@@ -12,53 +12,78 @@ use crate::status::Status;
 use bt_base::{PutFault, Sink};
 use btest_core::InputFault;
 
+/// Why the texts of a command were not all read.
+#[derive(Drop)]
+pub enum Unread<'a> {
+    /// The text of this name is too long.
+    TooLong(&'a str),
+    /// The text of this name was not read.
+    Failed(&'a str),
+    /// There was not enough memory.
+    Memory,
+}
+
 /// Why a command put no whole text.
 #[derive(Drop)]
-pub enum Failure {
-    /// The text is too long.
-    TooLong,
+pub enum Unput {
     /// The first fault of the texts.
     Input(InputFault),
-    /// The text was not read.
-    Read,
     /// The defined text was not put whole.
     Write,
     /// There was not enough memory.
     Memory,
 }
 
-/// The status of a failure.
-pub fn status_of(failure: &Failure) -> Status
-    ensures { result ≡ status_of failure.now }
+/// Why nothing is put where the texts have this fault.
+pub fn unput_by(fault: InputFault) -> Unput
+    ensures { result ≡ unput_of fault }
 {
-    match failure {
-        Failure::TooLong | Failure::Input(_) => Status::Refused,
-        Failure::Read => Status::ReadFault,
-        Failure::Write => Status::WriteFault,
-        Failure::Memory => Status::NoMemory,
+    match fault {
+        InputFault::Memory(_) => Unput::Memory,
+        fault => Unput::Input(fault),
     }
 }
 
-/// Puts the line of a failure of `chain` with this file.
-pub fn put_failure<N: Sink>(file: &str, failure: &Failure, notes: &mut N) -> Result<(), PutFault>
-    ensures { Puts (N.shown notes.old) (N.shown notes.new) (failure_line file.now failure.now) result }
+/// The status of texts that were not read.
+pub fn unread_status(failure: &Unread) -> Status
+    ensures { result ≡ unread_status failure.now }
 {
     match failure {
-        Failure::TooLong => put_too_long(file, notes),
-        Failure::Input(fault) => put_input_fault(chain_names(file), fault, notes),
-        Failure::Read => put_not_read(file, notes),
-        Failure::Write => put_not_written(notes),
-        Failure::Memory => put_memory(notes),
+        Unread::TooLong(_) => Status::Refused,
+        Unread::Failed(_) => Status::ReadFault,
+        Unread::Memory => Status::NoMemory,
     }
 }
 
-// The names of the texts of `chain`.
-fn chain_names<'a>(chain: &'a str) -> Names<'a>
-    ensures { names_view result ≡ chain_names chain.entry.now }
+/// The status of a text that was not put whole.
+pub fn unput_status(failure: &Unput) -> Status
+    ensures { result ≡ unput_status failure.now }
 {
-    Names {
-        chain,
-        nets: "",
-        bsdl: &[],
+    match failure {
+        Unput::Input(_) => Status::Refused,
+        Unput::Write => Status::WriteFault,
+        Unput::Memory => Status::NoMemory,
+    }
+}
+
+/// Puts the line of texts that were not read.
+pub fn put_unread<N: Sink>(failure: &Unread, notes: &mut N) -> Result<(), PutFault>
+    ensures { Puts (N.shown notes.old) (N.shown notes.new) (unread_line failure.now) result }
+{
+    match failure {
+        Unread::TooLong(name) => put_too_long(name, notes),
+        Unread::Failed(name) => put_not_read(name, notes),
+        Unread::Memory => put_memory(notes),
+    }
+}
+
+/// Puts the line of a text that was not put whole, by the names of what it was made from.
+pub fn put_unput<N: Sink>(names: Names, failure: &Unput, notes: &mut N) -> Result<(), PutFault>
+    ensures { Puts (N.shown notes.old) (N.shown notes.new) (unput_line (names_view names.entry) failure.now) result }
+{
+    match failure {
+        Unput::Input(fault) => put_input_fault(names, fault, notes),
+        Unput::Write => put_not_written(notes),
+        Unput::Memory => put_memory(notes),
     }
 }

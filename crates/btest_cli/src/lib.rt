@@ -1,14 +1,14 @@
-//! The top call of the program: words, texts, refusals and what is written.
+//! The top call of the program: texts, refusals and what is written.
 #![tactic(auto)]
 
 mod chain_test;
+mod device_listing;
 mod failure;
 mod notes;
 mod rows;
 mod status;
 mod texts;
 mod top;
-mod words;
 
 pub use notes::put_usage;
 pub use status::Status;

@@ -1,22 +1,33 @@
 // The lines on standard error.
-ghost use Rattle.std.specs.Prelude.{◌≡◌, ◌++◌, List, map, decimal};
+ghost use Rattle.std.specs.Prelude.{◌≡◌, ◌++◌, ◌∷◌, [], List, map, decimal, string_bytes};
 ghost use Rattle.bt_base.specs.Puts.{Puts};
-ghost use Rattle.btest_cli.specs.Refusals.{whole, about, at_line, at_spot, line_fault_line, board_fault_line, limit_line, input_fault_line, text_name, long_line, read_line, usage_line, write_line, memory_line};
-ghost use Rattle.btest_cli.specs.NamesView.{names_view};
+ghost use Rattle.btest_cli.specs.Refusals.{whole, about, at_line, at_spot, line_fault_line, board_fault_line, limit_line, lex_fault_line, parse_fault_line, rule_line, string_line, attribute_name, device_fault_line, link_fault_line, input_fault_line, text_name, long_line, read_line, usage_line, write_line, memory_line};
+ghost use Rattle.btest_cli.specs.NamesView.{names_view, text_names_view};
 
 use board_build::BoardFault;
 use board_defs::Spot;
 use board_files::LineFault;
+use bsdl_lexer::LexFault;
+use bsdl_parser::ParseFault;
 use bt_base::{PutFault, Sink};
 use btest_core::InputFault;
+use device_check::DeviceFault;
 use itoa::Buffer;
+use series_parts::LinkFault;
 
 /// The names of a command's texts, by which the lines of refusal tell them apart.
 #[derive(Clone, Copy)]
 pub struct Names<'a> {
     pub chain: &'a str,
     pub nets: &'a str,
-    pub bsdl: &'a [&'a str],
+    pub bsdl: TextNames<'a>,
+}
+
+/// The names of BSDL texts.
+#[derive(Clone, Copy)]
+pub enum TextNames<'a> {
+    One(&'a str),
+    Several(&'a [String]),
 }
 
 // Puts a piece, and then others in order.
@@ -135,12 +146,130 @@ fn put_board_fault<N: Sink>(names: Names, fault: &BoardFault, notes: &mut N) -> 
 }
 
 // The name of a BSDL text, by its number from 0.
-fn text_name<'a>(names: &[&'a str], text: u32) -> &'a str
-    ensures { result.now ≡ text_name (map (λ n. n.now) names.now) text }
+fn text_name<'a>(names: TextNames<'a>, text: u32) -> &'a str
+    ensures { result.now ≡ text_name (text_names_view names.entry) text }
+{
+    match names {
+        TextNames::One(name) => one_name(name, text),
+        TextNames::Several(names) => name_at(names, text),
+    }
+}
+
+fn one_name<'a>(name: &'a str, text: u32) -> &'a str
+    ensures { result.now ≡ text_name (name.entry.now ∷ []) text }
+{
+    if text == 0 { name } else { "" }
+}
+
+fn name_at<'a>(names: &'a [String], text: u32) -> &'a str
+    ensures { result.now ≡ text_name (map string_bytes names.entry.now) text }
 {
     match names.get(text as usize) {
-        Some(name) => name,
+        Some(name) => name.as_str(),
         None => "",
+    }
+}
+
+// Puts the line of the first bad place of a BSDL text.
+fn put_lex_fault<N: Sink>(name: &str, fault: &LexFault, notes: &mut N) -> Result<(), PutFault>
+    ensures { Puts (N.shown notes.old) (N.shown notes.new) (lex_fault_line name.now fault.now) result }
+{
+    match fault {
+        LexFault::Byte(line) => put_at_line(name, *line, b": byte not allowed\n", notes),
+        LexFault::OpenString(line) => put_at_line(name, *line, b": string not closed\n", notes),
+        LexFault::TooMany(line) => put_at_line(name, *line, b": too many tokens\n", notes),
+        LexFault::Memory(_) => put_memory(notes),
+    }
+}
+
+// Puts the line of the first token that can't stand in a BSDL text.
+fn put_parse_fault<N: Sink>(name: &str, fault: &ParseFault, notes: &mut N) -> Result<(), PutFault>
+    ensures { Puts (N.shown notes.old) (N.shown notes.new) (parse_fault_line name.now fault.now) result }
+{
+    match fault {
+        ParseFault::Expected(line) => put_at_line(name, *line, b": not in the grammar\n", notes),
+        ParseFault::Package(line) => put_at_line(name, *line, b": package text\n", notes),
+        ParseFault::Memory(_) => put_memory(notes),
+    }
+}
+
+// Puts the line of a device rule that fails.
+fn put_rule<N: Sink>(name: &str, rule: u32, item: u32, notes: &mut N) -> Result<(), PutFault>
+    ensures { Puts (N.shown notes.old) (N.shown notes.new) (rule_line name.now rule item) result }
+{
+    let mut first = Buffer::new();
+    let rule = first.format(rule).as_bytes();
+    let mut second = Buffer::new();
+    let item = second.format(item).as_bytes();
+    put_all(
+        name.as_bytes(),
+        &[
+            b": rule V".as_slice(),
+            rule,
+            b" item ".as_slice(),
+            item,
+            b"\n".as_slice(),
+        ],
+        notes,
+    )
+}
+
+// The name of an attribute whose string is read.
+fn attribute_name(attribute: u32) -> &'static [u8]
+    ensures { result.now ≡ attribute_name attribute }
+{
+    match attribute {
+        7 => b"INSTRUCTION_OPCODE",
+        8 => b"INSTRUCTION_CAPTURE",
+        10 => b"BOUNDARY_REGISTER",
+        12 => b"IDCODE_REGISTER",
+        13 => b"COMPLIANCE_PATTERNS",
+        _ => b"PIN_MAP_STRING",
+    }
+}
+
+// Puts the line of a string that leaves its grammar.
+fn put_string_fault<N: Sink>(
+    name: &str,
+    attribute: u32,
+    entry: u32,
+    notes: &mut N,
+) -> Result<(), PutFault>
+    ensures { Puts (N.shown notes.old) (N.shown notes.new) (string_line name.now attribute entry) result }
+{
+    let mut number = Buffer::new();
+    let entry = number.format(entry).as_bytes();
+    put_all(
+        name.as_bytes(),
+        &[
+            b": ".as_slice(),
+            attribute_name(attribute),
+            b" entry ".as_slice(),
+            entry,
+            b"\n".as_slice(),
+        ],
+        notes,
+    )
+}
+
+// Puts the line of the first rule or string of a device that fails.
+fn put_device_fault<N: Sink>(name: &str, fault: &DeviceFault, notes: &mut N) -> Result<(), PutFault>
+    ensures { Puts (N.shown notes.old) (N.shown notes.new) (device_fault_line name.now fault.now) result }
+{
+    match fault {
+        DeviceFault::Rule { number, item } => put_rule(name, *number, *item, notes),
+        DeviceFault::Text { attribute, entry } => put_string_fault(name, *attribute, *entry, notes),
+        DeviceFault::Memory(_) => put_memory(notes),
+    }
+}
+
+// Puts the line of a LINK pin that stands in no net.
+fn put_link_fault<N: Sink>(name: &str, fault: &LinkFault, notes: &mut N) -> Result<(), PutFault>
+    ensures { Puts (N.shown notes.old) (N.shown notes.new) (link_fault_line name.now fault.now) result }
+{
+    match fault {
+        LinkFault::NoLinkPin(at) => put_at_spot(name, *at, b": link pin not in a net\n", notes),
+        LinkFault::Memory(_) => put_memory(notes),
     }
 }
 
@@ -154,7 +283,18 @@ pub fn put_input_fault<N: Sink>(
 {
     match fault {
         InputFault::Chain(fault) => put_line_fault(names.chain, fault, notes),
+        InputFault::Nets(fault) => put_line_fault(names.nets, fault, notes),
+        InputFault::Lex { text, fault } => {
+            put_lex_fault(text_name(names.bsdl, *text), fault, notes)
+        }
+        InputFault::Parse { text, fault } => {
+            put_parse_fault(text_name(names.bsdl, *text), fault, notes)
+        }
         InputFault::Board(fault) => put_board_fault(names, fault, notes),
+        InputFault::Device { text, fault } => {
+            put_device_fault(text_name(names.bsdl, *text), fault, notes)
+        }
+        InputFault::Link(fault) => put_link_fault(names.chain, fault, notes),
         InputFault::Memory(_) => put_memory(notes),
     }
 }

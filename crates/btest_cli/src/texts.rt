@@ -1,21 +1,24 @@
 // The texts that a command reads.
-ghost use Rattle.std.specs.Prelude.{◌≡◌, ℕ, ◌<◌, ◌≤◌, [], ◌∷◌, List, length, IfOk, OnOk, IsErrOf};
+ghost use Rattle.std.specs.Prelude.{◌≡◌, ℕ, ◌<◌, ◌≤◌, All, List, length, map, IfOk, OnOk, IsErrOf, Err};
 ghost use Rattle.bt_base.specs.Counts.{Rose};
-ghost use Rattle.btest_cli.specs.Texts.{IsRead, Read, TooLong, most_bytes};
+ghost use Rattle.btest_cli.specs.declared.failure.Unread.{Unread as Lost};
+ghost use Rattle.btest_cli.specs.Texts.{IsRead, IsText, IsLong, Read, most_bytes};
+ghost use Rattle.btest_cli.specs.Failures.{IsUnread};
 
+use crate::failure::Unread;
 use bt_base::{FetchFault, Store};
 use std::alloc::Global;
 
 /// The most bytes of a chain file, a net file or a BSDL text.
 pub const MOST_BYTES: u32 = 4_194_304;
 
-/// Fetches the text of a name.
-pub fn fetch_text<S: Store>(alloc: Global, name: &str, store: &mut S) -> Result<Vec<u8>, FetchFault>
+// Fetches the text of a name.
+fn fetch_text<S: Store>(alloc: Global, name: &str, store: &mut S) -> Result<Vec<u8>, FetchFault>
     ensures held { S.held store.new ≡ S.held store.old }
     ensures later { (n : List ℕ) → S.faults store.old n ≤ S.faults store.new n }
-    ensures text { IfOk result (λ text. IsRead (S.held store.old) (name.now ∷ []) (Read (text.items ∷ []))) }
+    ensures text { IfOk result (λ text. IsText (S.held store.old) name.now text.items) }
     ensures short { IfOk result (λ text. length text.items ≤ most_bytes) }
-    ensures too_long { IsErrOf result FetchFault.TooLong → IsRead (S.held store.old) (name.now ∷ []) (TooLong name.now) }
+    ensures too_long { IsErrOf result FetchFault.TooLong → IsLong (S.held store.old) name.now }
     ensures failed { IsErrOf result FetchFault.Failed → Rose (S.faults store.old name.now) (S.faults store.new name.now) }
 {
     let mut text = Vec::new(alloc);
@@ -25,4 +28,31 @@ pub fn fetch_text<S: Store>(alloc: Global, name: &str, store: &mut S) -> Result<
         Err(FetchFault::TooLong) => Err(FetchFault::TooLong),
         Err(FetchFault::Memory(e)) => Err(FetchFault::Memory(e)),
     }
+}
+
+/// Fetches the texts of the names in their order, up to the first that fails or is too long.
+pub fn fetch_texts<'a, S: Store>(
+    alloc: Global,
+    names: &[&'a str],
+    store: &mut S,
+) -> Result<Vec<Vec<u8>>, Unread<'a>>
+    ensures held { S.held store.new ≡ S.held store.old }
+    ensures read { IfOk result (λ texts. IsRead (S.held store.old) (map (λ n. n.now) names.now) (Read (map (λ text. text.items) texts.items))) }
+    ensures short { IfOk result (λ texts. All (λ text. length text.items ≤ most_bytes) texts.items) }
+    ensures number { IfOk result (λ texts. length texts.items ≡ length names.now) }
+    ensures unread { (lost : Lost) → result ≡ Err lost → IsUnread (S.held store.old) (S.faults store.old) (S.faults store.new) (map (λ n. n.now) names.now) lost }
+{
+    let mut texts = Vec::new(alloc);
+    for name in names {
+        let text = match fetch_text(alloc, name, store) {
+            Ok(text) => text,
+            Err(FetchFault::Failed) => return Err(Unread::Failed(name)),
+            Err(FetchFault::TooLong) => return Err(Unread::TooLong(name)),
+            Err(FetchFault::Memory(_)) => return Err(Unread::Memory),
+        };
+        let Ok(()) = texts.push(text) else {
+            return Err(Unread::Memory);
+        };
+    }
+    Ok(texts)
 }

@@ -1,19 +1,25 @@
 // The top call.
-ghost use Rattle.std.specs.Prelude.{◌≡◌, ◌≢◌, ◌⊎◌, ℕ, [], List, map, None, string_bytes, OnOk, OnErr};
+ghost use Rattle.std.specs.Prelude.{◌≡◌, ◌≢◌, ◌⊎◌, ◌+◌, ◌≤◌, ◌++◌, ℕ, [], All, List, length, map, None, string_bytes, IfOk, OnOk};
 ghost use Rattle.bt_base.specs.Counts.{Rose};
-ghost use Rattle.btest_cli.specs.Words.{Chain, command_of, names_of};
-ghost use Rattle.btest_cli.specs.CommandView.{command_view};
+ghost use Rattle.command_line.specs.Words.{Chain, Device, command_of, names_of};
+ghost use Rattle.command_line.specs.CommandView.{command_view};
 ghost use Rattle.btest_cli.specs.RunOf.{IsRunOf};
-ghost use Rattle.btest_cli.specs.Refusals.{usage_line, write_line, memory_line};
+ghost use Rattle.btest_cli.specs.NamesView.{names_view};
+ghost use Rattle.btest_cli.specs.Refusals.{roles_of, usage_line, write_line, memory_line};
+ghost use Rattle.btest_cli.specs.Texts.{most_bytes};
 ghost use Rattle.btest_cli.specs.Outcome.{ForCommand, IsComplete, IsCutShort, IsDone, IsNotRead, IsRefused, IsWorth, SomeRose, TookOrCut};
+ghost use Rattle.btest_cli.specs.Failures.{IsAnswered};
 
 use crate::chain_test::chain;
-use crate::failure::{put_failure, status_of};
-use crate::notes::{put_memory, put_usage};
+use crate::device_listing::device;
+use crate::failure::{Unput, put_unput, put_unread, unput_status, unread_status};
+use crate::notes::{Names, TextNames, put_memory, put_usage};
 use crate::status::Status;
-use crate::words::{Command, command_of};
+use crate::texts::fetch_texts;
 use bt_base::{Gate, Sink, Store};
-use std::alloc::Global;
+use btest_core::law::inputs_have_one_answer;
+use command_line::{Command, command_of};
+use std::alloc::{AllocError, Global};
 use std::thread::Threads;
 
 /// Runs a command line: reads its words, fetches the texts that they name, checks them, and puts the
@@ -57,6 +63,7 @@ pub fn run<R: Threads, S: Store, K: Sink, N: Sink, G: Gate>(
     ensures complete { ForCommand words.now (λ c. IsComplete (S.held store.old) c
         (SomeRose (S.faults store.old) (S.faults store.new) (names_of c)) (Rose (K.shown out.old).faults (K.shown out.new).faults) result) }
 {
+    inputs_have_one_answer();
     match command_of(alloc, words) {
         Err(_) => {
             let _ = put_memory(notes);
@@ -78,30 +85,122 @@ fn run_command<S: Store, K: Sink, N: Sink>(
     out: &mut K,
     notes: &mut N,
 ) -> Status
+    requires { length (names_of (command_view command)) ≤ 257 }
     ensures { IsRunOf (command_view command.entry) (S.held store.old) (S.faults store.old) (S.faults store.new)
         (K.shown out.old) (K.shown out.new) (N.shown notes.old) (N.shown notes.new) result }
 {
-    match command {
-        Command::Chain { chain } => run_chain(alloc, chain, store, out, notes),
+    let Ok(names) = names_of(alloc, command) else {
+        let _ = put_memory(notes);
+        return Status::NoMemory;
+    };
+    let texts = match fetch_texts(alloc, &names, store) {
+        Ok(texts) => texts,
+        Err(failure) => {
+            let _ = put_unread(&failure, notes);
+            return unread_status(&failure);
+        }
+    };
+    match answer(alloc, command, &texts, out) {
+        Ok(()) => Status::Done,
+        Err(failure) => {
+            let _ = put_unput(roles_of(command), &failure, notes);
+            unput_status(&failure)
+        }
     }
 }
 
-// Runs `chain`.
-fn run_chain<S: Store, K: Sink, N: Sink>(
+// The names of the texts of a command, in their order.
+fn names_of<'a>(alloc: Global, command: Command<'a>) -> Result<Vec<&'a str>, AllocError>
+    ensures { IfOk result (λ names. map (λ n. n.now) names.items ≡ names_of (command_view command.entry)) }
+{
+    let mut names = Vec::new(alloc);
+    match command {
+        Command::Chain { chain, bsdl } => {
+            names.push(chain)?;
+            push_names(&mut names, bsdl)?;
+        }
+        Command::Device { bsdl } => names.push(bsdl)?,
+    }
+    Ok(names)
+}
+
+// Adds names to others.
+fn push_names<'a>(names: &mut Vec<&'a str>, more: &'a [String]) -> Result<(), AllocError>
+    ensures { OnOk result (map (λ n. n.now) names.new.items ≡ map (λ n. n.now) names.old.items ++ map string_bytes more.entry.now) }
+{
+    for name in more {
+        names.push(name.as_str())?;
+    }
+    Ok(())
+}
+
+// The names of the texts of a command, by what they hold.
+fn roles_of<'a>(command: Command<'a>) -> Names<'a>
+    ensures { names_view result ≡ roles_of (command_view command.entry) }
+{
+    match command {
+        Command::Chain { chain, bsdl } => Names {
+            chain,
+            nets: "",
+            bsdl: TextNames::Several(bsdl),
+        },
+        Command::Device { bsdl } => Names {
+            chain: "",
+            nets: "",
+            bsdl: TextNames::One(bsdl),
+        },
+    }
+}
+
+// Puts what a command gives for its texts, of which there is one for each of its names.
+fn answer<K: Sink>(
+    alloc: Global,
+    command: Command,
+    texts: &[Vec<u8>],
+    out: &mut K,
+) -> Result<(), Unput>
+    requires number { length texts.now ≡ length (names_of (command_view command)) }
+    requires few { length texts.now ≤ 257 }
+    requires short { All (λ text. length text.items ≤ most_bytes) texts.now }
+    ensures { IsAnswered (command_view command.entry) (map (λ text. text.items) texts.now) (K.shown out.old) (K.shown out.new) result }
+{
+    match command {
+        Command::Chain { chain, bsdl } => answer_chain(alloc, chain, bsdl, texts, out),
+        Command::Device { bsdl } => answer_device(alloc, bsdl, texts, out),
+    }
+}
+
+fn answer_chain<K: Sink>(
     alloc: Global,
     file: &str,
-    store: &mut S,
+    names: &[String],
+    texts: &[Vec<u8>],
     out: &mut K,
-    notes: &mut N,
-) -> Status
-    ensures { IsRunOf (Chain file.now) (S.held store.old) (S.faults store.old) (S.faults store.new)
-        (K.shown out.old) (K.shown out.new) (N.shown notes.old) (N.shown notes.new) result }
+) -> Result<(), Unput>
+    requires number { length texts.now ≡ 1 + length names.now }
+    requires few { length texts.now ≤ 257 }
+    requires short { All (λ text. length text.items ≤ most_bytes) texts.now }
+    ensures { IsAnswered (Chain file.now (map string_bytes names.now)) (map (λ text. text.items) texts.now) (K.shown out.old) (K.shown out.new) result }
 {
-    match chain(alloc, file, store, out) {
-        Ok(()) => Status::Done,
-        Err(failure) => {
-            let _ = put_failure(file, &failure, notes);
-            status_of(&failure)
-        }
-    }
+    let _ = file;
+    let _ = names;
+    let [text, bsdl @ ..] = texts else {
+        unreachable!()
+    };
+    chain(alloc, text, bsdl, out)
+}
+
+fn answer_device<K: Sink>(
+    alloc: Global,
+    name: &str,
+    texts: &[Vec<u8>],
+    out: &mut K,
+) -> Result<(), Unput>
+    requires number { length texts.now ≡ 1 }
+    requires short { All (λ text. length text.items ≤ most_bytes) texts.now }
+    ensures { IsAnswered (Device name.now) (map (λ text. text.items) texts.now) (K.shown out.old) (K.shown out.new) result }
+{
+    let _ = name;
+    let [text] = texts else { unreachable!() };
+    device(alloc, text, out)
 }

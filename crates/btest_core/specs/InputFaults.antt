@@ -1,23 +1,25 @@
--- Answers with faults of the inputs, the first of which counts.
-use Rattle.std.specs.Prelude.{◌≡◌, Result, Ok, Err}
+-- Faults of each kind as faults of the inputs.
+use Rattle.std.specs.Prelude.{Result, Ok, Err}
 use Rattle.board_files.specs.declared.fault.LineFault.{LineFault}
 use Rattle.board_files.specs.declared.fault.LineFault.TheVariants as line
 use Rattle.board_build.specs.declared.fault.BoardFault.{BoardFault}
 use Rattle.board_build.specs.declared.fault.BoardFault.TheVariants as board
+use Rattle.series_parts.specs.declared.fault.LinkFault.{LinkFault}
+use Rattle.series_parts.specs.declared.fault.LinkFault.TheVariants as link
 use Rattle.btest_core.specs.declared.fault.InputFault.{InputFault}
-use Rattle.btest_core.specs.declared.fault.InputFault.TheVariants.{Chain, Board, Memory}
+use Rattle.btest_core.specs.declared.fault.InputFault.TheVariants.{Board, Link, Memory}
 
-infixl 10 ◌>>=◌
-abbrev pub ◌>>=◌ : {A B : Type 0} → Result A InputFault → (A → Result B InputFault) → Result B InputFault
-(Ok x) >>= f = f x
-(Err e) >>= f = Err e
+-- a fault of a chain or net file as a fault of the inputs
+abbrev pub file_fault : (LineFault → InputFault) → LineFault → InputFault
+file_fault of_file (line.Memory e) = Memory e
+file_fault of_file (line.Statement n) = of_file (line.Statement n)
+file_fault of_file (line.Word n) = of_file (line.Word n)
+file_fault of_file (line.Number n) = of_file (line.Number n)
 
--- a fault of a chain file as a fault of the inputs
-abbrev pub chain_fault : LineFault → InputFault
-chain_fault (line.Memory e) = Memory e
-chain_fault (line.Statement n) = Chain (line.Statement n)
-chain_fault (line.Word n) = Chain (line.Word n)
-chain_fault (line.Number n) = Chain (line.Number n)
+-- what a chain or net file says, with its fault as one of the inputs
+abbrev pub in_file : {A : Type 0} → (LineFault → InputFault) → Result A LineFault → Result A InputFault
+in_file of_file (Ok lines) = Ok lines
+in_file of_file (Err fault) = Err (file_fault of_file fault)
 
 -- a fault of the board as a fault of the inputs
 abbrev pub board_fault : BoardFault → InputFault
@@ -36,20 +38,17 @@ board_fault (board.Limit which) = Board (board.Limit which)
 board_fault (board.NoPullNet spot) = Board (board.NoPullNet spot)
 board_fault (board.PullTwice spot) = Board (board.PullTwice spot)
 
-abbrev pub in_chain : {A : Type 0} → Result A LineFault → Result A InputFault
-in_chain (Ok x) = Ok x
-in_chain (Err e) = Err (chain_fault e)
-
+-- what the board rules say, with their fault as one of the inputs
 abbrev pub in_board : {A : Type 0} → Result A BoardFault → Result A InputFault
-in_board (Ok x) = Ok x
-in_board (Err e) = Err (board_fault e)
+in_board (Ok value) = Ok value
+in_board (Err fault) = Err (board_fault fault)
 
--- an answer, seen by a view, is what reading gives, unless memory ran out
-abbrev pub Fails : {V : Type 0} → InputFault → Result V InputFault → Type 0
-Fails (Memory e) read = Unit {0}
-Fails (Chain fault) read = read ≡ Err (Chain fault)
-Fails (Board fault) read = read ≡ Err (Board fault)
+-- a fault of the joined files as a fault of the inputs
+abbrev pub link_fault : LinkFault → InputFault
+link_fault (link.Memory e) = Memory e
+link_fault (link.NoLinkPin spot) = Link (link.NoLinkPin spot)
 
-abbrev pub Gives : {U V : Type 0} → (U → V) → Result U InputFault → Result V InputFault → Type 0
-Gives view (Ok value) read = read ≡ Ok (view value)
-Gives view (Err fault) read = Fails fault read
+-- what the joined files are, with their fault as one of the inputs
+abbrev pub in_link : {A : Type 0} → Result A LinkFault → Result A InputFault
+in_link (Ok value) = Ok value
+in_link (Err fault) = Err (link_fault fault)

@@ -1,2 +1,6 @@
+pub mod Answers
 pub mod InputFaults
-pub mod ChainLengths
+pub mod TextsRead
+pub mod DevicesRead
+pub mod BoardRead
+pub mod Kept

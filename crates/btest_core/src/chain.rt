@@ -1,40 +1,27 @@
 // The instruction lengths of a chain.
-ghost use Rattle.std.specs.Prelude.{◌≡◌, ◌<◌, ◌≤◌, ◌^◌, [], IfOk, length};
+ghost use Rattle.std.specs.Prelude.{◌≡◌, ◌<◌, ◌≤◌, ◌^◌, All, IfOk, length, map, vec_len};
 ghost use Rattle.std.specs.List.{AllByRecursion};
+ghost use Rattle.board_defs.specs.Pins.{instruction_length};
 ghost use Rattle.board_files.specs.ChainLines.{chain_lines, HasLength};
-ghost use Rattle.board_build.specs.Selection.{selection};
-ghost use Rattle.btest_core.specs.InputFaults.{Gives, in_chain, in_board};
-ghost use Rattle.btest_core.specs.ChainLengths.{bypass_length, bypass_lengths, chain_lengths, AreLengths};
+ghost use Rattle.board_build.specs.ChainParts.{chain_parts, IsChain};
+ghost use Rattle.board_build.specs.Names.{named};
+ghost use Rattle.board_build.specs.declared.names.Naming.TheVariants.{Entity as EntityName};
+ghost use Rattle.btest_core.specs.declared.fault.InputFault.TheVariants.{Chain};
+ghost use Rattle.btest_core.specs.Answers.{Gives, Is};
+ghost use Rattle.btest_core.specs.InputFaults.{in_file};
+ghost use Rattle.btest_core.specs.BoardRead.{AreFileLengths, AreChainLengths, AreLengths};
 
+use crate::devices::devices;
 use crate::fault::InputFault;
-use board_build::{BoardFault, select};
-use board_files::{ChainFile, ChainLine, ChainStatement, LineFault, chain};
-use bsdl_parser::Entity;
+use board_build::parts_of_chain;
+use board_defs::{Device, Part, PartKind};
+use board_files::{ChainFile, LineFault, chain};
 use std::alloc::{AllocError, Global};
 
-/// The instruction lengths of a chain, in bits, in the order from TDI to TDO: 1 to 255 lengths of 2
-/// to 255. Otherwise the first fault of the chain file, or the first board rule that the chain breaks.
-/// No BSDL text is read yet.
-#[tactic(auto, unfolding(crate::specs::ChainLengths::chain_lengths))]
-pub fn read_chain(
-    alloc: Global,
-    chain_text: &[u8],
-    bsdl: &[Vec<u8>],
-) -> Result<Vec<u32>, InputFault>
-    requires size { length chain_text.now < 2 ^ 32 }
-    requires no_texts { length bsdl.now ≡ 0 }
-    ensures read { Gives (λ lengths. lengths.items) result (chain_lengths chain_text.now) }
-    ensures lengths { IfOk result (λ lengths. AreLengths lengths.items) }
-{
-    let file = chain_file(alloc, chain_text)?;
-    let _numbers = numbers(alloc, &file)?;
-    Ok(lengths(alloc, file.lines())?)
-}
-
-// The chain file of a text.
-fn chain_file(alloc: Global, text: &[u8]) -> Result<ChainFile, InputFault>
+/// The chain file of a text.
+pub(crate) fn chain_file(alloc: Global, text: &[u8]) -> Result<ChainFile, InputFault>
     requires { length text.now < 2 ^ 32 }
-    ensures read { Gives (λ file. file) result (in_chain (chain_lines text.now)) }
+    ensures read { Gives (λ file. file) (Is (in_file Chain (chain_lines text.now))) result }
     ensures lengths { IfOk result (AllByRecursion (λ line. HasLength line.statement)) }
     ensures count { IfOk result (λ file. length file ≤ length text.now) }
 {
@@ -45,32 +32,70 @@ fn chain_file(alloc: Global, text: &[u8]) -> Result<ChainFile, InputFault>
     }
 }
 
-// The number of the entity of each described part, where no BSDL text is given.
-fn numbers(alloc: Global, file: &ChainFile) -> Result<Vec<u32>, InputFault>
-    requires { length file.now < 2 ^ 32 }
-    ensures { Gives (λ numbers. numbers.items) result (in_board (selection file.now [])) }
+// How many bits the instruction register of a part has.
+fn instruction_length(part: &Part) -> u32
+    ensures { result ≡ instruction_length part.now.kind }
 {
-    let entities: Vec<Entity> = Vec::new(alloc);
-    match select(alloc, file, &entities) {
-        Ok(numbers) => Ok(numbers),
-        Err(BoardFault::Memory(e)) => Err(InputFault::Memory(e)),
-        Err(fault) => Err(InputFault::Board(fault)),
+    match &part.kind {
+        PartKind::Described(device) => device.raw().ir,
+        PartKind::Bypass(length) => *length,
     }
 }
 
-// The lengths of the BYPASS lines.
-fn lengths(alloc: Global, lines: &[ChainLine]) -> Result<Vec<u32>, AllocError>
-    ensures { IfOk result (λ lengths. lengths.items ≡ bypass_lengths lines.now) }
+// The instruction lengths of these parts.
+fn instruction_lengths(alloc: Global, parts: &[Part]) -> Result<Vec<u32>, AllocError>
+    ensures { IfOk result (λ lengths. lengths.items ≡ map (λ part. instruction_length part.kind) parts.now) }
 {
-    lines.iter().filter_map(bypass_length).collect(alloc)
+    let mut lengths = Vec::new(alloc);
+    for part in parts {
+        lengths.push(instruction_length(part))?;
+    }
+    Ok(lengths)
 }
 
-// The length of a BYPASS line.
-fn bypass_length(line: &ChainLine) -> Option<u32>
-    ensures { result ≡ bypass_length line.now.statement }
+// The instruction lengths of the parts of a chain.
+fn lengths_of(alloc: Global, file: &ChainFile, devices: Vec<Device>) -> Result<Vec<u32>, AllocError>
+    requires chain { IsChain file.now }
+    requires lengths { AllByRecursion (λ line. HasLength line.statement) file.now }
+    requires devices { vec_len devices ≡ length (named EntityName file.now) }
+    ensures lengths { IfOk result (λ lengths. lengths.items ≡ map (λ part. instruction_length part.kind) (chain_parts file.now devices.items)) }
+    ensures bounds { IfOk result (λ lengths. AreLengths lengths.items) }
 {
-    match &line.statement {
-        ChainStatement::Bypass { length, .. } => Some(*length),
-        _ => None,
+    let parts = parts_of_chain(alloc, file, devices)?;
+    let lengths = instruction_lengths(alloc, &parts)?;
+    Ok(lengths)
+}
+
+// The instruction lengths of a chain file.
+fn file_lengths(alloc: Global, file: &ChainFile, bsdl: &[Vec<u8>]) -> Result<Vec<u32>, InputFault>
+    requires lines { length file.now < 2 ^ 32 }
+    requires lengths { AllByRecursion (λ line. HasLength line.statement) file.now }
+    requires each { All (λ text. length text.items < 2 ^ 32) bsdl.now }
+    requires count { length bsdl.now < 2 ^ 32 }
+    ensures read { Gives (λ lengths. lengths.items) (AreFileLengths file.now (map (λ text. text.items) bsdl.now)) result }
+    ensures bounds { IfOk result (λ lengths. AreLengths lengths.items) }
+{
+    match devices(alloc, file, bsdl) {
+        Ok(devices) => match lengths_of(alloc, file, devices) {
+            Ok(lengths) => Ok(lengths),
+            Err(e) => Err(InputFault::Memory(e)),
+        },
+        Err(fault) => Err(fault),
+    }
+}
+
+/// The instruction lengths of a chain, in bits, in the order from TDI to TDO: 1 to 255 lengths of 2
+/// to 255. Otherwise the first fault of the chain file, of the BSDL texts, of the board rules that a
+/// chain keeps, or of the devices of its DEVICE lines.
+pub fn read_chain(alloc: Global, chain: &[u8], bsdl: &[Vec<u8>]) -> Result<Vec<u32>, InputFault>
+    requires size { length chain.now < 2 ^ 32 }
+    requires each { All (λ text. length text.items < 2 ^ 32) bsdl.now }
+    requires count { length bsdl.now < 2 ^ 32 }
+    ensures read { Gives (λ lengths. lengths.items) (AreChainLengths chain.now (map (λ text. text.items) bsdl.now)) result }
+    ensures bounds { IfOk result (λ lengths. AreLengths lengths.items) }
+{
+    match chain_file(alloc, chain) {
+        Ok(file) => file_lengths(alloc, &file, bsdl),
+        Err(fault) => Err(fault),
     }
 }

@@ -4,6 +4,10 @@ ghost use Rattle.btest_core.specs.declared.fault.InputFault.TheVariants.{Memory}
 
 use board_build::BoardFault;
 use board_files::LineFault;
+use bsdl_lexer::LexFault;
+use bsdl_parser::ParseFault;
+use device_check::DeviceFault;
+use series_parts::LinkFault;
 use std::alloc::{AllocError, AllocFailed};
 use thiserror::Error;
 
@@ -13,9 +17,24 @@ pub enum InputFault {
     /// The chain file's first faulty line.
     #[error("chain file: {0}")]
     Chain(LineFault),
+    /// The net file's first faulty line.
+    #[error("net file: {0}")]
+    Nets(LineFault),
+    /// The first bad place of a BSDL text. Texts are numbered from 0 in the order in which they are given.
+    #[error("text {text}: {fault}")]
+    Lex { text: u32, fault: LexFault },
+    /// Why the tokens of a BSDL text are no entity.
+    #[error("text {text}: {fault}")]
+    Parse { text: u32, fault: ParseFault },
     /// The first board rule that fails.
     #[error("board: {0}")]
     Board(BoardFault),
+    /// The first rule or string of a device that fails, with the number of its text.
+    #[error("text {text}: {fault}")]
+    Device { text: u32, fault: DeviceFault },
+    /// The first pin of a LINK line that stands in no net.
+    #[error("chain file: {0}")]
+    Link(LinkFault),
     #[error("out of memory")]
     Memory(AllocError),
 }

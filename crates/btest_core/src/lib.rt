@@ -1,11 +1,18 @@
 //! From the texts of a board to what they denote, or the first fault in them.
 #![tactic(auto)]
 
+mod board;
 mod chain;
+mod devices;
 mod fault;
+pub mod law;
+mod texts;
 
+pub use board::read_board;
 pub use chain::read_chain;
+pub use devices::read_device;
 pub use fault::InputFault;
+pub use texts::read_entity;
 
 #[cfg(test)]
 mod tests;

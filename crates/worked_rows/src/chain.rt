@@ -1,4 +1,5 @@
 // The chain test of parts that are known by their length.
+use crate::devices::DRV;
 use crate::runs::Bench;
 use bt_base::MemSink;
 use btest_cli::Status;
@@ -42,6 +43,57 @@ fn writes_the_two_scans(rt: HostRuntime) -> Result<(), Fail> {
         let text = format!(in alloc; "{HEAD}{scans}{TAIL}")?;
         assert_eq!(rt; bench.out.bytes(), text.as_bytes(), "{file}");
         assert_eq!(rt; bench.notes.bytes(), b"".as_slice());
+    }
+    Ok(())
+}
+
+#[test]
+fn scans_the_devices_that_bsdl_texts_describe(rt: HostRuntime) -> Result<(), Fail> {
+    let alloc = rt.alloc();
+    let texts: [(&str, &[u8]); 2] = [
+        ("c", b"DEVICE U1 DRV -\nBYPASS U9 3"),
+        ("drv", DRV.as_bytes()),
+    ];
+    let mut bench = Bench::with_texts(alloc, &texts)?;
+    assert_eq!(rt; bench.run(&rt, "chain c drv")?, Status::Done);
+    let scans = "SIR 5 TDI (1F) TDO (09) MASK (1B);\nSDR 10 TDI (0A5) TDO (294) MASK (3FF);\n";
+    let text = format!(in alloc; "{HEAD}{scans}{TAIL}")?;
+    assert_eq!(rt; bench.out.bytes(), text.as_bytes());
+    let cases = [
+        ("chain c", Status::Refused, "c line 1: entity not given\n"),
+        ("chain c d", Status::ReadFault, "cannot read d\n"),
+        (
+            "chain c drv drv",
+            Status::Refused,
+            "drv: entity given twice\n",
+        ),
+    ];
+    for (line, status, note) in cases {
+        let mut bench = Bench::with_texts(alloc, &texts)?;
+        assert_eq!(rt; bench.run(&rt, line)?, status, "{line}");
+        assert_eq!(rt; bench.notes.bytes(), note.as_bytes(), "{line}");
+        assert_eq!(rt; bench.out.bytes(), b"".as_slice(), "{line}");
+    }
+    Ok(())
+}
+
+#[test]
+fn a_command_takes_at_most_255_bsdl_texts(rt: HostRuntime) -> Result<(), Fail> {
+    let alloc = rt.alloc();
+    let cases = [
+        (255, Status::Refused, "c line 1: entity not given\n"),
+        (
+            256,
+            Status::Usage,
+            "usage: btest chain, device, cover, svf, diagnose, make, ident, walk, groups or batch\n",
+        ),
+    ];
+    for (count, status, note) in cases {
+        let line = format!(in alloc; "chain c{}", " drv".repeat(alloc, count)?)?;
+        let texts: [(&str, &[u8]); 2] = [("c", b"DEVICE U1 RCV -"), ("drv", DRV.as_bytes())];
+        let mut bench = Bench::with_texts(alloc, &texts)?;
+        assert_eq!(rt; bench.run(&rt, &line)?, status, "{count}");
+        assert_eq!(rt; bench.notes.bytes(), note.as_bytes(), "{count}");
     }
     Ok(())
 }
@@ -128,8 +180,10 @@ fn words_that_are_no_command_fetch_nothing(rt: HostRuntime) -> Result<(), Fail> 
         "chain",
         "help",
         "chain -c",
-        "chain c d",
         "chain c ",
+        "device",
+        "device c d",
+        "device -",
         "Chain c",
         "svf c",
         "make -- 2",

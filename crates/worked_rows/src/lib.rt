@@ -4,4 +4,8 @@
 #[cfg(test)]
 mod chain;
 #[cfg(test)]
+mod device;
+#[cfg(test)]
+mod devices;
+#[cfg(test)]
 mod runs;

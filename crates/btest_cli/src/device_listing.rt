@@ -1,0 +1,31 @@
+// The command `device`.
+ghost use Rattle.std.specs.Prelude.{◌<◌, ◌^◌, length};
+ghost use Rattle.device_check.specs.DeviceText.{device_text};
+ghost use Rattle.btest_core.specs.DevicesRead.{IsDeviceText};
+ghost use Rattle.btest_cli.specs.Answers.{Answers, Nothing};
+
+use crate::failure::{Unput, unput_by};
+use bt_base::Sink;
+use bt_bits::Line;
+use btest_core::read_device;
+use device_check::write_device;
+use std::alloc::Global;
+
+/// Puts the listing of the device that a BSDL text describes in its default package. All memory is
+/// taken before the first put.
+pub fn device<K: Sink>(alloc: Global, text: &[u8], out: &mut K) -> Result<(), Unput>
+    requires { length text.now < 2 ^ 32 }
+    ensures { Answers (IsDeviceText text.now) device_text Nothing (K.shown out.old) (K.shown out.new) result }
+{
+    let device = match read_device(alloc, text) {
+        Ok(device) => device,
+        Err(fault) => return Err(unput_by(fault)),
+    };
+    let Ok(mut line) = Line::new(alloc) else {
+        return Err(Unput::Memory);
+    };
+    match write_device(&device, &mut line, out) {
+        Ok(()) => Ok(()),
+        Err(_) => Err(Unput::Write),
+    }
+}

@@ -1,0 +1,25 @@
+use Rattle.std.proofs.Common.{◌≡◌, ◌<◌, ◌∙◌, ap, sym, subst, length, List, ℕ}
+use Rattle.std.specs.Prelude.{IfOk, vec_len}
+use Rattle.std.specs.List.{AllByRecursion}
+use Rattle.std.proofs.lemmas.List.Elements.{recursion_from_All}
+use Rattle.btest_core.specs.Answers.{Gives, EachOf}
+use Rattle.btest_core.specs.DevicesRead.{IsDeviceOf, chosen, Chosen}
+use Rattle.btest_core.proofs.ChoiceLemmas.{choices_of, count_choices}
+use Rattle.btest_core.proofs.devices.devices_by.Goals as goal
+
+pub chosen-requires : goal.chosen-requires
+chosen-requires c = recursion_from_All (λ number. number < length c.args.entities.now) c.args.numbers.now c.requires.within
+
+pub chosen_devices-requires-clause-there : goal.chosen_devices-requires-clause-there
+chosen_devices-requires-clause-there c =
+    subst (λ list. AllByRecursion (λ choice. choice.0 < length c.args.entities.now) list) (sym c.deref.ensures.value) c.in_ok-chosen.ensures.within
+
+pub returns-clause-devices : goal.returns-clause-devices
+returns-clause-devices c =
+    let same : choices_of c.deref.result.now ≡ chosen c.args.lines.now c.args.numbers.now = ap choices_of c.deref.ensures.value ∙ c.in_ok-chosen.ensures.chosen in
+    subst (λ (list : List Chosen). Gives (λ devices. devices.items) (EachOf (IsDeviceOf c.args.entities.now) list) c.chosen_devices.result) same c.chosen_devices.ensures.devices
+
+pub returns-clause-number : goal.returns-clause-number
+returns-clause-number c =
+    let same : choices_of c.deref.result.now ≡ chosen c.args.lines.now c.args.numbers.now = ap choices_of c.deref.ensures.value ∙ c.in_ok-chosen.ensures.chosen in
+    subst (λ (n : ℕ). IfOk c.chosen_devices.result (λ devices. vec_len devices ≡ n)) (count_choices c.deref.result.now ∙ ap length same) c.chosen_devices.ensures.count

@@ -1,0 +1,11 @@
+use Rattle.btest_core.proofs.OneLemmas.{device_text_one, chain_one, board_one}
+use Rattle.btest_core.proofs.law.inputs_have_one_answer.Goals as goal
+
+pub returns-clause-device : goal.returns-clause-device
+returns-clause-device c = device_text_one c.texts_have_one_answer.ensures.one c.token_lists_have_one_answer.ensures.one c.entities_have_one_answer.ensures.one
+
+pub returns-clause-chain : goal.returns-clause-chain
+returns-clause-chain c = chain_one c.texts_have_one_answer.ensures.one c.token_lists_have_one_answer.ensures.one c.entities_have_one_answer.ensures.one
+
+pub returns-clause-board : goal.returns-clause-board
+returns-clause-board c = board_one c.texts_have_one_answer.ensures.one c.token_lists_have_one_answer.ensures.one c.entities_have_one_answer.ensures.one

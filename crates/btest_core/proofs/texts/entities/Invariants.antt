@@ -1,0 +1,13 @@
+use Rattle.std.proofs.Common.{◌≡◌, All, drop, vec_len}
+use Rattle.bsdl_parser.specs.Entity.{HaveKinds, IsSmall}
+use Rattle.btest_core.proofs.TextLemmas.{CompletesTexts, numbered}
+use Rattle.btest_core.proofs.texts.entities.Given as goal
+
+-- the entities so far, and what the texts that are left do to them
+abbrev pub invariant-loop-text : goal.invariant-loop-text
+invariant-loop-text l = record {
+  read : CompletesTexts l.texts (numbered l.text (drop l.text l.texts)) l.entities.items;
+  kinds : All HaveKinds l.entities.items;
+  small : All IsSmall l.entities.items;
+  number : vec_len l.entities ≡ l.text;
+}

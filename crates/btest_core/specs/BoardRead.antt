@@ -1,0 +1,49 @@
+-- What the texts of a board say.
+use Rattle.std.specs.Prelude.{ℕ, ◌≤◌, List, length, map, Result, Ok}
+use Rattle.std.specs.List.{All}
+use Rattle.board_defs.specs.declared.board.RawBoard.{RawBoard}
+use Rattle.board_defs.specs.declared.device.RawDevice.{RawDevice}
+use Rattle.board_defs.specs.Pins.{instruction_length}
+use Rattle.board_files.specs.declared.chain_file.ChainLine.{ChainLine}
+use Rattle.board_files.specs.declared.net_file.NetLine.{NetLine}
+use Rattle.board_files.specs.ChainLines.{chain_lines}
+use Rattle.board_files.specs.NetLines.{net_lines}
+use Rattle.board_build.specs.ChainParts.{chain_parts}
+use Rattle.board_build.specs.BoardRules.{board_of}
+use Rattle.series_parts.specs.Joining.{joined_files}
+use Rattle.btest_core.specs.declared.fault.InputFault.{InputFault}
+use Rattle.btest_core.specs.declared.fault.InputFault.TheVariants.{Chain, Nets}
+use Rattle.btest_core.specs.Answers.{Follows, Is}
+use Rattle.btest_core.specs.InputFaults.{in_file, in_link, in_board}
+use Rattle.btest_core.specs.DevicesRead.{AreDevices}
+
+-- the instruction lengths of the lines of a chain file, in chain order, or the first fault
+abbrev pub AreFileLengths : List ChainLine → List (List ℕ) → Result (List ℕ) InputFault → Type 0
+AreFileLengths lines texts = Follows (AreDevices lines texts) (λ devices. Is (Ok (map (λ part. instruction_length part.kind) (chain_parts lines devices))))
+
+-- the same of a chain file
+abbrev pub AreChainLengths : List ℕ → List (List ℕ) → Result (List ℕ) InputFault → Type 0
+AreChainLengths chain texts = Follows (Is (in_file Chain (chain_lines chain))) (λ lines. AreFileLengths lines texts)
+
+-- the board of these lines and devices, by their joined files, or the first fault
+abbrev pub IsJoinedBoard : List ChainLine → List NetLine → List RawDevice → Result RawBoard InputFault → Type 0
+IsJoinedBoard lines nets devices = Follows (Is (in_link (joined_files lines nets))) (λ joined. Is (in_board (board_of joined.chain joined.nets devices)))
+
+-- the board of these lines and BSDL texts, or the first fault
+abbrev pub IsFilesBoard : List ChainLine → List NetLine → List (List ℕ) → Result RawBoard InputFault → Type 0
+IsFilesBoard lines nets texts = Follows (AreDevices lines texts) (IsJoinedBoard lines nets)
+
+-- the board that the files and the BSDL texts denote, or the first fault
+abbrev pub IsBoardRead : List ℕ → List ℕ → List (List ℕ) → Result RawBoard InputFault → Type 0
+IsBoardRead chain nets texts =
+    Follows (Is (in_file Chain (chain_lines chain))) (λ lines. Follows (Is (in_file Nets (net_lines nets))) (λ net_lines. IsFilesBoard lines net_lines texts))
+
+-- the inputs denote this board
+abbrev pub Denotes : List ℕ → List ℕ → List (List ℕ) → RawBoard → Type 0
+Denotes chain nets texts board = IsBoardRead chain nets texts (Ok board)
+
+-- 1 to 255 instruction lengths of 2 to 255
+pub record AreLengths (lengths : List ℕ) : Type 0 where
+  pub some : 1 ≤ length lengths
+  pub most : length lengths ≤ 255
+  pub each : All (λ n. (2 ≤ n) × (n ≤ 255)) lengths

@@ -1,0 +1,55 @@
+-- The entities of BSDL texts.
+use Rattle.std.specs.Prelude.{◌≡◌, ℕ, List, Result, Ok, Err}
+use Rattle.std.specs.List.{enumerate_from}
+use Rattle.bsdl_lexer.specs.declared.token.Token.{Token}
+use Rattle.bsdl_lexer.specs.declared.token.LexFault.{LexFault}
+use Rattle.bsdl_lexer.specs.Tokens.{AreTokens}
+use Rattle.bsdl_lexer.specs.Answer as lexer
+use Rattle.bsdl_parser.specs.declared.entity.Entity.{Entity}
+use Rattle.bsdl_parser.specs.declared.fault.ParseFault.{ParseFault}
+use Rattle.bsdl_parser.specs.Lexeme.{lexemes}
+use Rattle.bsdl_parser.specs.Answer.{Derives}
+use Rattle.bsdl_parser.specs.Answer as parser
+use Rattle.btest_core.specs.declared.fault.InputFault.{InputFault}
+use Rattle.btest_core.specs.declared.fault.InputFault.TheVariants.{Chain, Nets, Lex, Parse, Board, Device, Link, Memory}
+use Rattle.btest_core.specs.Answers.{EachOf}
+
+-- the text's tokens derive the entity
+pub record IsEntity (text : List ℕ) (entity : Entity) : Type 0 where
+  pub tokens : List Token
+  pub are : AreTokens text tokens
+  pub derives : Derives (lexemes text tokens) entity
+
+-- behind some tokens stands the text's first bad place
+pub record IsLexFault (text : List ℕ) (fault : LexFault) : Type 0 where
+  pub tokens : List Token
+  pub stops : lexer.IsFault text tokens fault
+
+-- the text's tokens derive no entity, and this is why
+pub record IsParseFault (text : List ℕ) (fault : ParseFault) : Type 0 where
+  pub tokens : List Token
+  pub are : AreTokens text tokens
+  pub stops : parser.IsFault text (lexemes text tokens) fault
+
+-- the first fault of the BSDL text of this number
+abbrev pub IsTextFault : List ℕ → ℕ → InputFault → Type 0
+IsTextFault text n (Lex number fault) = (number ≡ n) × IsLexFault text fault
+IsTextFault text n (Parse number fault) = (number ≡ n) × IsParseFault text fault
+IsTextFault text n (Chain fault) = ⊥
+IsTextFault text n (Nets fault) = ⊥
+IsTextFault text n (Board fault) = ⊥
+IsTextFault text n (Device number fault) = ⊥
+IsTextFault text n (Link fault) = ⊥
+IsTextFault text n (Memory error) = ⊥
+
+-- what the BSDL text of this number says: its entity, or its first fault
+abbrev pub IsEntityOf : List ℕ → ℕ → Result Entity InputFault → Type 0
+IsEntityOf text n (Ok entity) = IsEntity text entity
+IsEntityOf text n (Err fault) = IsTextFault text n fault
+
+abbrev pub IsEntityOfText : ℕ × List ℕ → Result Entity InputFault → Type 0
+IsEntityOfText numbered = IsEntityOf numbered.1 numbered.0
+
+-- what texts say: their entities, or the first fault of the first text that has one
+abbrev pub AreEntities : List (List ℕ) → Result (List Entity) InputFault → Type 0
+AreEntities texts = EachOf IsEntityOfText (enumerate_from 0 texts)

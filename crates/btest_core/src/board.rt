@@ -1,0 +1,143 @@
+// The board of a chain file, a net file and BSDL texts.
+ghost use Rattle.std.specs.Prelude.{◌≡◌, ◌+◌, ◌<◌, ◌≤◌, ◌^◌, All, IfOk, length, map, vec_len};
+ghost use Rattle.std.specs.List.{AllByRecursion};
+ghost use Rattle.board_files.specs.ChainLines.{HasLength};
+ghost use Rattle.board_files.specs.NetLines.{net_lines};
+ghost use Rattle.board_build.specs.BoardRules.{board_of};
+ghost use Rattle.board_build.specs.ChainParts.{IsChain};
+ghost use Rattle.board_build.specs.Names.{named};
+ghost use Rattle.board_build.specs.NetWords.{IsShort};
+ghost use Rattle.board_build.specs.declared.names.Naming.TheVariants.{Entity as EntityName};
+ghost use Rattle.series_parts.specs.Joining.{joined_files};
+ghost use Rattle.btest_core.specs.Kept.{Kept};
+ghost use Rattle.btest_core.specs.declared.fault.InputFault.TheVariants.{Nets};
+ghost use Rattle.btest_core.specs.Answers.{Gives, Is};
+ghost use Rattle.btest_core.specs.InputFaults.{in_board, in_file, in_link};
+ghost use Rattle.btest_core.specs.BoardRead.{IsJoinedBoard, IsFilesBoard, IsBoardRead};
+
+use crate::chain::chain_file;
+use crate::devices::devices;
+use crate::fault::InputFault;
+use board_build::{BoardFault, board};
+use board_defs::{Board, Device};
+use board_files::{ChainFile, LineFault, NetFile, nets};
+use series_parts::{Joined, LinkFault, join};
+use std::alloc::Global;
+
+// The net file of a text.
+fn net_file(alloc: Global, text: &[u8]) -> Result<NetFile, InputFault>
+    requires { length text.now < 2 ^ 32 }
+    ensures read { Gives (λ file. file) (Is (in_file Nets (net_lines text.now))) result }
+    ensures count { IfOk result (λ file. length file < 2 ^ 32) }
+    ensures pins { IfOk result (AllByRecursion IsShort) }
+{
+    match nets(alloc, text) {
+        Ok(file) => Ok(file),
+        Err(LineFault::Memory(e)) => Err(InputFault::Memory(e)),
+        Err(fault) => Err(InputFault::Nets(fault)),
+    }
+}
+
+// The joined files.
+fn joined_files(alloc: Global, chain: &ChainFile, nets: &NetFile) -> Result<Joined, InputFault>
+    requires chain { length chain.now < 2 ^ 32 }
+    requires nets { length nets.now < 2 ^ 32 }
+    ensures joined { Gives (λ joined. joined) (Is (in_link (joined_files chain.now nets.now))) result }
+    ensures kept { IfOk result (Kept chain.now nets.now) }
+{
+    match join(alloc, chain, nets) {
+        Ok(joined) => Ok(joined),
+        Err(LinkFault::Memory(e)) => Err(InputFault::Memory(e)),
+        Err(fault) => Err(InputFault::Link(fault)),
+    }
+}
+
+// The board of joined files.
+fn board_of(
+    alloc: Global,
+    chain: &ChainFile,
+    nets: &NetFile,
+    devices: Vec<Device>,
+) -> Result<Board, InputFault>
+    requires selected { IsChain chain.now }
+    requires lengths { AllByRecursion (λ line. HasLength line.statement) chain.now }
+    requires devices { vec_len devices ≡ length (named EntityName chain.now) }
+    requires chain_lines { length chain.now < 2 ^ 32 }
+    requires net_lines { length nets.now < 2 ^ 32 }
+    requires net_words { AllByRecursion IsShort nets.now }
+    ensures { Gives (λ board. board) (Is (in_board (board_of chain.now nets.now devices.items))) result }
+{
+    match board(alloc, chain, nets, devices) {
+        Ok(board) => Ok(board),
+        Err(BoardFault::Memory(e)) => Err(InputFault::Memory(e)),
+        Err(fault) => Err(InputFault::Board(fault)),
+    }
+}
+
+// The board of files and devices, by their joined files.
+fn joined_board(
+    alloc: Global,
+    chain: &ChainFile,
+    nets: &NetFile,
+    devices: Vec<Device>,
+) -> Result<Board, InputFault>
+    requires selected { IsChain chain.now }
+    requires lengths { AllByRecursion (λ line. HasLength line.statement) chain.now }
+    requires devices { vec_len devices ≡ length (named EntityName chain.now) }
+    requires chain_lines { length chain.now < 2 ^ 32 }
+    requires net_lines { length nets.now < 2 ^ 32 }
+    requires net_words { AllByRecursion IsShort nets.now }
+    ensures { Gives (λ board. board) (IsJoinedBoard chain.now nets.now devices.items) result }
+{
+    match joined_files(alloc, chain, nets) {
+        Ok(joined) => board_of(alloc, &joined.chain, &joined.nets, devices),
+        Err(fault) => Err(fault),
+    }
+}
+
+// The board of files and BSDL texts.
+fn files_board(
+    alloc: Global,
+    chain: &ChainFile,
+    nets: &NetFile,
+    bsdl: &[Vec<u8>],
+) -> Result<Board, InputFault>
+    requires lengths { AllByRecursion (λ line. HasLength line.statement) chain.now }
+    requires chain_lines { length chain.now < 2 ^ 32 }
+    requires net_lines { length nets.now < 2 ^ 32 }
+    requires net_words { AllByRecursion IsShort nets.now }
+    requires each { All (λ text. length text.items < 2 ^ 32) bsdl.now }
+    requires count { length bsdl.now < 2 ^ 32 }
+    ensures { Gives (λ board. board) (IsFilesBoard chain.now nets.now (map (λ text. text.items) bsdl.now)) result }
+{
+    match devices(alloc, chain, bsdl) {
+        Ok(devices) => joined_board(alloc, chain, nets, devices),
+        Err(fault) => Err(fault),
+    }
+}
+
+/// The board that a chain file, a net file and BSDL texts denote. Otherwise the first fault of, in
+/// this order: the chain file, the net file, the BSDL texts, the board rules that a chain keeps, the
+/// devices of its DEVICE lines, the pins of its LINK lines, and the other board rules, which are
+/// tried on the joined files.
+pub fn read_board(
+    alloc: Global,
+    chain: &[u8],
+    nets: &[u8],
+    bsdl: &[Vec<u8>],
+) -> Result<Board, InputFault>
+    requires chain { length chain.now < 2 ^ 32 }
+    requires nets { length nets.now < 2 ^ 32 }
+    requires each { All (λ text. length text.items < 2 ^ 32) bsdl.now }
+    requires count { length bsdl.now < 2 ^ 32 }
+    ensures { Gives (λ board. board) (IsBoardRead chain.now nets.now (map (λ text. text.items) bsdl.now)) result }
+{
+    let chain = match chain_file(alloc, chain) {
+        Ok(chain) => chain,
+        Err(fault) => return Err(fault),
+    };
+    match net_file(alloc, nets) {
+        Ok(nets) => files_board(alloc, &chain, &nets, bsdl),
+        Err(fault) => Err(fault),
+    }
+}

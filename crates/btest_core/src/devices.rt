@@ -1,0 +1,212 @@
+// The devices of a chain.
+ghost use Rattle.std.specs.Prelude.{◌≡◌, ◌<◌, ◌^◌, All, IfOk, length, map, vec_len, zip, option_copied, option_map};
+ghost use Rattle.std.specs.List.{AllByRecursion, filter_map};
+ghost use Rattle.board_build.specs.ChainParts.{IsChain};
+ghost use Rattle.board_build.specs.Names.{named};
+ghost use Rattle.board_build.specs.declared.names.Naming.TheVariants.{Entity as EntityName};
+ghost use Rattle.board_build.specs.Selection.{selection};
+ghost use Rattle.bsdl_parser.specs.Entity.{IsSmall};
+ghost use Rattle.btest_core.specs.Answers.{EachOf, Gives, Is};
+ghost use Rattle.btest_core.specs.InputFaults.{in_board};
+ghost use Rattle.btest_core.specs.DevicesRead.{package_in, chosen, IsDeviceIn, IsDeviceOf, AreSelected, AreDevices, IsDeviceText};
+
+use crate::fault::InputFault;
+use crate::texts::{entities, read_entity};
+use board_build::{BoardFault, select};
+use board_defs::Device;
+use board_files::{ChainFile, ChainLine, ChainStatement};
+use bsdl_parser::Entity;
+use device_check::{DeviceFault, device};
+use std::alloc::{AllocError, Global};
+
+/// The device that a BSDL text describes in its default package, or the text's first fault, which
+/// gives the text the number 0.
+pub fn read_device(alloc: Global, bytes: &[u8]) -> Result<Device, InputFault>
+    requires { length bytes.now < 2 ^ 32 }
+    ensures { Gives (λ device. device) (IsDeviceText bytes.now) result }
+{
+    match read_entity(alloc, bytes, 0) {
+        Ok(entity) => device_in(alloc, &entity, 0, None),
+        Err(fault) => Err(fault),
+    }
+}
+
+// The device of an entity in a package.
+fn device_in(
+    alloc: Global,
+    entity: &Entity,
+    text: u32,
+    package: Option<&[u8]>,
+) -> Result<Device, InputFault>
+    requires { IsSmall entity.now }
+    ensures { Gives (λ device. device) (IsDeviceIn entity.now (text, option_copied «package».entry)) result }
+{
+    match device(alloc, entity, package) {
+        Ok(device) => Ok(device),
+        Err(DeviceFault::Memory(e)) => Err(InputFault::Memory(e)),
+        Err(fault) => Err(InputFault::Device { text, fault }),
+    }
+}
+
+// The device of one of the entities in a package.
+fn device_of(
+    alloc: Global,
+    entities: &[Entity],
+    text: u32,
+    package: Option<&[u8]>,
+) -> Result<Device, InputFault>
+    requires there { text < length entities.now }
+    requires small { All IsSmall entities.now }
+    ensures { Gives (λ device. device) (IsDeviceOf entities.now (text, option_copied «package».entry)) result }
+{
+    device_in(alloc, &entities[text as usize], text, package)
+}
+
+// The devices that are chosen among the entities.
+fn chosen_devices(
+    alloc: Global,
+    entities: &[Entity],
+    chosen: &[(u32, Option<&[u8]>)],
+) -> Result<Vec<Device>, InputFault>
+    requires there { AllByRecursion (λ choice. choice.0 < length entities.now) chosen.now }
+    requires small { All IsSmall entities.now }
+    ensures devices { Gives (λ devices. devices.items) (EachOf (IsDeviceOf entities.now) (map (λ choice. (choice.0, option_copied choice.1)) chosen.now)) result }
+    ensures count { IfOk result (λ devices. vec_len devices ≡ length chosen.now) }
+{
+    let mut devices = Vec::new(alloc);
+    for choice in chosen {
+        let device = match device_of(alloc, entities, choice.0, choice.1) {
+            Ok(device) => device,
+            Err(fault) => return Err(fault),
+        };
+        devices.push(device)?;
+    }
+    Ok(devices)
+}
+
+// The package of a DEVICE line, where it gives one.
+fn package_in(statement: &ChainStatement) -> Option<Option<&[u8]>>
+    ensures { option_map option_copied result ≡ package_in statement.now }
+{
+    match statement {
+        ChainStatement::Device { package, .. } => Some(package.as_ref().map(|name| name.bytes())),
+        _ => None,
+    }
+}
+
+// The packages of the DEVICE lines.
+fn packages<'a>(alloc: Global, lines: &'a [ChainLine]) -> Result<Vec<Option<&'a [u8]>>, AllocError>
+    ensures { IfOk result (λ list. map option_copied list.items ≡ filter_map (λ line. package_in line.statement) lines.now) }
+{
+    let mut list = Vec::new(alloc);
+    for line in lines {
+        if let Some(package) = package_in(&line.statement) {
+            list.push(package)?;
+        }
+    }
+    Ok(list)
+}
+
+// What the DEVICE lines choose among so many texts, in their order.
+fn chosen<'a>(
+    alloc: Global,
+    lines: &'a [ChainLine],
+    numbers: &[u32],
+    count: usize,
+) -> Result<Vec<(u32, Option<&'a [u8]>)>, AllocError>
+    requires { AllByRecursion (λ number. number < count) numbers.now }
+    ensures chosen { IfOk result (λ list. map (λ choice. (choice.0, option_copied choice.1)) list.items ≡ chosen lines.now numbers.now) }
+    ensures within { IfOk result (λ list. AllByRecursion (λ choice. choice.0 < count) list.items) }
+{
+    let _ = count;
+    let packages = packages(alloc, lines)?;
+    let choices = zipped(alloc, numbers, &packages)?;
+    Ok(choices)
+}
+
+fn zipped<'a>(
+    alloc: Global,
+    numbers: &[u32],
+    packages: &[Option<&'a [u8]>],
+) -> Result<Vec<(u32, Option<&'a [u8]>)>, AllocError>
+    ensures { IfOk result (λ list. list.items ≡ zip numbers.now packages.now) }
+{
+    let mut list = Vec::new(alloc);
+    for i in 0..numbers.len() {
+        if let Some(package) = packages.get(i) {
+            list.push((numbers[i], *package))?;
+        }
+    }
+    Ok(list)
+}
+
+// The numbers of the texts that the DEVICE lines select, in their order.
+fn numbers(alloc: Global, file: &ChainFile, entities: &[Entity]) -> Result<Vec<u32>, InputFault>
+    requires lines { length file.now < 2 ^ 32 }
+    requires entities { length entities.now < 2 ^ 32 }
+    ensures numbers { Gives (λ numbers. numbers.items) (Is (in_board (selection file.now entities.now))) result }
+    ensures chain { IfOk result (λ numbers. IsChain file.now) }
+    ensures count { IfOk result (λ numbers. vec_len numbers ≡ length (named EntityName file.now)) }
+    ensures within { IfOk result (λ numbers. All (λ number. number < length entities.now) numbers.items) }
+{
+    match select(alloc, file, entities) {
+        Ok(numbers) => Ok(numbers),
+        Err(BoardFault::Memory(e)) => Err(InputFault::Memory(e)),
+        Err(fault) => Err(InputFault::Board(fault)),
+    }
+}
+
+// The devices that the DEVICE lines choose by these numbers of texts, in their order.
+fn devices_by(
+    alloc: Global,
+    lines: &[ChainLine],
+    entities: &[Entity],
+    numbers: &[u32],
+) -> Result<Vec<Device>, InputFault>
+    requires within { All (λ number. number < length entities.now) numbers.now }
+    requires small { All IsSmall entities.now }
+    ensures devices { Gives (λ devices. devices.items) (EachOf (IsDeviceOf entities.now) (chosen lines.now numbers.now)) result }
+    ensures number { IfOk result (λ devices. vec_len devices ≡ length (chosen lines.now numbers.now)) }
+{
+    let chosen = chosen(alloc, lines, numbers, entities.len())?;
+    chosen_devices(alloc, entities, &chosen)
+}
+
+// The devices that the DEVICE lines select among the entities, in their order.
+fn selected_devices(
+    alloc: Global,
+    file: &ChainFile,
+    entities: &[Entity],
+) -> Result<Vec<Device>, InputFault>
+    requires lines { length file.now < 2 ^ 32 }
+    requires entities { length entities.now < 2 ^ 32 }
+    requires small { All IsSmall entities.now }
+    ensures devices { Gives (λ devices. devices.items) (AreSelected file.now entities.now) result }
+    ensures chain { IfOk result (λ devices. IsChain file.now) }
+    ensures number { IfOk result (λ devices. vec_len devices ≡ length (named EntityName file.now)) }
+{
+    match numbers(alloc, file, entities) {
+        Ok(numbers) => devices_by(alloc, file.lines(), entities, &numbers),
+        Err(fault) => Err(fault),
+    }
+}
+
+/// The devices of the DEVICE lines of a chain, in their order, or the first fault of the texts, of the
+/// rules that the chain's lines keep, and of the devices.
+pub(crate) fn devices(
+    alloc: Global,
+    file: &ChainFile,
+    texts: &[Vec<u8>],
+) -> Result<Vec<Device>, InputFault>
+    requires lines { length file.now < 2 ^ 32 }
+    requires each { All (λ text. length text.items < 2 ^ 32) texts.now }
+    requires count { length texts.now < 2 ^ 32 }
+    ensures devices { Gives (λ devices. devices.items) (AreDevices file.now (map (λ text. text.items) texts.now)) result }
+    ensures chain { IfOk result (λ devices. IsChain file.now) }
+    ensures number { IfOk result (λ devices. vec_len devices ≡ length (named EntityName file.now)) }
+{
+    match entities(alloc, texts) {
+        Ok(entities) => selected_devices(alloc, file, &entities),
+        Err(fault) => Err(fault),
+    }
+}

@@ -1,0 +1,61 @@
+// The entities of BSDL texts.
+ghost use Rattle.std.specs.Prelude.{◌≡◌, ◌<◌, ◌^◌, All, IfOk, IfErr, length, map, vec_len};
+ghost use Rattle.bsdl_lexer.specs.Tokens.{AreTokens};
+ghost use Rattle.bsdl_parser.specs.Entity.{HaveKinds, IsSmall};
+ghost use Rattle.btest_core.specs.Answers.{FaultIs, Gives};
+ghost use Rattle.btest_core.specs.TextsRead.{IsTextFault, IsEntityOf, AreEntities};
+
+use crate::fault::InputFault;
+use bsdl_lexer::{LexFault, Token, lex};
+use bsdl_parser::{Entity, ParseFault, parse};
+use std::alloc::Global;
+
+/// The entity that a BSDL text describes, or the text's first fault. `text` is the number that a fault gives
+/// to the text.
+pub fn read_entity(alloc: Global, bytes: &[u8], text: u32) -> Result<Entity, InputFault>
+    requires { length bytes.now < 2 ^ 32 }
+    ensures read { Gives (λ entity. entity) (IsEntityOf bytes.now text) result }
+    ensures kinds { IfOk result HaveKinds }
+    ensures small { IfOk result IsSmall }
+{
+    let tokens = tokens_of(alloc, bytes, text)?;
+    match parse(alloc, bytes, &tokens) {
+        Ok(entity) => Ok(entity),
+        Err(ParseFault::Memory(e)) => Err(InputFault::Memory(e)),
+        Err(fault) => Err(InputFault::Parse { text, fault }),
+    }
+}
+
+// The tokens of a BSDL text.
+fn tokens_of(alloc: Global, bytes: &[u8], text: u32) -> Result<Vec<Token>, InputFault>
+    requires { length bytes.now < 2 ^ 32 }
+    ensures tokens { IfOk result (λ tokens. AreTokens bytes.now tokens.items) }
+    ensures fault { IfErr result (FaultIs (IsTextFault bytes.now text)) }
+{
+    let mut tokens = Vec::new(alloc);
+    match lex(bytes, &mut tokens) {
+        Ok(()) => Ok(tokens),
+        Err(LexFault::Memory(e)) => Err(InputFault::Memory(e)),
+        Err(fault) => Err(InputFault::Lex { text, fault }),
+    }
+}
+
+/// The entities that BSDL texts describe, or the first fault of the first text that has one.
+pub(crate) fn entities(alloc: Global, texts: &[Vec<u8>]) -> Result<Vec<Entity>, InputFault>
+    requires each { All (λ text. length text.items < 2 ^ 32) texts.now }
+    requires count { length texts.now < 2 ^ 32 }
+    ensures read { Gives (λ entities. entities.items) (AreEntities (map (λ text. text.items) texts.now)) result }
+    ensures kinds { IfOk result (λ entities. All HaveKinds entities.items) }
+    ensures small { IfOk result (λ entities. All IsSmall entities.items) }
+    ensures number { IfOk result (λ entities. vec_len entities ≡ length texts.now) }
+{
+    let mut entities = Vec::new(alloc);
+    for (text, bytes) in texts.iter().enumerate() {
+        let entity = match read_entity(alloc, bytes, text as u32) {
+            Ok(entity) => entity,
+            Err(fault) => return Err(fault),
+        };
+        entities.push(entity)?;
+    }
+    Ok(entities)
+}

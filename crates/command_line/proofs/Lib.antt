@@ -1,0 +1,4 @@
+pub mod PlainLemmas
+pub mod WalkLemmas
+pub mod Parses
+pub mod FewLemmas

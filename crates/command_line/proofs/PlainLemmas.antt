@@ -1,0 +1,101 @@
+-- Words that are no flags, and what `clap` does with one where an argument by place may stand.
+use Rattle.std.proofs.Common.{◌≡◌, refl, ap, ◌∙◌, true, false, Bool, List, [], ◌∷◌, ℕ, nat_eq, Some, None}
+use Rattle.std.specs.Prelude.{◌&&◌, not, option_and_then, if◌then◌else◌}
+use Rattle.std.specs.List.{list_all}
+use Rattle.std.specs.Option.{option_map_or}
+use Rattle.std.specs.Str.{bytes_eq}
+use Rattle.clap.specs.Lexer.{strip_byte, long_of, long_of_rest, short_of, short_of_rest}
+use Rattle.clap.specs.Walk.{after_step, word_met, value, trailing, long_or_other, short_or_plain, Held, Rule, Text, Walk, walked, idle, positional}
+use Rattle.clap.specs.Simple.{Shape}
+use Rattle.clap.specs.Kinds.{or_else}
+use Rattle.clap.specs.Faults.{other_fault, flag_word_fault, bundle_fault, step_fault, turn_fault}
+use Rattle.clap.proofs.OnLiterals.{clap_on_literals}
+use Rattle.command_line.specs.Words.{is_plain}
+
+-- a plain word is no flag
+pub record Plain (word : Text) : Type 0 where
+  pub dashes : bytes_eq word (45 ∷ 45 ∷ []) ≡ false
+  pub long : long_of word ≡ None
+  pub short : short_of word ≡ None
+
+by_false : (t u : Bool) → t ≡ false → (t && u) ≡ false
+by_false t u e = ap (λ x. x && u) e
+
+strip-plain : (b : ℕ) (bs : Text) → nat_eq b 45 ≡ false → strip_byte 45 (b ∷ bs) ≡ None
+strip-plain b bs e = ap (λ (t : Bool). (if t then Some bs else None)) e
+
+plain : (b : ℕ) (bs : Text) → nat_eq b 45 ≡ false → Plain (b ∷ bs)
+plain b bs e = record {
+  dashes = by_false (nat_eq b 45) (bytes_eq bs (45 ∷ [])) e;
+  long = ap (λ o. option_and_then long_of_rest (option_and_then (strip_byte 45) o)) (strip-plain b bs e);
+  short = ap (λ o. option_and_then short_of_rest o) (strip-plain b bs e);
+}
+
+-- a list of words that are plain
+abbrev pub AllPlain : List Text → Type 0
+AllPlain [] = Unit {0}
+AllPlain (w ∷ ws) = Plain w × AllPlain ws
+
+and_first : (a b : Bool) → (a && b) ≡ true → a ≡ true
+and_first true b e = refl
+and_first false b e = absurd cc
+
+and_second : (a b : Bool) → (a && b) ≡ true → b ≡ true
+and_second true b e = e
+and_second false b e = absurd cc
+
+not_true : (b : Bool) → not b ≡ true → b ≡ false
+not_true true e = absurd cc
+not_true false e = refl
+
+is_plain_gives : (w : Text) → is_plain w ≡ true → Plain w
+is_plain_gives [] e = absurd cc
+is_plain_gives (b ∷ bs) e = plain b bs (not_true (nat_eq b 45) e)
+
+pub all_plain : (ws : List Text) → list_all is_plain ws ≡ true → AllPlain ws
+all_plain [] e = tt
+all_plain (w ∷ ws) e = (is_plain_gives w (and_first (is_plain w) (list_all is_plain ws) e), all_plain ws (and_second (is_plain w) (list_all is_plain ws) e))
+
+pub idle_met : (c : List Rule) (position : ℕ) (word : Text) (h : Held) → Plain word → word_met c [] false idle position word h ≡ (h, value)
+idle_met c position word h p =
+    ap (λ (t : Bool). (if t then (h, trailing position) else long_or_other c idle word (long_of word) h)) p.dashes
+    ∙ ap (λ l. long_or_other c idle word l h) p.long ∙ ap (λ s. short_or_plain c idle word s h) p.short
+
+positional_met : (c : List Rule) (position : ℕ) (word : Text) (h : Held) → Plain word → word_met c [] false positional position word h ≡ (h, value)
+positional_met c position word h p =
+    ap (λ (t : Bool). (if t then (h, trailing position) else long_or_other c positional word (long_of word) h)) p.dashes
+    ∙ ap (λ l. long_or_other c positional word l h) p.long ∙ ap (λ s. short_or_plain c positional word s h) p.short
+
+pub plain_fault : (s : Shape) (word : Text) (h : Held) → Plain word → other_fault s None word h ≡ []
+plain_fault s word h p =
+    ap (λ (t : Bool). (if t then [] else flag_word_fault s.rules s.args_override_self (long_of word) word h)) p.dashes
+    ∙ ap (λ l. flag_word_fault s.rules s.args_override_self l word h) p.long
+    ∙ ap (λ f. option_map_or (λ flags. bundle_fault s.rules s.args_override_self flags h) f []) p.short
+
+-- where the walk stands before an argument by place: a first value of one, or a further value of one that takes many
+abbrev pub before_one : Held → ℕ → Walk
+before_one h position = record { held = h; waiting = idle; position = position; is_trailing = false; stopped = None }
+
+abbrev pub before_more : Held → ℕ → Walk
+before_more h position = record { held = h; waiting = positional; position = position; is_trailing = false; stopped = None }
+
+-- a plain word there is a value
+pub one_walked : (s : Shape) (h : Held) (position : ℕ) (word : Text) → Plain word → walked s.rules [] (before_one h position) word ≡ after_step s.rules word (before_one h position) h value
+unfolding clap_on_literals
+one_walked s h position word p = ap (λ m. after_step s.rules word (before_one h position) m.0 m.1) (idle_met s.rules position word h p)
+
+pub one_turn : (s : Shape) (h : Held) (position : ℕ) (word : Text) → Plain word → turn_fault s [] (before_one h position) word ≡ step_fault s position h value
+unfolding clap_on_literals
+one_turn s h position word p =
+    ap (λ k. or_else k (step_fault s position (word_met s.rules [] false idle position word h).0 (word_met s.rules [] false idle position word h).1)) (plain_fault s word h p)
+    ∙ ap (λ m. step_fault s position m.0 m.1) (idle_met s.rules position word h p)
+
+pub more_walked : (s : Shape) (h : Held) (position : ℕ) (word : Text) → Plain word → walked s.rules [] (before_more h position) word ≡ after_step s.rules word (before_more h position) h value
+unfolding clap_on_literals
+more_walked s h position word p = ap (λ m. after_step s.rules word (before_more h position) m.0 m.1) (positional_met s.rules position word h p)
+
+pub more_turn : (s : Shape) (h : Held) (position : ℕ) (word : Text) → Plain word → turn_fault s [] (before_more h position) word ≡ step_fault s position h value
+unfolding clap_on_literals
+more_turn s h position word p =
+    ap (λ k. or_else k (step_fault s position (word_met s.rules [] false positional position word h).0 (word_met s.rules [] false positional position word h).1)) (plain_fault s word h p)
+    ∙ ap (λ m. step_fault s position m.0 m.1) (positional_met s.rules position word h p)

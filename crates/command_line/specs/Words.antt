@@ -1,0 +1,48 @@
+-- The words of the command line.
+use Rattle.std.specs.Prelude.{ℕ, ◌==◌, List, [], ◌∷◌, length, nat_le, Bool, false, not, codes, Option, Some, None, if◌then◌else◌}
+use Rattle.std.specs.List.{list_all}
+use Rattle.std.specs.Str.{bytes_eq}
+
+abbrev pub Text : Type 0
+Text = List ℕ
+
+-- What a command line asks for: the length test of a chain, with the names of a chain file and of BSDL texts, or the listing of a
+-- device, with the name of a BSDL text.
+pub data Command : Type 0 where
+  Chain : Text → List Text → Command
+  Device : Text → Command
+
+-- a word is not empty and does not begin with `-`
+abbrev pub is_plain : Text → Bool
+is_plain [] = false
+is_plain (b ∷ bs) = not (b == 45)
+
+-- the command, where it has at most 255 BSDL names
+abbrev pub with_names : List Text → Command → Option Command
+with_names names command = if nat_le (length names) 255 then Some command else None
+
+-- a chain file, then any number of BSDL names
+abbrev pub chain_of : List Text → Option Command
+chain_of [] = None
+chain_of (chain ∷ names) = with_names names (Chain chain names)
+
+-- one BSDL name
+abbrev pub device_of : List Text → Option Command
+device_of [] = None
+device_of (name ∷ []) = Some (Device name)
+device_of (name ∷ other ∷ others) = None
+
+abbrev pub parsed : List Text → Option Command
+parsed [] = None
+parsed (word ∷ rest) =
+    if bytes_eq (codes "chain") word then chain_of rest else
+    if bytes_eq (codes "device") word then device_of rest else None
+
+-- the command of these words, where they are in the grammar
+abbrev pub command_of : List Text → Option Command
+command_of words = if list_all is_plain words then parsed words else None
+
+-- the names of the texts that a command reads, in their order
+abbrev pub names_of : Command → List Text
+names_of (Chain chain names) = chain ∷ names
+names_of (Device name) = name ∷ []
