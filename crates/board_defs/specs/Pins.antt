@@ -70,7 +70,7 @@ abbrev pub is_test_bit : Option PortBit → Bool
 is_test_bit None = false
 is_test_bit (Some bit) = bit.tap || bit.compliance
 
--- the same of a pin of a net
+-- whether a pin of a net is one
 abbrev pub is_test_pin : RawBoard → NetPin → Bool
 is_test_pin board pin = is_test_bit (option_and_then (bit_at board) pin.at)
 
@@ -81,7 +81,7 @@ is_dark_bit device n (Some bit) =
     not bit.tap && (is_linkage bit.mode || not (list_any (λ cell. is_on n cell.bit) device.cells)
     || (may_drive bit.mode && not (list_any (drives_bit n) device.cells)))
 
--- the same of a port bit of a part, dark where the part has no device
+-- a port bit of a part, by its number; dark where the part has no device
 abbrev pub is_dark_in : Option RawDevice → ℕ → Bool
 is_dark_in None n = true
 is_dark_in (Some device) n = is_dark_bit device n (slice_get device.bits n)
@@ -99,7 +99,7 @@ is_dark board pin = is_dark_where board pin.at pin.inert
 abbrev pub guards : RawBoard → NetPin → Bool
 guards board pin = is_test_pin board pin || is_dark board pin
 
--- no driver of a guarded net may be enabled
+-- no controlled and no one-sided driver of a guarded net may be enabled
 abbrev pub guarded : RawBoard → Net → Bool
 guarded board net = net.supply || list_any (guards board) net.pins
 

@@ -77,10 +77,11 @@ pub struct Ctl {
 #[derive(Clone, Copy, Debug, PartialEq, Eq)]
 pub enum Drive {
     AlwaysOn,
-    /// By its own cell, on a net that is not pulled to the value at which the cell disables it,
-    /// so that its data and its enabling cannot be told apart.
+    /// By its own cell, where the net is guarded or not pulled to the value at which the cell
+    /// disables it: its data and its enabling cannot be told apart, so no safe setting enables it.
     OneSided,
-    /// By a control cell; also by its own cell, where the net is pulled to the disable value.
+    /// By a control cell; also by its own cell, where the net is not guarded and is pulled to the
+    /// disable value, so that the pull gives the bit while the driver is off.
     By(Ctl),
 }
 
@@ -134,7 +135,7 @@ impl Board {
         data_bits(self.raw().chain.as_slice())
     }
 
-    /// Whether no driver of this net may be enabled.
+    /// Whether the net is guarded: it may have no enabled driver but those that are always on.
     pub fn is_guarded(&self, net: u32) -> bool
         requires { net < length self.now.nets }
         ensures { result ≡ guarded_at self.now net }

@@ -277,7 +277,7 @@ impl RawBoard {
         pins.iter().any(|pin| self.guards(pin))
     }
 
-    /// Whether no driver of the net may be enabled.
+    /// Whether the net is guarded: it may have no enabled driver but those that are always on.
     pub fn is_guarded(&self, net: &Net) -> bool
         ensures { result ≡ guarded self.now net.now }
     {
