@@ -1,12 +1,11 @@
 -- How many names a command has.
 use Rattle.std.proofs.Common.{◌≡◌, ◌≤◌, Bool, true, false, List, [], ◌∷◌, length, nat_le, codes, Option, Some, None, refl, sym, subst, arith}
 use Rattle.std.specs.Prelude.{IfSome, option_map, if◌then◌else◌}
-use Rattle.std.specs.List.{list_all}
 use Rattle.std.specs.Str.{bytes_eq}
 use Rattle.std.proofs.lemmas.Grind.{common_steps}
 use Rattle.command_line.specs.declared.words.Command.{Command as Lent}
 use Rattle.command_line.specs.CommandView.{command_view}
-use Rattle.command_line.specs.Words.{Text, Command, Chain, is_plain, command_of, parsed, chain_of, device_of, names_of}
+use Rattle.command_line.specs.Words.{Text, Command, Chain, Cover, Svf, parsed, chain_of, device_of, board_of, names_of}
 
 -- where there is a command, it has at most 257 names
 abbrev pub IsFew : Option Command → Type 0
@@ -29,11 +28,28 @@ device_few [] = tt
 device_few (name ∷ []) = omega arith
 device_few (name ∷ other ∷ others) = tt
 
+two_by : (command : Text → Text → List Text → Command) → ((chain nets : Text) (names : List Text) → length (names_of (command chain nets names)) ≡ length (chain ∷ nets ∷ names)) → (chain nets : Text) (names : List Text) (b : Bool) → nat_le (length names) 255 ≡ b → IsFew (if b then Some (command chain nets names) else None)
+two_by command count chain nets names true test = grind (arith, common_steps, count chain nets names)
+two_by command count chain nets names false test = tt
+
+board_few : (command : Text → Text → List Text → Command) → ((chain nets : Text) (names : List Text) → length (names_of (command chain nets names)) ≡ length (chain ∷ nets ∷ names)) → (words : List Text) → IsFew (board_of command words)
+board_few command count [] = tt
+board_few command count (chain ∷ []) = tt
+board_few command count (chain ∷ nets ∷ names) = two_by command count chain nets names (nat_le (length names) 255) refl
+
+board_words_few : (word : Text) (rest : List Text) → IsFew (if bytes_eq (codes "cover") word then board_of Cover rest else if bytes_eq (codes "svf") word then board_of Svf rest else None)
+board_words_few word rest =
+    either (bytes_eq (codes "cover") word) (board_of Cover rest) (if bytes_eq (codes "svf") word then board_of Svf rest else None) (board_few Cover (λ c n ns. refl) rest)
+    (either (bytes_eq (codes "svf") word) (board_of Svf rest) None (board_few Svf (λ c n ns. refl) rest) tt)
+
 parsed_few : (words : List Text) → IsFew (parsed words)
 parsed_few [] = tt
-parsed_few (word ∷ rest) = either (bytes_eq (codes "chain") word) (chain_of rest) (if bytes_eq (codes "device") word then device_of rest else None) (chain_few rest) (either (bytes_eq (codes "device") word) (device_of rest) None (device_few rest) tt)
+parsed_few (word ∷ rest) =
+    let board : Option Command = if bytes_eq (codes "cover") word then board_of Cover rest else if bytes_eq (codes "svf") word then board_of Svf rest else None in
+    either (bytes_eq (codes "chain") word) (chain_of rest) (if bytes_eq (codes "device") word then device_of rest else board) (chain_few rest)
+    (either (bytes_eq (codes "device") word) (device_of rest) board (device_few rest) (board_words_few word rest))
 
 -- the command of words has at most 257 names
-pub command_few : (words : List Text) (command : Option Lent) → option_map command_view command ≡ command_of words → IfSome command (λ c. length (names_of (command_view c)) ≤ 257)
+pub command_few : (words : List Text) (command : Option Lent) → option_map command_view command ≡ parsed words → IfSome command (λ c. length (names_of (command_view c)) ≤ 257)
 command_few words None is = tt
-command_few words (Some command) is = subst IsFew (sym is) (either (list_all is_plain words) (parsed words) None (parsed_few words) tt)
+command_few words (Some command) is = subst IsFew (sym is) (parsed_few words)

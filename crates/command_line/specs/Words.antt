@@ -6,11 +6,13 @@ use Rattle.std.specs.Str.{bytes_eq}
 abbrev pub Text : Type 0
 Text = List ℕ
 
--- What a command line asks for: the length test of a chain, with the names of a chain file and of BSDL texts, or the listing of a
--- device, with the name of a BSDL text.
+-- What a command line asks for: the length test of a chain, with the names of a chain file and of BSDL texts; the listing of a device,
+-- with the name of a BSDL text; or the coverage list or the test of a board, each with the names of a chain file, a net file and BSDL texts.
 pub data Command : Type 0 where
   Chain : Text → List Text → Command
   Device : Text → Command
+  Cover : Text → Text → List Text → Command
+  Svf : Text → Text → List Text → Command
 
 -- a word is not empty and does not begin with `-`
 abbrev pub is_plain : Text → Bool
@@ -32,11 +34,19 @@ device_of [] = None
 device_of (name ∷ []) = Some (Device name)
 device_of (name ∷ other ∷ others) = None
 
+-- a chain file and a net file, then any number of BSDL names
+abbrev pub board_of : (Text → Text → List Text → Command) → List Text → Option Command
+board_of command [] = None
+board_of command (chain ∷ []) = None
+board_of command (chain ∷ nets ∷ names) = with_names names (command chain nets names)
+
 abbrev pub parsed : List Text → Option Command
 parsed [] = None
 parsed (word ∷ rest) =
     if bytes_eq (codes "chain") word then chain_of rest else
-    if bytes_eq (codes "device") word then device_of rest else None
+    if bytes_eq (codes "device") word then device_of rest else
+    if bytes_eq (codes "cover") word then board_of Cover rest else
+    if bytes_eq (codes "svf") word then board_of Svf rest else None
 
 -- the command of these words, where they are in the grammar
 abbrev pub command_of : List Text → Option Command
@@ -46,3 +56,5 @@ command_of words = if list_all is_plain words then parsed words else None
 abbrev pub names_of : Command → List Text
 names_of (Chain chain names) = chain ∷ names
 names_of (Device name) = name ∷ []
+names_of (Cover chain nets names) = chain ∷ nets ∷ names
+names_of (Svf chain nets names) = chain ∷ nets ∷ names

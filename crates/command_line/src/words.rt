@@ -4,9 +4,9 @@ ghost use Rattle.std.specs.List.{list_all};
 ghost use Rattle.clap.specs.Simple.{app_of};
 ghost use Rattle.clap.specs.Walk.{rule_of};
 ghost use Rattle.clap.specs.declared.builder.command.Command.TheViews.{out-Command as fields_of};
-ghost use Rattle.command_line.specs.Words.{is_plain, command_of, parsed, chain_of, device_of, names_of};
+ghost use Rattle.command_line.specs.Words.{is_plain, command_of, parsed, chain_of, device_of, board_of, names_of, Cover, Svf};
 ghost use Rattle.command_line.specs.CommandView.{command_view};
-ghost use Rattle.command_line.specs.App.{name_rule, names_rule, chain_app, device_app, top_app, btest_app, is_accepted};
+ghost use Rattle.command_line.specs.App.{name_rule, names_rule, chain_app, device_app, board_app, top_app, parts_app, btest_app, is_accepted};
 
 use clap::error::ErrorKind;
 use clap::{Arg, ArgAction};
@@ -19,9 +19,26 @@ const MOST_NAMES: usize = 255;
 #[derive(Clone, Copy)]
 pub enum Command<'a> {
     /// The text that tests the length of the chain.
-    Chain { chain: &'a str, bsdl: &'a [String] },
+    Chain {
+        chain: &'a str,
+        bsdl: &'a [String],
+    },
     /// The listing of a device.
-    Device { bsdl: &'a str },
+    Device {
+        bsdl: &'a str,
+    },
+    /// The coverage list of a board.
+    Cover {
+        chain: &'a str,
+        nets: &'a str,
+        bsdl: &'a [String],
+    },
+    /// The text that tests a board.
+    Svf {
+        chain: &'a str,
+        nets: &'a str,
+        bsdl: &'a [String],
+    },
 }
 
 /// The command of the words, where they are in the grammar.
@@ -73,6 +90,10 @@ fn command_called<'a>(name: &str, words: &'a [String]) -> Option<Command<'a>>
         chain_of(words)
     } else if name == "device" {
         device_of(words)
+    } else if name == "cover" {
+        cover_of(words)
+    } else if name == "svf" {
+        svf_of(words)
     } else {
         None
     }
@@ -94,6 +115,30 @@ fn device_of<'a>(words: &'a [String]) -> Option<Command<'a>>
 {
     match words {
         [bsdl] => Some(Command::Device { bsdl }),
+        _ => None,
+    }
+}
+
+// `cover` with these words.
+fn cover_of<'a>(words: &'a [String]) -> Option<Command<'a>>
+    ensures { option_map command_view result ≡ board_of Cover (map string_bytes words.entry.now) }
+{
+    match words {
+        [chain, nets, bsdl @ ..] if bsdl.len() <= MOST_NAMES => {
+            Some(Command::Cover { chain, nets, bsdl })
+        }
+        _ => None,
+    }
+}
+
+// `svf` with these words.
+fn svf_of<'a>(words: &'a [String]) -> Option<Command<'a>>
+    ensures { option_map command_view result ≡ board_of Svf (map string_bytes words.entry.now) }
+{
+    match words {
+        [chain, nets, bsdl @ ..] if bsdl.len() <= MOST_NAMES => {
+            Some(Command::Svf { chain, nets, bsdl })
+        }
         _ => None,
     }
 }
@@ -134,6 +179,18 @@ fn device_command<'a>(alloc: Global) -> Result<clap::Command<'a>, AllocError>
     Ok(command)
 }
 
+// A command that is about a board.
+fn board_command<'a>(alloc: Global, name: &'a str) -> Result<clap::Command<'a>, AllocError>
+    ensures app { IfOk result (λ c. app_of c ≡ board_app name.entry.now) }
+    ensures local { IfOk result (λ c. (fields_of c).has_globals ≡ false) }
+{
+    let command = clap::Command::new(alloc, name)
+        .arg(name_arg(alloc, "CHAIN"))?
+        .arg(name_arg(alloc, "NETS"))?
+        .arg(names_arg(alloc))?;
+    Ok(command)
+}
+
 // The command above the others.
 fn top_command<'a>(alloc: Global) -> clap::Command<'a>
     ensures app { app_of result ≡ top_app }
@@ -146,13 +203,24 @@ fn top_command<'a>(alloc: Global) -> clap::Command<'a>
         .disable_help_subcommand(true)
 }
 
+// The command with the subcommands that are about a chain or a device.
+fn part_commands<'a>(alloc: Global) -> Result<clap::Command<'a>, AllocError>
+    ensures app { IfOk result (λ c. app_of c ≡ parts_app) }
+    ensures local { IfOk result (λ c. (fields_of c).has_globals ≡ false) }
+{
+    let parts = top_command(alloc)
+        .subcommand(chain_command(alloc)?)?
+        .subcommand(device_command(alloc)?)?;
+    Ok(parts)
+}
+
 // The command with its subcommands.
 fn whole_command<'a>(alloc: Global) -> Result<clap::Command<'a>, AllocError>
     ensures { IfOk result (λ c. app_of c ≡ btest_app) }
 {
-    let whole = top_command(alloc)
-        .subcommand(chain_command(alloc)?)?
-        .subcommand(device_command(alloc)?)?;
+    let whole = part_commands(alloc)?
+        .subcommand(board_command(alloc, "cover")?)?
+        .subcommand(board_command(alloc, "svf")?)?;
     Ok(whole)
 }
 
