@@ -98,10 +98,10 @@ reader_is board rows net place rules says =
     ap (λ t. not (guarded board net) && receives_of board (slice_get net.pins place) && t) (enablers_is board rows net place rules says)
 
 pin_is : (board : RawBoard) (rows : List (List ControlClass)) (net : Net) (place : ℕ) → IsBoard board → SaysSafe board rows → pin_class_in rows (net_facts_of board net) place ≡ pin_class_of board net place
-pin_is board rows net place rules says = same (tested_in rows (net_facts_of board net) place) (is_tested_driver board net place) (reader_tested_in rows (net_facts_of board net) place) (is_tested_receiver board net place) (tested_is board rows net place rules says) (reader_is board rows net place rules says)
+pin_is board rows net place rules says = same _ _ _ _ _ _ _ _ (tested_is board rows net place rules says) (reader_is board rows net place rules says) (ap is_some (drive_is board net place)) (reads_is board net place)
   where
-    same : (a b c d : Bool) → a ≡ b → c ≡ d → let x : PinClass = record { driver_tested = a; receiver_tested = c } in let y : PinClass = record { driver_tested = b; receiver_tested = d } in x ≡ y
-    same a b c d e f = cc
+    same : (a b c d e f g h : Bool) → a ≡ b → c ≡ d → e ≡ f → g ≡ h → let x : PinClass = record { driver_tested = a; receiver_tested = c; drives = e; receives = g } in let y : PinClass = record { driver_tested = b; receiver_tested = d; drives = f; receives = h } in x ≡ y
+    same a b c d e f g h i j k l = cc
 
 pub map_same : {X Y : Type 0} (f g : X → Y) → ((x : X) → f x ≡ g x) → (xs : List X) → map f xs ≡ map g xs
 map_same f g h [] = refl

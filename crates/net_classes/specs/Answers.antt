@@ -66,7 +66,7 @@ abbrev pub reader_tested_in : List (List ControlClass) → NetFacts → ℕ → 
 reader_tested_in rows net place = not net.guarded && reads_at net.pins place && is_elsewhere_of (enablers_of rows net.pins) place
 
 abbrev pub pin_class_in : List (List ControlClass) → NetFacts → ℕ → PinClass
-pin_class_in rows net place = record { driver_tested = tested_in rows net place; receiver_tested = reader_tested_in rows net place }
+pin_class_in rows net place = record { driver_tested = tested_in rows net place; receiver_tested = reader_tested_in rows net place; drives = is_some (drive_of net.pins place); receives = reads_at net.pins place }
 
 abbrev pub tested_drive_in : List (List ControlClass) → NetFacts → ℕ → Option Drive
 tested_drive_in rows net place = cond (tested_in rows net place) (drive_of net.pins place) None

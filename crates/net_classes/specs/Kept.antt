@@ -1,5 +1,5 @@
 -- What the classes of a board keep, each by the tests that decide the terms of all safe settings.
-use Rattle.std.specs.Prelude.{◌≡◌, ℕ, ◌==◌, Bool, true, false, not, ◌&&◌, List, map, filter, length, Vec, Option, Some, None, slice_get, option_and_then}
+use Rattle.std.specs.Prelude.{◌≡◌, ℕ, ◌==◌, Bool, true, false, not, ◌&&◌, List, map, filter, length, Vec, Option, Some, None, slice_get, is_some, option_and_then}
 use Rattle.std.specs.List.{list_any, range_with_len}
 use Rattle.std.specs.declared.alloc.Global.{Global}
 use Rattle.board_defs.specs.declared.board.Ctl.{Ctl}
@@ -7,9 +7,9 @@ use Rattle.board_defs.specs.declared.board.Net.{Net}
 use Rattle.board_defs.specs.declared.board.RawBoard.{RawBoard}
 use Rattle.board_defs.specs.declared.board.Drive.{Drive}
 use Rattle.board_defs.specs.declared.board.Drive.TheVariants.{AlwaysOn, OneSided, By}
-use Rattle.board_defs.specs.Pins.{drive, IsCell}
+use Rattle.board_defs.specs.Pins.{drive, receives_of, IsCell}
 use Rattle.board_defs.specs.Settings.{same_ctl}
-use Rattle.board_defs.specs.Decided.{drives_net, is_safe_alone, is_useful, is_tested_driver, is_tested_receiver, reason_of}
+use Rattle.board_defs.specs.Decided.{drives_net, is_safe_alone, is_useful, is_tested_driver, is_tested_receiver, place_drive, reason_of}
 use Rattle.board_defs.specs.Passes.{tested_drivers, useful_controls}
 use Rattle.net_classes.specs.declared.classes.PinClass.{PinClass}
 use Rattle.net_classes.specs.declared.classes.NetClass.{NetClass}
@@ -57,7 +57,7 @@ is_free board (By c) = length (shared_nets board c) == 0
 
 -- what is kept of the pin at this place of a net
 abbrev pub pin_class_of : RawBoard → Net → ℕ → PinClass
-pin_class_of board net place = record { driver_tested = is_tested_driver board net place; receiver_tested = is_tested_receiver board net place }
+pin_class_of board net place = record { driver_tested = is_tested_driver board net place; receiver_tested = is_tested_receiver board net place; drives = is_some (place_drive board net place); receives = receives_of board (slice_get net.pins place) }
 
 -- what is kept of a net
 abbrev pub net_class_of : RawBoard → Net → NetClass

@@ -17,13 +17,17 @@ use crate::useful::useful_controls;
 use board_defs::{Board, Ctl, Drive, Items, RawBoard, Reason};
 use std::alloc::{AllocError, Global};
 
-/// What some safe setting does with a pin of a net.
+/// What a pin of a net is, and what some safe setting does with it.
 #[derive(Clone, Copy, Debug, PartialEq, Eq)]
 pub struct PinClass {
     /// Whether the pin is a tested driver.
     pub driver_tested: bool,
     /// Whether the pin is a tested receiver.
     pub receiver_tested: bool,
+    /// Whether the pin is a driver.
+    pub drives: bool,
+    /// Whether the pin is a receiver.
+    pub receives: bool,
 }
 
 /// What safe settings do with a net.

@@ -1,13 +1,13 @@
 // The questions that the classes of a board answer.
-ghost use Rattle.std.specs.Prelude.{◌≡◌, ◌≢◌, ◌<◌, ◌||◌, ℕ, false, true, not, length, map, MatchOption, Some};
+ghost use Rattle.std.specs.Prelude.{◌≡◌, ◌≢◌, ◌<◌, ◌||◌, ℕ, false, true, not, length, map, slice_get, is_some, MatchOption, Some};
 ghost use Rattle.std.specs.List.{list_any, range_with_len};
 ghost use Rattle.std.specs.Bool.{Decides};
 ghost use Rattle.board_defs.specs.BoardRules.{IsBoard};
-ghost use Rattle.board_defs.specs.Pins.{IsCell, IsOnBoard};
+ghost use Rattle.board_defs.specs.Pins.{IsCell, IsOnBoard, receives_of};
 ghost use Rattle.board_defs.specs.Settings.{IsSafe, just, same_ctl};
 ghost use Rattle.board_defs.specs.declared.board.Drive.TheVariants.{By};
 ghost use Rattle.board_defs.specs.Coverage.{AreTogether, ArePaired, IsCovered, IsReason, IsTestedDriver, IsTestedReceiver, IsUseful};
-ghost use Rattle.board_defs.specs.Decided.{are_paired, are_together, can_enable, is_safe_alone, is_tested_driver, is_tested_receiver, is_useful, reason_of, share_net};
+ghost use Rattle.board_defs.specs.Decided.{are_paired, are_together, can_enable, is_safe_alone, is_tested_driver, is_tested_receiver, is_useful, place_drive, reason_of, share_net};
 ghost use Rattle.board_defs.specs.Passes.{tested_drivers, useful_controls};
 ghost use Rattle.net_classes.specs.Pairs.{AreByCells, IsByCell, fit, fits_some, some_fit};
 ghost use Rattle.net_classes.specs.Kept.{AreClasses, OfNet, control_class_of, driven_nets, is_free, pin_class_of, shared_nets};
@@ -258,6 +258,24 @@ impl Classes {
         law::terms_decided();
         let _rules = board.raw();
         self.pin(board, pin).receiver_tested
+    }
+
+    /// Whether the pin is a driver.
+    pub fn drives(&self, board: &Board, pin: PinRef) -> bool
+        requires classes { AreClasses board.now self.now }
+        requires pin { IsOnBoard board.now pin }
+        ensures { OfNet board.now pin.net (λ net. result ≡ is_some (place_drive board.now net pin.place)) }
+    {
+        self.pin(board, pin).drives
+    }
+
+    /// Whether the pin is a receiver.
+    pub fn receives(&self, board: &Board, pin: PinRef) -> bool
+        requires classes { AreClasses board.now self.now }
+        requires pin { IsOnBoard board.now pin }
+        ensures { OfNet board.now pin.net (λ net. result ≡ receives_of board.now (slice_get net.pins pin.place)) }
+    {
+        self.pin(board, pin).receives
     }
 
     /// Whether the two nets differ and one safe setting observes both.

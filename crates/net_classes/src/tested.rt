@@ -133,6 +133,8 @@ fn pin_class(
     PinClass {
         driver_tested: is_tested(rows, net, readers, place),
         receiver_tested: is_reader_tested(rows, net, enablers, place),
+        drives: drive_of(net.pins.as_slice(), place).is_some(),
+        receives: reads_at(net.pins.as_slice(), place),
     }
 }
 
