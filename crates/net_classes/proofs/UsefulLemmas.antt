@@ -1,6 +1,6 @@
 -- The useful controls, in control order.
 use Rattle.std.proofs.Common.{◌≡◌, ℕ, zero, suc, ◌+◌, ◌<◌, ◌≤◌, Bool, true, false, List, [], ◌∷◌, ◌++◌, map, length, take, get_or, Option, Some, None, refl, sym, ◌∙◌, ap, subst, arith, inl, inr, ◌⊎◌, cond}
-use Rattle.std.specs.Prelude.{slice_get, filter, option_map, option_and_then}
+use Rattle.std.specs.Prelude.{slice_get, slice_index_or, filter, option_map, option_and_then, All}
 use Rattle.std.specs.List.{flat_map, enumerate_from, range_with_len}
 use Rattle.std.proofs.lemmas.List.{take_more, take_all, length-take-le}
 use Rattle.std.proofs.lemmas.List.Concat.{flat_map-append}
@@ -12,9 +12,11 @@ use Rattle.board_defs.specs.declared.board.Part.{Part}
 use Rattle.board_defs.specs.declared.board.Ctl.{Ctl}
 use Rattle.board_defs.specs.declared.board.RawBoard.{RawBoard}
 use Rattle.board_defs.specs.Pins.{described, cell_count, IsCell}
-use Rattle.board_defs.specs.Passes.{all_cells, cells_of}
+use Rattle.board_defs.specs.Decided.{is_useful}
+use Rattle.board_defs.specs.Passes.{all_cells, cells_of, useful_controls}
 use Rattle.net_classes.proofs.Lists.{plus_nothing}
-use Rattle.board_defs.proofs.Members.{Has, flat_map_has, enumerate_has, map_has, range_has}
+use Rattle.std.proofs.lemmas.Option.{slice_get-get_or}
+use Rattle.board_defs.proofs.Members.{Has, has_at, filter_has, flat_map_has, enumerate_has, map_has, range_has}
 
 abbrev pub cell_in : ℕ → ℕ → Ctl
 cell_in part cell = record { part = part; cell = cell }
@@ -82,3 +84,8 @@ has_cell board c h =
 pub filter_on : {X : Type 0} (p q : X → Bool) (xs : List X) → ((x : X) → Has xs x → p x ≡ q x) → filter p xs ≡ filter q xs
 filter_on p q [] h = refl
 filter_on p q (x ∷ xs) h = ap (λ t. cond t (x ∷ filter p xs) (filter p xs)) (h x (inl refl)) ∙ ap (λ ys. cond (q x) (x ∷ ys) ys) (filter_on p q xs (λ y k. h y (inr k)))
+
+pub useful_cells : (board : RawBoard) (useful : List Ctl) → useful ≡ useful_controls board → All (IsCell board) useful
+useful_cells board useful e k d less =
+    let P : List Ctl → Type 0 = λ v. Has v (slice_index_or useful k d) in
+    has_cell board (slice_index_or useful k d) (filter_has (is_useful board) (all_cells board) (slice_index_or useful k d) (subst P e (has_at useful k (slice_index_or useful k d) (slice_get-get_or useful k d less)))).0

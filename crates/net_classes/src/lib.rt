@@ -15,6 +15,7 @@ mod tested;
 mod useful;
 
 pub use classes::{Classes, ControlClass, NetClass, PinClass, classify};
+pub use found::meet;
 pub use net_numbers::NetNumbers;
 
 #[cfg(test)]

@@ -1,5 +1,5 @@
 // The questions that the classes of a board answer.
-ghost use Rattle.std.specs.Prelude.{◌≡◌, ◌≢◌, ◌<◌, ◌||◌, ℕ, false, true, not, length, map, slice_get, is_some, MatchOption, Some};
+ghost use Rattle.std.specs.Prelude.{◌≡◌, ◌≢◌, ◌<◌, ◌||◌, ℕ, false, true, not, length, map, slice_get, is_some, All, MatchOption, Some};
 ghost use Rattle.std.specs.List.{list_any, range_with_len};
 ghost use Rattle.std.specs.Bool.{Decides};
 ghost use Rattle.board_defs.specs.BoardRules.{IsBoard};
@@ -30,6 +30,15 @@ impl Classes {
         ensures { result.now ≡ control_class_of board.now c }
     {
         &self.controls[c.part as usize][c.cell as usize]
+    }
+
+    /// What is kept of the tested drivers of the net.
+    fn drivers(&self, board: &Board, net: u32) -> &[Drive]
+        requires classes { AreClasses board.now self.now }
+        requires net { net < length board.now.nets }
+        ensures { OfNet board.now net (λ found. result.now ≡ tested_drivers board.now found) }
+    {
+        self.nets[net as usize].drivers.as_slice()
     }
 
     /// What is kept of the pins of the net, in their order.
@@ -112,7 +121,7 @@ impl Classes {
     }
 
     /// Whether one safe setting enables both drivers.
-    fn fit(&self, board: &Board, d: Drive, e: Drive) -> bool
+    pub fn fit(&self, board: &Board, d: Drive, e: Drive) -> bool
         requires classes { AreClasses board.now self.now }
         requires first { IsByCell board.now d }
         requires second { IsByCell board.now e }
@@ -343,15 +352,18 @@ impl Classes {
     pub fn tested_drivers(&self, board: &Board, net: u32) -> &[Drive]
         requires classes { AreClasses board.now self.now }
         requires net { net < length board.now.nets }
-        ensures { OfNet board.now net (λ found. result.now ≡ tested_drivers board.now found) }
+        ensures drivers { OfNet board.now net (λ found. result.now ≡ tested_drivers board.now found) }
+        ensures cells { AreByCells board.now result.now }
     {
-        self.nets[net as usize].drivers.as_slice()
+        let _rules = board.raw();
+        self.drivers(board, net)
     }
 
     /// The useful controls, in control order.
     pub fn useful(&self, board: &Board) -> &[Ctl]
         requires { AreClasses board.now self.now }
-        ensures { result.now ≡ useful_controls board.now }
+        ensures controls { result.now ≡ useful_controls board.now }
+        ensures cells { All (IsCell board.now) result.now }
     {
         &self.useful
     }
