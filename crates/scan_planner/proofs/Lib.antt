@@ -4,6 +4,7 @@ pub mod PinLemmas
 pub mod HeldLemmas
 pub mod DriverLemmas
 pub mod ReaderLemmas
+pub mod ControlLemmas
 pub mod RowLemmas
 pub mod FillLemmas
 pub mod BuildLemmas

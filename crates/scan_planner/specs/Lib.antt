@@ -4,3 +4,4 @@ pub mod Assigned
 pub mod Building
 pub mod Codes
 pub mod Laid
+pub mod Laws

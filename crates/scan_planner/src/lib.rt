@@ -5,6 +5,7 @@ mod build;
 mod codes;
 mod fill;
 mod instructions;
+pub mod law;
 mod nets;
 mod passes;
 mod plan;
