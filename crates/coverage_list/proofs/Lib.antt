@@ -1,0 +1,3 @@
+mod PutLemmas
+mod CoverLemmas
+mod NetLemmas

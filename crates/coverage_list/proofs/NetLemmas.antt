@@ -1,0 +1,131 @@
+-- What is said of single nets, pins and pairs.
+use Rattle.std.proofs.Common.{◌≡◌, ◌≢◌, ℕ, zero, suc, ◌+◌, ◌-◌, ◌<◌, ◌≤◌, Bool, true, false, not, ◌&&◌, cond, List, [], ◌∷◌, ◌++◌, length, Option, Some, None, refl, sym, ap, ◌∙◌, take, filter, get_or, length-append, arith}
+use Rattle.std.specs.Prelude.{slice_get, is_none, sum_by}
+use Rattle.std.specs.List.{flat_map, range_with_len}
+use Rattle.std.proofs.lemmas.List.{take_more}
+use Rattle.std.proofs.lemmas.List.Elements.{filter-append}
+use Rattle.std.proofs.lemmas.Option.{slice_get_within, get_or_from_slice_get}
+use Rattle.std.proofs.lemmas.List.Sums.{get_or-le-sum_by}
+use Rattle.board_defs.specs.declared.board.Net.{Net}
+use Rattle.board_defs.specs.declared.board.RawBoard.{RawBoard}
+use Rattle.board_defs.specs.declared.board.NetPin.{NetPin}
+use Rattle.board_defs.specs.declared.coverage.Reason.{Reason}
+use Rattle.board_defs.specs.BoardRules.{IsBoard}
+use Rattle.board_defs.specs.Coverage.{IsCovered, ArePaired}
+use Rattle.board_defs.specs.Decided.{is_covered, are_paired, first_reason, reason_of}
+use Rattle.board_defs.specs.Laws.{DecidesTerms}
+use Rattle.coverage_list.specs.declared.lines.PinUse.{PinUse}
+use Rattle.coverage_list.specs.CoverText.{is_untested, reason_line, pin_line, pair_line}
+use Rattle.coverage_list.specs.CoverForms.{of_item, texts_from, net_reason, reason_at, place_text, net_pins, pins_at, is_unpaired, pair_text, pair_at, net_pairs, pairs_at}
+
+pub same_item : {X : Type 0} {o : Option X} {x y : X} → o ≡ Some x → o ≡ Some y → x ≡ y
+same_item {X} {o} {x} {y} e f = cc
+
+-- the item that stands at a place
+pub item_there : {X : Type 0} (xs : List X) (i : ℕ) → i < length xs → (x : X) × (slice_get xs i ≡ Some x)
+item_there [] i h = absurd (omega arith)
+item_there (x ∷ xs) zero h = (x, refl)
+item_there (x ∷ xs) (suc i) h = item_there xs i (omega arith)
+
+-- how many of the first items pass, with one more
+pub count_more : {X : Type 0} (p : X → Bool) (xs : List X) (i : ℕ) (x : X) → slice_get xs i ≡ Some x → length (filter p (take (i + 1) xs)) ≡ length (filter p (take i xs)) + cond (p x) 1 0
+count_more p xs i x e =
+    ap (λ l. length (filter p l)) (take_more xs i x (slice_get_within xs i x e) ∙ ap (λ y. take i xs ++ y ∷ []) (get_or_from_slice_get xs i x x e))
+    ∙ ap length (filter-append p (take i xs) (x ∷ [])) ∙ length-append (filter p (take i xs)) (filter p (x ∷ [])) ∙ ap (λ n. length (filter p (take i xs)) + n) (by (p x))
+  where
+    by : (t : Bool) → length (cond t (x ∷ []) []) ≡ cond t 1 0
+    by true = refl
+    by false = refl
+
+pub counted : (p : Net → Bool) (nets : List Net) (i covered : ℕ) (t : Bool) → i < length nets → ((net : Net) → slice_get nets i ≡ Some net → t ≡ p net) → covered ≡ length (filter p (take i nets)) → covered + cond t 1 0 ≡ length (filter p (take (i + 1) nets))
+counted p nets i covered t less is so_far =
+    let net = item_there nets i less in
+    ap (λ n. n + cond t 1 0) so_far ∙ ap (λ b. length (filter p (take i nets)) + cond b 1 0) (is net.0 net.1) ∙ sym (count_more p nets i net.0 net.1)
+
+-- a net has no reason exactly where it is covered
+pub no_reason : (board : RawBoard) (net : Net) → is_none (reason_of board net) ≡ is_covered board net
+no_reason board net = by (is_covered board net)
+  where
+    by : (t : Bool) → is_none (cond t None (Some (first_reason board net))) ≡ t
+    by true = refl
+    by false = refl
+
+-- two nets are paired in either order
+pub paired_back : (board : RawBoard) (a b : ℕ) → ArePaired board a b → ArePaired board b a
+paired_back board a b (differ, (setting, safe, (first, second))) = (λ e. differ (sym e), (setting, safe, (second, first)))
+
+-- two covered nets that are paired are not listed
+paired_not : (board : RawBoard) (low high : Net) → are_paired board low high ≡ true → is_unpaired board low high ≡ false
+paired_not board low high e = ap (λ t. is_covered board high && not t) e ∙ by (is_covered board high)
+  where
+    by : (t : Bool) → (t && false) ≡ false
+    by true = refl
+    by false = refl
+
+-- a net that is paired with every other covered net
+abbrev pub IsFree : RawBoard → ℕ → Type 0
+IsFree board n = (other : ℕ) → n ≢ other → IsCovered board other → ArePaired board n other
+
+pub free_not : (board : RawBoard) (n m : ℕ) (low high : Net) → DecidesTerms board → slice_get board.nets n ≡ Some low → slice_get board.nets m ≡ Some high → n ≢ m → IsFree board n → is_unpaired board low high ≡ false
+free_not board n m low high terms at at' differ free = by (is_covered board high) refl
+  where
+    by : (t : Bool) → is_covered board high ≡ t → is_unpaired board low high ≡ false
+    by true e = paired_not board low high ((terms.paired n m low high at at' differ).1 (free m differ ((terms.covered m high at').0 e)))
+    by false e = ap (λ t. t && not (are_paired board low high)) e
+
+pub later_free_not : (board : RawBoard) (n m : ℕ) (low high : Net) → DecidesTerms board → slice_get board.nets n ≡ Some low → slice_get board.nets m ≡ Some high → n ≢ m → is_covered board low ≡ true → IsFree board m → is_unpaired board low high ≡ false
+later_free_not board n m low high terms at at' differ covered free =
+    paired_not board low high ((terms.paired n m low high at at' differ).1 (paired_back board m n (free n (λ e. differ (sym e)) ((terms.covered n low at).0 covered))))
+
+-- texts of which each is empty
+texts_empty : (f : ℕ → List ℕ) (n count : ℕ) → ((i : ℕ) → n ≤ i → f i ≡ []) → texts_from f n count ≡ []
+texts_empty f n count each = by (count - n) n each
+  where
+    by : (k n : ℕ) → ((i : ℕ) → n ≤ i → f i ≡ []) → flat_map f (range_with_len n k) ≡ []
+    by zero n each = refl
+    by (suc k) n each = ap (λ t. t ++ flat_map f (range_with_len (n + 1) k)) (each n (omega arith)) ∙ by k (n + 1) (λ i past. each i (omega arith))
+
+pub not_covered : (board : RawBoard) (n : ℕ) (net : Net) → is_covered board net ≡ false → net_pairs board n net ≡ []
+not_covered board n net e = ap (λ t. cond t (texts_from (pair_at board net) (n + 1) (length board.nets)) []) e
+
+pub free_pairs_none : (board : RawBoard) (n : ℕ) (net : Net) → DecidesTerms board → slice_get board.nets n ≡ Some net → IsFree board n → net_pairs board n net ≡ []
+free_pairs_none board n net terms at free =
+    ap (λ t. cond (is_covered board net) t []) (texts_empty (pair_at board net) (n + 1) (length board.nets) (λ i past. by i past (slice_get board.nets i) refl)) ∙ same (is_covered board net) []
+  where
+    by : (i : ℕ) → n + 1 ≤ i → (o : Option Net) → slice_get board.nets i ≡ o → of_item (pair_text board net) o ≡ []
+    by i past None e = refl
+    by i past (Some other) e = ap (λ t. cond t (pair_line net other) []) (free_not board n i net other terms at e (λ same. let less : n < i = omega arith in absurd (omega (arith, same))) free)
+
+    same : (t : Bool) (none : List ℕ) → cond t none none ≡ none
+    same true none = refl
+    same false none = refl
+
+-- the texts of a net, a pin and a pair are those of their numbers
+pub is_true : (b : Bool) → not b ≡ false → b ≡ true
+is_true true e = refl
+is_true false e = cc e
+
+pub reason_is : (board : RawBoard) (n : ℕ) (net : Net) (reason : Option Reason) → slice_get board.nets n ≡ Some net → reason ≡ reason_of board net → reason_line net.name reason ≡ reason_at board n
+reason_is board n net reason at e = ap (reason_line net.name) e ∙ sym (ap (of_item (net_reason board)) at)
+
+pub place_is : (board : RawBoard) (pin_use : PinUse) (net : Net) (place : ℕ) (pin : NetPin) → slice_get net.pins place ≡ Some pin → is_untested board pin_use net place ≡ true → pin_line pin_use (Some pin) ≡ place_text board pin_use net place
+place_is board pin_use net place pin at e = ap (pin_line pin_use) (sym at) ∙ sym (ap (λ t. cond t (pin_line pin_use (slice_get net.pins place)) []) e)
+
+pub pins_is : (board : RawBoard) (pin_use : PinUse) (n : ℕ) (net : Net) → slice_get board.nets n ≡ Some net → is_covered board net ≡ true → texts_from (place_text board pin_use net) 0 (length net.pins) ≡ pins_at board pin_use n
+pins_is board pin_use n net at e = sym (ap (of_item (net_pins board pin_use)) at ∙ ap (λ t. cond t (texts_from (place_text board pin_use net) 0 (length net.pins)) []) e)
+
+pub pair_is : (board : RawBoard) (low high other : Net) (n : ℕ) → slice_get board.nets n ≡ Some high → is_unpaired board low high ≡ true → other ≡ low → pair_line other high ≡ pair_at board low n
+pair_is board low high other n at e same =
+    ap (λ (x : Net). pair_line x high) same ∙ sym (ap (of_item (pair_text board low)) at ∙ ap (λ t. cond t (pair_line low high) []) e)
+
+pub pairs_is : (board : RawBoard) (n count : ℕ) (net : Net) → slice_get board.nets n ≡ Some net → is_covered board net ≡ true → count ≡ length board.nets → texts_from (pair_at board net) (n + 1) count ≡ pairs_at board n
+pairs_is board n count net at e all =
+    ap (texts_from (pair_at board net) (n + 1)) all ∙ sym (ap (of_item (net_pairs board n)) at ∙ ap (λ t. cond t (texts_from (pair_at board net) (n + 1) (length board.nets)) []) e)
+
+-- no net has more pins than a board may have
+pub few_pins : (board : RawBoard) (n : ℕ) (net : Net) → IsBoard board → slice_get board.nets n ≡ Some net → length net.pins ≤ 65535
+few_pins board n net rules at =
+    let size : Net → ℕ = λ net. length net.pins in
+    let most : size (get_or board.nets n net) ≤ sum_by size board.nets = get_or-le-sum_by size board.nets n net (slice_get_within board.nets n net at) in
+    let here : size (get_or board.nets n net) ≡ size net = ap size (get_or_from_slice_get board.nets n net net at) in
+    omega (arith, rules.pins_most, most, here)

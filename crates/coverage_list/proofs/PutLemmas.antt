@@ -1,0 +1,35 @@
+-- Lemmas on a list of texts that is put one after the other: what is still to be put completes the whole.
+use Rattle.std.proofs.Common.{◌≡◌, ℕ, ◌+◌, ◌-◌, ◌<◌, ◌≤◌, suc, List, [], ◌++◌, refl, sym, ap, Result, Ok, Err, IsErr, arith}
+use Rattle.std.specs.List.{flat_map, range_with_len}
+use Rattle.bt_base.specs.Puts.{Shown}
+use Rattle.bt_base.specs.declared.sink.PutFault.{PutFault}
+use Rattle.line_printer.specs.Prints.{Prints}
+use Rattle.line_printer.proofs.PrintLemmas.{prints_ok, prints_err, prints_none, prints_same}
+use Rattle.coverage_list.specs.CoverForms.{texts_from}
+
+abbrev pub Completes : Shown → Shown → List ℕ → List ℕ → Type 0
+Completes start now rest whole = (new : Shown) (r : Result (Unit {0}) PutFault) → Prints now new [] [] rest r → Prints start new [] [] whole r
+
+texts_next : (f : ℕ → List ℕ) (n count : ℕ) → n < count → texts_from f n count ≡ f n ++ texts_from f (n + 1) count
+texts_next f n count less = let e : count - n ≡ suc (count - (n + 1)) = omega arith in ap (λ k. flat_map f (range_with_len n k)) e
+
+texts_none : (f : ℕ → List ℕ) (n count : ℕ) → count ≤ n → texts_from f n count ≡ []
+texts_none f n count past = let e : count - n ≡ 0 = omega arith in ap (λ k. flat_map f (range_with_len n k)) e
+
+pub each_start : (start : Shown) (whole : List ℕ) → Completes start start whole whole
+each_start start whole new r p = p
+
+-- one more was put
+pub each_ok : (f : ℕ → List ℕ) (n count : ℕ) (whole : List ℕ) {start now new : Shown} {r : Result (Unit {0}) PutFault} {x : Unit {0}} → Completes start now (texts_from f n count) whole → n < count → Prints now new [] [] (f n) r → r ≡ Ok x → Completes start new (texts_from f (n + 1) count) whole
+each_ok f n count whole {start} {now} {new} {r} {x} completes less first ok last q rest =
+    completes last q (prints_same (sym (texts_next f n count less)) (prints_ok first ok rest))
+
+-- one was cut short
+pub each_err : (f : ℕ → List ℕ) (n count : ℕ) (whole : List ℕ) {start now new : Shown} {r q : Result (Unit {0}) PutFault} {e : PutFault} → Completes start now (texts_from f n count) whole → n < count → Prints now new [] [] (f n) r → r ≡ Err e → IsErr q → Prints start new [] [] whole q
+each_err f n count whole {start} {now} {new} {r} {q} {e} completes less first err is =
+    completes new q (prints_same (sym (texts_next f n count less)) (prints_err (texts_from f (n + 1) count) first err is))
+
+-- all were put
+pub each_end : (f : ℕ → List ℕ) (n count : ℕ) (whole : List ℕ) {start now : Shown} → Completes start now (texts_from f n count) whole → count ≤ n → Prints {T = Unit {0}} {E = PutFault} start now [] [] whole (Ok tt)
+each_end f n count whole {start} {now} completes past =
+    completes now (Ok tt) (prints_same (sym (texts_none f n count past)) (prints_none tt refl))

@@ -1,0 +1,10 @@
+use Rattle.std.proofs.Common.{◌≡◌, ◌+◌, Some}
+use Rattle.std.specs.Prelude.{slice_get}
+use Rattle.board_defs.specs.declared.board.Net.{Net}
+use Rattle.coverage_list.specs.CoverForms.{pair_at, texts_from}
+use Rattle.coverage_list.proofs.PutLemmas.{Completes}
+use Rattle.coverage_list.proofs.listing.put_later.Given as goal
+
+-- the pairs with the nets that are left complete the list
+abbrev pub invariant-loop-high : goal.invariant-loop-high
+invariant-loop-high g l = (net : Net) → slice_get l.board.nets l.low ≡ Some net → Completes (g.K.Sink.shown l.fn.out) (g.K.Sink.shown l.out) (texts_from (pair_at l.board net) l.high l.count) (texts_from (pair_at l.board net) (l.low + 1) l.count)

@@ -1,0 +1,50 @@
+-- The coverage list as it is put, by the numbers of the nets.
+use Rattle.std.specs.Prelude.{ℕ, ◌+◌, ◌-◌, Bool, not, ◌&&◌, List, [], length, Option, None, Some, slice_get, cond}
+use Rattle.std.specs.List.{flat_map, range_with_len}
+use Rattle.board_defs.specs.declared.board.Net.{Net}
+use Rattle.board_defs.specs.declared.board.RawBoard.{RawBoard}
+use Rattle.board_defs.specs.Decided.{is_covered, are_paired, reason_of}
+use Rattle.coverage_list.specs.declared.lines.PinUse.{PinUse}
+use Rattle.coverage_list.specs.CoverText.{is_untested, reason_line, pin_line, pair_line}
+
+-- the texts of the numbers from n on, up to the count
+abbrev pub texts_from : (ℕ → List ℕ) → ℕ → ℕ → List ℕ
+texts_from text n count = flat_map text (range_with_len n (count - n))
+
+-- the text of an item, where it is there
+abbrev pub of_item : {X : Type 0} → (X → List ℕ) → Option X → List ℕ
+of_item text None = []
+of_item text (Some x) = text x
+
+-- of the net of a number, why it is not covered
+abbrev pub net_reason : RawBoard → Net → List ℕ
+net_reason board net = reason_line net.name (reason_of board net)
+
+abbrev pub reason_at : RawBoard → ℕ → List ℕ
+reason_at board n = of_item (net_reason board) (slice_get board.nets n)
+
+-- of the net of a number, the untested pins, where it is covered
+abbrev pub place_text : RawBoard → PinUse → Net → ℕ → List ℕ
+place_text board pin_use net place = cond (is_untested board pin_use net place) (pin_line pin_use (slice_get net.pins place)) []
+
+abbrev pub net_pins : RawBoard → PinUse → Net → List ℕ
+net_pins board pin_use net = cond (is_covered board net) (texts_from (place_text board pin_use net) 0 (length net.pins)) []
+
+abbrev pub pins_at : RawBoard → PinUse → ℕ → List ℕ
+pins_at board pin_use n = of_item (net_pins board pin_use) (slice_get board.nets n)
+
+-- of the net of a number, the pairs with later nets that are not paired
+abbrev pub is_unpaired : RawBoard → Net → Net → Bool
+is_unpaired board low high = is_covered board high && not (are_paired board low high)
+
+abbrev pub pair_text : RawBoard → Net → Net → List ℕ
+pair_text board low high = cond (is_unpaired board low high) (pair_line low high) []
+
+abbrev pub pair_at : RawBoard → Net → ℕ → List ℕ
+pair_at board low n = of_item (pair_text board low) (slice_get board.nets n)
+
+abbrev pub net_pairs : RawBoard → ℕ → Net → List ℕ
+net_pairs board n low = cond (is_covered board low) (texts_from (pair_at board low) (n + 1) (length board.nets)) []
+
+abbrev pub pairs_at : RawBoard → ℕ → List ℕ
+pairs_at board n = of_item (net_pairs board n) (slice_get board.nets n)

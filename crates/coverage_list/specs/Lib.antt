@@ -1,0 +1,2 @@
+pub mod CoverText
+pub mod CoverForms
