@@ -1,0 +1,87 @@
+-- Lists of controls in control order, and what a setting holds.
+use Rattle.std.proofs.Common.{◌≡◌, ℕ, zero, suc, ◌+◌, ◌<◌, ◌==◌, Bool, true, false, ◌&&◌, ◌||◌, List, [], ◌∷◌, length, get_or, refl, sym, ◌∙◌, ap, subst, arith, cond}
+use Rattle.std.specs.Prelude.{nat_lt, All, IsTrue}
+use Rattle.std.specs.List.{list_any}
+use Rattle.std.proofs.lemmas.Bool.Decides.{nat_tests}
+use Rattle.std.proofs.lemmas.Bool.{eqb-true, eq-eqb, and_parts, and_from, or_right}
+use Rattle.board_defs.specs.declared.board.Ctl.{Ctl}
+use Rattle.board_defs.specs.Settings.{same_ctl, precedes, holds, inserted, IsInControlOrder}
+
+pub same_equal : (a b : Ctl) → same_ctl a b ≡ true → a ≡ b
+same_equal a b h =
+    let both : ((a.part == b.part) ≡ true) × ((a.cell == b.cell) ≡ true) = and_parts (a.part == b.part) (a.cell == b.cell) h in
+    let P : ℕ → Type 0 = λ n. a ≡ record { part = n; cell = a.cell } in
+    let Q : ℕ → Type 0 = λ n. a ≡ record { part = b.part; cell = n } in
+    subst Q (eqb-true a.cell b.cell both.1) (subst P (eqb-true a.part b.part both.0) refl)
+
+pub same_self : (c : Ctl) → same_ctl c c ≡ true
+same_self c = and_from (c.part == c.part) (c.cell == c.cell) (eq-eqb c.part c.part refl) (eq-eqb c.cell c.cell refl)
+
+pub after_is : (a b : Ctl) → precedes a b ≡ true → (precedes b a ≡ false) × (same_ctl a b ≡ false) × (same_ctl b a ≡ false)
+after_is a b h = (grind (arith, nat_tests), grind (arith, nat_tests), grind (arith, nat_tests))
+
+pub itself_is : (c : Ctl) → precedes c c ≡ false
+itself_is c = grind (arith, nat_tests)
+
+-- the first of controls in order precedes each later one
+pub first_precedes : (c : Ctl) (controls : List Ctl) (i : ℕ) (d : Ctl) → IsInControlOrder (c ∷ controls) → i < length controls → get_or controls i d ≡ d → precedes c d ≡ true
+first_precedes c controls i d order less e = sym (ap (precedes c) e) ∙ order 0 (suc i) d (omega arith) (omega arith)
+
+pub order_rest : (c : Ctl) (controls : List Ctl) → IsInControlOrder (c ∷ controls) → IsInControlOrder controls
+order_rest c controls order i j d less within = order (suc i) (suc j) d (omega arith) (omega arith)
+
+-- all of the controls come after c
+abbrev pub ComeAfter : Ctl → List Ctl → Type 0
+ComeAfter c controls = All (λ d. IsTrue (precedes c d)) controls
+
+pub come_after : (c : Ctl) (controls : List Ctl) → IsInControlOrder (c ∷ controls) → ComeAfter c controls
+come_after c controls order k d less = order 0 (suc k) d (omega arith) (omega arith)
+
+pub order_with : (c : Ctl) (controls : List Ctl) → ComeAfter c controls → IsInControlOrder controls → IsInControlOrder (c ∷ controls)
+order_with c controls after order i zero d less within = absurd (omega arith)
+order_with c controls after order zero (suc j) d less within = after j d (omega arith)
+order_with c controls after order (suc i) (suc j) d less within = order i j d (omega arith) (omega arith)
+
+-- a control before all of a setting goes to its front
+pub insert_before : (c : Ctl) (setting : List Ctl) → ComeAfter c setting → inserted c setting ≡ c ∷ setting
+insert_before c [] after = refl
+insert_before c (d ∷ setting) after =
+    let r : (precedes d c ≡ false) × (same_ctl c d ≡ false) × (same_ctl d c ≡ false) = after_is c d (after 0 d (omega arith)) in
+    ap (λ t. cond t (d ∷ inserted c setting) (cond (same_ctl c d) (d ∷ setting) (c ∷ d ∷ setting))) r.0 ∙ ap (λ t. cond t (d ∷ setting) (c ∷ d ∷ setting)) r.1
+
+-- one that is at the front already changes nothing
+pub insert_front : (c : Ctl) (setting : List Ctl) → inserted c (c ∷ setting) ≡ c ∷ setting
+insert_front c setting =
+    ap (λ t. cond t (c ∷ inserted c setting) (cond (same_ctl c c) (c ∷ setting) (c ∷ c ∷ setting))) (itself_is c) ∙ ap (λ t. cond t (c ∷ setting) (c ∷ c ∷ setting)) (same_self c)
+
+-- one after the first goes behind it
+pub insert_behind : (c d : Ctl) (setting : List Ctl) → precedes d c ≡ true → inserted c (d ∷ setting) ≡ d ∷ inserted c setting
+insert_behind c d setting h = ap (λ t. cond t (d ∷ inserted c setting) (cond (same_ctl c d) (d ∷ setting) (c ∷ d ∷ setting))) h
+
+-- none of the controls after c is c
+pub none_holds : (c : Ctl) (setting : List Ctl) → ComeAfter c setting → holds setting c ≡ false
+none_holds c [] after = refl
+none_holds c (d ∷ setting) after =
+    let r : (precedes d c ≡ false) × (same_ctl c d ≡ false) × (same_ctl d c ≡ false) = after_is c d (after 0 d (omega arith)) in
+    ap (λ t. t || holds setting c) r.1 ∙ none_holds c setting (λ k e less. after (suc k) e (omega arith))
+
+-- a test of some control of a setting with one more control
+pub any_inserted : (p : Ctl → Bool) (c : Ctl) (setting : List Ctl) → list_any p (inserted c setting) ≡ (p c || list_any p setting)
+any_inserted p c [] = refl
+any_inserted p c (d ∷ setting) = by_order (any_inserted p c setting) (precedes d c) (same_ctl c d) refl
+  where
+    swap : (a b r : Bool) → (a || (b || r)) ≡ (b || (a || r))
+    swap true true r = refl
+    swap true false r = refl
+    swap false b r = refl
+
+    twice : (a b r : Bool) → a ≡ b → (b || r) ≡ (a || (b || r))
+    twice true true r e = refl
+    twice true false r e = cc e
+    twice false b r e = refl
+
+    by_order : list_any p (inserted c setting) ≡ (p c || list_any p setting) → (t s : Bool) → same_ctl c d ≡ s →
+        list_any p (cond t (d ∷ inserted c setting) (cond s (d ∷ setting) (c ∷ d ∷ setting))) ≡ (p c || (p d || list_any p setting))
+    by_order rest true s e = ap (λ t. p d || t) rest ∙ swap (p d) (p c) (list_any p setting)
+    by_order rest false true e = twice (p c) (p d) (list_any p setting) (ap p (same_equal c d e))
+    by_order rest false false e = refl

@@ -1,0 +1,4 @@
+pub mod Controls
+pub mod ChosenLemmas
+pub mod DraftLemmas
+pub mod FitLemmas

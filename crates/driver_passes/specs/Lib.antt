@@ -1,0 +1,4 @@
+pub mod Drafts
+pub mod Progress
+pub mod Pairs
+pub mod Useful

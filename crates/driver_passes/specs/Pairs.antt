@@ -1,0 +1,34 @@
+-- Which passes show each net.
+use Rattle.std.specs.Prelude.{◌≡◌, ◌<◌, ℕ, suc, Bool, cond, List, [], ◌∷◌, drop, length, map, slice_index_or}
+use Rattle.board_defs.specs.declared.board.Ctl.{Ctl}
+use Rattle.board_defs.specs.declared.board.RawBoard.{RawBoard}
+use Rattle.board_defs.specs.declared.board.Drive.{Drive}
+use Rattle.board_defs.specs.Passes.{drivers_by_net, shows}
+use Rattle.driver_passes.specs.declared.pairs.Pairing.{Pairing}
+use Rattle.driver_passes.specs.Progress.{IsUsefulDriver, drivers_at}
+
+-- the numbers, from n on, of the items that pass
+abbrev pub numbers_of : {X : Type 0} → (X → Bool) → ℕ → List X → List ℕ
+numbers_of p n [] = []
+numbers_of p n (x ∷ xs) = cond (p x) (n ∷ numbers_of p (suc n) xs) (numbers_of p (suc n) xs)
+
+-- the numbers of the passes that show the net of this number
+abbrev pub showing : RawBoard → List (List Ctl) → ℕ → List ℕ
+showing board passes n = numbers_of (shows (drivers_at board n)) 0 passes
+
+-- the rows have the numbers of the passes that show each net
+pub record AreShown (board : RawBoard) (passes : List (List Ctl)) (rows : List (List ℕ)) : Type 0 where
+  pub rows_length : length rows ≡ length board.nets
+  pub rows_are : (n : ℕ) → n < length board.nets → slice_index_or rows n [] ≡ showing board passes n
+
+-- the rows are those of the passes so far
+abbrev pub ArePairing : RawBoard → Pairing → Type 0
+ArePairing board pairing = AreShown board pairing.passes.items pairing.rows.items
+
+-- the controls of both drivers, where they have one, are useful
+abbrev pub IsUsefulPair : RawBoard → Drive × Drive → Type 0
+IsUsefulPair board pair = IsUsefulDriver board pair.0 × IsUsefulDriver board pair.1
+
+-- the tested drivers of net n and those of a later net, for each later net in order
+abbrev pub pairs_from : RawBoard → ℕ → List (List Drive × List Drive)
+pairs_from board n = map (λ others. (drivers_at board n, others)) (drop (suc n) (drivers_by_net board))

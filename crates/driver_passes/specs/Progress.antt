@@ -1,0 +1,31 @@
+-- The passes so far.
+use Rattle.std.specs.Prelude.{◌≡◌, ℕ, Bool, true, false, List, [], length, Some, slice_get, slice_index_or}
+use Rattle.std.specs.List.{list_any}
+use Rattle.board_defs.specs.declared.board.Ctl.{Ctl}
+use Rattle.board_defs.specs.declared.board.RawBoard.{RawBoard}
+use Rattle.board_defs.specs.declared.board.Drive.{Drive}
+use Rattle.board_defs.specs.declared.board.Drive.TheVariants.{By}
+use Rattle.board_defs.specs.Settings.{holds}
+use Rattle.board_defs.specs.Passes.{drivers_by_net, useful_controls}
+use Rattle.driver_passes.specs.declared.drivers.Progress.{Progress}
+
+-- some pass holds the control
+abbrev pub is_held : List (List Ctl) → Ctl → Bool
+is_held passes c = list_any (λ pass. holds pass c) passes
+
+-- the flags say which useful controls the passes hold
+pub record AreHeld (board : RawBoard) (passes : List (List Ctl)) (flags : List Bool) : Type 0 where
+  pub flags_length : length flags ≡ length (useful_controls board)
+  pub flags_are : (i : ℕ) (c : Ctl) → slice_get (useful_controls board) i ≡ Some c → slice_index_or flags i false ≡ is_held passes c
+
+-- the flags are those of the passes so far
+abbrev pub IsProgress : RawBoard → Progress → Type 0
+IsProgress board progress = AreHeld board progress.passes.items progress.held.items
+
+-- the driver's control, where it has one, is useful
+abbrev pub IsUsefulDriver : RawBoard → Drive → Type 0
+IsUsefulDriver board d = (c : Ctl) → d ≡ By c → holds (useful_controls board) c ≡ true
+
+-- the tested drivers of the net of this number
+abbrev pub drivers_at : RawBoard → ℕ → List Drive
+drivers_at board n = slice_index_or (drivers_by_net board) n []

@@ -1,0 +1,203 @@
+// The passes until each tested driver is enabled.
+ghost use Rattle.std.specs.Prelude.{◌≡◌, ◌<◌, ◌≤◌, ◌||◌, ◌++◌, ◌∷◌, ℕ, [], false, fold, length, slice_index_or, All, IfOk, OnOk};
+ghost use Rattle.std.specs.List.{flat_map, list_any};
+ghost use Rattle.board_defs.specs.Pins.{IsCell};
+ghost use Rattle.board_defs.specs.Passes.{add_for_driver, driver_pass, driver_passes, drivers_by_net, is_enabled, useful_controls};
+ghost use Rattle.net_classes.specs.Kept.{AreClasses};
+ghost use Rattle.net_classes.specs.Pairs.{AreByCells};
+ghost use Rattle.driver_passes.specs.Drafts.{IsDraft, setting_of};
+ghost use Rattle.driver_passes.specs.Progress.{IsProgress, IsUsefulDriver, drivers_at};
+
+use crate::draft::{Draft, blank};
+use crate::walk::{first_walk, second_walk};
+use board_defs::{Board, Ctl, Drive, Setting, law};
+use net_classes::Classes;
+use std::alloc::{AllocError, Global};
+
+/// The passes so far.
+#[derive(Debug, Drop)]
+pub struct Progress {
+    pub passes: Vec<Setting>,
+    /// For each useful control, whether some pass holds it.
+    pub held: Vec<bool>,
+}
+
+/// Whether the setting enables the driver.
+pub fn is_enabled(setting: &Setting, d: Drive) -> bool
+    ensures { result ≡ is_enabled setting.now d }
+{
+    match d {
+        Drive::AlwaysOn => true,
+        Drive::OneSided => false,
+        Drive::By(c) => setting.has(c),
+    }
+}
+
+fn is_enabled_by_some(passes: &[Setting], d: Drive) -> bool
+    ensures { result ≡ list_any (λ pass. is_enabled pass d) passes.now }
+{
+    for pass in passes {
+        if is_enabled(pass, d) {
+            return true;
+        }
+    }
+    false
+}
+
+/// Sets each flag that is set in the other list.
+fn join(flags: &mut [bool], others: &[bool])
+    requires { length others.now ≡ length flags.old }
+    ensures { (i : ℕ) → slice_index_or flags.new i false ≡ (slice_index_or others.now i false || slice_index_or flags.old i false) }
+{
+    for (i, other) in others.iter().enumerate() {
+        if *other {
+            flags[i] = true;
+        }
+    }
+}
+
+/// The pass for a tested driver that no pass so far enables.
+fn driver_pass(
+    alloc: Global,
+    board: &Board,
+    classes: &Classes,
+    useful: &[Ctl],
+    earlier: &Progress,
+    d: Drive,
+) -> Result<Draft, AllocError>
+    requires classes { AreClasses board.now classes.now }
+    requires useful { useful.now ≡ useful_controls board.now }
+    requires cells { All (IsCell board.now) useful.now }
+    requires earlier { IsProgress board.now earlier.now }
+    requires driver { IsUsefulDriver board.now d }
+    ensures draft { IfOk result (λ draft. IsDraft board.now draft) }
+    ensures pass { IfOk result (λ draft. setting_of board.now draft ≡ driver_pass board.now useful.now earlier.now.passes.items d) }
+{
+    let mut draft = Draft::new(alloc, board, useful)?;
+    draft.add_driver(board, classes, useful, d);
+    first_walk(&mut draft, board, classes, useful, earlier);
+    second_walk(&mut draft, board, classes, useful);
+    Ok(draft)
+}
+
+impl Progress {
+    fn new(alloc: Global, board: &Board, useful: &[Ctl]) -> Result<Progress, AllocError>
+        requires { useful.now ≡ useful_controls board.now }
+        ensures progress { IfOk result (λ progress. IsProgress board.now progress) }
+        ensures none { IfOk result (λ progress. progress.passes.items ≡ []) }
+    {
+        let held = blank(alloc, useful.len())?;
+        Ok(Progress {
+            passes: Vec::new(alloc),
+            held,
+        })
+    }
+
+    /// One more pass.
+    fn push(
+        &mut self,
+        alloc: Global,
+        board: &Board,
+        useful: &[Ctl],
+        draft: &Draft,
+    ) -> Result<(), AllocError>
+        requires useful { useful.now ≡ useful_controls board.now }
+        requires draft { IsDraft board.now draft.now }
+        requires progress { IsProgress board.now self.old }
+        ensures progress { OnOk result (IsProgress board.now self.new) }
+        ensures pushed { OnOk result (self.new.passes.items ≡ self.old.passes.items ++ setting_of board.now draft.now ∷ []) }
+    {
+        self.passes.push(draft.setting(alloc, board, useful)?)?;
+        join(&mut self.held, &draft.held);
+        Ok(())
+    }
+
+    /// One more pass for the tested driver, where no pass so far enables it.
+    fn add_for_driver(
+        &mut self,
+        alloc: Global,
+        board: &Board,
+        classes: &Classes,
+        useful: &[Ctl],
+        d: Drive,
+    ) -> Result<(), AllocError>
+        requires classes { AreClasses board.now classes.now }
+        requires useful { useful.now ≡ useful_controls board.now }
+        requires cells { All (IsCell board.now) useful.now }
+        requires driver { IsUsefulDriver board.now d }
+        requires progress { IsProgress board.now self.old }
+        ensures progress { OnOk result (IsProgress board.now self.new) }
+        ensures added { OnOk result (self.new.passes.items ≡ add_for_driver board.now useful.now self.old.passes.items d) }
+    {
+        if is_enabled_by_some(&self.passes, d) {
+            return Ok(());
+        }
+        let draft = driver_pass(alloc, board, classes, useful, self, d)?;
+        self.push(alloc, board, useful, &draft)?;
+        Ok(())
+    }
+
+    /// The same for each of these drivers in turn.
+    fn add_for_drivers(
+        &mut self,
+        alloc: Global,
+        board: &Board,
+        classes: &Classes,
+        useful: &[Ctl],
+        drivers: &[Drive],
+    ) -> Result<(), AllocError>
+        requires classes { AreClasses board.now classes.now }
+        requires useful { useful.now ≡ useful_controls board.now }
+        requires cells { All (IsCell board.now) useful.now }
+        requires drivers { All (IsUsefulDriver board.now) drivers.now }
+        requires progress { IsProgress board.now self.old }
+        ensures progress { OnOk result (IsProgress board.now self.new) }
+        ensures added { OnOk result (self.new.passes.items ≡ fold (add_for_driver board.now useful.now) self.old.passes.items drivers.now) }
+    {
+        for d in drivers {
+            self.add_for_driver(alloc, board, classes, useful, *d)?;
+        }
+        Ok(())
+    }
+}
+
+/// How the tested drivers of the net are enabled, in pin order.
+pub fn drivers_of<'a>(board: &Board, classes: &'a Classes, net: usize) -> &'a [Drive]
+    requires classes { AreClasses board.now classes.now }
+    requires net { net < length board.now.nets }
+    ensures drivers { result.now ≡ drivers_at board.now net }
+    ensures cells { AreByCells board.now result.now }
+    ensures useful { All (IsUsefulDriver board.now) result.now }
+{
+    law::passes_kept();
+    law::terms_decided();
+    let _rules = board.raw();
+    classes.tested_drivers(board, net as u32)
+}
+
+/// The passes until each tested driver is enabled.
+pub fn driver_passes(
+    alloc: Global,
+    board: &Board,
+    classes: &Classes,
+    useful: &[Ctl],
+) -> Result<Vec<Setting>, AllocError>
+    requires classes { AreClasses board.now classes.now }
+    requires useful { useful.now ≡ useful_controls board.now }
+    requires cells { All (IsCell board.now) useful.now }
+    ensures passes { IfOk result (λ passes. passes.items ≡ driver_passes board.now useful.now (flat_map (λ drivers. drivers) (drivers_by_net board.now))) }
+    ensures few { IfOk result (λ passes. length passes.items ≤ 65535) }
+{
+    let _rules = board.raw();
+    let mut progress = Progress::new(alloc, board, useful)?;
+    for net in 0..board.raw().nets.as_slice().len() {
+        progress.add_for_drivers(
+            alloc,
+            board,
+            classes,
+            useful,
+            drivers_of(board, classes, net),
+        )?;
+    }
+    Ok(progress.passes)
+}

@@ -1,0 +1,193 @@
+// More passes, until each two paired nets are observed by one pass.
+ghost use Rattle.std.specs.Prelude.{◌≡◌, ◌<◌, ◌≤◌, ◌+◌, ◌*◌, ◌^◌, ◌∷◌, ◌++◌, [], drop, find, fold, length, map, All, IfOk, IfSome, OnOk, Some};
+ghost use Rattle.board_defs.specs.Pins.{IsCell};
+ghost use Rattle.board_defs.specs.Passes.{add_for_nets, drivers_by_net, first_pair, pair_pass, pair_passes, useful_controls};
+ghost use Rattle.net_classes.specs.Kept.{AreClasses};
+ghost use Rattle.net_classes.specs.Pairs.{AreByCells, IsByCell, fit};
+ghost use Rattle.driver_passes.specs.Drafts.{IsDraft, setting_of};
+ghost use Rattle.driver_passes.specs.Pairs.{ArePairing, IsUsefulPair, pairs_from};
+ghost use Rattle.driver_passes.specs.Progress.{IsUsefulDriver, drivers_at};
+
+use crate::draft::Draft;
+use crate::drivers::drivers_of;
+use crate::shown::{PassNumbers, are_shown, note_pass, rows_of};
+use crate::walk::second_walk;
+use board_defs::{Board, Ctl, Drive, Setting};
+use net_classes::Classes;
+use std::alloc::{AllocError, Global};
+
+/// The passes so far, and for each net the numbers of those that show it.
+#[derive(Debug, Drop)]
+pub struct Pairing {
+    pub passes: Vec<Setting>,
+    pub rows: Vec<PassNumbers>,
+}
+
+/// The first of the drivers that one safe setting enables together with `d`.
+fn first_fitting(board: &Board, classes: &Classes, d: Drive, drivers: &[Drive]) -> Option<Drive>
+    requires classes { AreClasses board.now classes.now }
+    requires cell { IsByCell board.now d }
+    requires cells { AreByCells board.now drivers.now }
+    requires useful { All (IsUsefulDriver board.now) drivers.now }
+    ensures found { result ≡ find (fit board.now d) drivers.now }
+    ensures useful { IfSome result (λ e. IsUsefulDriver board.now e) }
+{
+    for e in drivers {
+        if classes.fit(board, d, *e) {
+            return Some(*e);
+        }
+    }
+    None
+}
+
+/// The first drivers of two nets that one safe setting enables.
+fn first_pair(
+    board: &Board,
+    classes: &Classes,
+    drivers: &[Drive],
+    others: &[Drive],
+) -> Option<(Drive, Drive)>
+    requires classes { AreClasses board.now classes.now }
+    requires cells { AreByCells board.now drivers.now }
+    requires other_cells { AreByCells board.now others.now }
+    requires useful { All (IsUsefulDriver board.now) drivers.now }
+    requires others_useful { All (IsUsefulDriver board.now) others.now }
+    ensures found { result ≡ first_pair board.now drivers.now others.now }
+    ensures useful { IfSome result (λ pair. IsUsefulPair board.now pair) }
+{
+    for d in drivers {
+        if let Some(e) = first_fitting(board, classes, *d, others) {
+            return Some((*d, e));
+        }
+    }
+    None
+}
+
+/// The pass for two paired nets that no pass so far observes together.
+fn pair_pass(
+    alloc: Global,
+    board: &Board,
+    classes: &Classes,
+    useful: &[Ctl],
+    pair: (Drive, Drive),
+) -> Result<Draft, AllocError>
+    requires classes { AreClasses board.now classes.now }
+    requires useful { useful.now ≡ useful_controls board.now }
+    requires cells { All (IsCell board.now) useful.now }
+    requires drivers { IsUsefulPair board.now pair }
+    ensures draft { IfOk result (λ draft. IsDraft board.now draft) }
+    ensures pass { IfOk result (λ draft. setting_of board.now draft ≡ pair_pass board.now useful.now pair) }
+{
+    let mut draft = Draft::new(alloc, board, useful)?;
+    draft.add_driver(board, classes, useful, pair.0);
+    draft.add_driver(board, classes, useful, pair.1);
+    second_walk(&mut draft, board, classes, useful);
+    Ok(draft)
+}
+
+impl Pairing {
+    fn push(
+        &mut self,
+        alloc: Global,
+        board: &Board,
+        classes: &Classes,
+        useful: &[Ctl],
+        draft: &Draft,
+    ) -> Result<(), AllocError>
+        requires classes { AreClasses board.now classes.now }
+        requires useful { useful.now ≡ useful_controls board.now }
+        requires draft { IsDraft board.now draft.now }
+        requires pairing { ArePairing board.now self.old }
+        requires few { length self.old.passes.items < 2 ^ 32 }
+        ensures pairing { OnOk result (ArePairing board.now self.new) }
+        ensures pushed { OnOk result (self.new.passes.items ≡ self.old.passes.items ++ setting_of board.now draft.now ∷ []) }
+    {
+        let number = self.passes.len();
+        self.passes.push(draft.setting(alloc, board, useful)?)?;
+        note_pass(&mut self.rows, board, classes, &self.passes, number)?;
+        Ok(())
+    }
+
+    /// One more pass for the two nets, where they are paired and no pass so far shows both.
+    fn add_for_nets(
+        &mut self,
+        alloc: Global,
+        board: &Board,
+        classes: &Classes,
+        useful: &[Ctl],
+        a: usize,
+        b: usize,
+    ) -> Result<(), AllocError>
+        requires classes { AreClasses board.now classes.now }
+        requires useful { useful.now ≡ useful_controls board.now }
+        requires cells { All (IsCell board.now) useful.now }
+        requires first { a < length board.now.nets }
+        requires second { b < length board.now.nets }
+        requires pairing { ArePairing board.now self.old }
+        requires few { length self.old.passes.items < 2 ^ 32 }
+        ensures pairing { OnOk result (ArePairing board.now self.new) }
+        ensures added { OnOk result (self.new.passes.items ≡ add_for_nets board.now useful.now self.old.passes.items (drivers_at board.now a, drivers_at board.now b)) }
+    {
+        if are_shown(&self.rows, board, &self.passes, a, b) {
+            return Ok(());
+        }
+        let drivers = drivers_of(board, classes, a);
+        let others = drivers_of(board, classes, b);
+        if let Some(pair) = first_pair(board, classes, drivers, others) {
+            let draft = pair_pass(alloc, board, classes, useful, pair)?;
+            self.push(alloc, board, classes, useful, &draft)?;
+        }
+        Ok(())
+    }
+
+    /// The same for this net and each later one.
+    fn add_for_later(
+        &mut self,
+        alloc: Global,
+        board: &Board,
+        classes: &Classes,
+        useful: &[Ctl],
+        a: usize,
+    ) -> Result<(), AllocError>
+        requires classes { AreClasses board.now classes.now }
+        requires useful { useful.now ≡ useful_controls board.now }
+        requires cells { All (IsCell board.now) useful.now }
+        requires first { a < length board.now.nets }
+        requires pairing { ArePairing board.now self.old }
+        requires few { length self.old.passes.items ≤ 65535 + 16382 * a }
+        ensures pairing { OnOk result (ArePairing board.now self.new) }
+        ensures added { OnOk result (self.new.passes.items ≡ fold (add_for_nets board.now useful.now) self.old.passes.items (pairs_from board.now a)) }
+        ensures few { OnOk result (length self.new.passes.items ≤ 65535 + 16382 * (a + 1)) }
+    {
+        if drivers_of(board, classes, a).is_empty() {
+            return Ok(());
+        }
+        for b in a + 1..board.raw().nets.as_slice().len() {
+            self.add_for_nets(alloc, board, classes, useful, a, b)?;
+        }
+        Ok(())
+    }
+}
+
+/// The passes, and more until each two paired nets are observed by one pass.
+pub fn pair_passes(
+    alloc: Global,
+    board: &Board,
+    classes: &Classes,
+    useful: &[Ctl],
+    passes: Vec<Setting>,
+) -> Result<Vec<Setting>, AllocError>
+    requires classes { AreClasses board.now classes.now }
+    requires useful { useful.now ≡ useful_controls board.now }
+    requires cells { All (IsCell board.now) useful.now }
+    requires few { length passes.items ≤ 65535 }
+    ensures passes { IfOk result (λ all. all.items ≡ pair_passes board.now useful.now passes.items (drivers_by_net board.now)) }
+    ensures few { IfOk result (λ all. length all.items < 2 ^ 32) }
+{
+    let rows = rows_of(alloc, board, classes, &passes)?;
+    let mut pairing = Pairing { passes, rows };
+    for a in 0..board.raw().nets.as_slice().len() {
+        pairing.add_for_later(alloc, board, classes, useful, a)?;
+    }
+    Ok(pairing.passes)
+}
