@@ -1,20 +1,23 @@
 -- A control fits a setting where none of the nets that it shares is taken.
-use Rattle.std.proofs.Common.{◌≡◌, ◌⊎◌, inl, inr, ℕ, zero, suc, ◌+◌, ◌<◌, ◌==◌, Bool, true, false, not, ◌&&◌, ◌||◌, List, [], ◌∷◌, length, get_or, Some, refl, sym, ◌∙◌, ap, subst, arith, cond}
+use Rattle.std.proofs.Common.{◌≡◌, ◌⊎◌, inl, inr, ℕ, zero, suc, ◌+◌, ◌<◌, ◌==◌, Bool, true, false, not, ◌&&◌, ◌||◌, List, [], ◌∷◌, length, get_or, set, Some, refl, sym, ◌∙◌, ap, subst, arith, cond}
 use Rattle.std.specs.Prelude.{slice_get, Contains}
 use Rattle.std.specs.List.{list_any, list_all}
 use Rattle.std.specs.Bool.{Decides, one_answer}
-use Rattle.std.proofs.lemmas.Bool.{and_from, and_parts, or_left, or_right, or_cases, or_parts, eqb-true, eq-eqb}
-use Rattle.std.proofs.lemmas.Option.{slice_get_within, get_or_from_slice_get}
+use Rattle.std.proofs.lemmas.Bool.{both_ways, or_left, or_right, or_cases, eqb-true, eq-eqb}
+use Rattle.std.proofs.lemmas.List.{set-get_or}
 use Rattle.board_defs.specs.declared.board.Ctl.{Ctl}
 use Rattle.board_defs.specs.declared.board.RawBoard.{RawBoard}
 use Rattle.board_defs.specs.Settings.{same_ctl, holds, inserted}
 use Rattle.board_defs.specs.Decided.{is_safe_alone, share_net, are_together}
 use Rattle.board_defs.specs.Passes.{useful_controls, fits}
-use Rattle.board_defs.specs.Laws.{TermsDecided, PassesAre, DecidesTerms}
+use Rattle.board_defs.specs.Coverage.{IsUseful}
+use Rattle.board_defs.specs.Laws.{PassesAre, DecidesTerms}
 use Rattle.net_classes.specs.Kept.{shared_nets}
 use Rattle.net_classes.specs.Laws.{HaveCommon, NetsAreShared, SaysShared}
-use Rattle.driver_passes.specs.Drafts.{has_number, is_taken}
-use Rattle.driver_passes.proofs.Controls.{same_self}
+use Rattle.driver_passes.specs.declared.draft.Draft.{Draft}
+use Rattle.driver_passes.specs.Drafts.{chosen, has_number, is_taken, setting_of, IsDraft}
+use Rattle.driver_passes.proofs.Controls.{same_equal, same_self}
+use Rattle.driver_passes.proofs.ChosenLemmas.{chosen_set, chosen_holds, chosen_among}
 
 -- numbers in two lists
 has_contains : (xs : List ℕ) (n : ℕ) → has_number xs n ≡ true → Contains xs n
@@ -92,3 +95,40 @@ fits_where board c (d ∷ setting) shared safe others =
     let rest : fits board setting c ≡ not (list_any (is_taken board setting) (shared_nets board c)) = fits_where board c setting shared safe (λ e h. others e (or_right (same_ctl e d) (holds setting e) h)) in
     ap (λ v. v && fits board setting c) (together_is board c d shared safe here.0 here.1) ∙ ap (λ v. not (list_any (has_number (shared_nets board d)) (shared_nets board c)) && v) rest ∙
     sym (ap not (any_or (has_number (shared_nets board d)) (is_taken board setting) (shared_nets board c)) ∙ not_or (list_any (has_number (shared_nets board d)) (shared_nets board c)) (list_any (is_taken board setting) (shared_nets board c)))
+
+any_same : (p q : ℕ → Bool) → ((n : ℕ) → p n ≡ q n) → (xs : List ℕ) → list_any p xs ≡ list_any q xs
+any_same p q h [] = refl
+any_same p q h (x ∷ xs) = ap (λ v. v || list_any p xs) (h x) ∙ ap (λ v. q x || v) (any_same p q h xs)
+
+holds_at : (controls : List Ctl) (i : ℕ) (c : Ctl) → slice_get controls i ≡ Some c → holds controls c ≡ true
+holds_at [] i c e = cc e
+holds_at (d ∷ controls) zero c e = let same : d ≡ c = cc e in or_left (same_ctl c d) (holds controls c) (ap (same_ctl c) same ∙ same_self c)
+holds_at (d ∷ controls) (suc i) c e = or_right (same_ctl c d) (holds controls c) (holds_at controls i c e)
+
+-- a useful control is safe alone
+useful_safe : (board : RawBoard) (c : Ctl) → PassesAre board → DecidesTerms board → holds (useful_controls board) c ≡ true → is_safe_alone board c ≡ true
+useful_safe board c are decides h = let is : IsUseful board c = (are.said.useful c).0 h in (decides.safe c).1 is.0
+
+-- a control that a draft does not hold fits it where none of the nets that it shares is taken
+pub fits_is : (board : RawBoard) (draft : Draft) (place : ℕ) (c : Ctl) (nets : List ℕ) (taken : Bool) → PassesAre board → DecidesTerms board → NetsAreShared → IsDraft board draft → slice_get (useful_controls board) place ≡ Some c → get_or draft.held.items place false ≡ false →
+    nets ≡ shared_nets board c → taken ≡ list_any (λ n. get_or draft.taken.items n false) nets → fits board (setting_of board draft) c ≡ not taken
+fits_is board draft place c nets taken are decides shared is stands free e f =
+    fits_where board c (setting_of board draft) shared (useful_safe board c are decides (holds_at (useful_controls board) place c stands)) others ∙
+    ap not (sym (any_same (λ n. get_or draft.taken.items n false) (is_taken board (setting_of board draft)) is.taken_are (shared_nets board c)) ∙ ap (list_any (λ n. get_or draft.taken.items n false)) (sym e) ∙ sym f)
+  where
+    out : holds (setting_of board draft) c ≡ false
+    out = chosen_holds (useful_controls board) draft.held.items place c are.said.useful_in_order is.held_length stands ∙ free
+
+    others : AreOthers board c (setting_of board draft)
+    others d h = (useful_safe board d are decides (chosen_among (useful_controls board) draft.held.items d h), by_same (same_ctl c d) refl)
+      where
+        by_same : (t : Bool) → same_ctl c d ≡ t → same_ctl c d ≡ false
+        by_same false k = k
+        by_same true k = absurd (both_ways (holds (setting_of board draft) c) out (ap (holds (setting_of board draft)) (same_equal c d k) ∙ h))
+
+-- one that it holds changes nothing
+pub held_nothing : (board : RawBoard) (draft : Draft) (place : ℕ) (c : Ctl) (t : Bool) → PassesAre board → IsDraft board draft → slice_get (useful_controls board) place ≡ Some c → get_or draft.held.items place false ≡ true →
+    setting_of board draft ≡ cond t (inserted c (setting_of board draft)) (setting_of board draft)
+held_nothing board draft place c true are is stands h =
+    ap (chosen (useful_controls board)) (sym (set-get_or draft.held.items place false) ∙ ap (set draft.held.items place) h) ∙ chosen_set (useful_controls board) draft.held.items place c are.said.useful_in_order is.held_length stands
+held_nothing board draft place c false are is stands h = refl

@@ -45,10 +45,11 @@ fn take(taken: &mut [bool], nets: &[u32])
     }
 }
 
-fn is_taken(taken: &[bool], net: u32) -> bool
-    ensures { result ≡ slice_index_or taken.now net false }
+/// Whether the flag at this place is set; none is past the end.
+pub fn is_set(flags: &[bool], place: usize) -> bool
+    ensures { result ≡ slice_index_or flags.now place false }
 {
-    match taken.get(net as usize) {
+    match flags.get(place) {
         None => false,
         Some(flag) => *flag,
     }
@@ -59,7 +60,7 @@ pub fn some_taken(taken: &[bool], nets: &[u32]) -> bool
     ensures { result ≡ list_any (λ n. slice_index_or taken.now n false) nets.now }
 {
     for net in nets {
-        if is_taken(taken, *net) {
+        if is_set(taken, *net as usize) {
             return true;
         }
     }

@@ -7,10 +7,11 @@ ghost use Rattle.net_classes.specs.Kept.{AreClasses};
 ghost use Rattle.driver_passes.specs.Drafts.{IsDraft, setting_of};
 ghost use Rattle.driver_passes.specs.Progress.{IsProgress};
 
-use crate::draft::{Draft, some_taken};
+use crate::draft::{Draft, is_set, some_taken};
 use crate::drivers::Progress;
-use board_defs::{Board, Ctl};
+use board_defs::{Board, Ctl, law};
 use net_classes::Classes;
+use net_classes::law::nets_are_shared;
 
 /// Adds the useful control that stands at this place among them, where it is together with all
 /// controls of the draft.
@@ -22,7 +23,11 @@ fn add_fitting(draft: &mut Draft, board: &Board, classes: &Classes, place: usize
     ensures draft { IsDraft board.now draft.new }
     ensures step { let setting = setting_of board.now draft.old in setting_of board.now draft.new ≡ cond (fits board.now setting c) (inserted c setting) setting }
 {
-    if draft.held[place] {
+    law::passes_kept();
+    law::terms_decided();
+    nets_are_shared();
+    let _rules = board.raw();
+    if is_set(&draft.held, place) {
         return;
     }
     if some_taken(&draft.taken, classes.shared_nets(board, c)) {
@@ -48,7 +53,7 @@ fn add_new(
     ensures draft { IsDraft board.now draft.new }
     ensures step { let setting = setting_of board.now draft.old in setting_of board.now draft.new ≡ cond (is_new earlier.now.passes.items c && fits board.now setting c) (inserted c setting) setting }
 {
-    if !earlier.held[place] {
+    if !is_set(&earlier.held, place) {
         add_fitting(draft, board, classes, place, c);
     }
 }
