@@ -14,7 +14,7 @@ use Rattle.driver_passes.specs.Drafts.{chosen, has_number, is_taken, setting_of,
 use Rattle.driver_passes.proofs.Controls.{any_inserted}
 use Rattle.driver_passes.proofs.ChosenLemmas.{chosen_none, chosen_set}
 
-blank_is : (n i : ℕ) → get_or (replicate n false) i false ≡ false
+pub blank_is : (n i : ℕ) → get_or (replicate n false) i false ≡ false
 blank_is zero i = refl
 blank_is (suc n) zero = refl
 blank_is (suc n) (suc i) = blank_is n i

@@ -2,3 +2,5 @@ pub mod Controls
 pub mod ChosenLemmas
 pub mod DraftLemmas
 pub mod FitLemmas
+pub mod ProgressLemmas
+pub mod NumberLemmas

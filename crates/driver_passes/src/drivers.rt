@@ -107,6 +107,8 @@ impl Progress {
         ensures progress { OnOk result (IsProgress board.now self.new) }
         ensures pushed { OnOk result (self.new.passes.items ≡ self.old.passes.items ++ setting_of board.now draft.now ∷ []) }
     {
+        law::passes_kept();
+        let _rules = board.raw();
         self.passes.push(draft.setting(alloc, board, useful)?)?;
         join(&mut self.held, &draft.held);
         Ok(())

@@ -1,0 +1,123 @@
+-- The passes so far, and the tested drivers of the nets.
+use Rattle.std.proofs.Common.{◌≡◌, ◌⊎◌, inl, inr, ℕ, zero, suc, ◌+◌, ◌<◌, ◌≤◌, Bool, true, false, not, ◌&&◌, ◌||◌, List, [], ◌∷◌, ◌++◌, length, map, get_or, replicate, take, fold, Option, Some, None, refl, sym, ◌∙◌, ap, subst, arith, cond}
+use Rattle.std.specs.Prelude.{slice_get, All, Contains, filter_map, sum_by}
+use Rattle.std.specs.List.{list_any, flat_map, range_with_len, cons_option}
+use Rattle.std.proofs.lemmas.Bool.{and_parts, or_cases}
+use Rattle.std.proofs.lemmas.Option.{slice_get_within, get_or_from_slice_get, slice_get-get_or}
+use Rattle.std.proofs.lemmas.List.{length-replicate, length-append, length-map, take_more, take_all}
+use Rattle.std.proofs.lemmas.List.{get_or-map as item-map}
+use Rattle.std.proofs.lemmas.List.Folds.{list_any-append}
+use Rattle.std.proofs.lemmas.List.Sums.{fold-append, sum_by-cons}
+use Rattle.std.proofs.lemmas.List.Concat.{flat_map-append}
+use Rattle.board_defs.specs.declared.board.Net.{Net}
+use Rattle.board_defs.specs.declared.board.NetPin.{NetPin}
+use Rattle.board_defs.specs.declared.board.Ctl.{Ctl}
+use Rattle.board_defs.specs.declared.board.RawBoard.{RawBoard}
+use Rattle.board_defs.specs.declared.board.Drive.{Drive}
+use Rattle.board_defs.specs.declared.board.Drive.TheVariants.{By}
+use Rattle.board_defs.specs.BoardRules.{Stands}
+use Rattle.board_defs.specs.Pins.{guarded, drive, receives}
+use Rattle.board_defs.specs.Settings.{holds, just, IsSafe}
+use Rattle.board_defs.specs.Decided.{any_other, can_enable, drive_in, place_drive, is_safe_alone, is_tested_driver}
+use Rattle.board_defs.specs.Coverage.{IsUseful}
+use Rattle.board_defs.specs.Passes.{drivers_by_net, tested_drivers, tested_drive, useful_controls, add_for_driver, driver_pass, is_enabled}
+use Rattle.board_defs.specs.Laws.{PassesAre, DecidesTerms, HasTestedDriver}
+use Rattle.driver_passes.specs.Progress.{AreHeld, IsUsefulDriver, drivers_at, is_held}
+use Rattle.driver_passes.specs.Drafts.{chosen}
+use Rattle.driver_passes.proofs.ChosenLemmas.{chosen_holds}
+use Rattle.driver_passes.proofs.DraftLemmas.{blank_is}
+
+pub none_held : (board : RawBoard) (passes : List (List Ctl)) (flags : List Bool) (n : ℕ) → n ≡ length (useful_controls board) → flags ≡ replicate n false → passes ≡ [] → AreHeld board passes flags
+none_held board passes flags n e f g = record {
+  flags_length = ap length f ∙ length-replicate n false ∙ e;
+  flags_are = λ i c h. ap (λ v. get_or v i false) f ∙ blank_is n i ∙ sym (ap (λ v. is_held v c) g);
+}
+
+or_last : (a b : Bool) → (a || b) ≡ (b || (a || false))
+or_last true true = refl
+or_last true false = refl
+or_last false true = refl
+or_last false false = refl
+
+-- one pass more
+pub held_more : (board : RawBoard) (passes after : List (List Ctl)) (flags joined held : List Bool) → PassesAre board → AreHeld board passes flags → length held ≡ length (useful_controls board) → length joined ≡ length flags →
+    ((i : ℕ) → get_or joined i false ≡ (get_or held i false || get_or flags i false)) → after ≡ passes ++ chosen (useful_controls board) held ∷ [] → AreHeld board after joined
+held_more board passes after flags joined held are is size len join e = record {
+  flags_length = len ∙ is.flags_length;
+  flags_are = λ i c h.
+    join i ∙ ap (λ v. v || get_or flags i false) (sym (chosen_holds (useful_controls board) held i c are.said.useful_in_order size h)) ∙ ap (λ v. holds (chosen (useful_controls board) held) c || v) (is.flags_are i c h) ∙
+    or_last (holds (chosen (useful_controls board) held) c) (is_held passes c) ∙ sym (ap (λ v. is_held v c) e ∙ list_any-append (λ pass. holds pass c) passes (chosen (useful_controls board) held ∷ []));
+}
+
+-- the net of a number
+pub net_there : {X : Type 0} (xs : List X) (i : ℕ) → i < length xs → (x : X) × (slice_get xs i ≡ Some x)
+net_there [] i h = absurd (omega arith)
+net_there (x ∷ xs) zero h = (x, refl)
+net_there (x ∷ xs) (suc i) h = net_there xs i (omega arith)
+
+pub drivers_are : (board : RawBoard) (n : ℕ) (net : Net) → slice_get board.nets n ≡ Some net → drivers_at board n ≡ tested_drivers board net
+drivers_are board n net e = item-map (tested_drivers board) board.nets n net [] (slice_get_within board.nets n net e) ∙ ap (tested_drivers board) (get_or_from_slice_get board.nets n net net e)
+
+-- the control of a tested driver is useful
+pub tested_useful : (board : RawBoard) (n : ℕ) (net : Net) (drivers : List Drive) → PassesAre board → DecidesTerms board → slice_get board.nets n ≡ Some net → drivers ≡ tested_drivers board net → All (IsUsefulDriver board) drivers
+tested_useful board n net drivers are decides e f k d less c by = (are.said.useful c).1 (useful (tested.0 here))
+  where
+    tested : (Contains (tested_drivers board net) (get_or drivers k d) → HasTestedDriver board n net (get_or drivers k d)) × (HasTestedDriver board n net (get_or drivers k d) → Contains (tested_drivers board net) (get_or drivers k d))
+    tested = are.said.drivers n net (get_or drivers k d) e
+
+    here : Contains (tested_drivers board net) (get_or drivers k d)
+    here = let P : List Drive → Type 0 = λ v. Contains v (get_or drivers k d) in subst P f (k, less, item drivers k d less)
+      where
+        item : (xs : List Drive) (i : ℕ) (x : Drive) → i < length xs → get_or xs i (get_or xs i x) ≡ get_or xs i x
+        item [] i x h = absurd (omega arith)
+        item (y ∷ xs) zero x h = refl
+        item (y ∷ xs) (suc i) x h = item xs i x (omega arith)
+
+    useful : HasTestedDriver board n net (get_or drivers k d) → IsUseful board c
+    useful has = (safe, n, net, has.place, has.pin, has.stands.on_board, has.stands.in_net, has.drives ∙ ap Some by, has.tested)
+      where
+        tests : is_tested_driver board net has.place ≡ true
+        tests = (decides.tested_driver n net has.place e).1 has.tested
+
+        enables : can_enable board (place_drive board net has.place) ≡ true
+        enables = (and_parts (not (guarded board net)) (can_enable board (place_drive board net has.place)) (and_parts (not (guarded board net) && can_enable board (place_drive board net has.place)) (any_other (receives board) has.place net.pins) tests).0).1
+
+        safe : IsSafe board (just c)
+        safe = (decides.safe c).0 (sym (ap (can_enable board) (ap (drive_in board net) has.stands.in_net ∙ has.drives ∙ ap Some by)) ∙ enables)
+
+pub passes_whole : (board : RawBoard) (useful : List Ctl) (passes : List (List Ctl)) (n : ℕ) → length board.nets ≤ n → passes ≡ fold (add_for_driver board useful) [] (flat_map (λ drivers. drivers) (take n (drivers_by_net board))) → passes ≡ fold (add_for_driver board useful) [] (flat_map (λ drivers. drivers) (drivers_by_net board))
+passes_whole board useful passes n most e =
+    let all : length (drivers_by_net board) ≤ n = omega (arith, length-map board.nets (tested_drivers board)) in
+    e ∙ ap (λ v. fold (add_for_driver board useful) [] (flat_map (λ (drivers : List Drive). drivers) v)) (take_all n (drivers_by_net board) all)
+
+-- each driver gives at most one pass
+length_end : {X : Type 0} (xs : List X) (x : X) → length (xs ++ x ∷ []) ≡ length xs + 1
+length_end [] x = refl
+length_end (y ∷ xs) x = let e : length (xs ++ x ∷ []) ≡ length xs + 1 = length_end xs x in omega (arith, e)
+
+one_more : (board : RawBoard) (useful : List Ctl) (passes : List (List Ctl)) (d : Drive) → length (add_for_driver board useful passes d) ≤ length passes + 1
+one_more board useful passes d = by_test (list_any (λ pass. is_enabled pass d) passes)
+  where
+    by_test : (t : Bool) → length (cond t passes (passes ++ driver_pass board useful passes d ∷ [])) ≤ length passes + 1
+    by_test true = omega arith
+    by_test false = omega (arith, length_end passes (driver_pass board useful passes d))
+
+fold_few : (board : RawBoard) (useful : List Ctl) (drivers : List Drive) (passes : List (List Ctl)) → length (fold (add_for_driver board useful) passes drivers) ≤ length passes + length drivers
+fold_few board useful [] passes = omega arith
+fold_few board useful (d ∷ drivers) passes = omega (arith, one_more board useful passes d, fold_few board useful drivers (add_for_driver board useful passes d))
+
+filter_few : (f : ℕ → Option Drive) (a n : ℕ) → length (filter_map f (range_with_len a n)) ≤ n
+filter_few f a zero = omega arith
+filter_few f a (suc n) = by_item (f a) (filter_few f (a + 1) n)
+  where
+    by_item : (o : Option Drive) → length (filter_map f (range_with_len (a + 1) n)) ≤ n → length (cons_option o (filter_map f (range_with_len (a + 1) n))) ≤ suc n
+    by_item None h = omega arith
+    by_item (Some d) h = omega arith
+
+drivers_few : (board : RawBoard) (nets : List Net) → length (flat_map (λ drivers. drivers) (map (tested_drivers board) nets)) ≤ sum_by (λ net. length net.pins) nets
+drivers_few board [] = omega arith
+drivers_few board (net ∷ nets) =
+    omega (arith, length-append (tested_drivers board net) (flat_map (λ (drivers : List Drive). drivers) (map (tested_drivers board) nets)), filter_few (tested_drive board net) 0 (length net.pins), sum_by-cons (λ (n : Net). length n.pins) net nets, drivers_few board nets)
+
+pub passes_few : (board : RawBoard) (useful : List Ctl) (passes : List (List Ctl)) → sum_by (λ net. length net.pins) board.nets ≤ 65535 → passes ≡ fold (add_for_driver board useful) [] (flat_map (λ drivers. drivers) (drivers_by_net board)) → length passes ≤ 65535
+passes_few board useful passes pins e = omega (arith, ap length e, fold_few board useful (flat_map (λ (drivers : List Drive). drivers) (drivers_by_net board)) [], drivers_few board board.nets)
