@@ -4,3 +4,4 @@ pub mod DraftLemmas
 pub mod FitLemmas
 pub mod ProgressLemmas
 pub mod NumberLemmas
+pub mod ShownLemmas
