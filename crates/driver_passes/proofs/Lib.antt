@@ -5,3 +5,4 @@ pub mod FitLemmas
 pub mod ProgressLemmas
 pub mod NumberLemmas
 pub mod ShownLemmas
+pub mod PairLemmas

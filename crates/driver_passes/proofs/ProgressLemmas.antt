@@ -91,7 +91,7 @@ passes_whole board useful passes n most e =
     e ∙ ap (λ v. fold (add_for_driver board useful) [] (flat_map (λ (drivers : List Drive). drivers) v)) (take_all n (drivers_by_net board) all)
 
 -- each driver gives at most one pass
-length_end : {X : Type 0} (xs : List X) (x : X) → length (xs ++ x ∷ []) ≡ length xs + 1
+pub length_end : {X : Type 0} (xs : List X) (x : X) → length (xs ++ x ∷ []) ≡ length xs + 1
 length_end [] x = refl
 length_end (y ∷ xs) x = let e : length (xs ++ x ∷ []) ≡ length xs + 1 = length_end xs x in omega (arith, e)
 

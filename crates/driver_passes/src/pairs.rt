@@ -167,6 +167,28 @@ impl Pairing {
         }
         Ok(())
     }
+
+    /// The same for each two nets.
+    fn add_for_all(
+        &mut self,
+        alloc: Global,
+        board: &Board,
+        classes: &Classes,
+        useful: &[Ctl],
+    ) -> Result<(), AllocError>
+        requires classes { AreClasses board.now classes.now }
+        requires useful { useful.now ≡ useful_controls board.now }
+        requires cells { All (IsCell board.now) useful.now }
+        requires pairing { ArePairing board.now self.old }
+        requires few { length self.old.passes.items ≤ 65535 }
+        ensures added { OnOk result (self.new.passes.items ≡ pair_passes board.now useful.now self.old.passes.items (drivers_by_net board.now)) }
+        ensures few { OnOk result (length self.new.passes.items < 2 ^ 32) }
+    {
+        for a in 0..board.raw().nets.as_slice().len() {
+            self.add_for_later(alloc, board, classes, useful, a)?;
+        }
+        Ok(())
+    }
 }
 
 /// The passes, and more until each two paired nets are observed by one pass.
@@ -186,8 +208,6 @@ pub fn pair_passes(
 {
     let rows = rows_of(alloc, board, classes, &passes)?;
     let mut pairing = Pairing { passes, rows };
-    for a in 0..board.raw().nets.as_slice().len() {
-        pairing.add_for_later(alloc, board, classes, useful, a)?;
-    }
+    pairing.add_for_all(alloc, board, classes, useful)?;
     Ok(pairing.passes)
 }
