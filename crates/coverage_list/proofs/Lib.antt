@@ -1,3 +1,4 @@
 mod PutLemmas
 mod CoverLemmas
 mod NetLemmas
+mod Samples

@@ -5,3 +5,6 @@ mod lines;
 mod listing;
 
 pub use listing::write_cover;
+
+#[cfg(test)]
+mod tests;
