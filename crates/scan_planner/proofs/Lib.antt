@@ -8,6 +8,8 @@ pub mod ControlLemmas
 pub mod RowLemmas
 pub mod FillLemmas
 pub mod BuildLemmas
+pub mod QuietLemmas
+pub mod EntryLemmas
 pub mod CodeLemmas
 pub mod TableLemmas
 pub mod PlanLemmas

@@ -5,3 +5,5 @@ pub mod Building
 pub mod Codes
 pub mod Laid
 pub mod Laws
+pub mod QuietBits
+pub mod Entries

@@ -4,13 +4,14 @@ ghost use Rattle.board_defs.specs.declared.board.Ctl.{Ctl as ControlRecord};
 ghost use Rattle.board_defs.specs.Pins.{device_at, cell_count, data_bits};
 ghost use Rattle.board_defs.specs.Settings.{holds};
 ghost use Rattle.scan_planner.specs.Building.{AreFirsts, drivers_of, readers_of, pass_cells_of};
+ghost use Rattle.scan_planner.specs.Entries.{ArePartTables};
 ghost use Rattle.scan_planner.specs.Plans.{ArePlannable, IsPlanOf};
 
 use crate::codes::{number_nets, seen_nets};
+use crate::entries::{PartTables, part_tables};
 use crate::instructions::{Instruction, instruction_rows};
 use crate::nets::{NetDriver, drivers_of, readers_of};
 use crate::passes::{drivers_on, held_cells};
-use crate::positions::first_positions;
 use crate::quiet::quiet_row;
 use crate::tables::{PassCells, PlanTables, ReaderCell};
 use board_defs::{Board, Items, Net, Setting};
@@ -21,16 +22,16 @@ use std::alloc::{AllocError, Global};
 fn all_drivers(
     alloc: Global,
     board: &Board,
-    firsts: &[u32],
+    parts: &PartTables,
     nets: &[Net],
 ) -> Result<Items<Items<NetDriver>>, AllocError>
-    requires firsts { AreFirsts board.now.chain firsts.now }
+    requires parts { ArePartTables board.now parts.now }
     requires few { All (λ net. length net.pins ≤ 65535) nets.now }
     ensures { IfOk result (λ drivers. drivers ≡ map (drivers_of board.now) nets.now) }
 {
     let mut drivers = Vec::new(alloc);
     for net in nets {
-        drivers.push(drivers_of(alloc, board, firsts, net)?)?;
+        drivers.push(drivers_of(alloc, board, parts, net)?)?;
     }
     Ok(Items::of(drivers))
 }
@@ -39,16 +40,16 @@ fn all_drivers(
 fn all_readers(
     alloc: Global,
     board: &Board,
-    firsts: &[u32],
+    parts: &PartTables,
     nets: &[Net],
 ) -> Result<Items<Items<ReaderCell>>, AllocError>
-    requires firsts { AreFirsts board.now.chain firsts.now }
+    requires parts { ArePartTables board.now parts.now }
     requires few { All (λ net. length net.pins ≤ 65535) nets.now }
     ensures { IfOk result (λ readers. readers ≡ map (λ net. readers_of board.now net.pins) nets.now) }
 {
     let mut readers = Vec::new(alloc);
     for net in nets {
-        readers.push(readers_of(alloc, board, firsts, net.pins.as_slice())?)?;
+        readers.push(readers_of(alloc, board, parts, net.pins.as_slice())?)?;
     }
     Ok(Items::of(readers))
 }
@@ -105,14 +106,14 @@ struct NetCells {
     readers: Items<Items<ReaderCell>>,
 }
 
-fn net_cells(alloc: Global, board: &Board, firsts: &[u32]) -> Result<NetCells, AllocError>
-    requires { AreFirsts board.now.chain firsts.now }
+fn net_cells(alloc: Global, board: &Board, parts: &PartTables) -> Result<NetCells, AllocError>
+    requires { ArePartTables board.now parts.now }
     ensures drivers { IfOk result (λ cells. cells.drivers ≡ map (drivers_of board.now) board.now.nets) }
     ensures readers { IfOk result (λ cells. cells.readers ≡ map (λ net. readers_of board.now net.pins) board.now.nets) }
 {
     let raw = board.raw();
-    let drivers = all_drivers(alloc, board, firsts, raw.nets.as_slice())?;
-    let readers = all_readers(alloc, board, firsts, raw.nets.as_slice())?;
+    let drivers = all_drivers(alloc, board, parts, raw.nets.as_slice())?;
+    let readers = all_readers(alloc, board, parts, raw.nets.as_slice())?;
     Ok(NetCells { drivers, readers })
 }
 
@@ -128,15 +129,16 @@ pub fn tables_of(
     ensures width { IfOk result (λ tables. tables.width ≤ 14) }
 {
     let _ = board.raw();
-    let firsts = first_positions(alloc, board)?;
+    let parts = part_tables(alloc, board)?;
+    let firsts = parts.firsts.as_slice();
     let quiet = quiet_row(alloc, board)?;
-    let nets = net_cells(alloc, board, &firsts)?;
+    let nets = net_cells(alloc, board, &parts)?;
     let drivers = nets.drivers.as_slice();
     let readers = nets.readers.as_slice();
     let cells = all_cells(
         alloc,
         board,
-        &firsts,
+        firsts,
         &quiet,
         drivers,
         readers,

@@ -3,7 +3,9 @@
 
 mod build;
 mod codes;
+mod entries;
 mod fill;
+mod guards;
 mod instructions;
 pub mod law;
 mod nets;

@@ -1,12 +1,15 @@
 // The cells that drive and read each net.
-ghost use Rattle.std.specs.Prelude.{◌≡◌, ◌+◌, ◌<◌, ◌≤◌, ◌++◌, [], length, map, filter, option_map, slice_get, Some, IfOk, OnOk, All};
-ghost use Rattle.board_defs.specs.DeviceRules.{reads_bit};
-ghost use Rattle.board_defs.specs.Pins.{device_at, cell_count};
+ghost use Rattle.std.specs.Prelude.{◌≡◌, ◌<◌, ◌≤◌, ◌++◌, length, map, filter, find, Some, IfOk, OnOk, All};
+ghost use Rattle.board_defs.specs.DeviceRules.{is_driving, is_receiving};
+ghost use Rattle.board_defs.specs.Pins.{device_at, bit_at, entry_at, cell_count};
 ghost use Rattle.scan_planner.specs.Building.{AreFirsts, optional, net_driver, driver_of, drivers_of_pins, drivers_of, reader_of, readers_at, readers_of};
+ghost use Rattle.scan_planner.specs.Entries.{ArePartTables, receives_by};
 
+use crate::entries::{PartTables, entries_at};
+use crate::guards::is_guarded;
 use crate::positions::cell_position;
 use crate::tables::ReaderCell;
-use board_defs::{Board, Cell, Ctl, Items, Net, NetPin, PinAt};
+use board_defs::{Board, Cell, Ctl, Items, Net, NetPin, PinAt, RawBoard};
 use std::alloc::{AllocError, Global};
 
 /// A driver of a net: the place of its pin in the net, its control, if it has one, and the position of its cell.
@@ -33,15 +36,31 @@ fn net_driver(board: &Board, firsts: &[u32], part: u32, place: u32, cell: Cell) 
     }
 }
 
+fn find_driving(entries: &[Cell]) -> Option<Cell>
+    ensures { result ≡ find (λ cell. is_driving cell.role) entries.now }
+{
+    entries.iter().copied().find(|cell| cell.role.is_driving())
+}
+
+// The driving entry of a port bit of a part.
+fn driving_entry(board: &Board, parts: &PartTables, at: PinAt) -> Option<Cell>
+    requires { ArePartTables board.now parts.now }
+    ensures { result ≡ entry_at board.now at }
+{
+    let _ = board.raw();
+    find_driving(entries_at(parts.entries.as_slice(), at))
+}
+
 // The driver that a pin is, where it is one.
-fn driver_of(board: &Board, firsts: &[u32], place: u32, at: Option<PinAt>) -> Option<NetDriver>
-    requires firsts { AreFirsts board.now.chain firsts.now }
+fn driver_of(board: &Board, parts: &PartTables, place: u32, at: Option<PinAt>) -> Option<NetDriver>
+    requires parts { ArePartTables board.now parts.now }
     ensures { result ≡ driver_of board.now place at }
 {
-    let raw = board.raw();
+    let _ = board.raw();
+    let firsts = parts.firsts.as_slice();
     match at {
         None => None,
-        Some(at) => match raw.driving_entry(at) {
+        Some(at) => match driving_entry(board, parts, at) {
             None => None,
             Some(cell) => Some(net_driver(board, firsts, at.part, place, cell)),
         },
@@ -61,10 +80,10 @@ fn push_some(drivers: &mut Vec<NetDriver>, driver: Option<NetDriver>) -> Result<
 fn drivers_of_pins(
     alloc: Global,
     board: &Board,
-    firsts: &[u32],
+    parts: &PartTables,
     pins: &[NetPin],
 ) -> Result<Items<NetDriver>, AllocError>
-    requires firsts { AreFirsts board.now.chain firsts.now }
+    requires parts { ArePartTables board.now parts.now }
     requires few { length pins.now ≤ 65535 }
     ensures { IfOk result (λ drivers. drivers ≡ drivers_of_pins board.now pins.now) }
 {
@@ -72,7 +91,7 @@ fn drivers_of_pins(
     for place in 0..pins.len() {
         push_some(
             &mut drivers,
-            driver_of(board, firsts, place as u32, pins[place].at),
+            driver_of(board, parts, place as u32, pins[place].at),
         )?;
     }
     Ok(Items::of(drivers))
@@ -82,64 +101,86 @@ fn drivers_of_pins(
 pub fn drivers_of(
     alloc: Global,
     board: &Board,
-    firsts: &[u32],
+    parts: &PartTables,
     net: &Net,
 ) -> Result<Items<NetDriver>, AllocError>
-    requires firsts { AreFirsts board.now.chain firsts.now }
+    requires parts { ArePartTables board.now parts.now }
     requires few { length net.now.pins ≤ 65535 }
     ensures { IfOk result (λ drivers. drivers ≡ drivers_of board.now net.now) }
 {
-    if board.raw().is_guarded(net) {
+    if is_guarded(board, parts, net) {
         return Ok(Items::of(Vec::new(alloc)));
     }
-    drivers_of_pins(alloc, board, firsts, net.pins.as_slice())
+    drivers_of_pins(alloc, board, parts, net.pins.as_slice())
 }
 
-// Adds the compared cells among these entries of a part.
+// Adds the compared cells among these entries on a port bit.
 fn push_readers(
     board: &Board,
     firsts: &[u32],
+    part: u32,
     place: u32,
-    at: PinAt,
-    cells: &[Cell],
+    entries: &[Cell],
     readers: &mut Vec<ReaderCell>,
 ) -> Result<(), AllocError>
     requires firsts { AreFirsts board.now.chain firsts.now }
-    requires cells { All (λ cell. cell.num < cell_count (device_at board.now at.part)) cells.now }
-    ensures { OnOk result (readers.new.items ≡ readers.old.items ++ map (reader_of board.now at.part place) (filter (reads_bit at.bit) cells.now)) }
+    requires entries { All (λ cell. cell.num < cell_count (device_at board.now part)) entries.now }
+    ensures { OnOk result (readers.new.items ≡ readers.old.items ++ map (reader_of board.now part place) (filter (λ cell. is_receiving cell.role) entries.now)) }
 {
-    for cell in cells {
-        if cell.is_on(at.bit) && cell.role.is_receiving() {
-            let position = cell_position(board, firsts, at.part, cell.num);
+    for cell in entries {
+        if cell.role.is_receiving() {
+            let position = cell_position(board, firsts, part, cell.num);
             readers.push(ReaderCell { place, position })?;
         }
     }
     Ok(())
 }
 
+// Whether the part may receive from the port bit.
+fn may_receive(raw: &RawBoard, at: PinAt) -> bool
+    ensures { result ≡ receives_by (bit_at raw.now at) }
+{
+    match raw.port_bit(at) {
+        None => false,
+        Some(bit) => bit.mode.may_receive(),
+    }
+}
+
+// Adds the compared cells of a pin there, where it is a receiver.
+fn push_at(
+    board: &Board,
+    parts: &PartTables,
+    place: u32,
+    at: PinAt,
+    readers: &mut Vec<ReaderCell>,
+) -> Result<(), AllocError>
+    requires parts { ArePartTables board.now parts.now }
+    ensures { OnOk result (readers.new.items ≡ readers.old.items ++ readers_at board.now place (Some at)) }
+{
+    let raw = board.raw();
+    let firsts = parts.firsts.as_slice();
+    let entries = entries_at(parts.entries.as_slice(), at);
+    if may_receive(raw, at) {
+        push_readers(board, firsts, at.part, place, entries, readers)
+    } else {
+        Ok(())
+    }
+}
+
 // Adds the compared cells of a pin, where it is a receiver.
 fn push_pin(
     board: &Board,
-    firsts: &[u32],
+    parts: &PartTables,
     place: u32,
     pin: &NetPin,
     readers: &mut Vec<ReaderCell>,
 ) -> Result<(), AllocError>
-    requires firsts { AreFirsts board.now.chain firsts.now }
+    requires parts { ArePartTables board.now parts.now }
     ensures { OnOk result (readers.new.items ≡ readers.old.items ++ readers_at board.now place pin.now.at) }
 {
-    let raw = board.raw();
-    if !raw.receives(pin) {
-        return Ok(());
-    }
     match pin.at {
         None => Ok(()),
-        Some(at) => match raw.device(at.part) {
-            None => Ok(()),
-            Some(device) => {
-                push_readers(board, firsts, place, at, device.cells.as_slice(), readers)
-            }
-        },
+        Some(at) => push_at(board, parts, place, at, readers),
     }
 }
 
@@ -147,16 +188,16 @@ fn push_pin(
 pub fn readers_of(
     alloc: Global,
     board: &Board,
-    firsts: &[u32],
+    parts: &PartTables,
     pins: &[NetPin],
 ) -> Result<Items<ReaderCell>, AllocError>
-    requires firsts { AreFirsts board.now.chain firsts.now }
+    requires parts { ArePartTables board.now parts.now }
     requires few { length pins.now ≤ 65535 }
     ensures { IfOk result (λ readers. readers ≡ readers_of board.now pins.now) }
 {
     let mut readers = Vec::new(alloc);
     for place in 0..pins.len() {
-        push_pin(board, firsts, place as u32, &pins[place], &mut readers)?;
+        push_pin(board, parts, place as u32, &pins[place], &mut readers)?;
     }
     Ok(Items::of(readers))
 }

@@ -1,80 +1,46 @@
 // The quiet row.
-ghost use Rattle.std.specs.Prelude.{◌≡◌, ◌+◌, ◌<◌, ◌≤◌, ◌++◌, false, length, find, option_map, unwrap_or, IfOk, OnOk};
-ghost use Rattle.std.specs.List.{list_any};
-ghost use Rattle.board_defs.specs.DeviceRules.{is_control_of, is_writing, is_reading, disable_of, writing_entry, reading_entry};
+ghost use Rattle.std.specs.Prelude.{◌≡◌, ◌≤◌, ◌++◌, false, length, option_map, unwrap_or, IfOk, OnOk};
+ghost use Rattle.board_defs.specs.DeviceRules.{is_reading, is_writing, IsDevice};
 ghost use Rattle.board_defs.specs.Pins.{is_pinned};
 ghost use Rattle.tap_defs.specs.ShiftRegister.{filled};
-ghost use Rattle.tap_defs.specs.Quiet.{controls_driver, safe_bit};
 ghost use Rattle.scan_planner.specs.Laid.{laid, part_laid, quiet_bits};
+ghost use Rattle.scan_planner.specs.QuietBits.{safe_value_in, is_driver, disable_value_in, set_some, set_by, quiet_values};
 
-use board_defs::{Board, Cell, Control, Part, PartKind, PinAt, RawBoard, RawDevice};
+use board_defs::{Board, Cell, Part, PartKind, PinAt, RawBoard, RawDevice};
 use std::alloc::{AllocError, Global};
 
-fn is_control_of(cell: u32, control: Option<Control>) -> bool
-    ensures { result ≡ is_control_of cell control }
+/// A bit of a cell of a device.
+#[derive(Clone, Copy, Debug, PartialEq, Eq)]
+pub struct CellBit {
+    pub cell: u32,
+    pub bit: bool,
+}
+
+// The safe value of a reading entry, X as 0.
+fn reading_value(entry: Cell) -> Option<CellBit>
+    ensures { result ≡ safe_value_in is_reading entry }
 {
-    match control {
-        None => false,
-        Some(control) => control.cell == cell,
+    if entry.role.is_reading() {
+        Some(CellBit {
+            cell: entry.num,
+            bit: entry.safe.bit(),
+        })
+    } else {
+        None
     }
 }
 
-fn entry_by(device: &RawDevice, cell: u32) -> Option<Cell>
-    ensures { result ≡ find (λ entry. is_control_of cell entry.ctl) device.now.cells }
+// The safe value of an entry that the update latch is for, X as 0.
+fn writing_value(entry: Cell) -> Option<CellBit>
+    ensures { result ≡ safe_value_in is_writing entry }
 {
-    device
-        .cells
-        .as_slice()
-        .iter()
-        .copied()
-        .find(|entry| is_control_of(cell, entry.ctl))
-}
-
-// The value at which a cell disables what it controls, or 0 where it controls nothing.
-fn disable_bit(device: &RawDevice, cell: u32) -> bool
-    ensures { result ≡ unwrap_or (disable_of device.now cell) false }
-{
-    match entry_by(device, cell) {
-        None => false,
-        Some(entry) => match entry.ctl {
-            None => false,
-            Some(control) => control.disable,
-        },
-    }
-}
-
-fn writing_entry(device: &RawDevice, cell: u32) -> Option<Cell>
-    ensures { result ≡ writing_entry device.now cell }
-{
-    device
-        .cells
-        .as_slice()
-        .iter()
-        .copied()
-        .find(|entry| entry.num == cell && entry.role.is_writing())
-}
-
-fn reading_entry(device: &RawDevice, cell: u32) -> Option<Cell>
-    ensures { result ≡ reading_entry device.now cell }
-{
-    device
-        .cells
-        .as_slice()
-        .iter()
-        .copied()
-        .find(|entry| entry.num == cell && entry.role.is_reading())
-}
-
-// The safe value of a cell, X as 0.
-fn safe_bit(device: &RawDevice, cell: u32) -> bool
-    ensures { result ≡ unwrap_or (safe_bit device.now cell) false }
-{
-    match writing_entry(device, cell) {
-        Some(entry) => entry.safe.bit(),
-        None => match reading_entry(device, cell) {
-            Some(entry) => entry.safe.bit(),
-            None => false,
-        },
+    if entry.role.is_writing() {
+        Some(CellBit {
+            cell: entry.num,
+            bit: entry.safe.bit(),
+        })
+    } else {
+        None
     }
 }
 
@@ -87,49 +53,95 @@ fn is_pinned(raw: &RawBoard, part: u32, bit: Option<u32>) -> bool
     }
 }
 
-// Whether the entry is that of a driver which this cell controls.
-fn controls_driver(raw: &RawBoard, part: u32, cell: u32, entry: &Cell) -> bool
-    ensures { result ≡ controls_driver raw.now part cell entry.now }
+fn is_driver(raw: &RawBoard, part: u32, entry: Cell) -> bool
+    ensures { result ≡ is_driver raw.now part entry }
 {
-    is_control_of(cell, entry.ctl) && entry.role.is_driving() && is_pinned(raw, part, entry.bit)
+    entry.role.is_driving() && is_pinned(raw, part, entry.bit)
 }
 
-fn controls_any(raw: &RawBoard, part: u32, device: &RawDevice, cell: u32) -> bool
-    ensures { result ≡ list_any (controls_driver raw.now part cell) device.now.cells }
+// The disable value that the entry of a driver gives its control.
+fn disable_value(raw: &RawBoard, part: u32, entry: Cell) -> Option<CellBit>
+    ensures { result ≡ disable_value_in raw.now part entry }
 {
-    device
-        .cells
-        .as_slice()
-        .iter()
-        .any(|entry| controls_driver(raw, part, cell, entry))
-}
-
-// The bit of a cell: the disable value where it controls a driver, else the safe value.
-fn quiet_bit(raw: &RawBoard, part: u32, device: &RawDevice, cell: u32) -> bool
-    ensures { result ≡ quiet_bits raw.now part device.now cell }
-{
-    if controls_any(raw, part, device, cell) {
-        disable_bit(device, cell)
+    if is_driver(raw, part, entry) {
+        entry.ctl.map(|control| CellBit {
+            cell: control.cell,
+            bit: control.disable,
+        })
     } else {
-        safe_bit(device, cell)
+        None
     }
 }
 
+fn set_some(row: &mut [bool], value: Option<CellBit>)
+    ensures { row.new ≡ set_some row.old value }
+{
+    if let Some(value) = value {
+        let cell = value.cell as usize;
+        if cell < row.len() {
+            row[cell] = value.bit;
+        }
+    }
+}
+
+fn set_reading(entries: &[Cell], row: &mut [bool])
+    ensures { row.new ≡ set_by (safe_value_in is_reading) row.old entries.now }
+{
+    for entry in entries {
+        set_some(row, reading_value(*entry));
+    }
+}
+
+fn set_writing(entries: &[Cell], row: &mut [bool])
+    ensures { row.new ≡ set_by (safe_value_in is_writing) row.old entries.now }
+{
+    for entry in entries {
+        set_some(row, writing_value(*entry));
+    }
+}
+
+fn set_disabled(raw: &RawBoard, part: u32, entries: &[Cell], row: &mut [bool])
+    ensures { row.new ≡ set_by (disable_value_in raw.now part) row.old entries.now }
+{
+    for entry in entries {
+        set_some(row, disable_value(raw, part, *entry));
+    }
+}
+
+// The bits of a device, in three walks over its entries.
+fn device_row(
+    alloc: Global,
+    raw: &RawBoard,
+    part: u32,
+    device: &RawDevice,
+) -> Result<Vec<bool>, AllocError>
+    ensures { IfOk result (λ row. row.items ≡ quiet_values raw.now part device.now) }
+{
+    let entries = device.cells.as_slice();
+    let mut row = vec![in alloc; false; device.boundary as usize]?;
+    set_reading(entries, &mut row);
+    set_writing(entries, &mut row);
+    set_disabled(raw, part, entries, &mut row);
+    Ok(row)
+}
+
 fn push_device(
+    alloc: Global,
     raw: &RawBoard,
     part: u32,
     device: &RawDevice,
     quiet: &mut Vec<bool>,
 ) -> Result<(), AllocError>
+    requires { IsDevice device.now }
     ensures { OnOk result (quiet.new.items ≡ quiet.old.items ++ filled device.now.boundary (λ cell. quiet_bits raw.now part device.now cell)) }
 {
-    for cell in 0..device.boundary {
-        quiet.push(quiet_bit(raw, part, device, cell))?;
-    }
+    let row = device_row(alloc, raw, part, device)?;
+    quiet.extend_from_slice(&row)?;
     Ok(())
 }
 
 fn push_part(
+    alloc: Global,
     raw: &RawBoard,
     part: u32,
     kind: &PartKind,
@@ -138,7 +150,7 @@ fn push_part(
     ensures { OnOk result (quiet.new.items ≡ quiet.old.items ++ part_laid (quiet_bits raw.now) part kind.now) }
 {
     match kind {
-        PartKind::Described(device) => push_device(raw, part, device.raw(), quiet),
+        PartKind::Described(device) => push_device(alloc, raw, part, device.raw(), quiet),
         PartKind::Bypass(_) => {
             quiet.push(false)?;
             Ok(())
@@ -153,7 +165,7 @@ fn row_of(alloc: Global, raw: &RawBoard, chain: &[Part]) -> Result<Vec<bool>, Al
 {
     let mut quiet = Vec::new(alloc);
     for part in (0..chain.len()).rev() {
-        push_part(raw, part as u32, &chain[part].kind, &mut quiet)?;
+        push_part(alloc, raw, part as u32, &chain[part].kind, &mut quiet)?;
     }
     Ok(quiet)
 }

@@ -11,7 +11,7 @@ use Rattle.scan_planner.proofs.build.tables_of.Goals as goal
 
 pub all_cells-requires-clause-quiet : goal.all_cells-requires-clause-quiet
 all_cells-requires-clause-quiet c =
-    ap (λ (l : List Bool). length l) (c.deref-3.ensures.value ∙ c.in_ok-quiet.ensures) ∙ length-laid (quiet_bits c.args.board.now) c.args.board.now
+    ap (λ (l : List Bool). length l) (c.deref.ensures.value ∙ c.in_ok-quiet.ensures) ∙ length-laid (quiet_bits c.args.board.now) c.args.board.now
 
 pub all_cells-requires-clause-cells : goal.all_cells-requires-clause-cells
 all_cells-requires-clause-cells c =
@@ -27,15 +27,15 @@ returns-clause-plan c =
     let are_seen = seen_same c.in_ok-seen.ensures c.as_slice-2.ensures c.as_slice-drivers.ensures c.as_slice-readers.ensures in
     is_plan board c.raw.ensures.rules _ c.requires.plannable (c.of.ensures ∙ c.in_ok-quiet.ensures) drivers c.in_ok-nets.ensures.drivers c.in_ok-nets.ensures.readers
     (c.in_ok-cells.ensures
-    ∙ ap (λ (q : List Bool). map (pass_cells_of board q c.as_slice-drivers.result.now c.as_slice-readers.result.now) c.as_slice.result.now) (c.deref-3.ensures.value ∙ sym c.of.ensures)
+    ∙ ap (λ (q : List Bool). map (pass_cells_of board q c.as_slice-drivers.result.now c.as_slice-readers.result.now) c.as_slice.result.now) (c.deref.ensures.value ∙ sym c.of.ensures)
     ∙ ap (λ (d : List (List NetDriver)). map (pass_cells_of board quiet d c.as_slice-readers.result.now) c.as_slice.result.now) c.as_slice-drivers.ensures
     ∙ ap (λ (r : List (List ReaderCell)). map (pass_cells_of board quiet drivers r) c.as_slice.result.now) c.as_slice-readers.ensures
     ∙ ap (λ (p : List (List Ctl)). map (pass_cells_of board quiet drivers readers) p) c.as_slice.ensures)
-    c.in_ok-seen.seen.items are_seen c.in_ok-codes.codes (codes_same c.in_ok-codes.ensures c.deref-4.ensures.value) refl
+    c.in_ok-seen.seen.items are_seen c.in_ok-codes.codes (codes_same c.in_ok-codes.ensures c.deref-2.ensures.value) refl
     c.width.ensures.enough c.width.ensures.least c.in_ok-preload.ensures c.in_ok-extest.ensures
 
 pub returns-clause-width : goal.returns-clause-width
 returns-clause-width c =
     let are_seen = seen_same c.in_ok-seen.ensures c.as_slice-2.ensures c.as_slice-drivers.ensures c.as_slice-readers.ensures in
     width_most c.in_ok-codes.codes.count c.width.result
-    (count_most c.args.board.now c.raw.ensures.rules c.in_ok-nets.ensures.drivers are_seen (codes_same c.in_ok-codes.ensures c.deref-4.ensures.value)) c.width.ensures.least
+    (count_most c.args.board.now c.raw.ensures.rules c.in_ok-nets.ensures.drivers are_seen (codes_same c.in_ok-codes.ensures c.deref-2.ensures.value)) c.width.ensures.least

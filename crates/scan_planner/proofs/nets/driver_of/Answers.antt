@@ -1,9 +1,7 @@
-use Rattle.std.proofs.Common.{sym, ap, ◌∙◌}
-use Rattle.board_defs.specs.Pins.{entry_at}
+use Rattle.std.proofs.Common.{sym, ◌∙◌}
 use Rattle.scan_planner.proofs.BuildLemmas.{entry_below}
 use Rattle.scan_planner.proofs.nets.driver_of.Goals as goal
 
 pub net_driver-requires-clause-cell : goal.net_driver-requires-clause-cell
 net_driver-requires-clause-cell c =
-    entry_below c.args.board.now c.raw-raw.ensures.rules c.in-Some.at c.in-Some-driving_entry.cell
-    (sym (ap (λ b. entry_at b c.in-Some.at) c.raw-raw.ensures.value) ∙ sym c.driving_entry.ensures ∙ c.in-Some-driving_entry.is)
+    entry_below c.args.board.now c.raw.ensures.rules c.in-Some.at c.in-Some-driving_entry.cell (sym c.driving_entry.ensures ∙ c.in-Some-driving_entry.is)
