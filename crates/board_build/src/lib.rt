@@ -3,6 +3,7 @@
 
 mod building;
 mod fault;
+pub mod law;
 mod line_rules;
 mod marked;
 mod names;
