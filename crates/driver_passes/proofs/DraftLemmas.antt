@@ -53,5 +53,5 @@ added_draft board before after place c nets order is stands e f len t = record {
   held_length = ap length e ∙ length-set before.held.items place true ∙ is.held_length;
   taken_length = len ∙ is.taken_length;
   taken_are = λ n. t n ∙ ap (λ v. has_number v n || get_or before.taken.items n false) f ∙ ap (λ v. has_number (shared_nets board c) n || v) (is.taken_are n) ∙
-    sym (ap (λ v. is_taken board v n) (added_setting board before after place c order is stands e) ∙ any_inserted (λ d. has_number (shared_nets board d) n) c (setting_of board before));
+      sym (ap (λ v. is_taken board v n) (added_setting board before after place c order is stands e) ∙ any_inserted (λ d. has_number (shared_nets board d) n) c (setting_of board before));
 }

@@ -6,3 +6,4 @@ pub mod ProgressLemmas
 pub mod NumberLemmas
 pub mod ShownLemmas
 pub mod PairLemmas
+pub mod UsefulLemmas

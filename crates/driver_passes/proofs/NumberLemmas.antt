@@ -61,7 +61,6 @@ pub numbers_meet : {X : Type 0} (p q : X → Bool) (n : ℕ) (xs : List X) → D
 numbers_meet p q n [] = (λ h. cc h, λ m. absurd (omega (arith, m.2)))
 numbers_meet {X} p q n (x ∷ xs) = by_tests (p x) (q x) (numbers_meet p q (suc n) xs)
   where
-
     by_tests : (a b : Bool) → Decides (list_any (λ x. p x && q x) xs) (Meet (numbers_of p (suc n) xs) (numbers_of q (suc n) xs)) →
         Decides ((a && b) || list_any (λ x. p x && q x) xs) (Meet (cond a (n ∷ numbers_of p (suc n) xs) (numbers_of p (suc n) xs)) (cond b (n ∷ numbers_of q (suc n) xs) (numbers_of q (suc n) xs)))
     by_tests true true rest = (λ h. (0, 0, omega arith, omega arith, refl), λ m. refl)

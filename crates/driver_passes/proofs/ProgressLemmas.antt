@@ -45,8 +45,8 @@ pub held_more : (board : RawBoard) (passes after : List (List Ctl)) (flags joine
 held_more board passes after flags joined held are is size len join e = record {
   flags_length = len ∙ is.flags_length;
   flags_are = λ i c h.
-    join i ∙ ap (λ v. v || get_or flags i false) (sym (chosen_holds (useful_controls board) held i c are.said.useful_in_order size h)) ∙ ap (λ v. holds (chosen (useful_controls board) held) c || v) (is.flags_are i c h) ∙
-    or_last (holds (chosen (useful_controls board) held) c) (is_held passes c) ∙ sym (ap (λ v. is_held v c) e ∙ list_any-append (λ pass. holds pass c) passes (chosen (useful_controls board) held ∷ []));
+      join i ∙ ap (λ v. v || get_or flags i false) (sym (chosen_holds (useful_controls board) held i c are.said.useful_in_order size h)) ∙ ap (λ v. holds (chosen (useful_controls board) held) c || v) (is.flags_are i c h) ∙
+      or_last (holds (chosen (useful_controls board) held) c) (is_held passes c) ∙ sym (ap (λ v. is_held v c) e ∙ list_any-append (λ pass. holds pass c) passes (chosen (useful_controls board) held ∷ []));
 }
 
 -- the net of a number

@@ -2,7 +2,7 @@
 use Rattle.std.proofs.Common.{◌≡◌, ◌⊎◌, inl, inr, ℕ, zero, suc, ◌+◌, ◌<◌, ◌≤◌, Bool, true, false, List, [], ◌∷◌, ◌++◌, length, get_or, set, take, refl, sym, ◌∙◌, ap, subst, arith, cond}
 use Rattle.std.specs.Bool.{Decides, one_answer}
 use Rattle.std.proofs.lemmas.Bool.{cases_eq}
-use Rattle.std.proofs.lemmas.List.{take_more, length-take-le, length-set, get_or_default, get_or-set_same, get_or-set_other}
+use Rattle.std.proofs.lemmas.List.{take_more, take_all, length-take-le, length-set, get_or_default, get_or-set_same, get_or-set_other}
 use Rattle.board_defs.specs.declared.board.Ctl.{Ctl}
 use Rattle.board_defs.specs.declared.board.RawBoard.{RawBoard}
 use Rattle.board_defs.specs.Passes.{are_shown, shows}
@@ -54,3 +54,9 @@ noted_more board passes number net pass rows row after t are less few e f g h = 
     by_net n below within (inl same) =
         ap (λ k. get_or (set rows net after) k []) same ∙ get_or-set_same rows net after [] within_rows ∙ row_more board passes number net pass row after t few e row_before g h ∙ ap (showing board (take (number + 1) passes)) (sym same)
     by_net n below within (inr other) = get_or-set_other rows net n after [] other ∙ are.done n (omega arith) within
+
+pub shown_whole : (board : RawBoard) (lent passes : List (List Ctl)) (rows kept : List (List ℕ)) (count : ℕ) → lent ≡ passes → length passes ≤ count → kept ≡ rows → AreShown board (take count lent) rows → AreShown board passes kept
+shown_whole board lent passes rows kept count e most f are =
+    let P : List (List Ctl) → Type 0 = λ v. AreShown board v kept in
+    let Q : List (List ℕ) → Type 0 = λ v. AreShown board (take count lent) v in
+    subst P (ap (take count) e ∙ take_all count passes most) (subst Q (sym f) are)

@@ -1,4 +1,4 @@
 pub mod Drafts
+pub mod Useful
 pub mod Progress
 pub mod Pairs
-pub mod Useful

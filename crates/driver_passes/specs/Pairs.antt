@@ -6,6 +6,7 @@ use Rattle.board_defs.specs.declared.board.Drive.{Drive}
 use Rattle.board_defs.specs.Passes.{drivers_by_net, shows}
 use Rattle.driver_passes.specs.declared.pairs.Pairing.{Pairing}
 use Rattle.driver_passes.specs.Progress.{IsUsefulDriver, drivers_at}
+use Rattle.driver_passes.specs.Useful.{HoldUseful}
 
 -- the numbers, from n on, of the items that pass
 abbrev pub numbers_of : {X : Type 0} → (X → Bool) → ℕ → List X → List ℕ
@@ -21,9 +22,10 @@ pub record AreShown (board : RawBoard) (passes : List (List Ctl)) (rows : List (
   pub rows_length : length rows ≡ length board.nets
   pub rows_are : (n : ℕ) → n < length board.nets → slice_index_or rows n [] ≡ showing board passes n
 
--- the rows are those of the passes so far
-abbrev pub ArePairing : RawBoard → Pairing → Type 0
-ArePairing board pairing = AreShown board pairing.passes.items pairing.rows.items
+-- the rows are those of the passes so far, which hold useful controls only
+pub record ArePairing (board : RawBoard) (pairing : Pairing) : Type 0 where
+  pub shown : AreShown board pairing.passes.items pairing.rows.items
+  pub useful : HoldUseful board pairing.passes.items
 
 -- the controls of both drivers, where they have one, are useful
 abbrev pub IsUsefulPair : RawBoard → Drive × Drive → Type 0

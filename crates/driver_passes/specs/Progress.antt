@@ -8,6 +8,7 @@ use Rattle.board_defs.specs.declared.board.Drive.TheVariants.{By}
 use Rattle.board_defs.specs.Settings.{holds}
 use Rattle.board_defs.specs.Passes.{drivers_by_net, useful_controls}
 use Rattle.driver_passes.specs.declared.drivers.Progress.{Progress}
+use Rattle.driver_passes.specs.Useful.{HoldUseful}
 
 -- some pass holds the control
 abbrev pub is_held : List (List Ctl) → Ctl → Bool
@@ -18,9 +19,10 @@ pub record AreHeld (board : RawBoard) (passes : List (List Ctl)) (flags : List B
   pub flags_length : length flags ≡ length (useful_controls board)
   pub flags_are : (i : ℕ) (c : Ctl) → slice_get (useful_controls board) i ≡ Some c → slice_index_or flags i false ≡ is_held passes c
 
--- the flags are those of the passes so far
-abbrev pub IsProgress : RawBoard → Progress → Type 0
-IsProgress board progress = AreHeld board progress.passes.items progress.held.items
+-- the flags are those of the passes so far, which hold useful controls only
+pub record IsProgress (board : RawBoard) (progress : Progress) : Type 0 where
+  pub held : AreHeld board progress.passes.items progress.held.items
+  pub useful : HoldUseful board progress.passes.items
 
 -- the driver's control, where it has one, is useful
 abbrev pub IsUsefulDriver : RawBoard → Drive → Type 0

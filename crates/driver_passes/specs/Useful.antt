@@ -5,6 +5,6 @@ use Rattle.board_defs.specs.declared.board.RawBoard.{RawBoard}
 use Rattle.board_defs.specs.Settings.{holds}
 use Rattle.board_defs.specs.Coverage.{IsUseful}
 
--- each pass holds only useful controls
+-- each pass holds useful controls only
 abbrev pub HoldUseful : RawBoard → List (List Ctl) → Type 0
 HoldUseful board passes = (x : ℕ) (pass : List Ctl) (c : Ctl) → slice_get passes x ≡ Some pass → holds pass c ≡ true → IsUseful board c

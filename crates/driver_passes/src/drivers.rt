@@ -7,6 +7,7 @@ ghost use Rattle.net_classes.specs.Kept.{AreClasses};
 ghost use Rattle.net_classes.specs.Pairs.{AreByCells};
 ghost use Rattle.driver_passes.specs.Drafts.{IsDraft, setting_of};
 ghost use Rattle.driver_passes.specs.Progress.{IsProgress, IsUsefulDriver, drivers_at};
+ghost use Rattle.driver_passes.specs.Useful.{HoldUseful};
 
 use crate::draft::{Draft, blank};
 use crate::walk::{first_walk, second_walk};
@@ -188,6 +189,7 @@ pub fn driver_passes(
     requires useful { useful.now ≡ useful_controls board.now }
     requires cells { All (IsCell board.now) useful.now }
     ensures passes { IfOk result (λ passes. passes.items ≡ driver_passes board.now useful.now (flat_map (λ drivers. drivers) (drivers_by_net board.now))) }
+    ensures useful { IfOk result (λ passes. HoldUseful board.now passes.items) }
     ensures few { IfOk result (λ passes. length passes.items ≤ 65535) }
 {
     let _rules = board.raw();

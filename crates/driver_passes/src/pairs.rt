@@ -7,12 +7,13 @@ ghost use Rattle.net_classes.specs.Pairs.{AreByCells, IsByCell, fit};
 ghost use Rattle.driver_passes.specs.Drafts.{IsDraft, setting_of};
 ghost use Rattle.driver_passes.specs.Pairs.{ArePairing, IsUsefulPair, pairs_from};
 ghost use Rattle.driver_passes.specs.Progress.{IsUsefulDriver, drivers_at};
+ghost use Rattle.driver_passes.specs.Useful.{HoldUseful};
 
 use crate::draft::Draft;
 use crate::drivers::drivers_of;
 use crate::shown::{PassNumbers, are_shown, note_pass, rows_of};
 use crate::walk::second_walk;
-use board_defs::{Board, Ctl, Drive, Setting};
+use board_defs::{Board, Ctl, Drive, Setting, law};
 use net_classes::Classes;
 use std::alloc::{AllocError, Global};
 
@@ -102,6 +103,8 @@ impl Pairing {
         ensures pairing { OnOk result (ArePairing board.now self.new) }
         ensures pushed { OnOk result (self.new.passes.items ≡ self.old.passes.items ++ setting_of board.now draft.now ∷ []) }
     {
+        law::passes_kept();
+        let _rules = board.raw();
         let number = self.passes.len();
         self.passes.push(draft.setting(alloc, board, useful)?)?;
         note_pass(&mut self.rows, board, classes, &self.passes, number)?;
@@ -181,6 +184,7 @@ impl Pairing {
         requires cells { All (IsCell board.now) useful.now }
         requires pairing { ArePairing board.now self.old }
         requires few { length self.old.passes.items ≤ 65535 }
+        ensures pairing { OnOk result (ArePairing board.now self.new) }
         ensures added { OnOk result (self.new.passes.items ≡ pair_passes board.now useful.now self.old.passes.items (drivers_by_net board.now)) }
         ensures few { OnOk result (length self.new.passes.items < 2 ^ 32) }
     {
@@ -202,8 +206,10 @@ pub fn pair_passes(
     requires classes { AreClasses board.now classes.now }
     requires useful { useful.now ≡ useful_controls board.now }
     requires cells { All (IsCell board.now) useful.now }
+    requires useful_so_far { HoldUseful board.now passes.items }
     requires few { length passes.items ≤ 65535 }
     ensures passes { IfOk result (λ all. all.items ≡ pair_passes board.now useful.now passes.items (drivers_by_net board.now)) }
+    ensures useful { IfOk result (λ all. HoldUseful board.now all.items) }
     ensures few { IfOk result (λ all. length all.items < 2 ^ 32) }
 {
     let rows = rows_of(alloc, board, classes, &passes)?;
