@@ -1,5 +1,5 @@
 -- The choices that are left.
-use Rattle.std.proofs.Common.{◌≡◌, ℕ, ◌+◌, ◌<◌, ◌≤◌, List, [], ◌∷◌, ◌++◌, map, drop, length, zip, slice_index_or, ap, sym, refl, ◌∙◌, subst, append_assoc, arith, Option, option_copied, Bor}
+use Rattle.std.proofs.Common.{inl, inr, ◌⊎◌, ◌≡◌, ℕ, ◌+◌, ◌<◌, ◌≤◌, List, [], ◌∷◌, ◌++◌, map, drop, length, zip, slice_index_or, ap, sym, refl, ◌∙◌, subst, append_assoc, arith, Option, option_copied, Bor}
 use Rattle.std.specs.List.{AllByRecursion, filter_map}
 use Rattle.std.proofs.lemmas.Slice.Zip.{length-zip}
 use Rattle.board_files.specs.declared.chain_file.ChainLine.{ChainLine}
@@ -30,22 +30,12 @@ choices_left entities chosen n front d within completes = subst (λ rest. Comple
 pub no_choices_left : (entities : List Entity) (chosen : List Lent) (n : ℕ) (front : List RawDevice) → length chosen ≤ n → CompletesChoices entities chosen (choices_of (drop n chosen)) front → CompletesChoices entities chosen [] front
 no_choices_left entities chosen n front past completes = subst (λ rest. CompletesChoices entities chosen (choices_of rest) front) (drop_all n chosen past) completes
 
--- pairs that are made one after another
-pub zip_step : {A B : Type 0} (xs : List A) (ys : List B) (i : ℕ) (d : A) (e : B) (all done : List (A × B)) → i < length xs → i < length ys → all ≡ done ++ zip (drop i xs) (drop i ys) → all ≡ (done ++ (slice_index_or xs i d, slice_index_or ys i e) ∷ []) ++ zip (drop (i + 1) xs) (drop (i + 1) ys)
-zip_step xs ys i d e all done x_within y_within same =
-    same
-    ∙ at_drop_more (λ left. done ++ zip left (drop i ys)) xs i d x_within
-    ∙ at_drop_more (λ left. done ++ zip (slice_index_or xs i d ∷ drop (i + 1) xs) left) ys i e y_within
-    ∙ sym (append_assoc done ((slice_index_or xs i d, slice_index_or ys i e) ∷ []) (zip (drop (i + 1) xs) (drop (i + 1) ys)))
-
-zip_none : {A B : Type 0} (xs : List A) → ◌≡◌ {A = List (A × B)} (zip xs []) []
-zip_none [] = refl
-zip_none (x ∷ xs) = refl
-
-pub zip_end : {A B : Type 0} (xs : List A) (ys : List B) (i : ℕ) (all done : List (A × B)) → length ys ≤ i → all ≡ done ++ zip (drop i xs) (drop i ys) → all ≡ done ++ zip (drop (i + 1) xs) (drop (i + 1) ys)
-zip_end xs ys i all done past same =
-    same ∙ ap (λ left. done ++ zip (drop i xs) left) (drop_all i ys past) ∙ ap (λ left. done ++ left) (zip_none (drop i xs) ∙ sym (zip_none (drop (i + 1) xs)))
-    ∙ ap (λ left. done ++ zip (drop (i + 1) xs) left) (sym (drop_all (i + 1) ys (omega (arith, past))))
+-- where one of two lists has ended, there are no more pairs
+pub no_pairs : {A B : Type 0} (xs : List A) (ys : List B) → (length xs ≡ 0) ⊎ (length ys ≡ 0) → ◌≡◌ {A = List (A × B)} (zip xs ys) []
+no_pairs [] ys ended = refl
+no_pairs (x ∷ xs) [] ended = refl
+no_pairs (x ∷ xs) (y ∷ ys) (inl none) = absurd (omega (arith, none))
+no_pairs (x ∷ xs) (y ∷ ys) (inr none) = absurd (omega (arith, none))
 
 -- the choices with their packages
 pub zip_seconds : {A B C : Type 0} (f : B → C) (xs : List A) (ys : List B) → map (λ pair. (pair.0, f pair.1)) (zip xs ys) ≡ zip xs (map f ys)
@@ -54,7 +44,7 @@ zip_seconds f (x ∷ xs) [] = refl
 zip_seconds f (x ∷ xs) (y ∷ ys) = ap (λ pairs. (x, f y) ∷ pairs) (zip_seconds f xs ys)
 
 -- a bound on the numbers is one on the choices
-pub zip_firsts : (n : ℕ) (xs : List ℕ) (ys : List (Option (Bor (List ℕ)))) → AllByRecursion (λ x. x < n) xs → AllByRecursion (λ pair. pair.0 < n) (zip xs ys)
+pub zip_firsts : {B : Type 0} (n : ℕ) (xs : List ℕ) (ys : List B) → AllByRecursion (λ x. x < n) xs → AllByRecursion (λ pair. pair.0 < n) (zip xs ys)
 zip_firsts n [] ys all = tt
 zip_firsts n (x ∷ xs) [] all = tt
 zip_firsts n (x ∷ xs) (y ∷ ys) all = (all.0, zip_firsts n xs ys all.1)

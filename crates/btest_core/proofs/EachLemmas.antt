@@ -1,8 +1,7 @@
 -- Values of items that are found one after another.
 use Rattle.std.proofs.Common.{◌≡◌, List, [], ◌∷◌, ◌++◌, Result, Ok, Err, ap, sym, refl, subst, inl, inr, append_assoc, append-nil}
 use Rattle.btest_core.specs.declared.fault.InputFault.{InputFault}
-use Rattle.btest_core.specs.Answers.{EachOf, HasOne}
-use Rattle.btest_core.proofs.AnswerLemmas.{one_is, one_follows}
+use Rattle.btest_core.specs.Answers.{EachOf}
 
 -- an answer, behind values that were found before
 abbrev pub behind : {B : Type 0} → List B → Result (List B) InputFault → Result (List B) InputFault
@@ -37,9 +36,3 @@ completes_fault IsOf all item rest front fault completes is = completes (Err fau
 
 pub completes_end : {A B : Type 0} (IsOf : A → Result B InputFault → Type 0) (all : List A) (front : List B) → Completes IsOf all [] front → EachOf IsOf all (Ok front)
 completes_end IsOf all front completes = subst (λ values. EachOf IsOf all (Ok values)) (append-nil front) (completes (Ok []) refl)
-
--- where each item has exactly one answer, so have all
-pub one_each : {A B : Type 0} (IsOf : A → Result B InputFault → Type 0) (items : List A) → ((item : A) → HasOne (IsOf item)) → HasOne (EachOf IsOf items)
-one_each IsOf [] ones = one_is (Ok [])
-one_each IsOf (item ∷ items) ones =
-    one_follows (IsOf item) _ (ones item) (λ value is. one_follows (EachOf IsOf items) _ (one_each IsOf items ones) (λ values are. one_is (Ok (value ∷ values))))

@@ -5,3 +5,4 @@ pub mod ChoiceLemmas
 pub mod LengthLemmas
 pub mod JoinLemmas
 pub mod OneLemmas
+pub mod SomeLemmas

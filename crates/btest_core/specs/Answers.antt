@@ -17,12 +17,6 @@ abbrev pub EachOf : {A B : Type 0} → (A → Result B InputFault → Type 0) �
 EachOf IsOf [] answer = Is (Ok []) answer
 EachOf IsOf (item ∷ items) answer = Follows (IsOf item) (λ value. Follows (EachOf IsOf items) (λ values. Is (Ok (value ∷ values)))) answer
 
--- exactly one answer is of this kind
-pub record HasOne {A : Type 0} (IsAnswer : Result A InputFault → Type 0) : Type 0 where
-  pub answer : Result A InputFault
-  pub is : IsAnswer answer
-  pub only : (other : Result A InputFault) → IsAnswer other → other ≡ answer
-
 -- the fault is of this kind, where memory was not refused
 abbrev pub FaultIs : (InputFault → Type 0) → InputFault → Type 0
 FaultIs P (Memory error) = Unit {0}

@@ -1,5 +1,5 @@
 // The devices of a chain.
-ghost use Rattle.std.specs.Prelude.{◌≡◌, ◌<◌, ◌^◌, All, IfOk, length, map, vec_len, zip, option_copied, option_map};
+ghost use Rattle.std.specs.Prelude.{◌≡◌, ℕ, ◌<◌, ◌^◌, All, IfOk, length, map, vec_len, zip, option_copied, option_map};
 ghost use Rattle.std.specs.List.{AllByRecursion, filter_map};
 ghost use Rattle.board_build.specs.ChainParts.{IsChain};
 ghost use Rattle.board_build.specs.Names.{named};
@@ -107,18 +107,15 @@ fn packages<'a>(alloc: Global, lines: &'a [ChainLine]) -> Result<Vec<Option<&'a 
     Ok(list)
 }
 
-// What the DEVICE lines choose among so many texts, in their order.
+// What the DEVICE lines choose among texts, in their order.
 fn chosen<'a>(
     alloc: Global,
     lines: &'a [ChainLine],
     numbers: &[u32],
-    count: usize,
 ) -> Result<Vec<(u32, Option<&'a [u8]>)>, AllocError>
-    requires { AllByRecursion (λ number. number < count) numbers.now }
     ensures chosen { IfOk result (λ list. map (λ choice. (choice.0, option_copied choice.1)) list.items ≡ chosen lines.now numbers.now) }
-    ensures within { IfOk result (λ list. AllByRecursion (λ choice. choice.0 < count) list.items) }
+    ensures within { (count : ℕ) → AllByRecursion (λ number. number < count) numbers.now → IfOk result (λ list. AllByRecursion (λ choice. choice.0 < count) list.items) }
 {
-    let _ = count;
     let packages = packages(alloc, lines)?;
     let choices = zipped(alloc, numbers, &packages)?;
     Ok(choices)
@@ -132,10 +129,8 @@ fn zipped<'a>(
     ensures { IfOk result (λ list. list.items ≡ zip numbers.now packages.now) }
 {
     let mut list = Vec::new(alloc);
-    for i in 0..numbers.len() {
-        if let Some(package) = packages.get(i) {
-            list.push((numbers[i], *package))?;
-        }
+    for (number, package) in numbers.iter().zip(packages) {
+        list.push((*number, *package))?;
     }
     Ok(list)
 }
@@ -168,7 +163,7 @@ fn devices_by(
     ensures devices { Gives (λ devices. devices.items) (EachOf (IsDeviceOf entities.now) (chosen lines.now numbers.now)) result }
     ensures number { IfOk result (λ devices. vec_len devices ≡ length (chosen lines.now numbers.now)) }
 {
-    let chosen = chosen(alloc, lines, numbers, entities.len())?;
+    let chosen = chosen(alloc, lines, numbers)?;
     chosen_devices(alloc, entities, &chosen)
 }
 

@@ -6,12 +6,14 @@ mod chain;
 mod devices;
 mod fault;
 pub mod law;
+mod planning;
 mod texts;
 
 pub use board::read_board;
 pub use chain::read_chain;
 pub use devices::read_device;
 pub use fault::InputFault;
+pub use planning::plan;
 pub use texts::read_entity;
 
 #[cfg(test)]

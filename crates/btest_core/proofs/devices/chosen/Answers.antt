@@ -9,5 +9,5 @@ returns-clause-chosen c =
     ∙ ap (λ packages. zip c.args.numbers.now (map option_copied packages)) c.deref.ensures.value ∙ ap (zip c.args.numbers.now) c.in_ok-packages.ensures
 
 pub returns-clause-within : goal.returns-clause-within
-returns-clause-within c =
-    subst (λ list. AllByRecursion (λ choice. choice.0 < c.args.count) list) (sym c.in_ok-choices.ensures) (zip_firsts c.args.count c.args.numbers.now c.deref.result.now c.requires)
+returns-clause-within c = λ count within.
+    subst (λ list. AllByRecursion (λ choice. choice.0 < count) list) (sym c.in_ok-choices.ensures) (zip_firsts count c.args.numbers.now c.deref.result.now within)

@@ -7,12 +7,10 @@ use Rattle.btest_core.specs.DevicesRead.{IsDeviceOf, chosen, Chosen}
 use Rattle.btest_core.proofs.ChoiceLemmas.{choices_of, count_choices}
 use Rattle.btest_core.proofs.devices.devices_by.Goals as goal
 
-pub chosen-requires : goal.chosen-requires
-chosen-requires c = recursion_from_All (λ number. number < length c.args.entities.now) c.args.numbers.now c.requires.within
-
 pub chosen_devices-requires-clause-there : goal.chosen_devices-requires-clause-there
 chosen_devices-requires-clause-there c =
-    subst (λ list. AllByRecursion (λ choice. choice.0 < length c.args.entities.now) list) (sym c.deref.ensures.value) c.in_ok-chosen.ensures.within
+    let within = recursion_from_All (λ number. number < length c.args.entities.now) c.args.numbers.now c.requires.within in
+    subst (λ list. AllByRecursion (λ choice. choice.0 < length c.args.entities.now) list) (sym c.deref.ensures.value) (c.in_ok-chosen.ensures.within (length c.args.entities.now) within)
 
 pub returns-clause-devices : goal.returns-clause-devices
 returns-clause-devices c =

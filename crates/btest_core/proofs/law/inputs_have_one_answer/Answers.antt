@@ -1,3 +1,4 @@
+use Rattle.btest_core.proofs.SomeLemmas.{some_device, some_chain, some_board}
 use Rattle.btest_core.proofs.OneLemmas.{device_text_one, chain_one, board_one}
 use Rattle.btest_core.proofs.law.inputs_have_one_answer.Goals as goal
 
@@ -9,3 +10,12 @@ returns-clause-chain c = chain_one c.texts_have_one_answer.ensures.one c.token_l
 
 pub returns-clause-board : goal.returns-clause-board
 returns-clause-board c = board_one c.texts_have_one_answer.ensures.one c.token_lists_have_one_answer.ensures.one c.entities_have_one_answer.ensures.one
+
+pub returns-clause-some_device : goal.returns-clause-some_device
+returns-clause-some_device c = some_device c.texts_have_one_answer.ensures.some c.token_lists_have_one_answer.ensures.some c.entities_have_one_answer.ensures.some
+
+pub returns-clause-some_chain : goal.returns-clause-some_chain
+returns-clause-some_chain c = some_chain c.texts_have_one_answer.ensures.some c.token_lists_have_one_answer.ensures.some c.entities_have_one_answer.ensures.some c.selected_are_entities.ensures
+
+pub returns-clause-some_board : goal.returns-clause-some_board
+returns-clause-some_board c = some_board c.texts_have_one_answer.ensures.some c.token_lists_have_one_answer.ensures.some c.entities_have_one_answer.ensures.some c.selected_are_entities.ensures

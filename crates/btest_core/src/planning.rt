@@ -1,0 +1,27 @@
+// The plan of a board's test.
+ghost use Rattle.std.specs.Prelude.{◌≡◌, IfOk};
+ghost use Rattle.board_defs.specs.Passes.{passes_of};
+ghost use Rattle.net_classes.specs.Kept.{AreClasses};
+ghost use Rattle.scan_planner.specs.Plans.{IsPlanOf};
+
+use board_defs::Board;
+use board_defs::law::terms_decided;
+use driver_passes::passes;
+use net_classes::Classes;
+use scan_planner::Plan;
+use scan_planner::law::useful_planned;
+use std::alloc::{AllocError, Global};
+
+/// The plan of the test that the board's passes make. The classes are those of the board.
+pub fn plan(alloc: Global, board: &Board, classes: &Classes) -> Result<Plan, AllocError>
+    requires { AreClasses board.now classes.now }
+    ensures plan { IfOk result (λ plan. IsPlanOf board.now plan) }
+    ensures passes { IfOk result (λ plan. plan.passes ≡ passes_of board.now) }
+{
+    let _rules = board.raw();
+    useful_planned();
+    terms_decided();
+    let passes = passes(alloc, board, classes)?;
+    let plan = Plan::new(alloc, board, passes)?;
+    Ok(plan)
+}
