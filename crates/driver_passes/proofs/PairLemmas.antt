@@ -1,9 +1,9 @@
 -- The pairs of nets, and the passes for them.
-use Rattle.std.proofs.Common.{◌≡◌, ◌⊎◌, inl, inr, ℕ, zero, suc, ◌+◌, ◌*◌, ◌<◌, ◌≤◌, Bool, true, false, ◌&&◌, List, [], ◌∷◌, ◌++◌, length, map, get_or, take, drop, fold, Option, Some, None, refl, sym, ◌∙◌, ap, subst, arith, cond}
+use Rattle.std.proofs.Common.{◌≡◌, ℕ, suc, ◌+◌, ◌<◌, ◌≤◌, Bool, true, false, List, [], ◌∷◌, length, map, get_or, drop, fold, Option, Some, None, refl, sym, ◌∙◌, ap, arith, cond}
 use Rattle.std.specs.Prelude.{◌==◌, find, option_map}
 use Rattle.std.proofs.lemmas.Bool.{both_ways}
 use Rattle.std.specs.Option.{option_or}
-use Rattle.std.specs.List.{list_any, flat_map}
+use Rattle.std.specs.List.{list_any}
 use Rattle.std.proofs.Math.Seq.{drop-cons}
 use Rattle.std.proofs.lemmas.List.{length-map, drop_all}
 use Rattle.std.proofs.lemmas.List.Folds.{find-append}
@@ -12,7 +12,7 @@ use Rattle.board_defs.specs.declared.board.Ctl.{Ctl}
 use Rattle.board_defs.specs.declared.board.RawBoard.{RawBoard}
 use Rattle.board_defs.specs.declared.board.Drive.{Drive}
 use Rattle.board_defs.specs.Decided.{are_compatible}
-use Rattle.board_defs.specs.Passes.{add_for_nets, are_shown, drivers_by_net, first_pair, pair_pass, pairs_of, pairs_within, shows, tested_drivers, with_pair}
+use Rattle.board_defs.specs.Passes.{add_for_nets, are_shown, drivers_by_net, first_pair, pair_pass, pairs_of, pairs_within, tested_drivers, with_pair}
 use Rattle.net_classes.specs.Pairs.{fit}
 use Rattle.driver_passes.specs.Pairs.{pairs_from}
 use Rattle.driver_passes.specs.Progress.{drivers_at}

@@ -1,24 +1,20 @@
 -- The passes so far, and the tested drivers of the nets.
-use Rattle.std.proofs.Common.{◌≡◌, ◌⊎◌, inl, inr, ℕ, zero, suc, ◌+◌, ◌<◌, ◌≤◌, Bool, true, false, not, ◌&&◌, ◌||◌, List, [], ◌∷◌, ◌++◌, length, map, get_or, replicate, take, fold, Option, Some, None, refl, sym, ◌∙◌, ap, subst, arith, cond}
+use Rattle.std.proofs.Common.{◌≡◌, ℕ, zero, suc, ◌+◌, ◌<◌, ◌≤◌, Bool, true, false, not, ◌&&◌, ◌||◌, List, [], ◌∷◌, ◌++◌, length, map, get_or, replicate, take, fold, Option, Some, None, refl, sym, ◌∙◌, ap, subst, arith, cond}
 use Rattle.std.specs.Prelude.{slice_get, All, Contains, filter_map, sum_by}
 use Rattle.std.specs.List.{list_any, flat_map, range_with_len, cons_option}
-use Rattle.std.proofs.lemmas.Bool.{and_parts, or_cases}
-use Rattle.std.proofs.lemmas.Option.{slice_get_within, get_or_from_slice_get, slice_get-get_or}
-use Rattle.std.proofs.lemmas.List.{length-replicate, length-append, length-map, take_more, take_all}
+use Rattle.std.proofs.lemmas.Bool.{and_parts}
+use Rattle.std.proofs.lemmas.Option.{slice_get_within, get_or_from_slice_get}
+use Rattle.std.proofs.lemmas.List.{length-replicate, length-append, length-map, take_all}
 use Rattle.std.proofs.lemmas.List.{get_or-map as item-map}
 use Rattle.std.proofs.lemmas.List.Folds.{list_any-append}
-use Rattle.std.proofs.lemmas.List.Sums.{fold-append, sum_by-cons}
-use Rattle.std.proofs.lemmas.List.Concat.{flat_map-append}
+use Rattle.std.proofs.lemmas.List.Sums.{sum_by-cons}
 use Rattle.board_defs.specs.declared.board.Net.{Net}
-use Rattle.board_defs.specs.declared.board.NetPin.{NetPin}
 use Rattle.board_defs.specs.declared.board.Ctl.{Ctl}
 use Rattle.board_defs.specs.declared.board.RawBoard.{RawBoard}
 use Rattle.board_defs.specs.declared.board.Drive.{Drive}
-use Rattle.board_defs.specs.declared.board.Drive.TheVariants.{By}
-use Rattle.board_defs.specs.BoardRules.{Stands}
-use Rattle.board_defs.specs.Pins.{guarded, drive, receives}
+use Rattle.board_defs.specs.Pins.{guarded, receives}
 use Rattle.board_defs.specs.Settings.{holds, just, IsSafe}
-use Rattle.board_defs.specs.Decided.{any_other, can_enable, drive_in, place_drive, is_safe_alone, is_tested_driver}
+use Rattle.board_defs.specs.Decided.{any_other, can_enable, drive_in, place_drive, is_tested_driver}
 use Rattle.board_defs.specs.Coverage.{IsUseful}
 use Rattle.board_defs.specs.Passes.{drivers_by_net, tested_drivers, tested_drive, useful_controls, add_for_driver, driver_pass, is_enabled}
 use Rattle.board_defs.specs.Laws.{PassesAre, DecidesTerms, HasTestedDriver}

@@ -1,4 +1,4 @@
-use Rattle.std.proofs.Common.{◌≡◌, ◌∙◌, ◌≤◌, ap, length, arith}
+use Rattle.std.proofs.Common.{◌∙◌, ◌≤◌, ap, length, arith}
 use Rattle.driver_passes.proofs.ProgressLemmas.{passes_whole, passes_few}
 use Rattle.driver_passes.proofs.drivers.driver_passes.Goals as goal
 

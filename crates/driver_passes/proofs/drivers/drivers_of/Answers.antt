@@ -1,4 +1,4 @@
-use Rattle.std.proofs.Common.{◌≡◌, ◌∙◌, sym}
+use Rattle.std.proofs.Common.{◌∙◌, sym}
 use Rattle.driver_passes.proofs.ProgressLemmas.{net_there, drivers_are, tested_useful}
 use Rattle.driver_passes.proofs.drivers.drivers_of.Goals as goal
 

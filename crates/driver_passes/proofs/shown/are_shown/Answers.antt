@@ -1,4 +1,4 @@
-use Rattle.std.proofs.Common.{◌≡◌, ◌∙◌}
+use Rattle.std.proofs.Common.{◌∙◌}
 use Rattle.driver_passes.proofs.ShownLemmas.{row_is, row_ascends, shown_is}
 use Rattle.driver_passes.proofs.shown.are_shown.Goals as goal
 

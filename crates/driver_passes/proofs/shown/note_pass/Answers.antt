@@ -1,4 +1,4 @@
-use Rattle.std.proofs.Common.{◌≡◌, ◌∙◌, ◌<◌, [], ap, arith, length, get_or}
+use Rattle.std.proofs.Common.{◌∙◌, ◌<◌, [], ap, arith, length, get_or}
 use Rattle.std.proofs.lemmas.List.{get_or_default}
 use Rattle.board_defs.specs.Passes.{shows}
 use Rattle.driver_passes.proofs.ShownLemmas.{noted_more}

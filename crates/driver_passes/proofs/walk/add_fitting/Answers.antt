@@ -1,4 +1,4 @@
-use Rattle.std.proofs.Common.{◌≡◌, ◌∙◌, Bool, List, true, false, not, ap, sym, cond, get_or}
+use Rattle.std.proofs.Common.{◌∙◌, List, true, false, ap, sym, cond, get_or}
 use Rattle.std.specs.List.{list_any}
 use Rattle.board_defs.specs.declared.board.Ctl.{Ctl}
 use Rattle.board_defs.specs.Settings.{inserted}

@@ -1,4 +1,4 @@
-use Rattle.std.proofs.Common.{◌≡◌, ◌∙◌, ◌||◌, ap, sym, length, get_or, true, false, refl}
+use Rattle.std.proofs.Common.{◌≡◌, ◌∙◌, ◌||◌, ap, length, get_or, true, false, refl}
 use Rattle.std.proofs.lemmas.List.{with_items_is}
 use Rattle.driver_passes.specs.Drafts.{has_number}
 use Rattle.std.specs.Vec.{with_item, with_items}

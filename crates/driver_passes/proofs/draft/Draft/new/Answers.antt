@@ -1,4 +1,4 @@
-use Rattle.std.proofs.Common.{◌≡◌, ◌∙◌, ap, length, replicate, false}
+use Rattle.std.proofs.Common.{◌∙◌, ap, length, replicate, false}
 use Rattle.driver_passes.specs.declared.draft.Draft.{Draft}
 use Rattle.driver_passes.proofs.DraftLemmas.{blank_draft, blank_empty}
 use Rattle.driver_passes.proofs.draft.Draft.new.Goals as goal

@@ -1,4 +1,4 @@
-use Rattle.std.proofs.Common.{◌≡◌, ◌∙◌, ◌+◌, ◌<◌, ◌≤◌, ap, sym, length, arith}
+use Rattle.std.proofs.Common.{◌∙◌, ◌<◌, ap, length, arith}
 use Rattle.driver_passes.proofs.PairLemmas.{net_done}
 use Rattle.driver_passes.proofs.pairs.Pairing.add_for_all.Goals as goal
 

@@ -1,4 +1,4 @@
-use Rattle.std.proofs.Common.{◌≡◌, ◌∙◌, ◌+◌, ◌<◌, ◌≤◌, ap, sym, length, arith, fold}
+use Rattle.std.proofs.Common.{◌∙◌, ◌<◌, ap, sym, length, arith, fold}
 use Rattle.board_defs.specs.Passes.{add_for_nets}
 use Rattle.driver_passes.specs.Progress.{drivers_at}
 use Rattle.driver_passes.proofs.PairLemmas.{nothing_added, no_drivers, from_first, one_done, one_more}
