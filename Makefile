@@ -1,5 +1,6 @@
 # What a person calls. The gate itself is .ci/run.
 PROGRAM := crates/btest/out/btest
+BOARD := $(addprefix examples/, controller.chain controller.nets processor.bsd octal-buffer.bsd port.bsd)
 
 .PHONY: demo build test bench
 
@@ -13,6 +14,10 @@ demo: build
 	@$(PROGRAM) device examples/octal-buffer.bsd
 	@echo '$$ btest chain examples/driver.chain examples/driver.bsd'
 	@$(PROGRAM) chain examples/driver.chain examples/driver.bsd
+	@echo '$$ btest cover $(BOARD)'
+	@$(PROGRAM) cover $(BOARD)
+	@echo '$$ btest svf $(BOARD)'
+	@$(PROGRAM) svf $(BOARD)
 
 # Leaves the proved program, and prints where it is.
 build:

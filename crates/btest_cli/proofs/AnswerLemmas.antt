@@ -2,16 +2,20 @@
 use Rattle.std.proofs.Common.{◌≡◌, ◌≤◌, ℕ, List, [], ◌∷◌, map, drop, length, slice_index_or, Result, Ok, Err, Vec, Global, refl, subst, inl, inr, arith}
 use Rattle.bt_base.specs.Puts.{Puts, Shown, Takes}
 use Rattle.tap_defs.specs.ChainScans.{chain_text}
+use Rattle.tap_defs.specs.BoardScans.{board_text}
+use Rattle.board_defs.specs.declared.board.RawBoard.{RawBoard}
 use Rattle.device_check.specs.DeviceText.{device_text}
+use Rattle.coverage_list.specs.CoverText.{cover_text}
 use Rattle.btest_core.specs.Answers.{FaultIs}
 use Rattle.btest_core.specs.declared.fault.InputFault.{InputFault}
 use Rattle.btest_core.specs.declared.fault.InputFault.TheVariants as input
-use Rattle.btest_core.specs.BoardRead.{AreChainLengths}
+use Rattle.btest_core.specs.BoardRead.{AreChainLengths, IsBoardRead}
 use Rattle.btest_core.specs.DevicesRead.{IsDeviceText}
-use Rattle.command_line.specs.Words.{Text, Chain, Device}
+use Rattle.command_line.specs.Words.{Text, Command, Chain, Device, Cover, Svf}
 use Rattle.btest_cli.specs.declared.failure.Unput.{Unput}
 use Rattle.btest_cli.specs.declared.failure.Unput.TheVariants as unput
-use Rattle.btest_cli.specs.Outcome.{TestsChain}
+use Rattle.btest_cli.specs.Refusals.{roles_of, input_fault_line}
+use Rattle.btest_cli.specs.Outcome.{IsGiven, IsSaid, IsWorthFor, TestsBoard, TestsChain}
 use Rattle.btest_cli.specs.Answers.{Answers, IsCutBy, Nothing, unput_of}
 use Rattle.btest_cli.specs.Failures.{IsAnswered}
 
@@ -36,19 +40,16 @@ cut_by {A} {T} {E} {e} {r} IsFound text_of old new value found puts err =
     let short = subst (λ (q : Result T E). Puts old new (text_of value) q) err puts in
     record { rose = short.cause; value = value; found = found; bytes = short.cut.0; takes = short.cut.1 }
 
--- the answer to the texts of `chain`
-pub chain_answered : (file : Text) (names : List Text) (text : Text) (texts : List Text) (old new : Shown) (result : Result (Unit {0}) Unput) → Answers (AreChainLengths text texts) chain_text (TestsChain text texts old) old new result → IsAnswered (Chain file names) (text ∷ texts) old new result
-chain_answered file names text texts old new (Ok done) put = record { text = chain_text put.value; gives = inl (put.value, put.found, refl); takes = put.takes; worth = put.worth }
-chain_answered file names text texts old new (Err (unput.Input fault)) (found, same) = (inr (fault, found, refl), same)
-chain_answered file names text texts old new (Err unput.Write) cut = record { rose = cut.rose; text = chain_text cut.value; gives = inl (cut.value, cut.found, refl); bytes = cut.bytes; takes = cut.takes }
-chain_answered file names text texts old new (Err unput.Memory) same = same
-
--- the answer to the text of `device`
-pub device_answered : (name text : Text) (old new : Shown) (result : Result (Unit {0}) Unput) → Answers (IsDeviceText text) device_text Nothing old new result → IsAnswered (Device name) (text ∷ []) old new result
-device_answered name text old new (Ok done) put = record { text = device_text put.value; gives = inl (put.value, put.found, refl); takes = put.takes; worth = tt }
-device_answered name text old new (Err (unput.Input fault)) (found, same) = (inr (fault, found, refl), same)
-device_answered name text old new (Err unput.Write) cut = record { rose = cut.rose; text = device_text cut.value; gives = inl (cut.value, cut.found, refl); bytes = cut.bytes; takes = cut.takes }
-device_answered name text old new (Err unput.Memory) same = same
+-- the answer to the texts of a command, by what is found in them
+answered : {A : Type 0} (command : Command) (texts : List Text) (IsFound : Result A InputFault → Type 0) (text_of : A → Text) (IsWorth : Shown → Type 0) (old new : Shown) (result : Result (Unit {0}) Unput)
+    → ((outcome : Result Text Text) → IsSaid (roles_of command) text_of IsFound outcome → IsGiven command texts outcome) → (IsWorth new → IsWorthFor command texts old new)
+    → Answers IsFound text_of IsWorth old new result → IsAnswered command texts old new result
+answered command texts IsFound text_of IsWorth old new (Ok done) gives worth put =
+    record { text = text_of put.value; gives = gives (Ok (text_of put.value)) (inl (put.value, put.found, refl)); takes = put.takes; worth = worth put.worth }
+answered command texts IsFound text_of IsWorth old new (Err (unput.Input fault)) gives worth (found, same) = (gives (Err (input_fault_line (roles_of command) fault)) (inr (fault, found, refl)), same)
+answered command texts IsFound text_of IsWorth old new (Err unput.Write) gives worth cut =
+    record { rose = cut.rose; text = text_of cut.value; gives = gives (Ok (text_of cut.value)) (inl (cut.value, cut.found, refl)); bytes = cut.bytes; takes = cut.takes }
+answered command texts IsFound text_of IsWorth old new (Err unput.Memory) gives worth same = same
 
 -- the answer to the texts of `chain`, as the first of all texts and the others
 pub chain_told : (file : Text) (names : List Text) (all : List (Vec ℕ Global)) (d : Vec ℕ Global) (rest : List (Vec ℕ Global)) (text : Text) (old new : Shown) (result : Result (Unit {0}) Unput) → 1 ≤ length all → text ≡ (slice_index_or all 0 d).items → rest ≡ drop 1 all
@@ -57,12 +58,43 @@ chain_told file names [] d rest text old new result some same others answers = a
 chain_told file names (first ∷ more) d rest text old new result some same others answers =
     let one = subst (λ (t : Text). Answers (AreChainLengths t (map (λ t. t.items) rest)) chain_text (TestsChain t (map (λ t. t.items) rest) old) old new result) same answers in
     let two = subst (λ (l : List (Vec ℕ Global)). Answers (AreChainLengths first.items (map (λ t. t.items) l)) chain_text (TestsChain first.items (map (λ t. t.items) l) old) old new result) others one in
-    chain_answered file names first.items (map (λ t. t.items) more) old new result two
+    answered (Chain file names) (first.items ∷ map (λ t. t.items) more) (AreChainLengths first.items (map (λ t. t.items) more)) chain_text (TestsChain first.items (map (λ t. t.items) more) old) old new result (λ o says. says) (λ worth. worth) two
 
 -- the answer to the text of `device`, as the only one
 pub device_told : (name : Text) (all : List (Vec ℕ Global)) (d : Vec ℕ Global) (text : Text) (old new : Shown) (result : Result (Unit {0}) Unput) → length all ≡ 1 → text ≡ (slice_index_or all 0 d).items
     → Answers (IsDeviceText text) device_text Nothing old new result → IsAnswered (Device name) (map (λ t. t.items) all) old new result
 device_told name [] d text old new result one same answers = absurd (omega (arith, one))
 device_told name (first ∷ []) d text old new result one same answers =
-    device_answered name first.items old new result (subst (λ (t : Text). Answers (IsDeviceText t) device_text Nothing old new result) same answers)
+    let found = subst (λ (t : Text). Answers (IsDeviceText t) device_text Nothing old new result) same answers in
+    answered (Device name) (first.items ∷ []) (IsDeviceText first.items) device_text Nothing old new result (λ o says. says) (λ worth. worth) found
 device_told name (first ∷ other ∷ rest) d text old new result one same answers = absurd (omega (arith, one))
+
+-- what is answered for the board of a chain file, a net file and BSDL texts
+abbrev OfBoard : (RawBoard → Text) → (Text → Text → List Text → Shown → Type 0) → Shown → Shown → Result (Unit {0}) Unput → Text → Text → List Text → Type 0
+OfBoard text_of IsWorth old new result chain nets texts = Answers (IsBoardRead chain nets texts) text_of (IsWorth chain nets texts) old new result
+
+-- the answer for a board, as the first two of all texts and the others
+board_told : (text_of : RawBoard → Text) (IsWorth : Text → Text → List Text → Shown → Type 0) (all : List (Vec ℕ Global)) (d e : Vec ℕ Global) (rest : List (Vec ℕ Global)) (chain nets : Text) (old new : Shown) (result : Result (Unit {0}) Unput) (IsTold : List Text → Type 0)
+    → 2 ≤ length all → chain ≡ (slice_index_or all 0 d).items → nets ≡ (slice_index_or all 1 e).items → rest ≡ drop 2 all
+    → ((c n : Text) (ts : List Text) → OfBoard text_of IsWorth old new result c n ts → IsTold (c ∷ n ∷ ts)) → OfBoard text_of IsWorth old new result chain nets (map (λ t. t.items) rest) → IsTold (map (λ t. t.items) all)
+board_told text_of IsWorth [] d e rest chain nets old new result IsTold some same_chain same_nets others tells answers = absurd (omega (arith, some))
+board_told text_of IsWorth (first ∷ []) d e rest chain nets old new result IsTold some same_chain same_nets others tells answers = absurd (omega (arith, some))
+board_told text_of IsWorth (first ∷ second ∷ more) d e rest chain nets old new result IsTold some same_chain same_nets others tells answers =
+    let one = subst (λ (t : Text). OfBoard text_of IsWorth old new result t nets (map (λ t. t.items) rest)) same_chain answers in
+    let two = subst (λ (t : Text). OfBoard text_of IsWorth old new result first.items t (map (λ t. t.items) rest)) same_nets one in
+    let three = subst (λ (l : List (Vec ℕ Global)). OfBoard text_of IsWorth old new result first.items second.items (map (λ t. t.items) l)) others two in
+    tells first.items second.items (map (λ t. t.items) more) three
+
+pub cover_told : (file net_file : Text) (names : List Text) (all : List (Vec ℕ Global)) (d e : Vec ℕ Global) (rest : List (Vec ℕ Global)) (chain nets : Text) (old new : Shown) (result : Result (Unit {0}) Unput)
+    → 2 ≤ length all → chain ≡ (slice_index_or all 0 d).items → nets ≡ (slice_index_or all 1 e).items → rest ≡ drop 2 all
+    → Answers (IsBoardRead chain nets (map (λ t. t.items) rest)) cover_text Nothing old new result → IsAnswered (Cover file net_file names) (map (λ t. t.items) all) old new result
+cover_told file net_file names all d e rest chain nets old new result some same_chain same_nets others answers =
+    board_told cover_text (λ c n ts. Nothing) all d e rest chain nets old new result (λ texts. IsAnswered (Cover file net_file names) texts old new result) some same_chain same_nets others
+    (λ c n ts found. answered (Cover file net_file names) (c ∷ n ∷ ts) (IsBoardRead c n ts) cover_text Nothing old new result (λ o says. says) (λ worth. worth) found) answers
+
+pub svf_told : (file net_file : Text) (names : List Text) (all : List (Vec ℕ Global)) (d e : Vec ℕ Global) (rest : List (Vec ℕ Global)) (chain nets : Text) (old new : Shown) (result : Result (Unit {0}) Unput)
+    → 2 ≤ length all → chain ≡ (slice_index_or all 0 d).items → nets ≡ (slice_index_or all 1 e).items → rest ≡ drop 2 all
+    → Answers (IsBoardRead chain nets (map (λ t. t.items) rest)) board_text (TestsBoard chain nets (map (λ t. t.items) rest) old) old new result → IsAnswered (Svf file net_file names) (map (λ t. t.items) all) old new result
+svf_told file net_file names all d e rest chain nets old new result some same_chain same_nets others answers =
+    board_told board_text (λ c n ts. TestsBoard c n ts old) all d e rest chain nets old new result (λ texts. IsAnswered (Svf file net_file names) texts old new result) some same_chain same_nets others
+    (λ c n ts found. answered (Svf file net_file names) (c ∷ n ∷ ts) (IsBoardRead c n ts) board_text (TestsBoard c n ts old) old new result (λ o says. says) (λ worth. worth) found) answers

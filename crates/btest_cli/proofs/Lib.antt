@@ -2,3 +2,4 @@ pub mod PieceLemmas
 pub mod AnswerLemmas
 pub mod ReadingLemmas
 pub mod RunLemmas
+pub mod TestLemmas

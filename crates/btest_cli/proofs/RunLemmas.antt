@@ -4,11 +4,14 @@ use Rattle.std.specs.Prelude.{Contains, slice_index_or}
 use Rattle.bt_base.specs.Counts.{Rose}
 use Rattle.bt_base.specs.Puts.{Puts, Shown}
 use Rattle.tap_defs.specs.ChainScans.{chain_text}
+use Rattle.tap_defs.specs.BoardScans.{board_text}
+use Rattle.board_defs.specs.declared.board.RawBoard.{RawBoard}
 use Rattle.device_check.specs.DeviceText.{device_text}
+use Rattle.coverage_list.specs.CoverText.{cover_text}
 use Rattle.btest_core.specs.declared.fault.InputFault.{InputFault}
-use Rattle.btest_core.specs.BoardRead.{AreChainLengths}
+use Rattle.btest_core.specs.BoardRead.{AreChainLengths, IsBoardRead}
 use Rattle.btest_core.specs.DevicesRead.{IsDeviceText}
-use Rattle.command_line.specs.Words.{Text, Command, Chain, Device, names_of}
+use Rattle.command_line.specs.Words.{Text, Command, Chain, Device, Cover, Svf, names_of}
 use Rattle.btest_cli.specs.declared.status.Status.{Status}
 use Rattle.btest_cli.specs.declared.status.Status.TheVariants as status
 use Rattle.btest_cli.specs.declared.failure.Unread.{Unread}
@@ -17,7 +20,7 @@ use Rattle.btest_cli.specs.declared.failure.Unput.{Unput}
 use Rattle.btest_cli.specs.declared.failure.Unput.TheVariants as unput
 use Rattle.btest_cli.specs.Texts.{Held, Reading, Read, TooLong, IsRead, reading_of}
 use Rattle.btest_cli.specs.Refusals.{Names, roles_of, input_fault_line, long_line, memory_line}
-use Rattle.btest_cli.specs.Outcome.{IsComplete, IsOutcome, IsSaid, Settles, SomeRose, TookOrCut}
+use Rattle.btest_cli.specs.Outcome.{IsComplete, IsOutcome, IsSaid, IsSaidOfBoard, Settles, SomeRose, TookOrCut}
 use Rattle.btest_cli.specs.Failures.{IsUnread, IsPut, IsUnput, unread_status, unread_line, unput_status, unput_line}
 use Rattle.btest_cli.specs.RunOf.{IsRunOf}
 
@@ -184,11 +187,22 @@ one_said names text_of IsFound a b one says_a says_b =
     let y = found_of names text_of IsFound b says_b in
     x.2 ∙ ap (said names text_of) (one x.0 y.0 x.1 y.1) ∙ sym y.2
 
+-- what is known of the texts of a board
+abbrev OneBoard : Type 0
+OneBoard = (chain nets : Text) (texts : List Text) → AtMostOne (IsBoardRead chain nets texts)
+
+one_of_board : OneBoard → (names : Names) (text_of : RawBoard → Text) (texts : List Text) (a b : Result Text Text) → IsSaidOfBoard names text_of texts a → IsSaidOfBoard names text_of texts b → a ≡ b
+one_of_board boards names text_of [] a b is_a is_b = absurd is_a
+one_of_board boards names text_of (chain ∷ []) a b is_a is_b = absurd is_a
+one_of_board boards names text_of (chain ∷ nets ∷ texts) a b is_a is_b = one_said names text_of (IsBoardRead chain nets texts) a b (boards chain nets texts) is_a is_b
+
 -- texts that say at most one thing give one outcome
-pub one_outcome : ((text : Text) → AtMostOne (IsDeviceText text)) → ((chain : Text) (texts : List Text) → AtMostOne (AreChainLengths chain texts)) → OneOutcome
-one_outcome devices chains command (TooLong name) a b is_a is_b = is_a ∙ sym is_b
-one_outcome devices chains (Chain file names) (Read []) a b is_a is_b = absurd is_a
-one_outcome devices chains (Chain file names) (Read (text ∷ texts)) a b is_a is_b = one_said (roles_of (Chain file names)) chain_text (AreChainLengths text texts) a b (chains text texts) is_a is_b
-one_outcome devices chains (Device name) (Read []) a b is_a is_b = absurd is_a
-one_outcome devices chains (Device name) (Read (text ∷ [])) a b is_a is_b = one_said (roles_of (Device name)) device_text (IsDeviceText text) a b (devices text) is_a is_b
-one_outcome devices chains (Device name) (Read (text ∷ other ∷ others)) a b is_a is_b = absurd is_a
+pub one_outcome : ((text : Text) → AtMostOne (IsDeviceText text)) → ((chain : Text) (texts : List Text) → AtMostOne (AreChainLengths chain texts)) → OneBoard → OneOutcome
+one_outcome devices chains boards command (TooLong name) a b is_a is_b = is_a ∙ sym is_b
+one_outcome devices chains boards (Chain file names) (Read []) a b is_a is_b = absurd is_a
+one_outcome devices chains boards (Chain file names) (Read (text ∷ texts)) a b is_a is_b = one_said (roles_of (Chain file names)) chain_text (AreChainLengths text texts) a b (chains text texts) is_a is_b
+one_outcome devices chains boards (Device name) (Read []) a b is_a is_b = absurd is_a
+one_outcome devices chains boards (Device name) (Read (text ∷ [])) a b is_a is_b = one_said (roles_of (Device name)) device_text (IsDeviceText text) a b (devices text) is_a is_b
+one_outcome devices chains boards (Device name) (Read (text ∷ other ∷ others)) a b is_a is_b = absurd is_a
+one_outcome devices chains boards (Cover file nets names) (Read texts) a b is_a is_b = one_of_board boards (roles_of (Cover file nets names)) cover_text texts a b is_a is_b
+one_outcome devices chains boards (Svf file nets names) (Read texts) a b is_a is_b = one_of_board boards (roles_of (Svf file nets names)) board_text texts a b is_a is_b

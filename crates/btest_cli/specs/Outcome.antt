@@ -5,11 +5,15 @@ use Rattle.bt_base.specs.Counts.{Rose}
 use Rattle.bt_base.specs.Puts.{Shown, Takes}
 use Rattle.tap_defs.specs.ChainScans.{chain_text}
 use Rattle.tap_defs.specs.ChainTest.{IsChainTest}
+use Rattle.tap_defs.specs.BoardScans.{board_text}
+use Rattle.tap_defs.specs.BoardTest.{IsBoardTest}
+use Rattle.board_defs.specs.declared.board.RawBoard.{RawBoard}
 use Rattle.device_check.specs.DeviceText.{device_text}
+use Rattle.coverage_list.specs.CoverText.{cover_text}
 use Rattle.btest_core.specs.declared.fault.InputFault.{InputFault}
 use Rattle.btest_core.specs.DevicesRead.{IsDeviceText}
-use Rattle.btest_core.specs.BoardRead.{AreChainLengths, AreLengths}
-use Rattle.command_line.specs.Words.{Text, Command, Chain, Device, command_of, names_of}
+use Rattle.btest_core.specs.BoardRead.{AreChainLengths, AreLengths, IsBoardRead, Denotes}
+use Rattle.command_line.specs.Words.{Text, Command, Chain, Device, Cover, Svf, command_of, names_of}
 use Rattle.btest_cli.specs.declared.status.Status.{Status}
 use Rattle.btest_cli.specs.declared.status.Status.TheVariants.{Done, Refused, NoMemory}
 use Rattle.btest_cli.specs.Texts.{Held, Reading, Read, TooLong, reading_of, IsRead}
@@ -20,6 +24,12 @@ abbrev pub IsSaid : {A : Type 0} → Names → (A → Text) → (Result A InputF
 IsSaid {A} names text_of IsFound outcome =
     ((value : A) × IsFound (Ok value) × (outcome ≡ Ok (text_of value))) ⊎ ((fault : InputFault) × IsFound (Err fault) × (outcome ≡ Err (input_fault_line names fault)))
 
+-- what is put for the board that a chain file, a net file and BSDL texts denote, or the line of their first fault
+abbrev pub IsSaidOfBoard : Names → (RawBoard → Text) → List Text → Result Text Text → Type 0
+IsSaidOfBoard names text_of [] outcome = ⊥
+IsSaidOfBoard names text_of (chain ∷ []) outcome = ⊥
+IsSaidOfBoard names text_of (chain ∷ nets ∷ texts) outcome = IsSaid names text_of (IsBoardRead chain nets texts) outcome
+
 -- what a command gives for texts, of which it has one for each of its names: the text that it puts, or the line of the first fault
 abbrev pub IsGiven : Command → List Text → Result Text Text → Type 0
 IsGiven (Chain chain names) [] outcome = ⊥
@@ -27,6 +37,8 @@ IsGiven (Chain chain names) (text ∷ texts) outcome = IsSaid (roles_of (Chain c
 IsGiven (Device name) [] outcome = ⊥
 IsGiven (Device name) (text ∷ []) outcome = IsSaid (roles_of (Device name)) device_text (IsDeviceText text) outcome
 IsGiven (Device name) (text ∷ other ∷ others) outcome = ⊥
+IsGiven (Cover chain nets names) texts outcome = IsSaidOfBoard (roles_of (Cover chain nets names)) cover_text texts outcome
+IsGiven (Svf chain nets names) texts outcome = IsSaidOfBoard (roles_of (Svf chain nets names)) board_text texts outcome
 
 -- the same for what was read: a text that is too long is the first fault
 abbrev pub IsOutcome : Command → Reading → Result Text Text → Type 0
@@ -50,11 +62,29 @@ pub record TestsChain (chain : Text) (texts : List Text) (old new : Shown) : Typ
   pub tests : IsChainTest lengths text
   pub takes : Takes old new text
 
--- what the text is worth that a command puts for texts: a chain test, as what it tests; a listing says no more than what it is
+-- the sink took a text that tests the board which these texts denote: it has a meaning; it passes where nothing is faulty; after its
+-- reset it is quiet under every fault set; and it fails under every nonempty fault set that is observable
+pub record TestsBoard (chain nets : Text) (texts : List Text) (old new : Shown) : Type 0 where
+  pub board : RawBoard
+  pub denoted : Denotes chain nets texts board
+  pub text : Text
+  pub tests : IsBoardTest board text
+  pub takes : Takes old new text
+
+-- the same, where these are all texts
+abbrev pub TestsBoardOf : List Text → Shown → Shown → Type 0
+TestsBoardOf [] old new = ⊥
+TestsBoardOf (chain ∷ []) old new = ⊥
+TestsBoardOf (chain ∷ nets ∷ texts) old new = TestsBoard chain nets texts old new
+
+-- what the text is worth that a command puts for texts: a test of a chain or of a board, as what it tests; a list says no more than
+-- what it is
 abbrev pub IsWorthFor : Command → List Text → Shown → Shown → Type 0
 IsWorthFor (Chain chain names) [] old new = ⊥
 IsWorthFor (Chain chain names) (text ∷ texts) old new = TestsChain text texts old new
 IsWorthFor (Device name) texts old new = Unit {0}
+IsWorthFor (Cover chain nets names) texts old new = Unit {0}
+IsWorthFor (Svf chain nets names) texts old new = TestsBoardOf texts old new
 
 -- the texts were read, and what was put for them is worth that
 pub record IsWorth (held : Held) (command : Command) (old new : Shown) : Type 0 where

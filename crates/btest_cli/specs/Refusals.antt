@@ -16,7 +16,7 @@ use Rattle.series_parts.specs.declared.fault.LinkFault.{LinkFault}
 use Rattle.series_parts.specs.declared.fault.LinkFault.TheVariants as link
 use Rattle.btest_core.specs.declared.fault.InputFault.{InputFault}
 use Rattle.btest_core.specs.declared.fault.InputFault.TheVariants as input
-use Rattle.command_line.specs.Words.{Text, Command, Chain, Device}
+use Rattle.command_line.specs.Words.{Text, Command, Chain, Device, Cover, Svf}
 
 -- pieces, one after the other
 abbrev pub whole : List Text → Text
@@ -142,3 +142,5 @@ input_fault_line names (input.Memory e) = memory_line
 abbrev pub roles_of : Command → Names
 roles_of (Chain chain bsdl) = record { chain = chain; nets = []; bsdl = bsdl }
 roles_of (Device bsdl) = record { chain = []; nets = []; bsdl = bsdl ∷ [] }
+roles_of (Cover chain nets bsdl) = record { chain = chain; nets = nets; bsdl = bsdl }
+roles_of (Svf chain nets bsdl) = record { chain = chain; nets = nets; bsdl = bsdl }

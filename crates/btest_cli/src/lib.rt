@@ -1,6 +1,8 @@
 //! The top call of the program: texts, refusals and what is written.
 #![tactic(auto)]
 
+mod board_cover;
+mod board_test;
 mod chain_test;
 mod device_listing;
 mod failure;

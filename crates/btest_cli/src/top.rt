@@ -1,7 +1,7 @@
 // The top call.
 ghost use Rattle.std.specs.Prelude.{◌≡◌, ◌≢◌, ◌⊎◌, ◌+◌, ◌≤◌, ◌++◌, ℕ, [], All, List, length, map, None, string_bytes, IfOk, OnOk};
 ghost use Rattle.bt_base.specs.Counts.{Rose};
-ghost use Rattle.command_line.specs.Words.{Chain, Device, command_of, names_of};
+ghost use Rattle.command_line.specs.Words.{Text, Chain, Device, Cover, Svf, command_of, names_of};
 ghost use Rattle.command_line.specs.CommandView.{command_view};
 ghost use Rattle.btest_cli.specs.RunOf.{IsRunOf};
 ghost use Rattle.btest_cli.specs.NamesView.{names_view};
@@ -10,6 +10,8 @@ ghost use Rattle.btest_cli.specs.Texts.{most_bytes};
 ghost use Rattle.btest_cli.specs.Outcome.{ForCommand, IsComplete, IsCutShort, IsDone, IsNotRead, IsRefused, IsWorth, SomeRose, TookOrCut};
 ghost use Rattle.btest_cli.specs.Failures.{IsAnswered};
 
+use crate::board_cover::cover;
+use crate::board_test::svf;
 use crate::chain_test::chain;
 use crate::device_listing::device;
 use crate::failure::{Unput, put_unput, put_unread, unput_status, unread_status};
@@ -120,6 +122,11 @@ fn names_of<'a>(alloc: Global, command: Command<'a>) -> Result<Vec<&'a str>, All
             push_names(&mut names, bsdl)?;
         }
         Command::Device { bsdl } => names.push(bsdl)?,
+        Command::Cover { chain, nets, bsdl } | Command::Svf { chain, nets, bsdl } => {
+            names.push(chain)?;
+            names.push(nets)?;
+            push_names(&mut names, bsdl)?;
+        }
     }
     Ok(names)
 }
@@ -149,6 +156,11 @@ fn roles_of<'a>(command: Command<'a>) -> Names<'a>
             nets: "",
             bsdl: TextNames::One(bsdl),
         },
+        Command::Cover { chain, nets, bsdl } | Command::Svf { chain, nets, bsdl } => Names {
+            chain,
+            nets,
+            bsdl: TextNames::Several(bsdl),
+        },
     }
 }
 
@@ -165,42 +177,54 @@ fn answer<K: Sink>(
     ensures { IsAnswered (command_view command.entry) (map (λ text. text.items) texts.now) (K.shown out.old) (K.shown out.new) result }
 {
     match command {
-        Command::Chain { chain, bsdl } => answer_chain(alloc, chain, bsdl, texts, out),
-        Command::Device { bsdl } => answer_device(alloc, bsdl, texts, out),
+        Command::Chain { .. } => answer_chain(alloc, texts, out),
+        Command::Device { .. } => answer_device(alloc, texts, out),
+        Command::Cover { .. } => answer_cover(alloc, texts, out),
+        Command::Svf { .. } => answer_svf(alloc, texts, out),
     }
 }
 
-fn answer_chain<K: Sink>(
-    alloc: Global,
-    file: &str,
-    names: &[String],
-    texts: &[Vec<u8>],
-    out: &mut K,
-) -> Result<(), Unput>
-    requires number { length texts.now ≡ 1 + length names.now }
+fn answer_chain<K: Sink>(alloc: Global, texts: &[Vec<u8>], out: &mut K) -> Result<(), Unput>
+    requires some { 1 ≤ length texts.now }
     requires few { length texts.now ≤ 257 }
     requires short { All (λ text. length text.items ≤ most_bytes) texts.now }
-    ensures { IsAnswered (Chain file.now (map string_bytes names.now)) (map (λ text. text.items) texts.now) (K.shown out.old) (K.shown out.new) result }
+    ensures { (file : Text) (names : List Text) → IsAnswered (Chain file names) (map (λ text. text.items) texts.now) (K.shown out.old) (K.shown out.new) result }
 {
-    let _ = file;
-    let _ = names;
     let [text, bsdl @ ..] = texts else {
         unreachable!()
     };
     chain(alloc, text, bsdl, out)
 }
 
-fn answer_device<K: Sink>(
-    alloc: Global,
-    name: &str,
-    texts: &[Vec<u8>],
-    out: &mut K,
-) -> Result<(), Unput>
+fn answer_device<K: Sink>(alloc: Global, texts: &[Vec<u8>], out: &mut K) -> Result<(), Unput>
     requires number { length texts.now ≡ 1 }
     requires short { All (λ text. length text.items ≤ most_bytes) texts.now }
-    ensures { IsAnswered (Device name.now) (map (λ text. text.items) texts.now) (K.shown out.old) (K.shown out.new) result }
+    ensures { (name : Text) → IsAnswered (Device name) (map (λ text. text.items) texts.now) (K.shown out.old) (K.shown out.new) result }
 {
-    let _ = name;
     let [text] = texts else { unreachable!() };
     device(alloc, text, out)
+}
+
+fn answer_cover<K: Sink>(alloc: Global, texts: &[Vec<u8>], out: &mut K) -> Result<(), Unput>
+    requires some { 2 ≤ length texts.now }
+    requires few { length texts.now ≤ 257 }
+    requires short { All (λ text. length text.items ≤ most_bytes) texts.now }
+    ensures { (chain nets : Text) (names : List Text) → IsAnswered (Cover chain nets names) (map (λ text. text.items) texts.now) (K.shown out.old) (K.shown out.new) result }
+{
+    let [chain, nets, bsdl @ ..] = texts else {
+        unreachable!()
+    };
+    cover(alloc, chain, nets, bsdl, out)
+}
+
+fn answer_svf<K: Sink>(alloc: Global, texts: &[Vec<u8>], out: &mut K) -> Result<(), Unput>
+    requires some { 2 ≤ length texts.now }
+    requires few { length texts.now ≤ 257 }
+    requires short { All (λ text. length text.items ≤ most_bytes) texts.now }
+    ensures { (chain nets : Text) (names : List Text) → IsAnswered (Svf chain nets names) (map (λ text. text.items) texts.now) (K.shown out.old) (K.shown out.new) result }
+{
+    let [chain, nets, bsdl @ ..] = texts else {
+        unreachable!()
+    };
+    svf(alloc, chain, nets, bsdl, out)
 }

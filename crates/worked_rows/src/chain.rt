@@ -1,13 +1,9 @@
 // The chain test of parts that are known by their length.
 use crate::devices::DRV;
-use crate::runs::Bench;
+use crate::runs::{Bench, HEAD, TAIL};
 use bt_base::MemSink;
 use btest_cli::Status;
 use std::test::Fail;
-
-const HEAD: &str = "TRST OFF;\nENDIR IDLE;\nENDDR IDLE;\nSTATE RESET;\nSTATE IDLE;\n";
-
-const TAIL: &str = "STATE RESET;\n";
 
 const TWO_PARTS: &str = "BYPASS U1 4\nBYPASS U2 2";
 
@@ -186,6 +182,8 @@ fn words_that_are_no_command_fetch_nothing(rt: HostRuntime) -> Result<(), Fail> 
         "device -",
         "Chain c",
         "svf c",
+        "cover c",
+        "cover",
         "make -- 2",
         "diagnose 0 g c n drv rcv",
         "diagnose 65 g c n drv rcv",

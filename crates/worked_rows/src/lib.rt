@@ -2,10 +2,16 @@
 #![tactic(auto)]
 
 #[cfg(test)]
+mod boards;
+#[cfg(test)]
 mod chain;
+#[cfg(test)]
+mod cover;
 #[cfg(test)]
 mod device;
 #[cfg(test)]
 mod devices;
 #[cfg(test)]
 mod runs;
+#[cfg(test)]
+mod svf;

@@ -1,8 +1,26 @@
 // One run on texts and sinks in memory, and what it left.
+use crate::devices::{BI, BUF2, DRV, DRV1, FOUR, OCT, OD, RCV, RCV1, TS, TWO};
 use bt_base::{MemSink, MemStore, OpenGate};
 use btest_cli::{Status, run};
 use std::alloc::{AllocError, Global};
 use std::thread::Threads;
+
+/// The lines before the scans of an SVF text.
+pub const HEAD: &str = "TRST OFF;\nENDIR IDLE;\nENDDR IDLE;\nSTATE RESET;\nSTATE IDLE;\n";
+
+/// The line after them.
+pub const TAIL: &str = "STATE RESET;\n";
+
+/// The chain file of a driver and a receiver.
+pub const CHAIN: &str = "DEVICE U1 DRV -\nDEVICE U2 RCV -\n";
+
+/// Their net file.
+pub const NETS: &str = "NET N1 U1.1 U2.1\nNET N2 U1.2 U2.2\n";
+
+/// The scans of their test.
+pub const SCANS: &str =
+    "SIR 4 TDI (A) TDO (5) MASK (F);\nSDR 4 TDI (0);\nSIR 4 TDI (0) TDO (5) MASK (F);\n\
+     SDR 4 TDI (4);\nSDR 4 TDI (8) TDO (1) MASK (3);\nSDR 4 TDI (0) TDO (2) MASK (3);\n";
 
 /// What a run is given, and what it left.
 #[derive(Drop)]
@@ -23,9 +41,31 @@ impl Bench {
         Ok(Bench {
             alloc,
             store,
-            out: MemSink::with_room(alloc, 100_000)?,
+            out: MemSink::with_room(alloc, 500_000)?,
             notes: MemSink::with_room(alloc, 1_000)?,
         })
+    }
+
+    /// A store with a chain file `c`, a net file `n`, and the texts of the worked devices by their names.
+    pub fn with_board(alloc: Global, chain: &str, nets: &str) -> Result<Bench, AllocError> {
+        Bench::with_texts(
+            alloc,
+            &[
+                ("c", chain.as_bytes()),
+                ("n", nets.as_bytes()),
+                ("drv", DRV.as_bytes()),
+                ("drv1", DRV1.as_bytes()),
+                ("rcv", RCV.as_bytes()),
+                ("rcv1", RCV1.as_bytes()),
+                ("ts", TS.as_bytes()),
+                ("bi", BI.as_bytes()),
+                ("two", TWO.as_bytes()),
+                ("oct", OCT.as_bytes()),
+                ("four", FOUR.as_bytes()),
+                ("od", OD.as_bytes()),
+                ("buf2", BUF2.as_bytes()),
+            ],
+        )
     }
 
     /// Runs a command line, whose words are separated by spaces.

@@ -12,4 +12,4 @@ returns-in-Ok-Some-clause-complete g c =
     subst (λ (o : Option Command). IfSome o (λ command. IsComplete (g.S.Store.held c.args.store.now) command
     (SomeRose (g.S.Store.faults c.args.store.now) (g.S.Store.faults c.run_command.new.store) (names_of command)) (Rose (g.K.Sink.shown c.args.out.now).faults (g.K.Sink.shown c.run_command.new.out).faults) c.run_command.result))
     (sym (ap (option_map command_view) c.in-Ok-Some.field-0-is) ∙ c.in-Ok-Some.ensures.command)
-    (run_complete (one_outcome c.inputs_have_one_answer.ensures.device c.inputs_have_one_answer.ensures.chain) (command_view c.in-Ok-Some.command) (g.S.Store.held c.args.store.now) _ _ _ _ _ _ c.run_command.result c.run_command.ensures)
+    (run_complete (one_outcome c.inputs_have_one_answer.ensures.device c.inputs_have_one_answer.ensures.chain c.inputs_have_one_answer.ensures.board) (command_view c.in-Ok-Some.command) (g.S.Store.held c.args.store.now) _ _ _ _ _ _ c.run_command.result c.run_command.ensures)

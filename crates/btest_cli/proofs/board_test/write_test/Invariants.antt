@@ -1,0 +1,12 @@
+use Rattle.std.proofs.Common.{Ok, take, ◌++◌}
+use Rattle.bt_base.specs.Puts.{Puts}
+use Rattle.bt_base.specs.declared.sink.PutFault.{PutFault}
+use Rattle.tap_defs.specs.Text.{head_text, scan_texts}
+use Rattle.tap_defs.specs.BoardScans.{test_scans}
+use Rattle.scan_planner.specs.Plans.{IsRoom}
+use Rattle.btest_cli.proofs.board_test.write_test.Given as goal
+
+-- the head and the scans so far were put
+abbrev pub invariant-loop-k : goal.invariant-loop-k
+invariant-loop-k g l =
+    Puts {T = Unit {0}} {E = PutFault} (g.K.Sink.shown l.fn.out) (g.K.Sink.shown l.out) (head_text ++ scan_texts (take l.k (test_scans l.board l.plan.passes l.plan.width))) (Ok tt)

@@ -1,0 +1,7 @@
+use Rattle.std.proofs.Common.{◌∙◌, ◌-◌, ap, take, drop, length, arith}
+use Rattle.std.proofs.lemmas.List.{take_all, length-drop}
+use Rattle.btest_cli.proofs.AnswerLemmas.{cover_told}
+use Rattle.btest_cli.proofs.top.answer_cover.Goals as goal
+
+pub returns : goal.returns
+returns g c = λ file net_file names. cover_told file net_file names c.args.texts.now c.chain-item.result c.nets-item.result (take (length c.args.texts.now - 2) (drop 2 c.args.texts.now)) c.deref.result.now c.deref-2.result.now _ _ _ c.requires.some (c.deref.ensures.value ∙ ap (λ t. t.items) c.chain-item.is) (c.deref-2.ensures.value ∙ ap (λ t. t.items) c.nets-item.is) (take_all _ _ (omega (arith, length-drop 2 c.args.texts.now))) c.cover.ensures

@@ -1,0 +1,44 @@
+// The command `cover`.
+ghost use Rattle.std.specs.Prelude.{◌<◌, ◌^◌, All, length, map};
+ghost use Rattle.coverage_list.specs.CoverText.{cover_text};
+ghost use Rattle.btest_core.specs.BoardRead.{IsBoardRead};
+ghost use Rattle.btest_cli.specs.Answers.{Answers, Nothing};
+
+use crate::failure::{Unput, unput_by};
+use bt_base::Sink;
+use bt_bits::Line;
+use btest_core::read_board;
+use coverage_list::write_cover;
+use net_classes::classify;
+use std::alloc::Global;
+
+/// Puts the coverage list of the board of a chain file, a net file and BSDL texts. All memory is
+/// taken before the first put.
+pub fn cover<K: Sink>(
+    alloc: Global,
+    chain: &[u8],
+    nets: &[u8],
+    bsdl: &[Vec<u8>],
+    out: &mut K,
+) -> Result<(), Unput>
+    requires chain { length chain.now < 2 ^ 32 }
+    requires nets { length nets.now < 2 ^ 32 }
+    requires each { All (λ text. length text.items < 2 ^ 32) bsdl.now }
+    requires count { length bsdl.now < 2 ^ 32 }
+    ensures { Answers (IsBoardRead chain.now nets.now (map (λ text. text.items) bsdl.now)) cover_text Nothing (K.shown out.old) (K.shown out.new) result }
+{
+    let board = match read_board(alloc, chain, nets, bsdl) {
+        Ok(board) => board,
+        Err(fault) => return Err(unput_by(fault)),
+    };
+    let Ok(classes) = classify(alloc, &board) else {
+        return Err(Unput::Memory);
+    };
+    let Ok(mut line) = Line::new(alloc) else {
+        return Err(Unput::Memory);
+    };
+    match write_cover(&board, &classes, &mut line, out) {
+        Ok(()) => Ok(()),
+        Err(_) => Err(Unput::Write),
+    }
+}

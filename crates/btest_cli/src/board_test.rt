@@ -1,0 +1,122 @@
+// The command `svf`.
+ghost use Rattle.std.specs.Prelude.{◌≡◌, ◌<◌, ◌≤◌, ◌^◌, All, IfOk, IfSome, length, map, slice_get};
+ghost use Rattle.bt_base.specs.Puts.{Puts};
+ghost use Rattle.board_defs.specs.Passes.{passes_of};
+ghost use Rattle.tap_defs.specs.BoardScans.{board_text, pass_text, test_scans};
+ghost use Rattle.tap_defs.specs.BoardTest.{IsBoardTest};
+ghost use Rattle.tap_defs.specs.Text.{scan_text};
+ghost use Rattle.scan_planner.specs.Plans.{IsPlanOf, IsRoom, scan_count};
+ghost use Rattle.btest_core.specs.BoardRead.{IsBoardRead};
+ghost use Rattle.btest_cli.specs.Outcome.{TestsBoard};
+ghost use Rattle.btest_cli.specs.Answers.{Answers};
+
+use crate::failure::{Unput, unput_by};
+use crate::rows::Rows;
+use board_defs::Board;
+use bt_base::{PutFault, Sink};
+use btest_core::{plan, read_board};
+use net_classes::classify;
+use scan_planner::Plan;
+use std::alloc::{AllocError, Global};
+use svf_writer::{write_head, write_scan, write_tail};
+use tap_defs::law::{board_texts_test, scans_placed};
+
+/// Puts the text that tests the board of a chain file, a net file and BSDL texts. All memory is
+/// taken before the first put.
+pub fn svf<K: Sink>(
+    alloc: Global,
+    chain: &[u8],
+    nets: &[u8],
+    bsdl: &[Vec<u8>],
+    out: &mut K,
+) -> Result<(), Unput>
+    requires chain { length chain.now < 2 ^ 32 }
+    requires nets { length nets.now < 2 ^ 32 }
+    requires each { All (λ text. length text.items < 2 ^ 32) bsdl.now }
+    requires count { length bsdl.now < 2 ^ 32 }
+    ensures { Answers (IsBoardRead chain.now nets.now (map (λ text. text.items) bsdl.now)) board_text (TestsBoard chain.now nets.now (map (λ text. text.items) bsdl.now) (K.shown out.old)) (K.shown out.old) (K.shown out.new) result }
+{
+    let board = match read_board(alloc, chain, nets, bsdl) {
+        Ok(board) => board,
+        Err(fault) => return Err(unput_by(fault)),
+    };
+    let Ok(plan) = board_plan(alloc, &board) else {
+        return Err(Unput::Memory);
+    };
+    let Ok(mut rows) = Rows::with_room(alloc, longest_scan(&board)) else {
+        return Err(Unput::Memory);
+    };
+    tests_board(&board);
+    match write_test(&board, &plan, &mut rows, out) {
+        Ok(()) => Ok(()),
+        Err(_) => Err(Unput::Write),
+    }
+}
+
+// The plan of the board's passes.
+fn board_plan(alloc: Global, board: &Board) -> Result<Plan, AllocError>
+    ensures plan { IfOk result (λ plan. IsPlanOf board.now plan) }
+    ensures passes { IfOk result (λ plan. plan.passes ≡ passes_of board.now) }
+{
+    let classes = classify(alloc, board)?;
+    plan(alloc, board, &classes)
+}
+
+// What the text of the board's test is worth.
+fn tests_board(board: &Board)
+    ensures { IsBoardTest board.now (board_text board.now) }
+{
+    let _rules = board.raw();
+    board_texts_test();
+}
+
+// How many bits the longer scan of the board has.
+fn longest_scan(board: &Board) -> u32
+    ensures { IsRoom board.now result }
+{
+    board.ir_bits().max(board.dr_bits())
+}
+
+// Puts the test that a plan makes.
+#[tactic(auto, unfolding(tap_defs::specs::Text::svf_text))]
+fn write_test<K: Sink>(
+    board: &Board,
+    plan: &Plan,
+    rows: &mut Rows,
+    out: &mut K,
+) -> Result<(), PutFault>
+    requires plan { IsPlanOf board.now plan.now }
+    requires tdi { IsRoom board.now rows.old.tdi.room }
+    requires tdo { IsRoom board.now rows.old.tdo.room }
+    requires mask { IsRoom board.now rows.old.mask.room }
+    ensures { Puts (K.shown out.old) (K.shown out.new) (pass_text board.now plan.now.passes plan.now.width) result }
+{
+    scans_placed();
+    write_head(out)?;
+    for k in 0..plan.scans() {
+        write_scan_at(board, plan, k, rows, out)?;
+    }
+    write_tail(out)
+}
+
+// Puts scan `k` of a plan.
+fn write_scan_at<K: Sink>(
+    board: &Board,
+    plan: &Plan,
+    k: u64,
+    rows: &mut Rows,
+    out: &mut K,
+) -> Result<(), PutFault>
+    requires plan { IsPlanOf board.now plan.now }
+    requires scan { k < scan_count plan.now }
+    requires tdi { IsRoom board.now rows.old.tdi.room }
+    requires tdo { IsRoom board.now rows.old.tdo.room }
+    requires mask { IsRoom board.now rows.old.mask.room }
+    ensures text { IfSome (slice_get (test_scans board.now plan.now.passes plan.now.width) k) (λ scan. Puts (K.shown out.old) (K.shown out.new) (scan_text scan) result) }
+    ensures tdi { rows.new.tdi.room ≡ rows.old.tdi.room }
+    ensures tdo { rows.new.tdo.room ≡ rows.old.tdo.room }
+    ensures mask { rows.new.mask.room ≡ rows.old.mask.room }
+{
+    let shape = plan.fill(board, k, &mut rows.tdi, &mut rows.tdo, &mut rows.mask);
+    write_scan(shape, &rows.tdi, &rows.tdo, &rows.mask, &mut rows.line, out)
+}

@@ -1,0 +1,260 @@
+// The test of a board.
+use crate::runs::{Bench, CHAIN, HEAD, NETS, SCANS, TAIL};
+use btest_cli::Status;
+use std::abort::Abort;
+use std::alloc::Global;
+use std::test::Fail;
+use std::thread::Threads;
+
+/// The scans of a board's test.
+fn is_tested_by<R: Abort + Threads>(
+    rt: &R,
+    alloc: Global,
+    words: &str,
+    chain: &str,
+    nets: &str,
+    scans: &str,
+) -> Result<(), Fail> {
+    let mut bench = Bench::with_board(alloc, chain, nets)?;
+    let line = format!(in alloc; "svf c n {words}")?;
+    assert_eq!(rt; bench.run(rt, &line)?, Status::Done, "{scans}");
+    let text = format!(in alloc; "{HEAD}{scans}{TAIL}")?;
+    assert_eq!(rt; bench.out.bytes(), text.as_bytes(), "{scans}");
+    assert_eq!(rt; bench.notes.bytes(), b"".as_slice(), "{scans}");
+    Ok(())
+}
+
+#[test]
+fn the_driver_of_each_net_shifts_its_code(rt: HostRuntime) -> Result<(), Fail> {
+    let alloc = rt.alloc();
+    is_tested_by(&rt, alloc, "drv rcv", CHAIN, NETS, SCANS)?;
+    is_tested_by(
+        &rt,
+        alloc,
+        "drv1 rcv",
+        "DEVICE U1 DRV1 -\nDEVICE U2 RCV -",
+        NETS,
+        "SIR 4 TDI (2) TDO (5) MASK (F);\nSDR 4 TDI (0);\nSIR 4 TDI (4) TDO (5) MASK (F);\n\
+         SDR 4 TDI (4);\nSDR 4 TDI (8) TDO (1) MASK (3);\nSDR 4 TDI (0) TDO (2) MASK (3);\n",
+    )?;
+    is_tested_by(
+        &rt,
+        alloc,
+        "drv rcv",
+        "DEVICE U1 DRV -\nBYPASS U9 3\nDEVICE U2 RCV -",
+        NETS,
+        "SIR 7 TDI (5E) TDO (25) MASK (6F);\nSDR 5 TDI (00);\nSIR 7 TDI (1C) TDO (25) MASK (6F);\n\
+         SDR 5 TDI (08);\nSDR 5 TDI (10) TDO (01) MASK (03);\nSDR 5 TDI (00) TDO (02) MASK (03);\n",
+    )
+}
+
+#[test]
+fn a_bus_has_a_pass_for_each_driver(rt: HostRuntime) -> Result<(), Fail> {
+    is_tested_by(
+        &rt,
+        rt.alloc(),
+        "ts rcv1",
+        "DEVICE U1 TS -\nDEVICE U2 TS -\nDEVICE U3 RCV1 -",
+        "NET BUS U1.1 U2.1 U3.1",
+        "SIR 6 TDI (2A) TDO (15) MASK (3F);\nSDR 5 TDI (14);\nSIR 6 TDI (00) TDO (15) MASK (3F);\n\
+         SDR 5 TDI (0C);\nSDR 5 TDI (04) TDO (01) MASK (01);\nSDR 5 TDI (14) TDO (00) MASK (01);\n\
+         SDR 5 TDI (12);\nSDR 5 TDI (10) TDO (01) MASK (01);\nSDR 5 TDI (14) TDO (00) MASK (01);\n",
+    )
+}
+
+#[test]
+fn nets_that_are_not_covered_are_left_alone(rt: HostRuntime) -> Result<(), Fail> {
+    let alloc = rt.alloc();
+    is_tested_by(
+        &rt,
+        alloc,
+        "drv rcv",
+        CHAIN,
+        "NET N1 U1.1 U2.1 RAM.7\nNET N2 U1.2 U2.2",
+        "SIR 4 TDI (A) TDO (5) MASK (F);\nSDR 4 TDI (0);\nSIR 4 TDI (0) TDO (5) MASK (F);\n\
+         SDR 4 TDI (8);\nSDR 4 TDI (0) TDO (2) MASK (2);\nSDR 4 TDI (0) TDO (0) MASK (2);\n",
+    )?;
+    is_tested_by(
+        &rt,
+        alloc,
+        "buf2",
+        "DEVICE U1 BUF2 -\nDEVICE U2 BUF2 -\nSUPPLY VCC",
+        "NET N0 U1.5 U2.3\nNET N1 U1.4 U2.2\nNET OE U1.1 U2.1\nNET VCC U1.7 U2.7 C1.1\nNET TCK U1.10 U2.10 J1.1",
+        "SIR 4 TDI (A) TDO (5) MASK (F);\nSDR 10 TDI (210);\nSIR 4 TDI (0) TDO (5) MASK (F);\n\
+         SDR 10 TDI (030);\nSDR 10 TDI (050) TDO (004) MASK (00C);\nSDR 10 TDI (210) TDO (008) MASK (00C);\n",
+    )?;
+    is_tested_by(
+        &rt,
+        alloc,
+        "rcv",
+        "DEVICE U2 RCV -",
+        "NET N1 U2.1",
+        "SIR 2 TDI (2) TDO (1) MASK (3);\nSDR 2 TDI (0);\nSIR 2 TDI (0) TDO (1) MASK (3);\n",
+    )
+}
+
+#[test]
+fn a_pull_gives_the_bit_of_a_driver_that_is_off(rt: HostRuntime) -> Result<(), Fail> {
+    is_tested_by(
+        &rt,
+        rt.alloc(),
+        "od rcv1",
+        "DEVICE U1 OD -\nDEVICE U2 RCV1 -\nPULL N 1",
+        "NET N U1.1 U2.1",
+        "SIR 4 TDI (A) TDO (5) MASK (F);\nSDR 2 TDI (2);\nSIR 4 TDI (0) TDO (5) MASK (F);\n\
+         SDR 2 TDI (2);\nSDR 2 TDI (0) TDO (1) MASK (1);\nSDR 2 TDI (2) TDO (0) MASK (1);\n",
+    )
+}
+
+#[test]
+fn linked_nets_are_tested_as_one(rt: HostRuntime) -> Result<(), Fail> {
+    let alloc = rt.alloc();
+    let linked = format!(in alloc; "{CHAIN}LINK R1 1 2")?;
+    let nets = "NET N1A U1.1 R1.1\nNET N1B R1.2 U2.1\nNET N2 U1.2 U2.2";
+    is_tested_by(&rt, alloc, "drv rcv", &linked, nets, SCANS)
+}
+
+/// How many scans a board's test has, and how many of data compare something.
+fn has_scans<R: Abort + Threads>(
+    rt: &R,
+    alloc: Global,
+    words: &str,
+    chain: &str,
+    nets: &str,
+    counts: (usize, usize),
+) -> Result<(), Fail> {
+    let mut bench = Bench::with_board(alloc, chain, nets)?;
+    let line = format!(in alloc; "svf c n {words}")?;
+    assert_eq!(rt; bench.run(rt, &line)?, Status::Done, "{words}");
+    let mut scans = 0usize;
+    let mut rows = 0usize;
+    for line in bench.out.bytes().split(|byte| *byte == b'\n') {
+        if line.starts_with(b"SIR ") || line.starts_with(b"SDR ") {
+            scans = scans.saturating_add(1);
+        }
+        if line.starts_with(b"SDR ") && line.contains(&b'M') {
+            rows = rows.saturating_add(1);
+        }
+    }
+    assert_eq!(rt; (scans, rows), counts, "{words}");
+    Ok(())
+}
+
+#[test]
+fn nets_that_are_observed_apart_have_a_pass_together(rt: HostRuntime) -> Result<(), Fail> {
+    let alloc = rt.alloc();
+    has_scans(
+        &rt,
+        alloc,
+        "four rcv",
+        "DEVICE U1 FOUR -\nDEVICE U2 RCV -\nDEVICE U3 RCV -\nDEVICE U4 RCV -",
+        "NET X U1.1 U1.5 U2.1\nNET Y U1.2 U1.7 U2.2\nNET Z U1.3 U1.8 U3.1\nNET P U1.4 U3.2\nNET R U1.6 U4.1",
+        (15, 9),
+    )?;
+    has_scans(
+        &rt,
+        alloc,
+        "two rcv",
+        "DEVICE U1 TWO -\nDEVICE U2 RCV -\nDEVICE U3 RCV -",
+        "NET A U1.1 U2.1\nNET X U1.2 U1.3 U2.2\nNET B U1.4 U3.1",
+        (11, 6),
+    )
+}
+
+#[test]
+fn a_text_of_a_board_that_is_not_read_is_named(rt: HostRuntime) -> Result<(), Fail> {
+    let alloc = rt.alloc();
+    let cases = [(1, "c"), (2, "n"), (3, "drv"), (4, "rcv")];
+    for (call, name) in cases {
+        let mut bench = Bench::with_board(alloc, CHAIN, NETS)?;
+        bench.store.fail_at(call)?;
+        bench.out.fail_at(1, 0)?;
+        assert_eq!(rt;
+            bench.run(&rt, "svf c n drv rcv")?,
+            Status::ReadFault,
+            "{name}"
+        );
+        let note = format!(in alloc; "cannot read {name}\n")?;
+        assert_eq!(rt; bench.notes.bytes(), note.as_bytes(), "{name}");
+        assert_eq!(rt; bench.out.bytes(), b"".as_slice(), "{name}");
+    }
+    let mut bench = Bench::with_board(alloc, CHAIN, NETS)?;
+    assert_eq!(rt; bench.run(&rt, "svf c n drv none")?, Status::ReadFault);
+    assert_eq!(rt; bench.notes.bytes(), b"cannot read none\n".as_slice());
+    Ok(())
+}
+
+#[test]
+fn a_put_that_fails_cuts_the_test_short(rt: HostRuntime) -> Result<(), Fail> {
+    let alloc = rt.alloc();
+    let text = format!(in alloc; "{HEAD}{SCANS}{TAIL}")?;
+    let mut before = String::new(alloc);
+    let mut call = 1u32;
+    for line in text.split_inclusive('\n') {
+        let mut bench = Bench::with_board(alloc, CHAIN, NETS)?;
+        bench.out.fail_at(call, 0)?;
+        assert_eq!(rt; bench.run(&rt, "svf c n drv rcv")?, Status::WriteFault);
+        assert_eq!(rt; bench.notes.bytes(), b"cannot write\n".as_slice());
+        assert_eq!(rt; bench.out.bytes(), before.as_bytes());
+        before.push_str(line)?;
+        call = call.saturating_add(1);
+    }
+    assert_eq!(rt; call, 13);
+    let mut bench = Bench::with_board(alloc, CHAIN, NETS)?;
+    bench.out.fail_at(3, 2)?;
+    assert_eq!(rt; bench.run(&rt, "svf c n drv rcv")?, Status::WriteFault);
+    assert_eq!(rt; bench.out.bytes(), b"TRST OFF;\nENDIR IDLE;\nEN".as_slice());
+    Ok(())
+}
+
+/// The BSDL text of a device that has so many internal cells.
+fn internal_cells(alloc: Global, name: &str, cells: u32) -> Result<String, Fail> {
+    let mut text = String::new(alloc);
+    write!(
+        text,
+        "entity {name} is\n\
+         generic (PHYSICAL_PIN_MAP : string := \"P\");\n\
+         port (TDI, TMS, TCK : in bit; TDO : out bit);\n\
+         use STD_1149_1_1994.all;\n\
+         attribute PIN_MAP of {name} : entity is PHYSICAL_PIN_MAP;\n\
+         constant P : PIN_MAP_STRING := \"TDI:T1, TDO:T2, TMS:T3, TCK:T4\";\n\
+         attribute TAP_SCAN_IN of TDI : signal is true;\n\
+         attribute TAP_SCAN_OUT of TDO : signal is true;\n\
+         attribute TAP_SCAN_MODE of TMS : signal is true;\n\
+         attribute TAP_SCAN_CLOCK of TCK : signal is (10.0e6, BOTH);\n\
+         attribute INSTRUCTION_LENGTH of {name} : entity is 2;\n\
+         attribute INSTRUCTION_OPCODE of {name} : entity is \"BYPASS (11), EXTEST (00), SAMPLE (10)\";\n\
+         attribute INSTRUCTION_CAPTURE of {name} : entity is \"01\";\n\
+         attribute BOUNDARY_LENGTH of {name} : entity is {cells};\n\
+         attribute BOUNDARY_REGISTER of {name} : entity is\n\
+         \"0 (BC_1, *, internal, X)"
+    )?;
+    for cell in 1..cells {
+        write!(text, ",\" &\n\"{cell} (BC_1, *, internal, X)")?;
+    }
+    write!(text, "\";\nend {name};\n")?;
+    Ok(text)
+}
+
+#[test]
+fn a_scan_has_at_most_65535_bits(rt: HostRuntime) -> Result<(), Fail> {
+    let alloc = rt.alloc();
+    let first = internal_cells(alloc, "A", 32_768)?;
+    let cases = [
+        (32_767, Status::Done, ""),
+        (32_768, Status::Refused, "limit: boundary bits\n"),
+    ];
+    for (cells, status, note) in cases {
+        let second = internal_cells(alloc, "B", cells)?;
+        let texts: [(&str, &[u8]); 4] = [
+            ("c", b"DEVICE U1 A -\nDEVICE U2 B -"),
+            ("n", b""),
+            ("a", first.as_bytes()),
+            ("b", second.as_bytes()),
+        ];
+        let mut bench = Bench::with_texts(alloc, &texts)?;
+        assert_eq!(rt; bench.run(&rt, "svf c n a b")?, status, "{cells}");
+        assert_eq!(rt; bench.notes.bytes(), note.as_bytes(), "{cells}");
+    }
+    Ok(())
+}
