@@ -1,5 +1,5 @@
 -- The look-ups answer for the words of the definitions.
-use Rattle.std.proofs.Common.{◌≡◌, map, ap, ◌∙◌}
+use Rattle.std.proofs.Common.{map, ap, ◌∙◌}
 use Rattle.std.specs.Prelude.{is_some}
 use Rattle.first_places.specs.Places.{first_place, first_value}
 use Rattle.board_build.specs.declared.names.Naming.TheVariants.{Inert}

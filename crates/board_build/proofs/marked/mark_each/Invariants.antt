@@ -4,7 +4,7 @@ use Rattle.indexmap.specs.IndexMap.{get_by}
 use Rattle.board_build.specs.Names.{same_name}
 use Rattle.board_build.specs.NetWords.{lent_pin, same_pin}
 use Rattle.board_build.specs.Marked.{mark_by}
-use Rattle.board_build.proofs.marked.mark_all.Given as goal
+use Rattle.board_build.proofs.marked.mark_each.Given as goal
 
 -- the words so far are marked
 abbrev pub invariant-loop-i : goal.invariant-loop-i
