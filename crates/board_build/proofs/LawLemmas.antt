@@ -1,6 +1,6 @@
 -- Files in which no rule finds a fault denote a board.
-use Rattle.std.proofs.Common.{◌≡◌, ◌≢◌, ℕ, ◌+◌, ◌<◌, ◌≤◌, ◌==◌, Bool, true, false, ◌||◌, List, [], ◌∷◌, length, map, Option, Some, None, refl, sym, ap, subst, ◌∙◌, arith, ◌⊎◌, inl, inr}
-use Rattle.std.specs.Prelude.{slice_get, find, filter, sum_by, All, AllPairs}
+use Rattle.std.proofs.Common.{◌≡◌, ◌≢◌, ℕ, ◌<◌, ◌≤◌, ◌==◌, Bool, true, false, ◌||◌, List, length, map, Some, None, refl, sym, ap, subst, ◌∙◌, arith, ◌⊎◌, inl, inr}
+use Rattle.std.specs.Prelude.{slice_get, find, All, AllPairs}
 use Rattle.std.specs.List.{list_any, AllByRecursion, slice_index_or}
 use Rattle.std.proofs.lemmas.Bool.{eqb-true, eq-eqb, cases_order}
 use Rattle.std.proofs.lemmas.List.{length-map, get_or-map}
@@ -14,17 +14,16 @@ use Rattle.board_defs.specs.declared.board.Part.{Part}
 use Rattle.board_defs.specs.declared.board.NetPin.{NetPin}
 use Rattle.board_defs.specs.declared.board.Net.{Net}
 use Rattle.board_defs.specs.declared.board.RawBoard.{RawBoard}
-use Rattle.board_defs.specs.declared.board.Drive.{Drive}
 use Rattle.board_defs.specs.declared.board.Drive.TheVariants.{AlwaysOn}
-use Rattle.board_defs.specs.Pins.{drive, is_test_pin, data_length}
-use Rattle.board_defs.specs.BoardRules.{IsBoard, IsPart, IsPlaced, Stands, PinsDiffer, AreInertAlike, NoGuardedDriver, OneAlwaysOn}
+use Rattle.board_defs.specs.Pins.{drive, is_test_pin}
+use Rattle.board_defs.specs.BoardRules.{IsBoard, IsPart, IsPlaced, PinsDiffer, AreInertAlike, NoGuardedDriver, OneAlwaysOn}
 use Rattle.board_build.specs.declared.names.Naming.TheVariants.{Part as PartName, Inert}
 use Rattle.board_build.specs.Names.{named, names_of, same_name}
-use Rattle.board_build.specs.NetWords.{Pin, NetWord, same_pin, net_of, pin_of, is_among, net_names, standing_words}
-use Rattle.board_build.specs.ChainParts.{IsChain, pin_places, place_of_pin, described_names}
+use Rattle.board_build.specs.NetWords.{NetWord, net_of, pin_of, is_among, net_names, standing_words}
+use Rattle.board_build.specs.ChainParts.{IsChain, pin_places, described_names}
 use Rattle.board_build.specs.BoardNets.{Marks, marks_of, net_pin, board_nets, board_with}
 use Rattle.board_build.specs.BoardRules.{board_fault, drives_always, is_always_on, always_on, is_kept, is_unknown, have_same_pin}
-use Rattle.board_build.proofs.ApartLemmas.{Apart, each_map, apart_pairs, apart_map, apart_passing, pairs_at, Passing, passing, once_apart}
+use Rattle.board_build.proofs.ApartLemmas.{Apart, each_map, apart_pairs, apart_passing, pairs_at, Passing, passing, once_apart}
 use Rattle.first_places.specs.Places.{once}
 use Rattle.board_build.proofs.PartLemmas.{placed}
 use Rattle.board_build.proofs.NetLemmas.{words_on, PinAtWord, pin_at_word, SameWord, same_word, nets_differ, count_nets, pins_fit}

@@ -1,37 +1,35 @@
 -- Lent and marked words against the words of the definitions.
-use Rattle.std.proofs.Common.{◌≡◌, ℕ, zero, suc, ◌+◌, ◌<◌, ◌==◌, Bool, true, false, cond, not, ◌&&◌, List, [], ◌∷◌, ◌++◌, length, map, take, get_or, set, Option, Some, None, refl, sym, ap, subst, ◌∙◌, arith, append_assoc, Bor}
-use Rattle.std.specs.Prelude.{slice_get, find, filter, is_none, is_some, zip, option_map, option_and_then, unwrap_or, nat_lt, if◌then◌else◌}
+use Rattle.std.proofs.Common.{◌≡◌, ℕ, zero, suc, ◌+◌, ◌==◌, Bool, true, false, cond, ◌&&◌, List, [], ◌∷◌, ◌++◌, length, map, Option, Some, None, refl, sym, ap, ◌∙◌, arith}
+use Rattle.std.specs.Prelude.{slice_get, find, filter, is_none, is_some, option_map, option_and_then, nat_lt, if◌then◌else◌}
 use Rattle.std.specs.List.{list_any}
 use Rattle.std.proofs.lemmas.List.{map-append, length-map}
 use Rattle.std.proofs.lemmas.List.Elements.{filter_agree}
-use Rattle.first_places.specs.Places.{once_from, once, repeated_from, first_repeated, first_place, first_value}
+use Rattle.first_places.specs.Places.{once_from, once, repeated_from, first_repeated, first_value}
 use Rattle.board_files.specs.declared.chain_file.ChainLine.{ChainLine}
 use Rattle.board_files.specs.declared.net_file.NetLine.{NetLine}
 use Rattle.board_defs.specs.declared.device.Control.{Control}
 use Rattle.board_defs.specs.declared.device.Cell.{Cell}
 use Rattle.board_defs.specs.declared.device.RawDevice.{RawDevice}
-use Rattle.board_defs.specs.declared.spot.Spot.{Spot}
 use Rattle.board_defs.specs.declared.board.Part.{Part}
 use Rattle.board_defs.specs.declared.board.PinAt.{PinAt}
 use Rattle.board_defs.specs.declared.board.NetPin.{NetPin}
 use Rattle.board_defs.specs.declared.board.Net.{Net}
 use Rattle.board_defs.specs.declared.board.RawBoard.{RawBoard}
-use Rattle.board_defs.specs.declared.board.Drive.{Drive}
-use Rattle.board_defs.specs.declared.board.Drive.TheVariants.{AlwaysOn, OneSided, By}
+use Rattle.board_defs.specs.declared.board.Drive.TheVariants.{OneSided, By}
 use Rattle.board_defs.specs.DeviceRules.{driving_entry}
-use Rattle.board_defs.specs.Pins.{drive, drive_by, drive_where, entry_at, device_at, lets_switch}
+use Rattle.board_defs.specs.Pins.{drive_by, drive_where, entry_at, device_at, lets_switch}
 use Rattle.board_build.proofs.NameLemmas.{any-map}
 use Rattle.board_build.specs.declared.fault.BoardFault.{BoardFault}
 use Rattle.board_build.specs.declared.fault.BoardFault.TheVariants.{Limit, NoPin, PinTwice, GuardedDriver, TwoAlwaysOn}
 use Rattle.board_build.specs.declared.names.Naming.TheVariants.{Inert, Supply}
 use Rattle.board_build.specs.Faults.{◌then◌, unless}
-use Rattle.board_build.specs.Names.{named, names_of, same_name}
-use Rattle.board_build.specs.NetWords.{Pin, NetWord, lent_word, lent_pin, same_pin, same_place, net_of, pin_of, spot_of, is_among, net_names, standing_words, pins_of_net}
-use Rattle.board_build.specs.ChainParts.{PinPlace, pin_places, place_of_pin, described_names}
-use Rattle.board_build.specs.LineRules.{Pulled, pulls_of, pull_of_net}
+use Rattle.board_build.specs.Names.{named, names_of}
+use Rattle.board_build.specs.NetWords.{Pin, NetWord, net_of, pin_of, is_among, net_names, standing_words, pins_of_net}
+use Rattle.board_build.specs.ChainParts.{pin_places, place_of_pin, described_names}
+use Rattle.board_build.specs.LineRules.{pulls_of, pull_of_net}
 use Rattle.board_build.specs.BoardNets.{Marks, marks_of, net_pin, board_net, nets_from, board_nets, board_with}
-use Rattle.board_build.specs.BoardRules.{data_limit, net_limit, pin_limit, have_same_pin, is_unknown, no_pin, pin_twice, is_always_on, drives_always, always_on as drivers_of, is_kept, guarded_driver, two_always_on, limit_fault, pin_fault, line_fault, driver_fault, board_fault, board_answer}
-use Rattle.board_build.specs.Marked.{Marked, mark, mark_by, is_free, is_free_bit, is_free_at, device_of, pin_with, group_of, number_of, place_of, net_with, nets_with, net_by, board_by, pin_in, same_pins, marked_limit, marked_unknown, marked_twice, marked_pins, marked_guarded, marked_two, marked_drivers, file_fault, always_on, marked_fault, marked_answer}
+use Rattle.board_build.specs.BoardRules.{data_limit, net_limit, pin_limit, have_same_pin, no_pin, pin_twice, is_always_on, drives_always, always_on as drivers_of, is_kept, guarded_driver, two_always_on, limit_fault, pin_fault, line_fault, driver_fault, board_fault, board_answer}
+use Rattle.board_build.specs.Marked.{Marked, mark, is_free, is_free_bit, is_free_at, pin_with, group_of, number_of, place_of, net_with, nets_with, board_by, same_pins, marked_limit, marked_unknown, marked_twice, marked_pins, marked_guarded, marked_two, marked_drivers, file_fault, always_on, marked_fault, marked_answer}
 
 -- a question about each lent item
 pub map_seen : {A B C : Type 0} (f : A → C) (view : A → B) (g : B → C) → ((a : A) → f a ≡ g (view a)) → (xs : List A) → map f xs ≡ map g (map view xs)

@@ -1,22 +1,18 @@
 -- The nets of a board, and the words that their pins come from.
-use Rattle.std.proofs.Common.{◌≡◌, ◌≢◌, ℕ, zero, suc, ◌+◌, ◌<◌, ◌≤◌, ◌==◌, Bool, true, false, cond, ◌&&◌, List, [], ◌∷◌, length, map, Option, Some, None, refl, sym, ap, subst, ◌∙◌, arith, ◌⊎◌, inl, inr, nat_le}
-use Rattle.std.specs.Prelude.{slice_get, filter, find, sum_by, All, AllPairs}
-use Rattle.std.specs.List.{list_any, AllByRecursion}
+use Rattle.std.proofs.Common.{◌≡◌, ◌≢◌, ℕ, zero, suc, ◌+◌, ◌≤◌, ◌==◌, Bool, true, false, cond, List, [], ◌∷◌, length, map, Some, refl, sym, ap, subst, ◌∙◌, arith, nat_le}
+use Rattle.std.specs.Prelude.{slice_get, filter, sum_by, AllPairs}
 use Rattle.std.specs.Cmp.Lexicographic.{other_text}
 use Rattle.std.proofs.lemmas.Bool.{eqb-true, eq-eqb, and_from}
 use Rattle.std.proofs.lemmas.List.Sums.{sum_by-cons}
 use Rattle.std.proofs.lemmas.List.{length-map}
 use Rattle.std.proofs.lemmas.List.Kept.{AllPairs-filter}
-use Rattle.board_defs.specs.declared.board.Part.{Part}
 use Rattle.board_defs.specs.declared.board.NetPin.{NetPin}
 use Rattle.board_defs.specs.declared.board.Net.{Net}
-use Rattle.board_defs.specs.declared.board.RawBoard.{RawBoard}
-use Rattle.board_defs.specs.BoardRules.{Stands}
 use Rattle.board_build.specs.Names.{same_name}
 use Rattle.board_build.specs.NetWords.{Pin, NetWord, same_pin, net_of, pin_of, pins_of_net}
 use Rattle.board_build.specs.BoardRules.{have_same_pin}
 use Rattle.board_build.specs.BoardNets.{Marks, net_pin, board_net, nets_from, board_nets}
-use Rattle.board_build.proofs.ApartLemmas.{Apart, apart_pairs, apart_map, apart_weaker, one_place, pairs_at, Passing, passing, mapped}
+use Rattle.board_build.proofs.ApartLemmas.{Apart, apart_pairs, apart_map, apart_weaker, one_place, Passing, passing, mapped}
 
 -- the words of a net
 abbrev pub words_on : List NetWord → ℕ → List NetWord

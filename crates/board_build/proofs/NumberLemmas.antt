@@ -1,6 +1,6 @@
 -- The numbers that a chain selects are those of entities.
 use Rattle.std.proofs.Common.{◌≡◌, ℕ, ◌+◌, ◌<◌, Bool, true, false, cond, List, [], ◌∷◌, length, map, Option, Some, None, Result, Ok, Err, Vec, Global, refl, ap, sym, ◌∙◌, subst, arith, inl, inr}
-use Rattle.std.specs.Prelude.{IfOk, option_map, option_and_then, position, is_none, slice_get, unwrap_or}
+use Rattle.std.specs.Prelude.{IfOk, option_map, option_and_then, position, is_none, unwrap_or}
 use Rattle.std.specs.List.{All, AllByRecursion, position_from}
 use Rattle.std.proofs.lemmas.Option.{slice_get_cases}
 use Rattle.std.proofs.lemmas.Iterator.Adapters.{position_from-zero}

@@ -1,5 +1,5 @@
 -- The parts of a chain, and where their pins are.
-use Rattle.std.proofs.Common.{◌≡◌, ◌≢◌, ℕ, zero, suc, ◌+◌, ◌<◌, get_or, append_assoc, Bool, true, false, cond, ◌&&◌, List, [], ◌∷◌, ◌++◌, length, map, drop, Option, Some, None, refl, sym, ap, subst, ◌∙◌, arith, ◌⊎◌, inl, inr}
+use Rattle.std.proofs.Common.{◌≡◌, ◌≢◌, ℕ, suc, ◌+◌, ◌<◌, get_or, append_assoc, Bool, true, false, cond, ◌&&◌, List, [], ◌∷◌, ◌++◌, length, map, drop, Option, Some, None, refl, sym, ap, subst, ◌∙◌, arith, ◌⊎◌, inl, inr}
 use Rattle.std.specs.Prelude.{slice_get, find, is_some, is_none, option_map, All, IfSome}
 use Rattle.std.specs.Option.{option_to_list}
 use Rattle.std.proofs.lemmas.List.{drop_more, append-nil}
@@ -7,7 +7,6 @@ use Rattle.std.specs.List.{AllByRecursion, position_from, cons_option}
 use Rattle.std.specs.Cmp.Lexicographic.{same_text, other_text}
 use Rattle.std.proofs.lemmas.Bool.{and_parts}
 use Rattle.std.proofs.lemmas.List.Elements.{All-from_recursion, All-push}
-use Rattle.first_places.specs.Places.{first_place, first_value}
 use Rattle.board_files.specs.declared.chain_file.ChainLine.{ChainLine}
 use Rattle.board_files.specs.declared.chain_file.ChainStatement.{ChainStatement}
 use Rattle.board_files.specs.declared.chain_file.ChainStatement.TheVariants.{Device, Bypass as BypassLine, Inert as InertLine, Supply as SupplyLine, Pull as PullLine, Link}
@@ -22,7 +21,7 @@ use Rattle.board_defs.specs.Pins.{described}
 use Rattle.board_defs.specs.BoardRules.{IsPlaced, IsPlacedAt}
 use Rattle.board_defs.proofs.Members.{Has, has_append, find_has}
 use Rattle.board_build.specs.declared.names.Naming.TheVariants.{Part as PartName, Entity as EntityName}
-use Rattle.board_build.specs.Names.{Named, named, names_of, with_name, part_of, entity_of, same_name}
+use Rattle.board_build.specs.Names.{named, names_of, with_name, part_of, entity_of, same_name}
 use Rattle.board_build.specs.NetWords.{Pin, same_pin, is_among}
 use Rattle.board_build.specs.ChainParts.{PinPlace, chain_parts, part_of_line, devices_after, bit_places, with_place, part_places, places_from, pin_places, place_of_pin, name_in, described_names}
 use Rattle.board_build.specs.BoardNets.{Marks, net_pin}

@@ -1,14 +1,14 @@
 -- What is known where a rule finds no fault.
-use Rattle.std.proofs.Common.{◌≡◌, ◌≢◌, ℕ, suc, ◌+◌, ◌<◌, ◌≤◌, ◌==◌, Bool, true, false, cond, ◌||◌, List, [], ◌∷◌, length, map, get_or, Option, Some, None, refl, sym, ap, subst, ◌∙◌, arith, ◌⊎◌, inl, inr, nat_lt}
-use Rattle.std.specs.Prelude.{slice_get, find, filter, sum_by, is_some, is_none, position, option_map, option_and_then, All}
-use Rattle.std.specs.List.{list_any, AllByRecursion, position_from}
+use Rattle.std.proofs.Common.{◌≡◌, ◌≢◌, ℕ, ◌+◌, ◌<◌, ◌≤◌, ◌==◌, Bool, true, false, cond, List, [], ◌∷◌, length, get_or, Option, Some, None, refl, sym, ap, subst, ◌∙◌, arith, ◌⊎◌, inl, inr, nat_lt}
+use Rattle.std.specs.Prelude.{slice_get, find, sum_by, is_some, position, option_map, option_and_then}
+use Rattle.std.specs.List.{AllByRecursion, position_from}
 use Rattle.std.specs.Cmp.Lexicographic.{same_text}
 use Rattle.std.proofs.lemmas.Iterator.Adapters.{position_from-zero}
 use Rattle.std.proofs.lemmas.List.Quantifiers.{position-Some}
 use Rattle.std.proofs.lemmas.List.{length-map}
 use Rattle.std.proofs.lemmas.Option.{slice_get-get_or}
 use Rattle.board_defs.proofs.Members.{Has, has_map}
-use Rattle.first_places.specs.Places.{once, first_place, first_repeated}
+use Rattle.first_places.specs.Places.{once, first_place}
 use Rattle.board_files.specs.declared.chain_file.ChainLine.{ChainLine}
 use Rattle.board_defs.specs.declared.board.Part.{Part}
 use Rattle.board_defs.specs.declared.board.RawBoard.{RawBoard}
@@ -16,14 +16,13 @@ use Rattle.board_defs.specs.declared.spot.Spot.{Spot}
 use Rattle.board_defs.specs.Pins.{data_length}
 use Rattle.board_build.specs.declared.fault.BoardFault.{BoardFault}
 use Rattle.board_build.specs.declared.fault.BoardFault.TheVariants.{Limit, InertInChain}
-use Rattle.board_build.specs.declared.names.Naming.TheVariants.{Part as PartName, Inert, Supply, Pull}
+use Rattle.board_build.specs.declared.names.Naming.TheVariants.{Part as PartName, Inert}
 use Rattle.board_build.specs.Faults.{◌then◌}
 use Rattle.board_build.specs.Names.{Named, named, names_of, same_name}
-use Rattle.board_build.specs.NetWords.{Pin, NetWord, net_of, pin_of, is_among}
+use Rattle.board_build.specs.NetWords.{NetWord, net_of, pin_of, is_among}
 use Rattle.board_build.specs.Selection.{spot_at}
-use Rattle.board_build.specs.ChainParts.{PinPlace, pin_places, described_names}
-use Rattle.board_build.specs.LineRules.{places_of, inert_in_chain, no_supply_net, no_pull_net, pull_twice}
-use Rattle.board_build.specs.BoardNets.{Marks}
+use Rattle.board_build.specs.ChainParts.{pin_places, described_names}
+use Rattle.board_build.specs.LineRules.{places_of, inert_in_chain}
 use Rattle.board_build.specs.BoardRules.{data_limit, net_limit, pin_limit, have_same_pin, is_unknown, no_pin, pin_twice, is_kept, guarded_driver, two_always_on, limit_fault, pin_fault, line_fault, driver_fault}
 use Rattle.board_build.proofs.ApartLemmas.{Apart, unrepeated, unrepeated_apart}
 use Rattle.board_build.proofs.PartLemmas.{not_among}

@@ -1,5 +1,5 @@
 -- Small files, and what the definitions say of them.
-use Rattle.std.proofs.Common.{◌≡◌, ℕ, ◌+◌, Bool, true, false, List, [], ◌∷◌, ◌++◌, Option, Some, None, Ok, Err, refl}
+use Rattle.std.proofs.Common.{◌≡◌, ℕ, Bool, true, false, List, [], ◌∷◌, Option, Some, None, Ok, Err, refl}
 use Rattle.std.specs.Prelude.{codes}
 use Rattle.board_files.specs.declared.chain_file.ChainLine.{ChainLine}
 use Rattle.board_files.specs.declared.chain_file.ChainStatement.{ChainStatement}
@@ -16,7 +16,6 @@ use Rattle.board_defs.specs.declared.device.Cell.{Cell}
 use Rattle.board_defs.specs.declared.device.PortBit.{PortBit}
 use Rattle.board_defs.specs.declared.device.RawDevice.{RawDevice}
 use Rattle.board_defs.specs.declared.board.PartKind.TheVariants.{Described, Bypass as BypassPart}
-use Rattle.board_defs.specs.declared.board.RawBoard.{RawBoard}
 use Rattle.board_defs.specs.declared.spot.Spot.{Spot}
 use Rattle.board_build.specs.declared.fault.BoardFault.TheVariants.{NoPin, PinTwice, InertInChain, NoSupplyNet, NoPullNet, PullTwice, GuardedDriver, TwoAlwaysOn}
 use Rattle.board_build.specs.BoardRules.{board_of, board_answer, board_fault, limit_fault, pin_fault, line_fault, driver_fault, data_limit, net_limit, pin_limit, no_pin, pin_twice, guarded_driver, two_always_on}

@@ -1,12 +1,11 @@
 -- Rules on words as the code has them, against the rules on marked words.
-use Rattle.std.proofs.Common.{◌≡◌, ℕ, zero, suc, ◌==◌, Bool, true, false, cond, ◌&&◌, List, [], ◌∷◌, length, map, Option, Some, None, refl, sym, ap, ◌∙◌, Bor}
+use Rattle.std.proofs.Common.{◌≡◌, ℕ, zero, suc, ◌==◌, Bool, false, cond, ◌&&◌, List, [], ◌∷◌, length, map, Some, refl, sym, ap, ◌∙◌, Bor}
 use Rattle.std.specs.Prelude.{slice_get, find, unwrap_or, option_map, is_none}
 use Rattle.std.proofs.lemmas.List.{length-map}
 use Rattle.first_places.specs.Places.{once, first_repeated}
 use Rattle.board_defs.specs.declared.spot.Spot.{Spot}
 use Rattle.board_defs.specs.declared.board.Net.{Net}
 use Rattle.board_defs.specs.declared.board.RawBoard.{RawBoard}
-use Rattle.board_build.specs.declared.fault.BoardFault.{BoardFault}
 use Rattle.board_build.specs.declared.fault.BoardFault.TheVariants.{NoPin, PinTwice, GuardedDriver, TwoAlwaysOn}
 use Rattle.board_build.specs.declared.marked.MarkedWord.{MarkedWord}
 use Rattle.board_build.specs.NetWords.{lent_pin, same_pin}

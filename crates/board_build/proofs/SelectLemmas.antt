@@ -1,20 +1,20 @@
 -- What is known of a chain that was selected.
-use Rattle.std.proofs.Common.{◌≡◌, ◌≢◌, ℕ, suc, ◌+◌, ◌<◌, ◌≤◌, Bool, true, false, cond, List, [], ◌∷◌, ◌++◌, length, map, get_or, Option, Some, None, Result, Ok, Err, refl, sym, ap, subst, ◌∙◌, arith, nat_lt, nat_eq}
-use Rattle.std.specs.Prelude.{slice_get, option_map, option_and_then, unwrap_or, IfOk, AllPairs}
+use Rattle.std.proofs.Common.{◌≡◌, ℕ, suc, ◌+◌, ◌<◌, ◌≤◌, Bool, true, false, cond, List, [], ◌∷◌, ◌++◌, length, map, get_or, Option, Some, None, Result, Ok, Err, refl, sym, ap, ◌∙◌, arith}
+use Rattle.std.specs.Prelude.{slice_get, option_map, option_and_then, unwrap_or, IfOk}
 use Rattle.std.specs.List.{list_any}
 use Rattle.std.specs.Cmp.Lexicographic.{other_text}
 use Rattle.std.proofs.lemmas.List.{length-map}
 use Rattle.std.proofs.lemmas.Option.{slice_get-get_or}
-use Rattle.first_places.specs.Places.{first_place, repeat_from, first_repeat, repeated_from, first_repeated}
+use Rattle.first_places.specs.Places.{first_place, repeat_from, first_repeat, repeated_from}
 use Rattle.board_files.specs.declared.chain_file.ChainLine.{ChainLine}
 use Rattle.bsdl_parser.specs.declared.entity.Entity.{Entity}
 use Rattle.board_defs.specs.declared.spot.Spot.{Spot}
 use Rattle.board_build.specs.declared.fault.BoardFault.{BoardFault}
-use Rattle.board_build.specs.declared.fault.BoardFault.TheVariants.{NoChain, PartTwice, Limit}
+use Rattle.board_build.specs.declared.fault.BoardFault.TheVariants.{PartTwice, Limit}
 use Rattle.board_build.specs.declared.names.Naming.TheVariants.{Part as PartName, Entity as EntityName}
-use Rattle.board_build.specs.Faults.{Gives, ◌then◌, unless}
+use Rattle.board_build.specs.Faults.{Gives, unless}
 use Rattle.board_build.specs.Names.{Named, named, names_of, same_name}
-use Rattle.board_build.specs.Selection.{spot_at, no_chain, part_twice, no_entity, entity_twice, chain_limit, first_fault, entity_names, entity_places, answer, selection}
+use Rattle.board_build.specs.Selection.{spot_at, no_chain, part_twice, chain_limit, first_fault, entity_names, entity_places, answer, selection}
 use Rattle.board_build.specs.ChainParts.{IsChain}
 use Rattle.board_build.proofs.ApartLemmas.{apart_pairs, apart_weaker, unrepeated_apart}
 use Rattle.board_build.proofs.RuleLemmas.{then_none, limit_kept}

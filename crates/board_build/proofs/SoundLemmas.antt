@@ -4,7 +4,6 @@ use Rattle.std.specs.Prelude.{All}
 use Rattle.board_files.specs.declared.chain_file.ChainLine.{ChainLine}
 use Rattle.board_files.specs.declared.net_file.NetLine.{NetLine}
 use Rattle.board_defs.specs.declared.board.Part.{Part}
-use Rattle.board_defs.specs.declared.board.RawBoard.{RawBoard}
 use Rattle.board_defs.specs.BoardRules.{IsBoard, IsPart}
 use Rattle.board_build.specs.declared.names.Naming.TheVariants.{Part as PartName, Inert}
 use Rattle.board_build.specs.Names.{named, names_of}

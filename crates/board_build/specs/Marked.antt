@@ -1,5 +1,5 @@
 -- Net words with what is known of their pins, as the code keeps them.
-use Rattle.std.specs.Prelude.{ℕ, ◌+◌, ◌==◌, Bool, false, ◌&&◌, List, [], ◌∷◌, ◌++◌, length, map, filter, find, nat_lt, slice_get, Option, Some, None, Result, option_and_then, option_map, is_none, if◌then◌else◌}
+use Rattle.std.specs.Prelude.{◌≡◌, ℕ, ◌+◌, ◌<◌, ◌==◌, Bool, false, ◌&&◌, List, [], ◌∷◌, ◌++◌, length, map, filter, find, nat_lt, slice_get, Option, Some, None, Result, option_and_then, option_map, is_none, if◌then◌else◌}
 use Rattle.std.proofs.Common.{Bor, get_or, set}
 use Rattle.std.specs.Option.{option_to_list}
 use Rattle.board_defs.specs.declared.device.Cell.{Cell}
@@ -9,7 +9,7 @@ use Rattle.board_defs.specs.declared.board.PinAt.{PinAt}
 use Rattle.board_defs.specs.declared.board.NetPin.{NetPin}
 use Rattle.board_defs.specs.declared.board.Net.{Net}
 use Rattle.board_defs.specs.declared.spot.Spot.{Spot}
-use Rattle.board_defs.specs.DeviceRules.{driving_entry}
+use Rattle.board_defs.specs.DeviceRules.{drives_bit, driving_entry}
 use Rattle.board_defs.specs.Pins.{described}
 use Rattle.board_files.specs.declared.chain_file.ChainLine.{ChainLine}
 use Rattle.board_defs.specs.declared.board.RawBoard.{RawBoard}
@@ -34,6 +34,11 @@ is_free (Some cell) = is_none cell.ctl
 abbrev pub is_free_bit : Option RawDevice → ℕ → Bool
 is_free_bit None bit = false
 is_free_bit (Some device) bit = is_free (driving_entry device bit)
+
+-- of so many port bits each flag says whether the driver that these entries give the bit is always on
+pub record AreFlags (cells : List Cell) (bits : ℕ) (flags : List Bool) : Type 0 where
+  pub size : length flags ≡ bits
+  pub each : (bit : ℕ) → bit < bits → get_or flags bit false ≡ is_free (find (drives_bit bit) cells)
 
 abbrev pub device_of : List Part → ℕ → Option RawDevice
 device_of parts n = option_and_then (λ part. described part.kind) (slice_get parts n)

@@ -2,6 +2,7 @@
 #![tactic(auto)]
 
 mod building;
+mod drivers;
 mod fault;
 pub mod law;
 mod line_rules;

@@ -1,18 +1,18 @@
 // Net words with what is known of their pins.
 ghost use Rattle.std.specs.Prelude.{◌≡◌, ◌<◌, ◌≤◌, ◌^◌, vec_len, length, map, IfOk, OnOk, is_none, is_some, option_copied, slice_get};
 ghost use Rattle.indexmap.specs.IndexMap.{get_by};
-ghost use Rattle.board_defs.specs.DeviceRules.{driving_entry};
 ghost use Rattle.board_build.specs.Names.{named, names_of, same_name};
 ghost use Rattle.board_build.specs.declared.names.Naming.TheVariants.{Inert};
 ghost use Rattle.board_build.specs.NetWords.{lent_pin, lent_word, same_pin};
 ghost use Rattle.board_build.specs.ChainParts.{pin_places};
 ghost use Rattle.board_build.specs.Marked.{device_of, is_free, is_free_at, is_free_bit, mark, mark_by, marks_after, seen};
 
+use crate::drivers::{PartDrivers, drivers_of, is_free_at};
 use crate::line_rules::names_in;
 use crate::names::{Naming, first_places_of, place_of};
 use crate::parts::{described_names, pin_places, places_by_pin};
 use crate::words::{NetWord, PinName};
-use board_defs::{Cell, Part, PinAt, RawDevice, Spot};
+use board_defs::{Part, PinAt, Spot};
 use board_files::ChainLine;
 use indexmap::IndexMap;
 use std::alloc::{AllocError, Global};
@@ -35,37 +35,6 @@ pub struct MarkedWord<'a> {
     pub always_on: bool,
 }
 
-fn is_free(entry: Option<Cell>) -> bool
-    ensures { result ≡ is_free entry }
-{
-    match entry {
-        Some(cell) => cell.ctl.is_none(),
-        None => false,
-    }
-}
-
-fn device_of(parts: &[Part], number: u32) -> Option<&RawDevice>
-    ensures { option_copied result ≡ device_of parts.now number }
-{
-    match parts.get(number as usize) {
-        Some(part) => part.kind.device(),
-        None => None,
-    }
-}
-
-/// Whether an always-on driver stands at this place of the chain.
-fn is_free_at(parts: &[Part], at: Option<PinAt>) -> bool
-    ensures { result ≡ is_free_at parts.now at }
-{
-    match at {
-        None => false,
-        Some(at) => match device_of(parts, at.part) {
-            Some(device) => is_free(device.driving_entry(at.bit)),
-            None => false,
-        },
-    }
-}
-
 /// Whether the name is one of these.
 pub fn is_known(names: &IndexMap<&[u8], u32>, name: &[u8]) -> bool
     ensures { result ≡ is_some (get_by (λ n. same_name name.now n.now) names.now) }
@@ -81,7 +50,7 @@ fn place_of_pin(places: &IndexMap<PinName<'_>, PinAt>, pin: &PinName<'_>) -> Opt
 
 fn mark<'a>(
     word: &NetWord<'a>,
-    parts: &[Part],
+    parts: &[PartDrivers<'_>],
     places: &IndexMap<PinName<'_>, PinAt>,
     described: &IndexMap<&[u8], u32>,
     inerts: &IndexMap<&[u8], u32>,
@@ -105,7 +74,7 @@ fn mark_at<'a>(
     marked: &mut Vec<MarkedWord<'a>>,
     words: &[NetWord<'a>],
     place: usize,
-    parts: &[Part],
+    parts: &[PartDrivers<'_>],
     places: &IndexMap<PinName<'_>, PinAt>,
     described: &IndexMap<&[u8], u32>,
     inerts: &IndexMap<&[u8], u32>,
@@ -121,10 +90,10 @@ fn mark_at<'a>(
     }
 }
 
-fn mark_all<'a>(
+fn mark_each<'a>(
     alloc: Global,
     words: &[NetWord<'a>],
-    parts: &[Part],
+    parts: &[PartDrivers<'_>],
     places: &IndexMap<PinName<'_>, PinAt>,
     described: &IndexMap<&[u8], u32>,
     inerts: &IndexMap<&[u8], u32>,
@@ -136,6 +105,20 @@ fn mark_all<'a>(
         mark_at(&mut marked, words, i, parts, places, described, inerts)?;
     }
     Ok(marked)
+}
+
+fn mark_all<'a>(
+    alloc: Global,
+    words: &[NetWord<'a>],
+    parts: &[Part],
+    places: &IndexMap<PinName<'_>, PinAt>,
+    described: &IndexMap<&[u8], u32>,
+    inerts: &IndexMap<&[u8], u32>,
+) -> Result<Vec<MarkedWord<'a>>, AllocError>
+    ensures { IfOk result (λ marked. marked.items ≡ map (mark_by parts.now (λ q. is_some (get_by (λ n. same_name q.now n.now) described.now)) (λ q. get_by (λ p. same_pin (lent_pin q) (lent_pin p)) places.now) (λ q. is_some (get_by (λ n. same_name q.now n.now) inerts.now))) words.now) }
+{
+    let drivers = drivers_of(alloc, parts)?;
+    mark_each(alloc, words, &drivers, places, described, inerts)
 }
 
 /// The words, each with what is known of its pin.

@@ -1,14 +1,8 @@
 -- The parts have the names of the chain's lines.
-use Rattle.std.proofs.Common.{◌≡◌, length, map, ap, sym, subst, ◌∙◌, arith}
-use Rattle.std.specs.Prelude.{All}
-use Rattle.std.proofs.lemmas.List.Elements.{All-from_recursion}
-use Rattle.board_files.specs.ChainLines.{HasLength}
+use Rattle.std.proofs.Common.{◌≡◌, length, map, ap, sym, ◌∙◌, arith}
 use Rattle.board_build.specs.declared.names.Naming.TheVariants.{Part as PartName, Entity}
-use Rattle.board_build.specs.Faults.{Gives}
 use Rattle.board_build.specs.Names.{named, names_of}
-use Rattle.board_build.specs.NetWords.{IsShort}
 use Rattle.board_build.specs.ChainParts.{chain_parts}
-use Rattle.board_build.specs.BoardRules.{board_answer, board_of}
 use Rattle.board_build.proofs.PartLemmas.{parts_named}
 use Rattle.board_build.proofs.building.board.Goals as goal
 

@@ -1,5 +1,5 @@
 -- A chain that was selected keeps the rules of a chain.
-use Rattle.std.proofs.Common.{◌≡◌, arith}
+use Rattle.std.proofs.Common.{arith}
 use Rattle.board_build.proofs.NameLemmas.{if_ok_map}
 use Rattle.board_build.proofs.SelectLemmas.{selected_chain}
 use Rattle.board_build.proofs.NumberLemmas.{if_selected}
