@@ -1,6 +1,6 @@
 -- Runs of a command: what they leave, and that nothing is missing.
-use Rattle.std.proofs.Common.{◌≡◌, ℕ, zero, suc, ◌<◌, length, arith, List, [], ◌∷◌, Option, Some, Result, Ok, Err, refl, sym, ap, ◌∙◌, subst, inl, inr}
-use Rattle.std.specs.Prelude.{Contains, slice_index_or}
+use Rattle.std.proofs.Common.{◌≡◌, ℕ, zero, suc, ◌<◌, Bool, true, false, nat_lt, length, arith, List, [], ◌∷◌, Option, Some, None, Result, Ok, Err, refl, sym, ap, ◌∙◌, subst, inl, inr}
+use Rattle.std.specs.Prelude.{Contains, IfSome, slice_index_or, if◌then◌else◌}
 use Rattle.bt_base.specs.Counts.{Rose}
 use Rattle.bt_base.specs.Puts.{Puts, Shown}
 use Rattle.tap_defs.specs.ChainScans.{chain_text}
@@ -18,9 +18,9 @@ use Rattle.btest_cli.specs.declared.failure.Unread.{Unread}
 use Rattle.btest_cli.specs.declared.failure.Unread.TheVariants as unread
 use Rattle.btest_cli.specs.declared.failure.Unput.{Unput}
 use Rattle.btest_cli.specs.declared.failure.Unput.TheVariants as unput
-use Rattle.btest_cli.specs.Texts.{Held, Reading, Read, TooLong, IsRead, reading_of}
+use Rattle.btest_cli.specs.Texts.{Held, Reading, Read, TooLong, IsRead, reading_of, read_first, and_text, most_bytes}
 use Rattle.btest_cli.specs.Refusals.{Names, roles_of, input_fault_line, long_line, memory_line}
-use Rattle.btest_cli.specs.Outcome.{IsComplete, IsOutcome, IsSaid, IsSaidOfBoard, Settles, SomeRose, TookOrCut}
+use Rattle.btest_cli.specs.Outcome.{IsComplete, IsGiven, IsOutcome, IsSaid, IsSaidOfBoard, Settles, SomeRose, TookOrCut}
 use Rattle.btest_cli.specs.Failures.{IsUnread, IsPut, IsUnput, unread_status, unread_line, unput_status, unput_line}
 use Rattle.btest_cli.specs.RunOf.{IsRunOf}
 
@@ -131,6 +131,24 @@ rose_among before now names name among rose = rose_at before now names among.0 n
 abbrev pub OneOutcome : Type 0
 OneOutcome = (command : Command) (reading : Reading) (a b : Result Text Text) → IsOutcome command reading a → IsOutcome command reading b → a ≡ b
 
+-- texts that were read give some outcome
+abbrev pub SomeOutcome : Type 0
+SomeOutcome = (command : Command) (texts : Text → Option Text) (reading : Reading) → reading_of texts (names_of command) ≡ Some reading → (outcome : Result Text Text) × IsOutcome command reading outcome
+
+-- want of memory may come in place of each outcome
+settles_memory : (rose : Type 0) (outcome : Result Text Text) → Settles rose outcome status.NoMemory
+settles_memory rose (Ok text) = λ calm. inr refl
+settles_memory rose (Err line) = inr refl
+
+memory_complete : SomeOutcome → (command : Command) (held : Held) (store_rose out_rose : Type 0) → IsComplete held command store_rose out_rose status.NoMemory
+memory_complete some command held store_rose out_rose = λ texts reading tells reads no_rise.
+    let outcome = some command texts reading reads in
+    (outcome.0, outcome.1, settles_memory out_rose outcome.0)
+
+pub memory_for : SomeOutcome → (command : Option Command) (held : Held) (before now : Text → ℕ) (out_rose : Type 0) → IfSome command (λ c. IsComplete held c (SomeRose before now (names_of c)) out_rose status.NoMemory)
+memory_for some None held before now out_rose = tt
+memory_for some (Some command) held before now out_rose = memory_complete some command held (SomeRose before now (names_of command)) out_rose
+
 -- what was read is one thing
 same_outcome : (held : Held) (command : Command) (texts : Text → Option Text) (reading other : Reading) (a b : Result Text Text) → OneOutcome → held ≡ Some texts → reading_of texts (names_of command) ≡ Some reading
     → IsRead held (names_of command) other → IsOutcome command other a → IsOutcome command reading b → a ≡ b
@@ -145,9 +163,11 @@ apart : {text line : Text} → ◌≡◌ {A = Result Text Text} (Ok text) (Err l
 apart e = cc e
 
 -- where no count rose, the outcome of what was read settles the status
-pub run_complete : OneOutcome → (command : Command) (held : Held) (before now : Text → ℕ) (out out' notes notes' : Shown) (ended : Status) → IsRunOf command held before now out out' notes notes' ended
+pub run_complete : OneOutcome → SomeOutcome → (command : Command) (held : Held) (before now : Text → ℕ) (out out' notes notes' : Shown) (ended : Status) → IsRunOf command held before now out out' notes notes' ended
     → IsComplete held command (SomeRose before now (names_of command)) (Rose out.faults out'.faults) ended
-run_complete one command held before now out out' notes notes' ended run = λ texts reading outcome tells reads gives no_rise. settle outcome ended texts reading tells reads gives no_rise run
+run_complete one some command held before now out out' notes notes' ended run = λ texts reading tells reads no_rise.
+    let outcome = some command texts reading reads in
+    (outcome.0, outcome.1, settle outcome.0 ended texts reading tells reads outcome.1 no_rise run)
   where
     settle : (o : Result Text Text) (s : Status) (texts : Text → Option Text) (reading : Reading) → held ≡ Some texts → reading_of texts (names_of command) ≡ Some reading → IsOutcome command reading o → (SomeRose before now (names_of command) → ⊥)
         → IsRunOf command held before now out out' notes notes' s → Settles (Rose out.faults out'.faults) o s
@@ -206,3 +226,65 @@ one_outcome devices chains boards (Device name) (Read (text ∷ [])) a b is_a is
 one_outcome devices chains boards (Device name) (Read (text ∷ other ∷ others)) a b is_a is_b = absurd is_a
 one_outcome devices chains boards (Cover file nets names) (Read texts) a b is_a is_b = one_of_board boards (roles_of (Cover file nets names)) cover_text texts a b is_a is_b
 one_outcome devices chains boards (Svf file nets names) (Read texts) a b is_a is_b = one_of_board boards (roles_of (Svf file nets names)) board_text texts a b is_a is_b
+
+-- as many texts were read as there are names
+count_read : (texts : Text → Option Text) (names : List Text) (found : List Text) → reading_of texts names ≡ Some (Read found) → length found ≡ length names
+count_read texts [] [] reads = refl
+count_read texts [] (text ∷ found) reads = absurd cc
+count_read texts (name ∷ names) found reads = by_text name (texts name) (reading_of texts names) (count_read texts names) found reads
+  where
+    and_rest : (text : Text) (n : ℕ) (rest : Option Reading) → ((more : List Text) → rest ≡ Some (Read more) → length more ≡ n) → (found : List Text) → and_text text rest ≡ Some (Read found) → length found ≡ suc n
+    and_rest text n None counts found reads = absurd cc
+    and_rest text n (Some (TooLong name)) counts found reads = absurd cc
+    and_rest text n (Some (Read more)) counts [] reads = absurd cc
+    and_rest text n (Some (Read more)) counts (one ∷ found) reads =
+        let same : more ≡ found = cc in
+        ap suc (ap length (sym same) ∙ counts more refl)
+
+    by_length : (name text : Text) (long : Bool) (n : ℕ) (rest : Option Reading) → ((more : List Text) → rest ≡ Some (Read more) → length more ≡ n) → (found : List Text) → (if long then Some (TooLong name) else and_text text rest) ≡ Some (Read found) → length found ≡ suc n
+    by_length name text true n rest counts found reads = absurd cc
+    by_length name text false n rest counts found reads = and_rest text n rest counts found reads
+
+    by_text : (name : Text) (text : Option Text) (rest : Option Reading) {n : ℕ} → ((more : List Text) → rest ≡ Some (Read more) → length more ≡ n) → (found : List Text) → read_first name text rest ≡ Some (Read found) → length found ≡ suc n
+    by_text name None rest {n} counts found reads = absurd cc
+    by_text name (Some text) rest {n} counts found reads = by_length name text (nat_lt most_bytes (length text)) n rest counts found reads
+
+-- some answer is found
+abbrev HasAnswer : {A : Type 0} → (Result A InputFault → Type 0) → Type 0
+HasAnswer {A} IsFound = (answer : Result A InputFault) × IsFound answer
+
+says : {A : Type 0} (names : Names) (text_of : A → Text) (IsFound : Result A InputFault → Type 0) (answer : Result A InputFault) → IsFound answer → (outcome : Result Text Text) × IsSaid names text_of IsFound outcome
+says names text_of IsFound (Ok value) found = (Ok (text_of value), inl (value, found, refl))
+says names text_of IsFound (Err fault) found = (Err (input_fault_line names fault), inr (fault, found, refl))
+
+some_said : {A : Type 0} (names : Names) (text_of : A → Text) (IsFound : Result A InputFault → Type 0) → HasAnswer IsFound → (outcome : Result Text Text) × IsSaid names text_of IsFound outcome
+some_said names text_of IsFound some = says names text_of IsFound some.0 some.1
+
+-- what is known of the texts of devices, chains and boards
+abbrev SomeDevice : Type 0
+SomeDevice = (text : Text) → HasAnswer (IsDeviceText text)
+
+abbrev SomeChain : Type 0
+SomeChain = (chain : Text) (texts : List Text) → HasAnswer (AreChainLengths chain texts)
+
+abbrev SomeBoard : Type 0
+SomeBoard = (chain nets : Text) (texts : List Text) → HasAnswer (IsBoardRead chain nets texts)
+
+some_of_board : SomeBoard → (names : Names) (text_of : RawBoard → Text) (n : ℕ) (found : List Text) → length found ≡ suc (suc n) → (outcome : Result Text Text) × IsSaidOfBoard names text_of found outcome
+some_of_board boards names text_of n [] count = absurd (omega (arith, count))
+some_of_board boards names text_of n (chain ∷ []) count = absurd (omega (arith, count))
+some_of_board boards names text_of n (chain ∷ nets ∷ texts) count = some_said names text_of (IsBoardRead chain nets texts) (boards chain nets texts)
+
+some_given : SomeDevice → SomeChain → SomeBoard → (command : Command) (found : List Text) → length found ≡ length (names_of command) → (outcome : Result Text Text) × IsGiven command found outcome
+some_given devices chains boards (Chain file names) [] count = absurd (omega (arith, count))
+some_given devices chains boards (Chain file names) (text ∷ texts) count = some_said (roles_of (Chain file names)) chain_text (AreChainLengths text texts) (chains text texts)
+some_given devices chains boards (Device name) [] count = absurd (omega (arith, count))
+some_given devices chains boards (Device name) (text ∷ []) count = some_said (roles_of (Device name)) device_text (IsDeviceText text) (devices text)
+some_given devices chains boards (Device name) (text ∷ other ∷ others) count = absurd (omega (arith, count))
+some_given devices chains boards (Cover file nets names) found count = some_of_board boards (roles_of (Cover file nets names)) cover_text (length names) found count
+some_given devices chains boards (Svf file nets names) found count = some_of_board boards (roles_of (Svf file nets names)) board_text (length names) found count
+
+-- texts that say something give some outcome
+pub some_outcome : SomeDevice → SomeChain → SomeBoard → SomeOutcome
+some_outcome devices chains boards command texts (TooLong name) reads = (Err (long_line name), refl)
+some_outcome devices chains boards command texts (Read found) reads = some_given devices chains boards command found (count_read texts (names_of command) found reads)

@@ -134,7 +134,7 @@ abbrev pub Settles : Type 0 → Result Text Text → Status → Type 0
 Settles rose (Ok text) status = (rose → ⊥) → (status ≡ Done) ⊎ (status ≡ NoMemory)
 Settles rose (Err line) status = (status ≡ Refused) ⊎ (status ≡ NoMemory)
 
--- where the store tells texts for the names of the command and no count of theirs rose, their outcome settles the status
+-- where the store tells texts for the names of the command and no count of theirs rose, they have an outcome, and it settles the status
 abbrev pub IsComplete : Held → Command → Type 0 → Type 0 → Status → Type 0
 IsComplete held command store_rose out_rose status =
-    (texts : Text → Option Text) (reading : Reading) (outcome : Result Text Text) → held ≡ Some texts → reading_of texts (names_of command) ≡ Some reading → IsOutcome command reading outcome → (store_rose → ⊥) → Settles out_rose outcome status
+    (texts : Text → Option Text) (reading : Reading) → held ≡ Some texts → reading_of texts (names_of command) ≡ Some reading → (store_rose → ⊥) → (outcome : Result Text Text) × IsOutcome command reading outcome × Settles out_rose outcome status

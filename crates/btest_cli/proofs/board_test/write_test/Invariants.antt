@@ -6,7 +6,11 @@ use Rattle.tap_defs.specs.BoardScans.{test_scans}
 use Rattle.scan_planner.specs.Plans.{IsRoom}
 use Rattle.btest_cli.proofs.board_test.write_test.Given as goal
 
--- the head and the scans so far were put
+-- the head and the scans so far were put, and the rows keep their room
 abbrev pub invariant-loop-k : goal.invariant-loop-k
-invariant-loop-k g l =
-    Puts {T = Unit {0}} {E = PutFault} (g.K.Sink.shown l.fn.out) (g.K.Sink.shown l.out) (head_text ++ scan_texts (take l.k (test_scans l.board l.plan.passes l.plan.width))) (Ok tt)
+invariant-loop-k g l = record {
+  put : Puts {T = Unit {0}} {E = PutFault} (g.K.Sink.shown l.fn.out) (g.K.Sink.shown l.out) (head_text ++ scan_texts (take l.k (test_scans l.board l.plan.passes l.plan.width))) (Ok tt);
+  tdi : IsRoom l.board l.rows.tdi.room;
+  tdo : IsRoom l.board l.rows.tdo.room;
+  mask : IsRoom l.board l.rows.mask.room;
+}

@@ -1,0 +1,36 @@
+use Rattle.std.proofs.Common.{sym, subst}
+use Rattle.scan_planner.specs.Plans.{IsRoom}
+use Rattle.bt_base.proofs.Cuts.{puts_err}
+use Rattle.tap_defs.specs.Text.{svf_text, head_text, tail_text}
+use Rattle.tap_defs.specs.BoardScans.{test_scans}
+use Rattle.btest_cli.proofs.TestLemmas.{below_count, past_count, puts_scan, cut_scan, puts_tail}
+use Rattle.btest_cli.proofs.board_test.write_test.Goals as goal
+
+pub returns-in_err-write_head : goal.returns-in_err-write_head
+unfolding svf_text
+returns-in_err-write_head g c = puts_err _ c.write_head.ensures c.in_err-write_head.was c.from_residual.ensures.0
+
+pub returns-in_err-write_scan_at : goal.returns-in_err-write_scan_at
+unfolding svf_text
+returns-in_err-write_scan_at g c =
+    cut_scan head_text tail_text (test_scans c.args.board.now c.args.plan.now.passes c.args.plan.now.width) c.loop-k.k
+    (below_count c.args.board.now c.args.plan.now.passes c.args.plan.now.width c.loop-k.k c.scans-k-end.result (c.scans_placed.ensures c.args.board.now c.args.plan.now.passes c.args.plan.now.width) c.scans-k-end.ensures c.loop-k-test.true)
+    c.loop-k.invariant.put c.write_scan_at.ensures.text c.in_err-write_scan_at.was c.from_residual-in_err-write_scan_at.ensures.0
+
+pub loop-k-preserved : goal.loop-k-preserved
+loop-k-preserved g c = record {
+  put =
+      puts_scan head_text (test_scans c.args.board.now c.args.plan.now.passes c.args.plan.now.width) c.loop-k.k
+      (below_count c.args.board.now c.args.plan.now.passes c.args.plan.now.width c.loop-k.k c.scans-k-end.result (c.scans_placed.ensures c.args.board.now c.args.plan.now.passes c.args.plan.now.width) c.scans-k-end.ensures c.loop-k-test.true)
+      c.loop-k.invariant.put c.write_scan_at.ensures.text c.in_ok-write_scan_at.was;
+  tdi = subst (IsRoom c.args.board.now) (sym c.write_scan_at.ensures.tdi) c.loop-k.invariant.tdi;
+  tdo = subst (IsRoom c.args.board.now) (sym c.write_scan_at.ensures.tdo) c.loop-k.invariant.tdo;
+  mask = subst (IsRoom c.args.board.now) (sym c.write_scan_at.ensures.mask) c.loop-k.invariant.mask;
+}
+
+pub returns : goal.returns
+unfolding svf_text
+returns g c =
+    puts_tail head_text tail_text (test_scans c.args.board.now c.args.plan.now.passes c.args.plan.now.width) c.loop-k.k
+    (past_count c.args.board.now c.args.plan.now.passes c.args.plan.now.width c.loop-k.k c.scans-k-end.result (c.scans_placed.ensures c.args.board.now c.args.plan.now.passes c.args.plan.now.width) c.scans-k-end.ensures c.loop-k-test.false)
+    c.loop-k.invariant.put c.write_tail.ensures
