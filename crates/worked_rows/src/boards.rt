@@ -1,8 +1,8 @@
 // Texts that denote no board, each by its first fault.
 use crate::runs::{Bench, CHAIN, NETS};
 use btest_cli::Status;
-use std::abort::Abort;
 use std::alloc::Global;
+use std::process::Abort;
 use std::test::Fail;
 use std::thread::Threads;
 
@@ -68,8 +68,8 @@ fn the_first_fault_of_a_net_file_is_told(rt: HostRuntime) -> Result<(), Fail> {
             "NET N1 U1.1 U2.1\nNET N2 U1.1",
             "n line 2 word 3: pin in two nets\n",
         ),
-        ("NET N1", "n line 1: no statement\n"),
-        ("NET N1 U1.1.1", "n line 1: word not allowed\n"),
+        ("NETS N1 U1.1", "n line 1: no statement\n"),
+        ("NET N1 U1.", "n line 1: word not allowed\n"),
     ];
     for (nets, note) in cases {
         is_refused(&rt, alloc, "drv rcv", CHAIN, nets, note)?;
@@ -114,10 +114,10 @@ fn a_board_has_limits(rt: HostRuntime) -> Result<(), Fail> {
     for i in 0..16_383 {
         write!(nets, "NET N{i} X.{i}\n")?;
     }
-    is_refused(&rt, alloc, "", "BYPASS U1 2", &nets, "limit: nets\n")?;
+    is_refused(&rt, alloc, "drv", "BYPASS U1 2", &nets, "limit: nets\n")?;
     let mut pins = String::from_str(alloc, "NET N")?;
     for i in 0..65_536 {
         write!(pins, " X.{i}")?;
     }
-    is_refused(&rt, alloc, "", "BYPASS U1 2", &pins, "limit: pins\n")
+    is_refused(&rt, alloc, "drv", "BYPASS U1 2", &pins, "limit: pins\n")
 }

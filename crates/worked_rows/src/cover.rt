@@ -1,8 +1,8 @@
 // What safe settings can reach, as the coverage list says it.
 use crate::runs::{Bench, CHAIN, NETS};
 use btest_cli::Status;
-use std::abort::Abort;
 use std::alloc::Global;
+use std::process::Abort;
 use std::test::Fail;
 use std::thread::Threads;
 
@@ -81,7 +81,7 @@ fn a_part_without_a_description_darkens_its_nets(rt: HostRuntime) -> Result<(), 
         write!(many, "NET N{i} X.{i}\n")?;
         write!(list, "NET N{i} DARK\n")?;
     }
-    is_listed(&rt, alloc, "", "BYPASS U1 2", &many, &list)
+    is_listed(&rt, alloc, "drv", "BYPASS U1 2", &many, &list)
 }
 
 #[test]

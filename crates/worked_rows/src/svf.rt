@@ -1,8 +1,8 @@
 // The test of a board.
 use crate::runs::{Bench, CHAIN, HEAD, NETS, SCANS, TAIL};
 use btest_cli::Status;
-use std::abort::Abort;
 use std::alloc::Global;
+use std::process::Abort;
 use std::test::Fail;
 use std::thread::Threads;
 
