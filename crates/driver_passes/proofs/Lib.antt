@@ -1,4 +1,4 @@
-pub mod Controls
+pub mod ControlLemmas
 pub mod ChosenLemmas
 pub mod DraftLemmas
 pub mod FitLemmas

@@ -5,7 +5,7 @@ use Rattle.std.proofs.lemmas.Bool.{both_ways}
 use Rattle.std.specs.Option.{option_or}
 use Rattle.std.specs.List.{list_any}
 use Rattle.std.proofs.Math.Seq.{drop-cons}
-use Rattle.std.proofs.lemmas.List.{length-map, drop_all}
+use Rattle.std.proofs.lemmas.List.{length-map}
 use Rattle.std.proofs.lemmas.List.Folds.{find-append}
 use Rattle.std.proofs.lemmas.List.Sums.{fold-append}
 use Rattle.board_defs.specs.declared.board.Ctl.{Ctl}
@@ -80,11 +80,6 @@ one_done board useful passes after a b less e =
     sym (ap (λ v. fold (add_for_nets board useful) passes (map (with_list (drivers_at board a)) v)) (drop-cons (drivers_by_net board) b [] (lists_within board b less)) ∙
     ap (λ k. fold (add_for_nets board useful) (add_for_nets board useful passes (drivers_at board a, drivers_at board b)) (to_do board a k)) next)
 
-pub all_done : (board : RawBoard) (useful : List Ctl) (passes : List (List Ctl)) (a b : ℕ) → length board.nets ≤ b → fold (add_for_nets board useful) passes (to_do board a b) ≡ passes
-all_done board useful passes a b most =
-    let past : length (drivers_by_net board) ≤ b = omega (arith, length-map board.nets (tested_drivers board)) in
-    ap (λ v. fold (add_for_nets board useful) passes (map (with_list (drivers_at board a)) v)) (drop_all b (drivers_by_net board) past)
-
 pub from_first : (board : RawBoard) (a : ℕ) → to_do board a (a + 1) ≡ pairs_from board a
 from_first board a = let next : a + 1 ≡ suc a = omega arith in ap (to_do board a) next
 
@@ -99,11 +94,6 @@ net_done board useful passes after a less e =
     sym (ap (λ v. fold (add_for_nets board useful) passes (pairs_within v)) (drop-cons (drivers_by_net board) a [] (lists_within board a less)) ∙
     fold-append (add_for_nets board useful) passes (pairs_from board a) (later_pairs board (suc a)) ∙
     ap (λ k. fold (add_for_nets board useful) (fold (add_for_nets board useful) passes (pairs_from board a)) (later_pairs board k)) next)
-
-pub nets_done : (board : RawBoard) (useful : List Ctl) (passes : List (List Ctl)) (a : ℕ) → length board.nets ≤ a → fold (add_for_nets board useful) passes (later_pairs board a) ≡ passes
-nets_done board useful passes a most =
-    let past : length (drivers_by_net board) ≤ a = omega (arith, length-map board.nets (tested_drivers board)) in
-    ap (λ v. fold (add_for_nets board useful) passes (pairs_within v)) (drop_all a (drivers_by_net board) past)
 
 -- two nets give at most one pass
 pub one_more : (board : RawBoard) (useful : List Ctl) (passes : List (List Ctl)) (nets : List Drive × List Drive) → length (add_for_nets board useful passes nets) ≤ length passes + 1

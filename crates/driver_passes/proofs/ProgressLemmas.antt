@@ -1,10 +1,10 @@
 -- The passes so far, and the tested drivers of the nets.
-use Rattle.std.proofs.Common.{◌≡◌, ℕ, zero, suc, ◌+◌, ◌<◌, ◌≤◌, Bool, true, false, not, ◌&&◌, ◌||◌, List, [], ◌∷◌, ◌++◌, length, map, get_or, replicate, take, fold, Option, Some, None, refl, sym, ◌∙◌, ap, subst, arith, cond}
+use Rattle.std.proofs.Common.{◌≡◌, ℕ, zero, suc, ◌+◌, ◌<◌, ◌≤◌, Bool, true, false, not, ◌&&◌, ◌||◌, List, [], ◌∷◌, ◌++◌, length, map, get_or, take, fold, Option, Some, None, refl, sym, ◌∙◌, ap, subst, arith, cond}
 use Rattle.std.specs.Prelude.{slice_get, All, Contains, filter_map, sum_by}
 use Rattle.std.specs.List.{list_any, flat_map, range_with_len, cons_option}
 use Rattle.std.proofs.lemmas.Bool.{and_parts}
 use Rattle.std.proofs.lemmas.Option.{slice_get_within, get_or_from_slice_get}
-use Rattle.std.proofs.lemmas.List.{length-replicate, length-append, length-map, take_all}
+use Rattle.std.proofs.lemmas.List.{length-append, length-map, take_all}
 use Rattle.std.proofs.lemmas.List.{get_or-map as item-map}
 use Rattle.std.proofs.lemmas.List.Folds.{list_any-append}
 use Rattle.std.proofs.lemmas.List.Sums.{sum_by-cons}
@@ -21,13 +21,6 @@ use Rattle.board_defs.specs.Laws.{PassesAre, DecidesTerms, HasTestedDriver}
 use Rattle.driver_passes.specs.Progress.{AreHeld, IsUsefulDriver, drivers_at, is_held}
 use Rattle.driver_passes.specs.Drafts.{chosen}
 use Rattle.driver_passes.proofs.ChosenLemmas.{chosen_holds}
-use Rattle.driver_passes.proofs.DraftLemmas.{blank_is}
-
-pub none_held : (board : RawBoard) (passes : List (List Ctl)) (flags : List Bool) (n : ℕ) → n ≡ length (useful_controls board) → flags ≡ replicate n false → passes ≡ [] → AreHeld board passes flags
-none_held board passes flags n e f g = record {
-  flags_length = ap length f ∙ length-replicate n false ∙ e;
-  flags_are = λ i c h. ap (λ v. get_or v i false) f ∙ blank_is n i ∙ sym (ap (λ v. is_held v c) g);
-}
 
 or_last : (a b : Bool) → (a || b) ≡ (b || (a || false))
 or_last true true = refl

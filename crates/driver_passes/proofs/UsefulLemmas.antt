@@ -11,12 +11,6 @@ use Rattle.driver_passes.specs.Drafts.{chosen}
 use Rattle.driver_passes.specs.Useful.{HoldUseful}
 use Rattle.driver_passes.proofs.ChosenLemmas.{chosen_among}
 
-pub none_hold : (board : RawBoard) (passes : List (List Ctl)) → passes ≡ [] → HoldUseful board passes
-none_hold board passes e x pass c h k = absurd (nothing x (sym (ap (λ (v : List (List Ctl)). slice_get v x) e) ∙ h))
-  where
-    nothing : (x : ℕ) → slice_get [] x ≡ Some pass → ⊥
-    nothing x h = cc h
-
 last_or_earlier : (passes : List (List Ctl)) (last pass : List Ctl) (x : ℕ) → slice_get (passes ++ last ∷ []) x ≡ Some pass → (slice_get passes x ≡ Some pass) ⊎ (last ≡ pass)
 last_or_earlier [] last pass zero h = inr (cc h)
 last_or_earlier [] last pass (suc x) h = cc h

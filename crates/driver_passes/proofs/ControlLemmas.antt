@@ -1,5 +1,5 @@
 -- Lists of controls in control order, and what a setting holds.
-use Rattle.std.proofs.Common.{◌≡◌, ℕ, zero, suc, ◌<◌, ◌==◌, Bool, true, false, ◌||◌, List, [], ◌∷◌, length, get_or, refl, sym, ◌∙◌, ap, subst, arith, cond}
+use Rattle.std.proofs.Common.{◌≡◌, ℕ, zero, suc, ◌==◌, Bool, true, false, ◌||◌, List, [], ◌∷◌, refl, ◌∙◌, ap, subst, arith, cond}
 use Rattle.std.specs.Prelude.{All, IsTrue}
 use Rattle.std.specs.List.{list_any}
 use Rattle.std.proofs.lemmas.Bool.Decides.{nat_tests}
@@ -22,10 +22,6 @@ after_is a b h = (grind (arith, nat_tests), grind (arith, nat_tests), grind (ari
 
 pub itself_is : (c : Ctl) → precedes c c ≡ false
 itself_is c = grind (arith, nat_tests)
-
--- the first of controls in order precedes each later one
-pub first_precedes : (c : Ctl) (controls : List Ctl) (i : ℕ) (d : Ctl) → IsInControlOrder (c ∷ controls) → i < length controls → get_or controls i d ≡ d → precedes c d ≡ true
-first_precedes c controls i d order less e = sym (ap (precedes c) e) ∙ order 0 (suc i) d (omega arith) (omega arith)
 
 pub order_rest : (c : Ctl) (controls : List Ctl) → IsInControlOrder (c ∷ controls) → IsInControlOrder controls
 order_rest c controls order i j d less within = order (suc i) (suc j) d (omega arith) (omega arith)
