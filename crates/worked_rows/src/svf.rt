@@ -114,50 +114,35 @@ fn linked_nets_are_tested_as_one(rt: HostRuntime) -> Result<(), Fail> {
     is_tested_by(&rt, alloc, "drv rcv", &linked, nets, SCANS)
 }
 
-/// How many scans a board's test has, and how many of data compare something.
-fn has_scans<R: Abort + Threads>(
-    rt: &R,
-    alloc: Global,
-    words: &str,
-    chain: &str,
-    nets: &str,
-    counts: (usize, usize),
-) -> Result<(), Fail> {
-    let mut bench = Bench::with_board(alloc, chain, nets)?;
-    let line = format!(in alloc; "svf c n {words}")?;
-    assert_eq!(rt; bench.run(rt, &line)?, Status::Done, "{words}");
-    let mut scans = 0usize;
-    let mut rows = 0usize;
-    for line in bench.out.bytes().split(|byte| *byte == b'\n') {
-        if line.starts_with(b"SIR ") || line.starts_with(b"SDR ") {
-            scans = scans.saturating_add(1);
-        }
-        if line.starts_with(b"SDR ") && line.contains(&b'M') {
-            rows = rows.saturating_add(1);
-        }
-    }
-    assert_eq!(rt; (scans, rows), counts, "{words}");
-    Ok(())
-}
-
+// The first board enables the controls of cells 8 and 9, then 10 and 11, then 9 and 10; the second those of cell 4, then 5.
 #[test]
 fn nets_that_are_observed_apart_have_a_pass_together(rt: HostRuntime) -> Result<(), Fail> {
     let alloc = rt.alloc();
-    has_scans(
+    is_tested_by(
         &rt,
         alloc,
         "four rcv",
         "DEVICE U1 FOUR -\nDEVICE U2 RCV -\nDEVICE U3 RCV -\nDEVICE U4 RCV -",
         "NET X U1.1 U1.5 U2.1\nNET Y U1.2 U1.7 U2.2\nNET Z U1.3 U1.8 U3.1\nNET P U1.4 U3.2\nNET R U1.6 U4.1",
-        (15, 9),
+        "SIR 8 TDI (AA) TDO (55) MASK (FF);\nSDR 18 TDI (3C000);\nSIR 8 TDI (00) TDO (55) MASK (FF);\n\
+         SDR 18 TDI (30140);\nSDR 18 TDI (30180) TDO (00014) MASK (0003C);\n\
+         SDR 18 TDI (30200) TDO (00024) MASK (0003C);\nSDR 18 TDI (3C000) TDO (00008) MASK (0003C);\n\
+         SDR 18 TDI (0EC00);\nSDR 18 TDI (0F000) TDO (00015) MASK (00035);\n\
+         SDR 18 TDI (0C800) TDO (00024) MASK (00035);\nSDR 18 TDI (3C000) TDO (00001) MASK (00035);\n\
+         SDR 18 TDI (24D00);\nSDR 18 TDI (24100) TDO (00015) MASK (0001D);\n\
+         SDR 18 TDI (24A00) TDO (00004) MASK (0001D);\nSDR 18 TDI (3C000) TDO (00009) MASK (0001D);\n",
     )?;
-    has_scans(
+    is_tested_by(
         &rt,
         alloc,
         "two rcv",
         "DEVICE U1 TWO -\nDEVICE U2 RCV -\nDEVICE U3 RCV -",
         "NET A U1.1 U2.1\nNET X U1.2 U1.3 U2.2\nNET B U1.4 U3.1",
-        (11, 6),
+        "SIR 6 TDI (2A) TDO (15) MASK (3F);\nSDR 10 TDI (300);\nSIR 6 TDI (00) TDO (15) MASK (3F);\n\
+         SDR 10 TDI (210);\nSDR 10 TDI (220) TDO (004) MASK (00C);\n\
+         SDR 10 TDI (200) TDO (008) MASK (00C);\nSDR 10 TDI (300) TDO (000) MASK (00C);\n\
+         SDR 10 TDI (180);\nSDR 10 TDI (1C0) TDO (001) MASK (009);\n\
+         SDR 10 TDI (100) TDO (009) MASK (009);\nSDR 10 TDI (300) TDO (000) MASK (009);\n",
     )
 }
 
