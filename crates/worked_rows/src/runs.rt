@@ -48,24 +48,21 @@ impl Bench {
 
     /// A store with a chain file `c`, a net file `n`, and the texts of the worked devices by their names.
     pub fn with_board(alloc: Global, chain: &str, nets: &str) -> Result<Bench, AllocError> {
-        Bench::with_texts(
-            alloc,
-            &[
-                ("c", chain.as_bytes()),
-                ("n", nets.as_bytes()),
-                ("drv", DRV.as_bytes()),
-                ("drv1", DRV1.as_bytes()),
-                ("rcv", RCV.as_bytes()),
-                ("rcv1", RCV1.as_bytes()),
-                ("ts", TS.as_bytes()),
-                ("bi", BI.as_bytes()),
-                ("two", TWO.as_bytes()),
-                ("oct", OCT.as_bytes()),
-                ("four", FOUR.as_bytes()),
-                ("od", OD.as_bytes()),
-                ("buf2", BUF2.as_bytes()),
-            ],
-        )
+        let mut bench = Bench::with_texts(alloc, &[])?;
+        bench.store.add("c", chain.as_bytes())?;
+        bench.store.add("n", nets.as_bytes())?;
+        bench.store.add("drv", DRV.as_bytes())?;
+        bench.store.add("drv1", DRV1.as_bytes())?;
+        bench.store.add("rcv", RCV.as_bytes())?;
+        bench.store.add("rcv1", RCV1.as_bytes())?;
+        bench.store.add("ts", TS.as_bytes())?;
+        bench.store.add("bi", BI.as_bytes())?;
+        bench.store.add("two", TWO.as_bytes())?;
+        bench.store.add("oct", OCT.as_bytes())?;
+        bench.store.add("four", FOUR.as_bytes())?;
+        bench.store.add("od", OD.as_bytes())?;
+        bench.store.add("buf2", BUF2.as_bytes())?;
+        Ok(bench)
     }
 
     /// Runs a command line, whose words are separated by spaces.
