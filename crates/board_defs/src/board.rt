@@ -2,6 +2,7 @@
 ghost use Rattle.std.specs.Prelude.{◌≡◌, ◌<◌, length};
 ghost use Rattle.board_defs.specs.BoardRules.{IsBoard};
 ghost use Rattle.board_defs.specs.Pins.{instruction_bits, data_bits, drive_at, switches_at, receives_at, guarded_at, IsOnBoard};
+ghost use Rattle.board_defs.specs.Settings.{same_ctl};
 
 use crate::device::Device;
 use crate::items::{Items, Name};
@@ -71,6 +72,15 @@ pub struct PinRef {
 pub struct Ctl {
     pub part: u32,
     pub cell: u32,
+}
+
+impl Ctl {
+    /// Whether this control is the other one.
+    pub fn is_same(self, other: Ctl) -> bool
+        ensures { result ≡ same_ctl self other }
+    {
+        self.part == other.part && self.cell == other.cell
+    }
 }
 
 /// How a driver is enabled.

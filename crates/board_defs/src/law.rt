@@ -12,8 +12,9 @@ pub fn terms_decided()
     ensures { TermsDecided }
 {}
 
-/// The passes of a board are safe, do together what all safe settings can do, and each does
-/// something that no earlier one does; and the words in which they are made mean what they say.
+/// The passes of a board are safe, together enable each tested driver and observe each paired nets
+/// at once, and each does something of this that no earlier one does; and the words in which they
+/// are made mean what they say.
 pub fn passes_kept()
     ensures { PassesKept }
 {}

@@ -1,7 +1,7 @@
 // A setting: a set of controls.
 ghost use Rattle.std.specs.Prelude.{◌≡◌, ◌≤◌, [], length, slice_get, OnOk, OnErr};
 ghost use Rattle.std.specs.List.{prefix_len};
-ghost use Rattle.board_defs.specs.Settings.{holds, inserted, precedes, same_ctl, IsInControlOrder};
+ghost use Rattle.board_defs.specs.Settings.{holds, inserted, precedes, IsInControlOrder};
 
 use crate::board::Ctl;
 use std::alloc::{AllocError, Global};
@@ -74,12 +74,6 @@ fn comes_before(a: Ctl, b: Ctl) -> bool
     a.part < b.part || (a.part == b.part && a.cell < b.cell)
 }
 
-fn is_same(a: Ctl, b: Ctl) -> bool
-    ensures { result ≡ same_ctl a b }
-{
-    a.part == b.part && a.cell == b.cell
-}
-
 /// How many controls come before this one.
 fn place_of(controls: &[Ctl], c: Ctl) -> usize
     requires { IsInControlOrder controls.now }
@@ -100,7 +94,7 @@ fn has_control(controls: &[Ctl], c: Ctl) -> bool
     ensures { result ≡ holds controls.now c }
 {
     match control_at(controls, place_of(controls, c)) {
-        Some(d) => is_same(c, d),
+        Some(d) => c.is_same(d),
         None => false,
     }
 }
