@@ -61,6 +61,16 @@ impl Row {
         self.bits.resize(len as usize, false).unwrap();
     }
 
+    /// Makes the row these bits, for which it has room.
+    pub fn copy_from(&mut self, bits: &[bool])
+        requires { length bits.now ≤ self.old.room }
+        ensures bits { self.new.bits ≡ bits.now }
+        ensures room { self.new.room ≡ self.old.room }
+    {
+        self.bits.clear();
+        self.bits.extend_from_slice(bits).unwrap();
+    }
+
     /// How many bits the row has.
     #[inline]
     pub fn len(&self) -> u32

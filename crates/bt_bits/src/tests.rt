@@ -39,6 +39,10 @@ fn prints_digits(rt: HostRuntime) -> Result<(), Fail> {
         line.bytes(),
         b"800000000000000000000000000000000000000000000000000000000000000000000000001".as_slice()
     );
+    line.clear();
+    row.copy_from(&[true, false, true, true, true]);
+    row.put_hex(0, 2, &mut line);
+    assert_eq!(rt; line.bytes(), b"1D".as_slice());
     Ok(())
 }
 
