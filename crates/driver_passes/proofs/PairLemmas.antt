@@ -16,7 +16,7 @@ use Rattle.board_defs.specs.Passes.{add_for_nets, are_shown, drivers_by_net, fir
 use Rattle.net_classes.specs.Pairs.{fit}
 use Rattle.driver_passes.specs.Pairs.{pairs_from}
 use Rattle.driver_passes.specs.Progress.{drivers_at}
-use Rattle.driver_passes.proofs.ProgressLemmas.{length_end}
+use Rattle.driver_passes.proofs.ProgressLemmas.{length_end, some_length}
 
 -- the first pair with the first driver, where there is one
 abbrev is_fitting : RawBoard → Drive × Drive → Bool
@@ -107,6 +107,3 @@ one_more board useful passes nets = by_test (are_shown passes nets.0 nets.1) (fi
 pub no_drivers : (drivers : List Drive) → true ≡ (length drivers == 0) → drivers ≡ []
 no_drivers [] e = refl
 no_drivers (d ∷ drivers) e = absurd (both_ways (length (d ∷ drivers) == 0) (some_length (length drivers)) (sym e))
-  where
-    some_length : (n : ℕ) → (suc n == 0) ≡ false
-    some_length n = grind arith

@@ -6,6 +6,7 @@ mod draft;
 mod drivers;
 mod making;
 mod pairs;
+mod places;
 mod shown;
 mod walk;
 
