@@ -6,4 +6,6 @@ pub mod ProgressLemmas
 pub mod NumberLemmas
 pub mod ShownLemmas
 pub mod PairLemmas
+pub mod EnabledLemmas
+pub mod DoneLemmas
 pub mod UsefulLemmas

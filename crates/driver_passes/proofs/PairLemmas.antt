@@ -48,23 +48,8 @@ pair_missed board drivers others i d less at missed =
     ap (λ v. first_pair board v others) (drop-cons drivers i d less ∙ ap (λ v. v ∷ drop (suc i) drivers) (sym at)) ∙ pair_step board d (drop (suc i) drivers) others ∙
     ap (λ v. option_or (option_map (with_first d) v) (first_pair board (drop (suc i) drivers) others)) missed ∙ ap (λ k. first_pair board (drop k drivers) others) next
 
--- a net without tested drivers gives no pass
-none_any : (passes : List (List Ctl)) → list_any (λ pass. false) passes ≡ false
-none_any [] = refl
-none_any (pass ∷ passes) = none_any passes
-
-none_for : (board : RawBoard) (useful : List Ctl) (passes : List (List Ctl)) (others : List Drive) → add_for_nets board useful passes ([], others) ≡ passes
-none_for board useful passes others = ap (λ t. cond t passes passes) (none_any passes)
-
 abbrev with_list : List Drive → List Drive → List Drive × List Drive
 with_list drivers others = (drivers, others)
-
-none_for_all : (board : RawBoard) (useful : List Ctl) (passes : List (List Ctl)) (lists : List (List Drive)) → fold (add_for_nets board useful) passes (map (with_list []) lists) ≡ passes
-none_for_all board useful passes [] = refl
-none_for_all board useful passes (others ∷ lists) = ap (λ v. fold (add_for_nets board useful) v (map (with_list []) lists)) (none_for board useful passes others) ∙ none_for_all board useful passes lists
-
-pub nothing_added : (board : RawBoard) (useful : List Ctl) (passes : List (List Ctl)) (a : ℕ) → drivers_at board a ≡ [] → passes ≡ fold (add_for_nets board useful) passes (pairs_from board a)
-nothing_added board useful passes a e = sym (ap (λ v. fold (add_for_nets board useful) passes (map (with_list v) (drop (suc a) (drivers_by_net board)))) e ∙ none_for_all board useful passes (drop (suc a) (drivers_by_net board)))
 
 -- what is still to be done for the nets from b on
 abbrev pub to_do : RawBoard → ℕ → ℕ → List (List Drive × List Drive)

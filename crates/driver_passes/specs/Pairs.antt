@@ -1,11 +1,11 @@
 -- Which passes show each net.
-use Rattle.std.specs.Prelude.{◌≡◌, ◌<◌, ℕ, suc, Bool, cond, List, [], ◌∷◌, drop, length, map, slice_index_or}
+use Rattle.std.specs.Prelude.{◌≡◌, ◌<◌, ◌⊎◌, ℕ, suc, Bool, true, cond, List, [], ◌∷◌, drop, length, map, None, slice_index_or}
 use Rattle.board_defs.specs.declared.board.Ctl.{Ctl}
 use Rattle.board_defs.specs.declared.board.RawBoard.{RawBoard}
 use Rattle.board_defs.specs.declared.board.Drive.{Drive}
-use Rattle.board_defs.specs.Passes.{drivers_by_net, shows}
+use Rattle.board_defs.specs.Passes.{are_shown, drivers_by_net, first_pair, shows}
 use Rattle.driver_passes.specs.declared.pairs.Pairing.{Pairing}
-use Rattle.driver_passes.specs.Progress.{IsUsefulDriver, drivers_at}
+use Rattle.driver_passes.specs.Progress.{EnableTested, IsUsefulDriver, drivers_at}
 use Rattle.driver_passes.specs.Useful.{HoldUseful}
 
 -- the numbers, from n on, of the items that pass
@@ -22,10 +22,15 @@ pub record AreShown (board : RawBoard) (passes : List (List Ctl)) (rows : List (
   pub rows_length : length rows ≡ length board.nets
   pub rows_are : (n : ℕ) → n < length board.nets → slice_index_or rows n [] ≡ showing board passes n
 
--- the rows are those of the passes so far, which hold useful controls only
+-- the rows are those of the passes so far, which enable each tested driver and hold useful controls only
 pub record ArePairing (board : RawBoard) (pairing : Pairing) : Type 0 where
   pub shown : AreShown board pairing.passes.items pairing.rows.items
+  pub tested : EnableTested board pairing.passes.items
   pub useful : HoldUseful board pairing.passes.items
+
+-- no pass is to be added for the two nets: one shows both, or no safe setting enables a driver of each
+abbrev pub IsDone : RawBoard → List (List Ctl) → ℕ → ℕ → Type 0
+IsDone board passes a b = (are_shown passes (drivers_at board a) (drivers_at board b) ≡ true) ⊎ (first_pair board (drivers_at board a) (drivers_at board b) ≡ None)
 
 -- the controls of both drivers, where they have one, are useful
 abbrev pub IsUsefulPair : RawBoard → Drive × Drive → Type 0

@@ -7,7 +7,7 @@ ghost use Rattle.board_defs.specs.Passes.{add_for_driver, driver_pass, driver_pa
 ghost use Rattle.net_classes.specs.Kept.{AreClasses};
 ghost use Rattle.net_classes.specs.Pairs.{AreByCells};
 ghost use Rattle.driver_passes.specs.Drafts.{IsDraft, setting_of};
-ghost use Rattle.driver_passes.specs.Progress.{IsProgress, IsUsefulDriver, drivers_at, is_held};
+ghost use Rattle.driver_passes.specs.Progress.{EnableTested, IsProgress, IsUsefulDriver, drivers_at, is_held};
 ghost use Rattle.driver_passes.specs.Useful.{HoldUseful};
 
 use crate::draft::{Draft, blank, is_set};
@@ -207,6 +207,7 @@ pub fn driver_passes(
     requires useful { useful.now ≡ useful_controls board.now }
     requires cells { All (IsCell board.now) useful.now }
     ensures passes { IfOk result (λ passes. passes.items ≡ driver_passes board.now useful.now (flat_map (λ drivers. drivers) (drivers_by_net board.now))) }
+    ensures tested { IfOk result (λ passes. EnableTested board.now passes.items) }
     ensures useful { IfOk result (λ passes. HoldUseful board.now passes.items) }
     ensures few { IfOk result (λ passes. length passes.items ≤ 65535) }
 {

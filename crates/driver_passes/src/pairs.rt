@@ -1,12 +1,12 @@
 // More passes, until each two paired nets are observed by one pass.
-ghost use Rattle.std.specs.Prelude.{◌≡◌, ◌<◌, ◌≤◌, ◌+◌, ◌*◌, ◌^◌, ◌∷◌, ◌++◌, [], drop, find, fold, length, map, All, IfOk, IfSome, OnOk, Some};
+ghost use Rattle.std.specs.Prelude.{◌≡◌, ◌<◌, ◌≤◌, ◌+◌, ◌*◌, ◌^◌, ◌∷◌, ◌++◌, ℕ, [], true, drop, find, fold, length, map, All, IfOk, IfSome, OnOk, Some};
 ghost use Rattle.board_defs.specs.Pins.{IsCell};
 ghost use Rattle.board_defs.specs.Passes.{add_for_nets, drivers_by_net, first_pair, pair_pass, pair_passes, useful_controls};
 ghost use Rattle.net_classes.specs.Kept.{AreClasses};
 ghost use Rattle.net_classes.specs.Pairs.{AreByCells, IsByCell, fit};
 ghost use Rattle.driver_passes.specs.Drafts.{IsDraft, setting_of};
-ghost use Rattle.driver_passes.specs.Pairs.{ArePairing, IsUsefulPair, pairs_from};
-ghost use Rattle.driver_passes.specs.Progress.{IsUsefulDriver, drivers_at};
+ghost use Rattle.driver_passes.specs.Pairs.{ArePairing, IsDone, IsUsefulPair, pairs_from};
+ghost use Rattle.driver_passes.specs.Progress.{EnableTested, IsUsefulDriver, drivers_at};
 ghost use Rattle.driver_passes.specs.Useful.{HoldUseful};
 
 use crate::draft::Draft;
@@ -143,6 +143,20 @@ impl Pairing {
         Ok(())
     }
 
+    /// Whether no pass is to be added for this net and any other one, because this net has no
+    /// tested driver or each pass shows it.
+    fn is_done(&self, board: &Board, classes: &Classes, a: usize) -> bool
+        requires classes { AreClasses board.now classes.now }
+        requires first { a < length board.now.nets }
+        requires pairing { ArePairing board.now self.now }
+        ensures { result ≡ true → (b : ℕ) → b < length board.now.nets → IsDone board.now self.now.passes.items a b }
+    {
+        if drivers_of(board, classes, a).is_empty() {
+            return true;
+        }
+        self.rows[a].as_slice().len() == self.passes.len()
+    }
+
     /// The same for this net and each later one.
     fn add_for_later(
         &mut self,
@@ -162,7 +176,7 @@ impl Pairing {
         ensures added { OnOk result (self.new.passes.items ≡ fold (add_for_nets board.now useful.now) self.old.passes.items (pairs_from board.now a)) }
         ensures few { OnOk result (length self.new.passes.items ≤ 65535 + 16382 * (a + 1)) }
     {
-        if drivers_of(board, classes, a).is_empty() {
+        if self.is_done(board, classes, a) {
             return Ok(());
         }
         for b in a + 1..board.raw().nets.as_slice().len() {
@@ -206,6 +220,7 @@ pub fn pair_passes(
     requires classes { AreClasses board.now classes.now }
     requires useful { useful.now ≡ useful_controls board.now }
     requires cells { All (IsCell board.now) useful.now }
+    requires tested { EnableTested board.now passes.items }
     requires useful_so_far { HoldUseful board.now passes.items }
     requires few { length passes.items ≤ 65535 }
     ensures passes { IfOk result (λ all. all.items ≡ pair_passes board.now useful.now passes.items (drivers_by_net board.now)) }

@@ -43,7 +43,7 @@ impl PassNumbers {
         Ok(())
     }
 
-    fn as_slice(&self) -> &[u32]
+    pub fn as_slice(&self) -> &[u32]
         ensures { result.now ≡ self.now }
     {
         &self.numbers

@@ -1,12 +1,13 @@
 use Rattle.std.proofs.Common.{◌∙◌, ◌<◌, ap, sym, length, arith, fold}
 use Rattle.board_defs.specs.Passes.{add_for_nets}
 use Rattle.driver_passes.specs.Progress.{drivers_at}
-use Rattle.driver_passes.proofs.PairLemmas.{nothing_added, no_drivers, from_first, one_done, one_more}
+use Rattle.driver_passes.proofs.PairLemmas.{from_first, one_done, one_more}
+use Rattle.driver_passes.proofs.DoneLemmas.{none_later}
 use Rattle.driver_passes.proofs.pairs.Pairing.add_for_later.Goals as goal
 
-pub returns-then-is_empty-clause-added : goal.returns-then-is_empty-clause-added
-returns-then-is_empty-clause-added c =
-    nothing_added c.args.board.now c.args.useful.now c.args.self.now.passes.items c.args.a (sym c.drivers_of.ensures.drivers ∙ no_drivers c.drivers_of.result.now c.if-is_empty.ensures)
+pub returns-then-is_done-clause-added : goal.returns-then-is_done-clause-added
+returns-then-is_done-clause-added c =
+    none_later c.args.board.now c.args.useful.now c.args.self.now.passes.items c.args.a c.requires.first (c.is_done.ensures c.if-is_done.true)
 
 pub loop-b-init : goal.loop-b-init
 loop-b-init c =

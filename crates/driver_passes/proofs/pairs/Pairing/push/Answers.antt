@@ -5,6 +5,7 @@ use Rattle.board_defs.specs.declared.board.Ctl.{Ctl}
 use Rattle.driver_passes.proofs.ProgressLemmas.{length_end}
 use Rattle.driver_passes.proofs.ShownLemmas.{shown_whole}
 use Rattle.driver_passes.proofs.UsefulLemmas.{useful_more}
+use Rattle.driver_passes.proofs.EnabledLemmas.{enabled_more}
 use Rattle.driver_passes.proofs.pairs.Pairing.push.Goals as goal
 
 pub returns-clause-pairing : goal.returns-clause-pairing
@@ -20,5 +21,6 @@ returns-clause-pairing c =
     let most : length c.push.new.self.items ≤ c.len-number.result + 1 = omega (arith, number, longer) in
     record {
       shown = shown_whole board c.deref.result.now c.push.new.self.items c.note_pass.new.rows (with_items before.rows c.note_pass.new.rows).items (c.len-number.result + 1) c.deref.ensures.value most kept c.in_ok-note_pass.ensures;
+      tested = enabled_more board before.passes.items c.push.new.self.items setting c.requires.pairing.tested pushed;
       useful = useful_more board before.passes.items c.push.new.self.items c.args.draft.now.held.items (c.passes_kept.ensures board c.raw-rules.ensures.rules) c.requires.pairing.useful (pushed ∙ ap (λ (v : List Ctl). before.passes.items ++ v ∷ []) c.in_ok-setting.ensures);
     }

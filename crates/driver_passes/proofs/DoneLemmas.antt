@@ -1,0 +1,81 @@
+-- Pairs of nets for which nothing is to be done.
+use Rattle.std.proofs.Common.{◌≡◌, ℕ, zero, suc, ◌+◌, ◌-◌, ◌<◌, ◌≤◌, Bool, true, false, ◌&&◌, ◌||◌, Contains, List, [], ◌∷◌, length, map, drop, fold, None, refl, sym, ◌∙◌, ap, arith, cond, ◌⊎◌, inl, inr}
+use Rattle.std.specs.List.{list_any}
+use Rattle.std.proofs.lemmas.Bool.{or_left, or_right, or_cases}
+use Rattle.std.proofs.lemmas.List.{drop_all, length-map}
+use Rattle.board_defs.specs.declared.board.Ctl.{Ctl}
+use Rattle.board_defs.specs.declared.board.RawBoard.{RawBoard}
+use Rattle.board_defs.specs.declared.board.Drive.{Drive}
+use Rattle.board_defs.specs.Passes.{add_for_nets, are_shown, drivers_by_net, first_pair, is_enabled, shows, tested_drivers, with_pair}
+use Rattle.board_defs.proofs.Members.{any_has, has_any}
+use Rattle.driver_passes.specs.Pairs.{IsDone, numbers_of, pairs_from, showing}
+use Rattle.driver_passes.specs.Progress.{EnableTested, drivers_at}
+use Rattle.driver_passes.proofs.PairLemmas.{from_first, one_done, to_do}
+
+-- no pass is added
+pub done_same : (board : RawBoard) (useful : List Ctl) (passes : List (List Ctl)) (a b : ℕ) → IsDone board passes a b → add_for_nets board useful passes (drivers_at board a, drivers_at board b) ≡ passes
+done_same board useful passes a b (inl e) = ap (λ t. cond t passes (with_pair board useful passes (first_pair board (drivers_at board a) (drivers_at board b)))) e
+done_same board useful passes a b (inr e) = ap (λ w. cond (are_shown passes (drivers_at board a) (drivers_at board b)) passes (with_pair board useful passes w)) e ∙ either (are_shown passes (drivers_at board a) (drivers_at board b))
+  where
+    either : (t : Bool) → cond t passes passes ≡ passes
+    either true = refl
+    either false = refl
+
+-- so of each net from b on below b + k
+pub skipped : (board : RawBoard) (useful : List Ctl) (passes : List (List Ctl)) (a b k : ℕ) → b + k ≤ length board.nets → ((n : ℕ) → b ≤ n → n < b + k → IsDone board passes a n) → fold (add_for_nets board useful) passes (to_do board a (b + k)) ≡ fold (add_for_nets board useful) passes (to_do board a b)
+skipped board useful passes a b zero most done = let same : b + 0 ≡ b = omega arith in ap (λ n. fold (add_for_nets board useful) passes (to_do board a n)) same
+skipped board useful passes a b (suc k) most done =
+    let next : b + suc k ≡ (b + 1) + k = omega arith in
+    ap (λ n. fold (add_for_nets board useful) passes (to_do board a n)) next ∙
+    skipped board useful passes a (b + 1) k (omega (arith, most)) (λ n least below. done n (omega (arith, least)) (omega (arith, below))) ∙
+    one_done board useful passes passes a b (omega (arith, most)) (sym (done_same board useful passes a b (done b (omega arith) (omega arith))))
+
+-- so of each later net
+pub none_later : (board : RawBoard) (useful : List Ctl) (passes : List (List Ctl)) (a : ℕ) → a < length board.nets → ((b : ℕ) → b < length board.nets → IsDone board passes a b) → passes ≡ fold (add_for_nets board useful) passes (pairs_from board a)
+none_later board useful passes a less done =
+    let k : ℕ = length board.nets - (a + 1) in
+    let all : (a + 1) + k ≡ length board.nets = omega (arith, less) in
+    let over : drop ((a + 1) + k) (drivers_by_net board) ≡ [] = drop_all ((a + 1) + k) (drivers_by_net board) (omega (arith, all, length-map board.nets (tested_drivers board))) in
+    sym (ap (λ v. fold (add_for_nets board useful) passes (map (λ others. (drivers_at board a, others)) v)) over) ∙
+    skipped board useful passes a (a + 1) k (omega (arith, all)) (λ n least below. done n (omega (arith, below, all))) ∙
+    ap (fold (add_for_nets board useful) passes) (from_first board a)
+
+-- a net without tested drivers
+pub none_tested : (board : RawBoard) (passes : List (List Ctl)) (a b : ℕ) → drivers_at board a ≡ [] → IsDone board passes a b
+none_tested board passes a b e = inr (ap (λ v. first_pair board v (drivers_at board b)) e)
+
+no_others : (board : RawBoard) (drivers : List Drive) → first_pair board drivers [] ≡ None
+no_others board [] = refl
+no_others board (d ∷ drivers) = no_others board drivers
+
+numbers_few : {X : Type 0} (p : X → Bool) (n : ℕ) (xs : List X) → length (numbers_of p n xs) ≤ length xs
+numbers_few p n [] = omega arith
+numbers_few p n (x ∷ xs) = by_test (p x) (numbers_few p (suc n) xs)
+  where
+    by_test : (t : Bool) → length (numbers_of p (suc n) xs) ≤ length xs → length (cond t (n ∷ numbers_of p (suc n) xs) (numbers_of p (suc n) xs)) ≤ length (x ∷ xs)
+    by_test true h = omega (arith, h)
+    by_test false h = omega (arith, h)
+
+-- where all items pass, one that passes another test passes both
+all_pass : {X : Type 0} (p q : X → Bool) (n : ℕ) (xs : List X) → length (numbers_of p n xs) ≡ length xs → list_any q xs ≡ true → list_any (λ x. p x && q x) xs ≡ true
+all_pass p q n [] all h = h
+all_pass p q n (x ∷ xs) all h = by_test (λ rest e. all_pass p q (suc n) xs rest e) (p x) all
+  where
+    by_part : (list_any q xs ≡ true → list_any (λ y. p y && q y) xs ≡ true) → (q x ≡ true) ⊎ (list_any q xs ≡ true) → (q x || list_any (λ y. p y && q y) xs) ≡ true
+    by_part rest (inl e) = or_left (q x) (list_any (λ y. p y && q y) xs) e
+    by_part rest (inr e) = or_right (q x) (list_any (λ y. p y && q y) xs) (rest e)
+
+    by_test : (length (numbers_of p (suc n) xs) ≡ length xs → list_any q xs ≡ true → list_any (λ y. p y && q y) xs ≡ true) → (t : Bool) → length (cond t (n ∷ numbers_of p (suc n) xs) (numbers_of p (suc n) xs)) ≡ length (x ∷ xs) → ((t && q x) || list_any (λ y. p y && q y) xs) ≡ true
+    by_test rest true e = by_part (rest (omega (arith, e))) (or_cases (q x) (list_any q xs) h)
+    by_test rest false e = absurd (omega (arith, e, numbers_few p (suc n) xs))
+
+-- a net that each pass shows
+pub all_show : (board : RawBoard) (passes : List (List Ctl)) (a b : ℕ) (row : List ℕ) → EnableTested board passes → row ≡ showing board passes a → length row ≡ length passes → b < length board.nets → IsDone board passes a b
+all_show board passes a b row are e all less = by_drivers (drivers_at board b) (λ d h. are b d less h)
+  where
+    by_drivers : (others : List Drive) → ((d : Drive) → Contains others d → list_any (λ pass. is_enabled pass d) passes ≡ true) → (are_shown passes (drivers_at board a) others ≡ true) ⊎ (first_pair board (drivers_at board a) others ≡ None)
+    by_drivers [] enabled = inr (no_others board (drivers_at board a))
+    by_drivers (d ∷ others) enabled =
+        let r = any_has (λ (pass : List Ctl). is_enabled pass d) passes (enabled d (0, omega arith, refl)) in
+        let some : list_any (shows (d ∷ others)) passes ≡ true = has_any (shows (d ∷ others)) passes r.0 r.1 (or_left (is_enabled r.0 d) (list_any (is_enabled r.0) others) r.2) in
+        inl (all_pass (shows (drivers_at board a)) (shows (d ∷ others)) 0 passes (sym (ap length e) ∙ all) some)
