@@ -1,6 +1,7 @@
 -- Pairs of nets for which nothing is to be done.
-use Rattle.std.proofs.Common.{◌≡◌, ℕ, zero, suc, ◌+◌, ◌-◌, ◌<◌, ◌≤◌, Bool, true, false, ◌&&◌, ◌||◌, Contains, List, [], ◌∷◌, length, map, drop, fold, None, refl, sym, ◌∙◌, ap, arith, cond, ◌⊎◌, inl, inr}
+use Rattle.std.proofs.Common.{◌≡◌, ◌≢◌, get_or, ℕ, zero, suc, ◌+◌, ◌-◌, ◌<◌, ◌≤◌, Bool, true, false, ◌&&◌, ◌||◌, Contains, List, [], ◌∷◌, length, map, drop, fold, None, refl, sym, ◌∙◌, ap, arith, cond, ◌⊎◌, inl, inr}
 use Rattle.std.specs.List.{list_any}
+use Rattle.std.specs.Int.Bits.{bit_and}
 use Rattle.std.proofs.lemmas.Bool.{or_left, or_right, or_cases}
 use Rattle.std.proofs.lemmas.List.{drop_all, length-map}
 use Rattle.board_defs.specs.declared.board.Ctl.{Ctl}
@@ -8,9 +9,10 @@ use Rattle.board_defs.specs.declared.board.RawBoard.{RawBoard}
 use Rattle.board_defs.specs.declared.board.Drive.{Drive}
 use Rattle.board_defs.specs.Passes.{add_for_nets, are_shown, drivers_by_net, first_pair, is_enabled, shows, tested_drivers, with_pair}
 use Rattle.board_defs.proofs.Members.{any_has, has_any}
-use Rattle.driver_passes.specs.Pairs.{IsDone, numbers_of, pairs_from, showing}
+use Rattle.driver_passes.specs.Pairs.{AreMarks, IsDone, numbers_of, pairs_from, showing}
 use Rattle.driver_passes.specs.Progress.{EnableTested, drivers_at}
-use Rattle.driver_passes.proofs.PairLemmas.{from_first, one_done, to_do}
+use Rattle.driver_passes.proofs.MarkLemmas.{marks_meet}
+use Rattle.driver_passes.proofs.PairLemmas.{one_done}
 
 -- no pass is added
 pub done_same : (board : RawBoard) (useful : List Ctl) (passes : List (List Ctl)) (a b : ℕ) → IsDone board passes a b → add_for_nets board useful passes (drivers_at board a, drivers_at board b) ≡ passes
@@ -22,23 +24,34 @@ done_same board useful passes a b (inr e) = ap (λ w. cond (are_shown passes (dr
     either false = refl
 
 -- so of each net from b on below b + k
-pub skipped : (board : RawBoard) (useful : List Ctl) (passes : List (List Ctl)) (a b k : ℕ) → b + k ≤ length board.nets → ((n : ℕ) → b ≤ n → n < b + k → IsDone board passes a n) → fold (add_for_nets board useful) passes (to_do board a (b + k)) ≡ fold (add_for_nets board useful) passes (to_do board a b)
-skipped board useful passes a b zero most done = let same : b + 0 ≡ b = omega arith in ap (λ n. fold (add_for_nets board useful) passes (to_do board a n)) same
+skipped : (board : RawBoard) (useful : List Ctl) (passes : List (List Ctl)) (a b k : ℕ) → b + k ≤ length board.nets → ((n : ℕ) → b ≤ n → n < b + k → IsDone board passes a n) → fold (add_for_nets board useful) passes (pairs_from board a (b + k)) ≡ fold (add_for_nets board useful) passes (pairs_from board a b)
+skipped board useful passes a b zero most done = let same : b + 0 ≡ b = omega arith in ap (λ n. fold (add_for_nets board useful) passes (pairs_from board a n)) same
 skipped board useful passes a b (suc k) most done =
     let next : b + suc k ≡ (b + 1) + k = omega arith in
-    ap (λ n. fold (add_for_nets board useful) passes (to_do board a n)) next ∙
+    ap (λ n. fold (add_for_nets board useful) passes (pairs_from board a n)) next ∙
     skipped board useful passes a (b + 1) k (omega (arith, most)) (λ n least below. done n (omega (arith, least)) (omega (arith, below))) ∙
     one_done board useful passes passes a b (omega (arith, most)) (sym (done_same board useful passes a b (done b (omega arith) (omega arith))))
 
+pub skipped_to : (board : RawBoard) (useful : List Ctl) (passes : List (List Ctl)) (a b c : ℕ) → b ≤ c → c ≤ length board.nets → ((n : ℕ) → b ≤ n → n < c → IsDone board passes a n) → fold (add_for_nets board useful) passes (pairs_from board a c) ≡ fold (add_for_nets board useful) passes (pairs_from board a b)
+skipped_to board useful passes a b c least most done =
+    let all : b + (c - b) ≡ c = omega (arith, least) in
+    sym (ap (λ n. fold (add_for_nets board useful) passes (pairs_from board a n)) all) ∙ skipped board useful passes a b (c - b) (omega (arith, all, most)) (λ n from below. done n from (omega (arith, below, all)))
+
+-- so of the nets whose marks have a bit in common with that of a
+pub skip_marked : (board : RawBoard) (useful : List Ctl) (passes : List (List Ctl)) (marks lent : List ℕ) (a b c mark : ℕ) → AreMarks board passes marks → a < length board.nets → b ≤ c → c ≤ length board.nets → lent ≡ marks → mark ≡ get_or marks a 0 → ((n : ℕ) → b ≤ n → n < c → bit_and mark (get_or lent n 0) ≢ 0) →
+    fold (add_for_nets board useful) passes (pairs_from board a c) ≡ fold (add_for_nets board useful) passes (pairs_from board a b)
+skip_marked board useful passes marks lent a b c mark are first least most e f common =
+    skipped_to board useful passes a b c least most
+    (λ n from below. inl (marks_meet board passes marks a n are first (omega (arith, below, most)) (λ apart. common n from below (ap (λ v. bit_and mark (get_or v n 0)) e ∙ ap (λ m. bit_and m (get_or marks n 0)) f ∙ apart))))
+
+-- past the last net there is nothing to do
+pub none_left : (board : RawBoard) (useful : List Ctl) (passes : List (List Ctl)) (a b : ℕ) → length board.nets ≤ b → fold (add_for_nets board useful) passes (pairs_from board a b) ≡ passes
+none_left board useful passes a b most = ap (λ v. fold (add_for_nets board useful) passes (map (λ others. (drivers_at board a, others)) v)) (drop_all b (drivers_by_net board) (omega (arith, most, length-map board.nets (tested_drivers board))))
+
 -- so of each later net
-pub none_later : (board : RawBoard) (useful : List Ctl) (passes : List (List Ctl)) (a : ℕ) → a < length board.nets → ((b : ℕ) → b < length board.nets → IsDone board passes a b) → passes ≡ fold (add_for_nets board useful) passes (pairs_from board a)
+pub none_later : (board : RawBoard) (useful : List Ctl) (passes : List (List Ctl)) (a : ℕ) → a < length board.nets → ((b : ℕ) → b < length board.nets → IsDone board passes a b) → passes ≡ fold (add_for_nets board useful) passes (pairs_from board a (a + 1))
 none_later board useful passes a less done =
-    let k : ℕ = length board.nets - (a + 1) in
-    let all : (a + 1) + k ≡ length board.nets = omega (arith, less) in
-    let over : drop ((a + 1) + k) (drivers_by_net board) ≡ [] = drop_all ((a + 1) + k) (drivers_by_net board) (omega (arith, all, length-map board.nets (tested_drivers board))) in
-    sym (ap (λ v. fold (add_for_nets board useful) passes (map (λ others. (drivers_at board a, others)) v)) over) ∙
-    skipped board useful passes a (a + 1) k (omega (arith, all)) (λ n least below. done n (omega (arith, below, all))) ∙
-    ap (fold (add_for_nets board useful) passes) (from_first board a)
+    sym (none_left board useful passes a (length board.nets) (omega arith)) ∙ skipped_to board useful passes a (a + 1) (length board.nets) (omega (arith, less)) (omega arith) (λ n least below. done n below)
 
 -- a net without tested drivers
 pub none_tested : (board : RawBoard) (passes : List (List Ctl)) (a b : ℕ) → drivers_at board a ≡ [] → IsDone board passes a b

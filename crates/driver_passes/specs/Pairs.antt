@@ -1,5 +1,6 @@
 -- Which passes show each net.
-use Rattle.std.specs.Prelude.{◌≡◌, ◌<◌, ◌⊎◌, ℕ, suc, Bool, true, cond, List, [], ◌∷◌, drop, length, map, None, slice_index_or}
+use Rattle.std.specs.Prelude.{◌≡◌, ◌<◌, ◌⊎◌, ℕ, suc, Bool, true, cond, List, [], ◌∷◌, drop, length, map, None, slice_index_or, Contains}
+use Rattle.std.specs.Int.{bit_at}
 use Rattle.board_defs.specs.declared.board.Ctl.{Ctl}
 use Rattle.board_defs.specs.declared.board.RawBoard.{RawBoard}
 use Rattle.board_defs.specs.declared.board.Drive.{Drive}
@@ -22,9 +23,15 @@ pub record AreShown (board : RawBoard) (passes : List (List Ctl)) (rows : List (
   pub rows_length : length rows ≡ length board.nets
   pub rows_are : (n : ℕ) → n < length board.nets → slice_index_or rows n [] ≡ showing board passes n
 
--- the rows are those of the passes so far, which enable each tested driver and hold useful controls only
+-- a bit that is set in the mark of a net is the number of a pass that shows the net
+pub record AreMarks (board : RawBoard) (passes : List (List Ctl)) (marks : List ℕ) : Type 0 where
+  pub marks_length : length marks ≡ length board.nets
+  pub marks_are : (n x : ℕ) → n < length board.nets → bit_at (slice_index_or marks n 0) x ≡ 1 → Contains (showing board passes n) x
+
+-- the rows and marks are those of the passes so far, which enable each tested driver and hold useful controls only
 pub record ArePairing (board : RawBoard) (pairing : Pairing) : Type 0 where
   pub shown : AreShown board pairing.passes.items pairing.rows.items
+  pub marks : AreMarks board pairing.passes.items pairing.marks.items
   pub tested : EnableTested board pairing.passes.items
   pub useful : HoldUseful board pairing.passes.items
 
@@ -36,6 +43,6 @@ IsDone board passes a b = (are_shown passes (drivers_at board a) (drivers_at boa
 abbrev pub IsUsefulPair : RawBoard → Drive × Drive → Type 0
 IsUsefulPair board pair = IsUsefulDriver board pair.0 × IsUsefulDriver board pair.1
 
--- the tested drivers of net n and those of a later net, for each later net in order
-abbrev pub pairs_from : RawBoard → ℕ → List (List Drive × List Drive)
-pairs_from board n = map (λ others. (drivers_at board n, others)) (drop (suc n) (drivers_by_net board))
+-- the tested drivers of net a and those of another net, for each net from b on in order
+abbrev pub pairs_from : RawBoard → ℕ → ℕ → List (List Drive × List Drive)
+pairs_from board a b = map (λ others. (drivers_at board a, others)) (drop b (drivers_by_net board))

@@ -5,6 +5,7 @@
 mod draft;
 mod drivers;
 mod making;
+mod marks;
 mod pairs;
 mod places;
 mod shown;

@@ -11,17 +11,19 @@ ghost use Rattle.driver_passes.specs.Useful.{HoldUseful};
 
 use crate::draft::Draft;
 use crate::drivers::drivers_of;
-use crate::shown::{PassNumbers, are_shown, note_pass, rows_of};
+use crate::marks::{blank_marks, next_apart};
+use crate::shown::{PassNumbers, are_shown, blank_rows, note_pass};
 use crate::walk::second_walk;
 use board_defs::{Board, Ctl, Drive, Setting, law};
 use net_classes::Classes;
 use std::alloc::{AllocError, Global};
 
-/// The passes so far, and for each net the numbers of those that show it.
+/// The passes so far, and for each net the numbers of those that show it, and its mark.
 #[derive(Debug, Drop)]
 pub struct Pairing {
     pub passes: Vec<Setting>,
     pub rows: Vec<PassNumbers>,
+    pub marks: Vec<u64>,
 }
 
 /// The first of the drivers that one safe setting enables together with `d`.
@@ -87,6 +89,32 @@ fn pair_pass(
 }
 
 impl Pairing {
+    fn new(
+        alloc: Global,
+        board: &Board,
+        classes: &Classes,
+        passes: Vec<Setting>,
+    ) -> Result<Pairing, AllocError>
+        requires classes { AreClasses board.now classes.now }
+        requires tested { EnableTested board.now passes.items }
+        requires useful { HoldUseful board.now passes.items }
+        requires few { length passes.items ≤ 65535 }
+        ensures pairing { IfOk result (λ pairing. ArePairing board.now pairing) }
+        ensures passes { IfOk result (λ pairing. pairing.passes.items ≡ passes.items) }
+    {
+        let nets = board.raw().nets.as_slice().len();
+        let mut rows = blank_rows(alloc, nets)?;
+        let mut marks = blank_marks(alloc, nets)?;
+        for number in 0..passes.len() {
+            note_pass(&mut rows, &mut marks, board, classes, &passes, number)?;
+        }
+        Ok(Pairing {
+            passes,
+            rows,
+            marks,
+        })
+    }
+
     fn push(
         &mut self,
         alloc: Global,
@@ -107,7 +135,14 @@ impl Pairing {
         let _rules = board.raw();
         let number = self.passes.len();
         self.passes.push(draft.setting(alloc, board, useful)?)?;
-        note_pass(&mut self.rows, board, classes, &self.passes, number)?;
+        note_pass(
+            &mut self.rows,
+            &mut self.marks,
+            board,
+            classes,
+            &self.passes,
+            number,
+        )?;
         Ok(())
     }
 
@@ -157,6 +192,39 @@ impl Pairing {
         self.rows[a].as_slice().len() == self.passes.len()
     }
 
+    /// The same for net `a` and the first net, from this one on, that the marks don't say to be
+    /// shown together with it; gives the net to go on with.
+    fn add_for_next(
+        &mut self,
+        alloc: Global,
+        board: &Board,
+        classes: &Classes,
+        useful: &[Ctl],
+        a: usize,
+        from: usize,
+    ) -> Result<usize, AllocError>
+        requires classes { AreClasses board.now classes.now }
+        requires useful { useful.now ≡ useful_controls board.now }
+        requires cells { All (IsCell board.now) useful.now }
+        requires first { a < length board.now.nets }
+        requires second { from < length board.now.nets }
+        requires pairing { ArePairing board.now self.old }
+        requires few { length self.old.passes.items < 2 ^ 32 }
+        ensures pairing { OnOk result (ArePairing board.now self.new) }
+        ensures further { IfOk result (λ b. from < b) }
+        ensures within { IfOk result (λ b. b ≤ length board.now.nets) }
+        ensures added { IfOk result (λ b. fold (add_for_nets board.now useful.now) self.new.passes.items (pairs_from board.now a b) ≡ fold (add_for_nets board.now useful.now) self.old.passes.items (pairs_from board.now a from)) }
+        ensures few { IfOk result (λ b. length self.new.passes.items + from ≤ length self.old.passes.items + b) }
+    {
+        let b = next_apart(&self.marks, self.marks[a], from);
+        if b < self.marks.len() {
+            self.add_for_nets(alloc, board, classes, useful, a, b)?;
+            Ok(b + 1)
+        } else {
+            Ok(b)
+        }
+    }
+
     /// The same for this net and each later one.
     fn add_for_later(
         &mut self,
@@ -173,14 +241,16 @@ impl Pairing {
         requires pairing { ArePairing board.now self.old }
         requires few { length self.old.passes.items ≤ 65535 + 16382 * a }
         ensures pairing { OnOk result (ArePairing board.now self.new) }
-        ensures added { OnOk result (self.new.passes.items ≡ fold (add_for_nets board.now useful.now) self.old.passes.items (pairs_from board.now a)) }
+        ensures added { OnOk result (self.new.passes.items ≡ fold (add_for_nets board.now useful.now) self.old.passes.items (pairs_from board.now a (a + 1))) }
         ensures few { OnOk result (length self.new.passes.items ≤ 65535 + 16382 * (a + 1)) }
     {
+        let _rules = board.raw();
         if self.is_done(board, classes, a) {
             return Ok(());
         }
-        for b in a + 1..board.raw().nets.as_slice().len() {
-            self.add_for_nets(alloc, board, classes, useful, a, b)?;
+        let mut b = a + 1;
+        while b < self.marks.len() {
+            b = self.add_for_next(alloc, board, classes, useful, a, b)?;
         }
         Ok(())
     }
@@ -227,8 +297,7 @@ pub fn pair_passes(
     ensures useful { IfOk result (λ all. HoldUseful board.now all.items) }
     ensures few { IfOk result (λ all. length all.items < 2 ^ 32) }
 {
-    let rows = rows_of(alloc, board, classes, &passes)?;
-    let mut pairing = Pairing { passes, rows };
+    let mut pairing = Pairing::new(alloc, board, classes, passes)?;
     pairing.add_for_all(alloc, board, classes, useful)?;
     Ok(pairing.passes)
 }
