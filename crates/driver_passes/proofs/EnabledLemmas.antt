@@ -20,6 +20,9 @@ use Rattle.driver_passes.proofs.ProgressLemmas.{net_there, drivers_are}
 pub any_end : (p : List Ctl → Bool) (passes : List (List Ctl)) (pass : List Ctl) → list_any p passes ≡ true → list_any p (passes ++ pass ∷ []) ≡ true
 any_end p passes pass h = list_any-append p passes (pass ∷ []) ∙ or_left (list_any p passes) (list_any p (pass ∷ [])) h
 
+pub any_last : (p : List Ctl → Bool) (passes : List (List Ctl)) (pass : List Ctl) → p pass ≡ true → list_any p (passes ++ pass ∷ []) ≡ true
+any_last p passes pass h = list_any-append p passes (pass ∷ []) ∙ or_right (list_any p passes) (p pass || false) (or_left (p pass) false h)
+
 abbrev Enabled : Drive → List (List Ctl) → Type 0
 Enabled d passes = list_any (λ pass. is_enabled pass d) passes ≡ true
 
@@ -35,9 +38,7 @@ driver_makes board useful d passes can = by_test (list_any (λ pass. is_enabled 
   where
     by_test : (t : Bool) → list_any (λ pass. is_enabled pass d) passes ≡ t → Enabled d (cond t passes (passes ++ driver_pass board useful passes d ∷ []))
     by_test true e = e
-    by_test false e =
-        let last : List Ctl = driver_pass board useful passes d in
-        list_any-append (λ pass. is_enabled pass d) passes (last ∷ []) ∙ or_right (list_any (λ pass. is_enabled pass d) passes) (is_enabled last d || false) (or_left (is_enabled last d) false (driver_pass_enables board useful passes d can))
+    by_test false e = any_last (λ pass. is_enabled pass d) passes (driver_pass board useful passes d) (driver_pass_enables board useful passes d can)
 
 net_enabled : (board : RawBoard) (useful : List Ctl) (n : ℕ) (net : Net) (d : Drive) → slice_get board.nets n ≡ Some net → Has (tested_drivers board net) d → Enabled d (fold (add_for_driver board useful) [] (all_drivers board))
 net_enabled board useful n net d e h =

@@ -5,6 +5,7 @@ pub mod FitLemmas
 pub mod ProgressLemmas
 pub mod NumberLemmas
 pub mod ShownLemmas
+pub mod AlikeLemmas
 pub mod MarkLemmas
 pub mod PairLemmas
 pub mod EnabledLemmas

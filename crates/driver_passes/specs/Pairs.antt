@@ -8,6 +8,7 @@ use Rattle.board_defs.specs.Passes.{are_shown, drivers_by_net, first_pair, shows
 use Rattle.driver_passes.specs.declared.pairs.Pairing.{Pairing}
 use Rattle.driver_passes.specs.Progress.{EnableTested, IsUsefulDriver, drivers_at}
 use Rattle.driver_passes.specs.Useful.{HoldUseful}
+use Rattle.driver_passes.specs.Alike.{AreAlike}
 
 -- the numbers, from n on, of the items that pass
 abbrev pub numbers_of : {X : Type 0} → (X → Bool) → ℕ → List X → List ℕ
@@ -32,12 +33,25 @@ pub record AreMarks (board : RawBoard) (passes : List (List Ctl)) (marks : List 
 pub record ArePairing (board : RawBoard) (pairing : Pairing) : Type 0 where
   pub shown : AreShown board pairing.passes.items pairing.rows.items
   pub marks : AreMarks board pairing.passes.items pairing.marks.items
+  pub alike : AreAlike board pairing.likes.items
   pub tested : EnableTested board pairing.passes.items
   pub useful : HoldUseful board pairing.passes.items
 
 -- no pass is to be added for the two nets: one shows both, or no safe setting enables a driver of each
 abbrev pub IsDone : RawBoard → List (List Ctl) → ℕ → ℕ → Type 0
 IsDone board passes a b = (are_shown passes (drivers_at board a) (drivers_at board b) ≡ true) ⊎ (first_pair board (drivers_at board a) (drivers_at board b) ≡ None)
+
+-- so for net a and each later one below b
+abbrev pub IsDoneTo : RawBoard → List (List Ctl) → ℕ → ℕ → Type 0
+IsDoneTo board passes a b = (n : ℕ) → a < n → n < b → IsDone board passes a n
+
+-- so for each net below a and all later ones
+abbrev pub AreDone : RawBoard → List (List Ctl) → ℕ → Type 0
+AreDone board passes a = (m : ℕ) → m < a → IsDoneTo board passes m (length board.nets)
+
+-- what was done stays done
+abbrev pub StaysDone : RawBoard → List (List Ctl) → List (List Ctl) → Type 0
+StaysDone board before after = (m n : ℕ) → IsDone board before m n → IsDone board after m n
 
 -- the controls of both drivers, where they have one, are useful
 abbrev pub IsUsefulPair : RawBoard → Drive × Drive → Type 0

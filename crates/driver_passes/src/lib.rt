@@ -2,6 +2,7 @@
 //! paired nets together.
 #![tactic(auto)]
 
+mod alike;
 mod draft;
 mod drivers;
 mod making;

@@ -5,10 +5,11 @@ ghost use Rattle.board_defs.specs.Passes.{add_for_nets, drivers_by_net, first_pa
 ghost use Rattle.net_classes.specs.Kept.{AreClasses};
 ghost use Rattle.net_classes.specs.Pairs.{AreByCells, IsByCell, fit};
 ghost use Rattle.driver_passes.specs.Drafts.{IsDraft, setting_of};
-ghost use Rattle.driver_passes.specs.Pairs.{ArePairing, IsDone, IsUsefulPair, pairs_from};
+ghost use Rattle.driver_passes.specs.Pairs.{AreDone, ArePairing, IsDone, IsDoneTo, StaysDone, IsUsefulPair, pairs_from};
 ghost use Rattle.driver_passes.specs.Progress.{EnableTested, IsUsefulDriver, drivers_at};
 ghost use Rattle.driver_passes.specs.Useful.{HoldUseful};
 
+use crate::alike::likes_of;
 use crate::draft::Draft;
 use crate::drivers::drivers_of;
 use crate::marks::{blank_marks, next_apart};
@@ -18,12 +19,14 @@ use board_defs::{Board, Ctl, Drive, Setting, law};
 use net_classes::Classes;
 use std::alloc::{AllocError, Global};
 
-/// The passes so far, and for each net the numbers of those that show it, and its mark.
+/// The passes so far, and for each net the numbers of those that show it, its mark, and an earlier
+/// net with the same tested drivers or the net itself.
 #[derive(Debug, Drop)]
 pub struct Pairing {
     pub passes: Vec<Setting>,
     pub rows: Vec<PassNumbers>,
     pub marks: Vec<u64>,
+    pub likes: Vec<u32>,
 }
 
 /// The first of the drivers that one safe setting enables together with `d`.
@@ -93,9 +96,11 @@ impl Pairing {
         alloc: Global,
         board: &Board,
         classes: &Classes,
+        useful: &[Ctl],
         passes: Vec<Setting>,
     ) -> Result<Pairing, AllocError>
         requires classes { AreClasses board.now classes.now }
+        requires useful_are { useful.now ≡ useful_controls board.now }
         requires tested { EnableTested board.now passes.items }
         requires useful { HoldUseful board.now passes.items }
         requires few { length passes.items ≤ 65535 }
@@ -108,10 +113,12 @@ impl Pairing {
         for number in 0..passes.len() {
             note_pass(&mut rows, &mut marks, board, classes, &passes, number)?;
         }
+        let likes = likes_of(alloc, board, classes, useful)?;
         Ok(Pairing {
             passes,
             rows,
             marks,
+            likes,
         })
     }
 
@@ -178,22 +185,39 @@ impl Pairing {
         Ok(())
     }
 
-    /// Whether no pass is to be added for this net and any other one, because this net has no
-    /// tested driver or each pass shows it.
+    /// Whether no pass is to be added for this net and any later one, because this net has no
+    /// tested driver, because each pass shows it, or because an earlier net has the same ones.
     fn is_done(&self, board: &Board, classes: &Classes, a: usize) -> bool
         requires classes { AreClasses board.now classes.now }
         requires first { a < length board.now.nets }
         requires pairing { ArePairing board.now self.now }
-        ensures { result ≡ true → (b : ℕ) → b < length board.now.nets → IsDone board.now self.now.passes.items a b }
+        requires done { AreDone board.now self.now.passes.items a }
+        ensures { result ≡ true → IsDoneTo board.now self.now.passes.items a (length board.now.nets) }
     {
+        if (self.likes[a] as usize) < a {
+            return true;
+        }
         if drivers_of(board, classes, a).is_empty() {
             return true;
         }
         self.rows[a].as_slice().len() == self.passes.len()
     }
 
-    /// The same for net `a` and the first net, from this one on, that the marks don't say to be
-    /// shown together with it; gives the net to go on with.
+    /// The first net, from this one on, that the marks don't say to be shown together with net
+    /// `a`; the number of nets, where there is none.
+    fn next_unshown(&self, board: &Board, a: usize, from: usize) -> usize
+        requires first { a < length board.now.nets }
+        requires second { from ≤ length board.now.nets }
+        requires pairing { ArePairing board.now self.now }
+        ensures least { from ≤ result }
+        ensures most { result ≤ length board.now.nets }
+        ensures done { (n : ℕ) → from ≤ n → n < result → IsDone board.now self.now.passes.items a n }
+    {
+        next_apart(&self.marks, self.marks[a], from)
+    }
+
+    /// The same for net `a` and the next one that it may not be shown with, from this one on;
+    /// gives the net to go on with.
     fn add_for_next(
         &mut self,
         alloc: Global,
@@ -214,9 +238,11 @@ impl Pairing {
         ensures further { IfOk result (λ b. from < b) }
         ensures within { IfOk result (λ b. b ≤ length board.now.nets) }
         ensures added { IfOk result (λ b. fold (add_for_nets board.now useful.now) self.new.passes.items (pairs_from board.now a b) ≡ fold (add_for_nets board.now useful.now) self.old.passes.items (pairs_from board.now a from)) }
+        ensures kept { OnOk result (StaysDone board.now self.old.passes.items self.new.passes.items) }
+        ensures done { IfOk result (λ b. (n : ℕ) → from ≤ n → n < b → IsDone board.now self.new.passes.items a n) }
         ensures few { IfOk result (λ b. length self.new.passes.items + from ≤ length self.old.passes.items + b) }
     {
-        let b = next_apart(&self.marks, self.marks[a], from);
+        let b = self.next_unshown(board, a, from);
         if b < self.marks.len() {
             self.add_for_nets(alloc, board, classes, useful, a, b)?;
             Ok(b + 1)
@@ -239,8 +265,10 @@ impl Pairing {
         requires cells { All (IsCell board.now) useful.now }
         requires first { a < length board.now.nets }
         requires pairing { ArePairing board.now self.old }
+        requires done { AreDone board.now self.old.passes.items a }
         requires few { length self.old.passes.items ≤ 65535 + 16382 * a }
         ensures pairing { OnOk result (ArePairing board.now self.new) }
+        ensures done { OnOk result (AreDone board.now self.new.passes.items (a + 1)) }
         ensures added { OnOk result (self.new.passes.items ≡ fold (add_for_nets board.now useful.now) self.old.passes.items (pairs_from board.now a (a + 1))) }
         ensures few { OnOk result (length self.new.passes.items ≤ 65535 + 16382 * (a + 1)) }
     {
@@ -297,7 +325,7 @@ pub fn pair_passes(
     ensures useful { IfOk result (λ all. HoldUseful board.now all.items) }
     ensures few { IfOk result (λ all. length all.items < 2 ^ 32) }
 {
-    let mut pairing = Pairing::new(alloc, board, classes, passes)?;
+    let mut pairing = Pairing::new(alloc, board, classes, useful, passes)?;
     pairing.add_for_all(alloc, board, classes, useful)?;
     Ok(pairing.passes)
 }
