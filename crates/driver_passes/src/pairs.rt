@@ -110,10 +110,12 @@ impl Pairing {
         let nets = board.raw().nets.as_slice().len();
         let mut rows = blank_rows(alloc, nets)?;
         let mut marks = blank_marks(alloc, nets)?;
-        for number in 0..passes.len() {
-            note_pass(&mut rows, &mut marks, board, classes, &passes, number)?;
-        }
         let likes = likes_of(alloc, board, classes, useful)?;
+        for number in 0..passes.len() {
+            note_pass(
+                alloc, &mut rows, &mut marks, &likes, board, classes, &passes, number,
+            )?;
+        }
         Ok(Pairing {
             passes,
             rows,
@@ -143,8 +145,10 @@ impl Pairing {
         let number = self.passes.len();
         self.passes.push(draft.setting(alloc, board, useful)?)?;
         note_pass(
+            alloc,
             &mut self.rows,
             &mut self.marks,
+            &self.likes,
             board,
             classes,
             &self.passes,

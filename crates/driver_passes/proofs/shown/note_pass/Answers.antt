@@ -1,6 +1,5 @@
-use Rattle.std.proofs.Common.{◌∙◌, ◌+◌, ◌<◌, [], ap, arith, length, get_or, take}
+use Rattle.std.proofs.Common.{◌∙◌, ◌+◌, ◌<◌, [], false, ap, arith, length, get_or, take}
 use Rattle.std.proofs.lemmas.List.{get_or_default}
-use Rattle.board_defs.specs.Passes.{shows}
 use Rattle.driver_passes.proofs.ShownLemmas.{noted_more}
 use Rattle.driver_passes.proofs.MarkLemmas.{marks_more, marks_set, pass_shown}
 use Rattle.driver_passes.proofs.shown.note_pass.Goals as goal
@@ -20,8 +19,8 @@ loop-net-preserved c =
     let rows = c.loop-net.rows in
     let row = c.index-rows-net.result in
     let within : c.loop-net.net < length rows = omega (arith, size) in
-    let shown = c.shows-shown.ensures ∙ ap (λ v. shows v pass) c.drivers_of-drivers.ensures.drivers in
+    let shown = c.is_set-shown.ensures ∙ ap (λ v. get_or v c.loop-net.net false) c.deref.ensures.value ∙ c.in_ok-flags.ensures.flags_are c.loop-net.net less in
     record {
-      rows = noted_more board c.args.passes.now c.args.number c.loop-net.net pass rows (get_or rows c.loop-net.net row) c.push_if.new.self c.shows-shown.result c.loop-net.invariant.rows less c.requires.number c.index-passes-number.is (get_or_default rows c.loop-net.net row [] within) shown c.in_ok-push_if.ensures;
-      marks = marks_set board (take (c.args.number + 1) c.args.passes.now) c.loop-net.marks c.args.number c.loop-net.net c.with_pass.result c.shows-shown.result c.loop-net.invariant.marks less (pass_shown board c.args.passes.now c.args.number c.loop-net.net pass c.shows-shown.result c.requires.number c.index-passes-number.is shown) c.with_pass.ensures;
+      rows = noted_more board c.args.passes.now c.args.number c.loop-net.net pass rows (get_or rows c.loop-net.net row) c.push_if.new.self c.is_set-shown.result c.loop-net.invariant.rows less c.requires.number c.index-passes-number.is (get_or_default rows c.loop-net.net row [] within) shown c.in_ok-push_if.ensures;
+      marks = marks_set board (take (c.args.number + 1) c.args.passes.now) c.loop-net.marks c.args.number c.loop-net.net c.with_pass.result c.is_set-shown.result c.loop-net.invariant.marks less (pass_shown board c.args.passes.now c.args.number c.loop-net.net pass c.is_set-shown.result c.requires.number c.index-passes-number.is shown) c.with_pass.ensures;
     }

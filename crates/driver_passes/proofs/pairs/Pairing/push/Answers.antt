@@ -23,8 +23,8 @@ returns-clause-pairing c =
     let longer = ap length pushed ∙ length_end before.passes.items setting in
     let most : length c.push.new.self.items ≤ c.len-number.result + 1 = omega (arith, number, longer) in
     record {
-      shown = shown_whole board c.deref.result.now c.push.new.self.items c.note_pass.new.rows (with_items before.rows c.note_pass.new.rows).items (c.len-number.result + 1) c.deref.ensures.value most kept c.in_ok-note_pass.ensures.rows;
-      marks = marks_whole board c.deref.result.now c.push.new.self.items c.note_pass.new.marks (with_items before.marks c.note_pass.new.marks).items (c.len-number.result + 1) c.deref.ensures.value most marks_kept c.in_ok-note_pass.ensures.marks;
+      shown = shown_whole board c.deref-2.result.now c.push.new.self.items c.note_pass.new.rows (with_items before.rows c.note_pass.new.rows).items (c.len-number.result + 1) c.deref-2.ensures.value most kept c.in_ok-note_pass.ensures.rows;
+      marks = marks_whole board c.deref-2.result.now c.push.new.self.items c.note_pass.new.marks (with_items before.marks c.note_pass.new.marks).items (c.len-number.result + 1) c.deref-2.ensures.value most marks_kept c.in_ok-note_pass.ensures.marks;
       alike = c.requires.pairing.alike;
       tested = enabled_more board before.passes.items c.push.new.self.items setting c.requires.pairing.tested pushed;
       useful = useful_more board before.passes.items c.push.new.self.items c.args.draft.now.held.items (c.passes_kept.ensures board c.raw-rules.ensures.rules) c.requires.pairing.useful (pushed ∙ ap (λ (v : List Ctl). before.passes.items ++ v ∷ []) c.in_ok-setting.ensures);
