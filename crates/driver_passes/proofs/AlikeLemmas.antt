@@ -1,10 +1,7 @@
 -- The table of the nets with the same tested drivers.
-use Rattle.std.proofs.Common.{◌≡◌, ◌⊎◌, inl, inr, refl, ℕ, Bool, true, ◌+◌, ◌<◌, ◌≤◌, List, [], ◌∷◌, ◌++◌, length, get_or, ◌∙◌, ap, sym, subst, arith}
+use Rattle.std.proofs.Common.{◌≡◌, refl, ℕ, Bool, true, ◌<◌, ◌≤◌, List, length, get_or, ◌∙◌, ap, sym}
 use Rattle.std.specs.Bool.{Decides}
 use Rattle.std.specs.Cmp.Lexicographic.{pointwise}
-use Rattle.std.proofs.Math.Seq.{get_or-append_seam}
-use Rattle.std.proofs.lemmas.Bool.{cases_eq}
-use Rattle.std.proofs.lemmas.List.{get_or_append_left}
 use Rattle.std.proofs.lemmas.Slice.Eq.{slice_eq-Decides}
 use Rattle.board_defs.specs.declared.board.RawBoard.{RawBoard}
 use Rattle.board_defs.specs.declared.board.Drive.{Drive}
@@ -12,9 +9,7 @@ use Rattle.board_defs.specs.declared.board.Drive.TheVariants.{AlwaysOn, OneSided
 use Rattle.board_defs.specs.contracts.board.DrivePartialEq.TheImpl as drives
 use Rattle.board_defs.specs.Settings.{same_ctl}
 use Rattle.driver_passes.specs.Progress.{drivers_at}
-use Rattle.driver_passes.specs.Alike.{AreAlike}
 use Rattle.driver_passes.proofs.ControlLemmas.{same_equal, same_self}
-use Rattle.driver_passes.proofs.ProgressLemmas.{length_end}
 
 -- equal lists of drivers
 

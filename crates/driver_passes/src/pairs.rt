@@ -1,5 +1,5 @@
 // More passes, until each two paired nets are observed by one pass.
-ghost use Rattle.std.specs.Prelude.{◌≡◌, ◌<◌, ◌≤◌, ◌+◌, ◌*◌, ◌^◌, ◌∷◌, ◌++◌, ℕ, [], true, drop, find, fold, length, map, All, IfOk, IfSome, OnOk, Some};
+ghost use Rattle.std.specs.Prelude.{◌≡◌, ◌<◌, ◌≤◌, ◌+◌, ◌*◌, ◌^◌, ◌∷◌, ◌++◌, ℕ, [], true, find, fold, length, All, IfOk, IfSome, OnOk, Some};
 ghost use Rattle.board_defs.specs.Pins.{IsCell};
 ghost use Rattle.board_defs.specs.Passes.{add_for_nets, drivers_by_net, first_pair, pair_pass, pair_passes, useful_controls};
 ghost use Rattle.net_classes.specs.Kept.{AreClasses};
@@ -189,8 +189,8 @@ impl Pairing {
         Ok(())
     }
 
-    /// Whether no pass is to be added for this net and any later one, because this net has no
-    /// tested driver, because each pass shows it, or because an earlier net has the same ones.
+    /// Whether no pass is wanted for this net and any later one, because an earlier net has the
+    /// same tested drivers, because this one has none, or because each pass shows it.
     fn is_done(&self, board: &Board, classes: &Classes, a: usize) -> bool
         requires classes { AreClasses board.now classes.now }
         requires first { a < length board.now.nets }
@@ -207,7 +207,7 @@ impl Pairing {
         self.rows[a].as_slice().len() == self.passes.len()
     }
 
-    /// The first net, from this one on, that the marks don't say to be shown together with net
+    /// The first net, from this one on, of which the marks don't say that a pass shows it and net
     /// `a`; the number of nets, where there is none.
     fn next_unshown(&self, board: &Board, a: usize, from: usize) -> usize
         requires first { a < length board.now.nets }
@@ -220,8 +220,8 @@ impl Pairing {
         next_apart(&self.marks, self.marks[a], from)
     }
 
-    /// The same for net `a` and the next one that it may not be shown with, from this one on;
-    /// gives the net to go on with.
+    /// Goes from this net on to the next one that may not be shown together with net `a`, and adds
+    /// a pass for the two where it is wanted. Gives the net to go on with.
     fn add_for_next(
         &mut self,
         alloc: Global,
@@ -255,7 +255,7 @@ impl Pairing {
         }
     }
 
-    /// The same for this net and each later one.
+    /// Adds the passes that are wanted for this net and each later one.
     fn add_for_later(
         &mut self,
         alloc: Global,
@@ -287,7 +287,7 @@ impl Pairing {
         Ok(())
     }
 
-    /// The same for each two nets.
+    /// Adds the passes that are wanted for each two nets.
     fn add_for_all(
         &mut self,
         alloc: Global,

@@ -1,5 +1,4 @@
 use Rattle.std.proofs.Common.{◌≡◌, length}
-use Rattle.board_defs.specs.Passes.{useful_controls}
 use Rattle.driver_passes.proofs.AlikeLemmas.{AreFound}
 use Rattle.driver_passes.proofs.alike.likes_of.Given as goal
 

@@ -1,6 +1,6 @@
 use Rattle.std.proofs.Common.{◌≡◌, ◌∙◌, sym, length, arith}
 use Rattle.std.proofs.lemmas.Bool.{eqb-true}
-use Rattle.driver_passes.proofs.DoneLemmas.{all_show, done_alike, none_tested}
+use Rattle.driver_passes.proofs.DoneLemmas.{all_show, none_tested}
 use Rattle.driver_passes.proofs.PairLemmas.{no_drivers}
 use Rattle.driver_passes.proofs.ShownLemmas.{row_is}
 use Rattle.driver_passes.proofs.pairs.Pairing.is_done.Goals as goal
