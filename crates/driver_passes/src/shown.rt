@@ -1,11 +1,14 @@
 // Which passes show each net: they enable a tested driver of it, and so observe it.
-ghost use Rattle.std.specs.Prelude.{◌≡◌, ◌<◌, ◌≤◌, ◌+◌, ◌++◌, ◌∷◌, ◌^◌, [], cond, length, replicate, take, IfOk, OnOk};
+ghost use Rattle.std.specs.Prelude.{◌≡◌, ◌<◌, ◌≤◌, ◌+◌, ◌++◌, ◌∷◌, ◌^◌, ℕ, [], cond, false, length, replicate, slice_index_or, take, IfOk, OnOk};
 ghost use Rattle.board_defs.specs.Passes.{are_shown, shows};
 ghost use Rattle.net_classes.specs.Kept.{AreClasses};
-ghost use Rattle.driver_passes.specs.Pairs.{AreShown};
+ghost use Rattle.driver_passes.specs.Alike.{AreAlike, AreShownBy};
+ghost use Rattle.driver_passes.specs.Pairs.{AreMarks, AreShown};
 ghost use Rattle.driver_passes.specs.Progress.{drivers_at};
 
+use crate::draft::is_set;
 use crate::drivers::{drivers_of, is_enabled};
+use crate::marks::with_pass;
 use board_defs::{Board, Drive, Setting};
 use net_classes::{Classes, meet};
 use std::alloc::{AllocError, Global};
@@ -43,7 +46,7 @@ impl PassNumbers {
         Ok(())
     }
 
-    fn as_slice(&self) -> &[u32]
+    pub fn as_slice(&self) -> &[u32]
         ensures { result.now ≡ self.now }
     {
         &self.numbers
@@ -61,7 +64,7 @@ fn shows(drivers: &[Drive], pass: &Setting) -> bool
     false
 }
 
-fn blank_rows(alloc: Global, count: usize) -> Result<Vec<PassNumbers>, AllocError>
+pub fn blank_rows(alloc: Global, count: usize) -> Result<Vec<PassNumbers>, AllocError>
     ensures { IfOk result (λ rows. rows.items ≡ replicate count []) }
 {
     let mut rows = Vec::new(alloc);
@@ -71,9 +74,55 @@ fn blank_rows(alloc: Global, count: usize) -> Result<Vec<PassNumbers>, AllocErro
     Ok(rows)
 }
 
-/// Adds the pass of this number to the rows of the nets that it shows.
+/// Whether the pass shows the net, where it is known of each lower net; `like` is such a net with
+/// the same tested drivers, or any other.
+fn shows_net(
+    board: &Board,
+    classes: &Classes,
+    pass: &Setting,
+    flags: &[bool],
+    like: usize,
+    net: usize,
+) -> bool
+    requires classes { AreClasses board.now classes.now }
+    requires flags { (n : ℕ) → n < net → slice_index_or flags.now n false ≡ shows (drivers_at board.now n) pass.now }
+    requires alike { drivers_at board.now like ≡ drivers_at board.now net }
+    requires net { net < length board.now.nets }
+    ensures { result ≡ shows (drivers_at board.now net) pass.now }
+{
+    if like < net {
+        is_set(flags, like)
+    } else {
+        shows(drivers_of(board, classes, net), pass)
+    }
+}
+
+/// For each net, whether the pass shows it.
+fn shown_by(
+    alloc: Global,
+    board: &Board,
+    classes: &Classes,
+    likes: &[u32],
+    pass: &Setting,
+) -> Result<Vec<bool>, AllocError>
+    requires classes { AreClasses board.now classes.now }
+    requires likes { AreAlike board.now likes.now }
+    ensures { IfOk result (λ flags. AreShownBy board.now pass.now flags.items) }
+{
+    let mut flags = Vec::new(alloc);
+    for (net, like) in likes.iter().enumerate() {
+        let shown = shows_net(board, classes, pass, &flags, *like as usize, net);
+        flags.push(shown)?;
+    }
+    Ok(flags)
+}
+
+/// Adds the pass of this number to the rows and the marks of the nets that it shows.
 pub fn note_pass(
+    alloc: Global,
     rows: &mut [PassNumbers],
+    marks: &mut [u64],
+    likes: &[u32],
     board: &Board,
     classes: &Classes,
     passes: &[Setting],
@@ -83,32 +132,19 @@ pub fn note_pass(
     requires number { number < length passes.now }
     requires few { length passes.now ≤ 2 ^ 32 }
     requires rows { AreShown board.now (take number passes.now) rows.old }
-    ensures { OnOk result (AreShown board.now (take (number + 1) passes.now) rows.new) }
+    requires marks { AreMarks board.now (take number passes.now) marks.old }
+    requires likes { AreAlike board.now likes.now }
+    ensures rows { OnOk result (AreShown board.now (take (number + 1) passes.now) rows.new) }
+    ensures marks { OnOk result (AreMarks board.now (take (number + 1) passes.now) marks.new) }
 {
     let pass = &passes[number];
+    let flags = shown_by(alloc, board, classes, likes, pass)?;
     for net in 0..rows.len() {
-        let drivers = drivers_of(board, classes, net);
-        rows[net].push_if(number as u32, shows(drivers, pass))?;
+        let shown = is_set(&flags, net);
+        rows[net].push_if(number as u32, shown)?;
+        marks[net] = with_pass(marks[net], number, shown);
     }
     Ok(())
-}
-
-/// For each net, the numbers of the passes that show it.
-pub fn rows_of(
-    alloc: Global,
-    board: &Board,
-    classes: &Classes,
-    passes: &[Setting],
-) -> Result<Vec<PassNumbers>, AllocError>
-    requires classes { AreClasses board.now classes.now }
-    requires few { length passes.now ≤ 2 ^ 32 }
-    ensures { IfOk result (λ rows. AreShown board.now passes.now rows.items) }
-{
-    let mut rows = blank_rows(alloc, board.raw().nets.as_slice().len())?;
-    for number in 0..passes.len() {
-        note_pass(&mut rows, board, classes, passes, number)?;
-    }
-    Ok(rows)
 }
 
 /// Whether one of the passes shows both nets.

@@ -1,6 +1,7 @@
-// Flags, and what a setting enables. Whole boards are tried through the top call.
+// Flags, what a setting enables, and marks. Whole boards are tried through the top call.
 use crate::draft::{blank, is_set, some_taken};
 use crate::drivers::is_enabled;
+use crate::marks::{blank_marks, next_apart, with_pass};
 use board_defs::{Ctl, Drive, Setting};
 use std::test::Fail;
 
@@ -26,5 +27,26 @@ fn a_setting_enables_what_it_controls_and_what_is_always_on(rt: HostRuntime) -> 
     assert!(rt; is_enabled(&setting, Drive::AlwaysOn));
     assert!(rt; !is_enabled(&setting, Drive::OneSided));
     assert!(rt; !is_enabled(&setting, Drive::By(other)));
+    Ok(())
+}
+
+#[test]
+fn a_mark_has_bits_for_the_first_64_passes(rt: HostRuntime) -> Result<(), Fail> {
+    let marks = blank_marks(rt.alloc(), 2)?;
+    assert_eq!(rt; marks[1], 0);
+    assert_eq!(rt; with_pass(1, 2, true), 5);
+    assert_eq!(rt; with_pass(1, 2, false), 1);
+    assert_eq!(rt; with_pass(1, 63, true), 0x8000_0000_0000_0001);
+    assert_eq!(rt; with_pass(1, 64, true), 1);
+    Ok(())
+}
+
+#[test]
+fn the_next_net_apart_has_no_bit_in_common(rt: HostRuntime) -> Result<(), Fail> {
+    let marks = [4u64, 12, 8, 6, 0];
+    assert_eq!(rt; next_apart(&marks, 4, 0), 2);
+    assert_eq!(rt; next_apart(&marks, 4, 3), 4);
+    assert_eq!(rt; next_apart(&marks, 14, 0), 4);
+    assert_eq!(rt; next_apart(&marks[..4], 14, 0), 4);
     Ok(())
 }
