@@ -5,7 +5,6 @@ pub mod FoundLemmas
 pub mod Notes
 pub mod Made
 pub mod Answered
-pub mod EntryLemmas
 pub mod FactsLemmas
 pub mod Pulled
 pub mod UsefulLemmas

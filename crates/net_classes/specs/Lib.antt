@@ -1,7 +1,6 @@
 pub mod Kept
 pub mod Laws
 pub mod Found
-pub mod Entries
 pub mod Facts
 pub mod Switching
 pub mod Shared

@@ -3,7 +3,6 @@
 
 mod classes;
 mod controls;
-mod entries;
 mod facts;
 mod found;
 mod groups;
