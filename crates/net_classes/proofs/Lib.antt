@@ -5,7 +5,6 @@ pub mod FoundLemmas
 pub mod Notes
 pub mod Made
 pub mod Answered
-pub mod EntryLemmas
 pub mod FactsLemmas
 pub mod Pulled
 pub mod UsefulLemmas
@@ -14,3 +13,5 @@ pub mod SharedLemmas
 pub mod Contended
 pub mod Paired
 pub mod Free
+pub mod GroupLemmas
+pub mod KeyLemmas

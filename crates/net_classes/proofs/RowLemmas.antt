@@ -1,5 +1,5 @@
 -- Changes of a list at one place.
-use Rattle.std.proofs.Common.{◌≡◌, ℕ, zero, suc, ◌<◌, ◌≤◌, List, [], ◌∷◌, length, get_or, refl, sym, ◌∙◌, ap, arith, add-one, ◌+◌, ◌++◌, ◌==◌, Bool, true, false, Option, Some, None}
+use Rattle.std.proofs.Common.{◌≡◌, ℕ, zero, suc, ◌<◌, ◌≤◌, List, [], ◌∷◌, length, get_or, refl, sym, ◌∙◌, ap, arith, add-one, ◌+◌, ◌++◌, ◌==◌, Bool, true, false, Option, Some}
 use Rattle.std.proofs.Math.ListN.{set}
 use Rattle.std.specs.Prelude.{slice_get, OnOk, Result, Ok, Err, Vec}
 use Rattle.std.specs.declared.alloc.Global.{Global}
@@ -65,14 +65,6 @@ copies_get x (suc n) k h = by_last (k == n) refl (copies_get x n k)
     by_last : (t : Bool) → (k == n) ≡ t → (k < n → slice_get (copies x n) k ≡ Some x) → slice_get (copies x n ++ x ∷ []) k ≡ Some x
     by_last true e rest = get_end (copies x n) x k (eqb_same k n e ∙ sym (copies_length x n))
     by_last false e rest = let less : k < n = grind arith in get_front (copies x n) x k (let l = copies_length x n in omega arith) ∙ rest less
-
-get_past : {X : Type 0} (xs : List X) (k : ℕ) → length xs ≤ k → slice_get xs k ≡ None
-get_past [] k h = refl
-get_past (x ∷ xs) zero h = absurd (omega arith)
-get_past (x ∷ xs) (suc k) h = get_past xs k (omega arith)
-
-pub copies_past : {X : Type 0} (x : X) (n k : ℕ) → n ≤ k → slice_get (copies x n) k ≡ None
-copies_past x n k h = get_past (copies x n) k (let l = copies_length x n in omega arith)
 
 -- a value written at one place
 pub set_value : {X : Type 0} (i : ℕ) (f : X → X) (xs : List X) (d new : X) → i < length xs → new ≡ f (get_or xs i d) → set xs i new ≡ update_at i f xs

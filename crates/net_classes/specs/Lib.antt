@@ -1,7 +1,6 @@
 pub mod Kept
 pub mod Laws
 pub mod Found
-pub mod Entries
 pub mod Facts
 pub mod Switching
 pub mod Shared
@@ -9,3 +8,6 @@ pub mod Tables
 pub mod Rows
 pub mod Answers
 pub mod Pairs
+pub mod Groups
+pub mod PairKeys
+pub mod MadeKeys

@@ -1,17 +1,12 @@
 -- The tables by which the controls of one-sided drivers are found.
-use Rattle.std.specs.Prelude.{◌≡◌, ◌<◌, Bool, true, false, List, cond}
+use Rattle.std.specs.Prelude.{◌≡◌, ◌<◌, Bool, true, false, List}
 use Rattle.board_defs.specs.declared.board.PinAt.{PinAt}
 use Rattle.board_defs.specs.declared.board.RawBoard.{RawBoard}
 use Rattle.board_defs.specs.Decided.{is_switching, port_bits}
 use Rattle.net_classes.specs.declared.controls.Tables.{Tables}
-use Rattle.net_classes.specs.declared.entries.BitEntries.{BitEntries}
 use Rattle.net_classes.specs.Kept.{table}
-use Rattle.net_classes.specs.Entries.{entries_in, entries_of}
+use Rattle.port_entries.specs.Entries.{AreEntries}
 use Rattle.net_classes.specs.Switching.{is_marked}
-
--- the table says what the entries of each port bit say
-abbrev pub SaysEntries : RawBoard → List (List BitEntries) → Type 0
-SaysEntries board rows = (at : PinAt) → entries_in rows at ≡ entries_of board at
 
 -- the table says which port bits have a pin in an unguarded net that is pulled to the value
 abbrev pub SaysPulled : RawBoard → List (List Bool) → Bool → Type 0
@@ -19,6 +14,6 @@ SaysPulled board rows value = (at : PinAt) → at.bit < port_bits board at.part 
 
 -- the tables are those of the board
 pub record AreTables (board : RawBoard) (tables : Tables) : Type 0 where
-  pub entries_are : SaysEntries board (table tables.entries.items)
+  pub entries_are : AreEntries board tables.entries
   pub low_are : SaysPulled board (table tables.low.items) false
   pub high_are : SaysPulled board (table tables.high.items) true

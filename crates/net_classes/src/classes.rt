@@ -1,20 +1,22 @@
 // The classes of a board.
 ghost use Rattle.std.specs.Prelude.{◌≡◌, map, IfOk};
 ghost use Rattle.board_defs.specs.BoardRules.{IsBoard};
-ghost use Rattle.net_classes.specs.Entries.{entry_table};
+ghost use Rattle.port_entries.specs.Entries.{AreEntries};
 ghost use Rattle.net_classes.specs.Facts.{net_facts_of};
-ghost use Rattle.net_classes.specs.Kept.{AreClasses, table};
+ghost use Rattle.net_classes.specs.Kept.{AreClasses};
 ghost use Rattle.net_classes.specs.Tables.{AreTables};
 
 use crate::controls::{Tables, control_rows, mark_useful};
-use crate::entries::{BitEntries, entry_table};
 use crate::facts::{NetFacts, all_net_facts};
+use crate::groups::net_groups;
 use crate::net_numbers::NetNumbers;
+use crate::pair_keys::{PairKey, pair_keys};
 use crate::shared::{contended_nets, shared_table};
 use crate::switching::pulled_bits;
 use crate::tested::net_classes;
 use crate::useful::useful_controls;
 use board_defs::{Board, Ctl, Drive, Items, RawBoard, Reason};
+use port_entries::{BitEntries, port_entries};
 use std::alloc::{AllocError, Global};
 
 /// What a pin of a net is, and what some safe setting does with it.
@@ -52,23 +54,24 @@ pub struct ControlClass {
     pub useful: bool,
 }
 
-/// The classes of a board: its nets, the cells of its parts as controls, the useful controls, and
-/// the nets that each control shares with another one.
+/// The classes of a board: its nets, the cells of its parts as controls, the useful controls, the
+/// nets that each control shares with another one, and a key for each net by which most pairs are
+/// known.
 #[derive(Debug, Drop)]
 pub struct Classes {
     pub(crate) nets: Vec<NetClass>,
     pub(crate) controls: Vec<Vec<ControlClass>>,
     pub(crate) useful: Vec<Ctl>,
     pub(crate) shared: Vec<Vec<NetNumbers>>,
+    pub(crate) keys: Vec<PairKey>,
 }
 
 fn facts_of(
     alloc: Global,
     board: &RawBoard,
-    entries: &[Vec<BitEntries>],
+    entries: &[Items<BitEntries>],
 ) -> Result<Vec<NetFacts>, AllocError>
-    requires rules { IsBoard board.now }
-    requires entries { table entries.now ≡ entry_table board.now.chain }
+    requires { AreEntries board.now entries.now }
     ensures { IfOk result (λ facts. facts.items ≡ map (net_facts_of board.now) board.now.nets) }
 {
     let facts = all_net_facts(alloc, entries, board)?;
@@ -78,11 +81,10 @@ fn facts_of(
 fn tables_of(
     alloc: Global,
     board: &RawBoard,
-    entries: Vec<Vec<BitEntries>>,
+    entries: Items<Items<BitEntries>>,
     facts: &[NetFacts],
 ) -> Result<Tables, AllocError>
-    requires rules { IsBoard board.now }
-    requires entries { table entries.items ≡ entry_table board.now.chain }
+    requires entries { AreEntries board.now entries }
     requires facts { facts.now ≡ map (net_facts_of board.now) board.now.nets }
     ensures { IfOk result (λ tables. AreTables board.now tables) }
 {
@@ -95,8 +97,8 @@ fn classify_record(alloc: Global, board: &RawBoard) -> Result<Classes, AllocErro
     requires { IsBoard board.now }
     ensures { IfOk result (λ classes. AreClasses board.now classes) }
 {
-    let entries = entry_table(alloc, board.chain.as_slice())?;
-    let facts = facts_of(alloc, board, &entries)?;
+    let entries = port_entries(alloc, board)?;
+    let facts = facts_of(alloc, board, entries.as_slice())?;
     let tables = tables_of(alloc, board, entries, &facts)?;
     let mut controls = control_rows(alloc, &tables, board, &facts)?;
     let nets = net_classes(alloc, &controls, &facts)?;
@@ -104,11 +106,14 @@ fn classify_record(alloc: Global, board: &RawBoard) -> Result<Classes, AllocErro
     let useful = useful_controls(alloc, &controls, board)?;
     let flags = contended_nets(alloc, &facts)?;
     let shared = shared_table(alloc, &flags, &controls)?;
+    let groups = net_groups(alloc, board.nets.len(), &shared)?;
+    let keys = pair_keys(alloc, &groups, &shared, &nets)?;
     Ok(Classes {
         nets,
         controls,
         useful,
         shared,
+        keys,
     })
 }
 

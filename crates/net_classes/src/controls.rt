@@ -8,17 +8,17 @@ ghost use Rattle.net_classes.specs.Tables.{AreTables};
 ghost use Rattle.net_classes.specs.Rows.{added, at_control, block_bits, block_parts, block_where, ends_with, copies, fresh, fresh_rows, made_rows, mark_drive, mark_nets, note_drive, note_nets, note_pins, unsafe_too, update_at, useful_too};
 
 use crate::classes::{ControlClass, NetClass};
-use crate::entries::{BitEntries, entries_at};
 use crate::facts::{NetFacts, PinFacts};
 use crate::net_numbers::NetNumbers;
 use crate::switching::is_marked;
-use board_defs::{Cell, Control, Ctl, Drive, Part, PartKind, PinAt, RawBoard};
+use board_defs::{Cell, Control, Ctl, Drive, Items, Part, PartKind, PinAt, RawBoard};
+use port_entries::{BitEntries, driving_entry};
 use std::alloc::{AllocError, Global};
 
 /// The tables by which the controls of one-sided drivers are found.
 #[derive(Debug, Drop)]
 pub struct Tables {
-    pub entries: Vec<Vec<BitEntries>>,
+    pub entries: Items<Items<BitEntries>>,
     /// The port bits with a pin in an unguarded net that is pulled to 0.
     pub low: Vec<Vec<bool>>,
     /// The same of a pull to 1.
@@ -232,7 +232,7 @@ fn own_control_at(tables: &Tables, board: &RawBoard, at: PinAt) -> Option<Contro
     requires { AreTables board.now tables.now }
     ensures { result ≡ own_control board.now at }
 {
-    own_control(entries_at(&tables.entries, at).driving)
+    own_control(driving_entry(tables.entries.as_slice(), board, at))
 }
 
 /// Whether the pin stands in an unguarded net that is pulled to this value.

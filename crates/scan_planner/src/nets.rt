@@ -5,11 +5,12 @@ ghost use Rattle.board_defs.specs.Pins.{device_at, bit_at, entry_at, cell_count}
 ghost use Rattle.scan_planner.specs.Building.{AreFirsts, optional, net_driver, driver_of, drivers_of_pins, drivers_of, reader_of, readers_at, readers_of};
 ghost use Rattle.scan_planner.specs.Entries.{ArePartTables, receives_by};
 
-use crate::entries::{PartTables, entries_at};
+use crate::entries::PartTables;
 use crate::guards::is_guarded;
 use crate::positions::cell_position;
 use crate::tables::ReaderCell;
 use board_defs::{Board, Cell, Ctl, Items, Net, NetPin, PinAt, RawBoard};
+use port_entries::entries_at;
 use std::alloc::{AllocError, Global};
 
 /// A driver of a net: the place of its pin in the net, its control, if it has one, and the position of its cell.

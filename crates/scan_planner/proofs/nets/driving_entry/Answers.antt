@@ -2,8 +2,8 @@ use Rattle.std.proofs.Common.{List, ap, ◌∙◌}
 use Rattle.std.specs.Prelude.{find}
 use Rattle.board_defs.specs.declared.device.Cell.{Cell}
 use Rattle.board_defs.specs.DeviceRules.{is_driving}
-use Rattle.scan_planner.specs.Entries.{entries_at}
-use Rattle.scan_planner.proofs.EntryLemmas.{driving_is}
+use Rattle.port_entries.specs.Entries.{entries_at}
+use Rattle.port_entries.proofs.EntryLemmas.{driving_is}
 use Rattle.scan_planner.proofs.nets.driving_entry.Goals as goal
 
 pub returns : goal.returns

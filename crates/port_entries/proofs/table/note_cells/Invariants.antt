@@ -1,0 +1,6 @@
+use Rattle.std.proofs.Common.{◌≡◌, take}
+use Rattle.port_entries.specs.Rows.{all_noted}
+use Rattle.port_entries.proofs.table.note_cells.Given as goal
+
+abbrev pub invariant-loop-cell : goal.invariant-loop-cell
+invariant-loop-cell l = l.rows ≡ all_noted l.initial.rows (take l.cell-index l.cells)

@@ -1,0 +1,51 @@
+-- How the table is filled, and what its entries say of a pin.
+use Rattle.std.specs.Prelude.{ℕ, ◌==◌, Bool, true, false, not, ◌&&◌, ◌||◌, List, [], ◌∷◌, ◌++◌, length, map, fold, replicate, Option, Some, None, slice_set, slice_index_or}
+use Rattle.std.specs.List.{list_any}
+use Rattle.board_defs.specs.declared.device.Cell.{Cell}
+use Rattle.board_defs.specs.declared.device.PortBit.{PortBit}
+use Rattle.board_defs.specs.declared.device.RawDevice.{RawDevice}
+use Rattle.board_defs.specs.declared.board.Part.{Part}
+use Rattle.board_defs.specs.declared.board.PinAt.{PinAt}
+use Rattle.board_defs.specs.declared.board.NetPin.{NetPin}
+use Rattle.board_defs.specs.declared.board.RawBoard.{RawBoard}
+use Rattle.board_defs.specs.DeviceRules.{is_driving, is_receiving, is_linkage, may_drive, may_receive}
+use Rattle.board_defs.specs.Pins.{described, bit_at, is_test_pin}
+use Rattle.port_entries.specs.Entries.{entries_at}
+
+-- the rows of a part with one entry more
+abbrev pub noted : List (List Cell) → Option ℕ → Cell → List (List Cell)
+noted rows None cell = rows
+noted rows (Some bit) cell = slice_set rows bit (slice_index_or rows bit [] ++ cell ∷ [])
+
+abbrev pub all_noted : List (List Cell) → List Cell → List (List Cell)
+all_noted rows cells = fold (λ done cell. noted done cell.bit cell) rows cells
+
+abbrev pub part_rows : Option RawDevice → List (List Cell)
+part_rows None = []
+part_rows (Some device) = all_noted (replicate (length device.bits) []) device.cells
+
+abbrev pub entry_rows : List Part → List (List (List Cell))
+entry_rows chain = map (λ part. part_rows (described part.kind)) chain
+
+-- a port bit with these entries is dark
+abbrev pub dark_by : Option PortBit → List Cell → Bool
+dark_by None entries = true
+dark_by (Some bit) entries =
+    not bit.tap && (is_linkage bit.mode || (length entries == 0) || (may_drive bit.mode && not (list_any (λ cell. is_driving cell.role) entries)))
+
+abbrev pub dark_where : List (List (List Cell)) → RawBoard → Option PinAt → Bool → Bool
+dark_where rows board None inert = not inert
+dark_where rows board (Some at) inert = dark_by (bit_at board at) (entries_at rows at)
+
+-- a pin is dark, by the table
+abbrev pub dark_in : List (List (List Cell)) → RawBoard → NetPin → Bool
+dark_in rows board pin = dark_where rows board pin.at pin.inert
+
+-- a pin guards its net, by the table
+abbrev pub guards_in : List (List (List Cell)) → RawBoard → NetPin → Bool
+guards_in rows board pin = is_test_pin board pin || dark_in rows board pin
+
+-- a port bit with these entries receives
+abbrev pub receives_by : Option PortBit → List Cell → Bool
+receives_by None entries = false
+receives_by (Some bit) entries = may_receive bit.mode && list_any (λ cell. is_receiving cell.role) entries

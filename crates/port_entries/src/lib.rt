@@ -1,0 +1,12 @@
+//! The entries of each port bit of a board's parts, in one table, and what they say of pins and
+//! nets: no pin goes through the cells of its part.
+#![tactic(auto)]
+
+mod pins;
+mod table;
+
+pub use pins::{driving_entry, has_dark_pin, is_guarded, receives};
+pub use table::{BitEntries, entries_at, port_entries};
+
+#[cfg(test)]
+mod tests;

@@ -1,0 +1,144 @@
+// The table of the entries: for each part a row, with the entries of each port bit.
+ghost use Rattle.std.specs.Prelude.{◌≡◌, ◌++◌, ◌∷◌, [], Some, length, slice_get, replicate, unwrap_or, IfOk, OnOk};
+ghost use Rattle.board_defs.specs.BoardRules.{IsBoard};
+ghost use Rattle.board_defs.specs.Pins.{described};
+ghost use Rattle.port_entries.specs.Entries.{AreEntries, entries_at};
+ghost use Rattle.port_entries.specs.Rows.{noted, all_noted, part_rows, entry_rows};
+
+use board_defs::{Cell, Items, Part, PartKind, PinAt, RawBoard, RawDevice};
+use std::alloc::{AllocError, Global};
+use std::marker::Model;
+
+/// The entries on a port bit, in their order.
+#[derive(Debug, Drop)]
+pub struct BitEntries {
+    cells: Vec<Cell>,
+}
+
+impl Model for BitEntries {
+    ghost use Rattle.std.specs.Prelude.{List};
+    ghost use Rattle.board_defs.specs.declared.device.Cell.{Cell};
+
+    ghost Value = { List Cell };
+
+    ghost view = { λ a. a.cells.items };
+}
+
+impl BitEntries {
+    fn none(alloc: Global) -> BitEntries
+        ensures { result ≡ [] }
+    {
+        BitEntries {
+            cells: Vec::new(alloc),
+        }
+    }
+
+    fn push(&mut self, cell: Cell) -> Result<(), AllocError>
+        ensures { OnOk result (self.new ≡ self.old ++ cell ∷ []) }
+    {
+        self.cells.push(cell)?;
+        Ok(())
+    }
+
+    fn as_slice(&self) -> &[Cell]
+        ensures { result.now ≡ self.now }
+    {
+        &self.cells
+    }
+}
+
+fn note_at(rows: &mut [BitEntries], bit: usize, cell: Cell) -> Result<(), AllocError>
+    ensures { OnOk result (rows.new ≡ noted rows.old (Some bit) cell) }
+{
+    if bit < rows.len() {
+        rows[bit].push(cell)?;
+    }
+    Ok(())
+}
+
+fn note_cell(rows: &mut [BitEntries], cell: Cell) -> Result<(), AllocError>
+    ensures { OnOk result (rows.new ≡ noted rows.old cell.bit cell) }
+{
+    match cell.bit {
+        None => Ok(()),
+        Some(bit) => note_at(rows, bit as usize, cell),
+    }
+}
+
+pub(crate) fn note_cells(rows: &mut [BitEntries], cells: &[Cell]) -> Result<(), AllocError>
+    ensures { OnOk result (rows.new ≡ all_noted rows.old cells.now) }
+{
+    for cell in cells {
+        note_cell(rows, *cell)?;
+    }
+    Ok(())
+}
+
+pub(crate) fn blank(alloc: Global, bits: usize) -> Result<Vec<BitEntries>, AllocError>
+    ensures { IfOk result (λ rows. rows.items ≡ replicate bits []) }
+{
+    let mut rows = Vec::new(alloc);
+    for _bit in 0..bits {
+        rows.push(BitEntries::none(alloc))?;
+    }
+    Ok(rows)
+}
+
+fn device_rows(alloc: Global, device: &RawDevice) -> Result<Items<BitEntries>, AllocError>
+    ensures { IfOk result (λ rows. rows ≡ all_noted (replicate (length device.now.bits) []) device.now.cells) }
+{
+    let mut rows = blank(alloc, device.bits.len())?;
+    note_cells(&mut rows, device.cells.as_slice())?;
+    Ok(Items::of(rows))
+}
+
+fn part_rows(alloc: Global, kind: &PartKind) -> Result<Items<BitEntries>, AllocError>
+    ensures { IfOk result (λ rows. rows ≡ part_rows (described kind.now)) }
+{
+    match kind.device() {
+        None => Ok(Items::of(Vec::new(alloc))),
+        Some(device) => device_rows(alloc, device),
+    }
+}
+
+/// The rows of these parts.
+pub(crate) fn entry_rows(
+    alloc: Global,
+    chain: &[Part],
+) -> Result<Items<Items<BitEntries>>, AllocError>
+    ensures { IfOk result (λ rows. rows ≡ entry_rows chain.now) }
+{
+    let mut rows = Vec::new(alloc);
+    for part in chain {
+        rows.push(part_rows(alloc, &part.kind)?)?;
+    }
+    Ok(Items::of(rows))
+}
+
+/// The entries of each port bit of each part of a board.
+pub fn port_entries(alloc: Global, board: &RawBoard) -> Result<Items<Items<BitEntries>>, AllocError>
+    requires { IsBoard board.now }
+    ensures { IfOk result (λ rows. AreEntries board.now rows) }
+{
+    let rows = entry_rows(alloc, board.chain.as_slice())?;
+    Ok(rows)
+}
+
+fn entries_there(row: &[BitEntries], bit: usize) -> &[Cell]
+    ensures { result.now ≡ unwrap_or (slice_get row.now bit) [] }
+{
+    match row.get(bit) {
+        None => &[],
+        Some(entries) => entries.as_slice(),
+    }
+}
+
+/// The entries on a port bit of a part, in their order.
+pub fn entries_at(rows: &[Items<BitEntries>], at: PinAt) -> &[Cell]
+    ensures { result.now ≡ entries_at rows.now at }
+{
+    match rows.get(at.part as usize) {
+        None => &[],
+        Some(row) => entries_there(row.as_slice(), at.bit as usize),
+    }
+}
