@@ -1,7 +1,7 @@
 -- Bits that are set one after another.
 use Rattle.std.proofs.Common.{◌≡◌, ℕ, ◌<◌, ◌≤◌, Bool, true, false, List, [], ◌∷◌, fold, length, get_or, set, refl, sym, ap, ◌∙◌, arith, length-set, ◌⊎◌, inl, inr}
 use Rattle.std.proofs.lemmas.Bool.{cases_eq, cases_lt}
-use Rattle.std.proofs.lemmas.List.{ext_get_or, get_or-set_same, get_or-set_other, get_or_past}
+use Rattle.std.proofs.lemmas.List.{ext_get_or, get_or-set_same, get_or-set_other, get_or_past, set_comm}
 use Rattle.std.proofs.lemmas.List.Sums.{fold-append}
 use Rattle.std.specs.List.{flat_map}
 use Rattle.board_defs.proofs.Members.{Has}
@@ -42,6 +42,21 @@ assigned_is {X} place bit (y ∷ xs) start target same right cover =
     by_place i less (inr other) (inl e) = inl (get_or-set_other start (place y) i (bit y) false other ∙ e)
     by_place i less (inr other) (inr (x, inl same_item, at)) = absurd (other (sym at ∙ sym (ap place same_item)))
     by_place i less (inr other) (inr (x, inr h, at)) = inr (x, h, at)
+
+-- items that stand apart can be set in either order
+set_apart : {X : Type 0} (place : X → ℕ) (bit : X → Bool) (xs : List X) (start : List Bool) (p : ℕ) (b : Bool) → ((x : X) → Has xs x → place x ≡ p → ⊥) →
+    assigned place bit (set start p b) xs ≡ set (assigned place bit start xs) p b
+set_apart place bit [] start p b apart = refl
+set_apart place bit (x ∷ xs) start p b apart =
+    ap (λ (l : List Bool). assigned place bit l xs) (set_comm start p (place x) b (bit x) (λ e. apart x (inl refl) (sym e)))
+    ∙ set_apart place bit xs (set start (place x) (bit x)) p b (λ y h. apart y (inr h))
+
+pub assigned_apart : {X Y : Type 0} (place : X → ℕ) (bit : X → Bool) (spot : Y → ℕ) (value : Y → Bool) (start : List Bool) (xs : List X) (ys : List Y) →
+    ((x : X) (y : Y) → Has xs x → Has ys y → place x ≡ spot y → ⊥) → assigned place bit (assigned spot value start ys) xs ≡ assigned spot value (assigned place bit start xs) ys
+assigned_apart place bit spot value start xs [] apart = refl
+assigned_apart place bit spot value start xs (y ∷ ys) apart =
+    assigned_apart place bit spot value (set start (spot y) (value y)) xs ys (λ x z h k. apart x z h (inr k))
+    ∙ ap (λ (l : List Bool). assigned spot value l ys) (set_apart place bit xs start (spot y) (value y) (λ x h. apart x y h (inl refl)))
 
 -- items that are set in groups
 pub assigned_groups : {X G : Type 0} (place : X → ℕ) (bit : X → Bool) (items : G → List X) (groups : List G) (start : List Bool) →

@@ -16,3 +16,4 @@ pub mod DriverTableLemmas
 pub mod ObserverLemmas
 pub mod SeenLemmas
 pub mod PlanLemmas
+pub mod SteadyLemmas

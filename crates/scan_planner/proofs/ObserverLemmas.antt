@@ -1,7 +1,7 @@
 -- The drivers by which a pass observes nets are those that it enables among the observers.
-use Rattle.std.proofs.Common.{◌≡◌, ℕ, ◌+◌, ◌<◌, ◌==◌, Bool, true, false, cond, ◌&&◌, List, [], map, get_or, Option, Some, None, refl, sym, ap, ◌∙◌, subst, arith, ◌⊎◌, inl, inr}
+use Rattle.std.proofs.Common.{◌≡◌, ℕ, ◌+◌, ◌<◌, ◌==◌, Bool, true, false, cond, ◌&&◌, List, [], length, map, get_or, Option, Some, None, refl, sym, ap, ◌∙◌, subst, arith, ◌⊎◌, inl, inr}
 use Rattle.std.specs.Prelude.{slice_get, option_map, option_and_then, filter, find, All}
-use Rattle.std.proofs.lemmas.Option.{slice_get-get_or}
+use Rattle.std.proofs.lemmas.Option.{slice_get-get_or, slice_get_within}
 use Rattle.std.proofs.lemmas.Bool.{and_parts, cases_eq, eq-eqb, eqb-true, both_ways}
 use Rattle.board_defs.specs.declared.device.Cell.{Cell}
 use Rattle.board_defs.specs.declared.device.Control.{Control}
@@ -26,7 +26,7 @@ use Rattle.scan_planner.specs.Tables.{first_position, IsDriverCell}
 use Rattle.scan_planner.specs.Laid.{laid}
 use Rattle.scan_planner.specs.Building.{optional, net_driver, driver_of, drivers_of_pins, drivers_of, readers_of, is_on, driver_cell, IsControlThere, control_position, observer, is_read_beside, observers_at, observers, held_cell}
 use Rattle.scan_planner.proofs.LaidLemmas.{laid_at}
-use Rattle.scan_planner.proofs.BuildLemmas.{cell_there, position_within}
+use Rattle.scan_planner.proofs.BuildLemmas.{cell_there, entry_below, position_within}
 use Rattle.scan_planner.proofs.PinLemmas.{wired_at, drives_by, entry_on}
 use Rattle.scan_planner.proofs.TableLemmas.{has_gathered, gathered_has, Observed, observed, observing_of, on_by}
 use Rattle.scan_planner.proofs.DriverTableLemmas.{IsOn, OnBy}
@@ -227,6 +227,17 @@ observer_below board rules x p h e = by_control s.driver.ctl refl
         let two : Some (control_position board c) ≡ Some p = sym (ap (λ (o : Option Ctl). option_map (control_position board) o) k) ∙ named in
         let same : control_position board c ≡ p = cc two in
         subst (λ (n : ℕ). n < data_bits board) same (position_within board c.part c.cell (control_there board rules s.net s.driver s.is_in c k))
+
+-- its cell stands in a net and in a row of data
+pub observer_stands : (board : RawBoard) → IsBoard board → (x : Observer) → Has (observers board board.nets) x → (x.cell.net < length board.nets) × (x.cell.position < data_bits board)
+observer_stands board rules x h =
+    let s = observer_of board x h in
+    let k = driver_on board s.net s.driver s.is_in in
+    let position : first_position board k.at.part + k.entry.num ≡ x.cell.position = ap (λ (d : NetDriver). d.position) k.driver_is ∙ ap (λ (y : Observer). y.cell.position) s.observer_is in
+    let net : s.number ≡ x.cell.net = ap (λ (y : Observer). y.cell.net) s.observer_is in (
+      omega (arith, slice_get_within board.nets s.number s.net s.is_net, net),
+      omega (arith, position_within board k.at.part k.entry.num (entry_below board rules k.at k.entry k.is_entry), position),
+    )
 
 -- the controls of a pass, by their positions
 pub same_self : (c : Ctl) → same_ctl c c ≡ true

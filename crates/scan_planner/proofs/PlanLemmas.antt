@@ -12,15 +12,18 @@ use Rattle.board_defs.specs.declared.board.RawBoard.{RawBoard}
 use Rattle.board_defs.specs.declared.board.Ctl.{Ctl}
 use Rattle.board_defs.specs.BoardRules.{IsBoard}
 use Rattle.board_defs.specs.DeviceRules.{disable_of}
-use Rattle.board_defs.specs.Pins.{device_at, cell_count, data_bits}
+use Rattle.board_defs.specs.Pins.{device_at, cell_count}
 use Rattle.board_defs.specs.Settings.{holds}
 use Rattle.board_defs.proofs.Members.{Has, has_contains, contains_has, has_map, map_has}
 use Rattle.tap_defs.specs.Quiet.{safe_bit}
 use Rattle.tap_defs.specs.Codes.{instructs}
 use Rattle.tap_defs.specs.TestRows.{is_observed, observed_count, code_width, row_bit, quiet_row}
 use Rattle.tap_defs.specs.BoardScans.{first_row_scan, preload_code, extest_code}
+use Rattle.tap_defs.specs.ShiftRegister.{filled}
+use Rattle.tap_defs.proofs.ScanLemmas.{filled_at}
 use Rattle.tap_defs.proofs.WidthLemmas.{width_is}
 use Rattle.scan_planner.specs.declared.codes.NetCodes.{NetCodes}
+use Rattle.scan_planner.specs.declared.tables.FixedRows.{FixedRows}
 use Rattle.scan_planner.specs.declared.tables.HeldCell.{HeldCell}
 use Rattle.scan_planner.specs.declared.tables.DriverCell.{DriverCell}
 use Rattle.scan_planner.specs.declared.tables.ReaderCell.{ReaderCell}
@@ -28,20 +31,29 @@ use Rattle.scan_planner.specs.declared.tables.PassCells.{PassCells}
 use Rattle.scan_planner.specs.declared.tables.PlanTables.{PlanTables}
 use Rattle.scan_planner.specs.Laid.{laid, quiet_bits}
 use Rattle.scan_planner.specs.Codes.{AreCodes, seen_in}
-use Rattle.scan_planner.specs.Tables.{first_position, AreRowsOf, IsHeldCell, ArePassCells}
+use Rattle.scan_planner.specs.Tables.{first_position, AreRowsOf, IsHeldCell, common_rows}
+use Rattle.scan_planner.specs.Steady.{ArePassTables}
 use Rattle.scan_planner.specs.Plans.{controls_in, controls_some, ArePlannable, code_or_zero, IsPlanOf}
-use Rattle.scan_planner.specs.Building.{readers_of, held_cell, observers, table_of, cells_on, pass_cells_of}
+use Rattle.scan_planner.specs.Building.{readers_of, held_cell}
 use Rattle.scan_planner.proofs.LaidLemmas.{laid_at, laid_same, tdi_laid}
 use Rattle.scan_planner.proofs.HeldLemmas.{quiet_steady, control_below}
 use Rattle.scan_planner.proofs.TableLemmas.{reader_is, is_reader}
-use Rattle.scan_planner.proofs.DriverTableLemmas.{cells_has, has_cells}
-use Rattle.scan_planner.proofs.ObserverLemmas.{holds_has, has_holds, observer_below, is_cell, cell_is_on}
+use Rattle.scan_planner.proofs.ReaderLemmas.{ReadersOf}
+use Rattle.scan_planner.proofs.SeenLemmas.{length-seen_in}
+use Rattle.scan_planner.proofs.ObserverLemmas.{holds_has, has_holds}
 
-abbrev all_readers : RawBoard → List (List ReaderCell)
+abbrev pub all_readers : RawBoard → List (List ReaderCell)
 all_readers board = map (λ net. readers_of board net.pins) board.nets
 
 readers_at : (board : RawBoard) (n : ℕ) (net : Net) → slice_get board.nets n ≡ Some net → slice_get (all_readers board) n ≡ Some (readers_of board net.pins)
 readers_at board n net e = slice_get-map (λ (x : Net). readers_of board x.pins) board.nets n ∙ ap (λ (o : Option Net). option_map (λ (x : Net). readers_of board x.pins) o) e
+
+pub readers_are : (board : RawBoard) → ReadersOf board (all_readers board)
+readers_are board n net e =
+    let same : get_or (all_readers board) n [] ≡ readers_of board net.pins = get_or_from_slice_get (all_readers board) n (readers_of board net.pins) [] (readers_at board n net e) in (
+      λ r h. reader_is board net r (subst (λ (l : List ReaderCell). Has l r) same h),
+      λ r is. subst (λ (l : List ReaderCell). Has l r) (sym same) (is_reader board net r is),
+    )
 
 module _ (board : RawBoard) (rules : IsBoard board) where
   pub record Controlled (c : Ctl) : Type 0 where
@@ -73,7 +85,7 @@ module _ (board : RawBoard) (rules : IsBoard board) where
       ap (λ (l : List Bool). not (get_or l (first_position board c.part + c.cell) false)) q
       ∙ ap (λ (b : Bool). not b) ((laid_at (quiet_bits board) board c.part k.device c.cell k.is_device k.below).1 ∙ k.quiet)
 
-  held_only : (quiet : List Bool) → quiet ≡ laid (quiet_bits board) board → (pass : List Ctl) → ((c : Ctl) → holds pass c ≡ true → controls_some board c ≡ true) →
+  pub held_only : (quiet : List Bool) → quiet ≡ laid (quiet_bits board) board → (pass : List Ctl) → ((c : Ctl) → holds pass c ≡ true → controls_some board c ≡ true) →
       (h : HeldCell) → Has (map (held_cell board quiet) pass) h → IsHeldCell board pass h
   held_only quiet q pass controls h has =
       let m = map_has (held_cell board quiet) pass h has in
@@ -88,7 +100,7 @@ module _ (board : RawBoard) (rules : IsBoard board) where
         bit_is = sym (ap (λ (x : HeldCell). x.bit) m.2) ∙ held_bit quiet q (m.0) k;
       }
 
-  is_held_cell : (quiet : List Bool) → quiet ≡ laid (quiet_bits board) board → (pass : List Ctl) → ((c : Ctl) → holds pass c ≡ true → controls_some board c ≡ true) →
+  pub is_held_cell : (quiet : List Bool) → quiet ≡ laid (quiet_bits board) board → (pass : List Ctl) → ((c : Ctl) → holds pass c ≡ true → controls_some board c ≡ true) →
       (h : HeldCell) → IsHeldCell board pass h → Has (map (held_cell board quiet) pass) h
   is_held_cell quiet q pass controls h s =
       subst (λ (x : HeldCell). Has (map (held_cell board quiet) pass) x) same (has_map (held_cell board quiet) pass s.control (holds_has pass s.control s.is_held))
@@ -137,18 +149,15 @@ pins_most board rules k d less =
     let f : Net → ℕ = λ net. length net.pins in
     omega (arith, rules.pins_most, sum_by-take-drop f board.nets k, sum_by-drop_more f board.nets k d less)
 
--- the cells of a pass
-abbrev pub cells_of_pass : RawBoard → List Bool → ℕ → List Ctl → PassCells
-cells_of_pass board quiet bits pass = pass_cells_of board quiet (table_of (observers board board.nets) bits) pass
-
 -- the plan
 pub is_plan : (board : RawBoard) → IsBoard board → (plan : PlanTables) → ArePlannable board plan.passes → plan.quiet ≡ laid (quiet_bits board) board →
-    (bits : ℕ) → bits ≡ data_bits board → plan.readers ≡ all_readers board → plan.cells ≡ map (cells_of_pass board plan.quiet bits) plan.passes →
-    (seen : List Bool) → seen ≡ seen_in (length board.nets) plan.cells → (codes : NetCodes) → AreCodes seen codes → plan.codes ≡ codes.codes →
+    plan.readers ≡ all_readers board → ArePassTables board plan.passes (record { steady = plan.steady; cells = plan.cells }) →
+    (seen : List Bool) → seen ≡ seen_in (length board.nets) plan.steady plan.cells → (codes : NetCodes) → AreCodes seen codes → plan.codes ≡ codes.codes →
     codes.count + 2 ≤ 2 ^ plan.width → ((less : ℕ) → less < plan.width → 2 ^ less < codes.count + 2) →
+    plan.common ≡ filled plan.width (common_rows plan.quiet plan.codes plan.readers plan.steady) →
     AreRowsOf ((instructs (map (λ part. preload_code part.kind) board.chain)).bits) plan.preload →
     AreRowsOf ((instructs (map (λ part. extest_code part.kind) board.chain)).bits) plan.extest → IsPlanOf board plan
-is_plan board rules plan plannable quiet bits bits_are readers_are cells_are seen seen_is codes are_codes codes_are enough least preload extest =
+is_plan board rules plan plannable quiet readers_are tables seen seen_is codes are_codes codes_are enough least common preload extest =
     record {
       plannable = plannable;
       width_is = code_width_is codes.count plan.width enough least ∙ ap code_width (are_codes.count_is ∙ count_is);
@@ -158,7 +167,8 @@ is_plan board rules plan plannable quiet bits bits_are readers_are cells_are see
         preload = preload;
         extest = extest;
         quiet = quiet ∙ sym (tdi_laid board first_row_scan ∙ laid_same board (λ part device cell. row_bit board quiet_row part device cell) (quiet_bits board) (quiet_steady board));
-        cells = λ x pass e. (cells pass, cells_at x pass e, cells_right x pass e);
+        cells = tables.each;
+        common = λ j less. ap (λ (l : List FixedRows). slice_get l j) common ∙ filled_at plan.width (common_rows plan.quiet plan.codes plan.readers plan.steady) j less;
         readers = λ n net e. (
           readers_of board net.pins,
           ap (λ (l : List (List ReaderCell)). slice_get l n) readers_are ∙ readers_at board n net e,
@@ -168,35 +178,8 @@ is_plan board rules plan plannable quiet bits bits_are readers_are cells_are see
       };
     }
   where
-    cells : List Ctl → PassCells
-    cells = cells_of_pass board plan.quiet bits
-
-    cells_at : (x : ℕ) (pass : List Ctl) → slice_get plan.passes x ≡ Some pass → slice_get plan.cells x ≡ Some (cells pass)
-    cells_at x pass e =
-        ap (λ (l : List PassCells). slice_get l x) cells_are ∙ slice_get-map cells plan.passes x
-        ∙ ap (λ (o : Option (List Ctl)). option_map cells o) e
-
-    cells_right : (x : ℕ) (pass : List Ctl) → slice_get plan.passes x ≡ Some pass → ArePassCells board pass (cells pass)
-    cells_right x pass e =
-        let held : List HeldCell = map (held_cell board plan.quiet) pass in
-        let controls : (c : Ctl) → holds pass c ≡ true → controls_some board c ≡ true = λ c on. plannable.controls x pass c e on in
-        let there : (c : Ctl) → holds pass c ≡ true → c.cell < cell_count (device_at board c.part) = λ c on. control_cells board rules c (controls c on) in
-        let on : List DriverCell = cells_on (table_of (observers board board.nets) bits) held in
-        record {
-          held = λ h. (
-            (λ has. held_only board rules plan.quiet quiet pass controls h (contains_has held h has)),
-            λ s. has_contains held h (is_held_cell board rules plan.quiet quiet pass controls h s),
-          );
-          drivers = λ d. (
-            (λ has. is_cell board rules plan.quiet pass (plannable.safe x pass e) there d (cells_has (observers board board.nets) bits held d (contains_has on d has))),
-            λ s. has_contains on d (has_cells (observers board board.nets) bits held d
-                (λ o p h k. let below : p < data_bits board = observer_below board rules o p h k in omega (arith, below, bits_are))
-                (cell_is_on board rules plan.quiet pass (plannable.safe x pass e) there d s)),
-          );
-        }
-
     seen_are : seen ≡ map (is_observed board plan.passes) board.nets
-    seen_are = seen_is ∙ ap (λ (l : List PassCells). seen_in (length board.nets) l) cells_are ∙ Rattle.scan_planner.proofs.SeenLemmas.seen_are board plan.passes cells cells_right
+    seen_are = seen_is ∙ Rattle.scan_planner.proofs.SeenLemmas.seen_are board plan.passes (record { steady = plan.steady; cells = plan.cells }) tables
 
     count_is : count_by (λ b. b) seen ≡ observed_count board plan.passes
     count_is =
@@ -218,9 +201,13 @@ is_plan board rules plan plannable quiet bits bits_are readers_are cells_are see
         ∙ ap (λ (b : Bool). cond b (suc (count_by (λ b. b) (take n seen))) 0) here
         ∙ ap (λ (k : ℕ). cond (p net) (suc k) 0) before
 
-pub codes_same : {seen other : List Bool} {codes : NetCodes} → AreCodes seen codes → seen ≡ other → AreCodes other codes
-codes_same {seen} {other} {codes} are e = subst (λ (x : List Bool). AreCodes x codes) e are
+-- the nets and their codes are few
+pub seen_most : (board : RawBoard) → IsBoard board → (readers : List (List ReaderCell)) (steady : List DriverCell) (cells : List PassCells) (seen : List Bool) → readers ≡ all_readers board →
+    seen ≡ seen_in (length readers) steady cells → (length seen ≡ length board.nets) × (length seen ≤ 16382)
+seen_most board rules readers steady cells seen readers_are seen_is =
+    let same : length seen ≡ length board.nets = ap (λ (l : List Bool). length l) seen_is ∙ length-seen_in (length readers) steady cells
+    ∙ ap (λ (l : List (List ReaderCell)). length l) readers_are ∙ length-map board.nets (λ (net : Net). readers_of board net.pins) in
+    (same, omega (arith, same, rules.nets_most))
 
--- the codes are few
-pub count_most : (board : RawBoard) → IsBoard board → {seen : List Bool} {codes : NetCodes} → length seen ≡ length board.nets → AreCodes seen codes → codes.count ≤ 16382
-count_most board rules {seen} {codes} same are_codes = omega (arith, are_codes.count_is, count_by-le-length (λ b. b) seen, same, rules.nets_most)
+pub count_most : (seen : List Bool) (codes : NetCodes) → AreCodes seen codes → length seen ≤ 16382 → codes.count ≤ 16382
+count_most seen codes are most = omega (arith, are.count_is, count_by-le-length (λ b. b) seen, most)

@@ -4,8 +4,9 @@ use Rattle.std.specs.Prelude.{◌||◌}
 use Rattle.std.specs.List.{list_any}
 use Rattle.std.proofs.lemmas.List.Folds.{list_any_more}
 use Rattle.std.proofs.lemmas.Option.{slice_get-get_or, get_or_from_slice_get}
+use Rattle.scan_planner.specs.declared.tables.DriverCell.{DriverCell}
 use Rattle.scan_planner.specs.declared.tables.ReaderCell.{ReaderCell}
-use Rattle.scan_planner.specs.Assigned.{set_readers}
+use Rattle.scan_planner.specs.Assigned.{set_readers, set_compared}
 
 -- one bit more is looked at
 pub any_more : (bits : List Bool) (i : ℕ) → i < length bits → list_any (λ bit. bit) (take i bits) ≡ false → get_or bits i false ≡ false → list_any (λ bit. bit) (take (i + 1) bits) ≡ false
@@ -21,6 +22,11 @@ length-set_readers place bit bits (r ∷ readers) = length-set_readers place bit
     by_test : (b : Bool) → length (cond b bits (set bits r.position bit)) ≡ length bits
     by_test true = refl
     by_test false = length-set bits r.position bit
+
+pub length-set_compared : (bit : DriverCell → Bool) (readers : List (List ReaderCell)) (drivers : List DriverCell) (bits : List Bool) → length (set_compared bit readers bits drivers) ≡ length bits
+length-set_compared bit readers [] bits = refl
+length-set_compared bit readers (d ∷ drivers) bits =
+    length-set_compared bit readers drivers (set_readers d.place (bit d) bits (get_or readers d.net [])) ∙ length-set_readers d.place (bit d) bits (get_or readers d.net [])
 
 -- an item that is there, whatever stands for one that is not
 pub any_default : {X : Type 0} (xs : List X) (i : ℕ) (a b : X) → i < length xs → get_or xs i a ≡ get_or xs i b

@@ -35,9 +35,9 @@ compared_bits length = true ∷ true ∷ replicate (length - 2) false
 abbrev pub marked : List Bool → List DriverCell → List Bool
 marked flags cells = assigned (λ d. d.net) (λ d. true) flags cells
 
--- which of so many nets have a cell in some pass
-abbrev pub seen_in : ℕ → List PassCells → List Bool
-seen_in nets passes = fold (λ done cells. marked done cells.drivers) (replicate nets false) passes
+-- which of so many nets have a cell among the steady ones or those of some pass
+abbrev pub seen_in : ℕ → List DriverCell → List PassCells → List Bool
+seen_in nets steady passes = fold (λ done cells. marked done cells.drivers) (marked (replicate nets false) steady) passes
 
 -- the nets that are observed are numbered from 1, and the others have 0
 pub record AreCodes (seen : List Bool) (codes : NetCodes) : Type 0 where

@@ -1,18 +1,49 @@
 // Makes the tables of a plan.
-ghost use Rattle.std.specs.Prelude.{◌≡◌, ◌≤◌, IfOk};
+ghost use Rattle.std.specs.Prelude.{◌≡◌, ◌<◌, ◌≤◌, ◌^◌, length, IfOk};
+ghost use Rattle.scan_planner.specs.Building.{AreFirsts, observers};
+ghost use Rattle.scan_planner.specs.Laid.{laid, quiet_bits};
 ghost use Rattle.scan_planner.specs.Plans.{ArePlannable, IsPlanOf};
+ghost use Rattle.scan_planner.specs.Steady.{ArePassTables};
 
 use crate::codes::{number_nets, seen_nets};
+use crate::common::common_rows;
 use crate::controls::driver_table;
 use crate::entries::part_tables;
 use crate::instructions::{Instruction, instruction_rows};
-use crate::observers::net_cells;
+use crate::observers::{Observer, net_cells};
 use crate::passes::all_cells;
 use crate::quiet::quiet_row;
-use crate::tables::PlanTables;
+use crate::tables::{PassTables, PlanTables};
+use crate::uses::{moving, steady_cells, uses_of};
 use board_defs::{Board, Items, Setting};
 use counting_codes::width;
 use std::alloc::{AllocError, Global};
+
+// The cells of the passes.
+fn pass_tables(
+    alloc: Global,
+    board: &Board,
+    firsts: &[u32],
+    quiet: &[bool],
+    drivers: &[Observer],
+    passes: &[Setting],
+) -> Result<PassTables, AllocError>
+    requires firsts { AreFirsts board.now.chain firsts.now }
+    requires quiet { quiet.now ≡ laid (quiet_bits board.now) board.now }
+    requires drivers { drivers.now ≡ observers board.now board.now.nets }
+    requires few { length passes.now < 2 ^ 32 }
+    requires plannable { ArePlannable board.now passes.now }
+    ensures { IfOk result (λ tables. ArePassTables board.now passes.now tables) }
+{
+    let _ = board.raw();
+    let count = passes.len() as u32;
+    let uses = uses_of(alloc, board, firsts, quiet, passes)?;
+    let steady = steady_cells(alloc, &uses, count, drivers)?;
+    let others = moving(alloc, &uses, count, drivers)?;
+    let table = driver_table(alloc, others.as_slice(), board.dr_bits() as usize)?;
+    let cells = all_cells(alloc, board, firsts, quiet, &table, passes)?;
+    Ok(PassTables { steady, cells })
+}
 
 /// The tables of the plan of these passes.
 pub fn tables_of(
@@ -20,6 +51,7 @@ pub fn tables_of(
     board: &Board,
     passes: Items<Setting>,
 ) -> Result<PlanTables, AllocError>
+    requires few { length passes < 2 ^ 32 }
     requires plannable { ArePlannable board.now passes }
     ensures plan { IfOk result (λ tables. IsPlanOf board.now tables) }
     ensures passes { IfOk result (λ tables. tables.passes ≡ passes) }
@@ -30,20 +62,33 @@ pub fn tables_of(
     let firsts = parts.firsts.as_slice();
     let quiet = quiet_row(alloc, board)?;
     let nets = net_cells(alloc, board, &parts)?;
-    let table = driver_table(alloc, nets.observers.as_slice(), board.dr_bits() as usize)?;
-    let cells = all_cells(alloc, board, firsts, &quiet, &table, passes.as_slice())?;
-    let seen = seen_nets(alloc, nets.readers.len(), cells.as_slice())?;
+    let readers = nets.readers.as_slice();
+    let observers = nets.observers.as_slice();
+    let tables = pass_tables(alloc, board, firsts, &quiet, observers, passes.as_slice())?;
+    let steady = tables.steady.as_slice();
+    let seen = seen_nets(alloc, readers.len(), steady, tables.cells.as_slice())?;
     let codes = number_nets(alloc, &seen)?;
+    let width = width(codes.count);
+    let common = common_rows(
+        alloc,
+        &quiet,
+        steady,
+        readers,
+        codes.codes.as_slice(),
+        width,
+    )?;
     let preload = instruction_rows(alloc, Instruction::Preload, board)?;
     let extest = instruction_rows(alloc, Instruction::Extest, board)?;
     Ok(PlanTables {
         passes,
-        width: width(codes.count),
+        width,
         codes: codes.codes,
         preload,
         extest,
         quiet: Items::of(quiet),
-        cells,
+        steady: tables.steady,
+        common,
+        cells: tables.cells,
         readers: nets.readers,
     })
 }

@@ -1,7 +1,8 @@
 // The codes of nets.
-ghost use Rattle.std.specs.Prelude.{◌≡◌, ◌≤◌, ◌<◌, ℕ, false, true, suc, cond, length, fold, take, count_by, slice_index_or, slice_set, IfOk};
+ghost use Rattle.std.specs.Prelude.{◌≡◌, ◌≤◌, ◌<◌, ℕ, false, true, suc, cond, length, fold, take, count_by, slice_index_or, IfOk};
 ghost use Rattle.scan_planner.specs.Codes.{AreCodes, marked, seen_in};
 
+use crate::rows::mark;
 use crate::tables::{DriverCell, PassCells};
 use board_defs::Items;
 use std::alloc::{AllocError, Global};
@@ -11,14 +12,6 @@ use std::alloc::{AllocError, Global};
 pub struct NetCodes {
     pub codes: Items<u32>,
     pub count: u32,
-}
-
-fn mark(flags: &mut [bool], net: usize)
-    ensures { flags.new ≡ slice_set flags.old net true }
-{
-    if net < flags.len() {
-        flags[net] = true;
-    }
 }
 
 fn mark_all(flags: &mut [bool], cells: &[DriverCell])
@@ -37,11 +30,17 @@ fn mark_passes(flags: &mut [bool], passes: &[PassCells])
     }
 }
 
-/// Which of so many nets the passes with these cells observe.
-pub fn seen_nets(alloc: Global, nets: usize, passes: &[PassCells]) -> Result<Vec<bool>, AllocError>
-    ensures { IfOk result (λ seen. seen.items ≡ seen_in nets passes.now) }
+/// Which of so many nets have a driver cell among the steady ones or those of a pass.
+pub fn seen_nets(
+    alloc: Global,
+    nets: usize,
+    steady: &[DriverCell],
+    passes: &[PassCells],
+) -> Result<Vec<bool>, AllocError>
+    ensures { IfOk result (λ seen. seen.items ≡ seen_in nets steady.now passes.now) }
 {
     let mut seen = vec![in alloc; false; nets]?;
+    mark_all(&mut seen, steady);
     mark_passes(&mut seen, passes);
     Ok(seen)
 }

@@ -3,6 +3,7 @@
 
 mod build;
 mod codes;
+mod common;
 mod controls;
 mod entries;
 mod fill;
@@ -17,6 +18,7 @@ mod positions;
 mod quiet;
 mod rows;
 mod tables;
+mod uses;
 
 pub use plan::Plan;
 

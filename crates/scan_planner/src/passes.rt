@@ -25,8 +25,8 @@ fn held_cell(board: &Board, firsts: &[u32], quiet: &[bool], c: Ctl) -> HeldCell
     }
 }
 
-// The cells of the controls of a pass.
-fn held_cells(
+/// The cells of the controls of a pass.
+pub fn held_cells(
     alloc: Global,
     board: &Board,
     firsts: &[u32],

@@ -1,5 +1,5 @@
 // Bits that are set in rows.
-ghost use Rattle.std.specs.Prelude.{◌≡◌, ◌<◌, ◌≤◌, true, length, All};
+ghost use Rattle.std.specs.Prelude.{◌≡◌, ◌<◌, true, length, slice_set, IfOk, All};
 ghost use Rattle.std.specs.List.{list_any};
 ghost use Rattle.scan_planner.specs.Assigned.{assigned, driver_bit, set_readers, set_compared};
 
@@ -7,6 +7,27 @@ use crate::tables::{DriverCell, HeldCell, ReaderCell};
 use board_defs::Items;
 use bt_bits::Row;
 use counting_codes::bit;
+use std::alloc::{AllocError, Global};
+
+/// Sets the flag at a place, where there is one.
+pub fn mark(flags: &mut [bool], place: usize)
+    ensures { flags.new ≡ slice_set flags.old place true }
+{
+    if place < flags.len() {
+        flags[place] = true;
+    }
+}
+
+/// The bits of a row.
+pub fn items_of(alloc: Global, row: &Row) -> Result<Items<bool>, AllocError>
+    ensures { IfOk result (λ bits. bits ≡ row.now.bits) }
+{
+    let mut bits = Vec::new(alloc);
+    for i in 0..row.len() {
+        bits.push(row.get(i))?;
+    }
+    Ok(Items::of(bits))
+}
 
 /// Whether some bit of a row is 1.
 pub fn has_one(row: &Row) -> bool
