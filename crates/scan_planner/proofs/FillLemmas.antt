@@ -1,9 +1,9 @@
 -- What a plan's tables fill in is the scan.
-use Rattle.std.proofs.Common.{◌≡◌, ℕ, zero, suc, ◌<◌, ◌≤◌, Bool, true, false, cond, List, [], ◌∷◌, length, map, get_or, replicate, Option, Some, None, is_some, unwrap_or, refl, sym, ap, ◌∙◌, subst, arith, length-append}
+use Rattle.std.proofs.Common.{◌≡◌, ℕ, zero, suc, ◌<◌, ◌≤◌, Bool, true, false, cond, List, [], ◌∷◌, ◌++◌, length, map, get_or, set, replicate, Option, Some, None, is_some, unwrap_or, refl, sym, ap, ◌∙◌, subst, arith, length-append}
 use Rattle.std.specs.Prelude.{slice_get, sum_by, All}
 use Rattle.std.specs.List.{list_any}
-use Rattle.std.proofs.lemmas.List.{length-map}
-use Rattle.std.proofs.lemmas.List.Sums.{sum_by-cons}
+use Rattle.std.proofs.lemmas.List.{length-map, length-replicate}
+use Rattle.std.proofs.lemmas.List.Sums.{sum_by-cons, fold-append}
 use Rattle.std.proofs.lemmas.Option.{slice_get-get_or, get_or_from_slice_get}
 use Rattle.board_defs.specs.declared.board.PartKind.{PartKind}
 use Rattle.board_defs.specs.declared.board.PartKind.TheVariants.{Described, Bypass}
@@ -15,7 +15,7 @@ use Rattle.board_defs.specs.BoardRules.{IsBoard}
 use Rattle.board_defs.specs.Pins.{instruction_length, instruction_bits, data_bits}
 use Rattle.board_defs.specs.Settings.{holds}
 use Rattle.board_defs.proofs.BoardLemmas.{chain_length}
-use Rattle.board_defs.proofs.Members.{Has, has_at, has_place, contains_has, has_contains}
+use Rattle.board_defs.proofs.Members.{Has, has_at, has_place, has_right, contains_has, has_contains}
 use Rattle.board_defs.proofs.Places.{any_at}
 use Rattle.tap_defs.specs.declared.scan.Shape.{Shape}
 use Rattle.tap_defs.specs.OnBoard.{test_logic}
@@ -32,13 +32,15 @@ use Rattle.scan_planner.specs.declared.tables.ReaderCell.{ReaderCell}
 use Rattle.scan_planner.specs.declared.tables.PassCells.{PassCells}
 use Rattle.scan_planner.specs.declared.tables.PlanTables.{PlanTables}
 use Rattle.scan_planner.specs.Laid.{laid, steady}
-use Rattle.scan_planner.specs.Assigned.{assigned, driver_bit, set_compared}
-use Rattle.scan_planner.specs.Tables.{AreRowsOf, IsHeldCell, IsDriverCell, IsReaderCell, ArePassCells}
+use Rattle.scan_planner.specs.Assigned.{assigned, driver_bit, set_readers, set_compared}
+use Rattle.scan_planner.specs.Tables.{AreRowsOf, IsHeldCell, IsDriverCell, IsReaderCell, ArePassCells, common_rows}
 use Rattle.scan_planner.specs.Plans.{IsPlanOf, FillsScan}
+use Rattle.scan_planner.proofs.AssignLemmas.{length-assigned, assigned_apart}
+use Rattle.scan_planner.proofs.RowLemmas.{length-set_compared}
 use Rattle.scan_planner.proofs.LaidLemmas.{laid_at, length-laid, laid_same, zeros_laid, tdi_laid, tdo_laid, mask_laid}
 use Rattle.scan_planner.proofs.HeldLemmas.{quiet_steady, control_below, controls_any, held_laid}
 use Rattle.scan_planner.proofs.DriverLemmas.{drivers_laid}
-use Rattle.scan_planner.proofs.ReaderLemmas.{ReadersOf, quiet_expect, set_compared_is, tdo_compared, mask_compared}
+use Rattle.scan_planner.proofs.ReaderLemmas.{ReadersOf, Pair, pairs, quiet_expect, set_compared_is, tdo_compared, mask_compared}
 use Rattle.scan_planner.proofs.PinLemmas.{Standing, standing, read_at, drives_by, entry_on}
 
 -- the scan that its rows make
@@ -127,10 +129,10 @@ row_sized board rules scan =
     record { some = row_scan_some board rules scan; most = omega (arith, size, rules.data_most); size_is = size }
 
 -- what holds of each item of a list
-all_has : {X : Type 0} (P : X → Type 0) (xs : List X) → ((x : X) → Has xs x → P x) → All P xs
+pub all_has : {X : Type 0} (P : X → Type 0) (xs : List X) → ((x : X) → Has xs x → P x) → All P xs
 all_has P xs each k d less = each (get_or xs k d) (has_at xs k (get_or xs k d) (slice_get-get_or xs k d less))
 
-some_at : {X : Type 0} (xs : List X) (k : ℕ) → k < length xs → (x : X) × (slice_get xs k ≡ Some x)
+pub some_at : {X : Type 0} (xs : List X) (k : ℕ) → k < length xs → (x : X) × (slice_get xs k ≡ Some x)
 some_at [] k less = absurd (omega (arith, less))
 some_at (x ∷ xs) zero less = (x, refl)
 some_at (x ∷ xs) (suc k) less = some_at xs k (omega (arith, less))
@@ -147,6 +149,20 @@ quiet_mask board scan e =
     zeros_laid board
     ∙ laid_same board (λ part device cell. false) (λ part device cell. is_some (expect_bit board quiet_row part device cell)) (λ part device cell. sym (ap (λ (o : Option Bool). is_some o) (quiet_expect board part device cell)))
     ∙ sym (mask_laid board scan ∙ ap (λ (row : TestRow). laid (λ part device cell. is_some (expect_bit board row part device cell)) board) e)
+
+-- the cells that read nets stand in a row of data
+reader_within : (board : RawBoard) → IsBoard board → (net : Net) (r : ReaderCell) → IsReaderCell board net r → r.position < data_bits board
+reader_within board rules net r s =
+    let place = has_place s.device.cells s.entry (contains_has s.device.cells s.entry s.is_entry) in
+    omega (arith, s.position_is, (laid_at (steady board (λ c. false)) board s.at.part s.device s.entry.num s.is_device ((read_at board rules s.at.part s.device s.is_device).num_below place.0 s.entry place.1)).0)
+
+pub readers_below : (board : RawBoard) → IsBoard board → (readers : List (List ReaderCell)) → ReadersOf board readers → length readers ≡ length board.nets →
+    All (λ cells. All (λ r. r.position < data_bits board) cells) readers
+readers_below board rules readers are long k d less =
+    let net = some_at board.nets k (omega (arith, less, long)) in
+    let same : get_or readers k [] ≡ get_or readers k d = get_or_from_slice_get readers k (get_or readers k d) [] (slice_get-get_or readers k d less) in
+    subst (λ (l : List ReaderCell). All (λ r. r.position < data_bits board) l) same
+    (all_has (λ r. r.position < data_bits board) (get_or readers k []) (λ r has. reader_within board rules net.0 r ((are k net.0 net.1).0 r has)))
 
 module _ (board : RawBoard) (rules : IsBoard board) (plan : PlanTables) (p : IsPlanOf board plan) where
   quiet_laid : plan.quiet ≡ laid (steady board (λ c. false)) board
@@ -171,19 +187,18 @@ module _ (board : RawBoard) (rules : IsBoard board) (plan : PlanTables) (p : IsP
         λ r is. subst (λ (l : List ReaderCell). Has l r) (sym same) (contains_has t.0 r ((t.2 r).1 is)),
       )
 
-  reader_within : (net : Net) (r : ReaderCell) → IsReaderCell board net r → r.position < data_bits board
-  reader_within net r s =
-      let place = has_place s.device.cells s.entry (contains_has s.device.cells s.entry s.is_entry) in
-      omega (arith, s.position_is, (laid_at (steady board (λ c. false)) board s.at.part s.device s.entry.num s.is_device ((read_at board rules s.at.part s.device s.is_device).num_below place.0 s.entry place.1)).0)
-
   pub readers_within : All (λ cells. All (λ r. r.position < data_bits board) cells) plan.readers
-  readers_within k d less =
-      let within : k < length board.nets = omega (arith, less, p.tables.readers_length) in
-      let net = some_at board.nets k within in
-      let t = p.tables.readers k net.0 net.1 in
-      let same : t.0 ≡ get_or plan.readers k d = sym (get_or_from_slice_get plan.readers k t.0 d t.1) in
-      subst (λ (l : List ReaderCell). All (λ r. r.position < data_bits board) l) same
-      (all_has (λ r. r.position < data_bits board) t.0 (λ r has. reader_within net.0 r ((t.2 r).0 (has_contains t.0 r has))))
+  readers_within = readers_below board rules plan.readers readers_of p.tables.readers_length
+
+  -- the lengths of the rows of all passes
+  pub common_tdi_length : (j : ℕ) → length (common_rows plan.quiet plan.codes plan.readers plan.steady j).tdi ≡ data_bits board
+  common_tdi_length j = length-assigned (λ (d : DriverCell). d.position) (driver_bit plan.codes j) plan.quiet plan.steady ∙ quiet_length
+
+  pub compared_length : (bit : DriverCell → Bool) → length (set_compared bit plan.readers (replicate (length plan.quiet) false) plan.steady) ≡ data_bits board
+  compared_length bit = length-set_compared bit plan.readers plan.steady (replicate (length plan.quiet) false) ∙ length-replicate (length plan.quiet) false ∙ quiet_length
+
+  pub common_there : (j : ℕ) → j < plan.width → j < length plan.common
+  common_there j less = Rattle.std.proofs.lemmas.Option.slice_get_within plan.common j (common_rows plan.quiet plan.codes plan.readers plan.steady j) (p.tables.common j less)
 
   module _ (x : ℕ) (less : x < length plan.passes) where
     abbrev pass : List Ctl
@@ -193,21 +208,31 @@ module _ (board : RawBoard) (rules : IsBoard board) (plan : PlanTables) (p : IsP
     stands = slice_get-get_or plan.passes x [] less
 
     -- the cells of the pass
-    pub cells_are : (cells : PassCells) → cells ≡ get_or plan.cells x cells → ArePassCells board pass cells
+    pub cells_are : (cells : PassCells) → cells ≡ get_or plan.cells x cells → ArePassCells board plan.steady pass cells
     cells_are cells is =
         let t = p.tables.cells x pass stands in
         let same : t.0 ≡ cells = sym (is ∙ get_or_from_slice_get plan.cells x t.0 cells t.1) in
-        subst (λ (v : PassCells). ArePassCells board pass v) same t.2
+        subst (λ (v : PassCells). ArePassCells board plan.steady pass v) same t.2
 
     pub cells_there : x < length plan.cells
     cells_there = let t = p.tables.cells x pass stands in Rattle.std.proofs.lemmas.Option.slice_get_within plan.cells x t.0 t.1
 
-    module _ (cells : PassCells) (are : ArePassCells board pass cells) where
+    module _ (cells : PassCells) (are : ArePassCells board plan.steady pass cells) where
+      -- the driver cells of the pass
+      abbrev all : List DriverCell
+      all = plan.steady ++ cells.drivers
+
       held_only : (h : HeldCell) → Has cells.held h → IsHeldCell board pass h
       held_only h has = (are.held h).0 (has_contains cells.held h has)
 
-      driver_only : (d : DriverCell) → Has cells.drivers d → IsDriverCell board pass d
-      driver_only d has = (are.drivers d).0 (has_contains cells.drivers d has)
+      driver_only : (d : DriverCell) → Has all d → IsDriverCell board pass d
+      driver_only d has = (are.drivers d).0 (has_contains all d has)
+
+      own_only : (d : DriverCell) → Has cells.drivers d → IsDriverCell board pass d
+      own_only d has = driver_only d (has_right plan.steady cells.drivers d has)
+
+      every : (d : DriverCell) → IsDriverCell board pass d → Has all d
+      every d is = contains_has all d ((are.drivers d).1 is)
 
       pub held_within : All (λ h. h.position < data_bits board) cells.held
       held_within = all_has (λ h. h.position < data_bits board) cells.held (λ h has.
@@ -217,7 +242,7 @@ module _ (board : RawBoard) (rules : IsBoard board) (plan : PlanTables) (p : IsP
 
       driver_within : (d : DriverCell) → Has cells.drivers d → d.position < data_bits board
       driver_within d has =
-          let s = driver_only d has in
+          let s = own_only d has in
           let t : Standing board d.net s.net d.place s.at = standing board rules d.net s.net d.place s.pin s.at s.is_net s.is_pin s.is_at in
           let drives = drives_by t.device s.at.bit s.entry (sym (entry_on board s.at t.device t.is_device) ∙ s.is_entry) in
           omega (arith, s.position_is, (laid_at (steady board (λ c. false)) board s.at.part t.device s.entry.num t.is_device (t.wired.num_below drives.index s.entry drives.stands)).0)
@@ -226,13 +251,13 @@ module _ (board : RawBoard) (rules : IsBoard board) (plan : PlanTables) (p : IsP
       drivers_within = all_has (λ d. d.position < data_bits board) cells.drivers driver_within
 
       pub drivers_on_nets : All (λ d. d.net < length board.nets) cells.drivers
-      drivers_on_nets = all_has (λ d. d.net < length board.nets) cells.drivers (λ d has. let s = driver_only d has in Rattle.std.proofs.lemmas.Option.slice_get_within board.nets d.net s.net s.is_net)
+      drivers_on_nets = all_has (λ d. d.net < length board.nets) cells.drivers (λ d has. let s = own_only d has in Rattle.std.proofs.lemmas.Option.slice_get_within board.nets d.net s.net s.is_net)
 
       -- what a net carries is what its code's bit says
       abbrev carried : ℕ → ℕ → Option Bool
       carried j n = Some (net_code_bit board plan.passes j n)
 
-      carries : (j : ℕ) (d : DriverCell) → Has cells.drivers d → carried j d.net ≡ Some (driver_bit plan.codes j d)
+      carries : (j : ℕ) (d : DriverCell) → Has all d → carried j d.net ≡ Some (driver_bit plan.codes j d)
       carries j d has =
           let s = driver_only d has in
           let observed : is_observed board plan.passes s.net ≡ true = any_at (λ (q : List Ctl). is_some (observing_driver board (holds q) s.net)) plan.passes x pass stands (ap (λ (o : Option ℕ). is_some o) s.observing) in
@@ -240,29 +265,41 @@ module _ (board : RawBoard) (rules : IsBoard board) (plan : PlanTables) (p : IsP
           p.codes_are d.net s.net s.is_net ∙ ap (λ (b : Bool). cond b (code_of_net board plan.passes d.net) 0) observed in
           sym (ap (λ (n : ℕ). Some (code_bit n j)) code)
 
-      -- a row of the pass
+      -- a row of the pass, over that of all passes
       pub code_row_is : (j : ℕ) (scan : RowScan) → scan.now ≡ code_row board plan.passes pass j →
-          assigned (λ d. d.position) (driver_bit plan.codes j) (assigned (λ h. h.position) (λ h. h.bit) plan.quiet cells.held) cells.drivers ≡ tdi_bits (joined (row_bits board scan))
+          assigned (λ d. d.position) (driver_bit plan.codes j) (assigned (λ h. h.position) (λ h. h.bit) (common_rows plan.quiet plan.codes plan.readers plan.steady j).tdi cells.held) cells.drivers
+          ≡ tdi_bits (joined (row_bits board scan))
       code_row_is j scan e =
-          ap (λ (l : List Bool). assigned (λ d. d.position) (driver_bit plan.codes j) (assigned (λ h. h.position) (λ h. h.bit) l cells.held) cells.drivers) quiet_laid
-          ∙ ap (λ (l : List Bool). assigned (λ d. d.position) (driver_bit plan.codes j) l cells.drivers)
+          let bit : DriverCell → Bool = driver_bit plan.codes j in
+          ap (λ (l : List Bool). assigned (λ d. d.position) bit l cells.drivers)
+          (assigned_apart (λ (h : HeldCell). h.position) (λ h. h.bit) (λ (d : DriverCell). d.position) bit plan.quiet cells.held plan.steady
+          (λ h d in_held in_steady. are.apart h d (has_contains cells.held h in_held) (has_contains plan.steady d in_steady)))
+          ∙ sym (fold-append (λ bits (d : DriverCell). set bits d.position (bit d)) (assigned (λ h. h.position) (λ h. h.bit) plan.quiet cells.held) plan.steady cells.drivers)
+          ∙ ap (λ (l : List Bool). assigned (λ d. d.position) bit (assigned (λ h. h.position) (λ h. h.bit) l cells.held) all) quiet_laid
+          ∙ ap (λ (l : List Bool). assigned (λ d. d.position) bit l all)
           (held_laid board rules pass (λ c has. p.plannable.controls x pass c stands has) cells.held held_only (λ h is. contains_has cells.held h ((are.held h).1 is)))
-          ∙ drivers_laid board rules pass (carried j) (driver_bit plan.codes j) cells.drivers driver_only (λ d is. contains_has cells.drivers d ((are.drivers d).1 is)) (carries j)
+          ∙ drivers_laid board rules pass (carried j) bit all driver_only every (carries j)
           ∙ sym (tdi_laid board scan ∙ ap (λ (row : TestRow). laid (λ part device cell. row_bit board row part device cell) board) e)
 
-      -- what is compared of it
+      -- what is compared of it, over what is compared of all
+      compared_is : (bit : DriverCell → Bool) →
+          set_compared bit plan.readers (set_compared bit plan.readers (replicate (length plan.quiet) false) plan.steady) cells.drivers
+          ≡ assigned (λ (x : Pair). x.1.position) (λ x. bit x.0) (laid (λ part device cell. false) board) (pairs plan.readers all)
+      compared_is bit =
+          sym (fold-append (λ done (d : DriverCell). set_readers d.place (bit d) done (get_or plan.readers d.net [])) (replicate (length plan.quiet) false) plan.steady cells.drivers)
+          ∙ ap (λ (l : List Bool). set_compared bit plan.readers l all) (ap (λ n. replicate n false) quiet_length ∙ zeros_laid board)
+          ∙ set_compared_is bit plan.readers all (laid (λ part device cell. false) board)
+
       pub tdo_is : (j : ℕ) (scan : RowScan) → scan.before ≡ code_row board plan.passes pass j →
-          set_compared (driver_bit plan.codes j) plan.readers (replicate (data_bits board) false) cells.drivers ≡ tdo_bits (joined (row_bits board scan))
+          set_compared (driver_bit plan.codes j) plan.readers (common_rows plan.quiet plan.codes plan.readers plan.steady j).tdo cells.drivers ≡ tdo_bits (joined (row_bits board scan))
       tdo_is j scan e =
-          ap (λ (l : List Bool). set_compared (driver_bit plan.codes j) plan.readers l cells.drivers) (zeros_laid board)
-          ∙ set_compared_is (driver_bit plan.codes j) plan.readers cells.drivers (laid (λ part device cell. false) board)
-          ∙ tdo_compared board rules pass (carried j) (driver_bit plan.codes j) cells.drivers driver_only (λ d is. contains_has cells.drivers d ((are.drivers d).1 is)) (carries j) plan.readers readers_of
+          compared_is (driver_bit plan.codes j)
+          ∙ tdo_compared board rules pass (carried j) (driver_bit plan.codes j) all driver_only every (carries j) plan.readers readers_of
           ∙ sym (tdo_laid board scan ∙ ap (λ (row : TestRow). laid (λ part device cell. unwrap_or (expect_bit board row part device cell) false) board) e)
 
       pub mask_is : (j : ℕ) (scan : RowScan) → scan.before ≡ code_row board plan.passes pass j →
-          set_compared (λ d. true) plan.readers (replicate (data_bits board) false) cells.drivers ≡ mask_bits (joined (row_bits board scan))
+          set_compared (λ d. true) plan.readers (common_rows plan.quiet plan.codes plan.readers plan.steady j).mask cells.drivers ≡ mask_bits (joined (row_bits board scan))
       mask_is j scan e =
-          ap (λ (l : List Bool). set_compared (λ d. true) plan.readers l cells.drivers) (zeros_laid board)
-          ∙ set_compared_is (λ d. true) plan.readers cells.drivers (laid (λ part device cell. false) board)
-          ∙ mask_compared board rules pass (carried j) (driver_bit plan.codes j) cells.drivers driver_only (λ d is. contains_has cells.drivers d ((are.drivers d).1 is)) (carries j) plan.readers readers_of
+          compared_is (λ d. true)
+          ∙ mask_compared board rules pass (carried j) (driver_bit plan.codes j) all driver_only every (carries j) plan.readers readers_of
           ∙ sym (mask_laid board scan ∙ ap (λ (row : TestRow). laid (λ part device cell. is_some (expect_bit board row part device cell)) board) e)

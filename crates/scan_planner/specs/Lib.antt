@@ -7,3 +7,4 @@ pub mod Laid
 pub mod Laws
 pub mod QuietBits
 pub mod Entries
+pub mod Steady

@@ -1,5 +1,5 @@
--- What a plan keeps of a board: rows that every test of it has, and the positions at which the rows of a pass differ from the quiet row.
-use Rattle.std.specs.Prelude.{◌≡◌, ◌↔◌, ℕ, suc, ◌+◌, true, false, not, List, length, map, drop, sum_by, Some, slice_get, unwrap_or, Contains}
+-- What a plan keeps of a board: rows that every test of it has, rows that all passes share, and the positions at which those of a pass differ.
+use Rattle.std.specs.Prelude.{◌≡◌, ◌≢◌, ◌↔◌, ℕ, suc, ◌+◌, ◌<◌, Bool, true, false, not, List, ◌++◌, replicate, length, map, drop, sum_by, Some, slice_get, unwrap_or, Contains}
 use Rattle.board_defs.specs.declared.device.Cell.{Cell}
 use Rattle.board_defs.specs.declared.device.RawDevice.{RawDevice}
 use Rattle.board_defs.specs.declared.board.PinAt.{PinAt}
@@ -20,6 +20,7 @@ use Rattle.scan_planner.specs.declared.tables.DriverCell.{DriverCell}
 use Rattle.scan_planner.specs.declared.tables.ReaderCell.{ReaderCell}
 use Rattle.scan_planner.specs.declared.tables.PassCells.{PassCells}
 use Rattle.scan_planner.specs.declared.tables.PlanTables.{PlanTables}
+use Rattle.scan_planner.specs.Assigned.{assigned, driver_bit, set_compared}
 
 -- the position of a part's first bit in a scan of data: behind those of the parts after it
 abbrev pub first_position : RawBoard → ℕ → ℕ
@@ -67,10 +68,21 @@ pub record IsReaderCell (board : RawBoard) (net : Net) (r : ReaderCell) : Type 0
   pub reads : reads_bit at.bit entry ≡ true
   pub position_is : r.position ≡ first_position board at.part + entry.num
 
--- the cells in which the rows of a pass differ from the quiet row, each in some place
-pub record ArePassCells (board : RawBoard) (pass : List Ctl) (cells : PassCells) : Type 0 where
+-- the cells of a pass, each in some place: those of its controls, and with the steady cells those of its drivers. No cell of a control is steady
+pub record ArePassCells (board : RawBoard) (steady : List DriverCell) (pass : List Ctl) (cells : PassCells) : Type 0 where
   pub held : (h : HeldCell) → Contains cells.held h ↔ IsHeldCell board pass h
-  pub drivers : (d : DriverCell) → Contains cells.drivers d ↔ IsDriverCell board pass d
+  pub drivers : (d : DriverCell) → Contains (steady ++ cells.drivers) d ↔ IsDriverCell board pass d
+  pub apart : (h : HeldCell) (d : DriverCell) → Contains cells.held h → Contains steady d → h.position ≢ d.position
+
+-- what all passes have in row j: bit j of the code of each steady driver's net, in its cell over the quiet row and where the net is read
+abbrev pub common_rows : List Bool → List ℕ → List (List ReaderCell) → List DriverCell → ℕ → FixedRows
+common_rows quiet codes readers steady j =
+    let none : List Bool = replicate (length quiet) false in
+    record {
+      tdi = assigned (λ d. d.position) (driver_bit codes j) quiet steady;
+      tdo = set_compared (driver_bit codes j) readers none steady;
+      mask = set_compared (λ d. true) readers none steady;
+    }
 
 -- the compared cells of a net, each in some place
 abbrev pub AreReaders : RawBoard → Net → List ReaderCell → Type 0
@@ -81,6 +93,7 @@ pub record ArePlanTables (board : RawBoard) (plan : PlanTables) : Type 0 where
   pub preload : AreRowsOf ((instructs (map (λ part. preload_code part.kind) board.chain)).bits) plan.preload
   pub extest : AreRowsOf ((instructs (map (λ part. extest_code part.kind) board.chain)).bits) plan.extest
   pub quiet : plan.quiet ≡ tdi_bits (joined (row_bits board first_row_scan))
-  pub cells : (x : ℕ) (pass : List Ctl) → slice_get plan.passes x ≡ Some pass → (cells : PassCells) × (slice_get plan.cells x ≡ Some cells) × ArePassCells board pass cells
+  pub cells : (x : ℕ) (pass : List Ctl) → slice_get plan.passes x ≡ Some pass → (cells : PassCells) × (slice_get plan.cells x ≡ Some cells) × ArePassCells board plan.steady pass cells
+  pub common : (j : ℕ) → j < plan.width → slice_get plan.common j ≡ Some (common_rows plan.quiet plan.codes plan.readers plan.steady j)
   pub readers : (n : ℕ) (net : Net) → slice_get board.nets n ≡ Some net → (readers : List ReaderCell) × (slice_get plan.readers n ≡ Some readers) × AreReaders board net readers
   pub readers_length : length plan.readers ≡ length board.nets

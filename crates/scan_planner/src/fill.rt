@@ -4,10 +4,10 @@ ghost use Rattle.std.specs.List.{list_any};
 ghost use Rattle.board_defs.specs.Pins.{data_bits};
 ghost use Rattle.tap_defs.specs.BoardScans.{row_bits};
 ghost use Rattle.tap_defs.specs.Scan.{joined, tdi_bits, tdo_bits, mask_bits};
-ghost use Rattle.scan_planner.specs.Tables.{ArePassCells};
+ghost use Rattle.scan_planner.specs.Tables.{ArePassCells, common_rows};
 ghost use Rattle.scan_planner.specs.Plans.{IsPlanOf, IsRoom, FillsScan, scan_count, scan_of_pass};
 
-use crate::rows::{compare_nets, copy_bits, has_one, set_drivers, set_held};
+use crate::rows::{compare_nets, has_one, set_drivers, set_held};
 use crate::tables::{FixedRows, PassCells, PlanTables};
 use board_defs::Board;
 use bt_bits::Row;
@@ -26,7 +26,6 @@ fn shape_of(ir: bool, mask: &Row) -> Shape
 
 // Copies the rows of a scan.
 fn copy_rows(rows: &FixedRows, tdi: &mut Row, tdo: &mut Row, mask: &mut Row)
-    requires few { length rows.now.tdi ≤ 65535 }
     requires tdo_length { length rows.now.tdo ≡ length rows.now.tdi }
     requires mask_length { length rows.now.mask ≡ length rows.now.tdi }
     requires tdi_room { length rows.now.tdi ≤ tdi.old.room }
@@ -39,9 +38,9 @@ fn copy_rows(rows: &FixedRows, tdi: &mut Row, tdo: &mut Row, mask: &mut Row)
     ensures tdo_kept { tdo.new.room ≡ tdo.old.room }
     ensures mask_kept { mask.new.room ≡ mask.old.room }
 {
-    copy_bits(rows.tdi.as_slice(), tdi);
-    copy_bits(rows.tdo.as_slice(), tdo);
-    copy_bits(rows.mask.as_slice(), mask);
+    tdi.copy_from(rows.tdi.as_slice());
+    tdo.copy_from(rows.tdo.as_slice());
+    mask.copy_from(rows.mask.as_slice());
 }
 
 // The first scan, which shifts the preload codes in.
@@ -107,7 +106,7 @@ fn fill_quiet(
 {
     let _ = board.raw();
     let len = board.dr_bits();
-    copy_bits(tables.quiet.as_slice(), tdi);
+    tdi.copy_from(tables.quiet.as_slice());
     tdo.clear(len);
     mask.clear(len);
     shape_of(false, mask)
@@ -124,13 +123,30 @@ fn cells_at(cells: &[PassCells], pass: usize) -> &PassCells
 fn pass_cells<'a>(board: &Board, tables: &'a PlanTables, pass: usize) -> &'a PassCells
     requires plan { IsPlanOf board.now tables.now }
     requires pass { pass < length tables.now.passes }
-    ensures { ArePassCells board.now (slice_index_or tables.now.passes pass []) result.now }
+    ensures { ArePassCells board.now tables.now.steady (slice_index_or tables.now.passes pass []) result.now }
 {
     let _ = board.raw();
     cells_at(tables.cells.as_slice(), pass)
 }
 
-// Shifts row `j` of a pass in.
+fn rows_at(common: &[FixedRows], j: usize) -> &FixedRows
+    requires { j < length common.now }
+    ensures { slice_get common.now j ≡ Some result.now }
+{
+    &common[j]
+}
+
+// What all passes have in row `j`.
+fn common_row<'a>(board: &Board, tables: &'a PlanTables, j: u32) -> &'a FixedRows
+    requires plan { IsPlanOf board.now tables.now }
+    requires row { j < tables.now.width }
+    ensures { result.now ≡ common_rows tables.now.quiet tables.now.codes tables.now.readers tables.now.steady j }
+{
+    let _ = board.raw();
+    rows_at(tables.common.as_slice(), j as usize)
+}
+
+// Shifts row `j` of a pass in: the cells of the pass over what all passes have.
 fn fill_code_row(board: &Board, tables: &PlanTables, pass: usize, j: u32, tdi: &mut Row)
     requires plan { IsPlanOf board.now tables.now }
     requires pass { pass < length tables.now.passes }
@@ -141,8 +157,9 @@ fn fill_code_row(board: &Board, tables: &PlanTables, pass: usize, j: u32, tdi: &
     ensures kept { tdi.new.room ≡ tdi.old.room }
 {
     let _ = board.raw();
+    let common = common_row(board, tables, j);
     let cells = pass_cells(board, tables, pass);
-    copy_bits(tables.quiet.as_slice(), tdi);
+    tdi.copy_from(common.tdi.as_slice());
     set_held(cells.held.as_slice(), tdi);
     set_drivers(cells.drivers.as_slice(), tables.codes.as_slice(), j, tdi);
 }
@@ -160,11 +177,11 @@ fn fill_now(board: &Board, tables: &PlanTables, pass: usize, j: u32, tdi: &mut R
     if j < tables.width {
         fill_code_row(board, tables, pass, j, tdi)
     } else {
-        copy_bits(tables.quiet.as_slice(), tdi)
+        tdi.copy_from(tables.quiet.as_slice())
     }
 }
 
-// Compares row `j` of a pass, over rows of zeros.
+// Compares row `j` of a pass: its nets and those that all passes observe.
 fn compare_row(
     board: &Board,
     tables: &PlanTables,
@@ -175,7 +192,8 @@ fn compare_row(
 )
     requires plan { IsPlanOf board.now tables.now }
     requires pass { pass < length tables.now.passes }
-    requires row { j < 14 }
+    requires row { j < tables.now.width }
+    requires few { tables.now.width ≤ 14 }
     requires tdo_room { data_bits board.now ≤ tdo.old.room }
     requires mask_room { data_bits board.now ≤ mask.old.room }
     ensures tdo { tdo.new.bits ≡ tdo_bits (joined (row_bits board.now (scan_of_pass board.now tables.now pass (suc j)))) }
@@ -184,10 +202,10 @@ fn compare_row(
     ensures mask_kept { mask.new.room ≡ mask.old.room }
 {
     let _ = board.raw();
+    let common = common_row(board, tables, j);
     let cells = pass_cells(board, tables, pass);
-    let len = board.dr_bits();
-    tdo.clear(len);
-    mask.clear(len);
+    tdo.copy_from(common.tdo.as_slice());
+    mask.copy_from(common.mask.as_slice());
     compare_nets(
         cells.drivers.as_slice(),
         tables.readers.as_slice(),
@@ -209,7 +227,8 @@ fn fill_before(
 )
     requires plan { IsPlanOf board.now tables.now }
     requires pass { pass < length tables.now.passes }
-    requires row { j ≤ 14 }
+    requires row { j ≤ tables.now.width }
+    requires few { tables.now.width ≤ 14 }
     requires tdo_room { data_bits board.now ≤ tdo.old.room }
     requires mask_room { data_bits board.now ≤ mask.old.room }
     ensures tdo { tdo.new.bits ≡ tdo_bits (joined (row_bits board.now (scan_of_pass board.now tables.now pass j))) }

@@ -3,18 +3,22 @@
 
 mod build;
 mod codes;
+mod common;
+mod controls;
 mod entries;
 mod fill;
 mod guards;
 mod instructions;
 pub mod law;
 mod nets;
+mod observers;
 mod passes;
 mod plan;
 mod positions;
 mod quiet;
 mod rows;
 mod tables;
+mod uses;
 
 pub use plan::Plan;
 

@@ -1,5 +1,5 @@
 // Bits that are set in rows.
-ghost use Rattle.std.specs.Prelude.{◌≡◌, ◌<◌, ◌≤◌, true, length, All};
+ghost use Rattle.std.specs.Prelude.{◌≡◌, ◌<◌, true, length, slice_set, IfOk, All};
 ghost use Rattle.std.specs.List.{list_any};
 ghost use Rattle.scan_planner.specs.Assigned.{assigned, driver_bit, set_readers, set_compared};
 
@@ -7,19 +7,26 @@ use crate::tables::{DriverCell, HeldCell, ReaderCell};
 use board_defs::Items;
 use bt_bits::Row;
 use counting_codes::bit;
+use std::alloc::{AllocError, Global};
 
-/// Makes a row these bits.
-pub fn copy_bits(bits: &[bool], row: &mut Row)
-    requires few { length bits.now ≤ 65535 }
-    requires room { length bits.now ≤ row.old.room }
-    ensures bits { row.new.bits ≡ bits.now }
-    ensures room { row.new.room ≡ row.old.room }
+/// Sets the flag at a place, where there is one.
+pub fn mark(flags: &mut [bool], place: usize)
+    ensures { flags.new ≡ slice_set flags.old place true }
 {
-    let len = bits.len() as u32;
-    row.clear(len);
-    for i in 0..len {
-        row.set(i, bits[i as usize]);
+    if place < flags.len() {
+        flags[place] = true;
     }
+}
+
+/// The bits of a row.
+pub fn items_of(alloc: Global, row: &Row) -> Result<Items<bool>, AllocError>
+    ensures { IfOk result (λ bits. bits ≡ row.now.bits) }
+{
+    let mut bits = Vec::new(alloc);
+    for i in 0..row.len() {
+        bits.push(row.get(i))?;
+    }
+    Ok(Items::of(bits))
 }
 
 /// Whether some bit of a row is 1.

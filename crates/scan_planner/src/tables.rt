@@ -1,7 +1,7 @@
 // What a plan keeps: positions and bits, from which each scan is made.
 use board_defs::{Items, Setting};
 
-/// The rows of a scan that is the same in every test of a board.
+/// The rows of a scan that many scans share.
 #[derive(Debug, Drop)]
 pub struct FixedRows {
     pub tdi: Items<bool>,
@@ -32,14 +32,22 @@ pub struct ReaderCell {
     pub position: u32,
 }
 
-/// The cells in which the rows of a pass differ from the quiet row.
+/// The cells in which the rows of a pass differ from those that all passes share.
 #[derive(Debug, Drop)]
 pub struct PassCells {
     pub held: Items<HeldCell>,
     pub drivers: Items<DriverCell>,
 }
 
-/// The tables of a plan. The cells stand pass by pass, the codes and the readers net by net.
+/// The driver cells that are the same in all passes, and the cells of each pass.
+#[derive(Debug, Drop)]
+pub struct PassTables {
+    pub steady: Items<DriverCell>,
+    pub cells: Items<PassCells>,
+}
+
+/// The tables of a plan: the driver cells that are the same in all passes, what all passes have in each row with these
+/// cells set, and the cells of each pass. The codes and the readers stand net by net.
 #[derive(Debug, Drop)]
 pub struct PlanTables {
     pub passes: Items<Setting>,
@@ -48,6 +56,8 @@ pub struct PlanTables {
     pub preload: FixedRows,
     pub extest: FixedRows,
     pub quiet: Items<bool>,
+    pub steady: Items<DriverCell>,
+    pub common: Items<FixedRows>,
     pub cells: Items<PassCells>,
     pub readers: Items<Items<ReaderCell>>,
 }

@@ -1,41 +1,119 @@
-use Rattle.std.proofs.Common.{List, Bool, length, map, get_or, refl, sym, ap, ◌∙◌}
-use Rattle.std.proofs.lemmas.Option.{slice_get-get_or}
+use Rattle.std.proofs.Common.{◌≡◌, ◌<◌, ℕ, List, Bool, length, map, refl, sym, ap, ◌∙◌, subst, arith}
+use Rattle.std.proofs.lemmas.List.{length-map}
 use Rattle.board_defs.specs.declared.board.Ctl.{Ctl}
-use Rattle.scan_planner.specs.declared.nets.NetDriver.{NetDriver}
+use Rattle.board_defs.specs.declared.board.Net.{Net}
+use Rattle.board_defs.proofs.Members.{has_contains}
+use Rattle.tap_defs.specs.ShiftRegister.{filled}
+use Rattle.scan_planner.specs.declared.tables.DriverCell.{DriverCell}
+use Rattle.scan_planner.specs.declared.tables.PassCells.{PassCells}
 use Rattle.scan_planner.specs.declared.tables.ReaderCell.{ReaderCell}
 use Rattle.scan_planner.specs.Laid.{quiet_bits}
-use Rattle.scan_planner.specs.Building.{pass_cells_of}
+use Rattle.scan_planner.specs.Building.{readers_of}
+use Rattle.scan_planner.specs.Tables.{common_rows}
+use Rattle.scan_planner.specs.Codes.{seen_in}
+use Rattle.scan_planner.specs.Steady.{ArePassTables}
 use Rattle.scan_planner.proofs.LaidLemmas.{length-laid}
-use Rattle.scan_planner.proofs.PlanLemmas.{is_plan, control_cells, width_most, seen_same, codes_same, count_most}
+use Rattle.scan_planner.proofs.FillLemmas.{all_has, readers_below}
+use Rattle.scan_planner.proofs.ReaderLemmas.{ReadersOf}
+use Rattle.scan_planner.proofs.PlanLemmas.{is_plan, width_most, readers_are, seen_most, count_most}
 use Rattle.scan_planner.proofs.build.tables_of.Goals as goal
 
-pub all_cells-requires-clause-quiet : goal.all_cells-requires-clause-quiet
-all_cells-requires-clause-quiet c =
-    ap (λ (l : List Bool). length l) (c.deref.ensures.value ∙ c.in_ok-quiet.ensures) ∙ length-laid (quiet_bits c.args.board.now) c.args.board.now
+pub number_nets-requires : goal.number_nets-requires
+number_nets-requires c =
+    (seen_most c.args.board.now c.raw.ensures.rules c.as_slice-readers.result.now c.as_slice-steady.result.now c.as_slice-2.result.now c.deref-2.result.now
+    (c.as_slice-readers.ensures ∙ c.in_ok-nets.ensures.readers) (c.deref-2.ensures.value ∙ c.in_ok-seen.ensures)).1
 
-pub all_cells-requires-clause-cells : goal.all_cells-requires-clause-cells
-all_cells-requires-clause-cells c =
-    rw c.as_slice.ensures (λ k d less x on.
-    control_cells c.args.board.now c.raw.ensures.rules x (c.requires.plannable.controls k (get_or c.args.passes k d) x (slice_get-get_or c.args.passes k d less) on))
+pub width-width-requires : goal.width-width-requires
+width-width-requires c =
+    count_most c.deref-2.result.now c.in_ok-codes.codes c.in_ok-codes.ensures
+    (seen_most c.args.board.now c.raw.ensures.rules c.as_slice-readers.result.now c.as_slice-steady.result.now c.as_slice-2.result.now c.deref-2.result.now
+    (c.as_slice-readers.ensures ∙ c.in_ok-nets.ensures.readers) (c.deref-2.ensures.value ∙ c.in_ok-seen.ensures)).1
+
+pub common_rows-requires-clause-few : goal.common_rows-requires-clause-few
+common_rows-requires-clause-few c =
+    omega (arith, ap (λ (l : List Bool). length l) (c.deref-3.ensures.value ∙ c.in_ok-quiet.ensures), length-laid (quiet_bits c.args.board.now) c.args.board.now, c.raw.ensures.rules.data_most)
+
+pub common_rows-requires-clause-width : goal.common_rows-requires-clause-width
+common_rows-requires-clause-width c =
+    width_most c.in_ok-codes.codes.count c.width-width.result
+    (count_most c.deref-2.result.now c.in_ok-codes.codes c.in_ok-codes.ensures
+    (seen_most c.args.board.now c.raw.ensures.rules c.as_slice-readers.result.now c.as_slice-steady.result.now c.as_slice-2.result.now c.deref-2.result.now
+    (c.as_slice-readers.ensures ∙ c.in_ok-nets.ensures.readers) (c.deref-2.ensures.value ∙ c.in_ok-seen.ensures)).1) c.width-width.ensures.least
+
+pub common_rows-requires-clause-codes : goal.common_rows-requires-clause-codes
+common_rows-requires-clause-codes c =
+    rw c.as_slice-steady.ensures (all_has (λ (d : DriverCell). d.net < length c.as_slice-3.result.now) c.in_ok-tables.tables.steady (λ d has.
+    omega (
+      arith,
+      c.in_ok-tables.ensures.nets d (has_contains c.in_ok-tables.tables.steady d has),
+      ap (λ l. length l) c.as_slice-3.ensures,
+      c.in_ok-codes.ensures.length_is,
+      (seen_most c.args.board.now c.raw.ensures.rules c.as_slice-readers.result.now c.as_slice-steady.result.now c.as_slice-2.result.now c.deref-2.result.now
+          (c.as_slice-readers.ensures ∙ c.in_ok-nets.ensures.readers) (c.deref-2.ensures.value ∙ c.in_ok-seen.ensures)).0,
+    )))
+
+pub common_rows-requires-clause-nets : goal.common_rows-requires-clause-nets
+common_rows-requires-clause-nets c =
+    rw c.as_slice-steady.ensures (all_has (λ (d : DriverCell). d.net < length c.as_slice-readers.result.now) c.in_ok-tables.tables.steady (λ d has.
+    omega (
+      arith,
+      c.in_ok-tables.ensures.nets d (has_contains c.in_ok-tables.tables.steady d has),
+      ap (λ (l : List (List ReaderCell)). length l) (c.as_slice-readers.ensures ∙ c.in_ok-nets.ensures.readers),
+      length-map c.args.board.now.nets (λ (net : Net). readers_of c.args.board.now net.pins),
+    )))
+
+pub common_rows-requires-clause-within : goal.common_rows-requires-clause-within
+common_rows-requires-clause-within c =
+    rw c.as_slice-steady.ensures (all_has (λ (d : DriverCell). d.position < length c.deref-3.result.now) c.in_ok-tables.tables.steady (λ d has.
+    omega (
+      arith,
+      c.in_ok-tables.ensures.within d (has_contains c.in_ok-tables.tables.steady d has),
+      ap (λ (l : List Bool). length l) (c.deref-3.ensures.value ∙ c.in_ok-quiet.ensures),
+      length-laid (quiet_bits c.args.board.now) c.args.board.now,
+    )))
+
+pub common_rows-requires-clause-read : goal.common_rows-requires-clause-read
+common_rows-requires-clause-read c k d less i r within =
+    let board = c.args.board.now in
+    let all : c.as_slice-readers.result.now ≡ map (λ (net : Net). readers_of board net.pins) board.nets = c.as_slice-readers.ensures ∙ c.in_ok-nets.ensures.readers in
+    omega (
+      arith,
+      readers_below board c.raw.ensures.rules c.as_slice-readers.result.now (subst (λ (l : List (List ReaderCell)). ReadersOf board l) (sym all) (readers_are board))
+          (ap (λ (l : List (List ReaderCell)). length l) all ∙ length-map board.nets (λ (net : Net). readers_of board net.pins)) k d less i r within,
+      ap (λ (l : List Bool). length l) (c.deref-3.ensures.value ∙ c.in_ok-quiet.ensures),
+      length-laid (quiet_bits board) board,
+    )
 
 pub returns-clause-plan : goal.returns-clause-plan
 returns-clause-plan c =
     let board = c.args.board.now in
     let quiet = c.of.result in
-    let drivers = c.in_ok-nets.nets.drivers in
-    let readers = c.in_ok-nets.nets.readers in
-    let are_seen = seen_same c.in_ok-seen.ensures c.as_slice-2.ensures c.as_slice-drivers.ensures c.as_slice-readers.ensures in
-    is_plan board c.raw.ensures.rules _ c.requires.plannable (c.of.ensures ∙ c.in_ok-quiet.ensures) drivers c.in_ok-nets.ensures.drivers c.in_ok-nets.ensures.readers
-    (c.in_ok-cells.ensures
-    ∙ ap (λ (q : List Bool). map (pass_cells_of board q c.as_slice-drivers.result.now c.as_slice-readers.result.now) c.as_slice.result.now) (c.deref.ensures.value ∙ sym c.of.ensures)
-    ∙ ap (λ (d : List (List NetDriver)). map (pass_cells_of board quiet d c.as_slice-readers.result.now) c.as_slice.result.now) c.as_slice-drivers.ensures
-    ∙ ap (λ (r : List (List ReaderCell)). map (pass_cells_of board quiet drivers r) c.as_slice.result.now) c.as_slice-readers.ensures
-    ∙ ap (λ (p : List (List Ctl)). map (pass_cells_of board quiet drivers readers) p) c.as_slice.ensures)
-    c.in_ok-seen.seen.items are_seen c.in_ok-codes.codes (codes_same c.in_ok-codes.ensures c.deref-2.ensures.value) refl
-    c.width.ensures.enough c.width.ensures.least c.in_ok-preload.ensures c.in_ok-extest.ensures
+    let width = c.width-width.result in
+    let codes = c.in_ok-codes.codes.codes in
+    let steady = c.in_ok-tables.tables.steady in
+    let steady_now = c.as_slice-steady.result.now in
+    let cells_now = c.as_slice-2.result.now in
+    let readers_now = c.as_slice-readers.result.now in
+    let n : ℕ = length board.nets in
+    is_plan board c.raw.ensures.rules _ c.requires.plannable (c.of.ensures ∙ c.in_ok-quiet.ensures) c.in_ok-nets.ensures.readers
+    (subst (λ (p : List (List Ctl)). ArePassTables board p c.in_ok-tables.tables) c.as_slice.ensures c.in_ok-tables.ensures)
+    c.deref-2.result.now
+    (c.deref-2.ensures.value ∙ c.in_ok-seen.ensures
+    ∙ ap (λ (r : List (List ReaderCell)). seen_in (length r) steady_now cells_now) (c.as_slice-readers.ensures ∙ c.in_ok-nets.ensures.readers)
+    ∙ ap (λ (k : ℕ). seen_in k steady_now cells_now) (length-map board.nets (λ (net : Net). readers_of board net.pins))
+    ∙ ap (λ (s : List DriverCell). seen_in n s cells_now) c.as_slice-steady.ensures
+    ∙ ap (λ (l : List PassCells). seen_in n steady l) c.as_slice-2.ensures)
+    c.in_ok-codes.codes c.in_ok-codes.ensures refl c.width-width.ensures.enough c.width-width.ensures.least
+    (c.in_ok-common.ensures
+    ∙ ap (λ (q : List Bool). filled width (common_rows q c.as_slice-3.result.now readers_now steady_now)) (c.deref-3.ensures.value ∙ sym c.of.ensures)
+    ∙ ap (λ (k : List ℕ). filled width (common_rows quiet k readers_now steady_now)) c.as_slice-3.ensures
+    ∙ ap (λ (r : List (List ReaderCell)). filled width (common_rows quiet codes r steady_now)) c.as_slice-readers.ensures
+    ∙ ap (λ (s : List DriverCell). filled width (common_rows quiet codes c.in_ok-nets.nets.readers s)) c.as_slice-steady.ensures)
+    c.in_ok-preload.ensures c.in_ok-extest.ensures
 
 pub returns-clause-width : goal.returns-clause-width
 returns-clause-width c =
-    let are_seen = seen_same c.in_ok-seen.ensures c.as_slice-2.ensures c.as_slice-drivers.ensures c.as_slice-readers.ensures in
-    width_most c.in_ok-codes.codes.count c.width.result
-    (count_most c.args.board.now c.raw.ensures.rules c.in_ok-nets.ensures.drivers are_seen (codes_same c.in_ok-codes.ensures c.deref-2.ensures.value)) c.width.ensures.least
+    width_most c.in_ok-codes.codes.count c.width-width.result
+    (count_most c.deref-2.result.now c.in_ok-codes.codes c.in_ok-codes.ensures
+    (seen_most c.args.board.now c.raw.ensures.rules c.as_slice-readers.result.now c.as_slice-steady.result.now c.as_slice-2.result.now c.deref-2.result.now
+    (c.as_slice-readers.ensures ∙ c.in_ok-nets.ensures.readers) (c.deref-2.ensures.value ∙ c.in_ok-seen.ensures)).1) c.width-width.ensures.least

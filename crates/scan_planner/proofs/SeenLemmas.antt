@@ -1,0 +1,132 @@
+-- The nets that have a driver cell in some pass are those that some pass observes.
+use Rattle.std.proofs.Common.{◌≡◌, ℕ, ◌<◌, Bool, true, false, List, ◌++◌, set, length, map, get_or, replicate, Option, Some, None, is_some, refl, sym, ap, ◌∙◌, subst, arith, ◌⊎◌, inl, inr}
+use Rattle.std.specs.Prelude.{slice_get, option_map}
+use Rattle.std.specs.Cmp.{both_ways}
+use Rattle.std.specs.List.{flat_map}
+use Rattle.std.proofs.lemmas.List.Sums.{fold-append}
+use Rattle.std.proofs.lemmas.List.{ext_get_or, length-map, length-replicate, get_or-replicate}
+use Rattle.std.proofs.lemmas.Option.{slice_get-map, get_or_from_slice_get, slice_get_within}
+use Rattle.board_defs.specs.declared.board.Net.{Net}
+use Rattle.board_defs.specs.declared.board.RawBoard.{RawBoard}
+use Rattle.board_defs.specs.declared.board.Ctl.{Ctl}
+use Rattle.board_defs.specs.Settings.{holds}
+use Rattle.board_defs.proofs.Members.{Has, has_at, has_place, contains_has, has_contains, has_append, has_left, has_right, has_flat_map, flat_map_has}
+use Rattle.board_defs.proofs.Places.{any_place, any_at}
+use Rattle.tap_defs.specs.TestRows.{is_observed, observing_driver}
+use Rattle.scan_planner.specs.declared.tables.DriverCell.{DriverCell}
+use Rattle.scan_planner.specs.declared.tables.PassCells.{PassCells}
+use Rattle.scan_planner.specs.declared.tables.PassTables.{PassTables}
+use Rattle.scan_planner.specs.Tables.{IsDriverCell}
+use Rattle.scan_planner.specs.Steady.{ArePassTables}
+use Rattle.scan_planner.specs.Assigned.{assigned}
+use Rattle.scan_planner.specs.Codes.{seen_in}
+use Rattle.scan_planner.proofs.AssignLemmas.{length-assigned, assigned_groups, has_mark, mark_has}
+use Rattle.scan_planner.proofs.ReaderLemmas.{driver_cell}
+use Rattle.scan_planner.proofs.FillLemmas.{some_at}
+
+-- all driver cells of passes
+abbrev all_cells : List DriverCell → List PassCells → List DriverCell
+all_cells steady cells = steady ++ flat_map (λ c. c.drivers) cells
+
+marked_all : (nets : ℕ) (steady : List DriverCell) (cells : List PassCells) → seen_in nets steady cells ≡ assigned (λ d. d.net) (λ d. true) (replicate nets false) (all_cells steady cells)
+marked_all nets steady cells =
+    assigned_groups (λ (d : DriverCell). d.net) (λ d. true) (λ (c : PassCells). c.drivers) cells (assigned (λ d. d.net) (λ d. true) (replicate nets false) steady)
+    ∙ sym (fold-append (λ flags (d : DriverCell). set flags d.net true) (replicate nets false) steady (flat_map (λ (c : PassCells). c.drivers) cells))
+
+pub length-seen_in : (nets : ℕ) (steady : List DriverCell) (cells : List PassCells) → length (seen_in nets steady cells) ≡ nets
+length-seen_in nets steady cells =
+    ap (λ (l : List Bool). length l) (marked_all nets steady cells)
+    ∙ length-assigned (λ (d : DriverCell). d.net) (λ d. true) (replicate nets false) (all_cells steady cells)
+    ∙ length-replicate nets false
+
+module _ (board : RawBoard) (passes : List (List Ctl)) (tables : PassTables) (are : ArePassTables board passes tables) where
+  abbrev seen : List Bool
+  seen = seen_in (length board.nets) tables.steady tables.cells
+
+  abbrev all : List DriverCell
+  all = all_cells tables.steady tables.cells
+
+  is_marked : seen ≡ assigned (λ d. d.net) (λ d. true) (replicate (length board.nets) false) all
+  is_marked = marked_all (length board.nets) tables.steady tables.cells
+
+  -- each of them is one of some pass
+  pub record InPass (d : DriverCell) : Type 0 where
+    pub number : ℕ
+    pub pass : List Ctl
+    pub is_pass : slice_get passes number ≡ Some pass
+    pub is_cell : IsDriverCell board pass d
+
+  in_pass : (d : DriverCell) → Has all d → InPass d
+  in_pass d h = by_part (has_append tables.steady (flat_map (λ c. c.drivers) tables.cells) d h)
+    where
+      by_part : Has tables.steady d ⊎ Has (flat_map (λ c. c.drivers) tables.cells) d → InPass d
+      by_part (inl k) =
+          let pass = some_at passes 0 (are.some d (has_contains tables.steady d k)) in
+          let t = are.each 0 (pass.0) pass.1 in
+          record { number = 0; pass = pass.0; is_pass = pass.1; is_cell = (t.2.drivers d).0 (has_contains (tables.steady ++ (t.0).drivers) d (has_left tables.steady (t.0).drivers d k)) }
+      by_part (inr k) =
+          let m = flat_map_has (λ (c : PassCells). c.drivers) tables.cells d k in
+          let place = has_place tables.cells (m.0) m.1 in
+          let pass = some_at passes place.0 (omega (arith, slice_get_within tables.cells place.0 (m.0) place.1, are.count)) in
+          let t = are.each place.0 (pass.0) pass.1 in
+          let two : Some (m.0) ≡ Some (t.0) = sym place.1 ∙ t.1 in
+          let same : m.0 ≡ t.0 = cc two in
+          record {
+            number = place.0;
+            pass = pass.0;
+            is_pass = pass.1;
+            is_cell = (t.2.drivers d).0 (has_contains (tables.steady ++ (t.0).drivers) d (has_right tables.steady (t.0).drivers d (subst (λ (c : PassCells). Has c.drivers d) same m.2)));
+          }
+
+  -- and those of each pass are among them
+  of_pass : (x : ℕ) (pass : List Ctl) → slice_get passes x ≡ Some pass → (d : DriverCell) → IsDriverCell board pass d → Has all d
+  of_pass x pass e d is =
+      let t = are.each x pass e in
+      by_part (t.0) t.1 (has_append tables.steady (t.0).drivers d (contains_has (tables.steady ++ (t.0).drivers) d ((t.2.drivers d).1 is)))
+    where
+      by_part : (c : PassCells) → slice_get tables.cells x ≡ Some c → Has tables.steady d ⊎ Has c.drivers d → Has all d
+      by_part c at (inl k) = has_left tables.steady (flat_map (λ c. c.drivers) tables.cells) d k
+      by_part c at (inr k) = has_right tables.steady (flat_map (λ c. c.drivers) tables.cells) d (has_flat_map (λ (y : PassCells). y.drivers) tables.cells c d (has_at tables.cells x c at) k)
+
+  module _ (n : ℕ) (net : Net) (is_net : slice_get board.nets n ≡ Some net) where
+    within : n < length board.nets
+    within = slice_get_within board.nets n net is_net
+
+    seen_observed : get_or seen n false ≡ true → is_observed board passes net ≡ true
+    seen_observed e = by_mark (mark_has (λ (d : DriverCell). d.net) all (replicate (length board.nets) false) n (sym (ap (λ (l : List Bool). get_or l n false) is_marked) ∙ e))
+      where
+        by_mark : (get_or (replicate (length board.nets) false) n false ≡ true) ⊎ ((d : DriverCell) × Has all d × (d.net ≡ n)) → is_observed board passes net ≡ true
+        by_mark (inl k) = let bad : false ≡ true = sym (get_or-replicate (length board.nets) n false false within) ∙ k in cc bad
+        by_mark (inr (d, has, at)) =
+            let i : InPass d = in_pass d has in
+            let s : IsDriverCell board i.pass d = i.is_cell in
+            let two : Some s.net ≡ Some net = sym s.is_net ∙ ap (λ (k : ℕ). slice_get board.nets k) at ∙ is_net in
+            let same : s.net ≡ net = cc two in
+            any_at (λ (q : List Ctl). is_some (observing_driver board (holds q) net)) passes i.number i.pass i.is_pass
+            (ap (λ (y : Net). is_some (observing_driver board (holds i.pass) y)) (sym same) ∙ ap (λ (o : Option ℕ). is_some o) s.observing)
+
+    observed_seen : is_observed board passes net ≡ true → get_or seen n false ≡ true
+    observed_seen e =
+        let f = any_place (λ (q : List Ctl). is_some (observing_driver board (holds q) net)) passes e in
+        by_driver f.place f.item f.stands (observing_driver board (holds f.item) net) refl f.passes
+      where
+        by_driver : (x : ℕ) (pass : List Ctl) → slice_get passes x ≡ Some pass → (o : Option ℕ) → observing_driver board (holds pass) net ≡ o → is_some o ≡ true → get_or seen n false ≡ true
+        by_driver x pass stands None o some = cc some
+        by_driver x pass stands (Some place) o some =
+            let d = driver_cell board pass n net place is_net o in
+            let has : Has all (d.0) = of_pass x pass stands (d.0) d.1 in
+            ap (λ (l : List Bool). get_or l n false) is_marked
+            ∙ ap (λ (k : ℕ). get_or (assigned (λ (c : DriverCell). c.net) (λ c. true) (replicate (length board.nets) false) all) k false) (sym d.2)
+            ∙ has_mark (λ (c : DriverCell). c.net) all (replicate (length board.nets) false) (d.0) has (omega (arith, within, d.2, length-replicate (length board.nets) false))
+
+  pub seen_are : seen_in (length board.nets) tables.steady tables.cells ≡ map (is_observed board passes) board.nets
+  seen_are =
+      ext_get_or false seen (map (is_observed board passes) board.nets)
+      (length-seen_in (length board.nets) tables.steady tables.cells ∙ sym (length-map board.nets (is_observed board passes)))
+      (λ n less. each n (some_at board.nets n (omega (arith, less, length-seen_in (length board.nets) tables.steady tables.cells))))
+    where
+      each : (n : ℕ) → ((net : Net) × (slice_get board.nets n ≡ Some net)) → get_or seen n false ≡ get_or (map (is_observed board passes) board.nets) n false
+      each n (net, e) =
+          both_ways (get_or seen n false) (is_observed board passes net) (seen_observed n net e) (observed_seen n net e)
+          ∙ sym (get_or_from_slice_get (map (is_observed board passes) board.nets) n (is_observed board passes net) false
+          (slice_get-map (is_observed board passes) board.nets n ∙ ap (λ (o : Option Net). option_map (is_observed board passes) o) e))
