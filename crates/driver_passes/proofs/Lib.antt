@@ -5,5 +5,9 @@ pub mod FitLemmas
 pub mod ProgressLemmas
 pub mod NumberLemmas
 pub mod ShownLemmas
+pub mod AlikeLemmas
+pub mod MarkLemmas
 pub mod PairLemmas
+pub mod EnabledLemmas
+pub mod DoneLemmas
 pub mod UsefulLemmas

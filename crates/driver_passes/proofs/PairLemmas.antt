@@ -16,7 +16,7 @@ use Rattle.board_defs.specs.Passes.{add_for_nets, are_shown, drivers_by_net, fir
 use Rattle.net_classes.specs.Pairs.{fit}
 use Rattle.driver_passes.specs.Pairs.{pairs_from}
 use Rattle.driver_passes.specs.Progress.{drivers_at}
-use Rattle.driver_passes.proofs.ProgressLemmas.{length_end}
+use Rattle.driver_passes.proofs.ProgressLemmas.{length_end, some_length}
 
 -- the first pair with the first driver, where there is one
 abbrev is_fitting : RawBoard → Drive × Drive → Bool
@@ -48,52 +48,27 @@ pair_missed board drivers others i d less at missed =
     ap (λ v. first_pair board v others) (drop-cons drivers i d less ∙ ap (λ v. v ∷ drop (suc i) drivers) (sym at)) ∙ pair_step board d (drop (suc i) drivers) others ∙
     ap (λ v. option_or (option_map (with_first d) v) (first_pair board (drop (suc i) drivers) others)) missed ∙ ap (λ k. first_pair board (drop k drivers) others) next
 
--- a net without tested drivers gives no pass
-none_any : (passes : List (List Ctl)) → list_any (λ pass. false) passes ≡ false
-none_any [] = refl
-none_any (pass ∷ passes) = none_any passes
-
-none_for : (board : RawBoard) (useful : List Ctl) (passes : List (List Ctl)) (others : List Drive) → add_for_nets board useful passes ([], others) ≡ passes
-none_for board useful passes others = ap (λ t. cond t passes passes) (none_any passes)
-
-abbrev with_list : List Drive → List Drive → List Drive × List Drive
-with_list drivers others = (drivers, others)
-
-none_for_all : (board : RawBoard) (useful : List Ctl) (passes : List (List Ctl)) (lists : List (List Drive)) → fold (add_for_nets board useful) passes (map (with_list []) lists) ≡ passes
-none_for_all board useful passes [] = refl
-none_for_all board useful passes (others ∷ lists) = ap (λ v. fold (add_for_nets board useful) v (map (with_list []) lists)) (none_for board useful passes others) ∙ none_for_all board useful passes lists
-
-pub nothing_added : (board : RawBoard) (useful : List Ctl) (passes : List (List Ctl)) (a : ℕ) → drivers_at board a ≡ [] → passes ≡ fold (add_for_nets board useful) passes (pairs_from board a)
-nothing_added board useful passes a e = sym (ap (λ v. fold (add_for_nets board useful) passes (map (with_list v) (drop (suc a) (drivers_by_net board)))) e ∙ none_for_all board useful passes (drop (suc a) (drivers_by_net board)))
-
--- what is still to be done for the nets from b on
-abbrev pub to_do : RawBoard → ℕ → ℕ → List (List Drive × List Drive)
-to_do board a b = map (with_list (drivers_at board a)) (drop b (drivers_by_net board))
-
 lists_within : (board : RawBoard) (n : ℕ) → n < length board.nets → n < length (drivers_by_net board)
 lists_within board n less = omega (arith, length-map board.nets (tested_drivers board))
 
-pub one_done : (board : RawBoard) (useful : List Ctl) (passes after : List (List Ctl)) (a b : ℕ) → b < length board.nets → after ≡ add_for_nets board useful passes (drivers_at board a, drivers_at board b) → fold (add_for_nets board useful) after (to_do board a (b + 1)) ≡ fold (add_for_nets board useful) passes (to_do board a b)
+pub one_done : (board : RawBoard) (useful : List Ctl) (passes after : List (List Ctl)) (a b : ℕ) → b < length board.nets → after ≡ add_for_nets board useful passes (drivers_at board a, drivers_at board b) → fold (add_for_nets board useful) after (pairs_from board a (b + 1)) ≡ fold (add_for_nets board useful) passes (pairs_from board a b)
 one_done board useful passes after a b less e =
     let next : suc b ≡ b + 1 = omega arith in
-    ap (λ v. fold (add_for_nets board useful) v (to_do board a (b + 1))) e ∙
-    sym (ap (λ v. fold (add_for_nets board useful) passes (map (with_list (drivers_at board a)) v)) (drop-cons (drivers_by_net board) b [] (lists_within board b less)) ∙
-    ap (λ k. fold (add_for_nets board useful) (add_for_nets board useful passes (drivers_at board a, drivers_at board b)) (to_do board a k)) next)
-
-pub from_first : (board : RawBoard) (a : ℕ) → to_do board a (a + 1) ≡ pairs_from board a
-from_first board a = let next : a + 1 ≡ suc a = omega arith in ap (to_do board a) next
+    ap (λ v. fold (add_for_nets board useful) v (pairs_from board a (b + 1))) e ∙
+    sym (ap (λ v. fold (add_for_nets board useful) passes (map (λ others. (drivers_at board a, others)) v)) (drop-cons (drivers_by_net board) b [] (lists_within board b less)) ∙
+    ap (λ k. fold (add_for_nets board useful) (add_for_nets board useful passes (drivers_at board a, drivers_at board b)) (pairs_from board a k)) next)
 
 -- the pairs from net a on
 abbrev pub later_pairs : RawBoard → ℕ → List (List Drive × List Drive)
 later_pairs board a = pairs_within (drop a (drivers_by_net board))
 
-pub net_done : (board : RawBoard) (useful : List Ctl) (passes after : List (List Ctl)) (a : ℕ) → a < length board.nets → after ≡ fold (add_for_nets board useful) passes (pairs_from board a) → fold (add_for_nets board useful) after (later_pairs board (a + 1)) ≡ fold (add_for_nets board useful) passes (later_pairs board a)
+pub net_done : (board : RawBoard) (useful : List Ctl) (passes after : List (List Ctl)) (a : ℕ) → a < length board.nets → after ≡ fold (add_for_nets board useful) passes (pairs_from board a (a + 1)) → fold (add_for_nets board useful) after (later_pairs board (a + 1)) ≡ fold (add_for_nets board useful) passes (later_pairs board a)
 net_done board useful passes after a less e =
     let next : suc a ≡ a + 1 = omega arith in
     ap (λ v. fold (add_for_nets board useful) v (later_pairs board (a + 1))) e ∙
     sym (ap (λ v. fold (add_for_nets board useful) passes (pairs_within v)) (drop-cons (drivers_by_net board) a [] (lists_within board a less)) ∙
-    fold-append (add_for_nets board useful) passes (pairs_from board a) (later_pairs board (suc a)) ∙
-    ap (λ k. fold (add_for_nets board useful) (fold (add_for_nets board useful) passes (pairs_from board a)) (later_pairs board k)) next)
+    fold-append (add_for_nets board useful) passes (pairs_from board a (suc a)) (later_pairs board (suc a)) ∙
+    ap (λ k. fold (add_for_nets board useful) (fold (add_for_nets board useful) passes (pairs_from board a k)) (later_pairs board k)) next)
 
 -- two nets give at most one pass
 pub one_more : (board : RawBoard) (useful : List Ctl) (passes : List (List Ctl)) (nets : List Drive × List Drive) → length (add_for_nets board useful passes nets) ≤ length passes + 1
@@ -107,6 +82,3 @@ one_more board useful passes nets = by_test (are_shown passes nets.0 nets.1) (fi
 pub no_drivers : (drivers : List Drive) → true ≡ (length drivers == 0) → drivers ≡ []
 no_drivers [] e = refl
 no_drivers (d ∷ drivers) e = absurd (both_ways (length (d ∷ drivers) == 0) (some_length (length drivers)) (sym e))
-  where
-    some_length : (n : ℕ) → (suc n == 0) ≡ false
-    some_length n = grind arith

@@ -1,8 +1,8 @@
 -- The passes so far, and the tested drivers of the nets.
 use Rattle.std.proofs.Common.{◌≡◌, ℕ, zero, suc, ◌+◌, ◌<◌, ◌≤◌, Bool, true, false, not, ◌&&◌, ◌||◌, List, [], ◌∷◌, ◌++◌, length, map, get_or, take, fold, Option, Some, None, refl, sym, ◌∙◌, ap, subst, arith, cond}
-use Rattle.std.specs.Prelude.{slice_get, All, Contains, filter_map, sum_by}
+use Rattle.std.specs.Prelude.{◌==◌, slice_get, All, Contains, filter_map, sum_by}
 use Rattle.std.specs.List.{list_any, flat_map, range_with_len, cons_option}
-use Rattle.std.proofs.lemmas.Bool.{and_parts}
+use Rattle.std.proofs.lemmas.Bool.{and_parts, ne_eqb}
 use Rattle.std.proofs.lemmas.Option.{slice_get_within, get_or_from_slice_get}
 use Rattle.std.proofs.lemmas.List.{length-append, length-map, take_all}
 use Rattle.std.proofs.lemmas.List.{get_or-map as item-map}
@@ -37,6 +37,15 @@ held_more board passes after flags joined held are is size len join e = record {
       join i ∙ ap (λ v. v || get_or flags i false) (sym (chosen_holds (useful_controls board) held i c are.said.useful_in_order size h)) ∙ ap (λ v. holds (chosen (useful_controls board) held) c || v) (is.flags_are i c h) ∙
       or_last (holds (chosen (useful_controls board) held) c) (is_held passes c) ∙ sym (ap (λ v. is_held v c) e ∙ list_any-append (λ pass. holds pass c) passes (chosen (useful_controls board) held ∷ []));
 }
+
+-- a list with an item isn't empty
+pub some_length : (n : ℕ) → (suc n == 0) ≡ false
+some_length n = ne_eqb (suc n) 0 (λ e. omega (arith, e))
+
+-- an always-on driver is enabled by each pass
+pub any_pass : (passes : List (List Ctl)) → list_any (λ pass. true) passes ≡ not (length passes == 0)
+any_pass [] = refl
+any_pass (pass ∷ passes) = sym (ap not (some_length (length passes)))
 
 -- the net of a number
 pub net_there : {X : Type 0} (xs : List X) (i : ℕ) → i < length xs → (x : X) × (slice_get xs i ≡ Some x)

@@ -23,7 +23,7 @@ shown_is board passes a b row other t e f h =
     let Q : List ℕ → Type 0 = λ v. Decides t (Meet (showing board passes a) v) in
     one_answer t (are_shown passes (drivers_at board a) (drivers_at board b)) (subst Q f (subst P e h)) (numbers_meet (shows (drivers_at board a)) (shows (drivers_at board b)) 0 passes)
 
-row_more : (board : RawBoard) (passes : List (List Ctl)) (number n : ℕ) (pass : List Ctl) (row after : List ℕ) (t : Bool) → number < length passes → pass ≡ get_or passes number pass → row ≡ showing board (take number passes) n → t ≡ shows (drivers_at board n) pass → after ≡ row ++ cond t (number ∷ []) [] → after ≡ showing board (take (number + 1) passes) n
+pub row_more : (board : RawBoard) (passes : List (List Ctl)) (number n : ℕ) (pass : List Ctl) (row after : List ℕ) (t : Bool) → number < length passes → pass ≡ get_or passes number pass → row ≡ showing board (take number passes) n → t ≡ shows (drivers_at board n) pass → after ≡ row ++ cond t (number ∷ []) [] → after ≡ showing board (take (number + 1) passes) n
 row_more board passes number n pass row after t less e f g h =
     let p : List Ctl → Bool = shows (drivers_at board n) in
     let size : 0 + length (take number passes) ≡ number = omega (arith, length-take-le number passes (omega arith)) in

@@ -1,4 +1,5 @@
 pub mod Drafts
 pub mod Useful
 pub mod Progress
+pub mod Alike
 pub mod Pairs

@@ -1,12 +1,12 @@
 -- The passes so far.
-use Rattle.std.specs.Prelude.{◌≡◌, ℕ, Bool, true, false, List, [], length, Some, slice_get, slice_index_or}
+use Rattle.std.specs.Prelude.{◌≡◌, ◌<◌, ℕ, Bool, true, false, List, [], length, Some, slice_get, slice_index_or, Contains}
 use Rattle.std.specs.List.{list_any}
 use Rattle.board_defs.specs.declared.board.Ctl.{Ctl}
 use Rattle.board_defs.specs.declared.board.RawBoard.{RawBoard}
 use Rattle.board_defs.specs.declared.board.Drive.{Drive}
 use Rattle.board_defs.specs.declared.board.Drive.TheVariants.{By}
 use Rattle.board_defs.specs.Settings.{holds}
-use Rattle.board_defs.specs.Passes.{drivers_by_net, useful_controls}
+use Rattle.board_defs.specs.Passes.{drivers_by_net, is_enabled, useful_controls}
 use Rattle.driver_passes.specs.declared.drivers.Progress.{Progress}
 use Rattle.driver_passes.specs.Useful.{HoldUseful}
 
@@ -31,3 +31,7 @@ IsUsefulDriver board d = (c : Ctl) → d ≡ By c → holds (useful_controls boa
 -- the tested drivers of the net of this number
 abbrev pub drivers_at : RawBoard → ℕ → List Drive
 drivers_at board n = slice_index_or (drivers_by_net board) n []
+
+-- each tested driver is enabled by some pass
+abbrev pub EnableTested : RawBoard → List (List Ctl) → Type 0
+EnableTested board passes = (n : ℕ) (d : Drive) → n < length board.nets → Contains (drivers_at board n) d → list_any (λ pass. is_enabled pass d) passes ≡ true

@@ -1,13 +1,14 @@
 // A pass as it is made.
-ghost use Rattle.std.specs.Prelude.{◌≡◌, ◌<◌, ◌||◌, ◌++◌, ◌∷◌, ℕ, [], cond, false, true, length, replicate, slice_get, slice_index_or, All, IfOk, MatchOption, OnOk, Some};
+ghost use Rattle.std.specs.Prelude.{◌≡◌, ◌<◌, ◌||◌, ◌++◌, ◌∷◌, ℕ, [], cond, false, true, length, replicate, slice_get, slice_index_or, All, IfOk, OnOk, Some};
 ghost use Rattle.std.specs.List.{list_any};
 ghost use Rattle.board_defs.specs.Pins.{IsCell};
-ghost use Rattle.board_defs.specs.Settings.{holds, inserted, same_ctl};
+ghost use Rattle.board_defs.specs.Settings.{holds, inserted};
 ghost use Rattle.board_defs.specs.Passes.{useful_controls, with_driver};
 ghost use Rattle.net_classes.specs.Kept.{AreClasses};
 ghost use Rattle.driver_passes.specs.Drafts.{IsDraft, chosen, has_number, setting_of};
 ghost use Rattle.driver_passes.specs.Progress.{IsUsefulDriver};
 
+use crate::places::place_of;
 use board_defs::{Board, Ctl, Drive, Setting, law};
 use net_classes::Classes;
 use std::alloc::{AllocError, Global};
@@ -19,12 +20,6 @@ pub struct Draft {
     pub held: Vec<bool>,
     /// For each net, whether the pass holds a control that shares it with another one.
     pub taken: Vec<bool>,
-}
-
-fn is_same(a: Ctl, b: Ctl) -> bool
-    ensures { result ≡ same_ctl a b }
-{
-    a.part == b.part && a.cell == b.cell
 }
 
 /// That many flags, none of which is set.
@@ -65,18 +60,6 @@ pub fn some_taken(taken: &[bool], nets: &[u32]) -> bool
         }
     }
     false
-}
-
-/// Where the control stands in the list.
-fn place_of(controls: &[Ctl], c: Ctl) -> Option<usize>
-    ensures { MatchOption result (holds controls.now c ≡ false) (λ i. slice_get controls.now i ≡ Some c) }
-{
-    for (place, d) in controls.iter().enumerate() {
-        if is_same(c, *d) {
-            return Some(place);
-        }
-    }
-    None
 }
 
 impl Draft {
@@ -130,7 +113,7 @@ impl Draft {
         ensures draft { IsDraft board.now self.new }
         ensures added { setting_of board.now self.new ≡ inserted c (setting_of board.now self.old) }
     {
-        if let Some(place) = place_of(useful, c) {
+        if let Some(place) = place_of(board, useful, c) {
             self.add(board, classes, place, c);
         }
     }

@@ -1,15 +1,17 @@
 // The passes until each tested driver is enabled.
-ghost use Rattle.std.specs.Prelude.{◌≡◌, ◌<◌, ◌≤◌, ◌||◌, ◌++◌, ◌∷◌, ℕ, [], false, fold, length, slice_index_or, All, IfOk, OnOk};
+ghost use Rattle.std.specs.Prelude.{◌≡◌, ◌<◌, ◌≤◌, ◌||◌, ◌++◌, ◌∷◌, ℕ, [], false, true, fold, length, slice_index_or, All, IfOk, OnOk};
 ghost use Rattle.std.specs.List.{flat_map, list_any};
 ghost use Rattle.board_defs.specs.Pins.{IsCell};
+ghost use Rattle.board_defs.specs.Settings.{holds};
 ghost use Rattle.board_defs.specs.Passes.{add_for_driver, driver_pass, driver_passes, drivers_by_net, is_enabled, useful_controls};
 ghost use Rattle.net_classes.specs.Kept.{AreClasses};
 ghost use Rattle.net_classes.specs.Pairs.{AreByCells};
 ghost use Rattle.driver_passes.specs.Drafts.{IsDraft, setting_of};
-ghost use Rattle.driver_passes.specs.Progress.{IsProgress, IsUsefulDriver, drivers_at};
+ghost use Rattle.driver_passes.specs.Progress.{EnableTested, IsProgress, IsUsefulDriver, drivers_at, is_held};
 ghost use Rattle.driver_passes.specs.Useful.{HoldUseful};
 
-use crate::draft::{Draft, blank};
+use crate::draft::{Draft, blank, is_set};
+use crate::places::place_of;
 use crate::walk::{first_walk, second_walk};
 use board_defs::{Board, Ctl, Drive, Setting, law};
 use net_classes::Classes;
@@ -32,17 +34,6 @@ pub fn is_enabled(setting: &Setting, d: Drive) -> bool
         Drive::OneSided => false,
         Drive::By(c) => setting.has(c),
     }
-}
-
-fn is_enabled_by_some(passes: &[Setting], d: Drive) -> bool
-    ensures { result ≡ list_any (λ pass. is_enabled pass d) passes.now }
-{
-    for pass in passes {
-        if is_enabled(pass, d) {
-            return true;
-        }
-    }
-    false
 }
 
 /// Sets each flag that is set in the other list.
@@ -94,6 +85,33 @@ impl Progress {
         })
     }
 
+    /// Whether some pass so far holds the useful control.
+    fn holds(&self, board: &Board, useful: &[Ctl], c: Ctl) -> bool
+        requires useful { useful.now ≡ useful_controls board.now }
+        requires progress { IsProgress board.now self.now }
+        requires among { holds useful.now c ≡ true }
+        ensures { result ≡ is_held self.now.passes.items c }
+    {
+        match place_of(board, useful, c) {
+            Some(place) => is_set(&self.held, place),
+            None => false,
+        }
+    }
+
+    /// Whether some pass so far enables the tested driver.
+    fn enables(&self, board: &Board, useful: &[Ctl], d: Drive) -> bool
+        requires useful { useful.now ≡ useful_controls board.now }
+        requires driver { IsUsefulDriver board.now d }
+        requires progress { IsProgress board.now self.now }
+        ensures { result ≡ list_any (λ pass. is_enabled pass d) self.now.passes.items }
+    {
+        match d {
+            Drive::AlwaysOn => !self.passes.as_slice().is_empty(),
+            Drive::OneSided => false,
+            Drive::By(c) => self.holds(board, useful, c),
+        }
+    }
+
     /// One more pass.
     fn push(
         &mut self,
@@ -132,7 +150,7 @@ impl Progress {
         ensures progress { OnOk result (IsProgress board.now self.new) }
         ensures added { OnOk result (self.new.passes.items ≡ add_for_driver board.now useful.now self.old.passes.items d) }
     {
-        if is_enabled_by_some(&self.passes, d) {
+        if self.enables(board, useful, d) {
             return Ok(());
         }
         let draft = driver_pass(alloc, board, classes, useful, self, d)?;
@@ -189,6 +207,7 @@ pub fn driver_passes(
     requires useful { useful.now ≡ useful_controls board.now }
     requires cells { All (IsCell board.now) useful.now }
     ensures passes { IfOk result (λ passes. passes.items ≡ driver_passes board.now useful.now (flat_map (λ drivers. drivers) (drivers_by_net board.now))) }
+    ensures tested { IfOk result (λ passes. EnableTested board.now passes.items) }
     ensures useful { IfOk result (λ passes. HoldUseful board.now passes.items) }
     ensures few { IfOk result (λ passes. length passes.items ≤ 65535) }
 {

@@ -2,10 +2,13 @@
 //! paired nets together.
 #![tactic(auto)]
 
+mod alike;
 mod draft;
 mod drivers;
 mod making;
+mod marks;
 mod pairs;
+mod places;
 mod shown;
 mod walk;
 

@@ -1,27 +1,32 @@
 // More passes, until each two paired nets are observed by one pass.
-ghost use Rattle.std.specs.Prelude.{◌≡◌, ◌<◌, ◌≤◌, ◌+◌, ◌*◌, ◌^◌, ◌∷◌, ◌++◌, [], drop, find, fold, length, map, All, IfOk, IfSome, OnOk, Some};
+ghost use Rattle.std.specs.Prelude.{◌≡◌, ◌<◌, ◌≤◌, ◌+◌, ◌*◌, ◌^◌, ◌∷◌, ◌++◌, ℕ, [], true, drop, find, fold, length, map, All, IfOk, IfSome, OnOk, Some};
 ghost use Rattle.board_defs.specs.Pins.{IsCell};
 ghost use Rattle.board_defs.specs.Passes.{add_for_nets, drivers_by_net, first_pair, pair_pass, pair_passes, useful_controls};
 ghost use Rattle.net_classes.specs.Kept.{AreClasses};
 ghost use Rattle.net_classes.specs.Pairs.{AreByCells, IsByCell, fit};
 ghost use Rattle.driver_passes.specs.Drafts.{IsDraft, setting_of};
-ghost use Rattle.driver_passes.specs.Pairs.{ArePairing, IsUsefulPair, pairs_from};
-ghost use Rattle.driver_passes.specs.Progress.{IsUsefulDriver, drivers_at};
+ghost use Rattle.driver_passes.specs.Pairs.{AreDone, ArePairing, IsDone, IsDoneTo, StaysDone, IsUsefulPair, pairs_from};
+ghost use Rattle.driver_passes.specs.Progress.{EnableTested, IsUsefulDriver, drivers_at};
 ghost use Rattle.driver_passes.specs.Useful.{HoldUseful};
 
+use crate::alike::likes_of;
 use crate::draft::Draft;
 use crate::drivers::drivers_of;
-use crate::shown::{PassNumbers, are_shown, note_pass, rows_of};
+use crate::marks::{blank_marks, next_apart};
+use crate::shown::{PassNumbers, are_shown, blank_rows, note_pass};
 use crate::walk::second_walk;
 use board_defs::{Board, Ctl, Drive, Setting, law};
 use net_classes::Classes;
 use std::alloc::{AllocError, Global};
 
-/// The passes so far, and for each net the numbers of those that show it.
+/// The passes so far, and for each net the numbers of those that show it, its mark, and an earlier
+/// net with the same tested drivers or the net itself.
 #[derive(Debug, Drop)]
 pub struct Pairing {
     pub passes: Vec<Setting>,
     pub rows: Vec<PassNumbers>,
+    pub marks: Vec<u64>,
+    pub likes: Vec<u32>,
 }
 
 /// The first of the drivers that one safe setting enables together with `d`.
@@ -87,6 +92,36 @@ fn pair_pass(
 }
 
 impl Pairing {
+    fn new(
+        alloc: Global,
+        board: &Board,
+        classes: &Classes,
+        useful: &[Ctl],
+        passes: Vec<Setting>,
+    ) -> Result<Pairing, AllocError>
+        requires classes { AreClasses board.now classes.now }
+        requires useful_are { useful.now ≡ useful_controls board.now }
+        requires tested { EnableTested board.now passes.items }
+        requires useful { HoldUseful board.now passes.items }
+        requires few { length passes.items ≤ 65535 }
+        ensures pairing { IfOk result (λ pairing. ArePairing board.now pairing) }
+        ensures passes { IfOk result (λ pairing. pairing.passes.items ≡ passes.items) }
+    {
+        let nets = board.raw().nets.as_slice().len();
+        let mut rows = blank_rows(alloc, nets)?;
+        let mut marks = blank_marks(alloc, nets)?;
+        for number in 0..passes.len() {
+            note_pass(&mut rows, &mut marks, board, classes, &passes, number)?;
+        }
+        let likes = likes_of(alloc, board, classes, useful)?;
+        Ok(Pairing {
+            passes,
+            rows,
+            marks,
+            likes,
+        })
+    }
+
     fn push(
         &mut self,
         alloc: Global,
@@ -107,7 +142,14 @@ impl Pairing {
         let _rules = board.raw();
         let number = self.passes.len();
         self.passes.push(draft.setting(alloc, board, useful)?)?;
-        note_pass(&mut self.rows, board, classes, &self.passes, number)?;
+        note_pass(
+            &mut self.rows,
+            &mut self.marks,
+            board,
+            classes,
+            &self.passes,
+            number,
+        )?;
         Ok(())
     }
 
@@ -143,6 +185,72 @@ impl Pairing {
         Ok(())
     }
 
+    /// Whether no pass is to be added for this net and any later one, because this net has no
+    /// tested driver, because each pass shows it, or because an earlier net has the same ones.
+    fn is_done(&self, board: &Board, classes: &Classes, a: usize) -> bool
+        requires classes { AreClasses board.now classes.now }
+        requires first { a < length board.now.nets }
+        requires pairing { ArePairing board.now self.now }
+        requires done { AreDone board.now self.now.passes.items a }
+        ensures { result ≡ true → IsDoneTo board.now self.now.passes.items a (length board.now.nets) }
+    {
+        if (self.likes[a] as usize) < a {
+            return true;
+        }
+        if drivers_of(board, classes, a).is_empty() {
+            return true;
+        }
+        self.rows[a].as_slice().len() == self.passes.len()
+    }
+
+    /// The first net, from this one on, that the marks don't say to be shown together with net
+    /// `a`; the number of nets, where there is none.
+    fn next_unshown(&self, board: &Board, a: usize, from: usize) -> usize
+        requires first { a < length board.now.nets }
+        requires second { from ≤ length board.now.nets }
+        requires pairing { ArePairing board.now self.now }
+        ensures least { from ≤ result }
+        ensures most { result ≤ length board.now.nets }
+        ensures done { (n : ℕ) → from ≤ n → n < result → IsDone board.now self.now.passes.items a n }
+    {
+        next_apart(&self.marks, self.marks[a], from)
+    }
+
+    /// The same for net `a` and the next one that it may not be shown with, from this one on;
+    /// gives the net to go on with.
+    fn add_for_next(
+        &mut self,
+        alloc: Global,
+        board: &Board,
+        classes: &Classes,
+        useful: &[Ctl],
+        a: usize,
+        from: usize,
+    ) -> Result<usize, AllocError>
+        requires classes { AreClasses board.now classes.now }
+        requires useful { useful.now ≡ useful_controls board.now }
+        requires cells { All (IsCell board.now) useful.now }
+        requires first { a < length board.now.nets }
+        requires second { from < length board.now.nets }
+        requires pairing { ArePairing board.now self.old }
+        requires few { length self.old.passes.items < 2 ^ 32 }
+        ensures pairing { OnOk result (ArePairing board.now self.new) }
+        ensures further { IfOk result (λ b. from < b) }
+        ensures within { IfOk result (λ b. b ≤ length board.now.nets) }
+        ensures added { IfOk result (λ b. fold (add_for_nets board.now useful.now) self.new.passes.items (pairs_from board.now a b) ≡ fold (add_for_nets board.now useful.now) self.old.passes.items (pairs_from board.now a from)) }
+        ensures kept { OnOk result (StaysDone board.now self.old.passes.items self.new.passes.items) }
+        ensures done { IfOk result (λ b. (n : ℕ) → from ≤ n → n < b → IsDone board.now self.new.passes.items a n) }
+        ensures few { IfOk result (λ b. length self.new.passes.items + from ≤ length self.old.passes.items + b) }
+    {
+        let b = self.next_unshown(board, a, from);
+        if b < self.marks.len() {
+            self.add_for_nets(alloc, board, classes, useful, a, b)?;
+            Ok(b + 1)
+        } else {
+            Ok(b)
+        }
+    }
+
     /// The same for this net and each later one.
     fn add_for_later(
         &mut self,
@@ -157,16 +265,20 @@ impl Pairing {
         requires cells { All (IsCell board.now) useful.now }
         requires first { a < length board.now.nets }
         requires pairing { ArePairing board.now self.old }
+        requires done { AreDone board.now self.old.passes.items a }
         requires few { length self.old.passes.items ≤ 65535 + 16382 * a }
         ensures pairing { OnOk result (ArePairing board.now self.new) }
-        ensures added { OnOk result (self.new.passes.items ≡ fold (add_for_nets board.now useful.now) self.old.passes.items (pairs_from board.now a)) }
+        ensures done { OnOk result (AreDone board.now self.new.passes.items (a + 1)) }
+        ensures added { OnOk result (self.new.passes.items ≡ fold (add_for_nets board.now useful.now) self.old.passes.items (pairs_from board.now a (a + 1))) }
         ensures few { OnOk result (length self.new.passes.items ≤ 65535 + 16382 * (a + 1)) }
     {
-        if drivers_of(board, classes, a).is_empty() {
+        let _rules = board.raw();
+        if self.is_done(board, classes, a) {
             return Ok(());
         }
-        for b in a + 1..board.raw().nets.as_slice().len() {
-            self.add_for_nets(alloc, board, classes, useful, a, b)?;
+        let mut b = a + 1;
+        while b < self.marks.len() {
+            b = self.add_for_next(alloc, board, classes, useful, a, b)?;
         }
         Ok(())
     }
@@ -206,14 +318,14 @@ pub fn pair_passes(
     requires classes { AreClasses board.now classes.now }
     requires useful { useful.now ≡ useful_controls board.now }
     requires cells { All (IsCell board.now) useful.now }
+    requires tested { EnableTested board.now passes.items }
     requires useful_so_far { HoldUseful board.now passes.items }
     requires few { length passes.items ≤ 65535 }
     ensures passes { IfOk result (λ all. all.items ≡ pair_passes board.now useful.now passes.items (drivers_by_net board.now)) }
     ensures useful { IfOk result (λ all. HoldUseful board.now all.items) }
     ensures few { IfOk result (λ all. length all.items < 2 ^ 32) }
 {
-    let rows = rows_of(alloc, board, classes, &passes)?;
-    let mut pairing = Pairing { passes, rows };
+    let mut pairing = Pairing::new(alloc, board, classes, useful, passes)?;
     pairing.add_for_all(alloc, board, classes, useful)?;
     Ok(pairing.passes)
 }

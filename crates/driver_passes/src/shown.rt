@@ -2,10 +2,11 @@
 ghost use Rattle.std.specs.Prelude.{◌≡◌, ◌<◌, ◌≤◌, ◌+◌, ◌++◌, ◌∷◌, ◌^◌, [], cond, length, replicate, take, IfOk, OnOk};
 ghost use Rattle.board_defs.specs.Passes.{are_shown, shows};
 ghost use Rattle.net_classes.specs.Kept.{AreClasses};
-ghost use Rattle.driver_passes.specs.Pairs.{AreShown};
+ghost use Rattle.driver_passes.specs.Pairs.{AreMarks, AreShown};
 ghost use Rattle.driver_passes.specs.Progress.{drivers_at};
 
 use crate::drivers::{drivers_of, is_enabled};
+use crate::marks::with_pass;
 use board_defs::{Board, Drive, Setting};
 use net_classes::{Classes, meet};
 use std::alloc::{AllocError, Global};
@@ -43,7 +44,7 @@ impl PassNumbers {
         Ok(())
     }
 
-    fn as_slice(&self) -> &[u32]
+    pub fn as_slice(&self) -> &[u32]
         ensures { result.now ≡ self.now }
     {
         &self.numbers
@@ -61,7 +62,7 @@ fn shows(drivers: &[Drive], pass: &Setting) -> bool
     false
 }
 
-fn blank_rows(alloc: Global, count: usize) -> Result<Vec<PassNumbers>, AllocError>
+pub fn blank_rows(alloc: Global, count: usize) -> Result<Vec<PassNumbers>, AllocError>
     ensures { IfOk result (λ rows. rows.items ≡ replicate count []) }
 {
     let mut rows = Vec::new(alloc);
@@ -71,9 +72,10 @@ fn blank_rows(alloc: Global, count: usize) -> Result<Vec<PassNumbers>, AllocErro
     Ok(rows)
 }
 
-/// Adds the pass of this number to the rows of the nets that it shows.
+/// Adds the pass of this number to the rows and the marks of the nets that it shows.
 pub fn note_pass(
     rows: &mut [PassNumbers],
+    marks: &mut [u64],
     board: &Board,
     classes: &Classes,
     passes: &[Setting],
@@ -83,32 +85,18 @@ pub fn note_pass(
     requires number { number < length passes.now }
     requires few { length passes.now ≤ 2 ^ 32 }
     requires rows { AreShown board.now (take number passes.now) rows.old }
-    ensures { OnOk result (AreShown board.now (take (number + 1) passes.now) rows.new) }
+    requires marks { AreMarks board.now (take number passes.now) marks.old }
+    ensures rows { OnOk result (AreShown board.now (take (number + 1) passes.now) rows.new) }
+    ensures marks { OnOk result (AreMarks board.now (take (number + 1) passes.now) marks.new) }
 {
     let pass = &passes[number];
     for net in 0..rows.len() {
         let drivers = drivers_of(board, classes, net);
-        rows[net].push_if(number as u32, shows(drivers, pass))?;
+        let shown = shows(drivers, pass);
+        rows[net].push_if(number as u32, shown)?;
+        marks[net] = with_pass(marks[net], number, shown);
     }
     Ok(())
-}
-
-/// For each net, the numbers of the passes that show it.
-pub fn rows_of(
-    alloc: Global,
-    board: &Board,
-    classes: &Classes,
-    passes: &[Setting],
-) -> Result<Vec<PassNumbers>, AllocError>
-    requires classes { AreClasses board.now classes.now }
-    requires few { length passes.now ≤ 2 ^ 32 }
-    ensures { IfOk result (λ rows. AreShown board.now passes.now rows.items) }
-{
-    let mut rows = blank_rows(alloc, board.raw().nets.as_slice().len())?;
-    for number in 0..passes.len() {
-        note_pass(&mut rows, board, classes, passes, number)?;
-    }
-    Ok(rows)
 }
 
 /// Whether one of the passes shows both nets.

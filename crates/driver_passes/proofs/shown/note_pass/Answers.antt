@@ -1,17 +1,27 @@
-use Rattle.std.proofs.Common.{◌∙◌, ◌<◌, [], ap, arith, length, get_or}
+use Rattle.std.proofs.Common.{◌∙◌, ◌+◌, ◌<◌, [], ap, arith, length, get_or, take}
 use Rattle.std.proofs.lemmas.List.{get_or_default}
 use Rattle.board_defs.specs.Passes.{shows}
 use Rattle.driver_passes.proofs.ShownLemmas.{noted_more}
+use Rattle.driver_passes.proofs.MarkLemmas.{marks_more, marks_set, pass_shown}
 use Rattle.driver_passes.proofs.shown.note_pass.Goals as goal
+
+pub loop-net-init : goal.loop-net-init
+loop-net-init c = record {
+  rows = record { size = c.requires.rows.rows_length; done = λ n below within. absurd (omega (arith, below)); rest = λ n least within. c.requires.rows.rows_are n within };
+  marks = marks_more c.args.board.now c.args.passes.now c.args.marks.now c.args.number c.index-passes-number.result c.requires.number c.requires.marks;
+}
 
 pub loop-net-preserved : goal.loop-net-preserved
 loop-net-preserved c =
     let board = c.args.board.now in
     let pass = c.index-passes-number.result in
-    let size = c.loop-net.invariant.size in
+    let size = c.loop-net.invariant.rows.size in
     let less : c.loop-net.net < length board.nets = omega (arith, size) in
     let rows = c.loop-net.rows in
     let row = c.index-rows-net.result in
     let within : c.loop-net.net < length rows = omega (arith, size) in
-    noted_more board c.args.passes.now c.args.number c.loop-net.net pass rows (get_or rows c.loop-net.net row) c.push_if.new.self c.shows.result c.loop-net.invariant less c.requires.number c.index-passes-number.is (get_or_default rows c.loop-net.net row [] within)
-    (c.shows.ensures ∙ ap (λ v. shows v pass) c.drivers_of-drivers.ensures.drivers) c.in_ok-push_if.ensures
+    let shown = c.shows-shown.ensures ∙ ap (λ v. shows v pass) c.drivers_of-drivers.ensures.drivers in
+    record {
+      rows = noted_more board c.args.passes.now c.args.number c.loop-net.net pass rows (get_or rows c.loop-net.net row) c.push_if.new.self c.shows-shown.result c.loop-net.invariant.rows less c.requires.number c.index-passes-number.is (get_or_default rows c.loop-net.net row [] within) shown c.in_ok-push_if.ensures;
+      marks = marks_set board (take (c.args.number + 1) c.args.passes.now) c.loop-net.marks c.args.number c.loop-net.net c.with_pass.result c.shows-shown.result c.loop-net.invariant.marks less (pass_shown board c.args.passes.now c.args.number c.loop-net.net pass c.shows-shown.result c.requires.number c.index-passes-number.is shown) c.with_pass.ensures;
+    }

@@ -12,6 +12,7 @@ loop-a-preserved c =
     let less : c.loop-a.a < length board.nets = omega (arith, nets) in
     record {
       pairing = c.in_ok-add_for_later.ensures.pairing;
+      done = c.in_ok-add_for_later.ensures.done;
       few = c.in_ok-add_for_later.ensures.few;
       rest = net_done board useful before after c.loop-a.a less c.in_ok-add_for_later.ensures.added ∙ c.loop-a.invariant.rest;
     }

@@ -1,12 +1,13 @@
 use Rattle.std.proofs.Common.{◌≡◌, ◌+◌, ◌*◌, ◌≤◌, length, fold}
 use Rattle.board_defs.specs.Passes.{add_for_nets, pair_passes, drivers_by_net}
-use Rattle.driver_passes.specs.Pairs.{ArePairing}
+use Rattle.driver_passes.specs.Pairs.{AreDone, ArePairing}
 use Rattle.driver_passes.proofs.PairLemmas.{later_pairs}
 use Rattle.driver_passes.proofs.pairs.Pairing.add_for_all.Given as goal
 
 abbrev pub invariant-loop-a : goal.invariant-loop-a
 invariant-loop-a l = record {
   pairing : ArePairing l.board l.self;
+  done : AreDone l.board l.self.passes.items l.a;
   few : length l.self.passes.items ≤ 65535 + 16382 * l.a;
   rest : fold (add_for_nets l.board l.useful) l.self.passes.items (later_pairs l.board l.a) ≡ pair_passes l.board l.useful l.initial.self.passes.items (drivers_by_net l.board);
 }

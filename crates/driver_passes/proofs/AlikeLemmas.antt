@@ -1,0 +1,39 @@
+-- The table of the nets with the same tested drivers.
+use Rattle.std.proofs.Common.{◌≡◌, ◌⊎◌, inl, inr, refl, ℕ, Bool, true, ◌+◌, ◌<◌, ◌≤◌, List, [], ◌∷◌, ◌++◌, length, get_or, ◌∙◌, ap, sym, subst, arith}
+use Rattle.std.specs.Bool.{Decides}
+use Rattle.std.specs.Cmp.Lexicographic.{pointwise}
+use Rattle.std.proofs.Math.Seq.{get_or-append_seam}
+use Rattle.std.proofs.lemmas.Bool.{cases_eq}
+use Rattle.std.proofs.lemmas.List.{get_or_append_left}
+use Rattle.std.proofs.lemmas.Slice.Eq.{slice_eq-Decides}
+use Rattle.board_defs.specs.declared.board.RawBoard.{RawBoard}
+use Rattle.board_defs.specs.declared.board.Drive.{Drive}
+use Rattle.board_defs.specs.declared.board.Drive.TheVariants.{AlwaysOn, OneSided, By}
+use Rattle.board_defs.specs.contracts.board.DrivePartialEq.TheImpl as drives
+use Rattle.board_defs.specs.Settings.{same_ctl}
+use Rattle.driver_passes.specs.Progress.{drivers_at}
+use Rattle.driver_passes.specs.Alike.{AreAlike}
+use Rattle.driver_passes.proofs.ControlLemmas.{same_equal, same_self}
+use Rattle.driver_passes.proofs.ProgressLemmas.{length_end}
+
+-- equal lists of drivers
+
+drives_decided : (d e : Drive) → Decides (drives.eq-value.it d e) (d ≡ e)
+drives_decided AlwaysOn AlwaysOn = (λ h. refl, λ e. refl)
+drives_decided AlwaysOn OneSided = (λ h. cc h, λ e. cc e)
+drives_decided AlwaysOn (By c) = (λ h. cc h, λ e. cc e)
+drives_decided OneSided AlwaysOn = (λ h. cc h, λ e. cc e)
+drives_decided OneSided OneSided = (λ h. refl, λ e. refl)
+drives_decided OneSided (By c) = (λ h. cc h, λ e. cc e)
+drives_decided (By c) AlwaysOn = (λ h. cc h, λ e. cc e)
+drives_decided (By c) OneSided = (λ h. cc h, λ e. cc e)
+drives_decided (By c) (By d) = (λ h. ap By (same_equal c d h), λ e. let same : c ≡ d = cc e in ap (same_ctl c) (sym same) ∙ same_self c)
+
+pub drives_same : (drivers others : List Drive) (t : Bool) → t ≡ pointwise drives.eq-value.it drivers others → t ≡ true → drivers ≡ others
+drives_same drivers others t e h = (slice_eq-Decides drives_decided drivers others t e).0 h
+
+-- so of the nets below this one
+pub record AreFound (board : RawBoard) (net : ℕ) (likes : List ℕ) : Type 0 where
+  pub size : length likes ≡ net
+  pub within : (n : ℕ) → n < net → get_or likes n 0 ≤ n
+  pub alike : (n : ℕ) → n < net → drivers_at board (get_or likes n 0) ≡ drivers_at board n

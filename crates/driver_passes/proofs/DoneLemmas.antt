@@ -1,0 +1,151 @@
+-- Pairs of nets for which nothing is to be done.
+use Rattle.std.proofs.Common.{◌≡◌, ◌≢◌, get_or, ℕ, zero, suc, ◌+◌, ◌-◌, ◌<◌, ◌≤◌, Bool, true, false, ◌&&◌, ◌||◌, Contains, List, [], ◌∷◌, length, map, drop, fold, Option, Some, None, subst, refl, sym, ◌∙◌, ap, arith, cond, ◌⊎◌, inl, inr}
+use Rattle.std.specs.Prelude.{slice_get}
+use Rattle.std.specs.List.{list_any}
+use Rattle.std.specs.Int.Bits.{bit_and}
+use Rattle.std.proofs.lemmas.Bool.{or_left, or_right, or_cases, cases_eq}
+use Rattle.std.proofs.lemmas.List.{drop_all, length-map}
+use Rattle.board_defs.specs.declared.board.Ctl.{Ctl}
+use Rattle.board_defs.specs.declared.board.RawBoard.{RawBoard}
+use Rattle.board_defs.specs.declared.board.Drive.{Drive}
+use Rattle.board_defs.specs.declared.board.Net.{Net}
+use Rattle.board_defs.specs.Passes.{add_for_nets, are_shown, drivers_by_net, first_pair, is_enabled, pair_pass, shows, tested_drivers, with_pair}
+use Rattle.board_defs.proofs.Members.{any_has, has_any}
+use Rattle.board_defs.proofs.PassesKept.{pair_shows}
+use Rattle.driver_passes.specs.Pairs.{AreDone, AreMarks, IsDone, IsDoneTo, StaysDone, numbers_of, pairs_from, showing}
+use Rattle.driver_passes.specs.Progress.{EnableTested, drivers_at}
+use Rattle.driver_passes.proofs.EnabledLemmas.{any_end, any_last}
+use Rattle.driver_passes.proofs.MarkLemmas.{marks_meet}
+use Rattle.driver_passes.proofs.ProgressLemmas.{drivers_are, net_there}
+use Rattle.driver_passes.proofs.PairLemmas.{one_done}
+
+-- no pass is added
+pub done_same : (board : RawBoard) (useful : List Ctl) (passes : List (List Ctl)) (a b : ℕ) → IsDone board passes a b → add_for_nets board useful passes (drivers_at board a, drivers_at board b) ≡ passes
+done_same board useful passes a b (inl e) = ap (λ t. cond t passes (with_pair board useful passes (first_pair board (drivers_at board a) (drivers_at board b)))) e
+done_same board useful passes a b (inr e) = ap (λ w. cond (are_shown passes (drivers_at board a) (drivers_at board b)) passes (with_pair board useful passes w)) e ∙ either (are_shown passes (drivers_at board a) (drivers_at board b))
+  where
+    either : (t : Bool) → cond t passes passes ≡ passes
+    either true = refl
+    either false = refl
+
+-- what is done stays done where passes are added for other nets
+pub done_kept : (board : RawBoard) (useful : List Ctl) (passes after : List (List Ctl)) (nets : List Drive × List Drive) → after ≡ add_for_nets board useful passes nets → StaysDone board passes after
+done_kept board useful passes after nets e m n (inr none) = inr none
+done_kept board useful passes after nets e m n (inl shown) = inl (ap (list_any p) e ∙ by_test (are_shown passes nets.0 nets.1) (first_pair board nets.0 nets.1))
+  where
+    p : List Ctl → Bool
+    p pass = shows (drivers_at board m) pass && shows (drivers_at board n) pass
+
+    by_test : (t : Bool) (found : Option (Drive × Drive)) → list_any p (cond t passes (with_pair board useful passes found)) ≡ true
+    by_test true found = shown
+    by_test false None = shown
+    by_test false (Some pair) = any_end p passes (pair_pass board useful pair) shown
+
+-- once passes are added for two nets, nothing is to be done for them
+pub done_now : (board : RawBoard) (useful : List Ctl) (passes after : List (List Ctl)) (a b : ℕ) → a < length board.nets → b < length board.nets → after ≡ add_for_nets board useful passes (drivers_at board a, drivers_at board b) → IsDone board after a b
+done_now board useful passes after a b first second e = let P : List (List Ctl) → Type 0 = λ v. IsDone board v a b in subst P (sym e) (by_test (are_shown passes (drivers_at board a) (drivers_at board b)) refl (first_pair board (drivers_at board a) (drivers_at board b)) refl)
+  where
+    p : List Ctl → Bool
+    p pass = shows (drivers_at board a) pass && shows (drivers_at board b) pass
+
+    made : (pair : Drive × Drive) → first_pair board (drivers_at board a) (drivers_at board b) ≡ Some pair → p (pair_pass board useful pair) ≡ true
+    made pair h =
+        let one : (net : Net) × (slice_get board.nets a ≡ Some net) = net_there board.nets a first in
+        let two : (net : Net) × (slice_get board.nets b ≡ Some net) = net_there board.nets b second in
+        let P : List Drive → Type 0 = λ v. first_pair board v (drivers_at board b) ≡ Some pair → (shows v (pair_pass board useful pair) && shows (drivers_at board b) (pair_pass board useful pair)) ≡ true in
+        let Q : List Drive → Type 0 = λ v. first_pair board (tested_drivers board one.0) v ≡ Some pair → (shows (tested_drivers board one.0) (pair_pass board useful pair) && shows v (pair_pass board useful pair)) ≡ true in
+        subst P (sym (drivers_are board a one.0 one.1)) (subst Q (sym (drivers_are board b two.0 two.1)) (pair_shows board useful one.0 two.0 pair)) h
+
+    by_test : (t : Bool) → are_shown passes (drivers_at board a) (drivers_at board b) ≡ t → (found : Option (Drive × Drive)) → first_pair board (drivers_at board a) (drivers_at board b) ≡ found → IsDone board (cond t passes (with_pair board useful passes found)) a b
+    by_test true shown found h = inl shown
+    by_test false shown None h = inr h
+    by_test false shown (Some pair) h = inl (any_last p passes (pair_pass board useful pair) (made pair h))
+
+-- a net with the drivers of another one
+pub done_alike : (board : RawBoard) (passes : List (List Ctl)) (a m b : ℕ) → drivers_at board m ≡ drivers_at board a → IsDone board passes m b → IsDone board passes a b
+done_alike board passes a m b e done = let P : List Drive → Type 0 = λ v. (are_shown passes v (drivers_at board b) ≡ true) ⊎ (first_pair board v (drivers_at board b) ≡ None) in subst P e done
+
+-- one net more
+pub done_next : (board : RawBoard) (passes : List (List Ctl)) (a : ℕ) → AreDone board passes a → IsDoneTo board passes a (length board.nets) → AreDone board passes (a + 1)
+done_next board passes a are done m less = by_net (cases_eq m a)
+  where
+    by_net : (m ≡ a) ⊎ (m ≡ a → ⊥) → IsDoneTo board passes m (length board.nets)
+    by_net (inl same) = let P : ℕ → Type 0 = λ k. IsDoneTo board passes k (length board.nets) in subst P (sym same) done
+    by_net (inr other) = are m (omega (arith, other, less))
+
+-- so of the nets from b on below c, and c itself
+pub with_last : (board : RawBoard) (before after : List (List Ctl)) (a b c : ℕ) → StaysDone board before after → ((n : ℕ) → b ≤ n → n < c → IsDone board before a n) → IsDone board after a c → (n : ℕ) → b ≤ n → n < c + 1 → IsDone board after a n
+with_last board before after a b c stays earlier last n least below = by_net (cases_eq n c)
+  where
+    by_net : (n ≡ c) ⊎ (n ≡ c → ⊥) → IsDone board after a n
+    by_net (inl same) = let P : ℕ → Type 0 = λ k. IsDone board after a k in subst P (sym same) last
+    by_net (inr other) = stays a n (earlier n least (omega (arith, other, below)))
+
+-- so of each net from b on below b + k
+skipped : (board : RawBoard) (useful : List Ctl) (passes : List (List Ctl)) (a b k : ℕ) → b + k ≤ length board.nets → ((n : ℕ) → b ≤ n → n < b + k → IsDone board passes a n) → fold (add_for_nets board useful) passes (pairs_from board a (b + k)) ≡ fold (add_for_nets board useful) passes (pairs_from board a b)
+skipped board useful passes a b zero most done = let same : b + 0 ≡ b = omega arith in ap (λ n. fold (add_for_nets board useful) passes (pairs_from board a n)) same
+skipped board useful passes a b (suc k) most done =
+    let next : b + suc k ≡ (b + 1) + k = omega arith in
+    ap (λ n. fold (add_for_nets board useful) passes (pairs_from board a n)) next ∙
+    skipped board useful passes a (b + 1) k (omega (arith, most)) (λ n least below. done n (omega (arith, least)) (omega (arith, below))) ∙
+    one_done board useful passes passes a b (omega (arith, most)) (sym (done_same board useful passes a b (done b (omega arith) (omega arith))))
+
+pub skipped_to : (board : RawBoard) (useful : List Ctl) (passes : List (List Ctl)) (a b c : ℕ) → b ≤ c → c ≤ length board.nets → ((n : ℕ) → b ≤ n → n < c → IsDone board passes a n) → fold (add_for_nets board useful) passes (pairs_from board a c) ≡ fold (add_for_nets board useful) passes (pairs_from board a b)
+skipped_to board useful passes a b c least most done =
+    let all : b + (c - b) ≡ c = omega (arith, least) in
+    sym (ap (λ n. fold (add_for_nets board useful) passes (pairs_from board a n)) all) ∙ skipped board useful passes a b (c - b) (omega (arith, all, most)) (λ n from below. done n from (omega (arith, below, all)))
+
+-- the nets whose marks have a bit in common with that of a
+pub done_marked : (board : RawBoard) (passes : List (List Ctl)) (marks lent : List ℕ) (a b c mark : ℕ) → AreMarks board passes marks → a < length board.nets → c ≤ length board.nets → lent ≡ marks → mark ≡ get_or marks a 0 → ((n : ℕ) → b ≤ n → n < c → bit_and mark (get_or lent n 0) ≢ 0) →
+    (n : ℕ) → b ≤ n → n < c → IsDone board passes a n
+done_marked board passes marks lent a b c mark are first most e f common n from below =
+    inl (marks_meet board passes marks a n are first (omega (arith, below, most)) (λ apart. common n from below (ap (λ v. bit_and mark (get_or v n 0)) e ∙ ap (λ m. bit_and m (get_or marks n 0)) f ∙ apart)))
+
+-- past the last net there is nothing to do
+pub none_left : (board : RawBoard) (useful : List Ctl) (passes : List (List Ctl)) (a b : ℕ) → length board.nets ≤ b → fold (add_for_nets board useful) passes (pairs_from board a b) ≡ passes
+none_left board useful passes a b most = ap (λ v. fold (add_for_nets board useful) passes (map (λ others. (drivers_at board a, others)) v)) (drop_all b (drivers_by_net board) (omega (arith, most, length-map board.nets (tested_drivers board))))
+
+-- so of each later net
+pub none_later : (board : RawBoard) (useful : List Ctl) (passes : List (List Ctl)) (a : ℕ) → a < length board.nets → IsDoneTo board passes a (length board.nets) → passes ≡ fold (add_for_nets board useful) passes (pairs_from board a (a + 1))
+none_later board useful passes a less done =
+    sym (none_left board useful passes a (length board.nets) (omega arith)) ∙ skipped_to board useful passes a (a + 1) (length board.nets) (omega (arith, less)) (omega arith) (λ n least below. done n (omega (arith, least)) below)
+
+-- a net without tested drivers
+pub none_tested : (board : RawBoard) (passes : List (List Ctl)) (a b : ℕ) → drivers_at board a ≡ [] → IsDone board passes a b
+none_tested board passes a b e = inr (ap (λ v. first_pair board v (drivers_at board b)) e)
+
+no_others : (board : RawBoard) (drivers : List Drive) → first_pair board drivers [] ≡ None
+no_others board [] = refl
+no_others board (d ∷ drivers) = no_others board drivers
+
+numbers_few : {X : Type 0} (p : X → Bool) (n : ℕ) (xs : List X) → length (numbers_of p n xs) ≤ length xs
+numbers_few p n [] = omega arith
+numbers_few p n (x ∷ xs) = by_test (p x) (numbers_few p (suc n) xs)
+  where
+    by_test : (t : Bool) → length (numbers_of p (suc n) xs) ≤ length xs → length (cond t (n ∷ numbers_of p (suc n) xs) (numbers_of p (suc n) xs)) ≤ length (x ∷ xs)
+    by_test true h = omega (arith, h)
+    by_test false h = omega (arith, h)
+
+-- where all items pass, one that passes another test passes both
+all_pass : {X : Type 0} (p q : X → Bool) (n : ℕ) (xs : List X) → length (numbers_of p n xs) ≡ length xs → list_any q xs ≡ true → list_any (λ x. p x && q x) xs ≡ true
+all_pass p q n [] all h = h
+all_pass p q n (x ∷ xs) all h = by_test (λ rest e. all_pass p q (suc n) xs rest e) (p x) all
+  where
+    by_part : (list_any q xs ≡ true → list_any (λ y. p y && q y) xs ≡ true) → (q x ≡ true) ⊎ (list_any q xs ≡ true) → (q x || list_any (λ y. p y && q y) xs) ≡ true
+    by_part rest (inl e) = or_left (q x) (list_any (λ y. p y && q y) xs) e
+    by_part rest (inr e) = or_right (q x) (list_any (λ y. p y && q y) xs) (rest e)
+
+    by_test : (length (numbers_of p (suc n) xs) ≡ length xs → list_any q xs ≡ true → list_any (λ y. p y && q y) xs ≡ true) → (t : Bool) → length (cond t (n ∷ numbers_of p (suc n) xs) (numbers_of p (suc n) xs)) ≡ length (x ∷ xs) → ((t && q x) || list_any (λ y. p y && q y) xs) ≡ true
+    by_test rest true e = by_part (rest (omega (arith, e))) (or_cases (q x) (list_any q xs) h)
+    by_test rest false e = absurd (omega (arith, e, numbers_few p (suc n) xs))
+
+-- a net that each pass shows
+pub all_show : (board : RawBoard) (passes : List (List Ctl)) (a b : ℕ) (row : List ℕ) → EnableTested board passes → row ≡ showing board passes a → length row ≡ length passes → b < length board.nets → IsDone board passes a b
+all_show board passes a b row are e all less = by_drivers (drivers_at board b) (λ d h. are b d less h)
+  where
+    by_drivers : (others : List Drive) → ((d : Drive) → Contains others d → list_any (λ pass. is_enabled pass d) passes ≡ true) → (are_shown passes (drivers_at board a) others ≡ true) ⊎ (first_pair board (drivers_at board a) others ≡ None)
+    by_drivers [] enabled = inr (no_others board (drivers_at board a))
+    by_drivers (d ∷ others) enabled =
+        let r = any_has (λ (pass : List Ctl). is_enabled pass d) passes (enabled d (0, omega arith, refl)) in
+        let some : list_any (shows (d ∷ others)) passes ≡ true = has_any (shows (d ∷ others)) passes r.0 r.1 (or_left (is_enabled r.0 d) (list_any (is_enabled r.0) others) r.2) in
+        inl (all_pass (shows (drivers_at board a)) (shows (d ∷ others)) 0 passes (sym (ap length e) ∙ all) some)

@@ -1,0 +1,49 @@
+// Where a control stands among the useful controls.
+ghost use Rattle.std.specs.Prelude.{◌≡◌, false, slice_get, MatchOption, Some};
+ghost use Rattle.std.specs.List.{prefix_len};
+ghost use Rattle.board_defs.specs.Passes.{useful_controls};
+ghost use Rattle.board_defs.specs.Settings.{holds, precedes, IsInControlOrder};
+
+use board_defs::{Board, Ctl, law};
+
+fn comes_before(a: Ctl, b: Ctl) -> bool
+    ensures { result ≡ precedes a b }
+{
+    a.part < b.part || (a.part == b.part && a.cell < b.cell)
+}
+
+/// How many controls come before this one.
+fn count_before(controls: &[Ctl], c: Ctl) -> usize
+    requires { IsInControlOrder controls.now }
+    ensures { result ≡ prefix_len (λ d. precedes d c) controls.now }
+{
+    controls.partition_point(|d| comes_before(*d, c))
+}
+
+fn control_at(controls: &[Ctl], place: usize) -> Option<Ctl>
+    ensures { result ≡ slice_get controls.now place }
+{
+    controls.get(place).copied()
+}
+
+/// Where the control stands in the list, which is in control order.
+fn place_in(controls: &[Ctl], c: Ctl) -> Option<usize>
+    requires { IsInControlOrder controls.now }
+    ensures { MatchOption result (holds controls.now c ≡ false) (λ i. slice_get controls.now i ≡ Some c) }
+{
+    let place = count_before(controls, c);
+    match control_at(controls, place) {
+        None => None,
+        Some(d) => { if c.is_same(d) { Some(place) } else { None } }
+    }
+}
+
+/// Where the control stands among the useful controls.
+pub fn place_of(board: &Board, useful: &[Ctl], c: Ctl) -> Option<usize>
+    requires { useful.now ≡ useful_controls board.now }
+    ensures { MatchOption result (holds useful.now c ≡ false) (λ i. slice_get useful.now i ≡ Some c) }
+{
+    law::passes_kept();
+    let _rules = board.raw();
+    place_in(useful, c)
+}
