@@ -50,10 +50,6 @@ no_reason board net = by (is_covered board net)
     by true = refl
     by false = refl
 
--- two nets are paired in either order
-pub paired_back : (board : RawBoard) (a b : ℕ) → ArePaired board a b → ArePaired board b a
-paired_back board a b (differ, (setting, safe, (first, second))) = (λ e. differ (sym e), (setting, safe, (second, first)))
-
 -- two covered nets that are paired are not listed
 paired_not : (board : RawBoard) (low high : Net) → are_paired board low high ≡ true → is_unpaired board low high ≡ false
 paired_not board low high e = ap (λ t. is_covered board high && not t) e ∙ by (is_covered board high)
@@ -72,10 +68,6 @@ free_not board n m low high terms at at' differ free = by (is_covered board high
     by : (t : Bool) → is_covered board high ≡ t → is_unpaired board low high ≡ false
     by true e = paired_not board low high ((terms.paired n m low high at at' differ).1 (free m differ ((terms.covered m high at').0 e)))
     by false e = ap (λ t. t && not (are_paired board low high)) e
-
-pub later_free_not : (board : RawBoard) (n m : ℕ) (low high : Net) → DecidesTerms board → slice_get board.nets n ≡ Some low → slice_get board.nets m ≡ Some high → n ≢ m → is_covered board low ≡ true → IsFree board m → is_unpaired board low high ≡ false
-later_free_not board n m low high terms at at' differ covered free =
-    paired_not board low high ((terms.paired n m low high at at' differ).1 (paired_back board m n (free n (λ e. differ (sym e)) ((terms.covered n low at).0 covered))))
 
 -- texts of which each is empty
 texts_empty : (f : ℕ → List ℕ) (n count : ℕ) → ((i : ℕ) → n ≤ i → f i ≡ []) → texts_from f n count ≡ []

@@ -1,10 +1,11 @@
 // The coverage list, net by net.
-ghost use Rattle.std.specs.Prelude.{◌≡◌, ◌<◌, ◌≤◌, ◌+◌, [], length, Some, true, false, slice_get};
+ghost use Rattle.std.specs.Prelude.{◌≡◌, ◌<◌, ◌≤◌, ◌+◌, [], length, not, Some, true, false, slice_get};
 ghost use Rattle.bt_base.specs.Puts.{Puts};
 ghost use Rattle.line_printer.specs.Prints.{Prints};
 ghost use Rattle.board_defs.specs.Pins.{IsOnBoard};
-ghost use Rattle.board_defs.specs.Decided.{is_covered};
+ghost use Rattle.board_defs.specs.Decided.{are_paired, is_covered};
 ghost use Rattle.net_classes.specs.Kept.{AreClasses, OfNet};
+ghost use Rattle.net_classes.specs.PairKeys.{ArePairKeys};
 ghost use Rattle.coverage_list.specs.CoverText.{cover_text, covered, count_line, is_untested};
 ghost use Rattle.coverage_list.specs.CoverForms.{is_unpaired, net_pairs, net_pins, pair_at, pairs_at, pins_at, place_text, reason_at, texts_from};
 
@@ -12,7 +13,7 @@ use crate::lines::{PinUse, put_counts, put_pair, put_pin, put_reason};
 use board_defs::{Board, Net, NetPin, PinRef, law};
 use bt_base::{PutFault, Sink};
 use bt_bits::Line;
-use net_classes::Classes;
+use net_classes::{Classes, PairKey};
 
 // How many nets the board has.
 fn net_count(board: &Board) -> u32
@@ -214,24 +215,47 @@ fn put_pins<K: Sink>(
     Ok(())
 }
 
-// Whether two nets, of which the first is covered, are covered and not paired. A net that is free
-// needs no look at the drivers of both.
-fn is_unpaired(board: &Board, classes: &Classes, low: u32, high: u32) -> bool
+// The key of the net of a number.
+fn key_at(board: &Board, keys: &[PairKey], n: u32) -> PairKey
+    requires keys { ArePairKeys board.now keys.now }
+    requires net { n < length board.now.nets }
+    ensures { slice_get keys.now n ≡ Some result }
+{
+    keys[n as usize]
+}
+
+// Whether two covered nets are not paired. The drivers are looked at only where the keys of the
+// nets leave it open.
+fn are_parted(board: &Board, classes: &Classes, keys: &[PairKey], low: u32, high: u32) -> bool
     requires classes { AreClasses board.now classes.now }
+    requires keys { ArePairKeys board.now keys.now }
+    requires first { low < length board.now.nets }
+    requires second { high < length board.now.nets }
+    requires later { low < high }
+    requires low_covered { OfNet board.now low (λ net. is_covered board.now net ≡ true) }
+    requires high_covered { OfNet board.now high (λ net. is_covered board.now net ≡ true) }
+    ensures { OfNet board.now low (λ one. OfNet board.now high (λ two. result ≡ not (are_paired board.now one two))) }
+{
+    let shown = key_at(board, keys, low).shows_paired(key_at(board, keys, high));
+    if shown {
+        false
+    } else {
+        !classes.paired(board, low, high)
+    }
+}
+
+// Whether two nets, of which the first is covered, are covered and not paired.
+fn is_unpaired(board: &Board, classes: &Classes, keys: &[PairKey], low: u32, high: u32) -> bool
+    requires classes { AreClasses board.now classes.now }
+    requires keys { ArePairKeys board.now keys.now }
     requires first { low < length board.now.nets }
     requires second { high < length board.now.nets }
     requires covered { OfNet board.now low (λ net. is_covered board.now net ≡ true) }
     requires later { low < high }
     ensures { OfNet board.now low (λ one. OfNet board.now high (λ two. result ≡ is_unpaired board.now one two)) }
 {
-    law::terms_decided();
-    let _rules = board.raw();
-    if is_covered(board, classes, high) {
-        if classes.is_free(board, high) {
-            false
-        } else {
-            !classes.paired(board, low, high)
-        }
+    if key_at(board, keys, high).is_covered() {
+        are_parted(board, classes, keys, low, high)
     } else {
         false
     }
@@ -241,19 +265,21 @@ fn is_unpaired(board: &Board, classes: &Classes, low: u32, high: u32) -> bool
 fn put_pair_at<K: Sink>(
     board: &Board,
     classes: &Classes,
+    keys: &[PairKey],
     low: u32,
     high: u32,
     line: &mut Line,
     out: &mut K,
 ) -> Result<(), PutFault>
     requires classes { AreClasses board.now classes.now }
+    requires keys { ArePairKeys board.now keys.now }
     requires first { low < length board.now.nets }
     requires second { high < length board.now.nets }
     requires covered { OfNet board.now low (λ net. is_covered board.now net ≡ true) }
     requires later { low < high }
     ensures { OfNet board.now low (λ net. Prints (K.shown out.old) (K.shown out.new) [] [] (pair_at board.now net high) result) }
 {
-    if is_unpaired(board, classes, low, high) {
+    if is_unpaired(board, classes, keys, low, high) {
         put_pair(net_at(board, low), net_at(board, high), line, out)
     } else {
         Ok(())
@@ -275,8 +301,9 @@ fn put_later<K: Sink>(
     requires covered { OfNet board.now low (λ net. is_covered board.now net ≡ true) }
     ensures { OfNet board.now low (λ net. Prints (K.shown out.old) (K.shown out.new) [] [] (texts_from (pair_at board.now net) (low + 1) count) result) }
 {
+    let keys = classes.pair_keys(board);
     for high in low + 1..count {
-        put_pair_at(board, classes, low, high, line, out)?;
+        put_pair_at(board, classes, keys, low, high, line, out)?;
     }
     Ok(())
 }

@@ -1,5 +1,5 @@
 -- What the facts and the table say of a net is what the board's terms say.
-use Rattle.std.proofs.Common.{◌≡◌, ℕ, zero, suc, ◌+◌, ◌<◌, ◌==◌, Bool, true, false, not, ◌&&◌, List, [], ◌∷◌, map, length, Option, Some, None, refl, sym, ◌∙◌, ap, subst, cond, inl, ◌||◌, arith}
+use Rattle.std.proofs.Common.{◌≡◌, ℕ, suc, ◌==◌, Bool, true, false, not, ◌&&◌, List, [], ◌∷◌, map, length, Option, Some, None, refl, sym, ◌∙◌, ap, subst, cond, inl, ◌||◌, arith}
 use Rattle.std.specs.Prelude.{slice_get, option_map, filter_map, is_some}
 use Rattle.std.specs.List.{list_any, range_with_len, cons_option}
 use Rattle.std.proofs.lemmas.List.{length-map}
@@ -14,7 +14,7 @@ use Rattle.board_defs.specs.declared.coverage.Reason.{Reason}
 use Rattle.board_defs.specs.declared.coverage.Reason.TheVariants.{Supply, TestPort, Dark, NoDriver, Blocked, NoReceiver}
 use Rattle.board_defs.specs.BoardRules.{IsBoard}
 use Rattle.board_defs.specs.Pins.{drive, receives, receives_of, guarded, is_test_pin, is_dark, IsCell}
-use Rattle.board_defs.specs.Decided.{any_below, any_other, is_safe_alone, can_enable, place_drive, drive_in, is_tested_driver, is_tested_receiver, is_covered, first_reason, reason_of}
+use Rattle.board_defs.specs.Decided.{any_other, is_safe_alone, can_enable, place_drive, drive_in, is_tested_driver, is_tested_receiver, is_covered, first_reason, reason_of}
 use Rattle.board_defs.specs.Passes.{tested_drive, tested_drivers}
 use Rattle.board_defs.proofs.BoardLemmas.{control_is_cell}
 use Rattle.board_defs.proofs.Members.{Has}
@@ -25,12 +25,11 @@ use Rattle.net_classes.specs.declared.classes.PinClass.{PinClass}
 use Rattle.net_classes.specs.declared.classes.NetClass.{NetClass}
 use Rattle.net_classes.specs.declared.classes.ControlClass.{ControlClass}
 use Rattle.net_classes.specs.declared.facts.PinFacts.{PinFacts}
-use Rattle.net_classes.specs.declared.facts.NetFacts.{NetFacts}
 use Rattle.net_classes.specs.Facts.{pin_facts_of, net_facts_of}
 use Rattle.net_classes.specs.Found.{is_elsewhere_of, found_below}
 use Rattle.net_classes.specs.Kept.{pin_class_of, net_class_of}
 use Rattle.net_classes.specs.Answers.{safe_in, enabled_in, drive_of_pin, drive_of, reads_in, reads_at, enables_at_place, readers_of, enablers_of, tested_in, reader_tested_in, pin_class_in, tested_drive_in, drivers_in, first_reason_in, reason_in, class_in}
-use Rattle.net_classes.proofs.Truth.{same_truth, any_map, clash, not_true}
+use Rattle.net_classes.proofs.Truth.{any_map, not_true}
 use Rattle.net_classes.proofs.FoundLemmas.{elsewhere_is, passes_in}
 
 -- the table says of each control whether it is safe alone
@@ -134,7 +133,7 @@ pub some_length : (n : ℕ) → (suc n == 0) ≡ false
 some_length n = grind arith
 
 -- a net is covered exactly where it has a tested driver
-covered_is : (board : RawBoard) (net : Net) → (length (tested_drivers board net) == 0) ≡ not (is_covered board net)
+pub covered_is : (board : RawBoard) (net : Net) → (length (tested_drivers board net) == 0) ≡ not (is_covered board net)
 covered_is board net = by_list (tested_drivers board net) refl
   where
     by_list : (ds : List Drive) → tested_drivers board net ≡ ds → (length ds == 0) ≡ not (is_covered board net)

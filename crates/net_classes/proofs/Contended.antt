@@ -1,6 +1,6 @@
 -- Controls that share a net, by the nets that they share with any other.
-use Rattle.std.proofs.Common.{◌≡◌, ◌≢◌, ℕ, ◌+◌, ◌<◌, ◌==◌, slice_index, Bool, true, false, not, ◌&&◌, ◌||◌, List, [], ◌∷◌, map, length, Option, Some, None, refl, sym, ◌∙◌, ap, subst, arith, cond}
-use Rattle.std.specs.Prelude.{slice_get, Contains, option_map, option_and_then, filter, fold}
+use Rattle.std.proofs.Common.{◌≡◌, ℕ, ◌<◌, slice_index, Bool, true, false, not, ◌&&◌, ◌||◌, List, [], ◌∷◌, map, length, Option, Some, None, refl, sym, ◌∙◌, ap, subst, arith, cond}
+use Rattle.std.specs.Prelude.{slice_get, option_map, option_and_then, filter}
 use Rattle.std.specs.List.{list_any, range_with_len}
 use Rattle.std.specs.Bool.{Decides}
 use Rattle.std.proofs.lemmas.Option.{slice_get-map, slice_get_within, get_or_from_slice_get}
@@ -14,13 +14,12 @@ use Rattle.board_defs.specs.Pins.{drive, IsCell}
 use Rattle.board_defs.specs.Settings.{same_ctl}
 use Rattle.board_defs.specs.Decided.{is_by, drives_net, share_net}
 use Rattle.board_defs.proofs.ControlOrder.{same_equal, same_refl}
-use Rattle.board_defs.proofs.Driving.{by_true, is_by_drive}
+use Rattle.board_defs.proofs.Driving.{by_true}
 use Rattle.board_defs.proofs.Members.{Has, has_place, has_contains, contains_has, has_filter, filter_has, has_range}
 use Rattle.board_defs.proofs.Places.{Found, any_place, any_at}
 use Rattle.net_classes.specs.declared.facts.PinFacts.{PinFacts}
 use Rattle.net_classes.specs.declared.facts.NetFacts.{NetFacts}
 use Rattle.net_classes.specs.declared.classes.ControlClass.{ControlClass}
-use Rattle.net_classes.specs.declared.shared.Controls.{Controls}
 use Rattle.net_classes.specs.declared.shared.Controls.TheVariants.{Nobody, One, Several}
 use Rattle.net_classes.specs.Facts.{pin_facts_of, net_facts_of}
 use Rattle.net_classes.specs.Found.{IsAscending, Meet}
@@ -141,7 +140,7 @@ shares_has board c n net e d =
     let less : n < length board.nets = slice_get_within board.nets n net e in
     has_filter (λ k. contends_there board c (slice_get board.nets k)) (range_with_len 0 (length board.nets)) n (has_range 0 (length board.nets) n (omega arith) (omega arith)) (ap (contends_there board c) e ∙ d)
 
-has_shares : (board : RawBoard) (c : Ctl) (n : ℕ) → Has (shared_nets board c) n → (net : Net) × (slice_get board.nets n ≡ Some net) × (is_contended board c net ≡ true)
+pub has_shares : (board : RawBoard) (c : Ctl) (n : ℕ) → Has (shared_nets board c) n → (net : Net) × (slice_get board.nets n ≡ Some net) × (is_contended board c net ≡ true)
 has_shares board c n h = by_net (slice_get board.nets n) refl (filter_has (λ k. contends_there board c (slice_get board.nets k)) (range_with_len 0 (length board.nets)) n h).1
   where
     by_net : (net : Option Net) → slice_get board.nets n ≡ net → contends_there board c net ≡ true → (m : Net) × (slice_get board.nets n ≡ Some m) × (is_contended board c m ≡ true)

@@ -1,6 +1,6 @@
 -- The table of the entries says what the entries of each port bit say.
-use Rattle.std.proofs.Common.{◌≡◌, ◌≢◌, ℕ, zero, suc, ◌<◌, ◌≤◌, ◌==◌, nat_lt, Bool, true, false, ◌&&◌, ◌||◌, List, [], ◌∷◌, length, Option, Some, None, refl, sym, ◌∙◌, ap, subst, arith, cond}
-use Rattle.std.specs.Prelude.{slice_get, option_map, option_and_then, find, fold, All}
+use Rattle.std.proofs.Common.{◌≡◌, ℕ, suc, ◌<◌, ◌≤◌, ◌==◌, nat_lt, Bool, true, false, ◌&&◌, ◌||◌, List, [], ◌∷◌, length, Option, Some, None, refl, sym, ◌∙◌, ap, arith, cond}
+use Rattle.std.specs.Prelude.{slice_get, option_map, option_and_then, find, All}
 use Rattle.std.specs.List.{list_any}
 use Rattle.std.proofs.lemmas.Option.{slice_get-map}
 use Rattle.board_defs.specs.declared.device.Cell.{Cell}
@@ -8,7 +8,6 @@ use Rattle.board_defs.specs.declared.device.RawDevice.{RawDevice}
 use Rattle.board_defs.specs.declared.board.PartKind.{PartKind}
 use Rattle.board_defs.specs.declared.board.PartKind.TheVariants.{Described, Bypass}
 use Rattle.board_defs.specs.declared.board.Part.{Part}
-use Rattle.board_defs.specs.declared.board.PinAt.{PinAt}
 use Rattle.board_defs.specs.declared.board.RawBoard.{RawBoard}
 use Rattle.board_defs.specs.DeviceRules.{is_driving, is_receiving, is_on, drives_bit, reads_bit, HasPlace}
 use Rattle.board_defs.specs.BoardRules.{IsBoard, IsPart}
@@ -16,7 +15,7 @@ use Rattle.board_defs.specs.Pins.{described}
 use Rattle.board_defs.proofs.Places.{all_stands}
 use Rattle.net_classes.specs.declared.entries.BitEntries.{BitEntries}
 use Rattle.net_classes.specs.Rows.{update_at, copies}
-use Rattle.net_classes.specs.Entries.{no_entries, entries_on, entries_where, entries_of, first_of, with_entry, note_at, note_cells, device_entries, entry_table, or_no_entries, entries_in}
+use Rattle.net_classes.specs.Entries.{no_entries, entries_on, entries_where, first_of, with_entry, note_at, note_cells, device_entries, entry_table, or_no_entries}
 use Rattle.net_classes.specs.Tables.{SaysEntries}
 use Rattle.net_classes.proofs.Truth.{eqb_same, eqb_refl, clash}
 use Rattle.net_classes.proofs.RowLemmas.{copies_get, copies_past}

@@ -1,5 +1,5 @@
 -- The facts by the table of the entries are those by the terms of the board.
-use Rattle.std.proofs.Common.{◌≡◌, ℕ, Bool, true, false, not, ◌&&◌, ◌||◌, List, [], ◌∷◌, map, Option, Some, None, refl, sym, ◌∙◌, ap, cond}
+use Rattle.std.proofs.Common.{◌≡◌, ℕ, Bool, true, false, not, ◌&&◌, ◌||◌, List, [], ◌∷◌, map, Option, Some, None, refl, ◌∙◌, ap, cond}
 use Rattle.std.specs.Prelude.{slice_get, option_map, option_and_then, find, is_some}
 use Rattle.std.specs.List.{list_any}
 use Rattle.board_defs.specs.declared.device.Cell.{Cell}
@@ -12,12 +12,12 @@ use Rattle.board_defs.specs.declared.board.NetPin.{NetPin}
 use Rattle.board_defs.specs.declared.board.RawBoard.{RawBoard}
 use Rattle.board_defs.specs.declared.board.Drive.{Drive}
 use Rattle.board_defs.specs.DeviceRules.{is_on, drives_bit, is_linkage, may_drive, driving_entry}
-use Rattle.board_defs.specs.Pins.{device_at, bit_at, entry_at, drive, drive_by, drive_where, receives, receives_in, receives_where, guarded, guards, is_test_pin, is_dark, is_dark_bit, is_dark_in, is_dark_where, receives_bit}
-use Rattle.board_defs.specs.Decided.{is_always_on, is_closed}
+use Rattle.board_defs.specs.Pins.{device_at, bit_at, drive_by, drive_where, receives_in, receives_where, guarded, is_test_pin, is_dark, is_dark_bit, is_dark_in, is_dark_where, receives_bit}
+use Rattle.board_defs.specs.Decided.{is_always_on}
 use Rattle.net_classes.specs.declared.entries.BitEntries.{BitEntries}
 use Rattle.net_classes.specs.declared.facts.PinFacts.{PinFacts}
 use Rattle.net_classes.specs.declared.facts.NetFacts.{NetFacts}
-use Rattle.net_classes.specs.Entries.{entries_on, entries_where, entries_of, entries_in}
+use Rattle.net_classes.specs.Entries.{entries_on, entries_where}
 use Rattle.net_classes.specs.Facts.{pin_facts_of, net_facts_of, dark_bit, dark_where, dark_in, drive_from, drive_where_in, receives_bit_in, receives_where_in, pin_facts_in, guarded_in, pins_in, net_facts_in}
 use Rattle.net_classes.specs.Tables.{SaysEntries}
 use Rattle.net_classes.proofs.Truth.{any_map}

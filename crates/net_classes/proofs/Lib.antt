@@ -14,3 +14,5 @@ pub mod SharedLemmas
 pub mod Contended
 pub mod Paired
 pub mod Free
+pub mod GroupLemmas
+pub mod KeyLemmas

@@ -1,6 +1,6 @@
 -- What the table of the controls holds once the useful ones are marked.
-use Rattle.std.proofs.Common.{◌≡◌, Bool, true, false, ◌&&◌, ◌||◌, List, [], ◌∷◌, map, length, Option, Some, None, refl, sym, ◌∙◌, ap}
-use Rattle.std.specs.Prelude.{slice_get, option_map, filter, fold}
+use Rattle.std.proofs.Common.{◌≡◌, Bool, true, false, ◌||◌, List, [], ◌∷◌, map, length, Option, Some, None, refl, sym, ◌∙◌, ap}
+use Rattle.std.specs.Prelude.{option_map, filter, fold}
 use Rattle.std.specs.List.{list_any}
 use Rattle.board_defs.specs.declared.board.Net.{Net}
 use Rattle.board_defs.specs.declared.board.Ctl.{Ctl}
@@ -10,7 +10,7 @@ use Rattle.board_defs.specs.declared.board.Drive.TheVariants.{AlwaysOn, OneSided
 use Rattle.board_defs.specs.BoardRules.{IsBoard}
 use Rattle.board_defs.specs.Pins.{IsCell}
 use Rattle.board_defs.specs.Settings.{same_ctl}
-use Rattle.board_defs.specs.Decided.{any_below, is_by, is_safe_alone, can_enable, place_drive, is_tested_driver, tests_by, tests_by_at, is_useful}
+use Rattle.board_defs.specs.Decided.{is_by, is_safe_alone, can_enable, place_drive, is_tested_driver, tests_by, tests_by_at, is_useful}
 use Rattle.board_defs.specs.Passes.{all_cells, tested_drivers, useful_controls}
 use Rattle.board_defs.proofs.ControlOrder.{same_equal}
 use Rattle.board_defs.proofs.Driving.{by_true, is_by_drive}
@@ -24,7 +24,7 @@ use Rattle.net_classes.specs.Kept.{item_of, net_class_of, control_class_of, driv
 use Rattle.net_classes.specs.Facts.{net_facts_of}
 use Rattle.net_classes.specs.declared.facts.NetFacts.{NetFacts}
 use Rattle.net_classes.specs.Rows.{at_control, useful_too, mark_drive, mark_nets, made_rows}
-use Rattle.net_classes.specs.Answers.{serves, useful_in, is_free, safe_in, class_in}
+use Rattle.net_classes.specs.Answers.{serves, useful_in, is_free, class_in}
 use Rattle.net_classes.proofs.Truth.{same_truth, any_map, and_left, and_right, and_intro}
 use Rattle.net_classes.proofs.Notes.{at_same, at_other}
 use Rattle.net_classes.proofs.Made.{made_row, row_before}

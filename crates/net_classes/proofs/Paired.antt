@@ -1,6 +1,6 @@
 -- Paired nets by their tested drivers.
-use Rattle.std.proofs.Common.{◌≡◌, ℕ, ◌+◌, ◌<◌, Bool, true, false, ◌&&◌, List, length, slice_index_or, Option, Some, None, refl, sym, ◌∙◌, ap, subst}
-use Rattle.std.specs.Prelude.{slice_get, All}
+use Rattle.std.proofs.Common.{◌≡◌, Bool, true, ◌&&◌, List, length, slice_index_or, Option, Some, None, sym, ◌∙◌, ap, subst}
+use Rattle.std.specs.Prelude.{slice_get}
 use Rattle.std.specs.List.{list_any}
 use Rattle.std.proofs.lemmas.Option.{slice_get-get_or}
 use Rattle.board_defs.specs.declared.board.Net.{Net}
@@ -10,7 +10,7 @@ use Rattle.board_defs.specs.declared.board.RawBoard.{RawBoard}
 use Rattle.board_defs.specs.declared.board.Drive.{Drive}
 use Rattle.board_defs.specs.declared.board.Drive.TheVariants.{By}
 use Rattle.board_defs.specs.BoardRules.{IsBoard}
-use Rattle.board_defs.specs.Pins.{drive, IsCell}
+use Rattle.board_defs.specs.Pins.{IsCell}
 use Rattle.board_defs.specs.Decided.{any_below, place_drive, drive_in, is_tested_driver, are_compatible, pairs_at, are_paired}
 use Rattle.board_defs.specs.Passes.{tested_drivers}
 use Rattle.board_defs.proofs.BoardLemmas.{control_is_cell}
@@ -25,7 +25,7 @@ place_cell : (board : RawBoard) (net : Net) (pin : Option NetPin) (c : Ctl) → 
 place_cell board net None c rules e = cc e
 place_cell board net (Some p) c rules e = control_is_cell board net p c rules e
 
-has_cells : (board : RawBoard) (net : Net) (d : Drive) → IsBoard board → Has (tested_drivers board net) d → IsByCell board d
+pub has_cells : (board : RawBoard) (net : Net) (d : Drive) → IsBoard board → Has (tested_drivers board net) d → IsByCell board d
 has_cells board net d rules h c e = let t : Tested board net d = tested_has board net d h in place_cell board net (slice_get net.pins t.place) c rules (t.drives ∙ ap Some e)
 
 pub tested_cells : (board : RawBoard) (net : Net) (ds : List Drive) → IsBoard board → ds ≡ tested_drivers board net → AreByCells board ds

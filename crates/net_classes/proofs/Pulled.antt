@@ -1,23 +1,22 @@
 -- The tables of pulled bits say which pins switch.
-use Rattle.std.proofs.Common.{◌≡◌, ℕ, ◌<◌, Bool, true, false, not, ◌&&◌, ◌||◌, List, [], ◌∷◌, map, Option, Some, None, refl, sym, ◌∙◌, ap, arith, cond}
+use Rattle.std.proofs.Common.{◌≡◌, ◌<◌, Bool, true, false, not, ◌&&◌, ◌||◌, List, [], ◌∷◌, map, Option, Some, None, refl, sym, ◌∙◌, ap, arith, cond}
 use Rattle.std.specs.Prelude.{slice_get, option_map, option_and_then, fold}
 use Rattle.std.specs.List.{list_any}
 use Rattle.std.proofs.lemmas.Option.{slice_get-map}
 use Rattle.board_defs.specs.declared.board.PinAt.{PinAt}
 use Rattle.board_defs.specs.declared.board.Part.{Part}
-use Rattle.board_defs.specs.declared.board.Net.{Net}
 use Rattle.board_defs.specs.declared.board.Ctl.{Ctl}
 use Rattle.board_defs.specs.declared.board.RawBoard.{RawBoard}
-use Rattle.board_defs.specs.Pins.{described, guarded, is_pulled_to, lets_switch}
+use Rattle.board_defs.specs.Pins.{described, is_pulled_to, lets_switch}
 use Rattle.board_defs.specs.Settings.{same_ctl}
-use Rattle.board_defs.specs.Decided.{bit_count, port_bits, is_at, is_switched, is_switching}
+use Rattle.board_defs.specs.Decided.{bit_count, port_bits, is_at, is_switched}
 use Rattle.board_defs.proofs.ControlOrder.{same_equal}
 use Rattle.net_classes.specs.declared.facts.PinFacts.{PinFacts}
 use Rattle.net_classes.specs.declared.facts.NetFacts.{NetFacts}
 use Rattle.net_classes.specs.Kept.{item_of}
 use Rattle.net_classes.specs.Facts.{pin_facts_of, net_facts_of}
 use Rattle.net_classes.specs.Rows.{at_control, copies}
-use Rattle.net_classes.specs.Switching.{marked, mark_at, mark_pins, mark_pulled, blank_bits, pulled_bits, holds_there, is_marked}
+use Rattle.net_classes.specs.Switching.{marked, mark_at, mark_pins, mark_pulled, blank_bits, pulled_bits, holds_there}
 use Rattle.net_classes.specs.Tables.{SaysPulled}
 use Rattle.net_classes.proofs.Truth.{any_map}
 use Rattle.net_classes.proofs.RowLemmas.{copies_get}

@@ -1,18 +1,18 @@
 -- Which nets two controls share.
-use Rattle.std.proofs.Common.{◌≡◌, ℕ, zero, suc, ◌+◌, ◌<◌, ◌≤◌, Bool, true, false, ◌&&◌, List, [], ◌∷◌, length, Option, Some, None, refl, sym, ◌∙◌, ap, subst, arith, cond, slice_index, get_or}
+use Rattle.std.proofs.Common.{◌≡◌, ℕ, zero, suc, ◌+◌, ◌<◌, ◌≤◌, Bool, true, false, ◌&&◌, List, ◌∷◌, length, Option, Some, None, refl, sym, ◌∙◌, ap, arith, cond, slice_index}
 use Rattle.std.specs.Prelude.{slice_get, filter, Contains}
-use Rattle.std.specs.List.{list_any, range_with_len}
+use Rattle.std.specs.List.{range_with_len}
 use Rattle.std.specs.Bool.{Decides}
-use Rattle.std.proofs.lemmas.Option.{slice_get-get_or, slice_get_within, get_or_from_slice_get}
+use Rattle.std.proofs.lemmas.Option.{slice_get-get_or, slice_get_within}
 use Rattle.board_defs.specs.declared.board.Net.{Net}
 use Rattle.board_defs.specs.declared.board.Ctl.{Ctl}
 use Rattle.board_defs.specs.declared.board.RawBoard.{RawBoard}
 use Rattle.board_defs.specs.Decided.{drives_net, share_net}
-use Rattle.board_defs.proofs.Members.{Has, has_at, has_place, has_filter, filter_has, has_range, range_has, has_contains, contains_has}
+use Rattle.board_defs.proofs.Members.{Has, has_at, has_filter, filter_has, has_range, range_has, has_contains, contains_has}
 use Rattle.board_defs.proofs.Places.{Found, any_place, any_at}
-use Rattle.net_classes.specs.Found.{IsAscending, Meet}
+use Rattle.net_classes.specs.Found.{IsAscending}
 use Rattle.net_classes.specs.Kept.{drives_there, driven_nets}
-use Rattle.net_classes.proofs.Truth.{same_truth, and_left, and_right, and_intro}
+use Rattle.net_classes.proofs.Truth.{and_left, and_right, and_intro}
 
 abbrev is_driven : RawBoard → Ctl → ℕ → Bool
 is_driven board c n = drives_there board c (slice_get board.nets n)

@@ -1,5 +1,5 @@
 -- What is said of a net by its facts and the table of the controls.
-use Rattle.std.specs.Prelude.{ℕ, ◌==◌, Bool, true, false, not, ◌&&◌, ◌||◌, List, [], map, filter_map, length, Option, Some, None, slice_get, is_some, cond}
+use Rattle.std.specs.Prelude.{ℕ, ◌==◌, Bool, true, false, not, ◌&&◌, List, map, filter_map, length, Option, Some, None, slice_get, is_some, cond}
 use Rattle.std.specs.List.{list_any, range_with_len}
 use Rattle.board_defs.specs.declared.board.Ctl.{Ctl}
 use Rattle.board_defs.specs.declared.board.Drive.{Drive}

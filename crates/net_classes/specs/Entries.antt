@@ -1,5 +1,5 @@
 -- The entries of each port bit, in one table for each part.
-use Rattle.std.specs.Prelude.{ℕ, Bool, true, false, ◌||◌, List, [], map, fold, find, length, Option, Some, None, slice_get, cond}
+use Rattle.std.specs.Prelude.{ℕ, true, false, ◌||◌, List, [], map, fold, find, length, Option, Some, None, cond}
 use Rattle.std.specs.List.{list_any}
 use Rattle.board_defs.specs.declared.device.Cell.{Cell}
 use Rattle.board_defs.specs.declared.device.RawDevice.{RawDevice}

@@ -15,6 +15,7 @@ use Rattle.net_classes.specs.declared.classes.PinClass.{PinClass}
 use Rattle.net_classes.specs.declared.classes.NetClass.{NetClass}
 use Rattle.net_classes.specs.declared.classes.ControlClass.{ControlClass}
 use Rattle.net_classes.specs.declared.classes.Classes.{Classes}
+use Rattle.net_classes.specs.PairKeys.{ArePairKeys}
 
 -- it holds of the net of this number
 abbrev pub OfNet : RawBoard → ℕ → (Net → Type 0) → Type 0
@@ -81,3 +82,4 @@ pub record AreClasses (board : RawBoard) (classes : Classes) : Type 0 where
   pub controls_are : (c : Ctl) → IsCell board c → item_of (table classes.controls.items) c ≡ Some (control_class_of board c)
   pub useful_are : classes.useful.items ≡ useful_controls board
   pub shared_are : (c : Ctl) → IsCell board c → item_of (table classes.shared.items) c ≡ Some (shared_nets board c)
+  pub keys_are : ArePairKeys board classes.keys.items

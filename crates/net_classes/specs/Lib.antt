@@ -9,3 +9,6 @@ pub mod Tables
 pub mod Rows
 pub mod Answers
 pub mod Pairs
+pub mod Groups
+pub mod PairKeys
+pub mod MadeKeys

@@ -1,5 +1,5 @@
 -- The tables by which the controls of one-sided drivers are found.
-use Rattle.std.specs.Prelude.{◌≡◌, ◌<◌, Bool, true, false, List, cond}
+use Rattle.std.specs.Prelude.{◌≡◌, ◌<◌, Bool, true, false, List}
 use Rattle.board_defs.specs.declared.board.PinAt.{PinAt}
 use Rattle.board_defs.specs.declared.board.RawBoard.{RawBoard}
 use Rattle.board_defs.specs.Decided.{is_switching, port_bits}

@@ -9,7 +9,9 @@ ghost use Rattle.net_classes.specs.Tables.{AreTables};
 use crate::controls::{Tables, control_rows, mark_useful};
 use crate::entries::{BitEntries, entry_table};
 use crate::facts::{NetFacts, all_net_facts};
+use crate::groups::net_groups;
 use crate::net_numbers::NetNumbers;
+use crate::pair_keys::{PairKey, pair_keys};
 use crate::shared::{contended_nets, shared_table};
 use crate::switching::pulled_bits;
 use crate::tested::net_classes;
@@ -52,14 +54,16 @@ pub struct ControlClass {
     pub useful: bool,
 }
 
-/// The classes of a board: its nets, the cells of its parts as controls, the useful controls, and
-/// the nets that each control shares with another one.
+/// The classes of a board: its nets, the cells of its parts as controls, the useful controls, the
+/// nets that each control shares with another one, and a key for each net by which most pairs are
+/// known.
 #[derive(Debug, Drop)]
 pub struct Classes {
     pub(crate) nets: Vec<NetClass>,
     pub(crate) controls: Vec<Vec<ControlClass>>,
     pub(crate) useful: Vec<Ctl>,
     pub(crate) shared: Vec<Vec<NetNumbers>>,
+    pub(crate) keys: Vec<PairKey>,
 }
 
 fn facts_of(
@@ -104,11 +108,14 @@ fn classify_record(alloc: Global, board: &RawBoard) -> Result<Classes, AllocErro
     let useful = useful_controls(alloc, &controls, board)?;
     let flags = contended_nets(alloc, &facts)?;
     let shared = shared_table(alloc, &flags, &controls)?;
+    let groups = net_groups(alloc, board.nets.len(), &shared)?;
+    let keys = pair_keys(alloc, &groups, &shared, &nets)?;
     Ok(Classes {
         nets,
         controls,
         useful,
         shared,
+        keys,
     })
 }
 

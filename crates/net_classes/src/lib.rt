@@ -6,8 +6,10 @@ mod controls;
 mod entries;
 mod facts;
 mod found;
+mod groups;
 pub mod law;
 mod net_numbers;
+mod pair_keys;
 mod questions;
 mod shared;
 mod switching;
@@ -17,6 +19,7 @@ mod useful;
 pub use classes::{Classes, ControlClass, NetClass, PinClass, classify};
 pub use found::meet;
 pub use net_numbers::NetNumbers;
+pub use pair_keys::{Holder, PairKey};
 
 #[cfg(test)]
 mod tests;

@@ -10,10 +10,12 @@ ghost use Rattle.board_defs.specs.Coverage.{AreTogether, ArePaired, IsCovered, I
 ghost use Rattle.board_defs.specs.Decided.{are_paired, are_together, can_enable, is_safe_alone, is_tested_driver, is_tested_receiver, is_useful, place_drive, reason_of, share_net};
 ghost use Rattle.board_defs.specs.Passes.{tested_drivers, useful_controls};
 ghost use Rattle.net_classes.specs.Pairs.{AreByCells, IsByCell, fit, fits_some, some_fit};
+ghost use Rattle.net_classes.specs.PairKeys.{ArePairKeys};
 ghost use Rattle.net_classes.specs.Kept.{AreClasses, OfNet, control_class_of, driven_nets, is_free, pin_class_of, shared_nets};
 
 use crate::classes::{Classes, ControlClass, PinClass};
 use crate::found::meet;
+use crate::pair_keys::PairKey;
 use board_defs::{Board, Ctl, Drive, PinRef, Reason, law};
 
 fn is_same(a: Ctl, b: Ctl) -> bool
@@ -315,6 +317,14 @@ impl Classes {
         law::terms_decided();
         let _rules = board.raw();
         self.has_free_driver(board, net)
+    }
+
+    /// For each net a key, by which most pairs are seen to be paired without a look at drivers.
+    pub fn pair_keys(&self, board: &Board) -> &[PairKey]
+        requires { AreClasses board.now self.now }
+        ensures { ArePairKeys board.now result.now }
+    {
+        &self.keys
     }
 
     /// Whether the setting of the control alone is safe.

@@ -1,4 +1,4 @@
-use Rattle.std.proofs.Common.{◌≡◌, map, length, arith, sym, ◌∙◌, ap, Vec, Global}
+use Rattle.std.proofs.Common.{◌≡◌, map, length, arith, refl, sym, ◌∙◌, ap, subst, Vec, Global}
 use Rattle.std.specs.Prelude.{filter}
 use Rattle.std.proofs.lemmas.List.{with_items_is}
 use Rattle.board_defs.specs.Passes.{all_cells}
@@ -6,9 +6,13 @@ use Rattle.net_classes.specs.Kept.{table, item_of}
 use Rattle.net_classes.specs.Rows.{made_rows, mark_nets}
 use Rattle.net_classes.specs.Answers.{class_in, useful_in}
 use Rattle.net_classes.specs.declared.classes.ControlClass.{ControlClass}
+use Rattle.net_classes.specs.declared.classes.NetClass.{NetClass}
 use Rattle.net_classes.specs.Shared.{flags_of, shared_in}
 use Rattle.net_classes.proofs.Answered.{map_map}
 use Rattle.net_classes.proofs.Contended.{shared_rows}
+use Rattle.net_classes.specs.Groups.{AreGroups}
+use Rattle.net_classes.specs.MadeKeys.{net_key}
+use Rattle.net_classes.proofs.KeyLemmas.{keys_are}
 use Rattle.net_classes.proofs.Marks.{Made, made_of}
 use Rattle.net_classes.proofs.classes.classify_record.Goals as goal
 
@@ -33,4 +37,11 @@ returns c =
     (c.in_ok-flags.ensures ∙ ap flags_of c.deref-8.ensures.value) m.controls_are
     (c.in_ok-shared.ensures ∙ ap (λ v. map (λ (row : Vec ControlClass Global). map (shared_in v) row.items) c.deref-10.result.now) c.deref-9.ensures.value ∙
     ap (map (λ (row : Vec ControlClass Global). map (shared_in flags) row.items)) (c.deref-10.ensures.value ∙ kept) ∙ sym (map_map (λ (row : Vec ControlClass Global). row.items) (map (shared_in flags)) c.mark_useful.new.rows)) in
-    record { nets_are = m.nets_are; controls_are = λ d is. ap (λ rows. item_of (table rows) d) kept ∙ m.controls_are d is; useful_are = m.useful_are; shared_are = shared }
+    let groups = c.in_ok-groups.groups.items in
+    let rows = c.in_ok-shared.shared.items in
+    let grouped : AreGroups (length board.nets) (table rows) groups = subst (λ v. AreGroups (length board.nets) (table v) groups) c.deref-11.ensures.value (subst (λ n. AreGroups n (table c.deref-11.result.now) groups) c.len.ensures c.in_ok-groups.ensures) in
+    let keys = keys_are board (length board.nets) groups (table rows) nets c.in_ok-keys.keys.items c.requires refl grouped shared m.nets_are
+    (c.in_ok-keys.ensures ∙ ap (λ g. map (λ (net : NetClass). net_key g (table c.deref-13.result.now) net.drivers) c.deref-14.result.now) c.deref-12.ensures.value ∙
+    ap (λ v. map (λ (net : NetClass). net_key groups (table v) net.drivers) c.deref-14.result.now) c.deref-13.ensures.value ∙
+    ap (map (λ (net : NetClass). net_key groups (table rows) net.drivers)) c.deref-14.ensures.value) in
+    record { nets_are = m.nets_are; controls_are = λ d is. ap (λ rows. item_of (table rows) d) kept ∙ m.controls_are d is; useful_are = m.useful_are; shared_are = shared; keys_are = keys }

@@ -1,4 +1,4 @@
-use Rattle.std.proofs.Common.{◌≡◌, length, arith, refl, ◌∙◌, ap}
+use Rattle.std.proofs.Common.{◌≡◌, length, arith, ◌∙◌, ap}
 use Rattle.net_classes.specs.Kept.{table}
 use Rattle.net_classes.specs.Found.{found_below}
 use Rattle.net_classes.specs.Answers.{enables_at_place}

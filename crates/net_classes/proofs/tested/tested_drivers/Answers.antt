@@ -1,4 +1,4 @@
-use Rattle.std.proofs.Common.{◌≡◌, ◌++◌, ◌∷◌, [], length, arith, refl, sym, ◌∙◌, ap}
+use Rattle.std.proofs.Common.{◌++◌, [], sym, ◌∙◌, ap}
 use Rattle.std.specs.Prelude.{filter_map}
 use Rattle.std.specs.List.{range_with_len, cons_option}
 use Rattle.net_classes.specs.Kept.{table}

@@ -1,6 +1,5 @@
-use Rattle.std.proofs.Common.{◌≡◌, take}
+use Rattle.std.proofs.Common.{◌≡◌}
 use Rattle.std.specs.Prelude.{filter}
-use Rattle.std.specs.List.{flat_map, enumerate_from}
 use Rattle.net_classes.specs.Kept.{table}
 use Rattle.net_classes.specs.Answers.{useful_in}
 use Rattle.net_classes.proofs.UsefulLemmas.{cells_upto}

@@ -1,5 +1,4 @@
-use Rattle.std.proofs.Common.{◌≡◌, true, sym, ◌∙◌, ap}
-use Rattle.board_defs.proofs.Covered.{tested_driver_is, tested_driver_true}
+use Rattle.std.proofs.Common.{ap}
 use Rattle.net_classes.proofs.Lists.{item_there}
 use Rattle.net_classes.proofs.classes.Classes.driver_tested.Goals as goal
 

@@ -1,6 +1,6 @@
 use Rattle.std.proofs.Common.{◌≡◌, false, take}
 use Rattle.std.specs.List.{list_any}
-use Rattle.net_classes.specs.Pairs.{fit, fits_some}
+use Rattle.net_classes.specs.Pairs.{fit}
 use Rattle.net_classes.proofs.classes.Classes.fits_some.Given as goal
 
 abbrev pub invariant-loop-e : goal.invariant-loop-e

@@ -1,5 +1,4 @@
-use Rattle.std.proofs.Common.{◌≡◌, true, sym, ◌∙◌, ap}
-use Rattle.board_defs.proofs.Covered.{tested_receiver_is, tested_receiver_true}
+use Rattle.std.proofs.Common.{ap}
 use Rattle.net_classes.proofs.Lists.{item_there}
 use Rattle.net_classes.proofs.classes.Classes.receiver_tested.Goals as goal
 
