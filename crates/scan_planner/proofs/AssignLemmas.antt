@@ -1,7 +1,9 @@
 -- Bits that are set one after another.
-use Rattle.std.proofs.Common.{◌≡◌, ℕ, ◌<◌, Bool, false, List, [], ◌∷◌, length, get_or, set, refl, sym, ap, ◌∙◌, arith, length-set, ◌⊎◌, inl, inr}
-use Rattle.std.proofs.lemmas.Bool.{cases_eq}
-use Rattle.std.proofs.lemmas.List.{ext_get_or, get_or-set_same, get_or-set_other}
+use Rattle.std.proofs.Common.{◌≡◌, ℕ, ◌<◌, ◌≤◌, Bool, true, false, List, [], ◌∷◌, fold, length, get_or, set, refl, sym, ap, ◌∙◌, arith, length-set, ◌⊎◌, inl, inr}
+use Rattle.std.proofs.lemmas.Bool.{cases_eq, cases_lt}
+use Rattle.std.proofs.lemmas.List.{ext_get_or, get_or-set_same, get_or-set_other, get_or_past}
+use Rattle.std.proofs.lemmas.List.Sums.{fold-append}
+use Rattle.std.specs.List.{flat_map}
 use Rattle.board_defs.proofs.Members.{Has}
 use Rattle.scan_planner.specs.Assigned.{assigned}
 
@@ -40,3 +42,44 @@ assigned_is {X} place bit (y ∷ xs) start target same right cover =
     by_place i less (inr other) (inl e) = inl (get_or-set_other start (place y) i (bit y) false other ∙ e)
     by_place i less (inr other) (inr (x, inl same_item, at)) = absurd (other (sym at ∙ sym (ap place same_item)))
     by_place i less (inr other) (inr (x, inr h, at)) = inr (x, h, at)
+
+-- items that are set in groups
+pub assigned_groups : {X G : Type 0} (place : X → ℕ) (bit : X → Bool) (items : G → List X) (groups : List G) (start : List Bool) →
+    fold (λ done g. assigned place bit done (items g)) start groups ≡ assigned place bit start (flat_map items groups)
+assigned_groups place bit items [] start = refl
+assigned_groups place bit items (g ∷ groups) start =
+    assigned_groups place bit items groups (assigned place bit start (items g))
+    ∙ sym (fold-append (λ bits x. set bits (place x) (bit x)) start (items g) (flat_map items groups))
+
+-- flags that items set
+flag_stays : (flags : List Bool) (p i : ℕ) → get_or flags i false ≡ true → get_or (set flags p true) i false ≡ true
+flag_stays flags p i e = by_place (cases_eq i p) (cases_lt i (length flags))
+  where
+    by_place : (i ≡ p) ⊎ (i ≡ p → ⊥) → (i < length flags) ⊎ (length flags ≤ i) → get_or (set flags p true) i false ≡ true
+    by_place (inr other) there = get_or-set_other flags p i true false other ∙ e
+    by_place (inl same) (inl less) = ap (λ (k : ℕ). get_or (set flags p true) k false) same ∙ get_or-set_same flags p true false (omega (arith, less, same))
+    by_place (inl same) (inr past) = let bad : false ≡ true = sym (get_or_past flags i false past) ∙ e in cc bad
+
+pub mark_stays : {X : Type 0} (place : X → ℕ) (xs : List X) (flags : List Bool) (i : ℕ) → get_or flags i false ≡ true → get_or (assigned place (λ x. true) flags xs) i false ≡ true
+mark_stays place [] flags i e = e
+mark_stays place (x ∷ xs) flags i e = mark_stays place xs (set flags (place x) true) i (flag_stays flags (place x) i e)
+
+pub has_mark : {X : Type 0} (place : X → ℕ) (xs : List X) (flags : List Bool) (x : X) → Has xs x → place x < length flags → get_or (assigned place (λ x. true) flags xs) (place x) false ≡ true
+has_mark place [] flags x h less = absurd h
+has_mark place (y ∷ xs) flags x (inl e) less =
+    mark_stays place xs (set flags (place y) true) (place x)
+    (ap (λ z. get_or (set flags (place y) true) (place z) false) (sym e) ∙ get_or-set_same flags (place y) true false (omega (arith, less, ap place e)))
+has_mark place (y ∷ xs) flags x (inr h) less = has_mark place xs (set flags (place y) true) x h (omega (arith, less, length-set flags (place y) true))
+
+pub mark_has : {X : Type 0} (place : X → ℕ) (xs : List X) (flags : List Bool) (i : ℕ) → get_or (assigned place (λ x. true) flags xs) i false ≡ true →
+    (get_or flags i false ≡ true) ⊎ ((x : X) × Has xs x × (place x ≡ i))
+mark_has place [] flags i e = inl e
+mark_has {X} place (y ∷ xs) flags i e = by_later (mark_has place xs (set flags (place y) true) i e)
+  where
+    by_place : (i ≡ place y) ⊎ (i ≡ place y → ⊥) → get_or (set flags (place y) true) i false ≡ true → (get_or flags i false ≡ true) ⊎ ((x : X) × Has (y ∷ xs) x × (place x ≡ i))
+    by_place (inl same) k = inr (y, inl refl, sym same)
+    by_place (inr other) k = inl (sym (get_or-set_other flags (place y) i true false other) ∙ k)
+
+    by_later : (get_or (set flags (place y) true) i false ≡ true) ⊎ ((x : X) × Has xs x × (place x ≡ i)) → (get_or flags i false ≡ true) ⊎ ((x : X) × Has (y ∷ xs) x × (place x ≡ i))
+    by_later (inl k) = by_place (cases_eq i (place y)) k
+    by_later (inr (x, h, at)) = inr (x, inr h, at)

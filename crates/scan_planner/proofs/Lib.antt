@@ -12,4 +12,7 @@ pub mod QuietLemmas
 pub mod EntryLemmas
 pub mod CodeLemmas
 pub mod TableLemmas
+pub mod DriverTableLemmas
+pub mod ObserverLemmas
+pub mod SeenLemmas
 pub mod PlanLemmas

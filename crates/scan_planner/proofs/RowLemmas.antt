@@ -1,23 +1,11 @@
 -- Steps of the loops over rows.
-use Rattle.std.proofs.Common.{◌≡◌, ℕ, suc, ◌+◌, ◌-◌, ◌<◌, ◌==◌, Bool, true, false, cond, List, [], ◌∷◌, ◌++◌, length, take, get_or, set, replicate, refl, sym, ap, ◌∙◌, arith, append_assoc, length-set}
+use Rattle.std.proofs.Common.{◌≡◌, ℕ, ◌+◌, ◌<◌, ◌==◌, Bool, true, false, cond, List, [], ◌∷◌, length, take, get_or, set, refl, sym, ap, ◌∙◌, length-set}
 use Rattle.std.specs.Prelude.{◌||◌}
 use Rattle.std.specs.List.{list_any}
-use Rattle.std.proofs.lemmas.List.{set_at, take_more, length-take-le}
 use Rattle.std.proofs.lemmas.List.Folds.{list_any_more}
 use Rattle.std.proofs.lemmas.Option.{slice_get-get_or, get_or_from_slice_get}
 use Rattle.scan_planner.specs.declared.tables.ReaderCell.{ReaderCell}
 use Rattle.scan_planner.specs.Assigned.{set_readers}
-
--- one bit more is copied
-pub copy_more : (bits : List Bool) (i : ℕ) → i < length bits → set (take i bits ++ replicate (length bits - i) false) i (get_or bits i false) ≡ take (i + 1) bits ++ replicate (length bits - (i + 1)) false
-copy_more bits i less =
-    let n : ℕ = length bits - (i + 1) in
-    let x : Bool = get_or bits i false in
-    let one : length bits - i ≡ suc n = omega (arith, less) in
-    ap (λ (k : ℕ). set (take i bits ++ replicate k false) i x) one
-    ∙ set_at (take i bits) false (replicate n false) x i (length-take-le i bits (omega (arith, less)))
-    ∙ sym (append_assoc (take i bits) (x ∷ []) (replicate n false))
-    ∙ ap (λ (t : List Bool). t ++ replicate n false) (sym (take_more bits i false less))
 
 -- one bit more is looked at
 pub any_more : (bits : List Bool) (i : ℕ) → i < length bits → list_any (λ bit. bit) (take i bits) ≡ false → get_or bits i false ≡ false → list_any (λ bit. bit) (take (i + 1) bits) ≡ false

@@ -1,5 +1,5 @@
 -- The tables, as they are made, are those of the plan.
-use Rattle.std.proofs.Common.{◌≡◌, ℕ, zero, suc, ◌+◌, ◌==◌, Bool, true, false, not, cond, ◌&&◌, ◌||◌, List, [], ◌∷◌, ◌++◌, map, Option, Some, None, is_some, refl, sym, ap, ◌∙◌, subst, arith, ◌⊎◌, inl, inr}
+use Rattle.std.proofs.Common.{◌≡◌, ℕ, zero, suc, ◌+◌, ◌==◌, Bool, true, false, not, cond, ◌&&◌, ◌||◌, List, [], ◌∷◌, ◌++◌, map, Option, Some, None, refl, sym, ap, ◌∙◌, subst, arith, ◌⊎◌, inl, inr}
 use Rattle.std.specs.Prelude.{slice_get, option_and_then, option_map, filter, find}
 use Rattle.std.specs.List.{list_any}
 use Rattle.std.proofs.lemmas.Bool.{and_parts}
@@ -12,17 +12,16 @@ use Rattle.board_defs.specs.declared.board.PinAt.{PinAt}
 use Rattle.board_defs.specs.declared.board.NetPin.{NetPin}
 use Rattle.board_defs.specs.declared.board.Net.{Net}
 use Rattle.board_defs.specs.declared.board.RawBoard.{RawBoard}
-use Rattle.board_defs.specs.declared.board.Ctl.{Ctl}
 use Rattle.board_defs.specs.DeviceRules.{reads_bit, may_receive}
 use Rattle.board_defs.specs.Pins.{device_at, entry_at, guarded, receives, receives_where, receives_in, receives_bit}
-use Rattle.board_defs.specs.Settings.{Enabling, holds, enables, enables_where, enables_entry, enables_by}
+use Rattle.board_defs.specs.Settings.{Enabling, enables, enables_where, enables_entry, enables_by}
 use Rattle.board_defs.proofs.Members.{Has, has_at, has_contains, contains_has, has_left, has_right, has_append, has_map, map_has, has_filter, filter_has}
 use Rattle.board_defs.proofs.Places.{any_place}
-use Rattle.tap_defs.specs.TestRows.{first_enabled, reads_beside, observing_driver, observing_driver_by, is_observed}
+use Rattle.tap_defs.specs.TestRows.{first_enabled, reads_beside, observing_driver, observing_driver_by}
 use Rattle.scan_planner.specs.declared.nets.NetDriver.{NetDriver}
 use Rattle.scan_planner.specs.declared.tables.ReaderCell.{ReaderCell}
 use Rattle.scan_planner.specs.Tables.{first_position, IsReaderCell}
-use Rattle.scan_planner.specs.Building.{gathered, optional, net_driver, driver_of, drivers_of_pins, drivers_of, reader_of, readers_in, readers_at, readers_of, is_on, observing_of, is_seen}
+use Rattle.scan_planner.specs.Building.{gathered, optional, net_driver, driver_of, drivers_of_pins, drivers_of, reader_of, readers_in, readers_at, readers_of, is_on, is_read_beside}
 
 -- what is gathered
 pub has_gathered : {X Y : Type 0} (f : ℕ → X → List Y) (k : ℕ) (xs : List X) (y : Y) → Has (gathered f k xs) y → (n : ℕ) × (x : X) × (slice_get xs n ≡ Some x) × Has (f (k + n) x) y
@@ -117,9 +116,13 @@ abbrev FirstOn : RawBoard → Enabling → ℕ → List NetPin → Option NetDri
 FirstOn board s k pins None = first_enabled board s k pins ≡ None
 FirstOn board s k pins (Some d) = (first_enabled board s k pins ≡ Some d.place) × DriverAt board k pins d
 
-on_by : (s : Enabling) (part : ℕ) (o : Option Control) → is_on s (option_map (λ control. record { part = part; cell = control.cell }) o) ≡ enables_by s part o
+pub on_by : (s : Enabling) (part : ℕ) (o : Option Control) → is_on s (option_map (λ control. record { part = part; cell = control.cell }) o) ≡ enables_by s part o
 on_by s part None = refl
 on_by s part (Some control) = refl
+
+-- the driver by which a setting observes a net with these compared cells: the first that it enables, where another pin is read
+abbrev pub observing_of : Enabling → List NetDriver → List ReaderCell → Option NetDriver
+observing_of setting drivers readers = option_and_then (λ d. cond (is_read_beside readers d) (Some d) None) (find (λ d. is_on setting d.ctl) drivers)
 
 abbrev found_on : Enabling → List NetDriver → Option NetDriver
 found_on s drivers = find (λ d. is_on s d.ctl) drivers
@@ -270,14 +273,3 @@ observed board s net = by_guard (guarded board net) refl
     by_guard : (t : Bool) → guarded board net ≡ t → Observed board s net (observing_of s (cond t [] (drivers_of_pins board net.pins)) (readers_of board net.pins))
     by_guard true g = ap (λ (b : Bool). cond b None (observing_driver_by board net (first_enabled board s 0 net.pins))) g
     by_guard false g = by_first g (found_on s (pin_drivers board 0 net.pins)) (first_on board s 0 net.pins)
-
--- whether some pass observes it
-pub seen_is : (board : RawBoard) (passes : List (List Ctl)) (net : Net) → is_seen passes holds (drivers_of board net) (readers_of board net.pins) ≡ is_observed board passes net
-seen_is board [] net = refl
-seen_is board (pass ∷ passes) net =
-    ap (λ (b : Bool). b || is_seen passes holds (drivers_of board net) (readers_of board net.pins)) (one (observing_of (holds pass) (drivers_of board net) (readers_of board net.pins)) (observed board (holds pass) net))
-    ∙ ap (λ (b : Bool). is_some (observing_driver board (holds pass) net) || b) (seen_is board passes net)
-  where
-    one : (o : Option NetDriver) → Observed board (holds pass) net o → is_some o ≡ is_some (observing_driver board (holds pass) net)
-    one None e = sym (ap (λ (o : Option ℕ). is_some o) e)
-    one (Some d) e = sym (ap (λ (o : Option ℕ). is_some o) e.0)

@@ -1,15 +1,13 @@
 -- The codes of nets, and the instructions of the scans of instructions.
-use Rattle.std.specs.Prelude.{◌≡◌, ℕ, suc, ◌-◌, ◌<◌, ◌≤◌, Bool, true, false, cond, List, [], ◌∷◌, All, length, replicate, take, count_by, slice_index_or}
+use Rattle.std.specs.Prelude.{◌≡◌, ℕ, suc, ◌-◌, ◌<◌, ◌≤◌, Bool, true, false, cond, List, ◌∷◌, All, length, fold, replicate, take, count_by, slice_index_or}
 use Rattle.board_defs.specs.declared.board.PartKind.{PartKind}
 use Rattle.board_defs.specs.declared.board.Part.{Part}
-use Rattle.board_defs.specs.declared.board.Ctl.{Ctl}
 use Rattle.board_defs.specs.Pins.{instruction_length}
-use Rattle.board_defs.specs.Settings.{holds}
 use Rattle.tap_defs.specs.BoardScans.{preload_code, extest_code}
 use Rattle.scan_planner.specs.declared.codes.NetCodes.{NetCodes}
-use Rattle.scan_planner.specs.declared.nets.NetDriver.{NetDriver}
-use Rattle.scan_planner.specs.declared.tables.ReaderCell.{ReaderCell}
-use Rattle.scan_planner.specs.Building.{is_seen}
+use Rattle.scan_planner.specs.declared.tables.DriverCell.{DriverCell}
+use Rattle.scan_planner.specs.declared.tables.PassCells.{PassCells}
+use Rattle.scan_planner.specs.Assigned.{assigned}
 use Rattle.scan_planner.specs.declared.instructions.Instruction.{Instruction}
 use Rattle.scan_planner.specs.declared.instructions.Instruction.TheVariants.{Preload, Extest}
 
@@ -33,10 +31,13 @@ captured_bits length = true ∷ replicate (length - 1) false
 abbrev pub compared_bits : ℕ → List Bool
 compared_bits length = true ∷ true ∷ replicate (length - 2) false
 
--- which nets some pass observes, by their drivers and compared cells
-pub record AreSeen (passes : List (List Ctl)) (drivers : List (List NetDriver)) (readers : List (List ReaderCell)) (seen : List Bool) : Type 0 where
-  pub count : length seen ≡ length drivers
-  pub each : (n : ℕ) → n < length drivers → slice_index_or seen n false ≡ is_seen passes holds (slice_index_or drivers n []) (slice_index_or readers n [])
+-- the flags of the nets of these cells set
+abbrev pub marked : List Bool → List DriverCell → List Bool
+marked flags cells = assigned (λ d. d.net) (λ d. true) flags cells
+
+-- which of so many nets have a cell in some pass
+abbrev pub seen_in : ℕ → List PassCells → List Bool
+seen_in nets passes = fold (λ done cells. marked done cells.drivers) (replicate nets false) passes
 
 -- the nets that are observed are numbered from 1, and the others have 0
 pub record AreCodes (seen : List Bool) (codes : NetCodes) : Type 0 where

@@ -1,13 +1,9 @@
 // The codes of nets.
-ghost use Rattle.std.specs.Prelude.{◌≡◌, ◌≤◌, ◌<◌, ℕ, [], false, suc, cond, length, take, count_by, slice_index_or, IfOk};
-ghost use Rattle.board_defs.specs.Settings.{holds};
-ghost use Rattle.scan_planner.specs.Building.{is_seen};
-ghost use Rattle.scan_planner.specs.Codes.{AreCodes, AreSeen};
+ghost use Rattle.std.specs.Prelude.{◌≡◌, ◌≤◌, ◌<◌, ℕ, false, true, suc, cond, length, fold, take, count_by, slice_index_or, slice_set, IfOk};
+ghost use Rattle.scan_planner.specs.Codes.{AreCodes, marked, seen_in};
 
-use crate::nets::NetDriver;
-use crate::passes::is_seen;
-use crate::tables::ReaderCell;
-use board_defs::{Items, Setting};
+use crate::tables::{DriverCell, PassCells};
+use board_defs::Items;
 use std::alloc::{AllocError, Global};
 
 /// The codes of nets, net by net, and how many are not 0.
@@ -17,20 +13,36 @@ pub struct NetCodes {
     pub count: u32,
 }
 
-/// Whether some pass observes each net.
-pub fn seen_nets(
-    alloc: Global,
-    passes: &[Setting],
-    drivers: &[Items<NetDriver>],
-    readers: &[Items<ReaderCell>],
-) -> Result<Vec<bool>, AllocError>
-    requires { length readers.now ≡ length drivers.now }
-    ensures { IfOk result (λ seen. AreSeen passes.now drivers.now readers.now seen.items) }
+fn mark(flags: &mut [bool], net: usize)
+    ensures { flags.new ≡ slice_set flags.old net true }
 {
-    let mut seen = Vec::new(alloc);
-    for net in 0..drivers.len() {
-        seen.push(is_seen(passes, drivers[net].as_slice(), readers[net].as_slice()))?;
+    if net < flags.len() {
+        flags[net] = true;
     }
+}
+
+fn mark_all(flags: &mut [bool], cells: &[DriverCell])
+    ensures { flags.new ≡ marked flags.old cells.now }
+{
+    for cell in cells {
+        mark(flags, cell.net as usize);
+    }
+}
+
+fn mark_passes(flags: &mut [bool], passes: &[PassCells])
+    ensures { flags.new ≡ fold (λ done cells. marked done cells.drivers) flags.old passes.now }
+{
+    for cells in passes {
+        mark_all(flags, cells.drivers.as_slice());
+    }
+}
+
+/// Which of so many nets the passes with these cells observe.
+pub fn seen_nets(alloc: Global, nets: usize, passes: &[PassCells]) -> Result<Vec<bool>, AllocError>
+    ensures { IfOk result (λ seen. seen.items ≡ seen_in nets passes.now) }
+{
+    let mut seen = vec![in alloc; false; nets]?;
+    mark_passes(&mut seen, passes);
     Ok(seen)
 }
 

@@ -7,7 +7,7 @@ ghost use Rattle.tap_defs.specs.Scan.{joined, tdi_bits, tdo_bits, mask_bits};
 ghost use Rattle.scan_planner.specs.Tables.{ArePassCells};
 ghost use Rattle.scan_planner.specs.Plans.{IsPlanOf, IsRoom, FillsScan, scan_count, scan_of_pass};
 
-use crate::rows::{compare_nets, copy_bits, has_one, set_drivers, set_held};
+use crate::rows::{compare_nets, has_one, set_drivers, set_held};
 use crate::tables::{FixedRows, PassCells, PlanTables};
 use board_defs::Board;
 use bt_bits::Row;
@@ -26,7 +26,6 @@ fn shape_of(ir: bool, mask: &Row) -> Shape
 
 // Copies the rows of a scan.
 fn copy_rows(rows: &FixedRows, tdi: &mut Row, tdo: &mut Row, mask: &mut Row)
-    requires few { length rows.now.tdi ≤ 65535 }
     requires tdo_length { length rows.now.tdo ≡ length rows.now.tdi }
     requires mask_length { length rows.now.mask ≡ length rows.now.tdi }
     requires tdi_room { length rows.now.tdi ≤ tdi.old.room }
@@ -39,9 +38,9 @@ fn copy_rows(rows: &FixedRows, tdi: &mut Row, tdo: &mut Row, mask: &mut Row)
     ensures tdo_kept { tdo.new.room ≡ tdo.old.room }
     ensures mask_kept { mask.new.room ≡ mask.old.room }
 {
-    copy_bits(rows.tdi.as_slice(), tdi);
-    copy_bits(rows.tdo.as_slice(), tdo);
-    copy_bits(rows.mask.as_slice(), mask);
+    tdi.copy_from(rows.tdi.as_slice());
+    tdo.copy_from(rows.tdo.as_slice());
+    mask.copy_from(rows.mask.as_slice());
 }
 
 // The first scan, which shifts the preload codes in.
@@ -107,7 +106,7 @@ fn fill_quiet(
 {
     let _ = board.raw();
     let len = board.dr_bits();
-    copy_bits(tables.quiet.as_slice(), tdi);
+    tdi.copy_from(tables.quiet.as_slice());
     tdo.clear(len);
     mask.clear(len);
     shape_of(false, mask)
@@ -142,7 +141,7 @@ fn fill_code_row(board: &Board, tables: &PlanTables, pass: usize, j: u32, tdi: &
 {
     let _ = board.raw();
     let cells = pass_cells(board, tables, pass);
-    copy_bits(tables.quiet.as_slice(), tdi);
+    tdi.copy_from(tables.quiet.as_slice());
     set_held(cells.held.as_slice(), tdi);
     set_drivers(cells.drivers.as_slice(), tables.codes.as_slice(), j, tdi);
 }
@@ -160,7 +159,7 @@ fn fill_now(board: &Board, tables: &PlanTables, pass: usize, j: u32, tdi: &mut R
     if j < tables.width {
         fill_code_row(board, tables, pass, j, tdi)
     } else {
-        copy_bits(tables.quiet.as_slice(), tdi)
+        tdi.copy_from(tables.quiet.as_slice())
     }
 }
 

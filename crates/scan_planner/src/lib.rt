@@ -3,12 +3,14 @@
 
 mod build;
 mod codes;
+mod controls;
 mod entries;
 mod fill;
 mod guards;
 mod instructions;
 pub mod law;
 mod nets;
+mod observers;
 mod passes;
 mod plan;
 mod positions;

@@ -8,20 +8,6 @@ use board_defs::Items;
 use bt_bits::Row;
 use counting_codes::bit;
 
-/// Makes a row these bits.
-pub fn copy_bits(bits: &[bool], row: &mut Row)
-    requires few { length bits.now ≤ 65535 }
-    requires room { length bits.now ≤ row.old.room }
-    ensures bits { row.new.bits ≡ bits.now }
-    ensures room { row.new.room ≡ row.old.room }
-{
-    let len = bits.len() as u32;
-    row.clear(len);
-    for i in 0..len {
-        row.set(i, bits[i as usize]);
-    }
-}
-
 /// Whether some bit of a row is 1.
 pub fn has_one(row: &Row) -> bool
     ensures { result ≡ list_any (λ bit. bit) row.now.bits }

@@ -1,7 +1,7 @@
 // Rows of a bus with two drivers and a receiver, by hand, and codes.
 use crate::Plan;
 use crate::codes::number_nets;
-use crate::rows::{compare_nets, copy_bits, has_one, set_drivers, set_held};
+use crate::rows::{compare_nets, has_one, set_drivers, set_held};
 use crate::tables::{DriverCell, HeldCell, ReaderCell};
 use board_defs::Items;
 use bt_bits::Row;
@@ -32,7 +32,7 @@ fn the_enabled_driver_holds_the_code(rt: HostRuntime) -> Result<(), Fail> {
         place: 0,
         position: 3,
     }];
-    copy_bits(&QUIET, &mut row);
+    row.copy_from(&QUIET);
     set_held(&held, &mut row);
     set_drivers(&drivers, &[1], 0, &mut row);
     for (i, bit) in [false, false, true, true, false].iter().enumerate() {

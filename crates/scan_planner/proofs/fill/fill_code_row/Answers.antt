@@ -9,12 +9,8 @@ use Rattle.scan_planner.proofs.AssignLemmas.{length-assigned}
 use Rattle.scan_planner.proofs.FillLemmas.{quiet_length, held_within, drivers_within, drivers_on_nets, code_row_is}
 use Rattle.scan_planner.proofs.fill.fill_code_row.Goals as goal
 
-pub copy_bits-requires-clause-few : goal.copy_bits-requires-clause-few
-copy_bits-requires-clause-few c =
-    omega (arith, quiet_length c.args.board.now c.raw.ensures.rules c.args.tables.now c.requires.plan, ap (λ l. length l) c.as_slice.ensures, c.raw.ensures.rules.data_most)
-
-pub copy_bits-requires-clause-room : goal.copy_bits-requires-clause-room
-copy_bits-requires-clause-room c =
+pub copy_from-requires : goal.copy_from-requires
+copy_from-requires c =
     omega (arith, quiet_length c.args.board.now c.raw.ensures.rules c.args.tables.now c.requires.plan, ap (λ l. length l) c.as_slice.ensures, c.requires.room)
 
 pub set_held-requires : goal.set_held-requires
@@ -25,7 +21,7 @@ set_held-requires c =
       held_within c.args.board.now c.raw.ensures.rules c.args.tables.now c.requires.plan c.args.pass c.requires.pass c.pass_cells-cells.result.now c.pass_cells-cells.ensures k d less,
       quiet_length c.args.board.now c.raw.ensures.rules c.args.tables.now c.requires.plan,
       ap (λ l. length l) c.as_slice.ensures,
-      ap (λ l. length l) c.copy_bits.ensures.bits,
+      ap (λ l. length l) c.copy_from.ensures.bits,
     ))
 
 pub set_drivers-requires-clause-nets : goal.set_drivers-requires-clause-nets
@@ -46,9 +42,9 @@ set_drivers-requires-clause-within c =
       drivers_within c.args.board.now c.raw.ensures.rules c.args.tables.now c.requires.plan c.args.pass c.requires.pass c.pass_cells-cells.result.now c.pass_cells-cells.ensures k d less,
       quiet_length c.args.board.now c.raw.ensures.rules c.args.tables.now c.requires.plan,
       ap (λ l. length l) c.as_slice.ensures,
-      ap (λ l. length l) c.copy_bits.ensures.bits,
+      ap (λ l. length l) c.copy_from.ensures.bits,
       ap (λ l. length l) c.set_held.ensures.bits,
-      length-assigned (λ (h : HeldCell). h.position) (λ h. h.bit) c.copy_bits.new.row.bits c.as_slice-2.result.now,
+      length-assigned (λ (h : HeldCell). h.position) (λ h. h.bit) c.copy_from.new.self.bits c.as_slice-2.result.now,
     ))
 
 pub returns-clause-bits : goal.returns-clause-bits
@@ -62,7 +58,7 @@ returns-clause-bits c =
     ∙ ap (λ codes. assigned (λ (d : DriverCell). d.position) (driver_bit codes j) c.set_held.new.row.bits c.as_slice-3.result.now) c.as_slice-4.ensures
     ∙ ap (λ drivers. assigned (λ (d : DriverCell). d.position) (driver_bit plan.codes j) c.set_held.new.row.bits drivers) c.as_slice-3.ensures
     ∙ ap (λ bits. assigned (λ (d : DriverCell). d.position) (driver_bit plan.codes j) bits cells.drivers)
-    (c.set_held.ensures.bits ∙ ap (λ held. assigned (λ (h : HeldCell). h.position) (λ h. h.bit) c.copy_bits.new.row.bits held) c.as_slice-2.ensures
-    ∙ ap (λ bits. assigned (λ (h : HeldCell). h.position) (λ h. h.bit) bits cells.held) (c.copy_bits.ensures.bits ∙ c.as_slice.ensures))
+    (c.set_held.ensures.bits ∙ ap (λ held. assigned (λ (h : HeldCell). h.position) (λ h. h.bit) c.copy_from.new.self.bits held) c.as_slice-2.ensures
+    ∙ ap (λ bits. assigned (λ (h : HeldCell). h.position) (λ h. h.bit) bits cells.held) (c.copy_from.ensures.bits ∙ c.as_slice.ensures))
     ∙ code_row_is board c.raw.ensures.rules plan c.requires.plan x c.requires.pass cells c.pass_cells-cells.ensures j (scan_of_pass board plan x j)
     (ap (λ (t : Bool). cond t (code_row board plan.passes (get_or plan.passes x []) j) quiet_row) (lt-ltb j plan.width c.requires.row))

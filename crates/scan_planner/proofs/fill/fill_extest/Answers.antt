@@ -6,10 +6,6 @@ use Rattle.tap_defs.proofs.ScanPlaceLemmas.{scans_placed}
 use Rattle.scan_planner.proofs.FillLemmas.{fills, extest_sized, tdi_length}
 use Rattle.scan_planner.proofs.fill.fill_extest.Goals as goal
 
-pub copy_rows-requires-clause-few : goal.copy_rows-requires-clause-few
-copy_rows-requires-clause-few c =
-    let s = extest_sized c.args.board.now c.raw.ensures.rules in omega (arith, tdi_length s c.requires.plan.tables.extest, s.most, s.size_is)
-
 pub copy_rows-requires-clause-tdi_room : goal.copy_rows-requires-clause-tdi_room
 copy_rows-requires-clause-tdi_room c =
     let s = extest_sized c.args.board.now c.raw.ensures.rules in omega (arith, tdi_length s c.requires.plan.tables.extest, c.requires.tdi_room.instructions)

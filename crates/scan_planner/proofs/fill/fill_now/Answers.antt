@@ -5,18 +5,14 @@ use Rattle.scan_planner.specs.Plans.{scan_of_pass}
 use Rattle.scan_planner.proofs.FillLemmas.{quiet_length, quiet_is}
 use Rattle.scan_planner.proofs.fill.fill_now.Goals as goal
 
-pub copy_bits-requires-clause-few : goal.copy_bits-requires-clause-few
-copy_bits-requires-clause-few c =
-    omega (arith, quiet_length c.args.board.now c.raw.ensures.rules c.args.tables.now c.requires.plan, ap (λ l. length l) c.as_slice.ensures, c.raw.ensures.rules.data_most)
-
-pub copy_bits-requires-clause-room : goal.copy_bits-requires-clause-room
-copy_bits-requires-clause-room c =
+pub copy_from-requires : goal.copy_from-requires
+copy_from-requires c =
     omega (arith, quiet_length c.args.board.now c.raw.ensures.rules c.args.tables.now c.requires.plan, ap (λ l. length l) c.as_slice.ensures, c.requires.room)
 
 pub returns-else-j-tables-clause-bits : goal.returns-else-j-tables-clause-bits
 returns-else-j-tables-clause-bits c =
     let board = c.args.board.now in
     let plan = c.args.tables.now in
-    c.copy_bits.ensures.bits ∙ c.as_slice.ensures
+    c.copy_from.ensures.bits ∙ c.as_slice.ensures
     ∙ quiet_is board c.raw.ensures.rules plan c.requires.plan (scan_of_pass board plan c.args.pass c.args.j)
     (ap (λ (t : Bool). cond t (code_row board plan.passes (get_or plan.passes c.args.pass []) c.args.j) quiet_row) (le-ltb c.args.j plan.width c.if-j-tables.false))

@@ -6,10 +6,6 @@ use Rattle.tap_defs.proofs.ScanPlaceLemmas.{scans_placed}
 use Rattle.scan_planner.proofs.FillLemmas.{fills, preload_sized, tdi_length}
 use Rattle.scan_planner.proofs.fill.fill_preload.Goals as goal
 
-pub copy_rows-requires-clause-few : goal.copy_rows-requires-clause-few
-copy_rows-requires-clause-few c =
-    let s = preload_sized c.args.board.now c.raw.ensures.rules in omega (arith, tdi_length s c.requires.plan.tables.preload, s.most, s.size_is)
-
 pub copy_rows-requires-clause-tdi_room : goal.copy_rows-requires-clause-tdi_room
 copy_rows-requires-clause-tdi_room c =
     let s = preload_sized c.args.board.now c.raw.ensures.rules in omega (arith, tdi_length s c.requires.plan.tables.preload, c.requires.tdi_room.instructions)

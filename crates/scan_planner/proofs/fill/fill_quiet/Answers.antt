@@ -5,12 +5,8 @@ use Rattle.tap_defs.proofs.ScanPlaceLemmas.{scans_placed}
 use Rattle.scan_planner.proofs.FillLemmas.{fills, row_sized, quiet_length, quiet_tdo, quiet_mask}
 use Rattle.scan_planner.proofs.fill.fill_quiet.Goals as goal
 
-pub copy_bits-requires-clause-few : goal.copy_bits-requires-clause-few
-copy_bits-requires-clause-few c =
-    omega (arith, quiet_length c.args.board.now c.raw.ensures.rules c.args.tables.now c.requires.plan, ap (λ l. length l) c.as_slice.ensures, c.raw.ensures.rules.data_most)
-
-pub copy_bits-requires-clause-room : goal.copy_bits-requires-clause-room
-copy_bits-requires-clause-room c =
+pub copy_from-requires : goal.copy_from-requires
+copy_from-requires c =
     omega (arith, quiet_length c.args.board.now c.raw.ensures.rules c.args.tables.now c.requires.plan, ap (λ l. length l) c.as_slice.ensures, c.requires.tdi_room)
 
 pub returns-clause-filled : goal.returns-clause-filled
@@ -20,7 +16,7 @@ returns-clause-filled c =
     let s = row_sized board c.raw.ensures.rules first_row_scan in
     let scan : Scan = scan_of_row board first_row_scan in
     fills board plan.passes plan.width 1 scan _ _ _ _ (scans_placed board plan.passes plan.width).quiet s.some s.most
-    (c.copy_bits.ensures.bits ∙ c.as_slice.ensures ∙ c.requires.plan.tables.quiet)
+    (c.copy_from.ensures.bits ∙ c.as_slice.ensures ∙ c.requires.plan.tables.quiet)
     (c.clear.ensures.bits ∙ ap (λ n. replicate n false) c.dr_bits-len.ensures ∙ quiet_tdo board first_row_scan refl)
     (c.clear-2.ensures.bits ∙ ap (λ n. replicate n false) c.dr_bits-len.ensures ∙ quiet_mask board first_row_scan refl)
     c.shape_of.ensures.ir c.shape_of.ensures.compare

@@ -1,0 +1,157 @@
+// The driver cells of each control, so that the cells of a pass are found by its controls.
+ghost use Rattle.std.specs.Prelude.{◌≡◌, ◌++◌, ◌∷◌, [], Some, length, map, filter, is_none, replicate, slice_index_or, IfOk, OnOk};
+ghost use Rattle.std.specs.List.{flat_map};
+ghost use Rattle.scan_planner.specs.Building.{noted_at, all_noted, always_on, table_of, cells_on};
+
+use crate::observers::Observer;
+use crate::tables::{DriverCell, HeldCell};
+use board_defs::Items;
+use std::alloc::{AllocError, Global};
+use std::marker::Model;
+
+/// The driver cells of one control.
+#[derive(Debug, Drop)]
+pub struct ControlCells {
+    cells: Vec<DriverCell>,
+}
+
+impl Model for ControlCells {
+    ghost use Rattle.std.specs.Prelude.{List};
+    ghost use Rattle.scan_planner.specs.declared.tables.DriverCell.{DriverCell};
+
+    ghost Value = { List DriverCell };
+
+    ghost view = { λ a. a.cells.items };
+}
+
+impl ControlCells {
+    fn none(alloc: Global) -> ControlCells
+        ensures { result ≡ [] }
+    {
+        ControlCells {
+            cells: Vec::new(alloc),
+        }
+    }
+
+    fn push(&mut self, cell: DriverCell) -> Result<(), AllocError>
+        ensures { OnOk result (self.new ≡ self.old ++ cell ∷ []) }
+    {
+        self.cells.push(cell)?;
+        Ok(())
+    }
+
+    fn as_slice(&self) -> &[DriverCell]
+        ensures { result.now ≡ self.now }
+    {
+        &self.cells
+    }
+}
+
+/// The driver cells by which passes observe nets: those of the drivers that are always on, and those of each control,
+/// at the position of its cell.
+#[derive(Debug, Drop)]
+pub struct DriverTable {
+    pub always: Items<DriverCell>,
+    pub rows: Items<ControlCells>,
+}
+
+fn note_at(rows: &mut [ControlCells], control: usize, cell: DriverCell) -> Result<(), AllocError>
+    ensures { OnOk result (rows.new ≡ noted_at rows.old (Some control) cell) }
+{
+    if control < rows.len() {
+        rows[control].push(cell)?;
+    }
+    Ok(())
+}
+
+fn note(rows: &mut [ControlCells], observer: Observer) -> Result<(), AllocError>
+    ensures { OnOk result (rows.new ≡ noted_at rows.old observer.control observer.cell) }
+{
+    match observer.control {
+        None => Ok(()),
+        Some(control) => note_at(rows, control as usize, observer.cell),
+    }
+}
+
+fn note_all(rows: &mut [ControlCells], observers: &[Observer]) -> Result<(), AllocError>
+    ensures { OnOk result (rows.new ≡ all_noted rows.old observers.now) }
+{
+    for observer in observers {
+        note(rows, *observer)?;
+    }
+    Ok(())
+}
+
+fn blank(alloc: Global, bits: usize) -> Result<Vec<ControlCells>, AllocError>
+    ensures { IfOk result (λ rows. rows.items ≡ replicate bits []) }
+{
+    let mut rows = Vec::new(alloc);
+    for _control in 0..bits {
+        rows.push(ControlCells::none(alloc))?;
+    }
+    Ok(rows)
+}
+
+fn always_on(alloc: Global, observers: &[Observer]) -> Result<Vec<DriverCell>, AllocError>
+    ensures { IfOk result (λ cells. cells.items ≡ always_on observers.now) }
+{
+    let mut cells = Vec::new(alloc);
+    for observer in observers {
+        if observer.control.is_none() {
+            cells.push(observer.cell)?;
+        }
+    }
+    Ok(cells)
+}
+
+/// The table of these drivers, for a row of so many bits.
+pub fn driver_table(
+    alloc: Global,
+    observers: &[Observer],
+    bits: usize,
+) -> Result<DriverTable, AllocError>
+    ensures { IfOk result (λ table. table ≡ table_of observers.now bits) }
+{
+    let always = always_on(alloc, observers)?;
+    let mut rows = blank(alloc, bits)?;
+    note_all(&mut rows, observers)?;
+    Ok(DriverTable {
+        always: Items::of(always),
+        rows: Items::of(rows),
+    })
+}
+
+fn cells_at(rows: &[ControlCells], control: usize) -> &[DriverCell]
+    ensures { result.now ≡ slice_index_or rows.now control [] }
+{
+    match rows.get(control) {
+        None => &[],
+        Some(row) => row.as_slice(),
+    }
+}
+
+fn push_controlled(
+    rows: &[ControlCells],
+    held: &[HeldCell],
+    cells: &mut Vec<DriverCell>,
+) -> Result<(), AllocError>
+    ensures { OnOk result (cells.new.items ≡ cells.old.items ++ flat_map (λ h. slice_index_or rows.now h.position []) held.now) }
+{
+    for control in held {
+        cells.extend_from_slice(cells_at(rows, control.position as usize))?;
+    }
+    Ok(())
+}
+
+/// The driver cells of a pass with these controls.
+pub fn cells_on(
+    alloc: Global,
+    table: &DriverTable,
+    held: &[HeldCell],
+) -> Result<Items<DriverCell>, AllocError>
+    ensures { IfOk result (λ cells. cells ≡ cells_on table.now held.now) }
+{
+    let mut cells = table.always.as_slice().to_vec(alloc)?;
+    push_controlled(table.rows.as_slice(), held, &mut cells)?;
+    Ok(Items::of(cells))
+}
