@@ -66,6 +66,26 @@ awk 'BEGIN {
 awk 'BEGIN { for (i = 1; i <= 254; i++) print "DEVICE U" i " MESH -" }' >mesh.chain
 awk 'BEGIN { k = 254; for (i = 1; i <= k; i++) for (b = 0; b < 64; b++) print "NET R" i "_" b " U" i "." b + 1 " U" (i % k) + 1 "." b + 65 }' >mesh.nets
 
+# 254 devices of 257 cells: 128 outputs of one group each, and 128 inputs; 16,256 nets, each driven by two devices.
+awk 'BEGIN {
+    print "0 (BC_1, *, control, 1)"
+    for (i = 0; i < 128; i++) print i + 1 " (BC_1, Q(" i "), output3, X, 0, 1, Z)"
+    for (i = 0; i < 128; i++) print i + 129 " (BC_1, D(" i "), input, X)" }' |
+    bsdl TWIN 'Q : out bit_vector(0 to 127); D : in bit_vector(0 to 127)' "\"Q:($(numbers 1 128)), D:($(numbers 129 256))\"" 257 >twin.bsd
+awk 'BEGIN { for (i = 1; i <= 254; i++) print "DEVICE U" i " TWIN -" }' >twin.chain
+awk 'BEGIN {
+    for (i = 1; i <= 127; i++) for (b = 1; b <= 128; b++) {
+        j = i + 127
+        print "NET R" i "_" b " U" i "." b " U" j "." b " U" i "." b + 128 " U" j "." b + 128 } }' >twin.nets
+
+# 250 devices of 17 cells: 8 outputs, each with a control of its own, all 2,000 on one net, and an input on it.
+awk 'BEGIN {
+    for (i = 0; i < 8; i++) print 2 * i " (BC_1, *, control, 1), " 2 * i + 1 " (BC_1, Q(" i "), output3, X, " 2 * i ", 1, Z)"
+    print "16 (BC_1, D, input, X)" }' |
+    bsdl LONG 'Q : out bit_vector(0 to 7); D : in bit' "\"Q:($(numbers 1 8)), D:9\"" 17 >long.bsd
+awk 'BEGIN { for (i = 1; i <= 250; i++) print "DEVICE U" i " LONG -" }' >long.chain
+awk 'BEGIN { printf "NET B"; for (i = 1; i <= 250; i++) for (b = 1; b <= 9; b++) printf " U" i "." b; print "" }' >long.nets
+
 figure() {
     local name=$1
     shift
@@ -87,3 +107,6 @@ figure 'cover, 255 devices on a bus' cover bus.chain bus.nets bus.bsd
 figure 'svf, 255 devices on a bus' svf bus.chain bus.nets bus.bsd
 figure 'cover, 16,256 covered nets' cover mesh.chain mesh.nets mesh.bsd
 figure 'svf, 16,256 covered nets' svf mesh.chain mesh.nets mesh.bsd
+figure 'cover, 16,256 nets of two drivers' cover twin.chain twin.nets twin.bsd
+figure 'svf, 16,256 nets of two drivers' svf twin.chain twin.nets twin.bsd
+figure 'svf, a bus of 2,000 drivers' svf long.chain long.nets long.bsd
