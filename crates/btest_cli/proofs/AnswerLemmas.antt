@@ -3,7 +3,6 @@ use Rattle.std.proofs.Common.{◌≡◌, ◌≤◌, ℕ, List, [], ◌∷◌, ma
 use Rattle.bt_base.specs.Puts.{Puts, Shown, Takes}
 use Rattle.tap_defs.specs.ChainScans.{chain_text}
 use Rattle.tap_defs.specs.BoardScans.{board_text}
-use Rattle.board_defs.specs.declared.board.RawBoard.{RawBoard}
 use Rattle.device_check.specs.DeviceText.{device_text}
 use Rattle.coverage_list.specs.CoverText.{cover_text}
 use Rattle.btest_core.specs.Answers.{FaultIs}
@@ -11,7 +10,7 @@ use Rattle.btest_core.specs.declared.fault.InputFault.{InputFault}
 use Rattle.btest_core.specs.declared.fault.InputFault.TheVariants as input
 use Rattle.btest_core.specs.BoardRead.{AreChainLengths, IsBoardRead}
 use Rattle.btest_core.specs.DevicesRead.{IsDeviceText}
-use Rattle.command_line.specs.Words.{Text, Command, Chain, Device, Cover, Svf}
+use Rattle.command_line.specs.Words.{Text, BoardNames, Command, Chain, Device, Cover, Svf}
 use Rattle.btest_cli.specs.declared.failure.Unput.{Unput}
 use Rattle.btest_cli.specs.declared.failure.Unput.TheVariants as unput
 use Rattle.btest_cli.specs.Refusals.{roles_of, input_fault_line}
@@ -69,32 +68,10 @@ device_told name (first ∷ []) d text old new result one same answers =
     answered (Device name) (first.items ∷ []) (IsDeviceText first.items) device_text Nothing old new result (λ o says. says) (λ worth. worth) found
 device_told name (first ∷ other ∷ rest) d text old new result one same answers = absurd (omega (arith, one))
 
--- what is answered for the board of a chain file, a net file and BSDL texts
-abbrev OfBoard : (RawBoard → Text) → (Text → Text → List Text → Shown → Type 0) → Shown → Shown → Result (Unit {0}) Unput → Text → Text → List Text → Type 0
-OfBoard text_of IsWorth old new result chain nets texts = Answers (IsBoardRead chain nets texts) text_of (IsWorth chain nets texts) old new result
+-- the answer to the texts of `cover`
+pub cover_told : (names : BoardNames) (chain nets : Text) (bsdl : List Text) (old new : Shown) (result : Result (Unit {0}) Unput) → Answers (IsBoardRead chain nets bsdl) cover_text Nothing old new result → IsAnswered (Cover names) (chain ∷ nets ∷ bsdl) old new result
+cover_told names chain nets bsdl old new result answers = answered (Cover names) (chain ∷ nets ∷ bsdl) (IsBoardRead chain nets bsdl) cover_text Nothing old new result (λ o says. says) (λ worth. worth) answers
 
--- the answer for a board, as the first two of all texts and the others
-board_told : (text_of : RawBoard → Text) (IsWorth : Text → Text → List Text → Shown → Type 0) (all : List (Vec ℕ Global)) (d e : Vec ℕ Global) (rest : List (Vec ℕ Global)) (chain nets : Text) (old new : Shown) (result : Result (Unit {0}) Unput) (IsTold : List Text → Type 0)
-    → 2 ≤ length all → chain ≡ (slice_index_or all 0 d).items → nets ≡ (slice_index_or all 1 e).items → rest ≡ drop 2 all
-    → ((c n : Text) (ts : List Text) → OfBoard text_of IsWorth old new result c n ts → IsTold (c ∷ n ∷ ts)) → OfBoard text_of IsWorth old new result chain nets (map (λ t. t.items) rest) → IsTold (map (λ t. t.items) all)
-board_told text_of IsWorth [] d e rest chain nets old new result IsTold some same_chain same_nets others tells answers = absurd (omega (arith, some))
-board_told text_of IsWorth (first ∷ []) d e rest chain nets old new result IsTold some same_chain same_nets others tells answers = absurd (omega (arith, some))
-board_told text_of IsWorth (first ∷ second ∷ more) d e rest chain nets old new result IsTold some same_chain same_nets others tells answers =
-    let one = subst (λ (t : Text). OfBoard text_of IsWorth old new result t nets (map (λ t. t.items) rest)) same_chain answers in
-    let two = subst (λ (t : Text). OfBoard text_of IsWorth old new result first.items t (map (λ t. t.items) rest)) same_nets one in
-    let three = subst (λ (l : List (Vec ℕ Global)). OfBoard text_of IsWorth old new result first.items second.items (map (λ t. t.items) l)) others two in
-    tells first.items second.items (map (λ t. t.items) more) three
-
-pub cover_told : (file net_file : Text) (names : List Text) (all : List (Vec ℕ Global)) (d e : Vec ℕ Global) (rest : List (Vec ℕ Global)) (chain nets : Text) (old new : Shown) (result : Result (Unit {0}) Unput)
-    → 2 ≤ length all → chain ≡ (slice_index_or all 0 d).items → nets ≡ (slice_index_or all 1 e).items → rest ≡ drop 2 all
-    → Answers (IsBoardRead chain nets (map (λ t. t.items) rest)) cover_text Nothing old new result → IsAnswered (Cover file net_file names) (map (λ t. t.items) all) old new result
-cover_told file net_file names all d e rest chain nets old new result some same_chain same_nets others answers =
-    board_told cover_text (λ c n ts. Nothing) all d e rest chain nets old new result (λ texts. IsAnswered (Cover file net_file names) texts old new result) some same_chain same_nets others
-    (λ c n ts found. answered (Cover file net_file names) (c ∷ n ∷ ts) (IsBoardRead c n ts) cover_text Nothing old new result (λ o says. says) (λ worth. worth) found) answers
-
-pub svf_told : (file net_file : Text) (names : List Text) (all : List (Vec ℕ Global)) (d e : Vec ℕ Global) (rest : List (Vec ℕ Global)) (chain nets : Text) (old new : Shown) (result : Result (Unit {0}) Unput)
-    → 2 ≤ length all → chain ≡ (slice_index_or all 0 d).items → nets ≡ (slice_index_or all 1 e).items → rest ≡ drop 2 all
-    → Answers (IsBoardRead chain nets (map (λ t. t.items) rest)) board_text (TestsBoard chain nets (map (λ t. t.items) rest) old) old new result → IsAnswered (Svf file net_file names) (map (λ t. t.items) all) old new result
-svf_told file net_file names all d e rest chain nets old new result some same_chain same_nets others answers =
-    board_told board_text (λ c n ts. TestsBoard c n ts old) all d e rest chain nets old new result (λ texts. IsAnswered (Svf file net_file names) texts old new result) some same_chain same_nets others
-    (λ c n ts found. answered (Svf file net_file names) (c ∷ n ∷ ts) (IsBoardRead c n ts) board_text (TestsBoard c n ts old) old new result (λ o says. says) (λ worth. worth) found) answers
+-- the answer to the texts of `svf`
+pub svf_told : (names : BoardNames) (chain nets : Text) (bsdl : List Text) (old new : Shown) (result : Result (Unit {0}) Unput) → Answers (IsBoardRead chain nets bsdl) board_text (TestsBoard chain nets bsdl old) old new result → IsAnswered (Svf names) (chain ∷ nets ∷ bsdl) old new result
+svf_told names chain nets bsdl old new result answers = answered (Svf names) (chain ∷ nets ∷ bsdl) (IsBoardRead chain nets bsdl) board_text (TestsBoard chain nets bsdl old) old new result (λ o says. says) (λ worth. worth) answers

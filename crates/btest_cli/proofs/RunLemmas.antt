@@ -224,8 +224,8 @@ one_outcome devices chains boards (Chain file names) (Read (text ∷ texts)) a b
 one_outcome devices chains boards (Device name) (Read []) a b is_a is_b = absurd is_a
 one_outcome devices chains boards (Device name) (Read (text ∷ [])) a b is_a is_b = one_said (roles_of (Device name)) device_text (IsDeviceText text) a b (devices text) is_a is_b
 one_outcome devices chains boards (Device name) (Read (text ∷ other ∷ others)) a b is_a is_b = absurd is_a
-one_outcome devices chains boards (Cover file nets names) (Read texts) a b is_a is_b = one_of_board boards (roles_of (Cover file nets names)) cover_text texts a b is_a is_b
-one_outcome devices chains boards (Svf file nets names) (Read texts) a b is_a is_b = one_of_board boards (roles_of (Svf file nets names)) board_text texts a b is_a is_b
+one_outcome devices chains boards (Cover names) (Read texts) a b is_a is_b = one_of_board boards (roles_of (Cover names)) cover_text texts a b is_a is_b
+one_outcome devices chains boards (Svf names) (Read texts) a b is_a is_b = one_of_board boards (roles_of (Svf names)) board_text texts a b is_a is_b
 
 -- as many texts were read as there are names
 count_read : (texts : Text → Option Text) (names : List Text) (found : List Text) → reading_of texts names ≡ Some (Read found) → length found ≡ length names
@@ -281,8 +281,8 @@ some_given devices chains boards (Chain file names) (text ∷ texts) count = som
 some_given devices chains boards (Device name) [] count = absurd (omega (arith, count))
 some_given devices chains boards (Device name) (text ∷ []) count = some_said (roles_of (Device name)) device_text (IsDeviceText text) (devices text)
 some_given devices chains boards (Device name) (text ∷ other ∷ others) count = absurd (omega (arith, count))
-some_given devices chains boards (Cover file nets names) found count = some_of_board boards (roles_of (Cover file nets names)) cover_text (length names) found count
-some_given devices chains boards (Svf file nets names) found count = some_of_board boards (roles_of (Svf file nets names)) board_text (length names) found count
+some_given devices chains boards (Cover names) found count = some_of_board boards (roles_of (Cover names)) cover_text (length names.bsdl) found count
+some_given devices chains boards (Svf names) found count = some_of_board boards (roles_of (Svf names)) board_text (length names.bsdl) found count
 
 -- texts that say something give some outcome
 pub some_outcome : SomeDevice → SomeChain → SomeBoard → SomeOutcome

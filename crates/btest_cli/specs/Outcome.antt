@@ -37,8 +37,8 @@ IsGiven (Chain chain names) (text ∷ texts) outcome = IsSaid (roles_of (Chain c
 IsGiven (Device name) [] outcome = ⊥
 IsGiven (Device name) (text ∷ []) outcome = IsSaid (roles_of (Device name)) device_text (IsDeviceText text) outcome
 IsGiven (Device name) (text ∷ other ∷ others) outcome = ⊥
-IsGiven (Cover chain nets names) texts outcome = IsSaidOfBoard (roles_of (Cover chain nets names)) cover_text texts outcome
-IsGiven (Svf chain nets names) texts outcome = IsSaidOfBoard (roles_of (Svf chain nets names)) board_text texts outcome
+IsGiven (Cover names) texts outcome = IsSaidOfBoard (roles_of (Cover names)) cover_text texts outcome
+IsGiven (Svf names) texts outcome = IsSaidOfBoard (roles_of (Svf names)) board_text texts outcome
 
 -- the same for what was read: a text that is too long is the first fault
 abbrev pub IsOutcome : Command → Reading → Result Text Text → Type 0
@@ -83,8 +83,8 @@ abbrev pub IsWorthFor : Command → List Text → Shown → Shown → Type 0
 IsWorthFor (Chain chain names) [] old new = ⊥
 IsWorthFor (Chain chain names) (text ∷ texts) old new = TestsChain text texts old new
 IsWorthFor (Device name) texts old new = Unit {0}
-IsWorthFor (Cover chain nets names) texts old new = Unit {0}
-IsWorthFor (Svf chain nets names) texts old new = TestsBoardOf texts old new
+IsWorthFor (Cover names) texts old new = Unit {0}
+IsWorthFor (Svf names) texts old new = TestsBoardOf texts old new
 
 -- the texts were read, and what was put for them is worth that
 pub record IsWorth (held : Held) (command : Command) (old new : Shown) : Type 0 where

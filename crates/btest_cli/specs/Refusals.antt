@@ -142,5 +142,5 @@ input_fault_line names (input.Memory e) = memory_line
 abbrev pub roles_of : Command → Names
 roles_of (Chain chain bsdl) = record { chain = chain; nets = []; bsdl = bsdl }
 roles_of (Device bsdl) = record { chain = []; nets = []; bsdl = bsdl ∷ [] }
-roles_of (Cover chain nets bsdl) = record { chain = chain; nets = nets; bsdl = bsdl }
-roles_of (Svf chain nets bsdl) = record { chain = chain; nets = nets; bsdl = bsdl }
+roles_of (Cover names) = record { chain = names.chain; nets = names.nets; bsdl = names.bsdl }
+roles_of (Svf names) = record { chain = names.chain; nets = names.nets; bsdl = names.bsdl }

@@ -5,6 +5,7 @@ ghost use Rattle.btest_core.specs.BoardRead.{IsBoardRead};
 ghost use Rattle.btest_cli.specs.Answers.{Answers, Nothing};
 
 use crate::failure::{Unput, unput_by};
+use crate::texts::BoardTexts;
 use bt_base::Sink;
 use bt_bits::Line;
 use btest_core::read_board;
@@ -12,22 +13,20 @@ use coverage_list::write_cover;
 use net_classes::classify;
 use std::alloc::Global;
 
-/// Puts the coverage list of the board of a chain file, a net file and BSDL texts. All memory is
+/// Puts the coverage list of the board of these texts. All memory is
 /// taken before the first put.
 pub fn cover<K: Sink>(
     alloc: Global,
-    chain: &[u8],
-    nets: &[u8],
-    bsdl: &[Vec<u8>],
+    texts: BoardTexts,
     out: &mut K,
 ) -> Result<(), Unput>
-    requires chain { length chain.now < 2 ^ 32 }
-    requires nets { length nets.now < 2 ^ 32 }
-    requires each { All (λ text. length text.items < 2 ^ 32) bsdl.now }
-    requires count { length bsdl.now < 2 ^ 32 }
-    ensures { Answers (IsBoardRead chain.now nets.now (map (λ text. text.items) bsdl.now)) cover_text Nothing (K.shown out.old) (K.shown out.new) result }
+    requires chain { length texts.chain.now < 2 ^ 32 }
+    requires nets { length texts.nets.now < 2 ^ 32 }
+    requires each { All (λ text. length text.items < 2 ^ 32) texts.bsdl.now }
+    requires count { length texts.bsdl.now < 2 ^ 32 }
+    ensures { Answers (IsBoardRead texts.entry.chain.now texts.entry.nets.now (map (λ text. text.items) texts.entry.bsdl.now)) cover_text Nothing (K.shown out.old) (K.shown out.new) result }
 {
-    let board = match read_board(alloc, chain, nets, bsdl) {
+    let board = match read_board(alloc, texts.chain, texts.nets, texts.bsdl) {
         Ok(board) => board,
         Err(fault) => return Err(unput_by(fault)),
     };

@@ -12,6 +12,7 @@ ghost use Rattle.btest_cli.specs.Answers.{Answers};
 
 use crate::failure::{Unput, unput_by};
 use crate::rows::Rows;
+use crate::texts::BoardTexts;
 use board_defs::Board;
 use bt_base::{PutFault, Sink};
 use btest_core::{plan, read_board};
@@ -21,22 +22,20 @@ use std::alloc::{AllocError, Global};
 use svf_writer::{write_head, write_scan, write_tail};
 use tap_defs::law::{board_texts_test, scans_placed};
 
-/// Puts the text that tests the board of a chain file, a net file and BSDL texts. All memory is
+/// Puts the text that tests the board of these texts. All memory is
 /// taken before the first put.
 pub fn svf<K: Sink>(
     alloc: Global,
-    chain: &[u8],
-    nets: &[u8],
-    bsdl: &[Vec<u8>],
+    texts: BoardTexts,
     out: &mut K,
 ) -> Result<(), Unput>
-    requires chain { length chain.now < 2 ^ 32 }
-    requires nets { length nets.now < 2 ^ 32 }
-    requires each { All (λ text. length text.items < 2 ^ 32) bsdl.now }
-    requires count { length bsdl.now < 2 ^ 32 }
-    ensures { Answers (IsBoardRead chain.now nets.now (map (λ text. text.items) bsdl.now)) board_text (TestsBoard chain.now nets.now (map (λ text. text.items) bsdl.now) (K.shown out.old)) (K.shown out.old) (K.shown out.new) result }
+    requires chain { length texts.chain.now < 2 ^ 32 }
+    requires nets { length texts.nets.now < 2 ^ 32 }
+    requires each { All (λ text. length text.items < 2 ^ 32) texts.bsdl.now }
+    requires count { length texts.bsdl.now < 2 ^ 32 }
+    ensures { Answers (IsBoardRead texts.entry.chain.now texts.entry.nets.now (map (λ text. text.items) texts.entry.bsdl.now)) board_text (TestsBoard texts.entry.chain.now texts.entry.nets.now (map (λ text. text.items) texts.entry.bsdl.now) (K.shown out.old)) (K.shown out.old) (K.shown out.new) result }
 {
-    let board = match read_board(alloc, chain, nets, bsdl) {
+    let board = match read_board(alloc, texts.chain, texts.nets, texts.bsdl) {
         Ok(board) => board,
         Err(fault) => return Err(unput_by(fault)),
     };

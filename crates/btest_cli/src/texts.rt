@@ -1,5 +1,5 @@
 // The texts that a command reads.
-ghost use Rattle.std.specs.Prelude.{◌≡◌, ℕ, ◌<◌, ◌≤◌, All, List, length, map, IfOk, OnOk, IsErrOf, Err};
+ghost use Rattle.std.specs.Prelude.{◌≡◌, ℕ, ◌<◌, ◌≤◌, ◌^◌, ◌∷◌, All, List, length, map, IfOk, OnOk, IsErrOf, Err};
 ghost use Rattle.bt_base.specs.Counts.{Rose};
 ghost use Rattle.btest_cli.specs.declared.failure.Unread.{Unread as Lost};
 ghost use Rattle.btest_cli.specs.Texts.{IsRead, IsText, IsLong, Read, most_bytes};
@@ -11,6 +11,31 @@ use std::alloc::Global;
 
 /// The most bytes of a chain file, a net file or a BSDL text.
 pub const MOST_BYTES: u32 = 4_194_304;
+
+/// The texts of a board.
+#[derive(Clone, Copy)]
+pub struct BoardTexts<'a> {
+    pub chain: &'a [u8],
+    pub nets: &'a [u8],
+    pub bsdl: &'a [Vec<u8>],
+}
+
+/// The texts of a board as they stand in a command: a chain file, a net file and BSDL texts.
+pub fn board_texts<'a>(texts: &'a [Vec<u8>]) -> BoardTexts<'a>
+    requires some { 2 ≤ length texts.now }
+    requires few { length texts.now ≤ 257 }
+    requires short { All (λ text. length text.items ≤ most_bytes) texts.now }
+    ensures texts { map (λ text. text.items) texts.entry.now ≡ result.chain.now ∷ result.nets.now ∷ map (λ text. text.items) result.bsdl.now }
+    ensures chain { length result.chain.now < 2 ^ 32 }
+    ensures nets { length result.nets.now < 2 ^ 32 }
+    ensures each { All (λ text. length text.items < 2 ^ 32) result.bsdl.now }
+    ensures count { length result.bsdl.now < 2 ^ 32 }
+{
+    let [chain, nets, bsdl @ ..] = texts else {
+        unreachable!()
+    };
+    BoardTexts { chain, nets, bsdl }
+}
 
 // Fetches the text of a name.
 fn fetch_text<S: Store>(alloc: Global, name: &str, store: &mut S) -> Result<Vec<u8>, FetchFault>

@@ -1,7 +1,7 @@
 // The top call.
 ghost use Rattle.std.specs.Prelude.{◌≡◌, ◌≢◌, ◌⊎◌, ◌+◌, ◌≤◌, ◌++◌, ℕ, [], All, List, length, map, None, string_bytes, IfOk, OnOk};
 ghost use Rattle.bt_base.specs.Counts.{Rose};
-ghost use Rattle.command_line.specs.Words.{Text, Chain, Device, Cover, Svf, command_of, names_of};
+ghost use Rattle.command_line.specs.Words.{Text, Chain, Device, command_of, names_of};
 ghost use Rattle.command_line.specs.CommandView.{command_view};
 ghost use Rattle.btest_cli.specs.RunOf.{IsRunOf};
 ghost use Rattle.btest_cli.specs.NamesView.{names_view};
@@ -17,7 +17,7 @@ use crate::device_listing::device;
 use crate::failure::{Unput, put_unput, put_unread, unput_status, unread_status};
 use crate::notes::{Names, TextNames, put_memory, put_usage};
 use crate::status::Status;
-use crate::texts::fetch_texts;
+use crate::texts::{board_texts, fetch_texts};
 use bt_base::{Gate, Sink, Store};
 use btest_core::law::inputs_have_one_answer;
 use command_line::{Command, command_of};
@@ -122,10 +122,10 @@ fn names_of<'a>(alloc: Global, command: Command<'a>) -> Result<Vec<&'a str>, All
             push_names(&mut names, bsdl)?;
         }
         Command::Device { bsdl } => names.push(bsdl)?,
-        Command::Cover { chain, nets, bsdl } | Command::Svf { chain, nets, bsdl } => {
-            names.push(chain)?;
-            names.push(nets)?;
-            push_names(&mut names, bsdl)?;
+        Command::Cover(board) | Command::Svf(board) => {
+            names.push(board.chain)?;
+            names.push(board.nets)?;
+            push_names(&mut names, board.bsdl)?;
         }
     }
     Ok(names)
@@ -156,10 +156,10 @@ fn roles_of<'a>(command: Command<'a>) -> Names<'a>
             nets: "",
             bsdl: TextNames::One(bsdl),
         },
-        Command::Cover { chain, nets, bsdl } | Command::Svf { chain, nets, bsdl } => Names {
-            chain,
-            nets,
-            bsdl: TextNames::Several(bsdl),
+        Command::Cover(board) | Command::Svf(board) => Names {
+            chain: board.chain,
+            nets: board.nets,
+            bsdl: TextNames::Several(board.bsdl),
         },
     }
 }
@@ -179,8 +179,8 @@ fn answer<K: Sink>(
     match command {
         Command::Chain { .. } => answer_chain(alloc, texts, out),
         Command::Device { .. } => answer_device(alloc, texts, out),
-        Command::Cover { .. } => answer_cover(alloc, texts, out),
-        Command::Svf { .. } => answer_svf(alloc, texts, out),
+        Command::Cover(_) => cover(alloc, board_texts(texts), out),
+        Command::Svf(_) => svf(alloc, board_texts(texts), out),
     }
 }
 
@@ -203,28 +203,4 @@ fn answer_device<K: Sink>(alloc: Global, texts: &[Vec<u8>], out: &mut K) -> Resu
 {
     let [text] = texts else { unreachable!() };
     device(alloc, text, out)
-}
-
-fn answer_cover<K: Sink>(alloc: Global, texts: &[Vec<u8>], out: &mut K) -> Result<(), Unput>
-    requires some { 2 ≤ length texts.now }
-    requires few { length texts.now ≤ 257 }
-    requires short { All (λ text. length text.items ≤ most_bytes) texts.now }
-    ensures { (chain nets : Text) (names : List Text) → IsAnswered (Cover chain nets names) (map (λ text. text.items) texts.now) (K.shown out.old) (K.shown out.new) result }
-{
-    let [chain, nets, bsdl @ ..] = texts else {
-        unreachable!()
-    };
-    cover(alloc, chain, nets, bsdl, out)
-}
-
-fn answer_svf<K: Sink>(alloc: Global, texts: &[Vec<u8>], out: &mut K) -> Result<(), Unput>
-    requires some { 2 ≤ length texts.now }
-    requires few { length texts.now ≤ 257 }
-    requires short { All (λ text. length text.items ≤ most_bytes) texts.now }
-    ensures { (chain nets : Text) (names : List Text) → IsAnswered (Svf chain nets names) (map (λ text. text.items) texts.now) (K.shown out.old) (K.shown out.new) result }
-{
-    let [chain, nets, bsdl @ ..] = texts else {
-        unreachable!()
-    };
-    svf(alloc, chain, nets, bsdl, out)
 }

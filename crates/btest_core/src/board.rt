@@ -38,14 +38,14 @@ fn net_file(alloc: Global, text: &[u8]) -> Result<NetFile, InputFault>
     }
 }
 
-// The joined files.
-fn joined_files(alloc: Global, chain: &ChainFile, nets: &NetFile) -> Result<Joined, InputFault>
+// The joined files. The net file is given back before a board is made, since each holds a copy of all names.
+fn joined_files(alloc: Global, chain: &ChainFile, nets: NetFile) -> Result<Joined, InputFault>
     requires chain { length chain.now < 2 ^ 32 }
-    requires nets { length nets.now < 2 ^ 32 }
-    ensures joined { Gives (λ joined. joined) (Is (in_link (joined_files chain.now nets.now))) result }
-    ensures kept { IfOk result (Kept chain.now nets.now) }
+    requires nets { length nets < 2 ^ 32 }
+    ensures joined { Gives (λ joined. joined) (Is (in_link (joined_files chain.now nets))) result }
+    ensures kept { IfOk result (Kept chain.now nets) }
 {
-    match join(alloc, chain, nets) {
+    match join(alloc, chain, &nets) {
         Ok(joined) => Ok(joined),
         Err(LinkFault::Memory(e)) => Err(InputFault::Memory(e)),
         Err(fault) => Err(InputFault::Link(fault)),
@@ -78,16 +78,16 @@ fn board_of(
 fn joined_board(
     alloc: Global,
     chain: &ChainFile,
-    nets: &NetFile,
+    nets: NetFile,
     devices: Vec<Device>,
 ) -> Result<Board, InputFault>
     requires selected { IsChain chain.now }
     requires lengths { AllByRecursion (λ line. HasLength line.statement) chain.now }
     requires devices { vec_len devices ≡ length (named EntityName chain.now) }
     requires chain_lines { length chain.now < 2 ^ 32 }
-    requires net_lines { length nets.now < 2 ^ 32 }
-    requires net_words { AllByRecursion IsShort nets.now }
-    ensures { Gives (λ board. board) (IsJoinedBoard chain.now nets.now devices.items) result }
+    requires net_lines { length nets < 2 ^ 32 }
+    requires net_words { AllByRecursion IsShort nets }
+    ensures { Gives (λ board. board) (IsJoinedBoard chain.now nets devices.items) result }
 {
     match joined_files(alloc, chain, nets) {
         Ok(joined) => board_of(alloc, &joined.chain, &joined.nets, devices),
@@ -99,16 +99,16 @@ fn joined_board(
 fn files_board(
     alloc: Global,
     chain: &ChainFile,
-    nets: &NetFile,
+    nets: NetFile,
     bsdl: &[Vec<u8>],
 ) -> Result<Board, InputFault>
     requires lengths { AllByRecursion (λ line. HasLength line.statement) chain.now }
     requires chain_lines { length chain.now < 2 ^ 32 }
-    requires net_lines { length nets.now < 2 ^ 32 }
-    requires net_words { AllByRecursion IsShort nets.now }
+    requires net_lines { length nets < 2 ^ 32 }
+    requires net_words { AllByRecursion IsShort nets }
     requires each { All (λ text. length text.items < 2 ^ 32) bsdl.now }
     requires count { length bsdl.now < 2 ^ 32 }
-    ensures { Gives (λ board. board) (IsFilesBoard chain.now nets.now (map (λ text. text.items) bsdl.now)) result }
+    ensures { Gives (λ board. board) (IsFilesBoard chain.now nets (map (λ text. text.items) bsdl.now)) result }
 {
     match devices(alloc, chain, bsdl) {
         Ok(devices) => joined_board(alloc, chain, nets, devices),
@@ -137,7 +137,7 @@ pub fn read_board(
         Err(fault) => return Err(fault),
     };
     match net_file(alloc, nets) {
-        Ok(nets) => files_board(alloc, &chain, &nets, bsdl),
+        Ok(nets) => files_board(alloc, &chain, nets, bsdl),
         Err(fault) => Err(fault),
     }
 }

@@ -5,7 +5,7 @@ use Rattle.std.specs.Str.{bytes_eq}
 use Rattle.std.proofs.lemmas.Grind.{common_steps}
 use Rattle.command_line.specs.declared.words.Command.{Command as Lent}
 use Rattle.command_line.specs.CommandView.{command_view}
-use Rattle.command_line.specs.Words.{Text, Command, Chain, Cover, Svf, parsed, chain_of, device_of, board_of, names_of}
+use Rattle.command_line.specs.Words.{Text, BoardNames, Command, Chain, Cover, Svf, parsed, chain_of, device_of, board_of, board_names, names_of}
 
 -- where there is a command, it has at most 257 names
 abbrev pub IsFew : Option Command → Type 0
@@ -28,24 +28,32 @@ device_few [] = tt
 device_few (name ∷ []) = omega arith
 device_few (name ∷ other ∷ others) = tt
 
-two_by : (command : Text → Text → List Text → Command) → ((chain nets : Text) (names : List Text) → length (names_of (command chain nets names)) ≡ length (chain ∷ nets ∷ names)) → (chain nets : Text) (names : List Text) (b : Bool) → nat_le (length names) 255 ≡ b → IsFew (if b then Some (command chain nets names) else None)
-two_by command count chain nets names true test = grind (arith, common_steps, count chain nets names)
-two_by command count chain nets names false test = tt
+-- where there are names of a board's texts, they are at most 257
+abbrev pub AreFew : Option BoardNames → Type 0
+AreFew names = IfSome names (λ n. length (board_names n) ≤ 257)
 
-board_few : (command : Text → Text → List Text → Command) → ((chain nets : Text) (names : List Text) → length (names_of (command chain nets names)) ≡ length (chain ∷ nets ∷ names)) → (words : List Text) → IsFew (board_of command words)
-board_few command count [] = tt
-board_few command count (chain ∷ []) = tt
-board_few command count (chain ∷ nets ∷ names) = two_by command count chain nets names (nat_le (length names) 255) refl
+names_by : (names : BoardNames) (b : Bool) → nat_le (length names.bsdl) 255 ≡ b → AreFew (if b then Some names else None)
+names_by names true test = grind (arith, common_steps)
+names_by names false test = tt
 
-board_words_few : (word : Text) (rest : List Text) → IsFew (if bytes_eq (codes "cover") word then board_of Cover rest else if bytes_eq (codes "svf") word then board_of Svf rest else None)
+names_few : (words : List Text) → AreFew (board_of words)
+names_few [] = tt
+names_few (chain ∷ []) = tt
+names_few (chain ∷ nets ∷ names) = names_by (record { chain = chain; nets = nets; bsdl = names }) (nat_le (length names) 255) refl
+
+board_few : (command : BoardNames → Command) → ((names : BoardNames) → names_of (command names) ≡ board_names names) → (names : Option BoardNames) → AreFew names → IsFew (option_map command names)
+board_few command reads None few = tt
+board_few command reads (Some names) few = subst (λ all. length all ≤ 257) (sym (reads names)) few
+
+board_words_few : (word : Text) (rest : List Text) → IsFew (if bytes_eq (codes "cover") word then option_map Cover (board_of rest) else if bytes_eq (codes "svf") word then option_map Svf (board_of rest) else None)
 board_words_few word rest =
-    either (bytes_eq (codes "cover") word) (board_of Cover rest) (if bytes_eq (codes "svf") word then board_of Svf rest else None) (board_few Cover (λ c n ns. refl) rest)
-    (either (bytes_eq (codes "svf") word) (board_of Svf rest) None (board_few Svf (λ c n ns. refl) rest) tt)
+    either (bytes_eq (codes "cover") word) (option_map Cover (board_of rest)) (if bytes_eq (codes "svf") word then option_map Svf (board_of rest) else None) (board_few Cover (λ names. refl) (board_of rest) (names_few rest))
+    (either (bytes_eq (codes "svf") word) (option_map Svf (board_of rest)) None (board_few Svf (λ names. refl) (board_of rest) (names_few rest)) tt)
 
 parsed_few : (words : List Text) → IsFew (parsed words)
 parsed_few [] = tt
 parsed_few (word ∷ rest) =
-    let board : Option Command = if bytes_eq (codes "cover") word then board_of Cover rest else if bytes_eq (codes "svf") word then board_of Svf rest else None in
+    let board : Option Command = if bytes_eq (codes "cover") word then option_map Cover (board_of rest) else if bytes_eq (codes "svf") word then option_map Svf (board_of rest) else None in
     either (bytes_eq (codes "chain") word) (chain_of rest) (if bytes_eq (codes "device") word then device_of rest else board) (chain_few rest)
     (either (bytes_eq (codes "device") word) (device_of rest) board (device_few rest) (board_words_few word rest))
 

@@ -3,7 +3,7 @@
 
 mod words;
 
-pub use words::{Command, command_of};
+pub use words::{BoardNames, Command, command_of};
 
 #[cfg(test)]
 mod tests;

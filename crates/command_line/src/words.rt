@@ -4,8 +4,8 @@ ghost use Rattle.std.specs.List.{list_all};
 ghost use Rattle.clap.specs.Simple.{app_of};
 ghost use Rattle.clap.specs.Walk.{rule_of};
 ghost use Rattle.clap.specs.declared.builder.command.Command.TheViews.{out-Command as fields_of};
-ghost use Rattle.command_line.specs.Words.{is_plain, command_of, parsed, chain_of, device_of, board_of, names_of, Cover, Svf};
-ghost use Rattle.command_line.specs.CommandView.{command_view};
+ghost use Rattle.command_line.specs.Words.{is_plain, command_of, parsed, chain_of, device_of, board_of, names_of};
+ghost use Rattle.command_line.specs.CommandView.{board_view, command_view};
 ghost use Rattle.command_line.specs.App.{name_rule, names_rule, chain_app, device_app, board_app, top_app, parts_app, btest_app, is_accepted};
 
 use clap::error::ErrorKind;
@@ -15,30 +15,25 @@ use std::alloc::{AllocError, Global};
 /// The most names of BSDL texts.
 const MOST_NAMES: usize = 255;
 
+/// The names of the texts of a board.
+#[derive(Clone, Copy)]
+pub struct BoardNames<'a> {
+    pub chain: &'a str,
+    pub nets: &'a str,
+    pub bsdl: &'a [String],
+}
+
 /// What a command line asks for, with the names of its texts.
 #[derive(Clone, Copy)]
 pub enum Command<'a> {
     /// The text that tests the length of the chain.
-    Chain {
-        chain: &'a str,
-        bsdl: &'a [String],
-    },
+    Chain { chain: &'a str, bsdl: &'a [String] },
     /// The listing of a device.
-    Device {
-        bsdl: &'a str,
-    },
+    Device { bsdl: &'a str },
     /// The coverage list of a board.
-    Cover {
-        chain: &'a str,
-        nets: &'a str,
-        bsdl: &'a [String],
-    },
+    Cover(BoardNames<'a>),
     /// The text that tests a board.
-    Svf {
-        chain: &'a str,
-        nets: &'a str,
-        bsdl: &'a [String],
-    },
+    Svf(BoardNames<'a>),
 }
 
 /// The command of the words, where they are in the grammar.
@@ -91,9 +86,9 @@ fn command_called<'a>(name: &str, words: &'a [String]) -> Option<Command<'a>>
     } else if name == "device" {
         device_of(words)
     } else if name == "cover" {
-        cover_of(words)
+        board_of(words).map(Command::Cover)
     } else if name == "svf" {
-        svf_of(words)
+        board_of(words).map(Command::Svf)
     } else {
         None
     }
@@ -119,25 +114,13 @@ fn device_of<'a>(words: &'a [String]) -> Option<Command<'a>>
     }
 }
 
-// `cover` with these words.
-fn cover_of<'a>(words: &'a [String]) -> Option<Command<'a>>
-    ensures { option_map command_view result ≡ board_of Cover (map string_bytes words.entry.now) }
+// The names of the texts of a board, where these words are such names.
+fn board_of<'a>(words: &'a [String]) -> Option<BoardNames<'a>>
+    ensures { option_map board_view result ≡ board_of (map string_bytes words.entry.now) }
 {
     match words {
         [chain, nets, bsdl @ ..] if bsdl.len() <= MOST_NAMES => {
-            Some(Command::Cover { chain, nets, bsdl })
-        }
-        _ => None,
-    }
-}
-
-// `svf` with these words.
-fn svf_of<'a>(words: &'a [String]) -> Option<Command<'a>>
-    ensures { option_map command_view result ≡ board_of Svf (map string_bytes words.entry.now) }
-{
-    match words {
-        [chain, nets, bsdl @ ..] if bsdl.len() <= MOST_NAMES => {
-            Some(Command::Svf { chain, nets, bsdl })
+            Some(BoardNames { chain, nets, bsdl })
         }
         _ => None,
     }

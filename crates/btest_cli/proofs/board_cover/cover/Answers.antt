@@ -8,4 +8,4 @@ use Rattle.btest_cli.proofs.board_cover.cover.Goals as goal
 pub returns-in-Err : goal.returns-in-Err
 returns-in-Err g c =
     rw c.unput_by.ensures
-    (answers_fault (IsBoardRead c.args.chain.now c.args.nets.now (map (λ text. text.items) c.args.bsdl.now)) cover_text Nothing (g.K.Sink.shown c.args.out.now) c.in-Err.fault c.in-Err.ensures)
+    (answers_fault (IsBoardRead c.args.texts.chain.now c.args.texts.nets.now (map (λ text. text.items) c.args.texts.bsdl.now)) cover_text Nothing (g.K.Sink.shown c.args.out.now) c.in-Err.fault c.in-Err.ensures)

@@ -11,7 +11,7 @@ use Rattle.btest_cli.proofs.board_test.svf.Goals as goal
 pub returns-in-Err : goal.returns-in-Err
 returns-in-Err g c =
     rw c.unput_by.ensures
-    (answers_fault (IsBoardRead c.args.chain.now c.args.nets.now (map (λ text. text.items) c.args.bsdl.now)) board_text (TestsBoard c.args.chain.now c.args.nets.now (map (λ text. text.items) c.args.bsdl.now) (g.K.Sink.shown c.args.out.now)) (g.K.Sink.shown c.args.out.now) c.in-Err.fault c.in-Err.ensures)
+    (answers_fault (IsBoardRead c.args.texts.chain.now c.args.texts.nets.now (map (λ text. text.items) c.args.texts.bsdl.now)) board_text (TestsBoard c.args.texts.chain.now c.args.texts.nets.now (map (λ text. text.items) c.args.texts.bsdl.now) (g.K.Sink.shown c.args.out.now)) (g.K.Sink.shown c.args.out.now) c.in-Err.fault c.in-Err.ensures)
 
 pub returns-in-Ok-write_test : goal.returns-in-Ok-write_test
 returns-in-Ok-write_test g c =
@@ -27,4 +27,4 @@ returns-in-Ok-write_test g c =
 pub returns : goal.returns
 returns g c =
     let puts = subst (λ (text : Text). Puts (g.K.Sink.shown c.args.out.now) (g.K.Sink.shown c.write_test.new.out) text c.write_test.result) (plan_text c.in-Ok.board c.in-Ok-board_plan.plan c.in-Ok-board_plan.ensures.plan c.in-Ok-board_plan.ensures.passes) c.write_test.ensures in
-    cut_by (IsBoardRead c.args.chain.now c.args.nets.now (map (λ text. text.items) c.args.bsdl.now)) board_text _ _ c.in-Ok.board c.in-Ok.ensures puts c.in-Err-write_test.is
+    cut_by (IsBoardRead c.args.texts.chain.now c.args.texts.nets.now (map (λ text. text.items) c.args.texts.bsdl.now)) board_text _ _ c.in-Ok.board c.in-Ok.ensures puts c.in-Err-write_test.is

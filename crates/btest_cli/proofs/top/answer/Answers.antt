@@ -1,7 +1,8 @@
-use Rattle.std.proofs.Common.{sym, ap, subst, map, string_bytes}
-use Rattle.command_line.specs.Words.{Command}
-use Rattle.command_line.specs.CommandView.{command_view}
+use Rattle.std.proofs.Common.{List, sym, ap, subst, map, string_bytes}
+use Rattle.command_line.specs.Words.{Text, Command, Cover, Svf}
+use Rattle.command_line.specs.CommandView.{board_view, command_view}
 use Rattle.btest_cli.specs.Failures.{IsAnswered}
+use Rattle.btest_cli.proofs.AnswerLemmas.{cover_told, svf_told}
 use Rattle.btest_cli.proofs.top.answer.Goals as goal
 
 pub returns-in-Chain : goal.returns-in-Chain
@@ -16,10 +17,14 @@ returns-in-Device g c =
 
 pub returns-in-Cover : goal.returns-in-Cover
 returns-in-Cover g c =
-    subst (λ (command : Command). IsAnswered command (map (λ text. text.items) c.args.texts.now) (g.K.Sink.shown c.args.out.now) (g.K.Sink.shown c.answer_cover.new.out) c.answer_cover.result)
-    (sym (ap command_view c.in-Cover.is)) (c.answer_cover.ensures c.in-Cover.chain.now c.in-Cover.nets.now (map string_bytes c.in-Cover.bsdl.now))
+    let told = cover_told (board_view c.in-Cover.field-0) _ _ _ _ _ _ c.cover.ensures in
+    let all = subst (λ (texts : List Text). IsAnswered (Cover (board_view c.in-Cover.field-0)) texts (g.K.Sink.shown c.args.out.now) (g.K.Sink.shown c.cover.new.out) c.cover.result) (sym c.board_texts.ensures.texts) told in
+    subst (λ (command : Command). IsAnswered command (map (λ text. text.items) c.args.texts.now) (g.K.Sink.shown c.args.out.now) (g.K.Sink.shown c.cover.new.out) c.cover.result)
+    (sym (ap command_view c.in-Cover.is)) all
 
 pub returns-in-Svf : goal.returns-in-Svf
 returns-in-Svf g c =
-    subst (λ (command : Command). IsAnswered command (map (λ text. text.items) c.args.texts.now) (g.K.Sink.shown c.args.out.now) (g.K.Sink.shown c.answer_svf.new.out) c.answer_svf.result)
-    (sym (ap command_view c.in-Svf.is)) (c.answer_svf.ensures c.in-Svf.chain.now c.in-Svf.nets.now (map string_bytes c.in-Svf.bsdl.now))
+    let told = svf_told (board_view c.in-Svf.field-0) _ _ _ _ _ _ c.svf.ensures in
+    let all = subst (λ (texts : List Text). IsAnswered (Svf (board_view c.in-Svf.field-0)) texts (g.K.Sink.shown c.args.out.now) (g.K.Sink.shown c.svf.new.out) c.svf.result) (sym c.board_texts.ensures.texts) told in
+    subst (λ (command : Command). IsAnswered command (map (λ text. text.items) c.args.texts.now) (g.K.Sink.shown c.args.out.now) (g.K.Sink.shown c.svf.new.out) c.svf.result)
+    (sym (ap command_view c.in-Svf.is)) all
