@@ -15,11 +15,7 @@ use std::alloc::Global;
 
 /// Puts the coverage list of the board of these texts. All memory is
 /// taken before the first put.
-pub fn cover<K: Sink>(
-    alloc: Global,
-    texts: BoardTexts,
-    out: &mut K,
-) -> Result<(), Unput>
+pub fn cover<K: Sink>(alloc: Global, texts: BoardTexts, out: &mut K) -> Result<(), Unput>
     requires chain { length texts.chain.now < 2 ^ 32 }
     requires nets { length texts.nets.now < 2 ^ 32 }
     requires each { All (λ text. length text.items < 2 ^ 32) texts.bsdl.now }

@@ -24,11 +24,7 @@ use tap_defs::law::{board_texts_test, scans_placed};
 
 /// Puts the text that tests the board of these texts. All memory is
 /// taken before the first put.
-pub fn svf<K: Sink>(
-    alloc: Global,
-    texts: BoardTexts,
-    out: &mut K,
-) -> Result<(), Unput>
+pub fn svf<K: Sink>(alloc: Global, texts: BoardTexts, out: &mut K) -> Result<(), Unput>
     requires chain { length texts.chain.now < 2 ^ 32 }
     requires nets { length texts.nets.now < 2 ^ 32 }
     requires each { All (λ text. length text.items < 2 ^ 32) texts.bsdl.now }

@@ -24,16 +24,15 @@ use Rattle.scan_planner.specs.declared.tables.DriverCell.{DriverCell}
 use Rattle.scan_planner.specs.declared.tables.ReaderCell.{ReaderCell}
 use Rattle.scan_planner.specs.Tables.{first_position, IsDriverCell}
 use Rattle.scan_planner.specs.Laid.{laid}
-use Rattle.scan_planner.specs.Building.{optional, net_driver, driver_of, drivers_of_pins, drivers_of, readers_of, is_on, driver_cell, IsControlThere, control_position, observer, is_read_beside, observers_at, observers, held_cell}
+use Rattle.scan_planner.specs.Building.{optional, net_driver, driver_of, drivers_of_pins, drivers_of, readers_of, driver_cell, IsControlThere, control_position, observer, is_read_beside, observers_at, observers, held_cell}
 use Rattle.scan_planner.proofs.LaidLemmas.{laid_at}
 use Rattle.scan_planner.proofs.BuildLemmas.{cell_there, entry_below, position_within}
 use Rattle.scan_planner.proofs.PinLemmas.{wired_at, drives_by, entry_on}
-use Rattle.scan_planner.proofs.TableLemmas.{has_gathered, gathered_has, Observed, observed, observing_of, on_by}
+use Rattle.scan_planner.proofs.TableLemmas.{has_gathered, gathered_has, Observed, observed, is_on, observing_of, on_by}
 use Rattle.scan_planner.proofs.DriverTableLemmas.{IsOn, OnBy}
 
--- a driver of a net that is not guarded
+-- a driver of a net that may be enabled
 pub record DriverOn (board : RawBoard) (net : Net) (d : NetDriver) : Type 0 where
-  pub open_net : guarded board net ≡ false
   pub pin : NetPin
   pub is_pin : slice_get net.pins d.place ≡ Some pin
   pub at : PinAt
@@ -43,17 +42,16 @@ pub record DriverOn (board : RawBoard) (net : Net) (d : NetDriver) : Type 0 wher
   pub driver_is : net_driver board at.part d.place entry ≡ d
 
 pub driver_on : (board : RawBoard) (net : Net) (d : NetDriver) → Has (drivers_of board net) d → DriverOn board net d
-driver_on board net d h = by_guard (guarded board net) refl h
+driver_on board net d h = by_guard (guarded board net) h
   where
-    by_entry : guarded board net ≡ false → (n : ℕ) (pin : NetPin) (at : PinAt) → slice_get net.pins n ≡ Some pin → pin.at ≡ Some at → (o : Option Cell) → entry_at board at ≡ o →
+    by_entry : (n : ℕ) (pin : NetPin) (at : PinAt) → slice_get net.pins n ≡ Some pin → pin.at ≡ Some at → (o : Option Cell) → entry_at board at ≡ o →
         Has (optional (option_map (net_driver board at.part (0 + n)) o)) d → DriverOn board net d
-    by_entry g n pin at e a None c h = absurd h
-    by_entry g n pin at e a (Some entry) c (inr none) = absurd none
-    by_entry g n pin at e a (Some entry) c (inl same) =
+    by_entry n pin at e a None c h = absurd h
+    by_entry n pin at e a (Some entry) c (inr none) = absurd none
+    by_entry n pin at e a (Some entry) c (inl same) =
         let z : 0 + n ≡ n = omega arith in
         let place : n ≡ d.place = sym z ∙ ap (λ (x : NetDriver). x.place) same in
         record {
-          open_net = g;
           pin = pin;
           is_pin = subst (λ (i : ℕ). slice_get net.pins i ≡ Some pin) place e;
           at = at;
@@ -63,15 +61,15 @@ driver_on board net d h = by_guard (guarded board net) refl h
           driver_is = subst (λ (i : ℕ). net_driver board at.part i entry ≡ d) (z ∙ place) same;
         }
 
-    by_at : guarded board net ≡ false → (n : ℕ) (pin : NetPin) → slice_get net.pins n ≡ Some pin → (o : Option PinAt) → pin.at ≡ o → Has (optional (driver_of board (0 + n) o)) d → DriverOn board net d
-    by_at g n pin e None a h = absurd h
-    by_at g n pin e (Some at) a h = by_entry g n pin at e a (entry_at board at) refl h
+    by_at : (n : ℕ) (pin : NetPin) → slice_get net.pins n ≡ Some pin → (o : Option PinAt) → pin.at ≡ o → Has (optional (driver_of board (0 + n) o)) d → DriverOn board net d
+    by_at n pin e None a h = absurd h
+    by_at n pin e (Some at) a h = by_entry n pin at e a (entry_at board at) refl h
 
-    by_guard : (t : Bool) → guarded board net ≡ t → Has (cond t [] (drivers_of_pins board net.pins)) d → DriverOn board net d
-    by_guard true g h = absurd h
-    by_guard false g h =
+    by_guard : (t : Bool) → Has (cond t [] (drivers_of_pins board net.pins)) d → DriverOn board net d
+    by_guard true h = absurd h
+    by_guard false h =
         let k = has_gathered (λ place (pin : NetPin). optional (driver_of board place pin.at)) 0 net.pins d h in
-        by_at g (k.0) (k.1) k.2 (k.1.at) refl k.3
+        by_at (k.0) (k.1) k.2 (k.1.at) refl k.3
 
 -- the control of a driver is a cell of its part
 pub control_there : (board : RawBoard) → IsBoard board → (net : Net) (d : NetDriver) → Has (drivers_of board net) d → IsControlThere board d.ctl

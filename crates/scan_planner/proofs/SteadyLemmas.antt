@@ -3,7 +3,7 @@ use Rattle.std.proofs.Common.{◌≡◌, ℕ, suc, ◌<◌, ◌≤◌, ◌==◌,
 use Rattle.std.specs.Prelude.{slice_get, option_map, filter, Contains}
 use Rattle.std.specs.List.{flat_map}
 use Rattle.std.proofs.lemmas.Bool.{and_parts, cases_eq, cases_lt, eqb-true, ltb-true, not-true, both_ways}
-use Rattle.std.proofs.lemmas.List.{get_or-set_same, get_or-set_other, get_or-replicate, get_or_past, length-replicate, get_or-map, length-map}
+use Rattle.std.proofs.lemmas.List.{get_or-set_same, get_or-set_other, get_or_past, length-replicate, get_or-map, length-map}
 use Rattle.std.proofs.lemmas.Option.{slice_get-map, slice_get_within, get_or_from_slice_get}
 use Rattle.board_defs.specs.declared.board.RawBoard.{RawBoard}
 use Rattle.board_defs.specs.declared.board.Ctl.{Ctl}
@@ -27,14 +27,7 @@ use Rattle.scan_planner.proofs.DriverTableLemmas.{IsOn, OnBy, cells_has, has_cel
 use Rattle.scan_planner.proofs.ObserverLemmas.{observer_below, observer_stands, is_cell, cell_is_on}
 use Rattle.scan_planner.proofs.PlanLemmas.{control_cells, held_only, is_held_cell}
 
--- runs
-pub no_runs : (passes : List (List HeldCell)) (bits : ℕ) → AreRuns passes (replicate bits 0)
-no_runs passes bits position x less = absurd (by_there (cases_lt position bits))
-  where
-    by_there : (position < bits) ⊎ (bits ≤ position) → ⊥
-    by_there (inl within) = omega (arith, less, get_or-replicate {A = ℕ} bits position 0 0 within)
-    by_there (inr past) = omega (arith, less, get_or_past (replicate {A = ℕ} bits 0) position 0 (omega (arith, past, length-replicate {A = ℕ} bits 0)))
-
+-- runs that go on
 run_goes_on : (passes : List (List HeldCell)) (runs : List ℕ) (k : ℕ) (h : HeldCell) → Has (get_or passes k []) h → AreRuns passes runs → AreRuns passes (run_at k runs h.position)
 run_goes_on passes runs k h has are position x less = by_test (get_or runs h.position 0 == k) refl less
   where

@@ -12,6 +12,7 @@ use Rattle.board_defs.specs.declared.board.PinAt.{PinAt}
 use Rattle.board_defs.specs.declared.board.NetPin.{NetPin}
 use Rattle.board_defs.specs.declared.board.Net.{Net}
 use Rattle.board_defs.specs.declared.board.RawBoard.{RawBoard}
+use Rattle.board_defs.specs.declared.board.Ctl.{Ctl}
 use Rattle.board_defs.specs.DeviceRules.{reads_bit, may_receive}
 use Rattle.board_defs.specs.Pins.{device_at, entry_at, guarded, receives, receives_where, receives_in, receives_bit}
 use Rattle.board_defs.specs.Settings.{Enabling, enables, enables_where, enables_entry, enables_by}
@@ -21,7 +22,7 @@ use Rattle.tap_defs.specs.TestRows.{first_enabled, reads_beside, observing_drive
 use Rattle.scan_planner.specs.declared.nets.NetDriver.{NetDriver}
 use Rattle.scan_planner.specs.declared.tables.ReaderCell.{ReaderCell}
 use Rattle.scan_planner.specs.Tables.{first_position, IsReaderCell}
-use Rattle.scan_planner.specs.Building.{gathered, optional, net_driver, driver_of, drivers_of_pins, drivers_of, reader_of, readers_in, readers_at, readers_of, is_on, is_read_beside}
+use Rattle.scan_planner.specs.Building.{gathered, optional, net_driver, driver_of, drivers_of_pins, drivers_of, reader_of, readers_in, readers_at, readers_of, is_read_beside}
 
 -- what is gathered
 pub has_gathered : {X Y : Type 0} (f : ℕ → X → List Y) (k : ℕ) (xs : List X) (y : Y) → Has (gathered f k xs) y → (n : ℕ) × (x : X) × (slice_get xs n ≡ Some x) × Has (f (k + n) x) y
@@ -115,6 +116,11 @@ pub record DriverAt (board : RawBoard) (k : ℕ) (pins : List NetPin) (d : NetDr
 abbrev FirstOn : RawBoard → Enabling → ℕ → List NetPin → Option NetDriver → Type 0
 FirstOn board s k pins None = first_enabled board s k pins ≡ None
 FirstOn board s k pins (Some d) = (first_enabled board s k pins ≡ Some d.place) × DriverAt board k pins d
+
+-- the setting enables the driver
+abbrev pub is_on : Enabling → Option Ctl → Bool
+is_on setting None = true
+is_on setting (Some c) = setting c
 
 pub on_by : (s : Enabling) (part : ℕ) (o : Option Control) → is_on s (option_map (λ control. record { part = part; cell = control.cell }) o) ≡ enables_by s part o
 on_by s part None = refl

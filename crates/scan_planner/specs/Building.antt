@@ -1,5 +1,5 @@
 -- How the tables of a plan are made, item by item.
-use Rattle.std.specs.Prelude.{◌≡◌, ℕ, suc, ◌+◌, ◌<◌, ◌==◌, Bool, true, false, not, cond, List, [], ◌∷◌, ◌++◌, length, map, filter, fold, drop, sum_by, Option, Some, None, option_map, is_none, replicate, slice_index_or, slice_set}
+use Rattle.std.specs.Prelude.{◌≡◌, ℕ, suc, ◌+◌, ◌<◌, ◌==◌, Bool, false, not, cond, List, [], ◌∷◌, ◌++◌, length, map, filter, fold, drop, sum_by, Option, Some, None, option_map, is_none, replicate, slice_index_or, slice_set}
 use Rattle.std.specs.List.{list_any, flat_map}
 use Rattle.board_defs.specs.declared.device.Cell.{Cell}
 use Rattle.board_defs.specs.declared.device.RawDevice.{RawDevice}
@@ -11,7 +11,6 @@ use Rattle.board_defs.specs.declared.board.RawBoard.{RawBoard}
 use Rattle.board_defs.specs.declared.board.Ctl.{Ctl}
 use Rattle.board_defs.specs.DeviceRules.{reads_bit}
 use Rattle.board_defs.specs.Pins.{data_length, device_at, entry_at, receives_where, guarded, cell_count}
-use Rattle.board_defs.specs.Settings.{Enabling}
 use Rattle.scan_planner.specs.declared.tables.HeldCell.{HeldCell}
 use Rattle.scan_planner.specs.declared.tables.DriverCell.{DriverCell}
 use Rattle.scan_planner.specs.declared.tables.ReaderCell.{ReaderCell}
@@ -70,11 +69,6 @@ readers_at board place (Some at) = cond (receives_where board (Some at)) (reader
 -- the compared cells of a net, in pin order
 abbrev pub readers_of : RawBoard → List NetPin → List ReaderCell
 readers_of board pins = gathered (λ place pin. readers_at board place pin.at) 0 pins
-
--- the setting enables the driver
-abbrev pub is_on : Enabling → Option Ctl → Bool
-is_on setting None = true
-is_on setting (Some c) = setting c
 
 -- the driver as one of a net
 abbrev pub driver_cell : ℕ → NetDriver → DriverCell

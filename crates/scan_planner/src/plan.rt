@@ -11,7 +11,8 @@ use std::alloc::{AllocError, Global};
 use std::marker::Model;
 use tap_defs::Shape;
 
-/// The plan of a board's test: its passes, and what each scan is made of. It keeps no scan.
+/// The plan of a board's test: its passes, and what each scan is made of: what all passes have in each row, and the
+/// cells in which those of a pass differ.
 #[derive(Debug, Drop)]
 pub struct Plan {
     tables: PlanTables,
