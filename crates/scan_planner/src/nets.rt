@@ -1,6 +1,6 @@
 // The cells that drive and read each net.
-ghost use Rattle.std.specs.Prelude.{◌≡◌, ◌<◌, ◌≤◌, ◌++◌, length, map, filter, find, Some, IfOk, OnOk, All};
-ghost use Rattle.board_defs.specs.DeviceRules.{is_driving, is_receiving};
+ghost use Rattle.std.specs.Prelude.{◌≡◌, ◌<◌, ◌≤◌, ◌++◌, length, map, filter, Some, IfOk, OnOk, All};
+ghost use Rattle.board_defs.specs.DeviceRules.{is_receiving};
 ghost use Rattle.board_defs.specs.Pins.{device_at, bit_at, entry_at, cell_count};
 ghost use Rattle.scan_planner.specs.Building.{AreFirsts, optional, net_driver, driver_of, drivers_of_pins, drivers_of, reader_of, readers_at, readers_of};
 ghost use Rattle.scan_planner.specs.Entries.{ArePartTables, receives_by};
@@ -37,19 +37,12 @@ fn net_driver(board: &Board, firsts: &[u32], part: u32, place: u32, cell: Cell) 
     }
 }
 
-fn find_driving(entries: &[Cell]) -> Option<Cell>
-    ensures { result ≡ find (λ cell. is_driving cell.role) entries.now }
-{
-    entries.iter().copied().find(|cell| cell.role.is_driving())
-}
-
 // The driving entry of a port bit of a part.
 fn driving_entry(board: &Board, parts: &PartTables, at: PinAt) -> Option<Cell>
     requires { ArePartTables board.now parts.now }
     ensures { result ≡ entry_at board.now at }
 {
-    let _ = board.raw();
-    find_driving(entries_at(parts.entries.as_slice(), at))
+    port_entries::driving_entry(parts.entries.as_slice(), board.raw(), at)
 }
 
 // The driver that a pin is, where it is one.
