@@ -25,6 +25,6 @@ returns-in-Cover g c =
 pub returns-in-Svf : goal.returns-in-Svf
 returns-in-Svf g c =
     let told = svf_told (board_view c.in-Svf.field-0) _ _ _ _ _ _ c.svf.ensures in
-    let all = subst (λ (texts : List Text). IsAnswered (Svf (board_view c.in-Svf.field-0)) texts (g.K.Sink.shown c.args.out.now) (g.K.Sink.shown c.svf.new.out) c.svf.result) (sym c.board_texts.ensures.texts) told in
+    let all = subst (λ (texts : List Text). IsAnswered (Svf (board_view c.in-Svf.field-0)) texts (g.K.Sink.shown c.args.out.now) (g.K.Sink.shown c.svf.new.out) c.svf.result) (sym c.board_texts-in-Svf.ensures.texts) told in
     subst (λ (command : Command). IsAnswered command (map (λ text. text.items) c.args.texts.now) (g.K.Sink.shown c.args.out.now) (g.K.Sink.shown c.svf.new.out) c.svf.result)
     (sym (ap command_view c.in-Svf.is)) all
