@@ -1,5 +1,5 @@
 -- What is said of single nets, pins and pairs.
-use Rattle.std.proofs.Common.{◌≡◌, ◌≢◌, ℕ, zero, suc, ◌+◌, ◌-◌, ◌<◌, ◌≤◌, Bool, true, false, not, ◌&&◌, cond, List, [], ◌∷◌, ◌++◌, length, Option, Some, None, refl, sym, ap, ◌∙◌, take, filter, get_or, length-append, arith}
+use Rattle.std.proofs.Common.{◌≡◌, ℕ, zero, suc, ◌+◌, ◌-◌, ◌<◌, ◌≤◌, Bool, true, false, not, ◌&&◌, cond, List, [], ◌∷◌, ◌++◌, length, Option, Some, None, refl, sym, ap, ◌∙◌, take, filter, get_or, length-append, arith}
 use Rattle.std.specs.Prelude.{slice_get, is_none, sum_by}
 use Rattle.std.specs.List.{flat_map, range_with_len}
 use Rattle.std.proofs.lemmas.List.{take_more}
@@ -11,9 +11,10 @@ use Rattle.board_defs.specs.declared.board.RawBoard.{RawBoard}
 use Rattle.board_defs.specs.declared.board.NetPin.{NetPin}
 use Rattle.board_defs.specs.declared.coverage.Reason.{Reason}
 use Rattle.board_defs.specs.BoardRules.{IsBoard}
-use Rattle.board_defs.specs.Coverage.{IsCovered, ArePaired}
 use Rattle.board_defs.specs.Decided.{is_covered, are_paired, first_reason, reason_of}
-use Rattle.board_defs.specs.Laws.{DecidesTerms}
+use Rattle.net_classes.specs.declared.pair_keys.PairKey.{PairKey}
+use Rattle.net_classes.specs.declared.pair_keys.PairKey.TheVariants.{Uncovered, Free, Held, Unclear}
+use Rattle.net_classes.specs.PairKeys.{ArePairKeys, is_free_key, shows_paired, is_covered as key_covered}
 use Rattle.coverage_list.specs.declared.lines.PinUse.{PinUse}
 use Rattle.coverage_list.specs.CoverText.{is_untested, reason_line, pin_line, pair_line}
 use Rattle.coverage_list.specs.CoverForms.{of_item, texts_from, net_reason, reason_at, place_text, net_pins, pins_at, is_unpaired, pair_text, pair_at, net_pairs, pairs_at}
@@ -58,15 +59,34 @@ paired_not board low high e = ap (λ t. is_covered board high && not t) e ∙ by
     by true = refl
     by false = refl
 
--- a net that is paired with every other covered net
-abbrev pub IsFree : RawBoard → ℕ → Type 0
-IsFree board n = (other : ℕ) → n ≢ other → IsCovered board other → ArePaired board n other
+-- a net that is paired with every covered net
+abbrev pub IsFree : RawBoard → Net → Type 0
+IsFree board net = (m : ℕ) (other : Net) → slice_get board.nets m ≡ Some other → is_covered board other ≡ true → are_paired board net other ≡ true
 
-pub free_not : (board : RawBoard) (n m : ℕ) (low high : Net) → DecidesTerms board → slice_get board.nets n ≡ Some low → slice_get board.nets m ≡ Some high → n ≢ m → IsFree board n → is_unpaired board low high ≡ false
-free_not board n m low high terms at at' differ free = by (is_covered board high) refl
+-- so is a covered net whose key is free
+pub free_by_key : (board : RawBoard) (keys : List PairKey) (n : ℕ) (net : Net) (key : PairKey) → ArePairKeys board keys → slice_get board.nets n ≡ Some net → slice_get keys n ≡ Some key → is_free_key key ≡ true → IsFree board net
+free_by_key board keys n net key are at k e m other at' covered =
+    let within : m < length keys = omega (arith, slice_get_within board.nets m other at', are.each) in
+    let there = item_there keys m within in
+    are.paired n m net other key there.0 at at' k there.1 (sym (are.covered n net key at k) ∙ free_covered key e) covered (free_shows key there.0 e)
+  where
+    free_covered : (key : PairKey) → is_free_key key ≡ true → key_covered key ≡ true
+    free_covered Uncovered e = cc e
+    free_covered Free e = refl
+    free_covered (Held h) e = cc e
+    free_covered Unclear e = cc e
+
+    free_shows : (key other : PairKey) → is_free_key key ≡ true → shows_paired key other ≡ true
+    free_shows Uncovered other e = cc e
+    free_shows Free other e = refl
+    free_shows (Held h) other e = cc e
+    free_shows Unclear other e = cc e
+
+free_not : (board : RawBoard) (m : ℕ) (low high : Net) → slice_get board.nets m ≡ Some high → IsFree board low → is_unpaired board low high ≡ false
+free_not board m low high at free = by (is_covered board high) refl
   where
     by : (t : Bool) → is_covered board high ≡ t → is_unpaired board low high ≡ false
-    by true e = paired_not board low high ((terms.paired n m low high at at' differ).1 (free m differ ((terms.covered m high at').0 e)))
+    by true e = paired_not board low high (free m high at e)
     by false e = ap (λ t. t && not (are_paired board low high)) e
 
 -- texts of which each is empty
@@ -80,13 +100,13 @@ texts_empty f n count each = by (count - n) n each
 pub not_covered : (board : RawBoard) (n : ℕ) (net : Net) → is_covered board net ≡ false → net_pairs board n net ≡ []
 not_covered board n net e = ap (λ t. cond t (texts_from (pair_at board net) (n + 1) (length board.nets)) []) e
 
-pub free_pairs_none : (board : RawBoard) (n : ℕ) (net : Net) → DecidesTerms board → slice_get board.nets n ≡ Some net → IsFree board n → net_pairs board n net ≡ []
-free_pairs_none board n net terms at free =
-    ap (λ t. cond (is_covered board net) t []) (texts_empty (pair_at board net) (n + 1) (length board.nets) (λ i past. by i past (slice_get board.nets i) refl)) ∙ same (is_covered board net) []
+pub free_pairs_none : (board : RawBoard) (n : ℕ) (net : Net) → IsFree board net → net_pairs board n net ≡ []
+free_pairs_none board n net free =
+    ap (λ t. cond (is_covered board net) t []) (texts_empty (pair_at board net) (n + 1) (length board.nets) (λ i past. by i (slice_get board.nets i) refl)) ∙ same (is_covered board net) []
   where
-    by : (i : ℕ) → n + 1 ≤ i → (o : Option Net) → slice_get board.nets i ≡ o → of_item (pair_text board net) o ≡ []
-    by i past None e = refl
-    by i past (Some other) e = ap (λ t. cond t (pair_line net other) []) (free_not board n i net other terms at e (λ same. let less : n < i = omega arith in absurd (omega (arith, same))) free)
+    by : (i : ℕ) (o : Option Net) → slice_get board.nets i ≡ o → of_item (pair_text board net) o ≡ []
+    by i None e = refl
+    by i (Some other) e = ap (λ t. cond t (pair_line net other) []) (free_not board i net other e free)
 
     same : (t : Bool) (none : List ℕ) → cond t none none ≡ none
     same true none = refl

@@ -10,7 +10,7 @@ ghost use Rattle.coverage_list.specs.CoverText.{cover_text, covered, count_line,
 ghost use Rattle.coverage_list.specs.CoverForms.{is_unpaired, net_pairs, net_pins, pair_at, pairs_at, pins_at, place_text, reason_at, texts_from};
 
 use crate::lines::{PinUse, put_counts, put_pair, put_pin, put_reason};
-use board_defs::{Board, Net, NetPin, PinRef, law};
+use board_defs::{Board, Net, NetPin, PinRef};
 use bt_base::{PutFault, Sink};
 use bt_bits::Line;
 use net_classes::{Classes, PairKey};
@@ -308,16 +308,15 @@ fn put_later<K: Sink>(
     Ok(())
 }
 
-// Whether a net is covered and may be unpaired with another covered net.
-fn may_be_unpaired(board: &Board, classes: &Classes, n: u32) -> bool
-    requires classes { AreClasses board.now classes.now }
+// Whether a net is covered and may be unpaired with another covered net, by its key.
+fn may_be_unpaired(board: &Board, keys: &[PairKey], n: u32) -> bool
+    requires keys { ArePairKeys board.now keys.now }
     requires net { n < length board.now.nets }
     ensures free { result ≡ false → OfNet board.now n (λ net. net_pairs board.now n net ≡ []) }
     ensures covered { result ≡ true → OfNet board.now n (λ net. is_covered board.now net ≡ true) }
 {
-    law::terms_decided();
-    let _rules = board.raw();
-    is_covered(board, classes, n) && !classes.is_free(board, n)
+    let key = key_at(board, keys, n);
+    key.is_covered() && !key.is_free()
 }
 
 // Puts the pairs of a net and a later one that are covered and not paired.
@@ -334,7 +333,7 @@ fn put_pairs_at<K: Sink>(
     requires net { low < count }
     ensures { Prints (K.shown out.old) (K.shown out.new) [] [] (pairs_at board.now low) result }
 {
-    if may_be_unpaired(board, classes, low) {
+    if may_be_unpaired(board, classes.pair_keys(board), low) {
         put_later(board, classes, low, count, line, out)
     } else {
         Ok(())

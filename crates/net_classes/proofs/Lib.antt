@@ -15,3 +15,4 @@ pub mod Paired
 pub mod Free
 pub mod GroupLemmas
 pub mod KeyLemmas
+pub mod LoneLemmas

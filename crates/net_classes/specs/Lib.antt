@@ -11,3 +11,4 @@ pub mod Pairs
 pub mod Groups
 pub mod PairKeys
 pub mod MadeKeys
+pub mod LoneGroups

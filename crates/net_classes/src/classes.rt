@@ -9,6 +9,7 @@ ghost use Rattle.net_classes.specs.Tables.{AreTables};
 use crate::controls::{Tables, control_rows, mark_useful};
 use crate::facts::{NetFacts, all_net_facts};
 use crate::groups::net_groups;
+use crate::lone_groups::settled_keys;
 use crate::net_numbers::NetNumbers;
 use crate::pair_keys::{PairKey, pair_keys};
 use crate::shared::{contended_nets, shared_table};
@@ -107,7 +108,8 @@ fn classify_record(alloc: Global, board: &RawBoard) -> Result<Classes, AllocErro
     let flags = contended_nets(alloc, &facts)?;
     let shared = shared_table(alloc, &flags, &controls)?;
     let groups = net_groups(alloc, board.nets.len(), &shared)?;
-    let keys = pair_keys(alloc, &groups, &shared, &nets)?;
+    let open_keys = pair_keys(alloc, &groups, &shared, &nets)?;
+    let keys = settled_keys(alloc, open_keys, groups.len())?;
     Ok(Classes {
         nets,
         controls,

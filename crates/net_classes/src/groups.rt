@@ -103,7 +103,8 @@ pub fn net_groups(
     shared: &[Vec<NetNumbers>],
 ) -> Result<Vec<u32>, AllocError>
     requires { count ≤ 16382 }
-    ensures { IfOk result (λ groups. AreGroups count (table shared.now) groups.items) }
+    ensures groups { IfOk result (λ groups. AreGroups count (table shared.now) groups.items) }
+    ensures count { IfOk result (λ groups. length groups.items ≡ count) }
 {
     let mut groups = lone_nets(alloc, count)?;
     join_rows(&mut groups, shared);

@@ -7,6 +7,7 @@ mod facts;
 mod found;
 mod groups;
 pub mod law;
+mod lone_groups;
 mod net_numbers;
 mod pair_keys;
 mod questions;

@@ -24,18 +24,16 @@ impl Holder {
     fn is_apart(self, other: Holder) -> bool
         ensures { result ≡ are_apart self other }
     {
-        let same = self.control.part == other.control.part
-            && self.control.cell == other.control.cell;
-        same || self.group != other.group
+        self.control.is_same(other.control) || self.group != other.group
     }
 }
 
-/// What one tested driver of a net says of the pairs with the net.
+/// What is known of the pairs of a net with covered nets, without a look at their drivers.
 #[derive(Clone, Copy, Debug)]
 pub enum PairKey {
     /// The net is not covered.
     Uncovered,
-    /// A tested driver is always on or shares no net with another control.
+    /// The net is covered, and paired with every other covered net.
     Free,
     /// A tested driver has a control that shares nets.
     Held(Holder),
@@ -56,7 +54,8 @@ impl PairKey {
         }
     }
 
-    fn is_free(self) -> bool
+    /// Whether the net is covered and paired with every other covered net.
+    pub fn is_free(self) -> bool
         ensures { result ≡ is_free_key self }
     {
         match self {

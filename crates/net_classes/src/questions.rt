@@ -1,6 +1,6 @@
 // The questions that the classes of a board answer.
 ghost use Rattle.std.specs.Prelude.{◌≡◌, ◌≢◌, ◌<◌, ◌||◌, ℕ, false, true, not, length, map, slice_get, is_some, All, MatchOption, Some};
-ghost use Rattle.std.specs.List.{list_any, range_with_len};
+ghost use Rattle.std.specs.List.{range_with_len};
 ghost use Rattle.std.specs.Bool.{Decides};
 ghost use Rattle.board_defs.specs.BoardRules.{IsBoard};
 ghost use Rattle.board_defs.specs.Pins.{IsCell, IsOnBoard, receives_of};
@@ -11,7 +11,7 @@ ghost use Rattle.board_defs.specs.Decided.{are_paired, are_together, can_enable,
 ghost use Rattle.board_defs.specs.Passes.{tested_drivers, useful_controls};
 ghost use Rattle.net_classes.specs.Pairs.{AreByCells, IsByCell, fit, fits_some, some_fit};
 ghost use Rattle.net_classes.specs.PairKeys.{ArePairKeys};
-ghost use Rattle.net_classes.specs.Kept.{AreClasses, OfNet, control_class_of, driven_nets, is_free, pin_class_of, shared_nets};
+ghost use Rattle.net_classes.specs.Kept.{AreClasses, OfNet, control_class_of, driven_nets, pin_class_of, shared_nets};
 
 use crate::classes::{Classes, ControlClass, PinClass};
 use crate::found::meet;
@@ -176,40 +176,6 @@ impl Classes {
         self.some_fit(board, drivers, others)
     }
 
-    fn is_free_driver(&self, board: &Board, d: Drive) -> bool
-        requires classes { AreClasses board.now self.now }
-        requires cell { IsByCell board.now d }
-        ensures { result ≡ is_free board.now d }
-    {
-        match d {
-            Drive::AlwaysOn => true,
-            Drive::OneSided => false,
-            Drive::By(c) => self.shared_nets(board, c).is_empty(),
-        }
-    }
-
-    fn some_free(&self, board: &Board, drivers: &[Drive]) -> bool
-        requires classes { AreClasses board.now self.now }
-        requires cells { AreByCells board.now drivers.now }
-        ensures { result ≡ list_any (is_free board.now) drivers.now }
-    {
-        for d in drivers {
-            if self.is_free_driver(board, *d) {
-                return true;
-            }
-        }
-        false
-    }
-
-    fn has_free_driver(&self, board: &Board, net: u32) -> bool
-        requires classes { AreClasses board.now self.now }
-        requires rules { IsBoard board.now }
-        requires net { net < length board.now.nets }
-        ensures { OfNet board.now net (λ found. result ≡ list_any (is_free board.now) (tested_drivers board.now found)) }
-    {
-        self.some_free(board, self.tested_drivers(board, net))
-    }
-
     /// Why the net is not covered, by the first reason that holds; None where it is covered.
     pub fn reason(&self, board: &Board, net: u32) -> Option<Reason>
         requires classes { AreClasses board.now self.now }
@@ -304,27 +270,6 @@ impl Classes {
         } else {
             self.are_paired(board, a, b)
         }
-    }
-
-    /// Whether a tested driver of the net is always on or shares no net with another control. Such
-    /// a net is paired with every other covered net.
-    pub fn is_free(&self, board: &Board, net: u32) -> bool
-        requires classes { AreClasses board.now self.now }
-        requires net { net < length board.now.nets }
-        ensures decided { OfNet board.now net (λ found. result ≡ list_any (is_free board.now) (tested_drivers board.now found)) }
-        ensures meant { result ≡ true → (other : ℕ) → net ≢ other → IsCovered board.now other → ArePaired board.now net other }
-    {
-        law::terms_decided();
-        let _rules = board.raw();
-        self.has_free_driver(board, net)
-    }
-
-    /// For each net a key, by which most pairs are seen to be paired without a look at drivers.
-    pub fn pair_keys(&self, board: &Board) -> &[PairKey]
-        requires { AreClasses board.now self.now }
-        ensures { ArePairKeys board.now result.now }
-    {
-        &self.keys
     }
 
     /// Whether the setting of the control alone is safe.

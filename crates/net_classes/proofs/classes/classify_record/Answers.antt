@@ -39,9 +39,9 @@ returns c =
     ap (map (λ (row : Vec ControlClass Global). map (shared_in flags) row.items)) (c.deref-9.ensures.value ∙ kept) ∙ sym (map_map (λ (row : Vec ControlClass Global). row.items) (map (shared_in flags)) c.mark_useful.new.rows)) in
     let groups = c.in_ok-groups.groups.items in
     let rows = c.in_ok-shared.shared.items in
-    let grouped : AreGroups (length board.nets) (table rows) groups = subst (λ v. AreGroups (length board.nets) (table v) groups) c.deref-10.ensures.value (subst (λ n. AreGroups n (table c.deref-10.result.now) groups) c.len.ensures c.in_ok-groups.ensures) in
-    let keys = keys_are board (length board.nets) groups (table rows) nets c.in_ok-keys.keys.items c.requires refl grouped shared m.nets_are
-    (c.in_ok-keys.ensures ∙ ap (λ g. map (λ (net : NetClass). net_key g (table c.deref-12.result.now) net.drivers) c.deref-13.result.now) c.deref-11.ensures.value ∙
+    let grouped : AreGroups (length board.nets) (table rows) groups = subst (λ v. AreGroups (length board.nets) (table v) groups) c.deref-10.ensures.value (subst (λ n. AreGroups n (table c.deref-10.result.now) groups) c.len.ensures c.in_ok-groups.ensures.groups) in
+    let keys = keys_are board (length board.nets) groups (table rows) nets c.in_ok-open_keys.open_keys.items c.requires refl grouped shared m.nets_are
+    (c.in_ok-open_keys.ensures ∙ ap (λ g. map (λ (net : NetClass). net_key g (table c.deref-12.result.now) net.drivers) c.deref-13.result.now) c.deref-11.ensures.value ∙
     ap (λ v. map (λ (net : NetClass). net_key groups (table v) net.drivers) c.deref-13.result.now) c.deref-12.ensures.value ∙
     ap (map (λ (net : NetClass). net_key groups (table rows) net.drivers)) c.deref-13.ensures.value) in
-    record { nets_are = m.nets_are; controls_are = λ d is. ap (λ rows. item_of (table rows) d) kept ∙ m.controls_are d is; useful_are = m.useful_are; shared_are = shared; keys_are = keys }
+    record { nets_are = m.nets_are; controls_are = λ d is. ap (λ rows. item_of (table rows) d) kept ∙ m.controls_are d is; useful_are = m.useful_are; shared_are = shared; keys_are = c.in_ok-keys.ensures board keys }

@@ -5,8 +5,8 @@ use Rattle.net_classes.specs.Groups.{AreGroups, joined_rows}
 use Rattle.net_classes.proofs.GroupLemmas.{groups_are}
 use Rattle.net_classes.proofs.groups.net_groups.Goals as goal
 
-pub returns : goal.returns
-returns c =
+pub returns-clause-groups : goal.returns-clause-groups
+returns-clause-groups c =
     let shared = table c.args.shared.now in
     let old = c.in_ok-groups.groups in
     let new = c.join_rows.new.groups in
