@@ -3,7 +3,7 @@ use Rattle.std.proofs.Common.{◌≡◌, ◌≢◌, ◌⊎◌, inl, inr, ℕ, �
 use Rattle.std.specs.Int.{bit_at}
 use Rattle.std.specs.Int.Bits.{bit_and, bit_or}
 use Rattle.std.proofs.lemmas.Bool.{both_ways, cases_eq}
-use Rattle.std.proofs.lemmas.Nat.Bits.{bit_at-lt, bit_at-zero, bit_at_and, bit_at_set_other, same_from_bits}
+use Rattle.std.proofs.lemmas.Nat.Bits.{bit_at-lt, bit_at-zero, bit_at_and, bit_at_set_other, bit_at_set_same, same_from_bits}
 use Rattle.std.proofs.lemmas.List.{length-replicate, length-set, get_or_default, get_or-replicate, get_or-set_same, get_or-set_other, take_all, take_more}
 use Rattle.std.proofs.lemmas.List.Elements.{Contains-append_left, Contains-append_right}
 use Rattle.board_defs.specs.declared.board.Ctl.{Ctl}
@@ -52,6 +52,14 @@ bit_added mark number shown below sees x h = by_number (cases_eq x number)
     by_number : (x ≡ number) ⊎ (x ≡ number → ⊥) → (bit_at mark x ≡ 1) ⊎ ((x ≡ number) × (shown ≡ true))
     by_number (inl same) = inr (same, sees)
     by_number (inr other) = inl (sym (bit_at_set_other w64 mark number below x other) ∙ h)
+
+-- the bits that were there stay
+pub bit_kept : (mark number : ℕ) → number < 64 → (x : ℕ) → bit_at mark x ≡ 1 → bit_at (bit_or mark (1 * 2 ^ number % 2 ^ 64)) x ≡ 1
+bit_kept mark number below x h = by_number (cases_eq x number)
+  where
+    by_number : (x ≡ number) ⊎ (x ≡ number → ⊥) → bit_at (bit_or mark (1 * 2 ^ number % 2 ^ 64)) x ≡ 1
+    by_number (inl same) = ap (bit_at (bit_or mark (1 * 2 ^ number % 2 ^ 64))) same ∙ bit_at_set_same w64 mark number below
+    by_number (inr other) = bit_at_set_other w64 mark number below x other ∙ h
 
 -- the mark of one net
 pub marks_set : (board : RawBoard) (passes : List (List Ctl)) (marks : List ℕ) (number net mark : ℕ) (t : Bool) → AreMarks board passes marks → net < length board.nets → (t ≡ true → Contains (showing board passes net) number) →

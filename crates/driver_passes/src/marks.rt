@@ -15,7 +15,9 @@ pub fn blank_marks(alloc: Global, count: usize) -> Result<Vec<u64>, AllocError>
 
 /// The mark with the bit of one more pass, where the pass shows the net and is one of the first 64.
 pub fn with_pass(mark: u64, number: usize, shown: bool) -> u64
-    ensures { (x : ℕ) → bit_at result x ≡ 1 → (bit_at mark x ≡ 1) ⊎ ((x ≡ number) × (shown ≡ true)) }
+    ensures bits { (x : ℕ) → bit_at result x ≡ 1 → (bit_at mark x ≡ 1) ⊎ ((x ≡ number) × (shown ≡ true)) }
+    ensures kept { (x : ℕ) → bit_at mark x ≡ 1 → bit_at result x ≡ 1 }
+    ensures added { shown ≡ true → number < 64 → bit_at result number ≡ 1 }
 {
     if shown && number < 64 {
         mark | 1 << number
@@ -31,6 +33,7 @@ pub fn next_apart(marks: &[u64], mark: u64, from: usize) -> usize
     ensures least { from ≤ result }
     ensures most { result ≤ length marks.now }
     ensures between { (n : ℕ) → from ≤ n → n < result → bit_and mark (slice_index_or marks.now n 0) ≢ 0 }
+    ensures apart { result < length marks.now → bit_and mark (slice_index_or marks.now result 0) ≡ 0 }
 {
     for net in from..marks.len() {
         if mark & marks[net] == 0 {

@@ -22,5 +22,5 @@ loop-net-preserved c =
     let shown = c.is_set-shown.ensures ∙ ap (λ v. get_or v c.loop-net.net false) c.deref.ensures.value ∙ c.in_ok-flags.ensures.flags_are c.loop-net.net less in
     record {
       rows = noted_more board c.args.passes.now c.args.number c.loop-net.net pass rows (get_or rows c.loop-net.net row) c.push_if.new.self c.is_set-shown.result c.loop-net.invariant.rows less c.requires.number c.index-passes-number.is (get_or_default rows c.loop-net.net row [] within) shown c.in_ok-push_if.ensures;
-      marks = marks_set board (take (c.args.number + 1) c.args.passes.now) c.loop-net.marks c.args.number c.loop-net.net c.with_pass.result c.is_set-shown.result c.loop-net.invariant.marks less (pass_shown board c.args.passes.now c.args.number c.loop-net.net pass c.is_set-shown.result c.requires.number c.index-passes-number.is shown) c.with_pass.ensures;
+      marks = marks_set board (take (c.args.number + 1) c.args.passes.now) c.loop-net.marks c.args.number c.loop-net.net c.with_pass.result c.is_set-shown.result c.loop-net.invariant.marks less (pass_shown board c.args.passes.now c.args.number c.loop-net.net pass c.is_set-shown.result c.requires.number c.index-passes-number.is shown) c.with_pass.ensures.bits;
     }
