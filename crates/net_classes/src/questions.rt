@@ -272,6 +272,14 @@ impl Classes {
         }
     }
 
+    /// For each net a key, by which most pairs are seen to be paired without a look at drivers.
+    pub fn pair_keys(&self, board: &Board) -> &[PairKey]
+        requires { AreClasses board.now self.now }
+        ensures { ArePairKeys board.now result.now }
+    {
+        &self.keys
+    }
+
     /// Whether the setting of the control alone is safe.
     pub fn is_safe(&self, board: &Board, c: Ctl) -> bool
         requires classes { AreClasses board.now self.now }
