@@ -57,21 +57,24 @@ awk 'BEGIN {
     for (i = 1; i <= k; i++) for (b = 0; b < 32; b++) print "NET R" i "_" b " U" i "." b + 1 " U" (i % k) + 1 "." b + 33
     for (b = 0; b < 8; b++) { printf "NET B" b; for (i = 1; i <= k; i++) printf " U" i "." b + 65; print "" } }' >bus.nets
 
-# 254 devices of 129 cells: 64 outputs of one group each, and 64 inputs; 16,256 nets, each covered.
-awk 'BEGIN {
-    print "0 (BC_1, *, control, 1)"
-    for (i = 0; i < 64; i++) print i + 1 " (BC_1, Q(" i "), output3, X, 0, 1, Z)"
-    for (i = 0; i < 64; i++) print i + 65 " (BC_1, D(" i "), input, X)" }' |
-    bsdl MESH 'Q : out bit_vector(0 to 63); D : in bit_vector(0 to 63)' "\"Q:($(numbers 1 64)), D:($(numbers 65 128))\"" 129 >mesh.bsd
+# A device with one group of so many outputs, and as many inputs.
+grid() {
+    local name=$1 pins=$2
+    awk -v pins="$pins" 'BEGIN {
+        print "0 (BC_1, *, control, 1)"
+        for (i = 0; i < pins; i++) print i + 1 " (BC_1, Q(" i "), output3, X, 0, 1, Z)"
+        for (i = 0; i < pins; i++) print i + pins + 1 " (BC_1, D(" i "), input, X)" }' |
+        bsdl "$name" "Q : out bit_vector(0 to $((pins - 1))); D : in bit_vector(0 to $((pins - 1)))" \
+            "\"Q:($(numbers 1 "$pins")), D:($(numbers $((pins + 1)) $((2 * pins))))\"" $((2 * pins + 1))
+}
+
+# 254 devices of 129 cells: 16,256 nets, each covered.
+grid MESH 64 >mesh.bsd
 awk 'BEGIN { for (i = 1; i <= 254; i++) print "DEVICE U" i " MESH -" }' >mesh.chain
 awk 'BEGIN { k = 254; for (i = 1; i <= k; i++) for (b = 0; b < 64; b++) print "NET R" i "_" b " U" i "." b + 1 " U" (i % k) + 1 "." b + 65 }' >mesh.nets
 
-# 254 devices of 257 cells: 128 outputs of one group each, and 128 inputs; 16,256 nets, each driven by two devices.
-awk 'BEGIN {
-    print "0 (BC_1, *, control, 1)"
-    for (i = 0; i < 128; i++) print i + 1 " (BC_1, Q(" i "), output3, X, 0, 1, Z)"
-    for (i = 0; i < 128; i++) print i + 129 " (BC_1, D(" i "), input, X)" }' |
-    bsdl TWIN 'Q : out bit_vector(0 to 127); D : in bit_vector(0 to 127)' "\"Q:($(numbers 1 128)), D:($(numbers 129 256))\"" 257 >twin.bsd
+# 254 devices of 257 cells: 16,256 nets, each driven by two devices.
+grid TWIN 128 >twin.bsd
 awk 'BEGIN { for (i = 1; i <= 254; i++) print "DEVICE U" i " TWIN -" }' >twin.chain
 awk 'BEGIN {
     for (i = 1; i <= 127; i++) for (b = 1; b <= 128; b++) {
