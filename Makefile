@@ -1,32 +1,37 @@
 # What a person calls. The gate itself is .ci/run.
+PREFIX ?= /usr/local
 PROGRAM := crates/btest/out/btest
-BOARD := $(addprefix examples/, controller.chain controller.nets processor.bsd octal-buffer.bsd port.bsd)
 
-.PHONY: demo build test bench
+.PHONY: help demo build test check bench install
 
-# Builds the program, runs its main job on the files of examples/ and shows what it printed.
-demo: build
-	@echo '$$ btest chain examples/four-parts.chain'
-	@$(PROGRAM) chain examples/four-parts.chain
-	@echo '$$ btest chain examples/part-twice.chain'
-	@$(PROGRAM) chain examples/part-twice.chain; echo "status $$?"
-	@echo '$$ btest device examples/octal-buffer.bsd'
-	@$(PROGRAM) device examples/octal-buffer.bsd
-	@echo '$$ btest chain examples/driver.chain examples/driver.bsd'
-	@$(PROGRAM) chain examples/driver.chain examples/driver.bsd
-	@echo '$$ btest cover $(BOARD)'
-	@$(PROGRAM) cover $(BOARD)
-	@echo '$$ btest svf $(BOARD)'
-	@$(PROGRAM) svf $(BOARD)
+help:
+	@echo 'make demo                shows the program at work on the files of examples/: two minutes at most'
+	@echo 'make build               proves the program and leaves it at $(PROGRAM): half an hour to an hour the first time'
+	@echo 'make install PREFIX=DIR  builds the proved program and copies it to DIR/bin'
+	@echo 'make test                the gate, with all tests and edits that must fail: an hour and more the first time'
+	@echo 'make check CRATE=NAME    proves one crate, and those below it where they have changed'
+	@echo 'make bench               prints times of the proved program on large inputs'
+
+# Runs the main job on the files of examples/ and shows what it prints, with the proved program where it is there.
+demo:
+	@bash scripts/demo.sh
 
 # Leaves the proved program, and prints where it is.
 build:
-	@cd crates/btest && rt run >/dev/null 2>&1 </dev/null; test -x out/btest
-	@echo 'the program: $(PROGRAM)'
+	@bash scripts/build.sh
+
+install: build
+	@install -D -m 755 $(PROGRAM) $(DESTDIR)$(PREFIX)/bin/btest
+	@echo 'installed: $(DESTDIR)$(PREFIX)/bin/btest'
 
 # The gate: proofs, edits that must fail, tests and programs.
 test:
-	@bash .ci/run
+	@bash scripts/test.sh
+
+# One crate.
+check:
+	@test -n '$(CRATE)' || { echo 'make check CRATE=NAME, with a name of crates.txt'; exit 2; }
+	@cd crates/$(CRATE) && rt check
 
 # Figures, with no limit and no verdict.
 bench: build

@@ -89,14 +89,15 @@ awk 'BEGIN {
 awk 'BEGIN { for (i = 1; i <= 250; i++) print "DEVICE U" i " LONG -" }' >long.chain
 awk 'BEGIN { printf "NET B"; for (i = 1; i <= 250; i++) for (b = 1; b <= 9; b++) printf " U" i "." b; print "" }' >long.nets
 
+# The user time of a run, which is little changed by what else the machine does.
 figure() {
-    local name=$1
+    local name=$1 user
     shift
-    local begin end
-    begin=$(date +%s%N)
-    "$program" "$@" >out.txt 2>notes.txt || true
-    end=$(date +%s%N)
-    printf '%-34s %6d ms  %9d bytes out\n' "$name" $(((end - begin) / 1000000)) "$(stat -c %s out.txt)"
+    user=$(
+        TIMEFORMAT=%U
+        { time "$program" "$@" >out.txt 2>notes.txt || true; } 2>&1
+    )
+    printf '%-34s %8s s  %9d bytes out\n' "$name" "$user" "$(stat -c %s out.txt)"
 }
 
 figure 'chain, 255 parts of 255 bits' chain wide.chain
@@ -108,6 +109,8 @@ figure 'cover, a device of 65,000 cells' cover big.chain big.nets big.bsd
 figure 'svf, a device of 65,000 cells' svf big.chain big.nets big.bsd
 figure 'cover, 255 devices on a bus' cover bus.chain bus.nets bus.bsd
 figure 'svf, 255 devices on a bus' svf bus.chain bus.nets bus.bsd
+figure 'make, the same board, not written' make 255
+figure 'ident, the same chain' ident bus.chain bus.bsd
 figure 'cover, 16,256 covered nets' cover mesh.chain mesh.nets mesh.bsd
 figure 'svf, 16,256 covered nets' svf mesh.chain mesh.nets mesh.bsd
 figure 'cover, 16,256 nets of two drivers' cover twin.chain twin.nets twin.bsd

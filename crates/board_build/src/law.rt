@@ -1,10 +1,35 @@
 //! Laws of the definitions, each the contract of a function that does nothing.
 ghost use Rattle.std.specs.Prelude.{◌≡◌, ◌<◌, ℕ, List, length, All};
+ghost use Rattle.std.specs.List.{AllByRecursion};
+ghost use Rattle.board_defs.specs.declared.board.RawBoard.{RawBoard};
+ghost use Rattle.board_defs.specs.declared.device.RawDevice.{RawDevice};
+ghost use Rattle.board_defs.specs.BoardRules.{IsBoard};
+ghost use Rattle.board_defs.specs.DeviceRules.{IsDevice};
+ghost use Rattle.board_files.specs.ChainLines.{HasLength};
+ghost use Rattle.board_files.specs.declared.net_file.NetLine.{NetLine};
 ghost use Rattle.board_files.specs.declared.chain_file.ChainLine.{ChainLine};
 ghost use Rattle.bsdl_parser.specs.declared.entity.Entity.{Entity};
+ghost use Rattle.board_build.specs.declared.names.Naming.TheVariants.{Entity as EntityName};
+ghost use Rattle.board_build.specs.BoardRules.{board_of};
+ghost use Rattle.board_build.specs.ChainParts.{IsChain};
+ghost use Rattle.board_build.specs.Names.{named};
 ghost use Rattle.board_build.specs.Selection.{selection};
 
 /// What DEVICE lines select among entities are numbers of these entities.
 pub fn selected_are_entities()
     ensures { (lines : List ChainLine) (entities : List Entity) (numbers : List ℕ) → selection lines entities ≡ Ok numbers → All (λ number. number < length entities) numbers }
+{}
+
+/// A chain of which something was selected has 1 to 255 parts with different names, and an entity was
+/// selected for each DEVICE line.
+pub fn selected_are_chains()
+    ensures chain { (lines : List ChainLine) (entities : List Entity) (numbers : List ℕ) → selection lines entities ≡ Ok numbers → IsChain lines }
+    ensures count { (lines : List ChainLine) (entities : List Entity) (numbers : List ℕ) → selection lines entities ≡ Ok numbers → length numbers ≡ length (named EntityName lines) }
+{}
+
+/// The board of a chain, a net file and devices keeps the rules of a board.
+pub fn boards_keep_rules()
+    ensures { (chain : List ChainLine) (nets : List NetLine) (devices : List RawDevice) (board : RawBoard)
+        → IsChain chain → AllByRecursion (λ line. HasLength line.statement) chain → AllByRecursion IsDevice devices → length devices ≡ length (named EntityName chain)
+        → board_of chain nets devices ≡ Ok board → IsBoard board }
 {}

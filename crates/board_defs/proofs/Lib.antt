@@ -7,6 +7,9 @@ pub mod SafeSettings
 pub mod Covered
 pub mod Reasons
 mod Samples
+mod SamplePins
+mod SampleTerms
+mod SampleRules
 pub mod Members
 pub mod PassSettings
 pub mod PassesKept
@@ -14,7 +17,7 @@ pub mod PassesReach
 pub mod SingleFaults
 mod Checks
 mod DeviceChecks
-mod BoardChecks
+pub mod BoardChecks
 pub mod CodeLemmas
 pub mod Ordered
 pub mod PassWords

@@ -30,30 +30,30 @@ use Rattle.board_defs.specs.Faults.{tested_pins, paired_nets, singles}
 use Rattle.board_defs.proofs.BoardChecks.{board_of}
 
 -- port bits of a device: those of the test access port come first
-abbrev port_bit : ℕ → Option ℕ → Mode → Option (List ℕ) → Bool → PortBit
+abbrev pub port_bit : ℕ → Option ℕ → Mode → Option (List ℕ) → Bool → PortBit
 port_bit port index mode pin tap = record { port = port; index = index; mode = mode; pin = pin; tap = tap; compliance = false }
 
-abbrev taps : List PortBit
+abbrev pub taps : List PortBit
 taps =
     port_bit 0 None Inward (Some (codes "T1")) true ∷ port_bit 1 None Inward (Some (codes "T3")) true ∷ port_bit 2 None Inward (Some (codes "T4")) true
     ∷ port_bit 3 None Outward (Some (codes "T2")) true ∷ []
 
 -- a port of this mode with bits from index i on, one for each pin
-abbrev vector : ℕ → Mode → ℕ → List (List ℕ) → List PortBit
+abbrev pub vector : ℕ → Mode → ℕ → List (List ℕ) → List PortBit
 vector port mode i [] = []
 vector port mode i (pin ∷ pins) = port_bit port (Some i) mode (Some pin) false ∷ vector port mode (i + 1) pins
 
-abbrev entry : ℕ → Role → ℕ → Option Control → Cell
+abbrev pub entry : ℕ → Role → ℕ → Option Control → Cell
 entry num role bit ctl = record { num = num; role = role; bit = Some bit; safe = Any; ctl = ctl }
 
 -- an entry of a cell that disables drivers by 1, and the control of such a driver
-abbrev control : ℕ → Cell
+abbrev pub control : ℕ → Cell
 control num = record { num = num; role = ControlRole; bit = None; safe = One; ctl = None }
 
-abbrev by : ℕ → Option Control
+abbrev pub by : ℕ → Option Control
 by cell = Some (record { cell = cell; disable = true })
 
-abbrev device : List (List ℕ) → List PortBit → List Cell → ℕ → RawDevice
+abbrev pub device : List (List ℕ) → List PortBit → List Cell → ℕ → RawDevice
 device ports bits cells boundary = record {
   entity = codes "E";
   «package» = codes "P";
@@ -69,20 +69,20 @@ device ports bits cells boundary = record {
 }
 
 -- receivers on the pins 1 and 2; one three-state driver; one bidirectional pin; two pairs of drivers; a driver of its own cell
-abbrev rcv : RawDevice
+abbrev pub rcv : RawDevice
 rcv = device (codes "Q" ∷ []) (vector 4 Inward 1 (codes "1" ∷ codes "2" ∷ [])) (entry 0 Input 4 None ∷ entry 1 Input 5 None ∷ []) 2
 
-abbrev ts : RawDevice
+abbrev pub ts : RawDevice
 ts = device (codes "Q" ∷ []) (port_bit 4 None Outward (Some (codes "1")) false ∷ []) (entry 0 Output3 4 (by 1) ∷ control 1 ∷ []) 2
 
-abbrev bi : RawDevice
+abbrev pub bi : RawDevice
 bi = device (codes "Q" ∷ []) (port_bit 4 None Both (Some (codes "1")) false ∷ []) (entry 0 Bidir 4 (by 1) ∷ control 1 ∷ []) 2
 
-abbrev two : RawDevice
+abbrev pub two : RawDevice
 two = device (codes "Q" ∷ []) (vector 4 Outward 1 (codes "1" ∷ codes "2" ∷ codes "3" ∷ codes "4" ∷ []))
     (entry 0 Output3 4 (by 4) ∷ entry 1 Output3 5 (by 4) ∷ entry 2 Output3 6 (by 5) ∷ entry 3 Output3 7 (by 5) ∷ control 4 ∷ control 5 ∷ []) 6
 
-abbrev od : RawDevice
+abbrev pub od : RawDevice
 od = device (codes "Q" ∷ []) (port_bit 4 None Outward (Some (codes "1")) false ∷ []) (entry 0 Output2 4 (by 0) ∷ []) 1
 
 -- a two-bit three-state buffer: OE_N, A(1), A(0), Y(1), Y(0), GND and VCC; cell 4 reads OE_N and controls Y
@@ -94,43 +94,43 @@ buf2 = device (codes "OE_N" ∷ codes "A" ∷ codes "Y" ∷ codes "GND" ∷ code
     (entry 4 Input 4 None ∷ control 4 ∷ entry 3 Input 5 None ∷ entry 2 Input 6 None ∷ entry 1 Output3 7 (by 4) ∷ entry 0 Output3 8 (by 4) ∷ []) 5
 
 -- part k is named U and its number from 1, and its pins from 1 stand after those of the test access port
-abbrev part_name : ℕ → List ℕ
+abbrev pub part_name : ℕ → List ℕ
 part_name k = 85 ∷ (49 + k) ∷ []
 
-abbrev pin : ℕ → ℕ → NetPin
+abbrev pub pin : ℕ → ℕ → NetPin
 pin k b = record { part = part_name k; pin = (49 + b) ∷ []; at = Some (record { part = k; bit = b + 4 }); inert = false }
 
 -- TCK of a part, and pins of parts outside the chain
-abbrev clock : ℕ → NetPin
+abbrev pub clock : ℕ → NetPin
 clock k = record { part = part_name k; pin = codes "T4"; at = Some (record { part = k; bit = 2 }); inert = false }
 
-abbrev foreign : List ℕ → NetPin
+abbrev pub foreign : List ℕ → NetPin
 foreign name = record { part = name; pin = codes "1"; at = None; inert = false }
 
-abbrev net : ℕ → Option Bool → List NetPin → Net
+abbrev pub net : ℕ → Option Bool → List NetPin → Net
 net n pull pins = record { name = 78 ∷ (48 + n) ∷ []; supply = false; pull = pull; pins = pins }
 
-abbrev parts : ℕ → List RawDevice → List Part
+abbrev pub parts : ℕ → List RawDevice → List Part
 parts k [] = []
 parts k (d ∷ devices) = record { name = part_name k; kind = Described d } ∷ parts (k + 1) devices
 
-abbrev board : List RawDevice → List Net → RawBoard
+abbrev pub board : List RawDevice → List Net → RawBoard
 board devices nets = record { chain = parts 0 devices; nets = nets }
 
-abbrev c : ℕ → ℕ → Ctl
+abbrev pub c : ℕ → ℕ → Ctl
 c part cell = record { part = part; cell = cell }
 
-abbrev at : ℕ → ℕ → PinRef
+abbrev pub at : ℕ → ℕ → PinRef
 at n place = record { net = n; place = place }
 
-abbrev reasons : RawBoard → List (Option Reason)
+abbrev pub reasons : RawBoard → List (Option Reason)
 reasons b = map (reason_of b) b.nets
 
-abbrev pairs : RawBoard → List (ℕ × ℕ)
+abbrev pub pairs : RawBoard → List (ℕ × ℕ)
 pairs b = map (λ pair. (pair.0.0, pair.1.0)) (paired_nets b)
 
 -- two three-state drivers and a receiver on one net: a pass for each driver
-abbrev bus : RawBoard
+abbrev pub bus : RawBoard
 bus = board (ts ∷ ts ∷ rcv ∷ []) (net 0 None (pin 0 0 ∷ pin 1 0 ∷ pin 2 0 ∷ []) ∷ [])
 
 bus_covered : reasons bus ≡ None ∷ []
@@ -146,7 +146,7 @@ bus_passes : passes_of bus ≡ (c 0 1 ∷ []) ∷ (c 1 1 ∷ []) ∷ []
 bus_passes = refl
 
 -- a net whose drivers are of both controls: it is paired with either other net, and these are not paired
-abbrev crossing : RawBoard
+abbrev pub crossing : RawBoard
 crossing = board (two ∷ rcv ∷ rcv ∷ []) (net 0 None (pin 0 0 ∷ pin 1 0 ∷ []) ∷ net 1 None (pin 0 1 ∷ pin 0 2 ∷ pin 1 1 ∷ []) ∷ net 2 None (pin 0 3 ∷ pin 2 0 ∷ []) ∷ [])
 
 crossing_covered : reasons crossing ≡ None ∷ None ∷ None ∷ []
@@ -162,7 +162,7 @@ crossing_passes : passes_of crossing ≡ (c 0 4 ∷ []) ∷ (c 0 5 ∷ []) ∷ [
 crossing_passes = refl
 
 -- a bidirectional pin and a driver: the first is tested as a receiver alone, since no other pin of the net receives
-abbrev shared : RawBoard
+abbrev pub shared : RawBoard
 shared = board (bi ∷ ts ∷ []) (net 0 None (pin 0 0 ∷ pin 1 0 ∷ []) ∷ [])
 
 shared_covered : reasons shared ≡ None ∷ []
@@ -247,12 +247,12 @@ switching_faults : singles (pull (Some true)) ≡ StuckNet 0 false ∷ StuckNet 
 switching_faults = refl
 
 -- drivers in pairs to a control: the third pass is for two nets that neither of the first two observes together
-abbrev four : RawDevice
+abbrev pub four : RawDevice
 four = device (codes "Q" ∷ []) (vector 4 Outward 1 (codes "1" ∷ codes "2" ∷ codes "3" ∷ codes "4" ∷ codes "5" ∷ codes "6" ∷ codes "7" ∷ codes "8" ∷ []))
     (entry 0 Output3 4 (by 8) ∷ entry 1 Output3 5 (by 8) ∷ entry 2 Output3 6 (by 9) ∷ entry 3 Output3 7 (by 9) ∷ entry 4 Output3 8 (by 10) ∷ entry 5 Output3 9 (by 10)
     ∷ entry 6 Output3 10 (by 11) ∷ entry 7 Output3 11 (by 11) ∷ control 8 ∷ control 9 ∷ control 10 ∷ control 11 ∷ []) 12
 
-abbrev fours : RawBoard
+abbrev pub fours : RawBoard
 fours = board (four ∷ rcv ∷ rcv ∷ rcv ∷ []) (
     net 0 None (pin 0 0 ∷ pin 0 4 ∷ pin 1 0 ∷ []) ∷ net 1 None (pin 0 1 ∷ pin 0 6 ∷ pin 1 1 ∷ []) ∷ net 2 None (pin 0 2 ∷ pin 0 7 ∷ pin 2 0 ∷ [])
     ∷ net 3 None (pin 0 3 ∷ pin 2 1 ∷ []) ∷ net 4 None (pin 0 5 ∷ pin 3 0 ∷ []) ∷ [])

@@ -1,5 +1,5 @@
 -- How many lines and words a text can have.
-use Rattle.std.proofs.Common.{◌≡◌, ℕ, ◌+◌, ◌<◌, ◌≤◌, ◌^◌, Bool, true, false, cond, List, [], ◌∷◌, length, Result, Ok, Err, refl, sym, ap, ◌∙◌, subst, arith, min}
+use Rattle.std.proofs.Common.{◌≡◌, ℕ, ◌+◌, ◌≤◌, Bool, true, false, cond, List, [], ◌∷◌, length, Result, Ok, Err, refl, sym, ap, ◌∙◌, subst, arith, min}
 use Rattle.std.specs.Prelude.{IfOk, filter, take_while, if◌then◌else◌, codes}
 use Rattle.std.specs.List.{AllByRecursion, slice_split, onto_first, prefix_len}
 use Rattle.std.proofs.lemmas.List.{length-take}
@@ -7,7 +7,7 @@ use Rattle.std.specs.Str.{bytes_eq}
 use Rattle.board_files.specs.declared.fault.LineFault.{LineFault}
 use Rattle.board_files.specs.declared.net_file.NetLine.{NetLine}
 use Rattle.board_files.specs.declared.net_file.PinWord.{PinWord}
-use Rattle.board_files.specs.Words.{Word, words_of, is_newline, is_blank, is_filled, begins_no_comment, is_word}
+use Rattle.text_lines.specs.Words.{Word, words_of, is_newline, is_blank, is_filled, begins_no_comment, is_word}
 use Rattle.board_files.specs.Reading.{◌>>=◌, Gives, line_then, lines_from}
 use Rattle.board_files.specs.NetLines.{pin_of, pins_of, net_of, net_line, net_lines}
 

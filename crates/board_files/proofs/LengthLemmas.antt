@@ -9,7 +9,8 @@ use Rattle.board_files.specs.declared.chain_file.ChainLine.{ChainLine}
 use Rattle.board_files.specs.declared.chain_file.ChainStatement.{ChainStatement}
 use Rattle.board_files.specs.declared.fault.LineFault.TheVariants.{Statement, Word as WordFault, Number}
 use Rattle.board_files.specs.declared.chain_file.ChainStatement.TheVariants.{Device, Inert, Supply, Pull, Link}
-use Rattle.board_files.specs.Words.{Word, words_of, is_part, is_word, is_symbol, is_newline, upper, one_of, two_of, three_of}
+use Rattle.board_files.specs.Words.{is_part, is_symbol, upper, one_of, two_of, three_of}
+use Rattle.text_lines.specs.Words.{Word, words_of, is_word, is_newline}
 use Rattle.board_files.specs.Reading.{◌>>=◌, line_then, lines_from, text_of}
 use Rattle.board_files.specs.ChainLines.{as_length, decimal_from, length_of, device_of, bypass_of, bypass_with, inert_of, supply_of, pull_of, link_of, package_of, is_bit, Read, statement_of, chain_line, HasLength}
 

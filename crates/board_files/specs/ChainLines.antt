@@ -7,7 +7,8 @@ use Rattle.board_files.specs.declared.fault.LineFault.TheVariants.{Statement, Wo
 use Rattle.board_files.specs.declared.chain_file.ChainLine.{ChainLine}
 use Rattle.board_files.specs.declared.chain_file.ChainStatement.{ChainStatement}
 use Rattle.board_files.specs.declared.chain_file.ChainStatement.TheVariants.{Device, Bypass, Inert, Supply, Pull, Link}
-use Rattle.board_files.specs.Words.{Word, is_word, is_part, is_symbol, upper, one_of, two_of, three_of}
+use Rattle.board_files.specs.Words.{is_part, is_symbol, upper, one_of, two_of, three_of}
+use Rattle.text_lines.specs.Words.{Word, is_word}
 use Rattle.board_files.specs.Reading.{◌>>=◌, text_of}
 
 abbrev pub Read : Type 0

@@ -1,33 +1,8 @@
--- The lines of a text, the words of a line, and the rules of a word.
-use Rattle.std.specs.Prelude.{◌≡◌, ℕ, ◌<◌, ◌==◌, Bool, true, false, not, ◌&&◌, ◌||◌, List, [], ◌∷◌, length, nat_le, filter, take_while, Option, Some, None, map}
-use Rattle.std.specs.List.{list_all, list_any, slice_split, position_or_len, before_first, after_first}
-use Rattle.std.specs.Char.{to_ascii_uppercase, is_ascii_alphanumeric, is_ascii_graphic}
-
-abbrev pub Word : Type 0
-Word = List ℕ
-
-abbrev pub is_newline : ℕ → Bool
-is_newline b = b == 10
-
--- a carriage return, a tab and a space
-abbrev pub is_blank : ℕ → Bool
-is_blank b = (b == 13) || (b == 9) || (b == 32)
-
-abbrev pub is_filled : Word → Bool
-is_filled [] = false
-is_filled (b ∷ bs) = true
-
-abbrev pub begins_no_comment : Word → Bool
-begins_no_comment [] = true
-begins_no_comment (b ∷ bs) = not (b == 35)
-
--- the pieces between blanks that hold something, up to the first that begins with `#`
-unfoldable pub words_of : List ℕ → List Word
-words_of line = take_while begins_no_comment (filter is_filled (slice_split is_blank line))
-
--- the word rule: 1 to 255 bytes, each from 33 to 126
-abbrev pub is_word : Word → Bool
-is_word word = is_filled word && nat_le (length word) 255 && list_all is_ascii_graphic word
+-- The rules of the words of these files.
+use Rattle.std.specs.Prelude.{ℕ, ◌==◌, Bool, not, ◌&&◌, ◌||◌, List, [], ◌∷◌, Option, Some, None, map}
+use Rattle.std.specs.List.{list_all, list_any}
+use Rattle.std.specs.Char.{to_ascii_uppercase, is_ascii_alphanumeric}
+use Rattle.text_lines.specs.Words.{Word, is_word}
 
 abbrev pub is_dot : ℕ → Bool
 is_dot b = b == 46
@@ -64,13 +39,3 @@ three_of [] = None
 three_of (a ∷ []) = None
 three_of (a ∷ b ∷ []) = None
 three_of (a ∷ b ∷ c ∷ d ∷ more) = None
-
--- the lines of a text, where there is one
-abbrev pub lines_of : Option (List ℕ) → List (List ℕ)
-lines_of None = []
-lines_of (Some text) = slice_split is_newline text
-
--- what stands before and behind the first byte that passes, or nothing where none does
-abbrev pub IsCut : (ℕ → Bool) → List ℕ → Option (List ℕ × List ℕ) → Type 0
-IsCut p text None = position_or_len p text ≡ length text
-IsCut p text (Some (before, behind)) = (position_or_len p text < length text) × (before ≡ before_first p text) × (behind ≡ after_first p text)

@@ -6,12 +6,11 @@ ghost use Rattle.board_files.specs.Reading.{Gives, GivesBy};
 ghost use Rattle.board_files.specs.ChainLines.{package_of, decimal_from, length_of, is_bit, device_of, bypass_of, inert_of, supply_of, pull_of, link_of, statement_of, chain_line, chain_lines, HasLength};
 
 use crate::fault::LineFault;
-use crate::words::{
-    first_line, is_part, is_symbol, is_word, one_of, three_of, two_of, upper, words,
-};
+use crate::words::{is_part, is_symbol, one_of, three_of, two_of, upper};
 use board_defs::Name;
 use std::alloc::{AllocError, Global};
 use std::marker::Model;
+use text_lines::{first_line, is_word, words};
 
 /// A statement of a chain file. Entity, package and pin names are in upper case.
 #[derive(Drop)]

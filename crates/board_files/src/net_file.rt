@@ -6,10 +6,11 @@ ghost use Rattle.board_files.specs.Reading.{Gives, GivesBy};
 ghost use Rattle.board_files.specs.NetLines.{pin_of, pins_of, net_of, net_line, net_lines};
 
 use crate::fault::LineFault;
-use crate::words::{cut_at, first_line, is_filled, is_word, upper, words};
+use crate::words::upper;
 use board_defs::{Items, Name};
 use std::alloc::Global;
 use std::marker::Model;
+use text_lines::{cut_at, first_line, is_filled, is_word, words};
 
 /// A pin of a net: its part, and its name in upper case.
 #[derive(Drop)]

@@ -1,2 +1,4 @@
 pub mod DecimalLemmas
+pub mod DigitLemmas
 pub mod HexLemmas
+pub mod TextLemmas

@@ -5,6 +5,7 @@ mod digits;
 mod line;
 mod row;
 
+pub use digits::digit_bit;
 pub use line::{Line, MAX_LINE};
 pub use row::{HexFault, Row};
 

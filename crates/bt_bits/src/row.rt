@@ -1,8 +1,11 @@
 ghost use Rattle.std.specs.Prelude.{◌≡◌, ◌≢◌, ◌↔◌, ◌+◌, ◌<◌, ◌≤◌, [], ◌++◌, false, length, take, drop, replicate, slice_get, slice_set, Some, None, IfOk, OnOk, OnErr, IsErrOf};
+ghost use Rattle.bt_bits.specs.Digits.{digits_of};
 ghost use Rattle.bt_bits.specs.Hex.{hex_text, digit_count, field_bits};
 
 use crate::Line;
-use crate::digits::{digit_count, push_digits, read_field};
+use crate::digits::{
+    copy_bits, digit_bit, digit_count, make_zeros, push_text, read_field, with_bit,
+};
 use std::alloc::{AllocError, Global};
 use std::marker::Model;
 use thiserror::Error;
@@ -18,25 +21,29 @@ pub enum HexFault {
     Digit,
 }
 
-/// The bits of one register, the one that is shifted first at place 0, and a room that is never left. Its memory is
-/// taken when it is made.
+/// The bits of one register, the one that is shifted first at place 0, and a room that is never left. Its memory, a
+/// byte for each four bits of the room, is taken when it is made.
 #[derive(Drop)]
 pub struct Row {
-    bits: Vec<bool>,
+    // The values of the digits of the bits, the first bit lowest in the first.
+    digits: Vec<u8>,
+    len: u32,
     room: u32,
 }
 
 impl Model for Row {
-    ghost use Rattle.std.specs.Prelude.{◌≤◌, ◌<◌, ◌^◌, length, vec_capacity};
-    ghost use Rattle.bt_bits.specs.Rows.{BitRow, row_code};
+    ghost use Rattle.std.specs.Prelude.{◌≤◌, ◌<◌, ◌^◌, vec_capacity};
+    ghost use Rattle.bt_bits.specs.Digits.{row_bits};
+    ghost use Rattle.bt_bits.specs.Hex.{digit_count};
+    ghost use Rattle.bt_bits.specs.Rows.{AreDigitsOf, BitRow, row_code};
 
     ghost Value = { BitRow };
 
     ghost coded = { row_code };
 
-    ghost view = { λ a. record { bits = a.bits.items; room = a.room } };
+    ghost view = { λ a. record { bits = row_bits a.len a.digits.items; room = a.room } };
 
-    ghost invariant = { λ a. (length a.bits.items ≤ a.room) × (a.room ≤ vec_capacity a.bits) × (a.room < 2 ^ 32) };
+    ghost invariant = { λ a. AreDigitsOf (row_bits a.len a.digits.items) a.len a.digits.items × (a.len ≤ a.room) × (digit_count a.room ≤ vec_capacity a.digits) × (a.room < 2 ^ 32) };
 }
 
 impl Row {
@@ -46,7 +53,8 @@ impl Row {
         ensures room { IfOk result (λ r. r.room ≡ room) }
     {
         Ok(Row {
-            bits: Vec::with_capacity(alloc, room as usize)?,
+            digits: Vec::with_capacity(alloc, digit_count(room as usize))?,
+            len: 0,
             room,
         })
     }
@@ -57,8 +65,8 @@ impl Row {
         ensures bits { self.new.bits ≡ replicate len false }
         ensures room { self.new.room ≡ self.old.room }
     {
-        self.bits.clear();
-        self.bits.resize(len as usize, false).unwrap();
+        make_zeros(len as usize, &mut self.digits);
+        self.len = len;
     }
 
     /// Makes the row these bits, for which it has room.
@@ -67,8 +75,27 @@ impl Row {
         ensures bits { self.new.bits ≡ bits.now }
         ensures room { self.new.room ≡ self.old.room }
     {
-        self.bits.clear();
-        self.bits.extend_from_slice(bits).unwrap();
+        copy_bits(bits, &mut self.digits);
+        self.len = bits.len() as u32;
+    }
+
+    /// Makes the row the bits of another, for which it has room.
+    pub fn copy_row(&mut self, row: &Row)
+        requires { length row.now.bits ≤ self.old.room }
+        ensures bits { self.new.bits ≡ row.now.bits }
+        ensures room { self.new.room ≡ self.old.room }
+    {
+        self.digits.clear();
+        self.digits.extend_from_slice(&row.digits).unwrap();
+        self.len = row.len;
+    }
+
+    /// The values of the row's hexadecimal digits, of which the first has the first four bits.
+    #[inline]
+    pub fn digits(&self) -> &[u8]
+        ensures { result.now ≡ digits_of self.now.bits }
+    {
+        &self.digits
     }
 
     /// How many bits the row has.
@@ -77,7 +104,7 @@ impl Row {
         ensures value { result ≡ length self.now.bits }
         ensures within { result ≤ self.now.room }
     {
-        self.bits.len() as u32
+        self.len
     }
 
     /// One bit.
@@ -86,7 +113,7 @@ impl Row {
         requires { i < length self.now.bits }
         ensures { slice_get self.now.bits i ≡ Some result }
     {
-        self.bits[i as usize]
+        digit_bit(self.digits[(i / 4) as usize], i % 4)
     }
 
     /// Changes one bit.
@@ -96,7 +123,8 @@ impl Row {
         ensures bits { self.new.bits ≡ slice_set self.old.bits i bit }
         ensures room { self.new.room ≡ self.old.room }
     {
-        self.bits[i as usize] = bit;
+        let place = (i / 4) as usize;
+        self.digits[place] = with_bit(self.digits[place], i % 4, bit);
     }
 
     /// Appends `count` digits of the row's field in upper case, beginning at digit `from` from the left. The
@@ -106,7 +134,7 @@ impl Row {
         requires room { length line.old + count ≤ 1024 }
         ensures { line.new ≡ line.old ++ take count (drop from (hex_text self.now.bits)) }
     {
-        push_digits(&self.bits, from as usize, count as usize, line);
+        push_text(&self.digits, from as usize, count as usize, line);
     }
 
     /// Takes the row's `len` bits from a field of hexadecimal digits of either case. It is refused with `Length`
@@ -119,14 +147,16 @@ impl Row {
         ensures digit { IsErrOf result HexFault.Digit
             ↔ ((length text.now ≡ digit_count len) × (field_bits len text.now ≡ None)) }
         ensures refused { OnErr result (self.new.bits ≡ replicate len false) }
+        ensures len { length self.new.bits ≡ len }
         ensures room { self.new.room ≡ self.old.room }
     {
         if text.len() != digit_count(len as usize) {
             self.clear(len);
             return Err(HexFault::Length);
         }
-        if !read_field(text, len as usize, &mut self.bits) {
-            self.clear(len);
+        let is_read = read_field(text, len as usize, &mut self.digits);
+        self.len = len;
+        if !is_read {
             return Err(HexFault::Digit);
         }
         Ok(())

@@ -43,6 +43,9 @@ fn prints_digits(rt: HostRuntime) -> Result<(), Fail> {
     row.copy_from(&[true, false, true, true, true]);
     row.put_hex(0, 2, &mut line);
     assert_eq!(rt; line.bytes(), b"1D".as_slice());
+    let mut copy = Row::with_room(alloc, 5)?;
+    copy.copy_row(&row);
+    assert_eq!(rt; copy.digits(), [13, 1].as_slice());
     Ok(())
 }
 

@@ -1,5 +1,5 @@
 -- What a command does with what it finds.
-use Rattle.std.proofs.Common.{◌≡◌, ◌≤◌, ℕ, List, [], ◌∷◌, map, drop, length, slice_index_or, Result, Ok, Err, Vec, Global, refl, subst, inl, inr, arith}
+use Rattle.std.proofs.Common.{◌≡◌, ◌≤◌, ℕ, List, [], ◌∷◌, map, drop, length, slice_index_or, Result, Ok, Err, Vec, Global, refl, sym, ap, ◌∙◌, subst, inl, inr, arith}
 use Rattle.bt_base.specs.Puts.{Puts, Shown, Takes}
 use Rattle.tap_defs.specs.ChainScans.{chain_text}
 use Rattle.tap_defs.specs.BoardScans.{board_text}
@@ -10,12 +10,25 @@ use Rattle.btest_core.specs.declared.fault.InputFault.{InputFault}
 use Rattle.btest_core.specs.declared.fault.InputFault.TheVariants as input
 use Rattle.btest_core.specs.BoardRead.{AreChainLengths, IsBoardRead}
 use Rattle.btest_core.specs.DevicesRead.{IsDeviceText}
-use Rattle.command_line.specs.Words.{Text, BoardNames, Command, Chain, Device, Cover, Svf}
+use Rattle.btest_core.specs.IdentsRead.{AreIdents}
+use Rattle.ident_test.specs.Patterns.{ident_text}
+use Rattle.board_defs.specs.declared.device.Symbol.{Symbol}
+use Rattle.command_line.specs.Words.{Text, BoardNames, ChainNames, Command, Chain, Device, Cover, Svf, Ident, Make, Diagnose}
 use Rattle.btest_cli.specs.declared.failure.Unput.{Unput}
 use Rattle.btest_cli.specs.declared.failure.Unput.TheVariants as unput
-use Rattle.btest_cli.specs.Refusals.{roles_of, input_fault_line}
-use Rattle.btest_cli.specs.Outcome.{IsGiven, IsSaid, IsWorthFor, TestsBoard, TestsChain}
-use Rattle.btest_cli.specs.Answers.{Answers, IsCutBy, Nothing, unput_of}
+use Rattle.response_log.specs.declared.fault.LogFault.{LogFault}
+use Rattle.response_log.specs.declared.fault.LogFault.TheVariants as log
+use Rattle.response_log.specs.LogRows.{Fails}
+use Rattle.btest_core.specs.BoardRead.{Denotes}
+use Rattle.board_defs.specs.declared.board.RawBoard.{RawBoard}
+use Rattle.btest_cli.specs.LogRead.{Diagnosis, IsDiagnosed, TextFault, Input, Log, board_log, diagnosis_text, row_count}
+use Rattle.btest_cli.specs.Refusals.{roles_of, input_fault_line, text_fault_line}
+use Rattle.btest_cli.specs.Outcome.{IsGiven, IsSaid}
+use Rattle.btest_cli.specs.Worth.{Diagnoses, IsWorthFor, ListsCover, ListsDevice, TestsBoard, TestsChain, TestsIdents}
+use Rattle.board_gen.specs.BoardTexts as made
+use Rattle.board_gen.specs.DeviceText.{bsdl_text}
+use Rattle.btest_cli.specs.Summary.{summary_text}
+use Rattle.btest_cli.specs.Answers.{Answers, IsCutBy, LogAnswers, Nothing, unput_log, unput_of}
 use Rattle.btest_cli.specs.Failures.{IsAnswered}
 
 -- a fault was found
@@ -28,50 +41,114 @@ answers_fault IsFound text_of IsWorth shown (input.Parse text fault) is = (is, r
 answers_fault IsFound text_of IsWorth shown (input.Board fault) is = (is, refl)
 answers_fault IsFound text_of IsWorth shown (input.Device text fault) is = (is, refl)
 answers_fault IsFound text_of IsWorth shown (input.Link fault) is = (is, refl)
+answers_fault IsFound text_of IsWorth shown (input.NoIdent line) is = (is, refl)
 
 -- a value was found, and its text was put whole
 pub takes_by : {T E : Type 0} {x : T} {r : Result T E} (old new : Shown) (text : Text) → Puts old new text r → r ≡ Ok x → Takes old new text
 takes_by {T} {E} {x} {r} old new text puts ok = (subst (λ (q : Result T E). Puts old new text q) ok puts).whole
 
 -- its text was cut short
-pub cut_by : {A T E : Type 0} {e : E} {r : Result T E} (IsFound : Result A InputFault → Type 0) (text_of : A → Text) (old new : Shown) (value : A) → IsFound (Ok value) → Puts old new (text_of value) r → r ≡ Err e → IsCutBy IsFound text_of old new
-cut_by {A} {T} {E} {e} {r} IsFound text_of old new value found puts err =
+pub cut_by : {A F T E : Type 0} {e : E} {r : Result T E} (IsFound : Result A F → Type 0) (text_of : A → Text) (old new : Shown) (value : A) → IsFound (Ok value) → Puts old new (text_of value) r → r ≡ Err e → IsCutBy IsFound text_of old new
+cut_by {A} {F} {T} {E} {e} {r} IsFound text_of old new value found puts err =
     let short = subst (λ (q : Result T E). Puts old new (text_of value) q) err puts in
     record { rose = short.cause; value = value; found = found; bytes = short.cut.0; takes = short.cut.1 }
 
 -- the answer to the texts of a command, by what is found in them
 answered : {A : Type 0} (command : Command) (texts : List Text) (IsFound : Result A InputFault → Type 0) (text_of : A → Text) (IsWorth : Shown → Type 0) (old new : Shown) (result : Result (Unit {0}) Unput)
-    → ((outcome : Result Text Text) → IsSaid (roles_of command) text_of IsFound outcome → IsGiven command texts outcome) → (IsWorth new → IsWorthFor command texts old new)
+    → ((outcome : Result Text Text) → IsSaid text_of (input_fault_line (roles_of command)) IsFound outcome → IsGiven command texts outcome) → (IsWorth new → IsWorthFor command texts old new)
     → Answers IsFound text_of IsWorth old new result → IsAnswered command texts old new result
 answered command texts IsFound text_of IsWorth old new (Ok done) gives worth put =
     record { text = text_of put.value; gives = gives (Ok (text_of put.value)) (inl (put.value, put.found, refl)); takes = put.takes; worth = worth put.worth }
 answered command texts IsFound text_of IsWorth old new (Err (unput.Input fault)) gives worth (found, same) = (gives (Err (input_fault_line (roles_of command) fault)) (inr (fault, found, refl)), same)
+answered command texts IsFound text_of IsWorth old new (Err (unput.Log rows fault)) gives worth none = absurd none
 answered command texts IsFound text_of IsWorth old new (Err unput.Write) gives worth cut =
     record { rose = cut.rose; text = text_of cut.value; gives = gives (Ok (text_of cut.value)) (inl (cut.value, cut.found, refl)); bytes = cut.bytes; takes = cut.takes }
 answered command texts IsFound text_of IsWorth old new (Err unput.Memory) gives worth same = same
 
--- the answer to the texts of `chain`, as the first of all texts and the others
-pub chain_told : (file : Text) (names : List Text) (all : List (Vec ℕ Global)) (d : Vec ℕ Global) (rest : List (Vec ℕ Global)) (text : Text) (old new : Shown) (result : Result (Unit {0}) Unput) → 1 ≤ length all → text ≡ (slice_index_or all 0 d).items → rest ≡ drop 1 all
-    → Answers (AreChainLengths text (map (λ t. t.items) rest)) chain_text (TestsChain text (map (λ t. t.items) rest) old) old new result → IsAnswered (Chain file names) (map (λ t. t.items) all) old new result
-chain_told file names [] d rest text old new result some same others answers = absurd (omega (arith, some))
-chain_told file names (first ∷ more) d rest text old new result some same others answers =
-    let one = subst (λ (t : Text). Answers (AreChainLengths t (map (λ t. t.items) rest)) chain_text (TestsChain t (map (λ t. t.items) rest) old) old new result) same answers in
-    let two = subst (λ (l : List (Vec ℕ Global)). Answers (AreChainLengths first.items (map (λ t. t.items) l)) chain_text (TestsChain first.items (map (λ t. t.items) l) old) old new result) others one in
-    answered (Chain file names) (first.items ∷ map (λ t. t.items) more) (AreChainLengths first.items (map (λ t. t.items) more)) chain_text (TestsChain first.items (map (λ t. t.items) more) old) old new result (λ o says. says) (λ worth. worth) two
+-- the answer to a chain file and BSDL texts, as the first of all texts and the others
+abbrev OfTexts : {A : Type 0} → (Text → List Text → Result A InputFault → Type 0) → (A → Text) → (Text → List Text → Shown → Shown → Type 0) → Shown → Shown → Result (Unit {0}) Unput → Text → List Text → Type 0
+OfTexts IsFound text_of IsWorth old new result chain texts = Answers (IsFound chain texts) text_of (IsWorth chain texts old) old new result
+
+first_of : (P : Text → List Text → Type 0) (first : Vec ℕ Global) (more rest : List (Vec ℕ Global)) (text : Text) → text ≡ first.items → rest ≡ more → P text (map (λ t. t.items) rest) → P first.items (map (λ t. t.items) more)
+first_of P first more rest text same others is =
+    subst (λ (l : List (Vec ℕ Global)). P first.items (map (λ t. t.items) l)) others (subst (λ (t : Text). P t (map (λ t. t.items) rest)) same is)
+
+pub chain_told : (names : ChainNames) (all : List (Vec ℕ Global)) (d : Vec ℕ Global) (rest : List (Vec ℕ Global)) (text : Text) (old new : Shown) (result : Result (Unit {0}) Unput) → 1 ≤ length all → text ≡ (slice_index_or all 0 d).items → rest ≡ drop 1 all
+    → Answers (AreChainLengths text (map (λ t. t.items) rest)) chain_text (TestsChain text (map (λ t. t.items) rest) old) old new result → IsAnswered (Chain names) (map (λ t. t.items) all) old new result
+chain_told names [] d rest text old new result some same others answers = absurd (omega (arith, some))
+chain_told names (first ∷ more) d rest text old new result some same others answers =
+    answered (Chain names) (first.items ∷ map (λ t. t.items) more) (AreChainLengths first.items (map (λ t. t.items) more)) chain_text (TestsChain first.items (map (λ t. t.items) more) old) old new result (λ o says. says) (λ worth. worth)
+    (first_of (OfTexts AreChainLengths chain_text TestsChain old new result) first more rest text same others answers)
+
+-- the same for `ident`
+pub ident_told : (names : ChainNames) (all : List (Vec ℕ Global)) (d : Vec ℕ Global) (rest : List (Vec ℕ Global)) (text : Text) (old new : Shown) (result : Result (Unit {0}) Unput) → 1 ≤ length all → text ≡ (slice_index_or all 0 d).items → rest ≡ drop 1 all
+    → Answers (AreIdents text (map (λ t. t.items) rest)) ident_text (TestsIdents text (map (λ t. t.items) rest) old) old new result → IsAnswered (Ident names) (map (λ t. t.items) all) old new result
+ident_told names [] d rest text old new result some same others answers = absurd (omega (arith, some))
+ident_told names (first ∷ more) d rest text old new result some same others answers =
+    answered (Ident names) (first.items ∷ map (λ t. t.items) more) (AreIdents first.items (map (λ t. t.items) more)) ident_text (TestsIdents first.items (map (λ t. t.items) more) old) old new result (λ o says. says) (λ worth. worth)
+    (first_of (OfTexts AreIdents ident_text TestsIdents old new result) first more rest text same others answers)
 
 -- the answer to the text of `device`, as the only one
 pub device_told : (name : Text) (all : List (Vec ℕ Global)) (d : Vec ℕ Global) (text : Text) (old new : Shown) (result : Result (Unit {0}) Unput) → length all ≡ 1 → text ≡ (slice_index_or all 0 d).items
-    → Answers (IsDeviceText text) device_text Nothing old new result → IsAnswered (Device name) (map (λ t. t.items) all) old new result
+    → Answers (IsDeviceText text) device_text (ListsDevice text old) old new result → IsAnswered (Device name) (map (λ t. t.items) all) old new result
 device_told name [] d text old new result one same answers = absurd (omega (arith, one))
 device_told name (first ∷ []) d text old new result one same answers =
-    let found = subst (λ (t : Text). Answers (IsDeviceText t) device_text Nothing old new result) same answers in
-    answered (Device name) (first.items ∷ []) (IsDeviceText first.items) device_text Nothing old new result (λ o says. says) (λ worth. worth) found
+    let found = subst (λ (t : Text). Answers (IsDeviceText t) device_text (ListsDevice t old) old new result) same answers in
+    answered (Device name) (first.items ∷ []) (IsDeviceText first.items) device_text (ListsDevice first.items old) old new result (λ o says. says) (λ worth. worth) found
 device_told name (first ∷ other ∷ rest) d text old new result one same answers = absurd (omega (arith, one))
 
 -- the answer to the texts of `cover`
-pub cover_told : (names : BoardNames) (chain nets : Text) (bsdl : List Text) (old new : Shown) (result : Result (Unit {0}) Unput) → Answers (IsBoardRead chain nets bsdl) cover_text Nothing old new result → IsAnswered (Cover names) (chain ∷ nets ∷ bsdl) old new result
-cover_told names chain nets bsdl old new result answers = answered (Cover names) (chain ∷ nets ∷ bsdl) (IsBoardRead chain nets bsdl) cover_text Nothing old new result (λ o says. says) (λ worth. worth) answers
+pub cover_told : (names : BoardNames) (chain nets : Text) (bsdl : List Text) (old new : Shown) (result : Result (Unit {0}) Unput) → Answers (IsBoardRead chain nets bsdl) cover_text (ListsCover chain nets bsdl old) old new result → IsAnswered (Cover names) (chain ∷ nets ∷ bsdl) old new result
+cover_told names chain nets bsdl old new result answers = answered (Cover names) (chain ∷ nets ∷ bsdl) (IsBoardRead chain nets bsdl) cover_text (ListsCover chain nets bsdl old) old new result (λ o says. says) (λ worth. worth) answers
 
 -- the answer to the texts of `svf`
 pub svf_told : (names : BoardNames) (chain nets : Text) (bsdl : List Text) (old new : Shown) (result : Result (Unit {0}) Unput) → Answers (IsBoardRead chain nets bsdl) board_text (TestsBoard chain nets bsdl old) old new result → IsAnswered (Svf names) (chain ∷ nets ∷ bsdl) old new result
 svf_told names chain nets bsdl old new result answers = answered (Svf names) (chain ∷ nets ∷ bsdl) (IsBoardRead chain nets bsdl) board_text (TestsBoard chain nets bsdl old) old new result (λ o says. says) (λ worth. worth) answers
+
+-- the answer of `make`
+pub make_told : (number : ℕ) (texts : List Text) (old new : Shown) (result : Result (Unit {0}) Unput) → Answers (IsBoardRead (made.chain_text number) (made.net_text number) (bsdl_text ∷ [])) summary_text Nothing old new result → IsAnswered (Make number) texts old new result
+make_told number texts old new result answers = answered (Make number) texts (IsBoardRead (made.chain_text number) (made.net_text number) (bsdl_text ∷ [])) summary_text Nothing old new result (λ o says. says) (λ worth. worth) answers
+
+-- a fault of the texts was found beside a log
+pub log_answers_fault : (text chain nets : Text) (bsdl : List Text) (IsWorth : Shown → Type 0) (shown : Shown) (fault : InputFault) → FaultIs (λ f. IsBoardRead chain nets bsdl (Err f)) fault
+    → LogAnswers (IsDiagnosed text chain nets bsdl) diagnosis_text IsWorth shown shown (Err (unput_of fault))
+log_answers_fault text chain nets bsdl IsWorth shown (input.Memory e) is = refl
+log_answers_fault text chain nets bsdl IsWorth shown (input.Chain fault) is = (is, refl)
+log_answers_fault text chain nets bsdl IsWorth shown (input.Nets fault) is = (is, refl)
+log_answers_fault text chain nets bsdl IsWorth shown (input.Lex number fault) is = (is, refl)
+log_answers_fault text chain nets bsdl IsWorth shown (input.Parse number fault) is = (is, refl)
+log_answers_fault text chain nets bsdl IsWorth shown (input.Board fault) is = (is, refl)
+log_answers_fault text chain nets bsdl IsWorth shown (input.Device number fault) is = (is, refl)
+log_answers_fault text chain nets bsdl IsWorth shown (input.Link fault) is = (is, refl)
+log_answers_fault text chain nets bsdl IsWorth shown (input.NoIdent line) is = (is, refl)
+
+-- a fault of the log was found
+pub log_answers_log : (text chain nets : Text) (bsdl : List Text) (IsWorth : Shown → Type 0) (shown : Shown) (board : RawBoard) (rows : ℕ) (fault : LogFault) → Denotes chain nets bsdl board → rows ≡ row_count board → Fails fault (board_log text board)
+    → LogAnswers (IsDiagnosed text chain nets bsdl) diagnosis_text IsWorth shown shown (Err (unput_log rows fault))
+log_answers_log text chain nets bsdl IsWorth shown board rows (log.Memory e) denoted wanted fails = refl
+log_answers_log text chain nets bsdl IsWorth shown board rows (log.Digit line) denoted wanted fails = (record { board = board; denoted = denoted; wanted = wanted; faulty = fails }, refl)
+log_answers_log text chain nets bsdl IsWorth shown board rows (log.Length line) denoted wanted fails = (record { board = board; denoted = denoted; wanted = wanted; faulty = fails }, refl)
+log_answers_log text chain nets bsdl IsWorth shown board rows (log.Extra line) denoted wanted fails = (record { board = board; denoted = denoted; wanted = wanted; faulty = fails }, refl)
+log_answers_log text chain nets bsdl IsWorth shown board rows (log.Missing found) denoted wanted fails = (record { board = board; denoted = denoted; wanted = wanted; faulty = fails }, refl)
+
+-- the answer to the texts of a command, by what is found in them and in a log
+log_answered : {A : Type 0} (command : Command) (texts : List Text) (IsFound : Result A TextFault → Type 0) (text_of : A → Text) (IsWorth : Shown → Type 0) (old new : Shown) (result : Result (Unit {0}) Unput)
+    → ((outcome : Result Text Text) → IsSaid text_of (text_fault_line (roles_of command)) IsFound outcome → IsGiven command texts outcome) → (IsWorth new → IsWorthFor command texts old new)
+    → LogAnswers IsFound text_of IsWorth old new result → IsAnswered command texts old new result
+log_answered command texts IsFound text_of IsWorth old new (Ok done) gives worth put =
+    record { text = text_of put.value; gives = gives (Ok (text_of put.value)) (inl (put.value, put.found, refl)); takes = put.takes; worth = worth put.worth }
+log_answered command texts IsFound text_of IsWorth old new (Err (unput.Input fault)) gives worth (found, same) = (gives (Err (text_fault_line (roles_of command) (Input fault))) (inr (Input fault, found, refl)), same)
+log_answered command texts IsFound text_of IsWorth old new (Err (unput.Log rows fault)) gives worth (found, same) = (gives (Err (text_fault_line (roles_of command) (Log rows fault))) (inr (Log rows fault, found, refl)), same)
+log_answered command texts IsFound text_of IsWorth old new (Err unput.Write) gives worth cut =
+    record { rose = cut.rose; text = text_of cut.value; gives = gives (Ok (text_of cut.value)) (inl (cut.value, cut.found, refl)); bytes = cut.bytes; takes = cut.takes }
+log_answered command texts IsFound text_of IsWorth old new (Err unput.Memory) gives worth same = same
+
+-- the answer to the texts of `diagnose`, as the first of all texts and those of a board
+pub log_told : (workers : ℕ) (name : Text) (names : BoardNames) (all : List (Vec ℕ Global)) (d : Vec ℕ Global) (rest : List (Vec ℕ Global)) (text chain nets : Text) (bsdl : List Text) (old new : Shown) (result : Result (Unit {0}) Unput)
+    → 1 ≤ length all → text ≡ (slice_index_or all 0 d).items → rest ≡ drop 1 all → map (λ t. t.items) rest ≡ chain ∷ nets ∷ bsdl
+    → LogAnswers (IsDiagnosed text chain nets bsdl) diagnosis_text (Diagnoses text chain nets bsdl old) old new result → IsAnswered (Diagnose workers name names) (map (λ t. t.items) all) old new result
+log_told workers name names [] d rest text chain nets bsdl old new result some same others board answers = absurd (omega (arith, some))
+log_told workers name names (first ∷ more) d rest text chain nets bsdl old new result some same others board answers =
+    let found = subst (λ (t : Text). LogAnswers (IsDiagnosed t chain nets bsdl) diagnosis_text (Diagnoses t chain nets bsdl old) old new result) same answers in
+    let told = log_answered (Diagnose workers name names) (first.items ∷ chain ∷ nets ∷ bsdl) (IsDiagnosed first.items chain nets bsdl) diagnosis_text (Diagnoses first.items chain nets bsdl old) old new result (λ o says. says) (λ worth. worth) found in
+    subst (λ (l : List Text). IsAnswered (Diagnose workers name names) (first.items ∷ l) old new result) (sym board ∙ ap (map (λ t. t.items)) others) told

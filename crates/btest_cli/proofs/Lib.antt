@@ -3,3 +3,4 @@ pub mod AnswerLemmas
 pub mod ReadingLemmas
 pub mod RunLemmas
 pub mod TestLemmas
+pub mod SummaryLemmas

@@ -14,6 +14,7 @@ use Rattle.tap_defs.specs.BoardScans.{AreTestScans, board_text, pass_text, test_
 use Rattle.scan_planner.specs.declared.tables.PlanTables.{PlanTables}
 use Rattle.scan_planner.specs.Plans.{IsPlanOf}
 use Rattle.command_line.specs.Words.{Text}
+use Rattle.btest_cli.specs.LogRead.{row_count}
 use Rattle.btest_cli.proofs.PieceLemmas.{puts_cut}
 
 same_scan : (x y : Scan) → ◌≡◌ {A = Option Scan} (Some x) (Some y) → x ≡ y
@@ -85,3 +86,8 @@ puts_tail {E} {old} {mid} {new} {r} head tail scans k past before put =
 -- a plan of the board's passes makes the board's test
 pub plan_text : (board : RawBoard) (plan : PlanTables) → IsPlanOf board plan → plan.passes ≡ passes_of board → pass_text board plan.passes plan.width ≡ board_text board
 plan_text board plan is passes = ap (pass_text board plan.passes) is.width_is ∙ ap (λ ps. pass_text board ps (code_width (observed_count board ps))) passes
+
+-- a plan of the board's passes has the rows of its test
+pub rows_are : (board : RawBoard) (plan : PlanTables) → IsPlanOf board plan → plan.passes ≡ passes_of board → length plan.passes * plan.width ≡ row_count board
+rows_are board plan planned same =
+    ap (λ (w : ℕ). length plan.passes * w) planned.width_is ∙ ap (λ (p : List (List Ctl)). length p * code_width (observed_count board p)) same

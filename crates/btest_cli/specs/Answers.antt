@@ -4,7 +4,10 @@ use Rattle.bt_base.specs.Counts.{Rose}
 use Rattle.bt_base.specs.Puts.{Shown, Takes}
 use Rattle.btest_core.specs.declared.fault.InputFault.{InputFault}
 use Rattle.btest_core.specs.declared.fault.InputFault.TheVariants as input
+use Rattle.response_log.specs.declared.fault.LogFault.{LogFault}
+use Rattle.response_log.specs.declared.fault.LogFault.TheVariants as log
 use Rattle.command_line.specs.Words.{Text}
+use Rattle.btest_cli.specs.LogRead.{TextFault, Input, Log}
 use Rattle.btest_cli.specs.declared.failure.Unput.{Unput}
 use Rattle.btest_cli.specs.declared.failure.Unput.TheVariants as unput
 
@@ -13,7 +16,7 @@ abbrev pub Nothing : Shown → Type 0
 Nothing shown = Unit {0}
 
 -- a value was found, and the sink took some first bytes of its text
-pub record IsCutBy {A : Type 0} (IsFound : Result A InputFault → Type 0) (text_of : A → Text) (old new : Shown) : Type 0 where
+pub record IsCutBy {A F : Type 0} (IsFound : Result A F → Type 0) (text_of : A → Text) (old new : Shown) : Type 0 where
   pub rose : Rose old.faults new.faults
   pub value : A
   pub found : IsFound (Ok value)
@@ -21,7 +24,7 @@ pub record IsCutBy {A : Type 0} (IsFound : Result A InputFault → Type 0) (text
   pub takes : Takes old new (take bytes (text_of value))
 
 -- a value was found, the sink took its text, and that is worth this
-pub record IsPutBy {A : Type 0} (IsFound : Result A InputFault → Type 0) (text_of : A → Text) (IsWorth : Shown → Type 0) (old new : Shown) : Type 0 where
+pub record IsPutBy {A F : Type 0} (IsFound : Result A F → Type 0) (text_of : A → Text) (IsWorth : Shown → Type 0) (old new : Shown) : Type 0 where
   pub value : A
   pub found : IsFound (Ok value)
   pub takes : Takes old new (text_of value)
@@ -31,8 +34,25 @@ pub record IsPutBy {A : Type 0} (IsFound : Result A InputFault → Type 0) (text
 abbrev pub Answers : {A : Type 0} → (Result A InputFault → Type 0) → (A → Text) → (Shown → Type 0) → Shown → Shown → Result (Unit {0}) Unput → Type 0
 Answers IsFound text_of IsWorth old new (Ok done) = IsPutBy IsFound text_of IsWorth old new
 Answers IsFound text_of IsWorth old new (Err (unput.Input fault)) = IsFound (Err fault) × (new ≡ old)
+Answers IsFound text_of IsWorth old new (Err (unput.Log rows fault)) = ⊥
 Answers IsFound text_of IsWorth old new (Err unput.Write) = IsCutBy IsFound text_of old new
 Answers IsFound text_of IsWorth old new (Err unput.Memory) = new ≡ old
+
+-- the same where one of the texts is a log
+abbrev pub LogAnswers : {A : Type 0} → (Result A TextFault → Type 0) → (A → Text) → (Shown → Type 0) → Shown → Shown → Result (Unit {0}) Unput → Type 0
+LogAnswers IsFound text_of IsWorth old new (Ok done) = IsPutBy IsFound text_of IsWorth old new
+LogAnswers IsFound text_of IsWorth old new (Err (unput.Input fault)) = IsFound (Err (Input fault)) × (new ≡ old)
+LogAnswers IsFound text_of IsWorth old new (Err (unput.Log rows fault)) = IsFound (Err (Log rows fault)) × (new ≡ old)
+LogAnswers IsFound text_of IsWorth old new (Err unput.Write) = IsCutBy IsFound text_of old new
+LogAnswers IsFound text_of IsWorth old new (Err unput.Memory) = new ≡ old
+
+-- why nothing is put where a log of which so many rows are wanted has this fault
+abbrev pub unput_log : ℕ → LogFault → Unput
+unput_log rows (log.Memory e) = unput.Memory
+unput_log rows (log.Digit line) = unput.Log rows (log.Digit line)
+unput_log rows (log.Length line) = unput.Log rows (log.Length line)
+unput_log rows (log.Extra line) = unput.Log rows (log.Extra line)
+unput_log rows (log.Missing found) = unput.Log rows (log.Missing found)
 
 -- why nothing is put where the texts have this fault
 abbrev pub unput_of : InputFault → Unput
@@ -44,3 +64,4 @@ unput_of (input.Parse text fault) = unput.Input (input.Parse text fault)
 unput_of (input.Board fault) = unput.Input (input.Board fault)
 unput_of (input.Device text fault) = unput.Input (input.Device text fault)
 unput_of (input.Link fault) = unput.Input (input.Link fault)
+unput_of (input.NoIdent line) = unput.Input (input.NoIdent line)

@@ -1,5 +1,5 @@
 -- Why a command put no whole text: the status and the line.
-use Rattle.std.specs.Prelude.{◌≡◌, ℕ, List, take, Result, Ok, Err, Contains}
+use Rattle.std.specs.Prelude.{◌≡◌, ℕ, List, take, Result, Ok, Err}
 use Rattle.bt_base.specs.Counts.{Rose}
 use Rattle.bt_base.specs.Puts.{Shown, Takes}
 use Rattle.command_line.specs.Words.{Text, Command}
@@ -9,35 +9,43 @@ use Rattle.btest_cli.specs.declared.failure.Unput.{Unput}
 use Rattle.btest_cli.specs.declared.failure.Unput.TheVariants as unput
 use Rattle.btest_cli.specs.declared.status.Status.{Status}
 use Rattle.btest_cli.specs.declared.status.Status.TheVariants.{Refused, ReadFault, WriteFault, NoMemory}
-use Rattle.btest_cli.specs.Texts.{Held, TooLong, IsRead}
-use Rattle.btest_cli.specs.Refusals.{Names, roles_of, input_fault_line, long_line, read_line, write_line, memory_line}
-use Rattle.btest_cli.specs.Outcome.{IsGiven, IsWorthFor}
+use Rattle.btest_cli.specs.declared.texts.Wanted.{Wanted as Lent}
+use Rattle.btest_cli.specs.Texts.{Held, Wanted, TooLong, Asks, IsRead, IsReadUpTo, names_in}
+use Rattle.btest_cli.specs.Refusals.{Names, roles_of, input_fault_line, log_fault_line, long_line, read_line, write_line, memory_line}
+use Rattle.btest_cli.specs.Outcome.{IsGiven}
+use Rattle.btest_cli.specs.Worth.{IsWorthFor}
+
+-- a text that is wanted, without where its name lies in memory
+abbrev pub wanted_view : Lent → Wanted
+wanted_view wanted = record { name = wanted.name.now; limit = wanted.limit }
 
 abbrev pub unread_status : Unread → Status
-unread_status (unread.TooLong name) = Refused
-unread_status (unread.Failed name) = ReadFault
+unread_status (unread.TooLong wanted) = Refused
+unread_status (unread.Failed wanted) = ReadFault
 unread_status unread.Memory = NoMemory
 
 abbrev pub unread_line : Unread → Text
-unread_line (unread.TooLong name) = long_line name.now
-unread_line (unread.Failed name) = read_line name.now
+unread_line (unread.TooLong wanted) = long_line (wanted_view wanted)
+unread_line (unread.Failed wanted) = read_line wanted.name.now
 unread_line unread.Memory = memory_line
 
 abbrev pub unput_status : Unput → Status
 unput_status (unput.Input fault) = Refused
+unput_status (unput.Log rows fault) = Refused
 unput_status unput.Write = WriteFault
 unput_status unput.Memory = NoMemory
 
 abbrev pub unput_line : Names → Unput → Text
 unput_line names (unput.Input fault) = input_fault_line names fault
+unput_line names (unput.Log rows fault) = log_fault_line names.log rows fault
 unput_line names unput.Write = write_line
 unput_line names unput.Memory = memory_line
 
--- why texts of these names were not all read
-abbrev pub IsUnread : Held → (Text → ℕ) → (Text → ℕ) → List Text → Unread → Type 0
-IsUnread held before now names (unread.TooLong name) = IsRead held names (TooLong name.now)
-IsUnread held before now names (unread.Failed name) = Contains names name.now × Rose (before name.now) (now name.now)
-IsUnread held before now names unread.Memory = Unit {0}
+-- why texts were not all read, and which were asked for
+abbrev pub IsUnread : Held → (Text → ℕ) → (Text → ℕ) → List Text → List Text → List Wanted → Unread → Type 0
+IsUnread held before now asked asked' texts (unread.TooLong wanted) = IsRead held texts (TooLong (wanted_view wanted)) × IsReadUpTo held texts (wanted_view wanted) asked asked'
+IsUnread held before now asked asked' texts (unread.Failed wanted) = IsReadUpTo held texts (wanted_view wanted) asked asked' × Rose (before wanted.name.now) (now wanted.name.now)
+IsUnread held before now asked asked' texts unread.Memory = (count : ℕ) × Asks asked asked' (take count (names_in texts))
 
 -- the sink took some first bytes of the text that the texts give, and its count of faults rose
 pub record IsCut (command : Command) (texts : List Text) (old new : Shown) : Type 0 where
@@ -57,6 +65,7 @@ pub record IsPut (command : Command) (texts : List Text) (old new : Shown) : Typ
 -- why the text of these texts was not put whole
 abbrev pub IsUnput : Command → List Text → Shown → Shown → Unput → Type 0
 IsUnput command texts old new (unput.Input fault) = IsGiven command texts (Err (input_fault_line (roles_of command) fault)) × (new ≡ old)
+IsUnput command texts old new (unput.Log rows fault) = IsGiven command texts (Err (log_fault_line (roles_of command).log rows fault)) × (new ≡ old)
 IsUnput command texts old new unput.Write = IsCut command texts old new
 IsUnput command texts old new unput.Memory = new ≡ old
 

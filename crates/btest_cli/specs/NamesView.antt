@@ -11,4 +11,4 @@ text_names_view (given.One name) = name.now ∷ []
 text_names_view (given.Several names) = map string_bytes names.now
 
 abbrev pub names_view : Lent → Names
-names_view names = record { chain = names.chain.now; nets = names.nets.now; bsdl = text_names_view names.bsdl }
+names_view names = record { log = names.log.now; chain = names.chain.now; nets = names.nets.now; bsdl = text_names_view names.bsdl }

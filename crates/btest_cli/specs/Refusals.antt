@@ -16,7 +16,11 @@ use Rattle.series_parts.specs.declared.fault.LinkFault.{LinkFault}
 use Rattle.series_parts.specs.declared.fault.LinkFault.TheVariants as link
 use Rattle.btest_core.specs.declared.fault.InputFault.{InputFault}
 use Rattle.btest_core.specs.declared.fault.InputFault.TheVariants as input
-use Rattle.command_line.specs.Words.{Text, Command, Chain, Device, Cover, Svf}
+use Rattle.command_line.specs.Words.{Text, Command, Chain, Device, Cover, Svf, Ident, Make, Diagnose}
+use Rattle.btest_cli.specs.Texts.{Wanted}
+use Rattle.response_log.specs.declared.fault.LogFault.{LogFault}
+use Rattle.response_log.specs.declared.fault.LogFault.TheVariants as log
+use Rattle.btest_cli.specs.LogRead.{TextFault, Input, Log}
 
 -- pieces, one after the other
 abbrev pub whole : List Text → Text
@@ -38,8 +42,9 @@ memory_line = codes "out of memory\n"
 abbrev pub about : Text → Text → Text
 about name wrong = whole (name ∷ wrong ∷ [])
 
-abbrev pub long_line : Text → Text
-long_line name = about name (codes ": longer than 4194304 bytes\n")
+-- a text that has more bytes than it may
+abbrev pub long_line : Wanted → Text
+long_line wanted = whole (wanted.name ∷ codes ": longer than " ∷ decimal wanted.limit ∷ codes " bytes\n" ∷ [])
 
 -- a line of a text, and what is wrong with it
 abbrev pub at_line : Text → ℕ → Text → Text
@@ -58,6 +63,7 @@ line_fault_line name (line.Memory e) = memory_line
 
 -- the names of the texts of a command
 pub record Names : Type 0 where
+  pub log : Text
   pub chain : Text
   pub nets : Text
   pub bsdl : List Text
@@ -136,11 +142,28 @@ input_fault_line names (input.Parse text fault) = parse_fault_line (text_name na
 input_fault_line names (input.Board fault) = board_fault_line names fault
 input_fault_line names (input.Device text fault) = device_fault_line (text_name names.bsdl text) fault
 input_fault_line names (input.Link fault) = link_fault_line names.chain fault
+input_fault_line names (input.NoIdent line) = at_line names.chain line (codes ": part without a description\n")
 input_fault_line names (input.Memory e) = memory_line
+
+-- a log of which so many rows are wanted
+abbrev pub log_fault_line : Text → ℕ → LogFault → Text
+log_fault_line name rows (log.Digit n) = at_line name n (codes ": digit not allowed\n")
+log_fault_line name rows (log.Length n) = at_line name n (codes ": wrong length\n")
+log_fault_line name rows (log.Extra n) = at_line name n (codes ": row too many\n")
+log_fault_line name rows (log.Missing found) = whole (name ∷ codes ": " ∷ decimal found ∷ codes " rows of " ∷ decimal rows ∷ codes "\n" ∷ [])
+log_fault_line name rows (log.Memory e) = memory_line
+
+-- the first fault of the texts and of the log
+abbrev pub text_fault_line : Names → TextFault → Text
+text_fault_line names (Input fault) = input_fault_line names fault
+text_fault_line names (Log rows fault) = log_fault_line names.log rows fault
 
 -- the names of the texts of a command, by what they hold
 abbrev pub roles_of : Command → Names
-roles_of (Chain chain bsdl) = record { chain = chain; nets = []; bsdl = bsdl }
-roles_of (Device bsdl) = record { chain = []; nets = []; bsdl = bsdl ∷ [] }
-roles_of (Cover names) = record { chain = names.chain; nets = names.nets; bsdl = names.bsdl }
-roles_of (Svf names) = record { chain = names.chain; nets = names.nets; bsdl = names.bsdl }
+roles_of (Chain names) = record { log = []; chain = names.chain; nets = []; bsdl = names.bsdl }
+roles_of (Device bsdl) = record { log = []; chain = []; nets = []; bsdl = bsdl ∷ [] }
+roles_of (Cover names) = record { log = []; chain = names.chain; nets = names.nets; bsdl = names.bsdl }
+roles_of (Svf names) = record { log = []; chain = names.chain; nets = names.nets; bsdl = names.bsdl }
+roles_of (Ident names) = record { log = []; chain = names.chain; nets = []; bsdl = names.bsdl }
+roles_of (Make number) = record { log = []; chain = codes "chain"; nets = codes "nets"; bsdl = codes "bsdl" ∷ [] }
+roles_of (Diagnose workers log names) = record { log = log; chain = names.chain; nets = names.nets; bsdl = names.bsdl }

@@ -1,51 +1,91 @@
 -- The texts that a command reads.
-use Rattle.std.specs.Prelude.{◌≡◌, ℕ, ◌<◌, List, [], ◌∷◌, length, Option, Some, None, nat_lt, if◌then◌else◌}
-use Rattle.command_line.specs.Words.{Text}
+use Rattle.std.specs.Prelude.{◌≡◌, ℕ, ◌<◌, List, [], ◌∷◌, ◌++◌, length, map, Option, Some, None, nat_lt, if◌then◌else◌}
+use Rattle.command_line.specs.Words.{Text, Command, Chain, Device, Cover, Svf, Ident, Make, Diagnose, board_names, names_of}
 
--- the most bytes of a chain file, a net file or a BSDL text
-abbrev pub most_bytes : ℕ
-most_bytes = 4194304
+-- a text that is wanted: its name, and the most bytes that it may have
+pub record Wanted : Type 0 where
+  pub name : Text
+  pub limit : ℕ
+
+-- a chain file, a net file or a BSDL text of this name
+abbrev pub text_called : Text → Wanted
+text_called name = record { name = name; limit = 4194304 }
+
+-- a response log of this name
+abbrev pub log_called : Text → Wanted
+log_called name = record { name = name; limit = 67108864 }
+
+-- the texts that a command reads, in their order
+abbrev pub wanted_of : Command → List Wanted
+wanted_of (Chain names) = map text_called (names_of (Chain names))
+wanted_of (Ident names) = map text_called (names_of (Ident names))
+wanted_of (Device name) = map text_called (names_of (Device name))
+wanted_of (Cover names) = map text_called (names_of (Cover names))
+wanted_of (Svf names) = map text_called (names_of (Svf names))
+wanted_of (Make parts) = []
+wanted_of (Diagnose workers log names) = log_called log ∷ map text_called (board_names names)
+
+abbrev pub names_in : List Wanted → List Text
+names_in texts = map (λ text. text.name) texts
 
 -- what a store tells that it holds, if it does
 abbrev pub Held : Type 0
 Held = Option (Text → Option Text)
 
--- what reading the texts of names gives: the texts, or the name of the first that is too long
+-- what reading texts gives: the texts, or the first that is too long
 pub data Reading : Type 0 where
   Read : List Text → Reading
-  TooLong : Text → Reading
+  TooLong : Wanted → Reading
 
 abbrev pub and_text : Text → Option Reading → Option Reading
 and_text text None = None
 and_text text (Some (Read texts)) = Some (Read (text ∷ texts))
-and_text text (Some (TooLong name)) = Some (TooLong name)
+and_text text (Some (TooLong wanted)) = Some (TooLong wanted)
 
-abbrev pub read_first : Text → Option Text → Option Reading → Option Reading
-read_first name None rest = None
-read_first name (Some text) rest = if nat_lt most_bytes (length text) then Some (TooLong name) else and_text text rest
+abbrev pub read_first : Wanted → Option Text → Option Reading → Option Reading
+read_first wanted None rest = None
+read_first wanted (Some text) rest = if nat_lt wanted.limit (length text) then Some (TooLong wanted) else and_text text rest
 
--- what reading these names in order gives, where the store holds a text for each that is read
-abbrev pub reading_of : (Text → Option Text) → List Text → Option Reading
+-- what reading these texts in order gives, where the store holds a text for each that is read
+abbrev pub reading_of : (Text → Option Text) → List Wanted → Option Reading
 reading_of held [] = Some (Read [])
-reading_of held (name ∷ names) = read_first name (held name) (reading_of held names)
+reading_of held (wanted ∷ others) = read_first wanted (held wanted.name) (reading_of held others)
 
 -- the same, where these are the texts that are read
-abbrev pub reading_in : List Text → List Text → Option Reading
+abbrev pub reading_in : List Wanted → List Text → Option Reading
 reading_in [] found = Some (Read [])
-reading_in (name ∷ names) [] = None
-reading_in (name ∷ names) (text ∷ found) = read_first name (Some text) (reading_in names found)
+reading_in (wanted ∷ others) [] = None
+reading_in (wanted ∷ others) (text ∷ found) = read_first wanted (Some text) (reading_in others found)
 
--- this is what reading the names gives: where the store tells what it holds, from that, else from some texts
-abbrev pub IsRead : Held → List Text → Reading → Type 0
-IsRead None names reading = (found : List Text) × (reading_in names found ≡ Some reading)
-IsRead (Some held) names reading = reading_of held names ≡ Some reading
+-- this is what reading the texts gives: where the store tells what it holds, from that, else from some texts
+abbrev pub IsRead : Held → List Wanted → Reading → Type 0
+IsRead None texts reading = (found : List Text) × (reading_in texts found ≡ Some reading)
+IsRead (Some held) texts reading = reading_of held texts ≡ Some reading
 
 -- the store holds this text under the name, where it tells what it holds
 abbrev pub IsText : Held → Text → Text → Type 0
 IsText None name text = Unit {0}
 IsText (Some held) name text = held name ≡ Some text
 
--- a text is too long, which the store holds under the name, where it tells what it holds
-abbrev pub IsLong : Held → Text → Type 0
-IsLong None name = (text : Text) × (most_bytes < length text)
-IsLong (Some held) name = (text : Text) × (held name ≡ Some text) × (most_bytes < length text)
+-- a text has more bytes than it may, which the store holds under the name, where it tells what it holds
+abbrev pub IsLong : Held → Wanted → Type 0
+IsLong None wanted = (text : Text) × (wanted.limit < length text)
+IsLong (Some held) wanted = (text : Text) × (held wanted.name ≡ Some text) × (wanted.limit < length text)
+
+-- these were asked for one after the other, and no others
+abbrev pub Asks : List Text → List Text → List Text → Type 0
+Asks old new names = new ≡ old ++ names
+
+-- the texts before this one were read, and then this one was asked for and no other
+pub record IsReadUpTo (held : Held) (texts : List Wanted) (last : Wanted) (old new : List Text) : Type 0 where
+  pub before : List Wanted
+  pub after : List Wanted
+  pub are : texts ≡ before ++ last ∷ after
+  pub found : List Text
+  pub read : IsRead held before (Read found)
+  pub asked : Asks old new (names_in before ++ last.name ∷ [])
+
+-- what was asked for where this was read: all texts, or those up to the first that is too long
+abbrev pub AsksFor : Held → List Wanted → Reading → List Text → List Text → Type 0
+AsksFor held texts (Read found) old new = Asks old new (names_in texts)
+AsksFor held texts (TooLong last) old new = IsReadUpTo held texts last old new

@@ -7,7 +7,7 @@ ghost use Rattle.tap_defs.specs.BoardTest.{IsBoardTest};
 ghost use Rattle.tap_defs.specs.Text.{scan_text};
 ghost use Rattle.scan_planner.specs.Plans.{IsPlanOf, IsRoom, scan_count};
 ghost use Rattle.btest_core.specs.BoardRead.{IsBoardRead};
-ghost use Rattle.btest_cli.specs.Outcome.{TestsBoard};
+ghost use Rattle.btest_cli.specs.Worth.{TestsBoard};
 ghost use Rattle.btest_cli.specs.Answers.{Answers};
 
 use crate::failure::{Unput, unput_by};
@@ -48,8 +48,8 @@ pub fn svf<K: Sink>(alloc: Global, texts: BoardTexts, out: &mut K) -> Result<(),
     }
 }
 
-// The plan of the board's passes.
-fn board_plan(alloc: Global, board: &Board) -> Result<Plan, AllocError>
+/// The plan of the board's passes.
+pub fn board_plan(alloc: Global, board: &Board) -> Result<Plan, AllocError>
     ensures plan { IfOk result (λ plan. IsPlanOf board.now plan) }
     ensures passes { IfOk result (λ plan. plan.passes ≡ passes_of board.now) }
 {
@@ -65,16 +65,16 @@ fn tests_board(board: &Board)
     board_texts_test();
 }
 
-// How many bits the longer scan of the board has.
-fn longest_scan(board: &Board) -> u32
+/// How many bits the longer scan of the board has.
+pub fn longest_scan(board: &Board) -> u32
     ensures { IsRoom board.now result }
 {
     board.ir_bits().max(board.dr_bits())
 }
 
-// Puts the test that a plan makes.
+/// Puts the test that a plan makes.
 #[tactic(auto, unfolding(tap_defs::specs::Text::svf_text))]
-fn write_test<K: Sink>(
+pub fn write_test<K: Sink>(
     board: &Board,
     plan: &Plan,
     rows: &mut Rows,

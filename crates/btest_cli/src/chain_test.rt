@@ -5,7 +5,7 @@ ghost use Rattle.tap_defs.specs.ChainScans.{chain_text};
 ghost use Rattle.tap_defs.specs.ChainTest.{IsChainTest};
 ghost use Rattle.svf_writer.specs.Rows.{IsRoom};
 ghost use Rattle.btest_core.specs.BoardRead.{AreChainLengths, AreLengths};
-ghost use Rattle.btest_cli.specs.Outcome.{TestsChain};
+ghost use Rattle.btest_cli.specs.Worth.{TestsChain};
 ghost use Rattle.btest_cli.specs.Answers.{Answers};
 
 use crate::failure::{Unput, unput_by};

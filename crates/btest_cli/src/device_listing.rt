@@ -2,11 +2,13 @@
 ghost use Rattle.std.specs.Prelude.{◌<◌, ◌^◌, length};
 ghost use Rattle.device_check.specs.DeviceText.{device_text};
 ghost use Rattle.btest_core.specs.DevicesRead.{IsDeviceText};
-ghost use Rattle.btest_cli.specs.Answers.{Answers, Nothing};
+ghost use Rattle.btest_cli.specs.Answers.{Answers};
+ghost use Rattle.btest_cli.specs.Worth.{ListsDevice};
 
 use crate::failure::{Unput, unput_by};
 use bt_base::Sink;
 use bt_bits::Line;
+use btest_core::law::inputs_keep_rules;
 use btest_core::read_device;
 use device_check::write_device;
 use std::alloc::Global;
@@ -15,7 +17,7 @@ use std::alloc::Global;
 /// taken before the first put.
 pub fn device<K: Sink>(alloc: Global, text: &[u8], out: &mut K) -> Result<(), Unput>
     requires { length text.now < 2 ^ 32 }
-    ensures { Answers (IsDeviceText text.now) device_text Nothing (K.shown out.old) (K.shown out.new) result }
+    ensures { Answers (IsDeviceText text.now) device_text (ListsDevice text.now (K.shown out.old)) (K.shown out.old) (K.shown out.new) result }
 {
     let device = match read_device(alloc, text) {
         Ok(device) => device,
@@ -24,6 +26,7 @@ pub fn device<K: Sink>(alloc: Global, text: &[u8], out: &mut K) -> Result<(), Un
     let Ok(mut line) = Line::new(alloc) else {
         return Err(Unput::Memory);
     };
+    inputs_keep_rules();
     match write_device(&device, &mut line, out) {
         Ok(()) => Ok(()),
         Err(_) => Err(Unput::Write),

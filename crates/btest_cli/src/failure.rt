@@ -1,24 +1,26 @@
 // Why a command put no whole text, its status and its line.
 ghost use Rattle.std.specs.Prelude.{◌≡◌};
 ghost use Rattle.bt_base.specs.Puts.{Puts};
-ghost use Rattle.btest_cli.specs.Answers.{unput_of};
+ghost use Rattle.btest_cli.specs.Answers.{unput_log, unput_of};
 ghost use Rattle.btest_cli.specs.Failures.{unread_status, unread_line, unput_status, unput_line};
 ghost use Rattle.btest_cli.specs.NamesView.{names_view};
 
 use crate::notes::{
-    Names, put_input_fault, put_memory, put_not_read, put_not_written, put_too_long,
+    Names, put_input_fault, put_log_fault, put_memory, put_not_read, put_not_written, put_too_long,
 };
 use crate::status::Status;
+use crate::texts::Wanted;
 use bt_base::{PutFault, Sink};
 use btest_core::InputFault;
+use response_log::LogFault;
 
 /// Why the texts of a command were not all read.
 #[derive(Drop)]
 pub enum Unread<'a> {
-    /// The text of this name is too long.
-    TooLong(&'a str),
-    /// The text of this name was not read.
-    Failed(&'a str),
+    /// This text is too long.
+    TooLong(Wanted<'a>),
+    /// This text was not read.
+    Failed(Wanted<'a>),
     /// There was not enough memory.
     Memory,
 }
@@ -28,6 +30,8 @@ pub enum Unread<'a> {
 pub enum Unput {
     /// The first fault of the texts.
     Input(InputFault),
+    /// The first fault of a response log, of which so many rows are wanted.
+    Log { rows: u64, fault: LogFault },
     /// The defined text was not put whole.
     Write,
     /// There was not enough memory.
@@ -41,6 +45,16 @@ pub fn unput_by(fault: InputFault) -> Unput
     match fault {
         InputFault::Memory(_) => Unput::Memory,
         fault => Unput::Input(fault),
+    }
+}
+
+/// Why nothing is put where a log of which so many rows are wanted has this fault.
+pub fn unput_by_log(rows: u64, fault: LogFault) -> Unput
+    ensures { result ≡ unput_log rows fault }
+{
+    match fault {
+        LogFault::Memory(_) => Unput::Memory,
+        fault => Unput::Log { rows, fault },
     }
 }
 
@@ -60,7 +74,7 @@ pub fn unput_status(failure: &Unput) -> Status
     ensures { result ≡ unput_status failure.now }
 {
     match failure {
-        Unput::Input(_) => Status::Refused,
+        Unput::Input(_) | Unput::Log { .. } => Status::Refused,
         Unput::Write => Status::WriteFault,
         Unput::Memory => Status::NoMemory,
     }
@@ -71,8 +85,8 @@ pub fn put_unread<N: Sink>(failure: &Unread, notes: &mut N) -> Result<(), PutFau
     ensures { Puts (N.shown notes.old) (N.shown notes.new) (unread_line failure.now) result }
 {
     match failure {
-        Unread::TooLong(name) => put_too_long(name, notes),
-        Unread::Failed(name) => put_not_read(name, notes),
+        Unread::TooLong(wanted) => put_too_long(*wanted, notes),
+        Unread::Failed(wanted) => put_not_read(wanted.name, notes),
         Unread::Memory => put_memory(notes),
     }
 }
@@ -83,6 +97,7 @@ pub fn put_unput<N: Sink>(names: Names, failure: &Unput, notes: &mut N) -> Resul
 {
     match failure {
         Unput::Input(fault) => put_input_fault(names, fault, notes),
+        Unput::Log { rows, fault } => put_log_fault(names.log, *rows, fault, notes),
         Unput::Write => put_not_written(notes),
         Unput::Memory => put_memory(notes),
     }

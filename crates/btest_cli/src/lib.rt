@@ -2,10 +2,13 @@
 #![tactic(auto)]
 
 mod board_cover;
+mod board_summary;
 mod board_test;
 mod chain_test;
 mod device_listing;
 mod failure;
+mod ident_codes;
+mod log_diagnosis;
 mod notes;
 mod rows;
 mod status;

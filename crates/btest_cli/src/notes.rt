@@ -1,9 +1,11 @@
 // The lines on standard error.
-ghost use Rattle.std.specs.Prelude.{◌≡◌, ◌++◌, ◌∷◌, [], List, map, decimal, string_bytes};
+ghost use Rattle.std.specs.Prelude.{◌≡◌, ◌++◌, ◌∷◌, [], List, map, codes, decimal, string_bytes};
 ghost use Rattle.bt_base.specs.Puts.{Puts};
-ghost use Rattle.btest_cli.specs.Refusals.{whole, about, at_line, at_spot, line_fault_line, board_fault_line, limit_line, lex_fault_line, parse_fault_line, rule_line, string_line, attribute_name, device_fault_line, link_fault_line, input_fault_line, text_name, long_line, read_line, usage_line, write_line, memory_line};
+ghost use Rattle.btest_cli.specs.Refusals.{whole, about, at_line, at_spot, line_fault_line, board_fault_line, limit_line, lex_fault_line, parse_fault_line, rule_line, string_line, attribute_name, device_fault_line, link_fault_line, input_fault_line, log_fault_line, text_name, long_line, read_line, usage_line, write_line, memory_line};
 ghost use Rattle.btest_cli.specs.NamesView.{names_view, text_names_view};
+ghost use Rattle.btest_cli.specs.Failures.{wanted_view};
 
+use crate::texts::Wanted;
 use board_build::BoardFault;
 use board_defs::Spot;
 use board_files::LineFault;
@@ -13,11 +15,13 @@ use bt_base::{PutFault, Sink};
 use btest_core::InputFault;
 use device_check::DeviceFault;
 use itoa::Buffer;
+use response_log::LogFault;
 use series_parts::LinkFault;
 
 /// The names of a command's texts, by which the lines of refusal tell them apart.
 #[derive(Clone, Copy)]
 pub struct Names<'a> {
+    pub log: &'a str,
     pub chain: &'a str,
     pub nets: &'a str,
     pub bsdl: TextNames<'a>,
@@ -295,15 +299,68 @@ pub fn put_input_fault<N: Sink>(
             put_device_fault(text_name(names.bsdl, *text), fault, notes)
         }
         InputFault::Link(fault) => put_link_fault(names.chain, fault, notes),
+        InputFault::NoIdent(line) => {
+            put_at_line(names.chain, *line, b": part without a description\n", notes)
+        }
         InputFault::Memory(_) => put_memory(notes),
     }
 }
 
-/// Puts the line of a text that is too long.
-pub fn put_too_long<N: Sink>(name: &str, notes: &mut N) -> Result<(), PutFault>
-    ensures { Puts (N.shown notes.old) (N.shown notes.new) (long_line name.now) result }
+// Puts how many rows of a log there are, and how many are wanted.
+fn put_missing_rows<N: Sink>(
+    name: &str,
+    found: u64,
+    rows: u64,
+    notes: &mut N,
+) -> Result<(), PutFault>
+    ensures { Puts (N.shown notes.old) (N.shown notes.new) (whole (name.now ∷ codes ": " ∷ decimal found ∷ codes " rows of " ∷ decimal rows ∷ codes "\n" ∷ [])) result }
 {
-    put_about(name, b": longer than 4194304 bytes\n", notes)
+    let mut first = Buffer::new();
+    let found = first.format(found).as_bytes();
+    let mut second = Buffer::new();
+    let rows = second.format(rows).as_bytes();
+    put_all(
+        name.as_bytes(),
+        &[
+            b": ".as_slice(),
+            found,
+            b" rows of ".as_slice(),
+            rows,
+            b"\n".as_slice(),
+        ],
+        notes,
+    )
+}
+
+/// Puts the line of the first fault of a log of which so many rows are wanted.
+pub fn put_log_fault<N: Sink>(
+    name: &str,
+    rows: u64,
+    fault: &LogFault,
+    notes: &mut N,
+) -> Result<(), PutFault>
+    ensures { Puts (N.shown notes.old) (N.shown notes.new) (log_fault_line name.now rows fault.now) result }
+{
+    match fault {
+        LogFault::Digit(line) => put_at_line(name, *line, b": digit not allowed\n", notes),
+        LogFault::Length(line) => put_at_line(name, *line, b": wrong length\n", notes),
+        LogFault::Extra(line) => put_at_line(name, *line, b": row too many\n", notes),
+        LogFault::Missing(found) => put_missing_rows(name, *found, rows, notes),
+        LogFault::Memory(_) => put_memory(notes),
+    }
+}
+
+/// Puts the line of a text that is too long.
+pub fn put_too_long<N: Sink>(wanted: Wanted, notes: &mut N) -> Result<(), PutFault>
+    ensures { Puts (N.shown notes.old) (N.shown notes.new) (long_line (wanted_view wanted.entry)) result }
+{
+    let mut number = Buffer::new();
+    let limit = number.format(wanted.limit).as_bytes();
+    put_all(
+        wanted.name.as_bytes(),
+        &[b": longer than ".as_slice(), limit, b" bytes\n".as_slice()],
+        notes,
+    )
 }
 
 /// Puts the line of a text that was not read.

@@ -1,16 +1,36 @@
 // The texts that a command reads.
-ghost use Rattle.std.specs.Prelude.{◌≡◌, ℕ, ◌<◌, ◌≤◌, ◌^◌, ◌∷◌, All, List, length, map, IfOk, OnOk, IsErrOf, Err};
+ghost use Rattle.std.specs.Prelude.{◌≡◌, ℕ, ◌<◌, ◌≤◌, ◌^◌, [], ◌∷◌, ◌++◌, All, List, length, map, IfOk, IsErrOf, Err};
 ghost use Rattle.bt_base.specs.Counts.{Rose};
 ghost use Rattle.btest_cli.specs.declared.failure.Unread.{Unread as Lost};
-ghost use Rattle.btest_cli.specs.Texts.{IsRead, IsText, IsLong, Read, most_bytes};
-ghost use Rattle.btest_cli.specs.Failures.{IsUnread};
+ghost use Rattle.btest_cli.specs.Texts.{IsRead, IsText, IsLong, Asks, Read, log_called, names_in, text_called};
+ghost use Rattle.btest_cli.specs.Failures.{IsUnread, wanted_view};
 
 use crate::failure::Unread;
 use bt_base::{FetchFault, Store};
 use std::alloc::Global;
 
-/// The most bytes of a chain file, a net file or a BSDL text.
-pub const MOST_BYTES: u32 = 4_194_304;
+// The most bytes of a chain file, a net file or a BSDL text.
+const MOST_BYTES: u32 = 4_194_304;
+
+// The most bytes of a response log.
+const MOST_LOG_BYTES: u32 = 67_108_864;
+
+/// A text that is wanted: its name, and the most bytes that it may have.
+#[derive(Clone, Copy)]
+pub struct Wanted<'a> {
+    pub name: &'a str,
+    pub limit: u32,
+}
+
+/// A chain file, a net file or a BSDL text of this name.
+pub fn text_called<'a>(name: &'a str) -> Wanted<'a>
+    ensures { wanted_view result ≡ text_called name.entry.now }
+{
+    Wanted {
+        name,
+        limit: MOST_BYTES,
+    }
+}
 
 /// The texts of a board.
 #[derive(Clone, Copy)]
@@ -20,11 +40,21 @@ pub struct BoardTexts<'a> {
     pub bsdl: &'a [Vec<u8>],
 }
 
+/// A response log of this name.
+pub fn log_called<'a>(name: &'a str) -> Wanted<'a>
+    ensures { wanted_view result ≡ log_called name.entry.now }
+{
+    Wanted {
+        name,
+        limit: MOST_LOG_BYTES,
+    }
+}
+
 /// The texts of a board as they stand in a command: a chain file, a net file and BSDL texts.
 pub fn board_texts<'a>(texts: &'a [Vec<u8>]) -> BoardTexts<'a>
     requires some { 2 ≤ length texts.now }
-    requires few { length texts.now ≤ 257 }
-    requires short { All (λ text. length text.items ≤ most_bytes) texts.now }
+    requires few { length texts.now ≤ 258 }
+    requires short { All (λ text. length text.items < 2 ^ 32) texts.now }
     ensures texts { map (λ text. text.items) texts.entry.now ≡ result.chain.now ∷ result.nets.now ∷ map (λ text. text.items) result.bsdl.now }
     ensures chain { length result.chain.now < 2 ^ 32 }
     ensures nets { length result.nets.now < 2 ^ 32 }
@@ -37,17 +67,19 @@ pub fn board_texts<'a>(texts: &'a [Vec<u8>]) -> BoardTexts<'a>
     BoardTexts { chain, nets, bsdl }
 }
 
-// Fetches the text of a name.
-fn fetch_text<S: Store>(alloc: Global, name: &str, store: &mut S) -> Result<Vec<u8>, FetchFault>
+// Fetches a text.
+fn fetch_text<S: Store>(alloc: Global, wanted: Wanted, store: &mut S) -> Result<Vec<u8>, FetchFault>
     ensures held { S.held store.new ≡ S.held store.old }
     ensures later { (n : List ℕ) → S.faults store.old n ≤ S.faults store.new n }
-    ensures text { IfOk result (λ text. IsText (S.held store.old) name.now text.items) }
-    ensures short { IfOk result (λ text. length text.items ≤ most_bytes) }
-    ensures too_long { IsErrOf result FetchFault.TooLong → IsLong (S.held store.old) name.now }
-    ensures failed { IsErrOf result FetchFault.Failed → Rose (S.faults store.old name.now) (S.faults store.new name.now) }
+    ensures asked { Asks (S.asked store.old) (S.asked store.new) (wanted.entry.name.now ∷ []) }
+    ensures text { IfOk result (λ text. IsText (S.held store.old) wanted.entry.name.now text.items) }
+    ensures short { IfOk result (λ text. length text.items ≤ wanted.entry.limit) }
+    ensures small { IfOk result (λ text. length text.items < 2 ^ 32) }
+    ensures too_long { IsErrOf result FetchFault.TooLong → IsLong (S.held store.old) (wanted_view wanted.entry) }
+    ensures failed { IsErrOf result FetchFault.Failed → Rose (S.faults store.old wanted.entry.name.now) (S.faults store.new wanted.entry.name.now) }
 {
     let mut text = Vec::new(alloc);
-    match store.fetch(name, &mut text, MOST_BYTES) {
+    match store.fetch(wanted.name, &mut text, wanted.limit) {
         Ok(()) => Ok(text),
         Err(FetchFault::Failed) => Err(FetchFault::Failed),
         Err(FetchFault::TooLong) => Err(FetchFault::TooLong),
@@ -55,24 +87,25 @@ fn fetch_text<S: Store>(alloc: Global, name: &str, store: &mut S) -> Result<Vec<
     }
 }
 
-/// Fetches the texts of the names in their order, up to the first that fails or is too long.
+/// Fetches texts in their order, up to the first that fails or is too long.
 pub fn fetch_texts<'a, S: Store>(
     alloc: Global,
-    names: &[&'a str],
+    wanted: &[Wanted<'a>],
     store: &mut S,
 ) -> Result<Vec<Vec<u8>>, Unread<'a>>
     ensures held { S.held store.new ≡ S.held store.old }
-    ensures read { IfOk result (λ texts. IsRead (S.held store.old) (map (λ n. n.now) names.now) (Read (map (λ text. text.items) texts.items))) }
-    ensures short { IfOk result (λ texts. All (λ text. length text.items ≤ most_bytes) texts.items) }
-    ensures number { IfOk result (λ texts. length texts.items ≡ length names.now) }
-    ensures unread { (lost : Lost) → result ≡ Err lost → IsUnread (S.held store.old) (S.faults store.old) (S.faults store.new) (map (λ n. n.now) names.now) lost }
+    ensures read { IfOk result (λ texts. IsRead (S.held store.old) (map wanted_view wanted.now) (Read (map (λ text. text.items) texts.items))) }
+    ensures asked { IfOk result (λ texts. Asks (S.asked store.old) (S.asked store.new) (names_in (map wanted_view wanted.now))) }
+    ensures short { IfOk result (λ texts. All (λ text. length text.items < 2 ^ 32) texts.items) }
+    ensures number { IfOk result (λ texts. length texts.items ≡ length wanted.now) }
+    ensures unread { (lost : Lost) → result ≡ Err lost → IsUnread (S.held store.old) (S.faults store.old) (S.faults store.new) (S.asked store.old) (S.asked store.new) (map wanted_view wanted.now) lost }
 {
     let mut texts = Vec::new(alloc);
-    for name in names {
-        let text = match fetch_text(alloc, name, store) {
+    for one in wanted {
+        let text = match fetch_text(alloc, *one, store) {
             Ok(text) => text,
-            Err(FetchFault::Failed) => return Err(Unread::Failed(name)),
-            Err(FetchFault::TooLong) => return Err(Unread::TooLong(name)),
+            Err(FetchFault::Failed) => return Err(Unread::Failed(*one)),
+            Err(FetchFault::TooLong) => return Err(Unread::TooLong(*one)),
             Err(FetchFault::Memory(_)) => return Err(Unread::Memory),
         };
         let Ok(()) = texts.push(text) else {

@@ -1,39 +1,43 @@
 // The top call.
-ghost use Rattle.std.specs.Prelude.{◌≡◌, ◌≢◌, ◌⊎◌, ◌+◌, ◌≤◌, ◌++◌, ℕ, [], All, List, length, map, None, string_bytes, IfOk, OnOk};
+ghost use Rattle.std.specs.Prelude.{◌≡◌, ◌≢◌, ◌⊎◌, ◌+◌, ◌<◌, ◌≤◌, ◌^◌, ◌++◌, ℕ, [], All, List, length, map, None, string_bytes, IfOk, OnOk};
 ghost use Rattle.bt_base.specs.Counts.{Rose};
-ghost use Rattle.command_line.specs.Words.{Text, Chain, Device, command_of, names_of};
+ghost use Rattle.command_line.specs.Words.{Text, ChainNames, BoardNames, Chain, Device, Diagnose, HasNumber, Ident, command_of, names_of};
 ghost use Rattle.command_line.specs.CommandView.{command_view};
 ghost use Rattle.btest_cli.specs.RunOf.{IsRunOf};
 ghost use Rattle.btest_cli.specs.NamesView.{names_view};
 ghost use Rattle.btest_cli.specs.Refusals.{roles_of, usage_line, write_line, memory_line};
-ghost use Rattle.btest_cli.specs.Texts.{most_bytes};
-ghost use Rattle.btest_cli.specs.Outcome.{ForCommand, IsComplete, IsCutShort, IsDone, IsNotRead, IsRefused, IsWorth, SomeRose, TookOrCut};
-ghost use Rattle.btest_cli.specs.Failures.{IsAnswered};
+ghost use Rattle.btest_cli.specs.Texts.{text_called, wanted_of};
+ghost use Rattle.btest_cli.specs.Outcome.{AsksSome, ForCommand, IsComplete, IsCutShort, IsDone, IsNotRead, IsRefused, IsWorth, SomeRose, TookOrCut};
+ghost use Rattle.btest_cli.specs.Failures.{IsAnswered, wanted_view};
 
 use crate::board_cover::cover;
+use crate::board_summary::summary;
 use crate::board_test::svf;
 use crate::chain_test::chain;
 use crate::device_listing::device;
 use crate::failure::{Unput, put_unput, put_unread, unput_status, unread_status};
+use crate::ident_codes::ident;
+use crate::log_diagnosis::diagnosis;
 use crate::notes::{Names, TextNames, put_memory, put_usage};
 use crate::status::Status;
-use crate::texts::{board_texts, fetch_texts};
+use crate::texts::{Wanted, board_texts, fetch_texts, log_called, text_called};
 use bt_base::{Gate, Sink, Store};
-use btest_core::law::inputs_have_one_answer;
+use btest_core::law::{inputs_have_one_answer, inputs_keep_rules};
 use command_line::{Command, command_of};
+use fault_sim::law::logs_have_one_diagnosis;
 use std::alloc::{AllocError, Global};
 use std::thread::Threads;
 
 /// Runs a command line: reads its words, fetches the texts that they name, checks them, and puts the
 /// defined text to `out`. At every status but `Done` the notes are given one line.
-pub fn run<R: Threads, S: Store, K: Sink, N: Sink, G: Gate>(
-    _rt: &R,
+pub fn run<R: Threads + Sync, S: Store, K: Sink, N: Sink, G: Gate>(
+    rt: &R,
     alloc: Global,
     words: &[String],
     store: &mut S,
     out: &mut K,
     notes: &mut N,
-    _gate: &G,
+    gate: &G,
 ) -> Status
     // Usage comes exactly where the words are not in the grammar, and nothing was fetched.
     ensures usage { result ≡ Status.Usage → command_of (map string_bytes words.now) ≡ None }
@@ -41,31 +45,34 @@ pub fn run<R: Threads, S: Store, K: Sink, N: Sink, G: Gate>(
     ensures not_fetched { command_of (map string_bytes words.now) ≡ None → store.new ≡ store.old }
     ensures usage_noted { result ≡ Status.Usage → TookOrCut (N.shown notes.old) (N.shown notes.new) usage_line }
 
-    // Done: the texts were read, `out` took exactly the text that they give, and that is worth what it should be.
-    ensures done { result ≡ Status.Done → ForCommand words.now (λ c. IsDone (S.held store.old) c (K.shown out.old) (K.shown out.new)) }
+    // Done: each text was asked for once and read, `out` took exactly the text that they give, and that is worth what it should be.
+    ensures done { result ≡ Status.Done → ForCommand words.now (λ c. IsDone (S.held store.old) c (S.asked store.old) (S.asked store.new) (K.shown out.old) (K.shown out.new)) }
     ensures worth { result ≡ Status.Done → ForCommand words.now (λ c. IsWorth (S.held store.old) c (K.shown out.old) (K.shown out.new)) }
     ensures silent { result ≡ Status.Done → N.shown notes.new ≡ N.shown notes.old }
 
-    // Refused: the texts that were read have a first fault, and the notes were given its line.
-    ensures refused { result ≡ Status.Refused → ForCommand words.now (λ c. IsRefused (S.held store.old) c (N.shown notes.old) (N.shown notes.new)) }
+    // Refused: what was read has a first fault, and the notes were given its line. No text was asked for behind one that is too long.
+    ensures refused { result ≡ Status.Refused → ForCommand words.now (λ c. IsRefused (S.held store.old) c (S.asked store.old) (S.asked store.new) (N.shown notes.old) (N.shown notes.new)) }
 
-    // ReadFault: the count of a text of the words rose, and the notes were given its name.
-    ensures read { result ≡ Status.ReadFault → ForCommand words.now (λ c. IsNotRead (S.faults store.old) (S.faults store.new) (names_of c) (N.shown notes.old) (N.shown notes.new)) }
+    // ReadFault: the texts before one were read, the count of that one rose, none was asked for behind it, and the notes were given its name.
+    ensures read { result ≡ Status.ReadFault → ForCommand words.now (λ c. IsNotRead (S.held store.old) c (S.faults store.old) (S.faults store.new) (S.asked store.old) (S.asked store.new) (N.shown notes.old) (N.shown notes.new)) }
 
     // WriteFault: the count of `out` rose, and it took some first bytes of the text.
     ensures write { result ≡ Status.WriteFault → Rose (K.shown out.old).faults (K.shown out.new).faults }
-    ensures cut { result ≡ Status.WriteFault → ForCommand words.now (λ c. IsCutShort (S.held store.old) c (K.shown out.old) (K.shown out.new)) }
+    ensures cut { result ≡ Status.WriteFault → ForCommand words.now (λ c. IsCutShort (S.held store.old) c (S.asked store.old) (S.asked store.new) (K.shown out.old) (K.shown out.new)) }
     ensures write_noted { result ≡ Status.WriteFault → TookOrCut (N.shown notes.old) (N.shown notes.new) write_line }
 
     // Nothing was put at any other status, want of memory among them.
     ensures untouched { result ≢ Status.Done → result ≢ Status.WriteFault → K.shown out.new ≡ K.shown out.old }
     ensures memory_noted { result ≡ Status.NoMemory → TookOrCut (N.shown notes.old) (N.shown notes.new) memory_line }
+    ensures memory_asks { result ≡ Status.NoMemory → ForCommand words.now (λ c. AsksSome c (S.asked store.old) (S.asked store.new)) }
 
     // Where no count rose, the texts settle the status, unless memory ran out.
     ensures complete { ForCommand words.now (λ c. IsComplete (S.held store.old) c
         (SomeRose (S.faults store.old) (S.faults store.new) (names_of c)) (Rose (K.shown out.old).faults (K.shown out.new).faults) result) }
 {
     inputs_have_one_answer();
+    inputs_keep_rules();
+    logs_have_one_diagnosis();
     match command_of(alloc, words) {
         Err(_) => {
             let _ = put_memory(notes);
@@ -75,34 +82,37 @@ pub fn run<R: Threads, S: Store, K: Sink, N: Sink, G: Gate>(
             let _ = put_usage(notes);
             Status::Usage
         }
-        Ok(Some(command)) => run_command(alloc, command, store, out, notes),
+        Ok(Some(command)) => run_command(rt, alloc, command, store, out, notes, gate),
     }
 }
 
 // Runs a command.
-fn run_command<S: Store, K: Sink, N: Sink>(
+fn run_command<R: Threads + Sync, S: Store, K: Sink, N: Sink, G: Gate>(
+    rt: &R,
     alloc: Global,
     command: Command,
     store: &mut S,
     out: &mut K,
     notes: &mut N,
+    gate: &G,
 ) -> Status
-    requires { length (names_of (command_view command)) ≤ 257 }
-    ensures { IsRunOf (command_view command.entry) (S.held store.old) (S.faults store.old) (S.faults store.new)
+    requires few { length (names_of (command_view command)) ≤ 258 }
+    requires number { HasNumber (command_view command) }
+    ensures { IsRunOf (command_view command.entry) (S.held store.old) (S.faults store.old) (S.faults store.new) (S.asked store.old) (S.asked store.new)
         (K.shown out.old) (K.shown out.new) (N.shown notes.old) (N.shown notes.new) result }
 {
-    let Ok(names) = names_of(alloc, command) else {
+    let Ok(wanted) = wanted_texts(alloc, command) else {
         let _ = put_memory(notes);
         return Status::NoMemory;
     };
-    let texts = match fetch_texts(alloc, &names, store) {
+    let texts = match fetch_texts(alloc, &wanted, store) {
         Ok(texts) => texts,
         Err(failure) => {
             let _ = put_unread(&failure, notes);
             return unread_status(&failure);
         }
     };
-    match answer(alloc, command, &texts, out) {
+    match answer(rt, alloc, command, &texts, gate, out) {
         Ok(()) => Status::Done,
         Err(failure) => {
             let _ = put_unput(roles_of(command), &failure, notes);
@@ -111,32 +121,39 @@ fn run_command<S: Store, K: Sink, N: Sink>(
     }
 }
 
-// The names of the texts of a command, in their order.
-fn names_of<'a>(alloc: Global, command: Command<'a>) -> Result<Vec<&'a str>, AllocError>
-    ensures { IfOk result (λ names. map (λ n. n.now) names.items ≡ names_of (command_view command.entry)) }
+// The texts that a command reads, in their order.
+fn wanted_texts<'a>(alloc: Global, command: Command<'a>) -> Result<Vec<Wanted<'a>>, AllocError>
+    ensures { IfOk result (λ wanted. map wanted_view wanted.items ≡ wanted_of (command_view command.entry)) }
 {
-    let mut names = Vec::new(alloc);
+    let mut wanted = Vec::new(alloc);
     match command {
-        Command::Chain { chain, bsdl } => {
-            names.push(chain)?;
-            push_names(&mut names, bsdl)?;
+        Command::Chain(names) | Command::Ident(names) => {
+            wanted.push(text_called(names.chain))?;
+            push_texts(&mut wanted, names.bsdl)?;
         }
-        Command::Device { bsdl } => names.push(bsdl)?,
-        Command::Cover(board) | Command::Svf(board) => {
-            names.push(board.chain)?;
-            names.push(board.nets)?;
-            push_names(&mut names, board.bsdl)?;
+        Command::Device { bsdl } => wanted.push(text_called(bsdl))?,
+        Command::Cover(names) | Command::Svf(names) => {
+            wanted.push(text_called(names.chain))?;
+            wanted.push(text_called(names.nets))?;
+            push_texts(&mut wanted, names.bsdl)?;
+        }
+        Command::Make(_) => {}
+        Command::Diagnose { log, board, .. } => {
+            wanted.push(log_called(log))?;
+            wanted.push(text_called(board.chain))?;
+            wanted.push(text_called(board.nets))?;
+            push_texts(&mut wanted, board.bsdl)?;
         }
     }
-    Ok(names)
+    Ok(wanted)
 }
 
-// Adds names to others.
-fn push_names<'a>(names: &mut Vec<&'a str>, more: &'a [String]) -> Result<(), AllocError>
-    ensures { OnOk result (map (λ n. n.now) names.new.items ≡ map (λ n. n.now) names.old.items ++ map string_bytes more.entry.now) }
+// Adds BSDL texts of these names.
+fn push_texts<'a>(wanted: &mut Vec<Wanted<'a>>, names: &'a [String]) -> Result<(), AllocError>
+    ensures { OnOk result (map wanted_view wanted.new.items ≡ map wanted_view wanted.old.items ++ map text_called (map string_bytes names.entry.now)) }
 {
-    for name in more {
-        names.push(name.as_str())?;
+    for name in names {
+        wanted.push(text_called(name.as_str()))?;
     }
     Ok(())
 }
@@ -146,17 +163,32 @@ fn roles_of<'a>(command: Command<'a>) -> Names<'a>
     ensures { names_view result ≡ roles_of (command_view command.entry) }
 {
     match command {
-        Command::Chain { chain, bsdl } => Names {
-            chain,
+        Command::Chain(names) | Command::Ident(names) => Names {
+            log: "",
+            chain: names.chain,
             nets: "",
-            bsdl: TextNames::Several(bsdl),
+            bsdl: TextNames::Several(names.bsdl),
         },
         Command::Device { bsdl } => Names {
+            log: "",
             chain: "",
             nets: "",
             bsdl: TextNames::One(bsdl),
         },
-        Command::Cover(board) | Command::Svf(board) => Names {
+        Command::Cover(names) | Command::Svf(names) => Names {
+            log: "",
+            chain: names.chain,
+            nets: names.nets,
+            bsdl: TextNames::Several(names.bsdl),
+        },
+        Command::Make(_) => Names {
+            log: "",
+            chain: "chain",
+            nets: "nets",
+            bsdl: TextNames::One("bsdl"),
+        },
+        Command::Diagnose { log, board, .. } => Names {
+            log,
             chain: board.chain,
             nets: board.nets,
             bsdl: TextNames::Several(board.bsdl),
@@ -165,30 +197,36 @@ fn roles_of<'a>(command: Command<'a>) -> Names<'a>
 }
 
 // Puts what a command gives for its texts, of which there is one for each of its names.
-fn answer<K: Sink>(
+fn answer<R: Threads + Sync, K: Sink, G: Gate>(
+    rt: &R,
     alloc: Global,
     command: Command,
     texts: &[Vec<u8>],
+    gate: &G,
     out: &mut K,
 ) -> Result<(), Unput>
-    requires number { length texts.now ≡ length (names_of (command_view command)) }
-    requires few { length texts.now ≤ 257 }
-    requires short { All (λ text. length text.items ≤ most_bytes) texts.now }
+    requires count { length texts.now ≡ length (names_of (command_view command)) }
+    requires few { length texts.now ≤ 258 }
+    requires short { All (λ text. length text.items < 2 ^ 32) texts.now }
+    requires number { HasNumber (command_view command) }
     ensures { IsAnswered (command_view command.entry) (map (λ text. text.items) texts.now) (K.shown out.old) (K.shown out.new) result }
 {
     match command {
-        Command::Chain { .. } => answer_chain(alloc, texts, out),
+        Command::Chain(_) => answer_chain(alloc, texts, out),
         Command::Device { .. } => answer_device(alloc, texts, out),
         Command::Cover(_) => cover(alloc, board_texts(texts), out),
         Command::Svf(_) => svf(alloc, board_texts(texts), out),
+        Command::Ident(_) => answer_ident(alloc, texts, out),
+        Command::Make(number) => summary(alloc, number, out),
+        Command::Diagnose { workers, .. } => answer_log(rt, alloc, texts, workers, gate, out),
     }
 }
 
 fn answer_chain<K: Sink>(alloc: Global, texts: &[Vec<u8>], out: &mut K) -> Result<(), Unput>
     requires some { 1 ≤ length texts.now }
-    requires few { length texts.now ≤ 257 }
-    requires short { All (λ text. length text.items ≤ most_bytes) texts.now }
-    ensures { (file : Text) (names : List Text) → IsAnswered (Chain file names) (map (λ text. text.items) texts.now) (K.shown out.old) (K.shown out.new) result }
+    requires few { length texts.now ≤ 258 }
+    requires short { All (λ text. length text.items < 2 ^ 32) texts.now }
+    ensures { (names : ChainNames) → IsAnswered (Chain names) (map (λ text. text.items) texts.now) (K.shown out.old) (K.shown out.new) result }
 {
     let [text, bsdl @ ..] = texts else {
         unreachable!()
@@ -196,11 +234,44 @@ fn answer_chain<K: Sink>(alloc: Global, texts: &[Vec<u8>], out: &mut K) -> Resul
     chain(alloc, text, bsdl, out)
 }
 
+fn answer_ident<K: Sink>(alloc: Global, texts: &[Vec<u8>], out: &mut K) -> Result<(), Unput>
+    requires some { 1 ≤ length texts.now }
+    requires few { length texts.now ≤ 258 }
+    requires short { All (λ text. length text.items < 2 ^ 32) texts.now }
+    ensures { (names : ChainNames) → IsAnswered (Ident names) (map (λ text. text.items) texts.now) (K.shown out.old) (K.shown out.new) result }
+{
+    let [text, bsdl @ ..] = texts else {
+        unreachable!()
+    };
+    ident(alloc, text, bsdl, out)
+}
+
 fn answer_device<K: Sink>(alloc: Global, texts: &[Vec<u8>], out: &mut K) -> Result<(), Unput>
     requires number { length texts.now ≡ 1 }
-    requires short { All (λ text. length text.items ≤ most_bytes) texts.now }
+    requires short { All (λ text. length text.items < 2 ^ 32) texts.now }
     ensures { (name : Text) → IsAnswered (Device name) (map (λ text. text.items) texts.now) (K.shown out.old) (K.shown out.new) result }
 {
     let [text] = texts else { unreachable!() };
     device(alloc, text, out)
+}
+
+fn answer_log<R: Threads + Sync, K: Sink, G: Gate>(
+    rt: &R,
+    alloc: Global,
+    texts: &[Vec<u8>],
+    workers: u32,
+    gate: &G,
+    out: &mut K,
+) -> Result<(), Unput>
+    requires some { 3 ≤ length texts.now }
+    requires few { length texts.now ≤ 258 }
+    requires short { All (λ text. length text.items < 2 ^ 32) texts.now }
+    requires least { 1 ≤ workers }
+    requires most { workers ≤ 64 }
+    ensures { (name : Text) (names : BoardNames) → IsAnswered (Diagnose workers name names) (map (λ text. text.items) texts.now) (K.shown out.old) (K.shown out.new) result }
+{
+    let [log, board @ ..] = texts else {
+        unreachable!()
+    };
+    diagnosis(rt, alloc, log, board_texts(board), workers, gate, out)
 }

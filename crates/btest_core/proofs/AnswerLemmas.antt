@@ -1,7 +1,7 @@
 -- Answers found step by step.
 use Rattle.std.proofs.Common.{inl, inr, Result, Ok, Err, refl}
 use Rattle.btest_core.specs.declared.fault.InputFault.{InputFault}
-use Rattle.btest_core.specs.declared.fault.InputFault.TheVariants.{Chain, Nets, Lex, Parse, Board, Device, Link, Memory}
+use Rattle.btest_core.specs.declared.fault.InputFault.TheVariants.{Chain, Nets, Lex, Parse, Board, Device, Link, NoIdent, Memory}
 use Rattle.btest_core.specs.Answers.{Follows, FaultIs, Gives}
 
 pub fault_more : (P Q : InputFault → Type 0) (fault : InputFault) → ((f : InputFault) → P f → Q f) → FaultIs P fault → FaultIs Q fault
@@ -13,6 +13,7 @@ fault_more P Q (Parse text fault) more is = more (Parse text fault) is
 fault_more P Q (Board fault) more is = more (Board fault) is
 fault_more P Q (Device text fault) more is = more (Device text fault) is
 fault_more P Q (Link fault) more is = more (Link fault) is
+fault_more P Q (NoIdent line) more is = more (NoIdent line) is
 
 pub gives_more : {U V : Type 0} (view : U → V) (P Q : Result V InputFault → Type 0) (answer : Result U InputFault) → ((a : Result V InputFault) → P a → Q a) → Gives view P answer → Gives view Q answer
 gives_more view P Q (Ok value) more is = more (Ok (view value)) is

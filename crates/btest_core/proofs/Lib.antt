@@ -6,3 +6,5 @@ pub mod LengthLemmas
 pub mod JoinLemmas
 pub mod OneLemmas
 pub mod SomeLemmas
+pub mod IdentLemmas
+pub mod RulesLemmas

@@ -11,11 +11,12 @@ use Rattle.board_defs.specs.declared.device.RawDevice.{RawDevice}
 use Rattle.device_check.specs.declared.fault.DeviceFault.{DeviceFault}
 use Rattle.device_check.specs.SoundDevice as check
 use Rattle.btest_core.specs.declared.fault.InputFault.{InputFault}
-use Rattle.btest_core.specs.declared.fault.InputFault.TheVariants.{Chain, Nets, Lex, Parse, Board, Device, Link, Memory}
+use Rattle.btest_core.specs.declared.fault.InputFault.TheVariants.{Chain, Nets, Lex, Parse, Board, Device, Link, NoIdent, Memory}
 use Rattle.btest_core.specs.Answers.{Follows, Is, EachOf}
 use Rattle.btest_core.specs.TextsRead.{IsEntityOf, IsEntityOfText}
 use Rattle.btest_core.specs.DevicesRead.{Chosen, IsDeviceIn, IsDeviceOf, IsDeviceText}
 use Rattle.btest_core.specs.BoardRead.{AreChainLengths, IsBoardRead}
+use Rattle.btest_core.specs.IdentsRead.{AreIdents}
 
 -- at most one answer is of this kind
 abbrev pub AtMostOne : {A : Type 0} → (Result A InputFault → Type 0) → Type 0
@@ -24,7 +25,7 @@ AtMostOne {A} IsAnswer = (a b : Result A InputFault) → IsAnswer a → IsAnswer
 is_one : {A : Type 0} (this : Result A InputFault) → AtMostOne (Is this)
 is_one this a b is_a is_b = is_a ∙ sym is_b
 
-same_ok : {A : Type 0} (x y : A) → ◌≡◌ {A = Result A InputFault} (Ok x) (Ok y) → x ≡ y
+pub same_ok : {A : Type 0} (x y : A) → ◌≡◌ {A = Result A InputFault} (Ok x) (Ok y) → x ≡ y
 same_ok x y e = cc
 
 same_err : {A : Type 0} (f g : InputFault) → ◌≡◌ {A = Result A InputFault} (Err f) (Err g) → f ≡ g
@@ -89,12 +90,14 @@ entity_one lexed parsed text n (Err (Nets f)) b is_a is_b = absurd is_a
 entity_one lexed parsed text n (Err (Board f)) b is_a is_b = absurd is_a
 entity_one lexed parsed text n (Err (Device k f)) b is_a is_b = absurd is_a
 entity_one lexed parsed text n (Err (Link f)) b is_a is_b = absurd is_a
+entity_one lexed parsed text n (Err (NoIdent l)) b is_a is_b = absurd is_a
 entity_one lexed parsed text n (Err (Memory e)) b is_a is_b = absurd is_a
 entity_one lexed parsed text n a (Err (Chain f)) is_a is_b = absurd is_b
 entity_one lexed parsed text n a (Err (Nets f)) is_a is_b = absurd is_b
 entity_one lexed parsed text n a (Err (Board f)) is_a is_b = absurd is_b
 entity_one lexed parsed text n a (Err (Device k f)) is_a is_b = absurd is_b
 entity_one lexed parsed text n a (Err (Link f)) is_a is_b = absurd is_b
+entity_one lexed parsed text n a (Err (NoIdent l)) is_a is_b = absurd is_b
 entity_one lexed parsed text n a (Err (Memory e)) is_a is_b = absurd is_b
 
 device_in_one : OneChecked → (entity : Entity) (choice : Chosen) → AtMostOne (IsDeviceIn entity choice)
@@ -115,6 +118,7 @@ device_in_one checked entity choice (Err (Lex k f)) b is_a is_b = absurd is_a
 device_in_one checked entity choice (Err (Parse k f)) b is_a is_b = absurd is_a
 device_in_one checked entity choice (Err (Board f)) b is_a is_b = absurd is_a
 device_in_one checked entity choice (Err (Link f)) b is_a is_b = absurd is_a
+device_in_one checked entity choice (Err (NoIdent l)) b is_a is_b = absurd is_a
 device_in_one checked entity choice (Err (Memory e)) b is_a is_b = absurd is_a
 device_in_one checked entity choice a (Err (Chain f)) is_a is_b = absurd is_b
 device_in_one checked entity choice a (Err (Nets f)) is_a is_b = absurd is_b
@@ -122,6 +126,7 @@ device_in_one checked entity choice a (Err (Lex k f)) is_a is_b = absurd is_b
 device_in_one checked entity choice a (Err (Parse k f)) is_a is_b = absurd is_b
 device_in_one checked entity choice a (Err (Board f)) is_a is_b = absurd is_b
 device_in_one checked entity choice a (Err (Link f)) is_a is_b = absurd is_b
+device_in_one checked entity choice a (Err (NoIdent l)) is_a is_b = absurd is_b
 device_in_one checked entity choice a (Err (Memory e)) is_a is_b = absurd is_b
 
 device_of_one : OneChecked → (entities : List Entity) (choice : Chosen) → AtMostOne (IsDeviceOf entities choice)
@@ -140,6 +145,9 @@ device_text_one lexed parsed checked text = follows_one (IsEntityOf text 0) _ (e
 
 pub chain_one : OneLexed → OneParsed → OneChecked → (chain : List ℕ) (texts : List (List ℕ)) → AtMostOne (AreChainLengths chain texts)
 chain_one lexed parsed checked chain texts = follows_one _ _ (is_one _) (λ lines. follows_one _ _ (devices_one lexed parsed checked lines texts) (λ devices. is_one _))
+
+pub idents_one : OneLexed → OneParsed → OneChecked → (chain : List ℕ) (texts : List (List ℕ)) → AtMostOne (AreIdents chain texts)
+idents_one lexed parsed checked chain texts = follows_one _ _ (is_one _) (λ lines. follows_one _ _ (devices_one lexed parsed checked lines texts) (λ devices. is_one _))
 
 pub board_one : OneLexed → OneParsed → OneChecked → (chain nets : List ℕ) (texts : List (List ℕ)) → AtMostOne (IsBoardRead chain nets texts)
 board_one lexed parsed checked chain nets texts =

@@ -23,6 +23,7 @@ use Rattle.btest_core.specs.InputFaults.{in_board}
 use Rattle.btest_core.specs.TextsRead.{IsEntityOf, IsEntityOfText, AreEntities}
 use Rattle.btest_core.specs.DevicesRead.{Chosen, chosen, package_in, IsDeviceIn, IsDeviceOf, IsDeviceText, AreSelected, AreDevices}
 use Rattle.btest_core.specs.BoardRead.{AreChainLengths, IsBoardRead}
+use Rattle.btest_core.specs.IdentsRead.{AreIdents}
 use Rattle.btest_core.proofs.ChoiceLemmas.{zip_firsts}
 
 -- some answer is of this kind
@@ -96,7 +97,7 @@ some_device_of checked entities choice within =
     entity_at (e ∷ entities) zero within = (e, refl)
     entity_at (e ∷ entities) (suc n) within = entity_at entities n (omega arith)
 
-selected : {A : Type 0} (answer : Result A BoardFault) (value : A) → ◌≡◌ {A = Result A InputFault} (Ok value) (in_board answer) → answer ≡ Ok value
+pub selected : {A : Type 0} (answer : Result A BoardFault) (value : A) → ◌≡◌ {A = Result A InputFault} (Ok value) (in_board answer) → answer ≡ Ok value
 selected (Ok v) value same = cc
 selected (Err fault) value same = absurd cc
 
@@ -117,6 +118,10 @@ some_device lexed parsed checked text = some_follows (IsEntityOf text 0) _ (some
 
 pub some_chain : SomeLexed → SomeParsed → SomeChecked → SelectsWithin → (chain : List ℕ) (texts : List (List ℕ)) → HasAnswer (AreChainLengths chain texts)
 some_chain lexed parsed checked selects chain texts =
+    some_follows _ _ (some_is _) (λ lines is. some_follows _ _ (some_devices lexed parsed checked selects lines texts) (λ devices are. some_is _))
+
+pub some_idents : SomeLexed → SomeParsed → SomeChecked → SelectsWithin → (chain : List ℕ) (texts : List (List ℕ)) → HasAnswer (AreIdents chain texts)
+some_idents lexed parsed checked selects chain texts =
     some_follows _ _ (some_is _) (λ lines is. some_follows _ _ (some_devices lexed parsed checked selects lines texts) (λ devices are. some_is _))
 
 pub some_board : SomeLexed → SomeParsed → SomeChecked → SelectsWithin → (chain nets : List ℕ) (texts : List (List ℕ)) → HasAnswer (IsBoardRead chain nets texts)

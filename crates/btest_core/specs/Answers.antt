@@ -1,7 +1,7 @@
 -- Answers that are found step by step, the first fault of which counts.
 use Rattle.std.specs.Prelude.{◌≡◌, ◌⊎◌, List, [], ◌∷◌, Result, Ok, Err}
 use Rattle.btest_core.specs.declared.fault.InputFault.{InputFault}
-use Rattle.btest_core.specs.declared.fault.InputFault.TheVariants.{Chain, Nets, Lex, Parse, Board, Device, Link, Memory}
+use Rattle.btest_core.specs.declared.fault.InputFault.TheVariants.{Chain, Nets, Lex, Parse, Board, Device, Link, NoIdent, Memory}
 
 -- the first step gives a value, for which the next gives the answer, or a fault, which is the answer
 abbrev pub Follows : {A B : Type 0} → (Result A InputFault → Type 0) → (A → Result B InputFault → Type 0) → Result B InputFault → Type 0
@@ -27,6 +27,7 @@ FaultIs P (Parse text fault) = P (Parse text fault)
 FaultIs P (Board fault) = P (Board fault)
 FaultIs P (Device text fault) = P (Device text fault)
 FaultIs P (Link fault) = P (Link fault)
+FaultIs P (NoIdent line) = P (NoIdent line)
 
 -- the answer, seen by a view, is of this kind, where memory was not refused
 abbrev pub Gives : {U V : Type 0} → (U → V) → (Result V InputFault → Type 0) → Result U InputFault → Type 0

@@ -9,7 +9,7 @@ use Rattle.board_build.specs.Selection.{selection}
 use Rattle.bsdl_parser.specs.declared.entity.Entity.{Entity}
 use Rattle.device_check.specs.SoundDevice.{IsSound, IsFirst}
 use Rattle.btest_core.specs.declared.fault.InputFault.{InputFault}
-use Rattle.btest_core.specs.declared.fault.InputFault.TheVariants.{Chain, Nets, Lex, Parse, Board, Device, Link, Memory}
+use Rattle.btest_core.specs.declared.fault.InputFault.TheVariants.{Chain, Nets, Lex, Parse, Board, Device, Link, NoIdent, Memory}
 use Rattle.btest_core.specs.Answers.{Follows, Is, EachOf}
 use Rattle.btest_core.specs.InputFaults.{in_board}
 use Rattle.btest_core.specs.TextsRead.{IsEntityOf, AreEntities}
@@ -41,6 +41,7 @@ IsDeviceIn entity choice (Err (Lex text fault)) = ⊥
 IsDeviceIn entity choice (Err (Parse text fault)) = ⊥
 IsDeviceIn entity choice (Err (Board fault)) = ⊥
 IsDeviceIn entity choice (Err (Link fault)) = ⊥
+IsDeviceIn entity choice (Err (NoIdent line)) = ⊥
 IsDeviceIn entity choice (Err (Memory error)) = ⊥
 
 -- the same for a choice among entities

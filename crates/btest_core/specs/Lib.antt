@@ -4,3 +4,4 @@ pub mod TextsRead
 pub mod DevicesRead
 pub mod BoardRead
 pub mod Kept
+pub mod IdentsRead

@@ -11,7 +11,7 @@ use Rattle.bsdl_parser.specs.Lexeme.{lexemes}
 use Rattle.bsdl_parser.specs.Answer.{Derives}
 use Rattle.bsdl_parser.specs.Answer as parser
 use Rattle.btest_core.specs.declared.fault.InputFault.{InputFault}
-use Rattle.btest_core.specs.declared.fault.InputFault.TheVariants.{Chain, Nets, Lex, Parse, Board, Device, Link, Memory}
+use Rattle.btest_core.specs.declared.fault.InputFault.TheVariants.{Chain, Nets, Lex, Parse, Board, Device, Link, NoIdent, Memory}
 use Rattle.btest_core.specs.Answers.{EachOf}
 
 -- the text's tokens derive the entity
@@ -40,6 +40,7 @@ IsTextFault text n (Nets fault) = ⊥
 IsTextFault text n (Board fault) = ⊥
 IsTextFault text n (Device number fault) = ⊥
 IsTextFault text n (Link fault) = ⊥
+IsTextFault text n (NoIdent line) = ⊥
 IsTextFault text n (Memory error) = ⊥
 
 -- what the BSDL text of this number says: its entity, or its first fault

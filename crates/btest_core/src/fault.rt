@@ -35,6 +35,10 @@ pub enum InputFault {
     /// The first pin of a LINK line that stands in no net.
     #[error("chain file: {0}")]
     Link(LinkFault),
+    /// The line of the chain file's first part without a description: what such a part selects after a
+    /// reset isn't known.
+    #[error("chain file: line {0}: part without a description")]
+    NoIdent(u32),
     #[error("out of memory")]
     Memory(AllocError),
 }

@@ -5,6 +5,7 @@ mod board;
 mod chain;
 mod devices;
 mod fault;
+mod idents;
 pub mod law;
 mod planning;
 mod texts;
@@ -13,6 +14,7 @@ pub use board::read_board;
 pub use chain::read_chain;
 pub use devices::read_device;
 pub use fault::InputFault;
+pub use idents::read_idents;
 pub use planning::plan;
 pub use texts::read_entity;
 

@@ -1,63 +1,117 @@
--- How many names a command has.
-use Rattle.std.proofs.Common.{◌≡◌, ◌≤◌, Bool, true, false, List, [], ◌∷◌, length, nat_le, codes, Option, Some, None, refl, sym, subst, arith}
-use Rattle.std.specs.Prelude.{IfSome, option_map, if◌then◌else◌}
+-- How many names a command has, and in which range its number is.
+use Rattle.std.proofs.Common.{◌≡◌, ◌≤◌, ℕ, Bool, true, false, List, [], ◌∷◌, length, nat_le, codes, Option, Some, None, refl, sym, subst, arith}
+use Rattle.std.specs.Prelude.{IfSome, option_and_then, option_map, if◌then◌else◌}
 use Rattle.std.specs.Str.{bytes_eq}
 use Rattle.std.proofs.lemmas.Grind.{common_steps}
 use Rattle.command_line.specs.declared.words.Command.{Command as Lent}
 use Rattle.command_line.specs.CommandView.{command_view}
-use Rattle.command_line.specs.Words.{Text, BoardNames, Command, Chain, Cover, Svf, parsed, chain_of, device_of, board_of, board_names, names_of}
+use Rattle.command_line.specs.Words.{Text, ChainNames, BoardNames, Command, Chain, Ident, Cover, Svf, Make, Diagnose, parsed, number_of, chain_of, device_of, board_of, make_of, diagnose_of, board_called, log_called, chain_names, board_names, names_of, HasNumber}
+use Rattle.command_line.proofs.NumberLemmas.{number_within}
 
--- where there is a command, it has at most 257 names
-abbrev pub IsFew : Option Command → Type 0
-IsFew command = IfSome command (λ c. length (names_of c) ≤ 257)
+-- a command has at most 258 names, and its number is in its range
+pub record IsBounded (command : Command) : Type 0 where
+  pub few : length (names_of command) ≤ 258
+  pub in_range : HasNumber command
 
-either : (b : Bool) (one other : Option Command) → IsFew one → IsFew other → IsFew (if b then one else other)
-either true one other few_one few_other = few_one
-either false one other few_one few_other = few_other
+-- the same, where there is a command
+abbrev pub AreBounded : Option Command → Type 0
+AreBounded command = IfSome command IsBounded
 
-chain_by : (chain : Text) (names : List Text) (b : Bool) → nat_le (length names) 255 ≡ b → IsFew (if b then Some (Chain chain names) else None)
-chain_by chain names true test = grind (arith, common_steps)
-chain_by chain names false test = tt
+either : (b : Bool) (one other : Option Command) → AreBounded one → AreBounded other → AreBounded (if b then one else other)
+either true one other bounded_one bounded_other = bounded_one
+either false one other bounded_one bounded_other = bounded_other
 
-chain_few : (words : List Text) → IsFew (chain_of words)
+-- where there are names, they are at most 257
+abbrev AreFew : {A : Type 0} → (A → List Text) → Option A → Type 0
+AreFew listed names = IfSome names (λ n. length (listed n) ≤ 257)
+
+chain_by : (names : ChainNames) (b : Bool) → nat_le (length names.bsdl) 255 ≡ b → AreFew chain_names (if b then Some names else None)
+chain_by names true test = grind (arith, common_steps)
+chain_by names false test = tt
+
+chain_few : (words : List Text) → AreFew chain_names (chain_of words)
 chain_few [] = tt
-chain_few (chain ∷ names) = chain_by chain names (nat_le (length names) 255) refl
+chain_few (chain ∷ names) = chain_by (record { chain = chain; bsdl = names }) (nat_le (length names) 255) refl
 
-device_few : (words : List Text) → IsFew (device_of words)
-device_few [] = tt
-device_few (name ∷ []) = omega arith
-device_few (name ∷ other ∷ others) = tt
+board_by : (names : BoardNames) (b : Bool) → nat_le (length names.bsdl) 255 ≡ b → AreFew board_names (if b then Some names else None)
+board_by names true test = grind (arith, common_steps)
+board_by names false test = tt
 
--- where there are names of a board's texts, they are at most 257
-abbrev pub AreFew : Option BoardNames → Type 0
-AreFew names = IfSome names (λ n. length (board_names n) ≤ 257)
+board_few : (words : List Text) → AreFew board_names (board_of words)
+board_few [] = tt
+board_few (chain ∷ []) = tt
+board_few (chain ∷ nets ∷ names) = board_by (record { chain = chain; nets = nets; bsdl = names }) (nat_le (length names) 255) refl
 
-names_by : (names : BoardNames) (b : Bool) → nat_le (length names.bsdl) 255 ≡ b → AreFew (if b then Some names else None)
-names_by names true test = grind (arith, common_steps)
-names_by names false test = tt
+one_more : (n : ℕ) → n ≤ 257 → n ≤ 258
+one_more n few = omega arith
 
-names_few : (words : List Text) → AreFew (board_of words)
-names_few [] = tt
-names_few (chain ∷ []) = tt
-names_few (chain ∷ nets ∷ names) = names_by (record { chain = chain; nets = nets; bsdl = names }) (nat_le (length names) 255) refl
+-- a command of few names
+named : {A : Type 0} (listed : A → List Text) (command : A → Command) → ((names : A) → length (listed names) ≤ 257 → IsBounded (command names)) → (names : Option A) → AreFew listed names → AreBounded (option_map command names)
+named listed command bounded None few = tt
+named listed command bounded (Some names) few = bounded names few
 
-board_few : (command : BoardNames → Command) → ((names : BoardNames) → names_of (command names) ≡ board_names names) → (names : Option BoardNames) → AreFew names → IsFew (option_map command names)
-board_few command reads None few = tt
-board_few command reads (Some names) few = subst (λ all. length all ≤ 257) (sym (reads names)) few
+device_bounded : (words : List Text) → AreBounded (device_of words)
+device_bounded [] = tt
+device_bounded (name ∷ []) = record { few = omega arith; in_range = tt }
+device_bounded (name ∷ other ∷ others) = tt
 
-board_words_few : (word : Text) (rest : List Text) → IsFew (if bytes_eq (codes "cover") word then option_map Cover (board_of rest) else if bytes_eq (codes "svf") word then option_map Svf (board_of rest) else None)
-board_words_few word rest =
-    either (bytes_eq (codes "cover") word) (option_map Cover (board_of rest)) (if bytes_eq (codes "svf") word then option_map Svf (board_of rest) else None) (board_few Cover (λ names. refl) (board_of rest) (names_few rest))
-    (either (bytes_eq (codes "svf") word) (option_map Svf (board_of rest)) None (board_few Svf (λ names. refl) (board_of rest) (names_few rest)) tt)
+made_bounded : (number : Option ℕ) → IfSome number (λ n. (1 ≤ n) × (n ≤ 255)) → AreBounded (option_map Make number)
+made_bounded None within = tt
+made_bounded (Some n) within = record { few = omega arith; in_range = within }
 
-parsed_few : (words : List Text) → IsFew (parsed words)
-parsed_few [] = tt
-parsed_few (word ∷ rest) =
-    let board : Option Command = if bytes_eq (codes "cover") word then option_map Cover (board_of rest) else if bytes_eq (codes "svf") word then option_map Svf (board_of rest) else None in
-    either (bytes_eq (codes "chain") word) (chain_of rest) (if bytes_eq (codes "device") word then device_of rest else board) (chain_few rest)
-    (either (bytes_eq (codes "device") word) (device_of rest) board (device_few rest) (board_words_few word rest))
+make_bounded : (words : List Text) → AreBounded (make_of words)
+make_bounded [] = tt
+make_bounded (number ∷ []) = made_bounded (number_of 255 number) (number_within 255 number)
+make_bounded (number ∷ other ∷ others) = tt
 
--- the command of words has at most 257 names
-pub command_few : (words : List Text) (command : Option Lent) → option_map command_view command ≡ parsed words → IfSome command (λ c. length (names_of (command_view c)) ≤ 257)
+-- where there is a number, it is one of workers
+abbrev AreWorkers : Option ℕ → Type 0
+AreWorkers number = IfSome number (λ n. (1 ≤ n) × (n ≤ 64))
+
+diagnose_by : (log : Text) (names : BoardNames) (number : Option ℕ) → length (board_names names) ≤ 257 → AreWorkers number → AreBounded (option_map (λ n. Diagnose n log names) number)
+diagnose_by log names None few within = tt
+diagnose_by log names (Some n) few within = record { few = omega arith; in_range = within }
+
+diagnose_named : (log : Text) (number : Option ℕ) (names : Option BoardNames) → AreWorkers number → AreFew board_names names → AreBounded (option_and_then (λ board. option_map (λ n. Diagnose n log board) number) names)
+diagnose_named log number None within few = tt
+diagnose_named log number (Some names) within few = diagnose_by log names number few within
+
+diagnose_bounded : (words : List Text) → AreBounded (diagnose_of words)
+diagnose_bounded [] = tt
+diagnose_bounded (workers ∷ []) = tt
+diagnose_bounded (workers ∷ log ∷ names) = diagnose_named log (number_of 64 workers) (board_of names) (number_within 64 workers) (board_few names)
+
+log_bounded : (word : Text) (rest : List Text) → AreBounded (log_called word rest)
+unfolding log_called
+log_bounded word rest = either (bytes_eq (codes "diagnose") word) (diagnose_of rest) None (diagnose_bounded rest) tt
+
+board_bounded : (word : Text) (rest : List Text) → AreBounded (board_called word rest)
+unfolding board_called
+board_bounded word rest =
+    let make : Option Command = if bytes_eq (codes "make") word then make_of rest else log_called word rest in
+    let svf : Option Command = if bytes_eq (codes "svf") word then option_map Svf (board_of rest) else make in
+    either (bytes_eq (codes "cover") word) (option_map Cover (board_of rest)) svf (named board_names Cover (λ names few. record { few = one_more _ few; in_range = tt }) (board_of rest) (board_few rest))
+    (either (bytes_eq (codes "svf") word) (option_map Svf (board_of rest)) make (named board_names Svf (λ names few. record { few = one_more _ few; in_range = tt }) (board_of rest) (board_few rest))
+    (either (bytes_eq (codes "make") word) (make_of rest) (log_called word rest) (make_bounded rest) (log_bounded word rest)))
+
+parsed_bounded : (words : List Text) → AreBounded (parsed words)
+parsed_bounded [] = tt
+parsed_bounded (word ∷ rest) =
+    let device : Option Command = if bytes_eq (codes "device") word then device_of rest else board_called word rest in
+    let ident : Option Command = if bytes_eq (codes "ident") word then option_map Ident (chain_of rest) else device in
+    either (bytes_eq (codes "chain") word) (option_map Chain (chain_of rest)) ident (named chain_names Chain (λ names few. record { few = one_more _ few; in_range = tt }) (chain_of rest) (chain_few rest))
+    (either (bytes_eq (codes "ident") word) (option_map Ident (chain_of rest)) device (named chain_names Ident (λ names few. record { few = one_more _ few; in_range = tt }) (chain_of rest) (chain_few rest))
+    (either (bytes_eq (codes "device") word) (device_of rest) (board_called word rest) (device_bounded rest) (board_bounded word rest)))
+
+-- the command of words
+pub command_bounded : (words : List Text) (command : Option Lent) → option_map command_view command ≡ parsed words → IfSome command (λ c. IsBounded (command_view c))
+command_bounded words None is = tt
+command_bounded words (Some command) is = subst AreBounded (sym is) (parsed_bounded words)
+
+pub command_few : (words : List Text) (command : Option Lent) → option_map command_view command ≡ parsed words → IfSome command (λ c. length (names_of (command_view c)) ≤ 258)
 command_few words None is = tt
-command_few words (Some command) is = subst IsFew (sym is) (parsed_few words)
+command_few words (Some command) is = (command_bounded words (Some command) is).few
+
+pub command_number : (words : List Text) (command : Option Lent) → option_map command_view command ≡ parsed words → IfSome command (λ c. HasNumber (command_view c))
+command_number words None is = tt
+command_number words (Some command) is = (command_bounded words (Some command) is).in_range

@@ -1,4 +1,7 @@
 pub mod PlainLemmas
 pub mod WalkLemmas
 pub mod Parses
+pub mod NumberLemmas
 pub mod FewLemmas
+pub mod RefusedLemmas
+mod Samples

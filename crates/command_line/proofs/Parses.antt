@@ -1,5 +1,5 @@
 -- What `clap` makes of plain words.
-use Rattle.std.proofs.Common.{◌≡◌, refl, sym, ap, subst, ◌∙◌, true, false, Bool, List, [], ◌∷◌, codes, ℕ, cond, Option, Some, None, inl, inr, ◌⊎◌}
+use Rattle.std.proofs.Common.{◌≡◌, refl, sym, ap, subst, ◌∙◌, true, false, Bool, List, [], ◌∷◌, codes, ℕ, cond, Some, None, inl, inr, ◌⊎◌}
 use Rattle.std.specs.Prelude.{fold, is_some, ◌||◌, find, unwrap_or, option_map, if◌then◌else◌, slice_get}
 use Rattle.std.specs.Str.{bytes_eq}
 use Rattle.std.proofs.lemmas.Slice.Eq.{bytes_eq-Decides}
@@ -12,7 +12,7 @@ use Rattle.std.specs.List.{list_all}
 use Rattle.clap.specs.Faults.{other_fault, step_fault, fault_of, level_fault, entered_fault, walk_fault, turn_fault, check_fault, is_simple_and_free}
 use Rattle.clap.proofs.OnLiterals.{clap_on_literals}
 use Rattle.command_line.specs.Words.{is_plain}
-use Rattle.command_line.specs.App.{btest_app, board_app, top_app, names_rule, has_one, has_two, is_one, is_accepted}
+use Rattle.command_line.specs.App.{btest_app, chain_app, single_app, board_app, log_app, top_app, names_rule, has_one, has_two, has_four, is_one, is_accepted}
 use Rattle.command_line.proofs.PlainLemmas.{Plain, AllPlain, all_plain, idle_met, plain_fault, before_one, before_more, one_walked, one_turn, more_walked, more_turn}
 use Rattle.command_line.proofs.WalkLemmas.{stopped_at, stopped_walk, stopped_fault, end_fault, fault_from, level_parts, goes_on, row_of, more_rows, TakesNames, names_fault, no_default_fault, no_default}
 
@@ -48,94 +48,122 @@ entered_at name rest walks passes below =
     ∙ ap (λ k. or_else k (whole_fault (walk top.rules names nothing_held (name ∷ rest)))) passes
     ∙ ap whole_fault walks ∙ below ∙ ap (λ k. or_else k []) (level_parts (shape_of name) nothing_held rest)
 
-chain_entered : (rest : List Text) → fault_of btest_app (codes "chain" ∷ rest) ≡ or_else (fault_from (shape_of (codes "chain")) (walk_from nothing_held) rest) []
+-- a subcommand, as built
+abbrev shape_in : App → Shape
+shape_in app = unwrap_or (slice_get (built (with_subcommand top_app app.top)).subs 0) top
+
+-- a command of this name is entered with the words behind it
+abbrev IsEntered : Text → Shape → Type 0
+IsEntered name shape = (rest : List Text) → fault_of btest_app (name ∷ rest) ≡ or_else (fault_from shape (walk_from nothing_held) rest) []
+
+-- a command that is about a chain, whatever its name
+abbrev chain_shape : Text → Shape
+chain_shape name = shape_in (chain_app name)
+
+chain_entered : IsEntered (codes "chain") (chain_shape (codes "chain"))
 unfolding clap_on_literals
 chain_entered rest = entered_at (codes "chain") rest (stopped_walk top.rules names (walk_from nothing_held) (codes "chain") [] rest) (stopped_fault top names (walk_from nothing_held) (codes "chain") [] rest) refl
 
-device_entered : (rest : List Text) → fault_of btest_app (codes "device" ∷ rest) ≡ or_else (fault_from (shape_of (codes "device")) (walk_from nothing_held) rest) []
+ident_entered : IsEntered (codes "ident") (chain_shape (codes "ident"))
 unfolding clap_on_literals
-device_entered rest = entered_at (codes "device") rest (stopped_walk top.rules names (walk_from nothing_held) (codes "device") [] rest) (stopped_fault top names (walk_from nothing_held) (codes "device") [] rest) refl
-
--- `chain`
-abbrev chain_shape : Shape
-chain_shape = shape_of (codes "chain")
+ident_entered rest = entered_at (codes "ident") rest (stopped_walk top.rules names (walk_from nothing_held) (codes "ident") [] rest) (stopped_fault top names (walk_from nothing_held) (codes "ident") [] rest) refl
 
 -- where the walk stands after a first name, which is the value of this argument
 abbrev after_one : Text → Text → Walk
 after_one id word = before_one (record { rows = []; pending = Some (id, word ∷ []); skip = 0 }) 2
 
--- where the walk of `chain` stands after names
+-- where the walk of such a command stands after names
 abbrev chain_names : Text → List Row → Text → Walk
 chain_names file tail x = before_more (record { rows = row_of (codes "CHAIN") file ∷ tail; pending = Some (codes "BSDL", x ∷ []); skip = 0 }) 2
 
 abbrev names_in : Shape → ℕ → Rule
 names_in s place = unwrap_or (slice_get s.rules place) names_rule
 
-chain_takes : (file : Text) → TakesNames chain_shape (chain_names file)
+chain_takes : (name file : Text) → TakesNames (chain_shape name) (chain_names file)
 unfolding clap_on_literals
-chain_takes file = record {
-  step = λ tail x y p. more_walked chain_shape (chain_names file tail x).held 2 y p;
-  passes = λ tail x y p. more_turn chain_shape (chain_names file tail x).held 2 y p;
-  ends = λ tail x.
-      ap (λ k. or_else (or_else k []) (check_fault chain_shape (with_default (row_of (codes "CHAIN") file ∷ more_rows x tail) (names_in chain_shape 1)) false)) (no_default_fault (names_in chain_shape 1) (row_of (codes "CHAIN") file ∷ more_rows x tail) refl)
-      ∙ ap (λ rs. check_fault chain_shape rs false) (no_default (names_in chain_shape 1) (row_of (codes "CHAIN") file ∷ more_rows x tail) refl);
-}
+chain_takes name file =
+    let rows : List Row → Text → List Row = λ tail x. row_of (codes "CHAIN") file ∷ more_rows x tail in
+    record {
+      step = λ tail x y p. more_walked (chain_shape name) (chain_names file tail x).held 2 y p;
+      passes = λ tail x y p. more_turn (chain_shape name) (chain_names file tail x).held 2 y p;
+      ends = λ tail x.
+          ap (λ k. or_else (or_else k []) (check_fault (chain_shape name) (with_default (rows tail x) (names_in (chain_shape name) 1)) false)) (no_default_fault (names_in (chain_shape name) 1) (rows tail x) refl)
+          ∙ ap (λ rs. check_fault (chain_shape name) rs false) (no_default (names_in (chain_shape name) 1) (rows tail x) refl);
+    }
 
-chain_none : fault_from chain_shape (walk_from nothing_held) [] ≡ kind.MissingRequiredArgument ∷ []
+chain_none : (name : Text) → fault_from (chain_shape name) (walk_from nothing_held) [] ≡ kind.MissingRequiredArgument ∷ []
 unfolding clap_on_literals
-chain_none = refl
+chain_none name = refl
 
-chain_one : (file : Text) (rest : List Text) → AllPlain rest → fault_from chain_shape (after_one (codes "CHAIN") file) rest ≡ []
+chain_one : (name file : Text) (rest : List Text) → AllPlain rest → fault_from (chain_shape name) (after_one (codes "CHAIN") file) rest ≡ []
 unfolding clap_on_literals
-chain_one file [] all = refl
-chain_one file (x ∷ rest) all =
-    goes_on chain_shape (after_one (codes "CHAIN") file) (chain_names file [] x) x rest (one_turn chain_shape (after_one (codes "CHAIN") file).held 2 x all.0) (one_walked chain_shape (after_one (codes "CHAIN") file).held 2 x all.0)
-    ∙ names_fault chain_shape (chain_names file) (chain_takes file) [] x rest all.1
+chain_one name file [] all = refl
+chain_one name file (x ∷ rest) all =
+    let w : Walk = after_one (codes "CHAIN") file in
+    goes_on (chain_shape name) w (chain_names file [] x) x rest (one_turn (chain_shape name) w.held 2 x all.0) (one_walked (chain_shape name) w.held 2 x all.0)
+    ∙ names_fault (chain_shape name) (chain_names file) (chain_takes name file) [] x rest all.1
 
-chain_file : (file : Text) (rest : List Text) → Plain file → fault_from chain_shape (walk_from nothing_held) (file ∷ rest) ≡ fault_from chain_shape (after_one (codes "CHAIN") file) rest
+chain_file : (name file : Text) (rest : List Text) → Plain file → fault_from (chain_shape name) (walk_from nothing_held) (file ∷ rest) ≡ fault_from (chain_shape name) (after_one (codes "CHAIN") file) rest
 unfolding clap_on_literals
-chain_file file rest p = goes_on chain_shape (walk_from nothing_held) (after_one (codes "CHAIN") file) file rest (one_turn chain_shape nothing_held 1 file p) (one_walked chain_shape nothing_held 1 file p)
+chain_file name file rest p = goes_on (chain_shape name) (walk_from nothing_held) (after_one (codes "CHAIN") file) file rest (one_turn (chain_shape name) nothing_held 1 file p) (one_walked (chain_shape name) nothing_held 1 file p)
 
 -- whether there is no fault
 abbrev passes : Kinds → Bool
 passes [] = true
 passes (k ∷ ks) = false
 
-chain_exact : (rest : List Text) → AllPlain rest → passes (fault_of btest_app (codes "chain" ∷ rest)) ≡ has_one rest
-chain_exact [] all = ap passes (chain_entered [] ∙ ap (λ k. or_else k []) chain_none)
-chain_exact (file ∷ rest) all = ap passes (chain_entered (file ∷ rest) ∙ ap (λ k. or_else k []) (chain_file file rest all.0 ∙ chain_one file rest all.1))
+chain_exact : (name : Text) → IsEntered name (chain_shape name) → (rest : List Text) → AllPlain rest → passes (fault_of btest_app (name ∷ rest)) ≡ has_one rest
+chain_exact name enters [] all = ap passes (enters [] ∙ ap (λ k. or_else k []) (chain_none name))
+chain_exact name enters (file ∷ rest) all = ap passes (enters (file ∷ rest) ∙ ap (λ k. or_else k []) (chain_file name file rest all.0 ∙ chain_one name file rest all.1))
 
--- `device`
-abbrev device_shape : Shape
-device_shape = shape_of (codes "device")
+-- a command that takes one word, whatever its name and that of its argument
+abbrev single_shape : Text → Text → Shape
+single_shape name id = shape_in (single_app name id)
 
-device_none : fault_from device_shape (walk_from nothing_held) [] ≡ kind.MissingRequiredArgument ∷ []
+device_entered : IsEntered (codes "device") (single_shape (codes "device") (codes "BSDL"))
 unfolding clap_on_literals
-device_none = refl
+device_entered rest = entered_at (codes "device") rest (stopped_walk top.rules names (walk_from nothing_held) (codes "device") [] rest) (stopped_fault top names (walk_from nothing_held) (codes "device") [] rest) refl
 
-device_file : (file : Text) (rest : List Text) → Plain file → fault_from device_shape (walk_from nothing_held) (file ∷ rest) ≡ fault_from device_shape (after_one (codes "BSDL") file) rest
+make_entered : IsEntered (codes "make") (single_shape (codes "make") (codes "NUMBER"))
 unfolding clap_on_literals
-device_file file rest p = goes_on device_shape (walk_from nothing_held) (after_one (codes "BSDL") file) file rest (one_turn device_shape nothing_held 1 file p) (one_walked device_shape nothing_held 1 file p)
+make_entered rest = entered_at (codes "make") rest (stopped_walk top.rules names (walk_from nothing_held) (codes "make") [] rest) (stopped_fault top names (walk_from nothing_held) (codes "make") [] rest) refl
 
-device_one : (file : Text) → fault_from device_shape (after_one (codes "BSDL") file) [] ≡ []
+single_none : (name id : Text) → fault_from (single_shape name id) (walk_from nothing_held) [] ≡ kind.MissingRequiredArgument ∷ []
 unfolding clap_on_literals
-device_one file = refl
+single_none name id = refl
+
+single_first : (name id word : Text) (rest : List Text) → Plain word → fault_from (single_shape name id) (walk_from nothing_held) (word ∷ rest) ≡ fault_from (single_shape name id) (after_one id word) rest
+unfolding clap_on_literals
+single_first name id word rest p = goes_on (single_shape name id) (walk_from nothing_held) (after_one id word) word rest (one_turn (single_shape name id) nothing_held 1 word p) (one_walked (single_shape name id) nothing_held 1 word p)
+
+-- one word is all that the command needs
+abbrev TakesOne : Text → Text → Type 0
+TakesOne name id = (word : Text) → fault_from (single_shape name id) (after_one id word) [] ≡ []
+
+device_one : TakesOne (codes "device") (codes "BSDL")
+unfolding clap_on_literals
+device_one word = refl
+
+make_one : TakesOne (codes "make") (codes "NUMBER")
+unfolding clap_on_literals
+make_one word = refl
 
 -- another word has no place
-device_more : (file x : Text) (rest : List Text) → Plain x → fault_from device_shape (after_one (codes "BSDL") file) (x ∷ rest) ≡ kind.UnknownArgument ∷ []
+single_more : (name id word x : Text) (rest : List Text) → Plain x → fault_from (single_shape name id) (after_one id word) (x ∷ rest) ≡ kind.UnknownArgument ∷ []
 unfolding clap_on_literals
-device_more file x rest p =
-    let w : Walk = after_one (codes "BSDL") file in
-    ap (λ k. or_else (or_else k (walk_fault device_shape [] (walked device_shape.rules [] w x) rest)) (end_fault device_shape (fold (walked device_shape.rules []) (walked device_shape.rules [] w x) rest) false [])) (one_turn device_shape w.held 2 x p)
+single_more name id word x rest p =
+    let s : Shape = single_shape name id in
+    let w : Walk = after_one id word in
+    ap (λ k. or_else (or_else k (walk_fault s [] (walked s.rules [] w x) rest)) (end_fault s (fold (walked s.rules []) (walked s.rules [] w x) rest) false [])) (one_turn s w.held 2 x p)
 
-device_exact : (rest : List Text) → AllPlain rest → passes (fault_of btest_app (codes "device" ∷ rest)) ≡ is_one rest
-device_exact [] all = ap passes (device_entered [] ∙ ap (λ k. or_else k []) device_none)
-device_exact (file ∷ []) all = ap passes (device_entered (file ∷ []) ∙ ap (λ k. or_else k []) (device_file file [] all.0 ∙ device_one file))
-device_exact (file ∷ x ∷ rest) all = ap passes (device_entered (file ∷ x ∷ rest) ∙ ap (λ k. or_else k []) (device_file file (x ∷ rest) all.0 ∙ device_more file x rest all.1.0))
+single_exact : (name id : Text) → IsEntered name (single_shape name id) → TakesOne name id → (rest : List Text) → AllPlain rest → passes (fault_of btest_app (name ∷ rest)) ≡ is_one rest
+single_exact name id enters takes [] all = ap passes (enters [] ∙ ap (λ k. or_else k []) (single_none name id))
+single_exact name id enters takes (word ∷ []) all = ap passes (enters (word ∷ []) ∙ ap (λ k. or_else k []) (single_first name id word [] all.0 ∙ takes word))
+single_exact name id enters takes (word ∷ x ∷ rest) all = ap passes (enters (word ∷ x ∷ rest) ∙ ap (λ k. or_else k []) (single_first name id word (x ∷ rest) all.0 ∙ single_more name id word x rest all.1.0))
 
--- a command that is about a board, as built, whatever its name
+-- a command that is about a board, whatever its name
 abbrev board_shape : Text → Shape
-board_shape name = unwrap_or (slice_get (built (with_subcommand top_app (board_app name).top)).subs 0) top
+board_shape name = shape_in (board_app name)
 
 -- where the walk stands after two names
 abbrev after_two : Text → Text → Walk
@@ -182,54 +210,154 @@ board_second name chain nets rest p =
     let w : Walk = after_one (codes "CHAIN") chain in
     goes_on (board_shape name) w (after_two chain nets) nets rest (one_turn (board_shape name) w.held 2 nets p) (one_walked (board_shape name) w.held 2 nets p)
 
--- a command of this name is entered with the words behind it
-abbrev IsEntered : Text → Type 0
-IsEntered name = (rest : List Text) → fault_of btest_app (name ∷ rest) ≡ or_else (fault_from (board_shape name) (walk_from nothing_held) rest) []
-
-cover_entered : IsEntered (codes "cover")
+cover_entered : IsEntered (codes "cover") (board_shape (codes "cover"))
 unfolding clap_on_literals
 cover_entered rest = entered_at (codes "cover") rest (stopped_walk top.rules names (walk_from nothing_held) (codes "cover") [] rest) (stopped_fault top names (walk_from nothing_held) (codes "cover") [] rest) refl
 
-svf_entered : IsEntered (codes "svf")
+svf_entered : IsEntered (codes "svf") (board_shape (codes "svf"))
 unfolding clap_on_literals
 svf_entered rest = entered_at (codes "svf") rest (stopped_walk top.rules names (walk_from nothing_held) (codes "svf") [] rest) (stopped_fault top names (walk_from nothing_held) (codes "svf") [] rest) refl
 
-board_exact : (name : Text) → IsEntered name → (rest : List Text) → AllPlain rest → passes (fault_of btest_app (name ∷ rest)) ≡ has_two rest
+board_exact : (name : Text) → IsEntered name (board_shape name) → (rest : List Text) → AllPlain rest → passes (fault_of btest_app (name ∷ rest)) ≡ has_two rest
 board_exact name enters [] all = ap passes (enters [] ∙ ap (λ k. or_else k []) (board_none name))
 board_exact name enters (chain ∷ []) all = ap passes (enters (chain ∷ []) ∙ ap (λ k. or_else k []) (board_first name chain [] all.0 ∙ board_one name chain))
 board_exact name enters (chain ∷ nets ∷ rest) all =
     ap passes (enters (chain ∷ nets ∷ rest) ∙ ap (λ k. or_else k []) (board_first name chain (nets ∷ rest) all.0 ∙ board_second name chain nets rest all.1.0 ∙ board_two name chain nets rest all.1.1))
+
+-- a command that is about a response log, whatever its name
+abbrev log_shape : Text → Shape
+log_shape name = shape_in (log_app name)
+
+-- where the walk stands after two, three and four words
+abbrev log_two : Text → Text → Walk
+log_two workers log = before_one (record { rows = row_of (codes "WORKERS") workers ∷ []; pending = Some (codes "LOG", log ∷ []); skip = 0 }) 3
+
+abbrev log_three : Text → Text → Text → Walk
+log_three workers log chain =
+    before_one (record { rows = row_of (codes "WORKERS") workers ∷ row_of (codes "LOG") log ∷ []; pending = Some (codes "CHAIN", chain ∷ []); skip = 0 }) 4
+
+-- the rows of the words before the net file, then others
+abbrev log_rows : Text → Text → Text → List Row → List Row
+log_rows workers log chain tail = row_of (codes "WORKERS") workers ∷ row_of (codes "LOG") log ∷ row_of (codes "CHAIN") chain ∷ tail
+
+abbrev log_four : Text → Text → Text → Text → Walk
+log_four workers log chain nets = before_one (record { rows = log_rows workers log chain []; pending = Some (codes "NETS", nets ∷ []); skip = 0 }) 5
+
+-- where the walk stands after more words
+abbrev log_names : Text → Text → Text → Text → List Row → Text → Walk
+log_names workers log chain nets tail x =
+    before_more (record { rows = log_rows workers log chain (row_of (codes "NETS") nets ∷ tail); pending = Some (codes "BSDL", x ∷ []); skip = 0 }) 5
+
+log_takes : (name workers log chain nets : Text) → TakesNames (log_shape name) (log_names workers log chain nets)
+unfolding clap_on_literals
+log_takes name workers log chain nets =
+    let rows : List Row → Text → List Row = λ tail x. log_rows workers log chain (row_of (codes "NETS") nets ∷ more_rows x tail) in
+    record {
+      step = λ tail x y p. more_walked (log_shape name) (log_names workers log chain nets tail x).held 5 y p;
+      passes = λ tail x y p. more_turn (log_shape name) (log_names workers log chain nets tail x).held 5 y p;
+      ends = λ tail x.
+          ap (λ k. or_else (or_else k []) (check_fault (log_shape name) (with_default (rows tail x) (names_in (log_shape name) 4)) false)) (no_default_fault (names_in (log_shape name) 4) (rows tail x) refl)
+          ∙ ap (λ rs. check_fault (log_shape name) rs false) (no_default (names_in (log_shape name) 4) (rows tail x) refl);
+    }
+
+-- fewer than four words are too few
+log_needs_one : (name : Text) → fault_from (log_shape name) (walk_from nothing_held) [] ≡ kind.MissingRequiredArgument ∷ []
+unfolding clap_on_literals
+log_needs_one name = refl
+
+log_needs_two : (name workers : Text) → fault_from (log_shape name) (after_one (codes "WORKERS") workers) [] ≡ kind.MissingRequiredArgument ∷ []
+unfolding clap_on_literals
+log_needs_two name workers = refl
+
+log_needs_three : (name workers log : Text) → fault_from (log_shape name) (log_two workers log) [] ≡ kind.MissingRequiredArgument ∷ []
+unfolding clap_on_literals
+log_needs_three name workers log = refl
+
+log_needs_four : (name workers log chain : Text) → fault_from (log_shape name) (log_three workers log chain) [] ≡ kind.MissingRequiredArgument ∷ []
+unfolding clap_on_literals
+log_needs_four name workers log chain = refl
+
+log_more : (name workers log chain nets : Text) (rest : List Text) → AllPlain rest → fault_from (log_shape name) (log_four workers log chain nets) rest ≡ []
+unfolding clap_on_literals
+log_more name workers log chain nets [] all = refl
+log_more name workers log chain nets (x ∷ rest) all =
+    let w : Walk = log_four workers log chain nets in
+    goes_on (log_shape name) w (log_names workers log chain nets [] x) x rest (one_turn (log_shape name) w.held 5 x all.0) (one_walked (log_shape name) w.held 5 x all.0)
+    ∙ names_fault (log_shape name) (log_names workers log chain nets) (log_takes name workers log chain nets) [] x rest all.1
+
+log_first : (name workers : Text) (rest : List Text) → Plain workers → fault_from (log_shape name) (walk_from nothing_held) (workers ∷ rest) ≡ fault_from (log_shape name) (after_one (codes "WORKERS") workers) rest
+unfolding clap_on_literals
+log_first name workers rest p = goes_on (log_shape name) (walk_from nothing_held) (after_one (codes "WORKERS") workers) workers rest (one_turn (log_shape name) nothing_held 1 workers p) (one_walked (log_shape name) nothing_held 1 workers p)
+
+log_second : (name workers log : Text) (rest : List Text) → Plain log → fault_from (log_shape name) (after_one (codes "WORKERS") workers) (log ∷ rest) ≡ fault_from (log_shape name) (log_two workers log) rest
+unfolding clap_on_literals
+log_second name workers log rest p =
+    let w : Walk = after_one (codes "WORKERS") workers in
+    goes_on (log_shape name) w (log_two workers log) log rest (one_turn (log_shape name) w.held 2 log p) (one_walked (log_shape name) w.held 2 log p)
+
+log_third : (name workers log chain : Text) (rest : List Text) → Plain chain → fault_from (log_shape name) (log_two workers log) (chain ∷ rest) ≡ fault_from (log_shape name) (log_three workers log chain) rest
+unfolding clap_on_literals
+log_third name workers log chain rest p =
+    let w : Walk = log_two workers log in
+    goes_on (log_shape name) w (log_three workers log chain) chain rest (one_turn (log_shape name) w.held 3 chain p) (one_walked (log_shape name) w.held 3 chain p)
+
+log_fourth : (name workers log chain nets : Text) (rest : List Text) → Plain nets → fault_from (log_shape name) (log_three workers log chain) (nets ∷ rest) ≡ fault_from (log_shape name) (log_four workers log chain nets) rest
+unfolding clap_on_literals
+log_fourth name workers log chain nets rest p =
+    let w : Walk = log_three workers log chain in
+    goes_on (log_shape name) w (log_four workers log chain nets) nets rest (one_turn (log_shape name) w.held 4 nets p) (one_walked (log_shape name) w.held 4 nets p)
+
+diagnose_entered : IsEntered (codes "diagnose") (log_shape (codes "diagnose"))
+unfolding clap_on_literals
+diagnose_entered rest = entered_at (codes "diagnose") rest (stopped_walk top.rules names (walk_from nothing_held) (codes "diagnose") [] rest) (stopped_fault top names (walk_from nothing_held) (codes "diagnose") [] rest) refl
+
+-- whether there is no fault in the words behind the name
+log_fault : (name : Text) (rest : List Text) → AllPlain rest → passes (fault_from (log_shape name) (walk_from nothing_held) rest) ≡ has_four rest
+log_fault name [] all = ap passes (log_needs_one name)
+log_fault name (workers ∷ []) all = ap passes (log_first name workers [] all.0 ∙ log_needs_two name workers)
+log_fault name (workers ∷ log ∷ []) all =
+    ap passes (log_first name workers (log ∷ []) all.0 ∙ log_second name workers log [] all.1.0 ∙ log_needs_three name workers log)
+log_fault name (workers ∷ log ∷ chain ∷ []) all =
+    ap passes (log_first name workers (log ∷ chain ∷ []) all.0 ∙ log_second name workers log (chain ∷ []) all.1.0 ∙ log_third name workers log chain [] all.1.1.0 ∙ log_needs_four name workers log chain)
+log_fault name (workers ∷ log ∷ chain ∷ nets ∷ rest) all =
+    ap passes (
+    log_first name workers (log ∷ chain ∷ nets ∷ rest) all.0 ∙ log_second name workers log (chain ∷ nets ∷ rest) all.1.0 ∙ log_third name workers log chain (nets ∷ rest) all.1.1.0
+    ∙ log_fourth name workers log chain nets rest all.1.1.1.0 ∙ log_more name workers log chain nets rest all.1.1.1.1
+    )
+
+-- nothing comes after the words of a level
+passes_alone : (k : Kinds) → passes (or_else k []) ≡ passes k
+passes_alone [] = refl
+passes_alone (k ∷ ks) = refl
+
+log_exact : (name : Text) → IsEntered name (log_shape name) → (rest : List Text) → AllPlain rest → passes (fault_of btest_app (name ∷ rest)) ≡ has_four rest
+log_exact name enters rest all = ap passes (enters rest) ∙ passes_alone (fault_from (log_shape name) (walk_from nothing_held) rest) ∙ log_fault name rest all
 
 -- no word, and another word
 none_fault : fault_of btest_app [] ≡ kind.MissingSubcommand ∷ []
 unfolding clap_on_literals
 none_fault = refl
 
-pub record IsOther (w : Text) : Type 0 where
-  pub chain : bytes_eq (codes "chain") w ≡ false
-  pub device : bytes_eq (codes "device") w ≡ false
-  pub cover : bytes_eq (codes "cover") w ≡ false
-  pub svf : bytes_eq (codes "svf") w ≡ false
+-- the word is the name of none of these
+abbrev IsOther : Text → Names → Type 0
+IsOther w [] = Unit {0}
+IsOther w (name ∷ others) = (answers_to w name ≡ false) × IsOther w others
 
--- the subcommand, where the word is its name
-abbrev met : Text → Bool → Option (Text × List Text) → Option (Text × List Text)
-met name t others = cond (t || false) (Some (name, [])) others
+none_named : (w : Text) (all : Names) → IsOther w all → find (answers_to w) all ≡ None
+none_named w [] other = refl
+none_named w (name ∷ others) other = ap (λ t. cond t (Some name) (find (answers_to w) others)) other.0 ∙ none_named w others other.1
 
-no_subcommand : (w : Text) → IsOther w → subcommand_met names idle w ≡ None
-no_subcommand w other =
-    ap (λ t. option_map (λ (s : Text × List Text). s.0) (met (codes "chain") t (met (codes "device") (bytes_eq (codes "device") w) (met (codes "cover") (bytes_eq (codes "cover") w) (met (codes "svf") (bytes_eq (codes "svf") w) None))))) other.chain
-    ∙ ap (λ t. option_map (λ (s : Text × List Text). s.0) (met (codes "device") t (met (codes "cover") (bytes_eq (codes "cover") w) (met (codes "svf") (bytes_eq (codes "svf") w) None)))) other.device
-    ∙ ap (λ t. option_map (λ (s : Text × List Text). s.0) (met (codes "cover") t (met (codes "svf") (bytes_eq (codes "svf") w) None))) other.cover
-    ∙ ap (λ t. option_map (λ (s : Text × List Text). s.0) (met (codes "svf") t None)) other.svf
+no_subcommand : (w : Text) → IsOther w names → subcommand_met names idle w ≡ None
+no_subcommand w other = ap (λ s. option_map (λ (s : Text × List Text). s.0) s) (none_named w names other)
 
-other_turn : (w : Text) → Plain w → IsOther w → turn_fault top names (walk_from nothing_held) w ≡ kind.UnknownArgument ∷ kind.InvalidSubcommand ∷ []
+other_turn : (w : Text) → Plain w → IsOther w names → turn_fault top names (walk_from nothing_held) w ≡ kind.UnknownArgument ∷ kind.InvalidSubcommand ∷ []
 unfolding clap_on_literals
 other_turn w p other =
     ap (λ o. or_else (other_fault top o w nothing_held) (step_fault top 1 (subcommand_or_other top.rules o idle 1 w nothing_held).0 (subcommand_or_other top.rules o idle 1 w nothing_held).1)) (no_subcommand w other)
     ∙ ap (λ k. or_else k (step_fault top 1 (word_met top.rules [] false idle 1 w nothing_held).0 (word_met top.rules [] false idle 1 w nothing_held).1)) (plain_fault top w nothing_held p)
     ∙ ap (λ m. step_fault top 1 m.0 m.1) (idle_met top.rules 1 w nothing_held p)
 
-other_exact : (w : Text) (rest : List Text) → Plain w → IsOther w → passes (fault_of btest_app (w ∷ rest)) ≡ false
+other_exact : (w : Text) (rest : List Text) → Plain w → IsOther w names → passes (fault_of btest_app (w ∷ rest)) ≡ false
 unfolding clap_on_literals
 other_exact w rest p other =
     ap (λ k. passes (or_else (or_else k (walk_fault top names (walked top.rules names (walk_from nothing_held) w) rest)) (whole_fault (walk top.rules names nothing_held (w ∷ rest))))) (other_turn w p other)
@@ -237,33 +365,53 @@ other_exact w rest p other =
 same_text : (a b : Text) → bytes_eq a b ≡ true → a ≡ b
 same_text a b e = (bytes_eq-Decides a b).0 e
 
--- the words begin with this name
-named : (name w : Text) (rest : List Text) (accepts : List Text → Bool) → bytes_eq name w ≡ true → passes (fault_of btest_app (name ∷ rest)) ≡ accepts rest → passes (fault_of btest_app (w ∷ rest)) ≡ accepts rest
-named name w rest accepts is exact = subst (λ (v : Text). passes (fault_of btest_app (v ∷ rest)) ≡ accepts rest) (same_text name w is) exact
+-- the words are accepted as this name says, where they begin with it, and else as others say
+abbrev Accepts : Text → List Text → Bool → Type 0
+Accepts w rest accepted = passes (fault_of btest_app (w ∷ rest)) ≡ accepted
 
-abbrev answer_by : (c d e f : Bool) → List Text → Bool
-answer_by c d e f rest = if c then has_one rest else if d then is_one rest else if e then has_two rest else if f then has_two rest else false
+named_by : (name w : Text) (rest : List Text) (accepted others : Bool) (b : Bool) → bytes_eq name w ≡ b → Accepts name rest accepted → (bytes_eq name w ≡ false → Accepts w rest others) → Accepts w rest (if b then accepted else others)
+named_by name w rest accepted others true test exact else_exact = subst (λ (v : Text). Accepts v rest accepted) (same_text name w test) exact
+named_by name w rest accepted others false test exact else_exact = else_exact test
 
--- the tests of the first word
-record IsTested (w : Text) (c d e f : Bool) : Type 0 where
-  chain : bytes_eq (codes "chain") w ≡ c
-  device : bytes_eq (codes "device") w ≡ d
-  cover : bytes_eq (codes "cover") w ≡ e
-  svf : bytes_eq (codes "svf") w ≡ f
+named : (name w : Text) (rest : List Text) (accepted others : Bool) → Accepts name rest accepted → (bytes_eq name w ≡ false → Accepts w rest others) → Accepts w rest (if bytes_eq name w then accepted else others)
+named name w rest accepted others exact else_exact = named_by name w rest accepted others (bytes_eq name w) refl exact else_exact
 
-first_word : (w : Text) (rest : List Text) → Plain w → AllPlain rest → (c d e f : Bool) → IsTested w c d e f → passes (fault_of btest_app (w ∷ rest)) ≡ answer_by c d e f rest
-first_word w rest p all true d e f is = named (codes "chain") w rest has_one is.chain (chain_exact rest all)
-first_word w rest p all false true e f is = named (codes "device") w rest is_one is.device (device_exact rest all)
-first_word w rest p all false false true f is = named (codes "cover") w rest has_two is.cover (board_exact (codes "cover") cover_entered rest all)
-first_word w rest p all false false false true is = named (codes "svf") w rest has_two is.svf (board_exact (codes "svf") svf_entered rest all)
-first_word w rest p all false false false false is = other_exact w rest p (record { chain = is.chain; device = is.device; cover = is.cover; svf = is.svf })
+-- a word that is not a name is not the name of the subcommand either
+no_name : (name w : Text) → bytes_eq name w ≡ false → answers_to w (name, []) ≡ false
+no_name name w e = ap (λ b. b || false) e
+
+first_word : (w : Text) (rest : List Text) → Plain w → AllPlain rest → Accepts w rest (is_accepted (w ∷ rest))
+unfolding clap_on_literals
+first_word w rest p all =
+    let is : Text → Bool = λ name. bytes_eq name w in
+    let if_diagnose : Bool = if is (codes "diagnose") then has_four rest else false in
+    let if_make : Bool = if is (codes "make") then is_one rest else if_diagnose in
+    let if_svf : Bool = if is (codes "svf") then has_two rest else if_make in
+    let if_cover : Bool = if is (codes "cover") then has_two rest else if_svf in
+    let if_device : Bool = if is (codes "device") then is_one rest else if_cover in
+    let if_ident : Bool = if is (codes "ident") then has_one rest else if_device in
+    named (codes "chain") w rest (has_one rest) if_ident (chain_exact (codes "chain") chain_entered rest all) (λ chain.
+    named (codes "ident") w rest (has_one rest) if_device (chain_exact (codes "ident") ident_entered rest all) (λ ident.
+    named (codes "device") w rest (is_one rest) if_cover (single_exact (codes "device") (codes "BSDL") device_entered device_one rest all) (λ device.
+    named (codes "cover") w rest (has_two rest) if_svf (board_exact (codes "cover") cover_entered rest all) (λ cover.
+    named (codes "svf") w rest (has_two rest) if_make (board_exact (codes "svf") svf_entered rest all) (λ svf.
+    named (codes "make") w rest (is_one rest) if_diagnose (single_exact (codes "make") (codes "NUMBER") make_entered make_one rest all) (λ make.
+    named (codes "diagnose") w rest (has_four rest) false (log_exact (codes "diagnose") diagnose_entered rest all) (λ diagnose.
+    other_exact w rest p (
+      no_name (codes "chain") w chain,
+      (
+        no_name (codes "ident") w ident,
+        (
+          no_name (codes "device") w device,
+          (no_name (codes "cover") w cover, (no_name (codes "svf") w svf, (no_name (codes "make") w make, (no_name (codes "diagnose") w diagnose, tt)))),
+        ),
+      ),
+    ))))))))
 
 -- the parse of plain words passes exactly where they are accepted
 pub exact : (ws : List Text) → AllPlain ws → passes (fault_of btest_app ws) ≡ is_accepted ws
 exact [] all = ap passes none_fault
-exact (w ∷ rest) all =
-    first_word w rest all.0 all.1 (bytes_eq (codes "chain") w) (bytes_eq (codes "device") w) (bytes_eq (codes "cover") w) (bytes_eq (codes "svf") w)
-    (record { chain = refl; device = refl; cover = refl; svf = refl })
+exact (w ∷ rest) all = first_word w rest all.0 all.1
 
 -- what an answer of the parse says of the words
 pub accepted_by : (a : App) (ws : List Text) → a ≡ btest_app → list_all is_plain ws ≡ true → (is_simple_and_free a ≡ true → fault_of a ws ≡ []) → true ≡ is_accepted ws

@@ -13,27 +13,44 @@ name_rule id = record (new_rule id) { required = true; action = Some Set }
 abbrev pub names_rule : Rule
 names_rule = record (new_rule (codes "BSDL")) { action = Some Append }
 
--- a chain file, and any number of BSDL texts
-abbrev pub chain_app : App
-chain_app = with_rule (with_rule (new_app (codes "chain")) (name_rule (codes "CHAIN"))) names_rule
+-- what is made of a chain: a chain file, and any number of BSDL texts
+abbrev pub chain_app : Text → App
+chain_app name = with_rule (with_rule (new_app name) (name_rule (codes "CHAIN"))) names_rule
 
--- a BSDL text
-abbrev pub device_app : App
-device_app = with_rule (new_app (codes "device")) (name_rule (codes "BSDL"))
+-- what takes one word: a BSDL text or a number
+abbrev pub single_app : Text → Text → App
+single_app name id = with_rule (new_app name) (name_rule id)
 
--- what is made of a board: a chain file, a net file, and any number of BSDL texts
+-- with the texts of a board: a chain file, a net file, and any number of BSDL texts
+abbrev pub with_board : App → App
+with_board app = with_rule (with_rule (with_rule app (name_rule (codes "CHAIN"))) (name_rule (codes "NETS"))) names_rule
+
+-- what is made of a board
 abbrev pub board_app : Text → App
-board_app name = with_rule (with_rule (with_rule (new_app name) (name_rule (codes "CHAIN"))) (name_rule (codes "NETS"))) names_rule
+board_app name = with_board (new_app name)
+
+-- what workers make of a response log: their number, the log, and the texts of its board
+abbrev pub log_app : Text → App
+log_app name = with_board (with_rule (with_rule (new_app name) (name_rule (codes "WORKERS"))) (name_rule (codes "LOG")))
 
 abbrev pub top_app : App
 top_app = on_top (λ s. record s { no_binary_name = true; subcommand_required = true; disable_help_flag = true; disable_help_subcommand = true }) (new_app (codes "btest"))
 
 -- the command with the subcommands that are about a chain or a device
 abbrev pub parts_app : App
-parts_app = with_subcommand (with_subcommand top_app chain_app.top) device_app.top
+parts_app =
+    with_subcommand (with_subcommand (with_subcommand top_app (chain_app (codes "chain")).top) (chain_app (codes "ident")).top)
+    (single_app (codes "device") (codes "BSDL")).top
 
+-- and with those that are about a board
+abbrev pub boards_app : App
+boards_app =
+    with_subcommand (with_subcommand (with_subcommand parts_app (board_app (codes "cover")).top) (board_app (codes "svf")).top)
+    (single_app (codes "make") (codes "NUMBER")).top
+
+-- and with those that are about a response log
 abbrev pub btest_app : App
-btest_app = with_subcommand (with_subcommand parts_app (board_app (codes "cover")).top) (board_app (codes "svf")).top
+btest_app = with_subcommand boards_app (log_app (codes "diagnose")).top
 
 abbrev pub has_one : List Text → Bool
 has_one [] = false
@@ -48,11 +65,22 @@ abbrev pub has_two : List Text → Bool
 has_two [] = false
 has_two (name ∷ names) = has_one names
 
+abbrev pub has_three : List Text → Bool
+has_three [] = false
+has_three (name ∷ names) = has_two names
+
+abbrev pub has_four : List Text → Bool
+has_four [] = false
+has_four (name ∷ names) = has_three names
+
 -- the words that `clap` accepts
 abbrev pub is_accepted : List Text → Bool
 is_accepted [] = false
 is_accepted (word ∷ rest) =
     if bytes_eq (codes "chain") word then has_one rest else
+    if bytes_eq (codes "ident") word then has_one rest else
     if bytes_eq (codes "device") word then is_one rest else
     if bytes_eq (codes "cover") word then has_two rest else
-    if bytes_eq (codes "svf") word then has_two rest else false
+    if bytes_eq (codes "svf") word then has_two rest else
+    if bytes_eq (codes "make") word then is_one rest else
+    if bytes_eq (codes "diagnose") word then has_four rest else false

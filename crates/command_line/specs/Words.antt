@@ -1,10 +1,17 @@
 -- The words of the command line.
-use Rattle.std.specs.Prelude.{ℕ, ◌==◌, List, [], ◌∷◌, length, nat_le, Bool, false, not, codes, Option, Some, None, option_map, if◌then◌else◌}
+use Rattle.std.specs.Prelude.{ℕ, ◌==◌, ◌≤◌, List, [], ◌∷◌, length, nat_le, Bool, false, not, ◌&&◌, codes, Option, Some, None, option_and_then, option_map, if◌then◌else◌}
+use Rattle.std.specs.Char.{is_ascii_digit}
 use Rattle.std.specs.List.{list_all}
 use Rattle.std.specs.Str.{bytes_eq}
+use Rattle.std.specs.Str.Parse.{digits_value}
 
 abbrev pub Text : Type 0
 Text = List ℕ
+
+-- the names of the texts of a chain: a chain file and BSDL texts
+pub record ChainNames : Type 0 where
+  pub chain : Text
+  pub bsdl : List Text
 
 -- the names of the texts of a board: a chain file, a net file and BSDL texts
 pub record BoardNames : Type 0 where
@@ -12,13 +19,18 @@ pub record BoardNames : Type 0 where
   pub nets : Text
   pub bsdl : List Text
 
--- What a command line asks for: the length test of a chain, with the names of a chain file and of BSDL texts; the listing of a device,
--- with the name of a BSDL text; or the coverage list or the test of a board, each with the names of the board's texts.
+-- What a command line asks for: the length test or the identity test of a chain, each with the names of the chain's texts; the listing of
+-- a device, with the name of a BSDL text; the coverage list or the test of a board, each with the names of the board's texts; the summary
+-- of a board that is made, with the number of its parts; or the diagnosis of a board, with the number of workers, the name of a response
+-- log and the names of the board's texts.
 pub data Command : Type 0 where
-  Chain : Text → List Text → Command
+  Chain : ChainNames → Command
+  Ident : ChainNames → Command
   Device : Text → Command
   Cover : BoardNames → Command
   Svf : BoardNames → Command
+  Make : ℕ → Command
+  Diagnose : ℕ → Text → BoardNames → Command
 
 -- a word is not empty and does not begin with `-`
 abbrev pub is_plain : Text → Bool
@@ -29,10 +41,19 @@ is_plain (b ∷ bs) = not (b == 45)
 abbrev pub with_names : {A : Type 0} → List Text → A → Option A
 with_names names value = if nat_le (length names) 255 then Some value else None
 
+-- a number is in this range, whose ends belong to it
+abbrev pub is_within : ℕ → ℕ → ℕ → Bool
+is_within least most n = nat_le least n && nat_le n most
+
+-- the number of a word of 1 to 20 decimal digits, where its value is from 1 to `most`
+abbrev pub number_of : ℕ → Text → Option ℕ
+number_of most word =
+    if list_all is_ascii_digit word && is_within 1 20 (length word) && is_within 1 most (digits_value 10 word) then Some (digits_value 10 word) else None
+
 -- a chain file, then any number of BSDL names
-abbrev pub chain_of : List Text → Option Command
+abbrev pub chain_of : List Text → Option ChainNames
 chain_of [] = None
-chain_of (chain ∷ names) = with_names names (Chain chain names)
+chain_of (chain ∷ names) = with_names names (record { chain = chain; bsdl = names })
 
 -- one BSDL name
 abbrev pub device_of : List Text → Option Command
@@ -46,17 +67,43 @@ board_of [] = None
 board_of (chain ∷ []) = None
 board_of (chain ∷ nets ∷ names) = with_names names (record { chain = chain; nets = nets; bsdl = names })
 
+-- one number of parts, from 1 to 255
+abbrev pub make_of : List Text → Option Command
+make_of [] = None
+make_of (number ∷ []) = option_map Make (number_of 255 number)
+make_of (number ∷ other ∷ others) = None
+
+-- a number of workers, from 1 to 64, a response log, a chain file and a net file, then any number of BSDL names
+abbrev pub diagnose_of : List Text → Option Command
+diagnose_of [] = None
+diagnose_of (workers ∷ []) = None
+diagnose_of (workers ∷ log ∷ names) = option_and_then (λ board. option_map (λ number. Diagnose number log board) (number_of 64 workers)) (board_of names)
+
+-- the command of this name that is about a response log
+unfoldable pub log_called : Text → List Text → Option Command
+log_called word rest = if bytes_eq (codes "diagnose") word then diagnose_of rest else None
+
+-- the command of this name that is about a board
+unfoldable pub board_called : Text → List Text → Option Command
+board_called word rest =
+    if bytes_eq (codes "cover") word then option_map Cover (board_of rest) else
+    if bytes_eq (codes "svf") word then option_map Svf (board_of rest) else
+    if bytes_eq (codes "make") word then make_of rest else log_called word rest
+
 abbrev pub parsed : List Text → Option Command
 parsed [] = None
 parsed (word ∷ rest) =
-    if bytes_eq (codes "chain") word then chain_of rest else
-    if bytes_eq (codes "device") word then device_of rest else
-    if bytes_eq (codes "cover") word then option_map Cover (board_of rest) else
-    if bytes_eq (codes "svf") word then option_map Svf (board_of rest) else None
+    if bytes_eq (codes "chain") word then option_map Chain (chain_of rest) else
+    if bytes_eq (codes "ident") word then option_map Ident (chain_of rest) else
+    if bytes_eq (codes "device") word then device_of rest else board_called word rest
 
 -- the command of these words, where they are in the grammar
 abbrev pub command_of : List Text → Option Command
 command_of words = if list_all is_plain words then parsed words else None
+
+-- the names of the texts of a chain, in their order
+abbrev pub chain_names : ChainNames → List Text
+chain_names names = names.chain ∷ names.bsdl
 
 -- the names of the texts of a board, in their order
 abbrev pub board_names : BoardNames → List Text
@@ -64,7 +111,16 @@ board_names names = names.chain ∷ names.nets ∷ names.bsdl
 
 -- the names of the texts that a command reads, in their order
 abbrev pub names_of : Command → List Text
-names_of (Chain chain names) = chain ∷ names
+names_of (Chain names) = chain_names names
+names_of (Ident names) = chain_names names
 names_of (Device name) = name ∷ []
 names_of (Cover names) = board_names names
 names_of (Svf names) = board_names names
+names_of (Make parts) = []
+names_of (Diagnose workers log names) = log ∷ board_names names
+
+-- the number of a command is in its range: a board that is to be made has 1 to 255 parts, and a diagnosis has 1 to 64 workers
+abbrev pub HasNumber : Command → Type 0
+HasNumber (Make parts) = (1 ≤ parts) × (parts ≤ 255)
+HasNumber (Diagnose workers log names) = (1 ≤ workers) × (workers ≤ 64)
+HasNumber other = Unit {0}

@@ -1,9 +1,10 @@
 //! The words of the command line, read by `clap`.
 #![tactic(auto)]
 
+mod number;
 mod words;
 
-pub use words::{BoardNames, Command, command_of};
+pub use words::{BoardNames, ChainNames, Command, command_of};
 
 #[cfg(test)]
 mod tests;

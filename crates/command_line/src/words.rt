@@ -4,10 +4,11 @@ ghost use Rattle.std.specs.List.{list_all};
 ghost use Rattle.clap.specs.Simple.{app_of};
 ghost use Rattle.clap.specs.Walk.{rule_of};
 ghost use Rattle.clap.specs.declared.builder.command.Command.TheViews.{out-Command as fields_of};
-ghost use Rattle.command_line.specs.Words.{is_plain, command_of, parsed, chain_of, device_of, board_of, names_of};
-ghost use Rattle.command_line.specs.CommandView.{board_view, command_view};
-ghost use Rattle.command_line.specs.App.{name_rule, names_rule, chain_app, device_app, board_app, top_app, parts_app, btest_app, is_accepted};
+ghost use Rattle.command_line.specs.Words.{is_plain, command_of, parsed, board_called, log_called, chain_of, device_of, board_of, make_of, diagnose_of, names_of, HasNumber};
+ghost use Rattle.command_line.specs.CommandView.{chain_view, board_view, command_view};
+ghost use Rattle.command_line.specs.App.{name_rule, names_rule, chain_app, single_app, with_board, board_app, log_app, top_app, parts_app, boards_app, btest_app, is_accepted};
 
+use crate::number::number_of;
 use clap::error::ErrorKind;
 use clap::{Arg, ArgAction};
 use std::alloc::{AllocError, Global};
@@ -15,11 +16,29 @@ use std::alloc::{AllocError, Global};
 /// The most names of BSDL texts.
 const MOST_NAMES: usize = 255;
 
+/// The most parts of a board that is made.
+const MOST_PARTS: u32 = 255;
+
+/// The most workers of a diagnosis.
+const MOST_WORKERS: u32 = 64;
+
+/// The names of the texts of a chain.
+#[derive(Clone, Copy)]
+pub struct ChainNames<'a> {
+    /// The chain file.
+    pub chain: &'a str,
+    /// The BSDL texts, at most 255.
+    pub bsdl: &'a [String],
+}
+
 /// The names of the texts of a board.
 #[derive(Clone, Copy)]
 pub struct BoardNames<'a> {
+    /// The chain file.
     pub chain: &'a str,
+    /// The net file.
     pub nets: &'a str,
+    /// The BSDL texts, at most 255.
     pub bsdl: &'a [String],
 }
 
@@ -27,19 +46,35 @@ pub struct BoardNames<'a> {
 #[derive(Clone, Copy)]
 pub enum Command<'a> {
     /// The text that tests the length of the chain.
-    Chain { chain: &'a str, bsdl: &'a [String] },
+    Chain(ChainNames<'a>),
+    /// The text that tests the identity of the devices in the chain.
+    Ident(ChainNames<'a>),
     /// The listing of a device.
-    Device { bsdl: &'a str },
+    Device {
+        bsdl: &'a str,
+    },
     /// The coverage list of a board.
     Cover(BoardNames<'a>),
     /// The text that tests a board.
     Svf(BoardNames<'a>),
+    /// The summary of a board that is made, of this many parts, from 1 to 255.
+    Make(u32),
+    /// The diagnosis of a board.
+    Diagnose {
+        /// The number of workers, from 1 to 64.
+        workers: u32,
+        /// The response log.
+        log: &'a str,
+        /// The names of the texts of the board.
+        board: BoardNames<'a>,
+    },
 }
 
-/// The command of the words, where they are in the grammar.
+/// The command of the words, where they are in the grammar. It fails only for want of memory.
 pub fn command_of<'a>(alloc: Global, words: &'a [String]) -> Result<Option<Command<'a>>, AllocError>
     ensures command { IfOk result (λ c. option_map command_view c ≡ command_of (map string_bytes words.entry.now)) }
-    ensures few { IfOk result (λ c. IfSome c (λ c. length (names_of (command_view c)) ≤ 257)) }
+    ensures few { IfOk result (λ c. IfSome c (λ c. length (names_of (command_view c)) ≤ 258)) }
+    ensures number { IfOk result (λ c. IfSome c (λ c. HasNumber (command_view c))) }
 {
     if are_plain(words) && is_accepted(alloc, words)? {
         Ok(parsed(words))
@@ -82,24 +117,50 @@ fn command_called<'a>(name: &str, words: &'a [String]) -> Option<Command<'a>>
     ensures { option_map command_view result ≡ parsed (name.now ∷ map string_bytes words.entry.now) }
 {
     if name == "chain" {
-        chain_of(words)
+        chain_of(words).map(Command::Chain)
+    } else if name == "ident" {
+        chain_of(words).map(Command::Ident)
     } else if name == "device" {
         device_of(words)
-    } else if name == "cover" {
+    } else {
+        board_called(name, words)
+    }
+}
+
+// The command of this name that is about a board, with these words.
+#[tactic(auto, unfolding(crate::specs::Words::board_called))]
+fn board_called<'a>(name: &str, words: &'a [String]) -> Option<Command<'a>>
+    ensures { option_map command_view result ≡ board_called name.now (map string_bytes words.entry.now) }
+{
+    if name == "cover" {
         board_of(words).map(Command::Cover)
     } else if name == "svf" {
         board_of(words).map(Command::Svf)
+    } else if name == "make" {
+        make_of(words)
+    } else {
+        log_called(name, words)
+    }
+}
+
+// The command of this name that is about a response log, with these words.
+#[tactic(auto, unfolding(crate::specs::Words::log_called))]
+fn log_called<'a>(name: &str, words: &'a [String]) -> Option<Command<'a>>
+    ensures { option_map command_view result ≡ log_called name.now (map string_bytes words.entry.now) }
+{
+    if name == "diagnose" {
+        diagnose_of(words)
     } else {
         None
     }
 }
 
-// `chain` with these words.
-fn chain_of<'a>(words: &'a [String]) -> Option<Command<'a>>
-    ensures { option_map command_view result ≡ chain_of (map string_bytes words.entry.now) }
+// The names of the texts of a chain, where these words are such names.
+fn chain_of<'a>(words: &'a [String]) -> Option<ChainNames<'a>>
+    ensures { option_map chain_view result ≡ chain_of (map string_bytes words.entry.now) }
 {
     match words {
-        [chain, bsdl @ ..] if bsdl.len() <= MOST_NAMES => Some(Command::Chain { chain, bsdl }),
+        [chain, bsdl @ ..] if bsdl.len() <= MOST_NAMES => Some(ChainNames { chain, bsdl }),
         _ => None,
     }
 }
@@ -126,6 +187,31 @@ fn board_of<'a>(words: &'a [String]) -> Option<BoardNames<'a>>
     }
 }
 
+// `make` with these words.
+fn make_of<'a>(words: &'a [String]) -> Option<Command<'a>>
+    ensures { option_map command_view result ≡ make_of (map string_bytes words.entry.now) }
+{
+    let [number] = words else { return None };
+    let parts = number_of(MOST_PARTS, number)?;
+    Some(Command::Make(parts))
+}
+
+// `diagnose` with these words.
+fn diagnose_of<'a>(words: &'a [String]) -> Option<Command<'a>>
+    ensures { option_map command_view result ≡ diagnose_of (map string_bytes words.entry.now) }
+{
+    let [workers, log, names @ ..] = words else {
+        return None;
+    };
+    let board = board_of(names)?;
+    let workers = number_of(MOST_WORKERS, workers)?;
+    Some(Command::Diagnose {
+        workers,
+        log,
+        board,
+    })
+}
+
 // The argument of one name that has to be there.
 fn name_arg<'a>(alloc: Global, id: &'a str) -> Arg<'a>
     ensures rule { rule_of result ≡ name_rule id.entry.now }
@@ -142,23 +228,43 @@ fn names_arg<'a>(alloc: Global) -> Arg<'a>
     Arg::new(alloc, "BSDL").action(ArgAction::Append)
 }
 
-// The command `chain`.
-fn chain_command<'a>(alloc: Global) -> Result<clap::Command<'a>, AllocError>
-    ensures app { IfOk result (λ c. app_of c ≡ chain_app) }
+// A command that is about a chain.
+fn chain_command<'a>(alloc: Global, name: &'a str) -> Result<clap::Command<'a>, AllocError>
+    ensures app { IfOk result (λ c. app_of c ≡ chain_app name.entry.now) }
     ensures local { IfOk result (λ c. (fields_of c).has_globals ≡ false) }
 {
-    let command = clap::Command::new(alloc, "chain")
+    let command = clap::Command::new(alloc, name)
         .arg(name_arg(alloc, "CHAIN"))?
         .arg(names_arg(alloc))?;
     Ok(command)
 }
 
-// The command `device`.
-fn device_command<'a>(alloc: Global) -> Result<clap::Command<'a>, AllocError>
-    ensures app { IfOk result (λ c. app_of c ≡ device_app) }
+// A command that takes one word.
+fn single_command<'a>(
+    alloc: Global,
+    name: &'a str,
+    id: &'a str,
+) -> Result<clap::Command<'a>, AllocError>
+    ensures app { IfOk result (λ c. app_of c ≡ single_app name.entry.now id.entry.now) }
     ensures local { IfOk result (λ c. (fields_of c).has_globals ≡ false) }
 {
-    let command = clap::Command::new(alloc, "device").arg(name_arg(alloc, "BSDL"))?;
+    let command = clap::Command::new(alloc, name).arg(name_arg(alloc, id))?;
+    Ok(command)
+}
+
+// The command with the arguments that name the texts of a board behind its own.
+fn with_board<'a>(
+    alloc: Global,
+    command: clap::Command<'a>,
+) -> Result<clap::Command<'a>, AllocError>
+    requires { (fields_of command).has_globals ≡ false }
+    ensures app { IfOk result (λ c. app_of c ≡ with_board (app_of command.entry)) }
+    ensures local { IfOk result (λ c. (fields_of c).has_globals ≡ false) }
+{
+    let command = command
+        .arg(name_arg(alloc, "CHAIN"))?
+        .arg(name_arg(alloc, "NETS"))?
+        .arg(names_arg(alloc))?;
     Ok(command)
 }
 
@@ -167,11 +273,18 @@ fn board_command<'a>(alloc: Global, name: &'a str) -> Result<clap::Command<'a>, 
     ensures app { IfOk result (λ c. app_of c ≡ board_app name.entry.now) }
     ensures local { IfOk result (λ c. (fields_of c).has_globals ≡ false) }
 {
+    with_board(alloc, clap::Command::new(alloc, name))
+}
+
+// A command of workers that is about a response log of a board.
+fn log_command<'a>(alloc: Global, name: &'a str) -> Result<clap::Command<'a>, AllocError>
+    ensures app { IfOk result (λ c. app_of c ≡ log_app name.entry.now) }
+    ensures local { IfOk result (λ c. (fields_of c).has_globals ≡ false) }
+{
     let command = clap::Command::new(alloc, name)
-        .arg(name_arg(alloc, "CHAIN"))?
-        .arg(name_arg(alloc, "NETS"))?
-        .arg(names_arg(alloc))?;
-    Ok(command)
+        .arg(name_arg(alloc, "WORKERS"))?
+        .arg(name_arg(alloc, "LOG"))?;
+    with_board(alloc, command)
 }
 
 // The command above the others.
@@ -192,18 +305,29 @@ fn part_commands<'a>(alloc: Global) -> Result<clap::Command<'a>, AllocError>
     ensures local { IfOk result (λ c. (fields_of c).has_globals ≡ false) }
 {
     let parts = top_command(alloc)
-        .subcommand(chain_command(alloc)?)?
-        .subcommand(device_command(alloc)?)?;
+        .subcommand(chain_command(alloc, "chain")?)?
+        .subcommand(chain_command(alloc, "ident")?)?
+        .subcommand(single_command(alloc, "device", "BSDL")?)?;
     Ok(parts)
+}
+
+// The command with these subcommands, and those that are about a board.
+fn board_commands<'a>(alloc: Global) -> Result<clap::Command<'a>, AllocError>
+    ensures app { IfOk result (λ c. app_of c ≡ boards_app) }
+    ensures local { IfOk result (λ c. (fields_of c).has_globals ≡ false) }
+{
+    let boards = part_commands(alloc)?
+        .subcommand(board_command(alloc, "cover")?)?
+        .subcommand(board_command(alloc, "svf")?)?
+        .subcommand(single_command(alloc, "make", "NUMBER")?)?;
+    Ok(boards)
 }
 
 // The command with its subcommands.
 fn whole_command<'a>(alloc: Global) -> Result<clap::Command<'a>, AllocError>
     ensures { IfOk result (λ c. app_of c ≡ btest_app) }
 {
-    let whole = part_commands(alloc)?
-        .subcommand(board_command(alloc, "cover")?)?
-        .subcommand(board_command(alloc, "svf")?)?;
+    let whole = board_commands(alloc)?.subcommand(log_command(alloc, "diagnose")?)?;
     Ok(whole)
 }
 

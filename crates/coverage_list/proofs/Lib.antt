@@ -2,3 +2,4 @@ mod PutLemmas
 mod CoverLemmas
 mod NetLemmas
 mod Samples
+pub mod TruthLemmas

@@ -1,2 +1,3 @@
 pub mod CoverText
 pub mod CoverForms
+pub mod CoverList

@@ -1,10 +1,11 @@
 //! The coverage list of a board: what of it a test can cover, and what it cannot.
 #![tactic(auto)]
 
+pub mod law;
 mod lines;
 mod listing;
 
-pub use listing::write_cover;
+pub use listing::{covered_nets, write_cover};
 
 #[cfg(test)]
 mod tests;

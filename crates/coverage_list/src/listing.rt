@@ -72,6 +72,14 @@ fn covered_count(board: &Board, classes: &Classes, count: u32) -> u32
     covered
 }
 
+/// How many nets of the board are covered, at most 16,382. The classes are those of the board.
+pub fn covered_nets(board: &Board, classes: &Classes) -> u32
+    requires { AreClasses board.now classes.now }
+    ensures { result ≡ length (covered board.now) }
+{
+    covered_count(board, classes, net_count(board))
+}
+
 // Puts how many nets there are and how many are covered.
 fn put_count<K: Sink>(
     board: &Board,

@@ -81,7 +81,7 @@ boundary_within : (entity : Entity) (constants : ℕ) → is_as_needed entity co
 unfolding is_as_needed
 boundary_within entity constants h = right_of (stands_once entity 9) (is_within 1 65535 (number_of entity 9)) h
 
-lengths_hold : (entity : Entity) (given : Option (List ℕ)) (strings : Strings) → v1 entity given ≡ None → HasLengths (draft_of entity given strings)
+pub lengths_hold : (entity : Entity) (given : Option (List ℕ)) (strings : Strings) → v1 entity given ≡ None → HasLengths (draft_of entity given strings)
 lengths_hold entity given strings e =
     let constants = constants_named entity (chosen entity given) in
     let ir = lies_within 2 255 (number_of entity 6) (ir_within entity constants (as_needed entity given (1 ∷ 2 ∷ 3 ∷ 4 ∷ 5 ∷ []) 6 (7 ∷ 8 ∷ 9 ∷ 10 ∷ 11 ∷ 12 ∷ 13 ∷ 14 ∷ 15 ∷ []) refl e)) in

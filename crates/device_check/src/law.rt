@@ -3,10 +3,20 @@ ghost use Rattle.std.specs.Prelude.{◌≡◌, ℕ, List, Option, Result};
 ghost use Rattle.board_defs.specs.declared.device.RawDevice.{RawDevice};
 ghost use Rattle.bsdl_parser.specs.declared.entity.Entity.{Entity};
 ghost use Rattle.device_check.specs.declared.fault.DeviceFault.{DeviceFault};
-ghost use Rattle.device_check.specs.SoundDevice.{IsAnswer};
+ghost use Rattle.board_defs.specs.DeviceRules.{IsDevice};
+ghost use Rattle.device_check.specs.SoundDevice.{IsAnswer, IsSound};
+
+use device_rules::law::devices_keep_rules;
 
 /// An entity has exactly one answer for each package: its sound device, or its first fault.
 pub fn entities_have_one_answer()
     ensures some { (entity : Entity) (given : Option (List ℕ)) → (answer : Result RawDevice DeviceFault) × IsAnswer entity given answer }
     ensures one { (entity : Entity) (given : Option (List ℕ)) (answer other : Result RawDevice DeviceFault) → IsAnswer entity given answer → IsAnswer entity given other → answer ≡ other }
 {}
+
+/// The device of an entity keeps the rules of a device.
+pub fn sound_devices_keep_rules()
+    ensures { (entity : Entity) (given : Option (List ℕ)) (device : RawDevice) → IsSound entity given device → IsDevice device }
+{
+    devices_keep_rules();
+}

@@ -12,7 +12,9 @@ ghost use Rattle.device_rules.specs.PinMap.{breaks_map, v4};
 ghost use Rattle.device_rules.specs.Instructions.{breaks_opcode, v5};
 ghost use Rattle.device_rules.specs.Cells.{breaks_control, has_two_values, is_crowded, v10, v11, v12};
 ghost use Rattle.device_rules.specs.Places.{breaks_place, breaks_driver, breaks_mode, v9, v13, v14};
+ghost use Rattle.device_rules.specs.Raw.{raw_device, HasLengths};
 ghost use Rattle.device_rules.specs.Rules.{first_rule, KeepsRules};
+ghost use Rattle.board_defs.specs.DeviceRules.{IsDevice};
 
 /// Where no rule is broken, each rule finds nothing.
 pub fn all_rules_hold()
@@ -30,4 +32,9 @@ pub fn finds_the_first()
     ensures v12 { (boundary : ℕ) (entries : List Entry) → IsLeast (is_crowded entries) boundary (v12 boundary entries) }
     ensures v13 { (ports : List Port) (entries : List Entry) → IsFound (breaks_driver ports) entries (v13 ports entries) }
     ensures v14 { (ports : List Port) (taps : TapPorts) (entries : List Entry) → IsFound (λ before entry. breaks_mode ports taps entry) entries (v14 ports taps entries) }
+{}
+
+/// Where no rule is broken, and the lengths are in bounds, the device keeps the rules of a device.
+pub fn devices_keep_rules()
+    ensures { (draft : Draft) → HasLengths draft → first_rule draft ≡ None → IsDevice (raw_device draft) }
 {}

@@ -24,11 +24,11 @@ use Rattle.scan_planner.specs.declared.tables.DriverCell.{DriverCell}
 use Rattle.scan_planner.specs.declared.tables.ReaderCell.{ReaderCell}
 use Rattle.scan_planner.specs.Tables.{first_position, IsDriverCell}
 use Rattle.scan_planner.specs.Laid.{laid}
-use Rattle.scan_planner.specs.Building.{optional, net_driver, driver_of, drivers_of_pins, drivers_of, readers_of, driver_cell, IsControlThere, control_position, observer, is_read_beside, observers_at, observers, held_cell}
+use Rattle.scan_planner.specs.Building.{is_on, optional, net_driver, driver_of, drivers_of_pins, drivers_of, readers_of, driver_cell, IsControlThere, control_position, observer, is_read_beside, observers_at, observers, held_cell}
 use Rattle.scan_planner.proofs.LaidLemmas.{laid_at}
 use Rattle.scan_planner.proofs.BuildLemmas.{cell_there, entry_below, position_within}
 use Rattle.scan_planner.proofs.PinLemmas.{wired_at, drives_by, entry_on}
-use Rattle.scan_planner.proofs.TableLemmas.{has_gathered, gathered_has, Observed, observed, is_on, observing_of, on_by}
+use Rattle.scan_planner.proofs.TableLemmas.{has_gathered, gathered_has, Observed, observed, observing_of, on_by}
 use Rattle.scan_planner.proofs.DriverTableLemmas.{IsOn, OnBy}
 
 -- a driver of a net that may be enabled

@@ -34,16 +34,13 @@ use Rattle.scan_planner.specs.Codes.{AreCodes, seen_in}
 use Rattle.scan_planner.specs.Tables.{first_position, AreRowsOf, IsHeldCell, common_rows}
 use Rattle.scan_planner.specs.Steady.{ArePassTables}
 use Rattle.scan_planner.specs.Plans.{controls_in, controls_some, ArePlannable, code_or_zero, IsPlanOf}
-use Rattle.scan_planner.specs.Building.{readers_of, held_cell}
+use Rattle.scan_planner.specs.Building.{readers_of, all_readers, all_drivers, held_cell}
 use Rattle.scan_planner.proofs.LaidLemmas.{laid_at, laid_same, tdi_laid}
 use Rattle.scan_planner.proofs.HeldLemmas.{quiet_steady, control_below}
 use Rattle.scan_planner.proofs.TableLemmas.{reader_is, is_reader}
 use Rattle.scan_planner.proofs.ReaderLemmas.{ReadersOf}
 use Rattle.scan_planner.proofs.SeenLemmas.{length-seen_in}
 use Rattle.scan_planner.proofs.ObserverLemmas.{holds_has, has_holds}
-
-abbrev pub all_readers : RawBoard → List (List ReaderCell)
-all_readers board = map (λ net. readers_of board net.pins) board.nets
 
 readers_at : (board : RawBoard) (n : ℕ) (net : Net) → slice_get board.nets n ≡ Some net → slice_get (all_readers board) n ≡ Some (readers_of board net.pins)
 readers_at board n net e = slice_get-map (λ (x : Net). readers_of board x.pins) board.nets n ∙ ap (λ (o : Option Net). option_map (λ (x : Net). readers_of board x.pins) o) e
@@ -151,17 +148,19 @@ pins_most board rules k d less =
 
 -- the plan
 pub is_plan : (board : RawBoard) → IsBoard board → (plan : PlanTables) → ArePlannable board plan.passes → plan.quiet ≡ laid (quiet_bits board) board →
-    plan.readers ≡ all_readers board → ArePassTables board plan.passes (record { steady = plan.steady; cells = plan.cells }) →
+    plan.readers ≡ all_readers board → plan.drivers ≡ all_drivers board → ArePassTables board plan.passes (record { steady = plan.steady; cells = plan.cells }) →
     (seen : List Bool) → seen ≡ seen_in (length board.nets) plan.steady plan.cells → (codes : NetCodes) → AreCodes seen codes → plan.codes ≡ codes.codes →
     codes.count + 2 ≤ 2 ^ plan.width → ((less : ℕ) → less < plan.width → 2 ^ less < codes.count + 2) →
     plan.common ≡ filled plan.width (common_rows plan.quiet plan.codes plan.readers plan.steady) →
     AreRowsOf ((instructs (map (λ part. preload_code part.kind) board.chain)).bits) plan.preload →
     AreRowsOf ((instructs (map (λ part. extest_code part.kind) board.chain)).bits) plan.extest → IsPlanOf board plan
-is_plan board rules plan plannable quiet readers_are tables seen seen_is codes are_codes codes_are enough least common preload extest =
+is_plan board rules plan plannable quiet readers_are drivers_are tables seen seen_is codes are_codes codes_are enough least common preload extest =
     record {
       plannable = plannable;
       width_is = code_width_is codes.count plan.width enough least ∙ ap code_width (are_codes.count_is ∙ count_is);
       codes_are = code_is;
+      drivers_are = drivers_are;
+      readers_are = readers_are;
       codes_length = ap (λ (l : List ℕ). length l) codes_are ∙ are_codes.length_is ∙ ap (λ (l : List Bool). length l) seen_are ∙ length-map board.nets (is_observed board plan.passes);
       tables = record {
         preload = preload;

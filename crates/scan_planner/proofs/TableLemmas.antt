@@ -1,6 +1,6 @@
 -- The tables, as they are made, are those of the plan.
 use Rattle.std.proofs.Common.{◌≡◌, ℕ, zero, suc, ◌+◌, ◌==◌, Bool, true, false, not, cond, ◌&&◌, ◌||◌, List, [], ◌∷◌, ◌++◌, map, Option, Some, None, refl, sym, ap, ◌∙◌, subst, arith, ◌⊎◌, inl, inr}
-use Rattle.std.specs.Prelude.{slice_get, option_and_then, option_map, filter, find}
+use Rattle.std.specs.Prelude.{slice_get, option_and_then, option_map, filter}
 use Rattle.std.specs.List.{list_any}
 use Rattle.std.proofs.lemmas.Bool.{and_parts}
 use Rattle.std.proofs.lemmas.List.Folds.{list_any-append}
@@ -22,7 +22,7 @@ use Rattle.tap_defs.specs.TestRows.{first_enabled, reads_beside, observing_drive
 use Rattle.scan_planner.specs.declared.nets.NetDriver.{NetDriver}
 use Rattle.scan_planner.specs.declared.tables.ReaderCell.{ReaderCell}
 use Rattle.scan_planner.specs.Tables.{first_position, IsReaderCell}
-use Rattle.scan_planner.specs.Building.{gathered, optional, net_driver, driver_of, drivers_of_pins, drivers_of, reader_of, readers_in, readers_at, readers_of, is_read_beside}
+use Rattle.scan_planner.specs.Building.{is_on, enabled_in, gathered, optional, net_driver, driver_of, drivers_of_pins, drivers_of, reader_of, readers_in, readers_at, readers_of, is_read_beside}
 
 -- what is gathered
 pub has_gathered : {X Y : Type 0} (f : ℕ → X → List Y) (k : ℕ) (xs : List X) (y : Y) → Has (gathered f k xs) y → (n : ℕ) × (x : X) × (slice_get xs n ≡ Some x) × Has (f (k + n) x) y
@@ -113,14 +113,9 @@ pub record DriverAt (board : RawBoard) (k : ℕ) (pins : List NetPin) (d : NetDr
   pub is_entry : entry_at board at ≡ Some entry
   pub position_is : d.position ≡ first_position board at.part + entry.num
 
-abbrev FirstOn : RawBoard → Enabling → ℕ → List NetPin → Option NetDriver → Type 0
+abbrev pub FirstOn : RawBoard → Enabling → ℕ → List NetPin → Option NetDriver → Type 0
 FirstOn board s k pins None = first_enabled board s k pins ≡ None
 FirstOn board s k pins (Some d) = (first_enabled board s k pins ≡ Some d.place) × DriverAt board k pins d
-
--- the setting enables the driver
-abbrev pub is_on : Enabling → Option Ctl → Bool
-is_on setting None = true
-is_on setting (Some c) = setting c
 
 pub on_by : (s : Enabling) (part : ℕ) (o : Option Control) → is_on s (option_map (λ control. record { part = part; cell = control.cell }) o) ≡ enables_by s part o
 on_by s part None = refl
@@ -128,17 +123,14 @@ on_by s part (Some control) = refl
 
 -- the driver by which a setting observes a net with these compared cells: the first that it enables, where another pin is read
 abbrev pub observing_of : Enabling → List NetDriver → List ReaderCell → Option NetDriver
-observing_of setting drivers readers = option_and_then (λ d. cond (is_read_beside readers d) (Some d) None) (find (λ d. is_on setting d.ctl) drivers)
+observing_of setting drivers readers = option_and_then (λ d. cond (is_read_beside readers d) (Some d) None) (enabled_in setting drivers)
 
-abbrev found_on : Enabling → List NetDriver → Option NetDriver
-found_on s drivers = find (λ d. is_on s d.ctl) drivers
-
-abbrev pin_drivers : RawBoard → ℕ → List NetPin → List NetDriver
+abbrev pub pin_drivers : RawBoard → ℕ → List NetPin → List NetDriver
 pin_drivers board k pins = gathered (λ place pin. optional (driver_of board place pin.at)) k pins
 
-first_on : (board : RawBoard) (s : Enabling) (k : ℕ) (pins : List NetPin) → FirstOn board s k pins (found_on s (pin_drivers board k pins))
+pub first_on : (board : RawBoard) (s : Enabling) (k : ℕ) (pins : List NetPin) → FirstOn board s k pins (enabled_in s (pin_drivers board k pins))
 first_on board s k [] = refl
-first_on board s k (pin ∷ pins) = by_at pin.at refl (found_on s (pin_drivers board (suc k) pins)) refl (first_on board s (suc k) pins)
+first_on board s k (pin ∷ pins) = by_at pin.at refl (enabled_in s (pin_drivers board (suc k) pins)) refl (first_on board s (suc k) pins)
   where
     rest : List NetDriver
     rest = pin_drivers board (suc k) pins
@@ -160,7 +152,7 @@ first_on board s k (pin ∷ pins) = by_at pin.at refl (found_on s (pin_drivers b
       },
     )
 
-    by_on : (at : PinAt) (cell : Cell) → pin.at ≡ Some at → entry_at board at ≡ Some cell → (o : Option NetDriver) → found_on s (pin_drivers board (suc k) pins) ≡ o → FirstOn board s (suc k) pins o →
+    by_on : (at : PinAt) (cell : Cell) → pin.at ≡ Some at → entry_at board at ≡ Some cell → (o : Option NetDriver) → enabled_in s (pin_drivers board (suc k) pins) ≡ o → FirstOn board s (suc k) pins o →
         (t : Bool) → enables_by s at.part cell.ctl ≡ t → FirstOn board s k (pin ∷ pins) (cond t (Some (net_driver board at.part k cell)) o)
     by_on at cell a e o w r true t =
         let on : enables board s pin ≡ true = ap (λ (x : Option PinAt). enables_where board s x) a ∙ ap (λ (x : Option Cell). enables_entry s at.part x) e ∙ t in
@@ -171,8 +163,8 @@ first_on board s k (pin ∷ pins) = by_at pin.at refl (found_on s (pin_drivers b
     by_on at cell a e o w r false t =
         later o (ap (λ (x : Option PinAt). enables_where board s x) a ∙ ap (λ (x : Option Cell). enables_entry s at.part x) e ∙ t) r
 
-    by_entry : (at : PinAt) → pin.at ≡ Some at → (c : Option Cell) → entry_at board at ≡ c → (o : Option NetDriver) → found_on s (pin_drivers board (suc k) pins) ≡ o → FirstOn board s (suc k) pins o →
-        FirstOn board s k (pin ∷ pins) (found_on s (optional (option_map (net_driver board at.part k) c) ++ pin_drivers board (suc k) pins))
+    by_entry : (at : PinAt) → pin.at ≡ Some at → (c : Option Cell) → entry_at board at ≡ c → (o : Option NetDriver) → enabled_in s (pin_drivers board (suc k) pins) ≡ o → FirstOn board s (suc k) pins o →
+        FirstOn board s k (pin ∷ pins) (enabled_in s (optional (option_map (net_driver board at.part k) c) ++ pin_drivers board (suc k) pins))
     by_entry at a None e o w r =
         subst (λ (x : Option NetDriver). FirstOn board s k (pin ∷ pins) x) (sym w)
         (later o (ap (λ (x : Option PinAt). enables_where board s x) a ∙ ap (λ (x : Option Cell). enables_entry s at.part x) e) r)
@@ -181,8 +173,8 @@ first_on board s k (pin ∷ pins) = by_at pin.at refl (found_on s (pin_drivers b
         (subst (λ (b : Bool). FirstOn board s k (pin ∷ pins) (cond b (Some (net_driver board at.part k cell)) o)) (sym (on_by s at.part cell.ctl))
         (by_on at cell a e o w r (enables_by s at.part cell.ctl) refl))
 
-    by_at : (a : Option PinAt) → pin.at ≡ a → (o : Option NetDriver) → found_on s (pin_drivers board (suc k) pins) ≡ o → FirstOn board s (suc k) pins o →
-        FirstOn board s k (pin ∷ pins) (found_on s (optional (driver_of board k a) ++ pin_drivers board (suc k) pins))
+    by_at : (a : Option PinAt) → pin.at ≡ a → (o : Option NetDriver) → enabled_in s (pin_drivers board (suc k) pins) ≡ o → FirstOn board s (suc k) pins o →
+        FirstOn board s k (pin ∷ pins) (enabled_in s (optional (driver_of board k a) ++ pin_drivers board (suc k) pins))
     by_at None a o w r =
         subst (λ (x : Option NetDriver). FirstOn board s k (pin ∷ pins) x) (sym w) (later o (ap (λ (x : Option PinAt). enables_where board s x) a) r)
     by_at (Some at) a o w r = by_entry at a (entry_at board at) refl o w r
@@ -278,4 +270,4 @@ observed board s net = by_guard (guarded board net) refl
 
     by_guard : (t : Bool) → guarded board net ≡ t → Observed board s net (observing_of s (cond t [] (drivers_of_pins board net.pins)) (readers_of board net.pins))
     by_guard true g = ap (λ (b : Bool). cond b None (observing_driver_by board net (first_enabled board s 0 net.pins))) g
-    by_guard false g = by_first g (found_on s (pin_drivers board 0 net.pins)) (first_on board s 0 net.pins)
+    by_guard false g = by_first g (enabled_in s (pin_drivers board 0 net.pins)) (first_on board s 0 net.pins)

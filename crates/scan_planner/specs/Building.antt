@@ -1,5 +1,5 @@
 -- How the tables of a plan are made, item by item.
-use Rattle.std.specs.Prelude.{◌≡◌, ℕ, suc, ◌+◌, ◌<◌, ◌==◌, Bool, false, not, cond, List, [], ◌∷◌, ◌++◌, length, map, filter, fold, drop, sum_by, Option, Some, None, option_map, is_none, replicate, slice_index_or, slice_set}
+use Rattle.std.specs.Prelude.{◌≡◌, ℕ, suc, ◌+◌, ◌<◌, ◌==◌, Bool, true, false, not, find, cond, List, [], ◌∷◌, ◌++◌, length, map, filter, fold, drop, sum_by, Option, Some, None, option_map, is_none, replicate, slice_index_or, slice_set}
 use Rattle.std.specs.List.{list_any, flat_map}
 use Rattle.board_defs.specs.declared.device.Cell.{Cell}
 use Rattle.board_defs.specs.declared.device.RawDevice.{RawDevice}
@@ -11,6 +11,7 @@ use Rattle.board_defs.specs.declared.board.RawBoard.{RawBoard}
 use Rattle.board_defs.specs.declared.board.Ctl.{Ctl}
 use Rattle.board_defs.specs.DeviceRules.{reads_bit}
 use Rattle.board_defs.specs.Pins.{data_length, device_at, entry_at, receives_where, guarded, cell_count}
+use Rattle.board_defs.specs.Settings.{Enabling}
 use Rattle.scan_planner.specs.declared.tables.HeldCell.{HeldCell}
 use Rattle.scan_planner.specs.declared.tables.DriverCell.{DriverCell}
 use Rattle.scan_planner.specs.declared.tables.ReaderCell.{ReaderCell}
@@ -37,7 +38,7 @@ optional (Some x) = x ∷ []
 
 -- the driver of a net that a driving entry is
 abbrev pub net_driver : RawBoard → ℕ → ℕ → Cell → NetDriver
-net_driver board part place cell = record { place = place; ctl = option_map (λ control. record { part = part; cell = control.cell }) cell.ctl; position = first_position board part + cell.num }
+net_driver board part place cell = record { place = place; ctl = option_map (λ control. record { part = part; cell = control.cell }) cell.ctl; own = record { part = part; cell = cell.num }; position = first_position board part + cell.num }
 
 -- the driver that a pin is, where it is one
 abbrev pub driver_of : RawBoard → ℕ → Option PinAt → Option NetDriver
@@ -96,6 +97,23 @@ observers_of board net drivers readers = map (observer board net) (filter (is_re
 
 abbrev pub observers_at : RawBoard → ℕ → Net → List Observer
 observers_at board n net = observers_of board n (drivers_of board net) (readers_of board net.pins)
+
+-- the drivers of each net
+abbrev pub all_drivers : RawBoard → List (List NetDriver)
+all_drivers board = map (drivers_of board) board.nets
+
+-- the compared cells of each net
+abbrev pub all_readers : RawBoard → List (List ReaderCell)
+all_readers board = map (λ net. readers_of board net.pins) board.nets
+
+-- the setting enables a driver with this control
+abbrev pub is_on : Enabling → Option Ctl → Bool
+is_on setting None = true
+is_on setting (Some c) = setting c
+
+-- the driver of a net that a setting enables; a safe setting enables no other
+abbrev pub enabled_in : Enabling → List NetDriver → Option NetDriver
+enabled_in setting drivers = find (λ d. is_on setting d.ctl) drivers
 
 -- those of these nets, in net order
 abbrev pub observers : RawBoard → List Net → List Observer

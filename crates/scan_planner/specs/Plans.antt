@@ -14,6 +14,7 @@ use Rattle.tap_defs.specs.TestRows.{TestRow, code_row, is_observed, code_of_net,
 use Rattle.tap_defs.specs.BoardScans.{RowScan, row_now, row_before, test_scans}
 use Rattle.scan_planner.specs.declared.tables.PlanTables.{PlanTables}
 use Rattle.scan_planner.specs.Tables.{ArePlanTables}
+use Rattle.scan_planner.specs.Building.{all_drivers, all_readers}
 
 -- the cell controls a driver of the device, where there is one
 abbrev pub controls_in : RawBoard → Ctl → Option RawDevice → Bool
@@ -40,6 +41,8 @@ pub record IsPlanOf (board : RawBoard) (plan : PlanTables) : Type 0 where
   pub codes_are : (n : ℕ) (net : Net) → slice_get board.nets n ≡ Some net → slice_index_or plan.codes n 0 ≡ code_or_zero board plan.passes n net
   pub codes_length : length plan.codes ≡ length board.nets
   pub tables : ArePlanTables board plan
+  pub drivers_are : plan.drivers ≡ all_drivers board
+  pub readers_are : plan.readers ≡ all_readers board
 
 -- the number of scans: three, and then for each pass one for each row and one for the quiet row
 abbrev pub scan_count : PlanTables → ℕ

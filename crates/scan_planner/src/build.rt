@@ -8,6 +8,7 @@ ghost use Rattle.scan_planner.specs.Steady.{ArePassTables};
 use crate::codes::{number_nets, seen_nets};
 use crate::common::common_rows;
 use crate::controls::driver_table;
+use crate::drivers::all_drivers;
 use crate::entries::part_tables;
 use crate::instructions::{Instruction, instruction_rows};
 use crate::observers::{Observer, net_cells};
@@ -62,6 +63,7 @@ pub fn tables_of(
     let firsts = parts.firsts.as_slice();
     let quiet = quiet_row(alloc, board)?;
     let nets = net_cells(alloc, board, &parts)?;
+    let drivers = all_drivers(alloc, board, &parts)?;
     let readers = nets.readers.as_slice();
     let observers = nets.observers.as_slice();
     let tables = pass_tables(alloc, board, firsts, &quiet, observers, passes.as_slice())?;
@@ -90,5 +92,6 @@ pub fn tables_of(
         common,
         cells: tables.cells,
         readers: nets.readers,
+        drivers,
     })
 }

@@ -5,6 +5,7 @@ mod build;
 mod codes;
 mod common;
 mod controls;
+mod drivers;
 mod entries;
 mod fill;
 mod guards;
@@ -15,12 +16,15 @@ mod observers;
 mod passes;
 mod plan;
 mod positions;
+mod questions;
 mod quiet;
 mod rows;
 mod tables;
 mod uses;
 
+pub use nets::NetDriver;
 pub use plan::Plan;
+pub use tables::ReaderCell;
 
 #[cfg(test)]
 mod tests;

@@ -13,11 +13,13 @@ use board_defs::{Board, Cell, Ctl, Items, Net, NetPin, PinAt, RawBoard};
 use port_entries::entries_at;
 use std::alloc::{AllocError, Global};
 
-/// A driver of a net: the place of its pin in the net, its control, if it has one, and the position of its cell.
+/// A driver of a net: the place of its pin in the net, its control, if it has one, and its own cell with the position
+/// of that cell in scans of data.
 #[derive(Clone, Copy, Debug, PartialEq, Eq)]
 pub struct NetDriver {
     pub place: u32,
     pub ctl: Option<Ctl>,
+    pub own: Ctl,
     pub position: u32,
 }
 
@@ -33,6 +35,10 @@ fn net_driver(board: &Board, firsts: &[u32], part: u32, place: u32, cell: Cell) 
             part,
             cell: control.cell,
         }),
+        own: Ctl {
+            part,
+            cell: cell.num,
+        },
         position: cell_position(board, firsts, part, cell.num),
     }
 }

@@ -15,7 +15,7 @@ use tap_defs::Shape;
 /// cells in which those of a pass differ.
 #[derive(Debug, Drop)]
 pub struct Plan {
-    tables: PlanTables,
+    pub(crate) tables: PlanTables,
 }
 
 impl Model for Plan {
@@ -49,7 +49,8 @@ impl Plan {
         3 + self.tables.passes.len() as u64 * (u64::from(self.tables.width) + 1)
     }
 
-    /// The number of rows of the test, each of which is compared once.
+    /// The number of rows of the test, one for each pass and each bit of the codes. A row of a pass that observes a net is compared
+    /// once; each pass of a board's own test observes one, so this is the number of rows of its log.
     pub fn rows(&self) -> u64
         ensures { result ≡ length self.now.passes * self.now.width }
     {

@@ -1,4 +1,5 @@
 // What a plan keeps: positions and bits, from which each scan is made.
+use crate::nets::NetDriver;
 use board_defs::{Items, Setting};
 
 /// The rows of a scan that many scans share.
@@ -47,7 +48,7 @@ pub struct PassTables {
 }
 
 /// The tables of a plan: the driver cells that are the same in all passes, what all passes have in each row with these
-/// cells set, and the cells of each pass. The codes and the readers stand net by net.
+/// cells set, and the cells of each pass. The codes, the readers and the drivers stand net by net.
 #[derive(Debug, Drop)]
 pub struct PlanTables {
     pub passes: Items<Setting>,
@@ -60,4 +61,5 @@ pub struct PlanTables {
     pub common: Items<FixedRows>,
     pub cells: Items<PassCells>,
     pub readers: Items<Items<ReaderCell>>,
+    pub drivers: Items<Items<NetDriver>>,
 }

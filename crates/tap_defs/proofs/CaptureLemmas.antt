@@ -134,7 +134,7 @@ module _ (board : RawBoard) (rules : IsBoard board) (faults : FaultSet) where
   always_after choice (c ∷ cs) = always_after choice cs
 
   -- the captures pass with these free bits
-  abbrev CapturesPassBy : Choice → TestRow → List RowScan → List Scan → Type 0
+  abbrev pub CapturesPassBy : Choice → TestRow → List RowScan → List Scan → Type 0
   CapturesPassBy choice row [] scans = Unit {0}
   CapturesPassBy choice row (t ∷ ts) [] = Unit {0}
   CapturesPassBy choice row (t ∷ ts) (s ∷ scans) = (scan_passes s.bits (row_captured board faults row choice) ≡ true) × CapturesPassBy choice t.now ts scans
@@ -277,7 +277,7 @@ log_shifts board (t ∷ ts) (row ∷ log) = by_test (log_shifts board ts) (compa
     by_test rest true = (refl, tdi_bits-bits_by_log (joined (row_bits board t)) row, rest log)
     by_test rest false = (refl, tdi_bits-uncompared (joined (row_bits board t)), rest (row ∷ log))
 
-silent_compares : (bits : List ScanBit) → AllSilent bits → compares bits ≡ false
+pub silent_compares : (bits : List ScanBit) → AllSilent bits → compares bits ≡ false
 silent_compares [] h = refl
 silent_compares (b ∷ bits) h = ap (λ (o : Option Bool). is_some o || compares bits) h.0 ∙ silent_compares bits h.1
 
@@ -293,10 +293,10 @@ some_state logic = record {
   latches = replicate logic.boundary_length false;
 }
 
-abbrev some_chain : List TestLogic → List ChainPart
+abbrev pub some_chain : List TestLogic → List ChainPart
 some_chain parts = map (λ logic. record { logic = logic; state = some_state logic }) parts
 
-some_start : (board : RawBoard) → IsBoardChain board (some_chain (board_logics board))
+pub some_start : (board : RawBoard) → IsBoardChain board (some_chain (board_logics board))
 some_start board = record { logics_are = same (board_logics board); states_are = states (board_logics board) }
   where
     same : (parts : List TestLogic) → logics (some_chain parts) ≡ parts
@@ -405,7 +405,7 @@ module _ (board : RawBoard) (rules : IsBoard board) (faults : FaultSet) (ts : Li
         ∙ ap (λ (g : Choices). run_passes rest (tdos env rest g (run env silent_head f m))) head_left
         ∙ ap (λ (n : List ChainPart). run_passes rest (tdos env rest left n)) head_run
 
-    in_extest_held : IsBoardChain board under_extest × InTest board (shifted_row board (record { now = quiet_row; before = quiet_row })) under_extest
+    pub in_extest_held : IsBoardChain board under_extest × InTest board (shifted_row board (record { now = quiet_row; before = quiet_row })) under_extest
     in_extest_held = ((scan2 board rules faults chain free start).is_start, in_test_after board rules faults chain free start)
 
   log_by_captures : CapturesPass board faults quiet_row ts compared →
@@ -414,7 +414,7 @@ module _ (board : RawBoard) (rules : IsBoard board) (faults : FaultSet) (ts : Li
       log_decides chain free start
       ∙ run_follows board rules faults ts compared quiet_row quiet_row (left chain free start) (under_extest chain free start) (in_extest_held chain free start) (log_shifts board ts log) ok
 
-  left_always : (choice : Choice) (chain : List ChainPart) (start : IsBoardChain board chain) →
+  pub left_always : (choice : Choice) (chain : List ChainPart) (start : IsBoardChain board chain) →
       left chain (λ k. choice) start ≡ (λ k. choice)
   left_always choice chain start =
       let free : Choices = λ k. choice in

@@ -281,11 +281,11 @@ silent_passes [] os h = refl
 silent_passes (b ∷ bits) [] h = refl
 silent_passes (b ∷ bits) (o ∷ os) h = ap (λ (e : Option Bool). bit_passes e o && scan_passes bits os) h.0 ∙ silent_passes bits os h.1
 
-silent_append : (xs ys : List ScanBit) → AllSilent xs → AllSilent ys → AllSilent (xs ++ ys)
+pub silent_append : (xs ys : List ScanBit) → AllSilent xs → AllSilent ys → AllSilent (xs ++ ys)
 silent_append [] ys h k = k
 silent_append (x ∷ xs) ys h k = (h.0, silent_append xs ys h.1 k)
 
-silent_made : (n : ℕ) (f : ℕ → ScanBit) → ((c : ℕ) → (f c).expect ≡ None) → AllSilent (filled n f)
+pub silent_made : (n : ℕ) (f : ℕ → ScanBit) → ((c : ℕ) → (f c).expect ≡ None) → AllSilent (filled n f)
 silent_made zero f q = tt
 silent_made (suc n) f q = (q 0, silent_made n (λ k. f (suc k)) (λ k. q (suc k)))
 

@@ -99,7 +99,7 @@ module _ (board : RawBoard) (row : TestRow) (safe : IsSafe board row.setting) (r
       ∙ extest_is board (record { now = row; before = before }) chain at.part part device h ek ed
 
   -- every net that is not guarded is ruled, and has at most one live driver
-  decided : (n : ℕ) (net : Net) → slice_get board.nets n ≡ Some net → guarded board net ≡ false →
+  pub decided : (n : ℕ) (net : Net) → slice_get board.nets n ≡ Some net → guarded board net ≡ false →
       is_decided (feeding board (pin_states chain) net) ≡ true
   decided n net en unguarded =
       let r = rules.nets n net en in
@@ -118,7 +118,7 @@ module _ (board : RawBoard) (row : TestRow) (safe : IsSafe board row.setting) (r
         let same : o.0 ≡ net = let z : Some o.0 ≡ Some net = sym o.1 ∙ e in cc z in
         subst (λ (x : Net). guarded board x ≡ false) same o.2.1.open_net
 
-    all_decided : (k : ℕ) →
+    pub all_decided : (k : ℕ) →
         list_all (λ net. is_decided (feeding board (pin_states chain) net.1)) (shorted_nets faults k 0 board.nets) ≡ true
     all_decided k =
         shorted_pass faults k 0 board.nets (λ net. is_decided (feeding board (pin_states chain) net.1))

@@ -37,11 +37,22 @@ pub mod WidthLemmas
 pub mod SampleBoards
 mod SampleTests
 mod SampleNets
+mod SampleParts
+mod SampleCaptures
 pub mod SingleLemmas
 pub mod ScanPlaceLemmas
 mod SampleBoardRuns
 mod SampleQuiet
+mod SampleKeeping
+mod SampleRows
+mod SampleLogs
 pub mod CaptureLemmas
+pub mod LogLemmas
+pub mod ComparedLemmas
 pub mod FixedLemmas
 pub mod OneResponseLemmas
 pub mod DrivingLemmas
+pub mod ResponseLogLemmas
+pub mod CellPlaceLemmas
+pub mod SingleBitLemmas
+pub mod SingleLogLemmas

@@ -18,32 +18,32 @@ use Rattle.board_defs.specs.declared.board.Net.{Net}
 use Rattle.board_defs.specs.declared.board.RawBoard.{RawBoard}
 
 -- port bits of a device: those of the test access port come first
-abbrev port_bit : ℕ → Option ℕ → Mode → List ℕ → Bool → PortBit
+abbrev pub port_bit : ℕ → Option ℕ → Mode → List ℕ → Bool → PortBit
 port_bit port index mode pin tap = record { port = port; index = index; mode = mode; pin = Some pin; tap = tap; compliance = false }
 
-abbrev taps : List PortBit
+abbrev pub taps : List PortBit
 taps =
     port_bit 0 None Inward (codes "T1") true ∷ port_bit 1 None Inward (codes "T3") true ∷ port_bit 2 None Inward (codes "T4") true
     ∷ port_bit 3 None Outward (codes "T2") true ∷ []
 
 -- the bits of a port of this mode, with indexes 1 and 2
-abbrev two_bits : Mode → List PortBit
+abbrev pub two_bits : Mode → List PortBit
 two_bits mode = port_bit 4 (Some 1) mode (codes "1") false ∷ port_bit 4 (Some 2) mode (codes "2") false ∷ []
 
-abbrev one_bit : Mode → List PortBit
+abbrev pub one_bit : Mode → List PortBit
 one_bit mode = port_bit 4 None mode (codes "1") false ∷ []
 
-abbrev entry : ℕ → Role → ℕ → Option Control → Cell
+abbrev pub entry : ℕ → Role → ℕ → Option Control → Cell
 entry num role bit ctl = record { num = num; role = role; bit = Some bit; safe = Any; ctl = ctl }
 
 -- a control cell with safe value 1, and the control of a driver that it disables by 1
-abbrev control : ℕ → Cell
+abbrev pub control : ℕ → Cell
 control num = record { num = num; role = ControlRole; bit = None; safe = One; ctl = None }
 
-abbrev by : ℕ → Option Control
+abbrev pub by : ℕ → Option Control
 by cell = Some (record { cell = cell; disable = true })
 
-abbrev device : List PortBit → List Cell → ℕ → RawDevice
+abbrev pub device : List PortBit → List Cell → ℕ → RawDevice
 device bits cells boundary = record {
   entity = codes "E";
   «package» = codes "P";

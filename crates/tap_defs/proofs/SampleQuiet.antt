@@ -19,7 +19,7 @@ use Rattle.tap_defs.proofs.SampleRun.{free_bits}
 use Rattle.tap_defs.proofs.SampleBoards.{ts, rcv1, bus}
 
 -- what is quiet at each moment is uncontested from each to the next
-uncontested_at : (board : RawBoard) (before : List PinState) (moments : List (List PinState)) → StaysQuiet board before moments → (k : ℕ) (now next : List PinState) →
+pub uncontested_at : (board : RawBoard) (before : List PinState) (moments : List (List PinState)) → StaysQuiet board before moments → (k : ℕ) (now next : List PinState) →
     slice_get (before ∷ moments) k ≡ Some now → slice_get moments k ≡ Some next → IsUncontested board now next
 uncontested_at board before [] h k now next e f = cc f
 uncontested_at board before (m ∷ moments) h zero now next e f =
@@ -28,13 +28,13 @@ uncontested_at board before (m ∷ moments) h zero now next e f =
     subst (λ (x : List PinState). IsUncontested board x next) now_is (subst (λ (x : List PinState). IsUncontested board before x) next_is h.1)
 uncontested_at board before (m ∷ moments) h (suc k) now next e f = uncontested_at board m moments h.2 k now next e f
 
-moment_at : (board : RawBoard) (before : List PinState) (moments : List (List PinState)) → StaysQuiet board before moments → (k : ℕ) (now : List PinState) →
+pub moment_at : (board : RawBoard) (before : List PinState) (moments : List (List PinState)) → StaysQuiet board before moments → (k : ℕ) (now : List PinState) →
     slice_get moments k ≡ Some now → IsQuietMoment board now
 moment_at board before [] h k now e = cc e
 moment_at board before (m ∷ moments) h zero now e = let now_is : m ≡ now = cc e in subst (λ (x : List PinState). IsQuietMoment board x) now_is h.0
 moment_at board before (m ∷ moments) h (suc k) now e = moment_at board m moments h.2 k now e
 
-no_set : (board : RawBoard) → IsFaultSet board no_faults
+pub no_set : (board : RawBoard) → IsFaultSet board no_faults
 no_set board = record {
   disjoint = λ n v e. refl;
   several = λ n k e. cc e;
@@ -43,7 +43,7 @@ no_set board = record {
 }
 
 -- all parts in Run-Test/Idle, and all latches 0
-abbrev resting : List Bool → PartState
+abbrev pub resting : List Bool → PartState
 resting cells = record { tap = RunTestIdle; ir = off ∷ off ∷ []; current = Bypass; boundary = cells; bypass = off; identification = []; latches = cells }
 
 abbrev chain : List ChainPart
@@ -64,7 +64,7 @@ start = record {
   );
 }
 
-abbrev choices : Choices
+abbrev pub choices : Choices
 choices k = record { parts = λ j. free_bits; shorts = λ j. off; tdi = on }
 
 -- the chain after the fifth clock, what its pins show then, and what they show after each later clock

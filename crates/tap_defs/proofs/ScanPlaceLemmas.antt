@@ -9,7 +9,7 @@ use Rattle.board_defs.specs.declared.board.RawBoard.{RawBoard}
 use Rattle.tap_defs.specs.TestRows.{TestRow, quiet_row, code_row}
 use Rattle.tap_defs.specs.BoardScans.{RowScan, scan_of_row, pass_scans, row_scans, row_now, row_before, test_scans, AreTestScans}
 
-length-pass_scans : (rows : ℕ → TestRow) (more j : ℕ) (before : TestRow) → length (pass_scans rows more j before) ≡ suc more
+pub length-pass_scans : (rows : ℕ → TestRow) (more j : ℕ) (before : TestRow) → length (pass_scans rows more j before) ≡ suc more
 length-pass_scans rows zero j before = refl
 length-pass_scans rows (suc more) j before = ap suc (length-pass_scans rows more (suc j) (rows j))
 
@@ -19,12 +19,12 @@ length-row_scans rows width [] = omega arith
 length-row_scans rows width (pass ∷ passes) =
     omega (arith, length-append (pass_scans (rows pass) width 0 quiet_row) (row_scans rows width passes), length-pass_scans (rows pass) width 0 quiet_row, length-row_scans rows width passes)
 
-front_at : {A : Type 0} (xs ys : List A) (i : ℕ) → i < length xs → slice_get (xs ++ ys) i ≡ slice_get xs i
+pub front_at : {A : Type 0} (xs ys : List A) (i : ℕ) → i < length xs → slice_get (xs ++ ys) i ≡ slice_get xs i
 front_at [] ys i h = absurd (omega (arith, h))
 front_at (x ∷ xs) ys zero h = refl
 front_at (x ∷ xs) ys (suc i) h = front_at xs ys i (omega (arith, h))
 
-rest_at : {A : Type 0} (xs ys : List A) (i k : ℕ) → k ≡ length xs + i → slice_get (xs ++ ys) k ≡ slice_get ys i
+pub rest_at : {A : Type 0} (xs ys : List A) (i k : ℕ) → k ≡ length xs + i → slice_get (xs ++ ys) k ≡ slice_get ys i
 rest_at [] ys i k e = let z : k ≡ i = omega (arith, e) in ap (λ (n : ℕ). slice_get ys n) z
 rest_at (x ∷ xs) ys i zero e = absurd (omega (arith, e))
 rest_at (x ∷ xs) ys i (suc k) e = rest_at xs ys i k (omega (arith, e))
@@ -33,7 +33,7 @@ abbrev placed : (ℕ → TestRow) → ℕ → ℕ → RowScan
 placed rows width k = record { now = row_now rows width k; before = row_before rows k }
 
 -- scan i of those from row j on is scan k of the pass
-pass_scan_at : (rows : ℕ → TestRow) (width more j i k : ℕ) (before : TestRow) → before ≡ row_before rows j → width ≡ j + more → k ≡ j + i →
+pub pass_scan_at : (rows : ℕ → TestRow) (width more j i k : ℕ) (before : TestRow) → before ≡ row_before rows j → width ≡ j + more → k ≡ j + i →
     i ≤ more →
     slice_get (pass_scans rows more j before) i ≡ Some (placed rows width k)
 pass_scan_at rows width zero j zero k before e w z h =

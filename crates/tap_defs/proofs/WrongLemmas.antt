@@ -56,7 +56,7 @@ pub record Compared (board : RawBoard) (setting : Enabling) (n : ℕ) (net : Net
   pub other : (driver == place) ≡ false
 
 -- what it is to have
-expects : (board : RawBoard) (row : TestRow) (n : ℕ) (net : Net) (c : Compared board row.setting n net) →
+pub expects : (board : RawBoard) (row : TestRow) (n : ℕ) (net : Net) (c : Compared board row.setting n net) →
     expect_bit board row c.k c.device c.cell ≡ row.carried n
 expects board row n net c =
     ap (λ (o : Option Cell). expect_entry board row c.k o) c.reads
@@ -68,7 +68,7 @@ expects board row n net c =
     ∙ ap (λ (b : Bool). only_if (not b) (row.carried n)) c.other
 
 -- what it captures: the pin is no live driver
-captures : (board : RawBoard) (faults : FaultSet) (setting : Enabling) (n : ℕ) (net : Net) (pin_state : List PinState) (shorts : ℕ → Bool) (w : Bool) (c : Compared board setting n net) →
+pub captures : (board : RawBoard) (faults : FaultSet) (setting : Enabling) (n : ℕ) (net : Net) (pin_state : List PinState) (shorts : ℕ → Bool) (w : Bool) (c : Compared board setting n net) →
     live_where board pin_state (Some (record { part = c.k; bit = c.bit })) ≡ false →
     read_entry board faults pin_state shorts w c.k (reading_entry c.device c.cell) ≡ unwrap_or (faults.opened n c.place) (unwrap_or (net_bit board faults pin_state shorts n net) w)
 captures board faults setting n net pin_state shorts w c dead =

@@ -1,5 +1,6 @@
 -- The scans of a test of a board, and their text.
 use Rattle.std.specs.Prelude.{◌≡◌, ℕ, zero, suc, ◌+◌, ◌*◌, ◌≤◌, ◌==◌, nat_lt, Bool, true, false, cond, List, [], ◌∷◌, ◌++◌, length, map, take, replicate, Some, None, is_some, count_by, slice_get}
+use Rattle.std.specs.List.{list_any}
 use Rattle.board_defs.specs.declared.board.PartKind.{PartKind}
 use Rattle.board_defs.specs.declared.board.PartKind.TheVariants.{Described, Bypass}
 use Rattle.board_defs.specs.declared.board.Part.{Part}
@@ -124,10 +125,18 @@ board_text board = svf_text (svf_scans board)
 abbrev pub is_walked : RawBoard → List Ctl → Net → Bool
 is_walked board walk net = is_some (observing_driver board (holds walk) net)
 
+-- the pass observes some net
+abbrev pub observes_some : RawBoard → List Ctl → Bool
+observes_some board pass = list_any (is_walked board pass) board.nets
+
 -- row j of the walking test: the walk net at place j carries 1, and the others carry 0
 abbrev pub walk_row : RawBoard → List Ctl → ℕ → TestRow
 walk_row board walk j = record { setting = holds walk; carried = λ n. Some (count_by (is_walked board walk) (take n board.nets) == j) }
 
--- the text of the walking test, for a board with a pass: a row for each walk net
+-- the scans of data of the walking test, for a board with a pass: a row for each walk net
+abbrev pub walk_row_scans : RawBoard → List Ctl → List RowScan
+walk_row_scans board walk = row_scans (walk_row board) (count_by (is_walked board walk) board.nets) (walk ∷ [])
+
+-- the text of the walking test
 abbrev pub walk_text : RawBoard → List Ctl → List ℕ
-walk_text board walk = svf_text (board_scans board (row_scans (walk_row board) (count_by (is_walked board walk) board.nets) (walk ∷ [])))
+walk_text board walk = svf_text (board_scans board (walk_row_scans board walk))

@@ -25,3 +25,4 @@ pub mod RowCaptures
 pub mod RowDriving
 pub mod BoardTest
 pub mod Explaining
+pub mod SingleBits

@@ -2,6 +2,7 @@
 #![tactic(auto)]
 
 pub mod law;
+pub mod log_law;
 mod scan;
 mod tap;
 

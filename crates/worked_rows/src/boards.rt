@@ -7,7 +7,7 @@ use std::test::Fail;
 use std::thread::Threads;
 
 /// The line of refusal that both commands give for a board, which has the words behind the command's name.
-fn is_refused<R: Abort + Threads>(
+fn is_refused<R: Abort + Sync + Threads>(
     rt: &R,
     alloc: Global,
     words: &str,

@@ -184,7 +184,10 @@ fn words_that_are_no_command_fetch_nothing(rt: HostRuntime) -> Result<(), Fail> 
         "svf c",
         "cover c",
         "cover",
+        "make",
+        "make 2 c",
         "make -- 2",
+        "ident",
         "diagnose 0 g c n drv rcv",
         "diagnose 65 g c n drv rcv",
         "--version",
@@ -216,6 +219,11 @@ fn a_text_that_is_not_read_is_named(rt: HostRuntime) -> Result<(), Fail> {
     let mut bench = Bench::with_texts(alloc, &[("c", TWO_PARTS.as_bytes())])?;
     assert_eq!(rt; bench.run(&rt, "chain d")?, Status::ReadFault);
     assert_eq!(rt; bench.notes.bytes(), b"cannot read d\n".as_slice());
+    // The text isn't tried again, though its name stands twice among the words.
+    let mut bench = Bench::with_texts(alloc, &[("c", TWO_PARTS.as_bytes())])?;
+    bench.store.fail_at(1)?;
+    assert_eq!(rt; bench.run(&rt, "chain c c")?, Status::ReadFault);
+    assert_eq!(rt; bench.notes.bytes(), b"cannot read c\n".as_slice());
     Ok(())
 }
 

@@ -1,4 +1,5 @@
 // What safe settings can reach, as the coverage list says it.
+use crate::devices::{RCV1, edited};
 use crate::runs::{Bench, CHAIN, NETS};
 use btest_cli::Status;
 use std::alloc::Global;
@@ -7,7 +8,7 @@ use std::test::Fail;
 use std::thread::Threads;
 
 /// The coverage list of a board.
-fn is_listed<R: Abort + Threads>(
+fn is_listed<R: Abort + Sync + Threads>(
     rt: &R,
     alloc: Global,
     words: &str,
@@ -139,4 +140,73 @@ fn a_driver_and_a_receiver_are_covered(rt: HostRuntime) -> Result<(), Fail> {
         NETS,
         "NETS 2 COVERED 2\n",
     )
+}
+
+/// The coverage list of a three-state driver and a receiver whose text has these places changed, on one net.
+fn is_listed_beside<R: Abort + Sync + Threads>(
+    rt: &R,
+    alloc: Global,
+    edits: &[(&str, &str)],
+    more: &str,
+    nets: &str,
+    list: &str,
+) -> Result<(), Fail> {
+    let chain = format!(in alloc; "DEVICE U1 TS -\nDEVICE U2 RCV1 -\n{more}")?;
+    let mut bench = Bench::with_board(alloc, &chain, nets)?;
+    bench
+        .store
+        .add("changed", edited(alloc, RCV1, edits)?.as_bytes())?;
+    assert_eq!(rt;
+        bench.run(rt, "cover c n ts changed")?,
+        Status::Done,
+        "{list}"
+    );
+    assert_eq!(rt; bench.out.bytes(), list.as_bytes(), "{list}");
+    Ok(())
+}
+
+#[test]
+fn a_cell_that_only_observes_is_no_receiver(rt: HostRuntime) -> Result<(), Fail> {
+    let alloc = rt.alloc();
+    let net = "NET N U1.1 U2.1";
+    let covered = "NETS 1 COVERED 1\n";
+    is_listed_beside(&rt, alloc, &[], "", net, covered)?;
+    is_listed_beside(&rt, alloc, &[("D, input", "D, clock")], "", net, covered)?;
+    let unread = "NETS 1 COVERED 0\nNET N NORECEIVER\n";
+    is_listed_beside(
+        &rt,
+        alloc,
+        &[("D, input", "D, observe_only")],
+        "",
+        net,
+        unread,
+    )
+}
+
+#[test]
+fn supplies_and_compliance_pins_guard_their_nets(rt: HostRuntime) -> Result<(), Fail> {
+    let alloc = rt.alloc();
+    let net = "NET N U1.1 U2.1";
+    let supply = "NETS 1 COVERED 0\nNET N SUPPLY\n";
+    is_listed_beside(&rt, alloc, &[], "SUPPLY N", net, supply)?;
+    let pattern = "attribute COMPLIANCE_PATTERNS of RCV1 : entity is \"(D) (1)\";\nend RCV1;";
+    let guarded = "NETS 1 COVERED 0\nNET N TESTPORT\n";
+    is_listed_beside(&rt, alloc, &[("end RCV1;", pattern)], "", net, guarded)
+}
+
+#[test]
+fn pins_that_nobody_rules_darken_their_nets(rt: HostRuntime) -> Result<(), Fail> {
+    let alloc = rt.alloc();
+    let nets = "NET N U1.1 U2.1 U2.2";
+    let dark = "NETS 1 COVERED 0\nNET N DARK\n";
+    let map = ("D:1", "D:1, E:2");
+    // A linkage pin, an input without an entry, and an output that is only read.
+    let linkage = ("D : in bit", "D : in bit; E : linkage bit");
+    is_listed_beside(&rt, alloc, &[linkage, map], "", nets, dark)?;
+    let input = ("D : in bit", "D : in bit; E : in bit");
+    is_listed_beside(&rt, alloc, &[input, map], "", nets, dark)?;
+    let output = ("D : in bit", "D : in bit; E : out bit");
+    let length = ("entity is 1;", "entity is 2;");
+    let entries = ("D, input, X)\"", "D, input, X), 1 (BC_1, E, input, X)\"");
+    is_listed_beside(&rt, alloc, &[output, map, length, entries], "", nets, dark)
 }

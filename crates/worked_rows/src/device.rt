@@ -1,8 +1,8 @@
 // The listing of a device, and why a text describes none.
-use crate::devices::{BUF2, BUF2_LISTING, DRV, DRV1, RCV, RCV1};
+use crate::devices::{BUF2, BUF2_LISTING, DRV, DRV1, RCV, RCV1, edited};
 use crate::runs::Bench;
 use btest_cli::Status;
-use std::alloc::{AllocError, Global};
+use std::alloc::Global;
 use std::process::Abort;
 use std::test::Fail;
 use std::thread::Threads;
@@ -10,15 +10,6 @@ use std::thread::Threads;
 const DRV_LISTING: &str =
     "ENTITY DRV\nPACKAGE P\nIR 2 SAMPLE 10 IDCODE -\nPORT TDI IN T1\nPORT TMS IN T3\nPORT TCK IN T4\n\
                            PORT TDO OUT T2\nPORT Q OUT 1 2\nCELL 0 OUTPUT2 Q(1) X\nCELL 1 OUTPUT2 Q(2) X\n";
-
-/// The text with each of these places changed.
-fn edited(alloc: Global, text: &str, edits: &[(&str, &str)]) -> Result<String, AllocError> {
-    let mut edited = String::from_str(alloc, text)?;
-    for (old, new) in edits {
-        edited = edited.as_str().replace(alloc, *old, new)?;
-    }
-    Ok(edited)
-}
 
 #[test]
 fn lists_a_device(rt: HostRuntime) -> Result<(), Fail> {
@@ -125,7 +116,7 @@ fn refuses_texts_outside_the_grammar(rt: HostRuntime) -> Result<(), Fail> {
 }
 
 /// Tries changes of a text, each with the line by which the text is refused.
-fn refuses<R: Abort + Threads>(
+fn refuses<R: Abort + Sync + Threads>(
     rt: &R,
     alloc: Global,
     text: &str,

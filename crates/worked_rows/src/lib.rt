@@ -12,6 +12,14 @@ mod device;
 #[cfg(test)]
 mod devices;
 #[cfg(test)]
+mod diagnose;
+#[cfg(test)]
+mod generated;
+#[cfg(test)]
+mod ident;
+#[cfg(test)]
+mod make;
+#[cfg(test)]
 mod runs;
 #[cfg(test)]
 mod svf;

@@ -66,7 +66,7 @@ impl Bench {
     }
 
     /// Runs a command line, whose words are separated by spaces.
-    pub fn run(&mut self, rt: &impl Threads, line: &str) -> Result<Status, AllocError> {
+    pub fn run(&mut self, rt: &(impl Threads + Sync), line: &str) -> Result<Status, AllocError> {
         let mut words = Vec::new(self.alloc);
         for word in line.split(' ') {
             words.push(String::from_str(self.alloc, word)?)?;
@@ -75,7 +75,7 @@ impl Bench {
     }
 
     /// Runs the words of a command line.
-    pub fn run_words(&mut self, rt: &impl Threads, words: &[String]) -> Status {
+    pub fn run_words(&mut self, rt: &(impl Threads + Sync), words: &[String]) -> Status {
         run(
             rt,
             self.alloc,

@@ -1,4 +1,5 @@
 // The test of a board.
+use crate::devices::{TS, edited};
 use crate::runs::{Bench, CHAIN, HEAD, NETS, SCANS, TAIL};
 use btest_cli::Status;
 use std::alloc::Global;
@@ -7,7 +8,7 @@ use std::test::Fail;
 use std::thread::Threads;
 
 /// The scans of a board's test.
-fn is_tested_by<R: Abort + Threads>(
+fn is_tested_by<R: Abort + Sync + Threads>(
     rt: &R,
     alloc: Global,
     words: &str,
@@ -166,6 +167,54 @@ fn a_text_of_a_board_that_is_not_read_is_named(rt: HostRuntime) -> Result<(), Fa
     let mut bench = Bench::with_board(alloc, CHAIN, NETS)?;
     assert_eq!(rt; bench.run(&rt, "svf c n drv none")?, Status::ReadFault);
     assert_eq!(rt; bench.notes.bytes(), b"cannot read none\n".as_slice());
+    Ok(())
+}
+
+#[test]
+fn the_first_text_that_is_bad_ends_the_run(rt: HostRuntime) -> Result<(), Fail> {
+    let alloc = rt.alloc();
+    let long = vec![in alloc; b' '; 4_194_305]?;
+    // The chain file is too long, and the net file would fail.
+    let mut bench = Bench::with_board(alloc, CHAIN, NETS)?;
+    bench.store.add("c", &long)?;
+    bench.store.fail_at(2)?;
+    assert_eq!(rt; bench.run(&rt, "svf c n drv rcv")?, Status::Refused);
+    assert_eq!(rt;
+        bench.notes.bytes(),
+        b"c: longer than 4194304 bytes\n".as_slice()
+    );
+    // The chain file fails, and the net file would be too long.
+    let mut bench = Bench::with_board(alloc, CHAIN, NETS)?;
+    bench.store.add("n", &long)?;
+    bench.store.fail_at(1)?;
+    assert_eq!(rt; bench.run(&rt, "svf c n drv rcv")?, Status::ReadFault);
+    assert_eq!(rt; bench.notes.bytes(), b"cannot read c\n".as_slice());
+    Ok(())
+}
+
+#[test]
+fn a_cell_keeps_its_safe_value(rt: HostRuntime) -> Result<(), Fail> {
+    let alloc = rt.alloc();
+    let internal = [
+        (
+            "entity is 2;\nattribute BOUNDARY_REGISTER",
+            "entity is 3;\nattribute BOUNDARY_REGISTER",
+        ),
+        ("control, 1)\"", "control, 1), 2 (BC_1, *, internal, 1)\""),
+    ];
+    let mut bench = Bench::with_board(
+        alloc,
+        "DEVICE U1 TS -\nDEVICE U2 RCV1 -",
+        "NET N U1.1 U2.1",
+    )?;
+    bench
+        .store
+        .add("ts", edited(alloc, TS, &internal)?.as_bytes())?;
+    assert_eq!(rt; bench.run(&rt, "svf c n ts rcv1")?, Status::Done);
+    let scans = "SIR 4 TDI (A) TDO (5) MASK (F);\nSDR 4 TDI (C);\nSIR 4 TDI (0) TDO (5) MASK (F);\n\
+                 SDR 4 TDI (A);\nSDR 4 TDI (8) TDO (1) MASK (1);\nSDR 4 TDI (C) TDO (0) MASK (1);\n";
+    let text = format!(in alloc; "{HEAD}{scans}{TAIL}")?;
+    assert_eq!(rt; bench.out.bytes(), text.as_bytes());
     Ok(())
 }
 

@@ -2,10 +2,11 @@
 use Rattle.std.proofs.Common.{◌≡◌, ◌+◌, ◌<◌, ◌≤◌, ◌^◌, ◌++◌, ◌∷◌, [], length, map, ap, ◌∙◌, sym, rules, arith}
 use Rattle.std.specs.Prelude.{option_copied}
 use Rattle.std.proofs.lemmas.List.{length-map}
-use Rattle.board_files.specs.Words.{lines_of}
+use Rattle.text_lines.specs.Words.{lines_of}
 use Rattle.board_files.specs.Reading.{lines_from, text_of}
 use Rattle.board_files.specs.NetLines.{net_line}
-use Rattle.board_files.proofs.LineLemmas.{front, at_line, at_words, at_blank, at_some, next_place, line_within, has_bytes, front_step}
+use Rattle.board_files.proofs.LineLemmas.{front, at_line, at_words, at_blank, front_step}
+use Rattle.text_lines.proofs.LineLemmas.{at_some, next_place, line_within, has_bytes}
 use Rattle.board_files.proofs.net_file.read_lines.Goals as goal
 use Rattle.board_files.proofs.net_file.read_lines.Goals.{then-not-is_empty+in_ok-net_line+in_ok-push, else-not-is_empty}
 

@@ -1,9 +1,10 @@
 use Rattle.std.proofs.Common.{◌≡◌, ◌+◌, ◌≤◌, length}
 use Rattle.std.specs.Prelude.{IfSome, option_copied}
-use Rattle.board_files.specs.Words.{lines_of}
+use Rattle.text_lines.specs.Words.{lines_of}
 use Rattle.board_files.specs.Reading.{lines_from, text_of}
 use Rattle.board_files.specs.NetLines.{net_line}
-use Rattle.board_files.proofs.LineLemmas.{front, text_left}
+use Rattle.board_files.proofs.LineLemmas.{front}
+use Rattle.text_lines.proofs.LineLemmas.{text_left}
 use Rattle.board_files.proofs.net_file.read_lines.Given as goal
 
 -- the lines so far, and then those of the text that is left

@@ -3,7 +3,7 @@ use Rattle.bt_base.specs.Puts.{Puts}
 use Rattle.tap_defs.specs.BoardScans.{board_text}
 use Rattle.btest_core.specs.BoardRead.{IsBoardRead}
 use Rattle.command_line.specs.Words.{Text}
-use Rattle.btest_cli.specs.Outcome.{TestsBoard}
+use Rattle.btest_cli.specs.Worth.{TestsBoard}
 use Rattle.btest_cli.proofs.AnswerLemmas.{answers_fault, takes_by, cut_by}
 use Rattle.btest_cli.proofs.TestLemmas.{plan_text}
 use Rattle.btest_cli.proofs.board_test.svf.Goals as goal

@@ -95,7 +95,7 @@ returns-clause-plan c =
     let cells_now = c.as_slice-2.result.now in
     let readers_now = c.as_slice-readers.result.now in
     let n : ℕ = length board.nets in
-    is_plan board c.raw.ensures.rules _ c.requires.plannable (c.of.ensures ∙ c.in_ok-quiet.ensures) c.in_ok-nets.ensures.readers
+    is_plan board c.raw.ensures.rules _ c.requires.plannable (c.of.ensures ∙ c.in_ok-quiet.ensures) c.in_ok-nets.ensures.readers c.in_ok-drivers.ensures
     (subst (λ (p : List (List Ctl)). ArePassTables board p c.in_ok-tables.tables) c.as_slice.ensures c.in_ok-tables.ensures)
     c.deref-2.result.now
     (c.deref-2.ensures.value ∙ c.in_ok-seen.ensures

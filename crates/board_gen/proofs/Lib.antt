@@ -1,0 +1,3 @@
+mod EachLemmas
+mod LengthLemmas
+mod Samples

@@ -1,0 +1,3 @@
+pub mod BoardTexts
+pub mod DeviceText
+pub mod Short

@@ -1,0 +1,9 @@
+-- How long the texts of a generated board are.
+use Rattle.std.specs.Prelude.{◌≤◌, length}
+use Rattle.board_gen.specs.declared.Made.{Made}
+
+-- none is longer than a chain file, a net file or a BSDL text may be
+pub record AreShort (made : Made) : Type 0 where
+  pub chain : length made.chain.items ≤ 4194304
+  pub nets : length made.nets.items ≤ 4194304
+  pub bsdl : length made.bsdl.items ≤ 4194304

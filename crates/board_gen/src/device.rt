@@ -1,0 +1,154 @@
+// The BSDL text.
+ghost use Rattle.std.specs.Prelude.{◌≡◌, ◌==◌, ◌+◌, ◌/◌, ◌≤◌, ◌<◌, ◌++◌, codes, decimal, if◌then◌else◌, IfOk, OnOk};
+ghost use Rattle.board_gen.specs.BoardTexts.{each};
+ghost use Rattle.board_gen.specs.DeviceText.{attributes_text, bsdl_text, cell_line, cell_text, head_text, map_line, numbers};
+
+use crate::pieces::{push_number, push_numbered};
+use std::alloc::{AllocError, Global};
+
+// How many cells the boundary register has.
+const CELLS: u32 = 77;
+
+// The BSDL text of the device.
+#[tactic(auto, unfolding(crate::specs::DeviceText::bsdl_text))]
+pub fn bsdl(alloc: Global) -> Result<Vec<u8>, AllocError>
+    ensures { IfOk result (λ text. text.items ≡ bsdl_text) }
+{
+    let mut text = Vec::new(alloc);
+    push_head(&mut text)?;
+    push_map(&mut text)?;
+    push_attributes(&mut text)?;
+    push_cells(&mut text)?;
+    text.extend_from_slice(b"end GEN;\n")?;
+    Ok(text)
+}
+
+// Appends the lines before the pin map.
+#[tactic(auto, unfolding(crate::specs::DeviceText::head_text))]
+fn push_head(text: &mut Vec<u8>) -> Result<(), AllocError>
+    ensures { OnOk result (text.new.items ≡ text.old.items ++ head_text) }
+{
+    text.extend_from_slice(
+        b"entity GEN is
+generic (PHYSICAL_PIN_MAP : string := \"P\");
+port (TDI, TMS, TCK : in bit; TDO : out bit; Q : out bit_vector(0 to 31); D : in bit_vector(0 to 31); B : inout bit_vector(0 to 7));
+use STD_1149_1_1994.all;
+attribute PIN_MAP of GEN : entity is PHYSICAL_PIN_MAP;
+",
+    )
+}
+
+// Appends the pins of the ports.
+#[tactic(auto, unfolding(crate::specs::DeviceText::map_line))]
+fn push_map(text: &mut Vec<u8>) -> Result<(), AllocError>
+    ensures { OnOk result (text.new.items ≡ text.old.items ++ map_line) }
+{
+    text.extend_from_slice(
+        b"constant P : PIN_MAP_STRING := \"TDI:T1, TDO:T2, TMS:T3, TCK:T4, Q:(",
+    )?;
+    push_numbers(text, 1, 32)?;
+    text.extend_from_slice(b"), D:(")?;
+    push_numbers(text, 33, 32)?;
+    text.extend_from_slice(b"), B:(")?;
+    push_numbers(text, 65, 8)?;
+    text.extend_from_slice(b")\";\n")
+}
+
+// Appends so many numbers, with commas between them.
+fn push_numbers(text: &mut Vec<u8>, first: u32, count: u32) -> Result<(), AllocError>
+    requires some { 1 ≤ count }
+    requires few { first + count < 1000 }
+    ensures { OnOk result (text.new.items ≡ text.old.items ++ numbers first count) }
+{
+    push_number(text, first)?;
+    for number in first + 1..first + count {
+        push_numbered(text, b",", number)?;
+    }
+    Ok(())
+}
+
+// Appends the lines from the pin map to the boundary register.
+#[tactic(auto, unfolding(crate::specs::DeviceText::attributes_text))]
+fn push_attributes(text: &mut Vec<u8>) -> Result<(), AllocError>
+    ensures { OnOk result (text.new.items ≡ text.old.items ++ attributes_text) }
+{
+    text.extend_from_slice(
+        b"attribute TAP_SCAN_IN of TDI : signal is true;
+attribute TAP_SCAN_OUT of TDO : signal is true;
+attribute TAP_SCAN_MODE of TMS : signal is true;
+attribute TAP_SCAN_CLOCK of TCK : signal is (10.0e6, BOTH);
+attribute INSTRUCTION_LENGTH of GEN : entity is 2;
+attribute INSTRUCTION_OPCODE of GEN : entity is \"BYPASS (11), EXTEST (00), SAMPLE (10)\";
+attribute INSTRUCTION_CAPTURE of GEN : entity is \"01\";
+attribute BOUNDARY_LENGTH of GEN : entity is 77;
+attribute BOUNDARY_REGISTER of GEN : entity is
+",
+    )
+}
+
+// Appends the lines of the cells.
+fn push_cells(text: &mut Vec<u8>) -> Result<(), AllocError>
+    ensures { OnOk result (text.new.items ≡ text.old.items ++ each cell_line 0 77) }
+{
+    for cell in 0..CELLS {
+        push_cell_line(text, cell)?;
+    }
+    Ok(())
+}
+
+// Appends the line of a cell.
+fn push_cell_line(text: &mut Vec<u8>, cell: u32) -> Result<(), AllocError>
+    ensures { OnOk result (text.new.items ≡ text.old.items ++ cell_line cell) }
+{
+    push_numbered(text, b"\"", cell)?;
+    push_cell(text, cell)?;
+    text.extend_from_slice(end_of(cell))
+}
+
+// What ends the line of a cell: the last one ends the string.
+fn end_of(cell: u32) -> &'static [u8]
+    ensures { result.now ≡ (if cell == 76 then codes "\";\n" else codes ",\" &\n") }
+{
+    if cell == CELLS - 1 {
+        b"\";\n"
+    } else {
+        b",\" &\n"
+    }
+}
+
+// Appends what the boundary register has at a cell.
+fn push_cell(text: &mut Vec<u8>, cell: u32) -> Result<(), AllocError>
+    ensures { OnOk result (text.new.items ≡ text.old.items ++ cell_text cell) }
+{
+    match cell {
+        0..=4 => text.extend_from_slice(b" (BC_1, *, control, 1)"),
+        5..=36 => push_output(text, cell - 5),
+        37..=68 => push_input(text, cell - 37),
+        _ => push_bus_cell(text, cell - 69),
+    }
+}
+
+// Appends the cell of an output: each eight of them have one control.
+fn push_output(text: &mut Vec<u8>, index: u32) -> Result<(), AllocError>
+    ensures { OnOk result (text.new.items ≡ text.old.items ++ (codes " (BC_1, Q(" ++ decimal index ++ codes "), output3, X, " ++ decimal (index / 8) ++ codes ", 1, Z)")) }
+{
+    push_numbered(text, b" (BC_1, Q(", index)?;
+    push_numbered(text, b"), output3, X, ", index / 8)?;
+    text.extend_from_slice(b", 1, Z)")
+}
+
+// Appends the cell of an input.
+fn push_input(text: &mut Vec<u8>, index: u32) -> Result<(), AllocError>
+    ensures { OnOk result (text.new.items ≡ text.old.items ++ (codes " (BC_1, D(" ++ decimal index ++ codes "), input, X)")) }
+{
+    push_numbered(text, b" (BC_1, D(", index)?;
+    text.extend_from_slice(b"), input, X)")
+}
+
+// Appends the cell of a pin of the bus.
+fn push_bus_cell(text: &mut Vec<u8>, index: u32) -> Result<(), AllocError>
+    ensures { OnOk result (text.new.items ≡ text.old.items ++ (codes " (BC_7, B(" ++ decimal index ++ codes "), bidir, X, 4, 1, Z)")) }
+{
+    push_numbered(text, b" (BC_7, B(", index)?;
+    text.extend_from_slice(b"), bidir, X, 4, 1, Z)")
+}

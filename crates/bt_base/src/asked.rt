@@ -1,0 +1,34 @@
+//! What a store was asked for. Only proofs see it: it takes no memory, and its methods do nothing at run time.
+ghost use Rattle.std.specs.Prelude.{◌≡◌, ℕ, List, [], ◌∷◌, ◌++◌};
+ghost use Rattle.std.specs.Borrow.{ftrue};
+
+use std::marker::Model;
+
+/// The names of the fetches so far, in their order.
+#[derive(Drop)]
+pub(crate) struct Asked {
+    pub ghost names: { List (List ℕ) },
+}
+
+impl Model for Asked {
+    ghost also_owns = { λ _. ftrue };
+}
+
+impl Asked {
+    pub(crate) fn nothing() -> Asked
+        ensures { result.names ≡ [] }
+    {
+        Asked {}
+    }
+
+    pub(crate) fn and(&self, name: &&str) -> Asked
+        ensures { result.names ≡ self.now.names ++ name.now.now ∷ [] }
+    {
+        Asked {}
+    }
+}
+
+// It owns nothing.
+unsafe impl Send for Asked {}
+
+unsafe impl Sync for Asked {}

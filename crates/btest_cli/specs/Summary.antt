@@ -1,0 +1,21 @@
+-- What `make` says of a generated board.
+use Rattle.std.specs.Prelude.{ℕ, [], ◌∷◌, length, codes, decimal, min}
+use Rattle.bt_base.specs.Counts.{last_count}
+use Rattle.line_printer.specs.Prints.{line_of}
+use Rattle.board_defs.specs.declared.board.RawBoard.{RawBoard}
+use Rattle.board_defs.specs.Passes.{passes_of}
+use Rattle.tap_defs.specs.BoardScans.{board_text, svf_scans}
+use Rattle.coverage_list.specs.CoverText.{covered}
+use Rattle.command_line.specs.Words.{Text}
+
+-- the line of these counts
+abbrev pub counts_line : ℕ → ℕ → ℕ → ℕ → ℕ → ℕ → Text
+counts_line devices nets covered passes scans bytes =
+    line_of (codes "DEVICES " ∷ decimal devices ∷ codes " NETS " ∷ decimal nets ∷ codes " COVERED " ∷ decimal covered ∷ codes " PASSES " ∷ decimal passes
+    ∷ codes " SCANS " ∷ decimal scans ∷ codes " BYTES " ∷ decimal bytes ∷ [])
+
+-- the devices of a board, its nets, those that are covered, and the passes, the scans and the bytes of its test: a text that is longer
+-- than the greatest number of 64 bits counts as that
+abbrev pub summary_text : RawBoard → Text
+summary_text board =
+    counts_line (length board.chain) (length board.nets) (length (covered board)) (length (passes_of board)) (length (svf_scans board)) (min (length (board_text board)) last_count)

@@ -1,0 +1,116 @@
+// The identification codes of a chain.
+ghost use Rattle.std.specs.Prelude.{◌≡◌, ◌<◌, ◌≤◌, ◌^◌, All, IfOk, IfSome, length, map};
+ghost use Rattle.board_build.specs.ChainParts.{IsChain};
+ghost use Rattle.board_build.specs.Names.{named};
+ghost use Rattle.board_build.specs.declared.names.Naming.TheVariants.{Entity as EntityName};
+ghost use Rattle.btest_core.specs.Answers.{Gives, Is};
+ghost use Rattle.btest_core.specs.IdentsRead.{is_bypass, first_bypass, idents_unless, AreFileIdents, AreIdents};
+
+use crate::chain::chain_file;
+use crate::devices::devices;
+use crate::fault::InputFault;
+use board_defs::{Code, Device};
+use board_files::{ChainFile, ChainLine, ChainStatement};
+use std::alloc::{AllocError, Global};
+
+// The pattern of a device's identification code, where it has one.
+fn ident_of(alloc: Global, device: &Device) -> Result<Option<Code>, AllocError>
+    ensures ident { IfOk result (λ ident. ident ≡ device.now.idcode) }
+    ensures symbols { IfOk result (λ ident. IfSome ident (λ code. length code ≡ 32)) }
+{
+    match &device.raw().idcode {
+        Some(code) => Ok(Some(Code::of(alloc, code.symbols())?)),
+        None => Ok(None),
+    }
+}
+
+// The patterns of these devices.
+fn idents_of(alloc: Global, devices: &[Device]) -> Result<Vec<Option<Code>>, AllocError>
+    ensures idents { IfOk result (λ idents. idents.items ≡ map (λ device. device.idcode) devices.now) }
+    ensures symbols { IfOk result (λ idents. All (λ ident. IfSome ident (λ code. length code ≡ 32)) idents.items) }
+{
+    let mut idents = Vec::new(alloc);
+    for device in devices {
+        idents.push(ident_of(alloc, device)?)?;
+    }
+    Ok(idents)
+}
+
+// Whether a line has a part without a description.
+fn is_bypass(statement: &ChainStatement) -> bool
+    ensures { result ≡ is_bypass statement.now }
+{
+    matches!(statement, ChainStatement::Bypass { .. })
+}
+
+// The number of the first line with a part without a description.
+fn first_bypass(lines: &[ChainLine]) -> Option<u32>
+    ensures { result ≡ first_bypass lines.now }
+{
+    for line in lines {
+        if is_bypass(&line.statement) {
+            return Some(line.line);
+        }
+    }
+    None
+}
+
+// The patterns of the devices of a chain, unless one of its parts has no description.
+fn idents_unless_bypass(
+    alloc: Global,
+    file: &ChainFile,
+    devices: &[Device],
+) -> Result<Vec<Option<Code>>, InputFault>
+    requires chain { IsChain file.now }
+    requires devices { length devices.now ≡ length (named EntityName file.now) }
+    ensures read { Gives (λ idents. idents.items) (Is (idents_unless (first_bypass file.now) devices.now)) result }
+    ensures count { IfOk result (λ idents. (0 < length idents.items) × (length idents.items ≤ 255)) }
+    ensures symbols { IfOk result (λ idents. All (λ ident. IfSome ident (λ code. length code ≡ 32)) idents.items) }
+{
+    match first_bypass(file.lines()) {
+        Some(line) => Err(InputFault::NoIdent(line)),
+        None => Ok(idents_of(alloc, devices)?),
+    }
+}
+
+// The patterns of a chain file.
+fn file_idents(
+    alloc: Global,
+    file: &ChainFile,
+    bsdl: &[Vec<u8>],
+) -> Result<Vec<Option<Code>>, InputFault>
+    requires lines { length file.now < 2 ^ 32 }
+    requires each { All (λ text. length text.items < 2 ^ 32) bsdl.now }
+    requires count { length bsdl.now < 2 ^ 32 }
+    ensures read { Gives (λ idents. idents.items) (AreFileIdents file.now (map (λ text. text.items) bsdl.now)) result }
+    ensures count { IfOk result (λ idents. (0 < length idents.items) × (length idents.items ≤ 255)) }
+    ensures symbols { IfOk result (λ idents. All (λ ident. IfSome ident (λ code. length code ≡ 32)) idents.items) }
+{
+    match devices(alloc, file, bsdl) {
+        Ok(devices) => idents_unless_bypass(alloc, file, &devices),
+        Err(fault) => Err(fault),
+    }
+}
+
+/// The patterns of the identification codes of a chain's parts, in the order from TDI to TDO: 1 to
+/// 255 entries, `None` for a device without such a code, else 32 symbols. Otherwise the first fault
+/// of the chain file, of the BSDL texts, of the board rules that a chain keeps, or of the devices of
+/// its DEVICE lines, and after all these `NoIdent` with the line of the first BYPASS line, since what
+/// such a part selects after a reset isn't known.
+pub fn read_idents(
+    alloc: Global,
+    chain: &[u8],
+    bsdl: &[Vec<u8>],
+) -> Result<Vec<Option<Code>>, InputFault>
+    requires size { length chain.now < 2 ^ 32 }
+    requires each { All (λ text. length text.items < 2 ^ 32) bsdl.now }
+    requires count { length bsdl.now < 2 ^ 32 }
+    ensures read { Gives (λ idents. idents.items) (AreIdents chain.now (map (λ text. text.items) bsdl.now)) result }
+    ensures count { IfOk result (λ idents. (0 < length idents.items) × (length idents.items ≤ 255)) }
+    ensures symbols { IfOk result (λ idents. All (λ ident. IfSome ident (λ code. length code ≡ 32)) idents.items) }
+{
+    match chain_file(alloc, chain) {
+        Ok(file) => file_idents(alloc, &file, bsdl),
+        Err(fault) => Err(fault),
+    }
+}

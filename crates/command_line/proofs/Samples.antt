@@ -1,0 +1,64 @@
+-- Words and numbers, worked by hand.
+use Rattle.std.proofs.Common.{◌≡◌, [], ◌∷◌, Option, Some, None, codes, refl}
+use Rattle.command_line.specs.Words.{Text, Command, Ident, Make, Diagnose, board_called, log_called, command_of, number_of}
+
+leading_zeros : number_of 255 (codes "00000000000000000007") ≡ Some 7
+leading_zeros = refl
+
+greatest : number_of 255 (codes "255") ≡ Some 255
+greatest = refl
+
+too_great : number_of 255 (codes "256") ≡ None
+too_great = refl
+
+greatest_workers : number_of 64 (codes "64") ≡ Some 64
+greatest_workers = refl
+
+too_many_workers : number_of 64 (codes "65") ≡ None
+too_many_workers = refl
+
+zero : number_of 255 (codes "000") ≡ None
+zero = refl
+
+-- twenty digits are too great, and one digit more is none, whatever its value
+twenty_nines : number_of 255 (codes "99999999999999999999") ≡ None
+twenty_nines = refl
+
+too_long : number_of 255 (codes "000000000000000000007") ≡ None
+too_long = refl
+
+no_digit : number_of 255 [] ≡ None
+no_digit = refl
+
+sign : number_of 255 (codes "+7") ≡ None
+sign = refl
+
+letter : number_of 255 (codes "7a") ≡ None
+letter = refl
+
+made : command_of (codes "make" ∷ codes "002" ∷ []) ≡ Some (Make 2)
+unfolding board_called
+made = refl
+
+made_twice : command_of (codes "make" ∷ codes "2" ∷ codes "3" ∷ []) ≡ None
+unfolding board_called
+made_twice = refl
+
+-- `diagnose` with this number of workers, and further words
+abbrev diagnosed_by : Text → Option Command
+diagnosed_by workers = command_of (codes "diagnose" ∷ workers ∷ codes "g" ∷ codes "c" ∷ codes "n" ∷ codes "drv" ∷ [])
+
+diagnosed : diagnosed_by (codes "2") ≡ Some (Diagnose 2 (codes "g") (record { chain = codes "c"; nets = codes "n"; bsdl = codes "drv" ∷ [] }))
+unfolding board_called log_called
+diagnosed = refl
+
+no_workers : diagnosed_by (codes "0") ≡ None
+unfolding board_called log_called
+no_workers = refl
+
+workers_past_the_limit : diagnosed_by (codes "65") ≡ None
+unfolding board_called log_called
+workers_past_the_limit = refl
+
+identified : command_of (codes "ident" ∷ codes "c" ∷ codes "b" ∷ []) ≡ Some (Ident (record { chain = codes "c"; bsdl = codes "b" ∷ [] }))
+identified = refl

@@ -1,0 +1,55 @@
+-- What the definitions of diagnoses say.
+use Rattle.std.proofs.Common.{◌≡◌, ℕ, zero, suc, ◌<◌, Bool, List, [], ◌∷◌, length, refl, sym, ap, ◌∙◌, subst, arith}
+use Rattle.std.specs.Prelude.{AllPairs, Some, slice_get}
+use Rattle.std.specs.Bool.{one_answer}
+use Rattle.std.proofs.lemmas.Option.{slice_get_within, get_or_from_slice_get}
+use Rattle.board_defs.specs.declared.board.RawBoard.{RawBoard}
+use Rattle.board_defs.specs.declared.fault.Single.{Single}
+use Rattle.board_defs.specs.Faults.{singles, IsSingle, SinglePrecedes}
+use Rattle.board_defs.specs.Laws.{ListsSingles, SinglesListed}
+use Rattle.board_defs.specs.BoardRules.{IsBoard}
+use Rattle.board_defs.proofs.Members.{Has, has_place, has_contains, contains_has}
+use Rattle.board_defs.proofs.Ordered.{InOrder, order_pairs}
+use Rattle.tap_defs.specs.BoardScans.{svf_row_scans}
+use Rattle.tap_defs.specs.Explaining.{set_of, ExplainedBy, Explains, IsExpected}
+use Rattle.tap_defs.specs.FaultSet.{FaultSet, IsObservable, IsNonempty}
+use Rattle.diagnoser.specs.Diagnosis.{AreExplaining}
+use Rattle.diagnoser.specs.DiagText.{diag_text, IsDiagText}
+use Rattle.diagnoser.specs.Laws.{ListsExplaining, OneList, OneDiagnosis}
+use Rattle.diagnoser.proofs.ThoseLemmas.{those_hold, hold_those, those_one, those_order, those_none}
+
+pub one_list : OneList
+one_list board log faults others first second = those_one (λ single. Explains board single log) (singles board) faults others first second
+
+pub one_diagnosis : OneDiagnosis
+one_diagnosis board log text other first second =
+    first.is_text
+    ∙ (ap (λ (b : Bool). diag_text board b first.faults) (one_answer first.pass second.pass first.passes second.passes)
+    ∙ (ap (λ (l : List Single). diag_text board second.pass l) (one_list board log first.faults second.faults first.explaining second.explaining) ∙ sym second.is_text))
+
+pairs_order : {X : Type 0} (R : X → X → Type 0) (xs : List X) → AllPairs R xs → InOrder R xs
+pairs_order R [] pairs = tt
+pairs_order {X} R (x ∷ xs) pairs =
+    (λ y has. let at = has_place xs y has in before y at.0 at.1, pairs_order R xs (λ i j d less within. pairs (suc i) (suc j) d (omega (arith, less)) (omega (arith, within))))
+  where
+    before : (y : X) (k : ℕ) → slice_get xs k ≡ Some y → R x y
+    before y k at = subst (λ (z : X). R x z) (get_or_from_slice_get xs k y y at) (pairs 0 (suc k) y (omega arith) (omega (arith, slice_get_within xs k y at)))
+
+module _ (listed : SinglesListed) (board : RawBoard) (log : List (List Bool)) (faults : List Single) (rules : IsBoard board) (explaining : AreExplaining board log faults) where
+  abbrev Explaining : Single → Type 0
+  Explaining single = Explains board single log
+
+  pub explaining_listed : ListsExplaining board log faults
+  explaining_listed = record {
+    exactly = λ single. (
+      (λ has. let r = those_hold Explaining (singles board) faults single explaining (contains_has faults single has) in (((listed board rules).exactly single).0 (has_contains (singles board) single r.0), r.1)),
+      (λ h. has_contains faults single (hold_those Explaining (singles board) faults single explaining (contains_has (singles board) single (((listed board rules).exactly single).1 h.0)) h.1)),
+    );
+    in_order = order_pairs SinglePrecedes faults (those_order Explaining SinglePrecedes (singles board) faults (pairs_order SinglePrecedes (singles board) (listed board rules).in_order) explaining);
+  }
+
+  -- no single fault explains a log that no observable faults explain
+  pub passing_unexplained : ((single : Single) → IsSingle board single → IsObservable board (set_of single)) → ((single : Single) → IsNonempty (set_of single)) →
+      ((faults : FaultSet) → IsObservable board faults → IsNonempty faults → ExplainedBy board faults (svf_row_scans board) log → ⊥) → faults ≡ []
+  passing_unexplained observable nonempty unexplained =
+      those_none Explaining (singles board) faults (λ single has explains. unexplained (set_of single) (observable single (((listed board rules).exactly single).0 (has_contains (singles board) single has))) (nonempty single) explains) explaining

@@ -1,0 +1,8 @@
+use Rattle.std.specs.List.{flat_map}
+use Rattle.diagnoser.specs.DiagText.{fault_line}
+use Rattle.diagnoser.proofs.PutLemmas.{Completes, texts_after}
+use Rattle.diagnoser.proofs.listing.put_faults.Given as goal
+
+-- what is said of the faults that are left completes the list
+abbrev pub invariant-loop-fault : goal.invariant-loop-fault
+invariant-loop-fault g l = Completes (g.K.Sink.shown l.fn.out) (g.K.Sink.shown l.out) (texts_after (fault_line l.board) l.faults l.fault-index) (flat_map (fault_line l.board) l.faults)

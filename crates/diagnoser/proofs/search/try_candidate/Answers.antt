@@ -1,0 +1,31 @@
+use Rattle.std.proofs.Common.{◌≡◌, Option, Some, None, true, false}
+use Rattle.std.specs.Prelude.{slice_get}
+use Rattle.board_defs.specs.declared.fault.Single.{Single}
+use Rattle.fault_sim.specs.Places.{places_of}
+use Rattle.fault_sim.proofs.OrderLemmas.{place_single}
+use Rattle.diagnoser.proofs.CutLemmas.{found_none, found_one}
+use Rattle.diagnoser.proofs.search.try_candidate.Goals as goal
+
+pub returns-in_err-fault : goal.returns-in_err-fault
+returns-in_err-fault g c =
+    let s = c.args.search in
+    let at : slice_get (places_of s.board.now) c.place-place.result ≡ Some None = c.in_err-fault.ensures s.board.now c.raw-rules.ensures.rules c.requires.search.plan c.requires.search.passes c.requires.search.universe in
+    rw c.from_residual.ensures (found_none s c.args.i c.place-place.result c.place-place.ensures at)
+
+pub matches-requires-clause-fault : goal.matches-requires-clause-fault
+matches-requires-clause-fault g c =
+    let s = c.args.search in
+    let at : slice_get (places_of s.board.now) c.place-place.result ≡ Some (Some c.in_ok-fault.fault) = c.in_ok-fault.ensures s.board.now c.raw-rules.ensures.rules c.requires.search.plan c.requires.search.passes c.requires.search.universe in
+    place_single s.board.now c.raw-rules.ensures.rules c.place-place.result c.in_ok-fault.fault at
+
+pub returns-then-matches : goal.returns-then-matches
+returns-then-matches g c =
+    let s = c.args.search in
+    let at : slice_get (places_of s.board.now) c.place-place.result ≡ Some (Some c.in_ok-fault.fault) = c.in_ok-fault.ensures s.board.now c.raw-rules.ensures.rules c.requires.search.plan c.requires.search.passes c.requires.search.universe in
+    found_one s c.args.i c.place-place.result c.in_ok-fault.fault true c.place-place.ensures at c.if-matches.ensures
+
+pub returns-else-matches : goal.returns-else-matches
+returns-else-matches g c =
+    let s = c.args.search in
+    let at : slice_get (places_of s.board.now) c.place-place.result ≡ Some (Some c.in_ok-fault.fault) = c.in_ok-fault.ensures s.board.now c.raw-rules.ensures.rules c.requires.search.plan c.requires.search.passes c.requires.search.universe in
+    found_one s c.args.i c.place-place.result c.in_ok-fault.fault false c.place-place.ensures at c.if-matches.ensures

@@ -1,0 +1,70 @@
+-- The text of a diagnosis.
+use Rattle.std.specs.Prelude.{◌≡◌, ℕ, Bool, false, true, List, [], ◌∷◌, ◌++◌, length, codes, decimal, Option, None, Some, slice_get, Decides}
+use Rattle.std.specs.List.{flat_map}
+use Rattle.line_printer.specs.Prints.{line_of}
+use Rattle.board_defs.specs.declared.board.NetPin.{NetPin}
+use Rattle.board_defs.specs.declared.board.Net.{Net}
+use Rattle.board_defs.specs.declared.board.RawBoard.{RawBoard}
+use Rattle.board_defs.specs.declared.fault.Kind.{Kind}
+use Rattle.board_defs.specs.declared.fault.Kind.TheVariants.{And, Or, First, Second}
+use Rattle.board_defs.specs.declared.fault.Single.{Single}
+use Rattle.board_defs.specs.declared.fault.Single.TheVariants.{StuckNet, OpenPin, Short}
+use Rattle.board_defs.specs.Pins.{pin_at}
+use Rattle.tap_defs.specs.BoardScans.{svf_row_scans}
+use Rattle.tap_defs.specs.Explaining.{IsExpected}
+use Rattle.diagnoser.specs.Diagnosis.{AreExplaining}
+
+abbrev pub bit_word : Bool → List ℕ
+bit_word false = codes "0"
+bit_word true = codes "1"
+
+-- the name of a net
+abbrev pub name_of : Option Net → List ℕ
+name_of None = []
+name_of (Some net) = net.name
+
+abbrev pub net_name : RawBoard → ℕ → List ℕ
+net_name board n = name_of (slice_get board.nets n)
+
+-- a stuck net
+abbrev pub stuck_line : List ℕ → Bool → List ℕ
+stuck_line name value = line_of (codes "stuck " ∷ name ∷ codes " " ∷ bit_word value ∷ [])
+
+-- an open pin
+abbrev pub open_line : Option NetPin → Bool → List ℕ
+open_line None value = []
+open_line (Some pin) value = line_of (codes "open " ∷ pin.part ∷ codes "." ∷ pin.pin ∷ codes " " ∷ bit_word value ∷ [])
+
+-- a short of two nets; the net that dominates comes first
+abbrev pub pair_line : List ℕ → List ℕ → List ℕ → List ℕ
+pair_line word x y = line_of (codes "short " ∷ word ∷ codes " " ∷ x ∷ codes " " ∷ y ∷ [])
+
+abbrev pub short_line : Kind → List ℕ → List ℕ → List ℕ
+short_line And a b = pair_line (codes "AND") a b
+short_line Or a b = pair_line (codes "OR") a b
+short_line First a b = pair_line (codes "DOM") a b
+short_line Second a b = pair_line (codes "DOM") b a
+
+-- the line of a fault
+abbrev pub fault_line : RawBoard → Single → List ℕ
+fault_line board (StuckNet net value) = stuck_line (net_name board net) value
+fault_line board (OpenPin pin value) = open_line (pin_at board pin) value
+fault_line board (Short a b kind) = short_line kind (net_name board a) (net_name board b)
+
+-- how many faults are listed
+abbrev pub fail_line : ℕ → List ℕ
+fail_line count = line_of (codes "FAIL " ∷ decimal count ∷ [])
+
+-- whether the board passes, and else the faults
+unfoldable pub diag_text : RawBoard → Bool → List Single → List ℕ
+diag_text board true faults = line_of (codes "PASS" ∷ [])
+diag_text board false faults = fail_line (length faults) ++ flat_map (fault_line board) faults
+
+-- the diagnosis of a log of the board's test: it passes where every compared bit is the expected one, and the faults are the single
+-- faults that explain it
+pub record IsDiagText (board : RawBoard) (log : List (List Bool)) (text : List ℕ) : Type 0 where
+  pub pass : Bool
+  pub passes : Decides pass (IsExpected board (svf_row_scans board) log)
+  pub faults : List Single
+  pub explaining : AreExplaining board log faults
+  pub is_text : text ≡ diag_text board pass faults

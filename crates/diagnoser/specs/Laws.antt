@@ -1,0 +1,31 @@
+-- The laws of diagnoses.
+use Rattle.std.specs.Prelude.{◌≡◌, ◌↔◌, ℕ, Bool, List, [], AllPairs, Contains}
+use Rattle.board_defs.specs.declared.board.RawBoard.{RawBoard}
+use Rattle.board_defs.specs.declared.fault.Single.{Single}
+use Rattle.board_defs.specs.BoardRules.{IsBoard}
+use Rattle.board_defs.specs.Faults.{IsSingle, SinglePrecedes}
+use Rattle.tap_defs.specs.BoardScans.{svf_row_scans}
+use Rattle.tap_defs.specs.Explaining.{Explains, IsExpected}
+use Rattle.diagnoser.specs.Diagnosis.{AreExplaining}
+use Rattle.diagnoser.specs.DiagText.{IsDiagText}
+
+-- the faults are exactly the single faults that explain the log, each once and in order
+pub record ListsExplaining (board : RawBoard) (log : List (List Bool)) (faults : List Single) : Type 0 where
+  pub exactly : (single : Single) → Contains faults single ↔ (IsSingle board single × Explains board single log)
+  pub in_order : AllPairs SinglePrecedes faults
+
+abbrev pub ExplainingListed : Type 0
+ExplainingListed = (board : RawBoard) (log : List (List Bool)) (faults : List Single) → IsBoard board → AreExplaining board log faults → ListsExplaining board log faults
+
+-- one list of faults explains a log
+abbrev pub OneList : Type 0
+OneList = (board : RawBoard) (log : List (List Bool)) (faults others : List Single) → AreExplaining board log faults → AreExplaining board log others → faults ≡ others
+
+-- a log has one diagnosis
+abbrev pub OneDiagnosis : Type 0
+OneDiagnosis = (board : RawBoard) (log : List (List Bool)) (text other : List ℕ) → IsDiagText board log text → IsDiagText board log other → text ≡ other
+
+-- where every compared bit is the expected one, no single fault explains the log
+abbrev pub PassingUnexplained : Type 0
+PassingUnexplained =
+    (board : RawBoard) (log : List (List Bool)) (faults : List Single) → IsBoard board → IsExpected board (svf_row_scans board) log → AreExplaining board log faults → faults ≡ []

@@ -1,0 +1,4 @@
+pub mod Diagnosis
+pub mod DiagText
+pub mod Search
+pub mod Laws

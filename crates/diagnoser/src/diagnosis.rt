@@ -1,0 +1,55 @@
+// The single faults that explain a log.
+ghost use Rattle.std.specs.Prelude.{◌≡◌, ◌*◌, ◌≤◌, length, All, IfOk};
+ghost use Rattle.board_defs.specs.Passes.{passes_of};
+ghost use Rattle.board_defs.specs.Pins.{data_bits};
+ghost use Rattle.scan_planner.specs.Plans.{IsPlanOf};
+ghost use Rattle.diagnoser.specs.Diagnosis.{AreExplaining, IsNamed};
+
+use crate::search::{Search, search_pieces};
+use board_defs::{Board, Single};
+use bt_base::Gate;
+use fault_sim::{Suspects, Universe, law};
+use response_log::Log;
+use scan_planner::Plan;
+use std::alloc::{AllocError, Global};
+use std::thread::Threads;
+
+/// The single faults of a board that explain a log of its test, each once and in order, whatever the number of workers and
+/// the gate are. The plan is made of the board's passes, and the log has its rows, each as long as a scan of data.
+///
+/// The candidates are the suspects' places. They are cut into as many pieces as there are workers, from 1 to 64, which
+/// differ by at most one candidate. Directly before a piece tries a candidate it enters the gate with its own number, from
+/// 0, and the candidate's place in the universe. Halves of the pieces run side by side, down to one piece. Where memory is
+/// refused in any piece, it is refused for the whole.
+pub fn diagnose<R: Threads + Sync, G: Gate>(
+    rt: &R,
+    alloc: Global,
+    board: &Board,
+    plan: &Plan,
+    log: &Log,
+    workers: u32,
+    gate: &G,
+) -> Result<Vec<Single>, AllocError>
+    requires some { 1 ≤ workers }
+    requires few { workers ≤ 64 }
+    requires plan { IsPlanOf board.now plan.now }
+    requires passes { plan.now.passes ≡ passes_of board.now }
+    requires rows { length log.now ≡ length plan.now.passes * plan.now.width }
+    requires bits { All (λ row. length row ≡ data_bits board.now) log.now }
+    ensures faults { IfOk result (λ faults. AreExplaining board.now log.now faults.items) }
+    ensures named { IfOk result (λ faults. All (IsNamed board.now) faults.items) }
+{
+    let _rules = board.raw();
+    law::suspects_suffice();
+    let universe = Universe::new(alloc, board, plan)?;
+    let suspects = Suspects::new(alloc, board, plan, &universe, log)?;
+    let search = Search {
+        board,
+        plan,
+        log,
+        universe: &universe,
+        suspects: &suspects,
+        pieces: workers,
+    };
+    search_pieces(rt, alloc, search, 0, workers, gate)
+}

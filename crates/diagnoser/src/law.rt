@@ -1,0 +1,32 @@
+//! Laws of diagnoses, each the contract of a function that does nothing.
+ghost use Rattle.diagnoser.specs.Laws.{ExplainingListed, OneList, OneDiagnosis, PassingUnexplained};
+
+use board_defs::law as board_law;
+use tap_defs::law::singles_observable;
+use tap_defs::log_law::expected_logs;
+
+/// The faults of a diagnosis are exactly the board's single faults that explain the log, each once and in order.
+pub fn explaining_listed()
+    ensures { ExplainingListed }
+{
+    board_law::singles_listed();
+}
+
+/// One list of faults explains a log. So no number of workers and no gate changes it.
+pub fn one_list()
+    ensures { OneList }
+{}
+
+/// A log has one diagnosis.
+pub fn one_diagnosis()
+    ensures { OneDiagnosis }
+{}
+
+/// No single fault explains a log in which every compared bit is the expected one.
+pub fn passing_unexplained()
+    ensures { PassingUnexplained }
+{
+    board_law::singles_listed();
+    singles_observable();
+    expected_logs();
+}

@@ -1,0 +1,14 @@
+//! The diagnosis of a board: which of its single faults explain a log of its test.
+//!
+//! The faults that may explain the log are tried in pieces, which run side by side. What is found does not depend on how
+//! many pieces there are.
+#![tactic(auto)]
+
+mod diagnosis;
+pub mod law;
+mod lines;
+mod listing;
+mod search;
+
+pub use diagnosis::diagnose;
+pub use listing::write_diagnosis;

@@ -1,0 +1,119 @@
+// The lines of a diagnosis.
+ghost use Rattle.std.specs.Prelude.{◌≡◌, [], ◌∷◌, Some, codes, decimal};
+ghost use Rattle.line_printer.specs.Prints.{Prints, line_of};
+ghost use Rattle.diagnoser.specs.DiagText.{bit_word, stuck_line, open_line, pair_line, short_line, fail_line};
+
+use board_defs::{Kind, NetPin};
+use bt_base::{PutFault, Sink};
+use bt_bits::Line;
+use itoa::Buffer;
+use line_printer::put_line;
+
+fn bit_word(value: bool) -> &'static [u8]
+    ensures { result.now ≡ bit_word value }
+{
+    if value { b"1" } else { b"0" }
+}
+
+/// Puts that a log passes.
+pub fn put_pass<K: Sink>(line: &mut Line, out: &mut K) -> Result<(), PutFault>
+    ensures { Prints (K.shown out.old) (K.shown out.new) [] [] (line_of (codes "PASS" ∷ [])) result }
+{
+    put_line(&[b"PASS"], line, out)
+}
+
+/// Puts how many faults are listed.
+pub fn put_fail<K: Sink>(count: u64, line: &mut Line, out: &mut K) -> Result<(), PutFault>
+    ensures { Prints (K.shown out.old) (K.shown out.new) [] [] (fail_line count) result }
+{
+    let mut buffer = Buffer::new();
+    let count = buffer.format(count).as_bytes();
+    put_line(&[b"FAIL ".as_slice(), count], line, out)
+}
+
+fn put_stuck_word<K: Sink>(
+    name: &[u8],
+    word: &[u8],
+    line: &mut Line,
+    out: &mut K,
+) -> Result<(), PutFault>
+    ensures { Prints (K.shown out.old) (K.shown out.new) [] [] (line_of (codes "stuck " ∷ name.now ∷ codes " " ∷ word.now ∷ [])) result }
+{
+    put_line(&[b"stuck ".as_slice(), name, b" ", word], line, out)
+}
+
+/// Puts a stuck net.
+pub fn put_stuck<K: Sink>(
+    name: &[u8],
+    value: bool,
+    line: &mut Line,
+    out: &mut K,
+) -> Result<(), PutFault>
+    ensures { Prints (K.shown out.old) (K.shown out.new) [] [] (stuck_line name.now value) result }
+{
+    put_stuck_word(name, bit_word(value), line, out)
+}
+
+fn put_open_word<K: Sink>(
+    pin: &NetPin,
+    word: &[u8],
+    line: &mut Line,
+    out: &mut K,
+) -> Result<(), PutFault>
+    ensures { Prints (K.shown out.old) (K.shown out.new) [] [] (line_of (codes "open " ∷ pin.now.part ∷ codes "." ∷ pin.now.pin ∷ codes " " ∷ word.now ∷ [])) result }
+{
+    put_line(
+        &[
+            b"open ".as_slice(),
+            pin.part.bytes(),
+            b".",
+            pin.pin.bytes(),
+            b" ",
+            word,
+        ],
+        line,
+        out,
+    )
+}
+
+/// Puts an open pin.
+pub fn put_open<K: Sink>(
+    pin: &NetPin,
+    value: bool,
+    line: &mut Line,
+    out: &mut K,
+) -> Result<(), PutFault>
+    ensures { Prints (K.shown out.old) (K.shown out.new) [] [] (open_line (Some pin.now) value) result }
+{
+    put_open_word(pin, bit_word(value), line, out)
+}
+
+fn put_pair<K: Sink>(
+    word: &[u8],
+    x: &[u8],
+    y: &[u8],
+    line: &mut Line,
+    out: &mut K,
+) -> Result<(), PutFault>
+    ensures { Prints (K.shown out.old) (K.shown out.new) [] [] (pair_line word.now x.now y.now) result }
+{
+    put_line(&[b"short ".as_slice(), word, b" ", x, b" ", y], line, out)
+}
+
+/// Puts a short of the nets `a` and `b`. The net that dominates comes first.
+pub fn put_short<K: Sink>(
+    kind: Kind,
+    a: &[u8],
+    b: &[u8],
+    line: &mut Line,
+    out: &mut K,
+) -> Result<(), PutFault>
+    ensures { Prints (K.shown out.old) (K.shown out.new) [] [] (short_line kind a.now b.now) result }
+{
+    match kind {
+        Kind::And => put_pair(b"AND", a, b, line, out),
+        Kind::Or => put_pair(b"OR", a, b, line, out),
+        Kind::First => put_pair(b"DOM", a, b, line, out),
+        Kind::Second => put_pair(b"DOM", b, a, line, out),
+    }
+}

@@ -1,0 +1,98 @@
+// The text of a diagnosis.
+ghost use Rattle.std.specs.Prelude.{◌≡◌, ◌++◌, ◌<◌, [], length, All, Some};
+ghost use Rattle.std.specs.List.{flat_map};
+ghost use Rattle.bt_base.specs.Puts.{Puts};
+ghost use Rattle.line_printer.specs.Prints.{Prints};
+ghost use Rattle.board_defs.specs.Pins.{IsOnBoard, pin_at};
+ghost use Rattle.diagnoser.specs.Diagnosis.{IsNamed};
+ghost use Rattle.diagnoser.specs.DiagText.{net_name, fault_line, fail_line, diag_text};
+
+use crate::lines::{put_fail, put_open, put_pass, put_short, put_stuck};
+use board_defs::{Board, NetPin, PinRef, Single};
+use bt_base::{PutFault, Sink};
+use bt_bits::Line;
+
+// The name of a net.
+fn net_name(board: &Board, n: u32) -> &[u8]
+    requires { n < length board.now.nets }
+    ensures { result.now ≡ net_name board.now n }
+{
+    board.raw().nets.as_slice()[n as usize].name.bytes()
+}
+
+// The pin that is named.
+fn pin_at(board: &Board, pin: PinRef) -> &NetPin
+    requires { IsOnBoard board.now pin }
+    ensures { pin_at board.now pin ≡ Some result.now }
+{
+    let net = &board.raw().nets.as_slice()[pin.net as usize];
+    &net.pins.as_slice()[pin.place as usize]
+}
+
+fn put_fault<K: Sink>(
+    board: &Board,
+    fault: Single,
+    line: &mut Line,
+    out: &mut K,
+) -> Result<(), PutFault>
+    requires { IsNamed board.now fault }
+    ensures { Prints (K.shown out.old) (K.shown out.new) [] [] (fault_line board.now fault) result }
+{
+    match fault {
+        Single::StuckNet { net, value } => put_stuck(net_name(board, net), value, line, out),
+        Single::OpenPin { pin, value } => put_open(pin_at(board, pin), value, line, out),
+        Single::Short { a, b, kind } => {
+            put_short(kind, net_name(board, a), net_name(board, b), line, out)
+        }
+    }
+}
+
+fn put_faults<K: Sink>(
+    board: &Board,
+    faults: &[Single],
+    line: &mut Line,
+    out: &mut K,
+) -> Result<(), PutFault>
+    requires { All (IsNamed board.now) faults.now }
+    ensures { Prints (K.shown out.old) (K.shown out.new) [] [] (flat_map (fault_line board.now) faults.now) result }
+{
+    for fault in faults {
+        put_fault(board, *fault, line, out)?;
+    }
+    Ok(())
+}
+
+// Puts how many faults there are, and each of them.
+fn put_list<K: Sink>(
+    board: &Board,
+    faults: &[Single],
+    line: &mut Line,
+    out: &mut K,
+) -> Result<(), PutFault>
+    requires { All (IsNamed board.now) faults.now }
+    ensures { Prints (K.shown out.old) (K.shown out.new) [] [] (fail_line (length faults.now) ++ flat_map (fault_line board.now) faults.now) result }
+{
+    put_fail(faults.len() as u64, line, out)?;
+    put_faults(board, faults, line, out)
+}
+
+/// Puts a diagnosis: that the log passes, or how many faults explain it and each of them. The faults name nets and pins of
+/// the board. Each line goes out in one put, and one of more than `MAX_LINE` bytes in pieces of so many and the rest. No
+/// memory is taken, and the line serves to write in: nothing is said of what it holds afterwards. It fails only where the
+/// sink does, and then a prefix of the text was put.
+pub fn write_diagnosis<K: Sink>(
+    board: &Board,
+    pass: bool,
+    faults: &[Single],
+    line: &mut Line,
+    out: &mut K,
+) -> Result<(), PutFault>
+    requires { All (IsNamed board.now) faults.now }
+    ensures { Puts (K.shown out.old) (K.shown out.new) (diag_text board.now pass faults.now) result }
+{
+    if pass {
+        put_pass(line, out)
+    } else {
+        put_list(board, faults, line, out)
+    }
+}

@@ -1,0 +1,199 @@
+-- Which nets differ in a log, and where they stand among the covered nets.
+use Rattle.std.proofs.Common.{◌≡◌, ◌⊎◌, inl, inr, ℕ, zero, suc, ◌+◌, ◌*◌, ◌<◌, ◌==◌, Bool, true, false, cond, not, ◌||◌, List, [], ◌∷◌, length, map, get_or, set, Option, Some, None, is_some, Decides, refl, sym, ap, ◌∙◌, subst, arith}
+use Rattle.std.specs.Prelude.{slice_get, filter, take, count_by, nat_lt, Contains}
+use Rattle.std.specs.List.{enumerate_from, range_with_len}
+use Rattle.std.proofs.lemmas.Bool.{lt-ltb, both_ways, cases_eq, cases_Bool}
+use Rattle.std.proofs.lemmas.List.{get_or-set_same, get_or-set_other}
+use Rattle.std.proofs.lemmas.List.Sums.{sum_by-cons}
+use Rattle.std.proofs.lemmas.Option.{get_or_from_slice_get}
+use Rattle.board_defs.specs.declared.board.Net.{Net}
+use Rattle.board_defs.specs.declared.board.RawBoard.{RawBoard}
+use Rattle.board_defs.specs.declared.board.Ctl.{Ctl}
+use Rattle.board_defs.specs.BoardRules.{IsBoard}
+use Rattle.board_defs.specs.Faults.{Numbered}
+use Rattle.board_defs.specs.Pins.{is_same}
+use Rattle.board_defs.specs.Settings.{holds}
+use Rattle.board_defs.proofs.Members.{has_contains, contains_has, has_filter, filter_has, has_range, range_has}
+use Rattle.board_defs.proofs.Ordered.{order_pairs, order_filter, order_range}
+use Rattle.board_defs.proofs.Places.{all_from, any_at}
+use Rattle.tap_defs.specs.TestRows.{is_observed, observing_driver, code_of_net, code_bit}
+use Rattle.scan_planner.specs.declared.nets.NetDriver.{NetDriver}
+use Rattle.scan_planner.specs.declared.tables.ReaderCell.{ReaderCell}
+use Rattle.scan_planner.specs.declared.tables.PlanTables.{PlanTables}
+use Rattle.scan_planner.specs.Building.{is_read_beside}
+use Rattle.scan_planner.specs.Plans.{IsPlanOf}
+use Rattle.scan_planner.proofs.FillLemmas.{some_at}
+use Rattle.fault_sim.specs.Effects.{driver_in, readers_in, code_in}
+use Rattle.fault_sim.specs.declared.effect.Effect.TheVariants.{Plain}
+use Rattle.fault_sim.specs.Fits.{bit_in, cell_shows, ShowBy, NetShows, Shows, ShowsOn}
+use Rattle.fault_sim.specs.Tested.{coded_nets}
+use Rattle.fault_sim.specs.Suspects.{IsBefore, AreFlags, flagged_nets, AreDiffering, covered_place}
+use Rattle.fault_sim.proofs.FeedLemmas.{observing_is}
+use Rattle.fault_sim.proofs.TestedLemmas.{filter_numbers, unguarded_by}
+
+module _ (board : RawBoard) (plan : PlanTables) (log : List (List Bool)) where
+  abbrev Expected : ℕ → ℕ → Type 0
+  Expected x n = Shows board plan None log x n
+
+  -- what is before net n + 1 of pass x is what is before net n, or net n
+  before_more : (x n pass net : ℕ) → (IsBefore x n pass net → Expected pass net) → (net ≡ n → Expected x net) → IsBefore x (n + 1) pass net → Expected pass net
+  before_more x n pass net earlier here (inl h) = earlier (inl h)
+  before_more x n pass net earlier here (inr (e, less)) = by_net (cases_eq net n)
+    where
+      by_net : (net ≡ n) ⊎ (net ≡ n → ⊥) → Expected pass net
+      by_net (inl same) = subst (λ (i : ℕ). Expected i net) (sym e) (here same)
+      by_net (inr differ) = earlier (inr (e, lower differ))
+        where
+          lower : (net ≡ n → ⊥) → net < n
+          lower ne = grind arith
+
+  more_before : (x n pass net : ℕ) → IsBefore x n pass net → IsBefore x (n + 1) pass net
+  more_before x n pass net (inl h) = inl h
+  more_before x n pass net (inr (e, less)) = inr (e, omega (arith, less))
+
+  pub flag_kept : (x n : ℕ) (flags : List Bool) → AreFlags board plan log x n flags → Expected x n → AreFlags board plan log x (n + 1) flags
+  flag_kept x n flags are shown net less =
+      let d = are net less in (
+        λ e pass before. before_more x n pass net (d.0 e pass) (λ same. subst (λ (i : ℕ). Expected x i) (sym same) shown) before,
+        λ all. d.1 (λ pass before. all pass (more_before x n pass net before)),
+      )
+
+  pub flag_set : (x n : ℕ) (flags : List Bool) → n < length flags → AreFlags board plan log x n flags → (Expected x n → ⊥) → AreFlags board plan log x (n + 1) (set flags n true)
+  flag_set x n flags within are hidden net less = by_net (cases_eq net n)
+    where
+      by_net : (net ≡ n) ⊎ (net ≡ n → ⊥) → Decides (not (get_or (set flags n true) net false)) ((pass : ℕ) → IsBefore x (n + 1) pass net → Expected pass net)
+      by_net (inl same) =
+          let here : get_or (set flags n true) net false ≡ true = ap (λ (i : ℕ). get_or (set flags n true) i false) same ∙ get_or-set_same flags n true false within in (
+            λ e. absurd (both_ways (not (get_or (set flags n true) net false)) (ap not here) e),
+            λ all. absurd (hidden (subst (λ (i : ℕ). Expected x i) same (all x (inr (refl, omega (arith, same)))))),
+          )
+      by_net (inr differ) =
+          let d = are net less in
+          let there : get_or (set flags n true) net false ≡ get_or flags net false = get_or-set_other flags n net true false differ in (
+            λ e pass before. before_more x n pass net (d.0 (sym (ap not there) ∙ e) pass) (λ same. absurd (differ same)) before,
+            λ all. ap not there ∙ d.1 (λ pass before. all pass (more_before x n pass net before)),
+          )
+
+  pub flag_more : (x n : ℕ) (flags : List Bool) (shown : Bool) → Decides shown (Expected x n) → n < length flags → AreFlags board plan log x n flags → AreFlags board plan log x (n + 1) (cond shown flags (set flags n true))
+  flag_more x n flags true decides within are = flag_kept x n flags are (decides.0 refl)
+  flag_more x n flags false decides within are = flag_set x n flags within are (λ shown. let bad : false ≡ true = decides.1 shown in cc bad)
+
+  -- the flagged nets are those that differ
+  pub flagged_differ : (flags : List Bool) → length flags ≡ length board.nets → AreFlags board plan log (length plan.passes) 0 flags → AreDiffering board plan log (flagged_nets flags)
+  flagged_differ flags long are = record {
+    rising = order_pairs (λ (a b : ℕ). a < b) (flagged_nets flags) (order_filter (λ (a b : ℕ). a < b) (λ n. get_or flags n false) (range_with_len 0 (length flags)) (order_range 0 (length flags)));
+    exactly = λ n. (to n, from n);
+  }
+    where
+      to : (n : ℕ) → Contains (flagged_nets flags) n → (n < length board.nets) × (ShowsOn board plan None log n → ⊥)
+      to n h =
+          let f = filter_has (λ k. get_or flags k false) (range_with_len 0 (length flags)) n (contains_has (flagged_nets flags) n h) in
+          let w = range_has 0 (length flags) n f.0 in
+          let within : n < length board.nets = omega (arith, w.1, long) in
+          (within, λ shown. both_ways (not (get_or flags n false)) (ap not f.1) ((are n within).1 (λ pass before. shown pass (early pass before))))
+        where
+          early : (pass : ℕ) → IsBefore (length plan.passes) 0 pass n → pass < length plan.passes
+          early pass (inl h) = h
+          early pass (inr (e, none)) = absurd (omega (arith, none))
+
+      from : (n : ℕ) → ((n < length board.nets) × (ShowsOn board plan None log n → ⊥)) → Contains (flagged_nets flags) n
+      from n (within, hidden) =
+          has_contains (flagged_nets flags) n
+          (has_filter (λ k. get_or flags k false) (range_with_len 0 (length flags)) n (has_range 0 (length flags) n (omega arith) (omega (arith, within, long))) (by_flag (cases_Bool (get_or flags n false))))
+        where
+          by_flag : (get_or flags n false ≡ true) ⊎ (get_or flags n false ≡ false) → get_or flags n false ≡ true
+          by_flag (inl e) = e
+          by_flag (inr e) = absurd (hidden (λ x less. (are n within).0 (ap not e) x (inl less)))
+
+-- the place of a net among those that pass a test
+place_in_filter : (g : Net → Bool) (a : ℕ) (nets : List Net) (n : ℕ) (net : Net) → slice_get nets n ≡ Some net → g net ≡ true →
+    slice_get (map (λ (m : Numbered). m.0) (filter (λ (m : Numbered). g m.1) (enumerate_from a nets))) (count_by g (take n nets)) ≡ Some (a + n)
+place_in_filter g a [] n net e on = cc e
+place_in_filter g a (v ∷ nets) zero net e on =
+    let same : v ≡ net = cc e in
+    let z : a ≡ a + 0 = omega arith in
+    ap (λ (b : Bool). slice_get (map (λ (m : Numbered). m.0) (cond b ((a, v) ∷ filter (λ (m : Numbered). g m.1) (enumerate_from (a + 1) nets)) (filter (λ (m : Numbered). g m.1) (enumerate_from (a + 1) nets)))) 0) (ap g same ∙ on)
+    ∙ ap (λ (i : ℕ). Some i) z
+place_in_filter g a (v ∷ nets) (suc n) net e on =
+    ap (λ (i : ℕ). slice_get (map (λ (m : Numbered). m.0) (cond (g v) ((a, v) ∷ rest) rest)) i) (sum_by-cons (λ (y : Net). cond (g y) 1 0) v (take n nets))
+    ∙ by_test (g v)
+    ∙ place_in_filter g (a + 1) nets n net e on
+    ∙ ap (λ (i : ℕ). Some i) next
+  where
+    rest : List Numbered
+    rest = filter (λ (m : Numbered). g m.1) (enumerate_from (a + 1) nets)
+
+    next : a + 1 + n ≡ a + suc n
+    next = omega arith
+
+    by_test : (b : Bool) → slice_get (map (λ (m : Numbered). m.0) (cond b ((a, v) ∷ rest) rest)) (cond b 1 0 + count_by g (take n nets)) ≡ slice_get (map (λ (m : Numbered). m.0) rest) (count_by g (take n nets))
+    by_test true = let one : 1 + count_by g (take n nets) ≡ suc (count_by g (take n nets)) = omega arith in ap (λ (i : ℕ). slice_get (a ∷ map (λ (m : Numbered). m.0) rest) i) one
+    by_test false = let none : 0 + count_by g (take n nets) ≡ count_by g (take n nets) = omega arith in ap (λ (i : ℕ). slice_get (map (λ (m : Numbered). m.0) rest) i) none
+
+module _ (board : RawBoard) (rules : IsBoard board) (plan : PlanTables) (p : IsPlanOf board plan) (log : List (List Bool)) where
+  -- a net that no pass observes shows whatever the log is
+  unobserved_shows : (n : ℕ) (net : Net) → slice_get board.nets n ≡ Some net → is_observed board plan.passes net ≡ false → ShowsOn board plan None log n
+  unobserved_shows n net is_net off x less =
+      let pass = some_at plan.passes x less in
+      subst (λ (q : List Ctl). NetShows board plan None log (x * plan.width) q n) (sym (get_or_from_slice_get plan.passes x (pass.0) [] pass.1))
+      (by_driver (pass.0) pass.1 (driver_in plan (pass.0) n) refl)
+    where
+      none_beside : (d : NetDriver) (readers : List ReaderCell) → is_read_beside readers d ≡ false → (i : ℕ) (r : ReaderCell) → slice_get readers i ≡ Some r → (r.place == d.place) ≡ true
+      none_beside d readers e i r at = by_test (r.place == d.place) refl
+        where
+          by_test : (b : Bool) → (r.place == d.place) ≡ b → b ≡ true
+          by_test true q = refl
+          by_test false q = absurd (both_ways (is_read_beside readers d) e (any_at (λ (y : ReaderCell). not (y.place == d.place)) readers i r at (ap not q)))
+
+      by_driver : (pass : List Ctl) → slice_get plan.passes x ≡ Some pass → (o : Option NetDriver) → driver_in plan pass n ≡ o →
+          ShowBy log (x * plan.width) plan.width (code_in plan n) (readers_in plan n) Plain o
+      by_driver pass stands None e = tt
+      by_driver pass stands (Some d) e = λ j less.
+          all_from (cell_shows log (x * plan.width + j) d.place Plain j (code_bit (code_in plan n) j)) (readers_in plan n)
+          (λ i r at. ap (λ (b : Bool). b || is_same (bit_in log (x * plan.width + j) r.position) (code_bit (code_in plan n) j)) (none_beside d (readers_in plan n) beside i r at))
+        where
+          beside : is_read_beside (readers_in plan n) d ≡ false
+          beside = by_test (is_read_beside (readers_in plan n) d) refl
+            where
+              by_test : (b : Bool) → is_read_beside (readers_in plan n) d ≡ b → b ≡ false
+              by_test false q = refl
+              by_test true q =
+                  let observing : observing_driver board (holds pass) net ≡ Some d.place =
+                  observing_is board rules plan p n net is_net x pass stands (unguarded_by board rules plan p n net is_net pass d e) d e ∙ ap (λ (b : Bool). cond b (Some d.place) None) q in
+                  absurd (both_ways (is_observed board plan.passes net) off
+                  (any_at (λ (v : List Ctl). is_some (observing_driver board (holds v) net)) plan.passes x pass stands (ap (λ (o : Option ℕ). is_some o) observing)))
+
+  pub differing_observed : (n : ℕ) (net : Net) → slice_get board.nets n ≡ Some net → (ShowsOn board plan None log n → ⊥) → is_observed board plan.passes net ≡ true
+  differing_observed n net is_net hidden = by_test (is_observed board plan.passes net) refl
+    where
+      by_test : (b : Bool) → is_observed board plan.passes net ≡ b → b ≡ true
+      by_test true e = refl
+      by_test false e = absurd (hidden (unobserved_shows n net is_net e))
+
+  -- the nets that have a code, by what passes observe
+  coded_observed : coded_nets plan (length board.nets) ≡ map (λ (m : Numbered). m.0) (filter (λ (m : Numbered). is_observed board plan.passes m.1) (enumerate_from 0 board.nets))
+  coded_observed =
+      filter_numbers (λ n. nat_lt 0 (code_in plan n)) (is_observed board plan.passes) 0 board.nets
+      (λ k net e. let z : 0 + k ≡ k = omega arith in subst (λ (i : ℕ). nat_lt 0 (code_in plan i) ≡ is_observed board plan.passes net) (sym z) (each k net e))
+    where
+      above : (b : Bool) (k : ℕ) → nat_lt 0 (cond b (suc k) 0) ≡ b
+      above true k = lt-ltb 0 (suc k) (omega arith)
+      above false k = refl
+
+      each : (n : ℕ) (net : Net) → slice_get board.nets n ≡ Some net → nat_lt 0 (code_in plan n) ≡ is_observed board plan.passes net
+      each n net e = ap (λ (k : ℕ). nat_lt 0 k) (p.codes_are n net e) ∙ above (is_observed board plan.passes net) _
+
+  module _ (n : ℕ) (net : Net) (is_net : slice_get board.nets n ≡ Some net) (observed : is_observed board plan.passes net ≡ true) where
+    place_is : covered_place plan n ≡ count_by (is_observed board plan.passes) (take n board.nets)
+    place_is =
+        let code : code_in plan n ≡ suc (count_by (is_observed board plan.passes) (take n board.nets)) =
+        p.codes_are n net is_net ∙ ap (λ (b : Bool). cond b (code_of_net board plan.passes n) 0) observed in
+        omega (arith, code)
+
+    pub covered_there : slice_get (coded_nets plan (length board.nets)) (covered_place plan n) ≡ Some n
+    covered_there =
+        let z : 0 + n ≡ n = omega arith in
+        ap (λ (l : List ℕ). slice_get l (covered_place plan n)) coded_observed
+        ∙ ap (λ (i : ℕ). slice_get (map (λ (m : Numbered). m.0) (filter (λ (m : Numbered). is_observed board plan.passes m.1) (enumerate_from 0 board.nets))) i) place_is
+        ∙ place_in_filter (is_observed board plan.passes) 0 board.nets n net is_net observed
+        ∙ ap (λ (i : ℕ). Some i) z

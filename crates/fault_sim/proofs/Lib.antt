@@ -1,0 +1,13 @@
+pub mod FeedLemmas
+pub mod EffectLemmas
+pub mod ShowLemmas
+pub mod MatchLemmas
+pub mod PlaceLemmas
+pub mod RangeLemmas
+pub mod TestedLemmas
+pub mod UniverseLemmas
+pub mod SuspectLemmas
+pub mod DifferLemmas
+pub mod OrderLemmas
+pub mod ExplainLemmas
+pub mod DiagnosisLemmas

@@ -1,0 +1,295 @@
+-- The places of a board as a list.
+use Rattle.std.proofs.Common.{◌≡◌, ◌≢◌, ◌⊎◌, inl, inr, ℕ, zero, suc, ◌+◌, ◌-◌, ◌*◌, ◌<◌, ◌≤◌, ◌==◌, Bool, true, false, cond, ◌&&◌, List, [], ◌∷◌, ◌++◌, length, map, get_or, Option, Some, None, refl, sym, ap, ◌∙◌, subst, arith, length-append}
+use Rattle.std.specs.Prelude.{slice_get, filter, filter_map, option_map}
+use Rattle.std.specs.List.{flat_map}
+use Rattle.std.proofs.lemmas.Bool.{and_parts, both_ways, cases_lt, false_from_ne_true}
+use Rattle.std.proofs.lemmas.Nat.{mul-le}
+use Rattle.std.proofs.lemmas.List.{length-map, get_or_append_left, get_or-append-add}
+use Rattle.std.proofs.lemmas.List.Elements.{filter_map-append, filter-append}
+use Rattle.std.proofs.lemmas.Option.{slice_get-map, slice_get_within}
+use Rattle.board_defs.specs.declared.board.Net.{Net}
+use Rattle.board_defs.specs.declared.board.RawBoard.{RawBoard}
+use Rattle.board_defs.specs.declared.board.PinRef.{PinRef}
+use Rattle.board_defs.specs.declared.fault.Kind.{Kind}
+use Rattle.board_defs.specs.declared.fault.Kind.TheVariants.{And, Or, First, Second}
+use Rattle.board_defs.specs.declared.fault.Single.{Single}
+use Rattle.board_defs.specs.declared.fault.Single.TheVariants.{StuckNet, OpenPin, Short}
+use Rattle.board_defs.specs.Decided.{is_covered, are_paired, is_tested_driver, pairs_at, any_below, are_compatible, place_drive}
+use Rattle.board_defs.specs.Faults.{Numbered, numbered_nets, covered_nets, tested_pins, paired_nets, stuck_faults, open_faults, short_faults, kind_rank}
+use Rattle.board_defs.specs.Passes.{pairs_within}
+use Rattle.board_defs.proofs.Places.{below_place, below_at}
+use Rattle.tap_defs.proofs.ScanPlaceLemmas.{front_at, rest_at}
+use Rattle.scan_planner.specs.declared.tables.PlanTables.{PlanTables}
+use Rattle.fault_sim.specs.declared.universe.FaultLists.{FaultLists}
+use Rattle.fault_sim.specs.Tested.{paired_in}
+use Rattle.fault_sim.specs.Laws.{PlacesAre}
+use Rattle.fault_sim.specs.Places.{placed, pair_places, stuck_places, open_places, short_places, pairs_before, AreStarts, number_places, listed_places}
+
+-- what is at the places of some faults
+placed_faults : (faults : List Single) → filter_map (λ place. place) (placed faults) ≡ faults
+placed_faults [] = refl
+placed_faults (fault ∷ faults) = ap (λ (l : List Single). fault ∷ l) (placed_faults faults)
+
+flat_places : {X : Type 0} (g : X → List (Option Single)) (xs : List X) → filter_map (λ place. place) (flat_map g xs) ≡ flat_map (λ x. filter_map (λ place. place) (g x)) xs
+flat_places g [] = refl
+flat_places g (x ∷ xs) =
+    filter_map-append (λ place. place) (g x) (flat_map g xs)
+    ∙ ap (λ (l : List Single). filter_map (λ place. place) (g x) ++ l) (flat_places g xs)
+
+-- the faults of the items that pass a test
+flat_filter : {X : Type 0} (q : X → Bool) (f g : X → List Single) → ((x : X) → g x ≡ cond (q x) (f x) []) → (xs : List X) → flat_map g xs ≡ flat_map f (filter q xs)
+flat_filter q f g same [] = refl
+flat_filter {X} q f g same (x ∷ xs) = ap (λ (l : List Single). l ++ flat_map g xs) (same x) ∙ by_test (q x) (flat_filter q f g same xs)
+  where
+    by_test : (b : Bool) → flat_map g xs ≡ flat_map f (filter q xs) → cond b (f x) [] ++ flat_map g xs ≡ flat_map f (cond b (x ∷ filter q xs) (filter q xs))
+    by_test true rest = ap (λ (l : List Single). f x ++ l) rest
+    by_test false rest = rest
+
+-- pairs that pass a test are of items that pass theirs
+module _ {X : Type 0} (c : X → Bool) (q : X × X → Bool) (parts : (x y : X) → q (x, y) ≡ true → (c x ≡ true) × (c y ≡ true)) where
+  second_covered : (x : X) (ys : List X) → filter q (map (λ y. let p : X × X = (x, y) in p) (filter c ys)) ≡ filter q (map (λ y. let p : X × X = (x, y) in p) ys)
+  second_covered x [] = refl
+  second_covered x (y ∷ ys) = by_cover (second_covered x ys) (c y) refl
+    where
+      by_cover : filter q (map (λ y. let p : X × X = (x, y) in p) (filter c ys)) ≡ filter q (map (λ y. let p : X × X = (x, y) in p) ys) → (b : Bool) → c y ≡ b →
+          filter q (map (λ y. let p : X × X = (x, y) in p) (cond b (y ∷ filter c ys) (filter c ys)))
+          ≡ cond (q (x, y)) ((x, y) ∷ filter q (map (λ y. let p : X × X = (x, y) in p) ys)) (filter q (map (λ y. let p : X × X = (x, y) in p) ys))
+      by_cover ih true e = ap (λ (l : List (X × X)). cond (q (x, y)) ((x, y) ∷ l) l) ih
+      by_cover ih false e =
+          let off : q (x, y) ≡ false = false_from_ne_true (q (x, y)) (λ on. both_ways (c y) e (parts x y on).1) in
+          ih ∙ sym (ap (λ (b : Bool). cond b ((x, y) ∷ filter q (map (λ y. let p : X × X = (x, y) in p) ys)) (filter q (map (λ y. let p : X × X = (x, y) in p) ys))) off)
+
+  first_uncovered : (x : X) → c x ≡ false → (ys : List X) → filter q (map (λ y. let p : X × X = (x, y) in p) ys) ≡ []
+  first_uncovered x e [] = refl
+  first_uncovered x e (y ∷ ys) =
+      let off : q (x, y) ≡ false = false_from_ne_true (q (x, y)) (λ on. both_ways (c x) e (parts x y on).0) in
+      ap (λ (b : Bool). cond b ((x, y) ∷ filter q (map (λ y. let p : X × X = (x, y) in p) ys)) (filter q (map (λ y. let p : X × X = (x, y) in p) ys))) off
+      ∙ first_uncovered x e ys
+
+  pub pairs_covered : (xs : List X) → filter q (pairs_within (filter c xs)) ≡ filter q (pairs_within xs)
+  pairs_covered [] = refl
+  pairs_covered (x ∷ xs) = by_cover (pairs_covered xs) (c x) refl
+    where
+      by_cover : filter q (pairs_within (filter c xs)) ≡ filter q (pairs_within xs) → (b : Bool) → c x ≡ b →
+          filter q (pairs_within (cond b (x ∷ filter c xs) (filter c xs))) ≡ filter q (map (λ y. let p : X × X = (x, y) in p) xs ++ pairs_within xs)
+      by_cover ih true e =
+          filter-append q (map (λ y. let p : X × X = (x, y) in p) (filter c xs)) (pairs_within (filter c xs))
+          ∙ ap (λ (l : List (X × X)). l ++ filter q (pairs_within (filter c xs))) (second_covered x xs)
+          ∙ ap (λ (l : List (X × X)). filter q (map (λ y. let p : X × X = (x, y) in p) xs) ++ l) ih
+          ∙ sym (filter-append q (map (λ y. let p : X × X = (x, y) in p) xs) (pairs_within xs))
+      by_cover ih false e =
+          ih
+          ∙ sym (filter-append q (map (λ y. let p : X × X = (x, y) in p) xs) (pairs_within xs)
+          ∙ ap (λ (l : List (X × X)). l ++ filter q (pairs_within xs)) (first_uncovered x e xs))
+
+-- paired nets are covered
+pub paired_covered : (board : RawBoard) (a b : Net) → are_paired board a b ≡ true → (is_covered board a ≡ true) × (is_covered board b ≡ true)
+paired_covered board a b e =
+    let i = below_place (length a.pins) (λ i. any_below (length b.pins) (pairs_at board a b i)) e in
+    let j = below_place (length b.pins) (pairs_at board a b i.number) i.passes in
+    let t = and_parts (is_tested_driver board a i.number && is_tested_driver board b j.number) (are_compatible board (place_drive board a i.number) (place_drive board b j.number)) j.passes in
+    let u = and_parts (is_tested_driver board a i.number) (is_tested_driver board b j.number) t.0 in
+    (below_at (length a.pins) (is_tested_driver board a) i.number i.below u.0, below_at (length b.pins) (is_tested_driver board b) j.number j.below u.1)
+
+-- the faults at the places are the single faults
+pub places_are : PlacesAre
+places_are board =
+    filter_map-append (λ place. place) (stuck_places board) (open_places board ++ short_places board)
+    ∙ ap (λ (l : List Single). filter_map (λ place. place) (stuck_places board) ++ l) (filter_map-append (λ place. place) (open_places board) (short_places board))
+    ∙ ap (λ (l : List Single). l ++ (filter_map (λ place. place) (open_places board) ++ filter_map (λ place. place) (short_places board))) (placed_faults (flat_map (λ net. stuck_faults net.0) (covered_nets board)))
+    ∙ ap (λ (l : List Single). stuck ++ (l ++ filter_map (λ place. place) (short_places board))) (placed_faults (flat_map open_faults (tested_pins board)))
+    ∙ ap (λ (l : List Single). stuck ++ (opens ++ l)) shorts_are
+    ∙ sym (Rattle.std.proofs.Common.append_assoc stuck opens (flat_map (λ pair. short_faults pair.0.0 pair.1.0) (paired_nets board)))
+  where
+    Pair : Type 0
+    Pair = Numbered × Numbered
+
+    stuck : List Single
+    stuck = flat_map (λ (net : Numbered). stuck_faults net.0) (covered_nets board)
+
+    opens : List Single
+    opens = flat_map open_faults (tested_pins board)
+
+    q : Numbered × Numbered → Bool
+    q pair = are_paired board pair.0.1 pair.1.1
+
+    at_pair : (pair : Numbered × Numbered) → filter_map (λ place. place) (pair_places board pair) ≡ cond (q pair) (short_faults pair.0.0 pair.1.0) []
+    at_pair pair = by_test (are_paired board pair.0.1 pair.1.1)
+      where
+        by_test : (b : Bool) → filter_map (λ place. place) (cond b (placed (short_faults pair.0.0 pair.1.0)) (None ∷ None ∷ None ∷ None ∷ [])) ≡ cond b (short_faults pair.0.0 pair.1.0) []
+        by_test true = placed_faults (short_faults pair.0.0 pair.1.0)
+        by_test false = refl
+
+    shorts_are : filter_map (λ place. place) (short_places board) ≡ flat_map (λ pair. short_faults pair.0.0 pair.1.0) (paired_nets board)
+    shorts_are =
+        flat_places (pair_places board) (pairs_within (covered_nets board))
+        ∙ flat_filter q (λ pair. short_faults pair.0.0 pair.1.0) (λ pair. filter_map (λ place. place) (pair_places board pair)) at_pair (pairs_within (covered_nets board))
+        ∙ ap (λ (l : List (Numbered × Numbered)). flat_map (λ pair. short_faults pair.0.0 pair.1.0) l)
+        (pairs_covered (λ (net : Numbered). is_covered board net.1) q (λ x y on. paired_covered board x.1 y.1 on) (numbered_nets board))
+
+-- what is at a place of items that give so many places each
+pub flat_at : {X Y : Type 0} (f : X → List Y) (w : ℕ) → ((x : X) → length (f x) ≡ w) → (xs : List X) (m : ℕ) (x : X) → slice_get xs m ≡ Some x → (r i : ℕ) → r < w → i ≡ m * w + r →
+    slice_get (flat_map f xs) i ≡ slice_get (f x) r
+flat_at f w each [] m x e r i less at = cc e
+flat_at {X} {Y} f w each (z ∷ xs) zero x e r i less at =
+    let same : z ≡ x = cc e in
+    let here : i ≡ r = omega (arith, at) in
+    front_at (f z) (flat_map f xs) i (omega (arith, here, less, each z))
+    ∙ ap (λ (y : X). slice_get (f y) i) same
+    ∙ ap (λ (k : ℕ). slice_get (f x) k) here
+flat_at f w each (z ∷ xs) (suc m) x e r i less at =
+    rest_at (f z) (flat_map f xs) (m * w + r) i (omega (arith, at, each z, times m w))
+    ∙ flat_at f w each xs m x e r (m * w + r) less refl
+  where
+    times : (m w : ℕ) → suc m * w ≡ m * w + w
+    times m w = omega arith
+
+pub length-flat : {X Y : Type 0} (f : X → List Y) (w : ℕ) → ((x : X) → length (f x) ≡ w) → (xs : List X) → length (flat_map f xs) ≡ length xs * w
+length-flat f w each [] = omega arith
+length-flat f w each (x ∷ xs) = omega (arith, length-append (f x) (flat_map f xs), each x, length-flat f w each xs, times (length xs) w)
+  where
+    times : (m w : ℕ) → suc m * w ≡ m * w + w
+    times m w = omega arith
+
+-- the pairs of a list, by the places of their items
+pub pair_there : {X : Type 0} (xs : List X) (a b k : ℕ) (x y : X) → a < b → slice_get xs a ≡ Some x → slice_get xs b ≡ Some y → k + suc a ≡ pairs_before (length xs) a + b →
+    slice_get (pairs_within xs) k ≡ Some (x, y)
+pair_there [] a b k x y less ea eb at = cc ea
+pair_there {X} (z ∷ xs) zero zero k x y less ea eb at = absurd (omega (arith, less))
+pair_there {X} (z ∷ xs) zero (suc b) k x y less ea eb at =
+    let same : z ≡ x = cc ea in
+    let here : k ≡ b = omega (arith, at) in
+    front_at (map (λ v. let p : X × X = (z, v) in p) xs) (pairs_within xs) k (omega (arith, here, slice_get_within xs b y eb, length-map xs (λ v. let p : X × X = (z, v) in p)))
+    ∙ slice_get-map (λ v. let p : X × X = (z, v) in p) xs k
+    ∙ ap (λ (o : Option X). option_map (λ v. let p : X × X = (z, v) in p) o) (ap (λ (i : ℕ). slice_get xs i) here ∙ eb)
+    ∙ ap (λ (v : X). let p : X × X = (v, y) in Some p) same
+pair_there (z ∷ xs) (suc a) zero k x y less ea eb at = absurd (omega (arith, less))
+pair_there {X} (z ∷ xs) (suc a) (suc b) k x y less ea eb at =
+    rest_at (map (λ v. let p : X × X = (z, v) in p) xs) (pairs_within xs) (k - length xs) k (omega (arith, length-map xs (λ v. let p : X × X = (z, v) in p), enough))
+    ∙ pair_there xs a b (k - length xs) x y (omega (arith, less)) ea eb (omega (arith, at, enough))
+  where
+    enough : length xs ≤ k
+    enough = omega (arith, at, less)
+
+pub length-pairs : {X : Type 0} (xs : List X) → length (pairs_within xs) ≡ pairs_before (length xs) (length xs)
+length-pairs [] = refl
+length-pairs {X} (x ∷ xs) =
+    length-append (map (λ v. let p : X × X = (x, v) in p) xs) (pairs_within xs)
+    ∙ omega (arith, length-map xs (λ v. let p : X × X = (x, v) in p), length-pairs xs)
+
+-- the numbers of pairs
+pub before_more : (nets a : ℕ) → a < nets → pairs_before nets (suc a) + suc a ≡ pairs_before nets a + nets
+before_more zero a less = absurd (omega (arith, less))
+before_more (suc nets) zero less = by_nets nets
+  where
+    by_nets : (n : ℕ) → pairs_before (suc n) 1 + 1 ≡ pairs_before (suc n) 0 + suc n
+    by_nets zero = refl
+    by_nets (suc n) = omega arith
+before_more (suc nets) (suc a) less = omega (arith, before_more nets a (omega (arith, less)))
+
+pub before_most : (nets a : ℕ) → pairs_before nets a ≤ nets * nets
+before_most zero a = omega arith
+before_most (suc nets) zero = omega arith
+before_most (suc nets) (suc a) = omega (arith, before_most nets a)
+
+square_most : (n : ℕ) → n ≤ 16382 → n * n ≤ 268369924
+square_most n few = mul-le n n 16382 16382 few few
+
+pub before_few : (nets a : ℕ) → nets ≤ 16382 → pairs_before nets a ≤ 268369924
+before_few nets a few = omega (arith, before_most nets a, square_most nets few)
+
+-- one start more
+pub starts_more : (nets a : ℕ) (starts : List ℕ) (next : ℕ) → a < nets → length starts ≡ a + 1 → ((k : ℕ) → k ≤ a → get_or starts k 0 ≡ pairs_before nets k) → next ≡ pairs_before nets (a + 1) →
+    (k : ℕ) → k ≤ a + 1 → get_or (starts ++ next ∷ []) k 0 ≡ pairs_before nets k
+starts_more nets a starts next less long each is k le = by_side (cases_lt k (a + 1))
+  where
+    by_side : (k < a + 1) ⊎ (a + 1 ≤ k) → get_or (starts ++ next ∷ []) k 0 ≡ pairs_before nets k
+    by_side (inl below) = get_or_append_left starts (next ∷ []) 0 k (omega (arith, below, long)) ∙ each k (omega (arith, below))
+    by_side (inr above) =
+        let last : k ≡ length starts + 0 = omega (arith, le, above, long) in
+        let here : a + 1 ≡ k = omega (arith, le, above) in
+        ap (λ (i : ℕ). get_or (starts ++ next ∷ []) i 0) last
+        ∙ get_or-append-add starts (next ∷ []) 0 0
+        ∙ is ∙ ap (λ (i : ℕ). pairs_before nets i) here
+
+pub next_start : (nets a start : ℕ) → a < nets → start ≡ pairs_before nets a → start + (nets - a - 1) ≡ pairs_before nets (a + 1)
+next_start nets a start less e =
+    let next : suc a ≡ a + 1 = omega arith in
+    omega (arith, before_more nets a less, e, less, ap (λ (i : ℕ). pairs_before nets i) next)
+
+-- the place of a pair in the list, by the start of its row
+pub pair_within : (nets : ℕ) (starts s : List ℕ) → s ≡ starts → AreStarts nets starts → (low k start : ℕ) → low + 1 < length s → get_or s low 0 ≤ k → k < get_or s (low + 1) 0 → start ≡ get_or s low 0 →
+    (low + 1 + (k - start) < nets) × (k + suc low ≡ pairs_before nets low + (low + 1 + (k - start)))
+pair_within nets starts s same are low k start within above below is =
+    let rows : length s ≡ suc nets = ap (λ (l : List ℕ). length l) same ∙ are.count in
+    let first : get_or s low 0 ≡ pairs_before nets low = ap (λ (l : List ℕ). get_or l low 0) same ∙ are.each low (omega (arith, within, rows)) in
+    let step : suc low ≡ low + 1 = omega arith in
+    let next : get_or s (low + 1) 0 ≡ pairs_before nets (low + 1) = ap (λ (l : List ℕ). get_or l (low + 1) 0) same ∙ are.each (low + 1) (omega (arith, within, rows)) in
+    let more = before_more nets low (omega (arith, within, rows)) in
+    let moved : pairs_before nets (suc low) ≡ pairs_before nets (low + 1) = ap (λ (i : ℕ). pairs_before nets i) step in
+    (omega (arith, above, below, is, first, next, more, moved, within, rows), omega (arith, above, below, is, first, next, more, moved))
+
+-- the faults of a net, of a pin and of two nets
+pub stuck_fault : (net r : ℕ) → r < 2 → slice_get (stuck_faults net) r ≡ Some (StuckNet net (r == 1))
+stuck_fault net zero less = refl
+stuck_fault net (suc zero) less = refl
+stuck_fault net (suc (suc r)) less = absurd (omega (arith, less))
+
+pub open_fault : (pin : PinRef) (r : ℕ) → r < 2 → slice_get (open_faults pin) r ≡ Some (OpenPin pin (r == 1))
+open_fault pin zero less = refl
+open_fault pin (suc zero) less = refl
+open_fault pin (suc (suc r)) less = absurd (omega (arith, less))
+
+pub short_fault : (a b r : ℕ) (kind : Kind) → kind_rank kind ≡ r → slice_get (short_faults a b) r ≡ Some (Short a b kind)
+short_fault a b r And e = sym (ap (λ (i : ℕ). slice_get (short_faults a b) i) e)
+short_fault a b r Or e = sym (ap (λ (i : ℕ). slice_get (short_faults a b) i) e)
+short_fault a b r First e = sym (ap (λ (i : ℕ). slice_get (short_faults a b) i) e)
+short_fault a b r Second e = sym (ap (λ (i : ℕ). slice_get (short_faults a b) i) e)
+
+pub no_fault : (r : ℕ) → r < 4 → (let places : List (Option Single) = None ∷ None ∷ None ∷ None ∷ [] in slice_get places r ≡ Some None)
+no_fault zero less = refl
+no_fault (suc zero) less = refl
+no_fault (suc (suc zero)) less = refl
+no_fault (suc (suc (suc zero))) less = refl
+no_fault (suc (suc (suc (suc r)))) less = absurd (omega (arith, less))
+
+pub length-four : (plan : PlanTables) (pair : ℕ × ℕ) → length (number_places plan pair) ≡ 4
+length-four plan pair = by_test (paired_in plan pair.0 pair.1)
+  where
+    by_test : (b : Bool) → length (cond b (placed (short_faults pair.0 pair.1)) (None ∷ None ∷ None ∷ None ∷ [])) ≡ 4
+    by_test true = refl
+    by_test false = refl
+
+-- the places by the lists
+module _ (plan : PlanTables) (lists : FaultLists) where
+  abbrev stuck : List (Option Single)
+  stuck = placed (flat_map stuck_faults lists.nets)
+
+  abbrev opens : List (Option Single)
+  opens = placed (flat_map open_faults lists.pins)
+
+  abbrev shorts : List (Option Single)
+  shorts = flat_map (number_places plan) (pairs_within lists.nets)
+
+  pub stuck_length : length stuck ≡ 2 * length lists.nets
+  stuck_length = length-map (flat_map stuck_faults lists.nets) (λ fault. Some fault) ∙ length-flat stuck_faults 2 (λ n. refl) lists.nets ∙ turned (length lists.nets)
+    where
+      turned : (n : ℕ) → n * 2 ≡ 2 * n
+      turned n = omega arith
+
+  pub opens_length : length opens ≡ 2 * length lists.pins
+  opens_length = length-map (flat_map open_faults lists.pins) (λ fault. Some fault) ∙ length-flat open_faults 2 (λ pin. refl) lists.pins ∙ turned (length lists.pins)
+    where
+      turned : (n : ℕ) → n * 2 ≡ 2 * n
+      turned n = omega arith
+
+  pub open_listed : (i k : ℕ) (fault : Single) → i ≡ 2 * length lists.nets + k → k < 2 * length lists.pins → slice_get (flat_map open_faults lists.pins) k ≡ Some fault → slice_get (listed_places plan lists) i ≡ Some (Some fault)
+  open_listed i k fault at less e =
+      rest_at stuck (opens ++ shorts) k i (omega (arith, at, stuck_length))
+      ∙ front_at opens shorts k (omega (arith, less, opens_length))
+      ∙ slice_get-map (λ f. Some f) (flat_map open_faults lists.pins) k ∙ ap (λ (o : Option Single). option_map (λ f. Some f) o) e
+
+  pub short_listed : (i k : ℕ) (place : Option Single) → i ≡ 2 * length lists.nets + (2 * length lists.pins + k) → slice_get shorts k ≡ Some place → slice_get (listed_places plan lists) i ≡ Some place
+  short_listed i k place at e =
+      rest_at stuck (opens ++ shorts) (2 * length lists.pins + k) i (omega (arith, at, stuck_length))
+      ∙ rest_at opens shorts k (2 * length lists.pins + k) (omega (arith, opens_length)) ∙ e

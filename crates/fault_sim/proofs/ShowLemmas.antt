@@ -1,0 +1,385 @@
+-- A log shows the effects of a fault exactly where each compared cell has the bit of the fault.
+use Rattle.std.proofs.Common.{◌≡◌, ◌≢◌, ◌⊎◌, inl, inr, ℕ, zero, suc, ◌+◌, ◌-◌, ◌*◌, ◌<◌, ◌≤◌, ◌==◌, Bool, true, false, cond, not, ◌&&◌, ◌||◌, List, [], length, get_or, Option, Some, None, refl, sym, ap, ◌∙◌, subst, arith}
+use Rattle.std.specs.Prelude.{slice_get, option_and_then, All}
+use Rattle.std.specs.List.{list_all}
+use Rattle.std.proofs.lemmas.Bool.{eq-eqb, ne_eqb, and_parts, both_ways, cases_lt}
+use Rattle.std.proofs.lemmas.Nat.{mul-add-lt}
+use Rattle.std.proofs.lemmas.Option.{get_or_from_slice_get, slice_get-get_or, slice_get_within}
+use Rattle.board_defs.specs.declared.device.Cell.{Cell}
+use Rattle.board_defs.specs.declared.device.RawDevice.{RawDevice}
+use Rattle.board_defs.specs.declared.board.PinAt.{PinAt}
+use Rattle.board_defs.specs.declared.board.Net.{Net}
+use Rattle.board_defs.specs.declared.board.RawBoard.{RawBoard}
+use Rattle.board_defs.specs.declared.board.Ctl.{Ctl}
+use Rattle.board_defs.specs.declared.fault.Single.{Single}
+use Rattle.board_defs.specs.BoardRules.{IsBoard}
+use Rattle.board_defs.specs.DeviceRules.{is_on, is_receiving, reading_entry}
+use Rattle.board_defs.specs.Pins.{device_at, guarded, data_bits, is_same, receives_where}
+use Rattle.board_defs.specs.Settings.{holds}
+use Rattle.board_defs.proofs.Members.{Has, has_at, has_place, has_any, all_has, contains_has, has_contains}
+use Rattle.board_defs.proofs.Places.{all_from, all_stands}
+use Rattle.tap_defs.specs.NetBits.{Place, place_of}
+use Rattle.tap_defs.specs.TestRows.{TestRow, quiet_row, code_row, code_bit, code_of_net, net_code_bit, code_width, observed_count, observing_driver, only_if, expect_bit, expect_entry, expect_pin, expect_place, expect_observed}
+use Rattle.tap_defs.specs.BoardScans.{RowScan, row_now}
+use Rattle.tap_defs.specs.Explaining.{CompareRows, IsCompared, ShowsBits, compared_scans, cell_position}
+use Rattle.tap_defs.proofs.LiveLemmas.{on_is}
+use Rattle.tap_defs.proofs.FeedingLemmas.{Observing, observing_at}
+use Rattle.tap_defs.proofs.PassingLemmas.{stands_at}
+use Rattle.scan_planner.specs.declared.nets.NetDriver.{NetDriver}
+use Rattle.scan_planner.specs.declared.tables.ReaderCell.{ReaderCell}
+use Rattle.scan_planner.specs.declared.tables.PlanTables.{PlanTables}
+use Rattle.scan_planner.specs.Tables.{first_position, IsReaderCell}
+use Rattle.scan_planner.specs.Building.{is_read_beside, enabled_in, drivers_of_pins}
+use Rattle.scan_planner.specs.Plans.{IsPlanOf}
+use Rattle.scan_planner.proofs.LaidLemmas.{laid_at}
+use Rattle.scan_planner.proofs.PinLemmas.{Standing, standing, on_self, reading_entry_is, Reads, reads_by}
+use Rattle.scan_planner.proofs.FillLemmas.{some_at}
+use Rattle.scan_planner.proofs.TableLemmas.{FirstOn, reader_is, is_reader}
+use Rattle.fault_sim.specs.Effects.{readers_in, code_in, driver_in, effect_in, effect_bit, fault_bit}
+use Rattle.fault_sim.specs.Fits.{bit_in, cell_shows, ShowBy, NetShows, Shows, ShowsAll}
+use Rattle.fault_sim.proofs.FeedLemmas.{drivers_are, readers_are, code_is, first_is, observing_is}
+use Rattle.fault_sim.proofs.EffectLemmas.{IsFault, effect_is}
+
+-- the place of a row among those of passes
+pub record RowOf (passes width y : ℕ) : Type 0 where
+  pub pass : ℕ
+  pub bit : ℕ
+  pub pass_below : pass < passes
+  pub bit_below : bit < width
+  pub row_is : y ≡ pass * width + bit
+
+suc_times : (p w : ℕ) → suc p * w ≡ p * w + w
+suc_times p w = grind arith
+
+pub row_of : (passes width y : ℕ) → y < passes * width → RowOf passes width y
+row_of zero width y less = absurd (grind (arith, less))
+row_of (suc passes) width y less = by_side (cases_lt y (passes * width)) (row_of passes width y)
+  where
+    by_side : (y < passes * width) ⊎ (passes * width ≤ y) → (y < passes * width → RowOf passes width y) → RowOf (suc passes) width y
+    by_side (inl below) ih =
+        let r = ih below in
+        record { pass = r.pass; bit = r.bit; pass_below = omega (arith, r.pass_below); bit_below = r.bit_below; row_is = r.row_is }
+    by_side (inr above) ih = record {
+      pass = passes;
+      bit = y - passes * width;
+      pass_below = omega arith;
+      bit_below = omega (arith, less, above, suc_times passes width);
+      row_is = omega (arith, above);
+    }
+
+-- the two bits are equal
+same_bits : (a b : Bool) → is_same a b ≡ true → a ≡ b
+same_bits true b e = sym e
+same_bits false true e = cc e
+same_bits false false e = refl
+
+bits_same : (a b : Bool) → a ≡ b → is_same a b ≡ true
+bits_same a b e = ap (λ (x : Bool). is_same a x) (sym e) ∙ by_bit a
+  where
+    by_bit : (x : Bool) → is_same x x ≡ true
+    by_bit true = refl
+    by_bit false = refl
+
+-- a compared cell reads a pin of an observed net beside the driver
+record Read (board : RawBoard) (row : TestRow) (part : ℕ) (device : RawDevice) (cell : ℕ) (place : Place) (v : Bool) : Type 0 where
+  entry : Cell
+  reads : reading_entry device cell ≡ Some entry
+  receiving : is_receiving entry.role ≡ true
+  bit : ℕ
+  bit_is : entry.bit ≡ Some bit
+  receives_is : receives_where board (Some (record { part = part; bit = bit })) ≡ true
+  is_place : place_of (record { part = part; bit = bit }) 0 board.nets ≡ Some place
+  driver : ℕ
+  observing : observing_driver board row.setting place.net ≡ Some driver
+  other : (driver == place.place) ≡ false
+  carried : row.carried place.number ≡ Some v
+
+module _ (board : RawBoard) (row : TestRow) (part : ℕ) (device : RawDevice) (cell : ℕ) (place : Place) (v : Bool) where
+  abbrev pin_at : ℕ → PinAt
+  pin_at b = record { part = part; bit = b }
+
+  module _ (entry : Cell) (reads : reading_entry device cell ≡ Some entry) (receiving : is_receiving entry.role ≡ true) (bit : ℕ) (bit_is : entry.bit ≡ Some bit) (receives_is : receives_where board (Some (pin_at bit)) ≡ true)
+      (is_place : place_of (pin_at bit) 0 board.nets ≡ Some place) where
+    by_other : (d : ℕ) → observing_driver board row.setting place.net ≡ Some d → (b : Bool) → (d == place.place) ≡ b →
+        only_if (not b) (row.carried place.number) ≡ Some v → Read board row part device cell place v
+    by_other d o true q e = cc e
+    by_other d o false q e = record {
+      entry = entry;
+      reads = reads;
+      receiving = receiving;
+      bit = bit;
+      bit_is = bit_is;
+      receives_is = receives_is;
+      is_place = is_place;
+      driver = d;
+      observing = o;
+      other = q;
+      carried = e;
+    }
+
+    by_driver : (o : Option ℕ) → observing_driver board row.setting place.net ≡ o → expect_observed (row.carried place.number) place.place o ≡ Some v → Read board row part device cell place v
+    by_driver None o e = cc e
+    by_driver (Some d) o e = by_other d o (d == place.place) refl e
+
+  by_bit : (entry : Cell) → reading_entry device cell ≡ Some entry → is_receiving entry.role ≡ true → (o : Option ℕ) → entry.bit ≡ o →
+      expect_pin board row part o ≡ Some v → option_and_then (λ b. place_of (pin_at b) 0 board.nets) o ≡ Some place → Read board row part device cell place v
+  by_bit entry reads receiving None q e at = cc e
+  by_bit entry reads receiving (Some b) q e at = by_receives (receives_where board (Some (pin_at b))) refl e
+    where
+      by_receives : (r : Bool) → receives_where board (Some (pin_at b)) ≡ r → cond r (expect_place board row (place_of (pin_at b) 0 board.nets)) None ≡ Some v → Read board row part device cell place v
+      by_receives true r h =
+          by_driver entry reads receiving b q r at (observing_driver board row.setting place.net) refl (sym (ap (λ (o : Option Place). expect_place board row o) at) ∙ h)
+      by_receives false r h = cc h
+
+  by_entry : (o : Option Cell) → reading_entry device cell ≡ o → expect_entry board row part o ≡ Some v →
+      option_and_then (λ entry. option_and_then (λ b. place_of (pin_at b) 0 board.nets) entry.bit) o ≡ Some place → Read board row part device cell place v
+  by_entry None q e at = cc e
+  by_entry (Some entry) q e at = by_role (is_receiving entry.role) refl e
+    where
+      by_role : (r : Bool) → is_receiving entry.role ≡ r → cond r (expect_pin board row part entry.bit) None ≡ Some v → Read board row part device cell place v
+      by_role true r h = by_bit entry q r entry.bit refl h at
+      by_role false r h = cc h
+
+  read_of : IsCompared board row part device cell place v → Read board row part device cell place v
+  read_of c = by_entry (reading_entry device cell) refl c.expects c.reads
+
+not_same : (a b : ℕ) → (a == b) ≡ false → (b == a) ≡ false
+not_same a b e = ne_eqb b a (λ same. both_ways (a == b) e (eq-eqb a b (sym same)))
+
+module _ (board : RawBoard) (rules : IsBoard board) (plan : PlanTables) (p : IsPlanOf board plan) (fault : Option Single) (is_fault : IsFault board fault) (log : List (List Bool))
+    (rows : length log ≡ length plan.passes * plan.width) (bits : All (λ row. length row ≡ data_bits board) log)
+    (scans : List RowScan) (compare : CompareRows (code_row board plan.passes) plan.width plan.passes (compared_scans board scans)) where
+  -- row j of pass x
+  module _ (x : ℕ) (pass : List Ctl) (stands : slice_get plan.passes x ≡ Some pass) (j : ℕ) (less : j < plan.width) where
+    abbrev row : TestRow
+    row = code_row board plan.passes pass j
+
+    abbrev number : ℕ
+    number = x * plan.width + j
+
+    abbrev scan_here : RowScan
+    scan_here = record { now = row_now (code_row board plan.passes pass) plan.width (suc j); before = row }
+
+    scan_is : slice_get (compared_scans board scans) number ≡ Some scan_here
+    scan_is = compare.each x pass j stands less
+
+    row_there : number < length log
+    row_there = omega (arith, mul-add-lt x plan.width j (length plan.passes) (slice_get_within plan.passes x pass stands) less, rows, grind-times plan.width (length plan.passes))
+      where
+        grind-times : (a b : ℕ) → a * b ≡ b * a
+        grind-times a b = grind arith
+
+    -- a cell of the row, and its bit in the log
+    module _ (logged : List Bool) (is_logged : slice_get log number ≡ Some logged) (part : ℕ) (device : RawDevice) (cell : ℕ) (is_device : device_at board part ≡ Some device) (below : cell < device.boundary) where
+      abbrev position : ℕ
+      position = first_position board part + cell
+
+      within : position < length logged
+      within = omega (arith, (laid_at (λ q e c. false) board part device cell is_device below).0, all_stands (λ (l : List Bool). length l ≡ data_bits board) log number logged is_logged bits)
+
+      logged_is : slice_get logged position ≡ Some (bit_in log number position)
+      logged_is =
+          slice_get-get_or logged position false within
+          ∙ ap (λ (l : List Bool). Some (get_or l position false)) (sym (get_or_from_slice_get log number logged [] is_logged))
+
+    -- net n and its driver
+    module _ (n : ℕ) (net : Net) (is_net : slice_get board.nets n ≡ Some net) (unguarded : guarded board net ≡ false) (d : NetDriver) (enabled : driver_in plan pass n ≡ Some d) where
+      module _ (place : ℕ) (other : place ≢ d.place) (expected : Bool) where
+        value_is : effect_bit (effect_in board plan pass fault n) j place expected ≡ fault_bit board fault row (record { number = n; net = net; place = place }) expected
+        value_is = effect_is board rules plan p x pass stands n net is_net unguarded d enabled place other j expected fault is_fault
+
+    -- what the log shows is the bit of each compared cell
+    module _ (show : (n : ℕ) → n < length board.nets → Shows board plan fault log x n) (logged : List Bool) (is_logged : slice_get log number ≡ Some logged) (part : ℕ) (device : RawDevice) (cell : ℕ) (place : Place) (expected : Bool)
+        (c : IsCompared board row part device cell place expected) where
+      r : Read board row part device cell place expected
+      r = read_of board row part device cell place expected c
+
+      abbrev at : PinAt
+      at = record { part = part; bit = r.bit }
+
+      abbrev n : ℕ
+      n = place.number
+
+      abbrev net : Net
+      net = place.net
+
+      is_net : slice_get board.nets n ≡ Some net
+      is_net =
+          let s = stands_at board at place 0 board.nets r.is_place in
+          let z : s.index ≡ n = omega (arith, s.number_is) in
+          subst (λ (i : ℕ). slice_get board.nets i ≡ Some net) z s.net_is
+
+      o : Observing board (holds pass) net r.driver
+      o = observing_at board (holds pass) net r.driver r.observing
+
+      abbrev reader : ReaderCell
+      reader = record { place = place.place; position = first_position board part + cell }
+
+      has_reader : Has (readers_in plan n) reader
+      has_reader =
+          let s = stands_at board at place 0 board.nets r.is_place in
+          let reads : Reads device cell r.entry = reads_by device cell r.entry r.reads in
+          subst (λ (l : List ReaderCell). Has l reader) (sym (readers_are board rules plan p n net is_net))
+          (is_reader board net reader (record {
+            pin = s.pin;
+            is_pin = s.pin_is;
+            at = at;
+            is_at = s.at_is;
+            receives = r.receives_is;
+            device = device;
+            is_device = c.is_device;
+            entry = r.entry;
+            is_entry = has_contains device.cells r.entry (has_at device.cells reads.index r.entry reads.stands);
+            reads = ap (λ (t : Bool). t && is_receiving r.entry.role) (on_self r.bit r.entry.bit r.bit_is) ∙ r.receiving;
+            position_is = ap (λ (i : ℕ). first_position board part + i) (sym reads.num_is);
+          }))
+
+      expected_is : code_bit (code_in plan n) j ≡ expected
+      expected_is =
+          let two : Some (net_code_bit board plan.passes j n) ≡ Some expected = r.carried in
+          let same : net_code_bit board plan.passes j n ≡ expected = cc two in
+          ap (λ (k : ℕ). code_bit k j) (code_is board rules plan p n net is_net x pass r.driver stands r.observing) ∙ same
+
+      by_enabled : (d : Option NetDriver) → driver_in plan pass n ≡ d → ShowBy log (x * plan.width) plan.width (code_in plan n) (readers_in plan n) (effect_in board plan pass fault n) d →
+          slice_get logged (cell_position board part cell) ≡ Some (fault_bit board fault row place expected)
+      by_enabled None e shown =
+          let none = first_is board rules plan p n net is_net x pass stands o.unguarded in
+          absurd (no_driver (subst (λ (q : Option NetDriver). FirstOn board (holds pass) 0 net.pins q) e none))
+        where
+          no_driver : Rattle.tap_defs.specs.TestRows.first_enabled board (holds pass) 0 net.pins ≡ None → ⊥
+          no_driver z =
+              let bad : None ≡ Some r.driver =
+              sym (ap (λ (b : Bool). cond b None (Rattle.tap_defs.specs.TestRows.observing_driver_by board net (Rattle.tap_defs.specs.TestRows.first_enabled board (holds pass) 0 net.pins))) o.unguarded
+              ∙ ap (λ (q : Option ℕ). Rattle.tap_defs.specs.TestRows.observing_driver_by board net q) z) ∙ r.observing in
+              cc bad
+      by_enabled (Some d) e shown =
+          let place_is : r.driver ≡ d.place = driver_place in
+          let differs : (place.place == d.place) ≡ false = not_same d.place place.place (sym (ap (λ (i : ℕ). i == place.place) place_is) ∙ r.other) in
+          let other : place.place ≢ d.place = λ q. both_ways (place.place == d.place) differs (eq-eqb place.place d.place q) in
+          let cell_is : cell_shows log number d.place (effect_in board plan pass fault n) j (code_bit (code_in plan n) j) reader ≡ true =
+          all_has (cell_shows log number d.place (effect_in board plan pass fault n) j (code_bit (code_in plan n) j)) (readers_in plan n) reader (shown j less) has_reader in
+          logged_is logged is_logged part device cell c.is_device c.below
+          ∙ ap Some (same_bits (bit_in log number (first_position board part + cell)) (effect_bit (effect_in board plan pass fault n) j place.place (code_bit (code_in plan n) j))
+          (sym (ap (λ (t : Bool). t || is_same (bit_in log number (first_position board part + cell)) (effect_bit (effect_in board plan pass fault n) j place.place (code_bit (code_in plan n) j))) differs) ∙ cell_is)
+          ∙ ap (λ (v : Bool). effect_bit (effect_in board plan pass fault n) j place.place v) expected_is
+          ∙ value_is n net is_net o.unguarded d e place.place other expected)
+        where
+          some_same : (t : Bool) → cond t (Some d.place) None ≡ Some r.driver → d.place ≡ r.driver
+          some_same true q = cc q
+          some_same false q = cc q
+
+          driver_place : r.driver ≡ d.place
+          driver_place =
+              sym (some_same (is_read_beside (readers_in plan n) d) (sym (observing_is board rules plan p n net is_net x pass stands o.unguarded d e) ∙ r.observing))
+
+      pub compared_bit : slice_get logged (cell_position board part cell) ≡ Some (fault_bit board fault row place expected)
+      compared_bit =
+          by_enabled (driver_in plan pass n) refl
+          (subst (λ (q : List Ctl). NetShows board plan fault log (x * plan.width) q n) (get_or_from_slice_get plan.passes x pass [] stands) (show n (slice_get_within board.nets n net is_net)))
+
+    -- and the bit of each compared cell is shown
+    module _ (shows : ShowsBits board scans (fault_bit board fault) log) (n : ℕ) (net : Net) (is_net : slice_get board.nets n ≡ Some net) (d : NetDriver) (enabled : driver_in plan pass n ≡ Some d) where
+      unguarded : guarded board net ≡ false
+      unguarded = by_guard (guarded board net) refl
+        where
+          by_guard : (b : Bool) → guarded board net ≡ b → b ≡ false
+          by_guard false e = refl
+          by_guard true e =
+              let bad : None ≡ Some d =
+              sym (ap (λ (l : List NetDriver). enabled_in (holds pass) l) (drivers_are board rules plan p n net is_net ∙ ap (λ (b : Bool). cond b [] (drivers_of_pins board net.pins)) e)) ∙ enabled in
+              cc bad
+
+      module _ (reader : ReaderCell) (has : Has (readers_in plan n) reader) (differs : (reader.place == d.place) ≡ false) where
+        q : IsReaderCell board net reader
+        q = reader_is board net reader (subst (λ (l : List ReaderCell). Has l reader) (readers_are board rules plan p n net is_net) has)
+
+        t : Standing board n net reader.place q.at
+        t = standing board rules n net reader.place q.pin q.at is_net q.is_pin q.is_at
+
+        beside : is_read_beside (readers_in plan n) d ≡ true
+        beside = has_any (λ (y : ReaderCell). not (y.place == d.place)) (readers_in plan n) reader has (ap not differs)
+
+        observing : observing_driver board (holds pass) net ≡ Some d.place
+        observing = observing_is board rules plan p n net is_net x pass stands unguarded d enabled ∙ ap (λ (b : Bool). cond b (Some d.place) None) beside
+
+        same_device : q.device ≡ t.device
+        same_device = let two : Some q.device ≡ Some t.device = sym q.is_device ∙ t.is_device in cc two
+
+        stands_in : (i : ℕ) × (slice_get q.device.cells i ≡ Some q.entry)
+        stands_in = has_place q.device.cells q.entry (contains_has q.device.cells q.entry q.is_entry)
+
+        entry_at : slice_get t.device.cells stands_in.0 ≡ Some q.entry
+        entry_at = subst (λ (v : RawDevice). slice_get v.cells stands_in.0 ≡ Some q.entry) same_device stands_in.1
+
+        parts : (is_on q.at.bit q.entry.bit ≡ true) × (is_receiving q.entry.role ≡ true)
+        parts = and_parts (is_on q.at.bit q.entry.bit) (is_receiving q.entry.role) q.reads
+
+        entry_is : reading_entry t.device q.entry.num ≡ Some q.entry
+        entry_is = reading_entry_is t.device t.read stands_in.0 q.entry entry_at parts.1
+
+        abbrev expected : Bool
+        expected = net_code_bit board plan.passes j n
+
+        compared : IsCompared board row q.at.part t.device q.entry.num (record { number = n; net = net; place = reader.place }) expected
+        compared = record {
+          is_device = t.is_device;
+          below = t.read.num_below stands_in.0 q.entry entry_at;
+          reads = ap (λ (o : Option Cell). option_and_then (λ e. option_and_then (λ b. place_of (record { part = q.at.part; bit = b }) 0 board.nets) e.bit) o) entry_is
+              ∙ ap (λ (o : Option ℕ). option_and_then (λ b. place_of (record { part = q.at.part; bit = b }) 0 board.nets) o) (on_is q.at.bit q.entry.bit parts.0)
+              ∙ t.is_place;
+          expects =
+              ap (λ (o : Option Cell). expect_entry board row q.at.part o) entry_is
+              ∙ ap (λ (b : Bool). cond b (expect_pin board row q.at.part q.entry.bit) None) parts.1
+              ∙ ap (λ (o : Option ℕ). expect_pin board row q.at.part o) (on_is q.at.bit q.entry.bit parts.0)
+              ∙ ap (λ (b : Bool). cond b (expect_place board row (place_of q.at 0 board.nets)) None) q.receives
+              ∙ ap (λ (o : Option Place). expect_place board row o) t.is_place
+              ∙ ap (λ (o : Option ℕ). expect_observed (row.carried n) reader.place o) observing
+              ∙ ap (λ (b : Bool). only_if (not b) (row.carried n)) (not_same reader.place d.place differs);
+        }
+
+        bit_is : bit_in log number reader.position ≡ effect_bit (effect_in board plan pass fault n) j reader.place (code_bit (code_in plan n) j)
+        bit_is =
+            let logged = some_at log number row_there in
+            let shown = shows number scan_here logged.0 q.at.part t.device q.entry.num (record { number = n; net = net; place = reader.place }) expected scan_is logged.1 compared in
+            let there = logged_is logged.0 logged.1 q.at.part t.device q.entry.num t.is_device (t.read.num_below stands_in.0 q.entry entry_at) in
+            let two : Some (bit_in log number (first_position board q.at.part + q.entry.num)) ≡ Some (fault_bit board fault row (record { number = n; net = net; place = reader.place }) expected) = sym there ∙ shown in
+            let same : bit_in log number (first_position board q.at.part + q.entry.num) ≡ fault_bit board fault row (record { number = n; net = net; place = reader.place }) expected = cc two in
+            let other : reader.place ≢ d.place = λ e. both_ways (reader.place == d.place) differs (eq-eqb reader.place d.place e) in
+            ap (λ (i : ℕ). bit_in log number i) q.position_is ∙ same
+            ∙ sym (value_is n net is_net unguarded d enabled reader.place other expected)
+            ∙ sym (ap (λ (k : ℕ). effect_bit (effect_in board plan pass fault n) j reader.place (code_bit k j)) (code_is board rules plan p n net is_net x pass d.place stands observing))
+
+      pub cells_are_shown : list_all (cell_shows log number d.place (effect_in board plan pass fault n) j (code_bit (code_in plan n) j)) (readers_in plan n) ≡ true
+      cells_are_shown =
+          all_from (cell_shows log number d.place (effect_in board plan pass fault n) j (code_bit (code_in plan n) j)) (readers_in plan n)
+          (λ i y e. by_place y (has_at (readers_in plan n) i y e) (y.place == d.place) refl)
+        where
+          by_place : (reader : ReaderCell) → Has (readers_in plan n) reader → (b : Bool) → (reader.place == d.place) ≡ b →
+              (b || is_same (bit_in log number reader.position) (effect_bit (effect_in board plan pass fault n) j reader.place (code_bit (code_in plan n) j))) ≡ true
+          by_place y has true e = refl
+          by_place y has false e =
+              bits_same (bit_in log number y.position) (effect_bit (effect_in board plan pass fault n) j y.place (code_bit (code_in plan n) j)) (bit_is y has e)
+
+  pub bits_shown : ShowsAll board plan fault log → ShowsBits board scans (fault_bit board fault) log
+  bits_shown show y scan logged part device cell place expected at_scan at_log c =
+      let within : y < length plan.passes * plan.width = omega (arith, slice_get_within (compared_scans board scans) y scan at_scan, compare.count) in
+      let r : RowOf (length plan.passes) plan.width y = row_of (length plan.passes) plan.width y within in
+      let pass = some_at plan.passes r.pass r.pass_below in
+      let two : Some scan ≡ Some (scan_here r.pass (pass.0) pass.1 r.bit r.bit_below) =
+      sym at_scan ∙ ap (λ (i : ℕ). slice_get (compared_scans board scans) i) r.row_is ∙ scan_is r.pass (pass.0) pass.1 r.bit r.bit_below in
+      let same : scan ≡ scan_here r.pass (pass.0) pass.1 r.bit r.bit_below = cc two in
+      let compared = subst (λ (s : RowScan). IsCompared board s.before part device cell place expected) same c in
+      compared_bit r.pass (pass.0) pass.1 r.bit r.bit_below (show r.pass r.pass_below) logged (ap (λ (i : ℕ). slice_get log i) (sym r.row_is) ∙ at_log) part device cell place expected compared
+      ∙ sym (ap (λ (s : RowScan). Some (fault_bit board fault s.before place expected)) same)
+
+  pub all_shown : ShowsBits board scans (fault_bit board fault) log → ShowsAll board plan fault log
+  all_shown shows x x_less n n_less =
+      let pass = some_at plan.passes x x_less in
+      let net = some_at board.nets n n_less in
+      subst (λ (q : List Ctl). NetShows board plan fault log (x * plan.width) q n) (sym (get_or_from_slice_get plan.passes x (pass.0) [] pass.1))
+      (by_driver (pass.0) pass.1 (net.0) net.1 (driver_in plan (pass.0) n) refl)
+    where
+      by_driver : (pass : List Ctl) → slice_get plan.passes x ≡ Some pass → (net : Net) → slice_get board.nets n ≡ Some net → (o : Option NetDriver) → driver_in plan pass n ≡ o →
+          ShowBy log (x * plan.width) plan.width (code_in plan n) (readers_in plan n) (effect_in board plan pass fault n) o
+      by_driver pass stands v is_v None e = tt
+      by_driver pass stands v is_v (Some d) e = λ j less. cells_are_shown x pass stands j less shows n v is_v d e

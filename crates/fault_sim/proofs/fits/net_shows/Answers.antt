@@ -1,0 +1,13 @@
+use Rattle.std.proofs.Common.{[], ◌<◌, List, sym, subst, arith}
+use Rattle.std.specs.Prelude.{All}
+use Rattle.board_defs.specs.Pins.{data_bits}
+use Rattle.scan_planner.specs.declared.tables.ReaderCell.{ReaderCell}
+use Rattle.scan_planner.proofs.FillLemmas.{readers_within}
+use Rattle.fault_sim.proofs.fits.net_shows.Goals as goal
+
+pub driven_shows-requires-clause-at : goal.driven_shows-requires-clause-at
+driven_shows-requires-clause-at c k d less i r within =
+    let board = c.args.board.now in
+    let below = readers_within board c.raw-rules.ensures.rules c.args.plan.now c.requires.plan c.args.net [] (omega (arith, c.requires.net, c.requires.plan.tables.readers_length)) in
+    let mine = subst (λ (l : List ReaderCell). All (λ x. x.position < data_bits board) l) (sym c.readers.ensures) below in
+    omega (arith, mine i r within, c.requires.bits k d less)

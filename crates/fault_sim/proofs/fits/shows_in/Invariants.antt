@@ -1,0 +1,6 @@
+use Rattle.std.proofs.Common.{◌<◌, ℕ}
+use Rattle.fault_sim.specs.Fits.{Shows}
+use Rattle.fault_sim.proofs.fits.shows_in.Given as goal
+
+abbrev pub invariant-loop-net : goal.invariant-loop-net
+invariant-loop-net l = (k : ℕ) → k < l.net → Shows l.board l.plan l.fault l.log l.x k

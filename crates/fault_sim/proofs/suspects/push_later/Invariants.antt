@@ -1,0 +1,7 @@
+use Rattle.std.proofs.Common.{◌≡◌, ◌++◌, ◌-◌, ◌≤◌, suc}
+use Rattle.std.specs.List.{flat_map, range_with_len}
+use Rattle.fault_sim.specs.Suspects.{pair_suspects}
+use Rattle.fault_sim.proofs.suspects.push_later.Given as goal
+
+abbrev pub invariant-loop-b : goal.invariant-loop-b
+invariant-loop-b l = (suc l.k ≤ l.b) × (l.places.items ≡ l.fn.places.items ++ flat_map (λ b. pair_suspects l.lists l.k b) (range_with_len (suc l.k) (l.b - suc l.k)))

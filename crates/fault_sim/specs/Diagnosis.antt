@@ -1,0 +1,17 @@
+-- The diagnosis of a log: whether the test passes by it, and which single faults of the board explain it.
+use Rattle.std.specs.Prelude.{◌≡◌, ◌⊎◌, Bool, List, [], ◌∷◌, Decides}
+use Rattle.board_defs.specs.declared.board.RawBoard.{RawBoard}
+use Rattle.board_defs.specs.declared.fault.Single.{Single}
+use Rattle.board_defs.specs.Faults.{singles}
+use Rattle.tap_defs.specs.BoardScans.{svf_row_scans}
+use Rattle.tap_defs.specs.Explaining.{Explains, IsExpected}
+
+-- the second list has, in order, exactly those items of the first for which P holds
+abbrev pub Picks : {A : Type 0} → (A → Type 0) → List A → List A → Type 0
+Picks P [] picked = picked ≡ []
+Picks {A} P (x ∷ xs) picked = ((rest : List A) × P x × (picked ≡ x ∷ rest) × Picks P xs rest) ⊎ ((P x → ⊥) × Picks P xs picked)
+
+-- the test passes exactly where the log is the expected one, and the faults are the single faults of the board that explain it, in order
+pub record IsDiagnosis (board : RawBoard) (log : List (List Bool)) (pass : Bool) (faults : List Single) : Type 0 where
+  pub passes : Decides pass (IsExpected board (svf_row_scans board) log)
+  pub list : Picks (λ single. Explains board single log) (singles board) faults

@@ -1,0 +1,123 @@
+-- What a single fault makes of the compared cells of a net in the rows of a pass.
+use Rattle.std.specs.Prelude.{ℕ, ◌==◌, Bool, false, not, cond, ◌||◌, List, [], Option, Some, None, option_map, unwrap_or, slice_get, slice_index_or}
+use Rattle.board_defs.specs.declared.board.Ctl.{Ctl}
+use Rattle.board_defs.specs.declared.board.RawBoard.{RawBoard}
+use Rattle.board_defs.specs.declared.fault.Kind.{Kind}
+use Rattle.board_defs.specs.declared.fault.Single.{Single}
+use Rattle.board_defs.specs.declared.fault.Single.TheVariants.{StuckNet, OpenPin, Short}
+use Rattle.board_defs.specs.Pins.{is_same}
+use Rattle.board_defs.specs.Settings.{holds, same_ctl}
+use Rattle.tap_defs.specs.NetBits.{or_else, Place}
+use Rattle.tap_defs.specs.TestRows.{TestRow, code_bit}
+use Rattle.tap_defs.specs.SingleBits.{pulled_to, shorted, single_bit}
+use Rattle.scan_planner.specs.declared.nets.NetDriver.{NetDriver}
+use Rattle.scan_planner.specs.declared.tables.ReaderCell.{ReaderCell}
+use Rattle.scan_planner.specs.declared.tables.PlanTables.{PlanTables}
+use Rattle.scan_planner.specs.Building.{enabled_in, is_read_beside}
+use Rattle.fault_sim.specs.declared.feed.Source.{Source}
+use Rattle.fault_sim.specs.declared.feed.Source.TheVariants.{Code, Fixed}
+use Rattle.fault_sim.specs.declared.feed.Feed.{Feed}
+use Rattle.fault_sim.specs.declared.effect.Effect.{Effect}
+use Rattle.fault_sim.specs.declared.effect.Effect.TheVariants.{Plain, Constant, AtPin, Shorted}
+
+-- the bit in row j
+abbrev pub source_bit : Source → ℕ → Bool
+source_bit (Code code) j = code_bit code j
+source_bit (Fixed bit) j = bit
+
+-- the bit, unless it is the one at which the driver is off
+abbrev pub unless_off : Option Bool → Bool → Option Bool
+unless_off None bit = Some bit
+unless_off (Some off) bit = cond (is_same bit off) None (Some bit)
+
+-- the bit that a net is driven to in row j, where it is
+abbrev pub feed_bit : Option Feed → ℕ → Option Bool
+feed_bit None j = None
+feed_bit (Some feed) j = unless_off feed.off (source_bit feed.source j)
+
+-- the driver is controlled by its own cell
+abbrev pub is_own : Ctl → Option Ctl → Bool
+is_own own None = false
+is_own own (Some c) = same_ctl c own
+
+-- the drivers and the compared cells of a net
+abbrev pub drivers_in : PlanTables → ℕ → List NetDriver
+drivers_in plan n = slice_index_or plan.drivers n []
+
+abbrev pub readers_in : PlanTables → ℕ → List ReaderCell
+readers_in plan n = slice_index_or plan.readers n []
+
+-- the code of a net
+abbrev pub code_in : PlanTables → ℕ → ℕ
+code_in plan n = slice_index_or plan.codes n 0
+
+-- the driver of a net that a pass enables
+abbrev pub driver_in : PlanTables → List Ctl → ℕ → Option NetDriver
+driver_in plan pass n = enabled_in (holds pass) (drivers_in plan n)
+
+-- the bit of a cell that carries no net's bit: that of the quiet row, and the other one where the pass holds the cell as a control
+abbrev pub steady_in : PlanTables → List Ctl → NetDriver → Bool
+steady_in plan pass d = cond (holds pass d.own) (not (slice_index_or plan.quiet d.position false)) (slice_index_or plan.quiet d.position false)
+
+-- the bits of the cell of an enabled driver: those of the net's code where another pin of the net is read, and so the pass observes the net
+abbrev pub source_in : PlanTables → List Ctl → ℕ → NetDriver → Source
+source_in plan pass n d = cond (is_read_beside (readers_in plan n) d) (Code (code_in plan n)) (Fixed (steady_in plan pass d))
+
+-- what an enabled driver gives its net: a driver that its own cell controls is off at the net's pull
+abbrev pub feed_by : PlanTables → List Ctl → ℕ → Option Bool → NetDriver → Feed
+feed_by plan pass n pull d = record { source = source_in plan pass n d; off = cond (is_own d.own d.ctl) pull None }
+
+-- how a pass drives a net
+abbrev pub feed_in : PlanTables → List Ctl → ℕ → Option Bool → Option Feed
+feed_in plan pass n pull = option_map (feed_by plan pass n pull) (driver_in plan pass n)
+
+-- the pull of a net
+abbrev pub pull_in : RawBoard → ℕ → Option Bool
+pull_in board n = pulled_to (slice_get board.nets n)
+
+-- how a pass drives a net of the board
+abbrev pub net_feed : RawBoard → PlanTables → List Ctl → ℕ → Option Feed
+net_feed board plan pass n = feed_in plan pass n (pull_in board n)
+
+-- the effect on the net of an open pin: on all its cells where the pin is the enabled driver, else on those of the pin
+abbrev pub open_effect : Option NetDriver → ℕ → Bool → Option Bool → Effect
+open_effect None place value pull = AtPin place value
+open_effect (Some d) place value pull = cond (d.place == place) (Constant (unwrap_or pull value)) (AtPin place value)
+
+-- the effect on the nets of a short
+abbrev pub short_effect : RawBoard → PlanTables → List Ctl → ℕ → ℕ → Kind → Effect
+short_effect board plan pass a b kind = Shorted kind (net_feed board plan pass a) (net_feed board plan pass b) (shorted kind (pull_in board a) (pull_in board b))
+
+-- the effect of a single fault on net n in the rows of a pass
+abbrev pub effect_of : RawBoard → PlanTables → List Ctl → Single → ℕ → Effect
+effect_of board plan pass (StuckNet net value) n = cond (n == net) (Constant value) Plain
+effect_of board plan pass (OpenPin pin value) n = cond (n == pin.net) (open_effect (driver_in plan pass n) pin.place value (pull_in board n)) Plain
+effect_of board plan pass (Short a b kind) n = cond ((n == a) || (n == b)) (short_effect board plan pass a b kind) Plain
+
+-- the same where there is a fault
+abbrev pub effect_in : RawBoard → PlanTables → List Ctl → Option Single → ℕ → Effect
+effect_in board plan pass None n = Plain
+effect_in board plan pass (Some single) n = effect_of board plan pass single n
+
+-- the bit of a compared cell in row j, at the pin at this place
+abbrev pub effect_bit : Effect → ℕ → ℕ → Bool → Bool
+effect_bit Plain j place expected = expected
+effect_bit (Constant bit) j place expected = bit
+effect_bit (AtPin other bit) j place expected = cond (place == other) bit expected
+effect_bit (Shorted kind first second pull) j place expected = unwrap_or (or_else (shorted kind (feed_bit first j) (feed_bit second j)) pull) expected
+
+-- the bit that a compared cell has with this fault, and the expected one where there is none
+abbrev pub fault_bit : RawBoard → Option Single → TestRow → Place → Bool → Bool
+fault_bit board None row place expected = expected
+fault_bit board (Some single) row place expected = single_bit board single row place expected
+
+-- the nets of a fault; a stuck net and an open pin have one
+abbrev pub first_net : Single → ℕ
+first_net (StuckNet net value) = net
+first_net (OpenPin pin value) = pin.net
+first_net (Short a b kind) = a
+
+abbrev pub second_net : Single → ℕ
+second_net (StuckNet net value) = net
+second_net (OpenPin pin value) = pin.net
+second_net (Short a b kind) = b

@@ -1,0 +1,52 @@
+-- When a log shows what a single fault makes of a test.
+use Rattle.std.specs.Prelude.{◌≡◌, ℕ, ◌+◌, ◌*◌, ◌<◌, ◌==◌, Bool, true, false, ◌||◌, List, [], length, Option, Some, None, slice_index_or}
+use Rattle.std.specs.List.{list_all}
+use Rattle.board_defs.specs.declared.board.Ctl.{Ctl}
+use Rattle.board_defs.specs.declared.board.RawBoard.{RawBoard}
+use Rattle.board_defs.specs.declared.fault.Single.{Single}
+use Rattle.board_defs.specs.Pins.{is_same}
+use Rattle.tap_defs.specs.TestRows.{code_bit}
+use Rattle.scan_planner.specs.declared.nets.NetDriver.{NetDriver}
+use Rattle.scan_planner.specs.declared.tables.ReaderCell.{ReaderCell}
+use Rattle.scan_planner.specs.declared.tables.PlanTables.{PlanTables}
+use Rattle.fault_sim.specs.declared.effect.Effect.{Effect}
+use Rattle.fault_sim.specs.Effects.{driver_in, readers_in, code_in, effect_in, effect_bit}
+
+-- the bit of a log at a position of a row
+abbrev pub bit_in : List (List Bool) → ℕ → ℕ → Bool
+bit_in log row at = slice_index_or (slice_index_or log row []) at false
+
+-- a cell that reads a net has in row j of a pass, which is this row of the log, the bit that the effect gives it, unless it reads the
+-- driver's own pin
+abbrev pub cell_shows : List (List Bool) → ℕ → ℕ → Effect → ℕ → Bool → ReaderCell → Bool
+cell_shows log row driver effect j expected r = (r.place == driver) || is_same (bit_in log row r.position) (effect_bit effect j r.place expected)
+
+-- all of these cells have it, in each row of a pass that begins at this row of the log
+abbrev pub ShowRows : List (List Bool) → ℕ → ℕ → ℕ → List ReaderCell → Effect → ℕ → Type 0
+ShowRows log first width code readers effect driver = (j : ℕ) → j < width → list_all (cell_shows log (first + j) driver effect j (code_bit code j)) readers ≡ true
+
+-- the same where there is a driver
+abbrev pub ShowBy : List (List Bool) → ℕ → ℕ → ℕ → List ReaderCell → Effect → Option NetDriver → Type 0
+ShowBy log first width code readers effect None = Unit {0}
+ShowBy log first width code readers effect (Some d) = ShowRows log first width code readers effect d.place
+
+-- the log shows the effect on net n in a pass whose rows begin at this one
+abbrev pub NetShows : RawBoard → PlanTables → Option Single → List (List Bool) → ℕ → List Ctl → ℕ → Type 0
+NetShows board plan fault log first pass n =
+    ShowBy log first plan.width (code_in plan n) (readers_in plan n) (effect_in board plan pass fault n) (driver_in plan pass n)
+
+-- the same in pass x
+abbrev pub Shows : RawBoard → PlanTables → Option Single → List (List Bool) → ℕ → ℕ → Type 0
+Shows board plan fault log x n = NetShows board plan fault log (x * plan.width) (slice_index_or plan.passes x []) n
+
+-- on net n in each pass
+abbrev pub ShowsOn : RawBoard → PlanTables → Option Single → List (List Bool) → ℕ → Type 0
+ShowsOn board plan fault log n = (x : ℕ) → x < length plan.passes → Shows board plan fault log x n
+
+-- on each net in pass x
+abbrev pub ShowsIn : RawBoard → PlanTables → Option Single → List (List Bool) → ℕ → Type 0
+ShowsIn board plan fault log x = (n : ℕ) → n < length board.nets → Shows board plan fault log x n
+
+-- on each net in each pass
+abbrev pub ShowsAll : RawBoard → PlanTables → Option Single → List (List Bool) → Type 0
+ShowsAll board plan fault log = (x : ℕ) → x < length plan.passes → ShowsIn board plan fault log x

@@ -1,0 +1,26 @@
+-- The laws of places and suspects.
+use Rattle.std.specs.Prelude.{◌≡◌, ℕ, Bool, true, List, filter, filter_map, length}
+use Rattle.board_defs.specs.declared.board.RawBoard.{RawBoard}
+use Rattle.board_defs.specs.declared.fault.Single.{Single}
+use Rattle.board_defs.specs.BoardRules.{IsBoard}
+use Rattle.board_defs.specs.Faults.{singles, IsSingle}
+use Rattle.tap_defs.specs.Explaining.{Explains}
+use Rattle.scan_planner.specs.declared.tables.PlanTables.{PlanTables}
+use Rattle.fault_sim.specs.declared.universe.FaultLists.{FaultLists}
+use Rattle.fault_sim.specs.Places.{places_of, fault_at, IsUniverse, place_count}
+use Rattle.fault_sim.specs.Suspects.{AreSuspects}
+
+-- the faults at the places are the single faults of the board, in order
+abbrev pub PlacesAre : Type 0
+PlacesAre = (board : RawBoard) → filter_map (λ place. place) (places_of board) ≡ singles board
+
+-- so many places has a board
+abbrev pub PlacesCounted : Type 0
+PlacesCounted = (board : RawBoard) (lists : FaultLists) → IsUniverse board lists → length (places_of board) ≡ place_count lists
+
+-- the single faults that pass a test which only faults that explain the log pass are those at the suspects' places that pass it
+abbrev pub SuspectsSuffice : Type 0
+SuspectsSuffice =
+    (board : RawBoard) (plan : PlanTables) (lists : FaultLists) (log : List (List Bool)) (suspects : List ℕ) → IsBoard board → AreSuspects board plan lists log suspects →
+    (test : Single → Bool) → ((single : Single) → IsSingle board single → test single ≡ true → Explains board single log) →
+    filter test (singles board) ≡ filter test (filter_map (fault_at board) suspects)

@@ -1,0 +1,66 @@
+-- The places of a board: each has a single fault, or none where two covered nets are not paired.
+use Rattle.std.specs.Prelude.{◌≡◌, ℕ, zero, suc, ◌+◌, ◌*◌, ◌≤◌, List, [], ◌∷◌, ◌++◌, map, cond, length, slice_index_or, slice_get, Option, Some, None, option_and_then}
+use Rattle.std.specs.List.{flat_map}
+use Rattle.board_defs.specs.declared.board.RawBoard.{RawBoard}
+use Rattle.board_defs.specs.declared.fault.Single.{Single}
+use Rattle.board_defs.specs.Decided.{are_paired}
+use Rattle.board_defs.specs.Faults.{Numbered, covered_nets, tested_pins, stuck_faults, open_faults, short_faults}
+use Rattle.board_defs.specs.Passes.{pairs_within}
+use Rattle.scan_planner.specs.declared.tables.PlanTables.{PlanTables}
+use Rattle.fault_sim.specs.declared.universe.FaultLists.{FaultLists}
+use Rattle.fault_sim.specs.Tested.{paired_in}
+
+-- a place for each of these faults
+abbrev pub placed : List Single → List (Option Single)
+placed faults = map (λ fault. Some fault) faults
+
+-- the places of two covered nets
+abbrev pub pair_places : RawBoard → Numbered × Numbered → List (Option Single)
+pair_places board pair = cond (are_paired board pair.0.1 pair.1.1) (placed (short_faults pair.0.0 pair.1.0)) (None ∷ None ∷ None ∷ None ∷ [])
+
+-- the places of stuck nets, of open pins and of shorts
+abbrev pub stuck_places : RawBoard → List (Option Single)
+stuck_places board = placed (flat_map (λ net. stuck_faults net.0) (covered_nets board))
+
+abbrev pub open_places : RawBoard → List (Option Single)
+open_places board = placed (flat_map open_faults (tested_pins board))
+
+abbrev pub short_places : RawBoard → List (Option Single)
+short_places board = flat_map (pair_places board) (pairs_within (covered_nets board))
+
+-- the places of a board, in order
+abbrev pub places_of : RawBoard → List (Option Single)
+places_of board = stuck_places board ++ (open_places board ++ short_places board)
+
+-- the fault at a place, where it has one
+abbrev pub fault_at : RawBoard → ℕ → Option Single
+fault_at board i = option_and_then (λ place. place) (slice_get (places_of board) i)
+
+-- how many pairs of so many nets come before the pairs of net a with later ones
+abbrev pub pairs_before : ℕ → ℕ → ℕ
+pairs_before zero a = 0
+pairs_before (suc nets) zero = 0
+pairs_before (suc nets) (suc a) = nets + pairs_before nets a
+
+-- where the pairs of each net with later ones begin, and where all end
+pub record AreStarts (nets : ℕ) (starts : List ℕ) : Type 0 where
+  pub count : length starts ≡ suc nets
+  pub each : (a : ℕ) → a ≤ nets → slice_index_or starts a 0 ≡ pairs_before nets a
+
+-- the covered nets and the tested pins of a board
+pub record IsUniverse (board : RawBoard) (lists : FaultLists) : Type 0 where
+  pub nets : lists.nets ≡ map (λ net. net.0) (covered_nets board)
+  pub pins : lists.pins ≡ tested_pins board
+
+-- the places of two nets by their numbers, by what the passes of a plan observe
+abbrev pub number_places : PlanTables → ℕ × ℕ → List (Option Single)
+number_places plan pair = cond (paired_in plan pair.0 pair.1) (placed (short_faults pair.0 pair.1)) (None ∷ None ∷ None ∷ None ∷ [])
+
+-- the places by the lists of covered nets and tested pins
+abbrev pub listed_places : PlanTables → FaultLists → List (Option Single)
+listed_places plan lists =
+    placed (flat_map stuck_faults lists.nets) ++ (placed (flat_map open_faults lists.pins) ++ flat_map (number_places plan) (pairs_within lists.nets))
+
+-- two places for each covered net, two for each tested pin and four for each pair of covered nets
+abbrev pub place_count : FaultLists → ℕ
+place_count lists = 2 * length lists.nets + (2 * length lists.pins + 4 * pairs_before (length lists.nets) (length lists.nets))

@@ -1,0 +1,72 @@
+-- What the passes of a plan say of its nets and pins.
+use Rattle.std.specs.Prelude.{ℕ, nat_lt, Bool, false, true, ◌&&◌, cond, List, [], ◌∷◌, length, map, filter, fold, replicate, slice_index_or, slice_get, slice_set, Option, Some, None}
+use Rattle.std.specs.List.{list_any, flat_map, range_with_len}
+use Rattle.board_defs.specs.declared.board.Ctl.{Ctl}
+use Rattle.board_defs.specs.declared.board.Net.{Net}
+use Rattle.board_defs.specs.declared.board.PinRef.{PinRef}
+use Rattle.board_defs.specs.declared.board.RawBoard.{RawBoard}
+use Rattle.scan_planner.specs.declared.nets.NetDriver.{NetDriver}
+use Rattle.scan_planner.specs.declared.tables.ReaderCell.{ReaderCell}
+use Rattle.scan_planner.specs.declared.tables.PlanTables.{PlanTables}
+use Rattle.scan_planner.specs.Assigned.{assigned}
+use Rattle.scan_planner.specs.Building.{is_read_beside}
+use Rattle.fault_sim.specs.Effects.{driver_in, readers_in, code_in}
+
+-- the nets that have a code, among so many
+abbrev pub coded_nets : PlanTables → ℕ → List ℕ
+coded_nets plan count = filter (λ n. nat_lt 0 (code_in plan n)) (range_with_len 0 count)
+
+-- a pass observes the net, where it enables this driver
+abbrev pub observes_by : Option NetDriver → List ReaderCell → Bool
+observes_by None readers = false
+observes_by (Some d) readers = is_read_beside readers d
+
+abbrev pub observes_in : PlanTables → List Ctl → ℕ → Bool
+observes_in plan pass n = observes_by (driver_in plan pass n) (readers_in plan n)
+
+-- some pass observes both nets
+abbrev pub paired_in : PlanTables → ℕ → ℕ → Bool
+paired_in plan a b = list_any (λ pass. observes_in plan pass a && observes_in plan pass b) plan.passes
+
+-- the flags of the pins that are read set
+abbrev pub marked_readers : List Bool → List ReaderCell → List Bool
+marked_readers flags readers = assigned (λ r. r.place) (λ r. true) flags readers
+
+-- the flags of the pins of a net that a pass tests set: that of the driver by which it observes the net, and those that are read
+abbrev pub marked_by : Option NetDriver → List ReaderCell → List Bool → List Bool
+marked_by None readers flags = flags
+marked_by (Some d) readers flags = cond (is_read_beside readers d) (marked_readers (slice_set flags d.place true) readers) flags
+
+abbrev pub marked_in : PlanTables → ℕ → List Bool → List Ctl → List Bool
+marked_in plan n flags pass = marked_by (driver_in plan pass n) (readers_in plan n) flags
+
+-- the flags of so many pins of a net that some pass tests
+abbrev pub tested_flags : PlanTables → ℕ → ℕ → List Bool
+tested_flags plan count n = fold (marked_in plan n) (replicate count false) plan.passes
+
+-- the pin, where it is tested
+abbrev pub pin_where : Bool → ℕ → ℕ → List PinRef
+pin_where is_tested n place = cond is_tested (record { net = n; place = place } ∷ []) []
+
+-- the pins of a net whose flags are set
+abbrev pub flagged_before : ℕ → List Bool → ℕ → List PinRef
+flagged_before n flags count = map (λ place. record { net = n; place = place }) (filter (λ place. slice_index_or flags place false) (range_with_len 0 count))
+
+abbrev pub flagged_pins : ℕ → List Bool → List PinRef
+flagged_pins n flags = flagged_before n flags (length flags)
+
+-- the number of pins of a net
+abbrev pub pins_of_net : Option Net → ℕ
+pins_of_net None = 0
+pins_of_net (Some net) = length net.pins
+
+abbrev pub pin_count : RawBoard → ℕ → ℕ
+pin_count board n = pins_of_net (slice_get board.nets n)
+
+-- the pins of a net that some pass tests
+abbrev pub net_pins : RawBoard → PlanTables → ℕ → List PinRef
+net_pins board plan n = flagged_pins n (tested_flags plan (pin_count board n) n)
+
+-- the same of the first so many nets
+abbrev pub all_pins : RawBoard → PlanTables → ℕ → List PinRef
+all_pins board plan count = flat_map (net_pins board plan) (range_with_len 0 count)

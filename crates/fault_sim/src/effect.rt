@@ -1,0 +1,165 @@
+// What a single fault makes of the compared cells of a net in the rows of a pass.
+ghost use Rattle.std.specs.Prelude.{◌≡◌, ◌<◌, ◌==◌, ◌||◌, unwrap_or};
+ghost use Rattle.tap_defs.specs.NetBits.{or_else};
+ghost use Rattle.tap_defs.specs.SingleBits.{shorted};
+ghost use Rattle.fault_sim.specs.Effects.{open_effect, short_effect, effect_of, effect_in, effect_bit};
+
+use crate::feed::{Feed, driver_in, feed_bit, net_feed, pull_in};
+use board_defs::{Board, Kind, Setting, Single};
+use scan_planner::{NetDriver, Plan};
+
+/// What is to be seen at the compared cells of a net.
+#[derive(Clone, Copy, Debug, PartialEq, Eq)]
+pub enum Effect {
+    /// The expected bits.
+    Plain,
+    /// One bit in all rows.
+    Constant(bool),
+    /// One bit in all rows at the cells of the pin at this place, and the expected bits elsewhere.
+    AtPin {
+        place: u32,
+        bit: bool,
+    },
+    /// The one bit of two shorted nets: what they are driven to, else what they are pulled to.
+    Shorted {
+        kind: Kind,
+        first: Option<Feed>,
+        second: Option<Feed>,
+        pull: Option<bool>,
+    },
+}
+
+fn combined(kind: Kind, first: bool, second: bool) -> bool
+    ensures { Some result ≡ shorted kind (Some first) (Some second) }
+{
+    match kind {
+        Kind::And => first && second,
+        Kind::Or => first || second,
+        Kind::First => first,
+        Kind::Second => second,
+    }
+}
+
+fn shorted(kind: Kind, first: Option<bool>, second: Option<bool>) -> Option<bool>
+    ensures { result ≡ shorted kind first second }
+{
+    match first {
+        None => second,
+        Some(a) => match second {
+            None => first,
+            Some(b) => Some(combined(kind, a, b)),
+        },
+    }
+}
+
+fn open_effect(driver: Option<NetDriver>, place: u32, value: bool, pull: Option<bool>) -> Effect
+    ensures { result ≡ open_effect driver place value pull }
+{
+    match driver {
+        None => Effect::AtPin { place, bit: value },
+        Some(driver) => {
+            if driver.place == place {
+                Effect::Constant(pull.unwrap_or(value))
+            } else {
+                Effect::AtPin { place, bit: value }
+            }
+        }
+    }
+}
+
+fn short_effect(board: &Board, plan: &Plan, pass: &Setting, a: u32, b: u32, kind: Kind) -> Effect
+    ensures { result ≡ short_effect board.now plan.now pass.now a b kind }
+{
+    Effect::Shorted {
+        kind,
+        first: net_feed(board, plan, pass, a),
+        second: net_feed(board, plan, pass, b),
+        pull: shorted(kind, pull_in(board, a), pull_in(board, b)),
+    }
+}
+
+fn effect_of(board: &Board, plan: &Plan, pass: &Setting, fault: Single, n: u32) -> Effect
+    ensures { result ≡ effect_of board.now plan.now pass.now fault n }
+{
+    match fault {
+        Single::StuckNet { net, value } => {
+            if n == net {
+                Effect::Constant(value)
+            } else {
+                Effect::Plain
+            }
+        }
+        Single::OpenPin { pin, value } => {
+            if n == pin.net {
+                let driver = driver_in(plan, pass, n);
+                open_effect(driver, pin.place, value, pull_in(board, n))
+            } else {
+                Effect::Plain
+            }
+        }
+        Single::Short { a, b, kind } => {
+            if n == a || n == b {
+                short_effect(board, plan, pass, a, b, kind)
+            } else {
+                Effect::Plain
+            }
+        }
+    }
+}
+
+/// The effect of a fault on net `n` in the rows of a pass.
+pub fn effect_in(
+    board: &Board,
+    plan: &Plan,
+    pass: &Setting,
+    fault: Option<Single>,
+    n: u32,
+) -> Effect
+    ensures { result ≡ effect_in board.now plan.now pass.now fault n }
+{
+    match fault {
+        None => Effect::Plain,
+        Some(fault) => effect_of(board, plan, pass, fault, n),
+    }
+}
+
+// The bit of two shorted nets.
+fn short_bit(
+    kind: Kind,
+    first: Option<bool>,
+    second: Option<bool>,
+    pull: Option<bool>,
+    expected: bool,
+) -> bool
+    ensures { result ≡ unwrap_or (or_else (shorted kind first second) pull) expected }
+{
+    match shorted(kind, first, second) {
+        None => pull.unwrap_or(expected),
+        Some(bit) => bit,
+    }
+}
+
+/// The bit of a compared cell in row `j` of a pass, at the pin at this place of the net.
+#[inline]
+pub fn effect_bit(effect: Effect, j: u32, place: u32, expected: bool) -> bool
+    requires { j < 32 }
+    ensures { result ≡ effect_bit effect j place expected }
+{
+    match effect {
+        Effect::Plain => expected,
+        Effect::Constant(bit) => bit,
+        Effect::AtPin { place: other, bit } => { if place == other { bit } else { expected } }
+        Effect::Shorted {
+            kind,
+            first,
+            second,
+            pull,
+        } => short_bit(
+            kind,
+            feed_bit(first, j),
+            feed_bit(second, j),
+            pull,
+            expected,
+        ),
+    }
+}

@@ -1,0 +1,175 @@
+// How a pass drives a net.
+ghost use Rattle.std.specs.Prelude.{◌≡◌, ◌<◌, ◌==◌, not};
+ghost use Rattle.std.specs.List.{list_any};
+ghost use Rattle.board_defs.specs.Pins.{is_same};
+ghost use Rattle.board_defs.specs.Settings.{holds};
+ghost use Rattle.scan_planner.specs.Building.{is_on, enabled_in};
+ghost use Rattle.tap_defs.specs.TestRows.{code_bit};
+ghost use Rattle.fault_sim.specs.Effects.{source_bit, unless_off, feed_bit, is_own, driver_in, steady_in, source_in, feed_by, feed_in, pull_in, net_feed};
+
+use board_defs::{Board, Ctl, Setting};
+use counting_codes::bit;
+use scan_planner::{NetDriver, Plan, ReaderCell};
+
+/// The bits of a driver's cell in the rows of a pass.
+#[derive(Clone, Copy, Debug, PartialEq, Eq)]
+pub enum Source {
+    /// Those of the code of its net.
+    Code(u32),
+    /// One bit in all rows.
+    Fixed(bool),
+}
+
+/// What the enabled driver of a net gives it in the rows of a pass.
+#[derive(Clone, Copy, Debug, PartialEq, Eq)]
+pub struct Feed {
+    pub source: Source,
+    /// The bit at which the driver is off, for one that its own cell switches.
+    pub off: Option<bool>,
+}
+
+/// Whether the two bits are equal.
+#[inline]
+pub fn is_same(a: bool, b: bool) -> bool
+    ensures { result ≡ is_same a b }
+{
+    if a { b } else { !b }
+}
+
+/// Bit `j` of a code, bit 0 the least.
+#[inline]
+pub fn code_bit(code: u32, j: u32) -> bool
+    requires { j < 32 }
+    ensures { result ≡ code_bit code j }
+{
+    bit(code, j)
+}
+
+fn source_bit(source: Source, j: u32) -> bool
+    requires { j < 32 }
+    ensures { result ≡ source_bit source j }
+{
+    match source {
+        Source::Code(code) => code_bit(code, j),
+        Source::Fixed(bit) => bit,
+    }
+}
+
+fn unless_off(off: Option<bool>, bit: bool) -> Option<bool>
+    ensures { result ≡ unless_off off bit }
+{
+    match off {
+        None => Some(bit),
+        Some(off) => { if is_same(bit, off) { None } else { Some(bit) } }
+    }
+}
+
+/// The bit that a net is driven to in row `j`, where it is.
+pub fn feed_bit(feed: Option<Feed>, j: u32) -> Option<bool>
+    requires { j < 32 }
+    ensures { result ≡ feed_bit feed j }
+{
+    match feed {
+        None => None,
+        Some(feed) => unless_off(feed.off, source_bit(feed.source, j)),
+    }
+}
+
+fn is_on(ctl: Option<Ctl>, pass: &Setting) -> bool
+    ensures { result ≡ is_on (holds pass.now) ctl }
+{
+    match ctl {
+        None => true,
+        Some(c) => pass.has(c),
+    }
+}
+
+fn enabled(drivers: &[NetDriver], pass: &Setting) -> Option<NetDriver>
+    ensures { result ≡ enabled_in (holds pass.now) drivers.now }
+{
+    for driver in drivers {
+        if is_on(driver.ctl, pass) {
+            return Some(*driver);
+        }
+    }
+    None
+}
+
+/// The driver of a net that a pass enables.
+pub fn driver_in(plan: &Plan, pass: &Setting, net: u32) -> Option<NetDriver>
+    ensures { result ≡ driver_in plan.now pass.now net }
+{
+    enabled(plan.drivers(net), pass)
+}
+
+/// Whether some of these cells reads another pin than the one at this place.
+pub fn is_read_beside(readers: &[ReaderCell], place: u32) -> bool
+    ensures { result ≡ list_any (λ r. not (r.place == place)) readers.now }
+{
+    readers.iter().any(|r| r.place != place)
+}
+
+fn is_own(own: Ctl, ctl: Option<Ctl>) -> bool
+    ensures { result ≡ is_own own ctl }
+{
+    match ctl {
+        None => false,
+        Some(c) => c.is_same(own),
+    }
+}
+
+fn steady_in(plan: &Plan, pass: &Setting, driver: NetDriver) -> bool
+    ensures { result ≡ steady_in plan.now pass.now driver }
+{
+    let quiet = plan.quiet(driver.position);
+    if pass.has(driver.own) { !quiet } else { quiet }
+}
+
+fn source_in(plan: &Plan, pass: &Setting, net: u32, driver: NetDriver) -> Source
+    ensures { result ≡ source_in plan.now pass.now net driver }
+{
+    if is_read_beside(plan.readers(net), driver.place) {
+        Source::Code(plan.code(net))
+    } else {
+        Source::Fixed(steady_in(plan, pass, driver))
+    }
+}
+
+fn feed_by(plan: &Plan, pass: &Setting, net: u32, pull: Option<bool>, driver: NetDriver) -> Feed
+    ensures { result ≡ feed_by plan.now pass.now net pull driver }
+{
+    Feed {
+        source: source_in(plan, pass, net, driver),
+        off: if is_own(driver.own, driver.ctl) {
+            pull
+        } else {
+            None
+        },
+    }
+}
+
+fn feed_in(plan: &Plan, pass: &Setting, net: u32, pull: Option<bool>) -> Option<Feed>
+    ensures { result ≡ feed_in plan.now pass.now net pull }
+{
+    match driver_in(plan, pass, net) {
+        None => None,
+        Some(driver) => Some(feed_by(plan, pass, net, pull, driver)),
+    }
+}
+
+/// The value that a net is pulled to.
+pub fn pull_in(board: &Board, net: u32) -> Option<bool>
+    ensures { result ≡ pull_in board.now net }
+{
+    match board.raw().nets.as_slice().get(net as usize) {
+        None => None,
+        Some(net) => net.pull,
+    }
+}
+
+/// How a pass drives a net.
+pub fn net_feed(board: &Board, plan: &Plan, pass: &Setting, net: u32) -> Option<Feed>
+    ensures { result ≡ net_feed board.now plan.now pass.now net }
+{
+    feed_in(plan, pass, net, pull_in(board, net))
+}

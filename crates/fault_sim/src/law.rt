@@ -1,0 +1,35 @@
+//! Laws of the places of a board and of diagnoses, each the contract of a function that does nothing.
+ghost use Rattle.std.specs.Prelude.{◌≡◌, Bool, List, filter, Decides};
+ghost use Rattle.board_defs.specs.declared.board.RawBoard.{RawBoard};
+ghost use Rattle.board_defs.specs.declared.fault.Single.{Single};
+ghost use Rattle.board_defs.specs.BoardRules.{IsBoard};
+ghost use Rattle.board_defs.specs.Faults.{singles, IsSingle};
+ghost use Rattle.tap_defs.specs.Explaining.{Explains};
+ghost use Rattle.fault_sim.specs.Diagnosis.{Picks, IsDiagnosis};
+ghost use Rattle.fault_sim.specs.Laws.{PlacesAre, PlacesCounted, SuspectsSuffice};
+
+/// The faults at the places of a board are its single faults, in order.
+pub fn places_are_the_singles()
+    ensures { PlacesAre }
+{}
+
+/// A board has as many places as its universe counts.
+pub fn places_counted()
+    ensures { PlacesCounted }
+{}
+
+/// The single faults of a board that explain a log are those at the suspects' places that do, in the same order.
+pub fn suspects_suffice()
+    ensures { SuspectsSuffice }
+{}
+
+/// Each log of a board has a diagnosis, and no second one.
+pub fn logs_have_one_diagnosis()
+    ensures some { (board : RawBoard) (log : List (List Bool)) → IsBoard board → (pass : Bool) × (faults : List Single) × IsDiagnosis board log pass faults }
+    ensures one { (board : RawBoard) (log : List (List Bool)) (pass other_pass : Bool) (faults others : List Single) → IsDiagnosis board log pass faults → IsDiagnosis board log other_pass others → (pass ≡ other_pass) × (faults ≡ others) }
+{}
+
+/// Where a test decides of each single fault of a board whether it explains a log, those that pass it are those of the diagnosis, in order.
+pub fn filters_pick()
+    ensures { (board : RawBoard) (log : List (List Bool)) (test : Single → Bool) → IsBoard board → ((single : Single) → IsSingle board single → Decides (test single) (Explains board single log)) → Picks (λ single. Explains board single log) (singles board) (filter test (singles board)) }
+{}

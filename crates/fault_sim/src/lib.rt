@@ -1,0 +1,21 @@
+//! Which single faults of a board explain a log of its test.
+//!
+//! No run is simulated: the bit that a compared cell has under a single fault is known from the row in the latches, and it
+//! differs from the expected one at the cells of the faulty nets alone.
+#![tactic(auto)]
+
+mod effect;
+mod feed;
+mod fits;
+pub mod law;
+mod matching;
+mod suspects;
+mod tested;
+mod universe;
+
+pub use matching::{is_pass, matches};
+pub use suspects::Suspects;
+pub use universe::Universe;
+
+#[cfg(test)]
+mod tests;

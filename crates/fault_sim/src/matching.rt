@@ -1,0 +1,76 @@
+// Whether a single fault explains a log, and whether a log is the expected one.
+ghost use Rattle.std.specs.Prelude.{◌≡◌, ◌*◌, length, All, Decides};
+ghost use Rattle.board_defs.specs.Faults.{IsSingle};
+ghost use Rattle.board_defs.specs.Passes.{passes_of};
+ghost use Rattle.board_defs.specs.Pins.{data_bits};
+ghost use Rattle.scan_planner.specs.Plans.{IsPlanOf};
+ghost use Rattle.tap_defs.specs.BoardScans.{svf_row_scans};
+ghost use Rattle.tap_defs.specs.Explaining.{Explains, IsExpected};
+ghost use Rattle.fault_sim.specs.Effects.{first_net, second_net};
+
+use crate::fits::{shows_all, shows_on};
+use board_defs::{Board, Single, law};
+use response_log::Log;
+use scan_planner::Plan;
+use tap_defs::log_law;
+
+/// Whether every compared bit of a log is the expected one. The plan is made of the board's passes, and the log has its
+/// rows, each as long as a scan of data.
+pub fn is_pass(board: &Board, plan: &Plan, log: &Log) -> bool
+    requires plan { IsPlanOf board.now plan.now }
+    requires passes { plan.now.passes ≡ passes_of board.now }
+    requires rows { length log.now ≡ length plan.now.passes * plan.now.width }
+    requires bits { All (λ row. length row ≡ data_bits board.now) log.now }
+    ensures { Decides result (IsExpected board.now (svf_row_scans board.now) log.now) }
+{
+    let _rules = board.raw();
+    law::passes_kept();
+    log_law::rows_compared();
+    log_law::expected_bits();
+    shows_all(board, plan, None, log)
+}
+
+// The nets of a fault; a stuck net and an open pin have one.
+fn first_net(fault: Single) -> u32
+    ensures { result ≡ first_net fault }
+{
+    match fault {
+        Single::StuckNet { net, .. } => net,
+        Single::OpenPin { pin, .. } => pin.net,
+        Single::Short { a, .. } => a,
+    }
+}
+
+fn second_net(fault: Single) -> u32
+    ensures { result ≡ second_net fault }
+{
+    match fault {
+        Single::StuckNet { net, .. } => net,
+        Single::OpenPin { pin, .. } => pin.net,
+        Single::Short { b, .. } => b,
+    }
+}
+
+/// Whether a single fault of the board explains a log: in every run of the test with this fault alone each compared bit is
+/// the log's. The plan is made of the board's passes, and the log has its rows, each as long as a scan of data. The cells of
+/// the fault's own nets are looked at first, so that a fault that explains nothing is mostly known by them.
+pub fn matches(board: &Board, plan: &Plan, fault: Single, log: &Log) -> bool
+    requires plan { IsPlanOf board.now plan.now }
+    requires passes { plan.now.passes ≡ passes_of board.now }
+    requires fault { IsSingle board.now fault }
+    requires rows { length log.now ≡ length plan.now.passes * plan.now.width }
+    requires bits { All (λ row. length row ≡ data_bits board.now) log.now }
+    ensures { Decides result (Explains board.now fault log.now) }
+{
+    let _rules = board.raw();
+    law::passes_kept();
+    log_law::rows_compared();
+    log_law::singles_respond();
+    if !shows_on(board, plan, Some(fault), log, first_net(fault)) {
+        return false;
+    }
+    if !shows_on(board, plan, Some(fault), log, second_net(fault)) {
+        return false;
+    }
+    shows_all(board, plan, Some(fault), log)
+}

@@ -1,0 +1,325 @@
+// The places whose faults may explain a log.
+ghost use Rattle.std.specs.Prelude.{◌≡◌, ◌+◌, ◌-◌, ◌*◌, ◌<◌, ◌≤◌, ◌^◌, ◌++◌, ◌∷◌, [], suc, cond, true, length, All, IfOk, OnOk, slice_get, slice_set, Some};
+ghost use Rattle.std.specs.List.{flat_map, range_with_len};
+ghost use Rattle.board_defs.specs.Passes.{passes_of};
+ghost use Rattle.board_defs.specs.Pins.{data_bits};
+ghost use Rattle.scan_planner.specs.Plans.{IsPlanOf};
+ghost use Rattle.fault_sim.specs.Places.{AreStarts, IsUniverse};
+ghost use Rattle.fault_sim.specs.Suspects.{AreFlags, flagged_nets, two_from, four_from, pair_number, pair_suspects, pin_suspects, net_suspects, covered_place, CanSuspect, suspects_of, AreSuspects};
+
+use crate::fits::{net_count, shows};
+use crate::tested::{is_set, push_if};
+use crate::universe::{FaultLists, Universe, pin_at, start_at};
+use board_defs::{Board, law};
+use response_log::Log;
+use scan_planner::Plan;
+use std::alloc::{AllocError, Global};
+use std::marker::Model;
+use tap_defs::law::{codes_number_covered, singles_observable};
+use tap_defs::log_law;
+
+/// The places of a universe whose faults may explain a log, seen as the list of them. A single fault changes compared
+/// cells of its own net or of its two nets alone, so they are those of the faults on all nets that differ in the log.
+#[derive(Debug, Drop)]
+pub struct Suspects {
+    places: Vec<u64>,
+}
+
+impl Model for Suspects {
+    ghost use Rattle.std.specs.Prelude.{List, ℕ};
+
+    ghost Value = { List ℕ };
+
+    ghost view = { λ a. a.places.items };
+}
+
+// Sets a flag, unless its net is shown.
+fn set_unless(flags: &mut [bool], n: usize, shown: bool)
+    requires { n < length flags.old }
+    ensures { flags.new ≡ cond shown flags.old (slice_set flags.old n true) }
+{
+    if !shown {
+        flags[n] = true;
+    }
+}
+
+// Flags net `n` where it does not show the expected bits in pass `x`.
+fn flag_net(flags: &mut [bool], board: &Board, plan: &Plan, log: &Log, x: u32, n: u32)
+    requires plan { IsPlanOf board.now plan.now }
+    requires rows { length log.now ≡ length plan.now.passes * plan.now.width }
+    requires bits { All (λ row. length row ≡ data_bits board.now) log.now }
+    requires pass { x < length plan.now.passes }
+    requires net { n < length board.now.nets }
+    requires count { length flags.old ≡ length board.now.nets }
+    requires flags { AreFlags board.now plan.now log.now x n flags.old }
+    ensures flags { AreFlags board.now plan.now log.now x (n + 1) flags.new }
+    ensures count { length flags.new ≡ length flags.old }
+{
+    let shown = shows(board, plan, None, log, x, n);
+    set_unless(flags, n as usize, shown);
+}
+
+fn flag_pass(flags: &mut [bool], board: &Board, plan: &Plan, log: &Log, x: u32)
+    requires plan { IsPlanOf board.now plan.now }
+    requires rows { length log.now ≡ length plan.now.passes * plan.now.width }
+    requires bits { All (λ row. length row ≡ data_bits board.now) log.now }
+    requires pass { x < length plan.now.passes }
+    requires count { length flags.old ≡ length board.now.nets }
+    requires flags { AreFlags board.now plan.now log.now x 0 flags.old }
+    ensures flags { AreFlags board.now plan.now log.now (x + 1) 0 flags.new }
+    ensures count { length flags.new ≡ length flags.old }
+{
+    for n in 0..net_count(board) {
+        flag_net(flags, board, plan, log, x, n);
+    }
+}
+
+// Flags the nets that differ in a log, in one pass over its rows.
+fn flags_of(alloc: Global, board: &Board, plan: &Plan, log: &Log) -> Result<Vec<bool>, AllocError>
+    requires plan { IsPlanOf board.now plan.now }
+    requires rows { length log.now ≡ length plan.now.passes * plan.now.width }
+    requires bits { All (λ row. length row ≡ data_bits board.now) log.now }
+    ensures flags { IfOk result (λ flags. AreFlags board.now plan.now log.now (length plan.now.passes) 0 flags.items) }
+    ensures count { IfOk result (λ flags. length flags.items ≡ length board.now.nets) }
+{
+    let mut flags = vec![in alloc; false; net_count(board) as usize]?;
+    for x in 0..plan.pass_count() {
+        flag_pass(&mut flags, board, plan, log, x);
+    }
+    Ok(flags)
+}
+
+fn flagged_nets(alloc: Global, flags: &[bool]) -> Result<Vec<u32>, AllocError>
+    requires { length flags.now ≤ 65535 }
+    ensures { IfOk result (λ nets. nets.items ≡ flagged_nets flags.now) }
+{
+    let mut nets = Vec::new(alloc);
+    for n in 0..flags.len() {
+        push_if(&mut nets, n as u32, is_set(flags, n))?;
+    }
+    Ok(nets)
+}
+
+fn push_two(places: &mut Vec<u64>, place: u64) -> Result<(), AllocError>
+    requires { place < 2 ^ 40 }
+    ensures { OnOk result (places.new.items ≡ places.old.items ++ two_from place) }
+{
+    places.push(place)?;
+    places.push(place + 1)?;
+    Ok(())
+}
+
+fn push_four(places: &mut Vec<u64>, place: u64) -> Result<(), AllocError>
+    requires { place < 2 ^ 40 }
+    ensures { OnOk result (places.new.items ≡ places.old.items ++ four_from place) }
+{
+    places.push(place)?;
+    places.push(place + 1)?;
+    places.push(place + 2)?;
+    places.push(place + 3)?;
+    Ok(())
+}
+
+// The number of the pair of covered nets `a` and `b`, by their places in the list.
+fn pair_number(lists: &FaultLists, a: u64, b: u64) -> u64
+    requires few { length lists.now.nets ≤ 16382 }
+    requires starts { AreStarts (length lists.now.nets) lists.now.starts }
+    requires order { a < b }
+    requires within { b < length lists.now.nets }
+    ensures number { result ≡ pair_number lists.now a b }
+    ensures few { result < 2 ^ 30 }
+{
+    start_at(lists.starts.as_slice(), a as usize) + (b - a - 1)
+}
+
+fn push_pair(places: &mut Vec<u64>, lists: &FaultLists, a: u64, b: u64) -> Result<(), AllocError>
+    requires few { length lists.now.nets ≤ 16382 }
+    requires few_pins { length lists.now.pins ≤ 65535 }
+    requires starts { AreStarts (length lists.now.nets) lists.now.starts }
+    requires order { a < b }
+    requires within { b < length lists.now.nets }
+    ensures { OnOk result (places.new.items ≡ places.old.items ++ pair_suspects lists.now a b) }
+{
+    let first = 2 * lists.nets.len() as u64 + 2 * lists.pins.len() as u64;
+    push_four(places, first + 4 * pair_number(lists, a, b))
+}
+
+fn push_pin(places: &mut Vec<u64>, lists: &FaultLists, n: u32, i: usize) -> Result<(), AllocError>
+    requires few { length lists.now.nets ≤ 16382 }
+    requires few_pins { length lists.now.pins ≤ 65535 }
+    requires pin { i < length lists.now.pins }
+    ensures { OnOk result (places.new.items ≡ places.old.items ++ pin_suspects lists.now n i) }
+{
+    if pin_at(lists.pins.as_slice(), i).net == n {
+        let first = 2 * lists.nets.len() as u64;
+        push_two(places, first + 2 * i as u64)?;
+    }
+    Ok(())
+}
+
+fn push_pins(places: &mut Vec<u64>, lists: &FaultLists, n: u32) -> Result<(), AllocError>
+    requires few { length lists.now.nets ≤ 16382 }
+    requires few_pins { length lists.now.pins ≤ 65535 }
+    ensures { OnOk result (places.new.items ≡ places.old.items ++ flat_map (pin_suspects lists.now n) (range_with_len 0 (length lists.now.pins))) }
+{
+    for i in 0..lists.pins.len() {
+        push_pin(places, lists, n, i)?;
+    }
+    Ok(())
+}
+
+// The shorts of net `k` with earlier covered nets.
+fn push_earlier(places: &mut Vec<u64>, lists: &FaultLists, k: u64) -> Result<(), AllocError>
+    requires few { length lists.now.nets ≤ 16382 }
+    requires few_pins { length lists.now.pins ≤ 65535 }
+    requires starts { AreStarts (length lists.now.nets) lists.now.starts }
+    requires within { k < length lists.now.nets }
+    ensures { OnOk result (places.new.items ≡ places.old.items ++ flat_map (λ a. pair_suspects lists.now a k) (range_with_len 0 k)) }
+{
+    for a in 0..k {
+        push_pair(places, lists, a, k)?;
+    }
+    Ok(())
+}
+
+// Those with later ones.
+fn push_later(places: &mut Vec<u64>, lists: &FaultLists, k: u64) -> Result<(), AllocError>
+    requires few { length lists.now.nets ≤ 16382 }
+    requires few_pins { length lists.now.pins ≤ 65535 }
+    requires starts { AreStarts (length lists.now.nets) lists.now.starts }
+    requires within { k < length lists.now.nets }
+    ensures { OnOk result (places.new.items ≡ places.old.items ++ flat_map (λ b. pair_suspects lists.now k b) (range_with_len (suc k) (length lists.now.nets - suc k))) }
+{
+    for b in k + 1..lists.nets.len() as u64 {
+        push_pair(places, lists, k, b)?;
+    }
+    Ok(())
+}
+
+// The place of a net that has a code among the covered nets, which the codes number from 1.
+fn covered_place(plan: &Plan, n: u32) -> u64
+    ensures { result ≡ covered_place plan.now n }
+{
+    u64::from(plan.code(n)).saturating_sub(1)
+}
+
+// The places of all faults of net `n`.
+fn net_suspects(
+    alloc: Global,
+    plan: &Plan,
+    lists: &FaultLists,
+    n: u32,
+) -> Result<Vec<u64>, AllocError>
+    requires few { length lists.now.nets ≤ 16382 }
+    requires few_pins { length lists.now.pins ≤ 65535 }
+    requires starts { AreStarts (length lists.now.nets) lists.now.starts }
+    requires can { CanSuspect plan.now lists.now (n ∷ []) }
+    ensures { IfOk result (λ places. places.items ≡ net_suspects lists.now n (covered_place plan.now n)) }
+{
+    let k = covered_place(plan, n);
+    let mut places = Vec::new(alloc);
+    push_two(&mut places, 2 * k)?;
+    push_pins(&mut places, lists, n)?;
+    push_earlier(&mut places, lists, k)?;
+    push_later(&mut places, lists, k)?;
+    Ok(places)
+}
+
+// The places of the shorts of nets `m` and `n`.
+fn pair_suspects(
+    alloc: Global,
+    plan: &Plan,
+    lists: &FaultLists,
+    m: u32,
+    n: u32,
+) -> Result<Vec<u64>, AllocError>
+    requires few { length lists.now.nets ≤ 16382 }
+    requires few_pins { length lists.now.pins ≤ 65535 }
+    requires starts { AreStarts (length lists.now.nets) lists.now.starts }
+    requires can { CanSuspect plan.now lists.now (m ∷ n ∷ []) }
+    ensures { IfOk result (λ places. places.items ≡ pair_suspects lists.now (covered_place plan.now m) (covered_place plan.now n)) }
+{
+    let mut places = Vec::new(alloc);
+    push_pair(
+        &mut places,
+        lists,
+        covered_place(plan, m),
+        covered_place(plan, n),
+    )?;
+    Ok(places)
+}
+
+// The suspects where these nets differ.
+fn suspects_of(
+    alloc: Global,
+    plan: &Plan,
+    lists: &FaultLists,
+    nets: &[u32],
+) -> Result<Vec<u64>, AllocError>
+    requires few { length lists.now.nets ≤ 16382 }
+    requires few_pins { length lists.now.pins ≤ 65535 }
+    requires starts { AreStarts (length lists.now.nets) lists.now.starts }
+    requires can { CanSuspect plan.now lists.now nets.now }
+    ensures { IfOk result (λ places. places.items ≡ suspects_of plan.now lists.now nets.now) }
+{
+    match nets {
+        [n] => net_suspects(alloc, plan, lists, *n),
+        [m, n] => pair_suspects(alloc, plan, lists, *m, *n),
+        _ => Ok(Vec::new(alloc)),
+    }
+}
+
+impl Suspects {
+    /// The places of a universe whose faults may explain a log: none where no net or more than two nets differ in it, those of the shorts
+    /// of two nets where two do, and those of all faults of a net where that net alone does. The plan is made of the
+    /// board's passes, the universe is that of the board, and the log has the plan's rows, each as long as a scan of data.
+    pub fn new(
+        alloc: Global,
+        board: &Board,
+        plan: &Plan,
+        universe: &Universe,
+        log: &Log,
+    ) -> Result<Suspects, AllocError>
+        requires plan { IsPlanOf board.now plan.now }
+        requires passes { plan.now.passes ≡ passes_of board.now }
+        requires universe { IsUniverse board.now universe.now }
+        requires rows { length log.now ≡ length plan.now.passes * plan.now.width }
+        requires bits { All (λ row. length row ≡ data_bits board.now) log.now }
+        ensures { IfOk result (λ suspects. AreSuspects board.now plan.now universe.now log.now suspects) }
+    {
+        let _rules = board.raw();
+        law::passes_kept();
+        codes_number_covered();
+        singles_observable();
+        log_law::rows_compared();
+        log_law::singles_respond();
+        log_law::expected_bits();
+        log_law::expected_logs();
+        let flags = flags_of(alloc, board, plan, log)?;
+        let nets = flagged_nets(alloc, &flags)?;
+        let places = suspects_of(alloc, plan, universe.lists(), &nets)?;
+        Ok(Suspects { places })
+    }
+
+    /// How many suspects there are.
+    pub fn count(&self) -> u64
+        ensures { result ≡ length self.now }
+    {
+        self.places.len() as u64
+    }
+
+    /// Suspect `i` as a place of the universe, where `i` is below their number. The places rise with `i`.
+    pub fn place(&self, i: u64) -> u64
+        requires { i < length self.now }
+        ensures { slice_get self.now i ≡ Some result }
+    {
+        place_at(&self.places, i as usize)
+    }
+}
+
+fn place_at(places: &[u64], i: usize) -> u64
+    requires { i < length places.now }
+    ensures { slice_get places.now i ≡ Some result }
+{
+    places[i]
+}

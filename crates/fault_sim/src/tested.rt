@@ -1,0 +1,171 @@
+// The nets and the pins that the passes of a plan test.
+ghost use Rattle.std.specs.Prelude.{◌≡◌, ◌≤◌, ◌++◌, ◌∷◌, ◌&&◌, [], cond, length, fold, slice_index_or, slice_set, true, false, IfOk, OnOk};
+ghost use Rattle.fault_sim.specs.Tested.{coded_nets, observes_in, paired_in, marked_readers, marked_by, marked_in, tested_flags, pin_where, flagged_pins, pin_count, net_pins, all_pins};
+
+use crate::feed::{driver_in, is_read_beside};
+use crate::fits::net_count;
+use board_defs::{Board, PinRef, Setting};
+use scan_planner::{NetDriver, Plan, ReaderCell};
+use std::alloc::{AllocError, Global};
+
+/// Adds a net where it is one of those that are looked for.
+pub fn push_if(nets: &mut Vec<u32>, n: u32, is_one: bool) -> Result<(), AllocError>
+    ensures { OnOk result (nets.new.items ≡ nets.old.items ++ cond is_one (n ∷ []) []) }
+{
+    if is_one {
+        nets.push(n)?;
+    }
+    Ok(())
+}
+
+/// The nets that some pass observes, in net order: those that have a code.
+pub fn coded_nets(alloc: Global, plan: &Plan, count: u32) -> Result<Vec<u32>, AllocError>
+    ensures { IfOk result (λ nets. nets.items ≡ coded_nets plan.now count) }
+{
+    let mut nets = Vec::new(alloc);
+    for n in 0..count {
+        push_if(&mut nets, n, plan.code(n) > 0)?;
+    }
+    Ok(nets)
+}
+
+/// Whether a pass observes a net.
+fn observes_in(plan: &Plan, pass: &Setting, net: u32) -> bool
+    ensures { result ≡ observes_in plan.now pass.now net }
+{
+    match driver_in(plan, pass, net) {
+        None => false,
+        Some(driver) => is_read_beside(plan.readers(net), driver.place),
+    }
+}
+
+fn observes_both(plan: &Plan, pass: &Setting, a: u32, b: u32) -> bool
+    ensures { result ≡ (observes_in plan.now pass.now a && observes_in plan.now pass.now b) }
+{
+    observes_in(plan, pass, a) && observes_in(plan, pass, b)
+}
+
+/// Whether some pass observes both nets.
+pub fn paired_in(plan: &Plan, a: u32, b: u32) -> bool
+    ensures { result ≡ paired_in plan.now a b }
+{
+    for pass in plan.passes() {
+        if observes_both(plan, pass, a, b) {
+            return true;
+        }
+    }
+    false
+}
+
+fn mark(flags: &mut [bool], place: usize)
+    ensures { flags.new ≡ slice_set flags.old place true }
+{
+    if place < flags.len() {
+        flags[place] = true;
+    }
+}
+
+fn mark_readers(flags: &mut [bool], readers: &[ReaderCell])
+    ensures { flags.new ≡ marked_readers flags.old readers.now }
+{
+    for reader in readers {
+        mark(flags, reader.place as usize);
+    }
+}
+
+fn mark_by(flags: &mut [bool], driver: Option<NetDriver>, readers: &[ReaderCell])
+    ensures { flags.new ≡ marked_by driver readers.now flags.old }
+{
+    if let Some(driver) = driver {
+        if is_read_beside(readers, driver.place) {
+            mark(flags, driver.place as usize);
+            mark_readers(flags, readers);
+        }
+    }
+}
+
+fn mark_pass(flags: &mut [bool], plan: &Plan, pass: &Setting, net: u32)
+    ensures { flags.new ≡ marked_in plan.now net flags.old pass.now }
+{
+    mark_by(flags, driver_in(plan, pass, net), plan.readers(net));
+}
+
+fn mark_passes(flags: &mut [bool], plan: &Plan, net: u32)
+    ensures { flags.new ≡ fold (marked_in plan.now net) flags.old plan.now.passes }
+{
+    for pass in plan.passes() {
+        mark_pass(flags, plan, pass, net);
+    }
+}
+
+// Which of so many pins of a net some pass tests.
+fn tested_flags(alloc: Global, plan: &Plan, count: usize, net: u32) -> Result<Vec<bool>, AllocError>
+    ensures { IfOk result (λ flags. flags.items ≡ tested_flags plan.now count net) }
+{
+    let mut flags = vec![in alloc; false; count]?;
+    mark_passes(&mut flags, plan, net);
+    Ok(flags)
+}
+
+fn push_pin(pins: &mut Vec<PinRef>, net: u32, place: u32, is_tested: bool) -> Result<(), AllocError>
+    ensures { OnOk result (pins.new.items ≡ pins.old.items ++ pin_where is_tested net place) }
+{
+    if is_tested {
+        pins.push(PinRef { net, place })?;
+    }
+    Ok(())
+}
+
+/// Whether a flag is set; none past the end is.
+pub fn is_set(flags: &[bool], n: usize) -> bool
+    ensures { result ≡ slice_index_or flags.now n false }
+{
+    match flags.get(n) {
+        None => false,
+        Some(flag) => *flag,
+    }
+}
+
+fn push_flagged(net: u32, flags: &[bool], pins: &mut Vec<PinRef>) -> Result<(), AllocError>
+    requires { length flags.now ≤ 65535 }
+    ensures { OnOk result (pins.new.items ≡ pins.old.items ++ flagged_pins net flags.now) }
+{
+    for place in 0..flags.len() {
+        push_pin(pins, net, place as u32, is_set(flags, place))?;
+    }
+    Ok(())
+}
+
+fn pin_count(board: &Board, net: u32) -> usize
+    ensures { result ≡ pin_count board.now net }
+{
+    match board.raw().nets.as_slice().get(net as usize) {
+        None => 0,
+        Some(net) => net.pins.len(),
+    }
+}
+
+fn push_pins(
+    alloc: Global,
+    board: &Board,
+    plan: &Plan,
+    net: u32,
+    pins: &mut Vec<PinRef>,
+) -> Result<(), AllocError>
+    ensures { OnOk result (pins.new.items ≡ pins.old.items ++ net_pins board.now plan.now net) }
+{
+    let _rules = board.raw();
+    let flags = tested_flags(alloc, plan, pin_count(board, net), net)?;
+    push_flagged(net, &flags, pins)
+}
+
+/// The pins that some pass tests as drivers or as receivers, in pin order.
+pub fn tested_pins(alloc: Global, board: &Board, plan: &Plan) -> Result<Vec<PinRef>, AllocError>
+    ensures { IfOk result (λ pins. pins.items ≡ all_pins board.now plan.now (length board.now.nets)) }
+{
+    let mut pins = Vec::new(alloc);
+    for net in 0..net_count(board) {
+        push_pins(alloc, board, plan, net, &mut pins)?;
+    }
+    Ok(pins)
+}

@@ -1,0 +1,239 @@
+// The single faults of a board by their places.
+ghost use Rattle.std.specs.Prelude.{◌≡◌, ◌+◌, ◌-◌, ◌*◌, ◌<◌, ◌≤◌, length, slice_get, slice_index_or, IfOk, Some};
+ghost use Rattle.std.specs.List.{flat_map};
+ghost use Rattle.board_defs.specs.declared.board.RawBoard.{RawBoard};
+ghost use Rattle.board_defs.specs.BoardRules.{IsBoard};
+ghost use Rattle.board_defs.specs.Faults.{stuck_faults, open_faults, kind_rank};
+ghost use Rattle.board_defs.specs.Passes.{passes_of, pairs_within};
+ghost use Rattle.scan_planner.specs.Plans.{IsPlanOf};
+ghost use Rattle.fault_sim.specs.Places.{AreStarts, IsUniverse, pairs_before, place_count, number_places, listed_places, places_of};
+
+use crate::fits::net_count;
+use crate::tested::{coded_nets, paired_in, tested_pins};
+use board_defs::{Board, Items, Kind, PinRef, Single, law};
+use scan_planner::Plan;
+use std::alloc::{AllocError, Global};
+use std::marker::Model;
+use tap_defs::law::codes_number_covered;
+
+/// The covered nets and the tested pins of a board, and how many pairs of covered nets come before those of each net
+/// with later ones.
+#[derive(Debug, Drop)]
+pub struct FaultLists {
+    pub nets: Items<u32>,
+    pub pins: Items<PinRef>,
+    pub starts: Items<u64>,
+}
+
+/// The places of a board: two for each covered net, two for each tested pin and four for each pair of covered nets, in
+/// the order of the single faults.
+#[derive(Debug, Drop)]
+pub struct Universe {
+    lists: FaultLists,
+}
+
+impl Model for Universe {
+    ghost use Rattle.std.specs.Prelude.{◌≤◌, length};
+    ghost use Rattle.fault_sim.specs.declared.universe.FaultLists.{FaultLists};
+    ghost use Rattle.fault_sim.specs.Places.{AreStarts};
+
+    ghost Value = { FaultLists };
+
+    ghost view = { λ a. a.lists };
+
+    ghost invariant = { λ a. (length a.lists.nets ≤ 16382) × (length a.lists.pins ≤ 65535) × AreStarts (length a.lists.nets) a.lists.starts };
+}
+
+// Where the pairs of each of so many nets with later ones begin, and where all end.
+fn pair_starts(alloc: Global, nets: u32) -> Result<Vec<u64>, AllocError>
+    requires { nets ≤ 16382 }
+    ensures { IfOk result (λ starts. AreStarts nets starts.items) }
+{
+    let mut starts = Vec::new(alloc);
+    let mut start = 0u64;
+    starts.push(start)?;
+    for a in 0..nets {
+        start += u64::from(nets - a - 1);
+        starts.push(start)?;
+    }
+    Ok(starts)
+}
+
+// The net whose pairs with later ones hold pair `k`.
+fn row_of(starts: &[u64], k: u64) -> usize
+    requires some { 0 < length starts.now }
+    requires first { slice_index_or starts.now 0 0 ≤ k }
+    requires last { k < slice_index_or starts.now (length starts.now - 1) 0 }
+    ensures within { result + 1 < length starts.now }
+    ensures low { slice_index_or starts.now result 0 ≤ k }
+    ensures high { k < slice_index_or starts.now (result + 1) 0 }
+{
+    let mut low = 0;
+    let mut high = starts.len() - 1;
+    while low + 1 < high {
+        let middle = low + (high - low) / 2;
+        if starts[middle] <= k {
+            low = middle;
+        } else {
+            high = middle;
+        }
+    }
+    low
+}
+
+// How many pairs of covered nets there are.
+fn pair_count(lists: &FaultLists) -> u64
+    requires { AreStarts (length lists.now.nets) lists.now.starts }
+    ensures { result ≡ pairs_before (length lists.now.nets) (length lists.now.nets) }
+{
+    start_at(lists.starts.as_slice(), lists.nets.len())
+}
+
+pub fn start_at(starts: &[u64], a: usize) -> u64
+    requires { a < length starts.now }
+    ensures { result ≡ slice_index_or starts.now a 0 }
+{
+    starts[a]
+}
+
+fn net_at(nets: &[u32], k: usize) -> u32
+    requires { k < length nets.now }
+    ensures { slice_get nets.now k ≡ Some result }
+{
+    nets[k]
+}
+
+pub fn pin_at(pins: &[PinRef], k: usize) -> PinRef
+    requires { k < length pins.now }
+    ensures { slice_get pins.now k ≡ Some result }
+{
+    pins[k]
+}
+
+fn stuck_at(nets: &[u32], i: u64) -> Single
+    requires { i < 2 * length nets.now }
+    ensures { slice_get (flat_map stuck_faults nets.now) i ≡ Some result }
+{
+    let net = net_at(nets, (i / 2) as usize);
+    let value = i % 2 == 1;
+    Single::StuckNet { net, value }
+}
+
+fn open_at(pins: &[PinRef], i: u64) -> Single
+    requires { i < 2 * length pins.now }
+    ensures { slice_get (flat_map open_faults pins.now) i ≡ Some result }
+{
+    let pin = pin_at(pins, (i / 2) as usize);
+    let value = i % 2 == 1;
+    Single::OpenPin { pin, value }
+}
+
+// Pair `k` of covered nets, the lower net first.
+fn pair_at(lists: &FaultLists, k: u64) -> (u32, u32)
+    requires few { length lists.now.nets ≤ 16382 }
+    requires starts { AreStarts (length lists.now.nets) lists.now.starts }
+    requires pair { k < pairs_before (length lists.now.nets) (length lists.now.nets) }
+    ensures { slice_get (pairs_within lists.now.nets) k ≡ Some result }
+{
+    let starts = lists.starts.as_slice();
+    let low = row_of(starts, k);
+    let high = low + 1 + (k - start_at(starts, low)) as usize;
+    let nets = lists.nets.as_slice();
+    (net_at(nets, low), net_at(nets, high))
+}
+
+fn kind_at(k: u64) -> Kind
+    requires { k < 4 }
+    ensures { kind_rank result ≡ k }
+{
+    match k {
+        0 => Kind::And,
+        1 => Kind::Or,
+        2 => Kind::First,
+        _ => Kind::Second,
+    }
+}
+
+// Place `k` among those of the pairs of covered nets.
+fn short_at(lists: &FaultLists, plan: &Plan, k: u64) -> Option<Single>
+    requires few { length lists.now.nets ≤ 16382 }
+    requires starts { AreStarts (length lists.now.nets) lists.now.starts }
+    requires place { k < 4 * pairs_before (length lists.now.nets) (length lists.now.nets) }
+    ensures { slice_get (flat_map (number_places plan.now) (pairs_within lists.now.nets)) k ≡ Some result }
+{
+    let (a, b) = pair_at(lists, k / 4);
+    let kind = kind_at(k % 4);
+    if paired_in(plan, a, b) {
+        Some(Single::Short { a, b, kind })
+    } else {
+        None
+    }
+}
+
+fn place_at(lists: &FaultLists, plan: &Plan, i: u64) -> Option<Single>
+    requires few { length lists.now.nets ≤ 16382 }
+    requires few_pins { length lists.now.pins ≤ 65535 }
+    requires starts { AreStarts (length lists.now.nets) lists.now.starts }
+    requires place { i < place_count lists.now }
+    ensures { slice_get (listed_places plan.now lists.now) i ≡ Some result }
+{
+    let stuck = 2 * lists.nets.len() as u64;
+    let open = 2 * lists.pins.len() as u64;
+    if i < stuck {
+        Some(stuck_at(lists.nets.as_slice(), i))
+    } else if i - stuck < open {
+        Some(open_at(lists.pins.as_slice(), i - stuck))
+    } else {
+        short_at(lists, plan, i - stuck - open)
+    }
+}
+
+impl Universe {
+    /// The places of a board. The plan is made of the board's passes.
+    pub fn new(alloc: Global, board: &Board, plan: &Plan) -> Result<Universe, AllocError>
+        requires plan { IsPlanOf board.now plan.now }
+        requires passes { plan.now.passes ≡ passes_of board.now }
+        ensures { IfOk result (λ universe. IsUniverse board.now universe) }
+    {
+        let _rules = board.raw();
+        law::passes_kept();
+        codes_number_covered();
+        let found = coded_nets(alloc, plan, net_count(board))?;
+        let tested = tested_pins(alloc, board, plan)?;
+        let nets = Items::of(found);
+        let pins = Items::of(tested);
+        let starts = Items::of(pair_starts(alloc, nets.len() as u32)?);
+        Ok(Universe {
+            lists: FaultLists { nets, pins, starts },
+        })
+    }
+
+    /// The covered nets and the tested pins.
+    pub(crate) fn lists(&self) -> &FaultLists
+        ensures value { result.now ≡ self.now }
+        ensures few { length self.now.nets ≤ 16382 }
+        ensures few_pins { length self.now.pins ≤ 65535 }
+        ensures starts { AreStarts (length self.now.nets) self.now.starts }
+    {
+        &self.lists
+    }
+
+    /// The number of places: two for each covered net, two for each tested pin and four for each pair of covered nets.
+    pub fn places(&self) -> u64
+        ensures { result ≡ place_count self.now }
+    {
+        let nets = self.lists.nets.len() as u64;
+        let pins = self.lists.pins.len() as u64;
+        2 * nets + (2 * pins + 4 * pair_count(&self.lists))
+    }
+
+    /// The single fault at place `i`, which is below the number of places; None exactly where the place is one of two
+    /// covered nets that are not paired. The plan is that of the universe. No memory is taken.
+    pub fn at(&self, plan: &Plan, i: u64) -> Option<Single>
+        requires { i < place_count self.now }
+        ensures { (board : RawBoard) → IsBoard board → IsPlanOf board plan.now → plan.now.passes ≡ passes_of board → IsUniverse board self.now → slice_get (places_of board) i ≡ Some result }
+    {
+        law::passes_kept();
+        place_at(self.lists(), plan, i)
+    }
+}

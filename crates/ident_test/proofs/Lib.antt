@@ -1,0 +1,5 @@
+pub mod LengthLemmas
+pub mod RowLemmas
+pub mod ResetLemmas
+pub mod IdentLemmas
+mod SampleTests

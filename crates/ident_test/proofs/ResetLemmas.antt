@@ -1,0 +1,55 @@
+-- After the head of a text each part has the instruction that Test-Logic-Reset selects, where that is known.
+use Rattle.std.proofs.Common.{◌≡◌, ℕ, suc, Bool, true, false, List, [], ◌∷◌, map, Option, Some, refl, sym, ◌∙◌, ap, subst}
+use Rattle.tap_defs.specs.declared.tap.TapState.{TapState}
+use Rattle.tap_defs.specs.declared.tap.TapState.TheVariants.{TestLogicReset, RunTestIdle}
+use Rattle.tap_defs.specs.Tap.{next_state}
+use Rattle.tap_defs.specs.TestLogic.{Instruction, reset_instruction}
+use Rattle.tap_defs.specs.Part.{FreeBits, old_state_acts, part_tdo}
+use Rattle.tap_defs.specs.Chain.{ChainPart, chain_after}
+use Rattle.tap_defs.specs.Run.{Wiring, Choice, Choices, clock_tdi, run}
+use Rattle.tap_defs.specs.Clocks.{plain, reset_clocks, head_clocks}
+use Rattle.tap_defs.specs.ChainRegisters.{pins_at, AllIn}
+use Rattle.tap_defs.proofs.CalmLemmas.{reset_current}
+use Rattle.tap_defs.proofs.HeadLemmas.{part_tap, run_resets}
+use Rattle.tap_defs.proofs.MoveLemmas.{moved_to, chain_moves}
+
+-- each part has the instruction that it is known to have after a reset
+abbrev pub AllSelected : List ChainPart → Type 0
+AllSelected [] = Unit {0}
+AllSelected (p ∷ ps) = ((i : Instruction) → p.logic.at_reset ≡ Some i → p.state.current ≡ i) × AllSelected ps
+
+chain_selects : (ps : List ChainPart) (pins : ℕ → List Bool) (free : ℕ → FreeBits) (tms tdi : Bool) →
+    AllIn TestLogicReset (chain_after ps pins free tms tdi) → AllSelected (chain_after ps pins free tms tdi)
+chain_selects [] pins free tms tdi h = tt
+chain_selects (p ∷ ps) pins free tms tdi h =
+    let t : TapState = next_state p.state.tap tms in
+    let reset : t ≡ TestLogicReset = sym (part_tap p.logic (pins 0) (free 0) tms tdi p.state) ∙ h.0 in (
+      λ i known.
+          reset_current t p.state.current p.logic (free 0)
+          (record (old_state_acts p.state.tap p.state.current p.logic (pins 0) (free 0) tdi p.state) { tap = t }) reset
+          ∙ ap (λ (at : Option Instruction). reset_instruction at (free 0).other) known,
+      chain_selects ps (λ k. pins (suc k)) (λ k. free (suc k)) tms (part_tdo (free 0) tdi p.state) h.1,
+    )
+
+moved_selected : (t : TapState) (ps : List ChainPart) → AllSelected ps → AllSelected (map (moved_to t) ps)
+moved_selected t [] h = tt
+moved_selected t (p ∷ ps) h = (h.0, moved_selected t ps h.1)
+
+-- the fifth clock with TMS 1 enters Test-Logic-Reset
+reset_selects : (wiring : Wiring) (choices : Choices) (ps : List ChainPart) → AllSelected (run wiring reset_clocks choices ps)
+unfolding run
+reset_selects wiring choices ps =
+    let before : List ChainPart = run wiring (plain true ∷ plain true ∷ plain true ∷ plain true ∷ []) choices ps in
+    let choice : Choice = choices 4 in
+    chain_selects before (pins_at wiring choice before) choice.parts true (clock_tdi (plain true) choice) (run_resets wiring choices ps)
+
+-- and the sixth clock changes no instruction
+pub head_selects : (wiring : Wiring) (choices : Choices) (ps : List ChainPart) → AllSelected (run wiring head_clocks choices ps)
+unfolding run
+head_selects wiring choices ps =
+    let reset : List ChainPart = run wiring reset_clocks choices ps in
+    let choice : Choice = choices 5 in
+    let moved : run wiring head_clocks choices ps ≡ map (moved_to RunTestIdle) reset =
+    chain_moves TestLogicReset reset (pins_at wiring choice reset) choice.parts false (clock_tdi (plain false) choice)
+    (run_resets wiring choices ps) refl refl in
+    subst AllSelected (sym moved) (moved_selected RunTestIdle reset (reset_selects wiring choices ps))

@@ -1,0 +1,99 @@
+-- Texts and runs of the identity tests of small chains.
+use Rattle.std.proofs.Common.{◌≡◌, Bool, true, false, List, [], ◌∷◌, ◌++◌, map, replicate, Option, Some, None, refl}
+use Rattle.std.specs.Prelude.{codes}
+use Rattle.std.specs.Fmt.{digits}
+use Rattle.board_defs.specs.declared.device.Symbol.{Symbol}
+use Rattle.board_defs.specs.declared.device.Symbol.TheVariants.{Zero, One, Any}
+use Rattle.tap_defs.specs.TestLogic.{TestLogic, Bypass, Idcode}
+use Rattle.tap_defs.specs.Chain.{ChainPart, IsChainOf}
+use Rattle.tap_defs.specs.Run.{Clock, tdos, run_passes}
+use Rattle.tap_defs.specs.Clocks.{test_clocks}
+use Rattle.tap_defs.specs.Text.{svf_text}
+use Rattle.tap_defs.proofs.SampleTexts.{off, on, whole}
+use Rattle.tap_defs.proofs.SampleRun.{choices, no_wiring, pausing, shifting}
+use Rattle.ident_test.specs.Patterns.{ident_scan, ident_text}
+use Rattle.ident_test.specs.CodedParts.{all_fit}
+
+-- XXXX0001001000110100000000000111, the bit nearest TDO first
+abbrev known_part : List Symbol
+known_part =
+    One ∷ One ∷ One ∷ Zero ∷ Zero ∷ Zero ∷ Zero ∷ Zero ∷ Zero ∷ Zero ∷ Zero ∷ Zero
+    ∷ Zero ∷ Zero ∷ One ∷ Zero ∷ One ∷ One ∷ Zero ∷ Zero ∷ Zero ∷ One ∷ Zero ∷ Zero ∷ One ∷ Zero ∷ Zero ∷ Zero
+    ∷ Any ∷ Any ∷ Any ∷ Any ∷ []
+
+-- the last part has the lowest position
+known_text : ident_text (Some known_part ∷ None ∷ []) ≡ whole (codes "SDR 33 TDI (000000000) TDO (00246800E) MASK (01FFFFFFF);" ∷ [])
+unfolding svf_text digits
+known_text = refl
+
+turned_text : ident_text (None ∷ Some known_part ∷ []) ≡ whole (codes "SDR 33 TDI (000000000) TDO (001234007) MASK (10FFFFFFF);" ∷ [])
+unfolding svf_text digits
+turned_text = refl
+
+-- where nothing is compared, nothing but TDI is printed
+unknown_text : ident_text (Some (replicate 32 Any) ∷ []) ≡ whole (codes "SDR 32 TDI (00000000);" ∷ [])
+unfolding svf_text digits
+unknown_text = refl
+
+-- a part with a short pattern, 0X1, and one without
+abbrev patterns : List (Option (List Symbol))
+patterns = Some (One ∷ Any ∷ Zero ∷ []) ∷ None ∷ []
+
+abbrev coded : List Bool → TestLogic
+coded code = record { ir_length = 4; boundary_length = 0; extest = None; preload = None; at_reset = Some Idcode; idcode = code }
+
+abbrev bypassed : TestLogic
+bypassed = record { ir_length = 2; boundary_length = 0; extest = None; preload = None; at_reset = Some Bypass; idcode = [] }
+
+-- before the text they are in other states, under other instructions
+abbrev two : List Bool → List ChainPart
+two code =
+    record { logic = coded code; state = record pausing { identification = on ∷ on ∷ on ∷ [] } }
+    ∷ record { logic = bypassed; state = shifting } ∷ []
+
+start : IsChainOf (coded (on ∷ off ∷ off ∷ []) ∷ bypassed ∷ []) (two (on ∷ off ∷ off ∷ []))
+start = record {
+  logics_are = refl;
+  states_are = (
+    record { ir = refl; boundary = refl; identification = refl; latches = refl },
+    (record { ir = refl; boundary = refl; identification = refl; latches = refl }, tt),
+  );
+}
+
+abbrev clocks : List Clock
+clocks = test_clocks (ident_scan patterns ∷ [])
+
+-- the bypass bit leaves first, then the code from its lowest bit on
+reads : tdos no_wiring clocks choices (two (on ∷ off ∷ off ∷ [])) ≡
+    (on ∷ off ∷ off ∷ off ∷ off ∷ off ∷ [])
+    ++ (off ∷ off ∷ off ∷ []) ++ (off ∷ on ∷ off ∷ off ∷ []) ++ (off ∷ off ∷ [])
+    ++ (off ∷ off ∷ off ∷ off ∷ off ∷ [])
+unfolding tdos
+reads = refl
+
+-- 001 and 011 fit 0X1
+abbrev outcome : List Bool → Bool
+outcome code = run_passes clocks (tdos no_wiring clocks choices (two code))
+
+low_fits : outcome (on ∷ off ∷ off ∷ []) ≡ true
+unfolding tdos
+low_fits = refl
+
+high_fits : outcome (on ∷ on ∷ off ∷ []) ≡ true
+unfolding tdos
+high_fits = refl
+
+-- 101 and 000 do not
+first_differs : outcome (on ∷ off ∷ on ∷ []) ≡ false
+unfolding tdos
+first_differs = refl
+
+last_differs : outcome (off ∷ off ∷ off ∷ []) ≡ false
+unfolding tdos
+last_differs = refl
+
+-- and so the definition says
+all_told : map (λ code. all_fit patterns (coded code ∷ bypassed ∷ []))
+    ((on ∷ off ∷ off ∷ []) ∷ (on ∷ on ∷ off ∷ []) ∷ (on ∷ off ∷ on ∷ []) ∷ (off ∷ off ∷ off ∷ []) ∷ [])
+    ≡ true ∷ true ∷ false ∷ false ∷ []
+all_told = refl

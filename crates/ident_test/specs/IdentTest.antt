@@ -1,0 +1,23 @@
+-- What the identity test is worth: it tells whether each part's code fits its pattern.
+use Rattle.std.specs.Prelude.{◌≡◌, ℕ, ◌≤◌, true, false, List, length, Option, Some, All, IfSome}
+use Rattle.board_defs.specs.declared.device.Symbol.{Symbol}
+use Rattle.tap_defs.specs.TestLogic.{TestLogic}
+use Rattle.tap_defs.specs.Run.{Clock, Wiring, PassesOn, FailsOn}
+use Rattle.tap_defs.specs.Svf.{meaning}
+use Rattle.ident_test.specs.CodedParts.{AreCoded, all_fit}
+
+-- the patterns of a chain's parts: 1 to 255 of them, each of 32 symbols
+pub record ArePatterns (patterns : List (Option (List Symbol))) : Type 0 where
+  pub some : 1 ≤ length patterns
+  pub few : length patterns ≤ 255
+  pub whole : All (λ pattern. IfSome pattern (λ code. length code ≡ 32)) patterns
+
+-- the text has a meaning. On every chain of parts with these patterns it passes where each code fits its pattern, and it fails where
+-- some code does not. Both hold whatever the pins capture
+pub record IsIdentTest (patterns : List (Option (List Symbol))) (text : List ℕ) : Type 0 where
+  pub clocks : List Clock
+  pub means : meaning text ≡ Some clocks
+  pub passes : (wiring : Wiring) (parts : List TestLogic) → AreCoded patterns parts → all_fit patterns parts ≡ true →
+      PassesOn wiring parts clocks
+  pub fails : (wiring : Wiring) (parts : List TestLogic) → AreCoded patterns parts → all_fit patterns parts ≡ false →
+      FailsOn wiring parts clocks

@@ -1,0 +1,191 @@
+// The text of the identity test.
+ghost use Rattle.std.specs.Prelude.{◌≡◌, ◌+◌, ◌<◌, ◌≤◌, false, length, map, replicate, unwrap_or, is_some, All, IfSome};
+ghost use Rattle.std.specs.List.{list_any};
+ghost use Rattle.bt_base.specs.Puts.{Puts};
+ghost use Rattle.tap_defs.specs.Scan.{tdi_bits, tdo_bits, mask_bits};
+ghost use Rattle.tap_defs.specs.Text.{scan_text};
+ghost use Rattle.ident_test.specs.Patterns.{wanted, symbol_bit, register_pattern, ident_bits, ident_scan, ident_text};
+ghost use Rattle.ident_test.specs.Rows.{placed};
+
+use board_defs::{Code, Symbol};
+use bt_base::{PutFault, Sink};
+use bt_bits::{Line, Row};
+use svf_writer::{write_head, write_scan, write_tail};
+use tap_defs::Shape;
+
+// What leaves a part's register: its code, where it has a pattern, else the 0 of the bypass register.
+fn register_pattern(part: &Option<Code>) -> &[Symbol]
+    ensures { result.now ≡ register_pattern part.now }
+{
+    match part {
+        Some(code) => code.symbols(),
+        None => &[Symbol::Zero],
+    }
+}
+
+// How many bits a part's register has: an identification code has 32 (IEEE 1149.1-1990, section 11).
+fn register_bits(part: &Option<Code>) -> u32
+    requires { IfSome part.now (λ code. length code ≡ 32) }
+    ensures value { result ≡ length (register_pattern part.now) }
+    ensures bound { result ≤ 32 }
+{
+    match part {
+        Some(_) => 32,
+        None => 1,
+    }
+}
+
+// How many bits the scan has.
+fn scan_length(parts: &[Option<Code>]) -> u32
+    requires few { length parts.now ≤ 255 }
+    requires whole { All (λ part. IfSome part (λ code. length code ≡ 32)) parts.now }
+    ensures { result ≡ length (ident_bits parts.now) }
+{
+    let mut bits = 0;
+    for part in parts {
+        bits += register_bits(part);
+    }
+    bits
+}
+
+// Whether a bit is expected to be 1.
+fn expects_one(symbol: Symbol) -> bool
+    ensures { result ≡ unwrap_or (wanted symbol) false }
+{
+    matches!(symbol, Symbol::One)
+}
+
+// Whether a bit is compared.
+fn is_compared(symbol: Symbol) -> bool
+    ensures { result ≡ is_some (wanted symbol) }
+{
+    !matches!(symbol, Symbol::Any)
+}
+
+// Writes what is compared of a register, whose lowest bit has this position.
+fn set_register(at: u32, pattern: &[Symbol], tdo: &mut Row, mask: &mut Row)
+    requires few { at + length pattern.now ≤ 65535 }
+    requires tdo { at + length pattern.now ≤ length tdo.old.bits }
+    requires mask { at + length pattern.now ≤ length mask.old.bits }
+    ensures tdo { tdo.new.bits ≡ placed at (tdo_bits (map symbol_bit pattern.now)) tdo.old.bits }
+    ensures mask { mask.new.bits ≡ placed at (mask_bits (map symbol_bit pattern.now)) mask.old.bits }
+    ensures tdo_kept { tdo.new.room ≡ tdo.old.room }
+    ensures mask_kept { mask.new.room ≡ mask.old.room }
+{
+    let mut position = at;
+    for symbol in pattern {
+        tdo.set(position, expects_one(*symbol));
+        mask.set(position, is_compared(*symbol));
+        position += 1;
+    }
+}
+
+// Writes what is compared of all parts, the last part's register first.
+fn set_registers(parts: &[Option<Code>], tdo: &mut Row, mask: &mut Row)
+    requires few { length (ident_bits parts.now) ≤ 65535 }
+    requires tdo { tdo.old.bits ≡ replicate (length (ident_bits parts.now)) false }
+    requires mask { mask.old.bits ≡ replicate (length (ident_bits parts.now)) false }
+    ensures tdo { tdo.new.bits ≡ tdo_bits (ident_bits parts.now) }
+    ensures mask { mask.new.bits ≡ mask_bits (ident_bits parts.now) }
+    ensures tdo_kept { tdo.new.room ≡ tdo.old.room }
+    ensures mask_kept { mask.new.room ≡ mask.old.room }
+{
+    let mut at = 0;
+    for i in (0..parts.len()).rev() {
+        let pattern = register_pattern(&parts[i]);
+        set_register(at, pattern, tdo, mask);
+        at += pattern.len() as u32;
+    }
+}
+
+// Fills the rows of the scan.
+#[tactic(auto, using(crate::proofs::LengthLemmas::room_of))]
+fn fill_rows(parts: &[Option<Code>], tdi: &mut Row, tdo: &mut Row, mask: &mut Row)
+    requires few { length parts.now ≤ 255 }
+    requires whole { All (λ part. IfSome part (λ code. length code ≡ 32)) parts.now }
+    requires tdi_room { length (ident_bits parts.now) ≤ tdi.old.room }
+    requires tdo_room { length (ident_bits parts.now) ≤ tdo.old.room }
+    requires mask_room { length (ident_bits parts.now) ≤ mask.old.room }
+    ensures tdi { tdi.new.bits ≡ tdi_bits (ident_bits parts.now) }
+    ensures tdo { tdo.new.bits ≡ tdo_bits (ident_bits parts.now) }
+    ensures mask { mask.new.bits ≡ mask_bits (ident_bits parts.now) }
+    ensures tdi_kept { tdi.new.room ≡ tdi.old.room }
+    ensures tdo_kept { tdo.new.room ≡ tdo.old.room }
+    ensures mask_kept { mask.new.room ≡ mask.old.room }
+{
+    let bits = scan_length(parts);
+    tdi.clear(bits);
+    tdo.clear(bits);
+    mask.clear(bits);
+    set_registers(parts, tdo, mask);
+}
+
+// Whether some bit of a row is 1.
+fn has_one(row: &Row) -> bool
+    ensures { result ≡ list_any (λ bit. bit) row.now.bits }
+{
+    for at in 0..row.len() {
+        if row.get(at) {
+            return true;
+        }
+    }
+    false
+}
+
+// Puts the scan.
+fn put_scan<K: Sink>(
+    parts: &[Option<Code>],
+    tdi: &mut Row,
+    tdo: &mut Row,
+    mask: &mut Row,
+    line: &mut Line,
+    out: &mut K,
+) -> Result<(), PutFault>
+    requires some { 0 < length parts.now }
+    requires few { length parts.now ≤ 255 }
+    requires whole { All (λ part. IfSome part (λ code. length code ≡ 32)) parts.now }
+    requires tdi_room { length (ident_bits parts.now) ≤ tdi.old.room }
+    requires tdo_room { length (ident_bits parts.now) ≤ tdo.old.room }
+    requires mask_room { length (ident_bits parts.now) ≤ mask.old.room }
+    ensures text { Puts (K.shown out.old) (K.shown out.new) (scan_text (ident_scan parts.now)) result }
+    ensures tdi { tdi.new.room ≡ tdi.old.room }
+    ensures tdo { tdo.new.room ≡ tdo.old.room }
+    ensures mask { mask.new.room ≡ mask.old.room }
+{
+    fill_rows(parts, tdi, tdo, mask);
+    let shape = Shape {
+        ir: false,
+        compare: has_one(mask),
+    };
+    write_scan(shape, tdi, tdo, mask, line, out)
+}
+
+/// Puts the text of the identity test of described parts with these IDCODE patterns, in the order from TDI to TDO: a
+/// reset, one scan of data, a reset. A part with a pattern has 32 bits in the scan, compared where the pattern is 0 or
+/// 1, and each other part has one bit, compared with the 0 of its bypass register. There are 1 to 255 parts, each
+/// pattern has 32 symbols, and the rows have room for the scan. No memory is taken, and the rows and the line serve to
+/// write in: nothing is said of what they hold afterwards. It fails only where the sink does, and then a prefix of the
+/// text was put.
+pub fn write_ident<K: Sink>(
+    parts: &[Option<Code>],
+    tdi: &mut Row,
+    tdo: &mut Row,
+    mask: &mut Row,
+    line: &mut Line,
+    out: &mut K,
+) -> Result<(), PutFault>
+    requires some { 0 < length parts.now }
+    requires few { length parts.now ≤ 255 }
+    requires whole { All (λ part. IfSome part (λ code. length code ≡ 32)) parts.now }
+    requires tdi_room { length (ident_bits parts.now) ≤ tdi.old.room }
+    requires tdo_room { length (ident_bits parts.now) ≤ tdo.old.room }
+    requires mask_room { length (ident_bits parts.now) ≤ mask.old.room }
+    ensures text { Puts (K.shown out.old) (K.shown out.new) (ident_text parts.now) result }
+    ensures tdi { tdi.new.room ≡ tdi.old.room }
+    ensures tdo { tdo.new.room ≡ tdo.old.room }
+    ensures mask { mask.new.room ≡ mask.old.room }
+{
+    write_head(out)?;
+    put_scan(parts, tdi, tdo, mask, line, out)?;
+    write_tail(out)
+}

@@ -1,0 +1,127 @@
+-- Rows of bits that are kept as digits, one row after the other.
+use Rattle.std.proofs.Common.{◌≡◌, ℕ, ◌+◌, ◌*◌, ◌/◌, ◌%◌, ◌<◌, ◌≤◌, zero, suc, Bool, false, Some, List, [], ◌∷◌, ◌++◌, length, take, drop, get_or, refl, sym, ap, ◌∙◌, arith, length-drop, length-append, option_and_then}
+use Rattle.std.specs.Prelude.{All, slice_get}
+use Rattle.std.proofs.Math.Nat.{suc-mul}
+use Rattle.std.proofs.lemmas.List.{take_all, take-append-le, drop-append-le, length-take-le, get_or-take, get_or-drop, nil_from_length, drop-drop}
+use Rattle.std.proofs.lemmas.List.Elements.{All-nil, All-cons}
+use Rattle.std.proofs.lemmas.Nat.{mul-le}
+use Rattle.std.proofs.lemmas.Option.{slice_get-get_or}
+use Rattle.bt_bits.specs.Hex.{digit_count}
+use Rattle.bt_bits.specs.Digits.{bits_of, digit_bit, digits_of, row_bits}
+use Rattle.bt_bits.proofs.DigitLemmas.{length-digits_of, row_bits-is}
+use Rattle.bt_bits.proofs.TextLemmas.{length-row_bits}
+use Rattle.response_log.specs.Kept.{kept_rows}
+use Rattle.response_log.specs.LogRows.{HasSize, log_bit}
+
+pub length-kept_rows : (len rows : ℕ) (digits : List ℕ) → length (kept_rows len rows digits) ≡ rows
+length-kept_rows len zero digits = refl
+length-kept_rows len (suc rows) digits = ap suc (length-kept_rows len rows (drop (digit_count len) digits))
+
+-- the digits behind those of the first row
+length-behind : (width rows : ℕ) (digits : List ℕ) → length digits ≡ suc rows * width → length (drop width digits) ≡ rows * width
+length-behind width rows digits sized = omega (arith, length-drop width digits, suc-mul rows width, sized)
+
+has_first : (width rows : ℕ) (digits : List ℕ) → length digits ≡ suc rows * width → width ≤ length digits
+has_first width rows digits sized = omega (arith, suc-mul rows width, sized)
+
+-- each row has its length
+pub kept_rows-lengths : (len rows : ℕ) (digits : List ℕ) → length digits ≡ rows * digit_count len → All (λ bits. length bits ≡ len) (kept_rows len rows digits)
+kept_rows-lengths len zero digits sized = All-nil (λ (bits : List Bool). length bits ≡ len)
+kept_rows-lengths len (suc rows) digits sized =
+    All-cons (λ (bits : List Bool). length bits ≡ len) (row_bits len (take (digit_count len) digits)) (kept_rows len rows (drop (digit_count len) digits))
+    (length-row_bits len (take (digit_count len) digits) (length-take-le (digit_count len) digits (has_first (digit_count len) rows digits sized)))
+    (kept_rows-lengths len rows (drop (digit_count len) digits) (length-behind (digit_count len) rows digits sized))
+
+-- a row more
+kept_rows-push : (len rows : ℕ) (digits : List ℕ) (bits : List Bool) → length digits ≡ rows * digit_count len → length bits ≡ len → kept_rows len (suc rows) (digits ++ digits_of bits) ≡ kept_rows len rows digits ++ bits ∷ []
+kept_rows-push len zero digits bits sized long =
+    let none : digits ≡ [] = nil_from_length digits (omega arith) in
+    let all : length (digits_of bits) ≤ digit_count len = omega (arith, length-digits_of bits, long) in
+    ap (λ ds. row_bits len (take (digit_count len) (ds ++ digits_of bits)) ∷ []) none
+    ∙ ap (λ ds. row_bits len ds ∷ []) (take_all (digit_count len) (digits_of bits) all) ∙ ap (λ row. row ∷ []) (row_bits-is bits len (digits_of bits) long refl)
+kept_rows-push len (suc rows) digits bits sized long =
+    let first = has_first (digit_count len) rows digits sized in
+    ap (λ ds. row_bits len ds ∷ kept_rows len (suc rows) (drop (digit_count len) (digits ++ digits_of bits))) (take-append-le (digit_count len) digits (digits_of bits) first)
+    ∙ ap (λ ds. row_bits len (take (digit_count len) digits) ∷ kept_rows len (suc rows) ds) (drop-append-le (digit_count len) digits (digits_of bits) first)
+    ∙ ap (λ log. row_bits len (take (digit_count len) digits) ∷ log) (kept_rows-push len rows (drop (digit_count len) digits) bits (length-behind (digit_count len) rows digits sized) long)
+
+-- the same where the digits were appended
+pub kept_rows-more : (len rows : ℕ) (digits next : List ℕ) (bits : List Bool) → next ≡ digits ++ digits_of bits → length digits ≡ rows * digit_count len → length bits ≡ len → kept_rows len (rows + 1) next ≡ kept_rows len rows digits ++ bits ∷ []
+kept_rows-more len rows digits next bits is sized long =
+    let more : rows + 1 ≡ suc rows = omega arith in
+    ap (λ n. kept_rows len n next) more ∙ ap (kept_rows len (suc rows)) is ∙ kept_rows-push len rows digits bits sized long
+
+pub length-more : (len rows : ℕ) (digits next : List ℕ) (bits : List Bool) → next ≡ digits ++ digits_of bits → length digits ≡ rows * digit_count len → length bits ≡ len → length next ≡ (rows + 1) * digit_count len
+length-more len rows digits next bits is sized long =
+    let more : (rows + 1) * digit_count len ≡ rows * digit_count len + digit_count len = ap (λ n. n * digit_count len) (omega arith) ∙ suc-mul rows (digit_count len) in
+    ap length is ∙ length-append digits (digits_of bits) ∙ omega (arith, more, sized, length-digits_of bits, long)
+
+-- where a row stands
+kept_rows-get : (len rows : ℕ) (digits : List ℕ) (row : ℕ) → row < rows → slice_get (kept_rows len rows digits) row ≡ Some (row_bits len (take (digit_count len) (drop (row * digit_count len) digits)))
+kept_rows-get len zero digits row within = absurd (omega arith)
+kept_rows-get len (suc rows) digits zero within =
+    let none : 0 * digit_count len ≡ 0 = omega arith in
+    ap (λ n. Some (row_bits len (take (digit_count len) (drop n digits)))) (sym none)
+kept_rows-get len (suc rows) digits (suc row) within =
+    let place : digit_count len + row * digit_count len ≡ suc row * digit_count len = omega (arith, suc-mul row (digit_count len)) in
+    kept_rows-get len rows (drop (digit_count len) digits) row (omega arith)
+    ∙ ap (λ ds. Some (row_bits len (take (digit_count len) ds))) (drop-drop (row * digit_count len) (digit_count len) digits ∙ ap (λ n. drop n digits) place)
+
+-- one bit is in one digit
+bits_of-get : (digits : List ℕ) (i : ℕ) → i < 4 * length digits → get_or (bits_of digits) i false ≡ digit_bit (get_or digits (i / 4) 0) (i % 4)
+bits_of-get [] i within = absurd (omega arith)
+bits_of-get (x ∷ xs) zero within = refl
+bits_of-get (x ∷ xs) (suc zero) within = refl
+bits_of-get (x ∷ xs) (suc (suc zero)) within = refl
+bits_of-get (x ∷ xs) (suc (suc (suc zero))) within = refl
+bits_of-get (x ∷ xs) (suc (suc (suc (suc i)))) within =
+    let place : suc (suc (suc (suc i))) / 4 ≡ suc (i / 4) = omega arith in
+    let bit : suc (suc (suc (suc i))) % 4 ≡ i % 4 = omega arith in
+    bits_of-get xs i (omega arith)
+    ∙ sym (ap (λ p. digit_bit (get_or (x ∷ xs) p 0) (suc (suc (suc (suc i))) % 4)) place ∙ ap (λ k. digit_bit (get_or xs (i / 4) 0) k) bit)
+
+row_bits-get : (len : ℕ) (digits : List ℕ) (at : ℕ) → length digits ≡ digit_count len → at < len → slice_get (row_bits len digits) at ≡ Some (digit_bit (get_or digits (at / 4) 0) (at % 4))
+unfolding row_bits
+row_bits-get len digits at sized within =
+    let long = length-row_bits len digits sized in
+    slice_get-get_or (take len (bits_of digits)) at false (omega (arith, long))
+    ∙ ap (λ b. Some b) (get_or-take len (bits_of digits) at false within ∙ bits_of-get digits at (omega (arith, sized)))
+
+-- the digits of a row are among those that are kept
+row_within : (width rows : ℕ) (digits : List ℕ) (row : ℕ) → length digits ≡ rows * width → row < rows → row * width + width ≤ length digits
+row_within width rows digits row sized within =
+    let most : suc row * width ≤ rows * width = mul-le (suc row) width rows width (omega arith) (omega arith) in
+    omega (arith, most, suc-mul row width, sized)
+
+digit_of : (len rows : ℕ) (digits : List ℕ) (row at : ℕ) → length digits ≡ rows * digit_count len → row < rows → at < len → row * digit_count len + at / 4 < length digits
+digit_of len rows digits row at sized within in_row =
+    let place : at / 4 < digit_count len = omega arith in
+    omega (arith, place, row_within (digit_count len) rows digits row sized within)
+
+-- one bit of one row
+pub kept_bit : (len rows : ℕ) (digits : List ℕ) (row at : ℕ) → length digits ≡ rows * digit_count len → row < rows → at < len → log_bit (kept_rows len rows digits) row at ≡ Some (digit_bit (get_or digits (row * digit_count len + at / 4) 0) (at % 4))
+kept_bit len rows digits row at sized within in_row =
+    let place : at / 4 < digit_count len = omega arith in
+    let some = row_within (digit_count len) rows digits row sized within in
+    ap (option_and_then (λ bits. slice_get bits at)) (kept_rows-get len rows digits row within)
+    ∙ row_bits-get len (take (digit_count len) (drop (row * digit_count len) digits)) at (length-take-le (digit_count len) (drop (row * digit_count len) digits) (omega (arith, length-drop (row * digit_count len) digits, some))) in_row
+    ∙ ap (λ x. Some (digit_bit x (at % 4))) (get_or-take (digit_count len) (drop (row * digit_count len) digits) (at / 4) 0 place ∙ get_or-drop (row * digit_count len) digits (at / 4) 0)
+
+-- where one bit of rows that are seen is kept
+pub record HasPlace (len rows : ℕ) (digits : List ℕ) (row at : ℕ) : Type 0 where
+  pub row_within : row < rows
+  pub bit_within : at < len
+  pub digit_within : row * digit_count len + at / 4 < length digits
+
+pub seen_place : (len rows : ℕ) (digits : List ℕ) (log : List (List Bool)) (row at : ℕ) → length digits ≡ rows * digit_count len → kept_rows len rows digits ≡ log → row < length log → at < length (get_or log row []) → HasPlace len rows digits row at
+seen_place len rows digits log row at sized is within in_row =
+    let here : row < rows = omega (arith, within, ap length is, length-kept_rows len rows digits) in
+    let long : length (get_or (kept_rows len rows digits) row []) ≡ len = kept_rows-lengths len rows digits sized row [] (omega (arith, here, length-kept_rows len rows digits)) in
+    let bit : at < len = omega (arith, in_row, long, ap (λ log. length (get_or log row [])) is) in
+    record { row_within = here; bit_within = bit; digit_within = digit_of len rows digits row at sized here bit }
+
+pub kept_rows-size : (len rows : ℕ) (digits : List ℕ) → length digits ≡ rows * digit_count len → HasSize rows len (kept_rows len rows digits)
+kept_rows-size len rows digits sized = record {
+  rows = length-kept_rows len rows digits;
+  bits = kept_rows-lengths len rows digits sized;
+}

@@ -1,0 +1,4 @@
+pub mod KeptLemmas
+pub mod LineLemmas
+mod LawLemmas
+mod SampleTests

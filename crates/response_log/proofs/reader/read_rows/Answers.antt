@@ -1,0 +1,83 @@
+-- A line at a time.
+use Rattle.std.proofs.Common.{◌≡◌, ◌+◌, ◌≤◌, ◌++◌, length, ap, ◌∙◌, sym, rules, arith, Ok, Err}
+use Rattle.std.specs.Prelude.{option_copied}
+use Rattle.std.proofs.lemmas.Result.{err_from_is_err_and}
+use Rattle.text_lines.specs.Words.{words_of, lines_of}
+use Rattle.text_lines.proofs.LineLemmas.{at_some, next_place, line_within}
+use Rattle.bt_bits.specs.Digits.{digits_of}
+use Rattle.response_log.specs.declared.fault.LogFault.TheVariants.{Missing}
+use Rattle.response_log.specs.Kept.{kept_rows}
+use Rattle.response_log.specs.LogRows.{line_of}
+use Rattle.response_log.proofs.KeptLemmas.{length-kept_rows, kept_rows-more, length-more}
+use Rattle.response_log.proofs.LineLemmas.{rows_after, lines_left, left_blank, left_words, after_extra, after_fault, after_row, after_few, after_all, filled_line, fails_by}
+use Rattle.response_log.proofs.reader.read_rows.Goals as goal
+use Rattle.response_log.proofs.reader.read_rows.Goals.{in-Some-next_word+else-found-rows+in_ok-read_row+in_ok-extend_from_slice, in_default-next_word}
+
+pub overflow_cast-line_number : goal.overflow_cast-line_number
+overflow_cast-line_number c =
+    let filled = filled_line c.first_line.result.0.now c.in-Some-next_word.word.now (words_of c.in-Some-next_word.behind.now) c.in-Some-next_word.ensures in
+    let within = line_within (λ rest. rest.now) c.first_line.result.1 c.first_line.result.0.now c.in-Some.text.now c.first_line.ensures.shorter c.first_line.ensures.whole in
+    let place : c.loop-rest.number + length c.in-Some.text.now ≤ 1 + length c.args.bytes.now = at_some (λ text. c.loop-rest.number + length text.now ≤ 1 + length c.args.bytes.now) c.loop-rest.rest c.in-Some.text c.in-Some.is c.loop-rest.invariant.place in
+    omega (arith, filled, within, place, c.requires)
+
+pub returns-then-found-rows-clause-read : goal.returns-then-found-rows-clause-read
+returns-then-found-rows-clause-read c =
+    let log = kept_rows c.args.len c.loop-rest.found c.loop-rest.digits.items in
+    let line = left_words c.loop-rest.number (option_copied c.loop-rest.rest) c.in-Some.text.now c.first_line.result.0.now (lines_of (option_copied c.first_line.result.1)) c.in-Some-next_word.word.now c.in-Some-next_word.behind.now (ap option_copied c.in-Some.is) c.first_line.ensures.lines c.in-Some-next_word.ensures in
+    c.loop-rest.invariant.said ∙ ap (rows_after c.args.rows c.args.len log) line
+    ∙ after_extra c.args.rows c.args.len log (line_of c.loop-rest.number c.in-Some-next_word.word.now c.in-Some-next_word.behind.now) (lines_left (c.loop-rest.number + 1) (option_copied c.first_line.result.1)) (omega (arith, length-kept_rows c.args.len c.loop-rest.found c.loop-rest.digits.items, c.if-found-rows.true))
+
+pub returns-in_err-read_row-clause-read : goal.returns-in_err-read_row-clause-read
+returns-in_err-read_row-clause-read c =
+    let log = kept_rows c.args.len c.loop-rest.found c.loop-rest.digits.items in
+    let line = left_words c.loop-rest.number (option_copied c.loop-rest.rest) c.in-Some.text.now c.first_line.result.0.now (lines_of (option_copied c.first_line.result.1)) c.in-Some-next_word.word.now c.in-Some-next_word.behind.now (ap option_copied c.in-Some.is) c.first_line.ensures.lines c.in-Some-next_word.ensures in
+    let exit = err_from_is_err_and c.from_residual-in_err-read_row.result c.from_residual-in_err-read_row.ensures.1 in
+    rw (exit.1, exit.2) (fails_by _ _ (c.loop-rest.invariant.said ∙ ap (rows_after c.args.rows c.args.len log) line
+    ∙ after_fault c.args.rows c.args.len log (line_of c.loop-rest.number c.in-Some-next_word.word.now c.in-Some-next_word.behind.now) (lines_left (c.loop-rest.number + 1) (option_copied c.first_line.result.1)) _ (omega (arith, length-kept_rows c.args.len c.loop-rest.found c.loop-rest.digits.items, c.if-found-rows.false)) c.in_err-read_row.ensures.fault))
+
+pub loop-rest-preserved : goal.loop-rest-preserved
+loop-rest-preserved c =
+    let place = next_place (λ rest. rest.now) c.first_line.result.1 c.first_line.result.0.now c.in-Some.text.now c.loop-rest.number (length c.args.bytes.now) c.first_line.ensures.shorter (at_some (λ text. c.loop-rest.number + length text.now ≤ 1 + length c.args.bytes.now) c.loop-rest.rest c.in-Some.text c.in-Some.is c.loop-rest.invariant.place) in
+    let more = lines_of (option_copied c.first_line.result.1) in
+    let left = lines_left (c.loop-rest.number + 1) (option_copied c.first_line.result.1) in
+    let log = kept_rows c.args.len c.loop-rest.found c.loop-rest.digits.items in
+    elim c.match-next_word.branch [
+      | in-Some-next_word+else-found-rows+in_ok-read_row+in_ok-extend_from_slice w ↦
+          let line = left_words c.loop-rest.number (option_copied c.loop-rest.rest) c.in-Some.text.now c.first_line.result.0.now more w.in-Some-next_word.word.now w.in-Some-next_word.behind.now (ap option_copied c.in-Some.is) c.first_line.ensures.lines w.in-Some-next_word.ensures in
+          let bits = w.read_row.new.row.bits in
+          let appended : w.extend_from_slice.new.self.items ≡ c.loop-rest.digits.items ++ digits_of w.read_row.new.row.bits = w.in_ok-extend_from_slice.ensures.items ∙ ap (λ ds. c.loop-rest.digits.items ++ ds) w.digits.ensures in
+          rw (w.found-is, w.digits-is, w.row-is) (record {
+            said = c.loop-rest.invariant.said ∙ ap (rows_after c.args.rows c.args.len log) line
+                ∙ after_row c.args.rows c.args.len log (line_of c.loop-rest.number w.in-Some-next_word.word.now w.in-Some-next_word.behind.now) left bits
+                (omega (arith, length-kept_rows c.args.len c.loop-rest.found c.loop-rest.digits.items, w.if-found-rows.false)) w.in_ok-read_row.ensures.fault w.in_ok-read_row.ensures.bits
+                ∙ ap (λ log. rows_after c.args.rows c.args.len log left) (sym (kept_rows-more c.args.len c.loop-rest.found c.loop-rest.digits.items w.extend_from_slice.new.self.items bits appended c.loop-rest.invariant.count w.in_ok-read_row.ensures.len));
+            count = length-more c.args.len c.loop-rest.found c.loop-rest.digits.items w.extend_from_slice.new.self.items bits appended c.loop-rest.invariant.count w.in_ok-read_row.ensures.len;
+            few = omega (arith, w.if-found-rows.false);
+            room = w.read_row.ensures.room ∙ c.loop-rest.invariant.room;
+            place = place;
+          })
+      | in_default-next_word w ↦
+          let blank = left_blank c.loop-rest.number (option_copied c.loop-rest.rest) c.in-Some.text.now c.first_line.result.0.now more (ap option_copied c.in-Some.is) c.first_line.ensures.lines (search rules) in
+          rw (w.found-is, w.digits-is, w.row-is) (record {
+            said = c.loop-rest.invariant.said ∙ ap (rows_after c.args.rows c.args.len log) blank;
+            count = c.loop-rest.invariant.count;
+            few = c.loop-rest.invariant.few;
+            room = c.loop-rest.invariant.room;
+            place = place;
+          })
+    ]
+
+pub returns-then-found-rows-2-clause-read : goal.returns-then-found-rows-2-clause-read
+returns-then-found-rows-2-clause-read c =
+    let log = kept_rows c.args.len c.loop-rest.found c.loop-rest.digits.items in
+    let count = length-kept_rows c.args.len c.loop-rest.found c.loop-rest.digits.items in
+    c.loop-rest.invariant.said ∙ ap (λ left. rows_after c.args.rows c.args.len log (lines_left c.loop-rest.number (option_copied left))) c.in_default.is
+    ∙ after_few c.args.rows c.args.len log (omega (arith, count, c.if-found-rows-2.true)) ∙ ap (λ n. Err (Missing n)) count
+
+pub returns-clause-read : goal.returns-clause-read
+returns-clause-read c =
+    let log = kept_rows c.args.len c.loop-rest.found c.loop-rest.digits.items in
+    let count = length-kept_rows c.args.len c.loop-rest.found c.loop-rest.digits.items in
+    let same : c.loop-rest.found ≡ c.args.rows = omega (arith, c.loop-rest.invariant.few, c.if-found-rows-2.false) in
+    c.loop-rest.invariant.said ∙ ap (λ left. rows_after c.args.rows c.args.len log (lines_left c.loop-rest.number (option_copied left))) c.in_default.is
+    ∙ after_all c.args.rows c.args.len log (omega (arith, count, c.if-found-rows-2.false)) ∙ ap (λ n. Ok (kept_rows c.args.len n c.loop-rest.digits.items)) same

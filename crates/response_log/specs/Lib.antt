@@ -1,0 +1,2 @@
+pub mod LogRows
+pub mod Kept

@@ -1,0 +1,107 @@
+-- The rows of a response log.
+use Rattle.std.specs.Prelude.{◌≡◌, ℕ, ◌+◌, ◌==◌, Bool, true, false, List, [], ◌∷◌, ◌++◌, length, take, drop, map, filter, filter_map, Option, Some, None, is_some, option_and_then, Result, Ok, Err, nat_lt, slice_get, All, if◌then◌else◌}
+use Rattle.std.specs.List.{slice_split}
+use Rattle.bt_bits.specs.Hex.{digit_count, field_bits}
+use Rattle.text_lines.specs.Words.{Word, is_newline, words_of}
+use Rattle.response_log.specs.declared.fault.LogFault.{LogFault}
+use Rattle.response_log.specs.declared.fault.LogFault.TheVariants.{Digit, Length, Missing, Extra, Memory}
+
+-- a line with its number and its words
+pub record NumberedLine : Type 0 where
+  pub number : ℕ
+  pub words : List Word
+
+-- the line of this number that has a first word, with what stands behind it
+abbrev pub line_of : ℕ → Word → List ℕ → NumberedLine
+line_of n word behind = record { number = n; words = word ∷ words_of behind }
+
+-- lines one after the other, of which the first has this number
+abbrev pub numbered : ℕ → List (List ℕ) → List NumberedLine
+numbered n [] = []
+numbered n (line ∷ lines) = record { number = n; words = words_of line } ∷ numbered (n + 1) lines
+
+abbrev pub holds_word : List Word → Bool
+holds_word [] = false
+holds_word (word ∷ words) = true
+
+abbrev pub has_words : NumberedLine → Bool
+has_words line = holds_word line.words
+
+-- the lines of a text that have words. Lines are numbered from 1, and every line counts
+abbrev pub row_lines : List ℕ → List NumberedLine
+row_lines text = filter has_words (numbered 1 (slice_split is_newline text))
+
+-- the word of a line that has one word
+abbrev pub only_word : List Word → Option Word
+only_word [] = None
+only_word (word ∷ []) = Some word
+only_word (word ∷ other ∷ words) = None
+
+-- the bits of a line that is a row: one word, the hexadecimal field of so many bits
+abbrev pub bits_of_line : ℕ → NumberedLine → Option (List Bool)
+bits_of_line len line = option_and_then (field_bits len) (only_word line.words)
+
+abbrev pub word_fault : ℕ → ℕ → Option Word → Option LogFault
+word_fault len n None = Some (Length n)
+word_fault len n (Some word) =
+    if length word == digit_count len then (if is_some (field_bits len word) then None else Some (Digit n)) else Some (Length n)
+
+-- how a line offends where a row of so many bits is wanted, if it does: it is not one word of as many digits as the bits need, or else a
+-- byte is no digit or a bit above them is 1
+abbrev pub row_fault : ℕ → NumberedLine → Option LogFault
+row_fault len line = word_fault len line.number (only_word line.words)
+
+-- the offences of lines, in their order, where so many rows are wanted: of the first lines, those that are no rows; of the later lines,
+-- each, whatever it holds
+abbrev pub offences : ℕ → ℕ → List NumberedLine → List LogFault
+offences rows len lines = filter_map (row_fault len) (take rows lines) ++ map (λ line. Extra line.number) (drop rows lines)
+
+abbrev pub Answer : Type 0
+Answer = Result (List (List Bool)) LogFault
+
+-- the rows of lines that do not offend, or that there are fewer than are wanted
+abbrev pub wanted_rows : ℕ → ℕ → List NumberedLine → Answer
+wanted_rows rows len lines = if nat_lt (length lines) rows then Err (Missing (length lines)) else Ok (filter_map (bits_of_line len) lines)
+
+abbrev pub first_or : Answer → List LogFault → Answer
+first_or answer [] = answer
+first_or answer (fault ∷ faults) = Err fault
+
+-- the rows of lines, or their first offence
+abbrev pub rows_of_lines : ℕ → ℕ → List NumberedLine → Answer
+rows_of_lines rows len lines = first_or (wanted_rows rows len lines) (offences rows len lines)
+
+-- the rows of a text, of which so many are wanted with so many bits each, or why it is no such log
+abbrev pub log_rows : List ℕ → ℕ → ℕ → Answer
+log_rows text rows len = rows_of_lines rows len (row_lines text)
+
+-- the log that a text holds: each line with words is a row, and there are as many rows as are wanted
+pub record IsLogOf (text : List ℕ) (rows len : ℕ) (log : List (List Bool)) : Type 0 where
+  pub lines : map (bits_of_line len) (row_lines text) ≡ map Some log
+  pub count : length log ≡ rows
+
+-- an answer is what the text says, unless memory ran out
+abbrev pub Fails : LogFault → Answer → Type 0
+Fails (Digit n) said = said ≡ Err (Digit n)
+Fails (Length n) said = said ≡ Err (Length n)
+Fails (Missing found) said = said ≡ Err (Missing found)
+Fails (Extra n) said = said ≡ Err (Extra n)
+Fails (Memory e) said = Unit {0}
+
+abbrev pub Gives : Answer → Answer → Type 0
+Gives (Ok log) said = said ≡ Ok log
+Gives (Err fault) said = Fails fault said
+
+-- the same of a value that is seen by a view
+abbrev pub GivesBy : {V : Type 0} → (V → List (List Bool)) → Result V LogFault → Answer → Type 0
+GivesBy view (Ok value) said = said ≡ Ok (view value)
+GivesBy view (Err fault) said = Fails fault said
+
+-- a log of so many rows with so many bits each
+pub record HasSize (count len : ℕ) (log : List (List Bool)) : Type 0 where
+  pub rows : length log ≡ count
+  pub bits : All (λ row. length row ≡ len) log
+
+-- one bit of a log
+abbrev pub log_bit : List (List Bool) → ℕ → ℕ → Option Bool
+log_bit log row at = option_and_then (λ bits. slice_get bits at) (slice_get log row)

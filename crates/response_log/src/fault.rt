@@ -1,0 +1,33 @@
+// Why a text is no log.
+ghost use Rattle.std.specs.Prelude.{◌≡◌};
+ghost use Rattle.response_log.specs.declared.fault.LogFault.TheVariants.{Memory};
+
+use std::alloc::AllocError;
+use thiserror::Error;
+
+/// The first line that offends, or that there are too few rows, or want of memory. Lines are numbered from 1.
+#[derive(Debug, Drop, Error)]
+pub enum LogFault {
+    /// A byte of the row is no hexadecimal digit, or a bit above the row's bits is 1.
+    #[error("line {0}: digit not allowed")]
+    Digit(u32),
+    /// The row has more or fewer digits than its bits need, or the line has several words.
+    #[error("line {0}: wrong length")]
+    Length(u32),
+    /// No line offends, but there are only so many rows.
+    #[error("only {0} rows")]
+    Missing(u64),
+    /// The line of the first row too many, whatever that row holds.
+    #[error("line {0}: row too many")]
+    Extra(u32),
+    #[error("out of memory")]
+    Memory(AllocError),
+}
+
+impl From<AllocError> for LogFault {
+    ghost from_gives = { λ e fault. fault ≡ Memory e };
+
+    fn from(e: AllocError) -> LogFault {
+        LogFault::Memory(e)
+    }
+}

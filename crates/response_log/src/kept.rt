@@ -1,0 +1,75 @@
+// A log in memory.
+ghost use Rattle.std.specs.Prelude.{◌≡◌, ◌*◌, ◌<◌, [], length, slice_index_or, All, Some};
+ghost use Rattle.bt_bits.specs.Hex.{digit_count};
+ghost use Rattle.response_log.specs.Kept.{kept_rows};
+ghost use Rattle.response_log.specs.LogRows.{log_bit};
+
+use bt_bits::digit_bit;
+use std::marker::Model;
+
+// How many hexadecimal digits a row of so many bits has.
+#[inline]
+pub(crate) fn digit_count(len: u32) -> usize
+    ensures { result ≡ digit_count len }
+{
+    (len as usize + 3) / 4
+}
+
+/// A response log, seen as the list of its rows. Each row is the list of its bits, the one that left the chain first
+/// at place 0.
+#[derive(Drop)]
+pub struct Log {
+    // The values of the digits of each row, the lowest first, one row after the other.
+    digits: Vec<u8>,
+    rows: u64,
+    len: u32,
+}
+
+impl Model for Log {
+    ghost use Rattle.std.specs.Prelude.{◌≡◌, ◌*◌, List, Bool, length};
+    ghost use Rattle.bt_bits.specs.Hex.{digit_count};
+    ghost use Rattle.response_log.specs.Kept.{kept_rows};
+
+    ghost Value = { List (List Bool) };
+
+    ghost view = { λ a. kept_rows a.len a.rows a.digits.items };
+
+    ghost invariant = { λ a. length a.digits.items ≡ a.rows * digit_count a.len };
+}
+
+impl Log {
+    // The log of so many rows of `len` bits each, whose digits are these.
+    pub(crate) fn of(digits: Vec<u8>, rows: u64, len: u32) -> Log
+        requires { length digits.items ≡ rows * digit_count len }
+        ensures { result ≡ kept_rows len rows digits.items }
+    {
+        Log { digits, rows, len }
+    }
+
+    /// How many rows the log has.
+    #[inline]
+    pub fn rows(&self) -> u64
+        ensures { result ≡ length self.now }
+    {
+        self.rows
+    }
+
+    /// How many bits each row has.
+    #[inline]
+    pub fn len(&self) -> u32
+        ensures { All (λ bits. length bits ≡ result) self.now }
+    {
+        self.len
+    }
+
+    /// Bit `at` of a row, the one that left the chain first at 0.
+    #[inline]
+    pub fn bit(&self, row: u64, at: u32) -> bool
+        requires row { row < length self.now }
+        requires bit { at < length (slice_index_or self.now row []) }
+        ensures { log_bit self.now row at ≡ Some result }
+    {
+        let first = row as usize * digit_count(self.len);
+        digit_bit(self.digits[first + (at / 4) as usize], at % 4)
+    }
+}

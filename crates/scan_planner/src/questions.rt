@@ -1,0 +1,82 @@
+// What a plan says of each net and of each position.
+ghost use Rattle.std.specs.Prelude.{◌≡◌, ◌<◌, ◌≤◌, [], false, length, slice_index_or};
+
+use crate::nets::NetDriver;
+use crate::plan::Plan;
+use crate::tables::ReaderCell;
+use board_defs::{Items, Setting};
+
+fn drivers_at(rows: &[Items<NetDriver>], net: usize) -> &[NetDriver]
+    ensures { result.now ≡ slice_index_or rows.now net [] }
+{
+    match rows.get(net) {
+        None => &[],
+        Some(row) => row.as_slice(),
+    }
+}
+
+fn readers_at(rows: &[Items<ReaderCell>], net: usize) -> &[ReaderCell]
+    ensures { result.now ≡ slice_index_or rows.now net [] }
+{
+    match rows.get(net) {
+        None => &[],
+        Some(row) => row.as_slice(),
+    }
+}
+
+fn pass_at(passes: &[Setting], x: usize) -> &Setting
+    requires { x < length passes.now }
+    ensures { result.now ≡ slice_index_or passes.now x [] }
+{
+    &passes[x]
+}
+
+impl Plan {
+    /// The number of passes.
+    pub fn pass_count(&self) -> u32
+        ensures { result ≡ length self.now.passes }
+    {
+        self.tables.passes.len() as u32
+    }
+
+    /// Pass `x`, counted from 0, which is below the number of passes.
+    pub fn pass(&self, x: u32) -> &Setting
+        requires { x < length self.now.passes }
+        ensures { result.now ≡ slice_index_or self.now.passes x [] }
+    {
+        pass_at(self.tables.passes.as_slice(), x as usize)
+    }
+
+    /// The number of rows of each pass, which is the number of bits of the codes.
+    pub fn width(&self) -> u32
+        ensures width { result ≡ self.now.width }
+        ensures few { result ≤ 14 }
+    {
+        self.tables.width
+    }
+
+    /// The drivers of a net that may be enabled, in pin order; none for a number that no net has.
+    pub fn drivers(&self, net: u32) -> &[NetDriver]
+        ensures { result.now ≡ slice_index_or self.now.drivers net [] }
+    {
+        drivers_at(self.tables.drivers.as_slice(), net as usize)
+    }
+
+    /// The cells that read a net, in pin order; none for a number that no net has. While a pass observes the net, those at other
+    /// places than the driver's are compared.
+    pub fn readers(&self, net: u32) -> &[ReaderCell]
+        ensures { result.now ≡ slice_index_or self.now.readers net [] }
+    {
+        readers_at(self.tables.readers.as_slice(), net as usize)
+    }
+
+    /// The bit at a position of the quiet row, and 0 past its end.
+    pub fn quiet(&self, position: u32) -> bool
+        ensures { result ≡ slice_index_or self.now.quiet position false }
+    {
+        match self.tables.quiet.as_slice().get(position as usize) {
+            None => false,
+            Some(bit) => *bit,
+        }
+    }
+}

@@ -1,0 +1,122 @@
+-- Cutting a text into lines, and a line into words.
+use Rattle.std.proofs.Common.{◌≡◌, ℕ, ◌+◌, ◌<◌, ◌≤◌, Bool, true, false, cond, List, [], ◌∷◌, length, Option, Some, None, refl, ap, ◌∙◌, arith, not, nat_lt, map, subst, take, suc}
+use Rattle.std.specs.Prelude.{IfSome, IfNone, option_map, filter, take_while, ◌==◌}
+use Rattle.std.proofs.lemmas.Grind.{common_steps}
+use Rattle.std.proofs.lemmas.List.Sums.{prefix_len-le-length, take_while-cons}
+use Rattle.std.specs.List.{slice_split, position, position_or_len, onto_first, before_first}
+use Rattle.text_lines.specs.Words.{words_of, is_blank, is_filled, begins_no_comment, begins_blank, begins_word}
+use Rattle.std.proofs.lemmas.List.Splits.{slice_split-cons_yes, slice_split-cons_no}
+use Rattle.std.proofs.lemmas.Bool.{false≢true}
+
+none_at : (a b : ℕ) → a ≤ b → cond (nat_lt a b) (Some a) None ≡ None → a ≡ b
+none_at a b h e = grind (arith, common_steps)
+
+-- a byte that has no place passes nowhere
+pub no_place : (p : ℕ → Bool) (xs : List ℕ) → position p xs ≡ None → position_or_len p xs ≡ length xs
+no_place p xs e = none_at (position_or_len p xs) (length xs) (prefix_len-le-length (λ x. not (p x)) xs) e
+
+whole : (p : ℕ → Bool) (x : ℕ) (xs : List ℕ) (b : Bool) → cond (not b) (1 + position_or_len p xs) 0 ≡ 1 + length xs → (position_or_len p xs ≡ length xs → slice_split p xs ≡ xs ∷ []) → cond b ([] ∷ slice_split p xs) (onto_first x (slice_split p xs)) ≡ (x ∷ xs) ∷ []
+whole p x xs true e ih = absurd (omega arith)
+whole p x xs false e ih = let same : position_or_len p xs ≡ length xs = omega arith in ap (onto_first x) (ih same)
+
+-- where no element passes, the list is the one part
+pub split_whole : (p : ℕ → Bool) (xs : List ℕ) → position_or_len p xs ≡ length xs → slice_split p xs ≡ xs ∷ []
+split_whole p [] h = refl
+split_whole p (x ∷ xs) h = whole p x xs (p x) (h ∙ omega arith) (split_whole p xs)
+
+-- a line without bytes has no words
+pub words_of_empty : (line : List ℕ) → length line ≡ 0 → words_of line ≡ []
+unfolding words_of
+words_of_empty [] h = refl
+words_of_empty (b ∷ bs) h = absurd (omega arith)
+
+-- the text that is left, as a measure
+abbrev pub text_left : Option (List ℕ) → ℕ
+text_left None = 0
+text_left (Some text) = 1 + length text
+
+no_words : {A : Type 0} (view : A → List ℕ) (words : List A) → map view words ≡ words_of [] → 0 < length words → ⊥
+unfolding words_of
+no_words view [] e h = omega arith
+no_words view (w ∷ ws) e h = cc e
+
+-- a line with words has bytes
+pub has_bytes : {A : Type 0} (view : A → List ℕ) (words : List A) (line : List ℕ) → map view words ≡ words_of line → 0 < length words → 0 < length line
+has_bytes view words [] e h = absurd (no_words view words e h)
+has_bytes view words (b ∷ bs) e h = omega arith
+
+pub at_some : {A : Type 0} (P : A → Type 0) (o : Option A) (x : A) → o ≡ Some x → IfSome o P → P x
+at_some P o x e h = subst (λ v. IfSome v P) e h
+
+-- the line after has its number too
+pub next_place : {A : Type 0} (view : A → List ℕ) (r : Option A) (line text : List ℕ) (n b : ℕ) → IfSome r (λ rest. length line + length (view rest) + 1 ≡ length text) → n + length text ≤ 1 + b → IfSome r (λ rest. n + 1 + length (view rest) ≤ 1 + b)
+next_place view None line text n b h place = tt
+next_place view (Some rest) line text n b h place = omega arith
+
+pub line_within : {A : Type 0} (view : A → List ℕ) (r : Option A) (line text : List ℕ) → IfSome r (λ rest. length line + length (view rest) + 1 ≡ length text) → IfNone r (length line ≡ length text) → length line ≤ length text
+line_within view None line text h whole = omega arith
+line_within view (Some rest) line text h whole = omega arith
+
+-- the bytes that are left
+abbrev pub bytes_left : Option (List ℕ) → ℕ
+bytes_left None = 0
+bytes_left (Some text) = length text
+
+-- a line that counts has bytes, so no more lines count than bytes were read
+pub count_at : (left : Option (List ℕ)) (text : List ℕ) (count b : ℕ) → left ≡ Some text → count + bytes_left left ≤ b → count + length text ≤ b
+count_at left text count b is within = subst (λ (o : Option (List ℕ)). count + bytes_left o ≤ b) is within
+
+pub count_more : {A : Type 0} (view : A → List ℕ) (r : Option A) (line text : List ℕ) (count b : ℕ) → IfSome r (λ rest. length line + length (view rest) + 1 ≡ length text) → IfNone r (length line ≡ length text)
+    → 0 < length line → count + length text ≤ b → count + 1 + bytes_left (option_map view r) ≤ b
+count_more view None line text count b shorter whole filled within = omega arith
+count_more view (Some rest) line text count b shorter whole filled within = omega arith
+
+pub count_same : {A : Type 0} (view : A → List ℕ) (r : Option A) (line text : List ℕ) (count b : ℕ) → IfSome r (λ rest. length line + length (view rest) + 1 ≡ length text) → count + length text ≤ b → count + bytes_left (option_map view r) ≤ b
+count_same view None line text count b shorter within = omega arith
+count_same view (Some rest) line text count b shorter within = omega arith
+
+-- a blank before a line changes none of its words
+pub words_of-blank : (b : ℕ) (bs : List ℕ) → is_blank b ≡ true → words_of (b ∷ bs) ≡ words_of bs
+unfolding words_of
+words_of-blank b bs blank =
+    ap (λ pieces. take_while begins_no_comment (filter is_filled pieces)) (slice_split-cons_yes is_blank b bs blank)
+
+taken_first : (b : ℕ) (bs : List ℕ) (pieces : List (List ℕ)) → not (b == 35) ≡ true → take_while begins_no_comment ((b ∷ bs) ∷ pieces) ≡ (b ∷ bs) ∷ take_while begins_no_comment pieces
+taken_first b bs pieces word =
+    take_while-cons begins_no_comment (b ∷ bs) pieces ∙ ap (λ t. cond t ((b ∷ bs) ∷ take_while begins_no_comment pieces) []) word
+
+-- a word, and what stands behind it
+pub words_of-cons : (line before behind : List ℕ) → slice_split is_blank line ≡ before ∷ slice_split is_blank behind → begins_word before ≡ true → words_of line ≡ before ∷ words_of behind
+unfolding words_of
+words_of-cons line [] behind split word = absurd (false≢true word)
+words_of-cons line (b ∷ bs) behind split word =
+    ap (λ pieces. take_while begins_no_comment (filter is_filled pieces)) split
+    ∙ taken_first b bs (filter is_filled (slice_split is_blank behind)) word
+
+-- the part before the first blank begins as the text does
+pub begins_word-before : (text : List ℕ) → begins_blank text ≡ false → begins_word text ≡ true → begins_word (before_first is_blank text) ≡ true
+begins_word-before [] blank word = absurd (false≢true word)
+begins_word-before (b ∷ bs) blank word =
+    let more : 1 + position_or_len is_blank bs ≡ suc (position_or_len is_blank bs) = omega arith in
+    ap (λ t. begins_word (take (cond (not t) (1 + position_or_len is_blank bs) 0) (b ∷ bs))) blank
+    ∙ ap (λ n. begins_word (take n (b ∷ bs))) more ∙ word
+
+comment_first : (b : ℕ) (pieces : List (List ℕ)) → not (b == 35) ≡ false → take_while begins_no_comment (filter is_filled (onto_first b pieces)) ≡ []
+comment_first b [] comment =
+    take_while-cons begins_no_comment (b ∷ []) [] ∙ ap (λ t. cond t ((b ∷ []) ∷ take_while begins_no_comment []) []) comment
+comment_first b (piece ∷ pieces) comment =
+    take_while-cons begins_no_comment (b ∷ piece) (filter is_filled pieces) ∙ ap (λ t. cond t ((b ∷ piece) ∷ take_while begins_no_comment (filter is_filled pieces)) []) comment
+
+-- a comment has no words
+pub words_of-comment : (text : List ℕ) → begins_blank text ≡ false → begins_word text ≡ false → words_of text ≡ []
+unfolding words_of
+words_of-comment [] blank word = refl
+words_of-comment (b ∷ bs) blank word =
+    ap (λ pieces. take_while begins_no_comment (filter is_filled pieces)) (slice_split-cons_no is_blank b bs blank) ∙ comment_first b (slice_split is_blank bs) word
+
+-- a text that is a word
+pub words_of-whole : (text : List ℕ) → position_or_len is_blank text ≡ length text → begins_word text ≡ true → words_of text ≡ text ∷ words_of []
+unfolding words_of
+words_of-whole [] whole word = absurd (false≢true word)
+words_of-whole (b ∷ bs) whole word =
+    ap (λ pieces. take_while begins_no_comment (filter is_filled pieces)) (split_whole is_blank (b ∷ bs) whole) ∙ taken_first b bs [] word

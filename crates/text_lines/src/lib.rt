@@ -1,0 +1,150 @@
+//! The lines of a text and the words of a line.
+//!
+//! A text is cut into lines at byte 10. Words are separated by carriage returns, tabs and spaces, and one that begins
+//! with `#` begins a comment to the end of its line.
+#![tactic(auto)]
+
+ghost use Rattle.std.specs.Prelude.{◌≡◌, ◌==◌, [], ◌∷◌, true, false, MatchOption, map, IfOk, IfSome, IfNone, option_map, option_copied, length, ◌+◌};
+ghost use Rattle.std.specs.List.{slice_split, list_all, position};
+ghost use Rattle.std.specs.Char.{is_ascii_graphic};
+ghost use Rattle.text_lines.specs.Words.{words_of, is_newline, is_blank, is_word, is_filled, begins_no_comment, begins_blank, begins_word, lines_of, IsCut};
+
+use std::alloc::{AllocError, Global};
+
+/// Whether the byte is a carriage return, a tab or a space.
+pub fn is_blank(b: u8) -> bool
+    ensures { result ≡ is_blank b }
+{
+    b == b'\r' || b == b'\t' || b == b' '
+}
+
+/// Whether the word has a byte.
+pub fn is_filled(word: &[u8]) -> bool
+    ensures { result ≡ is_filled word.now }
+{
+    !word.is_empty()
+}
+
+/// Whether the word begins no comment.
+pub fn begins_no_comment(word: &[u8]) -> bool
+    ensures { result ≡ begins_no_comment word.now }
+{
+    match word {
+        [] => true,
+        [b, ..] => *b != b'#',
+    }
+}
+
+/// The words of a line, up to a comment.
+#[tactic(auto, unfolding(crate::specs::Words::words_of))]
+pub fn words(alloc: Global, line: &[u8]) -> Result<Vec<&[u8]>, AllocError>
+    ensures { IfOk result (λ words. map (λ w. w.now) words.items ≡ words_of line.now) }
+{
+    line.split(|b| is_blank(*b))
+        .filter(|word| is_filled(word))
+        .take_while(|word| begins_no_comment(word))
+        .collect(alloc)
+}
+
+fn is_graphic(word: &[u8]) -> bool
+    ensures { result ≡ list_all is_ascii_graphic word.now }
+{
+    word.iter().all(|b| b.is_ascii_graphic())
+}
+
+/// The word rule: 1 to 255 bytes, each from 33 to 126.
+pub fn is_word(word: &[u8]) -> bool
+    ensures { result ≡ is_word word.now }
+{
+    is_filled(word) && word.len() <= 255 && is_graphic(word)
+}
+
+fn place_of(text: &[u8], byte: u8) -> Option<usize>
+    ensures { result ≡ position (λ b. b == byte) text.now }
+{
+    text.iter().position(|b| *b == byte)
+}
+
+/// What stands before and behind the first such byte.
+pub fn cut_at(text: &[u8], byte: u8) -> Option<(&[u8], &[u8])>
+    ensures { IsCut (λ b. b == byte) text.now (option_map (λ cut. (cut.0.now, cut.1.now)) result) }
+{
+    match place_of(text, byte) {
+        Some(i) => Some((&text[..i], &text[i + 1..])),
+        None => None,
+    }
+}
+
+/// The first line, and the text behind it, where a line follows.
+pub fn first_line(text: &[u8]) -> (&[u8], Option<&[u8]>)
+    ensures lines { slice_split is_newline text.now ≡ result.0.now ∷ lines_of (option_copied result.1) }
+    ensures shorter { IfSome result.1 (λ rest. length result.0.now + length rest.now + 1 ≡ length text.now) }
+    ensures whole { IfNone result.1 (length result.0.now ≡ length text.now) }
+{
+    match cut_at(text, b'\n') {
+        Some((line, rest)) => (line, Some(rest)),
+        None => (text, None),
+    }
+}
+
+// The line from its first byte on that is no blank.
+fn behind_blanks(line: &[u8]) -> &[u8]
+    ensures words { words_of result.now ≡ words_of line.now }
+    ensures first { begins_blank result.now ≡ false }
+{
+    for (i, b) in line.iter().enumerate() {
+        if !is_blank(*b) {
+            return &line[i..];
+        }
+    }
+    &line[line.len()..]
+}
+
+fn begins_word(line: &[u8]) -> bool
+    ensures { result ≡ begins_word line.now }
+{
+    is_filled(line) && begins_no_comment(line)
+}
+
+fn blank_place(text: &[u8]) -> Option<usize>
+    ensures { result ≡ position is_blank text.now }
+{
+    text.iter().position(|b| is_blank(*b))
+}
+
+// What stands before and behind the first blank.
+fn cut_at_blank(text: &[u8]) -> Option<(&[u8], &[u8])>
+    ensures { IsCut is_blank text.now (option_map (λ cut. (cut.0.now, cut.1.now)) result) }
+{
+    match blank_place(text) {
+        Some(i) => Some((&text[..i], &text[i + 1..])),
+        None => None,
+    }
+}
+
+// The word that the text begins with, and what stands behind it.
+fn cut_word(text: &[u8]) -> (&[u8], &[u8])
+    requires first { begins_blank text.now ≡ false }
+    requires word { begins_word text.now ≡ true }
+    ensures { words_of text.now ≡ result.0.now ∷ words_of result.1.now }
+{
+    match cut_at_blank(text) {
+        Some(cut) => cut,
+        None => (text, &text[text.len()..]),
+    }
+}
+
+/// The first word of a line and the text behind it, or nothing where the line has no word.
+pub fn next_word(line: &[u8]) -> Option<(&[u8], &[u8])>
+    ensures { MatchOption result (words_of line.now ≡ []) (λ cut. words_of line.now ≡ cut.0.now ∷ words_of cut.1.now) }
+{
+    let text = behind_blanks(line);
+    if begins_word(text) {
+        Some(cut_word(text))
+    } else {
+        None
+    }
+}
+
+#[cfg(test)]
+mod tests;

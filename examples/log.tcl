@@ -1,0 +1,58 @@
+# Plays the test of a board with OpenOCD and writes its response log.
+#
+#   openocd -f CABLE.cfg -c {set CHAIN chain.svf; set SVF board.svf; set LOG board.log} -f log.tcl
+#
+# CABLE.cfg has the adapter with its speed; it declares no TAP. The two SVF texts are those of `btest chain` and `btest svf`. A
+# chain that isn't sound is found first, before any pin is driven. In the test OpenOCD goes on where a comparison fails, and
+# prints the bits that came back; where it prints none, the compared bits are the expected ones. Each makes one row of the log.
+
+# The bits of a field as a row of so many bits.
+proc row_of {size field} {
+    set digits [expr {($size + 3) / 4}]
+    regsub -all {[^0-9A-F]} [string toupper $field] "" field
+    string range [string repeat 0 $digits]$field end-[expr {$digits - 1}] end
+}
+
+# The compared statements of an SVF text, each as its kind, its length, its expected row, and its last line.
+proc compared {text} {
+    set found {}
+    set line 1
+    foreach statement [split $text ";"] {
+        incr line [regexp -all "\n" $statement]
+        if {[regexp {(SIR|SDR) +([0-9]+).*TDO +\(([^)]*)\)} $statement -> kind size expected]} {
+            lappend found [list $kind $size [row_of $size $expected] $line]
+        }
+    }
+    return $found
+}
+
+proc stop {why} {
+    echo "$why; there is no log"
+    shutdown error
+}
+
+proc jtag_init {} {}   ;# the first text tests the chain; nothing else moves it
+init
+if {[catch {svf -quiet $CHAIN}]} { stop "$CHAIN failed, so the scan chain isn't sound" }
+if {[catch {capture {svf -quiet -ignore_error $SVF}} played]} { stop "$SVF was not played" }
+foreach {all line read} [regexp -all -inline {check error at line ([0-9]+)[^=]*READ = 0x([0-9a-f]+)} $played] {
+    set came_back($line) $read
+}
+
+set file [open $SVF]
+set statements [compared [read $file]]
+close $file
+set file [open $LOG w]
+set failed 0
+foreach statement $statements {
+    lassign $statement kind size row line
+    if {[info exists came_back($line)]} {
+        incr failed
+        if {$kind eq "SIR"} { stop "$SVF line $line failed, so the scan chain isn't sound" }
+        set row [row_of $size $came_back($line)]
+    }
+    if {$kind eq "SDR"} { puts $file $row }
+}
+close $file
+echo "$LOG is written; comparisons that failed: $failed"
+shutdown

@@ -1,0 +1,23 @@
+# What the scripts share. They are run at the top of the repository.
+PROGRAM=crates/btest/out/btest
+
+# Whether the proved program is there and no source is newer.
+is_current() {
+    [ -x "$PROGRAM" ] && [ -z "$(find crates crates.txt \( -name '*.rt' -o -name '*.antt' -o -name crates.txt \) -newer "$PROGRAM" -print -quit)" ]
+}
+
+need_rt() {
+    command -v rt >/dev/null && return
+    echo 'The command rt is missing. It comes with the Rattle kit (compiler, prover and LLVM in one folder): unpack the kit' >&2
+    echo "and put its bin folder on the PATH. README.md names the kit's version." >&2
+    exit 1
+}
+
+# How many crates to prove side by side: one for each processor, and no more than memory allows, at 4 GB each.
+jobs() {
+    local processors memory
+    processors=$(nproc)
+    memory=$(awk '/MemAvailable/ { print int($2 / 4194304) }' /proc/meminfo)
+    [ "$memory" -ge 1 ] || memory=1
+    echo $((processors < memory ? processors : memory))
+}
