@@ -1,7 +1,7 @@
 // The chain test of parts that are known by their length.
 use crate::devices::DRV;
 use crate::runs::{Bench, HEAD, TAIL};
-use bt_base::MemSink;
+use bt_base::{MemSink, OpenGate};
 use btest_cli::Status;
 use std::test::Fail;
 
@@ -202,7 +202,7 @@ fn words_that_are_no_command_fetch_nothing(rt: HostRuntime) -> Result<(), Fail> 
     }
     let mut bench = Bench::with_texts(alloc, &[])?;
     let words = Vec::new(alloc);
-    assert_eq!(rt; bench.run_words(&rt, &words), Status::Usage);
+    assert_eq!(rt; bench.run_words(&rt, &words, &OpenGate), Status::Usage);
     assert_eq!(rt; bench.notes.bytes(), usage);
     Ok(())
 }

@@ -14,6 +14,8 @@ mod devices;
 #[cfg(test)]
 mod diagnose;
 #[cfg(test)]
+mod gates;
+#[cfg(test)]
 mod generated;
 #[cfg(test)]
 mod ident;

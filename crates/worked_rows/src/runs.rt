@@ -1,6 +1,6 @@
 // One run on texts and sinks in memory, and what it left.
 use crate::devices::{BI, BUF2, DRV, DRV1, FOUR, OCT, OD, RCV, RCV1, TS, TWO};
-use bt_base::{MemSink, MemStore, OpenGate};
+use bt_base::{Gate, MemSink, MemStore, OpenGate};
 use btest_cli::{Status, run};
 use std::alloc::{AllocError, Global};
 use std::thread::Threads;
@@ -67,15 +67,30 @@ impl Bench {
 
     /// Runs a command line, whose words are separated by spaces.
     pub fn run(&mut self, rt: &(impl Threads + Sync), line: &str) -> Result<Status, AllocError> {
+        self.run_watched(rt, line, &OpenGate)
+    }
+
+    /// Runs a command line whose pieces of work enter this gate.
+    pub fn run_watched(
+        &mut self,
+        rt: &(impl Threads + Sync),
+        line: &str,
+        gate: &impl Gate,
+    ) -> Result<Status, AllocError> {
         let mut words = Vec::new(self.alloc);
         for word in line.split(' ') {
             words.push(String::from_str(self.alloc, word)?)?;
         }
-        Ok(self.run_words(rt, &words))
+        Ok(self.run_words(rt, &words, gate))
     }
 
     /// Runs the words of a command line.
-    pub fn run_words(&mut self, rt: &(impl Threads + Sync), words: &[String]) -> Status {
+    pub fn run_words(
+        &mut self,
+        rt: &(impl Threads + Sync),
+        words: &[String],
+        gate: &impl Gate,
+    ) -> Status {
         run(
             rt,
             self.alloc,
@@ -83,7 +98,7 @@ impl Bench {
             &mut self.store,
             &mut self.out,
             &mut self.notes,
-            &OpenGate,
+            gate,
         )
     }
 }
