@@ -4,4 +4,3 @@ pub mod ReadingLemmas
 pub mod RunLemmas
 pub mod TestLemmas
 pub mod SummaryLemmas
-pub mod VerdictLemmas

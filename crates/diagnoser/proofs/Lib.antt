@@ -3,4 +3,3 @@ mod FaultLemmas
 mod LawLemmas
 mod PutLemmas
 mod CutLemmas
-mod Samples

@@ -11,4 +11,3 @@ pub mod DifferLemmas
 pub mod OrderLemmas
 pub mod ExplainLemmas
 pub mod DiagnosisLemmas
-mod Samples

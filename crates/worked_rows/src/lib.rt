@@ -2,8 +2,6 @@
 #![tactic(auto)]
 
 #[cfg(test)]
-mod batch;
-#[cfg(test)]
 mod boards;
 #[cfg(test)]
 mod chain;
@@ -27,7 +25,3 @@ mod make;
 mod runs;
 #[cfg(test)]
 mod svf;
-#[cfg(test)]
-mod walk;
-#[cfg(test)]
-mod wide;
