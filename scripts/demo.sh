@@ -15,6 +15,9 @@ commands=(
     "svf $board"
     "diagnose 4 good.log $board"
     "diagnose 4 shorted.log $board"
+    "batch 4 three-boards.logs $board"
+    "walk $board"
+    "groups three-shorted.log $board"
     "make 100"
 )
 

@@ -13,22 +13,26 @@ use Rattle.btest_core.specs.DevicesRead.{IsDeviceText}
 use Rattle.btest_core.specs.IdentsRead.{AreIdents}
 use Rattle.ident_test.specs.Patterns.{ident_text}
 use Rattle.board_defs.specs.declared.device.Symbol.{Symbol}
-use Rattle.command_line.specs.Words.{Text, BoardNames, ChainNames, Command, Chain, Device, Cover, Svf, Ident, Make, Diagnose}
+use Rattle.command_line.specs.Words.{Text, BoardNames, ChainNames, Command, Chain, Device, Cover, Svf, Walk, Ident, Make, Diagnose, Groups, Batch}
 use Rattle.btest_cli.specs.declared.failure.Unput.{Unput}
 use Rattle.btest_cli.specs.declared.failure.Unput.TheVariants as unput
 use Rattle.response_log.specs.declared.fault.LogFault.{LogFault}
 use Rattle.response_log.specs.declared.fault.LogFault.TheVariants as log
-use Rattle.response_log.specs.LogRows.{Fails}
+use Rattle.response_log.specs.LogRows.{Answer as LogAnswer, Fails}
 use Rattle.btest_core.specs.BoardRead.{Denotes}
+use Rattle.batch_diag.specs.declared.fault.BatchFault.{BatchFault}
+use Rattle.batch_diag.specs.declared.fault.BatchFault.TheVariants as batch
+use Rattle.batch_diag.specs.Batch.{Answer as BatchAnswer, Fails as BatchFails}
+use Rattle.walk_test.specs.WalkTest.{board_walk_text}
 use Rattle.board_defs.specs.declared.board.RawBoard.{RawBoard}
-use Rattle.btest_cli.specs.LogRead.{Diagnosis, IsDiagnosed, TextFault, Input, Log, board_log, diagnosis_text, row_count}
+use Rattle.btest_cli.specs.LogRead.{Judging, OnBoard, OnDenoted, TextFault, Input, Log, Batch as OfBatch, diagnosing, diagnosis_text, grouping, grouping_text, judging_each, verdicts_text}
 use Rattle.btest_cli.specs.Refusals.{roles_of, input_fault_line, text_fault_line}
 use Rattle.btest_cli.specs.Outcome.{IsGiven, IsSaid}
-use Rattle.btest_cli.specs.Worth.{Diagnoses, IsWorthFor, ListsCover, ListsDevice, TestsBoard, TestsChain, TestsIdents}
+use Rattle.btest_cli.specs.Worth.{Diagnoses, DiagnosesEach, FindsGroups, IsWorthFor, ListsCover, ListsDevice, OfDenoted, TestsBoard, TestsChain, TestsIdents, WalksBoard}
 use Rattle.board_gen.specs.BoardTexts as made
 use Rattle.board_gen.specs.DeviceText.{bsdl_text}
 use Rattle.btest_cli.specs.Summary.{summary_text}
-use Rattle.btest_cli.specs.Answers.{Answers, IsCutBy, LogAnswers, Nothing, unput_log, unput_of}
+use Rattle.btest_cli.specs.Answers.{Answers, IsCutBy, LogAnswers, NoBoard, Nothing, unput_batch, unput_log, unput_of}
 use Rattle.btest_cli.specs.Failures.{IsAnswered}
 
 -- a fault was found
@@ -61,6 +65,7 @@ answered command texts IsFound text_of IsWorth old new (Ok done) gives worth put
     record { text = text_of put.value; gives = gives (Ok (text_of put.value)) (inl (put.value, put.found, refl)); takes = put.takes; worth = worth put.worth }
 answered command texts IsFound text_of IsWorth old new (Err (unput.Input fault)) gives worth (found, same) = (gives (Err (input_fault_line (roles_of command) fault)) (inr (fault, found, refl)), same)
 answered command texts IsFound text_of IsWorth old new (Err (unput.Log rows fault)) gives worth none = absurd none
+answered command texts IsFound text_of IsWorth old new (Err (unput.Batch rows fault)) gives worth none = absurd none
 answered command texts IsFound text_of IsWorth old new (Err unput.Write) gives worth cut =
     record { rose = cut.rose; text = text_of cut.value; gives = gives (Ok (text_of cut.value)) (inl (cut.value, cut.found, refl)); bytes = cut.bytes; takes = cut.takes }
 answered command texts IsFound text_of IsWorth old new (Err unput.Memory) gives worth same = same
@@ -105,33 +110,73 @@ cover_told names chain nets bsdl old new result answers = answered (Cover names)
 pub svf_told : (names : BoardNames) (chain nets : Text) (bsdl : List Text) (old new : Shown) (result : Result (Unit {0}) Unput) → Answers (IsBoardRead chain nets bsdl) board_text (TestsBoard chain nets bsdl old) old new result → IsAnswered (Svf names) (chain ∷ nets ∷ bsdl) old new result
 svf_told names chain nets bsdl old new result answers = answered (Svf names) (chain ∷ nets ∷ bsdl) (IsBoardRead chain nets bsdl) board_text (TestsBoard chain nets bsdl old) old new result (λ o says. says) (λ worth. worth) answers
 
+-- the answer to the texts of `walk`
+pub walk_told : (names : BoardNames) (chain nets : Text) (bsdl : List Text) (old new : Shown) (result : Result (Unit {0}) Unput) → Answers (IsBoardRead chain nets bsdl) board_walk_text (WalksBoard chain nets bsdl old) old new result → IsAnswered (Walk names) (chain ∷ nets ∷ bsdl) old new result
+walk_told names chain nets bsdl old new result answers = answered (Walk names) (chain ∷ nets ∷ bsdl) (IsBoardRead chain nets bsdl) board_walk_text (WalksBoard chain nets bsdl old) old new result (λ o says. says) (λ worth. worth) answers
+
 -- the answer of `make`
 pub make_told : (number : ℕ) (texts : List Text) (old new : Shown) (result : Result (Unit {0}) Unput) → Answers (IsBoardRead (made.chain_text number) (made.net_text number) (bsdl_text ∷ [])) summary_text Nothing old new result → IsAnswered (Make number) texts old new result
 make_told number texts old new result answers = answered (Make number) texts (IsBoardRead (made.chain_text number) (made.net_text number) (bsdl_text ∷ [])) summary_text Nothing old new result (λ o says. says) (λ worth. worth) answers
 
--- a fault of the texts was found beside a log
-pub log_answers_fault : (text chain nets : Text) (bsdl : List Text) (IsWorth : Shown → Type 0) (shown : Shown) (fault : InputFault) → FaultIs (λ f. IsBoardRead chain nets bsdl (Err f)) fault
-    → LogAnswers (IsDiagnosed text chain nets bsdl) diagnosis_text IsWorth shown shown (Err (unput_of fault))
-log_answers_fault text chain nets bsdl IsWorth shown (input.Memory e) is = refl
-log_answers_fault text chain nets bsdl IsWorth shown (input.Chain fault) is = (is, refl)
-log_answers_fault text chain nets bsdl IsWorth shown (input.Nets fault) is = (is, refl)
-log_answers_fault text chain nets bsdl IsWorth shown (input.Lex number fault) is = (is, refl)
-log_answers_fault text chain nets bsdl IsWorth shown (input.Parse number fault) is = (is, refl)
-log_answers_fault text chain nets bsdl IsWorth shown (input.Board fault) is = (is, refl)
-log_answers_fault text chain nets bsdl IsWorth shown (input.Device number fault) is = (is, refl)
-log_answers_fault text chain nets bsdl IsWorth shown (input.Link fault) is = (is, refl)
-log_answers_fault text chain nets bsdl IsWorth shown (input.NoIdent line) is = (is, refl)
+-- there is no board: its texts have a first fault, or memory ran out
+pub no_board : (chain nets : Text) (texts : List Text) (fault : InputFault) → FaultIs (λ f. IsBoardRead chain nets texts (Err f)) fault → NoBoard chain nets texts (unput_of fault)
+no_board chain nets texts (input.Memory e) is = tt
+no_board chain nets texts (input.Chain fault) is = is
+no_board chain nets texts (input.Nets fault) is = is
+no_board chain nets texts (input.Lex number fault) is = is
+no_board chain nets texts (input.Parse number fault) is = is
+no_board chain nets texts (input.Board fault) is = is
+no_board chain nets texts (input.Device number fault) is = is
+no_board chain nets texts (input.Link fault) is = is
+no_board chain nets texts (input.NoIdent line) is = is
 
--- a fault of the log was found
-pub log_answers_log : (text chain nets : Text) (bsdl : List Text) (IsWorth : Shown → Type 0) (shown : Shown) (board : RawBoard) (rows : ℕ) (fault : LogFault) → Denotes chain nets bsdl board → rows ≡ row_count board → Fails fault (board_log text board)
-    → LogAnswers (IsDiagnosed text chain nets bsdl) diagnosis_text IsWorth shown shown (Err (unput_log rows fault))
-log_answers_log text chain nets bsdl IsWorth shown board rows (log.Memory e) denoted wanted fails = refl
-log_answers_log text chain nets bsdl IsWorth shown board rows (log.Digit line) denoted wanted fails = (record { board = board; denoted = denoted; wanted = wanted; faulty = fails }, refl)
-log_answers_log text chain nets bsdl IsWorth shown board rows (log.Length line) denoted wanted fails = (record { board = board; denoted = denoted; wanted = wanted; faulty = fails }, refl)
-log_answers_log text chain nets bsdl IsWorth shown board rows (log.Extra line) denoted wanted fails = (record { board = board; denoted = denoted; wanted = wanted; faulty = fails }, refl)
-log_answers_log text chain nets bsdl IsWorth shown board rows (log.Missing found) denoted wanted fails = (record { board = board; denoted = denoted; wanted = wanted; faulty = fails }, refl)
+-- then nothing is put
+pub no_board_answers : (chain nets : Text) (texts : List Text) (text_of : RawBoard → Text) (IsWorth : Shown → Type 0) (shown : Shown) (failure : Unput) → NoBoard chain nets texts failure → Answers (IsBoardRead chain nets texts) text_of IsWorth shown shown (Err failure)
+no_board_answers chain nets texts text_of IsWorth shown (unput.Input fault) is = (is, refl)
+no_board_answers chain nets texts text_of IsWorth shown (unput.Log rows fault) is = absurd is
+no_board_answers chain nets texts text_of IsWorth shown (unput.Batch rows fault) is = absurd is
+no_board_answers chain nets texts text_of IsWorth shown unput.Write is = absurd is
+no_board_answers chain nets texts text_of IsWorth shown unput.Memory is = refl
 
--- the answer to the texts of a command, by what is found in them and in a log
+-- the same beside a text of logs
+pub no_board_judged : {L E A : Type 0} (judging : Judging L E A) (text_of : RawBoard × A → Text) (text chain nets : Text) (texts : List Text) (IsWorth : Shown → Type 0) (shown : Shown) (failure : Unput) → NoBoard chain nets texts failure
+    → LogAnswers (OnDenoted judging text chain nets texts) text_of IsWorth shown shown (Err failure)
+no_board_judged judging text_of text chain nets texts IsWorth shown (unput.Input fault) is = (inl is, refl)
+no_board_judged judging text_of text chain nets texts IsWorth shown (unput.Log rows fault) is = absurd is
+no_board_judged judging text_of text chain nets texts IsWorth shown (unput.Batch rows fault) is = absurd is
+no_board_judged judging text_of text chain nets texts IsWorth shown unput.Write is = absurd is
+no_board_judged judging text_of text chain nets texts IsWorth shown unput.Memory is = refl
+
+-- what a text says of a board, as what it says of the board that others denote
+pub judged_denoted : {L E A : Type 0} (judging : Judging L E A) (text_of : RawBoard × A → Text) (P : RawBoard → Shown → Shown → Type 0) (text chain nets : Text) (texts : List Text) (board : RawBoard) → Denotes chain nets texts board
+    → (old new : Shown) (result : Result (Unit {0}) Unput) → LogAnswers (OnBoard judging text board) (λ found. text_of (board, found)) (P board old) old new result → LogAnswers (OnDenoted judging text chain nets texts) text_of (OfDenoted P chain nets texts old) old new result
+judged_denoted judging text_of P text chain nets texts board denoted old new (Ok done) put =
+    record { value = (board, put.value); found = (denoted, put.found); takes = put.takes; worth = (board, denoted, put.worth) }
+judged_denoted judging text_of P text chain nets texts board denoted old new (Err (unput.Input fault)) is = (inr (board, denoted, is.0), is.1)
+judged_denoted judging text_of P text chain nets texts board denoted old new (Err (unput.Log rows fault)) is = (inr (board, denoted, is.0), is.1)
+judged_denoted judging text_of P text chain nets texts board denoted old new (Err (unput.Batch rows fault)) is = (inr (board, denoted, is.0), is.1)
+judged_denoted judging text_of P text chain nets texts board denoted old new (Err unput.Write) cut =
+    record { rose = cut.rose; value = (board, cut.value); found = (denoted, cut.found); bytes = cut.bytes; takes = cut.takes }
+judged_denoted judging text_of P text chain nets texts board denoted old new (Err unput.Memory) same = same
+
+-- a log is wrong
+pub log_wrong : {A : Type 0} (IsFound : Result A TextFault → Type 0) (text_of : A → Text) (IsWorth : Shown → Type 0) (shown : Shown) (rows : ℕ) (said : LogAnswer) (fault : LogFault) → Fails fault said → ((f : LogFault) → said ≡ Err f → IsFound (Err (Log rows f)))
+    → LogAnswers IsFound text_of IsWorth shown shown (Err (unput_log rows fault))
+log_wrong IsFound text_of IsWorth shown rows said (log.Memory e) fails is = refl
+log_wrong IsFound text_of IsWorth shown rows said (log.Digit line) fails is = (is (log.Digit line) fails, refl)
+log_wrong IsFound text_of IsWorth shown rows said (log.Length line) fails is = (is (log.Length line) fails, refl)
+log_wrong IsFound text_of IsWorth shown rows said (log.Extra line) fails is = (is (log.Extra line) fails, refl)
+log_wrong IsFound text_of IsWorth shown rows said (log.Missing found) fails is = (is (log.Missing found) fails, refl)
+
+-- a batch of logs is wrong
+pub batch_wrong : {A : Type 0} (IsFound : Result A TextFault → Type 0) (text_of : A → Text) (IsWorth : Shown → Type 0) (shown : Shown) (rows : ℕ) (said : BatchAnswer) (fault : BatchFault) → BatchFails fault said → ((f : BatchFault) → said ≡ Err f → IsFound (Err (OfBatch rows f)))
+    → LogAnswers IsFound text_of IsWorth shown shown (Err (unput_batch rows fault))
+batch_wrong IsFound text_of IsWorth shown rows said (batch.Memory e) fails is = refl
+batch_wrong IsFound text_of IsWorth shown rows said (batch.Start line) fails is = (is (batch.Start line) fails, refl)
+batch_wrong IsFound text_of IsWorth shown rows said (batch.Title line) fails is = (is (batch.Title line) fails, refl)
+batch_wrong IsFound text_of IsWorth shown rows said (batch.Inner board fault) fails is = (is (batch.Inner board fault) fails, refl)
+
+-- the answer to the texts of a command, by what is found in them and in a text of logs
 log_answered : {A : Type 0} (command : Command) (texts : List Text) (IsFound : Result A TextFault → Type 0) (text_of : A → Text) (IsWorth : Shown → Type 0) (old new : Shown) (result : Result (Unit {0}) Unput)
     → ((outcome : Result Text Text) → IsSaid text_of (text_fault_line (roles_of command)) IsFound outcome → IsGiven command texts outcome) → (IsWorth new → IsWorthFor command texts old new)
     → LogAnswers IsFound text_of IsWorth old new result → IsAnswered command texts old new result
@@ -139,16 +184,25 @@ log_answered command texts IsFound text_of IsWorth old new (Ok done) gives worth
     record { text = text_of put.value; gives = gives (Ok (text_of put.value)) (inl (put.value, put.found, refl)); takes = put.takes; worth = worth put.worth }
 log_answered command texts IsFound text_of IsWorth old new (Err (unput.Input fault)) gives worth (found, same) = (gives (Err (text_fault_line (roles_of command) (Input fault))) (inr (Input fault, found, refl)), same)
 log_answered command texts IsFound text_of IsWorth old new (Err (unput.Log rows fault)) gives worth (found, same) = (gives (Err (text_fault_line (roles_of command) (Log rows fault))) (inr (Log rows fault, found, refl)), same)
+log_answered command texts IsFound text_of IsWorth old new (Err (unput.Batch rows fault)) gives worth (found, same) = (gives (Err (text_fault_line (roles_of command) (OfBatch rows fault))) (inr (OfBatch rows fault, found, refl)), same)
 log_answered command texts IsFound text_of IsWorth old new (Err unput.Write) gives worth cut =
     record { rose = cut.rose; text = text_of cut.value; gives = gives (Ok (text_of cut.value)) (inl (cut.value, cut.found, refl)); bytes = cut.bytes; takes = cut.takes }
 log_answered command texts IsFound text_of IsWorth old new (Err unput.Memory) gives worth same = same
 
--- the answer to the texts of `diagnose`, as the first of all texts and those of a board
-pub log_told : (workers : ℕ) (name : Text) (names : BoardNames) (all : List (Vec ℕ Global)) (d : Vec ℕ Global) (rest : List (Vec ℕ Global)) (text chain nets : Text) (bsdl : List Text) (old new : Shown) (result : Result (Unit {0}) Unput)
-    → 1 ≤ length all → text ≡ (slice_index_or all 0 d).items → rest ≡ drop 1 all → map (λ t. t.items) rest ≡ chain ∷ nets ∷ bsdl
-    → LogAnswers (IsDiagnosed text chain nets bsdl) diagnosis_text (Diagnoses text chain nets bsdl old) old new result → IsAnswered (Diagnose workers name names) (map (λ t. t.items) all) old new result
-log_told workers name names [] d rest text chain nets bsdl old new result some same others board answers = absurd (omega (arith, some))
-log_told workers name names (first ∷ more) d rest text chain nets bsdl old new result some same others board answers =
-    let found = subst (λ (t : Text). LogAnswers (IsDiagnosed t chain nets bsdl) diagnosis_text (Diagnoses t chain nets bsdl old) old new result) same answers in
-    let told = log_answered (Diagnose workers name names) (first.items ∷ chain ∷ nets ∷ bsdl) (IsDiagnosed first.items chain nets bsdl) diagnosis_text (Diagnoses first.items chain nets bsdl old) old new result (λ o says. says) (λ worth. worth) found in
-    subst (λ (l : List Text). IsAnswered (Diagnose workers name names) (first.items ∷ l) old new result) (sym board ∙ ap (map (λ t. t.items)) others) told
+-- the answer to the texts of `diagnose`
+pub diagnose_told : (workers : ℕ) (name : Text) (names : BoardNames) (text chain nets : Text) (bsdl : List Text) (old new : Shown) (result : Result (Unit {0}) Unput)
+    → LogAnswers (OnDenoted diagnosing text chain nets bsdl) diagnosis_text (OfDenoted (Diagnoses text) chain nets bsdl old) old new result → IsAnswered (Diagnose workers name names) (text ∷ chain ∷ nets ∷ bsdl) old new result
+diagnose_told workers name names text chain nets bsdl old new result answers =
+    log_answered (Diagnose workers name names) (text ∷ chain ∷ nets ∷ bsdl) (OnDenoted diagnosing text chain nets bsdl) diagnosis_text (OfDenoted (Diagnoses text) chain nets bsdl old) old new result (λ o says. says) (λ worth. worth) answers
+
+-- the answer to the texts of `groups`
+pub groups_told : (name : Text) (names : BoardNames) (text chain nets : Text) (bsdl : List Text) (old new : Shown) (result : Result (Unit {0}) Unput)
+    → LogAnswers (OnDenoted grouping text chain nets bsdl) grouping_text (OfDenoted (FindsGroups text) chain nets bsdl old) old new result → IsAnswered (Groups name names) (text ∷ chain ∷ nets ∷ bsdl) old new result
+groups_told name names text chain nets bsdl old new result answers =
+    log_answered (Groups name names) (text ∷ chain ∷ nets ∷ bsdl) (OnDenoted grouping text chain nets bsdl) grouping_text (OfDenoted (FindsGroups text) chain nets bsdl old) old new result (λ o says. says) (λ worth. worth) answers
+
+-- the answer to the texts of `batch`
+pub batch_told : (workers : ℕ) (name : Text) (names : BoardNames) (text chain nets : Text) (bsdl : List Text) (old new : Shown) (result : Result (Unit {0}) Unput)
+    → LogAnswers (OnDenoted judging_each text chain nets bsdl) verdicts_text (OfDenoted (DiagnosesEach text) chain nets bsdl old) old new result → IsAnswered (Batch workers name names) (text ∷ chain ∷ nets ∷ bsdl) old new result
+batch_told workers name names text chain nets bsdl old new result answers =
+    log_answered (Batch workers name names) (text ∷ chain ∷ nets ∷ bsdl) (OnDenoted judging_each text chain nets bsdl) verdicts_text (OfDenoted (DiagnosesEach text) chain nets bsdl old) old new result (λ o says. says) (λ worth. worth) answers

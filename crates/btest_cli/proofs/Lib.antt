@@ -4,3 +4,4 @@ pub mod ReadingLemmas
 pub mod RunLemmas
 pub mod TestLemmas
 pub mod SummaryLemmas
+pub mod VerdictLemmas

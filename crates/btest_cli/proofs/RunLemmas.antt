@@ -18,7 +18,7 @@ use Rattle.board_gen.specs.DeviceText.{bsdl_text}
 use Rattle.btest_cli.specs.Summary.{summary_text}
 use Rattle.board_defs.specs.declared.device.Symbol.{Symbol}
 use Rattle.btest_core.specs.IdentsRead.{AreIdents}
-use Rattle.command_line.specs.Words.{Text, Command, Chain, Device, Cover, Svf, Ident, Make, Diagnose, board_names, chain_names, names_of}
+use Rattle.command_line.specs.Words.{Text, Command, Chain, Device, Cover, Svf, Walk, Ident, Make, Diagnose, Groups, Batch, board_names, chain_names, names_of}
 use Rattle.btest_cli.specs.declared.status.Status.{Status}
 use Rattle.btest_cli.specs.declared.status.Status.TheVariants as status
 use Rattle.btest_cli.specs.declared.failure.Unread.{Unread}
@@ -31,8 +31,14 @@ use Rattle.board_defs.specs.BoardRules.{IsBoard}
 use Rattle.response_log.specs.declared.fault.LogFault.{LogFault}
 use Rattle.fault_sim.specs.Diagnosis.{IsDiagnosis}
 use Rattle.btest_core.specs.BoardRead.{Denotes}
-use Rattle.btest_cli.specs.LogRead.{Diagnosis, IsDiagnosed, TextFault, Input, Log, board_log, diagnosis_text, row_count}
-use Rattle.btest_cli.specs.Refusals.{roles_of, input_fault_line, log_fault_line, text_fault_line, long_line, memory_line}
+use Rattle.batch_diag.specs.declared.block.Block.{Block}
+use Rattle.batch_diag.specs.declared.verdict.Verdict.{Verdict}
+use Rattle.batch_diag.specs.Verdicts.{AreVerdicts}
+use Rattle.walk_test.specs.Groups.{AreFound, Explain}
+use Rattle.walk_test.specs.Laws.{OneSet}
+use Rattle.walk_test.specs.WalkTest.{board_walk_text}
+use Rattle.btest_cli.specs.LogRead.{IsInputFault, IsJudged, IsWrong, Judging, OnDenoted, TextFault, Input, Log, Batch as OfBatch, diagnosing, diagnosis_text, grouping, grouping_text, judging_each, verdicts_text}
+use Rattle.btest_cli.specs.Refusals.{roles_of, input_fault_line, log_fault_line, batch_fault_line, text_fault_line, long_line, memory_line}
 use Rattle.btest_cli.specs.Outcome.{AsksSome, IsComplete, IsGiven, IsOutcome, IsSaid, IsSaidOfBoard, IsSaidOfChain, IsSaidOfLog, IsSaidOfText, Settles, SomeRose, TookOrCut}
 use Rattle.btest_cli.specs.Failures.{IsUnread, IsPut, IsUnput, wanted_view, unread_status, unread_line, unput_status, unput_line}
 use Rattle.btest_cli.specs.RunOf.{IsRunOf}
@@ -53,8 +59,11 @@ wanted_names (Ident names) = names_wanted (chain_names names)
 wanted_names (Device name) = refl
 wanted_names (Cover names) = names_wanted (board_names names)
 wanted_names (Svf names) = names_wanted (board_names names)
+wanted_names (Walk names) = names_wanted (board_names names)
 wanted_names (Make parts) = refl
 wanted_names (Diagnose workers log names) = ap (λ (l : List Text). log ∷ l) (names_wanted (board_names names))
+wanted_names (Groups log names) = ap (λ (l : List Text). log ∷ l) (names_wanted (board_names names))
+wanted_names (Batch workers log names) = ap (λ (l : List Text). log ∷ l) (names_wanted (board_names names))
 
 all_asked : (command : Command) (asked asked' : List Text) → Asks asked asked' (names_in (wanted_of command)) → Asks asked asked' (names_of command)
 all_asked command asked asked' asks = subst (Asks asked asked') (wanted_names command) asks
@@ -162,6 +171,8 @@ run_unput command held before now asked asked' texts (unput.Input fault) out out
     same_out command held before now asked asked' out out' notes notes' status.Refused is.1 (refused_run command held before now asked asked' (Read texts) (input_fault_line (roles_of command) fault) out notes notes' read asks is.0 noted)
 run_unput command held before now asked asked' texts (unput.Log rows fault) out out' notes notes' read asks is noted =
     same_out command held before now asked asked' out out' notes notes' status.Refused is.1 (refused_run command held before now asked asked' (Read texts) (log_fault_line (roles_of command).log rows fault) out notes notes' read asks is.0 noted)
+run_unput command held before now asked asked' texts (unput.Batch rows fault) out out' notes notes' read asks is noted =
+    same_out command held before now asked asked' out out' notes notes' status.Refused is.1 (refused_run command held before now asked asked' (Read texts) (batch_fault_line (roles_of command).log rows fault) out notes notes' read asks is.0 noted)
 run_unput command held before now asked asked' texts unput.Write out out' notes notes' read asks is noted = record {
   no_usage = λ e. cc;
   done = λ e. absurd cc;
@@ -303,63 +314,122 @@ OneIdents = (chain : Text) (texts : List Text) → AtMostOne (AreIdents chain te
 abbrev OneBoard : Type 0
 OneBoard = (chain nets : Text) (texts : List Text) → AtMostOne (IsBoardRead chain nets texts)
 
-abbrev OneLog : Type 0
-OneLog = (log chain nets : Text) (texts : List Text) → AtMostOne (IsDiagnosed log chain nets texts)
+-- a text of logs says at most one thing of the board that others denote
+abbrev OneJudged : {L E A : Type 0} → Judging L E A → Type 0
+OneJudged judging = (text chain nets : Text) (texts : List Text) → AtMostOne (OnDenoted judging text chain nets texts)
+
+-- what is found in the contents of a text is one thing
+abbrev FindsOne : {L E A : Type 0} → Judging L E A → Type 0
+FindsOne {L} {E} {A} judging = (board : RawBoard) (contents : L) (x y : A) → IsBoard board → judging.Finds board contents x → judging.Finds board contents y → x ≡ y
+
+-- what texts denote keeps the rules of a board
+abbrev KeepRules : Type 0
+KeepRules = (chain nets : Text) (texts : List Text) (board : RawBoard) → Denotes chain nets texts board → IsBoard board
+
+same_board : (a b : RawBoard) → ◌≡◌ {A = Result RawBoard InputFault} (Ok a) (Ok b) → a ≡ b
+same_board a b e = cc
+
+not_both : {X Y : Type 0} (a : X) (f : Y) → ◌≡◌ {A = Result X Y} (Ok a) (Err f) → ⊥
+not_both a f e = cc e
+
+same_value : {X Y : Type 0} (a b : X) → ◌≡◌ {A = Result X Y} (Ok a) (Ok b) → a ≡ b
+same_value a b e = cc
+
+same_cause : {X Y : Type 0} (f g : Y) → ◌≡◌ {A = Result X Y} (Err f) (Err g) → f ≡ g
+same_cause f g e = cc
+
+module _ (boards : OneBoard) (rules : KeepRules) {L E A : Type 0} (judging : Judging L E A) (one : FindsOne judging) (text chain nets : Text) (texts : List Text) where
+  -- texts that denote a board have no fault
+  no_input : (board : RawBoard) (fault : TextFault) → Denotes chain nets texts board → IsInputFault chain nets texts fault → ⊥
+  no_input board (Input f) denoted is = not_both board f (boards chain nets texts (Ok board) (Err f) denoted is)
+  no_input board (Log rows f) denoted is = is
+  no_input board (OfBatch rows f) denoted is = is
+
+  one_input : (f g : TextFault) → IsInputFault chain nets texts f → IsInputFault chain nets texts g → f ≡ g
+  one_input (Input f) (Input g) is_f is_g = ap Input (same_cause f g (boards chain nets texts (Err f) (Err g) is_f is_g))
+  one_input (Input f) (Log rows g) is_f is_g = absurd is_g
+  one_input (Input f) (OfBatch rows g) is_f is_g = absurd is_g
+  one_input (Log rows f) g is_f is_g = absurd is_f
+  one_input (OfBatch rows f) g is_f is_g = absurd is_f
+
+  one_denoted : (a b : RawBoard) → Denotes chain nets texts a → Denotes chain nets texts b → a ≡ b
+  one_denoted a b is_a is_b = same_board a b (boards chain nets texts (Ok a) (Ok b) is_a is_b)
+
+  -- a text that is wrong for the board holds nothing
+  no_wrong : (board : RawBoard) (contents : L) (fault : TextFault) → judging.read text board ≡ Ok contents → IsWrong judging text board fault → ⊥
+  no_wrong board contents fault holds wrong = not_both contents wrong.cause (sym holds ∙ wrong.fails)
+
+  one_wrong : (board : RawBoard) (f g : TextFault) → IsWrong judging text board f → IsWrong judging text board g → f ≡ g
+  one_wrong board f g is_f is_g = is_f.is ∙ ap (judging.wrong (judging.row_count board)) (same_cause is_f.cause is_g.cause (sym is_f.fails ∙ is_g.fails)) ∙ sym is_g.is
+
+  one_judged : AtMostOne (OnDenoted judging text chain nets texts)
+  one_judged (Ok (a, x)) (Ok (b, y)) is_x is_y =
+      let board = one_denoted a b is_x.0 is_y.0 in
+      let there = subst (λ (c : RawBoard). IsJudged judging text c x) board is_x.1 in
+      let contents = same_value there.contents is_y.1.contents (sym there.holds ∙ is_y.1.holds) in
+      let found = subst (λ (l : L). judging.Finds b l x) contents there.finds in
+      let same = one b is_y.1.contents x y (rules chain nets texts b is_y.0) found is_y.1.finds in
+      ap (λ (c : RawBoard). Ok (c, x)) board ∙ ap (λ (v : A). Ok (b, v)) same
+  one_judged (Ok (a, x)) (Err g) is_x (inl input) = absurd (no_input a g is_x.0 input)
+  one_judged (Ok (a, x)) (Err g) is_x (inr (b, denoted, wrong)) =
+      let there = subst (λ (c : RawBoard). IsJudged judging text c x) (one_denoted a b is_x.0 denoted) is_x.1 in
+      absurd (no_wrong b there.contents g there.holds wrong)
+  one_judged (Err f) (Ok (b, y)) (inl input) is_y = absurd (no_input b f is_y.0 input)
+  one_judged (Err f) (Ok (b, y)) (inr (a, denoted, wrong)) is_y =
+      let there = subst (λ (c : RawBoard). IsJudged judging text c y) (one_denoted b a is_y.0 denoted) is_y.1 in
+      absurd (no_wrong a there.contents f there.holds wrong)
+  one_judged (Err f) (Err g) (inl is_f) (inl is_g) = ap Err (one_input f g is_f is_g)
+  one_judged (Err f) (Err g) (inl is_f) (inr (b, denoted, wrong)) = absurd (no_input b f denoted is_f)
+  one_judged (Err f) (Err g) (inr (a, denoted, wrong)) (inl is_g) = absurd (no_input a g denoted is_g)
+  one_judged (Err f) (Err g) (inr (a, denoted, wrong)) (inr (b, also, other)) =
+      ap Err (one_wrong b f g (subst (λ (c : RawBoard). IsWrong judging text c f) (one_denoted a b denoted also) wrong) other)
 
 -- a log of a board has at most one diagnosis
 abbrev OneDiagnosis : Type 0
 OneDiagnosis = (board : RawBoard) (rows : List (List Bool)) (pass other : Bool) (faults others : List Single) → IsDiagnosis board rows pass faults → IsDiagnosis board rows other others → (pass ≡ other) × (faults ≡ others)
 
-same_board : (a b : RawBoard) → ◌≡◌ {A = Result RawBoard InputFault} (Ok a) (Ok b) → a ≡ b
-same_board a b e = cc
+one_diagnosis : OneDiagnosis → FindsOne diagnosing
+one_diagnosis one board rows (pass, faults) (other, others) rules is_x is_y =
+    let same = one board rows pass other faults others is_x is_y in
+    ap (λ (p : Bool). (p, faults)) same.0 ∙ ap (λ (l : List Single). (other, l)) same.1
 
-no_board : (a : RawBoard) (f : InputFault) → ◌≡◌ {A = Result RawBoard InputFault} (Ok a) (Err f) → ⊥
-no_board a f e = cc e
+one_verdicts : OneDiagnosis → (board : RawBoard) (blocks : List Block) (x y : List Verdict) → AreVerdicts board blocks x → AreVerdicts board blocks y → x ≡ y
+one_verdicts one board [] [] [] is_x is_y = refl
+one_verdicts one board [] [] (v ∷ y) is_x is_y = absurd is_y
+one_verdicts one board [] (v ∷ x) y is_x is_y = absurd is_x
+one_verdicts one board (block ∷ blocks) [] y is_x is_y = absurd is_x
+one_verdicts one board (block ∷ blocks) (v ∷ x) [] is_x is_y = absurd is_y
+one_verdicts one board (block ∷ blocks) (v ∷ x) (w ∷ y) is_x is_y =
+    let same = one board block.log v.pass w.pass v.faults w.faults is_x.0 is_y.0 in
+    let head : v ≡ w = ap (λ (p : Bool). record { pass = p; faults = v.faults }) same.0 ∙ ap (λ (l : List Single). record { pass = w.pass; faults = l }) same.1 in
+    ap (λ (u : Verdict). u ∷ x) head ∙ ap (λ (l : List Verdict). w ∷ l) (one_verdicts one board blocks x y is_x.1 is_y.1)
 
-same_fault : (f g : InputFault) → ◌≡◌ {A = Result RawBoard InputFault} (Err f) (Err g) → f ≡ g
-same_fault f g e = cc
+one_each : OneDiagnosis → FindsOne judging_each
+one_each one board blocks (own, x) (others, y) rules is_x is_y =
+    let own_is : own ≡ others = is_x.0 ∙ sym is_y.0 in
+    ap (λ (l : List Block). (l, x)) own_is ∙ ap (λ (l : List Verdict). (others, l)) (one_verdicts one board blocks x y is_x.1 is_y.1)
 
-same_rows : (a b : List (List Bool)) → ◌≡◌ {A = Result (List (List Bool)) LogFault} (Ok a) (Ok b) → a ≡ b
-same_rows a b e = cc
+one_grouping : OneSet → FindsOne grouping
+one_grouping one board rows None None rules is_x is_y = refl
+one_grouping one board rows None (Some groups) rules is_x is_y = absurd (is_x groups is_y)
+one_grouping one board rows (Some groups) None rules is_x is_y = absurd (is_y groups is_x)
+one_grouping one board rows (Some groups) (Some others) rules is_x is_y = ap Some (one board rows groups others rules is_x is_y)
 
-no_rows : (a : List (List Bool)) (f : LogFault) → ◌≡◌ {A = Result (List (List Bool)) LogFault} (Ok a) (Err f) → ⊥
-no_rows a f e = cc e
+-- texts of logs say at most one thing
+pub record LogsSayOne : Type 0 where
+  pub diagnoses : OneJudged diagnosing
+  pub groups : OneJudged grouping
+  pub each : OneJudged judging_each
 
-same_log_fault : (f g : LogFault) → ◌≡◌ {A = Result (List (List Bool)) LogFault} (Err f) (Err g) → f ≡ g
-same_log_fault f g e = cc
-
-same_diagnosis : (x y : Diagnosis) → x.board ≡ y.board → x.pass ≡ y.pass → x.faults ≡ y.faults → ◌≡◌ {A = Result Diagnosis TextFault} (Ok x) (Ok y)
-same_diagnosis x y p q r =
-    ap (λ (b : RawBoard). Ok (record { board = b; pass = x.pass; faults = x.faults })) p ∙ ap (λ (b : Bool). Ok (record { board = y.board; pass = b; faults = x.faults })) q ∙ ap (λ (l : List Single). Ok (record { board = y.board; pass = y.pass; faults = l })) r
-
-pub one_diagnosed : OneBoard → OneDiagnosis → OneLog
-one_diagnosed boards one log chain nets texts (Ok x) (Ok y) is_x is_y =
-    let board = same_board x.board y.board (boards chain nets texts (Ok x.board) (Ok y.board) is_x.denoted is_y.denoted) in
-    let read = subst (λ (b : RawBoard). board_log log b ≡ Ok is_x.rows) board is_x.read in
-    let rows = same_rows is_x.rows is_y.rows (sym read ∙ is_y.read) in
-    let on_board = subst (λ (b : RawBoard). IsDiagnosis b is_x.rows x.pass x.faults) board is_x.diagnosis in
-    let on_rows = subst (λ (l : List (List Bool)). IsDiagnosis y.board l x.pass x.faults) rows on_board in
-    let same = one y.board is_y.rows x.pass y.pass x.faults y.faults on_rows is_y.diagnosis in
-    same_diagnosis x y board same.0 same.1
-one_diagnosed boards one log chain nets texts (Ok x) (Err (Input g)) is_x is_y = absurd (no_board x.board g (boards chain nets texts (Ok x.board) (Err g) is_x.denoted is_y))
-one_diagnosed boards one log chain nets texts (Ok x) (Err (Log n g)) is_x is_y =
-    let board = same_board x.board is_y.board (boards chain nets texts (Ok x.board) (Ok is_y.board) is_x.denoted is_y.denoted) in
-    absurd (no_rows is_x.rows g (sym (subst (λ (b : RawBoard). board_log log b ≡ Ok is_x.rows) board is_x.read) ∙ is_y.faulty))
-one_diagnosed boards one log chain nets texts (Err (Input f)) (Ok y) is_x is_y = absurd (no_board y.board f (boards chain nets texts (Ok y.board) (Err f) is_y.denoted is_x))
-one_diagnosed boards one log chain nets texts (Err (Input f)) (Err (Input g)) is_x is_y = ap (λ (h : InputFault). Err (Input h)) (same_fault f g (boards chain nets texts (Err f) (Err g) is_x is_y))
-one_diagnosed boards one log chain nets texts (Err (Input f)) (Err (Log n g)) is_x is_y = absurd (no_board is_y.board f (boards chain nets texts (Ok is_y.board) (Err f) is_y.denoted is_x))
-one_diagnosed boards one log chain nets texts (Err (Log m f)) (Ok y) is_x is_y =
-    let board = same_board y.board is_x.board (boards chain nets texts (Ok y.board) (Ok is_x.board) is_y.denoted is_x.denoted) in
-    absurd (no_rows is_y.rows f (sym (subst (λ (b : RawBoard). board_log log b ≡ Ok is_y.rows) board is_y.read) ∙ is_x.faulty))
-one_diagnosed boards one log chain nets texts (Err (Log m f)) (Err (Input g)) is_x is_y = absurd (no_board is_x.board g (boards chain nets texts (Ok is_x.board) (Err g) is_x.denoted is_y))
-one_diagnosed boards one log chain nets texts (Err (Log m f)) (Err (Log n g)) is_x is_y =
-    let board = same_board is_x.board is_y.board (boards chain nets texts (Ok is_x.board) (Ok is_y.board) is_x.denoted is_y.denoted) in
-    let fault = same_log_fault f g (sym (subst (λ (b : RawBoard). board_log log b ≡ Err f) board is_x.faulty) ∙ is_y.faulty) in
-    let wanted = is_x.wanted ∙ ap row_count board ∙ sym is_y.wanted in
-    ap (λ (k : ℕ). Err (Log k f)) wanted ∙ ap (λ (h : LogFault). Err (Log n h)) fault
+pub logs_say_one : OneBoard → KeepRules → OneDiagnosis → OneSet → LogsSayOne
+logs_say_one boards rules diagnosis set = record {
+  diagnoses = one_judged boards rules diagnosing (one_diagnosis diagnosis);
+  groups = one_judged boards rules grouping (one_grouping set);
+  each = one_judged boards rules judging_each (one_each diagnosis);
+}
 
 -- texts that say at most one thing give one outcome
-pub one_outcome : OneDevice → OneChain → OneIdents → OneBoard → OneLog → OneOutcome
+pub one_outcome : OneDevice → OneChain → OneIdents → OneBoard → LogsSayOne → OneOutcome
 one_outcome devices chains idents boards logs command (TooLong wanted) a b is_a is_b = is_a ∙ sym is_b
 one_outcome devices chains idents boards logs (Chain names) (Read texts) a b is_a is_b = one_of_chain chain_text (input_fault_line (roles_of (Chain names))) AreChainLengths texts a b chains is_a is_b
 one_outcome devices chains idents boards logs (Device name) (Read texts) a b is_a is_b = one_of_text device_text (input_fault_line (roles_of (Device name))) IsDeviceText texts a b devices is_a is_b
@@ -367,7 +437,10 @@ one_outcome devices chains idents boards logs (Cover names) (Read texts) a b is_
 one_outcome devices chains idents boards logs (Svf names) (Read texts) a b is_a is_b = one_of_board board_text (input_fault_line (roles_of (Svf names))) IsBoardRead texts a b boards is_a is_b
 one_outcome devices chains idents boards logs (Ident names) (Read texts) a b is_a is_b = one_of_chain ident_text (input_fault_line (roles_of (Ident names))) AreIdents texts a b idents is_a is_b
 one_outcome devices chains idents boards logs (Make number) (Read texts) a b is_a is_b = one_said summary_text (input_fault_line (roles_of (Make number))) (IsBoardRead (made.chain_text number) (made.net_text number) (bsdl_text ∷ [])) a b (boards (made.chain_text number) (made.net_text number) (bsdl_text ∷ [])) is_a is_b
-one_outcome devices chains idents boards logs (Diagnose workers log names) (Read texts) a b is_a is_b = one_of_log diagnosis_text (text_fault_line (roles_of (Diagnose workers log names))) IsDiagnosed texts a b logs is_a is_b
+one_outcome devices chains idents boards logs (Walk names) (Read texts) a b is_a is_b = one_of_board board_walk_text (input_fault_line (roles_of (Walk names))) IsBoardRead texts a b boards is_a is_b
+one_outcome devices chains idents boards logs (Diagnose workers log names) (Read texts) a b is_a is_b = one_of_log diagnosis_text (text_fault_line (roles_of (Diagnose workers log names))) (OnDenoted diagnosing) texts a b logs.diagnoses is_a is_b
+one_outcome devices chains idents boards logs (Groups log names) (Read texts) a b is_a is_b = one_of_log grouping_text (text_fault_line (roles_of (Groups log names))) (OnDenoted grouping) texts a b logs.groups is_a is_b
+one_outcome devices chains idents boards logs (Batch workers log names) (Read texts) a b is_a is_b = one_of_log verdicts_text (text_fault_line (roles_of (Batch workers log names))) (OnDenoted judging_each) texts a b logs.each is_a is_b
 
 -- as many texts were read as are wanted
 count_read : (held : Text → Option Text) (wanted : List Wanted) (found : List Text) → reading_of held wanted ≡ Some (Read found) → length found ≡ length wanted
@@ -401,8 +474,11 @@ wanted_count (Ident names) = count_of (chain_names names)
 wanted_count (Device name) = refl
 wanted_count (Cover names) = count_of (board_names names)
 wanted_count (Svf names) = count_of (board_names names)
+wanted_count (Walk names) = count_of (board_names names)
 wanted_count (Make parts) = refl
 wanted_count (Diagnose workers log names) = ap suc (count_of (board_names names))
+wanted_count (Groups log names) = ap suc (count_of (board_names names))
+wanted_count (Batch workers log names) = ap suc (count_of (board_names names))
 
 -- some answer is found
 abbrev HasAnswer : {A F : Type 0} → (Result A F → Type 0) → Type 0
@@ -452,40 +528,72 @@ SomeIdents = (chain : Text) (texts : List Text) → HasAnswer (AreIdents chain t
 abbrev SomeBoard : Type 0
 SomeBoard = (chain nets : Text) (texts : List Text) → HasAnswer (IsBoardRead chain nets texts)
 
-abbrev SomeLog : Type 0
-SomeLog = (log chain nets : Text) (texts : List Text) → HasAnswer (IsDiagnosed log chain nets texts)
+-- a text of logs says something of the board that others denote
+abbrev SomeJudged : {L E A : Type 0} → Judging L E A → Type 0
+SomeJudged judging = (text chain nets : Text) (texts : List Text) → HasAnswer (OnDenoted judging text chain nets texts)
 
--- each log of a board has a diagnosis, and what texts denote keeps the rules of a board
+-- something is found in the contents of a text
+abbrev FindsSome : {L E A : Type 0} → Judging L E A → Type 0
+FindsSome {L} {E} {A} judging = (board : RawBoard) (contents : L) → IsBoard board → (found : A) × judging.Finds board contents found
+
+some_judged : SomeBoard → KeepRules → {L E A : Type 0} (judging : Judging L E A) → FindsSome judging → SomeJudged judging
+some_judged boards rules {L} {E} {A} judging some text chain nets texts = by_board (boards chain nets texts).0 (boards chain nets texts).1
+  where
+    by_text : (board : RawBoard) → Denotes chain nets texts board → (said : Result L E) → judging.read text board ≡ said → HasAnswer (OnDenoted judging text chain nets texts)
+    by_text board denoted (Ok contents) is =
+        let told = some board contents (rules chain nets texts board denoted) in
+        (Ok (board, told.0), (denoted, record { contents = contents; holds = is; finds = told.1 }))
+    by_text board denoted (Err cause) is =
+        (Err (judging.wrong (judging.row_count board) cause), inr (board, denoted, record { cause = cause; fails = is; is = refl }))
+
+    by_board : (answer : Result RawBoard InputFault) → IsBoardRead chain nets texts answer → HasAnswer (OnDenoted judging text chain nets texts)
+    by_board (Ok board) denoted = by_text board denoted (judging.read text board) refl
+    by_board (Err fault) is = (Err (Input fault), inl is)
+
+-- each log of a board has a diagnosis
 abbrev SomeDiagnosis : Type 0
 SomeDiagnosis = (board : RawBoard) (rows : List (List Bool)) → IsBoard board → (pass : Bool) × (faults : List Single) × IsDiagnosis board rows pass faults
 
-abbrev KeepRules : Type 0
-KeepRules = (chain nets : Text) (texts : List Text) (board : RawBoard) → Denotes chain nets texts board → IsBoard board
+some_diagnosis : SomeDiagnosis → FindsSome diagnosing
+some_diagnosis some board rows rules = let told = some board rows rules in ((told.0, told.1), told.2)
 
-pub some_diagnosed : SomeBoard → KeepRules → SomeDiagnosis → SomeLog
-some_diagnosed boards rules some log chain nets texts = by_board (boards chain nets texts).0 (boards chain nets texts).1
-  where
-    by_rows : (board : RawBoard) → Denotes chain nets texts board → (said : Result (List (List Bool)) LogFault) → board_log log board ≡ said → HasAnswer (IsDiagnosed log chain nets texts)
-    by_rows board denoted (Ok rows) is =
-        let told = some board rows (rules chain nets texts board denoted) in
-        (Ok (record { board = board; pass = told.0; faults = told.1 }), record { denoted = denoted; rows = rows; read = is; diagnosis = told.2 })
-    by_rows board denoted (Err fault) is = (Err (Log (row_count board) fault), record { board = board; denoted = denoted; wanted = refl; faulty = is })
+some_verdicts : SomeDiagnosis → (board : RawBoard) → IsBoard board → (blocks : List Block) → (verdicts : List Verdict) × AreVerdicts board blocks verdicts
+some_verdicts some board rules [] = ([], tt)
+some_verdicts some board rules (block ∷ blocks) =
+    let told = some board block.log rules in
+    let later = some_verdicts some board rules blocks in
+    (record { pass = told.0; faults = told.1 } ∷ later.0, (told.2, later.1))
 
-    by_board : (answer : Result RawBoard InputFault) → IsBoardRead chain nets texts answer → HasAnswer (IsDiagnosed log chain nets texts)
-    by_board (Ok board) denoted = by_rows board denoted (board_log log board) refl
-    by_board (Err fault) is = (Err (Input fault), is)
+some_each : SomeDiagnosis → FindsSome judging_each
+some_each some board blocks rules = let told = some_verdicts some board rules blocks in ((blocks, told.0), (refl, told.1))
 
-some_given : SomeDevice → SomeChain → SomeIdents → SomeBoard → SomeLog → (command : Command) (found : List Text) → length found ≡ length (names_of command) → HasOutcome (IsGiven command found)
+-- texts of logs say something
+pub record LogsSaySome : Type 0 where
+  pub diagnoses : SomeJudged diagnosing
+  pub groups : SomeJudged grouping
+  pub each : SomeJudged judging_each
+
+pub logs_say_some : SomeBoard → KeepRules → SomeDiagnosis → FindsSome grouping → LogsSaySome
+logs_say_some boards rules diagnosis groups = record {
+  diagnoses = some_judged boards rules diagnosing (some_diagnosis diagnosis);
+  groups = some_judged boards rules grouping groups;
+  each = some_judged boards rules judging_each (some_each diagnosis);
+}
+
+some_given : SomeDevice → SomeChain → SomeIdents → SomeBoard → LogsSaySome → (command : Command) (found : List Text) → length found ≡ length (names_of command) → HasOutcome (IsGiven command found)
 some_given devices chains idents boards logs (Chain names) found count = some_of_chain chain_text (input_fault_line (roles_of (Chain names))) AreChainLengths (length names.bsdl) found count chains
 some_given devices chains idents boards logs (Device name) found count = some_of_text device_text (input_fault_line (roles_of (Device name))) IsDeviceText found count devices
 some_given devices chains idents boards logs (Cover names) found count = some_of_board cover_text (input_fault_line (roles_of (Cover names))) IsBoardRead (length names.bsdl) found count boards
 some_given devices chains idents boards logs (Svf names) found count = some_of_board board_text (input_fault_line (roles_of (Svf names))) IsBoardRead (length names.bsdl) found count boards
 some_given devices chains idents boards logs (Ident names) found count = some_of_chain ident_text (input_fault_line (roles_of (Ident names))) AreIdents (length names.bsdl) found count idents
 some_given devices chains idents boards logs (Make number) found count = some_said summary_text (input_fault_line (roles_of (Make number))) (IsBoardRead (made.chain_text number) (made.net_text number) (bsdl_text ∷ [])) (boards (made.chain_text number) (made.net_text number) (bsdl_text ∷ []))
-some_given devices chains idents boards logs (Diagnose workers log names) found count = some_of_log diagnosis_text (text_fault_line (roles_of (Diagnose workers log names))) IsDiagnosed (length names.bsdl) found count logs
+some_given devices chains idents boards logs (Walk names) found count = some_of_board board_walk_text (input_fault_line (roles_of (Walk names))) IsBoardRead (length names.bsdl) found count boards
+some_given devices chains idents boards logs (Diagnose workers log names) found count = some_of_log diagnosis_text (text_fault_line (roles_of (Diagnose workers log names))) (OnDenoted diagnosing) (length names.bsdl) found count logs.diagnoses
+some_given devices chains idents boards logs (Groups log names) found count = some_of_log grouping_text (text_fault_line (roles_of (Groups log names))) (OnDenoted grouping) (length names.bsdl) found count logs.groups
+some_given devices chains idents boards logs (Batch workers log names) found count = some_of_log verdicts_text (text_fault_line (roles_of (Batch workers log names))) (OnDenoted judging_each) (length names.bsdl) found count logs.each
 
 -- texts that say something give some outcome
-pub some_outcome : SomeDevice → SomeChain → SomeIdents → SomeBoard → SomeLog → SomeOutcome
+pub some_outcome : SomeDevice → SomeChain → SomeIdents → SomeBoard → LogsSaySome → SomeOutcome
 some_outcome devices chains idents boards logs command texts (TooLong wanted) reads = (Err (long_line wanted), refl)
 some_outcome devices chains idents boards logs command texts (Read found) reads =
     some_given devices chains idents boards logs command found (count_read texts (wanted_of command) found reads ∙ wanted_count command)

@@ -14,7 +14,7 @@ use Rattle.tap_defs.specs.BoardScans.{AreTestScans, board_text, pass_text, test_
 use Rattle.scan_planner.specs.declared.tables.PlanTables.{PlanTables}
 use Rattle.scan_planner.specs.Plans.{IsPlanOf}
 use Rattle.command_line.specs.Words.{Text}
-use Rattle.btest_cli.specs.LogRead.{row_count}
+use Rattle.btest_cli.specs.LogRead.{test_rows}
 use Rattle.btest_cli.proofs.PieceLemmas.{puts_cut}
 
 same_scan : (x y : Scan) → ◌≡◌ {A = Option Scan} (Some x) (Some y) → x ≡ y
@@ -44,6 +44,13 @@ below_count board passes width k count placed is below = subst (λ n. k < n) (is
 
 pub past_count : (board : RawBoard) (passes : List (List Ctl)) (width k count : ℕ) → AreTestScans board passes width (test_scans board passes width) → count ≡ 3 + length passes * suc width → count ≤ k → length (test_scans board passes width) ≤ k
 past_count board passes width k count placed is past = subst (λ n. n ≤ k) (is ∙ sym placed.count) past
+
+-- the same where so many scans are counted
+pub below : (scans : List Scan) (k count : ℕ) → count ≡ length scans → k < count → k < length scans
+below scans k count is within = subst (λ n. k < n) is within
+
+pub past : (scans : List Scan) (k count : ℕ) → count ≡ length scans → count ≤ k → length scans ≤ k
+past scans k count is beyond = subst (λ n. n ≤ k) is beyond
 
 next : (k : ℕ) → suc k ≡ k + 1
 next k = omega arith
@@ -88,6 +95,6 @@ pub plan_text : (board : RawBoard) (plan : PlanTables) → IsPlanOf board plan �
 plan_text board plan is passes = ap (pass_text board plan.passes) is.width_is ∙ ap (λ ps. pass_text board ps (code_width (observed_count board ps))) passes
 
 -- a plan of the board's passes has the rows of its test
-pub rows_are : (board : RawBoard) (plan : PlanTables) → IsPlanOf board plan → plan.passes ≡ passes_of board → length plan.passes * plan.width ≡ row_count board
+pub rows_are : (board : RawBoard) (plan : PlanTables) → IsPlanOf board plan → plan.passes ≡ passes_of board → length plan.passes * plan.width ≡ test_rows board
 rows_are board plan planned same =
     ap (λ (w : ℕ). length plan.passes * w) planned.width_is ∙ ap (λ (p : List (List Ctl)). length p * code_width (observed_count board p)) same

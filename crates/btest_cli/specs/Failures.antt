@@ -11,7 +11,7 @@ use Rattle.btest_cli.specs.declared.status.Status.{Status}
 use Rattle.btest_cli.specs.declared.status.Status.TheVariants.{Refused, ReadFault, WriteFault, NoMemory}
 use Rattle.btest_cli.specs.declared.texts.Wanted.{Wanted as Lent}
 use Rattle.btest_cli.specs.Texts.{Held, Wanted, TooLong, Asks, IsRead, IsReadUpTo, names_in}
-use Rattle.btest_cli.specs.Refusals.{Names, roles_of, input_fault_line, log_fault_line, long_line, read_line, write_line, memory_line}
+use Rattle.btest_cli.specs.Refusals.{Names, roles_of, input_fault_line, log_fault_line, batch_fault_line, long_line, read_line, write_line, memory_line}
 use Rattle.btest_cli.specs.Outcome.{IsGiven}
 use Rattle.btest_cli.specs.Worth.{IsWorthFor}
 
@@ -32,12 +32,14 @@ unread_line unread.Memory = memory_line
 abbrev pub unput_status : Unput → Status
 unput_status (unput.Input fault) = Refused
 unput_status (unput.Log rows fault) = Refused
+unput_status (unput.Batch rows fault) = Refused
 unput_status unput.Write = WriteFault
 unput_status unput.Memory = NoMemory
 
 abbrev pub unput_line : Names → Unput → Text
 unput_line names (unput.Input fault) = input_fault_line names fault
 unput_line names (unput.Log rows fault) = log_fault_line names.log rows fault
+unput_line names (unput.Batch rows fault) = batch_fault_line names.log rows fault
 unput_line names unput.Write = write_line
 unput_line names unput.Memory = memory_line
 
@@ -66,6 +68,7 @@ pub record IsPut (command : Command) (texts : List Text) (old new : Shown) : Typ
 abbrev pub IsUnput : Command → List Text → Shown → Shown → Unput → Type 0
 IsUnput command texts old new (unput.Input fault) = IsGiven command texts (Err (input_fault_line (roles_of command) fault)) × (new ≡ old)
 IsUnput command texts old new (unput.Log rows fault) = IsGiven command texts (Err (log_fault_line (roles_of command).log rows fault)) × (new ≡ old)
+IsUnput command texts old new (unput.Batch rows fault) = IsGiven command texts (Err (batch_fault_line (roles_of command).log rows fault)) × (new ≡ old)
 IsUnput command texts old new unput.Write = IsCut command texts old new
 IsUnput command texts old new unput.Memory = new ≡ old
 

@@ -1,5 +1,5 @@
--- What a response log says of the board that texts denote.
-use Rattle.std.specs.Prelude.{◌≡◌, ℕ, ◌*◌, Bool, List, length, Result, Ok, Err}
+-- What a text of response logs says of the board that texts denote.
+use Rattle.std.specs.Prelude.{◌≡◌, ◌⊎◌, ℕ, ◌*◌, Bool, List, length, Option, Result, Ok, Err}
 use Rattle.board_defs.specs.declared.board.RawBoard.{RawBoard}
 use Rattle.board_defs.specs.declared.fault.Single.{Single}
 use Rattle.board_defs.specs.Passes.{passes_of}
@@ -9,49 +9,99 @@ use Rattle.response_log.specs.declared.fault.LogFault.{LogFault}
 use Rattle.response_log.specs.LogRows.{log_rows}
 use Rattle.fault_sim.specs.Diagnosis.{IsDiagnosis}
 use Rattle.diagnoser.specs.DiagText.{diag_text}
+use Rattle.batch_diag.specs.declared.block.Block.{Block}
+use Rattle.batch_diag.specs.declared.fault.BatchFault.{BatchFault}
+use Rattle.batch_diag.specs.declared.verdict.Verdict.{Verdict}
+use Rattle.batch_diag.specs.Batch.{batch_of}
+use Rattle.batch_diag.specs.Verdicts.{AreVerdicts}
+use Rattle.batch_diag.specs.BatchText.{batch_text}
+use Rattle.walk_test.specs.Groups.{AreFound}
+use Rattle.walk_test.specs.GroupText.{groups_text}
+use Rattle.walk_test.specs.WalkTest.{walk_nets}
 use Rattle.btest_core.specs.declared.fault.InputFault.{InputFault}
 use Rattle.btest_core.specs.BoardRead.{IsBoardRead, Denotes}
 use Rattle.command_line.specs.Words.{Text}
 
--- the first fault of the texts of a board, or that of a log of which so many rows are wanted
+-- the first fault of the texts of a board, that of a log of which so many rows are wanted, or that of a batch of such logs
 pub data TextFault : Type 0 where
   Input : InputFault → TextFault
   Log : ℕ → LogFault → TextFault
+  Batch : ℕ → BatchFault → TextFault
 
--- a board, whether a log of its test passes, and the single faults that explain the log
-pub record Diagnosis : Type 0 where
-  pub board : RawBoard
-  pub pass : Bool
-  pub faults : List Single
+-- how logs are read and judged: how many rows a log of the board has, what a text holds for a board or how it is wrong, and what is
+-- found in what it holds
+pub record Judging (L E A : Type 0) : Type 1 where
+  pub row_count : RawBoard → ℕ
+  pub read : Text → RawBoard → Result L E
+  pub wrong : ℕ → E → TextFault
+  pub Finds : RawBoard → L → A → Type 0
+
+-- the text holds what is judged, and this is found in it
+pub record IsJudged {L E A : Type 0} (judging : Judging L E A) (text : Text) (board : RawBoard) (found : A) : Type 0 where
+  pub contents : L
+  pub holds : judging.read text board ≡ Ok contents
+  pub finds : judging.Finds board contents found
+
+-- the text is wrong for the board, and this is its fault
+pub record IsWrong {L E A : Type 0} (judging : Judging L E A) (text : Text) (board : RawBoard) (fault : TextFault) : Type 0 where
+  pub cause : E
+  pub fails : judging.read text board ≡ Err cause
+  pub is : fault ≡ judging.wrong (judging.row_count board) cause
+
+-- what a text says of a board
+abbrev pub OnBoard : {L E A : Type 0} → Judging L E A → Text → RawBoard → Result A TextFault → Type 0
+OnBoard judging text board (Ok found) = IsJudged judging text board found
+OnBoard judging text board (Err fault) = IsWrong judging text board fault
+
+-- the first fault of the texts that are to denote a board
+abbrev pub IsInputFault : Text → Text → List Text → TextFault → Type 0
+IsInputFault chain nets texts (Input fault) = IsBoardRead chain nets texts (Err fault)
+IsInputFault chain nets texts (Log rows fault) = ⊥
+IsInputFault chain nets texts (Batch rows fault) = ⊥
+
+-- what a text says of the board that the others denote, with this board, or the first fault: that of the text after all others
+abbrev pub OnDenoted : {L E A : Type 0} → Judging L E A → Text → Text → Text → List Text → Result (RawBoard × A) TextFault → Type 0
+OnDenoted judging text chain nets texts (Ok (board, found)) = Denotes chain nets texts board × OnBoard judging text board (Ok found)
+OnDenoted judging text chain nets texts (Err fault) =
+    IsInputFault chain nets texts fault ⊎ ((board : RawBoard) × Denotes chain nets texts board × OnBoard judging text board (Err fault))
 
 -- how many rows a log of the board's test has
-abbrev pub row_count : RawBoard → ℕ
-row_count board = length (passes_of board) * code_width (observed_count board (passes_of board))
+abbrev pub test_rows : RawBoard → ℕ
+test_rows board = length (passes_of board) * code_width (observed_count board (passes_of board))
 
 -- the rows of a log of the board's test
-abbrev pub board_log : Text → RawBoard → Result (List (List Bool)) LogFault
-board_log text board = log_rows text (row_count board) (data_bits board)
+abbrev pub test_log : Text → RawBoard → Result (List (List Bool)) LogFault
+test_log text board = log_rows text (test_rows board) (data_bits board)
 
--- the texts denote a board, the log is one of its test, and this is its diagnosis
-pub record IsDiagnosisOf (log chain nets : Text) (texts : List Text) (found : Diagnosis) : Type 0 where
-  pub denoted : Denotes chain nets texts found.board
-  pub rows : List (List Bool)
-  pub read : board_log log found.board ≡ Ok rows
-  pub diagnosis : IsDiagnosis found.board rows found.pass found.faults
+-- a log of the board's test, whether it passes, and the single faults that explain it
+abbrev pub diagnosing : Judging (List (List Bool)) LogFault (Bool × List Single)
+diagnosing = record { row_count = test_rows; read = test_log; wrong = Log; Finds = λ board rows found. IsDiagnosis board rows found.0 found.1 }
 
--- the texts denote a board, and the log is none of its test
-pub record IsLogFault (log chain nets : Text) (texts : List Text) (rows : ℕ) (fault : LogFault) : Type 0 where
-  pub board : RawBoard
-  pub denoted : Denotes chain nets texts board
-  pub wanted : rows ≡ row_count board
-  pub faulty : board_log log board ≡ Err fault
+abbrev pub diagnosis_text : RawBoard × (Bool × List Single) → Text
+diagnosis_text (board, found) = diag_text board found.0 found.1
 
--- what the log says of the board that the texts denote, or the first fault, that of the log after all others
-abbrev pub IsDiagnosed : Text → Text → Text → List Text → Result Diagnosis TextFault → Type 0
-IsDiagnosed log chain nets texts (Ok found) = IsDiagnosisOf log chain nets texts found
-IsDiagnosed log chain nets texts (Err (Input fault)) = IsBoardRead chain nets texts (Err fault)
-IsDiagnosed log chain nets texts (Err (Log rows fault)) = IsLogFault log chain nets texts rows fault
+-- the blocks of a batch of logs of the board's test
+abbrev pub test_blocks : Text → RawBoard → Result (List Block) BatchFault
+test_blocks text board = batch_of text (test_rows board) (data_bits board)
 
--- the text of a diagnosis
-abbrev pub diagnosis_text : Diagnosis → Text
-diagnosis_text found = diag_text found.board found.pass found.faults
+-- a batch of logs of the board's test, and a verdict on each
+abbrev pub judging_each : Judging (List Block) BatchFault (List Block × List Verdict)
+judging_each = record { row_count = test_rows; read = test_blocks; wrong = Batch; Finds = λ board blocks found. (found.0 ≡ blocks) × AreVerdicts board blocks found.1 }
+
+abbrev pub verdicts_text : RawBoard × (List Block × List Verdict) → Text
+verdicts_text (board, found) = batch_text board found.0 found.1
+
+-- how many rows a log of the board's walking test has
+abbrev pub walk_rows : RawBoard → ℕ
+walk_rows board = length (walk_nets board)
+
+-- the rows of a log of the board's walking test
+abbrev pub walk_log : Text → RawBoard → Result (List (List Bool)) LogFault
+walk_log text board = log_rows text (walk_rows board) (data_bits board)
+
+-- a log of the board's walking test, and the set of groups that explains it, where one does
+abbrev pub grouping : Judging (List (List Bool)) LogFault (Option (List (List ℕ)))
+grouping = record { row_count = walk_rows; read = walk_log; wrong = Log; Finds = AreFound }
+
+abbrev pub grouping_text : RawBoard × Option (List (List ℕ)) → Text
+grouping_text (board, groups) = groups_text board groups

@@ -14,11 +14,12 @@ use Rattle.board_gen.specs.DeviceText.{bsdl_text}
 use Rattle.btest_core.specs.DevicesRead.{IsDeviceText}
 use Rattle.btest_core.specs.BoardRead.{AreChainLengths, IsBoardRead}
 use Rattle.btest_core.specs.IdentsRead.{AreIdents}
-use Rattle.command_line.specs.Words.{Text, Command, Chain, Device, Cover, Svf, Ident, Make, Diagnose, command_of, names_of}
+use Rattle.command_line.specs.Words.{Text, Command, Chain, Device, Cover, Svf, Walk, Ident, Make, Diagnose, Groups, Batch, command_of, names_of}
 use Rattle.btest_cli.specs.declared.status.Status.{Status}
 use Rattle.btest_cli.specs.declared.status.Status.TheVariants.{Done, Refused, NoMemory}
 use Rattle.btest_cli.specs.Texts.{Held, Wanted, Reading, Read, TooLong, reading_of, IsRead, IsReadUpTo, Asks, AsksFor, wanted_of}
-use Rattle.btest_cli.specs.LogRead.{IsDiagnosed, diagnosis_text}
+use Rattle.walk_test.specs.WalkTest.{board_walk_text}
+use Rattle.btest_cli.specs.LogRead.{Judging, OnDenoted, diagnosing, diagnosis_text, grouping, grouping_text, judging_each, verdicts_text}
 use Rattle.btest_cli.specs.Refusals.{roles_of, input_fault_line, text_fault_line, long_line, read_line}
 use Rattle.btest_cli.specs.Summary.{summary_text}
 use Rattle.btest_cli.specs.Worth.{IsWorthFor}
@@ -56,9 +57,12 @@ IsGiven (Chain names) texts outcome = IsSaidOfChain chain_text (input_fault_line
 IsGiven (Device name) texts outcome = IsSaidOfText device_text (input_fault_line (roles_of (Device name))) IsDeviceText texts outcome
 IsGiven (Cover names) texts outcome = IsSaidOfBoard cover_text (input_fault_line (roles_of (Cover names))) IsBoardRead texts outcome
 IsGiven (Svf names) texts outcome = IsSaidOfBoard board_text (input_fault_line (roles_of (Svf names))) IsBoardRead texts outcome
+IsGiven (Walk names) texts outcome = IsSaidOfBoard board_walk_text (input_fault_line (roles_of (Walk names))) IsBoardRead texts outcome
 IsGiven (Ident names) texts outcome = IsSaidOfChain ident_text (input_fault_line (roles_of (Ident names))) AreIdents texts outcome
 IsGiven (Make number) texts outcome = IsSaid summary_text (input_fault_line (roles_of (Make number))) (IsBoardRead (made.chain_text number) (made.net_text number) (bsdl_text ∷ [])) outcome
-IsGiven (Diagnose workers log names) texts outcome = IsSaidOfLog diagnosis_text (text_fault_line (roles_of (Diagnose workers log names))) IsDiagnosed texts outcome
+IsGiven (Diagnose workers log names) texts outcome = IsSaidOfLog diagnosis_text (text_fault_line (roles_of (Diagnose workers log names))) (OnDenoted diagnosing) texts outcome
+IsGiven (Groups log names) texts outcome = IsSaidOfLog grouping_text (text_fault_line (roles_of (Groups log names))) (OnDenoted grouping) texts outcome
+IsGiven (Batch workers log names) texts outcome = IsSaidOfLog verdicts_text (text_fault_line (roles_of (Batch workers log names))) (OnDenoted judging_each) texts outcome
 
 -- the same for what was read: a text that is too long is the first fault
 abbrev pub IsOutcome : Command → Reading → Result Text Text → Type 0

@@ -16,11 +16,13 @@ use Rattle.series_parts.specs.declared.fault.LinkFault.{LinkFault}
 use Rattle.series_parts.specs.declared.fault.LinkFault.TheVariants as link
 use Rattle.btest_core.specs.declared.fault.InputFault.{InputFault}
 use Rattle.btest_core.specs.declared.fault.InputFault.TheVariants as input
-use Rattle.command_line.specs.Words.{Text, Command, Chain, Device, Cover, Svf, Ident, Make, Diagnose}
+use Rattle.command_line.specs.Words.{Text, Command, Chain, Device, Cover, Svf, Walk, Ident, Make, Diagnose, Groups, Batch}
 use Rattle.btest_cli.specs.Texts.{Wanted}
 use Rattle.response_log.specs.declared.fault.LogFault.{LogFault}
 use Rattle.response_log.specs.declared.fault.LogFault.TheVariants as log
-use Rattle.btest_cli.specs.LogRead.{TextFault, Input, Log}
+use Rattle.batch_diag.specs.declared.fault.BatchFault.{BatchFault}
+use Rattle.batch_diag.specs.declared.fault.BatchFault.TheVariants as batch
+use Rattle.btest_cli.specs.LogRead.{TextFault, Input, Log, Batch as OfBatch}
 
 -- pieces, one after the other
 abbrev pub whole : List Text → Text
@@ -153,10 +155,26 @@ log_fault_line name rows (log.Extra n) = at_line name n (codes ": row too many\n
 log_fault_line name rows (log.Missing found) = whole (name ∷ codes ": " ∷ decimal found ∷ codes " rows of " ∷ decimal rows ∷ codes "\n" ∷ [])
 log_fault_line name rows (log.Memory e) = memory_line
 
--- the first fault of the texts and of the log
+-- the lines of a block of a batch that are no log, by the number of its board; so many rows are wanted
+abbrev pub block_fault_line : Text → ℕ → ℕ → LogFault → Text
+block_fault_line name rows board (log.Digit n) = log_fault_line name rows (log.Digit n)
+block_fault_line name rows board (log.Length n) = log_fault_line name rows (log.Length n)
+block_fault_line name rows board (log.Extra n) = log_fault_line name rows (log.Extra n)
+block_fault_line name rows board (log.Missing found) = whole (name ∷ codes " board " ∷ decimal board ∷ codes ": " ∷ decimal found ∷ codes " rows of " ∷ decimal rows ∷ codes "\n" ∷ [])
+block_fault_line name rows board (log.Memory e) = memory_line
+
+-- a batch of logs of which so many rows are wanted
+abbrev pub batch_fault_line : Text → ℕ → BatchFault → Text
+batch_fault_line name rows (batch.Start n) = at_line name n (codes ": no board yet\n")
+batch_fault_line name rows (batch.Title n) = at_line name n (codes ": board not allowed\n")
+batch_fault_line name rows (batch.Inner board fault) = block_fault_line name rows board fault
+batch_fault_line name rows (batch.Memory e) = memory_line
+
+-- the first fault of the texts and of the logs
 abbrev pub text_fault_line : Names → TextFault → Text
 text_fault_line names (Input fault) = input_fault_line names fault
 text_fault_line names (Log rows fault) = log_fault_line names.log rows fault
+text_fault_line names (OfBatch rows fault) = batch_fault_line names.log rows fault
 
 -- the names of the texts of a command, by what they hold
 abbrev pub roles_of : Command → Names
@@ -164,6 +182,9 @@ roles_of (Chain names) = record { log = []; chain = names.chain; nets = []; bsdl
 roles_of (Device bsdl) = record { log = []; chain = []; nets = []; bsdl = bsdl ∷ [] }
 roles_of (Cover names) = record { log = []; chain = names.chain; nets = names.nets; bsdl = names.bsdl }
 roles_of (Svf names) = record { log = []; chain = names.chain; nets = names.nets; bsdl = names.bsdl }
+roles_of (Walk names) = record { log = []; chain = names.chain; nets = names.nets; bsdl = names.bsdl }
 roles_of (Ident names) = record { log = []; chain = names.chain; nets = []; bsdl = names.bsdl }
 roles_of (Make number) = record { log = []; chain = codes "chain"; nets = codes "nets"; bsdl = codes "bsdl" ∷ [] }
 roles_of (Diagnose workers log names) = record { log = log; chain = names.chain; nets = names.nets; bsdl = names.bsdl }
+roles_of (Groups log names) = record { log = log; chain = names.chain; nets = names.nets; bsdl = names.bsdl }
+roles_of (Batch workers log names) = record { log = log; chain = names.chain; nets = names.nets; bsdl = names.bsdl }

@@ -1,10 +1,12 @@
 // The command `svf`.
-ghost use Rattle.std.specs.Prelude.{◌≡◌, ◌<◌, ◌≤◌, ◌^◌, All, IfOk, IfSome, length, map, slice_get};
+ghost use Rattle.std.specs.Prelude.{◌≡◌, ◌<◌, ◌≤◌, ◌^◌, All, IfOk, IfSome, List, Some, length, map, slice_get};
 ghost use Rattle.bt_base.specs.Puts.{Puts};
 ghost use Rattle.board_defs.specs.Passes.{passes_of};
-ghost use Rattle.tap_defs.specs.BoardScans.{board_text, pass_text, test_scans};
+ghost use Rattle.tap_defs.specs.BoardScans.{RowScan, board_scans, board_text, pass_text, test_scans};
 ghost use Rattle.tap_defs.specs.BoardTest.{IsBoardTest};
-ghost use Rattle.tap_defs.specs.Text.{scan_text};
+ghost use Rattle.tap_defs.specs.Clocks.{test_clocks};
+ghost use Rattle.tap_defs.specs.Svf.{meaning};
+ghost use Rattle.tap_defs.specs.Text.{scan_text, svf_text};
 ghost use Rattle.scan_planner.specs.Plans.{IsPlanOf, IsRoom, scan_count};
 ghost use Rattle.btest_core.specs.BoardRead.{IsBoardRead};
 ghost use Rattle.btest_cli.specs.Worth.{TestsBoard};
@@ -20,7 +22,7 @@ use net_classes::classify;
 use scan_planner::Plan;
 use std::alloc::{AllocError, Global};
 use svf_writer::{write_head, write_scan, write_tail};
-use tap_defs::law::{board_texts_test, scans_placed};
+use tap_defs::law::{board_texts_test, scans_placed, texts_mean};
 
 /// Puts the text that tests the board of these texts. All memory is
 /// taken before the first put.
@@ -63,6 +65,14 @@ fn tests_board(board: &Board)
 {
     let _rules = board.raw();
     board_texts_test();
+}
+
+/// What the text of any scans of data of the board means.
+pub fn test_means(board: &Board)
+    ensures { (scans : List RowScan) → meaning (svf_text (board_scans board.now scans)) ≡ Some (test_clocks (board_scans board.now scans)) }
+{
+    let _rules = board.raw();
+    texts_mean();
 }
 
 /// How many bits the longer scan of the board has.

@@ -1,15 +1,16 @@
 // Why a command put no whole text, its status and its line.
 ghost use Rattle.std.specs.Prelude.{◌≡◌};
 ghost use Rattle.bt_base.specs.Puts.{Puts};
-ghost use Rattle.btest_cli.specs.Answers.{unput_log, unput_of};
+ghost use Rattle.btest_cli.specs.Answers.{unput_batch, unput_log, unput_of};
 ghost use Rattle.btest_cli.specs.Failures.{unread_status, unread_line, unput_status, unput_line};
 ghost use Rattle.btest_cli.specs.NamesView.{names_view};
 
 use crate::notes::{
-    Names, put_input_fault, put_log_fault, put_memory, put_not_read, put_not_written, put_too_long,
+    Names, put_batch_fault, put_input_fault, put_log_fault, put_memory, put_not_read, put_not_written, put_too_long,
 };
 use crate::status::Status;
 use crate::texts::Wanted;
+use batch_diag::BatchFault;
 use bt_base::{PutFault, Sink};
 use btest_core::InputFault;
 use response_log::LogFault;
@@ -32,6 +33,8 @@ pub enum Unput {
     Input(InputFault),
     /// The first fault of a response log, of which so many rows are wanted.
     Log { rows: u64, fault: LogFault },
+    /// The first fault of a batch of response logs, of which so many rows are wanted each.
+    Batch { rows: u64, fault: BatchFault },
     /// The defined text was not put whole.
     Write,
     /// There was not enough memory.
@@ -58,6 +61,16 @@ pub fn unput_by_log(rows: u64, fault: LogFault) -> Unput
     }
 }
 
+/// Why nothing is put where a batch of logs of which so many rows are wanted has this fault.
+pub fn unput_by_batch(rows: u64, fault: BatchFault) -> Unput
+    ensures { result ≡ unput_batch rows fault }
+{
+    match fault {
+        BatchFault::Memory(_) => Unput::Memory,
+        fault => Unput::Batch { rows, fault },
+    }
+}
+
 /// The status of texts that were not read.
 pub fn unread_status(failure: &Unread) -> Status
     ensures { result ≡ unread_status failure.now }
@@ -74,7 +87,7 @@ pub fn unput_status(failure: &Unput) -> Status
     ensures { result ≡ unput_status failure.now }
 {
     match failure {
-        Unput::Input(_) | Unput::Log { .. } => Status::Refused,
+        Unput::Input(_) | Unput::Log { .. } | Unput::Batch { .. } => Status::Refused,
         Unput::Write => Status::WriteFault,
         Unput::Memory => Status::NoMemory,
     }
@@ -98,6 +111,7 @@ pub fn put_unput<N: Sink>(names: Names, failure: &Unput, notes: &mut N) -> Resul
     match failure {
         Unput::Input(fault) => put_input_fault(names, fault, notes),
         Unput::Log { rows, fault } => put_log_fault(names.log, *rows, fault, notes),
+        Unput::Batch { rows, fault } => put_batch_fault(names.log, *rows, fault, notes),
         Unput::Write => put_not_written(notes),
         Unput::Memory => put_memory(notes),
     }

@@ -4,12 +4,16 @@
 mod board_cover;
 mod board_summary;
 mod board_test;
+mod board_walk;
 mod chain_test;
 mod device_listing;
 mod failure;
 mod ident_codes;
+mod log_batch;
 mod log_diagnosis;
+mod log_groups;
 mod notes;
+mod planned;
 mod rows;
 mod status;
 mod texts;

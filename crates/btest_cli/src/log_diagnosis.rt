@@ -1,17 +1,18 @@
 // The command `diagnose`.
 ghost use Rattle.std.specs.Prelude.{◌≡◌, ◌<◌, ◌≤◌, ◌^◌, All, length, map};
-ghost use Rattle.btest_cli.specs.LogRead.{IsDiagnosed, diagnosis_text};
-ghost use Rattle.btest_cli.specs.Worth.{Diagnoses};
+ghost use Rattle.board_defs.specs.Passes.{passes_of};
+ghost use Rattle.scan_planner.specs.Plans.{IsPlanOf};
+ghost use Rattle.btest_cli.specs.LogRead.{OnBoard, OnDenoted, diagnosing, diagnosis_text};
+ghost use Rattle.btest_cli.specs.Worth.{Diagnoses, OfDenoted};
 ghost use Rattle.btest_cli.specs.Answers.{LogAnswers};
 
-use crate::board_test::board_plan;
-use crate::failure::{Unput, unput_by, unput_by_log};
-use crate::texts::BoardTexts;
+use crate::board_test::test_means;
+use crate::failure::{Unput, unput_by_log};
+use crate::planned::{Planned, planned_board};
+use crate::texts::LogTexts;
 use bt_base::{Gate, Sink};
 use bt_bits::Line;
-use btest_core::law::inputs_keep_rules;
-use btest_core::read_board;
-use diagnoser::law::explaining_listed;
+use diagnoser::law::{explaining_listed, passing_unexplained};
 use diagnoser::{diagnose, write_diagnosis};
 use fault_sim::is_pass;
 use response_log::log;
@@ -23,42 +24,61 @@ use std::thread::Threads;
 pub fn diagnosis<R: Threads + Sync, K: Sink, G: Gate>(
     rt: &R,
     alloc: Global,
-    text: &[u8],
-    texts: BoardTexts,
+    texts: LogTexts,
     workers: u32,
     gate: &G,
     out: &mut K,
 ) -> Result<(), Unput>
-    requires log { length text.now < 2 ^ 32 }
-    requires chain { length texts.chain.now < 2 ^ 32 }
-    requires nets { length texts.nets.now < 2 ^ 32 }
-    requires each { All (λ text. length text.items < 2 ^ 32) texts.bsdl.now }
-    requires count { length texts.bsdl.now < 2 ^ 32 }
+    requires log { length texts.log.now < 2 ^ 32 }
+    requires chain { length texts.board.chain.now < 2 ^ 32 }
+    requires nets { length texts.board.nets.now < 2 ^ 32 }
+    requires each { All (λ text. length text.items < 2 ^ 32) texts.board.bsdl.now }
+    requires count { length texts.board.bsdl.now < 2 ^ 32 }
     requires some { 1 ≤ workers }
     requires few { workers ≤ 64 }
-    ensures { LogAnswers (IsDiagnosed text.now texts.entry.chain.now texts.entry.nets.now (map (λ text. text.items) texts.entry.bsdl.now)) diagnosis_text (Diagnoses text.now texts.entry.chain.now texts.entry.nets.now (map (λ text. text.items) texts.entry.bsdl.now) (K.shown out.old)) (K.shown out.old) (K.shown out.new) result }
+    ensures { LogAnswers (OnDenoted diagnosing texts.entry.log.now texts.entry.board.chain.now texts.entry.board.nets.now (map (λ text. text.items) texts.entry.board.bsdl.now)) diagnosis_text (OfDenoted (Diagnoses texts.entry.log.now) texts.entry.board.chain.now texts.entry.board.nets.now (map (λ text. text.items) texts.entry.board.bsdl.now) (K.shown out.old)) (K.shown out.old) (K.shown out.new) result }
 {
-    let board = match read_board(alloc, texts.chain, texts.nets, texts.bsdl) {
-        Ok(board) => board,
-        Err(fault) => return Err(unput_by(fault)),
+    let planned = match planned_board(alloc, texts.board) {
+        Ok(planned) => planned,
+        Err(failure) => return Err(failure),
     };
-    let Ok(plan) = board_plan(alloc, &board) else {
-        return Err(Unput::Memory);
-    };
+    put_diagnosis(rt, alloc, &planned, texts.log, workers, gate, out)
+}
+
+// Puts the diagnosis of a log of the board's test.
+fn put_diagnosis<R: Threads + Sync, K: Sink, G: Gate>(
+    rt: &R,
+    alloc: Global,
+    planned: &Planned,
+    text: &[u8],
+    workers: u32,
+    gate: &G,
+    out: &mut K,
+) -> Result<(), Unput>
+    requires plan { IsPlanOf planned.now.board planned.now.plan }
+    requires passes { planned.now.plan.passes ≡ passes_of planned.now.board }
+    requires text { length text.now < 2 ^ 32 }
+    requires some { 1 ≤ workers }
+    requires few { workers ≤ 64 }
+    ensures { LogAnswers (OnBoard diagnosing text.now planned.now.board) (λ found. diagnosis_text (planned.now.board, found)) (Diagnoses text.now planned.now.board (K.shown out.old)) (K.shown out.old) (K.shown out.new) result }
+{
+    let Planned { board, plan } = planned;
     let log = match log(alloc, text, plan.rows(), board.dr_bits()) {
         Ok(log) => log,
         Err(fault) => return Err(unput_by_log(plan.rows(), fault)),
     };
-    let pass = is_pass(&board, &plan, &log);
-    let Ok(faults) = diagnose(rt, alloc, &board, &plan, &log, workers, gate) else {
+    let pass = is_pass(board, plan, &log);
+    let Ok(faults) = diagnose(rt, alloc, board, plan, &log, workers, gate) else {
         return Err(Unput::Memory);
     };
     let Ok(mut line) = Line::new(alloc) else {
         return Err(Unput::Memory);
     };
-    inputs_keep_rules();
+    let _rules = board.raw();
+    test_means(board);
     explaining_listed();
-    match write_diagnosis(&board, pass, &faults, &mut line, out) {
+    passing_unexplained();
+    match write_diagnosis(board, pass, &faults, &mut line, out) {
         Ok(()) => Ok(()),
         Err(_) => Err(Unput::Write),
     }

@@ -1,11 +1,12 @@
 // The lines on standard error.
 ghost use Rattle.std.specs.Prelude.{◌≡◌, ◌++◌, ◌∷◌, [], List, map, codes, decimal, string_bytes};
 ghost use Rattle.bt_base.specs.Puts.{Puts};
-ghost use Rattle.btest_cli.specs.Refusals.{whole, about, at_line, at_spot, line_fault_line, board_fault_line, limit_line, lex_fault_line, parse_fault_line, rule_line, string_line, attribute_name, device_fault_line, link_fault_line, input_fault_line, log_fault_line, text_name, long_line, read_line, usage_line, write_line, memory_line};
+ghost use Rattle.btest_cli.specs.Refusals.{whole, about, at_line, at_spot, line_fault_line, board_fault_line, limit_line, lex_fault_line, parse_fault_line, rule_line, string_line, attribute_name, device_fault_line, link_fault_line, input_fault_line, log_fault_line, block_fault_line, batch_fault_line, text_name, long_line, read_line, usage_line, write_line, memory_line};
 ghost use Rattle.btest_cli.specs.NamesView.{names_view, text_names_view};
 ghost use Rattle.btest_cli.specs.Failures.{wanted_view};
 
 use crate::texts::Wanted;
+use batch_diag::BatchFault;
 use board_build::BoardFault;
 use board_defs::Spot;
 use board_files::LineFault;
@@ -347,6 +348,70 @@ pub fn put_log_fault<N: Sink>(
         LogFault::Extra(line) => put_at_line(name, *line, b": row too many\n", notes),
         LogFault::Missing(found) => put_missing_rows(name, *found, rows, notes),
         LogFault::Memory(_) => put_memory(notes),
+    }
+}
+
+// Puts how many rows the log of a board has, and how many are wanted.
+fn put_missing_of_board<N: Sink>(
+    name: &str,
+    board: u32,
+    found: u64,
+    rows: u64,
+    notes: &mut N,
+) -> Result<(), PutFault>
+    ensures { Puts (N.shown notes.old) (N.shown notes.new) (whole (name.now ∷ codes " board " ∷ decimal board ∷ codes ": " ∷ decimal found ∷ codes " rows of " ∷ decimal rows ∷ codes "\n" ∷ [])) result }
+{
+    let mut first = Buffer::new();
+    let board = first.format(board).as_bytes();
+    let mut second = Buffer::new();
+    let found = second.format(found).as_bytes();
+    let mut third = Buffer::new();
+    let rows = third.format(rows).as_bytes();
+    put_all(
+        name.as_bytes(),
+        &[
+            b" board ".as_slice(),
+            board,
+            b": ".as_slice(),
+            found,
+            b" rows of ".as_slice(),
+            rows,
+            b"\n".as_slice(),
+        ],
+        notes,
+    )
+}
+
+// Puts the line of a block of a batch that is no log of so many rows.
+fn put_block_fault<N: Sink>(
+    name: &str,
+    rows: u64,
+    board: u32,
+    fault: &LogFault,
+    notes: &mut N,
+) -> Result<(), PutFault>
+    ensures { Puts (N.shown notes.old) (N.shown notes.new) (block_fault_line name.now rows board fault.now) result }
+{
+    match fault {
+        LogFault::Missing(found) => put_missing_of_board(name, board, *found, rows, notes),
+        fault => put_log_fault(name, rows, fault, notes),
+    }
+}
+
+/// Puts the line of the first fault of a batch of logs of which so many rows are wanted.
+pub fn put_batch_fault<N: Sink>(
+    name: &str,
+    rows: u64,
+    fault: &BatchFault,
+    notes: &mut N,
+) -> Result<(), PutFault>
+    ensures { Puts (N.shown notes.old) (N.shown notes.new) (batch_fault_line name.now rows fault.now) result }
+{
+    match fault {
+        BatchFault::Start(line) => put_at_line(name, *line, b": no board yet\n", notes),
+        BatchFault::Title(line) => put_at_line(name, *line, b": board not allowed\n", notes),
+        BatchFault::Inner { board, fault } => put_block_fault(name, rows, *board, fault, notes),
+        BatchFault::Memory(_) => put_memory(notes),
     }
 }
 

@@ -12,7 +12,7 @@ use std::alloc::Global;
 // The most bytes of a chain file, a net file or a BSDL text.
 const MOST_BYTES: u32 = 4_194_304;
 
-// The most bytes of a response log.
+// The most bytes of a response log, or of many of them in one text.
 const MOST_LOG_BYTES: u32 = 67_108_864;
 
 /// A text that is wanted: its name, and the most bytes that it may have.
@@ -40,7 +40,14 @@ pub struct BoardTexts<'a> {
     pub bsdl: &'a [Vec<u8>],
 }
 
-/// A response log of this name.
+/// A text of logs, and those of the board that they are of.
+#[derive(Clone, Copy)]
+pub struct LogTexts<'a> {
+    pub log: &'a [u8],
+    pub board: BoardTexts<'a>,
+}
+
+/// A response log of this name, or many of them in one text.
 pub fn log_called<'a>(name: &'a str) -> Wanted<'a>
     ensures { wanted_view result ≡ log_called name.entry.now }
 {
@@ -65,6 +72,27 @@ pub fn board_texts<'a>(texts: &'a [Vec<u8>]) -> BoardTexts<'a>
         unreachable!()
     };
     BoardTexts { chain, nets, bsdl }
+}
+
+/// The same behind a text of logs.
+pub fn log_texts<'a>(texts: &'a [Vec<u8>]) -> LogTexts<'a>
+    requires some { 3 ≤ length texts.now }
+    requires few { length texts.now ≤ 258 }
+    requires short { All (λ text. length text.items < 2 ^ 32) texts.now }
+    ensures texts { map (λ text. text.items) texts.entry.now ≡ result.log.now ∷ result.board.chain.now ∷ result.board.nets.now ∷ map (λ text. text.items) result.board.bsdl.now }
+    ensures log { length result.log.now < 2 ^ 32 }
+    ensures chain { length result.board.chain.now < 2 ^ 32 }
+    ensures nets { length result.board.nets.now < 2 ^ 32 }
+    ensures each { All (λ text. length text.items < 2 ^ 32) result.board.bsdl.now }
+    ensures count { length result.board.bsdl.now < 2 ^ 32 }
+{
+    let [log, board @ ..] = texts else {
+        unreachable!()
+    };
+    LogTexts {
+        log,
+        board: board_texts(board),
+    }
 }
 
 // Fetches a text.

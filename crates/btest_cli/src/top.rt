@@ -1,7 +1,7 @@
 // The top call.
 ghost use Rattle.std.specs.Prelude.{◌≡◌, ◌≢◌, ◌⊎◌, ◌+◌, ◌<◌, ◌≤◌, ◌^◌, ◌++◌, ℕ, [], All, List, length, map, None, string_bytes, IfOk, OnOk};
 ghost use Rattle.bt_base.specs.Counts.{Rose};
-ghost use Rattle.command_line.specs.Words.{Text, ChainNames, BoardNames, Chain, Device, Diagnose, HasNumber, Ident, command_of, names_of};
+ghost use Rattle.command_line.specs.Words.{Text, ChainNames, Chain, Device, HasNumber, Ident, command_of, names_of};
 ghost use Rattle.command_line.specs.CommandView.{command_view};
 ghost use Rattle.btest_cli.specs.RunOf.{IsRunOf};
 ghost use Rattle.btest_cli.specs.NamesView.{names_view};
@@ -13,20 +13,24 @@ ghost use Rattle.btest_cli.specs.Failures.{IsAnswered, wanted_view};
 use crate::board_cover::cover;
 use crate::board_summary::summary;
 use crate::board_test::svf;
+use crate::board_walk::walk;
 use crate::chain_test::chain;
 use crate::device_listing::device;
 use crate::failure::{Unput, put_unput, put_unread, unput_status, unread_status};
 use crate::ident_codes::ident;
+use crate::log_batch::batch;
 use crate::log_diagnosis::diagnosis;
+use crate::log_groups::groups;
 use crate::notes::{Names, TextNames, put_memory, put_usage};
 use crate::status::Status;
-use crate::texts::{Wanted, board_texts, fetch_texts, log_called, text_called};
+use crate::texts::{Wanted, board_texts, fetch_texts, log_called, log_texts, text_called};
 use bt_base::{Gate, Sink, Store};
 use btest_core::law::{inputs_have_one_answer, inputs_keep_rules};
 use command_line::{Command, command_of};
 use fault_sim::law::logs_have_one_diagnosis;
 use std::alloc::{AllocError, Global};
 use std::thread::Threads;
+use walk_test::law::logs_have_one_set;
 
 /// Runs a command line: reads its words, fetches the texts that they name, checks them, and puts the
 /// defined text to `out`. At every status but `Done` the notes are given one line.
@@ -73,6 +77,7 @@ pub fn run<R: Threads + Sync, S: Store, K: Sink, N: Sink, G: Gate>(
     inputs_have_one_answer();
     inputs_keep_rules();
     logs_have_one_diagnosis();
+    logs_have_one_set();
     match command_of(alloc, words) {
         Err(_) => {
             let _ = put_memory(notes);
@@ -132,13 +137,15 @@ fn wanted_texts<'a>(alloc: Global, command: Command<'a>) -> Result<Vec<Wanted<'a
             push_texts(&mut wanted, names.bsdl)?;
         }
         Command::Device { bsdl } => wanted.push(text_called(bsdl))?,
-        Command::Cover(names) | Command::Svf(names) => {
+        Command::Cover(names) | Command::Svf(names) | Command::Walk(names) => {
             wanted.push(text_called(names.chain))?;
             wanted.push(text_called(names.nets))?;
             push_texts(&mut wanted, names.bsdl)?;
         }
         Command::Make(_) => {}
-        Command::Diagnose { log, board, .. } => {
+        Command::Diagnose { log, board, .. }
+        | Command::Groups { log, board }
+        | Command::Batch { log, board, .. } => {
             wanted.push(log_called(log))?;
             wanted.push(text_called(board.chain))?;
             wanted.push(text_called(board.nets))?;
@@ -175,7 +182,7 @@ fn roles_of<'a>(command: Command<'a>) -> Names<'a>
             nets: "",
             bsdl: TextNames::One(bsdl),
         },
-        Command::Cover(names) | Command::Svf(names) => Names {
+        Command::Cover(names) | Command::Svf(names) | Command::Walk(names) => Names {
             log: "",
             chain: names.chain,
             nets: names.nets,
@@ -187,7 +194,9 @@ fn roles_of<'a>(command: Command<'a>) -> Names<'a>
             nets: "nets",
             bsdl: TextNames::One("bsdl"),
         },
-        Command::Diagnose { log, board, .. } => Names {
+        Command::Diagnose { log, board, .. }
+        | Command::Groups { log, board }
+        | Command::Batch { log, board, .. } => Names {
             log,
             chain: board.chain,
             nets: board.nets,
@@ -216,9 +225,16 @@ fn answer<R: Threads + Sync, K: Sink, G: Gate>(
         Command::Device { .. } => answer_device(alloc, texts, out),
         Command::Cover(_) => cover(alloc, board_texts(texts), out),
         Command::Svf(_) => svf(alloc, board_texts(texts), out),
+        Command::Walk(_) => walk(alloc, board_texts(texts), out),
         Command::Ident(_) => answer_ident(alloc, texts, out),
         Command::Make(number) => summary(alloc, number, out),
-        Command::Diagnose { workers, .. } => answer_log(rt, alloc, texts, workers, gate, out),
+        Command::Diagnose { workers, .. } => {
+            diagnosis(rt, alloc, log_texts(texts), workers, gate, out)
+        }
+        Command::Groups { .. } => groups(alloc, log_texts(texts), out),
+        Command::Batch { workers, .. } => {
+            batch(rt, alloc, log_texts(texts), workers, gate, out)
+        }
     }
 }
 
@@ -253,25 +269,4 @@ fn answer_device<K: Sink>(alloc: Global, texts: &[Vec<u8>], out: &mut K) -> Resu
 {
     let [text] = texts else { unreachable!() };
     device(alloc, text, out)
-}
-
-fn answer_log<R: Threads + Sync, K: Sink, G: Gate>(
-    rt: &R,
-    alloc: Global,
-    texts: &[Vec<u8>],
-    workers: u32,
-    gate: &G,
-    out: &mut K,
-) -> Result<(), Unput>
-    requires some { 3 ≤ length texts.now }
-    requires few { length texts.now ≤ 258 }
-    requires short { All (λ text. length text.items < 2 ^ 32) texts.now }
-    requires least { 1 ≤ workers }
-    requires most { workers ≤ 64 }
-    ensures { (name : Text) (names : BoardNames) → IsAnswered (Diagnose workers name names) (map (λ text. text.items) texts.now) (K.shown out.old) (K.shown out.new) result }
-{
-    let [log, board @ ..] = texts else {
-        unreachable!()
-    };
-    diagnosis(rt, alloc, log, board_texts(board), workers, gate, out)
 }

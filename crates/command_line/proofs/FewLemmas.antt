@@ -5,7 +5,7 @@ use Rattle.std.specs.Str.{bytes_eq}
 use Rattle.std.proofs.lemmas.Grind.{common_steps}
 use Rattle.command_line.specs.declared.words.Command.{Command as Lent}
 use Rattle.command_line.specs.CommandView.{command_view}
-use Rattle.command_line.specs.Words.{Text, ChainNames, BoardNames, Command, Chain, Ident, Cover, Svf, Make, Diagnose, parsed, number_of, chain_of, device_of, board_of, make_of, diagnose_of, board_called, log_called, chain_names, board_names, names_of, HasNumber}
+use Rattle.command_line.specs.Words.{Text, ChainNames, BoardNames, Command, Chain, Ident, Cover, Svf, Walk, Make, Diagnose, Groups, Batch, parsed, number_of, chain_of, device_of, board_of, make_of, worked_of, groups_of, board_called, log_called, chain_names, board_names, names_of, HasNumber}
 use Rattle.command_line.proofs.NumberLemmas.{number_within}
 
 -- a command has at most 258 names, and its number is in its range
@@ -68,31 +68,46 @@ make_bounded (number ∷ other ∷ others) = tt
 abbrev AreWorkers : Option ℕ → Type 0
 AreWorkers number = IfSome number (λ n. (1 ≤ n) × (n ≤ 64))
 
-diagnose_by : (log : Text) (names : BoardNames) (number : Option ℕ) → length (board_names names) ≤ 257 → AreWorkers number → AreBounded (option_map (λ n. Diagnose n log names) number)
-diagnose_by log names None few within = tt
-diagnose_by log names (Some n) few within = record { few = omega arith; in_range = within }
+-- a command of this kind, of a log and a number of workers, is bounded
+abbrev IsWork : (ℕ → Text → BoardNames → Command) → Type 0
+IsWork command = (log : Text) (names : BoardNames) (n : ℕ) → length (board_names names) ≤ 257 → (1 ≤ n) × (n ≤ 64) → IsBounded (command n log names)
 
-diagnose_named : (log : Text) (number : Option ℕ) (names : Option BoardNames) → AreWorkers number → AreFew board_names names → AreBounded (option_and_then (λ board. option_map (λ n. Diagnose n log board) number) names)
-diagnose_named log number None within few = tt
-diagnose_named log number (Some names) within few = diagnose_by log names number few within
+worked_by : (command : ℕ → Text → BoardNames → Command) → IsWork command → (log : Text) (names : BoardNames) (number : Option ℕ) → length (board_names names) ≤ 257 → AreWorkers number → AreBounded (option_map (λ n. command n log names) number)
+worked_by command is log names None few within = tt
+worked_by command is log names (Some n) few within = is log names n few within
 
-diagnose_bounded : (words : List Text) → AreBounded (diagnose_of words)
-diagnose_bounded [] = tt
-diagnose_bounded (workers ∷ []) = tt
-diagnose_bounded (workers ∷ log ∷ names) = diagnose_named log (number_of 64 workers) (board_of names) (number_within 64 workers) (board_few names)
+worked_named : (command : ℕ → Text → BoardNames → Command) → IsWork command → (log : Text) (number : Option ℕ) (names : Option BoardNames) → AreWorkers number → AreFew board_names names → AreBounded (option_and_then (λ board. option_map (λ n. command n log board) number) names)
+worked_named command is log number None within few = tt
+worked_named command is log number (Some names) within few = worked_by command is log names number few within
+
+worked_bounded : (command : ℕ → Text → BoardNames → Command) → IsWork command → (words : List Text) → AreBounded (worked_of command words)
+worked_bounded command is [] = tt
+worked_bounded command is (workers ∷ []) = tt
+worked_bounded command is (workers ∷ log ∷ names) = worked_named command is log (number_of 64 workers) (board_of names) (number_within 64 workers) (board_few names)
+
+groups_bounded : (words : List Text) → AreBounded (groups_of words)
+groups_bounded [] = tt
+groups_bounded (log ∷ names) = named board_names (Groups log) (λ names few. record { few = omega arith; in_range = tt }) (board_of names) (board_few names)
 
 log_bounded : (word : Text) (rest : List Text) → AreBounded (log_called word rest)
 unfolding log_called
-log_bounded word rest = either (bytes_eq (codes "diagnose") word) (diagnose_of rest) None (diagnose_bounded rest) tt
+log_bounded word rest =
+    let batch : Option Command = if bytes_eq (codes "batch") word then worked_of Batch rest else None in
+    let groups : Option Command = if bytes_eq (codes "groups") word then groups_of rest else batch in
+    either (bytes_eq (codes "diagnose") word) (worked_of Diagnose rest) groups (worked_bounded Diagnose (λ log names n few within. record { few = omega arith; in_range = within }) rest)
+    (either (bytes_eq (codes "groups") word) (groups_of rest) batch (groups_bounded rest)
+    (either (bytes_eq (codes "batch") word) (worked_of Batch rest) None (worked_bounded Batch (λ log names n few within. record { few = omega arith; in_range = within }) rest) tt))
 
 board_bounded : (word : Text) (rest : List Text) → AreBounded (board_called word rest)
 unfolding board_called
 board_bounded word rest =
     let make : Option Command = if bytes_eq (codes "make") word then make_of rest else log_called word rest in
-    let svf : Option Command = if bytes_eq (codes "svf") word then option_map Svf (board_of rest) else make in
+    let walk : Option Command = if bytes_eq (codes "walk") word then option_map Walk (board_of rest) else make in
+    let svf : Option Command = if bytes_eq (codes "svf") word then option_map Svf (board_of rest) else walk in
     either (bytes_eq (codes "cover") word) (option_map Cover (board_of rest)) svf (named board_names Cover (λ names few. record { few = one_more _ few; in_range = tt }) (board_of rest) (board_few rest))
-    (either (bytes_eq (codes "svf") word) (option_map Svf (board_of rest)) make (named board_names Svf (λ names few. record { few = one_more _ few; in_range = tt }) (board_of rest) (board_few rest))
-    (either (bytes_eq (codes "make") word) (make_of rest) (log_called word rest) (make_bounded rest) (log_bounded word rest)))
+    (either (bytes_eq (codes "svf") word) (option_map Svf (board_of rest)) walk (named board_names Svf (λ names few. record { few = one_more _ few; in_range = tt }) (board_of rest) (board_few rest))
+    (either (bytes_eq (codes "walk") word) (option_map Walk (board_of rest)) make (named board_names Walk (λ names few. record { few = one_more _ few; in_range = tt }) (board_of rest) (board_few rest))
+    (either (bytes_eq (codes "make") word) (make_of rest) (log_called word rest) (make_bounded rest) (log_bounded word rest))))
 
 parsed_bounded : (words : List Text) → AreBounded (parsed words)
 parsed_bounded [] = tt

@@ -12,7 +12,7 @@ use Rattle.std.specs.List.{list_all}
 use Rattle.clap.specs.Faults.{other_fault, step_fault, fault_of, level_fault, entered_fault, walk_fault, turn_fault, check_fault, is_simple_and_free}
 use Rattle.clap.proofs.OnLiterals.{clap_on_literals}
 use Rattle.command_line.specs.Words.{is_plain}
-use Rattle.command_line.specs.App.{btest_app, chain_app, single_app, board_app, log_app, top_app, names_rule, has_one, has_two, has_four, is_one, is_accepted}
+use Rattle.command_line.specs.App.{btest_app, chain_app, single_app, board_app, log_app, groups_app, top_app, names_rule, has_one, has_two, has_three, has_four, is_one, is_accepted}
 use Rattle.command_line.proofs.PlainLemmas.{Plain, AllPlain, all_plain, idle_met, plain_fault, before_one, before_more, one_walked, one_turn, more_walked, more_turn}
 use Rattle.command_line.proofs.WalkLemmas.{stopped_at, stopped_walk, stopped_fault, end_fault, fault_from, level_parts, goes_on, row_of, more_rows, TakesNames, names_fault, no_default_fault, no_default}
 
@@ -218,6 +218,10 @@ svf_entered : IsEntered (codes "svf") (board_shape (codes "svf"))
 unfolding clap_on_literals
 svf_entered rest = entered_at (codes "svf") rest (stopped_walk top.rules names (walk_from nothing_held) (codes "svf") [] rest) (stopped_fault top names (walk_from nothing_held) (codes "svf") [] rest) refl
 
+walk_entered : IsEntered (codes "walk") (board_shape (codes "walk"))
+unfolding clap_on_literals
+walk_entered rest = entered_at (codes "walk") rest (stopped_walk top.rules names (walk_from nothing_held) (codes "walk") [] rest) (stopped_fault top names (walk_from nothing_held) (codes "walk") [] rest) refl
+
 board_exact : (name : Text) → IsEntered name (board_shape name) → (rest : List Text) → AllPlain rest → passes (fault_of btest_app (name ∷ rest)) ≡ has_two rest
 board_exact name enters [] all = ap passes (enters [] ∙ ap (λ k. or_else k []) (board_none name))
 board_exact name enters (chain ∷ []) all = ap passes (enters (chain ∷ []) ∙ ap (λ k. or_else k []) (board_first name chain [] all.0 ∙ board_one name chain))
@@ -311,6 +315,10 @@ diagnose_entered : IsEntered (codes "diagnose") (log_shape (codes "diagnose"))
 unfolding clap_on_literals
 diagnose_entered rest = entered_at (codes "diagnose") rest (stopped_walk top.rules names (walk_from nothing_held) (codes "diagnose") [] rest) (stopped_fault top names (walk_from nothing_held) (codes "diagnose") [] rest) refl
 
+batch_entered : IsEntered (codes "batch") (log_shape (codes "batch"))
+unfolding clap_on_literals
+batch_entered rest = entered_at (codes "batch") rest (stopped_walk top.rules names (walk_from nothing_held) (codes "batch") [] rest) (stopped_fault top names (walk_from nothing_held) (codes "batch") [] rest) refl
+
 -- whether there is no fault in the words behind the name
 log_fault : (name : Text) (rest : List Text) → AllPlain rest → passes (fault_from (log_shape name) (walk_from nothing_held) rest) ≡ has_four rest
 log_fault name [] all = ap passes (log_needs_one name)
@@ -332,6 +340,93 @@ passes_alone (k ∷ ks) = refl
 
 log_exact : (name : Text) → IsEntered name (log_shape name) → (rest : List Text) → AllPlain rest → passes (fault_of btest_app (name ∷ rest)) ≡ has_four rest
 log_exact name enters rest all = ap passes (enters rest) ∙ passes_alone (fault_from (log_shape name) (walk_from nothing_held) rest) ∙ log_fault name rest all
+
+-- a command that is about a response log, by one worker
+abbrev groups_shape : Text → Shape
+groups_shape name = shape_in (groups_app name)
+
+-- where the walk stands after two and three words
+abbrev groups_two : Text → Text → Walk
+groups_two log chain = before_one (record { rows = row_of (codes "LOG") log ∷ []; pending = Some (codes "CHAIN", chain ∷ []); skip = 0 }) 3
+
+-- the rows of the words before the net file, then others
+abbrev groups_rows : Text → Text → List Row → List Row
+groups_rows log chain tail = row_of (codes "LOG") log ∷ row_of (codes "CHAIN") chain ∷ tail
+
+abbrev groups_three : Text → Text → Text → Walk
+groups_three log chain nets = before_one (record { rows = groups_rows log chain []; pending = Some (codes "NETS", nets ∷ []); skip = 0 }) 4
+
+-- where the walk stands after more words
+abbrev groups_names : Text → Text → Text → List Row → Text → Walk
+groups_names log chain nets tail x =
+    before_more (record { rows = groups_rows log chain (row_of (codes "NETS") nets ∷ tail); pending = Some (codes "BSDL", x ∷ []); skip = 0 }) 4
+
+groups_takes : (name log chain nets : Text) → TakesNames (groups_shape name) (groups_names log chain nets)
+unfolding clap_on_literals
+groups_takes name log chain nets =
+    let rows : List Row → Text → List Row = λ tail x. groups_rows log chain (row_of (codes "NETS") nets ∷ more_rows x tail) in
+    record {
+      step = λ tail x y p. more_walked (groups_shape name) (groups_names log chain nets tail x).held 4 y p;
+      passes = λ tail x y p. more_turn (groups_shape name) (groups_names log chain nets tail x).held 4 y p;
+      ends = λ tail x.
+          ap (λ k. or_else (or_else k []) (check_fault (groups_shape name) (with_default (rows tail x) (names_in (groups_shape name) 3)) false)) (no_default_fault (names_in (groups_shape name) 3) (rows tail x) refl)
+          ∙ ap (λ rs. check_fault (groups_shape name) rs false) (no_default (names_in (groups_shape name) 3) (rows tail x) refl);
+    }
+
+-- fewer than three words are too few
+groups_needs_one : (name : Text) → fault_from (groups_shape name) (walk_from nothing_held) [] ≡ kind.MissingRequiredArgument ∷ []
+unfolding clap_on_literals
+groups_needs_one name = refl
+
+groups_needs_two : (name log : Text) → fault_from (groups_shape name) (after_one (codes "LOG") log) [] ≡ kind.MissingRequiredArgument ∷ []
+unfolding clap_on_literals
+groups_needs_two name log = refl
+
+groups_needs_three : (name log chain : Text) → fault_from (groups_shape name) (groups_two log chain) [] ≡ kind.MissingRequiredArgument ∷ []
+unfolding clap_on_literals
+groups_needs_three name log chain = refl
+
+groups_more : (name log chain nets : Text) (rest : List Text) → AllPlain rest → fault_from (groups_shape name) (groups_three log chain nets) rest ≡ []
+unfolding clap_on_literals
+groups_more name log chain nets [] all = refl
+groups_more name log chain nets (x ∷ rest) all =
+    let w : Walk = groups_three log chain nets in
+    goes_on (groups_shape name) w (groups_names log chain nets [] x) x rest (one_turn (groups_shape name) w.held 4 x all.0) (one_walked (groups_shape name) w.held 4 x all.0)
+    ∙ names_fault (groups_shape name) (groups_names log chain nets) (groups_takes name log chain nets) [] x rest all.1
+
+groups_first : (name log : Text) (rest : List Text) → Plain log → fault_from (groups_shape name) (walk_from nothing_held) (log ∷ rest) ≡ fault_from (groups_shape name) (after_one (codes "LOG") log) rest
+unfolding clap_on_literals
+groups_first name log rest p = goes_on (groups_shape name) (walk_from nothing_held) (after_one (codes "LOG") log) log rest (one_turn (groups_shape name) nothing_held 1 log p) (one_walked (groups_shape name) nothing_held 1 log p)
+
+groups_second : (name log chain : Text) (rest : List Text) → Plain chain → fault_from (groups_shape name) (after_one (codes "LOG") log) (chain ∷ rest) ≡ fault_from (groups_shape name) (groups_two log chain) rest
+unfolding clap_on_literals
+groups_second name log chain rest p =
+    let w : Walk = after_one (codes "LOG") log in
+    goes_on (groups_shape name) w (groups_two log chain) chain rest (one_turn (groups_shape name) w.held 2 chain p) (one_walked (groups_shape name) w.held 2 chain p)
+
+groups_third : (name log chain nets : Text) (rest : List Text) → Plain nets → fault_from (groups_shape name) (groups_two log chain) (nets ∷ rest) ≡ fault_from (groups_shape name) (groups_three log chain nets) rest
+unfolding clap_on_literals
+groups_third name log chain nets rest p =
+    let w : Walk = groups_two log chain in
+    goes_on (groups_shape name) w (groups_three log chain nets) nets rest (one_turn (groups_shape name) w.held 3 nets p) (one_walked (groups_shape name) w.held 3 nets p)
+
+groups_entered : IsEntered (codes "groups") (groups_shape (codes "groups"))
+unfolding clap_on_literals
+groups_entered rest = entered_at (codes "groups") rest (stopped_walk top.rules names (walk_from nothing_held) (codes "groups") [] rest) (stopped_fault top names (walk_from nothing_held) (codes "groups") [] rest) refl
+
+groups_fault : (name : Text) (rest : List Text) → AllPlain rest → passes (fault_from (groups_shape name) (walk_from nothing_held) rest) ≡ has_three rest
+groups_fault name [] all = ap passes (groups_needs_one name)
+groups_fault name (log ∷ []) all = ap passes (groups_first name log [] all.0 ∙ groups_needs_two name log)
+groups_fault name (log ∷ chain ∷ []) all =
+    ap passes (groups_first name log (chain ∷ []) all.0 ∙ groups_second name log chain [] all.1.0 ∙ groups_needs_three name log chain)
+groups_fault name (log ∷ chain ∷ nets ∷ rest) all =
+    ap passes (
+    groups_first name log (chain ∷ nets ∷ rest) all.0 ∙ groups_second name log chain (nets ∷ rest) all.1.0 ∙ groups_third name log chain nets rest all.1.1.0
+    ∙ groups_more name log chain nets rest all.1.1.1
+    )
+
+groups_exact : (name : Text) → IsEntered name (groups_shape name) → (rest : List Text) → AllPlain rest → passes (fault_of btest_app (name ∷ rest)) ≡ has_three rest
+groups_exact name enters rest all = ap passes (enters rest) ∙ passes_alone (fault_from (groups_shape name) (walk_from nothing_held) rest) ∙ groups_fault name rest all
 
 -- no word, and another word
 none_fault : fault_of btest_app [] ≡ kind.MissingSubcommand ∷ []
@@ -384,9 +479,12 @@ first_word : (w : Text) (rest : List Text) → Plain w → AllPlain rest → Acc
 unfolding clap_on_literals
 first_word w rest p all =
     let is : Text → Bool = λ name. bytes_eq name w in
-    let if_diagnose : Bool = if is (codes "diagnose") then has_four rest else false in
+    let if_batch : Bool = if is (codes "batch") then has_four rest else false in
+    let if_groups : Bool = if is (codes "groups") then has_three rest else if_batch in
+    let if_diagnose : Bool = if is (codes "diagnose") then has_four rest else if_groups in
     let if_make : Bool = if is (codes "make") then is_one rest else if_diagnose in
-    let if_svf : Bool = if is (codes "svf") then has_two rest else if_make in
+    let if_walk : Bool = if is (codes "walk") then has_two rest else if_make in
+    let if_svf : Bool = if is (codes "svf") then has_two rest else if_walk in
     let if_cover : Bool = if is (codes "cover") then has_two rest else if_svf in
     let if_device : Bool = if is (codes "device") then is_one rest else if_cover in
     let if_ident : Bool = if is (codes "ident") then has_one rest else if_device in
@@ -394,19 +492,34 @@ first_word w rest p all =
     named (codes "ident") w rest (has_one rest) if_device (chain_exact (codes "ident") ident_entered rest all) (λ ident.
     named (codes "device") w rest (is_one rest) if_cover (single_exact (codes "device") (codes "BSDL") device_entered device_one rest all) (λ device.
     named (codes "cover") w rest (has_two rest) if_svf (board_exact (codes "cover") cover_entered rest all) (λ cover.
-    named (codes "svf") w rest (has_two rest) if_make (board_exact (codes "svf") svf_entered rest all) (λ svf.
+    named (codes "svf") w rest (has_two rest) if_walk (board_exact (codes "svf") svf_entered rest all) (λ svf.
+    named (codes "walk") w rest (has_two rest) if_make (board_exact (codes "walk") walk_entered rest all) (λ walked.
     named (codes "make") w rest (is_one rest) if_diagnose (single_exact (codes "make") (codes "NUMBER") make_entered make_one rest all) (λ make.
-    named (codes "diagnose") w rest (has_four rest) false (log_exact (codes "diagnose") diagnose_entered rest all) (λ diagnose.
+    named (codes "diagnose") w rest (has_four rest) if_groups (log_exact (codes "diagnose") diagnose_entered rest all) (λ diagnose.
+    named (codes "groups") w rest (has_three rest) if_batch (groups_exact (codes "groups") groups_entered rest all) (λ groups.
+    named (codes "batch") w rest (has_four rest) false (log_exact (codes "batch") batch_entered rest all) (λ batch.
     other_exact w rest p (
       no_name (codes "chain") w chain,
       (
         no_name (codes "ident") w ident,
         (
           no_name (codes "device") w device,
-          (no_name (codes "cover") w cover, (no_name (codes "svf") w svf, (no_name (codes "make") w make, (no_name (codes "diagnose") w diagnose, tt)))),
+          (
+            no_name (codes "cover") w cover,
+            (
+              no_name (codes "svf") w svf,
+              (
+                no_name (codes "walk") w walked,
+                (
+                  no_name (codes "diagnose") w diagnose,
+                  (no_name (codes "groups") w groups, (no_name (codes "batch") w batch, (no_name (codes "make") w make, tt))),
+                ),
+              ),
+            ),
+          ),
         ),
       ),
-    ))))))))
+    )))))))))))
 
 -- the parse of plain words passes exactly where they are accepted
 pub exact : (ws : List Text) → AllPlain ws → passes (fault_of btest_app ws) ≡ is_accepted ws

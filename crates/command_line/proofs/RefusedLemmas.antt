@@ -1,10 +1,10 @@
 -- What `clap` does not accept is no command.
-use Rattle.std.proofs.Common.{◌≡◌, Bool, true, false, List, [], ◌∷◌, codes, Option, None, refl, ◌∙◌, ap}
+use Rattle.std.proofs.Common.{◌≡◌, ℕ, Bool, true, false, List, [], ◌∷◌, codes, Option, None, refl, ◌∙◌, ap}
 use Rattle.std.specs.Prelude.{option_map, if◌then◌else◌}
 use Rattle.std.specs.List.{list_all}
 use Rattle.std.specs.Str.{bytes_eq}
-use Rattle.command_line.specs.App.{is_accepted, has_one, is_one, has_two, has_four}
-use Rattle.command_line.specs.Words.{Text, ChainNames, BoardNames, Command, Chain, Ident, Cover, Svf, is_plain, command_of, parsed, chain_of, device_of, board_of, make_of, diagnose_of, board_called, log_called}
+use Rattle.command_line.specs.App.{is_accepted, has_one, is_one, has_two, has_three, has_four}
+use Rattle.command_line.specs.Words.{Text, ChainNames, BoardNames, Command, Chain, Ident, Cover, Svf, Walk, Diagnose, Batch, is_plain, command_of, parsed, chain_of, device_of, board_of, make_of, worked_of, groups_of, board_called, log_called}
 
 -- there is a command only where this is accepted
 abbrev OnlyWhere : Bool → Option Command → Type 0
@@ -33,12 +33,18 @@ make_only [] refused = refl
 make_only (number ∷ []) refused = absurd cc
 make_only (number ∷ other ∷ others) refused = refl
 
-diagnose_only : (words : List Text) → OnlyWhere (has_four words) (diagnose_of words)
-diagnose_only [] refused = refl
-diagnose_only (workers ∷ []) refused = refl
-diagnose_only (workers ∷ log ∷ []) refused = refl
-diagnose_only (workers ∷ log ∷ chain ∷ []) refused = refl
-diagnose_only (workers ∷ log ∷ chain ∷ nets ∷ names) refused = absurd cc
+worked_only : (command : ℕ → Text → BoardNames → Command) (words : List Text) → OnlyWhere (has_four words) (worked_of command words)
+worked_only command [] refused = refl
+worked_only command (workers ∷ []) refused = refl
+worked_only command (workers ∷ log ∷ []) refused = refl
+worked_only command (workers ∷ log ∷ chain ∷ []) refused = refl
+worked_only command (workers ∷ log ∷ chain ∷ nets ∷ names) refused = absurd cc
+
+groups_only : (words : List Text) → OnlyWhere (has_three words) (groups_of words)
+groups_only [] refused = refl
+groups_only (log ∷ []) refused = refl
+groups_only (log ∷ chain ∷ []) refused = refl
+groups_only (log ∷ chain ∷ nets ∷ names) refused = absurd cc
 
 parsed_only : (words : List Text) → OnlyWhere (is_accepted words) (parsed words)
 unfolding board_called log_called
@@ -49,8 +55,11 @@ parsed_only (word ∷ rest) =
     (either (bytes_eq (codes "device") word) (is_one rest) _ (device_of rest) _ (device_only rest)
     (either (bytes_eq (codes "cover") word) (has_two rest) _ (option_map Cover (board_of rest)) _ (board_only Cover rest)
     (either (bytes_eq (codes "svf") word) (has_two rest) _ (option_map Svf (board_of rest)) _ (board_only Svf rest)
+    (either (bytes_eq (codes "walk") word) (has_two rest) _ (option_map Walk (board_of rest)) _ (board_only Walk rest)
     (either (bytes_eq (codes "make") word) (is_one rest) _ (make_of rest) _ (make_only rest)
-    (either (bytes_eq (codes "diagnose") word) (has_four rest) false (diagnose_of rest) None (diagnose_only rest) (λ refused. refl)))))))
+    (either (bytes_eq (codes "diagnose") word) (has_four rest) _ (worked_of Diagnose rest) _ (worked_only Diagnose rest)
+    (either (bytes_eq (codes "groups") word) (has_three rest) _ (groups_of rest) _ (groups_only rest)
+    (either (bytes_eq (codes "batch") word) (has_four rest) false (worked_of Batch rest) None (worked_only Batch rest) (λ refused. refl))))))))))
 
 same : (b : Bool) → ◌≡◌ {A = Option Command} (if b then None else None) None
 same true = refl

@@ -1,6 +1,6 @@
 -- Words and numbers, worked by hand.
-use Rattle.std.proofs.Common.{◌≡◌, [], ◌∷◌, Option, Some, None, codes, refl}
-use Rattle.command_line.specs.Words.{Text, Command, Ident, Make, Diagnose, board_called, log_called, command_of, number_of}
+use Rattle.std.proofs.Common.{◌≡◌, List, [], ◌∷◌, Option, Some, None, codes, refl}
+use Rattle.command_line.specs.Words.{Text, Command, Walk, Ident, Make, Diagnose, Groups, Batch, board_called, log_called, command_of, number_of}
 
 leading_zeros : number_of 255 (codes "00000000000000000007") ≡ Some 7
 leading_zeros = refl
@@ -62,3 +62,27 @@ workers_past_the_limit = refl
 
 identified : command_of (codes "ident" ∷ codes "c" ∷ codes "b" ∷ []) ≡ Some (Ident (record { chain = codes "c"; bsdl = codes "b" ∷ [] }))
 identified = refl
+
+-- the words behind the name of a command that is about a log
+abbrev logged : List Text
+logged = codes "g" ∷ codes "c" ∷ codes "n" ∷ codes "drv" ∷ []
+
+walked : command_of (codes "walk" ∷ codes "c" ∷ codes "n" ∷ []) ≡ Some (Walk (record { chain = codes "c"; nets = codes "n"; bsdl = [] }))
+unfolding board_called
+walked = refl
+
+grouped : command_of (codes "groups" ∷ logged) ≡ Some (Groups (codes "g") (record { chain = codes "c"; nets = codes "n"; bsdl = codes "drv" ∷ [] }))
+unfolding board_called log_called
+grouped = refl
+
+grouped_without_nets : command_of (codes "groups" ∷ codes "g" ∷ codes "c" ∷ []) ≡ None
+unfolding board_called log_called
+grouped_without_nets = refl
+
+batched : command_of (codes "batch" ∷ codes "64" ∷ logged) ≡ Some (Batch 64 (codes "g") (record { chain = codes "c"; nets = codes "n"; bsdl = codes "drv" ∷ [] }))
+unfolding board_called log_called
+batched = refl
+
+batched_without_workers : command_of (codes "batch" ∷ logged) ≡ None
+unfolding board_called log_called
+batched_without_workers = refl

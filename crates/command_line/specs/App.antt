@@ -33,6 +33,10 @@ board_app name = with_board (new_app name)
 abbrev pub log_app : Text → App
 log_app name = with_board (with_rule (with_rule (new_app name) (name_rule (codes "WORKERS"))) (name_rule (codes "LOG")))
 
+-- what is made of a response log: the log, and the texts of its board
+abbrev pub groups_app : Text → App
+groups_app name = with_board (with_rule (new_app name) (name_rule (codes "LOG")))
+
 abbrev pub top_app : App
 top_app = on_top (λ s. record s { no_binary_name = true; subcommand_required = true; disable_help_flag = true; disable_help_subcommand = true }) (new_app (codes "btest"))
 
@@ -46,11 +50,17 @@ parts_app =
 abbrev pub boards_app : App
 boards_app =
     with_subcommand (with_subcommand (with_subcommand parts_app (board_app (codes "cover")).top) (board_app (codes "svf")).top)
-    (single_app (codes "make") (codes "NUMBER")).top
+    (board_app (codes "walk")).top
 
 -- and with those that are about a response log
+abbrev pub logs_app : App
+logs_app =
+    with_subcommand (with_subcommand (with_subcommand boards_app (log_app (codes "diagnose")).top) (groups_app (codes "groups")).top)
+    (log_app (codes "batch")).top
+
+-- and with the one that makes a board
 abbrev pub btest_app : App
-btest_app = with_subcommand boards_app (log_app (codes "diagnose")).top
+btest_app = with_subcommand logs_app (single_app (codes "make") (codes "NUMBER")).top
 
 abbrev pub has_one : List Text → Bool
 has_one [] = false
@@ -82,5 +92,8 @@ is_accepted (word ∷ rest) =
     if bytes_eq (codes "device") word then is_one rest else
     if bytes_eq (codes "cover") word then has_two rest else
     if bytes_eq (codes "svf") word then has_two rest else
+    if bytes_eq (codes "walk") word then has_two rest else
     if bytes_eq (codes "make") word then is_one rest else
-    if bytes_eq (codes "diagnose") word then has_four rest else false
+    if bytes_eq (codes "diagnose") word then has_four rest else
+    if bytes_eq (codes "groups") word then has_three rest else
+    if bytes_eq (codes "batch") word then has_four rest else false

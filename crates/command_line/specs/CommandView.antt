@@ -4,7 +4,7 @@ use Rattle.command_line.specs.declared.words.Command.{Command as Lent}
 use Rattle.command_line.specs.declared.words.Command.TheVariants as lent
 use Rattle.command_line.specs.declared.words.BoardNames.{BoardNames as LentBoard}
 use Rattle.command_line.specs.declared.words.ChainNames.{ChainNames as LentChain}
-use Rattle.command_line.specs.Words.{ChainNames, BoardNames, Command, Chain, Ident, Device, Cover, Svf, Make, Diagnose}
+use Rattle.command_line.specs.Words.{ChainNames, BoardNames, Command, Chain, Ident, Device, Cover, Svf, Walk, Make, Diagnose, Groups, Batch}
 
 abbrev pub chain_view : LentChain → ChainNames
 chain_view names = record { chain = names.chain.now; bsdl = map string_bytes names.bsdl.now }
@@ -18,5 +18,8 @@ command_view (lent.Ident names) = Ident (chain_view names)
 command_view (lent.Device bsdl) = Device bsdl.now
 command_view (lent.Cover names) = Cover (board_view names)
 command_view (lent.Svf names) = Svf (board_view names)
+command_view (lent.Walk names) = Walk (board_view names)
 command_view (lent.Make parts) = Make parts
 command_view (lent.Diagnose workers log names) = Diagnose workers log.now (board_view names)
+command_view (lent.Groups log names) = Groups log.now (board_view names)
+command_view (lent.Batch workers log names) = Batch workers log.now (board_view names)

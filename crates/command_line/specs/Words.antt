@@ -20,17 +20,21 @@ pub record BoardNames : Type 0 where
   pub bsdl : List Text
 
 -- What a command line asks for: the length test or the identity test of a chain, each with the names of the chain's texts; the listing of
--- a device, with the name of a BSDL text; the coverage list or the test of a board, each with the names of the board's texts; the summary
--- of a board that is made, with the number of its parts; or the diagnosis of a board, with the number of workers, the name of a response
--- log and the names of the board's texts.
+-- a device, with the name of a BSDL text; the coverage list, the test or the walking test of a board, each with the names of the board's
+-- texts; the summary of a board that is made, with the number of its parts; the diagnosis of a board, with the number of workers, the name
+-- of a response log and the names of the board's texts; its groups of shorted nets, with the name of a response log and those names; or the
+-- diagnoses of many boards, with the same as that of one.
 pub data Command : Type 0 where
   Chain : ChainNames → Command
   Ident : ChainNames → Command
   Device : Text → Command
   Cover : BoardNames → Command
   Svf : BoardNames → Command
+  Walk : BoardNames → Command
   Make : ℕ → Command
   Diagnose : ℕ → Text → BoardNames → Command
+  Groups : Text → BoardNames → Command
+  Batch : ℕ → Text → BoardNames → Command
 
 -- a word is not empty and does not begin with `-`
 abbrev pub is_plain : Text → Bool
@@ -74,20 +78,35 @@ make_of (number ∷ []) = option_map Make (number_of 255 number)
 make_of (number ∷ other ∷ others) = None
 
 -- a number of workers, from 1 to 64, a response log, a chain file and a net file, then any number of BSDL names
+abbrev pub worked_of : (ℕ → Text → BoardNames → Command) → List Text → Option Command
+worked_of command [] = None
+worked_of command (workers ∷ []) = None
+worked_of command (workers ∷ log ∷ names) = option_and_then (λ board. option_map (λ number. command number log board) (number_of 64 workers)) (board_of names)
+
 abbrev pub diagnose_of : List Text → Option Command
-diagnose_of [] = None
-diagnose_of (workers ∷ []) = None
-diagnose_of (workers ∷ log ∷ names) = option_and_then (λ board. option_map (λ number. Diagnose number log board) (number_of 64 workers)) (board_of names)
+diagnose_of words = worked_of Diagnose words
+
+abbrev pub batch_of : List Text → Option Command
+batch_of words = worked_of Batch words
+
+-- a response log, a chain file and a net file, then any number of BSDL names
+abbrev pub groups_of : List Text → Option Command
+groups_of [] = None
+groups_of (log ∷ names) = option_map (Groups log) (board_of names)
 
 -- the command of this name that is about a response log
 unfoldable pub log_called : Text → List Text → Option Command
-log_called word rest = if bytes_eq (codes "diagnose") word then diagnose_of rest else None
+log_called word rest =
+    if bytes_eq (codes "diagnose") word then diagnose_of rest else
+    if bytes_eq (codes "groups") word then groups_of rest else
+    if bytes_eq (codes "batch") word then batch_of rest else None
 
 -- the command of this name that is about a board
 unfoldable pub board_called : Text → List Text → Option Command
 board_called word rest =
     if bytes_eq (codes "cover") word then option_map Cover (board_of rest) else
     if bytes_eq (codes "svf") word then option_map Svf (board_of rest) else
+    if bytes_eq (codes "walk") word then option_map Walk (board_of rest) else
     if bytes_eq (codes "make") word then make_of rest else log_called word rest
 
 abbrev pub parsed : List Text → Option Command
@@ -116,11 +135,15 @@ names_of (Ident names) = chain_names names
 names_of (Device name) = name ∷ []
 names_of (Cover names) = board_names names
 names_of (Svf names) = board_names names
+names_of (Walk names) = board_names names
 names_of (Make parts) = []
 names_of (Diagnose workers log names) = log ∷ board_names names
+names_of (Groups log names) = log ∷ board_names names
+names_of (Batch workers log names) = log ∷ board_names names
 
--- the number of a command is in its range: a board that is to be made has 1 to 255 parts, and a diagnosis has 1 to 64 workers
+-- the number of a command is in its range: a board that is to be made has 1 to 255 parts, and diagnoses have 1 to 64 workers
 abbrev pub HasNumber : Command → Type 0
 HasNumber (Make parts) = (1 ≤ parts) × (parts ≤ 255)
 HasNumber (Diagnose workers log names) = (1 ≤ workers) × (workers ≤ 64)
+HasNumber (Batch workers log names) = (1 ≤ workers) × (workers ≤ 64)
 HasNumber other = Unit {0}

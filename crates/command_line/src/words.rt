@@ -4,9 +4,9 @@ ghost use Rattle.std.specs.List.{list_all};
 ghost use Rattle.clap.specs.Simple.{app_of};
 ghost use Rattle.clap.specs.Walk.{rule_of};
 ghost use Rattle.clap.specs.declared.builder.command.Command.TheViews.{out-Command as fields_of};
-ghost use Rattle.command_line.specs.Words.{is_plain, command_of, parsed, board_called, log_called, chain_of, device_of, board_of, make_of, diagnose_of, names_of, HasNumber};
+ghost use Rattle.command_line.specs.Words.{is_plain, command_of, parsed, board_called, log_called, chain_of, device_of, board_of, make_of, groups_of, diagnose_of, batch_of, names_of, HasNumber};
 ghost use Rattle.command_line.specs.CommandView.{chain_view, board_view, command_view};
-ghost use Rattle.command_line.specs.App.{name_rule, names_rule, chain_app, single_app, with_board, board_app, log_app, top_app, parts_app, boards_app, btest_app, is_accepted};
+ghost use Rattle.command_line.specs.App.{name_rule, names_rule, chain_app, single_app, with_board, board_app, log_app, groups_app, top_app, parts_app, boards_app, logs_app, btest_app, is_accepted};
 
 use crate::number::number_of;
 use clap::error::ErrorKind;
@@ -57,6 +57,8 @@ pub enum Command<'a> {
     Cover(BoardNames<'a>),
     /// The text that tests a board.
     Svf(BoardNames<'a>),
+    /// The text of the walking test of a board.
+    Walk(BoardNames<'a>),
     /// The summary of a board that is made, of this many parts, from 1 to 255.
     Make(u32),
     /// The diagnosis of a board.
@@ -66,6 +68,22 @@ pub enum Command<'a> {
         /// The response log.
         log: &'a str,
         /// The names of the texts of the board.
+        board: BoardNames<'a>,
+    },
+    /// The groups of shorted nets of a board.
+    Groups {
+        /// The response log of the walking test.
+        log: &'a str,
+        /// The names of the texts of the board.
+        board: BoardNames<'a>,
+    },
+    /// The diagnoses of many boards.
+    Batch {
+        /// The number of workers, from 1 to 64.
+        workers: u32,
+        /// The response logs of the boards, one after the other.
+        log: &'a str,
+        /// The names of the texts that the boards have in common.
         board: BoardNames<'a>,
     },
 }
@@ -136,6 +154,8 @@ fn board_called<'a>(name: &str, words: &'a [String]) -> Option<Command<'a>>
         board_of(words).map(Command::Cover)
     } else if name == "svf" {
         board_of(words).map(Command::Svf)
+    } else if name == "walk" {
+        board_of(words).map(Command::Walk)
     } else if name == "make" {
         make_of(words)
     } else {
@@ -150,6 +170,10 @@ fn log_called<'a>(name: &str, words: &'a [String]) -> Option<Command<'a>>
 {
     if name == "diagnose" {
         diagnose_of(words)
+    } else if name == "groups" {
+        groups_of(words)
+    } else if name == "batch" {
+        batch_of(words)
     } else {
         None
     }
@@ -206,6 +230,33 @@ fn diagnose_of<'a>(words: &'a [String]) -> Option<Command<'a>>
     let board = board_of(names)?;
     let workers = number_of(MOST_WORKERS, workers)?;
     Some(Command::Diagnose {
+        workers,
+        log,
+        board,
+    })
+}
+
+// `groups` with these words.
+fn groups_of<'a>(words: &'a [String]) -> Option<Command<'a>>
+    ensures { option_map command_view result ≡ groups_of (map string_bytes words.entry.now) }
+{
+    let [log, names @ ..] = words else {
+        return None;
+    };
+    let board = board_of(names)?;
+    Some(Command::Groups { log, board })
+}
+
+// `batch` with these words.
+fn batch_of<'a>(words: &'a [String]) -> Option<Command<'a>>
+    ensures { option_map command_view result ≡ batch_of (map string_bytes words.entry.now) }
+{
+    let [workers, log, names @ ..] = words else {
+        return None;
+    };
+    let board = board_of(names)?;
+    let workers = number_of(MOST_WORKERS, workers)?;
+    Some(Command::Batch {
         workers,
         log,
         board,
@@ -287,6 +338,15 @@ fn log_command<'a>(alloc: Global, name: &'a str) -> Result<clap::Command<'a>, Al
     with_board(alloc, command)
 }
 
+// A command that is about a response log of a board, by one worker.
+fn groups_command<'a>(alloc: Global, name: &'a str) -> Result<clap::Command<'a>, AllocError>
+    ensures app { IfOk result (λ c. app_of c ≡ groups_app name.entry.now) }
+    ensures local { IfOk result (λ c. (fields_of c).has_globals ≡ false) }
+{
+    let command = clap::Command::new(alloc, name).arg(name_arg(alloc, "LOG"))?;
+    with_board(alloc, command)
+}
+
 // The command above the others.
 fn top_command<'a>(alloc: Global) -> clap::Command<'a>
     ensures app { app_of result ≡ top_app }
@@ -319,15 +379,27 @@ fn board_commands<'a>(alloc: Global) -> Result<clap::Command<'a>, AllocError>
     let boards = part_commands(alloc)?
         .subcommand(board_command(alloc, "cover")?)?
         .subcommand(board_command(alloc, "svf")?)?
-        .subcommand(single_command(alloc, "make", "NUMBER")?)?;
+        .subcommand(board_command(alloc, "walk")?)?;
     Ok(boards)
+}
+
+// The command with these subcommands, and those that are about a response log.
+fn log_commands<'a>(alloc: Global) -> Result<clap::Command<'a>, AllocError>
+    ensures app { IfOk result (λ c. app_of c ≡ logs_app) }
+    ensures local { IfOk result (λ c. (fields_of c).has_globals ≡ false) }
+{
+    let logs = board_commands(alloc)?
+        .subcommand(log_command(alloc, "diagnose")?)?
+        .subcommand(groups_command(alloc, "groups")?)?
+        .subcommand(log_command(alloc, "batch")?)?;
+    Ok(logs)
 }
 
 // The command with its subcommands.
 fn whole_command<'a>(alloc: Global) -> Result<clap::Command<'a>, AllocError>
     ensures { IfOk result (λ c. app_of c ≡ btest_app) }
 {
-    let whole = board_commands(alloc)?.subcommand(log_command(alloc, "diagnose")?)?;
+    let whole = log_commands(alloc)?.subcommand(single_command(alloc, "make", "NUMBER")?)?;
     Ok(whole)
 }
 

@@ -3,3 +3,4 @@ mod FaultLemmas
 mod LawLemmas
 mod PutLemmas
 mod CutLemmas
+mod Samples

@@ -11,3 +11,4 @@ pub mod DifferLemmas
 pub mod OrderLemmas
 pub mod ExplainLemmas
 pub mod DiagnosisLemmas
+mod Samples

@@ -115,6 +115,23 @@ fn two_pieces_try_their_candidates_in_step(rt: HostRuntime) -> Result<(), Fail> 
 }
 
 #[test]
+fn two_pieces_take_their_blocks_in_step(rt: HostRuntime) -> Result<(), Fail> {
+    let mut bench = bench_of(rt.alloc())?;
+    bench
+        .store
+        .add("b", b"BOARD A\n1\n2\nBOARD B\n0\n2\n")?;
+    let gate = InStep::new();
+    let line = "batch 2 b c n drv rcv";
+    assert_eq!(rt; bench.run_watched(&rt, line, &gate)?, Status::Done);
+    let text = b"BOARD A\nPASS\nBOARD B\nFAIL 3\nstuck N1 0\nopen U1.1 0\nopen U2.1 0\n".as_slice();
+    assert_eq!(rt; bench.out.bytes(), text);
+    assert!(rt; !gate.late.load(SeqCst));
+    assert_eq!(rt; gate.first.load(SeqCst), 1);
+    assert_eq!(rt; gate.second.load(SeqCst), 1);
+    Ok(())
+}
+
+#[test]
 fn each_candidate_is_tried_once(rt: HostRuntime) -> Result<(), Fail> {
     let alloc = rt.alloc();
     let mut bench = bench_of(alloc)?;

@@ -2,6 +2,8 @@
 #![tactic(auto)]
 
 #[cfg(test)]
+mod batch;
+#[cfg(test)]
 mod boards;
 #[cfg(test)]
 mod chain;
@@ -25,3 +27,7 @@ mod make;
 mod runs;
 #[cfg(test)]
 mod svf;
+#[cfg(test)]
+mod walk;
+#[cfg(test)]
+mod wide;

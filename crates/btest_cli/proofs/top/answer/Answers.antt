@@ -1,9 +1,9 @@
 use Rattle.std.proofs.Common.{List, sym, ap, subst, map}
-use Rattle.command_line.specs.Words.{Text, Command, Cover, Svf, HasNumber}
+use Rattle.command_line.specs.Words.{Text, Command, Cover, Svf, Walk, Diagnose, Groups, Batch, HasNumber}
 use Rattle.command_line.specs.declared.words.Command.{Command as Lent}
 use Rattle.command_line.specs.CommandView.{board_view, chain_view, command_view}
 use Rattle.btest_cli.specs.Failures.{IsAnswered}
-use Rattle.btest_cli.proofs.AnswerLemmas.{cover_told, make_told, svf_told}
+use Rattle.btest_cli.proofs.AnswerLemmas.{batch_told, cover_told, diagnose_told, groups_told, make_told, svf_told, walk_told}
 use Rattle.btest_cli.proofs.top.answer.Goals as goal
 
 pub returns-in-Chain : goal.returns-in-Chain
@@ -30,6 +30,13 @@ returns-in-Svf g c =
     subst (λ (command : Command). IsAnswered command (map (λ text. text.items) c.args.texts.now) (g.K.Sink.shown c.args.out.now) (g.K.Sink.shown c.svf.new.out) c.svf.result)
     (sym (ap command_view c.in-Svf.is)) all
 
+pub returns-in-Walk : goal.returns-in-Walk
+returns-in-Walk g c =
+    let told = walk_told (board_view c.in-Walk.field-0) _ _ _ _ _ _ c.walk.ensures in
+    let all = subst (λ (texts : List Text). IsAnswered (Walk (board_view c.in-Walk.field-0)) texts (g.K.Sink.shown c.args.out.now) (g.K.Sink.shown c.walk.new.out) c.walk.result) (sym c.board_texts-in-Walk.ensures.texts) told in
+    subst (λ (command : Command). IsAnswered command (map (λ text. text.items) c.args.texts.now) (g.K.Sink.shown c.args.out.now) (g.K.Sink.shown c.walk.new.out) c.walk.result)
+    (sym (ap command_view c.in-Walk.is)) all
+
 pub returns-in-Ident : goal.returns-in-Ident
 returns-in-Ident g c =
     subst (λ (command : Command). IsAnswered command (map (λ text. text.items) c.args.texts.now) (g.K.Sink.shown c.args.out.now) (g.K.Sink.shown c.answer_ident.new.out) c.answer_ident.result)
@@ -47,13 +54,35 @@ returns-in-Make g c =
     subst (λ (command : Command). IsAnswered command (map (λ text. text.items) c.args.texts.now) (g.K.Sink.shown c.args.out.now) (g.K.Sink.shown c.summary.new.out) c.summary.result)
     (sym (ap command_view c.in-Make.is)) told
 
-pub answer_log-requires-clause-least : goal.answer_log-requires-clause-least
-answer_log-requires-clause-least g c = λ κs within. (subst (λ (command : Lent). HasNumber (command_view command)) c.in-Diagnose.is c.requires.number).0
+pub diagnosis-requires-clause-some : goal.diagnosis-requires-clause-some
+diagnosis-requires-clause-some g c = λ κs within. (subst (λ (command : Lent). HasNumber (command_view command)) c.in-Diagnose.is c.requires.number).0
 
-pub answer_log-requires-clause-most : goal.answer_log-requires-clause-most
-answer_log-requires-clause-most g c = λ κs within. (subst (λ (command : Lent). HasNumber (command_view command)) c.in-Diagnose.is c.requires.number).1
+pub diagnosis-requires-clause-few : goal.diagnosis-requires-clause-few
+diagnosis-requires-clause-few g c = λ κs within. (subst (λ (command : Lent). HasNumber (command_view command)) c.in-Diagnose.is c.requires.number).1
 
 pub returns-in-Diagnose : goal.returns-in-Diagnose
 returns-in-Diagnose g c =
-    subst (λ (command : Command). IsAnswered command (map (λ text. text.items) c.args.texts.now) (g.K.Sink.shown c.args.out.now) (g.K.Sink.shown c.answer_log.new.out) c.answer_log.result)
-    (sym (ap command_view c.in-Diagnose.is)) (c.answer_log.ensures c.in-Diagnose.log.now (board_view c.in-Diagnose.board))
+    let told = diagnose_told c.in-Diagnose.workers c.in-Diagnose.log.now (board_view c.in-Diagnose.board) _ _ _ _ _ _ _ c.diagnosis.ensures in
+    let all = subst (λ (texts : List Text). IsAnswered (Diagnose c.in-Diagnose.workers c.in-Diagnose.log.now (board_view c.in-Diagnose.board)) texts (g.K.Sink.shown c.args.out.now) (g.K.Sink.shown c.diagnosis.new.out) c.diagnosis.result) (sym c.log_texts.ensures.texts) told in
+    subst (λ (command : Command). IsAnswered command (map (λ text. text.items) c.args.texts.now) (g.K.Sink.shown c.args.out.now) (g.K.Sink.shown c.diagnosis.new.out) c.diagnosis.result)
+    (sym (ap command_view c.in-Diagnose.is)) all
+
+pub returns-in-Groups : goal.returns-in-Groups
+returns-in-Groups g c =
+    let told = groups_told c.in-Groups.log.now (board_view c.in-Groups.board) _ _ _ _ _ _ _ c.groups.ensures in
+    let all = subst (λ (texts : List Text). IsAnswered (Groups c.in-Groups.log.now (board_view c.in-Groups.board)) texts (g.K.Sink.shown c.args.out.now) (g.K.Sink.shown c.groups.new.out) c.groups.result) (sym c.log_texts-in-Groups.ensures.texts) told in
+    subst (λ (command : Command). IsAnswered command (map (λ text. text.items) c.args.texts.now) (g.K.Sink.shown c.args.out.now) (g.K.Sink.shown c.groups.new.out) c.groups.result)
+    (sym (ap command_view c.in-Groups.is)) all
+
+pub batch-requires-clause-some : goal.batch-requires-clause-some
+batch-requires-clause-some g c = λ κs within. (subst (λ (command : Lent). HasNumber (command_view command)) c.in-Batch.is c.requires.number).0
+
+pub batch-requires-clause-few : goal.batch-requires-clause-few
+batch-requires-clause-few g c = λ κs within. (subst (λ (command : Lent). HasNumber (command_view command)) c.in-Batch.is c.requires.number).1
+
+pub returns-in-Batch : goal.returns-in-Batch
+returns-in-Batch g c =
+    let told = batch_told c.in-Batch.workers c.in-Batch.log.now (board_view c.in-Batch.board) _ _ _ _ _ _ _ c.batch.ensures in
+    let all = subst (λ (texts : List Text). IsAnswered (Batch c.in-Batch.workers c.in-Batch.log.now (board_view c.in-Batch.board)) texts (g.K.Sink.shown c.args.out.now) (g.K.Sink.shown c.batch.new.out) c.batch.result) (sym c.log_texts-in-Batch.ensures.texts) told in
+    subst (λ (command : Command). IsAnswered command (map (λ text. text.items) c.args.texts.now) (g.K.Sink.shown c.args.out.now) (g.K.Sink.shown c.batch.new.out) c.batch.result)
+    (sym (ap command_view c.in-Batch.is)) all

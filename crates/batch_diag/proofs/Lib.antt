@@ -1,0 +1,7 @@
+mod CutLemmas
+mod FaultLemmas
+mod ReadLemmas
+mod JudgeLemmas
+mod TextLemmas
+mod LawLemmas
+mod SampleTests

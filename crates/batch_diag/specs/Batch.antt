@@ -1,0 +1,117 @@
+-- The blocks of a batch of logs, each with the log of one board.
+use Rattle.std.specs.Prelude.{◌≡◌, ℕ, ◌+◌, Bool, false, not, ◌&&◌, List, [], ◌∷◌, take_while, Option, Some, None, Result, Ok, Err, codes, if◌then◌else◌}
+use Rattle.std.specs.Str.{bytes_eq}
+use Rattle.text_lines.specs.Words.{Word, is_word}
+use Rattle.response_log.specs.declared.fault.LogFault.{LogFault}
+use Rattle.response_log.specs.declared.fault.LogFault.TheVariants.{Digit, Length, Missing, Extra, Memory as LogMemory}
+use Rattle.response_log.specs.LogRows.{NumberedLine, row_lines, rows_of_lines}
+use Rattle.batch_diag.specs.declared.block.Block.{Block}
+use Rattle.batch_diag.specs.declared.fault.BatchFault.{BatchFault}
+use Rattle.batch_diag.specs.declared.fault.BatchFault.TheVariants.{Start, Title, Inner, Memory}
+
+-- the first word of a title is `BOARD`
+abbrev pub is_title : List Word → Bool
+is_title [] = false
+is_title (word ∷ words) = bytes_eq word (codes "BOARD")
+
+abbrev pub begins_block : NumberedLine → Bool
+begins_block line = is_title line.words
+
+abbrev pub first_or_none : List Word → Word
+first_or_none [] = []
+first_or_none (word ∷ words) = word
+
+-- the second word of a title is the id of a board
+abbrev pub id_of : List Word → Word
+id_of [] = []
+id_of (word ∷ words) = first_or_none words
+
+-- one word, which keeps the word rule
+abbrev pub is_id : List Word → Bool
+is_id [] = false
+is_id (id ∷ []) = is_word id
+is_id (id ∷ other ∷ words) = false
+
+-- behind the first word of a title stands an id and nothing else
+abbrev pub names_board : List Word → Bool
+names_board [] = false
+names_board (word ∷ words) = is_id words
+
+abbrev pub is_wrong_title : NumberedLine → Bool
+is_wrong_title line = begins_block line && not (names_board line.words)
+
+-- of lines with words, the first where it is no title
+abbrev pub start_fault : List NumberedLine → Option BatchFault
+start_fault [] = None
+start_fault (line ∷ lines) = if begins_block line then None else Some (Start line.number)
+
+-- the first title that is wrong
+abbrev pub title_fault : List NumberedLine → Option BatchFault
+title_fault [] = None
+title_fault (line ∷ lines) = if is_wrong_title line then Some (Title line.number) else title_fault lines
+
+-- the lines up to the first title
+abbrev pub up_to_title : List NumberedLine → List NumberedLine
+up_to_title lines = take_while (λ line. not (begins_block line)) lines
+
+-- a block: the id of its board, and its lines with words
+pub record BlockLines : Type 0 where
+  pub id : Word
+  pub lines : List NumberedLine
+
+-- each title begins a block, whose lines are those up to the next title
+abbrev pub blocks_of : List NumberedLine → List BlockLines
+blocks_of [] = []
+blocks_of (line ∷ lines) = if begins_block line then record { id = id_of line.words; lines = up_to_title lines } ∷ blocks_of lines else blocks_of lines
+
+abbrev pub Answer : Type 0
+Answer = Result (List Block) BatchFault
+
+abbrev pub onto : Block → Answer → Answer
+onto block (Ok blocks) = Ok (block ∷ blocks)
+onto block (Err fault) = Err fault
+
+-- a block, by what its lines say, and what is said of the blocks behind it
+abbrev pub block_then : Word → ℕ → Result (List (List Bool)) LogFault → Answer → Answer
+block_then id board (Ok log) later = onto (record { id = id; log = log }) later
+block_then id board (Err fault) later = Err (Inner board fault)
+
+-- the logs of blocks, the first of which has this number, or the fault of the first whose lines are no log
+abbrev pub logs_from : ℕ → ℕ → ℕ → List BlockLines → Answer
+logs_from rows len board [] = Ok []
+logs_from rows len board (block ∷ blocks) = block_then block.id board (rows_of_lines rows len block.lines) (logs_from rows len (board + 1) blocks)
+
+abbrev pub unless : Option BatchFault → Answer → Answer
+unless None answer = answer
+unless (Some fault) answer = Err fault
+
+-- what lines with words say: a line before the first title is named, or else the first title that is wrong, or else the first block,
+-- counted from 1, whose lines are no log; a line is named by its number in the whole text
+abbrev pub blocks_of_lines : ℕ → ℕ → List NumberedLine → Answer
+blocks_of_lines rows len lines = unless (start_fault lines) (unless (title_fault lines) (logs_from rows len 1 (blocks_of lines)))
+
+-- the blocks of a text, each with a log of so many rows of so many bits, or why it is no such batch
+abbrev pub batch_of : List ℕ → ℕ → ℕ → Answer
+batch_of text rows len = blocks_of_lines rows len (row_lines text)
+
+-- an answer is what the text says, unless memory ran out
+abbrev pub Fails : BatchFault → Answer → Type 0
+Fails (Start n) said = said ≡ Err (Start n)
+Fails (Title n) said = said ≡ Err (Title n)
+Fails (Inner board fault) said = said ≡ Err (Inner board fault)
+Fails (Memory e) said = Unit {0}
+
+abbrev pub GivesBy : {V : Type 0} → (V → List Block) → Result V BatchFault → Answer → Type 0
+GivesBy view (Ok value) said = said ≡ Ok (view value)
+GivesBy view (Err fault) said = Fails fault said
+
+-- the fault of a block's lines is never want of memory
+abbrev pub IsOfLines : BatchFault → Type 0
+IsOfLines (Start n) = Unit {0}
+IsOfLines (Title n) = Unit {0}
+IsOfLines (Inner board (Digit n)) = Unit {0}
+IsOfLines (Inner board (Length n)) = Unit {0}
+IsOfLines (Inner board (Missing found)) = Unit {0}
+IsOfLines (Inner board (Extra n)) = Unit {0}
+IsOfLines (Inner board (LogMemory e)) = ⊥
+IsOfLines (Memory e) = Unit {0}

@@ -1,0 +1,59 @@
+-- How the text of a batch is cut into the texts of its blocks.
+use Rattle.std.specs.Prelude.{◌≡◌, ℕ, ◌+◌, ◌≤◌, ◌==◌, Bool, false, not, ◌&&◌, List, [], ◌∷◌, filter, Option, Some, None, Result, Ok, Err}
+use Rattle.std.specs.List.{slice_split}
+use Rattle.text_lines.specs.Words.{is_newline, is_blank}
+use Rattle.response_log.specs.declared.fault.LogFault.{LogFault}
+use Rattle.response_log.specs.declared.fault.LogFault.TheVariants.{Digit, Length, Missing, Extra, Memory as LogMemory}
+use Rattle.response_log.specs.LogRows.{NumberedLine, numbered, has_words, Answer as LogAnswer}
+use Rattle.batch_diag.specs.declared.fault.BatchFault.{BatchFault}
+use Rattle.batch_diag.specs.declared.fault.BatchFault.TheVariants.{Start, Title as WrongTitle, Inner, Memory}
+use Rattle.batch_diag.specs.declared.lines.Title.{Title}
+use Rattle.batch_diag.specs.Batch.{BlockLines, blocks_of, up_to_title}
+
+-- the lines with words of a text, the first line of which has this number
+abbrev pub rows_from : ℕ → List ℕ → List NumberedLine
+rows_from n text = filter has_words (numbered n (slice_split is_newline text))
+
+-- a line that begins with a byte that begins no title
+abbrev pub begins_row : List ℕ → Bool
+begins_row [] = false
+begins_row (b ∷ bs) = not (b == 66) && not (is_blank b)
+
+-- a text, where there is one
+abbrev pub or_nothing : Option (List ℕ) → List ℕ
+or_nothing None = []
+or_nothing (Some text) = text
+
+-- the blocks from a title on
+abbrev pub blocks_at : Option Title → List BlockLines
+blocks_at None = []
+blocks_at (Some title) =
+    let behind = rows_from (title.line + 1) title.behind.now in
+    record { id = title.id.now; lines = up_to_title behind } ∷ blocks_of behind
+
+-- what is said of the block with this number is what its lines say, unless memory ran out
+abbrev pub FailsBlock : ℕ → BatchFault → LogAnswer → Type 0
+FailsBlock board (Start n) said = ⊥
+FailsBlock board (WrongTitle n) said = ⊥
+FailsBlock board (Inner b fault) said = (b ≡ board) × (said ≡ Err fault)
+FailsBlock board (Memory e) said = Unit {0}
+
+abbrev pub GivesLogBy : {V : Type 0} → ℕ → (V → List (List Bool)) → Result V BatchFault → LogAnswer → Type 0
+GivesLogBy board view (Ok value) said = said ≡ Ok (view value)
+GivesLogBy board view (Err fault) said = FailsBlock board fault said
+
+-- what is said of the block with this number where its lines, by themselves, have a fault: so many lines of the text stand before them
+abbrev pub moved_inner : ℕ → ℕ → LogFault → BatchFault
+moved_inner board before (Digit n) = Inner board (Digit (before + n))
+moved_inner board before (Length n) = Inner board (Length (before + n))
+moved_inner board before (Missing found) = Inner board (Missing found)
+moved_inner board before (Extra n) = Inner board (Extra (before + n))
+moved_inner board before (LogMemory e) = Memory e
+
+-- the line of a fault is at most the one with this number
+abbrev pub IsUpTo : ℕ → LogFault → Type 0
+IsUpTo last (Digit n) = n ≤ last
+IsUpTo last (Length n) = n ≤ last
+IsUpTo last (Missing found) = Unit {0}
+IsUpTo last (Extra n) = n ≤ last
+IsUpTo last (LogMemory e) = Unit {0}

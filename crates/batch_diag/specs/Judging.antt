@@ -1,0 +1,28 @@
+-- How the verdicts on the blocks of a batch are found in pieces.
+use Rattle.std.specs.Prelude.{◌≡◌, ℕ, ◌-◌, ◌*◌, ◌/◌, ◌<◌, List, length, take, drop, All}
+use Rattle.board_defs.specs.Passes.{passes_of}
+use Rattle.scan_planner.specs.Plans.{IsPlanOf}
+use Rattle.diagnoser.specs.Diagnosis.{IsNamed}
+use Rattle.batch_diag.specs.declared.block.Block.{Block}
+use Rattle.batch_diag.specs.declared.judging.Batch.{Batch}
+use Rattle.batch_diag.specs.declared.verdict.Verdict.{Verdict}
+use Rattle.batch_diag.specs.Verdicts.{EachPair, IsVerdict, AreLogs}
+
+-- logs of the test that the plan makes of the board's passes
+pub record IsBatch (b : Batch) : Type 0 where
+  pub plan : IsPlanOf b.board.now b.plan.now
+  pub passes : b.plan.now.passes ≡ passes_of b.board.now
+  pub logs : AreLogs b.board.now b.plan.now b.blocks.now
+  pub some : 0 < b.pieces
+
+-- the verdict on a block, whose faults name nets and pins of the board
+abbrev pub Judges : Batch → Block → Verdict → Type 0
+Judges b block verdict = IsVerdict b.board.now block verdict × All (IsNamed b.board.now) verdict.faults
+
+-- the verdicts on the blocks from one up to but without another
+abbrev pub Judged : Batch → ℕ → ℕ → List Verdict → Type 0
+Judged b from to verdicts = EachPair (Judges b) (take (to - from) (drop from b.blocks.now)) verdicts
+
+-- the first block of a piece; the pieces share the blocks evenly
+abbrev pub first_of : Batch → ℕ → ℕ
+first_of b piece = piece * length b.blocks.now / b.pieces

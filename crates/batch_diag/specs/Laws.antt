@@ -1,0 +1,56 @@
+-- The laws of batches.
+use Rattle.std.specs.Prelude.{◌≡◌, ◌↔◌, ℕ, ◌+◌, true, false, List, [], ◌∷◌, ◌++◌, length, All, Ok, Err, codes}
+use Rattle.text_lines.specs.Words.{is_word}
+use Rattle.response_log.specs.LogRows.{NumberedLine, row_lines, rows_of_lines}
+use Rattle.board_defs.specs.declared.board.RawBoard.{RawBoard}
+use Rattle.batch_diag.specs.declared.block.Block.{Block}
+use Rattle.batch_diag.specs.declared.verdict.Verdict.{Verdict}
+use Rattle.batch_diag.specs.declared.fault.BatchFault.{BatchFault}
+use Rattle.batch_diag.specs.declared.fault.BatchFault.TheVariants.{Start, Title, Inner, Memory}
+use Rattle.batch_diag.specs.Batch.{begins_block, is_wrong_title, up_to_title, batch_of}
+use Rattle.batch_diag.specs.Verdicts.{AreVerdicts}
+use Rattle.batch_diag.specs.BatchText.{batch_text, IsBatchText}
+
+-- a title and the lines behind it, none of which is a title, are a block
+pub record IsBlockOf (rows len : ℕ) (title : NumberedLine) (lines : List NumberedLine) (block : Block) : Type 0 where
+  pub words : title.words ≡ codes "BOARD" ∷ block.id ∷ []
+  pub id : is_word block.id ≡ true
+  pub inside : All (λ line. begins_block line ≡ false) lines
+  pub log : rows_of_lines rows len lines ≡ Ok block.log
+
+-- the lines are those of blocks, one after the other
+abbrev pub AreBlocksOf : ℕ → ℕ → List NumberedLine → List Block → Type 0
+AreBlocksOf rows len lines [] = lines ≡ []
+AreBlocksOf rows len lines (block ∷ blocks) =
+    (title : NumberedLine) × (own : List NumberedLine) × (later : List NumberedLine) × IsBlockOf rows len title own block × AreBlocksOf rows len later blocks × (lines ≡ title ∷ (own ++ later))
+
+-- a text is a batch exactly where its lines with words are those of blocks
+abbrev pub BlocksAreTheLines : Type 0
+BlocksAreTheLines = (text : List ℕ) (rows len : ℕ) (blocks : List Block) → (batch_of text rows len ≡ Ok blocks) ↔ AreBlocksOf rows len (row_lines text) blocks
+
+-- no title among the lines is wrong
+abbrev pub AreRight : List NumberedLine → Type 0
+AreRight lines = All (λ line. is_wrong_title line ≡ false) lines
+
+-- the first line with words, where it is no title; or else the first title that is wrong; or else, behind blocks that are right, the
+-- first block whose lines are no log
+abbrev pub IsFirstFault : ℕ → ℕ → List NumberedLine → BatchFault → Type 0
+IsFirstFault rows len lines (Start n) = (line : NumberedLine) × (later : List NumberedLine) × (begins_block line ≡ false) × (line.number ≡ n) × (lines ≡ line ∷ later)
+IsFirstFault rows len lines (Title n) =
+    (before : List NumberedLine) × (line : NumberedLine) × (later : List NumberedLine) × (up_to_title lines ≡ []) × AreRight before × (is_wrong_title line ≡ true) × (line.number ≡ n) × (lines ≡ before ++ line ∷ later)
+IsFirstFault rows len lines (Inner board fault) =
+    (blocks : List Block) × (before : List NumberedLine) × (title : NumberedLine) × (own : List NumberedLine) × (later : List NumberedLine) × AreRight lines × AreBlocksOf rows len before blocks
+    × (begins_block title ≡ true) × All (λ line. begins_block line ≡ false) own × (up_to_title later ≡ []) × (rows_of_lines rows len own ≡ Err fault) × (board ≡ length blocks + 1) × (lines ≡ before ++ title ∷ (own ++ later))
+IsFirstFault rows len lines (Memory e) = ⊥
+
+-- a text that is no batch has the fault that is named
+abbrev pub FaultIsTheFirst : Type 0
+FaultIsTheFirst = (text : List ℕ) (rows len : ℕ) (fault : BatchFault) → batch_of text rows len ≡ Err fault → IsFirstFault rows len (row_lines text) fault
+
+-- verdicts make the text of the batch
+abbrev pub VerdictsMakeText : Type 0
+VerdictsMakeText = (board : RawBoard) (blocks : List Block) (verdicts : List Verdict) → AreVerdicts board blocks verdicts → IsBatchText board blocks (batch_text board blocks verdicts)
+
+-- blocks have one such text
+abbrev pub OneBatchText : Type 0
+OneBatchText = (board : RawBoard) (blocks : List Block) (text other : List ℕ) → IsBatchText board blocks text → IsBatchText board blocks other → text ≡ other

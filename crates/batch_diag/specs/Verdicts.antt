@@ -1,0 +1,28 @@
+-- The verdicts on the blocks of a batch.
+use Rattle.std.specs.Prelude.{◌*◌, List, [], ◌∷◌, length, All}
+use Rattle.board_defs.specs.declared.board.RawBoard.{RawBoard}
+use Rattle.board_defs.specs.Pins.{data_bits}
+use Rattle.scan_planner.specs.declared.tables.PlanTables.{PlanTables}
+use Rattle.response_log.specs.LogRows.{HasSize}
+use Rattle.fault_sim.specs.Diagnosis.{IsDiagnosis}
+use Rattle.batch_diag.specs.declared.block.Block.{Block}
+use Rattle.batch_diag.specs.declared.verdict.Verdict.{Verdict}
+
+-- two lists have one length, and R holds of the items at each place
+abbrev pub EachPair : {A B : Type 0} → (A → B → Type 0) → List A → List B → Type 0
+EachPair R [] [] = Unit {0}
+EachPair R [] (y ∷ ys) = ⊥
+EachPair R (x ∷ xs) [] = ⊥
+EachPair R (x ∷ xs) (y ∷ ys) = R x y × EachPair R xs ys
+
+-- the diagnosis of a block's log: whether it passes, and the single faults that explain it
+abbrev pub IsVerdict : RawBoard → Block → Verdict → Type 0
+IsVerdict board block verdict = IsDiagnosis board block.log verdict.pass verdict.faults
+
+-- a verdict on each block, in their order
+abbrev pub AreVerdicts : RawBoard → List Block → List Verdict → Type 0
+AreVerdicts board blocks verdicts = EachPair (IsVerdict board) blocks verdicts
+
+-- the logs have the rows of the test that a plan makes, each as long as a scan of data
+abbrev pub AreLogs : RawBoard → PlanTables → List Block → Type 0
+AreLogs board plan blocks = All (λ block. HasSize (length plan.passes * plan.width) (data_bits board) block.log) blocks

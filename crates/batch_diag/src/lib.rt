@@ -1,0 +1,24 @@
+//! Many logs of one test in one text, diagnosed side by side.
+//!
+//! A line whose first word is `BOARD` begins a block, and its other word is the id of a board. The lines up to the next such
+//! line are the log of that board. Each block is diagnosed as if it were alone.
+#![tactic(auto)]
+
+mod block;
+mod fault;
+mod judging;
+pub mod law;
+mod lines;
+mod listing;
+mod reader;
+mod verdict;
+
+pub use block::Block;
+pub use fault::BatchFault;
+pub use judging::diagnose_all;
+pub use listing::write_batch;
+pub use reader::blocks;
+pub use verdict::Verdict;
+
+#[cfg(test)]
+mod tests;

@@ -1,0 +1,174 @@
+// The lines of a batch: titles, which begin blocks, and the lines between them.
+ghost use Rattle.std.specs.Prelude.{◌≡◌, ◌+◌, ◌<◌, ◌≤◌, ◌^◌, ◌∷◌, [], ◌&&◌, not, length, IfSome, option_copied};
+ghost use Rattle.text_lines.specs.Words.{words_of};
+ghost use Rattle.response_log.specs.LogRows.{holds_word, row_lines};
+ghost use Rattle.batch_diag.specs.Batch.{is_title, first_or_none, id_of, is_id, names_board, start_fault, title_fault, up_to_title, blocks_of};
+ghost use Rattle.batch_diag.specs.Cutting.{rows_from, begins_row, blocks_at, or_nothing};
+
+use crate::fault::BatchFault;
+use text_lines::{first_line, is_blank, is_word, next_word};
+
+/// A line that begins a block: its number, the id in it, and the text of the lines behind it.
+#[derive(Clone, Copy)]
+pub struct Title<'a> {
+    pub line: usize,
+    pub id: &'a [u8],
+    pub behind: &'a [u8],
+}
+
+fn has_words(line: &[u8]) -> bool
+    ensures { result ≡ holds_word (words_of line.now) }
+{
+    next_word(line).is_some()
+}
+
+// Whether the line begins with a byte that begins no title. Most rows do, and then their bytes need not be looked at.
+fn begins_row(line: &[u8]) -> bool
+    ensures { result ≡ begins_row line.now }
+{
+    match line {
+        [first, ..] => *first != b'B' && !is_blank(*first),
+        [] => false,
+    }
+}
+
+// Whether the first word of the line is `BOARD`.
+fn is_title(line: &[u8]) -> bool
+    ensures { result ≡ is_title (words_of line.now) }
+{
+    if begins_row(line) {
+        return false;
+    }
+    match next_word(line) {
+        Some((word, _)) => word == b"BOARD".as_slice(),
+        None => false,
+    }
+}
+
+// The first word of a line, or no bytes where it has none.
+fn first_or_none(line: &[u8]) -> &[u8]
+    ensures { result.now ≡ first_or_none (words_of line.now) }
+{
+    match next_word(line) {
+        Some((word, _)) => word,
+        None => b"",
+    }
+}
+
+// The second word of a line, or no bytes where it has none.
+fn id_of(line: &[u8]) -> &[u8]
+    ensures { result.now ≡ id_of (words_of line.now) }
+{
+    match next_word(line) {
+        Some((_, behind)) => first_or_none(behind),
+        None => b"",
+    }
+}
+
+// Whether the line is an id alone.
+fn is_id(line: &[u8]) -> bool
+    ensures { result ≡ is_id (words_of line.now) }
+{
+    match next_word(line) {
+        Some((id, behind)) => !has_words(behind) && is_word(id),
+        None => false,
+    }
+}
+
+// Whether an id and nothing else stands behind the first word of the line.
+fn names_board(line: &[u8]) -> bool
+    ensures { result ≡ names_board (words_of line.now) }
+{
+    match next_word(line) {
+        Some((_, behind)) => is_id(behind),
+        None => false,
+    }
+}
+
+// Whether the line is a title that has not two words or whose id breaks the word rule.
+fn is_wrong_title(line: &[u8]) -> bool
+    ensures { result ≡ (is_title (words_of line.now) && not (names_board (words_of line.now))) }
+{
+    is_title(line) && !names_board(line)
+}
+
+/// The first line with words of a text, where it is no title.
+pub fn start_fault(text: &[u8]) -> Option<BatchFault>
+    requires { length text.now < 2 ^ 32 }
+    ensures { result ≡ start_fault (row_lines text.now) }
+{
+    let mut rest = Some(text);
+    let mut number = 1usize;
+    while let Some(left) = rest {
+        let (line, after) = first_line(left);
+        if has_words(line) {
+            return no_title(line, number as u32);
+        }
+        number += 1;
+        rest = after;
+    }
+    None
+}
+
+// The fault of a line with words that is to be a title.
+fn no_title(line: &[u8], number: u32) -> Option<BatchFault>
+    ensures { result ≡ start_fault (record { number = number; words = words_of line.now } ∷ []) }
+{
+    if is_title(line) {
+        None
+    } else {
+        Some(BatchFault::Start(number))
+    }
+}
+
+/// The first title of a text that has not two words or whose id breaks the word rule.
+pub fn title_fault(text: &[u8]) -> Option<BatchFault>
+    requires { length text.now < 2 ^ 32 }
+    ensures { result ≡ title_fault (row_lines text.now) }
+{
+    let mut rest = Some(text);
+    let mut number = 1usize;
+    while let Some(left) = rest {
+        let (line, after) = first_line(left);
+        if is_wrong_title(line) {
+            return Some(BatchFault::Title(number as u32));
+        }
+        number += 1;
+        rest = after;
+    }
+    None
+}
+
+// The text, or no bytes where there is none.
+fn or_nothing(text: Option<&[u8]>) -> &[u8]
+    ensures { result.now ≡ or_nothing (option_copied text.entry) }
+{
+    text.unwrap_or(b"")
+}
+
+/// Cuts a text, the first line of which has this number, at its first title: the text before it, and the title.
+pub fn cut_at_title(text: &[u8], number: usize) -> (&[u8], Option<Title<'_>>)
+    requires { number + length text.now < 2 ^ 33 }
+    ensures own { up_to_title (rows_from number text.now) ≡ rows_from number result.0.now }
+    ensures rest { blocks_of (rows_from number text.now) ≡ blocks_at result.1 }
+    ensures within { length result.0.now ≤ length text.now }
+    ensures later { IfSome result.1 (λ title. number ≤ title.line) }
+    ensures place { IfSome result.1 (λ title. title.line + length title.behind.now + 1 ≤ number + length text.now) }
+{
+    let mut rest = Some(text);
+    let mut line_number = number;
+    while let Some(left) = rest {
+        let (line, after) = first_line(left);
+        if is_title(line) {
+            let title = Title {
+                line: line_number,
+                id: id_of(line),
+                behind: or_nothing(after),
+            };
+            return (&text[..text.len() - left.len()], Some(title));
+        }
+        line_number += 1;
+        rest = after;
+    }
+    (text, None)
+}

@@ -1,0 +1,58 @@
+use Rattle.std.proofs.Common.{◌≡◌, ◌∙◌, ℕ, List, ap, subst, sym}
+use Rattle.std.specs.Prelude.{Ok}
+use Rattle.bt_base.specs.Puts.{Puts}
+use Rattle.board_defs.specs.declared.fault.Single.{Single}
+use Rattle.response_log.specs.LogRows.{Fails, log_rows}
+use Rattle.tap_defs.specs.BoardScans.{svf_row_scans}
+use Rattle.diagnoser.specs.DiagText.{diag_text}
+use Rattle.btest_cli.specs.LogRead.{IsJudged, Log, OnBoard, diagnosing, diagnosis_text, test_log, test_rows}
+use Rattle.btest_cli.specs.Worth.{Diagnoses}
+use Rattle.btest_cli.proofs.AnswerLemmas.{log_wrong, takes_by, cut_by}
+use Rattle.btest_cli.proofs.TestLemmas.{rows_are}
+use Rattle.btest_cli.proofs.VerdictLemmas.{is_right}
+use Rattle.btest_cli.proofs.log_diagnosis.put_diagnosis.Goals as goal
+
+pub returns-in-Err : goal.returns-in-Err
+returns-in-Err g c =
+    let board = c.args.planned.now.board in
+    let count = c.rows.ensures ∙ rows_are board c.args.planned.now.plan c.requires.plan c.requires.passes in
+    let counted = subst (λ (n : ℕ). Fails c.in-Err.fault (log_rows c.args.text.now n c.dr_bits.result)) count c.in-Err.ensures.read in
+    let faulty = subst (λ (n : ℕ). Fails c.in-Err.fault (log_rows c.args.text.now (test_rows board) n)) c.dr_bits.ensures counted in
+    let wanted = c.rows-in-Err.ensures ∙ rows_are board c.args.planned.now.plan c.requires.plan c.requires.passes in
+    rw c.unput_by_log.ensures
+    (log_wrong (OnBoard diagnosing c.args.text.now board) (λ found. diagnosis_text (board, found)) (Diagnoses c.args.text.now board (g.K.Sink.shown c.args.out.now)) (g.K.Sink.shown c.args.out.now) c.rows-in-Err.result (test_log c.args.text.now board) c.in-Err.fault faulty
+    (λ fault fails. record { cause = fault; fails = fails; is = ap (λ (n : ℕ). Log n fault) wanted }))
+
+pub returns-in-Ok-write_diagnosis : goal.returns-in-Ok-write_diagnosis
+returns-in-Ok-write_diagnosis g c =
+    let board = c.args.planned.now.board in
+    let count = c.rows.ensures ∙ rows_are board c.args.planned.now.plan c.requires.plan c.requires.passes in
+    let counted = subst (λ (n : ℕ). log_rows c.args.text.now n c.dr_bits.result ≡ Ok c.in-Ok.log) count c.in-Ok.ensures.read in
+    let read : test_log c.args.text.now board ≡ Ok c.in-Ok.log = subst (λ (n : ℕ). log_rows c.args.text.now (test_rows board) n ≡ Ok c.in-Ok.log) c.dr_bits.ensures counted in
+    let puts = subst (λ (faults : List Single). Puts (g.K.Sink.shown c.args.out.now) (g.K.Sink.shown c.write_diagnosis.new.out) (diag_text board c.is_pass-pass.result faults) c.write_diagnosis.result) c.deref.ensures.value c.write_diagnosis.ensures in
+    let takes = takes_by _ _ _ puts c.in-Ok-write_diagnosis.is in
+    let found : IsJudged diagnosing c.args.text.now board (c.is_pass-pass.result, c.in-Ok-diagnose.faults.items) = record { contents = c.in-Ok.log; holds = read; finds = record { passes = c.is_pass-pass.ensures; list = c.in-Ok-diagnose.ensures.faults } } in
+    record {
+      value = (c.is_pass-pass.result, c.in-Ok-diagnose.faults.items);
+      found = found;
+      takes = takes;
+      worth = record {
+        means = c.test_means.ensures (svf_row_scans board);
+        rows = c.in-Ok.log;
+        read = read;
+        pass = c.is_pass-pass.result;
+        faults = c.in-Ok-diagnose.faults.items;
+        right = is_right c.explaining_listed.ensures c.passing_unexplained.ensures board c.raw-rules.ensures.rules c.in-Ok.log c.is_pass-pass.result c.in-Ok-diagnose.faults.items c.is_pass-pass.ensures c.in-Ok-diagnose.ensures.faults;
+        takes = takes;
+      };
+    }
+
+pub returns : goal.returns
+returns g c =
+    let board = c.args.planned.now.board in
+    let count = c.rows.ensures ∙ rows_are board c.args.planned.now.plan c.requires.plan c.requires.passes in
+    let counted = subst (λ (n : ℕ). log_rows c.args.text.now n c.dr_bits.result ≡ Ok c.in-Ok.log) count c.in-Ok.ensures.read in
+    let read : test_log c.args.text.now board ≡ Ok c.in-Ok.log = subst (λ (n : ℕ). log_rows c.args.text.now (test_rows board) n ≡ Ok c.in-Ok.log) c.dr_bits.ensures counted in
+    let puts = subst (λ (faults : List Single). Puts (g.K.Sink.shown c.args.out.now) (g.K.Sink.shown c.write_diagnosis.new.out) (diag_text board c.is_pass-pass.result faults) c.write_diagnosis.result) c.deref.ensures.value c.write_diagnosis.ensures in
+    let found : IsJudged diagnosing c.args.text.now board (c.is_pass-pass.result, c.in-Ok-diagnose.faults.items) = record { contents = c.in-Ok.log; holds = read; finds = record { passes = c.is_pass-pass.ensures; list = c.in-Ok-diagnose.ensures.faults } } in
+    cut_by (OnBoard diagnosing c.args.text.now board) (λ found. diagnosis_text (board, found)) _ _ (c.is_pass-pass.result, c.in-Ok-diagnose.faults.items) found puts c.in-Err-write_diagnosis.is

@@ -1,0 +1,46 @@
+-- The suspects of small boards, worked by hand: places, two for each covered net, two for each tested pin and four for each pair.
+use Rattle.std.proofs.Common.{◌≡◌, ℕ, List, [], ◌∷◌, refl}
+use Rattle.fault_sim.specs.declared.universe.FaultLists.{FaultLists}
+use Rattle.fault_sim.specs.Places.{pairs_before, place_count}
+use Rattle.fault_sim.specs.Suspects.{net_suspects, pair_suspects, suspect_count}
+
+-- two nets, each of a driver and a receiver
+two_nets : FaultLists
+two_nets = record { nets = 0 ∷ 1 ∷ []; pins = record { net = 0; place = 0 } ∷ record { net = 0; place = 1 } ∷ record { net = 1; place = 0 } ∷ record { net = 1; place = 1 } ∷ []; starts = 0 ∷ 1 ∷ 1 ∷ [] }
+
+two_nets_places : place_count two_nets ≡ 16
+two_nets_places = refl
+
+none_differs : suspect_count two_nets [] ≡ 0
+none_differs = refl
+
+-- its stuck faults, its two pins, and the shorts of the one pair
+one_differs : net_suspects two_nets 0 0 ≡ 0 ∷ 1 ∷ 4 ∷ 5 ∷ 6 ∷ 7 ∷ 12 ∷ 13 ∷ 14 ∷ 15 ∷ []
+one_differs = refl
+
+one_differs_count : suspect_count two_nets (0 ∷ []) ≡ 10
+one_differs_count = refl
+
+-- the shorts of the one pair alone
+both_differ : pair_suspects two_nets 0 1 ≡ 12 ∷ 13 ∷ 14 ∷ 15 ∷ []
+both_differ = refl
+
+both_differ_count : suspect_count two_nets (0 ∷ 1 ∷ []) ≡ 4
+both_differ_count = refl
+
+-- no single fault changes three nets
+three_differ_count : suspect_count two_nets (0 ∷ 1 ∷ 2 ∷ []) ≡ 0
+three_differ_count = refl
+
+-- three covered nets, the second and third of which have no pin that is tested: their pairs are numbered 0 and 1, 0 and 2, 1 and 2
+three_nets : FaultLists
+three_nets = record { nets = 3 ∷ 5 ∷ 8 ∷ []; pins = record { net = 3; place = 1 } ∷ []; starts = 0 ∷ 2 ∷ 3 ∷ 3 ∷ [] }
+
+three_nets_starts : pairs_before 3 1 ≡ 2
+three_nets_starts = refl
+
+middle_differs : net_suspects three_nets 5 1 ≡ 2 ∷ 3 ∷ 8 ∷ 9 ∷ 10 ∷ 11 ∷ 16 ∷ 17 ∷ 18 ∷ 19 ∷ []
+middle_differs = refl
+
+outer_differ : pair_suspects three_nets 0 2 ≡ 12 ∷ 13 ∷ 14 ∷ 15 ∷ []
+outer_differ = refl

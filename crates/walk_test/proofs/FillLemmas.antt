@@ -1,0 +1,580 @@
+-- Which rows a walk keeps, and which it fills in.
+use Rattle.std.proofs.Common.{◌≡◌, ◌⊎◌, inl, inr, ℕ, zero, suc, ◌+◌, ◌*◌, ◌<◌, ◌≤◌, ◌==◌, ◌^◌, Bool, true, false, cond, not, List, [], ◌∷◌, ◌++◌, length, take, map, get_or, set, replicate, Option, Some, None, is_some, unwrap_or, refl, sym, ◌∙◌, ap, subst, arith}
+use Rattle.std.specs.Prelude.{slice_get, filter, count_by, nat_lt, option_map, option_and_then, Contains, All}
+use Rattle.std.specs.Option.{option_to_list}
+use Rattle.std.specs.List.{list_any, range_with_len}
+use Rattle.std.proofs.lemmas.Bool.{lt-ltb, le-ltb, eq-eqb, both_ways}
+use Rattle.std.proofs.lemmas.List.{length-map, length-replicate, get_or-replicate}
+use Rattle.std.proofs.lemmas.Option.{slice_get_within, slice_get-get_or, get_or_from_slice_get, slice_get-map}
+use Rattle.board_defs.specs.declared.board.Net.{Net}
+use Rattle.board_defs.specs.declared.board.RawBoard.{RawBoard}
+use Rattle.board_defs.specs.declared.board.Ctl.{Ctl}
+use Rattle.board_defs.specs.BoardRules.{IsBoard}
+use Rattle.board_defs.specs.Pins.{data_bits}
+use Rattle.board_defs.specs.Settings.{holds}
+use Rattle.board_defs.proofs.Members.{Has, has_at, has_place, contains_has, has_contains}
+use Rattle.board_defs.proofs.Places.{any_at}
+use Rattle.tap_defs.specs.declared.scan.Shape.{Shape}
+use Rattle.tap_defs.specs.Scan.{ScanBit, Scan, joined, tdi_bits, tdo_bits, mask_bits, scan_bits}
+use Rattle.tap_defs.specs.TestRows.{TestRow, quiet_row, code_row, code_of_net, code_bit, net_code_bit, observing_driver, observed_count, code_width}
+use Rattle.tap_defs.specs.BoardScans.{RowScan, row_bits, scan_of_row, board_scans, row_scans, pass_scans, row_now, row_before, test_scans, first_row_scan, is_walked, walk_row, walk_row_scans}
+use Rattle.tap_defs.proofs.ScanPlaceLemmas.{scans_placed, front_at, length-pass_scans, pass_scan_at}
+use Rattle.tap_defs.proofs.WidthLemmas.{width_is}
+use Rattle.scan_planner.specs.declared.nets.NetDriver.{NetDriver}
+use Rattle.scan_planner.specs.declared.tables.DriverCell.{DriverCell}
+use Rattle.scan_planner.specs.declared.tables.ReaderCell.{ReaderCell}
+use Rattle.scan_planner.specs.declared.tables.PlanTables.{PlanTables}
+use Rattle.scan_planner.specs.Assigned.{assigned}
+use Rattle.scan_planner.specs.Building.{enabled_in, is_read_beside, drivers_of, readers_of}
+use Rattle.scan_planner.specs.Plans.{IsPlanOf, FillsScan, scan_count}
+use Rattle.scan_planner.specs.Tables.{IsDriverCell, IsReaderCell}
+use Rattle.scan_planner.proofs.FillLemmas.{row_sized, quiet_tdo, quiet_mask}
+use Rattle.scan_planner.proofs.LaidLemmas.{mask_laid, tdo_laid, tdi_laid, length-laid}
+use Rattle.scan_planner.proofs.AssignLemmas.{assigned_is}
+use Rattle.scan_planner.proofs.TableLemmas.{Observed, DriverAt, observed, reader_is, is_reader}
+use Rattle.walk_test.specs.declared.tables.NetCells.{NetCells}
+use Rattle.walk_test.specs.declared.tables.WalkTables.{WalkTables}
+use Rattle.walk_test.specs.WalkTest.{is_walk_net, walk_setting, walk_nets, scans_by, walk_row_list, walk_scans}
+use Rattle.walk_test.specs.Tables.{tdi_of, tdo_of, mask_of, still_row, observer_in, positions_beside, cells_by, cells_in, nets_in, nets_by, cells_of, AreMade, AreNetCells, AreWalkTables, IsWalkOf, walk_controls, walk_row_of, now_of, before_of}
+use Rattle.walk_test.specs.Scans.{FillsWalk}
+use Rattle.walk_test.proofs.CellLemmas.{WalkedBy}
+use Rattle.walk_test.proofs.NetLemmas.{walk_at, place_of_walk, count_is, marked_is, no_nets}
+use Rattle.walk_test.proofs.RowLemmas.{CellsOf, cells_of_plan, one_driver, length-tdi, marked_row, cleared_row, mask_same, ComparedAt, one_at, tdo_here, laid_here, net_cells}
+
+-- the rows of a scan
+rows_tdi : (tdi tdo mask : List Bool) → length tdo ≡ length tdi → length mask ≡ length tdi → tdi_bits (scan_bits tdi tdo mask) ≡ tdi
+rows_tdi [] tdo mask d m = refl
+rows_tdi (i ∷ tdi) [] mask d m = absurd (omega (arith, d))
+rows_tdi (i ∷ tdi) (o ∷ tdo) [] d m = absurd (omega (arith, m))
+rows_tdi (i ∷ tdi) (o ∷ tdo) (b ∷ mask) d m = ap (λ (l : List Bool). i ∷ l) (rows_tdi tdi tdo mask (omega (arith, d)) (omega (arith, m)))
+
+rows_mask : (tdi tdo mask : List Bool) → length tdo ≡ length tdi → length mask ≡ length tdi → mask_bits (scan_bits tdi tdo mask) ≡ mask
+rows_mask [] tdo [] d m = refl
+rows_mask [] tdo (b ∷ mask) d m = absurd (omega (arith, m))
+rows_mask (i ∷ tdi) [] mask d m = absurd (omega (arith, d))
+rows_mask (i ∷ tdi) (o ∷ tdo) [] d m = absurd (omega (arith, m))
+rows_mask (i ∷ tdi) (o ∷ tdo) (b ∷ mask) d m = ap (λ (c : Bool). c ∷ mask_bits (scan_bits tdi tdo mask)) (by_bit b) ∙ ap (λ (l : List Bool). b ∷ l) (rows_mask tdi tdo mask (omega (arith, d)) (omega (arith, m)))
+  where
+    by_bit : (c : Bool) → is_some (cond c (Some o) None) ≡ c
+    by_bit true = refl
+    by_bit false = refl
+
+-- a width has a bit
+pub some_width : (board : RawBoard) (plan : PlanTables) → IsPlanOf board plan → 1 ≤ plan.width
+some_width board plan p = by_width plan.width p.width_is
+  where
+    by_width : (w : ℕ) → w ≡ code_width (observed_count board plan.passes) → 1 ≤ w
+    by_width zero e =
+        let enough : observed_count board plan.passes + 2 ≤ 2 ^ code_width (observed_count board plan.passes) = (width_is (observed_count board plan.passes)).enough in
+        let none : 2 ^ code_width (observed_count board plan.passes) ≡ 1 = ap (λ (n : ℕ). 2 ^ n) (sym e) in
+        absurd (omega (arith, enough, none))
+    by_width (suc w) e = omega arith
+
+-- the scans of a plan that a walk takes its rows from
+module _ (board : RawBoard) (plan : PlanTables) (p : IsPlanOf board plan) (shape : Shape) (tdi tdo mask : List Bool) where
+  pub quiet_filled : FillsScan board plan.passes plan.width 1 shape tdi tdo mask → tdi ≡ tdi_of board quiet_row
+  quiet_filled f =
+      let scans : Some (scan_of_row board first_row_scan) ≡ Some (record { ir = shape.ir; bits = scan_bits tdi tdo mask }) = f.scan in
+      let one : ◌≡◌ {A = Scan} (scan_of_row board first_row_scan) (record { ir = shape.ir; bits = scan_bits tdi tdo mask }) = cc scans in
+      sym (ap (λ (s : Scan). tdi_bits s.bits) one ∙ rows_tdi tdi tdo mask f.tdo_length f.mask_length)
+
+  module _ (some : 0 < length plan.passes) where
+    abbrev pass : List Ctl
+    pass = get_or plan.passes 0 []
+
+    abbrev rows : ℕ → TestRow
+    rows j = code_row board plan.passes pass j
+
+    scan_at : (j k : ℕ) → j ≤ plan.width → k ≡ 3 + j → slice_get (test_scans board plan.passes plan.width) k ≡ Some (scan_of_row board (record { now = row_now rows plan.width j; before = row_before rows j }))
+    scan_at j k le z =
+        let at : k ≡ 3 + (0 * suc plan.width + j) = grind (arith, z) in
+        ap (λ (i : ℕ). slice_get (test_scans board plan.passes plan.width) i) at
+        ∙ (scans_placed board plan.passes plan.width).rows 0 pass j (slice_get-get_or plan.passes 0 [] some) le
+
+    first_now : row_now rows plan.width 0 ≡ rows 0
+    first_now = ap (λ (b : Bool). cond b (rows 0) quiet_row) (lt-ltb 0 plan.width (omega (arith, some_width board plan p)))
+
+    pub first_filled : FillsScan board plan.passes plan.width 3 shape tdi tdo mask → tdi ≡ tdi_of board (rows 0)
+    first_filled f =
+        let two : Some (scan_of_row board (record { now = row_now rows plan.width 0; before = quiet_row })) ≡ Some (record { ir = shape.ir; bits = scan_bits tdi tdo mask }) = sym (scan_at 0 3 (omega arith) (omega arith)) ∙ f.scan in
+        let one : ◌≡◌ {A = Scan} (scan_of_row board (record { now = row_now rows plan.width 0; before = quiet_row })) (record { ir = shape.ir; bits = scan_bits tdi tdo mask }) = cc two in
+        sym (ap (λ (s : Scan). tdi_bits s.bits) one ∙ rows_tdi tdi tdo mask f.tdo_length f.mask_length) ∙ ap (λ (r : TestRow). tdi_of board r) first_now
+
+    pub mask_filled : FillsScan board plan.passes plan.width 4 shape tdi tdo mask → mask ≡ mask_of board (rows 0)
+    mask_filled f =
+        let scan : RowScan = record { now = row_now rows plan.width 1; before = rows 0 } in
+        let two : Some (scan_of_row board scan) ≡ Some (record { ir = shape.ir; bits = scan_bits tdi tdo mask }) = sym (scan_at 1 4 (some_width board plan p) (omega arith)) ∙ f.scan in
+        let one : ◌≡◌ {A = Scan} (scan_of_row board scan) (record { ir = shape.ir; bits = scan_bits tdi tdo mask }) = cc two in
+        sym (ap (λ (s : Scan). mask_bits s.bits) one ∙ rows_mask tdi tdo mask f.tdo_length f.mask_length)
+        ∙ mask_laid board scan ∙ sym (mask_laid board (record { now = quiet_row; before = rows 0 }))
+
+-- a plan with a pass has the scans of its first row and of what is compared of it
+pub scans_there : (board : RawBoard) (plan : PlanTables) → IsPlanOf board plan → 0 < length plan.passes → 4 < scan_count plan
+scans_there board plan p some = by_passes (length plan.passes) some
+  where
+    by_passes : (n : ℕ) → 0 < n → 4 < 3 + n * suc plan.width
+    by_passes zero less = absurd (omega (arith, less))
+    by_passes (suc n) less = let z : suc n * suc plan.width ≡ suc plan.width + n * suc plan.width = grind arith in omega (arith, z, some_width board plan p)
+
+-- the nets and the cells of a walk by the tables of its plan
+module _ (board : RawBoard) (rules : IsBoard board) (plan : PlanTables) (p : IsPlanOf board plan) (walk : List Ctl) where
+  drivers_at : (n : ℕ) (net : Net) → slice_get board.nets n ≡ Some net → get_or plan.drivers n [] ≡ drivers_of board net
+  drivers_at n net e =
+      ap (λ (l : List (List NetDriver)). get_or l n []) p.drivers_are
+      ∙ get_or_from_slice_get (map (drivers_of board) board.nets) n (drivers_of board net) [] (slice_get-map (drivers_of board) board.nets n ∙ ap (λ (o : Option Net). option_map (drivers_of board) o) e)
+
+  readers_at : (n : ℕ) (net : Net) → slice_get board.nets n ≡ Some net → get_or plan.readers n [] ≡ readers_of board net.pins
+  readers_at n net e =
+      ap (λ (l : List (List ReaderCell)). get_or l n []) p.readers_are
+      ∙ get_or_from_slice_get (map (λ (x : Net). readers_of board x.pins) board.nets) n (readers_of board net.pins) [] (slice_get-map (λ (x : Net). readers_of board x.pins) board.nets n ∙ ap (λ (o : Option Net). option_map (λ (x : Net). readers_of board x.pins) o) e)
+
+  pub observer_is : (n : ℕ) (net : Net) → slice_get board.nets n ≡ Some net → Observed board (holds walk) net (observer_in plan walk n)
+  observer_is n net e =
+      subst (λ (l : List NetDriver). Observed board (holds walk) net (option_and_then (λ d. cond (is_read_beside (get_or plan.readers n []) d) (Some d) None) (enabled_in (holds walk) l))) (sym (drivers_at n net e))
+      (subst (λ (l : List ReaderCell). Observed board (holds walk) net (option_and_then (λ d. cond (is_read_beside l d) (Some d) None) (enabled_in (holds walk) (drivers_of board net)))) (sym (readers_at n net e))
+      (observed board (holds walk) net))
+
+  observes_is : (n : ℕ) (net : Net) → slice_get board.nets n ≡ Some net → is_some (observer_in plan walk n) ≡ is_walked board walk net
+  observes_is n net e = by_observer (observer_in plan walk n) (observer_is n net e)
+    where
+      by_observer : (o : Option NetDriver) → Observed board (holds walk) net o → is_some o ≡ is_some (observing_driver board (holds walk) net)
+      by_observer None h = sym (ap (λ (x : Option ℕ). is_some x) h)
+      by_observer (Some d) h = sym (ap (λ (x : Option ℕ). is_some x) h.0)
+
+  -- the nets that the setting observes are the walk nets
+  pub nets_are : walk_setting board ≡ Some walk → nets_in plan walk (length board.nets) ≡ walk_nets board
+  nets_are is = same 0 board.nets (λ i net e. let z : 0 + i ≡ i = omega arith in ap (λ (k : ℕ). slice_get board.nets k) z ∙ e)
+    where
+      test : (n : ℕ) (net : Net) → slice_get board.nets n ≡ Some net → is_some (observer_in plan walk n) ≡ is_walk_net board (walk_setting board) (slice_get board.nets n)
+      test n net e =
+          observes_is n net e
+          ∙ sym (ap (λ (o : Option (List Ctl)). is_walk_net board o (slice_get board.nets n)) is ∙ ap (λ (o : Option Net). is_walk_net board (Some walk) o) e)
+
+      same : (k : ℕ) (xs : List Net) → ((i : ℕ) (net : Net) → slice_get xs i ≡ Some net → slice_get board.nets (k + i) ≡ Some net) →
+          filter (λ n. is_some (observer_in plan walk n)) (range_with_len k (length xs)) ≡ filter (λ n. is_walk_net board (walk_setting board) (slice_get board.nets n)) (range_with_len k (length xs))
+      same k [] at = refl
+      same k (net ∷ xs) at =
+          let z : k + 0 ≡ k = omega arith in
+          let e : slice_get board.nets k ≡ Some net = sym (ap (λ (i : ℕ). slice_get board.nets i) z) ∙ at 0 net refl in
+          ap (λ (b : Bool). cond b (k ∷ filter (λ n. is_some (observer_in plan walk n)) (range_with_len (k + 1) (length xs))) (filter (λ n. is_some (observer_in plan walk n)) (range_with_len (k + 1) (length xs)))) (test k net e)
+          ∙ ap (λ (l : List ℕ). cond (is_walk_net board (walk_setting board) (slice_get board.nets k)) (k ∷ l) l)
+          (same (k + 1) xs (λ i x f. let y : k + 1 + i ≡ k + suc i = omega arith in ap (λ (j : ℕ). slice_get board.nets j) y ∙ at (suc i) x f))
+
+  -- the cells of a walk net
+  pub cells_are : (n : ℕ) → WalkedBy board walk n → AreNetCells board walk n (cells_in plan walk n)
+  cells_are n w = by_observer (observer_in plan walk n) (observer_is n w.net w.is_net)
+    where
+      position_is : (d : NetDriver) → DriverAt board 0 w.net.pins d → d.place ≡ w.driver → (e : DriverCell) → IsDriverCell board walk e → e.net ≡ n → d.position ≡ e.position
+      position_is d a place e s of_net =
+          let nets : Some w.net ≡ Some s.net = sym w.is_net ∙ ap (λ (i : ℕ). slice_get board.nets i) (sym of_net) ∙ s.is_net in
+          let net : w.net ≡ s.net = cc nets in
+          let drivers : Some w.driver ≡ Some e.place = sym w.observing ∙ ap (λ (x : Net). observing_driver board (holds walk) x) net ∙ s.observing in
+          let driver : w.driver ≡ e.place = cc drivers in
+          let index : a.index ≡ e.place = omega (arith, a.place_is, place, driver) in
+          let pins : Some a.pin ≡ Some s.pin = sym a.stands ∙ ap (λ (x : Net). slice_get x.pins a.index) net ∙ ap (λ (i : ℕ). slice_get s.net.pins i) index ∙ s.is_pin in
+          let pin : a.pin ≡ s.pin = cc pins in
+          let ats : Some a.at ≡ Some s.at = sym a.is_at ∙ ap (λ (x : Rattle.board_defs.specs.declared.board.NetPin.NetPin). x.at) pin ∙ s.is_at in
+          let at : a.at ≡ s.at = cc ats in
+          let entries : Some a.entry ≡ Some s.entry = sym a.is_entry ∙ ap (λ (x : Rattle.board_defs.specs.declared.board.PinAt.PinAt). Rattle.board_defs.specs.Pins.entry_at board x) at ∙ s.is_entry in
+          let entry : a.entry ≡ s.entry = cc entries in
+          a.position_is ∙ ap (λ (x : Rattle.board_defs.specs.declared.board.PinAt.PinAt). Rattle.scan_planner.specs.Tables.first_position board x.part + a.entry.num) at
+          ∙ ap (λ (x : Rattle.board_defs.specs.declared.device.Cell.Cell). Rattle.scan_planner.specs.Tables.first_position board s.at.part + x.num) entry ∙ sym s.position_is
+
+      by_observer : (o : Option NetDriver) → Observed board (holds walk) w.net o → AreNetCells board walk n (cells_by plan n o)
+      by_observer None h = let bad : None ≡ Some w.driver = sym h ∙ w.observing in cc bad
+      by_observer (Some d) h =
+          let places : Some d.place ≡ Some w.driver = sym h.0 ∙ w.observing in
+          let place : d.place ≡ w.driver = cc places in
+          let made : AreNetCells board walk n (record { driver = d.position; compared = positions_beside w.driver (readers_of board w.net.pins) }) =
+          net_cells board walk n w d.position (readers_of board w.net.pins) (λ r k. reader_is board w.net r k) (λ r q. is_reader board w.net r q) (position_is d h.1 place) in
+          subst (λ (l : List ReaderCell). let c : NetCells = record { driver = d.position; compared = positions_beside d.place l } in AreNetCells board walk n c) (sym (readers_at n w.net w.is_net))
+          (subst (λ (i : ℕ). let c : NetCells = record { driver = d.position; compared = positions_beside i (readers_of board w.net.pins) } in AreNetCells board walk n c) (sym place) made)
+
+-- the tables of a walk, from what each of them is
+module _ (board : RawBoard) (rules : IsBoard board) (plan : PlanTables) (p : IsPlanOf board plan) (passes : plan.passes ≡ option_to_list (walk_setting board)) (t : WalkTables) (is_plan : t.plan ≡ plan)
+    (nets : t.nets ≡ nets_by plan (slice_get plan.passes 0) (length board.nets)) (cells : t.cells ≡ cells_of plan (slice_get plan.passes 0) t.nets) (rows_made : AreMade board plan t.cells t.rows) where
+    plan_is : IsPlanOf board t.plan
+    plan_is = subst (λ (q : PlanTables). IsPlanOf board q) (sym is_plan) p
+
+    passes_are : t.plan.passes ≡ option_to_list (walk_setting board)
+    passes_are = ap (λ (q : PlanTables). q.passes) is_plan ∙ passes
+
+    module _ (walk : List Ctl) (is : walk_setting board ≡ Some walk) where
+      one_pass : plan.passes ≡ walk ∷ []
+      one_pass = passes ∙ ap (λ (o : Option (List Ctl)). option_to_list o) is
+
+      first_is : get_or plan.passes 0 [] ≡ walk
+      first_is = ap (λ (l : List (List Ctl)). get_or l 0 []) one_pass
+
+      some : 0 < length plan.passes
+      some = omega (arith, ap (λ (l : List (List Ctl)). length l) one_pass)
+
+      walk_nets_are : t.nets ≡ walk_nets board
+      walk_nets_are = nets ∙ ap (λ (l : List (List Ctl)). nets_by plan (slice_get l 0) (length board.nets)) one_pass ∙ nets_are board rules plan p walk is
+
+      cells_all : t.cells ≡ map (cells_in plan walk) t.nets
+      cells_all = cells ∙ ap (λ (l : List (List Ctl)). cells_of plan (slice_get l 0) t.nets) one_pass
+
+      walk_cells : CellsOf board walk
+      walk_cells = cells_of_plan board plan walk p one_pass
+
+      -- the net at a place, and its cells
+      at_place : (i n : ℕ) → slice_get t.nets i ≡ Some n → WalkedBy board walk n
+      at_place i n e = (walk_at board walk is i n (sym (ap (λ (l : List ℕ). slice_get l i) walk_nets_are) ∙ e)).by
+
+      cells_there : (i n : ℕ) → slice_get t.nets i ≡ Some n → slice_get t.cells i ≡ Some (cells_in plan walk n)
+      cells_there i n e =
+          ap (λ (l : List NetCells). slice_get l i) cells_all
+          ∙ slice_get-map (cells_in plan walk) t.nets i
+          ∙ ap (λ (o : Option ℕ). option_map (cells_in plan walk) o) e
+
+      each : (i n : ℕ) (c : NetCells) → slice_get t.nets i ≡ Some n → slice_get t.cells i ≡ Some c → AreNetCells board walk n c
+      each i n c e f =
+          let two : Some (cells_in plan walk n) ≡ Some c = sym (cells_there i n e) ∙ f in
+          let same : cells_in plan walk n ≡ c = cc two in
+          subst (λ (x : NetCells). AreNetCells board walk n x) same (cells_are board rules plan p walk n (at_place i n e))
+
+      count : length t.cells ≡ length t.nets
+      count = ap (λ (l : List NetCells). length l) cells_all ∙ length-map t.nets (cells_in plan walk)
+
+      bits : ℕ → Bool
+      bits n = net_code_bit board plan.passes 0 n
+
+      right : (c : NetCells) → Has t.cells c → (d : DriverCell) × IsDriverCell board walk d × (c.driver ≡ d.position)
+      right c has =
+          let at = has_place t.cells c has in
+          let within : at.0 < length t.nets = omega (arith, slice_get_within t.cells at.0 c at.1, count) in
+          let a = each at.0 (get_or t.nets at.0 0) c (slice_get-get_or t.nets at.0 0 within) at.1 in
+          (a.driver, a.is_driver, a.driver_is)
+
+      cover : (d : DriverCell) → IsDriverCell board walk d → (c : NetCells) × Has t.cells c × (c.driver ≡ d.position)
+      cover d s =
+          let place : ℕ = count_by (is_walked board walk) (take d.net board.nets) in
+          let net = ap (λ (l : List ℕ). slice_get l place) walk_nets_are ∙ place_of_walk board walk is d.net (record { net = s.net; is_net = s.is_net; driver = d.place; observing = s.observing }) in
+          let c : NetCells = cells_in plan walk d.net in
+          let a = each place d.net c net (cells_there place d.net net) in
+          (c, has_at t.cells place c (cells_there place d.net net), a.driver_is ∙ (one_driver board walk a.driver d a.is_driver s a.of_net).1)
+
+      tables_are : AreWalkTables board walk t
+      tables_are = record {
+        count = count;
+        cells = each;
+        still = rows_made.still some
+            ∙ ap (λ (w : List Ctl). assigned (λ c. c.driver) (λ c. false) (tdi_of board (code_row board plan.passes w 0)) t.cells) first_is
+            ∙ cleared_row board rules walk walk_cells (λ (c : NetCells). c.driver) t.cells (λ n. net_code_bit board plan.passes 0 n) right cover;
+        mask = rows_made.mask some
+            ∙ ap (λ (w : List Ctl). mask_of board (code_row board plan.passes w 0)) first_is
+            ∙ mask_same board rules walk walk_cells (λ n. net_code_bit board plan.passes 0 n) (λ n. false);
+      }
+
+    pub walk_made : IsWalkOf board t
+    walk_made = by_setting (walk_setting board) refl
+      where
+        by_setting : (o : Option (List Ctl)) → walk_setting board ≡ o → IsWalkOf board t
+        by_setting None e = record {
+          plan = plan_is;
+          passes = passes_are;
+          nets = nets ∙ ap (λ (l : List (List Ctl)). nets_by plan (slice_get l 0) (length board.nets)) (passes ∙ ap (λ (o : Option (List Ctl)). option_to_list o) e) ∙ sym (no_nets board e);
+          quiet = rows_made.quiet;
+          tables = λ walk is. let bad : None ≡ Some walk = sym e ∙ is in cc bad;
+        }
+        by_setting (Some walk) e = record {
+          plan = plan_is;
+          passes = passes_are;
+          nets = walk_nets_are walk e;
+          quiet = rows_made.quiet;
+          tables = λ other f.
+              let two : Some walk ≡ Some other = sym e ∙ f in
+              let same : walk ≡ other = cc two in
+              subst (λ (w : List Ctl). AreWalkTables board w t) same (tables_are walk e);
+        }
+
+-- the scans of the walking test
+early_same : (board : RawBoard) (ts us : List RowScan) (k : ℕ) → k < 3 → slice_get (board_scans board ts) k ≡ slice_get (board_scans board us) k
+early_same board ts us zero less = refl
+early_same board ts us (suc zero) less = refl
+early_same board ts us (suc (suc zero)) less = refl
+early_same board ts us (suc (suc (suc k))) less = absurd (omega (arith, less))
+
+-- the first three are those of any plan
+pub early_filled : (board : RawBoard) (passes : List (List Ctl)) (width k : ℕ) (shape : Shape) (tdi tdo mask : List Bool) → k < 3 → FillsScan board passes width k shape tdi tdo mask → FillsWalk board k shape tdi tdo mask
+early_filled board passes width k shape tdi tdo mask less f = record {
+  scan = early_same board (walk_row_list board) (row_scans (code_row board passes) width passes) k less ∙ f.scan;
+  some = f.some;
+  most = f.most;
+  tdo_length = f.tdo_length;
+  mask_length = f.mask_length;
+  compare = f.compare;
+  masked = f.masked;
+}
+
+-- a scan from its rows
+expected : (expect : Option Bool) → cond (is_some expect) (Some (unwrap_or expect false)) None ≡ expect
+expected None = refl
+expected (Some o) = refl
+
+bits_of_rows : (bits : List ScanBit) → scan_bits (tdi_bits bits) (tdo_bits bits) (mask_bits bits) ≡ bits
+bits_of_rows [] = refl
+bits_of_rows (b ∷ bits) =
+    ap (λ (e : Option Bool). (let bit : ScanBit = record { tdi = b.tdi; expect = e } in bit) ∷ scan_bits (tdi_bits bits) (tdo_bits bits) (mask_bits bits)) (expected b.expect)
+    ∙ ap (λ (t : List ScanBit). b ∷ t) (bits_of_rows bits)
+
+one_masked : (bits : List ScanBit) (i : ℕ) → get_or (tdo_bits bits) i false ≡ true → get_or (mask_bits bits) i false ≡ true
+one_masked [] i one = one
+one_masked (b ∷ bits) zero one = by_expect b.expect one
+  where
+    by_expect : (o : Option Bool) → unwrap_or o false ≡ true → is_some o ≡ true
+    by_expect None e = e
+    by_expect (Some v) e = refl
+one_masked (b ∷ bits) (suc i) one = one_masked bits i one
+
+module _ (board : RawBoard) (rules : IsBoard board) (t : WalkTables) (w : IsWalkOf board t) where
+  module _ (walk : List Ctl) (is : walk_setting board ≡ Some walk) where
+    abbrev tables : AreWalkTables board walk t
+    tables = w.tables walk is
+
+    cells : CellsOf board walk
+    cells = cells_of_plan board t.plan walk w.plan (w.passes ∙ ap (λ (o : Option (List Ctl)). option_to_list o) is)
+
+    row_is : (j : ℕ) → walk_row_of board j ≡ walk_row board walk j
+    row_is j = ap (λ (o : Option (List Ctl)). walk_row board (walk_controls o) j) is
+
+    net_at : (j n : ℕ) → slice_get t.nets j ≡ Some n → slice_get (walk_nets board) j ≡ Some n
+    net_at j n e = sym (ap (λ (l : List ℕ). slice_get l j) w.nets) ∙ e
+
+    abbrev marks : ℕ → ℕ → Bool
+    marks j n = count_by (is_walked board walk) (take n board.nets) == j
+
+    module _ (j n : ℕ) (e : slice_get t.nets j ≡ Some n) (c : NetCells) (f : slice_get t.cells j ≡ Some c) where
+      a : AreNetCells board walk n c
+      a = tables.cells j n c e f
+
+      driver_marked : marks j a.driver.net ≡ true
+      driver_marked = ap (λ (m : ℕ). marks j m) a.of_net ∙ eq-eqb (count_by (is_walked board walk) (take n board.nets)) j (walk_at board walk is j n (net_at j n e)).counted
+
+      only_marked : (m : ℕ) → WalkedBy board walk m → marks j m ≡ true → m ≡ n
+      only_marked m x on = Rattle.std.proofs.lemmas.Bool.eqb-true m n (sym (marked_is board walk is j n (net_at j n e) m x) ∙ on)
+
+      pub shifted_row : set t.rows.still.bits c.driver true ≡ tdi_of board (walk_row board walk j)
+      shifted_row =
+          ap (λ (l : List Bool). set l c.driver true) tables.still
+          ∙ ap (λ (i : ℕ). set (tdi_of board (still_row walk)) i true) a.driver_is
+          ∙ marked_row board rules walk cells (marks j) a.driver a.is_driver driver_marked (λ m x on. only_marked m x on ∙ sym a.of_net)
+
+      -- the compared cells
+      reader_in : (position : ℕ) → Has c.compared position → (get_or (tdo_of board (walk_row board walk j)) position false ≡ true) × (position < data_bits board)
+      reader_in position has =
+          let r = (a.compared position).0 (has_contains c.compared position has) in
+          let observing : observing_driver board (holds walk) a.net ≡ Some a.driver.place =
+          (let two : Some a.is_driver.net ≡ Some a.net = sym a.is_driver.is_net ∙ ap (λ (i : ℕ). slice_get board.nets i) a.of_net ∙ a.is_net in
+          let same : a.is_driver.net ≡ a.net = cc two in
+          sym (ap (λ (x : Net). observing_driver board (holds walk) x) same) ∙ a.is_driver.observing) in
+          let at = laid_here board rules walk n a.net a.is_net a.driver.place observing r.0 r.1 r.2 (λ part device cell. false) in (
+            ap (λ (i : ℕ). get_or (tdo_of board (walk_row board walk j)) i false) (sym r.3)
+                ∙ tdo_here board rules walk n a.net a.is_net a.driver.place observing r.0 r.1 r.2 (marks j)
+                ∙ eq-eqb (count_by (is_walked board walk) (take n board.nets)) j (walk_at board walk is j n (net_at j n e)).counted,
+            omega (arith, at.0, r.3),
+          )
+
+      pub compared_within : All (λ position. position < data_bits board) c.compared
+      compared_within = Rattle.walk_test.proofs.GroupLemmas.all_from_has (λ (position : ℕ). position < data_bits board) c.compared (λ position has. (reader_in position has).1)
+
+      pub compared_row : assigned (λ (position : ℕ). position) (λ position. true) (replicate (data_bits board) false) c.compared ≡ tdo_of board (walk_row board walk j)
+      compared_row =
+          assigned_is (λ (position : ℕ). position) (λ position. true) c.compared (replicate (data_bits board) false) (tdo_of board (walk_row board walk j)) (length-replicate (data_bits board) false ∙ sym long)
+          (λ position has. let r = reader_in position has in (omega (arith, r.1, long), r.0))
+          (λ i less. by_bit i less (get_or (tdo_of board (walk_row board walk j)) i false) refl)
+        where
+          long : length (tdo_of board (walk_row board walk j)) ≡ data_bits board
+          long = ap (λ (l : List Bool). length l) (tdo_laid board (record { now = quiet_row; before = walk_row board walk j })) ∙ length-laid (λ part device cell. unwrap_or (Rattle.tap_defs.specs.TestRows.expect_bit board (walk_row board walk j) part device cell) false) board
+
+          by_bit : (i : ℕ) → i < length (tdo_of board (walk_row board walk j)) → (b : Bool) → get_or (tdo_of board (walk_row board walk j)) i false ≡ b →
+              (get_or (replicate (data_bits board) false) i false ≡ get_or (tdo_of board (walk_row board walk j)) i false) ⊎ ((position : ℕ) × Has c.compared position × (position ≡ i))
+          by_bit i less false g = inl (get_or-replicate (data_bits board) i false false (omega (arith, less, long)) ∙ sym g)
+          by_bit i less true g =
+              let o = one_at board rules walk cells (marks j) i g in
+              let x = o.0 in
+              let same : x.driver.net ≡ n = only_marked x.driver.net (record { net = x.is_driver.net; is_net = x.is_driver.is_net; driver = x.driver.place; observing = x.is_driver.observing }) o.1 in
+              let drivers = one_driver board walk x.driver a.driver x.is_driver a.is_driver (same ∙ sym a.of_net) in
+              let two : Some x.is_driver.net ≡ Some a.net = sym x.is_driver.is_net ∙ ap (λ (k : ℕ). slice_get board.nets k) same ∙ a.is_net in
+              let net : x.is_driver.net ≡ a.net = cc two in
+              inr (i, contains_has c.compared i ((a.compared i).1 (x.reader, subst (λ (k : Net). IsReaderCell board k x.reader) net x.is_reader, sym (ap (λ (k : ℕ). x.reader.place == k) drivers.0) ∙ x.other, x.position_is)), refl)
+
+      pub some_masked : list_any (λ bit. bit) (mask_of board (walk_row board walk j)) ≡ true
+      some_masked =
+          let first : ℕ = get_or c.compared 0 0 in
+          let has : Has c.compared first = has_at c.compared 0 first (slice_get-get_or c.compared 0 0 a.some) in
+          let r = reader_in first has in
+          let masked : get_or (mask_of board (walk_row board walk j)) first false ≡ true = one_masked (joined (row_bits board (record { now = quiet_row; before = walk_row board walk j }))) first r.0 in
+          let long : length (mask_of board (walk_row board walk j)) ≡ data_bits board = ap (λ (l : List Bool). length l) (mask_laid board (record { now = quiet_row; before = walk_row board walk j })) ∙ length-laid (λ part device cell. is_some (Rattle.tap_defs.specs.TestRows.expect_bit board (walk_row board walk j) part device cell)) board in
+          any_at (λ (bit : Bool). bit) (mask_of board (walk_row board walk j)) first true (slice_get-get_or (mask_of board (walk_row board walk j)) first false (omega (arith, r.1, long)) ∙ ap (λ (b : Bool). Some b) masked) refl
+
+    pub mask_row : (j : ℕ) → t.rows.mask.bits ≡ mask_of board (walk_row board walk j)
+    mask_row j = tables.mask ∙ mask_same board rules walk cells (λ n. false) (marks j)
+
+    pub length-still : length t.rows.still.bits ≡ data_bits board
+    length-still = ap (λ (l : List Bool). length l) tables.still ∙ length-tdi board rules walk cells (still_row walk)
+
+  pub length-quiet : length t.rows.quiet.bits ≡ data_bits board
+  length-quiet = ap (λ (l : List Bool). length l) (w.quiet ∙ tdi_laid board (record { now = quiet_row; before = quiet_row })) ∙ length-laid (λ part device cell. Rattle.tap_defs.specs.TestRows.row_bit board quiet_row part device cell) board
+
+  -- where the board has a pass, it has a walk setting
+  pub setting_there : 0 < length t.plan.passes → (walk : List Ctl) × (walk_setting board ≡ Some walk)
+  setting_there some = by_setting (walk_setting board) refl
+    where
+      by_setting : (o : Option (List Ctl)) → walk_setting board ≡ o → (walk : List Ctl) × (walk_setting board ≡ Some walk)
+      by_setting None e =
+          let none : length t.plan.passes ≡ 0 = ap (λ (l : List (List Ctl)). length l) (w.passes ∙ ap (λ (o : Option (List Ctl)). option_to_list o) e) in
+          absurd (omega (arith, some, none))
+      by_setting (Some walk) e = (walk, e)
+
+  -- scan j of those after the EXTEST codes
+  abbrev scan_of : ℕ → RowScan
+  scan_of j = record { now = now_of board (length t.nets) j; before = before_of board j }
+
+  row_placed : 0 < length t.plan.passes → (j : ℕ) → j ≤ length t.nets → slice_get (walk_scans board) (3 + j) ≡ Some (scan_of_row board (scan_of j))
+  row_placed some j le = by_setting (setting_there some).0 (setting_there some).1
+    where
+      three : 3 + j ≡ suc (suc (suc j))
+      three = omega arith
+
+      by_setting : (walk : List Ctl) → walk_setting board ≡ Some walk → slice_get (walk_scans board) (3 + j) ≡ Some (scan_of_row board (scan_of j))
+      by_setting walk is =
+          let rows : ℕ → TestRow = walk_row board walk in
+          let m : ℕ = count_by (is_walked board walk) board.nets in
+          let same_count : m ≡ length t.nets = sym (ap (λ (l : List ℕ). length l) w.nets ∙ count_is board walk is) in
+          let within : j < length (pass_scans rows m 0 quiet_row) = omega (arith, length-pass_scans rows m 0 quiet_row, same_count, le) in
+          let index : j ≡ 0 + j = omega arith in
+          let width : m ≡ 0 + m = omega arith in
+          ap (λ (i : ℕ). slice_get (walk_scans board) i) three
+          ∙ ap (λ (o : Option (List Ctl)). slice_get (map (scan_of_row board) (scans_by board o)) j) is
+          ∙ slice_get-map (scan_of_row board) (walk_row_scans board walk) j
+          ∙ ap (λ (o : Option RowScan). option_map (scan_of_row board) o)
+          (front_at (pass_scans rows m 0 quiet_row) [] j within ∙ pass_scan_at rows m m 0 j j quiet_row refl width index (omega (arith, same_count, le)))
+          ∙ ap (λ (k : ℕ). Some (scan_of_row board (record { now = row_now rows k j; before = row_before rows j }))) same_count
+          ∙ sym (ap (λ (o : Option (List Ctl)). Some (scan_of_row board (record { now = row_now (λ i. walk_row board (walk_controls o) i) (length t.nets) j; before = row_before (λ i. walk_row board (walk_controls o) i) j }))) is)
+
+  pub row_filled : 0 < length t.plan.passes → (j : ℕ) → j ≤ length t.nets → (shape : Shape) (tdi tdo mask : List Bool) → tdi ≡ tdi_of board (now_of board (length t.nets) j) → tdo ≡ tdo_of board (before_of board j) → mask ≡ mask_of board (before_of board j) →
+      shape.ir ≡ false → shape.compare ≡ list_any (λ bit. bit) mask → FillsWalk board (3 + j) shape tdi tdo mask
+  row_filled some j le shape tdi tdo mask is_tdi is_tdo is_mask is_ir compare =
+      let scan : RowScan = scan_of j in
+      let bits : List ScanBit = joined (row_bits board scan) in
+      let s = row_sized board rules scan in
+      let d : tdi ≡ tdi_bits bits = is_tdi ∙ tdi_laid board (record { now = scan.now; before = quiet_row }) ∙ sym (tdi_laid board scan) in
+      let o : tdo ≡ tdo_bits bits = is_tdo ∙ tdo_laid board (record { now = quiet_row; before = scan.before }) ∙ sym (tdo_laid board scan) in
+      let m : mask ≡ mask_bits bits = is_mask ∙ mask_laid board (record { now = quiet_row; before = scan.before }) ∙ sym (mask_laid board scan) in
+      let whole : scan_bits tdi tdo mask ≡ bits =
+      ap (λ (x : List Bool). scan_bits x tdo mask) d ∙ ap (λ (x : List Bool). scan_bits (tdi_bits bits) x mask) o ∙ ap (scan_bits (tdi_bits bits) (tdo_bits bits)) m ∙ bits_of_rows bits in
+      let long : length tdi ≡ length bits = ap (λ (l : List Bool). length l) d ∙ length-map bits (λ b. b.tdi) in
+      record {
+        scan = row_placed some j le ∙ sym (ap (λ (b : Bool). Some (record { ir = b; bits = scan_bits tdi tdo mask })) is_ir ∙ ap (λ (l : List ScanBit). Some (record { ir = false; bits = l })) whole);
+        some = omega (arith, s.some, long);
+        most = omega (arith, s.most, long);
+        tdo_length = ap (λ (l : List Bool). length l) o ∙ length-map bits (λ b. unwrap_or b.expect false) ∙ sym long;
+        mask_length = ap (λ (l : List Bool). length l) m ∙ length-map bits (λ b. is_some b.expect) ∙ sym long;
+        compare = compare;
+        masked = λ i one. ap (λ (l : List Bool). get_or l i false) m ∙ one_masked bits i (sym (ap (λ (l : List Bool). get_or l i false) o) ∙ one);
+      }
+
+-- the row of a place
+module _ (board : RawBoard) (rules : IsBoard board) (t : WalkTables) (w : IsWalkOf board t) (some : 0 < length t.plan.passes) (j : ℕ) (less : j < length t.nets) (c : NetCells) (at : slice_get t.cells j ≡ Some c) where
+  abbrev walk : List Ctl
+  walk = (setting_there board rules t w some).0
+
+  abbrev is : walk_setting board ≡ Some walk
+  is = (setting_there board rules t w some).1
+
+  net_is : slice_get t.nets j ≡ Some (get_or t.nets j 0)
+  net_is = slice_get-get_or t.nets j 0 less
+
+  row_of_walk : walk_row_of board j ≡ walk_row board walk j
+  row_of_walk = ap (λ (o : Option (List Ctl)). walk_row board (walk_controls o) j) is
+
+  pub row_shifted : set t.rows.still.bits c.driver true ≡ tdi_of board (now_of board (length t.nets) j)
+  row_shifted =
+      shifted_row board rules t w walk is j (get_or t.nets j 0) net_is c at
+      ∙ sym (ap (λ (b : Bool). tdi_of board (cond b (walk_row_of board j) quiet_row)) (lt-ltb j (length t.nets) less) ∙ ap (λ (r : TestRow). tdi_of board r) row_of_walk)
+
+  pub driver_below : c.driver < length t.rows.still.bits
+  driver_below =
+      let a = (w.tables walk is).cells j (get_or t.nets j 0) c net_is at in
+      let d = (driver_is_within a.driver a.is_driver) in
+      omega (arith, d, a.driver_is, length-still board rules t w walk is)
+    where
+      driver_is_within : (d : DriverCell) → IsDriverCell board walk d → d.position < data_bits board
+      driver_is_within d s = Rattle.walk_test.proofs.RowLemmas.driver_within board rules walk d s
+
+  pub positions_below : All (λ position. position < data_bits board) c.compared
+  positions_below = compared_within board rules t w walk is j (get_or t.nets j 0) net_is c at
+
+  pub row_compared : assigned (λ (position : ℕ). position) (λ position. true) (replicate (data_bits board) false) c.compared ≡ tdo_of board (before_of board (suc j))
+  row_compared = compared_row board rules t w walk is j (get_or t.nets j 0) net_is c at ∙ sym (ap (λ (r : TestRow). tdo_of board r) row_of_walk)
+
+  pub row_masked : t.rows.mask.bits ≡ mask_of board (before_of board (suc j))
+  row_masked = mask_row board rules t w walk is j ∙ sym (ap (λ (r : TestRow). mask_of board r) row_of_walk)
+
+  pub row_has_one : list_any (λ bit. bit) (mask_of board (before_of board (suc j))) ≡ true
+  row_has_one = ap (λ (r : TestRow). list_any (λ bit. bit) (mask_of board r)) row_of_walk ∙ some_masked board rules t w walk is j (get_or t.nets j 0) net_is c at
+
+-- there are cells at each place
+pub cells_count : (board : RawBoard) (rules : IsBoard board) (t : WalkTables) (w : IsWalkOf board t) → 0 < length t.plan.passes → length t.cells ≡ length t.nets
+cells_count board rules t w some = let s = setting_there board rules t w some in (w.tables s.0 s.1).count
+
+pub mask_length : (board : RawBoard) (rules : IsBoard board) (t : WalkTables) (w : IsWalkOf board t) → 0 < length t.plan.passes → length t.rows.mask.bits ≡ data_bits board
+mask_length board rules t w some =
+    let s = setting_there board rules t w some in
+    ap (λ (l : List Bool). length l) ((w.tables s.0 s.1).mask ∙ mask_laid board (record { now = quiet_row; before = still_row s.0 }))
+    ∙ length-laid (λ part device cell. is_some (Rattle.tap_defs.specs.TestRows.expect_bit board (still_row s.0) part device cell)) board
+
+pub still_length : (board : RawBoard) (rules : IsBoard board) (t : WalkTables) (w : IsWalkOf board t) → 0 < length t.plan.passes → length t.rows.still.bits ≡ data_bits board
+still_length board rules t w some = let s = setting_there board rules t w some in length-still board rules t w s.0 s.1
+
+-- nothing is compared of the first
+pub first_tdo : (board : RawBoard) → replicate (data_bits board) false ≡ tdo_of board quiet_row
+first_tdo board = quiet_tdo board (record { now = quiet_row; before = quiet_row }) refl
+
+pub first_mask : (board : RawBoard) → replicate (data_bits board) false ≡ mask_of board quiet_row
+first_mask board = quiet_mask board (record { now = quiet_row; before = quiet_row }) refl
+
+-- something is compared exactly in the rows after the first
+pub compare_is : (board : RawBoard) (rules : IsBoard board) (t : WalkTables) (w : IsWalkOf board t) → 0 < length t.plan.passes → (j : ℕ) → j ≤ length t.nets → (mask : List Bool) → mask ≡ mask_of board (before_of board j) → nat_lt 0 j ≡ list_any (λ bit. bit) mask
+compare_is board rules t w some zero le mask is =
+    sym (ap (λ (l : List Bool). list_any (λ bit. bit) l) (is ∙ sym (first_mask board)) ∙ none_any (data_bits board))
+  where
+    none_any : (n : ℕ) → list_any (λ bit. bit) (replicate n false) ≡ false
+    none_any zero = refl
+    none_any (suc n) = none_any n
+compare_is board rules t w some (suc j) le mask is =
+    let within : j < length t.cells = omega (arith, le, cells_count board rules t w some) in
+    let c = Rattle.scan_planner.proofs.FillLemmas.some_at t.cells j within in
+    let less : nat_lt 0 (suc j) ≡ true = lt-ltb 0 (suc j) (omega arith) in
+    less ∙ sym (ap (λ (l : List Bool). list_any (λ bit. bit) l) is ∙ row_has_one board rules t w some j (omega (arith, le)) c.0 c.1)
+
+-- a scan after the EXTEST codes is one of a board with a pass
+pub past_codes : (t : WalkTables) (k : ℕ) → 3 ≤ k → k < Rattle.walk_test.specs.Tables.scan_count t → (0 < length t.plan.passes) × (k ≤ 3 + length t.nets)
+past_codes t k past less = by_passes t.plan.passes less
+  where
+    by_passes : (passes : List (List Ctl)) → k < 3 + Rattle.walk_test.specs.Tables.rows_count passes t.nets → (0 < length passes) × (k ≤ 3 + length t.nets)
+    by_passes [] h = absurd (omega (arith, past, h))
+    by_passes (pass ∷ passes) h = (omega arith, omega (arith, h))
+
+-- the number of rows, by whether there is a pass
+pub no_rows : (passes : List (List Ctl)) (nets : List ℕ) → length passes ≡ 0 → Rattle.walk_test.specs.Tables.rows_count passes nets ≡ 0
+no_rows [] nets none = refl
+no_rows (pass ∷ passes) nets none = absurd (omega (arith, none))
+
+pub some_rows : (passes : List (List Ctl)) (nets : List ℕ) → 0 < length passes → Rattle.walk_test.specs.Tables.rows_count passes nets ≡ suc (length nets)
+some_rows [] nets less = absurd (omega (arith, less))
+some_rows (pass ∷ passes) nets less = refl
+
+-- there are at most as many walk nets as nets
+pub nets_few : (board : RawBoard) → length (walk_nets board) ≤ length board.nets
+nets_few board = at_most (λ n. is_walk_net board (walk_setting board) (slice_get board.nets n)) 0 (length board.nets)
+  where
+    at_most : (p : ℕ → Bool) (a n : ℕ) → length (filter p (range_with_len a n)) ≤ n
+    at_most p a zero = omega arith
+    at_most p a (suc n) = by_test (p a) (at_most p (a + 1) n)
+      where
+        by_test : (b : Bool) → length (filter p (range_with_len (a + 1) n)) ≤ n → length (cond b (a ∷ filter p (range_with_len (a + 1) n)) (filter p (range_with_len (a + 1) n))) ≤ suc n
+        by_test true h = omega (arith, h)
+        by_test false h = omega (arith, h)

@@ -1,0 +1,12 @@
+mod GroupLemmas
+mod SettingLemmas
+mod CellLemmas
+mod NetLemmas
+mod RowLemmas
+mod ExplainLemmas
+mod LawLemmas
+mod FillLemmas
+mod SampleTests
+mod LabelLemmas
+mod SetLemmas
+mod PutLemmas

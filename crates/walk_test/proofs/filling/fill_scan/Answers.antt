@@ -1,0 +1,10 @@
+use Rattle.std.proofs.Common.{◌≡◌, ℕ, ◌≤◌, ◌<◌, length, arith, subst}
+use Rattle.walk_test.specs.Scans.{FillsWalk}
+use Rattle.walk_test.proofs.FillLemmas.{early_filled, past_codes}
+use Rattle.walk_test.proofs.filling.fill_scan.Goals as goal
+
+pub fill_row-requires-clause-some : goal.fill_row-requires-clause-some
+fill_row-requires-clause-some c = (past_codes c.args.tables.now c.args.k (omega arith) c.requires.scan).0
+
+pub fill_row-requires-clause-row : goal.fill_row-requires-clause-row
+fill_row-requires-clause-row c = omega (arith, (past_codes c.args.tables.now c.args.k (omega arith) c.requires.scan).1)

@@ -1,0 +1,8 @@
+use Rattle.std.specs.List.{flat_map}
+use Rattle.walk_test.specs.GroupText.{group_text}
+use Rattle.walk_test.proofs.PutLemmas.{Completes, texts_after}
+use Rattle.walk_test.proofs.listing.put_groups.Given as goal
+
+-- what is said of the groups that are left completes the list
+abbrev pub invariant-loop-group : goal.invariant-loop-group
+invariant-loop-group g l = Completes (g.K.Sink.shown l.fn.out) (g.K.Sink.shown l.out) (texts_after (group_text l.board) l.groups l.group-index) (flat_map (group_text l.board) l.groups)

@@ -1,0 +1,6 @@
+use Rattle.std.proofs.Common.{◌≡◌, map, take}
+use Rattle.walk_test.specs.Tables.{cells_in}
+use Rattle.walk_test.proofs.nets.all_cells.Given as goal
+
+abbrev pub invariant-loop-n : goal.invariant-loop-n
+invariant-loop-n l = l.all.items ≡ map (cells_in l.plan l.walk) (take l.n-index l.nets)

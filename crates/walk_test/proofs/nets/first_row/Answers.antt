@@ -1,0 +1,6 @@
+use Rattle.std.proofs.Common.{arith}
+use Rattle.walk_test.proofs.FillLemmas.{first_filled, scans_there}
+use Rattle.walk_test.proofs.nets.first_row.Goals as goal
+
+pub returns : goal.returns
+returns c = first_filled c.args.board.now c.args.plan.now c.requires.plan _ _ _ _ c.requires.some c.fill-shape.ensures.filled

@@ -1,0 +1,6 @@
+use Rattle.std.proofs.Common.{◌≡◌}
+use Rattle.walk_test.specs.Tables.{nets_in}
+use Rattle.walk_test.proofs.nets.nets_in.Given as goal
+
+abbrev pub invariant-loop-n : goal.invariant-loop-n
+invariant-loop-n l = l.nets.items ≡ nets_in l.plan l.walk l.n

@@ -1,0 +1,54 @@
+-- Groups of walk nets, and which set of them explains a log of the walking test.
+use Rattle.std.specs.Prelude.{◌≡◌, ℕ, suc, ◌<◌, ◌≤◌, ◌==◌, Bool, cond, List, [], ◌∷◌, length, Option, Some, None, slice_index_or, All, AllPairs, Contains, MatchOption}
+use Rattle.std.specs.List.{list_any}
+use Rattle.board_defs.specs.declared.board.RawBoard.{RawBoard}
+use Rattle.tap_defs.specs.FaultSet.{Or, FaultSet, no_faults}
+use Rattle.tap_defs.specs.Explaining.{ExplainedBy}
+use Rattle.walk_test.specs.WalkTest.{walk_nets, walk_row_list}
+
+-- the numbers rise
+abbrev pub Rise : List ℕ → Type 0
+Rise numbers = AllPairs (λ a b. a < b) numbers
+
+-- the least net of a group, which stands first
+abbrev pub least_of : List ℕ → ℕ
+least_of group = slice_index_or group 0 0
+
+-- a set of groups as one list: each group has two or more walk nets, in net order; no net is in two groups; and the groups stand in the
+-- order of their least nets
+pub record AreGroups (board : RawBoard) (groups : List (List ℕ)) : Type 0 where
+  pub several : All (λ group. 2 ≤ length group) groups
+  pub walked : All (λ group. All (λ n. Contains (walk_nets board) n) group) groups
+  pub rise : All Rise groups
+  pub disjoint : AllPairs (λ one other. (n : ℕ) → Contains one n → Contains other n → ⊥) groups
+  pub order : AllPairs (λ one other. least_of one < least_of other) groups
+
+-- the number of the group that the net is in, where it is in one; the first of these groups has this number
+abbrev pub group_from : ℕ → List (List ℕ) → ℕ → Option ℕ
+group_from k [] n = None
+group_from k (group ∷ groups) n = cond (list_any (λ m. m == n) group) (Some k) (group_from (suc k) groups n)
+
+abbrev pub group_of : List (List ℕ) → ℕ → Option ℕ
+group_of groups n = group_from 0 groups n
+
+-- the Or shorts of the groups, and no other fault
+abbrev pub or_shorts : List (List ℕ) → FaultSet
+or_shorts groups = record no_faults { short = group_of groups; kind = λ k. Or }
+
+-- a set of groups that explains the log: in every run of the walk text with these shorts each compared bit of each compared SDR
+-- statement is the log's bit
+pub record Explain (board : RawBoard) (log : List (List Bool)) (groups : List (List ℕ)) : Type 0 where
+  pub are : AreGroups board groups
+  pub explained : ExplainedBy board (or_shorts groups) (walk_row_list board) log
+
+-- the one set of groups that explains the log, and none exactly where no set does
+abbrev pub AreFound : RawBoard → List (List Bool) → Option (List (List ℕ)) → Type 0
+AreFound board log found = MatchOption found ((groups : List (List ℕ)) → Explain board log groups → ⊥) (λ groups. Explain board log groups)
+
+-- the nets of a group are on the board
+abbrev pub IsNamed : RawBoard → List ℕ → Type 0
+IsNamed board group = All (λ n. n < length board.nets) group
+
+-- so are those of each group, where there are groups
+abbrev pub AreNamed : RawBoard → Option (List (List ℕ)) → Type 0
+AreNamed board groups = MatchOption groups (Unit {0}) (λ list. All (IsNamed board) list)

@@ -1,0 +1,41 @@
+-- The laws of the walking test.
+use Rattle.std.specs.Prelude.{◌≡◌, ℕ, Bool, List, length, Some}
+use Rattle.board_defs.specs.declared.board.RawBoard.{RawBoard}
+use Rattle.board_defs.specs.declared.board.Ctl.{Ctl}
+use Rattle.board_defs.specs.BoardRules.{IsBoard}
+use Rattle.board_defs.specs.Settings.{IsSafe, holds}
+use Rattle.tap_defs.specs.BoardTest.{IsHarmless}
+use Rattle.tap_defs.specs.Explaining.{ExplainedBy, AgreeOn}
+use Rattle.tap_defs.specs.FaultSet.{IsFaultSet}
+use Rattle.walk_test.specs.declared.tables.WalkTables.{WalkTables}
+use Rattle.walk_test.specs.WalkTest.{walk_setting, walk_row_list, walk_scans, board_walk_text}
+use Rattle.walk_test.specs.Groups.{AreGroups, or_shorts, Explain}
+use Rattle.walk_test.specs.Tables.{IsWalkOf, scan_count}
+
+-- the walk setting is safe
+abbrev pub WalkSafe : Type 0
+WalkSafe = (board : RawBoard) (walk : List Ctl) → IsBoard board → walk_setting board ≡ Some walk → IsSafe board (holds walk)
+
+-- the walk text passes on the board without faults, and is quiet whatever is faulty
+abbrev pub WalkHarmless : Type 0
+WalkHarmless = (board : RawBoard) → IsBoard board → IsHarmless board (board_walk_text board)
+
+-- the shorts of groups are faults of the board
+abbrev pub ShortsAreFaults : Type 0
+ShortsAreFaults = (board : RawBoard) (groups : List (List ℕ)) → IsBoard board → AreGroups board groups → IsFaultSet board (or_shorts groups)
+
+-- each set of groups explains some log
+abbrev pub GroupsRespond : Type 0
+GroupsRespond = (board : RawBoard) (groups : List (List ℕ)) → IsBoard board → AreGroups board groups → (log : List (List Bool)) × Explain board log groups
+
+-- and any two such logs are one wherever bits are compared
+abbrev pub OneResponse : Type 0
+OneResponse = (board : RawBoard) (groups : List (List ℕ)) (log other : List (List Bool)) → IsBoard board → Explain board log groups → Explain board other groups → AgreeOn board (walk_row_list board) log other
+
+-- at most one set of groups explains a log
+abbrev pub OneSet : Type 0
+OneSet = (board : RawBoard) (log : List (List Bool)) (groups others : List (List ℕ)) → IsBoard board → Explain board log groups → Explain board log others → groups ≡ others
+
+-- a walk has as many scans as the walking test
+abbrev pub ScansCounted : Type 0
+ScansCounted = (board : RawBoard) (walk : WalkTables) → IsWalkOf board walk → scan_count walk ≡ length (walk_scans board)

@@ -1,0 +1,40 @@
+// A group of nets.
+ghost use Rattle.std.specs.Prelude.{◌≡◌};
+ghost use Rattle.walk_test.specs.Groups.{Rise};
+
+use std::marker::Model;
+
+/// Walk nets that are shorted together, seen as the list of their numbers, which rise.
+#[derive(Debug, Drop)]
+pub struct Group {
+    nets: Vec<u32>,
+}
+
+impl Model for Group {
+    ghost use Rattle.std.specs.Prelude.{ℕ, List};
+    ghost use Rattle.walk_test.specs.Groups.{Rise};
+
+    ghost Value = { List ℕ };
+
+    ghost view = { λ a. a.nets.items };
+
+    ghost invariant = { λ a. Rise a.nets.items };
+}
+
+impl Group {
+    // The group of these nets.
+    pub(crate) fn of(nets: Vec<u32>) -> Group
+        requires { Rise nets.items }
+        ensures { result ≡ nets.items }
+    {
+        Group { nets }
+    }
+
+    /// The numbers of the nets, in net order.
+    pub fn nets(&self) -> &[u32]
+        ensures nets { result.now ≡ self.now }
+        ensures order { Rise self.now }
+    {
+        &self.nets
+    }
+}

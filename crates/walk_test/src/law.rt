@@ -1,0 +1,65 @@
+//! Laws of the walking test, each the contract of a function that does nothing.
+ghost use Rattle.std.specs.Prelude.{ℕ, Bool, List, Option};
+ghost use Rattle.board_defs.specs.declared.board.RawBoard.{RawBoard};
+ghost use Rattle.board_defs.specs.BoardRules.{IsBoard};
+ghost use Rattle.walk_test.specs.Groups.{AreFound};
+ghost use Rattle.walk_test.specs.Laws.{WalkSafe, WalkHarmless, ShortsAreFaults, GroupsRespond, OneResponse, OneSet, ScansCounted};
+
+use board_defs::law as board_law;
+use tap_defs::law::{passes_harmless, walks_harmless};
+use tap_defs::log_law::{logs_by_rows, one_log, rows_compared, scans_in_turn};
+
+/// The walk setting is safe.
+pub fn walk_safe()
+    ensures { WalkSafe }
+{
+    board_law::passes_kept();
+}
+
+/// The text of the walking test passes on the board without faults, and is quiet whatever is faulty.
+pub fn walk_harmless()
+    ensures { WalkHarmless }
+{
+    walk_safe();
+    walks_harmless();
+    passes_harmless();
+}
+
+/// A walk has as many scans as the walking test.
+pub fn scans_counted()
+    ensures { ScansCounted }
+{}
+
+/// Each set of groups is a set of faults of the board, and all runs of the test under it give one same list of compared bits: it
+/// explains a log, and any two logs that it explains are one wherever bits are compared.
+pub fn groups_respond()
+    ensures faults { ShortsAreFaults }
+    ensures some { GroupsRespond }
+    ensures one { OneResponse }
+{
+    walk_safe();
+    one_log();
+    scans_in_turn();
+}
+
+/// At most one set of groups explains a log.
+pub fn one_set()
+    ensures { OneSet }
+{
+    walk_safe();
+    logs_by_rows();
+    rows_compared();
+    scans_in_turn();
+}
+
+/// Each log of a board's walking test has an answer, and no second one: the set of groups that explains it, or that none does.
+pub fn logs_have_one_set()
+    ensures some { (board : RawBoard) (log : List (List Bool)) → IsBoard board → (found : Option (List (List ℕ))) × AreFound board log found }
+    ensures one { OneSet }
+{
+    walk_safe();
+    logs_by_rows();
+    rows_compared();
+    scans_in_turn();
+    one_set();
+}

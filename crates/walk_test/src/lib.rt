@@ -1,0 +1,26 @@
+//! The walking test: counting codes tell that a short is there, and walking ones tell who is in it, for any number of shorts of
+//! any number of nets at once.
+//!
+//! In each row one walk net carries 1 and all others carry 0. A net that reads the 1 of another is in one group with it.
+#![tactic(auto)]
+
+mod filling;
+mod group;
+mod grouping;
+mod labels;
+pub mod law;
+mod lines;
+mod listing;
+mod nets;
+mod reading;
+mod setting;
+mod tables;
+mod walk;
+
+pub use group::Group;
+pub use grouping::groups;
+pub use listing::write_groups;
+pub use walk::Walk;
+
+#[cfg(test)]
+mod tests;

@@ -1,0 +1,122 @@
+// The text of a set of groups.
+ghost use Rattle.std.specs.Prelude.{◌≡◌, ◌++◌, ◌<◌, [], length, All, Some, option_map};
+ghost use Rattle.std.specs.List.{flat_map};
+ghost use Rattle.bt_base.specs.Puts.{Puts};
+ghost use Rattle.line_printer.specs.Prints.{Prints};
+ghost use Rattle.walk_test.specs.Groups.{IsNamed, AreNamed};
+ghost use Rattle.walk_test.specs.GroupText.{net_name, net_line, group_text, count_line, groups_text};
+
+use crate::group::Group;
+use crate::lines::{put_count, put_net, put_none, put_size};
+use board_defs::Board;
+use bt_base::{PutFault, Sink};
+use bt_bits::Line;
+
+// The name of a net.
+fn net_name(board: &Board, n: u32) -> &[u8]
+    requires { n < length board.now.nets }
+    ensures { result.now ≡ net_name board.now n }
+{
+    board.raw().nets.as_slice()[n as usize].name.bytes()
+}
+
+fn put_numbered<K: Sink>(
+    board: &Board,
+    n: u32,
+    line: &mut Line,
+    out: &mut K,
+) -> Result<(), PutFault>
+    requires { n < length board.now.nets }
+    ensures { Prints (K.shown out.old) (K.shown out.new) [] [] (net_line board.now n) result }
+{
+    put_net(net_name(board, n), line, out)
+}
+
+fn put_nets<K: Sink>(
+    board: &Board,
+    nets: &[u32],
+    line: &mut Line,
+    out: &mut K,
+) -> Result<(), PutFault>
+    requires { IsNamed board.now nets.now }
+    ensures { Prints (K.shown out.old) (K.shown out.new) [] [] (flat_map (net_line board.now) nets.now) result }
+{
+    for n in nets {
+        put_numbered(board, *n, line, out)?;
+    }
+    Ok(())
+}
+
+// Puts a group of these nets.
+fn put_members<K: Sink>(
+    board: &Board,
+    nets: &[u32],
+    line: &mut Line,
+    out: &mut K,
+) -> Result<(), PutFault>
+    requires { IsNamed board.now nets.now }
+    ensures { Prints (K.shown out.old) (K.shown out.new) [] [] (group_text board.now nets.now) result }
+{
+    put_size(nets.len() as u64, line, out)?;
+    put_nets(board, nets, line, out)
+}
+
+fn put_group<K: Sink>(
+    board: &Board,
+    group: &Group,
+    line: &mut Line,
+    out: &mut K,
+) -> Result<(), PutFault>
+    requires { IsNamed board.now group.now }
+    ensures { Prints (K.shown out.old) (K.shown out.new) [] [] (group_text board.now group.now) result }
+{
+    put_members(board, group.nets(), line, out)
+}
+
+fn put_groups<K: Sink>(
+    board: &Board,
+    groups: &[Group],
+    line: &mut Line,
+    out: &mut K,
+) -> Result<(), PutFault>
+    requires { All (IsNamed board.now) groups.now }
+    ensures { Prints (K.shown out.old) (K.shown out.new) [] [] (flat_map (group_text board.now) groups.now) result }
+{
+    for group in groups {
+        put_group(board, group, line, out)?;
+    }
+    Ok(())
+}
+
+// Puts how many groups there are, and each of them.
+fn put_all<K: Sink>(
+    board: &Board,
+    groups: &[Group],
+    line: &mut Line,
+    out: &mut K,
+) -> Result<(), PutFault>
+    requires { All (IsNamed board.now) groups.now }
+    ensures { Prints (K.shown out.old) (K.shown out.new) [] [] (count_line (length groups.now) ++ flat_map (group_text board.now) groups.now) result }
+{
+    put_count(groups.len() as u64, line, out)?;
+    put_groups(board, groups, line, out)
+}
+
+/// Puts the groups that explain a log: how many there are, and of each its size and its nets in net order; or that no set of groups
+/// explains the log. The groups name nets of the board. Each line goes out in one put, and one of more than `MAX_LINE` bytes in
+/// pieces of so many and the rest. No memory is taken, and the line serves to write in: nothing is said of what it holds
+/// afterwards. It fails only where the sink does, and then a prefix of the text was put.
+pub fn write_groups<K: Sink>(
+    board: &Board,
+    groups: Option<&[Group]>,
+    line: &mut Line,
+    out: &mut K,
+) -> Result<(), PutFault>
+    requires { AreNamed board.now (option_map (λ groups. groups.now) groups) }
+    ensures { Puts (K.shown out.old) (K.shown out.new) (groups_text board.now (option_map (λ groups. groups.now) groups.entry)) result }
+{
+    match groups {
+        None => put_none(line, out),
+        Some(groups) => put_all(board, groups, line, out),
+    }
+}

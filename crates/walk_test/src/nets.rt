@@ -1,0 +1,324 @@
+// The tables of a walk.
+ghost use Rattle.std.specs.Prelude.{◌≡◌, ◌<◌, ◌++◌, ◌∷◌, ◌==◌, [], cond, not, false, is_some, map, length, Some, None, slice_get, slice_index_or, IfOk, OnOk};
+ghost use Rattle.std.specs.Option.{option_to_list};
+ghost use Rattle.std.specs.List.{list_any};
+ghost use Rattle.board_defs.specs.Settings.{holds};
+ghost use Rattle.scan_planner.specs.Assigned.{assigned};
+ghost use Rattle.scan_planner.specs.Building.{is_on, enabled_in, is_read_beside};
+ghost use Rattle.scan_planner.specs.Plans.{IsPlanOf, IsRoom};
+ghost use Rattle.tap_defs.specs.TestRows.{quiet_row, code_row};
+ghost use Rattle.walk_test.specs.WalkTest.{walk_setting};
+ghost use Rattle.walk_test.specs.Tables.{tdi_of, mask_of, observer_in, positions_beside, cells_by, cells_in, nets_in, nets_by, cells_of, AreMade, IsWalkOf};
+
+use crate::tables::{NetCells, WalkRows, WalkTables};
+use board_defs::{Board, Ctl, Items, Setting};
+use bt_bits::Row;
+use scan_planner::{NetDriver, Plan, ReaderCell};
+use std::alloc::{AllocError, Global};
+
+fn is_on(ctl: Option<Ctl>, walk: &Setting) -> bool
+    ensures { result ≡ is_on (holds walk.now) ctl }
+{
+    match ctl {
+        None => true,
+        Some(c) => walk.has(c),
+    }
+}
+
+fn enabled(drivers: &[NetDriver], walk: &Setting) -> Option<NetDriver>
+    ensures { result ≡ enabled_in (holds walk.now) drivers.now }
+{
+    for driver in drivers {
+        if is_on(driver.ctl, walk) {
+            return Some(*driver);
+        }
+    }
+    None
+}
+
+fn is_read_beside(readers: &[ReaderCell], place: u32) -> bool
+    ensures { result ≡ list_any (λ r. not (r.place == place)) readers.now }
+{
+    readers.iter().any(|r| r.place != place)
+}
+
+// The driver, where some of these cells reads another pin.
+fn where_read(driver: NetDriver, readers: &[ReaderCell]) -> Option<NetDriver>
+    ensures { result ≡ cond (is_read_beside readers.now driver) (Some driver) None }
+{
+    if is_read_beside(readers, driver.place) {
+        Some(driver)
+    } else {
+        None
+    }
+}
+
+// The driver by which the walk setting observes a net.
+fn observer(plan: &Plan, walk: &Setting, net: u32) -> Option<NetDriver>
+    ensures { result ≡ observer_in plan.now walk.now net }
+{
+    match enabled(plan.drivers(net), walk) {
+        None => None,
+        Some(driver) => where_read(driver, plan.readers(net)),
+    }
+}
+
+fn observes(plan: &Plan, walk: &Setting, net: u32) -> bool
+    ensures { result ≡ is_some (observer_in plan.now walk.now net) }
+{
+    observer(plan, walk, net).is_some()
+}
+
+fn push_beside(positions: &mut Vec<u32>, reader: ReaderCell, place: u32) -> Result<(), AllocError>
+    ensures { OnOk result (positions.new.items ≡ positions.old.items ++ cond (reader.place == place) [] (reader.position ∷ [])) }
+{
+    if reader.place != place {
+        positions.push(reader.position)?;
+    }
+    Ok(())
+}
+
+// The positions of the cells that read another pin than the one at this place.
+fn positions_beside(
+    alloc: Global,
+    place: u32,
+    readers: &[ReaderCell],
+) -> Result<Items<u32>, AllocError>
+    ensures { IfOk result (λ positions. positions ≡ positions_beside place readers.now) }
+{
+    let mut positions = Vec::new(alloc);
+    for reader in readers {
+        push_beside(&mut positions, *reader, place)?;
+    }
+    Ok(Items::of(positions))
+}
+
+fn net_cells(
+    alloc: Global,
+    plan: &Plan,
+    net: u32,
+    driver: Option<NetDriver>,
+) -> Result<NetCells, AllocError>
+    ensures { IfOk result (λ cells. cells ≡ cells_by plan.now net driver) }
+{
+    match driver {
+        None => Ok(NetCells {
+            driver: 0,
+            compared: Items::of(Vec::new(alloc)),
+        }),
+        Some(driver) => {
+            let compared = positions_beside(alloc, driver.place, plan.readers(net))?;
+            Ok(NetCells {
+                driver: driver.position,
+                compared,
+            })
+        }
+    }
+}
+
+fn push_if(nets: &mut Vec<u32>, n: u32, is_one: bool) -> Result<(), AllocError>
+    ensures { OnOk result (nets.new.items ≡ nets.old.items ++ cond is_one (n ∷ []) []) }
+{
+    if is_one {
+        nets.push(n)?;
+    }
+    Ok(())
+}
+
+// The nets that the walk setting observes, of so many.
+fn nets_in(alloc: Global, plan: &Plan, walk: &Setting, count: u32) -> Result<Vec<u32>, AllocError>
+    ensures { IfOk result (λ nets. nets.items ≡ nets_in plan.now walk.now count) }
+{
+    let mut nets = Vec::new(alloc);
+    for n in 0..count {
+        push_if(&mut nets, n, observes(plan, walk, n))?;
+    }
+    Ok(nets)
+}
+
+// The cells of each of these nets.
+fn all_cells(
+    alloc: Global,
+    plan: &Plan,
+    walk: &Setting,
+    nets: &[u32],
+) -> Result<Vec<NetCells>, AllocError>
+    ensures { IfOk result (λ all. all.items ≡ map (cells_in plan.now walk.now) nets.now) }
+{
+    let mut all = Vec::new(alloc);
+    for n in nets {
+        all.push(net_cells(alloc, plan, *n, observer(plan, walk, *n))?)?;
+    }
+    Ok(all)
+}
+
+// A row with room for each scan of the board.
+fn row_for(alloc: Global, board: &Board) -> Result<Row, AllocError>
+    ensures { IfOk result (λ row. IsRoom board.now row.room) }
+{
+    Row::with_room(alloc, board.ir_bits().max(board.dr_bits()))
+}
+
+// The quiet row.
+fn quiet_row(alloc: Global, board: &Board, plan: &Plan) -> Result<Row, AllocError>
+    requires { IsPlanOf board.now plan.now }
+    ensures { IfOk result (λ row. row.bits ≡ tdi_of board.now quiet_row) }
+{
+    let mut tdi = row_for(alloc, board)?;
+    let mut tdo = row_for(alloc, board)?;
+    let mut mask = row_for(alloc, board)?;
+    let _shape = plan.fill(board, 1, &mut tdi, &mut tdo, &mut mask);
+    Ok(tdi)
+}
+
+// The first row of the only pass of a plan, as it is shifted in.
+fn first_row(alloc: Global, board: &Board, plan: &Plan) -> Result<Row, AllocError>
+    requires plan { IsPlanOf board.now plan.now }
+    requires some { 0 < length plan.now.passes }
+    ensures { IfOk result (λ row. row.bits ≡ tdi_of board.now (code_row board.now plan.now.passes (slice_index_or plan.now.passes 0 []) 0)) }
+{
+    let mut tdi = row_for(alloc, board)?;
+    let mut tdo = row_for(alloc, board)?;
+    let mut mask = row_for(alloc, board)?;
+    let _shape = plan.fill(board, 3, &mut tdi, &mut tdo, &mut mask);
+    Ok(tdi)
+}
+
+// Where something is compared of it.
+fn first_mask(alloc: Global, board: &Board, plan: &Plan) -> Result<Row, AllocError>
+    requires plan { IsPlanOf board.now plan.now }
+    requires some { 0 < length plan.now.passes }
+    ensures { IfOk result (λ row. row.bits ≡ mask_of board.now (code_row board.now plan.now.passes (slice_index_or plan.now.passes 0 []) 0)) }
+{
+    let mut tdi = row_for(alloc, board)?;
+    let mut tdo = row_for(alloc, board)?;
+    let mut mask = row_for(alloc, board)?;
+    let _shape = plan.fill(board, 4, &mut tdi, &mut tdo, &mut mask);
+    Ok(mask)
+}
+
+// Sets the cells of the drivers of nets to 0.
+fn clear_drivers(cells: &[NetCells], row: &mut Row)
+    ensures { row.new.bits ≡ assigned (λ c. c.driver) (λ c. false) row.old.bits cells.now }
+{
+    for net in cells {
+        if net.driver < row.len() {
+            row.set(net.driver, false);
+        }
+    }
+}
+
+// The row in which no walk net carries 1, from the first row of the plan.
+fn still_row(alloc: Global, board: &Board, plan: &Plan, cells: &[NetCells]) -> Result<Row, AllocError>
+    requires plan { IsPlanOf board.now plan.now }
+    requires some { 0 < length plan.now.passes }
+    ensures { IfOk result (λ row. row.bits ≡ assigned (λ c. c.driver) (λ c. false) (tdi_of board.now (code_row board.now plan.now.passes (slice_index_or plan.now.passes 0 []) 0)) cells.now) }
+{
+    let mut still = first_row(alloc, board, plan)?;
+    clear_drivers(cells, &mut still);
+    Ok(still)
+}
+
+// The nets that the first of these settings observes, of so many, where there is a setting.
+fn first_nets(alloc: Global, plan: &Plan, passes: &[Setting], count: u32) -> Result<Vec<u32>, AllocError>
+    ensures { IfOk result (λ nets. nets.items ≡ nets_by plan.now (slice_get passes.now 0) count) }
+{
+    match passes.first() {
+        None => Ok(Vec::new(alloc)),
+        Some(walk) => nets_in(alloc, plan, walk, count),
+    }
+}
+
+// The walk nets.
+fn walk_nets(alloc: Global, board: &Board, plan: &Plan) -> Result<Items<u32>, AllocError>
+    ensures { IfOk result (λ nets. nets ≡ nets_by plan.now (slice_get plan.now.passes 0) (length board.now.nets)) }
+{
+    let count = board.raw().nets.len() as u32;
+    Ok(Items::of(first_nets(alloc, plan, plan.passes(), count)?))
+}
+
+// The cells of these nets while the first of the settings is on, where there is a setting.
+fn first_cells(
+    alloc: Global,
+    plan: &Plan,
+    passes: &[Setting],
+    nets: &[u32],
+) -> Result<Vec<NetCells>, AllocError>
+    ensures { IfOk result (λ all. all.items ≡ cells_of plan.now (slice_get passes.now 0) nets.now) }
+{
+    match passes.first() {
+        None => Ok(Vec::new(alloc)),
+        Some(walk) => all_cells(alloc, plan, walk, nets),
+    }
+}
+
+// The cells of the walk nets.
+fn walk_cells(alloc: Global, plan: &Plan, nets: &[u32]) -> Result<Items<NetCells>, AllocError>
+    ensures { IfOk result (λ cells. cells ≡ cells_of plan.now (slice_get plan.now.passes 0) nets.now) }
+{
+    Ok(Items::of(first_cells(alloc, plan, plan.passes(), nets)?))
+}
+
+// What the rows share, by a plan with a pass.
+fn shared_rows(
+    alloc: Global,
+    board: &Board,
+    plan: &Plan,
+    quiet: Row,
+    cells: &[NetCells],
+) -> Result<WalkRows, AllocError>
+    requires plan { IsPlanOf board.now plan.now }
+    requires some { 0 < length plan.now.passes }
+    ensures quiet { IfOk result (λ rows. rows.quiet.bits ≡ quiet.bits) }
+    ensures still { IfOk result (λ rows. rows.still.bits ≡ assigned (λ c. c.driver) (λ c. false) (tdi_of board.now (code_row board.now plan.now.passes (slice_index_or plan.now.passes 0 []) 0)) cells.now) }
+    ensures mask { IfOk result (λ rows. rows.mask.bits ≡ mask_of board.now (code_row board.now plan.now.passes (slice_index_or plan.now.passes 0 []) 0)) }
+{
+    let still = still_row(alloc, board, plan, cells)?;
+    let mask = first_mask(alloc, board, plan)?;
+    Ok(WalkRows { quiet, still, mask })
+}
+
+// The quiet row, and two that are not needed.
+fn quiet_rows(alloc: Global, quiet: Row) -> Result<WalkRows, AllocError>
+    ensures { IfOk result (λ rows. rows.quiet.bits ≡ quiet.bits) }
+{
+    let still = Row::with_room(alloc, 0)?;
+    let mask = Row::with_room(alloc, 0)?;
+    Ok(WalkRows { quiet, still, mask })
+}
+
+// The rows of a walk, by its plan and the cells of its nets.
+fn walk_rows(
+    alloc: Global,
+    board: &Board,
+    plan: &Plan,
+    cells: &[NetCells],
+) -> Result<WalkRows, AllocError>
+    requires plan { IsPlanOf board.now plan.now }
+    ensures { IfOk result (λ rows. AreMade board.now plan.now cells.now rows) }
+{
+    let quiet = quiet_row(alloc, board, plan)?;
+    if plan.pass_count() > 0 {
+        shared_rows(alloc, board, plan, quiet, cells)
+    } else {
+        quiet_rows(alloc, quiet)
+    }
+}
+
+/// The tables of a walk, from the plan whose passes are the walk setting, where there is one.
+pub fn tables_of(alloc: Global, board: &Board, plan: Plan) -> Result<WalkTables, AllocError>
+    requires plan { IsPlanOf board.now plan }
+    requires passes { plan.passes ≡ option_to_list (walk_setting board.now) }
+    ensures { IfOk result (λ tables. IsWalkOf board.now tables) }
+{
+    let _rules = board.raw();
+    let nets = walk_nets(alloc, board, &plan)?;
+    let cells = walk_cells(alloc, &plan, nets.as_slice())?;
+    let rows = walk_rows(alloc, board, &plan, cells.as_slice())?;
+    Ok(WalkTables {
+        plan,
+        nets,
+        cells,
+        rows,
+    })
+}

@@ -1,0 +1,30 @@
+// What a walk keeps.
+use board_defs::Items;
+use bt_bits::Row;
+use scan_planner::Plan;
+
+/// The positions of the cells of a walk net: that of its driver, and those that are compared.
+#[derive(Debug, Drop)]
+pub struct NetCells {
+    pub driver: u32,
+    pub compared: Items<u32>,
+}
+
+/// The quiet row, and what all rows of a walk share: what is shifted in while no walk net carries 1, and what is compared.
+/// The last two are not needed where there is no pass.
+#[derive(Drop)]
+pub struct WalkRows {
+    pub quiet: Row,
+    pub still: Row,
+    pub mask: Row,
+}
+
+/// The tables of a walk: the plan whose one pass is the walk setting, or that has no pass; the walk nets and the cells of each;
+/// and the rows that all scans are made from.
+#[derive(Drop)]
+pub struct WalkTables {
+    pub plan: Plan,
+    pub nets: Items<u32>,
+    pub cells: Items<NetCells>,
+    pub rows: WalkRows,
+}

@@ -1,0 +1,85 @@
+// A walk, and its scans.
+ghost use Rattle.std.specs.Prelude.{◌≡◌, ◌<◌, IfOk};
+ghost use Rattle.board_defs.specs.Passes.{passes_of};
+ghost use Rattle.scan_planner.specs.Plans.{IsRoom};
+ghost use Rattle.walk_test.specs.Tables.{IsWalkOf, scan_count};
+ghost use Rattle.walk_test.specs.Scans.{FillsWalk};
+
+use crate::filling::fill_scan;
+use crate::nets::tables_of;
+use crate::setting::walk_settings;
+use crate::tables::WalkTables;
+use board_defs::{Board, Setting};
+use bt_bits::Row;
+use scan_planner::Plan;
+use std::alloc::{AllocError, Global};
+use std::marker::Model;
+use tap_defs::Shape;
+
+/// The walking test of a board: its walk nets with their cells, and what its rows share.
+///
+/// The walk setting is the first pass of the board's test without the controls of switching drivers, and the walk nets are those
+/// that it observes. A board without a pass has no walk net.
+#[derive(Drop)]
+pub struct Walk {
+    pub(crate) tables: WalkTables,
+}
+
+impl Model for Walk {
+    ghost use Rattle.std.specs.Prelude.{◌<◌, ◌^◌, length};
+    ghost use Rattle.walk_test.specs.declared.tables.WalkTables.{WalkTables};
+
+    ghost Value = { WalkTables };
+
+    ghost view = { λ a. a.tables };
+
+    ghost invariant = { λ a. length a.tables.nets < 2 ^ 32 };
+}
+
+impl Walk {
+    /// The walk of a board with these passes, which are those of the board's test.
+    pub fn new(alloc: Global, board: &Board, passes: &[Setting]) -> Result<Walk, AllocError>
+        requires { passes.now ≡ passes_of board.now }
+        ensures { IfOk result (λ walk. IsWalkOf board.now walk) }
+    {
+        let _rules = board.raw();
+        let settings = walk_settings(alloc, board, passes)?;
+        let plan = Plan::new(alloc, board, settings)?;
+        let tables = tables_of(alloc, board, plan)?;
+        Ok(Walk { tables })
+    }
+
+    /// The numbers of the walk nets, in net order.
+    pub fn nets(&self) -> &[u32]
+        ensures { result.now ≡ self.now.nets }
+    {
+        self.tables.nets.as_slice()
+    }
+
+    /// The number of scans: three, and where the board has a pass one for each walk net and one for the quiet row.
+    pub fn scans(&self) -> u64
+        ensures { result ≡ scan_count self.now }
+    {
+        if self.tables.plan.pass_count() == 0 {
+            3
+        } else {
+            4 + self.tables.nets.len() as u64
+        }
+    }
+
+    /// Fills the rows with scan `k` of the walking test, counted from 0, and tells its kind. The board is that of the walk, `k` is
+    /// below the number of scans, and each row has room for the longer register. No memory is taken.
+    pub fn fill(&self, board: &Board, k: u64, tdi: &mut Row, tdo: &mut Row, mask: &mut Row) -> Shape
+        requires walk { IsWalkOf board.now self.now }
+        requires scan { k < scan_count self.now }
+        requires tdi_room { IsRoom board.now tdi.old.room }
+        requires tdo_room { IsRoom board.now tdo.old.room }
+        requires mask_room { IsRoom board.now mask.old.room }
+        ensures filled { FillsWalk board.now k result tdi.new.bits tdo.new.bits mask.new.bits }
+        ensures tdi_kept { tdi.new.room ≡ tdi.old.room }
+        ensures tdo_kept { tdo.new.room ≡ tdo.old.room }
+        ensures mask_kept { mask.new.room ≡ mask.old.room }
+    {
+        fill_scan(board, &self.tables, k, tdi, tdo, mask)
+    }
+}
