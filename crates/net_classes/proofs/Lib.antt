@@ -16,3 +16,5 @@ pub mod Free
 pub mod GroupLemmas
 pub mod KeyLemmas
 pub mod LoneLemmas
+pub mod WordLemmas
+pub mod DriverPairs

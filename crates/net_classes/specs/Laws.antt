@@ -1,11 +1,13 @@
 -- What the lists of driven nets say.
-use Rattle.std.specs.Prelude.{◌≡◌, ℕ, false, List, Contains}
+use Rattle.std.specs.Prelude.{◌≡◌, ℕ, false, List, [], Contains, slice_index_or, is_some}
 use Rattle.std.specs.Bool.{Decides}
 use Rattle.board_defs.specs.declared.board.Ctl.{Ctl}
 use Rattle.board_defs.specs.declared.board.RawBoard.{RawBoard}
 use Rattle.board_defs.specs.Decided.{share_net}
 use Rattle.board_defs.specs.Settings.{same_ctl}
+use Rattle.board_defs.specs.Passes.{drivers_by_net, first_pair}
 use Rattle.net_classes.specs.Kept.{driven_nets, shared_nets}
+use Rattle.net_classes.specs.Pairs.{pairs_with}
 
 -- the two lists have a number in common
 abbrev pub HaveCommon : List ℕ → List ℕ → Type 0
@@ -18,3 +20,7 @@ pub record SaysShared (board : RawBoard) (a b : Ctl) : Type 0 where
 
 abbrev pub NetsAreShared : Type 0
 NetsAreShared = (board : RawBoard) (a b : Ctl) → SaysShared board a b
+
+-- the nets of two numbers are paired exactly where two of their tested drivers are enabled by one safe setting
+abbrev pub PairsHaveDrivers : Type 0
+PairsHaveDrivers = (board : RawBoard) (a b : ℕ) → pairs_with board a b ≡ is_some (first_pair board (slice_index_or (drivers_by_net board) a []) (slice_index_or (drivers_by_net board) b []))

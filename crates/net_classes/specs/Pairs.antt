@@ -1,12 +1,14 @@
 -- Which drivers of two nets one safe setting enables.
-use Rattle.std.specs.Prelude.{◌≡◌, Bool, List, Some, All}
+use Rattle.std.specs.Prelude.{◌≡◌, ◌<◌, ◌+◌, ◌*◌, ℕ, Bool, false, List, Option, None, Some, All, slice_get, cond}
+use Rattle.std.specs.Int.{bit_at}
 use Rattle.std.specs.List.{list_any}
 use Rattle.board_defs.specs.declared.board.Ctl.{Ctl}
+use Rattle.board_defs.specs.declared.board.Net.{Net}
 use Rattle.board_defs.specs.declared.board.RawBoard.{RawBoard}
 use Rattle.board_defs.specs.declared.board.Drive.{Drive}
 use Rattle.board_defs.specs.declared.board.Drive.TheVariants.{By}
 use Rattle.board_defs.specs.Pins.{IsCell}
-use Rattle.board_defs.specs.Decided.{are_compatible}
+use Rattle.board_defs.specs.Decided.{are_compatible, are_paired}
 
 -- the control of the driver, where it has one, is a cell of the board
 abbrev pub IsByCell : RawBoard → Drive → Type 0
@@ -26,3 +28,17 @@ fits_some board es d = list_any (fit board d) es
 -- one safe setting enables some driver of each list
 abbrev pub some_fit : RawBoard → List Drive → List Drive → Bool
 some_fit board ds es = list_any (fits_some board es) ds
+
+-- one safe setting observes both nets, where both are there
+abbrev pub pair_there : RawBoard → Option Net → Option Net → Bool
+pair_there board None b = false
+pair_there board (Some a) None = false
+pair_there board (Some a) (Some b) = are_paired board a b
+
+-- one safe setting observes the nets of both numbers; past the last net there is none
+abbrev pub pairs_with : RawBoard → ℕ → ℕ → Bool
+pairs_with board a b = pair_there board (slice_get board.nets a) (slice_get board.nets b)
+
+-- the bits of the word say which of the 64 numbers from 64 * number on pass
+abbrev pub AreBitsOf : (ℕ → Bool) → ℕ → ℕ → Type 0
+AreBitsOf passes number word = (i : ℕ) → i < 64 → bit_at word i ≡ cond (passes (64 * number + i)) 1 0

@@ -15,6 +15,7 @@ mod shared;
 mod switching;
 mod tested;
 mod useful;
+mod words;
 
 pub use classes::{Classes, ControlClass, NetClass, PinClass, classify};
 pub use found::meet;

@@ -9,13 +9,14 @@ ghost use Rattle.board_defs.specs.declared.board.Drive.TheVariants.{By};
 ghost use Rattle.board_defs.specs.Coverage.{AreTogether, ArePaired, IsCovered, IsReason, IsTestedDriver, IsTestedReceiver, IsUseful};
 ghost use Rattle.board_defs.specs.Decided.{are_paired, are_together, can_enable, is_safe_alone, is_tested_driver, is_tested_receiver, is_useful, place_drive, reason_of, share_net};
 ghost use Rattle.board_defs.specs.Passes.{tested_drivers, useful_controls};
-ghost use Rattle.net_classes.specs.Pairs.{AreByCells, IsByCell, fit, fits_some, some_fit};
+ghost use Rattle.net_classes.specs.Pairs.{AreBitsOf, AreByCells, IsByCell, fit, fits_some, pairs_with, some_fit};
 ghost use Rattle.net_classes.specs.PairKeys.{ArePairKeys};
 ghost use Rattle.net_classes.specs.Kept.{AreClasses, OfNet, control_class_of, driven_nets, pin_class_of, shared_nets};
 
 use crate::classes::{Classes, ControlClass, PinClass};
 use crate::found::meet;
 use crate::pair_keys::PairKey;
+use crate::words::with_bit;
 use board_defs::{Board, Ctl, Drive, PinRef, Reason, law};
 
 fn is_same(a: Ctl, b: Ctl) -> bool
@@ -270,6 +271,31 @@ impl Classes {
         } else {
             self.are_paired(board, a, b)
         }
+    }
+
+    fn pairs_with(&self, board: &Board, a: u32, b: usize) -> bool
+        requires classes { AreClasses board.now self.now }
+        requires rules { IsBoard board.now }
+        requires net { a < length board.now.nets }
+        ensures { result ≡ pairs_with board.now a b }
+    {
+        b < self.nets.len() && self.are_paired(board, a, b as u32)
+    }
+
+    /// Of the 64 nets from net 64 * word on, those that are paired with the net: bit i stands for
+    /// net 64 * word + i. The bit of the net itself is set where it is covered; a bit past the
+    /// last net is not set.
+    pub fn paired_word(&self, board: &Board, net: u32, word: u32) -> u64
+        requires classes { AreClasses board.now self.now }
+        requires net { net < length board.now.nets }
+        ensures { AreBitsOf (pairs_with board.now net) word result }
+    {
+        let _rules = board.raw();
+        let mut bits = 0;
+        for i in 0..64 {
+            bits = with_bit(bits, i, self.pairs_with(board, net, 64 * word as usize + i));
+        }
+        bits
     }
 
     /// For each net a key, by which most pairs are seen to be paired without a look at drivers.
