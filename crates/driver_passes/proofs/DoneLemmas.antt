@@ -1,9 +1,8 @@
 -- Pairs of nets for which nothing is to be done.
-use Rattle.std.proofs.Common.{◌≡◌, ◌≢◌, get_or, ℕ, zero, suc, ◌+◌, ◌-◌, ◌<◌, ◌≤◌, Bool, true, false, ◌&&◌, ◌||◌, Contains, List, [], ◌∷◌, length, map, fold, Option, Some, None, subst, refl, sym, ◌∙◌, ap, arith, cond, ◌⊎◌, inl, inr}
-use Rattle.std.specs.Prelude.{slice_get}
-use Rattle.std.specs.List.{list_any}
-use Rattle.std.specs.Int.Bits.{bit_and}
-use Rattle.std.proofs.lemmas.Bool.{or_left, or_right, or_cases, cases_eq}
+use Rattle.std.proofs.Common.{◌≡◌, ℕ, zero, suc, ◌+◌, ◌-◌, ◌<◌, ◌≤◌, Bool, true, false, ◌&&◌, ◌||◌, Contains, List, [], ◌∷◌, length, map, fold, Option, Some, None, subst, refl, sym, ◌∙◌, ap, arith, cond, ◌⊎◌, inl, inr}
+use Rattle.std.specs.Prelude.{is_some, slice_get}
+use Rattle.std.specs.List.{list_all, list_any}
+use Rattle.std.proofs.lemmas.Bool.{and_cases, and_from, and_parts, cases_eq, not-false, not-true, or_cases, or_left, or_right}
 use Rattle.std.proofs.lemmas.List.{drop_all, length-map}
 use Rattle.board_defs.specs.declared.board.Ctl.{Ctl}
 use Rattle.board_defs.specs.declared.board.RawBoard.{RawBoard}
@@ -12,10 +11,12 @@ use Rattle.board_defs.specs.declared.board.Net.{Net}
 use Rattle.board_defs.specs.Passes.{add_for_nets, are_shown, drivers_by_net, first_pair, is_enabled, pair_pass, shows, tested_drivers, with_pair}
 use Rattle.board_defs.proofs.Members.{any_has, has_any}
 use Rattle.board_defs.proofs.PassesKept.{pair_shows}
-use Rattle.driver_passes.specs.Pairs.{AreDone, AreMarks, IsDone, IsDoneTo, StaysDone, numbers_of, pairs_from, showing}
+use Rattle.net_classes.specs.Laws.{PairsHaveDrivers}
+use Rattle.net_classes.specs.Pairs.{pairs_with}
+use Rattle.driver_passes.specs.NetSets.{has_net}
+use Rattle.driver_passes.specs.Pairs.{AreDone, AreLeft, IsDone, IsDoneTo, StaysDone, is_wanted, pairs_from}
 use Rattle.driver_passes.specs.Progress.{EnableTested, drivers_at}
 use Rattle.driver_passes.proofs.EnabledLemmas.{any_end, any_last}
-use Rattle.driver_passes.proofs.MarkLemmas.{marks_meet}
 use Rattle.driver_passes.proofs.ProgressLemmas.{drivers_are, net_there}
 use Rattle.driver_passes.proofs.PairLemmas.{one_done}
 
@@ -95,11 +96,21 @@ skipped_to board useful passes a b c least most done =
     let all : b + (c - b) ≡ c = omega (arith, least) in
     sym (ap (λ n. fold (add_for_nets board useful) passes (pairs_from board a n)) all) ∙ skipped board useful passes a b (c - b) (omega (arith, all, most)) (λ n from below. done n from (omega (arith, below, all)))
 
--- the nets whose marks have a bit in common with that of a
-pub done_marked : (board : RawBoard) (passes : List (List Ctl)) (marks lent : List ℕ) (a b c mark : ℕ) → AreMarks board passes marks → a < length board.nets → c ≤ length board.nets → lent ≡ marks → mark ≡ get_or marks a 0 → ((n : ℕ) → b ≤ n → n < c → bit_and mark (get_or lent n 0) ≢ 0) →
-    (n : ℕ) → b ≤ n → n < c → IsDone board passes a n
-done_marked board passes marks lent a b c mark are first most e f common n from below =
-    inl (marks_meet board passes marks a n are first (omega (arith, below, most)) (λ apart. common n from below (ap (λ v. bit_and mark (get_or v n 0)) e ∙ ap (λ m. bit_and m (get_or marks n 0)) f ∙ apart)))
+-- the nets that are shown together with net a, or not paired with it
+pub unwanted : (board : RawBoard) (passes : List (List Ctl)) (left : List ℕ) (a n : ℕ) → PairsHaveDrivers → AreLeft board passes a left → a ≤ n → n < length board.nets → is_wanted board left a n ≡ false → IsDone board passes a n
+unwanted board passes left a n law are from within e = by_part (and_cases (has_net left n) (pairs_with board a n) e)
+  where
+    by_found : (found : Option (Drive × Drive)) → is_some found ≡ false → found ≡ None
+    by_found None h = refl
+    by_found (Some pair) h = cc h
+
+    by_part : (has_net left n ≡ false) ⊎ (pairs_with board a n ≡ false) → IsDone board passes a n
+    by_part (inl shown) = inl (not-false (are_shown passes (drivers_at board a) (drivers_at board n)) (sym (are n from within) ∙ shown))
+    by_part (inr apart) = inr (by_found (first_pair board (drivers_at board a) (drivers_at board n)) (sym (law board a n) ∙ apart))
+
+-- the nets that no pass shows together with net a
+pub unshown : (board : RawBoard) (passes : List (List Ctl)) (left : List ℕ) (a n : ℕ) → AreLeft board passes a left → a ≤ n → n < length board.nets → is_wanted board left a n ≡ true → are_shown passes (drivers_at board a) (drivers_at board n) ≡ false
+unshown board passes left a n are from within e = not-true (are_shown passes (drivers_at board a) (drivers_at board n)) (sym (are n from within) ∙ (and_parts (has_net left n) (pairs_with board a n) e).0)
 
 -- past the last net there is nothing to do
 pub none_left : (board : RawBoard) (useful : List Ctl) (passes : List (List Ctl)) (a b : ℕ) → length board.nets ≤ b → fold (add_for_nets board useful) passes (pairs_from board a b) ≡ passes
@@ -118,34 +129,22 @@ no_others : (board : RawBoard) (drivers : List Drive) → first_pair board drive
 no_others board [] = refl
 no_others board (d ∷ drivers) = no_others board drivers
 
-numbers_few : {X : Type 0} (p : X → Bool) (n : ℕ) (xs : List X) → length (numbers_of p n xs) ≤ length xs
-numbers_few p n [] = omega arith
-numbers_few p n (x ∷ xs) = by_test (p x) (numbers_few p (suc n) xs)
-  where
-    by_test : (t : Bool) → length (numbers_of p (suc n) xs) ≤ length xs → length (cond t (n ∷ numbers_of p (suc n) xs) (numbers_of p (suc n) xs)) ≤ length (x ∷ xs)
-    by_test true h = omega (arith, h)
-    by_test false h = omega (arith, h)
-
 -- where all items pass, one that passes another test passes both
-all_pass : {X : Type 0} (p q : X → Bool) (n : ℕ) (xs : List X) → length (numbers_of p n xs) ≡ length xs → list_any q xs ≡ true → list_any (λ x. p x && q x) xs ≡ true
-all_pass p q n [] all h = h
-all_pass p q n (x ∷ xs) all h = by_test (λ rest e. all_pass p q (suc n) xs rest e) (p x) all
+all_pass : {X : Type 0} (p q : X → Bool) (xs : List X) → list_all p xs ≡ true → list_any q xs ≡ true → list_any (λ x. p x && q x) xs ≡ true
+all_pass p q [] all h = h
+all_pass {X} p q (x ∷ xs) all h = by_part (and_parts (p x) (list_all p xs) all).0 (all_pass p q xs (and_parts (p x) (list_all p xs) all).1) (or_cases (q x) (list_any q xs) h)
   where
-    by_part : (list_any q xs ≡ true → list_any (λ y. p y && q y) xs ≡ true) → (q x ≡ true) ⊎ (list_any q xs ≡ true) → (q x || list_any (λ y. p y && q y) xs) ≡ true
-    by_part rest (inl e) = or_left (q x) (list_any (λ y. p y && q y) xs) e
-    by_part rest (inr e) = or_right (q x) (list_any (λ y. p y && q y) xs) (rest e)
-
-    by_test : (length (numbers_of p (suc n) xs) ≡ length xs → list_any q xs ≡ true → list_any (λ y. p y && q y) xs ≡ true) → (t : Bool) → length (cond t (n ∷ numbers_of p (suc n) xs) (numbers_of p (suc n) xs)) ≡ length (x ∷ xs) → ((t && q x) || list_any (λ y. p y && q y) xs) ≡ true
-    by_test rest true e = by_part (rest (omega (arith, e))) (or_cases (q x) (list_any q xs) h)
-    by_test rest false e = absurd (omega (arith, e, numbers_few p (suc n) xs))
+    by_part : p x ≡ true → (list_any q xs ≡ true → list_any (λ (y : X). p y && q y) xs ≡ true) → (q x ≡ true) ⊎ (list_any q xs ≡ true) → ((p x && q x) || list_any (λ (y : X). p y && q y) xs) ≡ true
+    by_part here rest (inl e) = or_left (p x && q x) (list_any (λ (y : X). p y && q y) xs) (and_from (p x) (q x) here e)
+    by_part here rest (inr e) = or_right (p x && q x) (list_any (λ (y : X). p y && q y) xs) (rest e)
 
 -- a net that each pass shows
-pub all_show : (board : RawBoard) (passes : List (List Ctl)) (a b : ℕ) (row : List ℕ) → EnableTested board passes → row ≡ showing board passes a → length row ≡ length passes → b < length board.nets → IsDone board passes a b
-all_show board passes a b row are e all less = by_drivers (drivers_at board b) (λ d h. are b d less h)
+pub all_show : (board : RawBoard) (passes : List (List Ctl)) (a b : ℕ) → EnableTested board passes → list_all (shows (drivers_at board a)) passes ≡ true → b < length board.nets → IsDone board passes a b
+all_show board passes a b are all less = by_drivers (drivers_at board b) (λ d h. are b d less h)
   where
     by_drivers : (others : List Drive) → ((d : Drive) → Contains others d → list_any (λ pass. is_enabled pass d) passes ≡ true) → (are_shown passes (drivers_at board a) others ≡ true) ⊎ (first_pair board (drivers_at board a) others ≡ None)
     by_drivers [] enabled = inr (no_others board (drivers_at board a))
     by_drivers (d ∷ others) enabled =
         let r = any_has (λ (pass : List Ctl). is_enabled pass d) passes (enabled d (0, omega arith, refl)) in
         let some : list_any (shows (d ∷ others)) passes ≡ true = has_any (shows (d ∷ others)) passes r.0 r.1 (or_left (is_enabled r.0 d) (list_any (is_enabled r.0) others) r.2) in
-        inl (all_pass (shows (drivers_at board a)) (shows (d ∷ others)) 0 passes (sym (ap length e) ∙ all) some)
+        inl (all_pass (shows (drivers_at board a)) (shows (d ∷ others)) passes all some)

@@ -3,10 +3,9 @@ pub mod ChosenLemmas
 pub mod DraftLemmas
 pub mod FitLemmas
 pub mod ProgressLemmas
-pub mod NumberLemmas
-pub mod ShownLemmas
+pub mod NetSetLemmas
+pub mod RowLemmas
 pub mod AlikeLemmas
-pub mod MarkLemmas
 pub mod PairLemmas
 pub mod EnabledLemmas
 pub mod DoneLemmas

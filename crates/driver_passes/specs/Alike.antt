@@ -1,8 +1,6 @@
 -- Nets with the same tested drivers.
-use Rattle.std.specs.Prelude.{◌≡◌, ◌≤◌, ◌<◌, ℕ, Bool, false, List, length, slice_index_or}
-use Rattle.board_defs.specs.declared.board.Ctl.{Ctl}
+use Rattle.std.specs.Prelude.{◌≡◌, ◌≤◌, ◌<◌, ℕ, List, length, slice_index_or}
 use Rattle.board_defs.specs.declared.board.RawBoard.{RawBoard}
-use Rattle.board_defs.specs.Passes.{shows}
 use Rattle.driver_passes.specs.Progress.{drivers_at}
 
 -- the table names for each net an earlier one with the same tested drivers, or the net itself
@@ -10,8 +8,3 @@ pub record AreAlike (board : RawBoard) (likes : List ℕ) : Type 0 where
   pub likes_length : length likes ≡ length board.nets
   pub likes_within : (n : ℕ) → n < length board.nets → slice_index_or likes n 0 ≤ n
   pub likes_are : (n : ℕ) → n < length board.nets → drivers_at board (slice_index_or likes n 0) ≡ drivers_at board n
-
--- the flags say which nets the pass shows
-pub record AreShownBy (board : RawBoard) (pass : List Ctl) (flags : List Bool) : Type 0 where
-  pub flags_length : length flags ≡ length board.nets
-  pub flags_are : (n : ℕ) → n < length board.nets → slice_index_or flags n false ≡ shows (drivers_at board n) pass

@@ -2,4 +2,5 @@ pub mod Drafts
 pub mod Useful
 pub mod Progress
 pub mod Alike
+pub mod NetSets
 pub mod Pairs

@@ -1,41 +1,45 @@
--- Which passes show each net.
-use Rattle.std.specs.Prelude.{◌≡◌, ◌<◌, ◌⊎◌, ℕ, suc, Bool, true, cond, List, [], ◌∷◌, drop, length, map, None, slice_index_or, Contains}
-use Rattle.std.specs.Int.{bit_at}
+-- Which nets each pass shows, and for which pairs of nets a pass is wanted.
+use Rattle.std.specs.Prelude.{◌≡◌, ◌≤◌, ◌<◌, ◌⊎◌, ◌+◌, ◌/◌, ℕ, Bool, true, not, ◌&&◌, List, [], drop, length, map, None, slice_index_or}
 use Rattle.board_defs.specs.declared.board.Ctl.{Ctl}
 use Rattle.board_defs.specs.declared.board.RawBoard.{RawBoard}
 use Rattle.board_defs.specs.declared.board.Drive.{Drive}
 use Rattle.board_defs.specs.Passes.{are_shown, drivers_by_net, first_pair, shows}
+use Rattle.net_classes.specs.Pairs.{pairs_with}
 use Rattle.driver_passes.specs.declared.pairs.Pairing.{Pairing}
+use Rattle.driver_passes.specs.NetSets.{has_net}
 use Rattle.driver_passes.specs.Progress.{EnableTested, IsUsefulDriver, drivers_at}
 use Rattle.driver_passes.specs.Useful.{HoldUseful}
 use Rattle.driver_passes.specs.Alike.{AreAlike}
 
--- the numbers, from n on, of the items that pass
-abbrev pub numbers_of : {X : Type 0} → (X → Bool) → ℕ → List X → List ℕ
-numbers_of p n [] = []
-numbers_of p n (x ∷ xs) = cond (p x) (n ∷ numbers_of p (suc n) xs) (numbers_of p (suc n) xs)
+-- the row is the set of the nets that the pass shows, with room for each net
+pub record AreShownBy (board : RawBoard) (pass : List Ctl) (row : List ℕ) : Type 0 where
+  pub row_length : length row ≡ length board.nets / 64 + 1
+  pub row_are : (n : ℕ) → n < length board.nets → has_net row n ≡ shows (drivers_at board n) pass
 
--- the numbers of the passes that show the net of this number
-abbrev pub showing : RawBoard → List (List Ctl) → ℕ → List ℕ
-showing board passes n = numbers_of (shows (drivers_at board n)) 0 passes
+-- there is a row for each pass
+pub record AreRows (board : RawBoard) (passes : List (List Ctl)) (rows : List (List ℕ)) : Type 0 where
+  pub rows_length : length rows ≡ length passes
+  pub rows_are : (x : ℕ) → x < length passes → AreShownBy board (slice_index_or passes x []) (slice_index_or rows x [])
 
--- the rows have the numbers of the passes that show each net
-pub record AreShown (board : RawBoard) (passes : List (List Ctl)) (rows : List (List ℕ)) : Type 0 where
-  pub rows_length : length rows ≡ length board.nets
-  pub rows_are : (n : ℕ) → n < length board.nets → slice_index_or rows n [] ≡ showing board passes n
+-- the row has both nets
+abbrev pub shows_both : ℕ → ℕ → List ℕ → Bool
+shows_both a b row = has_net row a && has_net row b
 
--- a bit that is set in the mark of a net is the number of a pass that shows the net
-pub record AreMarks (board : RawBoard) (passes : List (List Ctl)) (marks : List ℕ) : Type 0 where
-  pub marks_length : length marks ≡ length board.nets
-  pub marks_are : (n x : ℕ) → n < length board.nets → bit_at (slice_index_or marks n 0) x ≡ 1 → Contains (showing board passes n) x
-
--- the rows and marks are those of the passes so far, which enable each tested driver and hold useful controls only
+-- the rows are those of the passes so far, which enable each tested driver and hold useful controls only; the set has room for each net
 pub record ArePairing (board : RawBoard) (pairing : Pairing) : Type 0 where
-  pub shown : AreShown board pairing.passes.items pairing.rows.items
-  pub marks : AreMarks board pairing.passes.items pairing.marks.items
+  pub rows : AreRows board pairing.passes.items pairing.rows.items
   pub alike : AreAlike board pairing.likes.items
   pub tested : EnableTested board pairing.passes.items
   pub useful : HoldUseful board pairing.passes.items
+  pub left_length : length pairing.left ≡ length board.nets / 64 + 1
+
+-- of the nets from net a on, the set has those that none of the passes shows together with net a
+abbrev pub AreLeft : RawBoard → List (List Ctl) → ℕ → List ℕ → Type 0
+AreLeft board passes a left = (n : ℕ) → a ≤ n → n < length board.nets → has_net left n ≡ not (are_shown passes (drivers_at board a) (drivers_at board n))
+
+-- the net is in the set and paired with net a
+abbrev pub is_wanted : RawBoard → List ℕ → ℕ → ℕ → Bool
+is_wanted board left a n = has_net left n && pairs_with board a n
 
 -- no pass is to be added for the two nets: one shows both, or no safe setting enables a driver of each
 abbrev pub IsDone : RawBoard → List (List Ctl) → ℕ → ℕ → Type 0

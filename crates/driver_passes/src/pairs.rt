@@ -1,32 +1,35 @@
 // More passes, until each two paired nets are observed by one pass.
-ghost use Rattle.std.specs.Prelude.{◌≡◌, ◌<◌, ◌≤◌, ◌+◌, ◌*◌, ◌^◌, ◌∷◌, ◌++◌, ℕ, [], true, find, fold, length, All, IfOk, IfSome, OnOk, Some};
+ghost use Rattle.std.specs.Prelude.{◌≡◌, ◌<◌, ◌≤◌, ◌+◌, ◌*◌, ◌/◌, ◌^◌, ◌∷◌, ◌++◌, ℕ, [], false, true, find, fold, length, All, IfOk, IfSome, MatchOption, OnOk};
 ghost use Rattle.board_defs.specs.Pins.{IsCell};
-ghost use Rattle.board_defs.specs.Passes.{add_for_nets, drivers_by_net, first_pair, pair_pass, pair_passes, useful_controls};
+ghost use Rattle.board_defs.specs.Passes.{add_for_nets, are_shown, drivers_by_net, first_pair, pair_pass, pair_passes, useful_controls};
 ghost use Rattle.net_classes.specs.Kept.{AreClasses};
-ghost use Rattle.net_classes.specs.Pairs.{AreByCells, IsByCell, fit};
+ghost use Rattle.net_classes.specs.Pairs.{AreBitsOf, AreByCells, IsByCell, fit};
 ghost use Rattle.driver_passes.specs.Drafts.{IsDraft, setting_of};
-ghost use Rattle.driver_passes.specs.Pairs.{AreDone, ArePairing, IsDone, IsDoneTo, StaysDone, IsUsefulPair, pairs_from};
+ghost use Rattle.driver_passes.specs.NetSets.{IsFirst};
+ghost use Rattle.driver_passes.specs.Pairs.{AreDone, AreLeft, ArePairing, IsDone, IsDoneTo, StaysDone, IsUsefulPair, is_wanted, pairs_from};
 ghost use Rattle.driver_passes.specs.Progress.{EnableTested, IsUsefulDriver, drivers_at};
 ghost use Rattle.driver_passes.specs.Useful.{HoldUseful};
 
 use crate::alike::likes_of;
 use crate::draft::Draft;
 use crate::drivers::drivers_of;
-use crate::marks::{blank_marks, next_apart};
-use crate::shown::{PassNumbers, are_shown, blank_rows, note_pass};
+use crate::net_set::{NetSet, next_in};
+use crate::shown::{all_show, leave_unshown, rows_of, shown_by, take_shown};
 use crate::walk::second_walk;
 use board_defs::{Board, Ctl, Drive, Setting, law};
 use net_classes::Classes;
+use net_classes::law::pairs_have_drivers;
 use std::alloc::{AllocError, Global};
 
-/// The passes so far, and for each net the numbers of those that show it, its mark, and an earlier
-/// net with the same tested drivers or the net itself.
+/// The passes so far, for each of them the nets that it shows, and for each net an earlier one with
+/// the same tested drivers or the net itself.
 #[derive(Debug, Drop)]
 pub struct Pairing {
     pub passes: Vec<Setting>,
-    pub rows: Vec<PassNumbers>,
-    pub marks: Vec<u64>,
+    pub rows: Vec<NetSet>,
     pub likes: Vec<u32>,
+    /// Of the net that is looked at, the later ones which no pass so far shows together with it.
+    pub left: NetSet,
 }
 
 /// The first of the drivers that one safe setting enables together with `d`.
@@ -91,6 +94,47 @@ fn pair_pass(
     Ok(draft)
 }
 
+/// Of the 64 nets with the word of this net, those of the set that are paired with net `a`.
+fn wanted_word(left: &NetSet, board: &Board, classes: &Classes, a: usize, net: usize) -> u64
+    requires classes { AreClasses board.now classes.now }
+    requires first { a < length board.now.nets }
+    requires second { net < length board.now.nets }
+    ensures { AreBitsOf (is_wanted board.now left.now a) (net / 64) result }
+{
+    let _rules = board.raw();
+    let word = left.word(net / 64);
+    if word == 0 {
+        return 0;
+    }
+    word & classes.paired_word(board, a as u32, (net / 64) as u32)
+}
+
+/// The first net of the set, from this net on, that is paired with net `a`.
+fn next_wanted(
+    left: &NetSet,
+    board: &Board,
+    classes: &Classes,
+    a: usize,
+    from: usize,
+) -> Option<usize>
+    requires classes { AreClasses board.now classes.now }
+    requires first { a < length board.now.nets }
+    ensures next { MatchOption result ((n : ℕ) → from ≤ n → n < length board.now.nets → is_wanted board.now left.now a n ≡ false) (λ b. IsFirst (is_wanted board.now left.now a) from b) }
+    ensures within { IfSome result (λ b. b < length board.now.nets) }
+{
+    let _rules = board.raw();
+    let nets = board.raw().nets.as_slice().len();
+    let mut net = from;
+    while net < nets {
+        let word = wanted_word(left, board, classes, a, net);
+        if let Some(b) = next_in(word, net) {
+            return Some(b);
+        }
+        net = 64 * (net / 64 + 1);
+    }
+    None
+}
+
 impl Pairing {
     fn new(
         alloc: Global,
@@ -103,61 +147,51 @@ impl Pairing {
         requires useful_are { useful.now ≡ useful_controls board.now }
         requires tested { EnableTested board.now passes.items }
         requires useful { HoldUseful board.now passes.items }
-        requires few { length passes.items ≤ 65535 }
         ensures pairing { IfOk result (λ pairing. ArePairing board.now pairing) }
         ensures passes { IfOk result (λ pairing. pairing.passes.items ≡ passes.items) }
     {
-        let nets = board.raw().nets.as_slice().len();
-        let mut rows = blank_rows(alloc, nets)?;
-        let mut marks = blank_marks(alloc, nets)?;
         let likes = likes_of(alloc, board, classes, useful)?;
-        for number in 0..passes.len() {
-            note_pass(
-                alloc, &mut rows, &mut marks, &likes, board, classes, &passes, number,
-            )?;
-        }
+        let rows = rows_of(alloc, board, classes, &likes, &passes)?;
+        let left = NetSet::new(alloc, board.raw().nets.as_slice().len())?;
         Ok(Pairing {
             passes,
             rows,
-            marks,
             likes,
+            left,
         })
     }
 
+    /// One more pass, while net `a` is looked at.
     fn push(
         &mut self,
         alloc: Global,
         board: &Board,
         classes: &Classes,
         useful: &[Ctl],
+        a: usize,
         draft: &Draft,
     ) -> Result<(), AllocError>
         requires classes { AreClasses board.now classes.now }
         requires useful { useful.now ≡ useful_controls board.now }
         requires draft { IsDraft board.now draft.now }
+        requires first { a < length board.now.nets }
         requires pairing { ArePairing board.now self.old }
-        requires few { length self.old.passes.items < 2 ^ 32 }
+        requires left { AreLeft board.now self.old.passes.items a self.old.left }
         ensures pairing { OnOk result (ArePairing board.now self.new) }
+        ensures left { OnOk result (AreLeft board.now self.new.passes.items a self.new.left) }
         ensures pushed { OnOk result (self.new.passes.items ≡ self.old.passes.items ++ setting_of board.now draft.now ∷ []) }
     {
         law::passes_kept();
         let _rules = board.raw();
-        let number = self.passes.len();
-        self.passes.push(draft.setting(alloc, board, useful)?)?;
-        note_pass(
-            alloc,
-            &mut self.rows,
-            &mut self.marks,
-            &self.likes,
-            board,
-            classes,
-            &self.passes,
-            number,
-        )?;
+        let pass = draft.setting(alloc, board, useful)?;
+        let row = shown_by(alloc, board, classes, &self.likes, &pass)?;
+        take_shown(&mut self.left, &row, a);
+        self.passes.push(pass)?;
+        self.rows.push(row)?;
         Ok(())
     }
 
-    /// One more pass for the two nets, where they are paired and no pass so far shows both.
+    /// One more pass for the two nets, which no pass so far shows together, where they are paired.
     fn add_for_nets(
         &mut self,
         alloc: Global,
@@ -173,18 +207,17 @@ impl Pairing {
         requires first { a < length board.now.nets }
         requires second { b < length board.now.nets }
         requires pairing { ArePairing board.now self.old }
-        requires few { length self.old.passes.items < 2 ^ 32 }
+        requires left { AreLeft board.now self.old.passes.items a self.old.left }
+        requires unshown { are_shown self.old.passes.items (drivers_at board.now a) (drivers_at board.now b) ≡ false }
         ensures pairing { OnOk result (ArePairing board.now self.new) }
+        ensures left { OnOk result (AreLeft board.now self.new.passes.items a self.new.left) }
         ensures added { OnOk result (self.new.passes.items ≡ add_for_nets board.now useful.now self.old.passes.items (drivers_at board.now a, drivers_at board.now b)) }
     {
-        if are_shown(&self.rows, board, &self.passes, a, b) {
-            return Ok(());
-        }
         let drivers = drivers_of(board, classes, a);
         let others = drivers_of(board, classes, b);
         if let Some(pair) = first_pair(board, classes, drivers, others) {
             let draft = pair_pass(alloc, board, classes, useful, pair)?;
-            self.push(alloc, board, classes, useful, &draft)?;
+            self.push(alloc, board, classes, useful, a, &draft)?;
         }
         Ok(())
     }
@@ -204,24 +237,11 @@ impl Pairing {
         if drivers_of(board, classes, a).is_empty() {
             return true;
         }
-        self.rows[a].as_slice().len() == self.passes.len()
+        all_show(&self.rows, a)
     }
 
-    /// The first net, from this one on, of which the marks don't say that a pass shows it and net
-    /// `a`; the number of nets, where there is none.
-    fn next_unshown(&self, board: &Board, a: usize, from: usize) -> usize
-        requires first { a < length board.now.nets }
-        requires second { from ≤ length board.now.nets }
-        requires pairing { ArePairing board.now self.now }
-        ensures least { from ≤ result }
-        ensures most { result ≤ length board.now.nets }
-        ensures done { (n : ℕ) → from ≤ n → n < result → IsDone board.now self.now.passes.items a n }
-    {
-        next_apart(&self.marks, self.marks[a], from)
-    }
-
-    /// Goes from this net on to the next one that may not be shown together with net `a`, and adds
-    /// a pass for the two where it is wanted. Gives the net to go on with.
+    /// Goes from this net on to the next one that is paired with net `a` and that no pass shows
+    /// together with it, and adds a pass for the two. Gives the net to go on with.
     fn add_for_next(
         &mut self,
         alloc: Global,
@@ -236,9 +256,11 @@ impl Pairing {
         requires cells { All (IsCell board.now) useful.now }
         requires first { a < length board.now.nets }
         requires second { from < length board.now.nets }
+        requires later { a < from }
         requires pairing { ArePairing board.now self.old }
-        requires few { length self.old.passes.items < 2 ^ 32 }
+        requires left { AreLeft board.now self.old.passes.items a self.old.left }
         ensures pairing { OnOk result (ArePairing board.now self.new) }
+        ensures left { OnOk result (AreLeft board.now self.new.passes.items a self.new.left) }
         ensures further { IfOk result (λ b. from < b) }
         ensures within { IfOk result (λ b. b ≤ length board.now.nets) }
         ensures added { IfOk result (λ b. fold (add_for_nets board.now useful.now) self.new.passes.items (pairs_from board.now a b) ≡ fold (add_for_nets board.now useful.now) self.old.passes.items (pairs_from board.now a from)) }
@@ -246,12 +268,13 @@ impl Pairing {
         ensures done { IfOk result (λ b. (n : ℕ) → from ≤ n → n < b → IsDone board.now self.new.passes.items a n) }
         ensures few { IfOk result (λ b. length self.new.passes.items + from ≤ length self.old.passes.items + b) }
     {
-        let b = self.next_unshown(board, a, from);
-        if b < self.marks.len() {
-            self.add_for_nets(alloc, board, classes, useful, a, b)?;
-            Ok(b + 1)
-        } else {
-            Ok(b)
+        pairs_have_drivers();
+        match next_wanted(&self.left, board, classes, a, from) {
+            None => Ok(board.raw().nets.as_slice().len()),
+            Some(b) => {
+                self.add_for_nets(alloc, board, classes, useful, a, b)?;
+                Ok(b + 1)
+            }
         }
     }
 
@@ -280,8 +303,9 @@ impl Pairing {
         if self.is_done(board, classes, a) {
             return Ok(());
         }
+        leave_unshown(&mut self.left, &self.rows, a);
         let mut b = a + 1;
-        while b < self.marks.len() {
+        while b < board.raw().nets.as_slice().len() {
             b = self.add_for_next(alloc, board, classes, useful, a, b)?;
         }
         Ok(())

@@ -1,57 +1,18 @@
-// Which passes show each net: they enable a tested driver of it, and so observe it.
-ghost use Rattle.std.specs.Prelude.{◌≡◌, ◌<◌, ◌≤◌, ◌+◌, ◌++◌, ◌∷◌, ◌^◌, ℕ, [], cond, false, length, replicate, slice_index_or, take, IfOk, OnOk};
-ghost use Rattle.board_defs.specs.Passes.{are_shown, shows};
+// Which nets each pass shows: it enables a tested driver of them, and so observes them.
+ghost use Rattle.std.specs.Prelude.{◌≡◌, ◌<◌, ◌≤◌, ◌/◌, ◌&&◌, ℕ, false, not, length, take, All, IfOk, OnOk};
+ghost use Rattle.std.specs.List.{list_all, list_any};
+ghost use Rattle.board_defs.specs.Passes.{shows};
 ghost use Rattle.net_classes.specs.Kept.{AreClasses};
-ghost use Rattle.driver_passes.specs.Alike.{AreAlike, AreShownBy};
-ghost use Rattle.driver_passes.specs.Pairs.{AreMarks, AreShown};
+ghost use Rattle.driver_passes.specs.Alike.{AreAlike};
+ghost use Rattle.driver_passes.specs.NetSets.{has_net};
+ghost use Rattle.driver_passes.specs.Pairs.{AreShownBy, AreRows, shows_both};
 ghost use Rattle.driver_passes.specs.Progress.{drivers_at};
 
-use crate::draft::is_set;
 use crate::drivers::{drivers_of, is_enabled};
-use crate::marks::with_pass;
+use crate::net_set::NetSet;
 use board_defs::{Board, Drive, Setting};
-use net_classes::{Classes, meet};
+use net_classes::Classes;
 use std::alloc::{AllocError, Global};
-use std::marker::Model;
-
-/// Numbers of passes, seen as the list of them.
-#[derive(Debug, Drop)]
-pub struct PassNumbers {
-    numbers: Vec<u32>,
-}
-
-impl Model for PassNumbers {
-    ghost use Rattle.std.specs.Prelude.{List, ℕ};
-
-    ghost Value = { List ℕ };
-
-    ghost view = { λ a. a.numbers.items };
-}
-
-impl PassNumbers {
-    fn new(alloc: Global) -> PassNumbers
-        ensures { result ≡ [] }
-    {
-        PassNumbers {
-            numbers: Vec::new(alloc),
-        }
-    }
-
-    fn push_if(&mut self, number: u32, passes: bool) -> Result<(), AllocError>
-        ensures { OnOk result (self.new ≡ self.old ++ cond passes (number ∷ []) []) }
-    {
-        if passes {
-            self.numbers.push(number)?;
-        }
-        Ok(())
-    }
-
-    pub fn as_slice(&self) -> &[u32]
-        ensures { result.now ≡ self.now }
-    {
-        &self.numbers
-    }
-}
 
 fn shows(drivers: &[Drive], pass: &Setting) -> bool
     ensures { result ≡ shows drivers.now pass.now }
@@ -64,101 +25,101 @@ fn shows(drivers: &[Drive], pass: &Setting) -> bool
     false
 }
 
-pub fn blank_rows(alloc: Global, count: usize) -> Result<Vec<PassNumbers>, AllocError>
-    ensures { IfOk result (λ rows. rows.items ≡ replicate count []) }
-{
-    let mut rows = Vec::new(alloc);
-    for _row in 0..count {
-        rows.push(PassNumbers::new(alloc))?;
-    }
-    Ok(rows)
-}
-
 /// Whether the pass shows the net, where it is known of each lower net; `like` is such a net with
 /// the same tested drivers, or any other.
 fn shows_net(
     board: &Board,
     classes: &Classes,
     pass: &Setting,
-    flags: &[bool],
+    row: &NetSet,
     like: usize,
     net: usize,
 ) -> bool
     requires classes { AreClasses board.now classes.now }
-    requires flags { (n : ℕ) → n < net → slice_index_or flags.now n false ≡ shows (drivers_at board.now n) pass.now }
+    requires row { (n : ℕ) → n < net → has_net row.now n ≡ shows (drivers_at board.now n) pass.now }
     requires alike { drivers_at board.now like ≡ drivers_at board.now net }
     requires net { net < length board.now.nets }
     ensures { result ≡ shows (drivers_at board.now net) pass.now }
 {
     if like < net {
-        is_set(flags, like)
+        row.has(like)
     } else {
         shows(drivers_of(board, classes, net), pass)
     }
 }
 
-/// For each net, whether the pass shows it.
-fn shown_by(
+/// The nets that the pass shows.
+pub fn shown_by(
     alloc: Global,
     board: &Board,
     classes: &Classes,
     likes: &[u32],
     pass: &Setting,
-) -> Result<Vec<bool>, AllocError>
+) -> Result<NetSet, AllocError>
     requires classes { AreClasses board.now classes.now }
     requires likes { AreAlike board.now likes.now }
-    ensures { IfOk result (λ flags. AreShownBy board.now pass.now flags.items) }
+    ensures { IfOk result (λ row. AreShownBy board.now pass.now row) }
 {
-    let mut flags = Vec::new(alloc);
+    let mut row = NetSet::new(alloc, likes.len())?;
     for (net, like) in likes.iter().enumerate() {
-        let shown = shows_net(board, classes, pass, &flags, *like as usize, net);
-        flags.push(shown)?;
+        let shown = shows_net(board, classes, pass, &row, *like as usize, net);
+        row.insert_if(net, shown);
     }
-    Ok(flags)
+    Ok(row)
 }
 
-/// Adds the pass of this number to the rows and the marks of the nets that it shows.
-pub fn note_pass(
+/// The nets that each of these passes shows.
+pub fn rows_of(
     alloc: Global,
-    rows: &mut [PassNumbers],
-    marks: &mut [u64],
-    likes: &[u32],
     board: &Board,
     classes: &Classes,
+    likes: &[u32],
     passes: &[Setting],
-    number: usize,
-) -> Result<(), AllocError>
+) -> Result<Vec<NetSet>, AllocError>
     requires classes { AreClasses board.now classes.now }
-    requires number { number < length passes.now }
-    requires few { length passes.now ≤ 2 ^ 32 }
-    requires rows { AreShown board.now (take number passes.now) rows.old }
-    requires marks { AreMarks board.now (take number passes.now) marks.old }
     requires likes { AreAlike board.now likes.now }
-    ensures rows { OnOk result (AreShown board.now (take (number + 1) passes.now) rows.new) }
-    ensures marks { OnOk result (AreMarks board.now (take (number + 1) passes.now) marks.new) }
+    ensures { IfOk result (λ rows. AreRows board.now passes.now rows.items) }
 {
-    let pass = &passes[number];
-    let flags = shown_by(alloc, board, classes, likes, pass)?;
-    for net in 0..rows.len() {
-        let shown = is_set(&flags, net);
-        rows[net].push_if(number as u32, shown)?;
-        marks[net] = with_pass(marks[net], number, shown);
+    let mut rows = Vec::new(alloc);
+    for pass in passes {
+        rows.push(shown_by(alloc, board, classes, likes, pass)?)?;
     }
-    Ok(())
+    Ok(rows)
 }
 
-/// Whether one of the passes shows both nets.
-pub fn are_shown(
-    rows: &[PassNumbers],
-    board: &Board,
-    passes: &[Setting],
-    a: usize,
-    b: usize,
-) -> bool
-    requires rows { AreShown board.now passes.now rows.now }
-    requires first { a < length board.now.nets }
-    requires second { b < length board.now.nets }
-    ensures { result ≡ are_shown passes.now (drivers_at board.now a) (drivers_at board.now b) }
+/// Whether each of these passes shows the net.
+pub fn all_show(rows: &[NetSet], net: usize) -> bool
+    ensures { result ≡ list_all (λ row. has_net row net) rows.now }
 {
-    meet(rows[a].as_slice(), rows[b].as_slice())
+    for row in rows {
+        if !row.has(net) {
+            return false;
+        }
+    }
+    true
+}
+
+/// Takes out the nets from word `a / 64` on that the pass of this row shows together with net `a`.
+pub fn take_shown(left: &mut NetSet, row: &NetSet, a: usize)
+    requires size { length row.now ≡ length left.old }
+    requires first { a / 64 ≤ length left.old }
+    ensures room { length left.new ≡ length left.old }
+    ensures nets { (n : ℕ) → a / 64 ≤ n / 64 → has_net left.new n ≡ (has_net left.old n && not (shows_both a n row.now)) }
+{
+    if row.has(a) {
+        left.take_out(row, a / 64);
+    }
+}
+
+/// Makes the set, from word `a / 64` on, that of the nets which no pass shows together with net `a`.
+pub fn leave_unshown(left: &mut NetSet, rows: &[NetSet], a: usize)
+    requires sizes { All (λ row. length row ≡ length left.old) rows.now }
+    requires first { a / 64 < length left.old }
+    ensures room { length left.new ≡ length left.old }
+    ensures nets { (n : ℕ) → a / 64 ≤ n / 64 → n / 64 < length left.old → has_net left.new n ≡ not (list_any (shows_both a n) rows.now) }
+{
+    left.fill();
+    for row in rows {
+        take_shown(left, row, a);
+    }
 }

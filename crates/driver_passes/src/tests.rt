@@ -1,7 +1,7 @@
-// Flags, what a setting enables, and marks. Whole boards are tried through the top call.
+// Flags, what a setting enables, and sets of nets. Whole boards are tried through the top call.
 use crate::draft::{blank, is_set, some_taken};
 use crate::drivers::is_enabled;
-use crate::marks::{blank_marks, next_apart, with_pass};
+use crate::net_set::{NetSet, next_in};
 use board_defs::{Ctl, Drive, Setting};
 use std::test::Fail;
 
@@ -31,22 +31,32 @@ fn a_setting_enables_what_it_controls_and_what_is_always_on(rt: HostRuntime) -> 
 }
 
 #[test]
-fn a_mark_has_bits_for_the_first_64_passes(rt: HostRuntime) -> Result<(), Fail> {
-    let marks = blank_marks(rt.alloc(), 2)?;
-    assert_eq!(rt; marks[1], 0);
-    assert_eq!(rt; with_pass(1, 2, true), 5);
-    assert_eq!(rt; with_pass(1, 2, false), 1);
-    assert_eq!(rt; with_pass(1, 63, true), 0x8000_0000_0000_0001);
-    assert_eq!(rt; with_pass(1, 64, true), 1);
+fn a_set_has_what_was_added_and_not_taken_out(rt: HostRuntime) -> Result<(), Fail> {
+    let mut nets = NetSet::new(rt.alloc(), 128)?;
+    let mut others = NetSet::new(rt.alloc(), 128)?;
+    assert!(rt; !nets.has(0) && !nets.has(1000));
+    nets.insert_if(0, true);
+    nets.insert_if(1, false);
+    nets.insert_if(127, true);
+    assert!(rt; nets.has(0) && !nets.has(1) && nets.has(127) && !nets.has(63));
+    assert_eq!(rt; nets.word(0), 1);
+    assert_eq!(rt; nets.word(1), 0x8000_0000_0000_0000);
+    assert_eq!(rt; nets.word(3), 0);
+    nets.fill();
+    others.insert_if(3, true);
+    others.insert_if(66, true);
+    nets.take_out(&others, 1);
+    assert!(rt; nets.has(1) && nets.has(3) && !nets.has(66) && nets.has(67));
     Ok(())
 }
 
 #[test]
-fn the_next_net_apart_has_no_bit_in_common(rt: HostRuntime) -> Result<(), Fail> {
-    let marks = [4u64, 12, 8, 6, 0];
-    assert_eq!(rt; next_apart(&marks, 4, 0), 2);
-    assert_eq!(rt; next_apart(&marks, 4, 3), 4);
-    assert_eq!(rt; next_apart(&marks, 14, 0), 4);
-    assert_eq!(rt; next_apart(&marks[..4], 14, 0), 4);
+fn the_next_net_is_the_lowest_from_this_one_on(rt: HostRuntime) -> Result<(), Fail> {
+    assert_eq!(rt; next_in(0x9, 0), Some(0));
+    assert_eq!(rt; next_in(0x9, 1), Some(3));
+    assert_eq!(rt; next_in(0x9, 4), None);
+    assert_eq!(rt; next_in(0x8000_0000_0000_0009, 129), Some(131));
+    assert_eq!(rt; next_in(0x8000_0000_0000_0009, 132), Some(191));
+    assert_eq!(rt; next_in(0, 64), None);
     Ok(())
 }

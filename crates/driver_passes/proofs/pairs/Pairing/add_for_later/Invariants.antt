@@ -1,11 +1,13 @@
-use Rattle.std.proofs.Common.{◌≡◌, ◌+◌, ◌-◌, ◌≤◌, length, fold}
+use Rattle.std.proofs.Common.{◌≡◌, ◌+◌, ◌-◌, ◌≤◌, ◌<◌, length, fold}
 use Rattle.board_defs.specs.Passes.{add_for_nets}
-use Rattle.driver_passes.specs.Pairs.{ArePairing, IsDoneTo, StaysDone, pairs_from}
+use Rattle.driver_passes.specs.Pairs.{AreLeft, ArePairing, IsDoneTo, StaysDone, pairs_from}
 use Rattle.driver_passes.proofs.pairs.Pairing.add_for_later.Given as goal
 
 abbrev pub invariant-loop-b : goal.invariant-loop-b
 invariant-loop-b l = record {
   pairing : ArePairing l.board l.self;
+  left : AreLeft l.board l.self.passes.items l.a l.self.left;
+  later : l.a < l.b;
   within : l.b ≤ length l.board.nets;
   kept : StaysDone l.board l.initial.self.passes.items l.self.passes.items;
   done : IsDoneTo l.board l.self.passes.items l.a l.b;

@@ -1,8 +1,9 @@
-use Rattle.std.proofs.Common.{◌≡◌, ◌∙◌, sym, length, arith}
-use Rattle.std.proofs.lemmas.Bool.{eqb-true}
+use Rattle.std.proofs.Common.{◌∙◌, ap, sym}
+use Rattle.std.specs.List.{list_all}
+use Rattle.driver_passes.specs.NetSets.{has_net}
 use Rattle.driver_passes.proofs.DoneLemmas.{all_show, none_tested}
 use Rattle.driver_passes.proofs.PairLemmas.{no_drivers}
-use Rattle.driver_passes.proofs.ShownLemmas.{row_is}
+use Rattle.driver_passes.proofs.RowLemmas.{all_rows}
 use Rattle.driver_passes.proofs.pairs.Pairing.is_done.Goals as goal
 
 pub returns-then-is_empty : goal.returns-then-is_empty
@@ -12,8 +13,6 @@ pub returns : goal.returns
 returns c = λ e b later less.
     let board = c.args.board.now in
     let passes = c.args.self.now.passes.items in
-    let row = c.as_slice.ensures ∙ row_is board passes c.args.self.now.rows.items c.args.a c.index-2.result.now c.requires.pairing.shown c.requires.first c.index-2.ensures in
-    let same = eqb-true (length c.as_slice.result.now) c.len.result e in
-    let size = c.len.ensures in
-    let all : length c.as_slice.result.now ≡ length passes = omega (arith, same, size) in
-    all_show board passes c.args.a b c.as_slice.result.now c.requires.pairing.tested row all less
+    let rows = c.args.self.now.rows.items in
+    let all = sym (all_rows board passes rows c.args.a c.requires.pairing.rows c.requires.first) ∙ ap (list_all (λ row. has_net row c.args.a)) (sym c.deref.ensures.value) ∙ sym c.all_show.ensures ∙ e in
+    all_show board passes c.args.a b c.requires.pairing.tested all less

@@ -1,10 +1,6 @@
-use Rattle.std.proofs.Common.{◌≡◌, ◌≤◌, ◌∙◌, ◌+◌, ◌++◌, ◌∷◌, [], List, ap, length, arith}
-use Rattle.std.proofs.lemmas.List.{with_items_is}
-use Rattle.std.specs.Vec.{with_items}
+use Rattle.std.proofs.Common.{◌∙◌, ◌++◌, ◌∷◌, [], List, ap}
 use Rattle.board_defs.specs.declared.board.Ctl.{Ctl}
-use Rattle.driver_passes.proofs.ProgressLemmas.{length_end}
-use Rattle.driver_passes.proofs.MarkLemmas.{marks_whole}
-use Rattle.driver_passes.proofs.ShownLemmas.{shown_whole}
+use Rattle.driver_passes.proofs.RowLemmas.{left_more, rows_more}
 use Rattle.driver_passes.proofs.UsefulLemmas.{useful_more}
 use Rattle.driver_passes.proofs.EnabledLemmas.{enabled_more}
 use Rattle.driver_passes.proofs.pairs.Pairing.push.Goals as goal
@@ -13,19 +9,19 @@ pub returns-clause-pairing : goal.returns-clause-pairing
 returns-clause-pairing c =
     let board = c.args.board.now in
     let before = c.args.self.now in
-    let setting : List Ctl = c.in_ok-setting.field-0 in
-    let size : length c.note_pass.new.rows ≡ before.rows.len = c.note_pass.auto.rows ∙ c.deref_mut.ensures.len in
-    let marks_size : length c.note_pass.new.marks ≡ before.marks.len = c.note_pass.auto.marks ∙ c.deref_mut-2.ensures.len in
-    let marks_kept = with_items_is before.marks c.note_pass.new.marks marks_size in
-    let kept = with_items_is before.rows c.note_pass.new.rows size in
+    let pass : List Ctl = c.in_ok-pass.pass in
+    let passes = c.push.new.self.items in
     let pushed = c.in_ok-push.ensures.items in
-    let number = c.len-number.ensures in
-    let longer = ap length pushed ∙ length_end before.passes.items setting in
-    let most : length c.push.new.self.items ≤ c.len-number.result + 1 = omega (arith, number, longer) in
     record {
-      shown = shown_whole board c.deref-2.result.now c.push.new.self.items c.note_pass.new.rows (with_items before.rows c.note_pass.new.rows).items (c.len-number.result + 1) c.deref-2.ensures.value most kept c.in_ok-note_pass.ensures.rows;
-      marks = marks_whole board c.deref-2.result.now c.push.new.self.items c.note_pass.new.marks (with_items before.marks c.note_pass.new.marks).items (c.len-number.result + 1) c.deref-2.ensures.value most marks_kept c.in_ok-note_pass.ensures.marks;
+      rows = rows_more board before.passes.items passes before.rows.items c.push-2.new.self.items pass c.in_ok-row.row c.requires.pairing.rows c.in_ok-row.ensures pushed c.in_ok-push-2.ensures.items;
       alike = c.requires.pairing.alike;
-      tested = enabled_more board before.passes.items c.push.new.self.items setting c.requires.pairing.tested pushed;
-      useful = useful_more board before.passes.items c.push.new.self.items c.args.draft.now.held.items (c.passes_kept.ensures board c.raw-rules.ensures.rules) c.requires.pairing.useful (pushed ∙ ap (λ (v : List Ctl). before.passes.items ++ v ∷ []) c.in_ok-setting.ensures);
+      tested = enabled_more board before.passes.items passes pass c.requires.pairing.tested pushed;
+      useful = useful_more board before.passes.items passes c.args.draft.now.held.items (c.passes_kept.ensures board c.raw-rules.ensures.rules) c.requires.pairing.useful (pushed ∙ ap (λ (v : List Ctl). before.passes.items ++ v ∷ []) c.in_ok-pass.ensures);
+      left_length = c.take_shown.ensures.room ∙ c.requires.pairing.left_length;
     }
+
+pub returns-clause-left : goal.returns-clause-left
+returns-clause-left c =
+    let before = c.args.self.now in
+    let pass : List Ctl = c.in_ok-pass.pass in
+    left_more c.args.board.now before.passes.items c.push.new.self.items pass c.in_ok-row.row before.left c.take_shown.new.left c.args.a c.requires.left c.in_ok-row.ensures c.requires.first c.in_ok-push.ensures.items c.take_shown.ensures.nets

@@ -1,0 +1,193 @@
+-- Sets of nets, bit by bit.
+use Rattle.std.proofs.Common.{◌≡◌, ◌⊎◌, inl, inr, ℕ, zero, suc, ◌+◌, ◌-◌, ◌*◌, ◌/◌, ◌%◌, ◌^◌, ◌<◌, ◌≤◌, Bool, true, false, not, ◌&&◌, ◌||◌, List, length, get_or, set, replicate, refl, sym, ◌∙◌, ap, arith, cond, min, w64}
+use Rattle.std.specs.Prelude.{◌==◌}
+use Rattle.std.specs.Int.{bit_at, bit_not, trailing_zeros}
+use Rattle.std.specs.Int.Bits.{bit_and, bit_or}
+use Rattle.std.proofs.lemmas.Bool.{cases_eq, cases_lt, eq-eqb, ne_eqb, or_left}
+use Rattle.std.proofs.lemmas.Nat.{and_le_l}
+use Rattle.std.proofs.lemmas.Nat.Bits.{bit_at-lt, bit_at-trailing_zeros, bit_at-zero, bit_at_and, bit_at_mask_below, bit_at_mask_inside, bit_at_not, bit_at_ones, bit_at_set_other, bit_at_set_same, ones_shl}
+use Rattle.std.proofs.lemmas.List.{get_or_past, get_or-set_same, get_or-set_other}
+use Rattle.net_classes.specs.Pairs.{AreBitsOf}
+use Rattle.driver_passes.specs.NetSets.{IsFirst, has_bit, has_net}
+
+-- a bit is 1 or 0 as a test says
+pub bit_is : (word i : ℕ) (t : Bool) → bit_at word i ≡ cond t 1 0 → has_bit word i ≡ t
+bit_is word i true e = ap (λ b. b == 1) e
+bit_is word i false e = ap (λ b. b == 1) e
+
+pub is_bit : (word i : ℕ) → bit_at word i ≡ cond (has_bit word i) 1 0
+is_bit word i = by_bit (bit_at word i) (bit_at-lt word i)
+  where
+    by_bit : (b : ℕ) → b < 2 → b ≡ cond (b == 1) 1 0
+    by_bit zero less = refl
+    by_bit (suc zero) less = refl
+    by_bit (suc (suc b)) less = absurd (omega arith)
+
+pub no_bit : (i : ℕ) → has_bit 0 i ≡ false
+no_bit i = ap (λ b. b == 1) (bit_at-zero i)
+
+-- the bits of one word less those of another
+pub bit_less : (a b i : ℕ) → b < 2 ^ 64 → i < 64 → has_bit (bit_and a (bit_not w64 b)) i ≡ (has_bit a i && not (has_bit b i))
+bit_less a b i fits below = ap (λ x. x == 1) (bit_at_and a (bit_not w64 b) i ∙ ap (min (bit_at a i)) (bit_at_not w64 b i fits below)) ∙ by_bits (bit_at a i) (bit_at b i) (bit_at-lt a i) (bit_at-lt b i)
+  where
+    by_bits : (x y : ℕ) → x < 2 → y < 2 → (min x (1 - y) == 1) ≡ ((x == 1) && not (y == 1))
+    by_bits zero zero less few = refl
+    by_bits zero (suc zero) less few = refl
+    by_bits zero (suc (suc y)) less few = absurd (omega arith)
+    by_bits (suc zero) zero less few = refl
+    by_bits (suc zero) (suc zero) less few = refl
+    by_bits (suc zero) (suc (suc y)) less few = absurd (omega arith)
+    by_bits (suc (suc x)) y less few = absurd (omega arith)
+
+-- a word past the end has no net
+pub none_past : (words : List ℕ) (n : ℕ) → length words ≤ n / 64 → has_net words n ≡ false
+unfolding has_net
+none_past words n past = ap (λ w. has_bit w (n % 64)) (get_or_past words (n / 64) 0 past) ∙ no_bit (n % 64)
+
+-- no bit is set
+zeros : (count i : ℕ) → get_or (replicate {A = ℕ} count 0) i 0 ≡ 0
+zeros zero i = refl
+zeros (suc count) zero = refl
+zeros (suc count) (suc i) = zeros count i
+
+pub none_blank : (words : List ℕ) (count n : ℕ) → words ≡ replicate count 0 → has_net words n ≡ false
+unfolding has_net
+none_blank words count n e = ap (λ w. has_bit w (n % 64)) (ap (λ v. get_or v (n / 64) 0) e ∙ zeros count (n / 64)) ∙ no_bit (n % 64)
+
+-- each bit is set
+pub all_ones : (words : List ℕ) (n : ℕ) → get_or words (n / 64) 0 ≡ 2 ^ 64 - 1 → has_net words n ≡ true
+unfolding has_net
+all_ones words n e = ap (λ w. has_bit w (n % 64)) e ∙ ap (λ b. b == 1) (bit_at_ones 64 (n % 64) (omega arith))
+
+-- the bits of a word are its nets
+pub word_bits : (words : List ℕ) (number word : ℕ) → word ≡ get_or words number 0 → AreBitsOf (has_net words) number word
+unfolding has_net
+word_bits words number word e i below =
+    let here : (64 * number + i) / 64 ≡ number = omega (arith, below) in
+    let place : (64 * number + i) % 64 ≡ i = omega (arith, below) in
+    let net : has_bit (get_or words ((64 * number + i) / 64) 0) ((64 * number + i) % 64) ≡ has_bit word i = ap (λ k. has_bit (get_or words k 0) ((64 * number + i) % 64)) here ∙ ap (has_bit (get_or words number 0)) place ∙ sym (ap (λ w. has_bit w i) e) in
+    is_bit word i ∙ sym (ap (λ t. cond t 1 0) net)
+
+-- each word from a place on is that of the one list less that of the other
+pub words_less : (before after others : List ℕ) (first n : ℕ) → length others ≡ length before → length after ≡ length before → ((k : ℕ) → k < length others → get_or others k 0 < 2 ^ 64) →
+    ((k : ℕ) → first ≤ k → k < length before → get_or after k 0 ≡ bit_and (get_or before k 0) (bit_not w64 (get_or others k 0))) → first ≤ n / 64 → has_net after n ≡ (has_net before n && not (has_net others n))
+unfolding has_net
+words_less before after others first n size same fit each from = by_place (cases_lt (n / 64) (length before))
+  where
+    by_place : (n / 64 < length before) ⊎ (length before ≤ n / 64) → has_net after n ≡ (has_net before n && not (has_net others n))
+    by_place (inl within) = ap (λ w. has_bit w (n % 64)) (each (n / 64) from within) ∙ bit_less (get_or before (n / 64) 0) (get_or others (n / 64) 0) (n % 64) (fit (n / 64) (omega (arith, within, size))) (omega arith)
+    by_place (inr past) = none_past after n (omega (arith, past, same)) ∙ sym (ap (λ t. t && not (has_net others n)) (none_past before n past))
+
+-- one net more
+pub net_set : (words : List ℕ) (net n : ℕ) (word : ℕ) → net / 64 < length words → word ≡ bit_or (get_or words (net / 64) 0) (1 * 2 ^ (net % 64) % 2 ^ 64) → has_net (set words (net / 64) word) n ≡ (n == net || has_net words n)
+unfolding has_net
+net_set words net n word within e = by_word (cases_eq (n / 64) (net / 64)) (cases_eq (n % 64) (net % 64))
+  where
+    place : net % 64 < 64
+    place = omega arith
+
+    other_net : (n ≡ net → ⊥) → (n == net || has_net words n) ≡ has_net words n
+    other_net differ = ap (λ t. t || has_net words n) (ne_eqb n net differ)
+
+    here : n / 64 ≡ net / 64 → get_or (set words (net / 64) word) (n / 64) 0 ≡ word
+    here same = ap (λ k. get_or (set words (net / 64) word) k 0) same ∙ get_or-set_same words (net / 64) word 0 within
+
+    by_word : (n / 64 ≡ net / 64) ⊎ (n / 64 ≡ net / 64 → ⊥) → (n % 64 ≡ net % 64) ⊎ (n % 64 ≡ net % 64 → ⊥) → has_net (set words (net / 64) word) n ≡ (n == net || has_net words n)
+    by_word (inl same) (inl bit) =
+        let one : n ≡ net = omega (arith, same, bit) in
+        ap (λ w. has_bit w (n % 64)) (here same ∙ e) ∙ ap (has_bit (bit_or (get_or words (net / 64) 0) (1 * 2 ^ (net % 64) % 2 ^ 64))) bit ∙ ap (λ b. b == 1) (bit_at_set_same w64 (get_or words (net / 64) 0) (net % 64) place) ∙ sym (or_left (n == net) (has_net words n) (eq-eqb n net one))
+    by_word (inl same) (inr bit) =
+        ap (λ w. has_bit w (n % 64)) (here same ∙ e) ∙ ap (λ b. b == 1) (bit_at_set_other w64 (get_or words (net / 64) 0) (net % 64) place (n % 64) bit) ∙ sym (ap (λ k. has_bit (get_or words k 0) (n % 64)) same) ∙ sym (other_net (λ one. bit (ap (λ k. k % 64) one)))
+    by_word (inr word_differs) bit =
+        ap (λ w. has_bit w (n % 64)) (get_or-set_other words (net / 64) (n / 64) word 0 word_differs) ∙ sym (other_net (λ one. word_differs (ap (λ k. k / 64) one)))
+
+-- the bits of a word from a place on
+high_bit : (word place i : ℕ) → place < 64 → place ≤ i → i < 64 → bit_at (bit_and word ((2 ^ 64 - 1) * 2 ^ place % 2 ^ 64)) i ≡ bit_at word i
+high_bit word place i below from within =
+    let mask : bit_at ((2 ^ 64 - 1) * 2 ^ place % 2 ^ 64) i ≡ 1 = ap (λ m. bit_at m i) (ones_shl 64 place (omega (arith, below))) ∙ bit_at_mask_inside place 64 i from within in
+    let few : bit_at word i < 2 = bit_at-lt word i in
+    let one : min (bit_at word i) 1 ≡ bit_at word i = omega (arith, few) in
+    bit_at_and word ((2 ^ 64 - 1) * 2 ^ place % 2 ^ 64) i ∙ ap (min (bit_at word i)) mask ∙ one
+
+low_bit : (word place i : ℕ) → place < 64 → i < place → bit_at (bit_and word ((2 ^ 64 - 1) * 2 ^ place % 2 ^ 64)) i ≡ 0
+low_bit word place i below less =
+    let mask : bit_at ((2 ^ 64 - 1) * 2 ^ place % 2 ^ 64) i ≡ 0 = ap (λ m. bit_at m i) (ones_shl 64 place (omega (arith, below))) ∙ bit_at_mask_below place 64 i less in
+    let none : min (bit_at word i) 0 ≡ 0 = omega arith in
+    bit_at_and word ((2 ^ 64 - 1) * 2 ^ place % 2 ^ 64) i ∙ ap (min (bit_at word i)) mask ∙ none
+
+abbrev pub rest_of : ℕ → ℕ → ℕ
+rest_of word place = bit_and word ((2 ^ 64 - 1) * 2 ^ place % 2 ^ 64)
+
+pub none_high : (word place : ℕ) → place < 64 → rest_of word place ≡ 0 → (i : ℕ) → place ≤ i → i < 64 → has_bit word i ≡ false
+none_high word place below e i from within = ap (λ b. b == 1) (sym (high_bit word place i below from within) ∙ ap (λ w. bit_at w i) e ∙ bit_at-zero i)
+
+pub lowest_is : (word place : ℕ) → place < 64 → word < 2 ^ 64 → (rest_of word place ≡ 0 → ⊥) → IsFirst (has_bit word) place (trailing_zeros w64 (rest_of word place)) × (trailing_zeros w64 (rest_of word place) < 64)
+lowest_is word place below fits some = (
+  record {
+    least = by_order (cases_lt low place);
+    found = ap (λ b. b == 1) (sym (high_bit word place low below (by_order (cases_lt low place)) bits.0) ∙ bits.1);
+    earlier = λ i from less. ap (λ b. b == 1) (sym (high_bit word place i below from (omega (arith, less, bits.0))) ∙ bits.2 i less);
+  },
+  bits.0,
+)
+  where
+    rest : ℕ
+    rest = rest_of word place
+
+    low : ℕ
+    low = trailing_zeros w64 rest
+
+    bits : (low < 64) × (bit_at rest low ≡ 1) × ((i : ℕ) → i < low → bit_at rest i ≡ 0)
+    bits = bit_at-trailing_zeros w64 rest (omega (arith, some)) (omega (arith, fits, and_le_l word ((2 ^ 64 - 1) * 2 ^ place % 2 ^ 64)))
+
+    by_order : (low < place) ⊎ (place ≤ low) → place ≤ low
+    by_order (inl less) = let zero_one : 0 ≡ 1 = sym (low_bit word place low below less) ∙ bits.1 in absurd (omega (arith, zero_one))
+    by_order (inr most) = most
+
+-- a bit of a word whose bits are the nets that pass
+passes_bit : (passes : ℕ → Bool) (number word i : ℕ) → AreBitsOf passes number word → i < 64 → passes (64 * number + i) ≡ has_bit word i
+passes_bit passes number word i are below = sym (bit_is word i (passes (64 * number + i)) (are i below))
+
+in_word : (n number : ℕ) → n / 64 ≡ number → 64 * number + n % 64 ≡ n
+in_word n number e = omega (arith, e)
+
+passes_net : (passes : ℕ → Bool) (n number word : ℕ) → AreBitsOf passes number word → n / 64 ≡ number → passes n ≡ has_bit word (n % 64)
+passes_net passes n number word are e = sym (ap passes (in_word n number e)) ∙ passes_bit passes number word (n % 64) are (omega arith)
+
+pub none_next : (passes : ℕ → Bool) (from word : ℕ) → AreBitsOf passes (from / 64) word → ((i : ℕ) → from % 64 ≤ i → i < 64 → has_bit word i ≡ false) → (n : ℕ) → from ≤ n → n < 64 * (from / 64 + 1) → passes n ≡ false
+none_next passes from word are none n least less =
+    let same : n / 64 ≡ from / 64 = omega (arith, least, less) in
+    passes_net passes n (from / 64) word are same ∙ none (n % 64) (omega (arith, least, same)) (omega arith)
+
+pub first_next : (passes : ℕ → Bool) (from word place : ℕ) → AreBitsOf passes (from / 64) word → IsFirst (has_bit word) (from % 64) place → place < 64 → IsFirst passes from (64 * (from / 64) + place)
+first_next passes from word place are first below = record {
+  least = omega (arith, first.least);
+  found = passes_bit passes (from / 64) word place are below ∙ first.found;
+  earlier = λ n least less.
+      let same : n / 64 ≡ from / 64 = omega (arith, least, less, below) in
+      passes_net passes n (from / 64) word are same ∙ first.earlier (n % 64) (omega (arith, least, same)) (omega (arith, less, same, below));
+}
+
+-- the numbers that pass both tests
+both_bits : (s t : Bool) → min (cond s 1 0) (cond t 1 0) ≡ cond (s && t) 1 0
+both_bits true true = refl
+both_bits true false = refl
+both_bits false true = refl
+both_bits false false = refl
+
+pub and_bits : (p q : ℕ → Bool) (number word other : ℕ) → AreBitsOf p number word → AreBitsOf q number other → AreBitsOf (λ n. p n && q n) number (bit_and word other)
+and_bits p q number word other are have i below =
+    bit_at_and word other i ∙ ap (λ b. min b (bit_at other i)) (are i below) ∙ ap (min (cond (p (64 * number + i)) 1 0)) (have i below) ∙ both_bits (p (64 * number + i)) (q (64 * number + i))
+
+pub no_bits : (p q : ℕ → Bool) (number word : ℕ) → word ≡ 0 → AreBitsOf p number word → AreBitsOf (λ n. p n && q n) number 0
+no_bits p q number word none are i below =
+    let unset : p (64 * number + i) ≡ false = passes_bit p number word i are below ∙ ap (λ w. has_bit w i) none ∙ no_bit i in
+    bit_at-zero i ∙ sym (ap (λ t. cond (t && q (64 * number + i)) 1 0) unset)
+
+-- none passes from one place on, and none from a later place on
+pub passed_more : (p : ℕ → Bool) (from net past : ℕ) → ((n : ℕ) → from ≤ n → n < net → p n ≡ false) → ((n : ℕ) → net ≤ n → n < past → p n ≡ false) → (n : ℕ) → from ≤ n → n < past → p n ≡ false
+passed_more p from net past earlier later n least below = by_place (cases_lt n net)
+  where
+    by_place : (n < net) ⊎ (net ≤ n) → p n ≡ false
+    by_place (inl less) = earlier n least less
+    by_place (inr most) = later n most below

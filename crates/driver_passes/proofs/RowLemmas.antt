@@ -1,0 +1,93 @@
+-- The rows of the passes: the nets that each of them shows.
+use Rattle.std.proofs.Common.{◌≡◌, ◌⊎◌, inl, inr, ℕ, zero, suc, ◌+◌, ◌/◌, ◌<◌, ◌≤◌, Bool, true, false, not, ◌&&◌, ◌||◌, List, [], ◌∷◌, ◌++◌, length, get_or, refl, sym, ◌∙◌, ap, subst, arith}
+use Rattle.std.specs.List.{list_all, list_any}
+use Rattle.std.proofs.lemmas.Bool.{cases_lt}
+use Rattle.std.proofs.lemmas.List.Folds.{list_any-append}
+use Rattle.board_defs.specs.declared.board.Ctl.{Ctl}
+use Rattle.board_defs.specs.declared.board.RawBoard.{RawBoard}
+use Rattle.board_defs.specs.Passes.{are_shown, shows}
+use Rattle.driver_passes.specs.NetSets.{has_net}
+use Rattle.driver_passes.specs.Pairs.{AreLeft, AreRows, AreShownBy, shows_both}
+use Rattle.driver_passes.specs.Progress.{drivers_at}
+use Rattle.driver_passes.proofs.ProgressLemmas.{length_end}
+
+-- one row more
+
+item_before : {X : Type 0} (xs : List X) (last d : X) (i : ℕ) → i < length xs → get_or (xs ++ last ∷ []) i d ≡ get_or xs i d
+item_before [] last d i less = absurd (omega arith)
+item_before (x ∷ xs) last d zero less = refl
+item_before (x ∷ xs) last d (suc i) less = item_before xs last d i (omega arith)
+
+item_last : {X : Type 0} (xs : List X) (last d : X) (i : ℕ) → i ≡ length xs → get_or (xs ++ last ∷ []) i d ≡ last
+item_last [] last d zero e = refl
+item_last [] last d (suc i) e = absurd (omega (arith, e))
+item_last (x ∷ xs) last d zero e = absurd (omega (arith, e))
+item_last (x ∷ xs) last d (suc i) e = item_last xs last d i (omega (arith, e))
+
+pub rows_more : (board : RawBoard) (passes after : List (List Ctl)) (rows rows_after : List (List ℕ)) (pass : List Ctl) (row : List ℕ) → AreRows board passes rows → AreShownBy board pass row → after ≡ passes ++ pass ∷ [] → rows_after ≡ rows ++ row ∷ [] → AreRows board after rows_after
+rows_more board passes after rows rows_after pass row are shown e f =
+    let P : List (List Ctl) → Type 0 = λ v. AreRows board v rows_after in
+    let Q : List (List ℕ) → Type 0 = λ v. AreRows board (passes ++ pass ∷ []) v in
+    subst P (sym e) (subst Q (sym f) whole)
+  where
+    size : length (rows ++ row ∷ []) ≡ length (passes ++ pass ∷ [])
+    size = omega (arith, length_end rows row, length_end passes pass, are.rows_length)
+
+    by_place : (x : ℕ) → x < length (passes ++ pass ∷ []) → (x < length passes) ⊎ (length passes ≤ x) → AreShownBy board (get_or (passes ++ pass ∷ []) x []) (get_or (rows ++ row ∷ []) x [])
+    by_place x less (inl earlier) =
+        let P : List Ctl → Type 0 = λ v. AreShownBy board v (get_or (rows ++ row ∷ []) x []) in
+        let Q : List ℕ → Type 0 = λ v. AreShownBy board (get_or passes x []) v in
+        subst P (sym (item_before passes pass [] x earlier)) (subst Q (sym (item_before rows row [] x (omega (arith, earlier, are.rows_length)))) (are.rows_are x earlier))
+    by_place x less (inr most) =
+        let here : x ≡ length passes = omega (arith, less, most, length_end passes pass) in
+        let P : List Ctl → Type 0 = λ v. AreShownBy board v (get_or (rows ++ row ∷ []) x []) in
+        let Q : List ℕ → Type 0 = λ v. AreShownBy board pass v in
+        subst P (sym (item_last passes pass [] x here)) (subst Q (sym (item_last rows row [] x (omega (arith, here, are.rows_length)))) shown)
+
+    whole : AreRows board (passes ++ pass ∷ []) (rows ++ row ∷ [])
+    whole = record { rows_length = size; rows_are = λ x less. by_place x less (cases_lt x (length passes)) }
+
+-- what the rows say of the passes
+
+any_same : {X Y : Type 0} (p : X → Bool) (q : Y → Bool) (xs : List X) (ys : List Y) (d : X) (e : Y) → length xs ≡ length ys → ((i : ℕ) → i < length ys → p (get_or xs i d) ≡ q (get_or ys i e)) → list_any p xs ≡ list_any q ys
+any_same p q [] [] d e size same = refl
+any_same p q [] (y ∷ ys) d e size same = absurd (omega (arith, size))
+any_same p q (x ∷ xs) [] d e size same = absurd (omega (arith, size))
+any_same p q (x ∷ xs) (y ∷ ys) d e size same = ap (λ t. t || list_any p xs) (same 0 (omega arith)) ∙ ap (λ t. q y || t) (any_same p q xs ys d e (omega (arith, size)) (λ i less. same (suc i) (omega (arith, less))))
+
+all_same : {X Y : Type 0} (p : X → Bool) (q : Y → Bool) (xs : List X) (ys : List Y) (d : X) (e : Y) → length xs ≡ length ys → ((i : ℕ) → i < length ys → p (get_or xs i d) ≡ q (get_or ys i e)) → list_all p xs ≡ list_all q ys
+all_same p q [] [] d e size same = refl
+all_same p q [] (y ∷ ys) d e size same = absurd (omega (arith, size))
+all_same p q (x ∷ xs) [] d e size same = absurd (omega (arith, size))
+all_same p q (x ∷ xs) (y ∷ ys) d e size same = ap (λ t. t && list_all p xs) (same 0 (omega arith)) ∙ ap (λ t. q y && t) (all_same p q xs ys d e (omega (arith, size)) (λ i less. same (suc i) (omega (arith, less))))
+
+both_same : (board : RawBoard) (pass : List Ctl) (row : List ℕ) (a b : ℕ) → AreShownBy board pass row → a < length board.nets → b < length board.nets → shows_both a b row ≡ (shows (drivers_at board a) pass && shows (drivers_at board b) pass)
+both_same board pass row a b are first second = ap (λ t. t && has_net row b) (are.row_are a first) ∙ ap (λ t. shows (drivers_at board a) pass && t) (are.row_are b second)
+
+pub any_rows : (board : RawBoard) (passes : List (List Ctl)) (rows : List (List ℕ)) (a b : ℕ) → AreRows board passes rows → a < length board.nets → b < length board.nets → list_any (shows_both a b) rows ≡ are_shown passes (drivers_at board a) (drivers_at board b)
+any_rows board passes rows a b are first second =
+    any_same (shows_both a b) (λ pass. shows (drivers_at board a) pass && shows (drivers_at board b) pass) rows passes [] [] are.rows_length (λ x less. both_same board (get_or passes x []) (get_or rows x []) a b (are.rows_are x less) first second)
+
+pub all_rows : (board : RawBoard) (passes : List (List Ctl)) (rows : List (List ℕ)) (a : ℕ) → AreRows board passes rows → a < length board.nets → list_all (λ row. has_net row a) rows ≡ list_all (shows (drivers_at board a)) passes
+all_rows board passes rows a are first = all_same (λ (row : List ℕ). has_net row a) (shows (drivers_at board a)) rows passes [] [] are.rows_length (λ x less. (are.rows_are x less).row_are a first)
+
+-- one pass more
+pub left_more : (board : RawBoard) (passes after : List (List Ctl)) (pass : List Ctl) (row left left_after : List ℕ) (a : ℕ) → AreLeft board passes a left → AreShownBy board pass row → a < length board.nets → after ≡ passes ++ pass ∷ [] →
+    ((n : ℕ) → a / 64 ≤ n / 64 → has_net left_after n ≡ (has_net left n && not (shows_both a n row))) → AreLeft board after a left_after
+left_more board passes after pass row left left_after a are shown first e less n from within =
+    let p : List Ctl → Bool = λ pass. shows (drivers_at board a) pass && shows (drivers_at board n) pass in
+    less n (omega (arith, from)) ∙ ap (λ t. t && not (shows_both a n row)) (are n from within) ∙ ap (λ t. not (list_any p passes) && not t) (both_same board pass row a n shown first within) ∙ not_or (list_any p passes) (p pass) ∙
+    sym (ap (λ v. not (list_any p v)) e ∙ ap not (list_any-append p passes (pass ∷ []) ∙ ap (λ t. list_any p passes || t) (or_false (p pass))))
+  where
+    not_or : (s t : Bool) → (not s && not t) ≡ not (s || t)
+    not_or true t = refl
+    not_or false t = refl
+
+    or_false : (t : Bool) → (t || false) ≡ t
+    or_false true = refl
+    or_false false = refl
+
+-- of the nets from the word of net a on, those that no row has together with it
+pub left_whole : (board : RawBoard) (passes : List (List Ctl)) (rows : List (List ℕ)) (left : List ℕ) (a size : ℕ) → AreRows board passes rows → a < length board.nets → size ≡ length board.nets / 64 + 1 →
+    ((n : ℕ) → a / 64 ≤ n / 64 → n / 64 < size → has_net left n ≡ not (list_any (shows_both a n) rows)) → AreLeft board passes a left
+left_whole board passes rows left a size are first room each n from within = each n (omega (arith, from)) (omega (arith, within, room)) ∙ ap not (any_rows board passes rows a n are first within)
