@@ -1,6 +1,8 @@
 -- What is said of single nets, pins and pairs.
-use Rattle.std.proofs.Common.{◌≡◌, ℕ, zero, suc, ◌+◌, ◌-◌, ◌<◌, ◌≤◌, Bool, true, false, not, ◌&&◌, cond, List, [], ◌∷◌, ◌++◌, length, Option, Some, None, refl, sym, ap, ◌∙◌, take, filter, get_or, length-append, arith}
-use Rattle.std.specs.Prelude.{slice_get, is_none, sum_by}
+use Rattle.std.proofs.Common.{◌≡◌, ℕ, zero, suc, ◌+◌, ◌-◌, ◌*◌, ◌/◌, ◌%◌, ◌^◌, ◌<◌, ◌≤◌, subst, Bool, true, false, not, ◌&&◌, cond, List, [], ◌∷◌, ◌++◌, length, Option, Some, None, refl, sym, ap, ◌∙◌, take, filter, get_or, length-append, arith}
+use Rattle.std.specs.Prelude.{◌==◌, slice_get, is_none, sum_by}
+use Rattle.std.specs.Int.{bit_at}
+use Rattle.std.proofs.lemmas.Nat.Bits.{bit_at_ones}
 use Rattle.std.specs.List.{flat_map, range_with_len}
 use Rattle.std.proofs.lemmas.List.{take_more}
 use Rattle.std.proofs.lemmas.List.Elements.{filter-append}
@@ -12,6 +14,7 @@ use Rattle.board_defs.specs.declared.board.NetPin.{NetPin}
 use Rattle.board_defs.specs.declared.coverage.Reason.{Reason}
 use Rattle.board_defs.specs.BoardRules.{IsBoard}
 use Rattle.board_defs.specs.Decided.{is_covered, are_paired, first_reason, reason_of}
+use Rattle.net_classes.specs.Pairs.{AreBitsOf, pair_there, pairs_with}
 use Rattle.net_classes.specs.declared.pair_keys.PairKey.{PairKey}
 use Rattle.net_classes.specs.declared.pair_keys.PairKey.TheVariants.{Uncovered, Free, Held, Unclear}
 use Rattle.net_classes.specs.PairKeys.{ArePairKeys, is_free_key, shows_paired, is_covered as key_covered}
@@ -90,19 +93,19 @@ free_not board m low high at free = by (is_covered board high) refl
     by false e = ap (λ t. t && not (are_paired board low high)) e
 
 -- texts of which each is empty
-texts_empty : (f : ℕ → List ℕ) (n count : ℕ) → ((i : ℕ) → n ≤ i → f i ≡ []) → texts_from f n count ≡ []
-texts_empty f n count each = by (count - n) n each
+texts_empty : (f : ℕ → List ℕ) (n count : ℕ) → ((i : ℕ) → n ≤ i → i < count → f i ≡ []) → texts_from f n count ≡ []
+texts_empty f n count each = by (count - n) n (λ i past below. each i past (omega (arith, past, below)))
   where
-    by : (k n : ℕ) → ((i : ℕ) → n ≤ i → f i ≡ []) → flat_map f (range_with_len n k) ≡ []
+    by : (k n : ℕ) → ((i : ℕ) → n ≤ i → i < n + k → f i ≡ []) → flat_map f (range_with_len n k) ≡ []
     by zero n each = refl
-    by (suc k) n each = ap (λ t. t ++ flat_map f (range_with_len (n + 1) k)) (each n (omega arith)) ∙ by k (n + 1) (λ i past. each i (omega arith))
+    by (suc k) n each = ap (λ t. t ++ flat_map f (range_with_len (n + 1) k)) (each n (omega arith) (omega arith)) ∙ by k (n + 1) (λ i past below. each i (omega arith) (omega (arith, below)))
 
 pub not_covered : (board : RawBoard) (n : ℕ) (net : Net) → is_covered board net ≡ false → net_pairs board n net ≡ []
 not_covered board n net e = ap (λ t. cond t (texts_from (pair_at board net) (n + 1) (length board.nets)) []) e
 
 pub free_pairs_none : (board : RawBoard) (n : ℕ) (net : Net) → IsFree board net → net_pairs board n net ≡ []
 free_pairs_none board n net free =
-    ap (λ t. cond (is_covered board net) t []) (texts_empty (pair_at board net) (n + 1) (length board.nets) (λ i past. by i (slice_get board.nets i) refl)) ∙ same (is_covered board net) []
+    ap (λ t. cond (is_covered board net) t []) (texts_empty (pair_at board net) (n + 1) (length board.nets) (λ i past below. by i (slice_get board.nets i) refl)) ∙ same (is_covered board net) []
   where
     by : (i : ℕ) (o : Option Net) → slice_get board.nets i ≡ o → of_item (pair_text board net) o ≡ []
     by i None e = refl
@@ -111,6 +114,43 @@ free_pairs_none board n net free =
     same : (t : Bool) (none : List ℕ) → cond t none none ≡ none
     same true none = refl
     same false none = refl
+
+-- the bit of a net says whether it is paired
+pub bit_says : (board : RawBoard) (low high word : ℕ) (one two : Net) → AreBitsOf (pairs_with board low) (high / 64) word → slice_get board.nets low ≡ Some one → slice_get board.nets high ≡ Some two → (bit_at word (high % 64) == 1) ≡ are_paired board one two
+bit_says board low high word one two are at at' =
+    let here : 64 * (high / 64) + high % 64 ≡ high = omega arith in
+    ap (λ b. b == 1) (are (high % 64) (omega arith)) ∙ by_bit (pairs_with board low (64 * (high / 64) + high % 64)) ∙ ap (pairs_with board low) here ∙ ap (λ o. pair_there board o (slice_get board.nets high)) at ∙ ap (pair_there board (Some one)) at'
+  where
+    by_bit : (t : Bool) → (cond t 1 0 == 1) ≡ t
+    by_bit true = refl
+    by_bit false = refl
+
+-- a net whose bit is set is not listed
+pub paired_bit : (board : RawBoard) (low high word : ℕ) (one two : Net) (t : Bool) → AreBitsOf (pairs_with board low) (high / 64) word → slice_get board.nets low ≡ Some one → slice_get board.nets high ≡ Some two → t ≡ (bit_at word (high % 64) == 1) → t ≡ true → false ≡ is_unpaired board one two
+paired_bit board low high word one two t are at at' e h = sym (paired_not board one two (sym (bit_says board low high word one two are at at') ∙ sym e ∙ h))
+
+-- another one is, where it is covered
+pub parted_bit : (board : RawBoard) (low high word : ℕ) (one two : Net) (t covered : Bool) → AreBitsOf (pairs_with board low) (high / 64) word → slice_get board.nets low ≡ Some one → slice_get board.nets high ≡ Some two → t ≡ (bit_at word (high % 64) == 1) → t ≡ false → covered ≡ is_covered board two → covered ≡ is_unpaired board one two
+parted_bit board low high word one two t covered are at at' e h is =
+    is ∙ and_true (is_covered board two) ∙ ap (λ s. is_covered board two && not s) (sym h ∙ e ∙ bit_says board low high word one two are at at')
+  where
+    and_true : (s : Bool) → s ≡ (s && true)
+    and_true true = refl
+    and_true false = refl
+
+-- a word with each bit set
+pub full_word : (board : RawBoard) (low from end word : ℕ) (one : Net) → AreBitsOf (pairs_with board low) (from / 64) word → word ≡ 2 ^ 64 - 1 → end ≤ 64 * (from / 64 + 1) → slice_get board.nets low ≡ Some one → texts_from (pair_at board one) from end ≡ []
+full_word board low from end word one are full most at = texts_empty (pair_at board one) from end (λ n past below. by_net n past below (slice_get board.nets n) refl)
+  where
+    set : (n : ℕ) → (bit_at word (n % 64) == 1) ≡ true
+    set n = ap (λ w. bit_at w (n % 64) == 1) full ∙ ap (λ b. b == 1) (bit_at_ones 64 (n % 64) (omega arith))
+
+    by_net : (n : ℕ) → from ≤ n → n < end → (o : Option Net) → slice_get board.nets n ≡ o → of_item (pair_text board one) o ≡ []
+    by_net n past below None e = refl
+    by_net n past below (Some other) e =
+        let same : from / 64 ≡ n / 64 = omega (arith, past, below, most) in
+        let P : ℕ → Type 0 = λ k. AreBitsOf (pairs_with board low) k word in
+        ap (λ t. cond t (pair_line one other) []) (paired_not board one other (sym (bit_says board low n word one other (subst P same are) at e) ∙ set n))
 
 -- the texts of a net, a pin and a pair are those of their numbers
 pub is_true : (b : Bool) → not b ≡ false → b ≡ true

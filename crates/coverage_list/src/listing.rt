@@ -1,11 +1,13 @@
 // The coverage list, net by net.
-ghost use Rattle.std.specs.Prelude.{◌≡◌, ◌<◌, ◌≤◌, ◌+◌, [], length, not, Some, true, false, slice_get};
+ghost use Rattle.std.specs.Prelude.{◌≡◌, ◌<◌, ◌≤◌, ◌+◌, ◌*◌, ◌/◌, ◌==◌, [], length, Some, true, false, slice_get};
+ghost use Rattle.std.specs.Int.{bit_at};
 ghost use Rattle.bt_base.specs.Puts.{Puts};
 ghost use Rattle.line_printer.specs.Prints.{Prints};
 ghost use Rattle.board_defs.specs.Pins.{IsOnBoard};
-ghost use Rattle.board_defs.specs.Decided.{are_paired, is_covered};
+ghost use Rattle.board_defs.specs.Decided.{is_covered};
 ghost use Rattle.net_classes.specs.Kept.{AreClasses, OfNet};
 ghost use Rattle.net_classes.specs.PairKeys.{ArePairKeys};
+ghost use Rattle.net_classes.specs.Pairs.{AreBitsOf, pairs_with};
 ghost use Rattle.coverage_list.specs.CoverText.{cover_text, covered, count_line, is_untested};
 ghost use Rattle.coverage_list.specs.CoverForms.{is_unpaired, net_pairs, net_pins, pair_at, pairs_at, pins_at, place_text, reason_at, texts_from};
 
@@ -232,69 +234,78 @@ fn key_at(board: &Board, keys: &[PairKey], n: u32) -> PairKey
     keys[n as usize]
 }
 
-// Whether two covered nets are not paired. The drivers are looked at only where the keys of the
-// nets leave it open.
-fn are_parted(board: &Board, classes: &Classes, keys: &[PairKey], low: u32, high: u32) -> bool
-    requires classes { AreClasses board.now classes.now }
-    requires keys { ArePairKeys board.now keys.now }
-    requires first { low < length board.now.nets }
-    requires second { high < length board.now.nets }
-    requires later { low < high }
-    requires low_covered { OfNet board.now low (λ net. is_covered board.now net ≡ true) }
-    requires high_covered { OfNet board.now high (λ net. is_covered board.now net ≡ true) }
-    ensures { OfNet board.now low (λ one. OfNet board.now high (λ two. result ≡ not (are_paired board.now one two))) }
+// Whether a bit of the word is set.
+fn has_bit(word: u64, place: u32) -> bool
+    requires { place < 64 }
+    ensures { result ≡ (bit_at word place == 1) }
 {
-    let shown = key_at(board, keys, low).shows_paired(key_at(board, keys, high));
-    if shown {
-        false
-    } else {
-        !classes.paired(board, low, high)
-    }
+    word >> place & 1 == 1
 }
 
-// Whether two nets, of which the first is covered, are covered and not paired.
-fn is_unpaired(board: &Board, classes: &Classes, keys: &[PairKey], low: u32, high: u32) -> bool
+// Whether a net is covered and not paired with net `low`, by the word that says which nets are.
+fn is_unpaired(board: &Board, classes: &Classes, paired: u64, low: u32, high: u32) -> bool
     requires classes { AreClasses board.now classes.now }
-    requires keys { ArePairKeys board.now keys.now }
-    requires first { low < length board.now.nets }
     requires second { high < length board.now.nets }
-    requires covered { OfNet board.now low (λ net. is_covered board.now net ≡ true) }
-    requires later { low < high }
+    requires paired { AreBitsOf (pairs_with board.now low) (high / 64) paired }
     ensures { OfNet board.now low (λ one. OfNet board.now high (λ two. result ≡ is_unpaired board.now one two)) }
 {
-    if key_at(board, keys, high).is_covered() {
-        are_parted(board, classes, keys, low, high)
-    } else {
+    if has_bit(paired, high % 64) {
         false
+    } else {
+        is_covered(board, classes, high)
     }
 }
 
-// Puts two nets, of which the first is covered, where they are covered and not paired.
+// Puts two nets, where the second is covered and not paired with the first.
 fn put_pair_at<K: Sink>(
     board: &Board,
     classes: &Classes,
-    keys: &[PairKey],
+    paired: u64,
     low: u32,
     high: u32,
     line: &mut Line,
     out: &mut K,
 ) -> Result<(), PutFault>
     requires classes { AreClasses board.now classes.now }
-    requires keys { ArePairKeys board.now keys.now }
     requires first { low < length board.now.nets }
     requires second { high < length board.now.nets }
-    requires covered { OfNet board.now low (λ net. is_covered board.now net ≡ true) }
-    requires later { low < high }
+    requires paired { AreBitsOf (pairs_with board.now low) (high / 64) paired }
     ensures { OfNet board.now low (λ net. Prints (K.shown out.old) (K.shown out.new) [] [] (pair_at board.now net high) result) }
 {
-    if is_unpaired(board, classes, keys, low, high) {
+    if is_unpaired(board, classes, paired, low, high) {
         put_pair(net_at(board, low), net_at(board, high), line, out)
     } else {
         Ok(())
     }
 }
 
-// Puts the pairs of a covered net and a later one that are not paired.
+// Puts the pairs of a net and of those from net `from` to net `end`, whose bits stand in one word.
+fn put_word<K: Sink>(
+    board: &Board,
+    classes: &Classes,
+    low: u32,
+    from: u32,
+    end: u32,
+    line: &mut Line,
+    out: &mut K,
+) -> Result<(), PutFault>
+    requires classes { AreClasses board.now classes.now }
+    requires net { low < length board.now.nets }
+    requires within { end ≤ length board.now.nets }
+    requires word { end ≤ 64 * (from / 64 + 1) }
+    ensures { OfNet board.now low (λ net. Prints (K.shown out.old) (K.shown out.new) [] [] (texts_from (pair_at board.now net) from end) result) }
+{
+    let paired = classes.paired_word(board, low, from / 64);
+    if paired == u64::MAX {
+        return Ok(());
+    }
+    for high in from..end {
+        put_pair_at(board, classes, paired, low, high, line, out)?;
+    }
+    Ok(())
+}
+
+// Puts the pairs of a net and a later one that are not paired, where the later one is covered.
 fn put_later<K: Sink>(
     board: &Board,
     classes: &Classes,
@@ -306,12 +317,14 @@ fn put_later<K: Sink>(
     requires classes { AreClasses board.now classes.now }
     requires count { count ≡ length board.now.nets }
     requires net { low < count }
-    requires covered { OfNet board.now low (λ net. is_covered board.now net ≡ true) }
     ensures { OfNet board.now low (λ net. Prints (K.shown out.old) (K.shown out.new) [] [] (texts_from (pair_at board.now net) (low + 1) count) result) }
 {
-    let keys = classes.pair_keys(board);
-    for high in low + 1..count {
-        put_pair_at(board, classes, keys, low, high, line, out)?;
+    let _rules = board.raw();
+    let mut from = low + 1;
+    while from < count {
+        let end = count.min(64 * (from / 64 + 1));
+        put_word(board, classes, low, from, end, line, out)?;
+        from = end;
     }
     Ok(())
 }

@@ -1,22 +1,22 @@
 use Rattle.std.proofs.Common.{◌+◌, arith}
 use Rattle.coverage_list.specs.CoverForms.{pair_at, texts_from}
-use Rattle.coverage_list.proofs.PutLemmas.{each_start, each_ok, each_err, each_end}
+use Rattle.coverage_list.proofs.PutLemmas.{each_start, some_ok, some_err, each_end}
 use Rattle.coverage_list.proofs.listing.put_later.Goals as goal
 
-pub loop-high-init : goal.loop-high-init
-loop-high-init g c net e = each_start _ _
+pub loop-from-init : goal.loop-from-init
+loop-from-init g c net e = each_start _ _
 
-pub returns-in_err-put_pair_at : goal.returns-in_err-put_pair_at
-returns-in_err-put_pair_at g c net e =
+pub returns-in_err-put_word : goal.returns-in_err-put_word
+returns-in_err-put_word g c net e =
     let f = pair_at c.args.board.now net in
-    each_err f c.loop-high.high c.args.count (texts_from f (c.args.low + 1) c.args.count) (c.loop-high.invariant net e) (omega arith) (c.put_pair_at.ensures net e) c.in_err-put_pair_at.was c.from_residual.ensures.0
+    some_err f c.loop-from.from c.min-end.result c.args.count (texts_from f (c.args.low + 1) c.args.count) (c.loop-from.invariant net e) (omega arith) (omega arith) (c.put_word.ensures net e) c.in_err-put_word.was c.from_residual.ensures.0
 
-pub loop-high-preserved : goal.loop-high-preserved
-loop-high-preserved g c net e =
+pub loop-from-preserved : goal.loop-from-preserved
+loop-from-preserved g c net e =
     let f = pair_at c.args.board.now net in
-    each_ok f c.loop-high.high c.args.count (texts_from f (c.args.low + 1) c.args.count) (c.loop-high.invariant net e) (omega arith) (c.put_pair_at.ensures net e) c.in_ok-put_pair_at.was
+    some_ok f c.loop-from.from c.min-end.result c.args.count (texts_from f (c.args.low + 1) c.args.count) (c.loop-from.invariant net e) (omega arith) (omega arith) (c.put_word.ensures net e) c.in_ok-put_word.was
 
 pub returns : goal.returns
 returns g c net e =
     let f = pair_at c.args.board.now net in
-    each_end f c.loop-high.high c.args.count (texts_from f (c.args.low + 1) c.args.count) (c.loop-high.invariant net e) (omega arith)
+    each_end f c.loop-from.from c.args.count (texts_from f (c.args.low + 1) c.args.count) (c.loop-from.invariant net e) (omega arith)

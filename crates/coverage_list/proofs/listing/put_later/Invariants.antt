@@ -1,4 +1,4 @@
-use Rattle.std.proofs.Common.{◌≡◌, ◌+◌, Some}
+use Rattle.std.proofs.Common.{◌≡◌, ◌+◌, ◌-◌, Some}
 use Rattle.std.specs.Prelude.{slice_get}
 use Rattle.board_defs.specs.declared.board.Net.{Net}
 use Rattle.coverage_list.specs.CoverForms.{pair_at, texts_from}
@@ -6,5 +6,8 @@ use Rattle.coverage_list.proofs.PutLemmas.{Completes}
 use Rattle.coverage_list.proofs.listing.put_later.Given as goal
 
 -- the pairs with the nets that are left complete the list
-abbrev pub invariant-loop-high : goal.invariant-loop-high
-invariant-loop-high g l = (net : Net) → slice_get l.board.nets l.low ≡ Some net → Completes (g.K.Sink.shown l.fn.out) (g.K.Sink.shown l.out) (texts_from (pair_at l.board net) l.high l.count) (texts_from (pair_at l.board net) (l.low + 1) l.count)
+abbrev pub invariant-loop-from : goal.invariant-loop-from
+invariant-loop-from g l = (net : Net) → slice_get l.board.nets l.low ≡ Some net → Completes (g.K.Sink.shown l.fn.out) (g.K.Sink.shown l.out) (texts_from (pair_at l.board net) l.from l.count) (texts_from (pair_at l.board net) (l.low + 1) l.count)
+
+abbrev pub decreases-loop-from : goal.decreases-loop-from
+decreases-loop-from g l = l.count - l.from
