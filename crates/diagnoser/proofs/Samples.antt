@@ -8,14 +8,14 @@ use Rattle.board_defs.specs.declared.fault.Single.TheVariants.{StuckNet, OpenPin
 use Rattle.diagnoser.specs.DiagText.{diag_text, fault_line}
 
 -- two nets, the first of a driver and a receiver
-board : RawBoard
+abbrev board : RawBoard
 board = record {
   chain = [];
   nets = record { name = codes "A"; pins = record { part = codes "U1"; pin = codes "7"; at = None; inert = true } ∷ record { part = codes "U2"; pin = codes "3"; at = None; inert = true } ∷ []; supply = false; pull = None }
       ∷ record { name = codes "B"; pins = []; supply = false; pull = None } ∷ [];
 }
 
-line : List ℕ → List ℕ
+abbrev line : List ℕ → List ℕ
 line text = text ++ 10 ∷ []
 
 stuck : fault_line board (StuckNet 1 true) ≡ line (codes "stuck B 1")

@@ -5,7 +5,7 @@ use Rattle.fault_sim.specs.Places.{pairs_before, place_count}
 use Rattle.fault_sim.specs.Suspects.{net_suspects, pair_suspects, suspect_count}
 
 -- two nets, each of a driver and a receiver
-two_nets : FaultLists
+abbrev two_nets : FaultLists
 two_nets = record { nets = 0 ∷ 1 ∷ []; pins = record { net = 0; place = 0 } ∷ record { net = 0; place = 1 } ∷ record { net = 1; place = 0 } ∷ record { net = 1; place = 1 } ∷ []; starts = 0 ∷ 1 ∷ 1 ∷ [] }
 
 two_nets_places : place_count two_nets ≡ 16
@@ -33,7 +33,7 @@ three_differ_count : suspect_count two_nets (0 ∷ 1 ∷ 2 ∷ []) ≡ 0
 three_differ_count = refl
 
 -- three covered nets, the second and third of which have no pin that is tested: their pairs are numbered 0 and 1, 0 and 2, 1 and 2
-three_nets : FaultLists
+abbrev three_nets : FaultLists
 three_nets = record { nets = 3 ∷ 5 ∷ 8 ∷ []; pins = record { net = 3; place = 1 } ∷ []; starts = 0 ∷ 2 ∷ 3 ∷ 3 ∷ [] }
 
 three_nets_starts : pairs_before 3 1 ≡ 2
