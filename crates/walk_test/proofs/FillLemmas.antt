@@ -565,7 +565,7 @@ no_rows (pass ∷ passes) nets none = absurd (omega (arith, none))
 
 pub some_rows : (passes : List (List Ctl)) (nets : List ℕ) → 0 < length passes → Rattle.walk_test.specs.Tables.rows_count passes nets ≡ suc (length nets)
 some_rows [] nets less = absurd (omega (arith, less))
-some_rows (pass ∷ passes) nets less = refl
+some_rows (_ ∷ passes) nets less = refl
 
 -- there are at most as many walk nets as nets
 pub nets_few : (board : RawBoard) → length (walk_nets board) ≤ length board.nets

@@ -1,11 +1,13 @@
 -- The walking test of small boards, and what sets of groups make of it.
 use Rattle.std.proofs.Common.{◌≡◌, Bool, true, false, List, [], ◌∷◌, ◌++◌, map, Some, None, refl}
-use Rattle.std.specs.Prelude.{codes}
+use Rattle.std.specs.Prelude.{codes, slice_get}
 use Rattle.std.specs.Fmt.{digits}
+use Rattle.board_defs.specs.declared.board.PartKind.TheVariants.{Described}
 use Rattle.board_defs.specs.declared.board.RawBoard.{RawBoard}
+use Rattle.board_defs.specs.Passes.{passes_of}
 use Rattle.tap_defs.specs.Text.{svf_text}
 use Rattle.tap_defs.proofs.SampleTexts.{whole}
-use Rattle.tap_defs.proofs.SampleBoards.{wires, bus, pulled_up, three_wires}
+use Rattle.tap_defs.proofs.SampleBoards.{drv, rcv, rcv1, od, pin, net, pulled, board, wires, bus, pulled_up, three_wires}
 use Rattle.walk_test.specs.declared.tables.NetCells.{NetCells}
 use Rattle.walk_test.specs.WalkTest.{switches_some, without_switching, walk_setting, walk_nets, board_walk_text}
 use Rattle.walk_test.specs.Groups.{group_of}
@@ -46,6 +48,26 @@ pulled_text : board_walk_text pulled_up ≡ whole (
 unfolding svf_text digits
 pulled_text = refl
 
+-- beside it two nets walk; their drivers are at positions 2 and 3, and what reads them at 0 and 1
+abbrev mixed : RawBoard
+mixed = board (Described od ∷ Described rcv1 ∷ Described drv ∷ Described rcv ∷ []) (
+    pulled (Some true) (pin 0 0 ∷ pin 1 0 ∷ []) ∷ net (pin 2 0 ∷ pin 3 0 ∷ []) ∷ net (pin 2 1 ∷ pin 3 1 ∷ []) ∷ [])
+
+mixed_pass : slice_get (passes_of mixed) 0 ≡ Some (record { part = 0; cell = 0 } ∷ [])
+mixed_pass = refl
+
+mixed_setting : walk_setting mixed ≡ Some []
+mixed_setting = refl
+
+mixed_nets : walk_nets mixed ≡ 1 ∷ 2 ∷ []
+mixed_nets = refl
+
+mixed_text : board_walk_text mixed ≡ whole (
+    codes "SIR 8 TDI (AA) TDO (55) MASK (FF);" ∷ codes "SDR 6 TDI (20);" ∷ codes "SIR 8 TDI (00) TDO (55) MASK (FF);"
+    ∷ codes "SDR 6 TDI (24);" ∷ codes "SDR 6 TDI (28) TDO (01) MASK (03);" ∷ codes "SDR 6 TDI (20) TDO (02) MASK (03);" ∷ [])
+unfolding svf_text digits
+mixed_text = refl
+
 -- a board without a pass has the first three scans alone
 abbrev no_nets : RawBoard
 no_nets = record wires { nets = [] }
@@ -64,14 +86,20 @@ in_groups = refl
 joined_in_groups : map (are_joined ((0 ∷ 2 ∷ []) ∷ (3 ∷ 4 ∷ 5 ∷ []) ∷ []) 2) (0 ∷ 1 ∷ 2 ∷ 3 ∷ []) ≡ true ∷ false ∷ true ∷ false ∷ []
 joined_in_groups = refl
 
--- the cells of the three nets, which stand at positions 2, 3 and 0, and three logs of them
+-- the cells of the three nets, which stand at positions 2, 3 and 0, and rows of logs of them
 abbrev cells : List NetCells
 cells = record { driver = 6; compared = 2 ∷ [] } ∷ record { driver = 7; compared = 3 ∷ [] } ∷ record { driver = 4; compared = 0 ∷ [] } ∷ []
 
-abbrev row_01 row_04 row_05 row_08 : List Bool
+abbrev row_01 : List Bool
 row_01 = true ∷ false ∷ false ∷ false ∷ false ∷ false ∷ false ∷ false ∷ []
+
+abbrev row_04 : List Bool
 row_04 = false ∷ false ∷ true ∷ false ∷ false ∷ false ∷ false ∷ false ∷ []
+
+abbrev row_05 : List Bool
 row_05 = true ∷ false ∷ true ∷ false ∷ false ∷ false ∷ false ∷ false ∷ []
+
+abbrev row_08 : List Bool
 row_08 = false ∷ false ∷ false ∷ true ∷ false ∷ false ∷ false ∷ false ∷ []
 
 -- the first and the third net read one another
