@@ -1,5 +1,5 @@
 -- The compared cells of a walk net, and what each of them captures under the Or shorts of groups.
-use Rattle.std.proofs.Common.{◌≡◌, ◌≢◌, ◌⊎◌, inl, inr, ℕ, zero, suc, ◌+◌, ◌<◌, ◌==◌, Bool, true, false, cond, not, ◌&&◌, ◌||◌, List, [], ◌∷◌, length, take, get_or, Option, Some, None, refl, sym, ◌∙◌, ap, subst, arith}
+use Rattle.std.proofs.Common.{◌≡◌, ◌≢◌, ◌⊎◌, inl, inr, ℕ, zero, suc, ◌+◌, ◌==◌, Bool, true, false, cond, not, ◌&&◌, ◌||◌, List, [], ◌∷◌, take, Option, Some, None, refl, sym, ◌∙◌, ap, subst, arith}
 use Rattle.std.specs.Prelude.{slice_get, unwrap_or, count_by, Contains}
 use Rattle.std.specs.List.{list_any, list_all}
 use Rattle.std.specs.Cmp.{both_ways as same_answer}
@@ -19,21 +19,20 @@ use Rattle.board_defs.specs.BoardRules.{IsBoard}
 use Rattle.board_defs.specs.DeviceRules.{is_on, is_receiving}
 use Rattle.board_defs.specs.Pins.{entry_at, drive, switches, guarded, is_pinned, lets_switch, is_same, is_pulled_to}
 use Rattle.board_defs.specs.Decided.{is_by}
-use Rattle.board_defs.specs.Settings.{holds, same_ctl, enables, enables_where, enables_entry, enables_by, IsSafe, SwitchesAt}
+use Rattle.board_defs.specs.Settings.{holds, enables_where, enables_entry, enables_by, IsSafe, SwitchesAt}
 use Rattle.board_defs.proofs.ControlOrder.{same_refl}
-use Rattle.board_defs.proofs.Members.{Has, has_at, has_place, has_any, contains_has, has_contains, has_filter_map, filter_map_has, any_has}
+use Rattle.board_defs.proofs.Members.{Has, has_place, has_any, contains_has, has_filter_map, filter_map_has, any_has}
 use Rattle.board_defs.proofs.Places.{any_at}
 use Rattle.tap_defs.specs.Part.{PinState}
 use Rattle.tap_defs.specs.Chain.{ChainPart, pin_states}
 use Rattle.tap_defs.specs.Run.{Choice}
 use Rattle.tap_defs.specs.Scan.{joined}
-use Rattle.tap_defs.specs.ShiftRegister.{filled}
 use Rattle.tap_defs.specs.FaultSet.{Or, FaultSet, IsFaultSet}
-use Rattle.tap_defs.specs.NetBits.{Feeding, Unruled, Undriven, Driven, Contended, live_where, feeding, fed, OfNet, combined, is_in_short, shorted_nets, is_decided, numbered, bits_fed, bits_held, first_combined, short_bit, net_bit, net_bit_by, place_of}
+use Rattle.tap_defs.specs.NetBits.{Feeding, Undriven, Driven, live_where, feeding, fed, OfNet, is_in_short, shorted_nets, numbered, bits_fed, bits_held, first_combined, short_bit, net_bit, net_bit_by}
 use Rattle.tap_defs.specs.TestRows.{TestRow, quiet_row, first_enabled, observing_driver}
 use Rattle.tap_defs.specs.BoardScans.{is_walked, walk_row}
 use Rattle.tap_defs.specs.RowCaptures.{row_states, row_captured, NoOpenShorted}
-use Rattle.tap_defs.specs.RowDriving.{is_switched_off, cell_bit, entry_feeds, at_feeds, pin_feeds, driver_feeds, row_feeding}
+use Rattle.tap_defs.specs.RowDriving.{is_switched_off, cell_bit, entry_feeds, at_feeds, pin_feeds, driver_feeds}
 use Rattle.tap_defs.proofs.ListLemmas.{cons_path}
 use Rattle.tap_defs.proofs.InTestLemmas.{InTest, shifted_row}
 use Rattle.tap_defs.proofs.LiveLemmas.{on_is}
@@ -49,7 +48,6 @@ use Rattle.tap_defs.proofs.CellPlaceLemmas.{captured_cell, captured_laid, laid a
 use Rattle.scan_planner.specs.declared.tables.ReaderCell.{ReaderCell}
 use Rattle.scan_planner.specs.Tables.{first_position, IsReaderCell}
 use Rattle.scan_planner.specs.Laid.{CellBits, part_laid, parts_laid, laid}
-use Rattle.scan_planner.proofs.LaidLemmas.{laid_at}
 use Rattle.scan_planner.proofs.PinLemmas.{Standing, standing, reading_entry_is}
 use Rattle.walk_test.specs.WalkTest.{is_switched_by, switches_some}
 use Rattle.walk_test.specs.Groups.{group_of, or_shorts}

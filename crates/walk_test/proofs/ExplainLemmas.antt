@@ -1,42 +1,38 @@
 -- A set of groups explains a log exactly where each compared cell of a walk net reads in each row whether the net that carries 1 is joined
 -- with its own.
-use Rattle.std.proofs.Common.{◌≡◌, ◌≢◌, ◌⊎◌, inl, inr, ℕ, zero, suc, ◌+◌, ◌*◌, ◌<◌, ◌≤◌, ◌==◌, Bool, true, false, cond, List, [], ◌∷◌, ◌++◌, length, take, map, get_or, Option, Some, None, is_some, refl, sym, ◌∙◌, ap, subst, arith, length-append}
+use Rattle.std.proofs.Common.{◌≡◌, ◌≢◌, ◌⊎◌, inl, inr, ℕ, zero, suc, ◌+◌, ◌*◌, ◌<◌, ◌≤◌, ◌==◌, Bool, true, false, List, [], ◌∷◌, length, take, get_or, Option, Some, None, is_some, refl, sym, ◌∙◌, ap, subst, arith}
 use Rattle.std.specs.Prelude.{◌↔◌, slice_get, count_by, All, Contains}
-use Rattle.std.specs.Option.{option_to_list}
 use Rattle.std.proofs.lemmas.Bool.{cases_eq}
-use Rattle.std.proofs.lemmas.List.{length-map}
 use Rattle.std.proofs.lemmas.Option.{slice_get_within, slice_get-get_or, get_or_from_slice_get}
-use Rattle.board_defs.specs.declared.board.Net.{Net}
 use Rattle.board_defs.specs.declared.board.RawBoard.{RawBoard}
 use Rattle.board_defs.specs.declared.board.Ctl.{Ctl}
 use Rattle.board_defs.specs.BoardRules.{IsBoard}
 use Rattle.board_defs.specs.Coverage.{IsCovered}
-use Rattle.board_defs.specs.Pins.{data_bits, guarded}
+use Rattle.board_defs.specs.Pins.{data_bits}
 use Rattle.board_defs.specs.Settings.{holds, IsSafe}
-use Rattle.board_defs.proofs.Members.{Has, has_at, has_place, has_contains, contains_has}
+use Rattle.board_defs.proofs.Members.{Has, has_at, contains_has}
 use Rattle.board_defs.proofs.Places.{all_stands}
-use Rattle.tap_defs.specs.FaultSet.{FaultSet, IsFaultSet, Or, Dominant}
+use Rattle.tap_defs.specs.FaultSet.{FaultSet, IsFaultSet}
 use Rattle.tap_defs.specs.Run.{Choice}
 use Rattle.tap_defs.specs.Scan.{ScanBit, joined, mask_bits}
-use Rattle.tap_defs.specs.TestRows.{TestRow, quiet_row, observing_driver}
-use Rattle.tap_defs.specs.BoardScans.{RowScan, row_bits, board_scans, is_walked, walk_row, walk_row_scans, row_now}
-use Rattle.tap_defs.specs.RowCaptures.{row_states, row_captured, AgreeAt, AgreeWhereCompared, NoOpenShorted}
-use Rattle.tap_defs.specs.Explaining.{is_compared, compared_scans, CompareRows, HasShape, ExplainedBy, AreInTurn, IsCapturedBy, AgreeOn}
+use Rattle.tap_defs.specs.TestRows.{TestRow, quiet_row}
+use Rattle.tap_defs.specs.BoardScans.{RowScan, row_bits, is_walked, walk_row, walk_row_scans, row_now}
+use Rattle.tap_defs.specs.RowCaptures.{row_states, row_captured, AgreeAt, AgreeWhereCompared}
+use Rattle.tap_defs.specs.Explaining.{compared_scans, CompareRows, HasShape, ExplainedBy, IsCapturedBy}
 use Rattle.tap_defs.proofs.CellPlaceLemmas.{agree_at, agree_from, captured_cell}
 use Rattle.tap_defs.proofs.LogLemmas.{rows_counted}
 use Rattle.tap_defs.proofs.PlanLemmas.{observed_by}
 use Rattle.scan_planner.specs.declared.tables.DriverCell.{DriverCell}
 use Rattle.scan_planner.specs.declared.tables.ReaderCell.{ReaderCell}
-use Rattle.scan_planner.specs.Laid.{laid}
 use Rattle.scan_planner.specs.Tables.{IsDriverCell, IsReaderCell}
 use Rattle.scan_planner.proofs.LaidLemmas.{length-laid, mask_laid}
-use Rattle.walk_test.specs.WalkTest.{walk_setting, walk_nets, scans_by, walk_row_list}
-use Rattle.walk_test.specs.Groups.{AreGroups, group_of, or_shorts, Explain}
-use Rattle.walk_test.specs.Reading.{are_joined, bit_in}
+use Rattle.walk_test.specs.WalkTest.{walk_setting, walk_nets}
+use Rattle.walk_test.specs.Groups.{AreGroups, group_of, or_shorts}
+use Rattle.walk_test.specs.Reading.{are_joined}
 use Rattle.walk_test.specs.Tables.{mask_of}
-use Rattle.walk_test.proofs.GroupLemmas.{Rises, AreOrdered, groups_ordered, all_of, GroupOf, group_found, group_is}
+use Rattle.walk_test.proofs.GroupLemmas.{Rises, AreOrdered, groups_ordered, all_of, group_found, group_is}
 use Rattle.walk_test.proofs.CellLemmas.{IsWalkSetting, WalkedBy, compared_of, captured_is, cell_is}
-use Rattle.walk_test.proofs.NetLemmas.{walk_at, WalkAt, walk_has, place_of_walk, count_is, marked_is, no_nets}
+use Rattle.walk_test.proofs.NetLemmas.{walk_has, count_is, marked_is, no_nets}
 use Rattle.walk_test.proofs.RowLemmas.{CellsOf, ComparedAt, compared_at, laid_here, mask_here}
 
 -- the walk nets are covered

@@ -1,6 +1,6 @@
 -- Which rows a walk keeps, and which it fills in.
-use Rattle.std.proofs.Common.{◌≡◌, ◌⊎◌, inl, inr, ℕ, zero, suc, ◌+◌, ◌*◌, ◌<◌, ◌≤◌, ◌==◌, ◌^◌, Bool, true, false, cond, not, List, [], ◌∷◌, ◌++◌, length, take, map, get_or, set, replicate, Option, Some, None, is_some, unwrap_or, refl, sym, ◌∙◌, ap, subst, arith}
-use Rattle.std.specs.Prelude.{slice_get, filter, count_by, nat_lt, option_map, option_and_then, Contains, All}
+use Rattle.std.proofs.Common.{◌≡◌, ◌⊎◌, inl, inr, ℕ, zero, suc, ◌+◌, ◌*◌, ◌<◌, ◌≤◌, ◌==◌, ◌^◌, Bool, true, false, cond, List, [], ◌∷◌, length, take, map, get_or, set, replicate, Option, Some, None, is_some, unwrap_or, refl, sym, ◌∙◌, ap, subst, arith}
+use Rattle.std.specs.Prelude.{slice_get, filter, count_by, nat_lt, option_map, option_and_then, All}
 use Rattle.std.specs.Option.{option_to_list}
 use Rattle.std.specs.List.{list_any, range_with_len}
 use Rattle.std.proofs.lemmas.Bool.{lt-ltb, le-ltb, eq-eqb, both_ways}
@@ -193,101 +193,101 @@ module _ (board : RawBoard) (rules : IsBoard board) (plan : PlanTables) (p : IsP
 -- the tables of a walk, from what each of them is
 module _ (board : RawBoard) (rules : IsBoard board) (plan : PlanTables) (p : IsPlanOf board plan) (passes : plan.passes ≡ option_to_list (walk_setting board)) (t : WalkTables) (is_plan : t.plan ≡ plan)
     (nets : t.nets ≡ nets_by plan (slice_get plan.passes 0) (length board.nets)) (cells : t.cells ≡ cells_of plan (slice_get plan.passes 0) t.nets) (rows_made : AreMade board plan t.cells t.rows) where
-    plan_is : IsPlanOf board t.plan
-    plan_is = subst (λ (q : PlanTables). IsPlanOf board q) (sym is_plan) p
+  plan_is : IsPlanOf board t.plan
+  plan_is = subst (λ (q : PlanTables). IsPlanOf board q) (sym is_plan) p
 
-    passes_are : t.plan.passes ≡ option_to_list (walk_setting board)
-    passes_are = ap (λ (q : PlanTables). q.passes) is_plan ∙ passes
+  passes_are : t.plan.passes ≡ option_to_list (walk_setting board)
+  passes_are = ap (λ (q : PlanTables). q.passes) is_plan ∙ passes
 
-    module _ (walk : List Ctl) (is : walk_setting board ≡ Some walk) where
-      one_pass : plan.passes ≡ walk ∷ []
-      one_pass = passes ∙ ap (λ (o : Option (List Ctl)). option_to_list o) is
+  module _ (walk : List Ctl) (is : walk_setting board ≡ Some walk) where
+    one_pass : plan.passes ≡ walk ∷ []
+    one_pass = passes ∙ ap (λ (o : Option (List Ctl)). option_to_list o) is
 
-      first_is : get_or plan.passes 0 [] ≡ walk
-      first_is = ap (λ (l : List (List Ctl)). get_or l 0 []) one_pass
+    first_is : get_or plan.passes 0 [] ≡ walk
+    first_is = ap (λ (l : List (List Ctl)). get_or l 0 []) one_pass
 
-      some : 0 < length plan.passes
-      some = omega (arith, ap (λ (l : List (List Ctl)). length l) one_pass)
+    some : 0 < length plan.passes
+    some = omega (arith, ap (λ (l : List (List Ctl)). length l) one_pass)
 
-      walk_nets_are : t.nets ≡ walk_nets board
-      walk_nets_are = nets ∙ ap (λ (l : List (List Ctl)). nets_by plan (slice_get l 0) (length board.nets)) one_pass ∙ nets_are board rules plan p walk is
+    walk_nets_are : t.nets ≡ walk_nets board
+    walk_nets_are = nets ∙ ap (λ (l : List (List Ctl)). nets_by plan (slice_get l 0) (length board.nets)) one_pass ∙ nets_are board rules plan p walk is
 
-      cells_all : t.cells ≡ map (cells_in plan walk) t.nets
-      cells_all = cells ∙ ap (λ (l : List (List Ctl)). cells_of plan (slice_get l 0) t.nets) one_pass
+    cells_all : t.cells ≡ map (cells_in plan walk) t.nets
+    cells_all = cells ∙ ap (λ (l : List (List Ctl)). cells_of plan (slice_get l 0) t.nets) one_pass
 
-      walk_cells : CellsOf board walk
-      walk_cells = cells_of_plan board plan walk p one_pass
+    walk_cells : CellsOf board walk
+    walk_cells = cells_of_plan board plan walk p one_pass
 
-      -- the net at a place, and its cells
-      at_place : (i n : ℕ) → slice_get t.nets i ≡ Some n → WalkedBy board walk n
-      at_place i n e = (walk_at board walk is i n (sym (ap (λ (l : List ℕ). slice_get l i) walk_nets_are) ∙ e)).by
+    -- the net at a place, and its cells
+    at_place : (i n : ℕ) → slice_get t.nets i ≡ Some n → WalkedBy board walk n
+    at_place i n e = (walk_at board walk is i n (sym (ap (λ (l : List ℕ). slice_get l i) walk_nets_are) ∙ e)).by
 
-      cells_there : (i n : ℕ) → slice_get t.nets i ≡ Some n → slice_get t.cells i ≡ Some (cells_in plan walk n)
-      cells_there i n e =
-          ap (λ (l : List NetCells). slice_get l i) cells_all
-          ∙ slice_get-map (cells_in plan walk) t.nets i
-          ∙ ap (λ (o : Option ℕ). option_map (cells_in plan walk) o) e
+    cells_there : (i n : ℕ) → slice_get t.nets i ≡ Some n → slice_get t.cells i ≡ Some (cells_in plan walk n)
+    cells_there i n e =
+        ap (λ (l : List NetCells). slice_get l i) cells_all
+        ∙ slice_get-map (cells_in plan walk) t.nets i
+        ∙ ap (λ (o : Option ℕ). option_map (cells_in plan walk) o) e
 
-      each : (i n : ℕ) (c : NetCells) → slice_get t.nets i ≡ Some n → slice_get t.cells i ≡ Some c → AreNetCells board walk n c
-      each i n c e f =
-          let two : Some (cells_in plan walk n) ≡ Some c = sym (cells_there i n e) ∙ f in
-          let same : cells_in plan walk n ≡ c = cc two in
-          subst (λ (x : NetCells). AreNetCells board walk n x) same (cells_are board rules plan p walk n (at_place i n e))
+    each : (i n : ℕ) (c : NetCells) → slice_get t.nets i ≡ Some n → slice_get t.cells i ≡ Some c → AreNetCells board walk n c
+    each i n c e f =
+        let two : Some (cells_in plan walk n) ≡ Some c = sym (cells_there i n e) ∙ f in
+        let same : cells_in plan walk n ≡ c = cc two in
+        subst (λ (x : NetCells). AreNetCells board walk n x) same (cells_are board rules plan p walk n (at_place i n e))
 
-      count : length t.cells ≡ length t.nets
-      count = ap (λ (l : List NetCells). length l) cells_all ∙ length-map t.nets (cells_in plan walk)
+    count : length t.cells ≡ length t.nets
+    count = ap (λ (l : List NetCells). length l) cells_all ∙ length-map t.nets (cells_in plan walk)
 
-      bits : ℕ → Bool
-      bits n = net_code_bit board plan.passes 0 n
+    bits : ℕ → Bool
+    bits n = net_code_bit board plan.passes 0 n
 
-      right : (c : NetCells) → Has t.cells c → (d : DriverCell) × IsDriverCell board walk d × (c.driver ≡ d.position)
-      right c has =
-          let at = has_place t.cells c has in
-          let within : at.0 < length t.nets = omega (arith, slice_get_within t.cells at.0 c at.1, count) in
-          let a = each at.0 (get_or t.nets at.0 0) c (slice_get-get_or t.nets at.0 0 within) at.1 in
-          (a.driver, a.is_driver, a.driver_is)
+    right : (c : NetCells) → Has t.cells c → (d : DriverCell) × IsDriverCell board walk d × (c.driver ≡ d.position)
+    right c has =
+        let at = has_place t.cells c has in
+        let within : at.0 < length t.nets = omega (arith, slice_get_within t.cells at.0 c at.1, count) in
+        let a = each at.0 (get_or t.nets at.0 0) c (slice_get-get_or t.nets at.0 0 within) at.1 in
+        (a.driver, a.is_driver, a.driver_is)
 
-      cover : (d : DriverCell) → IsDriverCell board walk d → (c : NetCells) × Has t.cells c × (c.driver ≡ d.position)
-      cover d s =
-          let place : ℕ = count_by (is_walked board walk) (take d.net board.nets) in
-          let net = ap (λ (l : List ℕ). slice_get l place) walk_nets_are ∙ place_of_walk board walk is d.net (record { net = s.net; is_net = s.is_net; driver = d.place; observing = s.observing }) in
-          let c : NetCells = cells_in plan walk d.net in
-          let a = each place d.net c net (cells_there place d.net net) in
-          (c, has_at t.cells place c (cells_there place d.net net), a.driver_is ∙ (one_driver board walk a.driver d a.is_driver s a.of_net).1)
+    cover : (d : DriverCell) → IsDriverCell board walk d → (c : NetCells) × Has t.cells c × (c.driver ≡ d.position)
+    cover d s =
+        let place : ℕ = count_by (is_walked board walk) (take d.net board.nets) in
+        let net = ap (λ (l : List ℕ). slice_get l place) walk_nets_are ∙ place_of_walk board walk is d.net (record { net = s.net; is_net = s.is_net; driver = d.place; observing = s.observing }) in
+        let c : NetCells = cells_in plan walk d.net in
+        let a = each place d.net c net (cells_there place d.net net) in
+        (c, has_at t.cells place c (cells_there place d.net net), a.driver_is ∙ (one_driver board walk a.driver d a.is_driver s a.of_net).1)
 
-      tables_are : AreWalkTables board walk t
-      tables_are = record {
-        count = count;
-        cells = each;
-        still = rows_made.still some
-            ∙ ap (λ (w : List Ctl). assigned (λ c. c.driver) (λ c. false) (tdi_of board (code_row board plan.passes w 0)) t.cells) first_is
-            ∙ cleared_row board rules walk walk_cells (λ (c : NetCells). c.driver) t.cells (λ n. net_code_bit board plan.passes 0 n) right cover;
-        mask = rows_made.mask some
-            ∙ ap (λ (w : List Ctl). mask_of board (code_row board plan.passes w 0)) first_is
-            ∙ mask_same board rules walk walk_cells (λ n. net_code_bit board plan.passes 0 n) (λ n. false);
+    tables_are : AreWalkTables board walk t
+    tables_are = record {
+      count = count;
+      cells = each;
+      still = rows_made.still some
+          ∙ ap (λ (w : List Ctl). assigned (λ c. c.driver) (λ c. false) (tdi_of board (code_row board plan.passes w 0)) t.cells) first_is
+          ∙ cleared_row board rules walk walk_cells (λ (c : NetCells). c.driver) t.cells (λ n. net_code_bit board plan.passes 0 n) right cover;
+      mask = rows_made.mask some
+          ∙ ap (λ (w : List Ctl). mask_of board (code_row board plan.passes w 0)) first_is
+          ∙ mask_same board rules walk walk_cells (λ n. net_code_bit board plan.passes 0 n) (λ n. false);
+    }
+
+  pub walk_made : IsWalkOf board t
+  walk_made = by_setting (walk_setting board) refl
+    where
+      by_setting : (o : Option (List Ctl)) → walk_setting board ≡ o → IsWalkOf board t
+      by_setting None e = record {
+        plan = plan_is;
+        passes = passes_are;
+        nets = nets ∙ ap (λ (l : List (List Ctl)). nets_by plan (slice_get l 0) (length board.nets)) (passes ∙ ap (λ (o : Option (List Ctl)). option_to_list o) e) ∙ sym (no_nets board e);
+        quiet = rows_made.quiet;
+        tables = λ walk is. let bad : None ≡ Some walk = sym e ∙ is in cc bad;
       }
-
-    pub walk_made : IsWalkOf board t
-    walk_made = by_setting (walk_setting board) refl
-      where
-        by_setting : (o : Option (List Ctl)) → walk_setting board ≡ o → IsWalkOf board t
-        by_setting None e = record {
-          plan = plan_is;
-          passes = passes_are;
-          nets = nets ∙ ap (λ (l : List (List Ctl)). nets_by plan (slice_get l 0) (length board.nets)) (passes ∙ ap (λ (o : Option (List Ctl)). option_to_list o) e) ∙ sym (no_nets board e);
-          quiet = rows_made.quiet;
-          tables = λ walk is. let bad : None ≡ Some walk = sym e ∙ is in cc bad;
-        }
-        by_setting (Some walk) e = record {
-          plan = plan_is;
-          passes = passes_are;
-          nets = walk_nets_are walk e;
-          quiet = rows_made.quiet;
-          tables = λ other f.
-              let two : Some walk ≡ Some other = sym e ∙ f in
-              let same : walk ≡ other = cc two in
-              subst (λ (w : List Ctl). AreWalkTables board w t) same (tables_are walk e);
-        }
+      by_setting (Some walk) e = record {
+        plan = plan_is;
+        passes = passes_are;
+        nets = walk_nets_are walk e;
+        quiet = rows_made.quiet;
+        tables = λ other f.
+            let two : Some walk ≡ Some other = sym e ∙ f in
+            let same : walk ≡ other = cc two in
+            subst (λ (w : List Ctl). AreWalkTables board w t) same (tables_are walk e);
+      }
 
 -- the scans of the walking test
 early_same : (board : RawBoard) (ts us : List RowScan) (k : ℕ) → k < 3 → slice_get (board_scans board ts) k ≡ slice_get (board_scans board us) k
@@ -335,9 +335,6 @@ module _ (board : RawBoard) (rules : IsBoard board) (t : WalkTables) (w : IsWalk
 
     cells : CellsOf board walk
     cells = cells_of_plan board t.plan walk w.plan (w.passes ∙ ap (λ (o : Option (List Ctl)). option_to_list o) is)
-
-    row_is : (j : ℕ) → walk_row_of board j ≡ walk_row board walk j
-    row_is j = ap (λ (o : Option (List Ctl)). walk_row board (walk_controls o) j) is
 
     net_at : (j n : ℕ) → slice_get t.nets j ≡ Some n → slice_get (walk_nets board) j ≡ Some n
     net_at j n e = sym (ap (λ (l : List ℕ). slice_get l j) w.nets) ∙ e
@@ -557,15 +554,6 @@ past_codes t k past less = by_passes t.plan.passes less
     by_passes : (passes : List (List Ctl)) → k < 3 + Rattle.walk_test.specs.Tables.rows_count passes t.nets → (0 < length passes) × (k ≤ 3 + length t.nets)
     by_passes [] h = absurd (omega (arith, past, h))
     by_passes (pass ∷ passes) h = (omega arith, omega (arith, h))
-
--- the number of rows, by whether there is a pass
-pub no_rows : (passes : List (List Ctl)) (nets : List ℕ) → length passes ≡ 0 → Rattle.walk_test.specs.Tables.rows_count passes nets ≡ 0
-no_rows [] nets none = refl
-no_rows (pass ∷ passes) nets none = absurd (omega (arith, none))
-
-pub some_rows : (passes : List (List Ctl)) (nets : List ℕ) → 0 < length passes → Rattle.walk_test.specs.Tables.rows_count passes nets ≡ suc (length nets)
-some_rows [] nets less = absurd (omega (arith, less))
-some_rows (_ ∷ passes) nets less = refl
 
 -- there are at most as many walk nets as nets
 pub nets_few : (board : RawBoard) → length (walk_nets board) ≤ length board.nets

@@ -1,16 +1,15 @@
 -- Groups as lists: who is together in one, and that this says which list they are.
-use Rattle.std.proofs.Common.{◌≡◌, ◌≢◌, ◌⊎◌, inl, inr, ℕ, zero, suc, ◌+◌, ◌<◌, ◌≤◌, ◌==◌, Bool, true, false, cond, ◌||◌, List, [], ◌∷◌, length, get_or, Option, Some, None, refl, sym, ◌∙◌, ap, subst, arith}
+use Rattle.std.proofs.Common.{◌≡◌, ◌⊎◌, inl, inr, ℕ, zero, suc, ◌+◌, ◌<◌, ◌≤◌, ◌==◌, Bool, true, false, cond, List, [], ◌∷◌, length, get_or, Option, Some, None, refl, sym, ◌∙◌, ap, subst, arith}
 use Rattle.std.specs.Prelude.{slice_get, All, AllPairs, Contains}
 use Rattle.std.specs.List.{list_any}
 use Rattle.std.specs.Cmp.{both_ways as same_answer}
-use Rattle.std.proofs.lemmas.Bool.{both_ways, eqb-true, eq-eqb, or_cases, or_left, or_right}
+use Rattle.std.proofs.lemmas.Bool.{eqb-true, eq-eqb, or_cases, or_left, or_right}
 use Rattle.std.proofs.lemmas.Option.{slice_get_within, slice_get-get_or, get_or_from_slice_get}
 use Rattle.board_defs.specs.declared.board.RawBoard.{RawBoard}
-use Rattle.board_defs.proofs.Members.{Has, has_at, has_place, any_has, has_any, has_contains, contains_has}
+use Rattle.board_defs.proofs.Members.{Has, has_at, has_place, any_has, has_any, has_contains}
 use Rattle.board_defs.proofs.Ordered.{InOrder}
 use Rattle.board_defs.proofs.Places.{all_stands}
 use Rattle.tap_defs.proofs.ListLemmas.{cons_path}
-use Rattle.walk_test.specs.WalkTest.{walk_nets}
 use Rattle.walk_test.specs.Groups.{Rise, least_of, AreGroups, group_from, group_of}
 use Rattle.walk_test.specs.Reading.{is_one_group, are_joined}
 

@@ -1,5 +1,5 @@
 -- The laws of the walking test.
-use Rattle.std.proofs.Common.{◌≡◌, ◌⊎◌, inl, inr, ℕ, zero, suc, ◌+◌, ◌*◌, ◌<◌, ◌≤◌, ◌==◌, Bool, true, false, List, [], ◌∷◌, ◌++◌, length, map, get_or, Option, Some, None, refl, sym, ◌∙◌, ap, subst, arith, length-append}
+use Rattle.std.proofs.Common.{◌≡◌, ◌⊎◌, inl, inr, ℕ, suc, ◌+◌, ◌<◌, Bool, List, [], ◌∷◌, length, get_or, Option, Some, None, refl, sym, ◌∙◌, ap, subst, arith, length-append}
 use Rattle.std.specs.Prelude.{◌↔◌, slice_get, count_by, Contains}
 use Rattle.std.specs.Option.{option_to_list}
 use Rattle.std.proofs.lemmas.Bool.{cases_eq}
@@ -10,24 +10,22 @@ use Rattle.board_defs.specs.declared.board.Ctl.{Ctl}
 use Rattle.board_defs.specs.BoardRules.{IsBoard}
 use Rattle.board_defs.specs.Settings.{holds, IsSafe}
 use Rattle.board_defs.proofs.Members.{Has, has_at, has_place, has_contains, contains_has}
-use Rattle.tap_defs.specs.BoardScans.{RowScan, scan_of_row, board_scans, row_scans, pass_scans, is_walked, walk_row, walk_row_scans, pass_text, walk_text}
+use Rattle.tap_defs.specs.BoardScans.{RowScan, scan_of_row, board_scans, pass_scans, is_walked, walk_row, walk_row_scans, pass_text, walk_text}
 use Rattle.tap_defs.specs.BoardTest.{IsHarmless}
-use Rattle.tap_defs.specs.Explaining.{compared_scans, CompareRows, HasShape, ExplainedBy, AreInTurn, IsCapturedBy, AgreeOn}
-use Rattle.tap_defs.specs.FaultSet.{FaultSet, IsFaultSet}
-use Rattle.tap_defs.specs.RowCaptures.{NoOpenShorted}
+use Rattle.tap_defs.specs.Explaining.{compared_scans, CompareRows, HasShape, ExplainedBy, AreInTurn, IsCapturedBy}
+use Rattle.tap_defs.specs.FaultSet.{FaultSet}
 use Rattle.tap_defs.specs.TestRows.{quiet_row}
 use Rattle.tap_defs.specs.Text.{svf_text}
 use Rattle.tap_defs.proofs.ScanPlaceLemmas.{length-pass_scans}
-use Rattle.walk_test.specs.declared.tables.WalkTables.{WalkTables}
 use Rattle.walk_test.specs.WalkTest.{walk_setting, walk_nets, scans_by, walk_row_list, walk_scans, board_walk_text}
 use Rattle.walk_test.specs.Groups.{AreGroups, group_of, or_shorts, Explain}
 use Rattle.walk_test.specs.Reading.{are_joined}
-use Rattle.walk_test.specs.Tables.{AreNetCells, IsWalkOf, rows_count, scan_count}
-use Rattle.walk_test.specs.Laws.{WalkSafe, WalkHarmless, ShortsAreFaults, GroupsRespond, OneResponse, OneSet, ScansCounted}
+use Rattle.walk_test.specs.Tables.{AreNetCells, rows_count, scan_count}
+use Rattle.walk_test.specs.Laws.{WalkSafe, WalkHarmless, ShortsAreFaults, OneSet, ScansCounted}
 use Rattle.walk_test.proofs.GroupLemmas.{AreOrdered, groups_ordered, all_of, Together, joined_cases, joined_in, one_list}
 use Rattle.walk_test.proofs.SettingLemmas.{none_switches}
-use Rattle.walk_test.proofs.CellLemmas.{IsWalkSetting, WalkedBy}
-use Rattle.walk_test.proofs.NetLemmas.{walk_at, walk_has, count_is, no_nets}
+use Rattle.walk_test.proofs.CellLemmas.{IsWalkSetting}
+use Rattle.walk_test.proofs.NetLemmas.{walk_has, count_is, no_nets}
 use Rattle.walk_test.proofs.RowLemmas.{cells_there}
 use Rattle.walk_test.proofs.ExplainLemmas.{ShowJoined, explained_shows, explained_rows, shorts_are_faults}
 

@@ -1,10 +1,10 @@
 -- The rows of the walking test, position by position.
-use Rattle.std.proofs.Common.{◌≡◌, ◌≢◌, ◌⊎◌, inl, inr, ℕ, zero, suc, ◌+◌, ◌<◌, ◌≤◌, ◌==◌, Bool, true, false, cond, not, List, [], ◌∷◌, ◌++◌, length, take, map, get_or, set, replicate, Option, Some, None, is_some, unwrap_or, refl, sym, ◌∙◌, ap, subst, arith, length-set}
+use Rattle.std.proofs.Common.{◌≡◌, ◌⊎◌, inl, inr, ℕ, ◌+◌, ◌<◌, ◌≤◌, ◌==◌, Bool, true, false, not, List, [], ◌∷◌, ◌++◌, length, get_or, set, replicate, Option, Some, is_some, unwrap_or, refl, sym, ◌∙◌, ap, subst, arith, length-set}
 use Rattle.std.specs.Prelude.{slice_get, filter, Contains, All, count_by}
 use Rattle.std.specs.List.{list_any, flat_map}
-use Rattle.std.proofs.lemmas.Bool.{both_ways, cases_eq, cases_lt, eq-eqb, eqb-true}
+use Rattle.std.proofs.lemmas.Bool.{both_ways, cases_eq, cases_lt, eq-eqb}
 use Rattle.std.proofs.lemmas.List.{get_or-set_same, get_or-set_other, get_or_past, get_or-replicate, length-replicate}
-use Rattle.std.proofs.lemmas.Option.{slice_get_within, slice_get-get_or, get_or_from_slice_get}
+use Rattle.std.proofs.lemmas.Option.{get_or_from_slice_get}
 use Rattle.board_defs.specs.declared.device.Cell.{Cell}
 use Rattle.board_defs.specs.declared.device.RawDevice.{RawDevice}
 use Rattle.board_defs.specs.declared.board.PinAt.{PinAt}
@@ -15,10 +15,8 @@ use Rattle.board_defs.specs.declared.board.Ctl.{Ctl}
 use Rattle.board_defs.specs.BoardRules.{IsBoard}
 use Rattle.board_defs.specs.Pins.{data_bits, entry_at}
 use Rattle.board_defs.specs.Settings.{holds}
-use Rattle.board_defs.proofs.Members.{Has, has_at, has_place, has_contains, contains_has, flat_map_has, map_has, has_map, has_filter, filter_has, any_has}
-use Rattle.tap_defs.specs.Scan.{ScanBit, joined, tdi_bits, tdo_bits, mask_bits}
+use Rattle.board_defs.proofs.Members.{Has, has_contains, contains_has, flat_map_has, map_has, has_map, has_filter, filter_has, any_has}
 use Rattle.tap_defs.specs.TestRows.{TestRow, quiet_row, code_row, row_bit, expect_bit, observing_driver, reads_beside}
-use Rattle.tap_defs.specs.BoardScans.{RowScan, row_bits, is_walked, walk_row}
 use Rattle.tap_defs.proofs.WrongLemmas.{Compared, expects}
 use Rattle.tap_defs.proofs.ReadingLemmas.{beside_observing}
 use Rattle.scan_planner.specs.declared.tables.DriverCell.{DriverCell}
@@ -28,8 +26,8 @@ use Rattle.scan_planner.specs.Assigned.{assigned}
 use Rattle.scan_planner.specs.Building.{readers_of as readers_in_order}
 use Rattle.scan_planner.specs.Laid.{laid, steady}
 use Rattle.scan_planner.specs.Plans.{IsPlanOf}
-use Rattle.scan_planner.specs.Tables.{first_position, IsDriverCell, IsReaderCell, ArePassCells}
-use Rattle.scan_planner.proofs.AssignLemmas.{assigned_is, length-assigned, mark_has, has_mark}
+use Rattle.scan_planner.specs.Tables.{first_position, IsDriverCell, IsReaderCell}
+use Rattle.scan_planner.proofs.AssignLemmas.{assigned_is, mark_has}
 use Rattle.scan_planner.proofs.DriverLemmas.{pass_row, row_cells, drivers_laid}
 use Rattle.scan_planner.proofs.LaidLemmas.{laid_at, length-laid, zeros_laid, tdi_laid, tdo_laid, mask_laid}
 use Rattle.scan_planner.proofs.PinLemmas.{Standing, standing, drives_by, entry_on}
@@ -399,7 +397,8 @@ net_cells board walk n w position readers only every at =
 pub cells_there : (board : RawBoard) (walk : List Ctl) (n : ℕ) → WalkedBy board walk n → (cells : NetCells) × AreNetCells board walk n cells
 cells_there board walk n w =
     let d = driver_cell board walk n w.net w.driver w.is_net w.observing in
-    let readers : List ReaderCell = readers_in_order board w.net.pins in
-    (record { driver = d.0.position; compared = positions_beside w.driver readers },
-    net_cells board walk n w d.0.position readers (λ r h. reader_is board w.net r h) (λ r q. is_reader board w.net r q)
-    (λ e is_e of_e. (one_driver board walk d.0 e d.1 is_e (d.2 ∙ sym of_e)).1))
+    let readers : List ReaderCell = readers_in_order board w.net.pins in (
+      record { driver = d.0.position; compared = positions_beside w.driver readers },
+      net_cells board walk n w d.0.position readers (λ r h. reader_is board w.net r h) (λ r q. is_reader board w.net r q)
+          (λ e is_e of_e. (one_driver board walk d.0 e d.1 is_e (d.2 ∙ sym of_e)).1),
+    )

@@ -1,5 +1,5 @@
 -- The walking test of small boards, and what sets of groups make of it.
-use Rattle.std.proofs.Common.{◌≡◌, Bool, true, false, List, [], ◌∷◌, ◌++◌, map, Some, None, refl}
+use Rattle.std.proofs.Common.{◌≡◌, Bool, true, false, List, [], ◌∷◌, map, Some, None, refl}
 use Rattle.std.specs.Prelude.{codes, slice_get}
 use Rattle.std.specs.Fmt.{digits}
 use Rattle.board_defs.specs.declared.board.PartKind.TheVariants.{Described}
@@ -9,10 +9,10 @@ use Rattle.tap_defs.specs.Text.{svf_text}
 use Rattle.tap_defs.proofs.SampleTexts.{whole}
 use Rattle.tap_defs.proofs.SampleBoards.{drv, rcv, rcv1, od, pin, net, pulled, board, wires, bus, pulled_up, three_wires}
 use Rattle.walk_test.specs.declared.tables.NetCells.{NetCells}
-use Rattle.walk_test.specs.WalkTest.{switches_some, without_switching, walk_setting, walk_nets, board_walk_text}
+use Rattle.walk_test.specs.WalkTest.{switches_some, walk_setting, walk_nets, board_walk_text}
 use Rattle.walk_test.specs.Groups.{group_of}
 use Rattle.walk_test.specs.GroupText.{groups_text}
-use Rattle.walk_test.specs.Reading.{are_joined, label_of, net_shows, members, groups_by}
+use Rattle.walk_test.specs.Reading.{are_joined, label_of, net_shows, groups_by}
 
 -- drivers that are always on want no control
 three_setting : walk_setting three_wires ≡ Some []

@@ -278,9 +278,6 @@ module _ (safe : WalkSafe) (by_rows : (board : RawBoard) (faults : FaultSet) (sc
     net_at : (i : ℕ) (c : NetCells) → slice_get cells i ≡ Some c → slice_get nets i ≡ Some (get_or nets i 0)
     net_at i c e = slice_get-get_or nets i 0 (omega (arith, slice_get_within cells i c e, are.count))
 
-    net_below : (j : ℕ) → j < length cells → slice_get nets j ≡ Some (get_or nets j 0)
-    net_below j less = slice_get-get_or nets j 0 (omega (arith, less, are.count))
-
     some : (i : ℕ) (c : NetCells) → slice_get cells i ≡ Some c → 0 < length c.compared
     some i c e = let a : AreNetCells board walk (get_or nets i 0) c = are.are i (get_or nets i 0) c (net_at i c e) e in a.some
 

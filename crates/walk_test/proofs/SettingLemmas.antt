@@ -4,7 +4,7 @@ use Rattle.std.specs.Prelude.{slice_get, filter, find, option_map, option_and_th
 use Rattle.std.specs.Option.{option_to_list}
 use Rattle.std.specs.List.{list_any, flat_map}
 use Rattle.std.specs.Cmp.{both_ways as same_answer}
-use Rattle.std.proofs.lemmas.Bool.{and_parts, and_from, or_cases, both_ways}
+use Rattle.std.proofs.lemmas.Bool.{and_from, or_cases}
 use Rattle.board_defs.specs.declared.device.Control.{Control}
 use Rattle.board_defs.specs.declared.device.Cell.{Cell}
 use Rattle.board_defs.specs.declared.board.PinAt.{PinAt}
@@ -14,14 +14,13 @@ use Rattle.board_defs.specs.declared.board.RawBoard.{RawBoard}
 use Rattle.board_defs.specs.declared.board.Ctl.{Ctl}
 use Rattle.board_defs.specs.declared.board.Drive.{Drive}
 use Rattle.board_defs.specs.declared.board.Drive.TheVariants.{AlwaysOn, OneSided, By}
-use Rattle.board_defs.specs.BoardRules.{IsBoard}
-use Rattle.board_defs.specs.Pins.{drive, switches, entry_at, guarded, is_pulled_to, lets_switch, drive_by, switches_by, drive_where, switches_entry}
+use Rattle.board_defs.specs.Pins.{drive, entry_at, guarded, is_pulled_to, drive_by, switches_by, drive_where, switches_entry}
 use Rattle.board_defs.specs.Settings.{holds, same_ctl, inserted, precedes, IsInControlOrder, IsSafe}
 use Rattle.board_defs.specs.Decided.{is_by, is_useful, is_safe_alone, tests_by, tests_by_at, are_compatible}
 use Rattle.board_defs.specs.Passes.{all_cells, useful_controls, tested_drivers, drivers_by_net, with_driver, fits, is_new, walk, first_walk, second_walk, driver_pass, add_for_driver, driver_passes, are_shown, pairs_of, pairs_within, first_pair, pair_pass, with_pair, add_for_nets, passes_of, ArePasses}
 use Rattle.board_defs.proofs.ControlOrder.{same_equal, same_refl}
-use Rattle.board_defs.proofs.Members.{Has, has_at, has_place, has_append, has_any, filter_has, flat_map_has, map_has, find_has, pairs_of_has, Apart as PairApart, pairs_within_has}
-use Rattle.board_defs.proofs.Ordered.{InOrder, order_filter, order_pairs}
+use Rattle.board_defs.proofs.Members.{Has, has_at, has_append, has_any, filter_has, flat_map_has, map_has, find_has, Apart as PairApart, pairs_within_has}
+use Rattle.board_defs.proofs.Ordered.{order_filter, order_pairs}
 use Rattle.board_defs.proofs.Pairwise.{safe_within}
 use Rattle.board_defs.proofs.PassSettings.{holds_inserted}
 use Rattle.board_defs.proofs.PassesKept.{Tested, tested_has, tested_can_drive, fold_keeps}

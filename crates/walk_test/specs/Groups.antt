@@ -1,5 +1,5 @@
 -- Groups of walk nets, and which set of them explains a log of the walking test.
-use Rattle.std.specs.Prelude.{◌≡◌, ℕ, suc, ◌<◌, ◌≤◌, ◌==◌, Bool, cond, List, [], ◌∷◌, length, Option, Some, None, slice_index_or, All, AllPairs, Contains, MatchOption}
+use Rattle.std.specs.Prelude.{ℕ, suc, ◌<◌, ◌≤◌, ◌==◌, Bool, cond, List, [], ◌∷◌, length, Option, Some, None, slice_index_or, All, AllPairs, Contains, MatchOption}
 use Rattle.std.specs.List.{list_any}
 use Rattle.board_defs.specs.declared.board.RawBoard.{RawBoard}
 use Rattle.tap_defs.specs.FaultSet.{Or, FaultSet, no_faults}

@@ -1,11 +1,10 @@
 -- What a walk keeps of a board: its plan, its nets with their cells, and what all rows share.
-use Rattle.std.specs.Prelude.{◌≡◌, ◌≢◌, ◌↔◌, ℕ, suc, ◌+◌, ◌<◌, ◌==◌, Bool, false, not, cond, List, [], ◌∷◌, length, map, filter, Option, Some, None, is_some, option_and_then, slice_get, slice_index_or, Contains, All}
+use Rattle.std.specs.Prelude.{◌≡◌, ◌↔◌, ℕ, suc, ◌+◌, ◌<◌, ◌==◌, Bool, false, not, cond, List, [], ◌∷◌, length, map, filter, Option, Some, None, is_some, option_and_then, slice_get, slice_index_or, Contains}
 use Rattle.std.specs.Option.{option_to_list}
 use Rattle.std.specs.List.{range_with_len}
 use Rattle.board_defs.specs.declared.board.Net.{Net}
 use Rattle.board_defs.specs.declared.board.RawBoard.{RawBoard}
 use Rattle.board_defs.specs.declared.board.Ctl.{Ctl}
-use Rattle.board_defs.specs.Pins.{data_bits}
 use Rattle.board_defs.specs.Settings.{holds}
 use Rattle.tap_defs.specs.Scan.{joined, tdi_bits, tdo_bits, mask_bits}
 use Rattle.tap_defs.specs.TestRows.{TestRow, quiet_row, code_row}

@@ -209,7 +209,12 @@ fn clear_drivers(cells: &[NetCells], row: &mut Row)
 }
 
 // The row in which no walk net carries 1, from the first row of the plan.
-fn still_row(alloc: Global, board: &Board, plan: &Plan, cells: &[NetCells]) -> Result<Row, AllocError>
+fn still_row(
+    alloc: Global,
+    board: &Board,
+    plan: &Plan,
+    cells: &[NetCells],
+) -> Result<Row, AllocError>
     requires plan { IsPlanOf board.now plan.now }
     requires some { 0 < length plan.now.passes }
     ensures { IfOk result (λ row. row.bits ≡ assigned (λ c. c.driver) (λ c. false) (tdi_of board.now (code_row board.now plan.now.passes (slice_index_or plan.now.passes 0 []) 0)) cells.now) }
@@ -220,7 +225,12 @@ fn still_row(alloc: Global, board: &Board, plan: &Plan, cells: &[NetCells]) -> R
 }
 
 // The nets that the first of these settings observes, of so many, where there is a setting.
-fn first_nets(alloc: Global, plan: &Plan, passes: &[Setting], count: u32) -> Result<Vec<u32>, AllocError>
+fn first_nets(
+    alloc: Global,
+    plan: &Plan,
+    passes: &[Setting],
+    count: u32,
+) -> Result<Vec<u32>, AllocError>
     ensures { IfOk result (λ nets. nets.items ≡ nets_by plan.now (slice_get passes.now 0) count) }
 {
     match passes.first() {

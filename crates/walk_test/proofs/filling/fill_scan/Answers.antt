@@ -1,6 +1,5 @@
-use Rattle.std.proofs.Common.{◌≡◌, ℕ, ◌≤◌, ◌<◌, length, arith, subst}
-use Rattle.walk_test.specs.Scans.{FillsWalk}
-use Rattle.walk_test.proofs.FillLemmas.{early_filled, past_codes}
+use Rattle.std.proofs.Common.{arith}
+use Rattle.walk_test.proofs.FillLemmas.{past_codes}
 use Rattle.walk_test.proofs.filling.fill_scan.Goals as goal
 
 pub fill_row-requires-clause-some : goal.fill_row-requires-clause-some

@@ -1,4 +1,4 @@
-use Rattle.std.proofs.Common.{arith, rules}
+use Rattle.std.proofs.Common.{rules}
 use Rattle.walk_test.specs.GroupText.{net_line}
 use Rattle.walk_test.proofs.PutLemmas.{next_ok, next_err, all_put}
 use Rattle.walk_test.proofs.listing.put_nets.Goals as goal

@@ -1,4 +1,3 @@
-use Rattle.std.proofs.Common.{arith}
 use Rattle.walk_test.proofs.FillLemmas.{mask_filled, scans_there}
 use Rattle.walk_test.proofs.nets.first_mask.Goals as goal
 

@@ -1,5 +1,4 @@
-use Rattle.std.proofs.Common.{arith}
-use Rattle.walk_test.proofs.FillLemmas.{first_filled, scans_there}
+use Rattle.walk_test.proofs.FillLemmas.{first_filled}
 use Rattle.walk_test.proofs.nets.first_row.Goals as goal
 
 pub returns : goal.returns
