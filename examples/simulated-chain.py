@@ -3,8 +3,9 @@
 
 usage: simulated-chain.py PORT FAULT CHAIN NETS BSDL..
 
-FAULT is `good`, `and:NET:NET` or `or:NET:NET` (a short in which 0 or 1 wins), or `stuck:NET:VALUE`. The files are those of a
-btest command, and are taken to be right. One connection is served; two drivers on one net are reported on standard error.
+FAULT is `good`, `and:NET:NET..` or `or:NET:NET..` (a short of two nets or more in which 0 or 1 wins), or `stuck:NET:VALUE`. The
+files are those of a btest command, and are taken to be right. One connection is served; two drivers on one net are reported on
+standard error.
 """
 import re
 import socket
