@@ -1,6 +1,6 @@
 -- Words and numbers, worked by hand.
-use Rattle.std.proofs.Common.{◌≡◌, List, [], ◌∷◌, Option, Some, None, codes, refl}
-use Rattle.command_line.specs.Words.{Text, Command, Walk, Ident, Make, Diagnose, Groups, Batch, board_called, log_called, command_of, number_of}
+use Rattle.std.proofs.Common.{◌≡◌, ℕ, List, [], ◌∷◌, map, replicate, Option, Some, None, codes, refl}
+use Rattle.command_line.specs.Words.{Text, BoardNames, Command, Walk, Ident, Make, Diagnose, Groups, Batch, board_called, log_called, command_of, number_of}
 
 leading_zeros : number_of 255 (codes "00000000000000000007") ≡ Some 7
 leading_zeros = refl
@@ -86,3 +86,38 @@ batched = refl
 batched_without_workers : command_of (codes "batch" ∷ logged) ≡ None
 unfolding board_called log_called
 batched_without_workers = refl
+
+batched_with_zeros : command_of (codes "batch" ∷ codes "00000000000000000001" ∷ logged) ≡ Some (Batch 1 (codes "g") (record { chain = codes "c"; nets = codes "n"; bsdl = codes "drv" ∷ [] }))
+unfolding board_called log_called
+batched_with_zeros = refl
+
+batched_past_the_limit : command_of (codes "batch" ∷ codes "65" ∷ logged) ≡ None
+unfolding board_called log_called
+batched_past_the_limit = refl
+
+walked_without_nets : command_of (codes "walk" ∷ codes "c" ∷ []) ≡ None
+unfolding board_called
+walked_without_nets = refl
+
+-- an option, and a word without a byte
+no_plain_words : map command_of ((codes "walk" ∷ codes "-c" ∷ codes "n" ∷ []) ∷ (codes "walk" ∷ codes "c" ∷ [] ∷ []) ∷ []) ≡ None ∷ None ∷ []
+no_plain_words = refl
+
+-- so many BSDL names
+abbrev described : ℕ → List Text
+described count = codes "c" ∷ codes "n" ∷ replicate count (codes "b")
+
+abbrev most_names : BoardNames
+most_names = record { chain = codes "c"; nets = codes "n"; bsdl = replicate 255 (codes "b") }
+
+-- the commands about a board's walking test with them
+abbrev with_described : ℕ → List (Option Command)
+with_described count = map command_of ((codes "walk" ∷ described count) ∷ (codes "groups" ∷ codes "g" ∷ described count) ∷ (codes "batch" ∷ codes "1" ∷ codes "g" ∷ described count) ∷ [])
+
+most_described : with_described 255 ≡ Some (Walk most_names) ∷ Some (Groups (codes "g") most_names) ∷ Some (Batch 1 (codes "g") most_names) ∷ []
+unfolding board_called log_called
+most_described = refl
+
+too_many_described : with_described 256 ≡ None ∷ None ∷ None ∷ []
+unfolding board_called log_called
+too_many_described = refl
