@@ -1,10 +1,17 @@
--- The answers of small texts, by the definition.
-use Rattle.std.proofs.Common.{◌≡◌, true, false, Ok, Err, [], ◌∷◌, refl}
+-- The answers of small texts, and the text of a small batch, by the definition.
+use Rattle.std.proofs.Common.{◌≡◌, ℕ, true, false, Ok, Err, List, [], ◌∷◌, ◌++◌, map, replicate, None, refl}
 use Rattle.std.specs.Prelude.{codes}
+use Rattle.std.specs.Fmt.{digits}
 use Rattle.text_lines.specs.Words.{words_of}
-use Rattle.response_log.specs.declared.fault.LogFault.TheVariants.{Digit, Missing}
+use Rattle.response_log.specs.declared.fault.LogFault.TheVariants.{Digit, Length, Missing, Extra}
+use Rattle.board_defs.specs.declared.board.Net.{Net}
+use Rattle.board_defs.specs.declared.board.RawBoard.{RawBoard}
+use Rattle.board_defs.specs.declared.fault.Single.TheVariants.{StuckNet}
+use Rattle.diagnoser.specs.DiagText.{diag_text}
+use Rattle.batch_diag.specs.declared.block.Block.{Block}
 use Rattle.batch_diag.specs.declared.fault.BatchFault.TheVariants.{Start, Title, Inner}
-use Rattle.batch_diag.specs.Batch.{batch_of}
+use Rattle.batch_diag.specs.Batch.{Answer, batch_of}
+use Rattle.batch_diag.specs.BatchText.{title_line, batch_text}
 
 -- a comment, a title, a row, and a block with the same id and a comment behind its title
 two_blocks : batch_of (codes "# 0\nBOARD A\n1\n\r\n BOARD\tA # B\n2") 1 2 ≡ Ok (record { id = codes "A"; log = (true ∷ false ∷ []) ∷ [] } ∷ record { id = codes "A"; log = (false ∷ true ∷ []) ∷ [] } ∷ [])
@@ -33,3 +40,59 @@ first_block = refl
 line_of_text : batch_of (codes "BOARD A\n1\nBOARD B\n#\n4") 1 2 ≡ Err (Inner 2 (Digit 5))
 unfolding words_of
 line_of_text = refl
+
+-- what a text says of logs of one row of two bits
+abbrev of_one_row : List ℕ → Answer
+of_one_row text = batch_of text 1 2
+
+-- the block whose log has too few rows is named, and not the first
+second_block : of_one_row (codes "BOARD A\n1\nBOARD B") ≡ Err (Inner 2 (Missing 0))
+unfolding words_of
+second_block = refl
+
+wrong_logs : map of_one_row (codes "BOARD A\n1\n1" ∷ codes "BOARD A\n11" ∷ codes "BOARD A\n1 1" ∷ []) ≡ Err (Inner 1 (Extra 3)) ∷ Err (Inner 1 (Length 2)) ∷ Err (Inner 1 (Length 2)) ∷ []
+unfolding words_of
+wrong_logs = refl
+
+-- two ids, none, and one with a byte that no word has
+wrong_titles : map of_one_row (codes "BOARD A B\n1" ∷ codes "BOARD" ∷ (codes "BOARD " ++ 127 ∷ codes "\n1") ∷ []) ≡ Err (Title 1) ∷ Err (Title 1) ∷ Err (Title 1) ∷ []
+unfolding words_of
+wrong_titles = refl
+
+first_wrong_title : of_one_row (codes "BOARD A B\n1\nBOARD\n1") ≡ Err (Title 1)
+unfolding words_of
+first_wrong_title = refl
+
+no_titles : map of_one_row (codes "board A\n1" ∷ codes "BOARDS A\n1" ∷ []) ≡ Err (Start 1) ∷ Err (Start 1) ∷ []
+unfolding words_of
+no_titles = refl
+
+-- blocks with logs of no row
+abbrev rowless : List ℕ → Block
+rowless id = record { id = id; log = [] }
+
+without_rows : batch_of (codes "BOARD A\nBOARD B") 0 2 ≡ Ok (rowless (codes "A") ∷ rowless (codes "B") ∷ [])
+unfolding words_of
+without_rows = refl
+
+longest_id : batch_of (codes "BOARD " ++ replicate 255 65) 0 2 ≡ Ok (rowless (replicate 255 65) ∷ [])
+unfolding words_of
+longest_id = refl
+
+too_long_id : batch_of (codes "BOARD " ++ replicate 256 65) 0 2 ≡ Err (Title 1)
+unfolding words_of
+too_long_id = refl
+
+-- two nets; of each block of a batch its title comes first, and then its diagnosis
+abbrev named : List ℕ → Net
+named name = record { name = name; supply = false; pull = None; pins = [] }
+
+abbrev two_nets : RawBoard
+two_nets = record { chain = []; nets = named (codes "A") ∷ named (codes "B") ∷ [] }
+
+title : title_line (codes "A") ≡ codes "BOARD A\n"
+title = refl
+
+two_verdicts : batch_text two_nets (rowless (codes "A") ∷ rowless (codes "B") ∷ []) (record { pass = true; faults = [] } ∷ record { pass = false; faults = StuckNet 0 false ∷ [] } ∷ []) ≡ codes "BOARD A\nPASS\nBOARD B\nFAIL 1\nstuck A 0\n"
+unfolding diag_text digits
+two_verdicts = refl
