@@ -2,12 +2,15 @@
 use Rattle.std.proofs.Common.{◌≡◌, Bool, true, false, List, [], ◌∷◌, map, Some, None, refl}
 use Rattle.std.specs.Prelude.{codes, slice_get}
 use Rattle.std.specs.Fmt.{digits}
+use Rattle.board_defs.specs.declared.device.Mode.TheVariants.{Outward}
+use Rattle.board_defs.specs.declared.device.Role.TheVariants.{Output3}
+use Rattle.board_defs.specs.declared.device.RawDevice.{RawDevice}
 use Rattle.board_defs.specs.declared.board.PartKind.TheVariants.{Described}
 use Rattle.board_defs.specs.declared.board.RawBoard.{RawBoard}
 use Rattle.board_defs.specs.Passes.{passes_of}
 use Rattle.tap_defs.specs.Text.{svf_text}
 use Rattle.tap_defs.proofs.SampleTexts.{whole}
-use Rattle.tap_defs.proofs.SampleBoards.{drv, rcv, rcv1, od, pin, net, pulled, board, wires, bus, pulled_up, three_wires}
+use Rattle.tap_defs.proofs.SampleBoards.{one_bit, entry, control, by, device, drv, rcv, rcv1, ts, od, buf2, pin, net, pulled, board, wires, bus, pulled_up, three_wires}
 use Rattle.walk_test.specs.declared.tables.NetCells.{NetCells}
 use Rattle.walk_test.specs.WalkTest.{switches_some, walk_setting, walk_nets, board_walk_text}
 use Rattle.walk_test.specs.Groups.{group_of}
@@ -32,6 +35,15 @@ three_text = refl
 -- the first pass enables the first of two drivers
 bus_setting : walk_setting bus ≡ Some (record { part = 0; cell = 1 } ∷ [])
 bus_setting = refl
+
+bus_nets : walk_nets bus ≡ 0 ∷ []
+bus_nets = refl
+
+bus_text : board_walk_text bus ≡ whole (
+    codes "SIR 6 TDI (2A) TDO (15) MASK (3F);" ∷ codes "SDR 5 TDI (14);" ∷ codes "SIR 6 TDI (00) TDO (15) MASK (3F);"
+    ∷ codes "SDR 5 TDI (0C);" ∷ codes "SDR 5 TDI (14) TDO (01) MASK (01);" ∷ [])
+unfolding svf_text digits
+bus_text = refl
 
 -- the control of a switching driver is left out, and with it its net: one scan of data follows, which is not compared
 pulled_switches : switches_some pulled_up (record { part = 0; cell = 0 }) ≡ true
@@ -67,6 +79,47 @@ mixed_text : board_walk_text mixed ≡ whole (
     ∷ codes "SDR 6 TDI (24);" ∷ codes "SDR 6 TDI (28) TDO (01) MASK (03);" ∷ codes "SDR 6 TDI (20) TDO (02) MASK (03);" ∷ [])
 unfolding svf_text digits
 mixed_text = refl
+
+-- a switching driver takes no other control out of the setting: here that of a three-state driver, by cell 0 as that of the switching
+-- driver and by cell 1
+abbrev ts0 : RawDevice
+ts0 = device (one_bit Outward) (entry 1 Output3 4 (by 0) ∷ control 0 ∷ []) 2
+
+abbrev beside_three_state : RawDevice → RawBoard
+beside_three_state driver = board (Described od ∷ Described rcv1 ∷ Described driver ∷ Described rcv1 ∷ []) (pulled (Some true) (pin 0 0 ∷ pin 1 0 ∷ []) ∷ net (pin 2 0 ∷ pin 3 0 ∷ []) ∷ [])
+
+cell_0_stays : walk_setting (beside_three_state ts0) ≡ Some (record { part = 2; cell = 0 } ∷ [])
+cell_0_stays = refl
+
+cell_1_stays : walk_setting (beside_three_state ts) ≡ Some (record { part = 2; cell = 1 } ∷ [])
+cell_1_stays = refl
+
+-- the first net is no walk net, so the second walks in the first row
+beside_nets : walk_nets (beside_three_state ts0) ≡ 1 ∷ []
+beside_nets = refl
+
+beside_text : board_walk_text (beside_three_state ts0) ≡ whole (
+    codes "SIR 8 TDI (AA) TDO (55) MASK (FF);" ∷ codes "SDR 5 TDI (12);" ∷ codes "SIR 8 TDI (00) TDO (55) MASK (FF);"
+    ∷ codes "SDR 5 TDI (14);" ∷ codes "SDR 5 TDI (12) TDO (01) MASK (01);" ∷ [])
+unfolding svf_text digits
+beside_text = refl
+
+-- two buffers drive one net, so a second pass is for the third net: it does not walk
+abbrev two_passes : RawBoard
+two_passes = board (Described buf2 ∷ Described buf2 ∷ Described rcv ∷ Described rcv ∷ []) (
+    net (pin 0 3 ∷ pin 2 0 ∷ []) ∷ net (pin 0 4 ∷ pin 1 4 ∷ pin 2 1 ∷ []) ∷ net (pin 1 3 ∷ pin 3 0 ∷ []) ∷ [])
+
+two_passes_are : passes_of two_passes ≡ (record { part = 0; cell = 4 } ∷ []) ∷ (record { part = 1; cell = 4 } ∷ []) ∷ []
+two_passes_are = refl
+
+two_passes_nets : walk_nets two_passes ≡ 0 ∷ 1 ∷ []
+two_passes_nets = refl
+
+two_passes_text : board_walk_text two_passes ≡ whole (
+    codes "SIR 8 TDI (AA) TDO (55) MASK (FF);" ∷ codes "SDR 14 TDI (2100);" ∷ codes "SIR 8 TDI (00) TDO (55) MASK (FF);"
+    ∷ codes "SDR 14 TDI (0500);" ∷ codes "SDR 14 TDI (0300) TDO (0004) MASK (000C);" ∷ codes "SDR 14 TDI (2100) TDO (0008) MASK (000C);" ∷ [])
+unfolding svf_text digits
+two_passes_text = refl
 
 -- a board without a pass has the first three scans alone
 abbrev no_nets : RawBoard
