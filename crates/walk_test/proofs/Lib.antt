@@ -7,6 +7,7 @@ mod ExplainLemmas
 mod LawLemmas
 mod FillLemmas
 mod SampleTests
+mod SampleGroups
 mod LabelLemmas
 mod SetLemmas
 mod PutLemmas

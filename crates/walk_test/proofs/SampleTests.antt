@@ -105,14 +105,14 @@ unfolding svf_text digits
 beside_text = refl
 
 -- two buffers drive one net, so a second pass is for the third net: it does not walk
-abbrev two_passes : RawBoard
+abbrev pub two_passes : RawBoard
 two_passes = board (Described buf2 ∷ Described buf2 ∷ Described rcv ∷ Described rcv ∷ []) (
     net (pin 0 3 ∷ pin 2 0 ∷ []) ∷ net (pin 0 4 ∷ pin 1 4 ∷ pin 2 1 ∷ []) ∷ net (pin 1 3 ∷ pin 3 0 ∷ []) ∷ [])
 
 two_passes_are : passes_of two_passes ≡ (record { part = 0; cell = 4 } ∷ []) ∷ (record { part = 1; cell = 4 } ∷ []) ∷ []
 two_passes_are = refl
 
-two_passes_nets : walk_nets two_passes ≡ 0 ∷ 1 ∷ []
+pub two_passes_nets : walk_nets two_passes ≡ 0 ∷ 1 ∷ []
 two_passes_nets = refl
 
 two_passes_text : board_walk_text two_passes ≡ whole (
