@@ -2,7 +2,7 @@
 PREFIX ?= /usr/local
 PROGRAM := crates/btest/out/btest
 
-.PHONY: help demo build test check bench install
+.PHONY: help demo build test check bench stress install
 
 help:
 	@echo 'make demo                shows the program at work on the files of examples/: two minutes at most'
@@ -11,6 +11,7 @@ help:
 	@echo 'make test                the gate, with all tests and edits that must fail: an hour and more the first time'
 	@echo 'make check CRATE=NAME    proves one crate, and those below it where they have changed'
 	@echo 'make bench               prints times of the proved program on large inputs'
+	@echo 'make stress              puts the proved program to hostile use: ten minutes. docs/RELIABILITY.md says what it tries'
 
 # Runs the main job on the files of examples/ and shows what it prints, with the proved program where it is there.
 demo:
@@ -36,3 +37,7 @@ check:
 # Figures, with no limit and no verdict.
 bench: build
 	@bash examples/bench.sh $(PROGRAM)
+
+# Hostile use, outside the gate: WITH='broken --seed 7 --runs 1000000' does one part, with other broken texts and more of them.
+stress: build
+	@python3 -B scripts/stress $(PROGRAM) $(WITH)
