@@ -129,7 +129,7 @@ module _ (board : RawBoard) (rules : IsBoard board) (plan : PlanTables) (p : IsP
         safe_value = unwrap_or (safe_bit t.device entry.num) false
 
         -- the cell where it carries no net's bit
-        quiet_is : get_or plan.quiet d.position false ≡ cond controls off safe_value
+        quiet_is : get_or plan.quiet.bits d.position false ≡ cond controls off safe_value
         quiet_is =
             ap (λ (l : List Bool). get_or l d.position false)
             (p.tables.quiet ∙ tdi_laid board first_row_scan
@@ -145,7 +145,7 @@ module _ (board : RawBoard) (rules : IsBoard board) (plan : PlanTables) (p : IsP
 
             by_held : (b : Bool) → holds pass d.own ≡ b →
                 cond controls (cond (holds pass (record { part = at.part; cell = entry.num })) (not off) off) safe_value
-                ≡ cond b (not (get_or plan.quiet d.position false)) (get_or plan.quiet d.position false)
+                ≡ cond b (not (get_or plan.quiet.bits d.position false)) (get_or plan.quiet.bits d.position false)
             by_held true e =
                 let here : holds pass (record { part = at.part; cell = entry.num }) ≡ true = held_own ∙ e in
                 let any : controls ≡ true =

@@ -57,7 +57,7 @@ driver_in plan pass n = enabled_in (holds pass) (drivers_in plan n)
 
 -- the bit of a cell that carries no net's bit: that of the quiet row, and the other one where the pass holds the cell as a control
 abbrev pub steady_in : PlanTables → List Ctl → NetDriver → Bool
-steady_in plan pass d = cond (holds pass d.own) (not (slice_index_or plan.quiet d.position false)) (slice_index_or plan.quiet d.position false)
+steady_in plan pass d = cond (holds pass d.own) (not (slice_index_or plan.quiet.bits d.position false)) (slice_index_or plan.quiet.bits d.position false)
 
 -- the bits of the cell of an enabled driver: those of the net's code where another pin of the net is read, and so the pass observes the net
 abbrev pub source_in : PlanTables → List Ctl → ℕ → NetDriver → Source

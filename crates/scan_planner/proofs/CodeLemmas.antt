@@ -49,6 +49,13 @@ code_mask (a ∷ b ∷ code) n e long =
 abbrev pub bits_of : Instruction → List Part → List ScanBit
 bits_of instruction parts = (instructs (map (λ part. code_for instruction part.kind) parts)).bits
 
+-- those of all of them, once none is left, are few
+pub few_left : (instruction : Instruction) (chain : List Part) → length (bits_of instruction chain) ≤ 65535 → (i : ℕ) → i ≡ 0 → (row : ScanBit → Bool) →
+    length (map row (bits_of instruction (drop i chain))) ≤ 65535
+few_left instruction chain few i none row =
+    let bits : List ScanBit = bits_of instruction (drop i chain) in
+    omega (arith, length-map bits row, ap (λ n. length (bits_of instruction (drop n chain))) none, few)
+
 pub part_before : (chain : List Part) (i : ℕ) (d : Part) → 0 < i → i ≤ length chain → drop (i - 1) chain ≡ get_or chain (i - 1) d ∷ drop i chain
 part_before chain i d some within =
     let next : i - 1 + 1 ≡ i = omega (arith, some) in

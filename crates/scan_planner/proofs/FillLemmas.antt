@@ -33,6 +33,9 @@ use Rattle.scan_planner.specs.declared.tables.PassCells.{PassCells}
 use Rattle.scan_planner.specs.declared.tables.PlanTables.{PlanTables}
 use Rattle.scan_planner.specs.Laid.{laid, steady}
 use Rattle.scan_planner.specs.Assigned.{assigned, driver_bit, set_readers, set_compared}
+use Rattle.scan_planner.specs.declared.instructions.Instruction.{Instruction}
+use Rattle.scan_planner.specs.declared.instructions.Instruction.TheVariants.{Preload, Extest}
+use Rattle.scan_planner.specs.Codes.{code_for}
 use Rattle.scan_planner.specs.Tables.{AreRowsOf, IsHeldCell, IsDriverCell, IsReaderCell, ArePassCells, common_rows}
 use Rattle.scan_planner.specs.Plans.{IsPlanOf, FillsScan}
 use Rattle.scan_planner.proofs.AssignLemmas.{length-assigned, assigned_apart}
@@ -111,14 +114,18 @@ preload_sized board rules = code_sized board rules preload_code (preload_fits bo
 pub extest_sized : (board : RawBoard) → IsBoard board → IsSized ((instructs (map (λ p. extest_code p.kind) board.chain)).bits) (instruction_bits board)
 extest_sized board rules = code_sized board rules extest_code (extest_fits board.chain (parts_of board rules))
 
+pub few_bits : (instruction : Instruction) (board : RawBoard) → IsBoard board → length ((instructs (map (λ part. code_for instruction part.kind) board.chain)).bits) ≤ 65535
+few_bits Preload board rules = (preload_sized board rules).most
+few_bits Extest board rules = (extest_sized board rules).most
+
 -- the length of a row of such a scan
-pub tdi_length : {bits : List ScanBit} {size : ℕ} {rows : FixedRows} → IsSized bits size → AreRowsOf bits rows → length rows.tdi ≡ size
+pub tdi_length : {bits : List ScanBit} {size : ℕ} {rows : FixedRows} → IsSized bits size → AreRowsOf bits rows → length rows.tdi.bits ≡ size
 tdi_length {bits} {size} {rows} s r = ap (λ (l : List Bool). length l) r.tdi ∙ length-map bits (λ b. b.tdi) ∙ s.size_is
 
-pub tdo_length : {bits : List ScanBit} {rows : FixedRows} → AreRowsOf bits rows → length rows.tdo ≡ length rows.tdi
+pub tdo_length : {bits : List ScanBit} {rows : FixedRows} → AreRowsOf bits rows → length rows.tdo.bits ≡ length rows.tdi.bits
 tdo_length {bits} {rows} r = ap (λ (l : List Bool). length l) r.tdo ∙ length-map bits (λ b. unwrap_or b.expect false) ∙ sym (ap (λ (l : List Bool). length l) r.tdi ∙ length-map bits (λ b. b.tdi))
 
-pub mask_length : {bits : List ScanBit} {rows : FixedRows} → AreRowsOf bits rows → length rows.mask ≡ length rows.tdi
+pub mask_length : {bits : List ScanBit} {rows : FixedRows} → AreRowsOf bits rows → length rows.mask.bits ≡ length rows.tdi.bits
 mask_length {bits} {rows} r = ap (λ (l : List Bool). length l) r.mask ∙ length-map bits (λ b. is_some b.expect) ∙ sym (ap (λ (l : List Bool). length l) r.tdi ∙ length-map bits (λ b. b.tdi))
 
 -- scans of data
@@ -165,16 +172,16 @@ readers_below board rules readers are long k d less =
     (all_has (λ r. r.position < data_bits board) (get_or readers k []) (λ r has. reader_within board rules net.0 r ((are k net.0 net.1).0 r has)))
 
 module _ (board : RawBoard) (rules : IsBoard board) (plan : PlanTables) (p : IsPlanOf board plan) where
-  quiet_laid : plan.quiet ≡ laid (steady board (λ c. false)) board
+  quiet_laid : plan.quiet.bits ≡ laid (steady board (λ c. false)) board
   quiet_laid =
       p.tables.quiet ∙ tdi_laid board first_row_scan
       ∙ laid_same board (λ part device cell. row_bit board quiet_row part device cell) (steady board (λ c. false)) (quiet_steady board)
 
-  pub quiet_length : length plan.quiet ≡ data_bits board
+  pub quiet_length : length plan.quiet.bits ≡ data_bits board
   quiet_length = ap (λ (l : List Bool). length l) quiet_laid ∙ length-laid (steady board (λ c. false)) board
 
   -- the quiet row is the same whatever is compared
-  pub quiet_is : (scan : RowScan) → scan.now ≡ quiet_row → plan.quiet ≡ tdi_bits (joined (row_bits board scan))
+  pub quiet_is : (scan : RowScan) → scan.now ≡ quiet_row → plan.quiet.bits ≡ tdi_bits (joined (row_bits board scan))
   quiet_is scan e =
       p.tables.quiet ∙ tdi_laid board first_row_scan
       ∙ sym (tdi_laid board scan ∙ ap (λ (row : TestRow). laid (λ part device cell. row_bit board row part device cell) board) e)
@@ -191,14 +198,14 @@ module _ (board : RawBoard) (rules : IsBoard board) (plan : PlanTables) (p : IsP
   readers_within = readers_below board rules plan.readers readers_of p.tables.readers_length
 
   -- the lengths of the rows of all passes
-  pub common_tdi_length : (j : ℕ) → length (common_rows plan.quiet plan.codes plan.readers plan.steady j).tdi ≡ data_bits board
-  common_tdi_length j = length-assigned (λ (d : DriverCell). d.position) (driver_bit plan.codes j) plan.quiet plan.steady ∙ quiet_length
+  pub common_tdi_length : (j : ℕ) → length (common_rows plan.quiet.bits plan.codes plan.readers plan.steady j).tdi.bits ≡ data_bits board
+  common_tdi_length j = length-assigned (λ (d : DriverCell). d.position) (driver_bit plan.codes j) plan.quiet.bits plan.steady ∙ quiet_length
 
-  pub compared_length : (bit : DriverCell → Bool) → length (set_compared bit plan.readers (replicate (length plan.quiet) false) plan.steady) ≡ data_bits board
-  compared_length bit = length-set_compared bit plan.readers plan.steady (replicate (length plan.quiet) false) ∙ length-replicate (length plan.quiet) false ∙ quiet_length
+  pub compared_length : (bit : DriverCell → Bool) → length (set_compared bit plan.readers (replicate (length plan.quiet.bits) false) plan.steady) ≡ data_bits board
+  compared_length bit = length-set_compared bit plan.readers plan.steady (replicate (length plan.quiet.bits) false) ∙ length-replicate (length plan.quiet.bits) false ∙ quiet_length
 
   pub common_there : (j : ℕ) → j < plan.width → j < length plan.common
-  common_there j less = Rattle.std.proofs.lemmas.Option.slice_get_within plan.common j (common_rows plan.quiet plan.codes plan.readers plan.steady j) (p.tables.common j less)
+  common_there j less = Rattle.std.proofs.lemmas.Option.slice_get_within plan.common j (common_rows plan.quiet.bits plan.codes plan.readers plan.steady j) (p.tables.common j less)
 
   module _ (x : ℕ) (less : x < length plan.passes) where
     abbrev pass : List Ctl
@@ -267,14 +274,14 @@ module _ (board : RawBoard) (rules : IsBoard board) (plan : PlanTables) (p : IsP
 
       -- a row of the pass, over that of all passes
       pub code_row_is : (j : ℕ) (scan : RowScan) → scan.now ≡ code_row board plan.passes pass j →
-          assigned (λ d. d.position) (driver_bit plan.codes j) (assigned (λ h. h.position) (λ h. h.bit) (common_rows plan.quiet plan.codes plan.readers plan.steady j).tdi cells.held) cells.drivers
+          assigned (λ d. d.position) (driver_bit plan.codes j) (assigned (λ h. h.position) (λ h. h.bit) (common_rows plan.quiet.bits plan.codes plan.readers plan.steady j).tdi.bits cells.held) cells.drivers
           ≡ tdi_bits (joined (row_bits board scan))
       code_row_is j scan e =
           let bit : DriverCell → Bool = driver_bit plan.codes j in
           ap (λ (l : List Bool). assigned (λ d. d.position) bit l cells.drivers)
-          (assigned_apart (λ (h : HeldCell). h.position) (λ h. h.bit) (λ (d : DriverCell). d.position) bit plan.quiet cells.held plan.steady
+          (assigned_apart (λ (h : HeldCell). h.position) (λ h. h.bit) (λ (d : DriverCell). d.position) bit plan.quiet.bits cells.held plan.steady
           (λ h d in_held in_steady. are.apart h d (has_contains cells.held h in_held) (has_contains plan.steady d in_steady)))
-          ∙ sym (fold-append (λ bits (d : DriverCell). set bits d.position (bit d)) (assigned (λ h. h.position) (λ h. h.bit) plan.quiet cells.held) plan.steady cells.drivers)
+          ∙ sym (fold-append (λ bits (d : DriverCell). set bits d.position (bit d)) (assigned (λ h. h.position) (λ h. h.bit) plan.quiet.bits cells.held) plan.steady cells.drivers)
           ∙ ap (λ (l : List Bool). assigned (λ d. d.position) bit (assigned (λ h. h.position) (λ h. h.bit) l cells.held) all) quiet_laid
           ∙ ap (λ (l : List Bool). assigned (λ d. d.position) bit l all)
           (held_laid board rules pass (λ c has. p.plannable.controls x pass c stands has) cells.held held_only (λ h is. contains_has cells.held h ((are.held h).1 is)))
@@ -283,22 +290,22 @@ module _ (board : RawBoard) (rules : IsBoard board) (plan : PlanTables) (p : IsP
 
       -- what is compared of it, over what is compared of all
       compared_is : (bit : DriverCell → Bool) →
-          set_compared bit plan.readers (set_compared bit plan.readers (replicate (length plan.quiet) false) plan.steady) cells.drivers
+          set_compared bit plan.readers (set_compared bit plan.readers (replicate (length plan.quiet.bits) false) plan.steady) cells.drivers
           ≡ assigned (λ (x : Pair). x.1.position) (λ x. bit x.0) (laid (λ part device cell. false) board) (pairs plan.readers all)
       compared_is bit =
-          sym (fold-append (λ done (d : DriverCell). set_readers d.place (bit d) done (get_or plan.readers d.net [])) (replicate (length plan.quiet) false) plan.steady cells.drivers)
+          sym (fold-append (λ done (d : DriverCell). set_readers d.place (bit d) done (get_or plan.readers d.net [])) (replicate (length plan.quiet.bits) false) plan.steady cells.drivers)
           ∙ ap (λ (l : List Bool). set_compared bit plan.readers l all) (ap (λ n. replicate n false) quiet_length ∙ zeros_laid board)
           ∙ set_compared_is bit plan.readers all (laid (λ part device cell. false) board)
 
       pub tdo_is : (j : ℕ) (scan : RowScan) → scan.before ≡ code_row board plan.passes pass j →
-          set_compared (driver_bit plan.codes j) plan.readers (common_rows plan.quiet plan.codes plan.readers plan.steady j).tdo cells.drivers ≡ tdo_bits (joined (row_bits board scan))
+          set_compared (driver_bit plan.codes j) plan.readers (common_rows plan.quiet.bits plan.codes plan.readers plan.steady j).tdo.bits cells.drivers ≡ tdo_bits (joined (row_bits board scan))
       tdo_is j scan e =
           compared_is (driver_bit plan.codes j)
           ∙ tdo_compared board rules pass (carried j) (driver_bit plan.codes j) all driver_only every (carries j) plan.readers readers_of
           ∙ sym (tdo_laid board scan ∙ ap (λ (row : TestRow). laid (λ part device cell. unwrap_or (expect_bit board row part device cell) false) board) e)
 
       pub mask_is : (j : ℕ) (scan : RowScan) → scan.before ≡ code_row board plan.passes pass j →
-          set_compared (λ d. true) plan.readers (common_rows plan.quiet plan.codes plan.readers plan.steady j).mask cells.drivers ≡ mask_bits (joined (row_bits board scan))
+          set_compared (λ d. true) plan.readers (common_rows plan.quiet.bits plan.codes plan.readers plan.steady j).mask.bits cells.drivers ≡ mask_bits (joined (row_bits board scan))
       mask_is j scan e =
           compared_is (λ d. true)
           ∙ mask_compared board rules pass (carried j) (driver_bit plan.codes j) all driver_only every (carries j) plan.readers readers_of

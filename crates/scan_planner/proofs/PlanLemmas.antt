@@ -147,11 +147,11 @@ pins_most board rules k d less =
     omega (arith, rules.pins_most, sum_by-take-drop f board.nets k, sum_by-drop_more f board.nets k d less)
 
 -- the plan
-pub is_plan : (board : RawBoard) → IsBoard board → (plan : PlanTables) → ArePlannable board plan.passes → plan.quiet ≡ laid (quiet_bits board) board →
+pub is_plan : (board : RawBoard) → IsBoard board → (plan : PlanTables) → ArePlannable board plan.passes → plan.quiet.bits ≡ laid (quiet_bits board) board →
     plan.readers ≡ all_readers board → plan.drivers ≡ all_drivers board → ArePassTables board plan.passes (record { steady = plan.steady; cells = plan.cells }) →
     (seen : List Bool) → seen ≡ seen_in (length board.nets) plan.steady plan.cells → (codes : NetCodes) → AreCodes seen codes → plan.codes ≡ codes.codes →
     codes.count + 2 ≤ 2 ^ plan.width → ((less : ℕ) → less < plan.width → 2 ^ less < codes.count + 2) →
-    plan.common ≡ filled plan.width (common_rows plan.quiet plan.codes plan.readers plan.steady) →
+    plan.common ≡ filled plan.width (common_rows plan.quiet.bits plan.codes plan.readers plan.steady) →
     AreRowsOf ((instructs (map (λ part. preload_code part.kind) board.chain)).bits) plan.preload →
     AreRowsOf ((instructs (map (λ part. extest_code part.kind) board.chain)).bits) plan.extest → IsPlanOf board plan
 is_plan board rules plan plannable quiet readers_are drivers_are tables seen seen_is codes are_codes codes_are enough least common preload extest =
@@ -167,7 +167,7 @@ is_plan board rules plan plannable quiet readers_are drivers_are tables seen see
         extest = extest;
         quiet = quiet ∙ sym (tdi_laid board first_row_scan ∙ laid_same board (λ part device cell. row_bit board quiet_row part device cell) (quiet_bits board) (quiet_steady board));
         cells = tables.each;
-        common = λ j less. ap (λ (l : List FixedRows). slice_get l j) common ∙ filled_at plan.width (common_rows plan.quiet plan.codes plan.readers plan.steady) j less;
+        common = λ j less. ap (λ (l : List FixedRows). slice_get l j) common ∙ filled_at plan.width (common_rows plan.quiet.bits plan.codes plan.readers plan.steady) j less;
         readers = λ n net e. (
           readers_of board net.pins,
           ap (λ (l : List (List ReaderCell)). slice_get l n) readers_are ∙ readers_at board n net e,

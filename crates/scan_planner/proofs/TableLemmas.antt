@@ -12,7 +12,6 @@ use Rattle.board_defs.specs.declared.board.PinAt.{PinAt}
 use Rattle.board_defs.specs.declared.board.NetPin.{NetPin}
 use Rattle.board_defs.specs.declared.board.Net.{Net}
 use Rattle.board_defs.specs.declared.board.RawBoard.{RawBoard}
-use Rattle.board_defs.specs.declared.board.Ctl.{Ctl}
 use Rattle.board_defs.specs.DeviceRules.{reads_bit, may_receive}
 use Rattle.board_defs.specs.Pins.{device_at, entry_at, guarded, receives, receives_where, receives_in, receives_bit}
 use Rattle.board_defs.specs.Settings.{Enabling, enables, enables_where, enables_entry, enables_by}

@@ -1,7 +1,6 @@
 -- The bits of cells that the entries of a device give, each by itself.
 use Rattle.std.specs.Prelude.{ℕ, Bool, false, ◌&&◌, cond, List, fold, Option, Some, None, option_map, unwrap_or, replicate, slice_set}
 use Rattle.board_defs.specs.declared.device.Role.{Role}
-use Rattle.board_defs.specs.declared.device.Control.{Control}
 use Rattle.board_defs.specs.declared.device.Cell.{Cell}
 use Rattle.board_defs.specs.declared.device.RawDevice.{RawDevice}
 use Rattle.board_defs.specs.declared.board.RawBoard.{RawBoard}

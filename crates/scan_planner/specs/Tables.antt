@@ -1,5 +1,6 @@
 -- What a plan keeps of a board: rows that every test of it has, rows that all passes share, and the positions at which those of a pass differ.
 use Rattle.std.specs.Prelude.{◌≡◌, ◌≢◌, ◌↔◌, ℕ, suc, ◌+◌, ◌<◌, Bool, true, false, not, List, ◌++◌, replicate, length, map, drop, sum_by, Some, slice_get, unwrap_or, Contains}
+use Rattle.bt_bits.specs.Rows.{BitRow}
 use Rattle.board_defs.specs.declared.device.Cell.{Cell}
 use Rattle.board_defs.specs.declared.device.RawDevice.{RawDevice}
 use Rattle.board_defs.specs.declared.board.PinAt.{PinAt}
@@ -28,9 +29,9 @@ first_position board part = sum_by (λ p. data_length p.kind) (drop (suc part) b
 
 -- the rows of a scan with these bits
 pub record AreRowsOf (bits : List ScanBit) (rows : FixedRows) : Type 0 where
-  pub tdi : rows.tdi ≡ tdi_bits bits
-  pub tdo : rows.tdo ≡ tdo_bits bits
-  pub mask : rows.mask ≡ mask_bits bits
+  pub tdi : rows.tdi.bits ≡ tdi_bits bits
+  pub tdo : rows.tdo.bits ≡ tdo_bits bits
+  pub mask : rows.mask.bits ≡ mask_bits bits
 
 -- the cell of a control of the pass, with the opposite of its disable value
 pub record IsHeldCell (board : RawBoard) (pass : List Ctl) (h : HeldCell) : Type 0 where
@@ -74,14 +75,18 @@ pub record ArePassCells (board : RawBoard) (steady : List DriverCell) (pass : Li
   pub drivers : (d : DriverCell) → Contains (steady ++ cells.drivers) d ↔ IsDriverCell board pass d
   pub apart : (h : HeldCell) (d : DriverCell) → Contains cells.held h → Contains steady d → h.position ≢ d.position
 
+-- a row of these bits, with room for so many
+abbrev pub row_with : ℕ → List Bool → BitRow
+row_with room bits = record { bits = bits; room = room }
+
 -- what all passes have in row j: bit j of the code of each steady driver's net, in its cell over the quiet row and where the net is read
 abbrev pub common_rows : List Bool → List ℕ → List (List ReaderCell) → List DriverCell → ℕ → FixedRows
 common_rows quiet codes readers steady j =
     let none : List Bool = replicate (length quiet) false in
     record {
-      tdi = assigned (λ d. d.position) (driver_bit codes j) quiet steady;
-      tdo = set_compared (driver_bit codes j) readers none steady;
-      mask = set_compared (λ d. true) readers none steady;
+      tdi = row_with (length quiet) (assigned (λ d. d.position) (driver_bit codes j) quiet steady);
+      tdo = row_with (length quiet) (set_compared (driver_bit codes j) readers none steady);
+      mask = row_with (length quiet) (set_compared (λ d. true) readers none steady);
     }
 
 -- the compared cells of a net, each in some place
@@ -92,8 +97,8 @@ AreReaders board net readers = (r : ReaderCell) → Contains readers r ↔ IsRea
 pub record ArePlanTables (board : RawBoard) (plan : PlanTables) : Type 0 where
   pub preload : AreRowsOf ((instructs (map (λ part. preload_code part.kind) board.chain)).bits) plan.preload
   pub extest : AreRowsOf ((instructs (map (λ part. extest_code part.kind) board.chain)).bits) plan.extest
-  pub quiet : plan.quiet ≡ tdi_bits (joined (row_bits board first_row_scan))
+  pub quiet : plan.quiet.bits ≡ tdi_bits (joined (row_bits board first_row_scan))
   pub cells : (x : ℕ) (pass : List Ctl) → slice_get plan.passes x ≡ Some pass → (cells : PassCells) × (slice_get plan.cells x ≡ Some cells) × ArePassCells board plan.steady pass cells
-  pub common : (j : ℕ) → j < plan.width → slice_get plan.common j ≡ Some (common_rows plan.quiet plan.codes plan.readers plan.steady j)
+  pub common : (j : ℕ) → j < plan.width → slice_get plan.common j ≡ Some (common_rows plan.quiet.bits plan.codes plan.readers plan.steady j)
   pub readers : (n : ℕ) (net : Net) → slice_get board.nets n ≡ Some net → (readers : List ReaderCell) × (slice_get plan.readers n ≡ Some readers) × AreReaders board net readers
   pub readers_length : length plan.readers ≡ length board.nets

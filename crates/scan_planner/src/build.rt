@@ -14,6 +14,7 @@ use crate::instructions::{Instruction, instruction_rows};
 use crate::observers::{Observer, net_cells};
 use crate::passes::all_cells;
 use crate::quiet::quiet_row;
+use crate::rows::row_of;
 use crate::tables::{PassTables, PlanTables};
 use crate::uses::{moving, steady_cells, uses_of};
 use board_defs::{Board, Items, Setting};
@@ -61,12 +62,13 @@ pub fn tables_of(
     let _ = board.raw();
     let parts = part_tables(alloc, board)?;
     let firsts = parts.firsts.as_slice();
-    let quiet = quiet_row(alloc, board)?;
+    let bits = quiet_row(alloc, board)?;
+    let quiet = row_of(alloc, &bits)?;
     let nets = net_cells(alloc, board, &parts)?;
     let drivers = all_drivers(alloc, board, &parts)?;
     let readers = nets.readers.as_slice();
     let observers = nets.observers.as_slice();
-    let tables = pass_tables(alloc, board, firsts, &quiet, observers, passes.as_slice())?;
+    let tables = pass_tables(alloc, board, firsts, &bits, observers, passes.as_slice())?;
     let steady = tables.steady.as_slice();
     let seen = seen_nets(alloc, readers.len(), steady, tables.cells.as_slice())?;
     let codes = number_nets(alloc, &seen)?;
@@ -87,7 +89,7 @@ pub fn tables_of(
         codes: codes.codes,
         preload,
         extest,
-        quiet: Items::of(quiet),
+        quiet,
         steady: tables.steady,
         common,
         cells: tables.cells,

@@ -3,7 +3,7 @@ ghost use Rattle.std.specs.Prelude.{◌≡◌, ◌<◌, ◌≤◌, length, IfOk,
 ghost use Rattle.tap_defs.specs.ShiftRegister.{filled};
 ghost use Rattle.scan_planner.specs.Tables.{common_rows};
 
-use crate::rows::{compare_nets, items_of, set_drivers};
+use crate::rows::{compare_nets, set_drivers};
 use crate::tables::{DriverCell, FixedRows, ReaderCell};
 use board_defs::Items;
 use bt_bits::Row;
@@ -12,52 +12,48 @@ use std::alloc::{AllocError, Global};
 // What all passes have in row `j`: what is shifted in, and what is compared.
 fn common_row(
     alloc: Global,
-    quiet: &[bool],
+    quiet: &Row,
     steady: &[DriverCell],
     readers: &[Items<ReaderCell>],
     codes: &[u32],
     j: u32,
 ) -> Result<FixedRows, AllocError>
-    requires few { length quiet.now ≤ 65535 }
+    requires few { length quiet.now.bits ≤ 65535 }
     requires bit { j < 32 }
     requires codes { All (λ d. d.net < length codes.now) steady.now }
     requires nets { All (λ d. d.net < length readers.now) steady.now }
-    requires within { All (λ d. d.position < length quiet.now) steady.now }
-    requires read { All (λ cells. All (λ r. r.position < length quiet.now) cells) readers.now }
-    ensures { IfOk result (λ rows. rows ≡ common_rows quiet.now codes.now readers.now steady.now j) }
+    requires within { All (λ d. d.position < length quiet.now.bits) steady.now }
+    requires read { All (λ cells. All (λ r. r.position < length quiet.now.bits) cells) readers.now }
+    ensures { IfOk result (λ rows. rows ≡ common_rows quiet.now.bits codes.now readers.now steady.now j) }
 {
-    let bits = quiet.len() as u32;
+    let bits = quiet.len();
     let mut tdi = Row::with_room(alloc, bits)?;
     let mut tdo = Row::with_room(alloc, bits)?;
     let mut mask = Row::with_room(alloc, bits)?;
-    tdi.copy_from(quiet);
+    tdi.copy_row(quiet);
     tdo.clear(bits);
     mask.clear(bits);
     set_drivers(steady, codes, j, &mut tdi);
     compare_nets(steady, readers, codes, j, &mut tdo, &mut mask);
-    Ok(FixedRows {
-        tdi: items_of(alloc, &tdi)?,
-        tdo: items_of(alloc, &tdo)?,
-        mask: items_of(alloc, &mask)?,
-    })
+    Ok(FixedRows { tdi, tdo, mask })
 }
 
 /// What all passes have in each of so many rows.
 pub fn common_rows(
     alloc: Global,
-    quiet: &[bool],
+    quiet: &Row,
     steady: &[DriverCell],
     readers: &[Items<ReaderCell>],
     codes: &[u32],
     width: u32,
 ) -> Result<Items<FixedRows>, AllocError>
-    requires few { length quiet.now ≤ 65535 }
+    requires few { length quiet.now.bits ≤ 65535 }
     requires width { width ≤ 14 }
     requires codes { All (λ d. d.net < length codes.now) steady.now }
     requires nets { All (λ d. d.net < length readers.now) steady.now }
-    requires within { All (λ d. d.position < length quiet.now) steady.now }
-    requires read { All (λ cells. All (λ r. r.position < length quiet.now) cells) readers.now }
-    ensures { IfOk result (λ rows. rows ≡ filled width (common_rows quiet.now codes.now readers.now steady.now)) }
+    requires within { All (λ d. d.position < length quiet.now.bits) steady.now }
+    requires read { All (λ cells. All (λ r. r.position < length quiet.now.bits) cells) readers.now }
+    ensures { IfOk result (λ rows. rows ≡ filled width (common_rows quiet.now.bits codes.now readers.now steady.now)) }
 {
     let mut rows = Vec::new(alloc);
     for j in 0..width {

@@ -26,21 +26,21 @@ fn shape_of(ir: bool, mask: &Row) -> Shape
 
 // Copies the rows of a scan.
 fn copy_rows(rows: &FixedRows, tdi: &mut Row, tdo: &mut Row, mask: &mut Row)
-    requires tdo_length { length rows.now.tdo ≡ length rows.now.tdi }
-    requires mask_length { length rows.now.mask ≡ length rows.now.tdi }
-    requires tdi_room { length rows.now.tdi ≤ tdi.old.room }
-    requires tdo_room { length rows.now.tdi ≤ tdo.old.room }
-    requires mask_room { length rows.now.tdi ≤ mask.old.room }
-    ensures tdi { tdi.new.bits ≡ rows.now.tdi }
-    ensures tdo { tdo.new.bits ≡ rows.now.tdo }
-    ensures mask { mask.new.bits ≡ rows.now.mask }
+    requires tdo_length { length rows.now.tdo.bits ≡ length rows.now.tdi.bits }
+    requires mask_length { length rows.now.mask.bits ≡ length rows.now.tdi.bits }
+    requires tdi_room { length rows.now.tdi.bits ≤ tdi.old.room }
+    requires tdo_room { length rows.now.tdi.bits ≤ tdo.old.room }
+    requires mask_room { length rows.now.tdi.bits ≤ mask.old.room }
+    ensures tdi { tdi.new.bits ≡ rows.now.tdi.bits }
+    ensures tdo { tdo.new.bits ≡ rows.now.tdo.bits }
+    ensures mask { mask.new.bits ≡ rows.now.mask.bits }
     ensures tdi_kept { tdi.new.room ≡ tdi.old.room }
     ensures tdo_kept { tdo.new.room ≡ tdo.old.room }
     ensures mask_kept { mask.new.room ≡ mask.old.room }
 {
-    tdi.copy_from(rows.tdi.as_slice());
-    tdo.copy_from(rows.tdo.as_slice());
-    mask.copy_from(rows.mask.as_slice());
+    tdi.copy_row(&rows.tdi);
+    tdo.copy_row(&rows.tdo);
+    mask.copy_row(&rows.mask);
 }
 
 // The first scan, which shifts the preload codes in.
@@ -106,7 +106,7 @@ fn fill_quiet(
 {
     let _ = board.raw();
     let len = board.dr_bits();
-    tdi.copy_from(tables.quiet.as_slice());
+    tdi.copy_row(&tables.quiet);
     tdo.clear(len);
     mask.clear(len);
     shape_of(false, mask)
@@ -140,7 +140,7 @@ fn rows_at(common: &[FixedRows], j: usize) -> &FixedRows
 fn common_row<'a>(board: &Board, tables: &'a PlanTables, j: u32) -> &'a FixedRows
     requires plan { IsPlanOf board.now tables.now }
     requires row { j < tables.now.width }
-    ensures { result.now ≡ common_rows tables.now.quiet tables.now.codes tables.now.readers tables.now.steady j }
+    ensures { result.now ≡ common_rows tables.now.quiet.bits tables.now.codes tables.now.readers tables.now.steady j }
 {
     let _ = board.raw();
     rows_at(tables.common.as_slice(), j as usize)
@@ -159,7 +159,7 @@ fn fill_code_row(board: &Board, tables: &PlanTables, pass: usize, j: u32, tdi: &
     let _ = board.raw();
     let common = common_row(board, tables, j);
     let cells = pass_cells(board, tables, pass);
-    tdi.copy_from(common.tdi.as_slice());
+    tdi.copy_row(&common.tdi);
     set_held(cells.held.as_slice(), tdi);
     set_drivers(cells.drivers.as_slice(), tables.codes.as_slice(), j, tdi);
 }
@@ -177,7 +177,7 @@ fn fill_now(board: &Board, tables: &PlanTables, pass: usize, j: u32, tdi: &mut R
     if j < tables.width {
         fill_code_row(board, tables, pass, j, tdi)
     } else {
-        tdi.copy_from(tables.quiet.as_slice())
+        tdi.copy_row(&tables.quiet)
     }
 }
 
@@ -204,8 +204,8 @@ fn compare_row(
     let _ = board.raw();
     let common = common_row(board, tables, j);
     let cells = pass_cells(board, tables, pass);
-    tdo.copy_from(common.tdo.as_slice());
-    mask.copy_from(common.mask.as_slice());
+    tdo.copy_row(&common.tdo);
+    mask.copy_row(&common.mask);
     compare_nets(
         cells.drivers.as_slice(),
         tables.readers.as_slice(),

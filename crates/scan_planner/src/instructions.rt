@@ -9,8 +9,9 @@ ghost use Rattle.tap_defs.specs.BoardScans.{preload_code, extest_code};
 ghost use Rattle.scan_planner.specs.Tables.{AreRowsOf};
 ghost use Rattle.scan_planner.specs.Codes.{code_for, AreCoded, captured_bits, compared_bits};
 
+use crate::rows::row_of;
 use crate::tables::FixedRows;
-use board_defs::{Board, Device, Items, Part, PartKind, Symbol};
+use board_defs::{Board, Device, Part, PartKind, Symbol};
 use std::alloc::{AllocError, Global};
 
 /// The instruction of a scan: the one that preloads the boundary register, or EXTEST.
@@ -79,7 +80,8 @@ fn push_capture(length: u32, tdo: &mut Vec<bool>, mask: &mut Vec<bool>) -> Resul
 }
 
 fn rows_of(alloc: Global, instruction: Instruction, chain: &[Part]) -> Result<FixedRows, AllocError>
-    requires { AreCoded instruction chain.now }
+    requires coded { AreCoded instruction chain.now }
+    requires few { length ((instructs (map (λ part. code_for instruction part.kind) chain.now)).bits) ≤ 65535 }
     ensures { IfOk result (λ rows. AreRowsOf ((instructs (map (λ part. code_for instruction part.kind) chain.now)).bits) rows) }
 {
     let mut tdi = Vec::new(alloc);
@@ -91,9 +93,9 @@ fn rows_of(alloc: Global, instruction: Instruction, chain: &[Part]) -> Result<Fi
         push_capture(kind.instruction_length(), &mut tdo, &mut mask)?;
     }
     Ok(FixedRows {
-        tdi: Items::of(tdi),
-        tdo: Items::of(tdo),
-        mask: Items::of(mask),
+        tdi: row_of(alloc, &tdi)?,
+        tdo: row_of(alloc, &tdo)?,
+        mask: row_of(alloc, &mask)?,
     })
 }
 

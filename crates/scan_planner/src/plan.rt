@@ -13,7 +13,7 @@ use tap_defs::Shape;
 
 /// The plan of a board's test: its passes, and what each scan is made of: what all passes have in each row, and the
 /// cells in which those of a pass differ.
-#[derive(Debug, Drop)]
+#[derive(Drop)]
 pub struct Plan {
     pub(crate) tables: PlanTables,
 }

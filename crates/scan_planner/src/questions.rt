@@ -72,11 +72,8 @@ impl Plan {
 
     /// The bit at a position of the quiet row, and 0 past its end.
     pub fn quiet(&self, position: u32) -> bool
-        ensures { result ≡ slice_index_or self.now.quiet position false }
+        ensures { result ≡ slice_index_or self.now.quiet.bits position false }
     {
-        match self.tables.quiet.as_slice().get(position as usize) {
-            None => false,
-            Some(bit) => *bit,
-        }
+        position < self.tables.quiet.len() && self.tables.quiet.get(position)
     }
 }

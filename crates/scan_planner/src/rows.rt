@@ -1,5 +1,5 @@
 // Bits that are set in rows.
-ghost use Rattle.std.specs.Prelude.{◌≡◌, ◌<◌, true, length, slice_set, IfOk, All};
+ghost use Rattle.std.specs.Prelude.{◌≡◌, ◌<◌, ◌≤◌, true, length, slice_set, IfOk, All};
 ghost use Rattle.std.specs.List.{list_any};
 ghost use Rattle.scan_planner.specs.Assigned.{assigned, driver_bit, set_readers, set_compared};
 
@@ -18,15 +18,14 @@ pub fn mark(flags: &mut [bool], place: usize)
     }
 }
 
-/// The bits of a row.
-pub fn items_of(alloc: Global, row: &Row) -> Result<Items<bool>, AllocError>
-    ensures { IfOk result (λ bits. bits ≡ row.now.bits) }
+/// A row of these bits.
+pub fn row_of(alloc: Global, bits: &[bool]) -> Result<Row, AllocError>
+    requires { length bits.now ≤ 65535 }
+    ensures { IfOk result (λ row. row.bits ≡ bits.now) }
 {
-    let mut bits = Vec::new(alloc);
-    for i in 0..row.len() {
-        bits.push(row.get(i))?;
-    }
-    Ok(Items::of(bits))
+    let mut row = Row::with_room(alloc, bits.len() as u32)?;
+    row.copy_from(bits);
+    Ok(row)
 }
 
 /// Whether some bit of a row is 1.

@@ -1,13 +1,14 @@
 // What a plan keeps: positions and bits, from which each scan is made.
 use crate::nets::NetDriver;
 use board_defs::{Items, Setting};
+use bt_bits::Row;
 
 /// The rows of a scan that many scans share.
-#[derive(Debug, Drop)]
+#[derive(Drop)]
 pub struct FixedRows {
-    pub tdi: Items<bool>,
-    pub tdo: Items<bool>,
-    pub mask: Items<bool>,
+    pub tdi: Row,
+    pub tdo: Row,
+    pub mask: Row,
 }
 
 /// The cell of a control of a setting: its position, and the bit that enables what it controls.
@@ -49,14 +50,14 @@ pub struct PassTables {
 
 /// The tables of a plan: the driver cells that are the same in all passes, what all passes have in each row with these
 /// cells set, and the cells of each pass. The codes, the readers and the drivers stand net by net.
-#[derive(Debug, Drop)]
+#[derive(Drop)]
 pub struct PlanTables {
     pub passes: Items<Setting>,
     pub width: u32,
     pub codes: Items<u32>,
     pub preload: FixedRows,
     pub extest: FixedRows,
-    pub quiet: Items<bool>,
+    pub quiet: Row,
     pub steady: Items<DriverCell>,
     pub common: Items<FixedRows>,
     pub cells: Items<PassCells>,

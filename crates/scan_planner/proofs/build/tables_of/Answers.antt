@@ -20,25 +20,29 @@ use Rattle.scan_planner.proofs.build.tables_of.Goals as goal
 
 pub number_nets-requires : goal.number_nets-requires
 number_nets-requires c =
-    (seen_most c.args.board.now c.raw.ensures.rules c.as_slice-readers.result.now c.as_slice-steady.result.now c.as_slice-2.result.now c.deref-2.result.now
-    (c.as_slice-readers.ensures ∙ c.in_ok-nets.ensures.readers) (c.deref-2.ensures.value ∙ c.in_ok-seen.ensures)).1
+    (seen_most c.args.board.now c.raw.ensures.rules c.as_slice-readers.result.now c.as_slice-steady.result.now c.as_slice-2.result.now c.deref-3.result.now
+    (c.as_slice-readers.ensures ∙ c.in_ok-nets.ensures.readers) (c.deref-3.ensures.value ∙ c.in_ok-seen.ensures)).1
 
 pub width-width-requires : goal.width-width-requires
 width-width-requires c =
-    count_most c.deref-2.result.now c.in_ok-codes.codes c.in_ok-codes.ensures
-    (seen_most c.args.board.now c.raw.ensures.rules c.as_slice-readers.result.now c.as_slice-steady.result.now c.as_slice-2.result.now c.deref-2.result.now
-    (c.as_slice-readers.ensures ∙ c.in_ok-nets.ensures.readers) (c.deref-2.ensures.value ∙ c.in_ok-seen.ensures)).1
+    count_most c.deref-3.result.now c.in_ok-codes.codes c.in_ok-codes.ensures
+    (seen_most c.args.board.now c.raw.ensures.rules c.as_slice-readers.result.now c.as_slice-steady.result.now c.as_slice-2.result.now c.deref-3.result.now
+    (c.as_slice-readers.ensures ∙ c.in_ok-nets.ensures.readers) (c.deref-3.ensures.value ∙ c.in_ok-seen.ensures)).1
+
+pub row_of-requires : goal.row_of-requires
+row_of-requires c =
+    omega (arith, ap (λ (l : List Bool). length l) (c.deref.ensures.value ∙ c.in_ok-bits.ensures), length-laid (quiet_bits c.args.board.now) c.args.board.now, c.raw.ensures.rules.data_most)
 
 pub common_rows-requires-clause-few : goal.common_rows-requires-clause-few
 common_rows-requires-clause-few c =
-    omega (arith, ap (λ (l : List Bool). length l) (c.deref-3.ensures.value ∙ c.in_ok-quiet.ensures), length-laid (quiet_bits c.args.board.now) c.args.board.now, c.raw.ensures.rules.data_most)
+    omega (arith, ap (λ (l : List Bool). length l) (c.in_ok-quiet.ensures ∙ c.deref.ensures.value ∙ c.in_ok-bits.ensures), length-laid (quiet_bits c.args.board.now) c.args.board.now, c.raw.ensures.rules.data_most)
 
 pub common_rows-requires-clause-width : goal.common_rows-requires-clause-width
 common_rows-requires-clause-width c =
     width_most c.in_ok-codes.codes.count c.width-width.result
-    (count_most c.deref-2.result.now c.in_ok-codes.codes c.in_ok-codes.ensures
-    (seen_most c.args.board.now c.raw.ensures.rules c.as_slice-readers.result.now c.as_slice-steady.result.now c.as_slice-2.result.now c.deref-2.result.now
-    (c.as_slice-readers.ensures ∙ c.in_ok-nets.ensures.readers) (c.deref-2.ensures.value ∙ c.in_ok-seen.ensures)).1) c.width-width.ensures.least
+    (count_most c.deref-3.result.now c.in_ok-codes.codes c.in_ok-codes.ensures
+    (seen_most c.args.board.now c.raw.ensures.rules c.as_slice-readers.result.now c.as_slice-steady.result.now c.as_slice-2.result.now c.deref-3.result.now
+    (c.as_slice-readers.ensures ∙ c.in_ok-nets.ensures.readers) (c.deref-3.ensures.value ∙ c.in_ok-seen.ensures)).1) c.width-width.ensures.least
 
 pub common_rows-requires-clause-codes : goal.common_rows-requires-clause-codes
 common_rows-requires-clause-codes c =
@@ -48,8 +52,8 @@ common_rows-requires-clause-codes c =
       c.in_ok-tables.ensures.nets d (has_contains c.in_ok-tables.tables.steady d has),
       ap (λ l. length l) c.as_slice-3.ensures,
       c.in_ok-codes.ensures.length_is,
-      (seen_most c.args.board.now c.raw.ensures.rules c.as_slice-readers.result.now c.as_slice-steady.result.now c.as_slice-2.result.now c.deref-2.result.now
-          (c.as_slice-readers.ensures ∙ c.in_ok-nets.ensures.readers) (c.deref-2.ensures.value ∙ c.in_ok-seen.ensures)).0,
+      (seen_most c.args.board.now c.raw.ensures.rules c.as_slice-readers.result.now c.as_slice-steady.result.now c.as_slice-2.result.now c.deref-3.result.now
+          (c.as_slice-readers.ensures ∙ c.in_ok-nets.ensures.readers) (c.deref-3.ensures.value ∙ c.in_ok-seen.ensures)).0,
     )))
 
 pub common_rows-requires-clause-nets : goal.common_rows-requires-clause-nets
@@ -64,11 +68,11 @@ common_rows-requires-clause-nets c =
 
 pub common_rows-requires-clause-within : goal.common_rows-requires-clause-within
 common_rows-requires-clause-within c =
-    rw c.as_slice-steady.ensures (all_has (λ (d : DriverCell). d.position < length c.deref-3.result.now) c.in_ok-tables.tables.steady (λ d has.
+    rw c.as_slice-steady.ensures (all_has (λ (d : DriverCell). d.position < length c.in_ok-quiet.quiet.bits) c.in_ok-tables.tables.steady (λ d has.
     omega (
       arith,
       c.in_ok-tables.ensures.within d (has_contains c.in_ok-tables.tables.steady d has),
-      ap (λ (l : List Bool). length l) (c.deref-3.ensures.value ∙ c.in_ok-quiet.ensures),
+      ap (λ (l : List Bool). length l) (c.in_ok-quiet.ensures ∙ c.deref.ensures.value ∙ c.in_ok-bits.ensures),
       length-laid (quiet_bits c.args.board.now) c.args.board.now,
     )))
 
@@ -80,14 +84,14 @@ common_rows-requires-clause-read c k d less i r within =
       arith,
       readers_below board c.raw.ensures.rules c.as_slice-readers.result.now (subst (λ (l : List (List ReaderCell)). ReadersOf board l) (sym all) (readers_are board))
           (ap (λ (l : List (List ReaderCell)). length l) all ∙ length-map board.nets (λ (net : Net). readers_of board net.pins)) k d less i r within,
-      ap (λ (l : List Bool). length l) (c.deref-3.ensures.value ∙ c.in_ok-quiet.ensures),
+      ap (λ (l : List Bool). length l) (c.in_ok-quiet.ensures ∙ c.deref.ensures.value ∙ c.in_ok-bits.ensures),
       length-laid (quiet_bits board) board,
     )
 
 pub returns-clause-plan : goal.returns-clause-plan
 returns-clause-plan c =
     let board = c.args.board.now in
-    let quiet = c.of.result in
+    let quiet = c.in_ok-quiet.quiet.bits in
     let width = c.width-width.result in
     let codes = c.in_ok-codes.codes.codes in
     let steady = c.in_ok-tables.tables.steady in
@@ -95,17 +99,16 @@ returns-clause-plan c =
     let cells_now = c.as_slice-2.result.now in
     let readers_now = c.as_slice-readers.result.now in
     let n : ℕ = length board.nets in
-    is_plan board c.raw.ensures.rules _ c.requires.plannable (c.of.ensures ∙ c.in_ok-quiet.ensures) c.in_ok-nets.ensures.readers c.in_ok-drivers.ensures
+    is_plan board c.raw.ensures.rules _ c.requires.plannable (c.in_ok-quiet.ensures ∙ c.deref.ensures.value ∙ c.in_ok-bits.ensures) c.in_ok-nets.ensures.readers c.in_ok-drivers.ensures
     (subst (λ (p : List (List Ctl)). ArePassTables board p c.in_ok-tables.tables) c.as_slice.ensures c.in_ok-tables.ensures)
-    c.deref-2.result.now
-    (c.deref-2.ensures.value ∙ c.in_ok-seen.ensures
+    c.deref-3.result.now
+    (c.deref-3.ensures.value ∙ c.in_ok-seen.ensures
     ∙ ap (λ (r : List (List ReaderCell)). seen_in (length r) steady_now cells_now) (c.as_slice-readers.ensures ∙ c.in_ok-nets.ensures.readers)
     ∙ ap (λ (k : ℕ). seen_in k steady_now cells_now) (length-map board.nets (λ (net : Net). readers_of board net.pins))
     ∙ ap (λ (s : List DriverCell). seen_in n s cells_now) c.as_slice-steady.ensures
     ∙ ap (λ (l : List PassCells). seen_in n steady l) c.as_slice-2.ensures)
     c.in_ok-codes.codes c.in_ok-codes.ensures refl c.width-width.ensures.enough c.width-width.ensures.least
     (c.in_ok-common.ensures
-    ∙ ap (λ (q : List Bool). filled width (common_rows q c.as_slice-3.result.now readers_now steady_now)) (c.deref-3.ensures.value ∙ sym c.of.ensures)
     ∙ ap (λ (k : List ℕ). filled width (common_rows quiet k readers_now steady_now)) c.as_slice-3.ensures
     ∙ ap (λ (r : List (List ReaderCell)). filled width (common_rows quiet codes r steady_now)) c.as_slice-readers.ensures
     ∙ ap (λ (s : List DriverCell). filled width (common_rows quiet codes c.in_ok-nets.nets.readers s)) c.as_slice-steady.ensures)
@@ -114,6 +117,6 @@ returns-clause-plan c =
 pub returns-clause-width : goal.returns-clause-width
 returns-clause-width c =
     width_most c.in_ok-codes.codes.count c.width-width.result
-    (count_most c.deref-2.result.now c.in_ok-codes.codes c.in_ok-codes.ensures
-    (seen_most c.args.board.now c.raw.ensures.rules c.as_slice-readers.result.now c.as_slice-steady.result.now c.as_slice-2.result.now c.deref-2.result.now
-    (c.as_slice-readers.ensures ∙ c.in_ok-nets.ensures.readers) (c.deref-2.ensures.value ∙ c.in_ok-seen.ensures)).1) c.width-width.ensures.least
+    (count_most c.deref-3.result.now c.in_ok-codes.codes c.in_ok-codes.ensures
+    (seen_most c.args.board.now c.raw.ensures.rules c.as_slice-readers.result.now c.as_slice-steady.result.now c.as_slice-2.result.now c.deref-3.result.now
+    (c.as_slice-readers.ensures ∙ c.in_ok-nets.ensures.readers) (c.deref-3.ensures.value ∙ c.in_ok-seen.ensures)).1) c.width-width.ensures.least

@@ -7,7 +7,7 @@ use Rattle.scan_planner.proofs.common.common_rows.Goals as goal
 pub loop-j-preserved : goal.loop-j-preserved
 loop-j-preserved c =
     let j = c.loop-j.j in
-    let row : ℕ → FixedRows = common_rows c.args.quiet.now c.args.codes.now c.args.readers.now c.args.steady.now in
+    let row : ℕ → FixedRows = common_rows c.args.quiet.now.bits c.args.codes.now c.args.readers.now c.args.steady.now in
     let rows : List FixedRows = c.loop-j.rows.items in
     c.in_ok-push.ensures.items
     ∙ ap (λ (r : FixedRows). rows ++ r ∷ []) c.in_ok-common_row.ensures

@@ -11,6 +11,6 @@ rows_at-requires c =
 pub returns : goal.returns
 returns c =
     let plan = c.args.tables.now in
-    let two : Some c.rows_at.result.now ≡ Some (common_rows plan.quiet plan.codes plan.readers plan.steady c.args.j) =
+    let two : Some c.rows_at.result.now ≡ Some (common_rows plan.quiet.bits plan.codes plan.readers plan.steady c.args.j) =
     sym c.rows_at.ensures ∙ ap (λ l. slice_get l c.args.j) c.as_slice.ensures ∙ c.requires.plan.tables.common c.args.j c.requires.row in
     cc two
