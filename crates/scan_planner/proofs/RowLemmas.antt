@@ -1,5 +1,5 @@
 -- Steps of the loops over rows.
-use Rattle.std.proofs.Common.{◌≡◌, ℕ, ◌+◌, ◌<◌, ◌==◌, Bool, true, false, cond, List, [], ◌∷◌, length, take, get_or, set, refl, sym, ap, ◌∙◌, length-set}
+use Rattle.std.proofs.Common.{◌≡◌, ℕ, zero, suc, ◌+◌, ◌<◌, ◌==◌, Bool, true, false, cond, List, [], ◌∷◌, length, take, replicate, get_or, set, refl, sym, ap, ◌∙◌, length-set}
 use Rattle.std.specs.Prelude.{◌||◌}
 use Rattle.std.specs.List.{list_any}
 use Rattle.std.proofs.lemmas.List.Folds.{list_any_more}
@@ -14,6 +14,11 @@ any_more bits i less none e =
     list_any_more (λ bit. bit) bits i false less
     ∙ ap (λ (t : Bool). t || get_or bits i false) none
     ∙ e
+
+-- no bit is looked for in zeros
+pub none_of_zeros : (n : ℕ) → list_any (λ bit. bit) (replicate n false) ≡ false
+none_of_zeros zero = refl
+none_of_zeros (suc n) = none_of_zeros n
 
 pub length-set_readers : (place : ℕ) (bit : Bool) (bits : List Bool) (readers : List ReaderCell) → length (set_readers place bit bits readers) ≡ length bits
 length-set_readers place bit bits [] = refl

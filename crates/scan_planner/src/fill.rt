@@ -1,5 +1,5 @@
 // Fills rows with a scan.
-ghost use Rattle.std.specs.Prelude.{◌≡◌, ◌+◌, ◌*◌, ◌<◌, ◌≤◌, [], suc, length, Some, slice_get, slice_index_or};
+ghost use Rattle.std.specs.Prelude.{◌≡◌, ◌+◌, ◌*◌, ◌<◌, ◌≤◌, [], suc, true, length, Some, slice_get, slice_index_or};
 ghost use Rattle.std.specs.List.{list_any};
 ghost use Rattle.board_defs.specs.Pins.{data_bits};
 ghost use Rattle.tap_defs.specs.BoardScans.{row_bits};
@@ -13,13 +13,13 @@ use board_defs::Board;
 use bt_bits::Row;
 use tap_defs::Shape;
 
-// The kind of a scan with this mask.
-fn shape_of(ir: bool, mask: &Row) -> Shape
-    ensures ir { result.ir ≡ ir }
+// The kind of a scan of instructions with this mask.
+fn code_shape(mask: &Row) -> Shape
+    ensures ir { result.ir ≡ true }
     ensures compare { result.compare ≡ list_any (λ bit. bit) mask.now.bits }
 {
     Shape {
-        ir,
+        ir: true,
         compare: has_one(mask),
     }
 }
@@ -62,7 +62,7 @@ fn fill_preload(
 {
     let _ = board.raw();
     copy_rows(&tables.preload, tdi, tdo, mask);
-    shape_of(true, mask)
+    code_shape(mask)
 }
 
 // The third scan, which shifts the EXTEST codes in.
@@ -84,7 +84,7 @@ fn fill_extest(
 {
     let _ = board.raw();
     copy_rows(&tables.extest, tdi, tdo, mask);
-    shape_of(true, mask)
+    code_shape(mask)
 }
 
 // The second scan, which shifts the quiet row in and compares nothing.
@@ -109,7 +109,10 @@ fn fill_quiet(
     tdi.copy_row(&tables.quiet);
     tdo.clear(len);
     mask.clear(len);
-    shape_of(false, mask)
+    Shape {
+        ir: false,
+        compare: false,
+    }
 }
 
 fn cells_at(cells: &[PassCells], pass: usize) -> &PassCells
@@ -216,7 +219,7 @@ fn compare_row(
     );
 }
 
-// Compares the row before row `j` of a pass, and nothing before the first.
+// Compares the row before row `j` of a pass, and nothing before the first; tells whether anything is compared.
 fn fill_before(
     board: &Board,
     tables: &PlanTables,
@@ -224,7 +227,7 @@ fn fill_before(
     j: u32,
     tdo: &mut Row,
     mask: &mut Row,
-)
+) -> bool
     requires plan { IsPlanOf board.now tables.now }
     requires pass { pass < length tables.now.passes }
     requires row { j ≤ tables.now.width }
@@ -233,16 +236,19 @@ fn fill_before(
     requires mask_room { data_bits board.now ≤ mask.old.room }
     ensures tdo { tdo.new.bits ≡ tdo_bits (joined (row_bits board.now (scan_of_pass board.now tables.now pass j))) }
     ensures mask { mask.new.bits ≡ mask_bits (joined (row_bits board.now (scan_of_pass board.now tables.now pass j))) }
+    ensures compare { result ≡ list_any (λ bit. bit) mask.new.bits }
     ensures tdo_kept { tdo.new.room ≡ tdo.old.room }
     ensures mask_kept { mask.new.room ≡ mask.old.room }
 {
     let _ = board.raw();
     if j > 0 {
-        compare_row(board, tables, pass, j - 1, tdo, mask)
+        compare_row(board, tables, pass, j - 1, tdo, mask);
+        has_one(mask)
     } else {
         let len = board.dr_bits();
         tdo.clear(len);
-        mask.clear(len)
+        mask.clear(len);
+        false
     }
 }
 
@@ -270,8 +276,10 @@ fn fill_pass(
 {
     let _ = board.raw();
     fill_now(board, tables, pass, j, tdi);
-    fill_before(board, tables, pass, j, tdo, mask);
-    shape_of(false, mask)
+    Shape {
+        ir: false,
+        compare: fill_before(board, tables, pass, j, tdo, mask),
+    }
 }
 
 /// Fills the rows with scan `k`.

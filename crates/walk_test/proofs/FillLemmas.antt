@@ -29,6 +29,7 @@ use Rattle.scan_planner.specs.Building.{enabled_in, is_read_beside, drivers_of, 
 use Rattle.scan_planner.specs.Plans.{IsPlanOf, FillsScan, scan_count}
 use Rattle.scan_planner.specs.Tables.{IsDriverCell, IsReaderCell}
 use Rattle.scan_planner.proofs.FillLemmas.{row_sized, quiet_tdo, quiet_mask}
+use Rattle.scan_planner.proofs.RowLemmas.{none_of_zeros}
 use Rattle.scan_planner.proofs.LaidLemmas.{mask_laid, tdo_laid, tdi_laid, length-laid}
 use Rattle.scan_planner.proofs.AssignLemmas.{assigned_is}
 use Rattle.scan_planner.proofs.TableLemmas.{Observed, DriverAt, observed, reader_is, is_reader}
@@ -536,11 +537,7 @@ first_mask board = quiet_mask board (record { now = quiet_row; before = quiet_ro
 -- something is compared exactly in the rows after the first
 pub compare_is : (board : RawBoard) (rules : IsBoard board) (t : WalkTables) (w : IsWalkOf board t) → 0 < length t.plan.passes → (j : ℕ) → j ≤ length t.nets → (mask : List Bool) → mask ≡ mask_of board (before_of board j) → nat_lt 0 j ≡ list_any (λ bit. bit) mask
 compare_is board rules t w some zero le mask is =
-    sym (ap (λ (l : List Bool). list_any (λ bit. bit) l) (is ∙ sym (first_mask board)) ∙ none_any (data_bits board))
-  where
-    none_any : (n : ℕ) → list_any (λ bit. bit) (replicate n false) ≡ false
-    none_any zero = refl
-    none_any (suc n) = none_any n
+    sym (ap (λ (l : List Bool). list_any (λ bit. bit) l) (is ∙ sym (first_mask board)) ∙ none_of_zeros (data_bits board))
 compare_is board rules t w some (suc j) le mask is =
     let within : j < length t.cells = omega (arith, le, cells_count board rules t w some) in
     let c = Rattle.scan_planner.proofs.FillLemmas.some_at t.cells j within in

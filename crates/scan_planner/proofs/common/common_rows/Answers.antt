@@ -9,7 +9,7 @@ loop-j-preserved c =
     let j = c.loop-j.j in
     let row : ℕ → FixedRows = common_rows c.args.quiet.now.bits c.args.codes.now c.args.readers.now c.args.steady.now in
     let rows : List FixedRows = c.loop-j.rows.items in
-    c.in_ok-push.ensures.items
-    ∙ ap (λ (r : FixedRows). rows ++ r ∷ []) c.in_ok-common_row.ensures
+    ◌∙◌ {A = List FixedRows} c.in_ok-push.ensures.items
+    (ap (λ (r : FixedRows). rows ++ r ∷ []) c.in_ok-common_row.ensures
     ∙ ap (λ (l : List FixedRows). l ++ row j ∷ []) c.loop-j.invariant
-    ∙ sym (filled_more j row)
+    ∙ sym (filled_more j row))

@@ -1,8 +1,10 @@
-use Rattle.std.proofs.Common.{◌≡◌, ℕ, false, ap, ◌∙◌, replicate, refl, arith}
+use Rattle.std.proofs.Common.{◌≡◌, ℕ, Bool, List, false, ap, sym, ◌∙◌, replicate, refl, arith}
+use Rattle.std.specs.List.{list_any}
 use Rattle.tap_defs.specs.BoardScans.{row_bits}
 use Rattle.tap_defs.specs.Scan.{joined, tdo_bits, mask_bits}
 use Rattle.scan_planner.specs.Plans.{scan_of_pass}
 use Rattle.scan_planner.proofs.FillLemmas.{quiet_tdo, quiet_mask}
+use Rattle.scan_planner.proofs.RowLemmas.{none_of_zeros}
 use Rattle.scan_planner.proofs.fill.fill_before.Goals as goal
 
 pub returns-else-j-gt0-clause-tdo : goal.returns-else-j-gt0-clause-tdo
@@ -22,3 +24,6 @@ returns-else-j-gt0-clause-mask c =
     c.clear-else-j-gt0.ensures.bits ∙ ap (λ n. replicate n false) c.dr_bits-len.ensures
     ∙ quiet_mask board (scan_of_pass board plan c.args.pass 0) refl
     ∙ ap (λ (i : ℕ). mask_bits (joined (row_bits board (scan_of_pass board plan c.args.pass i)))) first
+
+pub returns-else-j-gt0-clause-compare : goal.returns-else-j-gt0-clause-compare
+returns-else-j-gt0-clause-compare c = sym (ap (λ (l : List Bool). list_any (λ bit. bit) l) c.clear-else-j-gt0.ensures.bits ∙ none_of_zeros c.dr_bits-len.result)

@@ -26,4 +26,4 @@ returns-clause-filled c =
     let scan : Scan = instructs (map (λ part. extest_code part.kind) board.chain) in
     fills board plan.passes plan.width 2 scan _ _ _ _ (scans_placed board plan.passes plan.width).extest s.some s.most
     (c.copy_rows.ensures.tdi ∙ c.requires.plan.tables.extest.tdi) (c.copy_rows.ensures.tdo ∙ c.requires.plan.tables.extest.tdo) (c.copy_rows.ensures.mask ∙ c.requires.plan.tables.extest.mask)
-    c.shape_of.ensures.ir c.shape_of.ensures.compare
+    c.code_shape.ensures.ir c.code_shape.ensures.compare

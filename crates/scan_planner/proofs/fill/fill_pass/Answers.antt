@@ -1,4 +1,4 @@
-use Rattle.std.proofs.Common.{◌+◌, ◌*◌, suc, [], get_or}
+use Rattle.std.proofs.Common.{◌+◌, ◌*◌, suc, [], get_or, refl}
 use Rattle.std.proofs.lemmas.Option.{slice_get-get_or}
 use Rattle.tap_defs.specs.Scan.{Scan}
 use Rattle.tap_defs.specs.BoardScans.{scan_of_row}
@@ -17,4 +17,4 @@ returns-clause-filled c =
     let scan : Scan = scan_of_row board (scan_of_pass board plan x j) in
     fills board plan.passes plan.width (3 + (x * suc plan.width + j)) scan _ _ _ _
     ((scans_placed board plan.passes plan.width).rows x (get_or plan.passes x []) j (slice_get-get_or plan.passes x [] c.requires.pass) c.requires.row) s.some s.most
-    c.fill_now.ensures.bits c.fill_before.ensures.tdo c.fill_before.ensures.mask c.shape_of.ensures.ir c.shape_of.ensures.compare
+    c.fill_now.ensures.bits c.fill_before.ensures.tdo c.fill_before.ensures.mask refl c.fill_before.ensures.compare

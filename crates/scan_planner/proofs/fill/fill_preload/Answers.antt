@@ -26,4 +26,4 @@ returns-clause-filled c =
     let scan : Scan = instructs (map (λ part. preload_code part.kind) board.chain) in
     fills board plan.passes plan.width 0 scan _ _ _ _ (scans_placed board plan.passes plan.width).preload s.some s.most
     (c.copy_rows.ensures.tdi ∙ c.requires.plan.tables.preload.tdi) (c.copy_rows.ensures.tdo ∙ c.requires.plan.tables.preload.tdo) (c.copy_rows.ensures.mask ∙ c.requires.plan.tables.preload.mask)
-    c.shape_of.ensures.ir c.shape_of.ensures.compare
+    c.code_shape.ensures.ir c.code_shape.ensures.compare

@@ -1,8 +1,10 @@
-use Rattle.std.proofs.Common.{ap, ◌∙◌, false, refl, replicate, arith}
+use Rattle.std.proofs.Common.{Bool, List, ap, sym, ◌∙◌, false, refl, replicate, arith}
+use Rattle.std.specs.List.{list_any}
 use Rattle.tap_defs.specs.Scan.{Scan}
 use Rattle.tap_defs.specs.BoardScans.{scan_of_row, first_row_scan}
 use Rattle.tap_defs.proofs.ScanPlaceLemmas.{scans_placed}
 use Rattle.scan_planner.proofs.FillLemmas.{fills, row_sized, quiet_length, quiet_tdo, quiet_mask}
+use Rattle.scan_planner.proofs.RowLemmas.{none_of_zeros}
 use Rattle.scan_planner.proofs.fill.fill_quiet.Goals as goal
 
 pub copy_row-requires : goal.copy_row-requires
@@ -19,4 +21,4 @@ returns-clause-filled c =
     (c.copy_row.ensures.bits ∙ c.requires.plan.tables.quiet)
     (c.clear.ensures.bits ∙ ap (λ n. replicate n false) c.dr_bits-len.ensures ∙ quiet_tdo board first_row_scan refl)
     (c.clear-2.ensures.bits ∙ ap (λ n. replicate n false) c.dr_bits-len.ensures ∙ quiet_mask board first_row_scan refl)
-    c.shape_of.ensures.ir c.shape_of.ensures.compare
+    refl (sym (ap (λ (l : List Bool). list_any (λ bit. bit) l) c.clear-2.ensures.bits ∙ none_of_zeros c.dr_bits-len.result))
