@@ -8,21 +8,13 @@ ghost use Rattle.walk_test.specs.Tables.{IsWalkOf};
 use crate::group::Group;
 use crate::labels::labels_of;
 use crate::law::walk_safe;
+use crate::nets::push_if;
 use crate::reading::shows_all;
 use crate::walk::Walk;
 use board_defs::Board;
 use response_log::Log;
 use std::alloc::{AllocError, Global};
 use tap_defs::log_law::{logs_by_rows, rows_compared, scans_in_turn};
-
-fn push_if(nets: &mut Vec<u32>, net: u32, is_one: bool) -> Result<(), AllocError>
-    ensures { OnOk result (nets.new.items ≡ nets.old.items ++ cond is_one (net ∷ []) []) }
-{
-    if is_one {
-        nets.push(net)?;
-    }
-    Ok(())
-}
 
 // The nets with a label, in order.
 fn members(alloc: Global, nets: &[u32], labels: &[u32], label: u32) -> Result<Vec<u32>, AllocError>
