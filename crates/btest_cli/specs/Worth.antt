@@ -18,7 +18,8 @@ use Rattle.board_defs.specs.declared.fault.Single.{Single}
 use Rattle.tap_defs.specs.BoardScans.{board_text, svf_row_scans, svf_scans}
 use Rattle.tap_defs.specs.Clocks.{test_clocks}
 use Rattle.tap_defs.specs.Svf.{meaning}
-use Rattle.tap_defs.specs.Explaining.{AgreeOn, IsExpected}
+use Rattle.board_defs.specs.Faults.{IsSingle}
+use Rattle.tap_defs.specs.Explaining.{AgreeOn, Explains, IsExpected}
 use Rattle.diagnoser.specs.Laws.{ListsExplaining}
 use Rattle.diagnoser.specs.DiagText.{diag_text}
 use Rattle.batch_diag.specs.declared.block.Block.{Block}
@@ -99,9 +100,16 @@ TestMeans board = meaning (board_text board) ≡ Some (test_clocks (svf_scans bo
 abbrev pub WalkMeans : RawBoard → Type 0
 WalkMeans board = meaning (board_walk_text board) ≡ Some (test_clocks (walk_scans board))
 
+-- each single fault of the board has one response to the board's test: it explains some log, and any two logs that it explains have the
+-- same compared bits
+pub record RespondOnce (board : RawBoard) : Type 0 where
+  pub some : (single : Single) → IsSingle board single → (log : List (List Bool)) × Explains board single log
+  pub one : (single : Single) (log other : List (List Bool)) → Explains board single log → Explains board single other → AgreeOn board (svf_row_scans board) log other
+
 -- the sink took the diagnosis of a log of the test of a board
 pub record Diagnoses (log : Text) (board : RawBoard) (old new : Shown) : Type 0 where
   pub means : TestMeans board
+  pub respond : RespondOnce board
   pub rows : List (List Bool)
   pub read : test_log log board ≡ Ok rows
   pub pass : Bool
@@ -112,6 +120,7 @@ pub record Diagnoses (log : Text) (board : RawBoard) (old new : Shown) : Type 0 
 -- the sink took, for each block of a batch of such logs, its title and the diagnosis of its log by itself
 pub record DiagnosesEach (log : Text) (board : RawBoard) (old new : Shown) : Type 0 where
   pub means : TestMeans board
+  pub respond : RespondOnce board
   pub blocks : List Block
   pub read : test_blocks log board ≡ Ok blocks
   pub verdicts : List Verdict

@@ -9,7 +9,7 @@ ghost use Rattle.tap_defs.specs.Svf.{meaning};
 ghost use Rattle.tap_defs.specs.Text.{scan_text, svf_text};
 ghost use Rattle.scan_planner.specs.Plans.{IsPlanOf, IsRoom, scan_count};
 ghost use Rattle.btest_core.specs.BoardRead.{IsBoardRead};
-ghost use Rattle.btest_cli.specs.Worth.{TestsBoard};
+ghost use Rattle.btest_cli.specs.Worth.{RespondOnce, TestsBoard};
 ghost use Rattle.btest_cli.specs.Answers.{Answers};
 
 use crate::failure::{Unput, unput_by};
@@ -23,6 +23,7 @@ use scan_planner::Plan;
 use std::alloc::{AllocError, Global};
 use svf_writer::{write_head, write_scan, write_tail};
 use tap_defs::law::{board_texts_test, scans_placed, texts_mean};
+use tap_defs::log_law::{one_log, scans_in_turn};
 
 /// Puts the text that tests the board of these texts. All memory is
 /// taken before the first put.
@@ -73,6 +74,15 @@ pub fn test_means(board: &Board)
 {
     let _rules = board.raw();
     texts_mean();
+}
+
+/// Each single fault of a board has one response to the board's test.
+pub fn singles_respond(board: &Board)
+    ensures { RespondOnce board.now }
+{
+    let _rules = board.raw();
+    one_log();
+    scans_in_turn();
 }
 
 /// How many bits the longer scan of the board has.

@@ -6,7 +6,7 @@ ghost use Rattle.btest_cli.specs.LogRead.{OnBoard, OnDenoted, judging_each, verd
 ghost use Rattle.btest_cli.specs.Worth.{DiagnosesEach, OfDenoted};
 ghost use Rattle.btest_cli.specs.Answers.{LogAnswers};
 
-use crate::board_test::test_means;
+use crate::board_test::{singles_respond, test_means};
 use crate::failure::{Unput, unput_by_batch};
 use crate::planned::{Planned, planned_board};
 use crate::texts::LogTexts;
@@ -73,6 +73,7 @@ fn put_batch<R: Threads + Sync, K: Sink, G: Gate>(
     };
     let _rules = board.raw();
     test_means(board);
+    singles_respond(board);
     explaining_listed();
     passing_unexplained();
     match write_batch(board, &blocks, &verdicts, &mut line, out) {

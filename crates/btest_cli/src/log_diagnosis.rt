@@ -6,7 +6,7 @@ ghost use Rattle.btest_cli.specs.LogRead.{OnBoard, OnDenoted, diagnosing, diagno
 ghost use Rattle.btest_cli.specs.Worth.{Diagnoses, OfDenoted};
 ghost use Rattle.btest_cli.specs.Answers.{LogAnswers};
 
-use crate::board_test::test_means;
+use crate::board_test::{singles_respond, test_means};
 use crate::failure::{Unput, unput_by_log};
 use crate::planned::{Planned, planned_board};
 use crate::texts::LogTexts;
@@ -76,6 +76,7 @@ fn put_diagnosis<R: Threads + Sync, K: Sink, G: Gate>(
     };
     let _rules = board.raw();
     test_means(board);
+    singles_respond(board);
     explaining_listed();
     passing_unexplained();
     match write_diagnosis(board, pass, &faults, &mut line, out) {

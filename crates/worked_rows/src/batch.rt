@@ -52,8 +52,14 @@ fn the_first_fault_of_a_batch_is_told(rt: HostRuntime) -> Result<(), Fail> {
         ("BOARD A\n1\nBOARD B\n1\n2\n", "g board 1: 1 rows of 2\n"),
         ("1\nBOARD A\n", "g line 1: no board yet\n"),
         ("BOARD A\n1\n2\nBOARD B\n", "g board 2: 0 rows of 2\n"),
-        ("BOARD A\n1\n2\n\nBOARD B\n1\n22\n", "g line 7: wrong length\n"),
-        ("BOARD A\n1\nx\nBOARD B\n1\n", "g line 3: digit not allowed\n"),
+        (
+            "BOARD A\n1\n2\n\nBOARD B\n1\n22\n",
+            "g line 7: wrong length\n",
+        ),
+        (
+            "BOARD A\n1\nx\nBOARD B\n1\n",
+            "g line 3: digit not allowed\n",
+        ),
         ("BOARD A\n1\n2\n2\n", "g line 4: row too many\n"),
         ("BOARD A\n1\n1 BOARD\n", "g line 3: wrong length\n"),
         // A title that is wrong comes before any fault of a log.
@@ -78,6 +84,36 @@ fn the_first_fault_of_a_batch_is_told(rt: HostRuntime) -> Result<(), Fail> {
     ] {
         let mut bench = bench_of(alloc, b"")?;
         assert_eq!(rt; bench.run(&rt, line)?, Status::Usage, "{line}");
+    }
+    Ok(())
+}
+
+// Without a pass a log has no row.
+#[test]
+fn a_block_may_have_no_row(rt: HostRuntime) -> Result<(), Fail> {
+    let alloc = rt.alloc();
+    let cases = [
+        (
+            "BOARD A\nBOARD A\n",
+            Status::Done,
+            "BOARD A\nPASS\nBOARD A\nPASS\n",
+            "",
+        ),
+        (
+            "BOARD A\nBOARD B\n0\n",
+            Status::Refused,
+            "",
+            "g line 3: row too many\n",
+        ),
+    ];
+    for (logs, status, text, note) in cases {
+        let mut bench = bench_of(alloc, logs.as_bytes())?;
+        bench.store.add("c", b"DEVICE U2 RCV -\n")?;
+        bench.store.add("n", b"NET N1 U2.1\n")?;
+        let line = "batch 2 g c n drv rcv";
+        assert_eq!(rt; bench.run(&rt, line)?, status, "{logs}");
+        assert_eq!(rt; bench.out.bytes(), text.as_bytes(), "{logs}");
+        assert_eq!(rt; bench.notes.bytes(), note.as_bytes(), "{logs}");
     }
     Ok(())
 }

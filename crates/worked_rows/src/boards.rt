@@ -6,7 +6,8 @@ use std::process::Abort;
 use std::test::Fail;
 use std::thread::Threads;
 
-/// The line of refusal that both commands give for a board, which has the words behind the command's name.
+/// The line of refusal that each command of a board gives, which has the words behind the names of its files. A log comes after them, so
+/// it makes no difference that this one is wrong.
 fn is_refused<R: Abort + Sync + Threads>(
     rt: &R,
     alloc: Global,
@@ -15,12 +16,20 @@ fn is_refused<R: Abort + Sync + Threads>(
     nets: &str,
     note: &str,
 ) -> Result<(), Fail> {
-    for command in ["cover", "svf"] {
+    for command in [
+        "cover",
+        "svf",
+        "walk",
+        "diagnose 2 g",
+        "groups g",
+        "batch 2 g",
+    ] {
         let mut bench = Bench::with_board(alloc, chain, nets)?;
+        bench.store.add("g", b"zz\n")?;
         let line = format!(in alloc; "{command} c n {words}")?;
-        assert_eq!(rt; bench.run(rt, &line)?, Status::Refused, "{note}");
-        assert_eq!(rt; bench.notes.bytes(), note.as_bytes(), "{note}");
-        assert_eq!(rt; bench.out.bytes(), b"".as_slice(), "{note}");
+        assert_eq!(rt; bench.run(rt, &line)?, Status::Refused, "{line}");
+        assert_eq!(rt; bench.notes.bytes(), note.as_bytes(), "{line}");
+        assert_eq!(rt; bench.out.bytes(), b"".as_slice(), "{line}");
     }
     Ok(())
 }

@@ -16,6 +16,8 @@ mod devices;
 #[cfg(test)]
 mod diagnose;
 #[cfg(test)]
+mod faults;
+#[cfg(test)]
 mod gates;
 #[cfg(test)]
 mod generated;

@@ -9,17 +9,12 @@ const PARTS: u32 = 64;
 
 // The digits of a row: the cells of the drivers stand left of those of the receivers.
 const DRIVER_DIGITS: usize = 1024;
+
 const RECEIVER_DIGITS: usize = 1024;
 
 // The BSDL text of a part with a cell for each pin.
-fn device(
-    alloc: Global,
-    name: &str,
-    mode: &str,
-    function: &str,
-) -> Result<String, AllocError> {
-    let mut text = format!(
-        in alloc;
+fn device(alloc: Global, name: &str, mode: &str, function: &str) -> Result<String, AllocError> {
+    let mut text = format!(in alloc;
         "entity {name} is\ngeneric (PHYSICAL_PIN_MAP : string := \"P\");\n\
          port (TDI, TMS, TCK : in bit; TDO : out bit; B : {mode} bit_vector(1 to 64));\n\
          use STD_1149_1_1994.all;\nattribute PIN_MAP of {name} : entity is PHYSICAL_PIN_MAP;\n\
@@ -34,8 +29,7 @@ fn device(
          attribute TAP_SCAN_MODE of TMS : signal is true;\n\
          attribute TAP_SCAN_CLOCK of TCK : signal is (10.0e6, BOTH);\n",
     )?;
-    text.push_str(&format!(
-        in alloc;
+    text.push_str(&format!(in alloc;
         "attribute INSTRUCTION_LENGTH of {name} : entity is 2;\n\
          attribute INSTRUCTION_OPCODE of {name} : entity is \"BYPASS (11), EXTEST (00), SAMPLE (10)\";\n\
          attribute INSTRUCTION_CAPTURE of {name} : entity is \"01\";\n\
@@ -107,7 +101,10 @@ fn all_nets_may_be_one_group(rt: HostRuntime) -> Result<(), Fail> {
 // first pin of each.
 fn pair_row(alloc: Global, part: u32, pin: u32) -> Result<String, AllocError> {
     let behind = PARTS.saturating_sub(part.saturating_add(1)) as usize * 16 + (pin / 4) as usize;
-    let mut row = "0".repeat(alloc, (DRIVER_DIGITS + RECEIVER_DIGITS - 1).saturating_sub(behind))?;
+    let mut row = "0".repeat(
+        alloc,
+        (DRIVER_DIGITS + RECEIVER_DIGITS - 1).saturating_sub(behind),
+    )?;
     row.push_str(if pin % 4 == 0 { "3" } else { "C" })?;
     row.push_str(&"0".repeat(alloc, behind)?)?;
     row.push_str("\n")?;

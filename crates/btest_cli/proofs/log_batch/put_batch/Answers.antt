@@ -42,6 +42,7 @@ returns-in-Ok-write_batch g c =
       takes = takes;
       worth = record {
         means = c.test_means.ensures (svf_row_scans board);
+        respond = c.singles_respond.ensures;
         blocks = c.in-Ok.blocks.items;
         read = read;
         verdicts = c.in-Ok-diagnose_all.verdicts.items;

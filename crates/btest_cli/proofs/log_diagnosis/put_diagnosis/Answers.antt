@@ -38,6 +38,7 @@ returns-in-Ok-write_diagnosis g c =
       takes = takes;
       worth = record {
         means = c.test_means.ensures (svf_row_scans board);
+        respond = c.singles_respond.ensures;
         rows = c.in-Ok.log;
         read = read;
         pass = c.is_pass-pass.result;
