@@ -18,3 +18,10 @@ pub mod KeyLemmas
 pub mod LoneLemmas
 pub mod WordLemmas
 pub mod DriverPairs
+pub mod ControlSetLemmas
+pub mod KnownLemmas
+pub mod ClosedLemmas
+pub mod PairRowLemmas
+pub mod ClosedRows
+pub mod PutRows
+pub mod PairWords

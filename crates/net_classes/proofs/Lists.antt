@@ -35,7 +35,7 @@ plus_nothing [] = refl
 plus_nothing (x ∷ xs) = ap (λ ys. x ∷ ys) (plus_nothing xs)
 
 -- whether some item so far passes
-any_joined : {X : Type 0} (test : X → Bool) (xs ys : List X) → list_any test (xs ++ ys) ≡ (list_any test xs || list_any test ys)
+pub any_joined : {X : Type 0} (test : X → Bool) (xs ys : List X) → list_any test (xs ++ ys) ≡ (list_any test xs || list_any test ys)
 any_joined test [] ys = refl
 any_joined test (x ∷ xs) ys = ap (λ t. test x || t) (any_joined test xs ys) ∙ turn (test x)
   where

@@ -78,7 +78,7 @@ marks_row (net ∷ nets) rows c =
     mark_join (by_net c net) (list_any (by_net c) nets) (item_of rows c)
 
 -- the control controls a tested driver, and so is safe alone
-useful_is : (board : RawBoard) (c : Ctl) → list_any (λ net. list_any (by_drive c) (tested_drivers board net)) board.nets ≡ is_useful board c
+pub useful_is : (board : RawBoard) (c : Ctl) → list_any (λ net. list_any (by_drive c) (tested_drivers board net)) board.nets ≡ is_useful board c
 useful_is board c = same_truth (list_any some board.nets) (is_useful board c) there back
   where
     some : Net → Bool

@@ -13,10 +13,11 @@ use Rattle.board_defs.specs.Decided.{bit_count, port_bits, is_at, is_switched}
 use Rattle.board_defs.proofs.ControlOrder.{same_equal}
 use Rattle.net_classes.specs.declared.facts.PinFacts.{PinFacts}
 use Rattle.net_classes.specs.declared.facts.NetFacts.{NetFacts}
+use Rattle.net_classes.specs.Cells.{put}
 use Rattle.net_classes.specs.Kept.{item_of}
 use Rattle.net_classes.specs.Facts.{pin_facts_of, net_facts_of}
 use Rattle.net_classes.specs.Rows.{at_control, copies}
-use Rattle.net_classes.specs.Switching.{marked, mark_at, mark_pins, mark_pulled, blank_bits, pulled_bits, holds_there}
+use Rattle.net_classes.specs.Switching.{mark_at, mark_pins, mark_pulled, blank_bits, pulled_bits, holds_there}
 use Rattle.net_classes.specs.Tables.{SaysPulled}
 use Rattle.net_classes.proofs.Truth.{any_map}
 use Rattle.net_classes.proofs.RowLemmas.{copies_get}
@@ -27,7 +28,7 @@ mark_none : (o : Option Bool) → o ≡ option_map (λ b. false || b) o
 mark_none None = refl
 mark_none (Some b) = refl
 
-mark_some : (o : Option Bool) → option_map marked o ≡ option_map (λ b. true || b) o
+mark_some : (o : Option Bool) → option_map (put true) o ≡ option_map (λ b. true || b) o
 mark_some None = refl
 mark_some (Some b) = refl
 
@@ -47,9 +48,9 @@ at_row (Some at) rows c = by_same (same_ctl own c) refl
     own : Ctl
     own = record { part = at.part; cell = at.bit }
 
-    by_same : (t : Bool) → same_ctl own c ≡ t → item_of (at_control own marked rows) c ≡ option_map (λ b. same_ctl own c || b) (item_of rows c)
-    by_same true e = ap (λ (x : Ctl). item_of (at_control x marked rows) c) (same_equal own c e) ∙ at_same c marked rows ∙ mark_some (item_of rows c) ∙ ap (λ (t : Bool). option_map (λ (b : Bool). t || b) (item_of rows c)) (sym e)
-    by_same false e = at_other own c marked rows e ∙ mark_none (item_of rows c) ∙ ap (λ (t : Bool). option_map (λ (b : Bool). t || b) (item_of rows c)) (sym e)
+    by_same : (t : Bool) → same_ctl own c ≡ t → item_of (at_control own (put true) rows) c ≡ option_map (λ b. same_ctl own c || b) (item_of rows c)
+    by_same true e = ap (λ (x : Ctl). item_of (at_control x (put true) rows) c) (same_equal own c e) ∙ at_same c (put true) rows ∙ mark_some (item_of rows c) ∙ ap (λ (t : Bool). option_map (λ (b : Bool). t || b) (item_of rows c)) (sym e)
+    by_same false e = at_other own c (put true) rows e ∙ mark_none (item_of rows c) ∙ ap (λ (t : Bool). option_map (λ (b : Bool). t || b) (item_of rows c)) (sym e)
 
 abbrev stands_at : Ctl → PinFacts → Bool
 stands_at c pin = is_at (bit_of c) pin.at

@@ -1,9 +1,10 @@
 -- Changes of a list at one place.
-use Rattle.std.proofs.Common.{◌≡◌, ℕ, zero, suc, ◌<◌, ◌≤◌, List, [], ◌∷◌, length, get_or, refl, sym, ◌∙◌, ap, arith, add-one, ◌+◌, ◌++◌, ◌==◌, Bool, true, false, Option, Some}
+use Rattle.std.proofs.Common.{◌≡◌, ℕ, zero, suc, ◌<◌, ◌≤◌, List, [], ◌∷◌, length, map, take, get_or, refl, sym, ◌∙◌, ap, arith, add-one, ◌+◌, ◌++◌, ◌==◌, Bool, true, false, Option, Some}
 use Rattle.std.proofs.Math.ListN.{set}
 use Rattle.std.specs.Prelude.{slice_get, OnOk, Result, Ok, Err, Vec}
 use Rattle.std.specs.declared.alloc.Global.{Global}
 use Rattle.net_classes.specs.declared.classes.ControlClass.{ControlClass}
+use Rattle.std.proofs.lemmas.List.{map_more}
 use Rattle.std.proofs.lemmas.Option.{slice_get-get_or}
 use Rattle.net_classes.specs.declared.facts.NetFacts.{NetFacts}
 use Rattle.net_classes.specs.Kept.{table}
@@ -71,3 +72,12 @@ pub set_value : {X : Type 0} (i : ℕ) (f : X → X) (xs : List X) (d new : X) �
 set_value i f [] d new h e = absurd (omega arith)
 set_value zero f (y ∷ xs) d new h e = ap (λ z. z ∷ xs) e
 set_value (suc i) f (y ∷ xs) d new h e = ap (λ ys. y ∷ ys) (set_value i f xs d new (omega arith) e)
+
+-- one row more
+table_end : {Y : Type 0} (made : List (Vec Y Global)) (row : Vec Y Global) → table (made ++ row ∷ []) ≡ table made ++ row.items ∷ []
+table_end [] row = refl
+table_end (first ∷ made) row = ap (λ ys. first.items ∷ ys) (table_end made row)
+
+pub table_more : {X Y : Type 0} (f : X → List Y) (rows : List X) (i : ℕ) (x : X) (made after : List (Vec Y Global)) (row : Vec Y Global) → i < length rows → x ≡ get_or rows i x → table made ≡ map f (take i rows) → row.items ≡ f x → after ≡ made ++ row ∷ [] → table after ≡ map f (take (i + 1) rows)
+table_more f rows i x made after row less at before is e =
+    ap table e ∙ table_end made row ∙ ap (λ ys. ys ++ row.items ∷ []) before ∙ ap (λ y. map f (take i rows) ++ y ∷ []) (is ∙ ap f at) ∙ sym (map_more f rows i x less)

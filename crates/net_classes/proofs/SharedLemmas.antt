@@ -17,7 +17,7 @@ use Rattle.net_classes.proofs.Truth.{and_left, and_right, and_intro}
 abbrev is_driven : RawBoard → Ctl → ℕ → Bool
 is_driven board c n = drives_there board c (slice_get board.nets n)
 
-driven_has : (board : RawBoard) (c : Ctl) (n : ℕ) (net : Net) → slice_get board.nets n ≡ Some net → drives_net board c net ≡ true → Has (driven_nets board c) n
+pub driven_has : (board : RawBoard) (c : Ctl) (n : ℕ) (net : Net) → slice_get board.nets n ≡ Some net → drives_net board c net ≡ true → Has (driven_nets board c) n
 driven_has board c n net e d =
     let less : n < length board.nets = slice_get_within board.nets n net e in
     has_filter (is_driven board c) (range_with_len 0 (length board.nets)) n (has_range 0 (length board.nets) n (omega arith) (omega arith)) (ap (drives_there board c) e ∙ d)

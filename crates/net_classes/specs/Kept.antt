@@ -1,5 +1,5 @@
 -- What the classes of a board keep, each by the tests that decide the terms of all safe settings.
-use Rattle.std.specs.Prelude.{◌≡◌, ℕ, ◌==◌, Bool, true, false, not, ◌&&◌, List, map, filter, length, Vec, Option, Some, None, slice_get, is_some, option_and_then}
+use Rattle.std.specs.Prelude.{◌≡◌, ℕ, ◌==◌, Bool, true, false, not, ◌&&◌, List, [], map, filter, length, Vec, Option, Some, None, slice_get, slice_index_or, is_some, option_and_then}
 use Rattle.std.specs.List.{list_any, range_with_len}
 use Rattle.std.specs.declared.alloc.Global.{Global}
 use Rattle.board_defs.specs.declared.board.Ctl.{Ctl}
@@ -15,7 +15,11 @@ use Rattle.net_classes.specs.declared.classes.PinClass.{PinClass}
 use Rattle.net_classes.specs.declared.classes.NetClass.{NetClass}
 use Rattle.net_classes.specs.declared.classes.ControlClass.{ControlClass}
 use Rattle.net_classes.specs.declared.classes.Classes.{Classes}
+use Rattle.net_classes.specs.declared.classes.Parts.{Parts}
+use Rattle.net_classes.specs.declared.pair_rows.PairRows.{PairRows}
+use Rattle.net_classes.specs.NetRows.{AreRowBits}
 use Rattle.net_classes.specs.PairKeys.{ArePairKeys}
+use Rattle.net_classes.specs.Pairs.{fits_at}
 
 -- it holds of the net of this number
 abbrev pub OfNet : RawBoard → ℕ → (Net → Type 0) → Type 0
@@ -76,6 +80,30 @@ table rows = map (λ row. row.items) rows
 abbrev pub item_of : {X : Type 0} → List (List X) → Ctl → Option X
 item_of rows c = option_and_then (λ row. slice_get row c.cell) (slice_get rows c.part)
 
+abbrev pub or_none : Option ℕ → ℕ
+or_none None = 0
+or_none (Some n) = n
+
+-- the number of the row of a control
+abbrev pub number_in : PairRows → Ctl → ℕ
+number_in pairs c = or_none (item_of (table pairs.numbers.items) c)
+
+-- the words of the row of this number
+abbrev pub row_in : PairRows → ℕ → List ℕ
+row_in pairs k = slice_index_or pairs.rows.items k []
+
+-- the first row has the covered nets, and that of a useful control the nets with a tested driver that can be on with it
+pub record ArePairRows (board : RawBoard) (pairs : PairRows) : Type 0 where
+  pub covered : AreRowBits (fits_at board AlwaysOn) (row_in pairs 0)
+  pub each : (c : Ctl) → IsCell board c → is_useful board c ≡ true → AreRowBits (fits_at board (By c)) (row_in pairs (number_in pairs c))
+
+-- what is kept of nets and controls is of the board
+pub record AreParts (board : RawBoard) (parts : Parts) : Type 0 where
+  pub nets_are : parts.nets.items ≡ map (net_class_of board) board.nets
+  pub controls_are : (c : Ctl) → IsCell board c → item_of (table parts.controls.items) c ≡ Some (control_class_of board c)
+  pub useful_are : parts.useful.items ≡ useful_controls board
+  pub shared_are : (c : Ctl) → IsCell board c → item_of (table parts.shared.items) c ≡ Some (shared_nets board c)
+
 -- the classes are those of the board
 pub record AreClasses (board : RawBoard) (classes : Classes) : Type 0 where
   pub nets_are : classes.nets.items ≡ map (net_class_of board) board.nets
@@ -83,3 +111,4 @@ pub record AreClasses (board : RawBoard) (classes : Classes) : Type 0 where
   pub useful_are : classes.useful.items ≡ useful_controls board
   pub shared_are : (c : Ctl) → IsCell board c → item_of (table classes.shared.items) c ≡ Some (shared_nets board c)
   pub keys_are : ArePairKeys board classes.keys.items
+  pub pairs_are : ArePairRows board classes.pairs

@@ -12,3 +12,8 @@ pub mod Groups
 pub mod PairKeys
 pub mod MadeKeys
 pub mod LoneGroups
+pub mod Cells
+pub mod NetRows
+pub mod ControlSets
+pub mod Closed
+pub mod PairRows

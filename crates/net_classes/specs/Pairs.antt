@@ -1,5 +1,5 @@
 -- Which drivers of two nets one safe setting enables.
-use Rattle.std.specs.Prelude.{◌≡◌, ◌<◌, ◌+◌, ◌*◌, ℕ, Bool, false, List, Option, None, Some, All, slice_get, cond}
+use Rattle.std.specs.Prelude.{◌≡◌, ◌<◌, ◌+◌, ◌*◌, ℕ, Bool, false, List, [], Option, None, Some, All, slice_get, cond}
 use Rattle.std.specs.Int.{bit_at}
 use Rattle.std.specs.List.{list_any}
 use Rattle.board_defs.specs.declared.board.Ctl.{Ctl}
@@ -9,6 +9,7 @@ use Rattle.board_defs.specs.declared.board.Drive.{Drive}
 use Rattle.board_defs.specs.declared.board.Drive.TheVariants.{By}
 use Rattle.board_defs.specs.Pins.{IsCell}
 use Rattle.board_defs.specs.Decided.{are_compatible, are_paired}
+use Rattle.board_defs.specs.Passes.{tested_drivers}
 
 -- the control of the driver, where it has one, is a cell of the board
 abbrev pub IsByCell : RawBoard → Drive → Type 0
@@ -28,6 +29,19 @@ fits_some board es d = list_any (fit board d) es
 -- one safe setting enables some driver of each list
 abbrev pub some_fit : RawBoard → List Drive → List Drive → Bool
 some_fit board ds es = list_any (fits_some board es) ds
+
+-- the tested drivers of the net, where it is there
+abbrev pub drivers_there : RawBoard → Option Net → List Drive
+drivers_there board None = []
+drivers_there board (Some net) = tested_drivers board net
+
+-- the tested drivers of the net of this number
+abbrev pub drivers_at : RawBoard → ℕ → List Drive
+drivers_at board n = drivers_there board (slice_get board.nets n)
+
+-- one safe setting enables the driver and a tested driver of the net of this number
+abbrev pub fits_at : RawBoard → Drive → ℕ → Bool
+fits_at board d n = fits_some board (drivers_at board n) d
 
 -- one safe setting observes both nets, where both are there
 abbrev pub pair_there : RawBoard → Option Net → Option Net → Bool

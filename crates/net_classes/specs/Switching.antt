@@ -6,15 +6,13 @@ use Rattle.board_defs.specs.Pins.{described, is_pulled_to}
 use Rattle.board_defs.specs.Decided.{bit_count}
 use Rattle.net_classes.specs.declared.facts.PinFacts.{PinFacts}
 use Rattle.net_classes.specs.declared.facts.NetFacts.{NetFacts}
+use Rattle.net_classes.specs.Cells.{put}
 use Rattle.net_classes.specs.Kept.{item_of}
 use Rattle.net_classes.specs.Rows.{at_control, copies}
 
-abbrev pub marked : Bool → Bool
-marked b = true
-
 abbrev pub mark_at : Option PinAt → List (List Bool) → List (List Bool)
 mark_at None rows = rows
-mark_at (Some at) rows = at_control (record { part = at.part; cell = at.bit }) marked rows
+mark_at (Some at) rows = at_control (record { part = at.part; cell = at.bit }) (put true) rows
 
 abbrev pub mark_pins : List (List Bool) → List PinFacts → List (List Bool)
 mark_pins rows pins = fold (λ r pin. mark_at pin.at r) rows pins

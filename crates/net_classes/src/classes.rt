@@ -3,15 +3,18 @@ ghost use Rattle.std.specs.Prelude.{◌≡◌, map, IfOk};
 ghost use Rattle.board_defs.specs.BoardRules.{IsBoard};
 ghost use Rattle.port_entries.specs.Entries.{AreEntries};
 ghost use Rattle.net_classes.specs.Facts.{net_facts_of};
-ghost use Rattle.net_classes.specs.Kept.{AreClasses};
+ghost use Rattle.net_classes.specs.Kept.{AreClasses, ArePairRows, AreParts};
+ghost use Rattle.net_classes.specs.PairKeys.{ArePairKeys};
 ghost use Rattle.net_classes.specs.Tables.{AreTables};
 
 use crate::controls::{Tables, control_rows, mark_useful};
 use crate::facts::{NetFacts, all_net_facts};
 use crate::groups::net_groups;
+use crate::known::{Known, first_drivers};
 use crate::lone_groups::settled_keys;
 use crate::net_numbers::NetNumbers;
 use crate::pair_keys::{PairKey, pair_keys};
+use crate::pair_rows::{PairRows, pair_rows};
 use crate::shared::{contended_nets, shared_table};
 use crate::switching::pulled_bits;
 use crate::tested::net_classes;
@@ -65,6 +68,7 @@ pub struct Classes {
     pub(crate) useful: Vec<Ctl>,
     pub(crate) shared: Vec<Vec<NetNumbers>>,
     pub(crate) keys: Vec<PairKey>,
+    pub(crate) pairs: PairRows,
 }
 
 fn facts_of(
@@ -94,6 +98,74 @@ fn tables_of(
     Ok(Tables { entries, low, high })
 }
 
+/// The nets, the controls, the useful ones and the shared nets of a board.
+#[derive(Drop)]
+pub struct Parts {
+    pub nets: Vec<NetClass>,
+    pub controls: Vec<Vec<ControlClass>>,
+    pub useful: Vec<Ctl>,
+    pub shared: Vec<Vec<NetNumbers>>,
+}
+
+fn parts_of(
+    alloc: Global,
+    board: &RawBoard,
+    tables: &Tables,
+    facts: &[NetFacts],
+) -> Result<Parts, AllocError>
+    requires rules { IsBoard board.now }
+    requires tables { AreTables board.now tables.now }
+    requires facts { facts.now ≡ map (net_facts_of board.now) board.now.nets }
+    ensures { IfOk result (λ parts. AreParts board.now parts) }
+{
+    let mut controls = control_rows(alloc, tables, board, facts)?;
+    let nets = net_classes(alloc, &controls, facts)?;
+    mark_useful(&mut controls, &nets);
+    let useful = useful_controls(alloc, &controls, board)?;
+    let flags = contended_nets(alloc, facts)?;
+    let shared = shared_table(alloc, &flags, &controls)?;
+    Ok(Parts {
+        nets,
+        controls,
+        useful,
+        shared,
+    })
+}
+
+fn keys_of(alloc: Global, board: &RawBoard, parts: &Parts) -> Result<Vec<PairKey>, AllocError>
+    requires rules { IsBoard board.now }
+    requires parts { AreParts board.now parts.now }
+    ensures { IfOk result (λ keys. ArePairKeys board.now keys.items) }
+{
+    let groups = net_groups(alloc, board.nets.len(), &parts.shared)?;
+    let open_keys = pair_keys(alloc, &groups, &parts.shared, &parts.nets)?;
+    let keys = settled_keys(alloc, open_keys, groups.len())?;
+    Ok(keys)
+}
+
+fn rows_of(
+    alloc: Global,
+    board: &RawBoard,
+    facts: &[NetFacts],
+    parts: &Parts,
+) -> Result<PairRows, AllocError>
+    requires rules { IsBoard board.now }
+    requires facts { facts.now ≡ map (net_facts_of board.now) board.now.nets }
+    requires parts { AreParts board.now parts.now }
+    ensures { IfOk result (λ pairs. ArePairRows board.now pairs) }
+{
+    let firsts = first_drivers(alloc, &parts.nets)?;
+    let known = Known {
+        board,
+        facts,
+        nets: &parts.nets,
+        controls: &parts.controls,
+        shared: &parts.shared,
+        firsts: &firsts,
+    };
+    pair_rows(alloc, known, &parts.useful)
+}
+
 fn classify_record(alloc: Global, board: &RawBoard) -> Result<Classes, AllocError>
     requires { IsBoard board.now }
     ensures { IfOk result (λ classes. AreClasses board.now classes) }
@@ -101,21 +173,22 @@ fn classify_record(alloc: Global, board: &RawBoard) -> Result<Classes, AllocErro
     let entries = port_entries(alloc, board)?;
     let facts = facts_of(alloc, board, entries.as_slice())?;
     let tables = tables_of(alloc, board, entries, &facts)?;
-    let mut controls = control_rows(alloc, &tables, board, &facts)?;
-    let nets = net_classes(alloc, &controls, &facts)?;
-    mark_useful(&mut controls, &nets);
-    let useful = useful_controls(alloc, &controls, board)?;
-    let flags = contended_nets(alloc, &facts)?;
-    let shared = shared_table(alloc, &flags, &controls)?;
-    let groups = net_groups(alloc, board.nets.len(), &shared)?;
-    let open_keys = pair_keys(alloc, &groups, &shared, &nets)?;
-    let keys = settled_keys(alloc, open_keys, groups.len())?;
+    let parts = parts_of(alloc, board, &tables, &facts)?;
+    let keys = keys_of(alloc, board, &parts)?;
+    let pairs = rows_of(alloc, board, &facts, &parts)?;
+    let Parts {
+        nets,
+        controls,
+        useful,
+        shared,
+    } = parts;
     Ok(Classes {
         nets,
         controls,
         useful,
         shared,
         keys,
+        pairs,
     })
 }
 

@@ -1,15 +1,21 @@
 //! The classes of a board: what each of its nets, pins and controls can do in some safe setting.
 #![tactic(auto)]
 
+mod cells;
 mod classes;
+mod closed_nets;
+mod control_sets;
 mod controls;
 mod facts;
 mod found;
 mod groups;
+mod known;
 pub mod law;
 mod lone_groups;
 mod net_numbers;
+mod net_rows;
 mod pair_keys;
+mod pair_rows;
 mod questions;
 mod shared;
 mod switching;

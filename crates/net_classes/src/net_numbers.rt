@@ -1,5 +1,5 @@
 // The numbers of nets.
-ghost use Rattle.std.specs.Prelude.{◌≡◌, ◌++◌, ◌∷◌, [], OnOk};
+ghost use Rattle.std.specs.Prelude.{◌≡◌, ◌++◌, ◌∷◌, [], cond, IfOk, OnOk};
 
 use std::alloc::{AllocError, Global};
 use std::marker::Model;
@@ -34,10 +34,28 @@ impl NetNumbers {
         Ok(())
     }
 
+    pub(crate) fn copy_of(alloc: Global, nets: &[u32]) -> Result<NetNumbers, AllocError>
+        ensures { IfOk result (λ numbers. numbers ≡ nets.now) }
+    {
+        let mut numbers = Vec::new(alloc);
+        numbers.extend_from_slice(nets)?;
+        Ok(NetNumbers { numbers })
+    }
+
     /// The numbers in their order.
     pub fn as_slice(&self) -> &[u32]
         ensures { result.now ≡ self.now }
     {
         &self.numbers
     }
+}
+
+/// Adds the net, where it passes.
+pub(crate) fn push_if(numbers: &mut NetNumbers, net: u32, passes: bool) -> Result<(), AllocError>
+    ensures { OnOk result (numbers.new ≡ numbers.old ++ cond passes (net ∷ []) []) }
+{
+    if passes {
+        numbers.push(net)?;
+    }
+    Ok(())
 }

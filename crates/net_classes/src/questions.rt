@@ -9,14 +9,14 @@ ghost use Rattle.board_defs.specs.declared.board.Drive.TheVariants.{By};
 ghost use Rattle.board_defs.specs.Coverage.{AreTogether, ArePaired, IsCovered, IsReason, IsTestedDriver, IsTestedReceiver, IsUseful};
 ghost use Rattle.board_defs.specs.Decided.{are_paired, are_together, can_enable, is_safe_alone, is_tested_driver, is_tested_receiver, is_useful, place_drive, reason_of, share_net};
 ghost use Rattle.board_defs.specs.Passes.{tested_drivers, useful_controls};
-ghost use Rattle.net_classes.specs.Pairs.{AreBitsOf, AreByCells, IsByCell, fit, fits_some, pairs_with, some_fit};
+ghost use Rattle.net_classes.specs.Pairs.{AreBitsOf, AreByCells, IsByCell, fit, pairs_with};
 ghost use Rattle.net_classes.specs.PairKeys.{ArePairKeys};
 ghost use Rattle.net_classes.specs.Kept.{AreClasses, OfNet, control_class_of, driven_nets, pin_class_of, shared_nets};
 
 use crate::classes::{Classes, ControlClass, PinClass};
 use crate::found::meet;
 use crate::pair_keys::PairKey;
-use crate::words::with_bit;
+use crate::words::has_bit;
 use board_defs::{Board, Ctl, Drive, PinRef, Reason, law};
 
 fn is_same(a: Ctl, b: Ctl) -> bool
@@ -137,46 +137,6 @@ impl Classes {
         }
     }
 
-    fn fits_some(&self, board: &Board, d: Drive, others: &[Drive]) -> bool
-        requires classes { AreClasses board.now self.now }
-        requires first { IsByCell board.now d }
-        requires second { AreByCells board.now others.now }
-        ensures { result ≡ fits_some board.now others.now d }
-    {
-        for e in others {
-            if self.fit(board, d, *e) {
-                return true;
-            }
-        }
-        false
-    }
-
-    fn some_fit(&self, board: &Board, drivers: &[Drive], others: &[Drive]) -> bool
-        requires classes { AreClasses board.now self.now }
-        requires first { AreByCells board.now drivers.now }
-        requires second { AreByCells board.now others.now }
-        ensures { result ≡ some_fit board.now drivers.now others.now }
-    {
-        for d in drivers {
-            if self.fits_some(board, *d, others) {
-                return true;
-            }
-        }
-        false
-    }
-
-    fn are_paired(&self, board: &Board, a: u32, b: u32) -> bool
-        requires classes { AreClasses board.now self.now }
-        requires rules { IsBoard board.now }
-        requires first { a < length board.now.nets }
-        requires second { b < length board.now.nets }
-        ensures { OfNet board.now a (λ one. OfNet board.now b (λ two. result ≡ are_paired board.now one two)) }
-    {
-        let drivers = self.tested_drivers(board, a);
-        let others = self.tested_drivers(board, b);
-        self.some_fit(board, drivers, others)
-    }
-
     /// Why the net is not covered, by the first reason that holds; None where it is covered.
     pub fn reason(&self, board: &Board, net: u32) -> Option<Reason>
         requires classes { AreClasses board.now self.now }
@@ -266,20 +226,8 @@ impl Classes {
     {
         law::terms_decided();
         let _rules = board.raw();
-        if a == b {
-            false
-        } else {
-            self.are_paired(board, a, b)
-        }
-    }
-
-    fn pairs_with(&self, board: &Board, a: u32, b: usize) -> bool
-        requires classes { AreClasses board.now self.now }
-        requires rules { IsBoard board.now }
-        requires net { a < length board.now.nets }
-        ensures { result ≡ pairs_with board.now a b }
-    {
-        b < self.nets.len() && self.are_paired(board, a, b as u32)
+        let word = self.paired_word(board, a, b / 64);
+        a != b && has_bit(word, b % 64)
     }
 
     /// Of the 64 nets from net 64 * word on, those that are paired with the net: bit i stands for
@@ -292,8 +240,8 @@ impl Classes {
     {
         let _rules = board.raw();
         let mut bits = 0;
-        for i in 0..64 {
-            bits = with_bit(bits, i, self.pairs_with(board, net, 64 * word as usize + i));
+        for d in self.drivers(board, net) {
+            bits |= self.pairs.word(*d, word);
         }
         bits
     }

@@ -1,12 +1,12 @@
 // The nets of which a control and another one control drivers: only there can two controls clash.
-ghost use Rattle.std.specs.Prelude.{◌≡◌, ◌++◌, ◌∷◌, [], cond, filter, map, IfOk, OnOk};
+ghost use Rattle.std.specs.Prelude.{◌≡◌, filter, map, IfOk};
 ghost use Rattle.board_defs.specs.Settings.{same_ctl};
 ghost use Rattle.net_classes.specs.Kept.{table};
 ghost use Rattle.net_classes.specs.Shared.{contended_in, controls_in, flags_of, is_flagged, shared_in, with_control, with_drive};
 
 use crate::classes::ControlClass;
 use crate::facts::{NetFacts, PinFacts};
-use crate::net_numbers::NetNumbers;
+use crate::net_numbers::{NetNumbers, push_if};
 use board_defs::{Ctl, Drive};
 use std::alloc::{AllocError, Global};
 
@@ -90,15 +90,6 @@ fn is_flagged(flags: &[bool], net: u32) -> bool
         None => false,
         Some(flag) => *flag,
     }
-}
-
-fn push_if(numbers: &mut NetNumbers, net: u32, passes: bool) -> Result<(), AllocError>
-    ensures { OnOk result (numbers.new ≡ numbers.old ++ cond passes (net ∷ []) []) }
-{
-    if passes {
-        numbers.push(net)?;
-    }
-    Ok(())
 }
 
 fn shared_of(alloc: Global, flags: &[bool], nets: &[u32]) -> Result<NetNumbers, AllocError>

@@ -3,28 +3,13 @@ ghost use Rattle.std.specs.Prelude.{◌≡◌, false, fold, IfOk};
 ghost use Rattle.board_defs.specs.Pins.{described};
 ghost use Rattle.board_defs.specs.Decided.{bit_count};
 ghost use Rattle.net_classes.specs.Kept.{table};
-ghost use Rattle.net_classes.specs.Rows.{copies, at_control, update_at};
-ghost use Rattle.net_classes.specs.Switching.{blank_bits, is_marked, mark_at, mark_pins, mark_pulled, marked, pulled_bits};
+ghost use Rattle.net_classes.specs.Rows.{copies};
+ghost use Rattle.net_classes.specs.Switching.{blank_bits, is_marked, mark_at, mark_pins, mark_pulled, pulled_bits};
 
+use crate::cells::put_at;
 use crate::facts::{NetFacts, PinFacts, is_pull};
 use board_defs::{Ctl, Part, PartKind, PinAt};
 use std::alloc::{AllocError, Global};
-
-fn mark_bit(row: &mut Vec<bool>, bit: u32)
-    ensures { row.new.items ≡ update_at bit marked row.old.items }
-{
-    if (bit as usize) < row.len() {
-        row[bit as usize] = true;
-    }
-}
-
-fn mark_control(rows: &mut [Vec<bool>], c: Ctl)
-    ensures { table rows.new ≡ at_control c marked (table rows.old) }
-{
-    if (c.part as usize) < rows.len() {
-        mark_bit(&mut rows[c.part as usize], c.cell);
-    }
-}
 
 fn mark_place(rows: &mut [Vec<bool>], at: Option<PinAt>)
     ensures { table rows.new ≡ mark_at at (table rows.old) }
@@ -36,7 +21,7 @@ fn mark_place(rows: &mut [Vec<bool>], at: Option<PinAt>)
                 part: at.part,
                 cell: at.bit,
             };
-            mark_control(rows, c);
+            put_at(rows, c, true);
         }
     }
 }

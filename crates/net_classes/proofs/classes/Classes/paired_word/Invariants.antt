@@ -1,7 +1,7 @@
-use Rattle.std.proofs.Common.{◌+◌, ◌*◌}
-use Rattle.net_classes.specs.Pairs.{pairs_with}
-use Rattle.net_classes.proofs.WordLemmas.{AreFirstBits}
+use Rattle.std.proofs.Common.{take}
+use Rattle.std.specs.List.{list_any}
+use Rattle.net_classes.specs.Pairs.{AreBitsOf, fits_at}
 use Rattle.net_classes.proofs.classes.Classes.paired_word.Given as goal
 
-abbrev pub invariant-loop-i : goal.invariant-loop-i
-invariant-loop-i l = AreFirstBits (λ i. pairs_with l.board l.net (64 * l.word + i)) l.i l.bits
+abbrev pub invariant-loop-d : goal.invariant-loop-d
+invariant-loop-d l = AreBitsOf (λ m. list_any (λ d. fits_at l.board d m) (take l.d-index l.d-items)) l.word l.bits

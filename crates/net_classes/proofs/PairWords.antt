@@ -1,0 +1,64 @@
+-- The words of the rows of a net's tested drivers say together which nets are paired with it.
+use Rattle.std.proofs.Common.{◌≡◌, ℕ, ◌+◌, ◌<◌, ◌≤◌, Bool, true, false, ◌||◌, List, [], ◌∷◌, ◌++◌, length, take, get_or, Option, Some, None, refl, sym, ◌∙◌, ap, subst}
+use Rattle.std.specs.Prelude.{slice_get}
+use Rattle.std.specs.List.{list_any}
+use Rattle.std.specs.Int.Bits.{bit_or}
+use Rattle.std.proofs.lemmas.List.{take_all, take_more}
+use Rattle.std.proofs.lemmas.Option.{slice_get-get_or}
+use Rattle.board_defs.specs.declared.board.Ctl.{Ctl}
+use Rattle.board_defs.specs.declared.board.Net.{Net}
+use Rattle.board_defs.specs.declared.board.RawBoard.{RawBoard}
+use Rattle.board_defs.specs.declared.board.Drive.{Drive}
+use Rattle.board_defs.specs.declared.board.Drive.TheVariants.{AlwaysOn, OneSided, By}
+use Rattle.board_defs.specs.BoardRules.{IsBoard}
+use Rattle.board_defs.specs.Decided.{can_enable, is_by, is_useful}
+use Rattle.board_defs.specs.Passes.{tested_drivers}
+use Rattle.board_defs.proofs.ControlOrder.{same_refl}
+use Rattle.board_defs.proofs.Members.{Has, has_any, has_at}
+use Rattle.board_defs.proofs.PassesKept.{tested_can_drive, tested_has}
+use Rattle.board_defs.proofs.Places.{any_at}
+use Rattle.net_classes.specs.declared.pair_rows.PairRows.{PairRows}
+use Rattle.net_classes.specs.Kept.{ArePairRows}
+use Rattle.net_classes.specs.PairRows.{drive_word}
+use Rattle.net_classes.specs.Pairs.{AreBitsOf, drivers_there, fits_at, pairs_with}
+use Rattle.net_classes.proofs.DriverPairs.{there_are}
+use Rattle.net_classes.proofs.Lists.{any_joined}
+use Rattle.net_classes.proofs.Marks.{useful_is}
+use Rattle.net_classes.proofs.Paired.{has_cells}
+use Rattle.net_classes.proofs.WordLemmas.{either_word, no_word, same_word}
+
+-- the control of a tested driver is useful
+tested_useful : (board : RawBoard) (n : ℕ) (net : Net) (c : Ctl) → slice_get board.nets n ≡ Some net → Has (tested_drivers board net) (By c) → is_useful board c ≡ true
+tested_useful board n net c at has =
+    sym (useful_is board c) ∙ any_at (λ (other : Net). list_any (λ d. is_by c (Some d)) (tested_drivers board other)) board.nets n net at (has_any (λ d. is_by c (Some d)) (tested_drivers board net) (By c) has (same_refl c))
+
+-- the word of one driver
+driver_word : (board : RawBoard) (pairs : PairRows) (n w : ℕ) (net : Net) (d : Drive) → IsBoard board → ArePairRows board pairs → slice_get board.nets n ≡ Some net → Has (tested_drivers board net) d → AreBitsOf (fits_at board d) w (drive_word pairs d w)
+driver_word board pairs n w net AlwaysOn rules are at has = are.covered w
+driver_word board pairs n w net OneSided rules are at has = let wrong : false ≡ true = tested_can_drive board net OneSided (tested_has board net OneSided has) in cc wrong
+driver_word board pairs n w net (By c) rules are at has = are.each c (has_cells board net (By c) rules has c refl) (tested_useful board n net c at has) w
+
+or_false : (s : Bool) → (s || false) ≡ s
+or_false true = refl
+or_false false = refl
+
+pub word_more : (board : RawBoard) (pairs : PairRows) (n w : ℕ) (net : Net) (ds : List Drive) (i : ℕ) (d : Drive) (bits word : ℕ) → IsBoard board → ArePairRows board pairs → slice_get board.nets n ≡ Some net → ds ≡ tested_drivers board net → i < length ds → d ≡ get_or ds i d → word ≡ drive_word pairs d w →
+    AreBitsOf (λ m. list_any (λ e. fits_at board e m) (take i ds)) w bits → AreBitsOf (λ m. list_any (λ e. fits_at board e m) (take (i + 1) ds)) w (bit_or bits word)
+word_more board pairs n w net ds i d bits word rules are at e less this is before =
+    let P : List Drive → Type 0 = λ v. Has v d in
+    let Q : ℕ → Type 0 = λ v. AreBitsOf (fits_at board d) w v in
+    let has : Has (tested_drivers board net) d = subst P e (has_at ds i d (slice_get-get_or ds i d less ∙ ap Some (sym this))) in
+    same_word (λ m. list_any (λ x. fits_at board x m) (take i ds) || fits_at board d m) (λ m. list_any (λ x. fits_at board x m) (take (i + 1) ds)) same w (bit_or bits word)
+    (either_word (λ m. list_any (λ x. fits_at board x m) (take i ds)) (fits_at board d) w bits word before (subst Q (sym is) (driver_word board pairs n w net d rules are at has)))
+  where
+    same : (m : ℕ) → (list_any (λ x. fits_at board x m) (take i ds) || fits_at board d m) ≡ list_any (λ x. fits_at board x m) (take (i + 1) ds)
+    same m =
+        ap (λ t. list_any (λ x. fits_at board x m) (take i ds) || t) (sym (or_false (fits_at board d m))) ∙ sym (any_joined (λ x. fits_at board x m) (take i ds) (d ∷ [])) ∙
+        ap (list_any (λ x. fits_at board x m)) (ap (λ x. take i ds ++ x ∷ []) this ∙ sym (take_more ds i d less))
+
+pub word_whole : (board : RawBoard) (n w : ℕ) (net : Net) (ds : List Drive) (i bits : ℕ) → slice_get board.nets n ≡ Some net → ds ≡ tested_drivers board net → length ds ≤ i → AreBitsOf (λ m. list_any (λ e. fits_at board e m) (take i ds)) w bits → AreBitsOf (pairs_with board n) w bits
+word_whole board n w net ds i bits at e most is = same_word (λ m. list_any (λ x. fits_at board x m) (take i ds)) (pairs_with board n) same w bits is
+  where
+    same : (m : ℕ) → list_any (λ x. fits_at board x m) (take i ds) ≡ pairs_with board n m
+    same m =
+        ap (list_any (λ x. fits_at board x m)) (take_all i ds most ∙ e ∙ sym (ap (drivers_there board) at)) ∙ sym (there_are board (slice_get board.nets n) (slice_get board.nets m))

@@ -1,0 +1,7 @@
+use Rattle.net_classes.proofs.ClosedLemmas.{cell_known, no_closed_nets}
+use Rattle.net_classes.proofs.closed_nets.ClosedNets.nothing.Goals as goal
+
+pub returns : goal.returns
+returns c =
+    let board = c.args.known.board.now in
+    no_closed_nets board _ c.new.ensures c.new-3.ensures (c.in_ok-new.ensures board (λ d cell. cell_known c.args.known d c.requires cell))

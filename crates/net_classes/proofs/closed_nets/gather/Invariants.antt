@@ -1,0 +1,8 @@
+use Rattle.std.proofs.Common.{Bool, take}
+use Rattle.board_defs.specs.declared.board.Ctl.{Ctl}
+use Rattle.net_classes.specs.Closed.{drives_some}
+use Rattle.net_classes.specs.ControlSets.{IsSet}
+use Rattle.net_classes.proofs.closed_nets.gather.Given as goal
+
+abbrev pub invariant-loop-net : goal.invariant-loop-net
+invariant-loop-net l = (passes : Ctl → Bool) → IsSet l.known.board.now passes l.fn.set → IsSet l.known.board.now (drives_some l.known.board.now (take l.net-index l.nets)) l.set

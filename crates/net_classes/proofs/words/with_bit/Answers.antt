@@ -1,9 +1,0 @@
-use Rattle.std.proofs.Common.{w64}
-use Rattle.std.proofs.lemmas.Nat.Bits.{bit_at_set_other, bit_at_set_same}
-use Rattle.net_classes.proofs.words.with_bit.Goals as goal
-
-pub returns-then-on : goal.returns-then-on
-returns-then-on c = record {
-  here = rw (c.if-on.true) (bit_at_set_same w64 c.args.word c.args.number c.requires);
-  others = bit_at_set_other w64 c.args.word c.args.number c.requires;
-}

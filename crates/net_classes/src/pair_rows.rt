@@ -1,0 +1,217 @@
+// Rows of bits, by which the nets that are paired with a net are known 64 at a time.
+ghost use Rattle.std.specs.Prelude.{◌≡◌, ◌<◌, ◌+◌, ◌/◌, ◌++◌, ℕ, Bool, true, false, not, ◌&&◌, filter, length, slice_index, All, IfOk, OnOk};
+ghost use Rattle.std.specs.Option.{option_to_list};
+ghost use Rattle.board_defs.specs.declared.board.Drive.TheVariants.{AlwaysOn};
+ghost use Rattle.board_defs.specs.declared.board.Ctl.{Ctl};
+ghost use Rattle.board_defs.specs.Pins.{IsCell};
+ghost use Rattle.board_defs.specs.Decided.{is_useful};
+ghost use Rattle.board_defs.specs.Passes.{useful_controls};
+ghost use Rattle.net_classes.specs.Closed.{AreClosed, AreClosedNets, IsKnown};
+ghost use Rattle.net_classes.specs.Kept.{shared_nets};
+ghost use Rattle.net_classes.specs.NetRows.{AreRowBits, stands_in};
+ghost use Rattle.net_classes.specs.Pairs.{AreBitsOf};
+ghost use Rattle.net_classes.specs.PairRows.{AddsRow, HasCovered, IsRowFor, drive_word, number_for, owns_at};
+ghost use Rattle.net_classes.specs.Kept.{ArePairRows, number_in, row_in};
+ghost use Rattle.net_classes.specs.Pairs.{fits_at};
+
+use crate::cells::{filled_table, item_at, put_at};
+use crate::closed_nets::ClosedNets;
+use crate::known::{Known, is_by};
+use crate::net_numbers::{NetNumbers, push_if};
+use crate::net_rows::NetRow;
+use board_defs::{Ctl, Drive, law};
+use std::alloc::{AllocError, Global};
+
+/// For each useful control the nets that some safe setting observes with the control on.
+#[derive(Debug, Drop)]
+pub struct PairRows {
+    /// The first has all covered nets.
+    pub(crate) rows: Vec<NetRow>,
+    /// The number of the row of each control.
+    pub(crate) numbers: Vec<Vec<usize>>,
+}
+
+impl PairRows {
+    fn number(&self, c: Ctl) -> usize
+        ensures { result ≡ number_in self.now c }
+    {
+        match item_at(&self.numbers, c) {
+            None => 0,
+            Some(number) => number,
+        }
+    }
+
+    fn row_word(&self, number: usize, word: u32) -> u64
+        ensures { result ≡ slice_index (row_in self.now number) word }
+    {
+        match self.rows.get(number) {
+            None => 0,
+            Some(row) => row.word(word as usize),
+        }
+    }
+
+    /// Of 64 nets, those with a tested driver that some safe setting enables together with the driver.
+    pub(crate) fn word(&self, d: Drive, word: u32) -> u64
+        ensures { result ≡ drive_word self.now d word }
+    {
+        match d {
+            Drive::AlwaysOn => self.row_word(0, word),
+            Drive::OneSided => 0,
+            Drive::By(c) => self.row_word(self.number(c), word),
+        }
+    }
+}
+
+fn owns(known: Known<'_>, c: Ctl, net: u32) -> bool
+    requires { IsKnown known }
+    ensures { result ≡ owns_at known.entry.board.now c net }
+{
+    known.drivers(net).iter().any(|d| is_by(c, Some(*d)))
+}
+
+/// Those of the nets of which the control controls no tested driver.
+fn failing_nets(
+    alloc: Global,
+    known: Known<'_>,
+    closed: &[u32],
+    c: Ctl,
+) -> Result<NetNumbers, AllocError>
+    requires { IsKnown known }
+    ensures { IfOk result (λ failing. failing ≡ filter (λ n. not (owns_at known.entry.board.now c n)) closed.now) }
+{
+    let mut failing = NetNumbers::new(alloc);
+    for net in closed {
+        push_if(&mut failing, *net, !owns(known, c, *net))?;
+    }
+    Ok(failing)
+}
+
+/// The row without these nets.
+fn row_without(row: &NetRow, nets: &[u32]) -> Result<NetRow, AllocError>
+    requires { All (λ n. n / 64 < length row.now) nets.now }
+    ensures { IfOk result (λ less. (passes : ℕ → Bool) → AreRowBits passes row.now → AreRowBits (λ n. passes n && not (stands_in nets.now n)) less) }
+{
+    let mut less = row.copy()?;
+    for net in nets {
+        less.put(*net, false);
+    }
+    Ok(less)
+}
+
+/// The row of the covered nets.
+fn covered_row(alloc: Global, known: Known<'_>) -> Result<NetRow, AllocError>
+    requires { IsKnown known }
+    ensures bits { IfOk result (λ row. AreRowBits (fits_at known.entry.board.now AlwaysOn) row) }
+    ensures room { IfOk result (λ row. length row ≡ length known.entry.board.now.nets / 64 + 1) }
+{
+    let mut row = NetRow::blank(alloc, known.nets.len())?;
+    for net in 0..known.nets.len() {
+        row.put(net as u32, known.drivers(net as u32).len() > 0);
+    }
+    Ok(row)
+}
+
+/// The row of a control, by the nets that are closed by those that it shares; None where it is the
+/// row of the covered nets.
+fn row_for(
+    alloc: Global,
+    known: Known<'_>,
+    covered: &NetRow,
+    closed: &[u32],
+    c: Ctl,
+) -> Result<Option<NetRow>, AllocError>
+    requires known { IsKnown known }
+    requires cell { IsCell known.board.now c }
+    requires useful { is_useful known.board.now c ≡ true }
+    requires covered { AreRowBits (fits_at known.board.now AlwaysOn) covered.now }
+    requires room { length covered.now ≡ length known.board.now.nets / 64 + 1 }
+    requires closed { AreClosed known.board.now (shared_nets known.board.now c) closed.now }
+    ensures { IfOk result (λ row. IsRowFor known.entry.board.now c covered.now row) }
+{
+    let failing = failing_nets(alloc, known, closed, c)?;
+    if failing.as_slice().len() == 0 {
+        return Ok(None);
+    }
+    let row = row_without(covered, failing.as_slice())?;
+    Ok(Some(row))
+}
+
+fn add_row(rows: &mut Vec<NetRow>, row: Option<NetRow>) -> Result<usize, AllocError>
+    ensures rows { OnOk result (rows.new.items ≡ rows.old.items ++ option_to_list row) }
+    ensures number { IfOk result (λ number. number ≡ number_for (length rows.old.items) row) }
+{
+    match row {
+        None => Ok(0),
+        Some(row) => {
+            let number = rows.len();
+            rows.push(row)?;
+            Ok(number)
+        }
+    }
+}
+
+fn put_row(
+    pairs: &mut PairRows,
+    known: Known<'_>,
+    c: Ctl,
+    row: Option<NetRow>,
+) -> Result<(), AllocError>
+    requires pairs { HasCovered known.board.now pairs.old }
+    requires cell { IsCell known.board.now c }
+    requires row { IsRowFor known.board.now c (row_in pairs.old 0) row }
+    ensures { OnOk result (AddsRow known.entry.board.now pairs.old pairs.new c) }
+{
+    let number = add_row(&mut pairs.rows, row)?;
+    put_at(&mut pairs.numbers, c, number);
+    Ok(())
+}
+
+fn add_control(
+    alloc: Global,
+    known: Known<'_>,
+    closed: &mut ClosedNets,
+    pairs: &mut PairRows,
+    c: Ctl,
+) -> Result<(), AllocError>
+    requires known { IsKnown known }
+    requires cell { IsCell known.board.now c }
+    requires useful { is_useful known.board.now c ≡ true }
+    requires closed { AreClosedNets known.board.now closed.old }
+    requires pairs { HasCovered known.board.now pairs.old }
+    ensures closed { OnOk result (AreClosedNets known.entry.board.now closed.new) }
+    ensures pairs { OnOk result (AddsRow known.entry.board.now pairs.old pairs.new c) }
+{
+    let shared = known.shared(c);
+    if shared.len() == 0 {
+        return put_row(pairs, known, c, None);
+    }
+    closed.turn_to(alloc, known, shared)?;
+    let row = row_for(alloc, known, &pairs.rows[0], closed.nets.as_slice(), c)?;
+    put_row(pairs, known, c, row)
+}
+
+fn covered_rows(alloc: Global, known: Known<'_>) -> Result<PairRows, AllocError>
+    requires { IsKnown known }
+    ensures { IfOk result (λ pairs. HasCovered known.entry.board.now pairs) }
+{
+    let mut rows = Vec::new(alloc);
+    rows.push(covered_row(alloc, known)?)?;
+    let numbers = filled_table(alloc, known.shared, 0)?;
+    Ok(PairRows { rows, numbers })
+}
+
+/// The rows of a board, by its useful controls.
+pub fn pair_rows(alloc: Global, known: Known<'_>, useful: &[Ctl]) -> Result<PairRows, AllocError>
+    requires known { IsKnown known }
+    requires useful { useful.now ≡ useful_controls known.board.now }
+    ensures { IfOk result (λ pairs. ArePairRows known.entry.board.now pairs) }
+{
+    law::terms_decided();
+    law::passes_kept();
+    let mut pairs = covered_rows(alloc, known)?;
+    let mut closed = ClosedNets::nothing(alloc, known)?;
+    for c in useful {
+        add_control(alloc, known, &mut closed, &mut pairs, *c)?;
+    }
+    Ok(pairs)
+}
