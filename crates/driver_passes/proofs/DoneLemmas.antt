@@ -15,7 +15,8 @@ use Rattle.net_classes.specs.Laws.{PairsHaveDrivers}
 use Rattle.net_classes.specs.Pairs.{pairs_with}
 use Rattle.driver_passes.specs.NetSets.{has_net}
 use Rattle.driver_passes.specs.Pairs.{AreDone, AreLeft, IsDone, IsDoneTo, StaysDone, is_wanted, pairs_from}
-use Rattle.driver_passes.specs.Progress.{EnableTested, drivers_at}
+use Rattle.driver_passes.specs.Progress.{EnableTested}
+use Rattle.driver_passes.specs.Shown.{drivers_at}
 use Rattle.driver_passes.proofs.EnabledLemmas.{any_end, any_last}
 use Rattle.driver_passes.proofs.ProgressLemmas.{drivers_are, net_there}
 use Rattle.driver_passes.proofs.PairLemmas.{one_done}

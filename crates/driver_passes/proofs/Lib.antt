@@ -5,6 +5,7 @@ pub mod FitLemmas
 pub mod ProgressLemmas
 pub mod NetSetLemmas
 pub mod RowLemmas
+pub mod TestedLemmas
 pub mod AlikeLemmas
 pub mod PairLemmas
 pub mod EnabledLemmas

@@ -6,10 +6,17 @@ use Rattle.std.proofs.lemmas.List.Folds.{list_any-append}
 use Rattle.board_defs.specs.declared.board.Ctl.{Ctl}
 use Rattle.board_defs.specs.declared.board.RawBoard.{RawBoard}
 use Rattle.board_defs.specs.Passes.{are_shown, shows}
+use Rattle.driver_passes.specs.declared.draft.Draft.{Draft}
+use Rattle.driver_passes.specs.Drafts.{setting_of}
 use Rattle.driver_passes.specs.NetSets.{has_net}
-use Rattle.driver_passes.specs.Pairs.{AreLeft, AreRows, AreShownBy, shows_both}
-use Rattle.driver_passes.specs.Progress.{drivers_at}
+use Rattle.driver_passes.specs.Pairs.{AreLeft}
+use Rattle.driver_passes.specs.Shown.{AreRows, AreShownBy, shows_both}
+use Rattle.driver_passes.specs.Shown.{drivers_at}
 use Rattle.driver_passes.proofs.ProgressLemmas.{length_end}
+
+-- the row of a draft is that of the pass that it makes
+pub shown_as : (board : RawBoard) (draft : Draft) (pass : List Ctl) (row : List ℕ) → pass ≡ setting_of board draft → AreShownBy board (setting_of board draft) row → AreShownBy board pass row
+shown_as board draft pass row e are = let P : List Ctl → Type 0 = λ v. AreShownBy board v row in subst P (sym e) are
 
 -- one row more
 

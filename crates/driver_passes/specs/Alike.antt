@@ -1,7 +1,7 @@
 -- Nets with the same tested drivers.
 use Rattle.std.specs.Prelude.{◌≡◌, ◌≤◌, ◌<◌, ℕ, List, length, slice_index_or}
 use Rattle.board_defs.specs.declared.board.RawBoard.{RawBoard}
-use Rattle.driver_passes.specs.Progress.{drivers_at}
+use Rattle.driver_passes.specs.Shown.{drivers_at}
 
 -- the table names for each net an earlier one with the same tested drivers, or the net itself
 pub record AreAlike (board : RawBoard) (likes : List ℕ) : Type 0 where

@@ -1,29 +1,18 @@
--- Which nets each pass shows, and for which pairs of nets a pass is wanted.
-use Rattle.std.specs.Prelude.{◌≡◌, ◌≤◌, ◌<◌, ◌⊎◌, ◌+◌, ◌/◌, ℕ, Bool, true, not, ◌&&◌, List, [], drop, length, map, None, slice_index_or}
+-- For which pairs of nets a pass is wanted.
+use Rattle.std.specs.Prelude.{◌≡◌, ◌≤◌, ◌<◌, ◌⊎◌, ◌+◌, ◌/◌, ℕ, Bool, true, not, ◌&&◌, List, drop, length, map, None}
 use Rattle.board_defs.specs.declared.board.Ctl.{Ctl}
 use Rattle.board_defs.specs.declared.board.RawBoard.{RawBoard}
 use Rattle.board_defs.specs.declared.board.Drive.{Drive}
-use Rattle.board_defs.specs.Passes.{are_shown, drivers_by_net, first_pair, shows}
+use Rattle.board_defs.specs.Passes.{are_shown, drivers_by_net, first_pair}
 use Rattle.net_classes.specs.Pairs.{pairs_with}
 use Rattle.driver_passes.specs.declared.pairs.Pairing.{Pairing}
 use Rattle.driver_passes.specs.NetSets.{has_net}
-use Rattle.driver_passes.specs.Progress.{EnableTested, IsUsefulDriver, drivers_at}
+use Rattle.driver_passes.specs.Progress.{EnableTested, IsUsefulDriver}
+use Rattle.driver_passes.specs.Shown.{drivers_at}
 use Rattle.driver_passes.specs.Useful.{HoldUseful}
 use Rattle.driver_passes.specs.Alike.{AreAlike}
-
--- the row is the set of the nets that the pass shows, with room for each net
-pub record AreShownBy (board : RawBoard) (pass : List Ctl) (row : List ℕ) : Type 0 where
-  pub row_length : length row ≡ length board.nets / 64 + 1
-  pub row_are : (n : ℕ) → n < length board.nets → has_net row n ≡ shows (drivers_at board n) pass
-
--- there is a row for each pass
-pub record AreRows (board : RawBoard) (passes : List (List Ctl)) (rows : List (List ℕ)) : Type 0 where
-  pub rows_length : length rows ≡ length passes
-  pub rows_are : (x : ℕ) → x < length passes → AreShownBy board (slice_index_or passes x []) (slice_index_or rows x [])
-
--- the row has both nets
-abbrev pub shows_both : ℕ → ℕ → List ℕ → Bool
-shows_both a b row = has_net row a && has_net row b
+use Rattle.driver_passes.specs.Shown.{AreRows, drivers_at}
+use Rattle.driver_passes.specs.Tested.{AreTestedNets}
 
 -- the rows are those of the passes so far, which enable each tested driver and hold useful controls only; the set has room for each net
 pub record ArePairing (board : RawBoard) (pairing : Pairing) : Type 0 where
@@ -31,6 +20,7 @@ pub record ArePairing (board : RawBoard) (pairing : Pairing) : Type 0 where
   pub alike : AreAlike board pairing.likes.items
   pub tested : EnableTested board pairing.passes.items
   pub useful : HoldUseful board pairing.passes.items
+  pub tested_nets : AreTestedNets board pairing.tested_nets
   pub left_length : length pairing.left ≡ length board.nets / 64 + 1
 
 -- of the nets from net a on, the set has those that none of the passes shows together with net a

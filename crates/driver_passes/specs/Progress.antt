@@ -1,14 +1,16 @@
 -- The passes so far.
-use Rattle.std.specs.Prelude.{◌≡◌, ◌<◌, ℕ, Bool, true, false, List, [], length, Some, slice_get, slice_index_or, Contains}
+use Rattle.std.specs.Prelude.{◌≡◌, ◌<◌, ℕ, Bool, true, false, List, length, Some, slice_get, slice_index_or, Contains}
 use Rattle.std.specs.List.{list_any}
 use Rattle.board_defs.specs.declared.board.Ctl.{Ctl}
 use Rattle.board_defs.specs.declared.board.RawBoard.{RawBoard}
 use Rattle.board_defs.specs.declared.board.Drive.{Drive}
 use Rattle.board_defs.specs.declared.board.Drive.TheVariants.{By}
 use Rattle.board_defs.specs.Settings.{holds}
-use Rattle.board_defs.specs.Passes.{drivers_by_net, is_enabled, useful_controls}
+use Rattle.board_defs.specs.Passes.{is_enabled, useful_controls}
 use Rattle.driver_passes.specs.declared.drivers.Progress.{Progress}
 use Rattle.driver_passes.specs.Useful.{HoldUseful}
+use Rattle.driver_passes.specs.Shown.{AreRows, drivers_at}
+use Rattle.driver_passes.specs.Tested.{AreTestedNets}
 
 -- some pass holds the control
 abbrev pub is_held : List (List Ctl) → Ctl → Bool
@@ -19,18 +21,16 @@ pub record AreHeld (board : RawBoard) (passes : List (List Ctl)) (flags : List B
   pub flags_length : length flags ≡ length (useful_controls board)
   pub flags_are : (i : ℕ) (c : Ctl) → slice_get (useful_controls board) i ≡ Some c → slice_index_or flags i false ≡ is_held passes c
 
--- the flags are those of the passes so far, which hold useful controls only
+-- the flags and the rows are those of the passes so far, which hold useful controls only
 pub record IsProgress (board : RawBoard) (progress : Progress) : Type 0 where
   pub held : AreHeld board progress.passes.items progress.held.items
   pub useful : HoldUseful board progress.passes.items
+  pub rows : AreRows board progress.passes.items progress.rows.items
+  pub tested_nets : AreTestedNets board progress.tested_nets
 
 -- the driver's control, where it has one, is useful
 abbrev pub IsUsefulDriver : RawBoard → Drive → Type 0
 IsUsefulDriver board d = (c : Ctl) → d ≡ By c → holds (useful_controls board) c ≡ true
-
--- the tested drivers of the net of this number
-abbrev pub drivers_at : RawBoard → ℕ → List Drive
-drivers_at board n = slice_index_or (drivers_by_net board) n []
 
 -- each tested driver is enabled by some pass
 abbrev pub EnableTested : RawBoard → List (List Ctl) → Type 0

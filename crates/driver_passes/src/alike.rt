@@ -3,7 +3,7 @@ ghost use Rattle.std.specs.Prelude.{◌≡◌, ◌≤◌, ◌<◌, length, true,
 ghost use Rattle.board_defs.specs.Passes.{useful_controls};
 ghost use Rattle.net_classes.specs.Kept.{AreClasses};
 ghost use Rattle.driver_passes.specs.Alike.{AreAlike};
-ghost use Rattle.driver_passes.specs.Progress.{drivers_at};
+ghost use Rattle.driver_passes.specs.Shown.{drivers_at};
 
 use crate::drivers::drivers_of;
 use crate::places::place_of;

@@ -7,11 +7,13 @@ ghost use Rattle.board_defs.specs.Passes.{add_for_driver, driver_pass, driver_pa
 ghost use Rattle.net_classes.specs.Kept.{AreClasses};
 ghost use Rattle.net_classes.specs.Pairs.{AreByCells};
 ghost use Rattle.driver_passes.specs.Drafts.{IsDraft, setting_of};
-ghost use Rattle.driver_passes.specs.Progress.{EnableTested, IsProgress, IsUsefulDriver, drivers_at, is_held};
-ghost use Rattle.driver_passes.specs.Useful.{HoldUseful};
+ghost use Rattle.driver_passes.specs.Progress.{EnableTested, IsProgress, IsUsefulDriver, is_held};
+ghost use Rattle.driver_passes.specs.Shown.{drivers_at};
 
 use crate::draft::{Draft, blank, is_set};
+use crate::net_set::NetSet;
 use crate::places::place_of;
+use crate::tested::TestedNets;
 use crate::walk::{first_walk, second_walk};
 use board_defs::{Board, Ctl, Drive, Setting, law};
 use net_classes::Classes;
@@ -21,19 +23,11 @@ use std::alloc::{AllocError, Global};
 #[derive(Debug, Drop)]
 pub struct Progress {
     pub passes: Vec<Setting>,
+    /// For each pass, the nets that it shows.
+    pub rows: Vec<NetSet>,
     /// For each useful control, whether some pass holds it.
     pub held: Vec<bool>,
-}
-
-/// Whether the setting enables the driver.
-pub fn is_enabled(setting: &Setting, d: Drive) -> bool
-    ensures { result ≡ is_enabled setting.now d }
-{
-    match d {
-        Drive::AlwaysOn => true,
-        Drive::OneSided => false,
-        Drive::By(c) => setting.has(c),
-    }
+    pub tested_nets: TestedNets,
 }
 
 /// Sets each flag that is set in the other list.
@@ -73,15 +67,24 @@ fn driver_pass(
 }
 
 impl Progress {
-    fn new(alloc: Global, board: &Board, useful: &[Ctl]) -> Result<Progress, AllocError>
-        requires { useful.now ≡ useful_controls board.now }
+    fn new(
+        alloc: Global,
+        board: &Board,
+        classes: &Classes,
+        useful: &[Ctl],
+    ) -> Result<Progress, AllocError>
+        requires classes { AreClasses board.now classes.now }
+        requires useful { useful.now ≡ useful_controls board.now }
         ensures progress { IfOk result (λ progress. IsProgress board.now progress) }
         ensures none { IfOk result (λ progress. progress.passes.items ≡ []) }
     {
         let held = blank(alloc, useful.len())?;
+        let tested_nets = TestedNets::new(alloc, board, classes, useful)?;
         Ok(Progress {
             passes: Vec::new(alloc),
+            rows: Vec::new(alloc),
             held,
+            tested_nets,
         })
     }
 
@@ -129,6 +132,8 @@ impl Progress {
         law::passes_kept();
         let _rules = board.raw();
         self.passes.push(draft.setting(alloc, board, useful)?)?;
+        self.rows
+            .push(self.tested_nets.shown_by(alloc, board, draft)?)?;
         join(&mut self.held, &draft.held);
         Ok(())
     }
@@ -202,17 +207,17 @@ pub fn driver_passes(
     board: &Board,
     classes: &Classes,
     useful: &[Ctl],
-) -> Result<Vec<Setting>, AllocError>
+) -> Result<Progress, AllocError>
     requires classes { AreClasses board.now classes.now }
     requires useful { useful.now ≡ useful_controls board.now }
     requires cells { All (IsCell board.now) useful.now }
-    ensures passes { IfOk result (λ passes. passes.items ≡ driver_passes board.now useful.now (flat_map (λ drivers. drivers) (drivers_by_net board.now))) }
-    ensures tested { IfOk result (λ passes. EnableTested board.now passes.items) }
-    ensures useful { IfOk result (λ passes. HoldUseful board.now passes.items) }
-    ensures few { IfOk result (λ passes. length passes.items ≤ 65535) }
+    ensures progress { IfOk result (λ progress. IsProgress board.now progress) }
+    ensures passes { IfOk result (λ progress. progress.passes.items ≡ driver_passes board.now useful.now (flat_map (λ drivers. drivers) (drivers_by_net board.now))) }
+    ensures tested { IfOk result (λ progress. EnableTested board.now progress.passes.items) }
+    ensures few { IfOk result (λ progress. length progress.passes.items ≤ 65535) }
 {
     let _rules = board.raw();
-    let mut progress = Progress::new(alloc, board, useful)?;
+    let mut progress = Progress::new(alloc, board, classes, useful)?;
     for net in 0..board.raw().nets.as_slice().len() {
         progress.add_for_drivers(
             alloc,
@@ -222,5 +227,5 @@ pub fn driver_passes(
             drivers_of(board, classes, net),
         )?;
     }
-    Ok(progress.passes)
+    Ok(progress)
 }

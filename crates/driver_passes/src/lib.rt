@@ -10,6 +10,7 @@ mod net_set;
 mod pairs;
 mod places;
 mod shown;
+mod tested;
 mod walk;
 
 pub use making::passes;

@@ -22,7 +22,7 @@ pub fn passes(alloc: Global, board: &Board, classes: &Classes) -> Result<Vec<Set
     law::passes_kept();
     let _rules = board.raw();
     let useful = classes.useful(board);
-    let passes = driver_passes(alloc, board, classes, useful)?;
-    let passes = pair_passes(alloc, board, classes, useful, passes)?;
+    let progress = driver_passes(alloc, board, classes, useful)?;
+    let passes = pair_passes(alloc, board, classes, useful, progress)?;
     Ok(passes)
 }

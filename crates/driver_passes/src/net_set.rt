@@ -1,6 +1,7 @@
 // Sets of nets, as a bit for each net.
-ghost use Rattle.std.specs.Prelude.{◌≡◌, ◌≤◌, ◌<◌, ◌+◌, ◌*◌, ◌/◌, ◌==◌, ◌&&◌, ◌||◌, ℕ, Bool, not, false, true, length, replicate, slice_index_or, MatchOption, IfOk};
+ghost use Rattle.std.specs.Prelude.{◌≡◌, ◌≤◌, ◌<◌, ◌+◌, ◌*◌, ◌/◌, ◌==◌, ◌&&◌, ◌||◌, ℕ, Bool, not, false, true, length, replicate, slice_index_or, All, MatchOption, IfOk};
 ghost use Rattle.net_classes.specs.Pairs.{AreBitsOf};
+ghost use Rattle.driver_passes.specs.Drafts.{has_number};
 ghost use Rattle.driver_passes.specs.NetSets.{IsFirst, has_bit, has_net};
 
 use std::alloc::{AllocError, Global};
@@ -99,6 +100,25 @@ impl NetSet {
         ensures nets { (n : ℕ) → has_net self.new n ≡ ((n == net && holds) || has_net self.old n) }
     {
         set_if(&mut self.words, net, holds);
+    }
+
+    /// The same set once more.
+    pub fn copy(&self, alloc: Global) -> Result<NetSet, AllocError>
+        ensures { IfOk result (λ set. set ≡ self.now) }
+    {
+        let words = Vec::from_slice(alloc, &self.words)?;
+        Ok(NetSet { words })
+    }
+
+    /// Adds these nets.
+    pub fn insert_all(&mut self, nets: &[u32])
+        requires { All (λ n. n / 64 < length self.old) nets.now }
+        ensures room { length self.new ≡ length self.old }
+        ensures nets { (n : ℕ) → has_net self.new n ≡ (has_number nets.now n || has_net self.old n) }
+    {
+        for net in nets {
+            self.insert_if(*net as usize, true);
+        }
     }
 
     /// Adds each net that there is room for.

@@ -7,26 +7,29 @@ ghost use Rattle.net_classes.specs.Pairs.{AreBitsOf, AreByCells, IsByCell, fit};
 ghost use Rattle.driver_passes.specs.Drafts.{IsDraft, setting_of};
 ghost use Rattle.driver_passes.specs.NetSets.{IsFirst};
 ghost use Rattle.driver_passes.specs.Pairs.{AreDone, AreLeft, ArePairing, IsDone, IsDoneTo, StaysDone, IsUsefulPair, is_wanted, pairs_from};
-ghost use Rattle.driver_passes.specs.Progress.{EnableTested, IsUsefulDriver, drivers_at};
+ghost use Rattle.driver_passes.specs.Progress.{EnableTested, IsProgress, IsUsefulDriver};
+ghost use Rattle.driver_passes.specs.Shown.{drivers_at};
 ghost use Rattle.driver_passes.specs.Useful.{HoldUseful};
 
 use crate::alike::likes_of;
 use crate::draft::Draft;
-use crate::drivers::drivers_of;
+use crate::drivers::{Progress, drivers_of};
 use crate::net_set::{NetSet, next_in};
-use crate::shown::{all_show, leave_unshown, rows_of, shown_by, take_shown};
+use crate::shown::{all_show, leave_unshown, take_shown};
+use crate::tested::TestedNets;
 use crate::walk::second_walk;
 use board_defs::{Board, Ctl, Drive, Setting, law};
 use net_classes::Classes;
 use net_classes::law::pairs_have_drivers;
 use std::alloc::{AllocError, Global};
 
-/// The passes so far, for each of them the nets that it shows, and for each net an earlier one with
-/// the same tested drivers or the net itself.
+/// The passes so far, for each of them the nets that it shows, which nets each control tests, and for
+/// each net an earlier one with the same tested drivers or the net itself.
 #[derive(Debug, Drop)]
 pub struct Pairing {
     pub passes: Vec<Setting>,
     pub rows: Vec<NetSet>,
+    pub tested_nets: TestedNets,
     pub likes: Vec<u32>,
     /// Of the net that is looked at, the later ones which no pass so far shows together with it.
     pub left: NetSet,
@@ -141,21 +144,21 @@ impl Pairing {
         board: &Board,
         classes: &Classes,
         useful: &[Ctl],
-        passes: Vec<Setting>,
+        progress: Progress,
     ) -> Result<Pairing, AllocError>
         requires classes { AreClasses board.now classes.now }
-        requires useful_are { useful.now ≡ useful_controls board.now }
-        requires tested { EnableTested board.now passes.items }
-        requires useful { HoldUseful board.now passes.items }
+        requires useful { useful.now ≡ useful_controls board.now }
+        requires progress { IsProgress board.now progress }
+        requires tested { EnableTested board.now progress.passes.items }
         ensures pairing { IfOk result (λ pairing. ArePairing board.now pairing) }
-        ensures passes { IfOk result (λ pairing. pairing.passes.items ≡ passes.items) }
+        ensures passes { IfOk result (λ pairing. pairing.passes.items ≡ progress.passes.items) }
     {
         let likes = likes_of(alloc, board, classes, useful)?;
-        let rows = rows_of(alloc, board, classes, &likes, &passes)?;
         let left = NetSet::new(alloc, board.raw().nets.as_slice().len())?;
         Ok(Pairing {
-            passes,
-            rows,
+            passes: progress.passes,
+            rows: progress.rows,
+            tested_nets: progress.tested_nets,
             likes,
             left,
         })
@@ -184,7 +187,7 @@ impl Pairing {
         law::passes_kept();
         let _rules = board.raw();
         let pass = draft.setting(alloc, board, useful)?;
-        let row = shown_by(alloc, board, classes, &self.likes, &pass)?;
+        let row = self.tested_nets.shown_by(alloc, board, draft)?;
         take_shown(&mut self.left, &row, a);
         self.passes.push(pass)?;
         self.rows.push(row)?;
@@ -341,19 +344,19 @@ pub fn pair_passes(
     board: &Board,
     classes: &Classes,
     useful: &[Ctl],
-    passes: Vec<Setting>,
+    progress: Progress,
 ) -> Result<Vec<Setting>, AllocError>
     requires classes { AreClasses board.now classes.now }
     requires useful { useful.now ≡ useful_controls board.now }
     requires cells { All (IsCell board.now) useful.now }
-    requires tested { EnableTested board.now passes.items }
-    requires useful_so_far { HoldUseful board.now passes.items }
-    requires few { length passes.items ≤ 65535 }
-    ensures passes { IfOk result (λ all. all.items ≡ pair_passes board.now useful.now passes.items (drivers_by_net board.now)) }
+    requires progress { IsProgress board.now progress }
+    requires tested { EnableTested board.now progress.passes.items }
+    requires few { length progress.passes.items ≤ 65535 }
+    ensures passes { IfOk result (λ all. all.items ≡ pair_passes board.now useful.now progress.passes.items (drivers_by_net board.now)) }
     ensures useful { IfOk result (λ all. HoldUseful board.now all.items) }
     ensures few { IfOk result (λ all. length all.items < 2 ^ 32) }
 {
-    let mut pairing = Pairing::new(alloc, board, classes, useful, passes)?;
+    let mut pairing = Pairing::new(alloc, board, classes, useful, progress)?;
     pairing.add_for_all(alloc, board, classes, useful)?;
     Ok(pairing.passes)
 }

@@ -1,91 +1,10 @@
-// Which nets each pass shows: it enables a tested driver of them, and so observes them.
-ghost use Rattle.std.specs.Prelude.{◌≡◌, ◌<◌, ◌≤◌, ◌/◌, ◌&&◌, ℕ, false, not, length, take, All, IfOk, OnOk};
+// What the rows of the passes, the sets of the nets that they show, say of a net and the others.
+ghost use Rattle.std.specs.Prelude.{◌≡◌, ◌<◌, ◌≤◌, ◌/◌, ◌&&◌, ℕ, not, length, All};
 ghost use Rattle.std.specs.List.{list_all, list_any};
-ghost use Rattle.board_defs.specs.Passes.{shows};
-ghost use Rattle.net_classes.specs.Kept.{AreClasses};
-ghost use Rattle.driver_passes.specs.Alike.{AreAlike};
 ghost use Rattle.driver_passes.specs.NetSets.{has_net};
-ghost use Rattle.driver_passes.specs.Pairs.{AreShownBy, AreRows, shows_both};
-ghost use Rattle.driver_passes.specs.Progress.{drivers_at};
+ghost use Rattle.driver_passes.specs.Shown.{shows_both};
 
-use crate::drivers::{drivers_of, is_enabled};
 use crate::net_set::NetSet;
-use board_defs::{Board, Drive, Setting};
-use net_classes::Classes;
-use std::alloc::{AllocError, Global};
-
-fn shows(drivers: &[Drive], pass: &Setting) -> bool
-    ensures { result ≡ shows drivers.now pass.now }
-{
-    for d in drivers {
-        if is_enabled(pass, *d) {
-            return true;
-        }
-    }
-    false
-}
-
-/// Whether the pass shows the net, where it is known of each lower net; `like` is such a net with
-/// the same tested drivers, or any other.
-fn shows_net(
-    board: &Board,
-    classes: &Classes,
-    pass: &Setting,
-    row: &NetSet,
-    like: usize,
-    net: usize,
-) -> bool
-    requires classes { AreClasses board.now classes.now }
-    requires row { (n : ℕ) → n < net → has_net row.now n ≡ shows (drivers_at board.now n) pass.now }
-    requires alike { drivers_at board.now like ≡ drivers_at board.now net }
-    requires net { net < length board.now.nets }
-    ensures { result ≡ shows (drivers_at board.now net) pass.now }
-{
-    if like < net {
-        row.has(like)
-    } else {
-        shows(drivers_of(board, classes, net), pass)
-    }
-}
-
-/// The nets that the pass shows.
-pub fn shown_by(
-    alloc: Global,
-    board: &Board,
-    classes: &Classes,
-    likes: &[u32],
-    pass: &Setting,
-) -> Result<NetSet, AllocError>
-    requires classes { AreClasses board.now classes.now }
-    requires likes { AreAlike board.now likes.now }
-    ensures { IfOk result (λ row. AreShownBy board.now pass.now row) }
-{
-    let mut row = NetSet::new(alloc, likes.len())?;
-    for (net, like) in likes.iter().enumerate() {
-        let shown = shows_net(board, classes, pass, &row, *like as usize, net);
-        row.insert_if(net, shown);
-    }
-    Ok(row)
-}
-
-/// The nets that each of these passes shows.
-pub fn rows_of(
-    alloc: Global,
-    board: &Board,
-    classes: &Classes,
-    likes: &[u32],
-    passes: &[Setting],
-) -> Result<Vec<NetSet>, AllocError>
-    requires classes { AreClasses board.now classes.now }
-    requires likes { AreAlike board.now likes.now }
-    ensures { IfOk result (λ rows. AreRows board.now passes.now rows.items) }
-{
-    let mut rows = Vec::new(alloc);
-    for pass in passes {
-        rows.push(shown_by(alloc, board, classes, likes, pass)?)?;
-    }
-    Ok(rows)
-}
 
 /// Whether each of these passes shows the net.
 pub fn all_show(rows: &[NetSet], net: usize) -> bool

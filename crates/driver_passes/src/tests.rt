@@ -1,8 +1,6 @@
-// Flags, what a setting enables, and sets of nets. Whole boards are tried through the top call.
+// Flags and sets of nets. Whole boards are tried through the top call.
 use crate::draft::{blank, is_set, some_taken};
-use crate::drivers::is_enabled;
 use crate::net_set::{NetSet, next_in};
-use board_defs::{Ctl, Drive, Setting};
 use std::test::Fail;
 
 #[test]
@@ -13,20 +11,6 @@ fn some_of_the_nets_is_taken_where_a_flag_is_set(rt: HostRuntime) -> Result<(), 
     assert!(rt; is_set(&flags, 2) && !is_set(&flags, 1) && !is_set(&flags, 4));
     assert!(rt; some_taken(&flags, &[0, 2]));
     assert!(rt; !some_taken(&flags, &[0, 1, 9]));
-    Ok(())
-}
-
-#[test]
-fn a_setting_enables_what_it_controls_and_what_is_always_on(rt: HostRuntime) -> Result<(), Fail> {
-    let held = Ctl { part: 1, cell: 4 };
-    let other = Ctl { part: 1, cell: 5 };
-    let mut setting = Setting::new(rt.alloc());
-    assert!(rt; !is_enabled(&setting, Drive::By(held)));
-    setting.add(held)?;
-    assert!(rt; is_enabled(&setting, Drive::By(held)));
-    assert!(rt; is_enabled(&setting, Drive::AlwaysOn));
-    assert!(rt; !is_enabled(&setting, Drive::OneSided));
-    assert!(rt; !is_enabled(&setting, Drive::By(other)));
     Ok(())
 }
 
@@ -42,6 +26,9 @@ fn a_set_has_what_was_added_and_not_taken_out(rt: HostRuntime) -> Result<(), Fai
     assert_eq!(rt; nets.word(0), 1);
     assert_eq!(rt; nets.word(1), 0x8000_0000_0000_0000);
     assert_eq!(rt; nets.word(3), 0);
+    let mut more = nets.copy(rt.alloc())?;
+    more.insert_all(&[5, 64]);
+    assert!(rt; more.has(0) && more.has(5) && more.has(64) && !nets.has(64));
     nets.fill();
     others.insert_if(3, true);
     others.insert_if(66, true);

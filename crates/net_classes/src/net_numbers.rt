@@ -19,7 +19,7 @@ impl Model for NetNumbers {
 }
 
 impl NetNumbers {
-    pub(crate) fn new(alloc: Global) -> NetNumbers
+    pub fn new(alloc: Global) -> NetNumbers
         ensures { result ≡ [] }
     {
         NetNumbers {
@@ -27,7 +27,7 @@ impl NetNumbers {
         }
     }
 
-    pub(crate) fn push(&mut self, net: u32) -> Result<(), AllocError>
+    pub fn push(&mut self, net: u32) -> Result<(), AllocError>
         ensures { OnOk result (self.new ≡ self.old ++ net ∷ []) }
     {
         self.numbers.push(net)?;

@@ -3,6 +3,7 @@ use Rattle.std.proofs.lemmas.List.{with_items_is}
 use Rattle.std.specs.Vec.{with_items}
 use Rattle.board_defs.specs.declared.board.Ctl.{Ctl}
 use Rattle.driver_passes.proofs.ProgressLemmas.{held_more}
+use Rattle.driver_passes.proofs.RowLemmas.{rows_more, shown_as}
 use Rattle.driver_passes.proofs.UsefulLemmas.{useful_more}
 use Rattle.driver_passes.proofs.drivers.Progress.push.Goals as goal
 
@@ -17,6 +18,8 @@ returns-clause-progress c =
     let pushed = c.in_ok-push.ensures.items ∙ ap (λ (v : List Ctl). before.passes.items ++ v ∷ []) c.in_ok-setting.ensures in
     let are = c.passes_kept.ensures board c.raw-rules.ensures.rules in
     record {
+      rows = rows_more board before.passes.items c.push.new.self.items before.rows.items c.push-2.new.self.items c.in_ok-setting.field-0 c.in_ok-shown_by.field-0 c.requires.progress.rows (shown_as board c.args.draft.now c.in_ok-setting.field-0 c.in_ok-shown_by.field-0 c.in_ok-setting.ensures c.in_ok-shown_by.ensures) c.in_ok-push.ensures.items c.in_ok-push-2.ensures.items;
+      tested_nets = c.requires.progress.tested_nets;
       useful = useful_more board before.passes.items c.push.new.self.items held are c.requires.progress.useful pushed;
       held = held_more board before.passes.items c.push.new.self.items before.held.items (with_items before.held c.join.new.flags).items held are c.requires.progress.held c.requires.draft.held_length
           (ap length kept ∙ c.join.auto.flags ∙ ap length same)

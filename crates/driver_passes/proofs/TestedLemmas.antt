@@ -1,0 +1,248 @@
+-- Which nets each useful control tests, and so which nets a pass shows.
+use Rattle.std.proofs.Common.{◌≡◌, ◌≢◌, ◌⊎◌, inl, inr, ℕ, zero, suc, ◌+◌, ◌/◌, ◌<◌, Bool, true, false, ◌&&◌, ◌||◌, List, [], ◌∷◌, ◌++◌, length, get_or, set, take, drop, Some, refl, sym, ◌∙◌, ap, arith, cond, ltb}
+use Rattle.std.specs.Prelude.{◌==◌, slice_get, All}
+use Rattle.std.specs.List.{list_any}
+use Rattle.std.proofs.lemmas.Bool.{and_parts, cases_eq, cases_order, eq-eqb, lt-ltb, le-ltb, ltb-true, ne_eqb, or_left, or_parts}
+use Rattle.std.proofs.lemmas.List.{get_or-set_same, get_or-set_other, take_more}
+use Rattle.std.proofs.lemmas.Option.{slice_get_within, get_or_from_slice_get}
+use Rattle.std.proofs.lemmas.List.Elements.{All-cons, All-nil}
+use Rattle.std.proofs.lemmas.List.Folds.{list_any-append}
+use Rattle.board_defs.specs.declared.board.Ctl.{Ctl}
+use Rattle.board_defs.specs.declared.board.RawBoard.{RawBoard}
+use Rattle.board_defs.specs.declared.board.Drive.{Drive}
+use Rattle.board_defs.specs.declared.board.Drive.TheVariants.{AlwaysOn, OneSided, By}
+use Rattle.board_defs.specs.Decided.{is_by}
+use Rattle.board_defs.specs.Settings.{holds, precedes, same_ctl, IsInControlOrder}
+use Rattle.board_defs.specs.Passes.{is_enabled, shows, useful_controls}
+use Rattle.driver_passes.specs.Drafts.{chosen, has_number}
+use Rattle.driver_passes.specs.Tested.{AreListed, AreNoted, drives}
+use Rattle.driver_passes.specs.NetSets.{has_net}
+use Rattle.driver_passes.specs.Shown.{drivers_at}
+use Rattle.driver_passes.proofs.ControlLemmas.{after_is, same_self}
+use Rattle.driver_passes.proofs.ProgressLemmas.{net_there}
+
+-- what one control more shows
+
+enabled_with : (c : Ctl) (setting : List Ctl) (d : Drive) → is_enabled (c ∷ setting) d ≡ (is_by c (Some d) || is_enabled setting d)
+enabled_with c setting AlwaysOn = refl
+enabled_with c setting OneSided = refl
+enabled_with c setting (By e) = refl
+
+regroup : (a b x y : Bool) → ((a || b) || (x || y)) ≡ ((a || x) || (b || y))
+regroup true b x y = refl
+regroup false true true y = refl
+regroup false true false y = refl
+regroup false false true y = refl
+regroup false false false y = refl
+
+shows_with : (c : Ctl) (setting : List Ctl) (drivers : List Drive) → shows drivers (c ∷ setting) ≡ (drives c drivers || shows drivers setting)
+shows_with c setting [] = refl
+shows_with c setting (d ∷ drivers) =
+    ap (λ t. t || shows drivers (c ∷ setting)) (enabled_with c setting d) ∙ ap (λ t. (is_by c (Some d) || is_enabled setting d) || t) (shows_with c setting drivers) ∙
+    regroup (is_by c (Some d)) (is_enabled setting d) (drives c drivers) (shows drivers setting)
+
+swap : (a b x : Bool) → (a || (b || x)) ≡ (b || (a || x))
+swap true true x = refl
+swap true false x = refl
+swap false b x = refl
+
+-- a setting shows a net by a driver that is always on, or by one of its controls
+pub shows_split : (drivers : List Drive) (setting : List Ctl) → shows drivers setting ≡ (shows drivers [] || list_any (λ c. drives c drivers) setting)
+shows_split drivers [] = by_test (shows drivers [])
+  where
+    by_test : (t : Bool) → t ≡ (t || false)
+    by_test true = refl
+    by_test false = refl
+shows_split drivers (c ∷ setting) = shows_with c setting drivers ∙ ap (λ t. drives c drivers || t) (shows_split drivers setting) ∙ swap (drives c drivers) (shows drivers []) (list_any (λ e. drives e drivers) setting)
+
+-- the controls that are left show what the one at this place shows, where it is held, and the later ones
+pub left_step : (drivers : List Drive) (controls : List Ctl) (flags : List Bool) (place : ℕ) (c : Ctl) (held : Bool) → length flags ≡ length controls → slice_get controls place ≡ Some c → slice_get flags place ≡ Some held →
+    list_any (λ e. drives e drivers) (chosen (drop place controls) (drop place flags)) ≡ ((held && drives c drivers) || list_any (λ e. drives e drivers) (chosen (drop (place + 1) controls) (drop (place + 1) flags)))
+left_step drivers [] flags place c held size at flag = cc at
+left_step drivers (d ∷ controls) [] place c held size at flag = cc flag
+left_step drivers (d ∷ controls) (f ∷ flags) zero c held size at flag =
+    ap (λ e. list_any p (cond f (e ∷ chosen controls flags) (chosen controls flags))) one ∙ ap (λ t. list_any p (cond t (c ∷ chosen controls flags) (chosen controls flags))) two ∙ by_flag held
+  where
+    p : Ctl → Bool
+    p e = drives e drivers
+
+    one : d ≡ c
+    one = cc at
+
+    two : f ≡ held
+    two = cc flag
+
+    by_flag : (t : Bool) → list_any p (cond t (c ∷ chosen controls flags) (chosen controls flags)) ≡ ((t && p c) || list_any p (chosen controls flags))
+    by_flag true = refl
+    by_flag false = refl
+left_step drivers (d ∷ controls) (f ∷ flags) (suc place) c held size at flag =
+    let next : suc place + 1 ≡ suc (place + 1) = omega arith in
+    left_step drivers controls flags place c held (omega (arith, size)) at flag ∙ ap (λ k. (held && drives c drivers) || list_any (λ e. drives e drivers) (chosen (drop k (d ∷ controls)) (drop k (f ∷ flags)))) (sym next)
+
+-- lists of numbers
+
+number_end : (numbers : List ℕ) (m n : ℕ) → has_number (numbers ++ m ∷ []) n ≡ (n == m || has_number numbers n)
+number_end numbers m n = list_any-append (λ k. k == n) numbers (m ∷ []) ∙ by_test (cases_eq n m)
+  where
+    turn : (a b : Bool) → (a || (b || false)) ≡ (b || a)
+    turn true true = refl
+    turn true false = refl
+    turn false true = refl
+    turn false false = refl
+
+    same : (n ≡ m) ⊎ (n ≡ m → ⊥) → (m == n) ≡ (n == m)
+    same (inl e) = eq-eqb m n (sym e) ∙ sym (eq-eqb n m e)
+    same (inr other) = ne_eqb m n (λ e. other (sym e)) ∙ sym (ne_eqb n m other)
+
+    by_test : (n ≡ m) ⊎ (n ≡ m → ⊥) → (has_number numbers n || ((m == n) || false)) ≡ (n == m || has_number numbers n)
+    by_test either = ap (λ t. has_number numbers n || (t || false)) (same either) ∙ turn (has_number numbers n) (n == m)
+
+pub numbers_all : (numbers : List ℕ) (P : ℕ → Type 0) → ((n : ℕ) → has_number numbers n ≡ true → P n) → All P numbers
+numbers_all [] P each = All-nil P
+numbers_all (m ∷ numbers) P each = All-cons P m numbers (each m (or_left (m == m) (has_number numbers m) (eq-eqb m m refl))) (numbers_all numbers P (λ n h. each n (by_test (m == n) h)))
+  where
+    by_test : {x : Bool} (t : Bool) → x ≡ true → (t || x) ≡ true
+    by_test true h = refl
+    by_test false h = h
+
+-- places of controls in control order
+
+other_place : (controls : List Ctl) (p q : ℕ) (c e : Ctl) → IsInControlOrder controls → slice_get controls p ≡ Some c → slice_get controls q ≡ Some e → p ≢ q → same_ctl e c ≡ false
+other_place controls p q c e order at at' differ = by_order (cases_order p q)
+  where
+    first : get_or controls p c ≡ c
+    first = get_or_from_slice_get controls p c c at
+
+    second : get_or controls q c ≡ e
+    second = get_or_from_slice_get controls q e c at'
+
+    by_order : (p ≡ q) ⊎ ((p < q) ⊎ (q < p)) → same_ctl e c ≡ false
+    by_order (inl same) = absurd (differ same)
+    by_order (inr (inl less)) = (after_is c e (sym (ap (λ d. precedes d e) first) ∙ sym (ap (precedes (get_or controls p c)) second) ∙ order p q c less (slice_get_within controls q e at'))).2
+    by_order (inr (inr less)) = (after_is e c (sym (ap (λ d. precedes d c) second) ∙ sym (ap (precedes (get_or controls q c)) first) ∙ order q p c less (slice_get_within controls p c at))).1
+
+pub not_held : (controls : List Ctl) (p : ℕ) (c e : Ctl) → holds controls e ≡ false → slice_get controls p ≡ Some c → same_ctl e c ≡ false
+not_held [] p c e none at = cc at
+not_held (d ∷ controls) zero c e none at = let same : d ≡ c = cc at in sym (ap (same_ctl e) same) ∙ (or_parts (same_ctl e d) (holds controls e) none).0
+not_held (d ∷ controls) (suc p) c e none at = not_held controls p c e (or_parts (same_ctl e d) (holds controls e) none).1 at
+
+-- the lists once a driver of one more net is noted
+
+pub not_noted : (board : RawBoard) (lists : List (List ℕ)) (net : ℕ) (by : Ctl → Bool) → ((place : ℕ) (c : Ctl) → slice_get (useful_controls board) place ≡ Some c → by c ≡ false) → AreNoted board net by lists lists
+not_noted board lists net by none place c at n = ap (λ t. t || has_number (get_or lists place []) n) (by_test (n == net) ∙ ap (λ t. n == net && t) (sym (none place c at)))
+  where
+    by_test : (t : Bool) → false ≡ (t && false)
+    by_test true = refl
+    by_test false = refl
+
+pub noted : (board : RawBoard) (lists : List (List ℕ)) (net q : ℕ) (e : Ctl) (list : List ℕ) → IsInControlOrder (useful_controls board) → length lists ≡ length (useful_controls board) → slice_get (useful_controls board) q ≡ Some e → list ≡ get_or lists q [] ++ net ∷ [] →
+    AreNoted board net (λ c. is_by c (Some (By e))) lists (set lists q list)
+noted board lists net q e list order size at' is place c at n = by_place (cases_eq place q)
+  where
+    within : q < length lists
+    within = omega (arith, size, slice_get_within (useful_controls board) q e at')
+
+    and_true : (t : Bool) → t ≡ (t && true)
+    and_true true = refl
+    and_true false = refl
+
+    and_none : (t : Bool) → false ≡ (t && false)
+    and_none true = refl
+    and_none false = refl
+
+    by_place : (place ≡ q) ⊎ (place ≡ q → ⊥) → has_number (get_or (set lists q list) place []) n ≡ ((n == net && same_ctl e c) || has_number (get_or lists place []) n)
+    by_place (inl same) =
+        let one : Some e ≡ Some c = sym at' ∙ sym (ap (slice_get (useful_controls board)) same) ∙ at in
+        let control : e ≡ c = cc one in
+        ap (λ k. has_number (get_or (set lists q list) k []) n) same ∙ ap (λ v. has_number v n) (get_or-set_same lists q list [] within ∙ is) ∙ number_end (get_or lists q []) net n ∙
+        ap (λ t. t || has_number (get_or lists q []) n) (and_true (n == net) ∙ ap (λ t. n == net && t) (sym (sym (ap (same_ctl e) control) ∙ same_self e))) ∙ ap (λ k. (n == net && same_ctl e c) || has_number (get_or lists k []) n) (sym same)
+    by_place (inr differ) =
+        ap (λ v. has_number v n) (get_or-set_other lists q place list [] differ) ∙ ap (λ t. t || has_number (get_or lists place []) n) (and_none (n == net) ∙ ap (λ t. n == net && t) (sym (other_place (useful_controls board) place q c e order at at' differ)))
+
+pub noted_more : (board : RawBoard) (start before after : List (List ℕ)) (net : ℕ) (by more : Ctl → Bool) → AreNoted board net by start before → AreNoted board net more before after → AreNoted board net (λ c. by c || more c) start after
+noted_more board start before after net by more one two place c at n = two place c at n ∙ ap (λ t. (n == net && more c) || t) (one place c at n) ∙ by_test (n == net) (by c) (more c) (has_number (get_or start place []) n)
+  where
+    by_test : (t a b x : Bool) → ((t && b) || ((t && a) || x)) ≡ ((t && (a || b)) || x)
+    by_test true true true x = refl
+    by_test true true false x = refl
+    by_test true false b x = refl
+    by_test false a b x = refl
+
+-- one net more
+pub listed_more : (board : RawBoard) (net : ℕ) (before after : List (List ℕ)) (drivers : List Drive) → AreListed board net before → length after ≡ length before → drivers ≡ drivers_at board net → AreNoted board net (λ c. drives c drivers) before after → AreListed board (net + 1) after
+listed_more board net before after drivers are size e noted = record {
+  lists_length = size ∙ are.lists_length;
+  lists_are = λ place c at n. noted place c at n ∙ ap (λ t. (n == net && drives c drivers) || t) (are.lists_are place c at n) ∙ ap (λ v. (n == net && drives c v) || (ltb n net && drives c (drivers_at board n))) e ∙ by_net c n (cases_order n net);
+}
+  where
+    by_net : (c : Ctl) (n : ℕ) → (n ≡ net) ⊎ ((n < net) ⊎ (net < n)) → ((n == net && drives c (drivers_at board net)) || (ltb n net && drives c (drivers_at board n))) ≡ (ltb n (net + 1) && drives c (drivers_at board n))
+    by_net c n (inl same) =
+        ap (λ t. (t && drives c (drivers_at board net)) || (ltb n net && drives c (drivers_at board n))) (eq-eqb n net same) ∙ ap (λ t. drives c (drivers_at board net) || (t && drives c (drivers_at board n))) (le-ltb n net (omega (arith, same))) ∙
+        or_false (drives c (drivers_at board net)) ∙ ap (λ k. drives c (drivers_at board k)) (sym same) ∙ sym (ap (λ t. t && drives c (drivers_at board n)) (lt-ltb n (net + 1) (omega (arith, same))))
+      where
+        or_false : (t : Bool) → (t || false) ≡ t
+        or_false true = refl
+        or_false false = refl
+    by_net c n (inr (inl less)) =
+        ap (λ t. (t && drives c (drivers_at board net)) || (ltb n net && drives c (drivers_at board n))) (ne_eqb n net (λ e. omega (arith, e, less))) ∙ ap (λ t. t && drives c (drivers_at board n)) (lt-ltb n net less ∙ sym (lt-ltb n (net + 1) (omega (arith, less))))
+    by_net c n (inr (inr more)) =
+        ap (λ t. (t && drives c (drivers_at board net)) || (ltb n net && drives c (drivers_at board n))) (ne_eqb n net (λ e. omega (arith, e, more))) ∙ ap (λ t. t && drives c (drivers_at board n)) (le-ltb n net (omega (arith, more)) ∙ sym (le-ltb n (net + 1) (omega (arith, more))))
+
+-- one driver more
+pub noted_next : (board : RawBoard) (drivers : List Drive) (i net : ℕ) (start before after : List (List ℕ)) → i < length drivers → AreNoted board net (λ c. drives c (take i drivers)) start before → AreNoted board net (λ c. is_by c (Some (get_or drivers i AlwaysOn))) before after →
+    AreNoted board net (λ c. drives c (take (i + 1) drivers)) start after
+noted_next board drivers i net start before after less one two place c at n =
+    noted_more board start before after net (λ d. drives d (take i drivers)) (λ d. is_by d (Some (get_or drivers i AlwaysOn))) one two place c at n ∙ ap (λ t. (n == net && t) || has_number (get_or start place []) n) (sym (both c))
+  where
+    or_false : (t : Bool) → (t || false) ≡ t
+    or_false true = refl
+    or_false false = refl
+
+    both : (d : Ctl) → drives d (take (i + 1) drivers) ≡ (drives d (take i drivers) || is_by d (Some (get_or drivers i AlwaysOn)))
+    both d =
+        ap (drives d) (take_more drivers i AlwaysOn less) ∙ list_any-append (λ e. is_by d (Some e)) (take i drivers) (get_or drivers i AlwaysOn ∷ []) ∙ ap (λ t. drives d (take i drivers) || t) (or_false (is_by d (Some (get_or drivers i AlwaysOn))))
+
+-- the nets of one control more in a row
+
+abbrev pub left_from : RawBoard → List Bool → ℕ → ℕ → Bool
+left_from board flags place n = list_any (λ c. drives c (drivers_at board n)) (chosen (drop place (useful_controls board)) (drop place flags))
+
+list_is : (board : RawBoard) (lists : List (List ℕ)) (place : ℕ) (list : List ℕ) → AreListed board (length board.nets) lists → place < length (useful_controls board) → list ≡ get_or lists place [] →
+    (c : Ctl) × (slice_get (useful_controls board) place ≡ Some c) × ((n : ℕ) → has_number list n ≡ (ltb n (length board.nets) && drives c (drivers_at board n)))
+list_is board lists place list are less e =
+    let there : (c : Ctl) × (slice_get (useful_controls board) place ≡ Some c) = net_there (useful_controls board) place less in
+    (there.0, there.1, λ n. ap (λ v. has_number v n) e ∙ are.lists_are place there.0 there.1 n)
+
+pub list_within : (board : RawBoard) (lists : List (List ℕ)) (place : ℕ) (list row : List ℕ) → AreListed board (length board.nets) lists → place < length (useful_controls board) → list ≡ get_or lists place [] → length row ≡ length board.nets / 64 + 1 → All (λ n. n / 64 < length row) list
+list_within board lists place list row are less e room =
+    let found = list_is board lists place list are less e in
+    numbers_all list (λ n. n / 64 < length row) (λ n h.
+    let within : n < length board.nets = ltb-true n (length board.nets) (and_parts (ltb n (length board.nets)) (drives found.0 (drivers_at board n)) (sym (found.2 n) ∙ h)).0 in
+    omega (arith, within, room))
+
+pub row_step : (board : RawBoard) (lists : List (List ℕ)) (flags : List Bool) (place : ℕ) (list row after : List ℕ) (whole : ℕ → Bool) → AreListed board (length board.nets) lists → length flags ≡ length (useful_controls board) → place < length flags → list ≡ get_or lists place [] →
+    ((n : ℕ) → has_net after n ≡ ((get_or flags place false && has_number list n) || has_net row n)) → ((n : ℕ) → n < length board.nets → (has_net row n || left_from board flags place n) ≡ whole n) →
+    (n : ℕ) → n < length board.nets → (has_net after n || left_from board flags (place + 1) n) ≡ whole n
+row_step board lists flags place list row after whole are size less e more rest n within =
+    ap (λ t. t || later) (more n ∙ ap (λ t. (held && t) || has_net row n) number) ∙ turn (held && drives found.0 (drivers_at board n)) (has_net row n) later ∙
+    ap (λ t. has_net row n || t) (sym (left_step (drivers_at board n) (useful_controls board) flags place found.0 held size found.1 (there.1 ∙ ap Some (sym (get_or_from_slice_get flags place there.0 false there.1))))) ∙ rest n within
+  where
+    held : Bool
+    held = get_or flags place false
+
+    later : Bool
+    later = left_from board flags (place + 1) n
+
+    there : (t : Bool) × (slice_get flags place ≡ Some t)
+    there = net_there flags place less
+
+    found : (c : Ctl) × (slice_get (useful_controls board) place ≡ Some c) × ((m : ℕ) → has_number list m ≡ (ltb m (length board.nets) && drives c (drivers_at board m)))
+    found = list_is board lists place list are (omega (arith, less, size)) e
+
+    number : has_number list n ≡ drives found.0 (drivers_at board n)
+    number = found.2 n ∙ ap (λ t. t && drives found.0 (drivers_at board n)) (lt-ltb n (length board.nets) within)
+
+    turn : (a r x : Bool) → ((a || r) || x) ≡ (r || (a || x))
+    turn true true x = refl
+    turn true false x = refl
+    turn false r x = refl

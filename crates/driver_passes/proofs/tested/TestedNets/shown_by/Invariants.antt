@@ -1,0 +1,15 @@
+use Rattle.std.proofs.Common.{◌≡◌, ◌<◌, ◌+◌, ◌/◌, ◌||◌, ℕ, drop, length}
+use Rattle.std.specs.List.{list_any}
+use Rattle.board_defs.specs.Passes.{shows, useful_controls}
+use Rattle.driver_passes.specs.Drafts.{chosen, setting_of}
+use Rattle.driver_passes.specs.NetSets.{has_net}
+use Rattle.driver_passes.specs.Shown.{drivers_at}
+use Rattle.driver_passes.specs.Tested.{drives}
+use Rattle.driver_passes.proofs.tested.TestedNets.shown_by.Given as goal
+
+-- the row has the nets that the controls so far and the steady drivers show
+abbrev pub invariant-loop-place : goal.invariant-loop-place
+invariant-loop-place l = record {
+  room : length l.row ≡ length l.board.nets / 64 + 1;
+  rest : (n : ℕ) → n < length l.board.nets → (has_net l.row n || list_any (λ c. drives c (drivers_at l.board n)) (chosen (drop l.place (useful_controls l.board)) (drop l.place l.pass.held.items))) ≡ shows (drivers_at l.board n) (setting_of l.board l.pass);
+}
