@@ -8,6 +8,3 @@ mod token;
 
 pub use text::{TOKEN_LIMIT, lex};
 pub use token::{LexFault, Token, TokenKind};
-
-#[cfg(test)]
-mod tests;

@@ -19,6 +19,3 @@ mod strings;
 pub use answer::parse;
 pub use entity::{Attr, AttrValue, Constant, Entity, Port, Range};
 pub use fault::ParseFault;
-
-#[cfg(test)]
-mod tests;

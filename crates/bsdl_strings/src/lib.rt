@@ -16,6 +16,3 @@ pub use compliance_string::compliance;
 pub use fault::StringFault;
 pub use strings::{boundary, opcodes, pattern, pin_map};
 pub use values::{Compliance, Entry, MapEntry, Opcode, PortWord};
-
-#[cfg(test)]
-mod tests;

@@ -8,6 +8,3 @@ mod row;
 pub use digits::digit_bit;
 pub use line::{Line, MAX_LINE};
 pub use row::{HexFault, Row};
-
-#[cfg(test)]
-mod tests;

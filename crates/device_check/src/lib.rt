@@ -15,8 +15,3 @@ mod strings;
 pub use answer::device;
 pub use fault::DeviceFault;
 pub use listing::write_device;
-
-#[cfg(test)]
-mod listing_tests;
-#[cfg(test)]
-mod tests;

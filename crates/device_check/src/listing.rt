@@ -124,7 +124,7 @@ fn begin_instructions<K: Sink>(ir: u32, line: &mut Line, out: &mut K) -> Result<
 }
 
 // Puts the line of the instruction register.
-pub(crate) fn put_instructions<K: Sink>(
+fn put_instructions<K: Sink>(
     device: &RawDevice,
     line: &mut Line,
     out: &mut K,
@@ -210,7 +210,7 @@ fn put_port_line<K: Sink>(
 }
 
 // Puts the line of a port with its bits.
-pub(crate) fn put_port<K: Sink>(
+fn put_port<K: Sink>(
     name: &[u8],
     bits: &[PortBit],
     line: &mut Line,
@@ -383,7 +383,7 @@ fn put_cell<K: Sink>(
 }
 
 // Puts the lines of the entries of a cell.
-pub(crate) fn put_entries<K: Sink>(
+fn put_entries<K: Sink>(
     ports: &[Name],
     bits: &[PortBit],
     entries: Entries,

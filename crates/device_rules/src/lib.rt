@@ -21,6 +21,3 @@ pub use broken::Broken;
 pub use draft::{Draft, TapPorts};
 pub use raw::raw_device;
 pub use rules::first_rule;
-
-#[cfg(test)]
-mod tests;

@@ -16,6 +16,3 @@ mod universe;
 pub use matching::{is_pass, matches};
 pub use suspects::Suspects;
 pub use universe::Universe;
-
-#[cfg(test)]
-mod tests;

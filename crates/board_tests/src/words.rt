@@ -1,5 +1,6 @@
-use super::*;
+//! Words of a line.
 use std::test::Fail;
+use text_lines::next_word;
 
 #[test]
 fn words_of_a_line(rt: HostRuntime) -> Result<(), Fail> {

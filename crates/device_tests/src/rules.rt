@@ -1,22 +1,14 @@
 //! A device with one broken rule at a time, and the device that a draft describes.
-ghost use Rattle.std.specs.Prelude.{◌≡◌, ◌<◌, ◌^◌, length, true, IfOk};
+ghost use Rattle.std.specs.Prelude.{◌≡◌, true};
 ghost use Rattle.device_rules.specs.Rules.{IsShort};
 
-use super::*;
+use crate::texts::bytes_of;
 use board_defs::{Edition, Items, Mode, Name, PortBit, Symbol};
 use bsdl_parser::{Port, Range};
 use bsdl_strings::{StringFault, boundary, compliance, opcodes, pattern, pin_map};
+use device_rules::{Draft, TapPorts, first_rule, raw_device};
 use std::alloc::{AllocError, Global};
 use std::test::Fail;
-
-fn is_shared<T: Send + Sync>() {}
-
-#[test]
-fn values_may_be_shared() {
-    is_shared::<Broken>();
-    is_shared::<Draft>();
-    is_shared::<TapPorts>();
-}
 
 /// What a text says, as strings.
 #[derive(Drop)]
@@ -93,18 +85,6 @@ fn changed(change: Change) -> Texts {
         }
     }
     texts
-}
-
-/// The bytes of a text, which is short enough for each call.
-fn bytes_of(text: &str) -> Result<&[u8], StringFault>
-    ensures { IfOk result (λ bytes. length bytes.now < 2 ^ 32) }
-{
-    let bytes = text.as_bytes();
-    if bytes.len() < 1 << 32 {
-        Ok(bytes)
-    } else {
-        Err(StringFault::Memory(AllocError))
-    }
 }
 
 fn name(alloc: Global, text: &str) -> Result<Name, AllocError> {

@@ -1,19 +1,6 @@
-use super::*;
+use bsdl_lexer::{LexFault, TOKEN_LIMIT, TokenKind, lex};
 use std::alloc::Global;
 use std::test::Fail;
-
-fn is_shared<T: Send + Sync>(_value: &T) {}
-
-#[test]
-fn values_may_be_shared() {
-    is_shared(&Token {
-        kind: TokenKind::Word,
-        start: 0,
-        end: 1,
-        line: 1,
-    });
-    is_shared(&LexFault::Byte(1));
-}
 
 /// How reading a text ends, and after how many tokens.
 fn ending(alloc: Global, text: &[u8]) -> (Result<(), LexFault>, usize) {

@@ -1,67 +1,10 @@
 //! Whole texts, read from their bytes on.
-use super::*;
+use crate::texts::{BUF2, DRV, with_lines};
 use board_defs::Mode;
 use bsdl_lexer::{LexFault, lex};
+use bsdl_parser::{AttrValue, ParseFault, Range, parse};
 use std::alloc::{AllocError, Global};
 use std::test::Fail;
-
-/// A two-bit driver. Its first entry stands on line 16.
-const DRV: &str = "entity DRV is
-generic (PHYSICAL_PIN_MAP : string := \"P\");
-port (TDI, TMS, TCK : in bit; TDO : out bit; Q : out bit_vector(1 to 2));
-use STD_1149_1_1994.all;
-attribute PIN_MAP of DRV : entity is PHYSICAL_PIN_MAP;
-constant P : PIN_MAP_STRING := \"TDI:T1, TDO:T2, TMS:T3, TCK:T4, Q:(1,2)\";
-attribute TAP_SCAN_IN of TDI : signal is true;
-attribute TAP_SCAN_OUT of TDO : signal is true;
-attribute TAP_SCAN_MODE of TMS : signal is true;
-attribute TAP_SCAN_CLOCK of TCK : signal is (10.0e6, BOTH);
-attribute INSTRUCTION_LENGTH of DRV : entity is 2;
-attribute INSTRUCTION_OPCODE of DRV : entity is \"BYPASS (11), EXTEST (00), SAMPLE (10)\";
-attribute INSTRUCTION_CAPTURE of DRV : entity is \"01\";
-attribute BOUNDARY_LENGTH of DRV : entity is 2;
-attribute BOUNDARY_REGISTER of DRV : entity is
-\"0 (BC_1, Q(1), output2, X),\" &
-\"1 (BC_1, Q(2), output2, X)\";
-end DRV;
-";
-
-/// A two-bit three-state buffer, mostly in lower case, with attributes in an unusual order and
-/// some that are not used.
-const BUF2: &str = "-- two-bit three-state buffer
-entity buf2 is
-  generic (physical_pin_map : string := \"dw\");
-  port (oe_n : in bit;
-        a : in bit_vector(1 downto 0);
-        y : out bit_vector(1 downto 0);
-        gnd, vcc : linkage bit;
-        tdi, tms, tck : in bit; tdo : out bit);
-  use std_1149_1_1990.all;
-  attribute pin_map of buf2 : entity is physical_pin_map;
-  constant dw : pin_map_string := \"oe_n:1, a:(2,3), y:(4,5), \" &
-    \"gnd:6, vcc:7, tdi:8, tms:9, tck:10, tdo:11\";
-  constant fk : pin_map_string := \"oe_n:A1, a:(A2,A3), y:(B1,B2), \" &
-    \"gnd:C1, vcc:C2, tdi:D1, tms:D2, tck:D3, tdo:D4\";
-  attribute tap_scan_clock of tck : signal is (20.0e6, BOTH);
-  attribute tap_scan_in of tdi : signal is true;
-  attribute tap_scan_out of tdo : signal is true;
-  attribute tap_scan_mode of tms : signal is true;
-  attribute port_grouping of buf2 : entity is \"none\";
-  attribute design_warning of buf2 : entity is \"read this; it is read over\";
-  attribute boundary_length of buf2 : entity is 5;
-  attribute boundary_register of buf2 : entity is
-    \"4 (bc_1, oe_n, input, x), 4 (bc_1, *, control, 1), \" &
-    \"3 (bc_1, a(1), input, x), 2 (bc_1, a(0), input, x), \" &
-    \"1 (bc_1, y(1), output3, x, 4, 1, z), \" &
-    \"0 (bc_1, y(0), output3, x, 4, 1, z)\";
-  attribute instruction_length of buf2 : entity is 2;
-  attribute instruction_opcode of buf2 : entity is
-    \"extest (00), sample (10), bypass (11, 01)\";
-  attribute instruction_capture of buf2 : entity is \"01\";
-end buf2;
-";
-
-fn is_shared<T: Send + Sync>(_value: &T) {}
 
 /// How reading a text ends.
 #[derive(Clone, Copy, Debug, PartialEq, Eq)]
@@ -92,20 +35,6 @@ fn expected(line: u32) -> Ending {
 
 fn package(line: u32) -> Ending {
     Ending::Parse(ParseFault::Package(line))
-}
-
-/// The text with other bytes in place of the line with this number, from 1.
-fn with_line(alloc: Global, text: &str, number: usize, line: &str) -> Result<String, AllocError> {
-    let mut changed = String::new(alloc);
-    for (at, old) in text.lines().enumerate() {
-        if at + 1 == number {
-            changed.push_str(line)?;
-        } else {
-            changed.push_str(old)?;
-            changed.push_str("\n")?;
-        }
-    }
-    Ok(changed)
 }
 
 /// The first lines of a text.
@@ -185,7 +114,7 @@ fn whole_texts_and_changed_lines(rt: HostRuntime) -> Result<(), Fail> {
         (18, "end DRV\n\n", expected(19)),
     ];
     for (number, line, wanted) in rows {
-        let text = with_line(rt.alloc(), DRV, number, line)?;
+        let text = with_lines(rt.alloc(), DRV, &[(number, line)])?;
         assert_eq!(rt;
             outcome(rt.alloc(), text.as_bytes()),
             wanted,
@@ -238,9 +167,6 @@ fn parts_of_an_entity(rt: HostRuntime) -> Result<(), Fail> {
     let mut tokens = Vec::new(alloc);
     lex(DRV.as_bytes(), &mut tokens)?;
     let entity = parse(alloc, DRV.as_bytes(), &tokens)?;
-    is_shared(&entity);
-    is_shared(&ParseFault::Expected(1));
-
     assert_eq!(rt; entity.name.bytes(), b"DRV".as_slice());
     let fallback = entity.fallback.as_ref().map(|name| name.bytes());
     assert_eq!(rt; fallback, Some(b"P".as_slice()));
@@ -312,13 +238,9 @@ fn attributes_in_any_order(rt: HostRuntime) -> Result<(), Fail> {
 fn exchanged_items_and_large_texts(rt: HostRuntime) -> Result<(), Fail> {
     let alloc = rt.alloc();
     let ports = "port (tdi, tms, tck : in bit; tdo : out bit; q : out bit_vector(1 to 2));\n";
-    let exchanged = with_line(alloc, DRV, 2, ports)?;
-    let exchanged = with_line(
-        alloc,
-        exchanged.as_str(),
-        3,
-        "generic (physical_pin_map : string := \"p\");\n",
-    )?;
+    let exchanged = with_lines(alloc, DRV, &[(2, ports)])?;
+    let generic = "generic (physical_pin_map : string := \"p\");\n";
+    let exchanged = with_lines(alloc, exchanged.as_str(), &[(3, generic)])?;
     assert_eq!(rt; outcome(alloc, exchanged.as_bytes()), Ending::Entity);
 
     let mut nested = front_of(alloc, DRV, 17)?;

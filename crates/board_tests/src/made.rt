@@ -1,13 +1,6 @@
 // The texts of small boards, worked by hand.
-use super::*;
+use board_gen::make;
 use std::test::Fail;
-
-fn is_shared<T: Send + Sync>() {}
-
-#[test]
-fn values_may_be_shared() {
-    is_shared::<Made>();
-}
 
 #[test]
 fn makes_the_files_of_a_board(rt: HostRuntime) -> Result<(), Fail> {

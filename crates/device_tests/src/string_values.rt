@@ -1,40 +1,15 @@
 //! The strings of worked devices, and strings that leave their grammars.
-ghost use Rattle.std.specs.Prelude.{◌<◌, ◌^◌, length, IfOk};
-
-use super::*;
-use board_defs::{Code, Name, Symbol};
+use crate::texts::{add_code, bytes_of};
+use board_defs::{Name, Symbol};
+use bsdl_strings::{PortWord, StringFault, boundary, compliance, opcodes, pattern, pin_map};
 use std::alloc::{AllocError, Global};
 use std::test::Fail;
-
-/// The bytes of a text, which is short enough for each call.
-fn bytes_of(text: &str) -> Result<&[u8], StringFault>
-    ensures { IfOk result (λ bytes. length bytes.now < 2 ^ 32) }
-{
-    let bytes = text.as_bytes();
-    if bytes.len() < 1 << 32 {
-        Ok(bytes)
-    } else {
-        Err(StringFault::Memory(AllocError))
-    }
-}
 
 fn add_name(name: &Name, shown: &mut String) -> Result<(), AllocError> {
     match std::str::from_utf8(name.bytes()) {
         Ok(text) => shown.push_str(text),
         Err(_) => shown.push_str("?"),
     }
-}
-
-/// The symbols as a string spells them, the bit nearest TDO last.
-fn add_code(code: &Code, shown: &mut String) -> Result<(), AllocError> {
-    for symbol in code.symbols().iter().rev() {
-        match symbol {
-            Symbol::Zero => shown.push_str("0")?,
-            Symbol::One => shown.push_str("1")?,
-            Symbol::Any => shown.push_str("X")?,
-        }
-    }
-    Ok(())
 }
 
 fn add_port(alloc: Global, port: &PortWord, shown: &mut String) -> Result<(), AllocError> {
@@ -327,16 +302,4 @@ fn boundary_registers(rt: HostRuntime) -> Result<(), Fail> {
         );
     }
     Ok(())
-}
-
-fn is_shared<T: Send + Sync>() {}
-
-#[test]
-fn values_may_be_shared() {
-    is_shared::<MapEntry>();
-    is_shared::<Opcode>();
-    is_shared::<PortWord>();
-    is_shared::<Entry>();
-    is_shared::<Compliance>();
-    is_shared::<StringFault>();
 }
