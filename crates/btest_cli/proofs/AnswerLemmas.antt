@@ -1,8 +1,8 @@
 -- What a command does with what it finds.
 use Rattle.std.proofs.Common.{◌≡◌, ◌≤◌, ℕ, List, [], ◌∷◌, map, drop, length, slice_index_or, Result, Ok, Err, Vec, Global, refl, sym, ap, ◌∙◌, subst, inl, inr, arith}
 use Rattle.bt_base.specs.Puts.{Puts, Shown, Takes}
-use Rattle.tap_defs.specs.ChainScans.{chain_text}
-use Rattle.tap_defs.specs.BoardScans.{board_text}
+use Rattle.tap_defs.specs.chain.ChainScans.{chain_text}
+use Rattle.tap_defs.specs.board.BoardScans.{board_text}
 use Rattle.device_check.specs.DeviceText.{device_text}
 use Rattle.coverage_list.specs.CoverText.{cover_text}
 use Rattle.btest_core.specs.Answers.{FaultIs}

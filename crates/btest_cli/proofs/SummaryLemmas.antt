@@ -5,8 +5,8 @@ use Rattle.bt_base.specs.Counts.{last_count}
 use Rattle.board_defs.specs.declared.board.RawBoard.{RawBoard}
 use Rattle.board_defs.specs.declared.board.Ctl.{Ctl}
 use Rattle.board_defs.specs.Passes.{passes_of}
-use Rattle.tap_defs.specs.BoardScans.{AreTestScans, board_text, pass_text, svf_scans, test_scans}
-use Rattle.tap_defs.specs.TestRows.{code_width, observed_count}
+use Rattle.tap_defs.specs.board.BoardScans.{AreTestScans, board_text, pass_text, svf_scans, test_scans}
+use Rattle.tap_defs.specs.board.TestRows.{code_width, observed_count}
 use Rattle.coverage_list.specs.CoverText.{covered}
 use Rattle.scan_planner.specs.declared.tables.PlanTables.{PlanTables}
 use Rattle.scan_planner.specs.Plans.{IsPlanOf, scan_count}

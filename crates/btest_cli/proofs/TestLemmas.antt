@@ -7,10 +7,10 @@ use Rattle.bt_base.proofs.Cuts.{puts_ok}
 use Rattle.board_defs.specs.declared.board.RawBoard.{RawBoard}
 use Rattle.board_defs.specs.declared.board.Ctl.{Ctl}
 use Rattle.board_defs.specs.Passes.{passes_of}
-use Rattle.tap_defs.specs.Scan.{Scan}
-use Rattle.tap_defs.specs.Text.{scan_text, scan_texts}
-use Rattle.tap_defs.specs.TestRows.{code_width, observed_count}
-use Rattle.tap_defs.specs.BoardScans.{AreTestScans, board_text, pass_text, test_scans}
+use Rattle.tap_defs.specs.chain.Scan.{Scan}
+use Rattle.tap_defs.specs.chain.Text.{scan_text, scan_texts}
+use Rattle.tap_defs.specs.board.TestRows.{code_width, observed_count}
+use Rattle.tap_defs.specs.board.BoardScans.{AreTestScans, board_text, pass_text, test_scans}
 use Rattle.scan_planner.specs.declared.tables.PlanTables.{PlanTables}
 use Rattle.scan_planner.specs.Plans.{IsPlanOf}
 use Rattle.command_line.specs.Words.{Text}

@@ -3,8 +3,8 @@ use Rattle.std.proofs.Common.{◌≡◌, ◌↔◌, ℕ, Bool, List, [], ◌∷�
 use Rattle.board_defs.specs.declared.board.RawBoard.{RawBoard}
 use Rattle.board_defs.specs.declared.fault.Single.{Single}
 use Rattle.board_defs.specs.BoardRules.{IsBoard}
-use Rattle.tap_defs.specs.BoardScans.{svf_row_scans}
-use Rattle.tap_defs.specs.Explaining.{IsExpected}
+use Rattle.tap_defs.specs.board.BoardScans.{svf_row_scans}
+use Rattle.tap_defs.specs.board.Explaining.{IsExpected}
 use Rattle.diagnoser.specs.Diagnosis.{AreExplaining}
 use Rattle.diagnoser.specs.Laws.{ExplainingListed, PassingUnexplained}
 use Rattle.batch_diag.specs.declared.block.Block.{Block}

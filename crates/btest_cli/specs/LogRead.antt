@@ -4,7 +4,7 @@ use Rattle.board_defs.specs.declared.board.RawBoard.{RawBoard}
 use Rattle.board_defs.specs.declared.fault.Single.{Single}
 use Rattle.board_defs.specs.Passes.{passes_of}
 use Rattle.board_defs.specs.Pins.{data_bits}
-use Rattle.tap_defs.specs.TestRows.{code_width, observed_count}
+use Rattle.tap_defs.specs.board.TestRows.{code_width, observed_count}
 use Rattle.response_log.specs.declared.fault.LogFault.{LogFault}
 use Rattle.response_log.specs.LogRows.{log_rows}
 use Rattle.fault_sim.specs.Diagnosis.{IsDiagnosis}

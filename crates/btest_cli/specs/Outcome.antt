@@ -3,8 +3,8 @@ use Rattle.std.specs.Prelude.{◌≡◌, ◌⊎◌, ℕ, List, [], ◌∷◌, �
 use Rattle.std.specs.declared.alloc.Global.{Global}
 use Rattle.bt_base.specs.Counts.{Rose}
 use Rattle.bt_base.specs.Puts.{Shown, Takes}
-use Rattle.tap_defs.specs.ChainScans.{chain_text}
-use Rattle.tap_defs.specs.BoardScans.{board_text}
+use Rattle.tap_defs.specs.chain.ChainScans.{chain_text}
+use Rattle.tap_defs.specs.board.BoardScans.{board_text}
 use Rattle.board_defs.specs.declared.board.RawBoard.{RawBoard}
 use Rattle.device_check.specs.DeviceText.{device_text}
 use Rattle.coverage_list.specs.CoverText.{cover_text}

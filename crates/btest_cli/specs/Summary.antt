@@ -4,7 +4,7 @@ use Rattle.bt_base.specs.Counts.{last_count}
 use Rattle.line_printer.specs.Prints.{line_of}
 use Rattle.board_defs.specs.declared.board.RawBoard.{RawBoard}
 use Rattle.board_defs.specs.Passes.{passes_of}
-use Rattle.tap_defs.specs.BoardScans.{board_text, svf_scans}
+use Rattle.tap_defs.specs.board.BoardScans.{board_text, svf_scans}
 use Rattle.coverage_list.specs.CoverText.{covered}
 use Rattle.command_line.specs.Words.{Text}
 

@@ -1,8 +1,8 @@
 -- What a text is worth that a command puts.
 use Rattle.std.specs.Prelude.{◌≡◌, ◌↔◌, ℕ, Bool, true, List, [], ◌∷◌, Option, Some, Result, Ok, Decides}
 use Rattle.bt_base.specs.Puts.{Shown, Takes}
-use Rattle.tap_defs.specs.ChainTest.{IsChainTest}
-use Rattle.tap_defs.specs.BoardTest.{IsBoardTest, IsHarmless}
+use Rattle.tap_defs.specs.chain.ChainTest.{IsChainTest}
+use Rattle.tap_defs.specs.board.BoardTest.{IsBoardTest, IsHarmless}
 use Rattle.board_defs.specs.declared.board.RawBoard.{RawBoard}
 use Rattle.board_defs.specs.declared.device.RawDevice.{RawDevice}
 use Rattle.board_defs.specs.declared.device.Symbol.{Symbol}
@@ -15,11 +15,11 @@ use Rattle.btest_core.specs.DevicesRead.{IsDeviceText}
 use Rattle.btest_core.specs.BoardRead.{AreChainLengths, AreLengths, Denotes}
 use Rattle.btest_core.specs.IdentsRead.{AreIdents}
 use Rattle.board_defs.specs.declared.fault.Single.{Single}
-use Rattle.tap_defs.specs.BoardScans.{board_text, svf_row_scans, svf_scans}
-use Rattle.tap_defs.specs.Clocks.{test_clocks}
-use Rattle.tap_defs.specs.Svf.{meaning}
+use Rattle.tap_defs.specs.board.BoardScans.{board_text, svf_row_scans, svf_scans}
+use Rattle.tap_defs.specs.chain.Clocks.{test_clocks}
+use Rattle.tap_defs.specs.chain.Svf.{meaning}
 use Rattle.board_defs.specs.Faults.{IsSingle}
-use Rattle.tap_defs.specs.Explaining.{AgreeOn, Explains, IsExpected}
+use Rattle.tap_defs.specs.board.Explaining.{AgreeOn, Explains, IsExpected}
 use Rattle.diagnoser.specs.Laws.{ListsExplaining}
 use Rattle.diagnoser.specs.DiagText.{diag_text}
 use Rattle.batch_diag.specs.declared.block.Block.{Block}

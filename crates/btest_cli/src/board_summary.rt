@@ -2,7 +2,7 @@
 ghost use Rattle.std.specs.Prelude.{◌≡◌, ◌≤◌, [], ◌∷◌, length, min};
 ghost use Rattle.bt_base.specs.Counts.{last_count};
 ghost use Rattle.line_printer.specs.Prints.{Prints};
-ghost use Rattle.tap_defs.specs.BoardScans.{pass_text};
+ghost use Rattle.tap_defs.specs.board.BoardScans.{pass_text};
 ghost use Rattle.net_classes.specs.Kept.{AreClasses};
 ghost use Rattle.coverage_list.specs.CoverText.{covered};
 ghost use Rattle.scan_planner.specs.Plans.{IsPlanOf, IsRoom, scan_count};
@@ -27,7 +27,7 @@ use line_printer::put_line;
 use net_classes::{Classes, classify};
 use scan_planner::Plan;
 use std::alloc::Global;
-use tap_defs::law::scans_placed;
+use tap_defs::board_law::scans_placed;
 
 /// What is counted of a board and of its test.
 #[derive(Clone, Copy)]

@@ -2,11 +2,11 @@
 ghost use Rattle.std.specs.Prelude.{◌≡◌, ◌<◌, ◌≤◌, ◌^◌, All, IfOk, IfSome, List, Some, length, map, slice_get};
 ghost use Rattle.bt_base.specs.Puts.{Puts};
 ghost use Rattle.board_defs.specs.Passes.{passes_of};
-ghost use Rattle.tap_defs.specs.BoardScans.{RowScan, board_scans, board_text, pass_text, test_scans};
-ghost use Rattle.tap_defs.specs.BoardTest.{IsBoardTest};
-ghost use Rattle.tap_defs.specs.Clocks.{test_clocks};
-ghost use Rattle.tap_defs.specs.Svf.{meaning};
-ghost use Rattle.tap_defs.specs.Text.{scan_text, svf_text};
+ghost use Rattle.tap_defs.specs.board.BoardScans.{RowScan, board_scans, board_text, pass_text, test_scans};
+ghost use Rattle.tap_defs.specs.board.BoardTest.{IsBoardTest};
+ghost use Rattle.tap_defs.specs.chain.Clocks.{test_clocks};
+ghost use Rattle.tap_defs.specs.chain.Svf.{meaning};
+ghost use Rattle.tap_defs.specs.chain.Text.{scan_text, svf_text};
 ghost use Rattle.scan_planner.specs.Plans.{IsPlanOf, IsRoom, scan_count};
 ghost use Rattle.btest_core.specs.BoardRead.{IsBoardRead};
 ghost use Rattle.btest_cli.specs.Worth.{RespondOnce, TestsBoard};
@@ -22,8 +22,9 @@ use net_classes::classify;
 use scan_planner::Plan;
 use std::alloc::{AllocError, Global};
 use svf_writer::{write_head, write_scan, write_tail};
-use tap_defs::law::{board_texts_test, scans_placed, texts_mean};
-use tap_defs::log_law::{one_log, scans_in_turn};
+use tap_defs::board_law::{board_texts_test, scans_placed};
+use tap_defs::chain_law::texts_mean;
+use tap_defs::board_law::{one_log, scans_in_turn};
 
 /// Puts the text that tests the board of these texts. All memory is
 /// taken before the first put.
@@ -93,7 +94,7 @@ pub fn longest_scan(board: &Board) -> u32
 }
 
 /// Puts the test that a plan makes.
-#[tactic(auto, unfolding(tap_defs::specs::Text::svf_text))]
+#[tactic(auto, unfolding(tap_defs::specs::chain::Text::svf_text))]
 pub fn write_test<K: Sink>(
     board: &Board,
     plan: &Plan,

@@ -1,8 +1,8 @@
 // The command `walk`.
 ghost use Rattle.std.specs.Prelude.{◌≡◌, ◌<◌, ◌^◌, All, length, map, slice_get, IfErr, IfOk, IfSome};
 ghost use Rattle.bt_base.specs.Puts.{Puts};
-ghost use Rattle.tap_defs.specs.BoardTest.{IsHarmless};
-ghost use Rattle.tap_defs.specs.Text.{scan_text};
+ghost use Rattle.tap_defs.specs.board.BoardTest.{IsHarmless};
+ghost use Rattle.tap_defs.specs.chain.Text.{scan_text};
 ghost use Rattle.scan_planner.specs.Plans.{IsRoom};
 ghost use Rattle.walk_test.specs.Tables.{IsWalkOf, scan_count};
 ghost use Rattle.walk_test.specs.WalkTest.{board_walk_text, walk_scans};
@@ -91,7 +91,7 @@ fn is_harmless(board: &Board)
 }
 
 // Puts a walking test.
-#[tactic(auto, unfolding(tap_defs::specs::Text::svf_text))]
+#[tactic(auto, unfolding(tap_defs::specs::chain::Text::svf_text))]
 fn write_walk<K: Sink>(walked: &Walked, rows: &mut Rows, out: &mut K) -> Result<(), PutFault>
     requires walk { IsWalkOf walked.now.board walked.now.walk }
     requires tdi { IsRoom walked.now.board rows.old.tdi.room }

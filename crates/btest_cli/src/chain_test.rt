@@ -1,8 +1,8 @@
 // The command `chain`.
 ghost use Rattle.std.specs.Prelude.{◌≡◌, ◌+◌, ◌<◌, ◌≤◌, ◌^◌, ℕ, All, List, length, map, sum};
 ghost use Rattle.bt_base.specs.Puts.{Puts};
-ghost use Rattle.tap_defs.specs.ChainScans.{chain_text};
-ghost use Rattle.tap_defs.specs.ChainTest.{IsChainTest};
+ghost use Rattle.tap_defs.specs.chain.ChainScans.{chain_text};
+ghost use Rattle.tap_defs.specs.chain.ChainTest.{IsChainTest};
 ghost use Rattle.svf_writer.specs.Rows.{IsRoom};
 ghost use Rattle.btest_core.specs.BoardRead.{AreChainLengths, AreLengths};
 ghost use Rattle.btest_cli.specs.Worth.{TestsChain};
@@ -14,7 +14,7 @@ use bt_base::{PutFault, Sink};
 use btest_core::read_chain;
 use std::alloc::Global;
 use svf_writer::{write_chain, write_head, write_tail};
-use tap_defs::law::chain_tests;
+use tap_defs::chain_law::chain_tests;
 
 /// Puts the text that tests the length of the chain of a chain file and BSDL texts. All memory is
 /// taken before the first put.
@@ -68,7 +68,7 @@ fn instruction_bits(lengths: &[u32]) -> u32
 }
 
 // Puts the chain test.
-#[tactic(auto, unfolding(tap_defs::specs::Text::svf_text))]
+#[tactic(auto, unfolding(tap_defs::specs::chain::Text::svf_text))]
 fn write_test<K: Sink>(lengths: &[u32], rows: &mut Rows, out: &mut K) -> Result<(), PutFault>
     requires lengths { AreLengths lengths.now }
     requires tdi { IsRoom lengths.now rows.old.tdi.room }

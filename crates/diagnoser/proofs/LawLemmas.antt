@@ -10,9 +10,9 @@ use Rattle.board_defs.specs.Laws.{ListsSingles, SinglesListed}
 use Rattle.board_defs.specs.BoardRules.{IsBoard}
 use Rattle.board_defs.proofs.Members.{Has, has_place, has_contains, contains_has}
 use Rattle.board_defs.proofs.Ordered.{InOrder, order_pairs}
-use Rattle.tap_defs.specs.BoardScans.{svf_row_scans}
-use Rattle.tap_defs.specs.Explaining.{set_of, ExplainedBy, Explains, IsExpected}
-use Rattle.tap_defs.specs.FaultSet.{FaultSet, IsObservable, IsNonempty}
+use Rattle.tap_defs.specs.board.BoardScans.{svf_row_scans}
+use Rattle.tap_defs.specs.board.Explaining.{set_of, ExplainedBy, Explains, IsExpected}
+use Rattle.tap_defs.specs.board.FaultSet.{FaultSet, IsObservable, IsNonempty}
 use Rattle.diagnoser.specs.Diagnosis.{AreExplaining}
 use Rattle.diagnoser.specs.DiagText.{diag_text, IsDiagText}
 use Rattle.diagnoser.specs.Laws.{ListsExplaining, OneList, OneDiagnosis}

@@ -10,8 +10,8 @@ use Rattle.board_defs.specs.declared.fault.Kind.TheVariants.{And, Or, First, Sec
 use Rattle.board_defs.specs.declared.fault.Single.{Single}
 use Rattle.board_defs.specs.declared.fault.Single.TheVariants.{StuckNet, OpenPin, Short}
 use Rattle.board_defs.specs.Pins.{pin_at}
-use Rattle.tap_defs.specs.BoardScans.{svf_row_scans}
-use Rattle.tap_defs.specs.Explaining.{IsExpected}
+use Rattle.tap_defs.specs.board.BoardScans.{svf_row_scans}
+use Rattle.tap_defs.specs.board.Explaining.{IsExpected}
 use Rattle.diagnoser.specs.Diagnosis.{AreExplaining}
 
 abbrev pub bit_word : Bool → List ℕ

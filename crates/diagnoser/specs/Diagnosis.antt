@@ -5,7 +5,7 @@ use Rattle.board_defs.specs.declared.fault.Single.{Single}
 use Rattle.board_defs.specs.declared.fault.Single.TheVariants.{StuckNet, OpenPin, Short}
 use Rattle.board_defs.specs.Faults.{singles}
 use Rattle.board_defs.specs.Pins.{IsOnBoard}
-use Rattle.tap_defs.specs.Explaining.{Explains}
+use Rattle.tap_defs.specs.board.Explaining.{Explains}
 use Rattle.fault_sim.specs.Diagnosis.{Picks}
 
 -- the single faults of the board that explain the log, each once and in order

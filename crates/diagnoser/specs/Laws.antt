@@ -4,8 +4,8 @@ use Rattle.board_defs.specs.declared.board.RawBoard.{RawBoard}
 use Rattle.board_defs.specs.declared.fault.Single.{Single}
 use Rattle.board_defs.specs.BoardRules.{IsBoard}
 use Rattle.board_defs.specs.Faults.{IsSingle, SinglePrecedes}
-use Rattle.tap_defs.specs.BoardScans.{svf_row_scans}
-use Rattle.tap_defs.specs.Explaining.{Explains, IsExpected}
+use Rattle.tap_defs.specs.board.BoardScans.{svf_row_scans}
+use Rattle.tap_defs.specs.board.Explaining.{Explains, IsExpected}
 use Rattle.diagnoser.specs.Diagnosis.{AreExplaining}
 use Rattle.diagnoser.specs.DiagText.{IsDiagText}
 

@@ -13,15 +13,15 @@ use Rattle.board_defs.specs.Pins.{data_bits}
 use Rattle.board_defs.specs.Faults.{singles, IsSingle}
 use Rattle.board_defs.proofs.Members.{Has, has_contains}
 use Rattle.board_defs.proofs.SingleFaults.{single_is}
-use Rattle.tap_defs.specs.Scan.{ScanBit, joined}
-use Rattle.tap_defs.specs.BoardScans.{RowScan, row_bits, board_scans, svf_row_scans}
-use Rattle.tap_defs.specs.Explaining.{set_of, is_compared, compared_scans, HasShape, ExplainedBy, Explains, are_expected, IsExpected, AreInTurn, IsCapturedBy, AgreeOn}
-use Rattle.tap_defs.specs.FaultSet.{FaultSet}
-use Rattle.tap_defs.specs.RowCaptures.{row_captured, AgreeAt, AgreeWhereCompared}
-use Rattle.tap_defs.proofs.ListLemmas.{cons_path}
-use Rattle.tap_defs.proofs.LogLemmas.{length-row_bits}
-use Rattle.tap_defs.proofs.SingleLemmas.{single_observable, single_no_open_shorted}
-use Rattle.tap_defs.proofs.ResponseLogLemmas.{explained_by_rows, logs_agree, some_log, own_in_turn}
+use Rattle.tap_defs.specs.chain.Scan.{ScanBit, joined}
+use Rattle.tap_defs.specs.board.BoardScans.{RowScan, row_bits, board_scans, svf_row_scans}
+use Rattle.tap_defs.specs.board.Explaining.{set_of, is_compared, compared_scans, HasShape, ExplainedBy, Explains, are_expected, IsExpected, AreInTurn, IsCapturedBy, AgreeOn}
+use Rattle.tap_defs.specs.board.FaultSet.{FaultSet}
+use Rattle.tap_defs.specs.board.RowCaptures.{row_captured, AgreeAt, AgreeWhereCompared}
+use Rattle.tap_defs.proofs.chain.ListLemmas.{cons_path}
+use Rattle.tap_defs.proofs.board.LogLemmas.{length-row_bits}
+use Rattle.tap_defs.proofs.board.SingleLemmas.{single_observable, single_no_open_shorted}
+use Rattle.tap_defs.proofs.board.ResponseLogLemmas.{explained_by_rows, logs_agree, some_log, own_in_turn}
 use Rattle.scan_planner.proofs.FillLemmas.{some_at}
 use Rattle.fault_sim.specs.Diagnosis.{Picks, IsDiagnosis}
 

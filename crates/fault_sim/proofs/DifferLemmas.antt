@@ -16,7 +16,7 @@ use Rattle.board_defs.specs.Settings.{holds}
 use Rattle.board_defs.proofs.Members.{has_contains, contains_has, has_filter, filter_has, has_range, range_has}
 use Rattle.board_defs.proofs.Ordered.{order_pairs, order_filter, order_range}
 use Rattle.board_defs.proofs.Places.{all_from, any_at}
-use Rattle.tap_defs.specs.TestRows.{is_observed, observing_driver, code_of_net, code_bit}
+use Rattle.tap_defs.specs.board.TestRows.{is_observed, observing_driver, code_of_net, code_bit}
 use Rattle.scan_planner.specs.declared.nets.NetDriver.{NetDriver}
 use Rattle.scan_planner.specs.declared.tables.ReaderCell.{ReaderCell}
 use Rattle.scan_planner.specs.declared.tables.PlanTables.{PlanTables}

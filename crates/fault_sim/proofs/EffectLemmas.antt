@@ -13,9 +13,9 @@ use Rattle.board_defs.specs.BoardRules.{IsBoard}
 use Rattle.board_defs.specs.Faults.{IsSingle}
 use Rattle.board_defs.specs.Pins.{guarded}
 use Rattle.board_defs.specs.Settings.{holds}
-use Rattle.tap_defs.specs.NetBits.{Place, or_else}
-use Rattle.tap_defs.specs.TestRows.{TestRow, code_row, first_enabled}
-use Rattle.tap_defs.specs.SingleBits.{driven_to, pulled_to, shorted, shorted_nets_bit, is_place, single_bit}
+use Rattle.tap_defs.specs.board.NetBits.{Place, or_else}
+use Rattle.tap_defs.specs.board.TestRows.{TestRow, code_row, first_enabled}
+use Rattle.tap_defs.specs.board.SingleBits.{driven_to, pulled_to, shorted, shorted_nets_bit, is_place, single_bit}
 use Rattle.scan_planner.specs.declared.nets.NetDriver.{NetDriver}
 use Rattle.scan_planner.specs.declared.tables.PlanTables.{PlanTables}
 use Rattle.scan_planner.specs.Plans.{IsPlanOf}

@@ -22,11 +22,11 @@ use Rattle.board_defs.specs.Passes.{ArePasses, pairs_within, passes_of}
 use Rattle.board_defs.specs.Pins.{data_bits}
 use Rattle.board_defs.proofs.Members.{Has, has_at, has_contains, contains_has}
 use Rattle.board_defs.proofs.Ordered.{InOrder, order_map, order_pairs}
-use Rattle.tap_defs.specs.BoardScans.{svf_row_scans}
-use Rattle.tap_defs.specs.Explaining.{CompareRows, HasShape, Explains, IsExpected, ShowsBits, compared_scans}
-use Rattle.tap_defs.specs.SingleBits.{single_bit}
-use Rattle.tap_defs.specs.TestRows.{code_row, code_width, observed_count, is_observed}
-use Rattle.tap_defs.proofs.ScanPlaceLemmas.{front_at, rest_at}
+use Rattle.tap_defs.specs.board.BoardScans.{svf_row_scans}
+use Rattle.tap_defs.specs.board.Explaining.{CompareRows, HasShape, Explains, IsExpected, ShowsBits, compared_scans}
+use Rattle.tap_defs.specs.board.SingleBits.{single_bit}
+use Rattle.tap_defs.specs.board.TestRows.{code_row, code_width, observed_count, is_observed}
+use Rattle.tap_defs.proofs.board.ScanPlaceLemmas.{front_at, rest_at}
 use Rattle.scan_planner.specs.declared.tables.PlanTables.{PlanTables}
 use Rattle.scan_planner.specs.Plans.{IsPlanOf}
 use Rattle.scan_planner.proofs.FillLemmas.{all_has, some_at}

@@ -18,14 +18,14 @@ use Rattle.board_defs.specs.Pins.{guarded, is_same, is_pinned}
 use Rattle.board_defs.specs.Settings.{holds, same_ctl, IsSafe}
 use Rattle.board_defs.proofs.Members.{Has, find_has}
 use Rattle.board_defs.proofs.Places.{any_at}
-use Rattle.tap_defs.specs.NetBits.{Place, Undriven, Driven}
-use Rattle.tap_defs.specs.Quiet.{controls_driver, safe_bit}
-use Rattle.tap_defs.specs.TestRows.{TestRow, quiet_row, code_row, code_of_net, code_bit, is_observed, observing_driver, observing_driver_by, first_enabled, only_if, data_observed, data_place, data_pin, data_bit, steady_bit, row_bit}
-use Rattle.tap_defs.specs.BoardScans.{first_row_scan}
-use Rattle.tap_defs.specs.RowDriving.{cell_bit, is_switched_off, entry_feeds, at_feeds, pin_feeds, driver_feeds, row_feeding}
-use Rattle.tap_defs.specs.SingleBits.{bit_of_feeding, driven_to}
-use Rattle.tap_defs.proofs.FeedingLemmas.{PinRules, apart, placed}
-use Rattle.tap_defs.proofs.NetRuleLemmas.{board_rules}
+use Rattle.tap_defs.specs.board.NetBits.{Place, Undriven, Driven}
+use Rattle.tap_defs.specs.board.Quiet.{controls_driver, safe_bit}
+use Rattle.tap_defs.specs.board.TestRows.{TestRow, quiet_row, code_row, code_of_net, code_bit, is_observed, observing_driver, observing_driver_by, first_enabled, only_if, data_observed, data_place, data_pin, data_bit, steady_bit, row_bit}
+use Rattle.tap_defs.specs.board.BoardScans.{first_row_scan}
+use Rattle.tap_defs.specs.board.RowDriving.{cell_bit, is_switched_off, entry_feeds, at_feeds, pin_feeds, driver_feeds, row_feeding}
+use Rattle.tap_defs.specs.board.SingleBits.{bit_of_feeding, driven_to}
+use Rattle.tap_defs.proofs.board.FeedingLemmas.{PinRules, apart, placed}
+use Rattle.tap_defs.proofs.board.NetRuleLemmas.{board_rules}
 use Rattle.scan_planner.specs.declared.nets.NetDriver.{NetDriver}
 use Rattle.scan_planner.specs.declared.tables.ReaderCell.{ReaderCell}
 use Rattle.scan_planner.specs.declared.tables.PlanTables.{PlanTables}
@@ -240,7 +240,7 @@ module _ (board : RawBoard) (rules : IsBoard board) (plan : PlanTables) (p : IsP
         ∙ sym (ap (λ (pull : Option Bool). feed_bit (option_map (feed_by plan pass n pull) (driver_in plan pass n)) j) pull_here)
       where
         pull_here : pull_in board n ≡ net.pull
-        pull_here = ap (λ (o : Option Net). Rattle.tap_defs.specs.SingleBits.pulled_to o) is_net
+        pull_here = ap (λ (o : Option Net). Rattle.tap_defs.specs.board.SingleBits.pulled_to o) is_net
 
         by_driver : (o : Option NetDriver) → driver_in plan pass n ≡ o → FirstOn board (holds pass) 0 net.pins o →
             bit_of_feeding (row_feeding board (code_row board plan.passes pass j) net) ≡ feed_bit (option_map (feed_by plan pass n net.pull) (driver_in plan pass n)) j

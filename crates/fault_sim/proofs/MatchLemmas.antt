@@ -10,10 +10,10 @@ use Rattle.board_defs.specs.BoardRules.{IsBoard}
 use Rattle.board_defs.specs.Faults.{IsSingle}
 use Rattle.board_defs.specs.Passes.{passes_of}
 use Rattle.board_defs.specs.Pins.{data_bits}
-use Rattle.tap_defs.specs.TestRows.{code_row, code_width, observed_count}
-use Rattle.tap_defs.specs.BoardScans.{RowScan, svf_row_scans}
-use Rattle.tap_defs.specs.Explaining.{CompareRows, HasShape, Explains, IsExpected, ShowsBits, compared_scans}
-use Rattle.tap_defs.specs.SingleBits.{single_bit}
+use Rattle.tap_defs.specs.board.TestRows.{code_row, code_width, observed_count}
+use Rattle.tap_defs.specs.board.BoardScans.{RowScan, svf_row_scans}
+use Rattle.tap_defs.specs.board.Explaining.{CompareRows, HasShape, Explains, IsExpected, ShowsBits, compared_scans}
+use Rattle.tap_defs.specs.board.SingleBits.{single_bit}
 use Rattle.scan_planner.specs.declared.tables.PlanTables.{PlanTables}
 use Rattle.scan_planner.specs.Plans.{IsPlanOf}
 use Rattle.fault_sim.specs.Effects.{fault_bit, first_net, second_net}

@@ -18,7 +18,7 @@ use Rattle.board_defs.specs.Decided.{is_covered, are_paired, is_tested_driver, p
 use Rattle.board_defs.specs.Faults.{Numbered, numbered_nets, covered_nets, tested_pins, paired_nets, stuck_faults, open_faults, short_faults, kind_rank}
 use Rattle.board_defs.specs.Passes.{pairs_within}
 use Rattle.board_defs.proofs.Places.{below_place, below_at}
-use Rattle.tap_defs.proofs.ScanPlaceLemmas.{front_at, rest_at}
+use Rattle.tap_defs.proofs.board.ScanPlaceLemmas.{front_at, rest_at}
 use Rattle.scan_planner.specs.declared.tables.PlanTables.{PlanTables}
 use Rattle.fault_sim.specs.declared.universe.FaultLists.{FaultLists}
 use Rattle.fault_sim.specs.Tested.{paired_in}

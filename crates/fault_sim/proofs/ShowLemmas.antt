@@ -18,13 +18,13 @@ use Rattle.board_defs.specs.Pins.{device_at, guarded, data_bits, is_same, receiv
 use Rattle.board_defs.specs.Settings.{holds}
 use Rattle.board_defs.proofs.Members.{Has, has_at, has_place, has_any, all_has, contains_has, has_contains}
 use Rattle.board_defs.proofs.Places.{all_from, all_stands}
-use Rattle.tap_defs.specs.NetBits.{Place, place_of}
-use Rattle.tap_defs.specs.TestRows.{TestRow, quiet_row, code_row, code_bit, code_of_net, net_code_bit, code_width, observed_count, observing_driver, only_if, expect_bit, expect_entry, expect_pin, expect_place, expect_observed}
-use Rattle.tap_defs.specs.BoardScans.{RowScan, row_now}
-use Rattle.tap_defs.specs.Explaining.{CompareRows, IsCompared, ShowsBits, compared_scans, cell_position}
-use Rattle.tap_defs.proofs.LiveLemmas.{on_is}
-use Rattle.tap_defs.proofs.FeedingLemmas.{Observing, observing_at}
-use Rattle.tap_defs.proofs.PassingLemmas.{stands_at}
+use Rattle.tap_defs.specs.board.NetBits.{Place, place_of}
+use Rattle.tap_defs.specs.board.TestRows.{TestRow, quiet_row, code_row, code_bit, code_of_net, net_code_bit, code_width, observed_count, observing_driver, only_if, expect_bit, expect_entry, expect_pin, expect_place, expect_observed}
+use Rattle.tap_defs.specs.board.BoardScans.{RowScan, row_now}
+use Rattle.tap_defs.specs.board.Explaining.{CompareRows, IsCompared, ShowsBits, compared_scans, cell_position}
+use Rattle.tap_defs.proofs.board.LiveLemmas.{on_is}
+use Rattle.tap_defs.proofs.board.FeedingLemmas.{Observing, observing_at}
+use Rattle.tap_defs.proofs.board.PassingLemmas.{stands_at}
 use Rattle.scan_planner.specs.declared.nets.NetDriver.{NetDriver}
 use Rattle.scan_planner.specs.declared.tables.ReaderCell.{ReaderCell}
 use Rattle.scan_planner.specs.declared.tables.PlanTables.{PlanTables}
@@ -246,11 +246,11 @@ module _ (board : RawBoard) (rules : IsBoard board) (plan : PlanTables) (p : IsP
           let none = first_is board rules plan p n net is_net x pass stands o.unguarded in
           absurd (no_driver (subst (λ (q : Option NetDriver). FirstOn board (holds pass) 0 net.pins q) e none))
         where
-          no_driver : Rattle.tap_defs.specs.TestRows.first_enabled board (holds pass) 0 net.pins ≡ None → ⊥
+          no_driver : Rattle.tap_defs.specs.board.TestRows.first_enabled board (holds pass) 0 net.pins ≡ None → ⊥
           no_driver z =
               let bad : None ≡ Some r.driver =
-              sym (ap (λ (b : Bool). cond b None (Rattle.tap_defs.specs.TestRows.observing_driver_by board net (Rattle.tap_defs.specs.TestRows.first_enabled board (holds pass) 0 net.pins))) o.unguarded
-              ∙ ap (λ (q : Option ℕ). Rattle.tap_defs.specs.TestRows.observing_driver_by board net q) z) ∙ r.observing in
+              sym (ap (λ (b : Bool). cond b None (Rattle.tap_defs.specs.board.TestRows.observing_driver_by board net (Rattle.tap_defs.specs.board.TestRows.first_enabled board (holds pass) 0 net.pins))) o.unguarded
+              ∙ ap (λ (q : Option ℕ). Rattle.tap_defs.specs.board.TestRows.observing_driver_by board net q) z) ∙ r.observing in
               cc bad
       by_enabled (Some d) e shown =
           let place_is : r.driver ≡ d.place = driver_place in

@@ -117,9 +117,9 @@ pair_at {X} (x ∷ xs) k p e = by_side (cases_lt k (length xs)) (λ i h. pair_at
     by_side (inl below) ih =
         by_item (slice_get xs k) refl
         (sym (slice_get-map (λ v. let q : X × X = (x, v) in q) xs k)
-        ∙ sym (Rattle.tap_defs.proofs.ScanPlaceLemmas.front_at firsts (pairs_within xs) k (omega (arith, below, long))) ∙ e)
+        ∙ sym (Rattle.tap_defs.proofs.board.ScanPlaceLemmas.front_at firsts (pairs_within xs) k (omega (arith, below, long))) ∙ e)
     by_side (inr above) ih =
-        let r = ih (k - length xs) (sym (Rattle.tap_defs.proofs.ScanPlaceLemmas.rest_at firsts (pairs_within xs) (k - length xs) k (omega (arith, above, long))) ∙ e) in
+        let r = ih (k - length xs) (sym (Rattle.tap_defs.proofs.board.ScanPlaceLemmas.rest_at firsts (pairs_within xs) (k - length xs) k (omega (arith, above, long))) ∙ e) in
         record { low = suc r.low; high = suc r.high; order = omega (arith, r.order); low_is = r.low_is; high_is = r.high_is; number_is = omega (arith, r.number_is, above) }
 
 module _ (lists : FaultLists) (starts : AreStarts (length lists.nets) lists.starts) where

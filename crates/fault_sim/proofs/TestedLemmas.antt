@@ -26,8 +26,8 @@ use Rattle.board_defs.specs.Settings.{holds, ObservesBy, ObservesNet}
 use Rattle.board_defs.proofs.Members.{Has, has_at, has_place, has_contains, has_flat_map, flat_map_has, has_map, map_has}
 use Rattle.board_defs.proofs.Places.{any_place, any_at}
 use Rattle.board_defs.proofs.Covered.{tested_driver_true, tested_driver_is, tested_receiver_true, tested_receiver_is, paired_true, paired_is, net_same}
-use Rattle.tap_defs.specs.TestRows.{observing_driver, observing_driver_by, first_enabled, is_observed}
-use Rattle.tap_defs.proofs.PlanLemmas.{observing_is, observed_by}
+use Rattle.tap_defs.specs.board.TestRows.{observing_driver, observing_driver_by, first_enabled, is_observed}
+use Rattle.tap_defs.proofs.board.PlanLemmas.{observing_is, observed_by}
 use Rattle.scan_planner.specs.declared.nets.NetDriver.{NetDriver}
 use Rattle.scan_planner.specs.declared.tables.ReaderCell.{ReaderCell}
 use Rattle.scan_planner.specs.declared.tables.PlanTables.{PlanTables}

@@ -3,8 +3,8 @@ use Rattle.std.specs.Prelude.{◌≡◌, ◌⊎◌, Bool, List, [], ◌∷◌, D
 use Rattle.board_defs.specs.declared.board.RawBoard.{RawBoard}
 use Rattle.board_defs.specs.declared.fault.Single.{Single}
 use Rattle.board_defs.specs.Faults.{singles}
-use Rattle.tap_defs.specs.BoardScans.{svf_row_scans}
-use Rattle.tap_defs.specs.Explaining.{Explains, IsExpected}
+use Rattle.tap_defs.specs.board.BoardScans.{svf_row_scans}
+use Rattle.tap_defs.specs.board.Explaining.{Explains, IsExpected}
 
 -- the second list has, in order, exactly those items of the first for which P holds
 abbrev pub Picks : {A : Type 0} → (A → Type 0) → List A → List A → Type 0

@@ -7,9 +7,9 @@ use Rattle.board_defs.specs.declared.fault.Single.{Single}
 use Rattle.board_defs.specs.declared.fault.Single.TheVariants.{StuckNet, OpenPin, Short}
 use Rattle.board_defs.specs.Pins.{is_same}
 use Rattle.board_defs.specs.Settings.{holds, same_ctl}
-use Rattle.tap_defs.specs.NetBits.{or_else, Place}
-use Rattle.tap_defs.specs.TestRows.{TestRow, code_bit}
-use Rattle.tap_defs.specs.SingleBits.{pulled_to, shorted, single_bit}
+use Rattle.tap_defs.specs.board.NetBits.{or_else, Place}
+use Rattle.tap_defs.specs.board.TestRows.{TestRow, code_bit}
+use Rattle.tap_defs.specs.board.SingleBits.{pulled_to, shorted, single_bit}
 use Rattle.scan_planner.specs.declared.nets.NetDriver.{NetDriver}
 use Rattle.scan_planner.specs.declared.tables.ReaderCell.{ReaderCell}
 use Rattle.scan_planner.specs.declared.tables.PlanTables.{PlanTables}

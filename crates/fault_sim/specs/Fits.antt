@@ -5,7 +5,7 @@ use Rattle.board_defs.specs.declared.board.Ctl.{Ctl}
 use Rattle.board_defs.specs.declared.board.RawBoard.{RawBoard}
 use Rattle.board_defs.specs.declared.fault.Single.{Single}
 use Rattle.board_defs.specs.Pins.{is_same}
-use Rattle.tap_defs.specs.TestRows.{code_bit}
+use Rattle.tap_defs.specs.board.TestRows.{code_bit}
 use Rattle.scan_planner.specs.declared.nets.NetDriver.{NetDriver}
 use Rattle.scan_planner.specs.declared.tables.ReaderCell.{ReaderCell}
 use Rattle.scan_planner.specs.declared.tables.PlanTables.{PlanTables}

@@ -1,7 +1,7 @@
 // What a single fault makes of the compared cells of a net in the rows of a pass.
 ghost use Rattle.std.specs.Prelude.{◌≡◌, ◌<◌, ◌==◌, ◌||◌, unwrap_or};
-ghost use Rattle.tap_defs.specs.NetBits.{or_else};
-ghost use Rattle.tap_defs.specs.SingleBits.{shorted};
+ghost use Rattle.tap_defs.specs.board.NetBits.{or_else};
+ghost use Rattle.tap_defs.specs.board.SingleBits.{shorted};
 ghost use Rattle.fault_sim.specs.Effects.{open_effect, short_effect, effect_of, effect_in, effect_bit};
 
 use crate::feed::{Feed, driver_in, feed_bit, net_feed, pull_in};

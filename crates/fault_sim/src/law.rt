@@ -4,7 +4,7 @@ ghost use Rattle.board_defs.specs.declared.board.RawBoard.{RawBoard};
 ghost use Rattle.board_defs.specs.declared.fault.Single.{Single};
 ghost use Rattle.board_defs.specs.BoardRules.{IsBoard};
 ghost use Rattle.board_defs.specs.Faults.{singles, IsSingle};
-ghost use Rattle.tap_defs.specs.Explaining.{Explains};
+ghost use Rattle.tap_defs.specs.board.Explaining.{Explains};
 ghost use Rattle.fault_sim.specs.Diagnosis.{Picks, IsDiagnosis};
 ghost use Rattle.fault_sim.specs.Laws.{PlacesAre, PlacesCounted, SuspectsSuffice};
 

@@ -4,15 +4,15 @@ ghost use Rattle.board_defs.specs.Faults.{IsSingle};
 ghost use Rattle.board_defs.specs.Passes.{passes_of};
 ghost use Rattle.board_defs.specs.Pins.{data_bits};
 ghost use Rattle.scan_planner.specs.Plans.{IsPlanOf};
-ghost use Rattle.tap_defs.specs.BoardScans.{svf_row_scans};
-ghost use Rattle.tap_defs.specs.Explaining.{Explains, IsExpected};
+ghost use Rattle.tap_defs.specs.board.BoardScans.{svf_row_scans};
+ghost use Rattle.tap_defs.specs.board.Explaining.{Explains, IsExpected};
 ghost use Rattle.fault_sim.specs.Effects.{first_net, second_net};
 
 use crate::fits::{shows_all, shows_on};
 use board_defs::{Board, Single, law};
 use response_log::Log;
 use scan_planner::Plan;
-use tap_defs::log_law;
+use tap_defs::board_law;
 
 /// Whether every compared bit of a log is the expected one. The plan is made of the board's passes, and the log has its
 /// rows, each as long as a scan of data.
@@ -25,8 +25,8 @@ pub fn is_pass(board: &Board, plan: &Plan, log: &Log) -> bool
 {
     let _rules = board.raw();
     law::passes_kept();
-    log_law::rows_compared();
-    log_law::expected_bits();
+    board_law::rows_compared();
+    board_law::expected_bits();
     shows_all(board, plan, None, log)
 }
 
@@ -64,8 +64,8 @@ pub fn matches(board: &Board, plan: &Plan, fault: Single, log: &Log) -> bool
 {
     let _rules = board.raw();
     law::passes_kept();
-    log_law::rows_compared();
-    log_law::singles_respond();
+    board_law::rows_compared();
+    board_law::singles_respond();
     if !shows_on(board, plan, Some(fault), log, first_net(fault)) {
         return false;
     }

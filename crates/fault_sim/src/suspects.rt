@@ -15,8 +15,8 @@ use response_log::Log;
 use scan_planner::Plan;
 use std::alloc::{AllocError, Global};
 use std::marker::Model;
-use tap_defs::law::{codes_number_covered, singles_observable};
-use tap_defs::log_law;
+use tap_defs::board_law::{codes_number_covered, singles_observable};
+use tap_defs::board_law;
 
 /// The places of a universe whose faults may explain a log, seen as the list of them. A single fault changes compared
 /// cells of its own net or of its two nets alone, so they are those of the faults on all nets that differ in the log.
@@ -291,10 +291,10 @@ impl Suspects {
         law::passes_kept();
         codes_number_covered();
         singles_observable();
-        log_law::rows_compared();
-        log_law::singles_respond();
-        log_law::expected_bits();
-        log_law::expected_logs();
+        board_law::rows_compared();
+        board_law::singles_respond();
+        board_law::expected_bits();
+        board_law::expected_logs();
         let flags = flags_of(alloc, board, plan, log)?;
         let nets = flagged_nets(alloc, &flags)?;
         let places = suspects_of(alloc, plan, universe.lists(), &nets)?;

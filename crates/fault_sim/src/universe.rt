@@ -14,7 +14,7 @@ use board_defs::{Board, Items, Kind, PinRef, Single, law};
 use scan_planner::Plan;
 use std::alloc::{AllocError, Global};
 use std::marker::Model;
-use tap_defs::law::codes_number_covered;
+use tap_defs::board_law::codes_number_covered;
 
 /// The covered nets and the tested pins of a board, and how many pairs of covered nets come before those of each net
 /// with later ones.

@@ -7,21 +7,21 @@ use Rattle.board_defs.specs.declared.device.Symbol.TheVariants.{Zero, One, Any}
 use Rattle.board_defs.specs.declared.board.PartKind.TheVariants.{Described}
 use Rattle.board_defs.specs.declared.device.RawDevice.{RawDevice}
 use Rattle.tap_defs.specs.declared.tap.TapState.TheVariants.{RunTestIdle}
-use Rattle.tap_defs.specs.TestLogic.{TestLogic, Instruction, Bypass, Idcode, Other}
-use Rattle.tap_defs.specs.OnBoard.{reset_by, test_logic}
-use Rattle.tap_defs.specs.Part.{FreeBits}
-use Rattle.tap_defs.specs.Chain.{ChainPart, logics, IsChainOf}
-use Rattle.tap_defs.specs.Run.{Wiring, Choices, choices_after, run, tdos, bit_passes, run_passes}
-use Rattle.tap_defs.specs.Scan.{ScanBit, Scan, joined}
-use Rattle.tap_defs.specs.Text.{AllSized}
-use Rattle.tap_defs.specs.Clocks.{sdr_clocks, head_clocks, test_clocks}
-use Rattle.tap_defs.specs.ChainRegisters.{dr_capture, dr_captures, data_captured, pins_at, AllIn, AllSelectingIn}
-use Rattle.tap_defs.specs.Transport.{scan_passes}
-use Rattle.tap_defs.proofs.ListLemmas.{cons_path, length-joined}
-use Rattle.tap_defs.proofs.RunLemmas.{two_pass, scan_passes-append}
-use Rattle.tap_defs.proofs.DataLemmas.{data_transport}
-use Rattle.tap_defs.proofs.HeadLemmas.{run_logics, head_idles, scans_decide}
-use Rattle.tap_defs.proofs.MeaningLemmas.{text_means}
+use Rattle.tap_defs.specs.chain.TestLogic.{TestLogic, Instruction, Bypass, Idcode, Other}
+use Rattle.tap_defs.specs.board.OnBoard.{reset_by, test_logic}
+use Rattle.tap_defs.specs.chain.Part.{FreeBits}
+use Rattle.tap_defs.specs.chain.Chain.{ChainPart, logics, IsChainOf}
+use Rattle.tap_defs.specs.chain.Run.{Wiring, Choices, choices_after, run, tdos, bit_passes, run_passes}
+use Rattle.tap_defs.specs.chain.Scan.{ScanBit, Scan, joined}
+use Rattle.tap_defs.specs.chain.Text.{AllSized}
+use Rattle.tap_defs.specs.chain.Clocks.{sdr_clocks, head_clocks, test_clocks}
+use Rattle.tap_defs.specs.chain.ChainRegisters.{dr_capture, dr_captures, data_captured, pins_at, AllIn, AllSelectingIn}
+use Rattle.tap_defs.specs.chain.Transport.{scan_passes}
+use Rattle.tap_defs.proofs.chain.ListLemmas.{cons_path, length-joined}
+use Rattle.tap_defs.proofs.chain.RunLemmas.{two_pass, scan_passes-append}
+use Rattle.tap_defs.proofs.chain.DataLemmas.{data_transport}
+use Rattle.tap_defs.proofs.chain.HeadLemmas.{run_logics, head_idles, scans_decide}
+use Rattle.tap_defs.proofs.chain.MeaningLemmas.{text_means}
 use Rattle.ident_test.specs.Patterns.{wanted, symbol_bit, register_pattern, ident_bits, ident_scan, ident_text}
 use Rattle.ident_test.specs.CodedParts.{IsCoded, AreCoded, fits, code_fits, part_fits, all_fit, coded_by, coded_parts}
 use Rattle.ident_test.specs.IdentTest.{ArePatterns, IsIdentTest}

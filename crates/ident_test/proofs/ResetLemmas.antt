@@ -2,16 +2,16 @@
 use Rattle.std.proofs.Common.{◌≡◌, ℕ, suc, Bool, true, false, List, [], ◌∷◌, map, Option, Some, refl, sym, ◌∙◌, ap, subst}
 use Rattle.tap_defs.specs.declared.tap.TapState.{TapState}
 use Rattle.tap_defs.specs.declared.tap.TapState.TheVariants.{TestLogicReset, RunTestIdle}
-use Rattle.tap_defs.specs.Tap.{next_state}
-use Rattle.tap_defs.specs.TestLogic.{Instruction, reset_instruction}
-use Rattle.tap_defs.specs.Part.{FreeBits, old_state_acts, part_tdo}
-use Rattle.tap_defs.specs.Chain.{ChainPart, chain_after}
-use Rattle.tap_defs.specs.Run.{Wiring, Choice, Choices, clock_tdi, run}
-use Rattle.tap_defs.specs.Clocks.{plain, reset_clocks, head_clocks}
-use Rattle.tap_defs.specs.ChainRegisters.{pins_at, AllIn}
-use Rattle.tap_defs.proofs.CalmLemmas.{reset_current}
-use Rattle.tap_defs.proofs.HeadLemmas.{part_tap, run_resets}
-use Rattle.tap_defs.proofs.MoveLemmas.{moved_to, chain_moves}
+use Rattle.tap_defs.specs.chain.Tap.{next_state}
+use Rattle.tap_defs.specs.chain.TestLogic.{Instruction, reset_instruction}
+use Rattle.tap_defs.specs.chain.Part.{FreeBits, old_state_acts, part_tdo}
+use Rattle.tap_defs.specs.chain.Chain.{ChainPart, chain_after}
+use Rattle.tap_defs.specs.chain.Run.{Wiring, Choice, Choices, clock_tdi, run}
+use Rattle.tap_defs.specs.chain.Clocks.{plain, reset_clocks, head_clocks}
+use Rattle.tap_defs.specs.chain.ChainRegisters.{pins_at, AllIn}
+use Rattle.tap_defs.proofs.board.CalmLemmas.{reset_current}
+use Rattle.tap_defs.proofs.chain.HeadLemmas.{part_tap, run_resets}
+use Rattle.tap_defs.proofs.chain.MoveLemmas.{moved_to, chain_moves}
 
 -- each part has the instruction that it is known to have after a reset
 abbrev pub AllSelected : List ChainPart → Type 0

@@ -4,13 +4,13 @@ use Rattle.std.specs.Prelude.{codes}
 use Rattle.std.specs.Fmt.{digits}
 use Rattle.board_defs.specs.declared.device.Symbol.{Symbol}
 use Rattle.board_defs.specs.declared.device.Symbol.TheVariants.{Zero, One, Any}
-use Rattle.tap_defs.specs.TestLogic.{TestLogic, Bypass, Idcode}
-use Rattle.tap_defs.specs.Chain.{ChainPart, IsChainOf}
-use Rattle.tap_defs.specs.Run.{Clock, tdos, run_passes}
-use Rattle.tap_defs.specs.Clocks.{test_clocks}
-use Rattle.tap_defs.specs.Text.{svf_text}
-use Rattle.tap_defs.proofs.SampleTexts.{off, on, whole}
-use Rattle.tap_defs.proofs.SampleRun.{choices, no_wiring, pausing, shifting}
+use Rattle.tap_defs.specs.chain.TestLogic.{TestLogic, Bypass, Idcode}
+use Rattle.tap_defs.specs.chain.Chain.{ChainPart, IsChainOf}
+use Rattle.tap_defs.specs.chain.Run.{Clock, tdos, run_passes}
+use Rattle.tap_defs.specs.chain.Clocks.{test_clocks}
+use Rattle.tap_defs.specs.chain.Text.{svf_text}
+use Rattle.tap_defs.proofs.chain.SampleTexts.{off, on, whole}
+use Rattle.tap_defs.proofs.chain.SampleRun.{choices, no_wiring, pausing, shifting}
 use Rattle.ident_test.specs.Patterns.{ident_scan, ident_text}
 use Rattle.ident_test.specs.CodedParts.{all_fit}
 

@@ -4,8 +4,8 @@ use Rattle.board_defs.specs.declared.device.Symbol.{Symbol}
 use Rattle.board_defs.specs.declared.device.Symbol.TheVariants.{Zero, One, Any}
 use Rattle.board_defs.specs.declared.board.PartKind.TheVariants.{Described}
 use Rattle.board_defs.specs.declared.device.RawDevice.{RawDevice}
-use Rattle.tap_defs.specs.TestLogic.{TestLogic, Bypass, Idcode}
-use Rattle.tap_defs.specs.OnBoard.{test_logic}
+use Rattle.tap_defs.specs.chain.TestLogic.{TestLogic, Bypass, Idcode}
+use Rattle.tap_defs.specs.board.OnBoard.{test_logic}
 
 -- a described part with a pattern selects IDCODE in Test-Logic-Reset, and loads a code of 32 bits under it; one without selects BYPASS
 abbrev pub IsCoded : Option (List Symbol) → TestLogic → Type 0

@@ -1,9 +1,9 @@
 -- What the identity test is worth: it tells whether each part's code fits its pattern.
 use Rattle.std.specs.Prelude.{◌≡◌, ℕ, ◌≤◌, true, false, List, length, Option, Some, All, IfSome}
 use Rattle.board_defs.specs.declared.device.Symbol.{Symbol}
-use Rattle.tap_defs.specs.TestLogic.{TestLogic}
-use Rattle.tap_defs.specs.Run.{Clock, Wiring, PassesOn, FailsOn}
-use Rattle.tap_defs.specs.Svf.{meaning}
+use Rattle.tap_defs.specs.chain.TestLogic.{TestLogic}
+use Rattle.tap_defs.specs.chain.Run.{Clock, Wiring, PassesOn, FailsOn}
+use Rattle.tap_defs.specs.chain.Svf.{meaning}
 use Rattle.ident_test.specs.CodedParts.{AreCoded, all_fit}
 
 -- the patterns of a chain's parts: 1 to 255 of them, each of 32 symbols

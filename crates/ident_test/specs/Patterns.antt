@@ -3,8 +3,8 @@
 use Rattle.std.specs.Prelude.{ℕ, Bool, true, false, List, [], ◌∷◌, map, Option, Some, None}
 use Rattle.board_defs.specs.declared.device.Symbol.{Symbol}
 use Rattle.board_defs.specs.declared.device.Symbol.TheVariants.{Zero, One, Any}
-use Rattle.tap_defs.specs.Scan.{ScanBit, Scan, joined}
-use Rattle.tap_defs.specs.Text.{svf_text}
+use Rattle.tap_defs.specs.chain.Scan.{ScanBit, Scan, joined}
+use Rattle.tap_defs.specs.chain.Text.{svf_text}
 
 -- what a symbol of a pattern wants: X nothing
 abbrev pub wanted : Symbol → Option Bool

@@ -2,8 +2,8 @@
 ghost use Rattle.std.specs.Prelude.{◌≡◌, ◌+◌, ◌<◌, ◌≤◌, false, length, map, replicate, unwrap_or, is_some, All, IfSome};
 ghost use Rattle.std.specs.List.{list_any};
 ghost use Rattle.bt_base.specs.Puts.{Puts};
-ghost use Rattle.tap_defs.specs.Scan.{tdi_bits, tdo_bits, mask_bits};
-ghost use Rattle.tap_defs.specs.Text.{scan_text};
+ghost use Rattle.tap_defs.specs.chain.Scan.{tdi_bits, tdo_bits, mask_bits};
+ghost use Rattle.tap_defs.specs.chain.Text.{scan_text};
 ghost use Rattle.ident_test.specs.Patterns.{wanted, symbol_bit, register_pattern, ident_bits, ident_scan, ident_text};
 ghost use Rattle.ident_test.specs.Rows.{placed};
 

@@ -11,9 +11,9 @@ use Rattle.board_defs.specs.declared.board.RawBoard.{RawBoard}
 use Rattle.board_defs.specs.BoardRules.{IsBoard}
 use Rattle.board_defs.specs.DeviceRules.{driving_entry}
 use Rattle.board_defs.specs.Pins.{device_at, cell_count, entry_at, data_bits, data_length}
-use Rattle.tap_defs.proofs.QuietLemmas.{device_of}
-use Rattle.tap_defs.specs.ShiftRegister.{filled}
-use Rattle.tap_defs.specs.Scan.{joined}
+use Rattle.tap_defs.proofs.board.QuietLemmas.{device_of}
+use Rattle.tap_defs.specs.chain.ShiftRegister.{filled}
+use Rattle.tap_defs.specs.chain.Scan.{joined}
 use Rattle.scan_planner.specs.Tables.{first_position}
 use Rattle.scan_planner.specs.Laid.{CellBits, part_laid, parts_laid}
 use Rattle.scan_planner.proofs.CodeLemmas.{part_before}

@@ -7,8 +7,8 @@ use Rattle.board_defs.specs.BoardRules.{IsBoard, IsPart}
 use Rattle.board_defs.specs.declared.board.PartKind.{PartKind}
 use Rattle.board_defs.specs.declared.board.PartKind.TheVariants.{Described, Bypass}
 use Rattle.board_defs.specs.Pins.{instruction_length}
-use Rattle.tap_defs.specs.Scan.{ScanBit, tdi_bits, tdo_bits, mask_bits}
-use Rattle.tap_defs.specs.Codes.{sent, code_bits, instructs}
+use Rattle.tap_defs.specs.chain.Scan.{ScanBit, tdi_bits, tdo_bits, mask_bits}
+use Rattle.tap_defs.specs.chain.Codes.{sent, code_bits, instructs}
 use Rattle.scan_planner.specs.declared.instructions.Instruction.{Instruction}
 use Rattle.scan_planner.specs.declared.instructions.Instruction.TheVariants.{Preload, Extest}
 use Rattle.scan_planner.specs.Codes.{code_for, IsCoded, AreCoded, captured_bits, compared_bits}

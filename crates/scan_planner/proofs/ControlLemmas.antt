@@ -19,9 +19,9 @@ use Rattle.board_defs.specs.Pins.{described, device_at, is_pinned, drive, drive_
 use Rattle.board_defs.specs.Decided.{is_by, drives_net, place_drive, drive_in, is_safe_alone, is_tested_driver, tests_by_at, tests_by, is_useful}
 use Rattle.board_defs.proofs.Places.{Found, any_place, any_at, FoundBelow, below_place}
 use Rattle.board_defs.proofs.Driving.{by_true}
-use Rattle.tap_defs.specs.Quiet.{controls_driver}
-use Rattle.tap_defs.proofs.FeedingLemmas.{PinRules, apart, placed}
-use Rattle.tap_defs.proofs.NetRuleLemmas.{board_rules}
+use Rattle.tap_defs.specs.board.Quiet.{controls_driver}
+use Rattle.tap_defs.proofs.board.FeedingLemmas.{PinRules, apart, placed}
+use Rattle.tap_defs.proofs.board.NetRuleLemmas.{board_rules}
 use Rattle.scan_planner.specs.Plans.{controls_in, controls_some}
 use Rattle.scan_planner.proofs.PinLemmas.{Drives, drives_by, entry_on}
 

@@ -10,9 +10,9 @@ use Rattle.board_defs.specs.declared.board.Ctl.{Ctl}
 use Rattle.board_defs.specs.BoardRules.{IsBoard}
 use Rattle.board_defs.specs.Settings.{holds}
 use Rattle.board_defs.proofs.Members.{Has}
-use Rattle.tap_defs.specs.NetBits.{Place, place_of}
-use Rattle.tap_defs.specs.TestRows.{TestRow, driving_cell, data_pin, data_place, data_observed, only_if, observing_driver, row_bit, steady_bit}
-use Rattle.tap_defs.proofs.PassingLemmas.{stands_at}
+use Rattle.tap_defs.specs.board.NetBits.{Place, place_of}
+use Rattle.tap_defs.specs.board.TestRows.{TestRow, driving_cell, data_pin, data_place, data_observed, only_if, observing_driver, row_bit, steady_bit}
+use Rattle.tap_defs.proofs.board.PassingLemmas.{stands_at}
 use Rattle.scan_planner.specs.declared.tables.DriverCell.{DriverCell}
 use Rattle.scan_planner.specs.Tables.{first_position, IsDriverCell}
 use Rattle.scan_planner.specs.Laid.{laid, steady}

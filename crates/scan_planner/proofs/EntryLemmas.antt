@@ -13,7 +13,7 @@ use Rattle.board_defs.specs.BoardRules.{IsBoard, IsPart}
 use Rattle.board_defs.specs.DeviceRules.{is_on, is_receiving, may_receive, reads_bit, IsDevice}
 use Rattle.board_defs.specs.Pins.{device_at, bit_at, cell_count, receives_in, receives_bit}
 use Rattle.board_defs.proofs.Places.{all_stands}
-use Rattle.tap_defs.proofs.QuietLemmas.{device_of}
+use Rattle.tap_defs.proofs.board.QuietLemmas.{device_of}
 use Rattle.port_entries.specs.Entries.{entries_on, entries_of, entries_at, AreEntries}
 use Rattle.scan_planner.specs.Building.{reader_of, readers_in, readers_at}
 use Rattle.scan_planner.specs.Entries.{receives_by}

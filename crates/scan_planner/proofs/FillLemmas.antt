@@ -18,13 +18,13 @@ use Rattle.board_defs.proofs.BoardLemmas.{chain_length}
 use Rattle.board_defs.proofs.Members.{Has, has_at, has_place, has_right, contains_has, has_contains}
 use Rattle.board_defs.proofs.Places.{any_at}
 use Rattle.tap_defs.specs.declared.scan.Shape.{Shape}
-use Rattle.tap_defs.specs.OnBoard.{test_logic}
-use Rattle.tap_defs.specs.Scan.{ScanBit, Scan, joined, tdi_bits, tdo_bits, mask_bits, scan_bits}
-use Rattle.tap_defs.specs.Codes.{instructs}
-use Rattle.tap_defs.specs.TestRows.{TestRow, quiet_row, code_row, code_of_net, code_bit, net_code_bit, is_observed, observing_driver, row_bit, expect_bit}
-use Rattle.tap_defs.specs.BoardScans.{RowScan, row_bits, first_row_scan, test_scans, preload_code, extest_code}
-use Rattle.tap_defs.proofs.InstructLemmas.{length-instructs}
-use Rattle.tap_defs.proofs.EntryLemmas.{CodesFit, parts_of, preload_fits, extest_fits, row_scan_some, codes_total}
+use Rattle.tap_defs.specs.board.OnBoard.{test_logic}
+use Rattle.tap_defs.specs.chain.Scan.{ScanBit, Scan, joined, tdi_bits, tdo_bits, mask_bits, scan_bits}
+use Rattle.tap_defs.specs.chain.Codes.{instructs}
+use Rattle.tap_defs.specs.board.TestRows.{TestRow, quiet_row, code_row, code_of_net, code_bit, net_code_bit, is_observed, observing_driver, row_bit, expect_bit}
+use Rattle.tap_defs.specs.board.BoardScans.{RowScan, row_bits, first_row_scan, test_scans, preload_code, extest_code}
+use Rattle.tap_defs.proofs.chain.InstructLemmas.{length-instructs}
+use Rattle.tap_defs.proofs.board.EntryLemmas.{CodesFit, parts_of, preload_fits, extest_fits, row_scan_some, codes_total}
 use Rattle.scan_planner.specs.declared.tables.FixedRows.{FixedRows}
 use Rattle.scan_planner.specs.declared.tables.HeldCell.{HeldCell}
 use Rattle.scan_planner.specs.declared.tables.DriverCell.{DriverCell}

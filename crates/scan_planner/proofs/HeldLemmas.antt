@@ -12,11 +12,11 @@ use Rattle.board_defs.specs.DeviceRules.{is_control_of, is_driving, disable_of}
 use Rattle.board_defs.specs.Pins.{device_at, is_pinned}
 use Rattle.board_defs.specs.Settings.{holds}
 use Rattle.board_defs.proofs.Members.{Has}
-use Rattle.tap_defs.specs.NetBits.{Place, place_of}
-use Rattle.tap_defs.specs.Quiet.{controls_driver, safe_bit}
-use Rattle.tap_defs.specs.TestRows.{quiet_row, driving_cell, data_bit, data_pin, data_place, data_observed, only_if, observing_driver, steady_bit, row_bit}
-use Rattle.tap_defs.proofs.ReadingLemmas.{any_is}
-use Rattle.tap_defs.proofs.QuietLemmas.{control_is}
+use Rattle.tap_defs.specs.board.NetBits.{Place, place_of}
+use Rattle.tap_defs.specs.board.Quiet.{controls_driver, safe_bit}
+use Rattle.tap_defs.specs.board.TestRows.{quiet_row, driving_cell, data_bit, data_pin, data_place, data_observed, only_if, observing_driver, steady_bit, row_bit}
+use Rattle.tap_defs.proofs.board.ReadingLemmas.{any_is}
+use Rattle.tap_defs.proofs.board.QuietLemmas.{control_is}
 use Rattle.scan_planner.specs.declared.tables.HeldCell.{HeldCell}
 use Rattle.scan_planner.specs.Plans.{controls_in, controls_some}
 use Rattle.scan_planner.specs.Tables.{first_position, IsHeldCell}

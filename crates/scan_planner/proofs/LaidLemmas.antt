@@ -11,12 +11,12 @@ use Rattle.board_defs.specs.declared.board.Part.{Part}
 use Rattle.board_defs.specs.declared.board.RawBoard.{RawBoard}
 use Rattle.board_defs.specs.Pins.{described, data_length, data_bits, device_at}
 use Rattle.board_defs.proofs.Members.{Has}
-use Rattle.tap_defs.specs.ShiftRegister.{filled}
-use Rattle.tap_defs.specs.Scan.{ScanBit, joined, tdi_bits, tdo_bits, mask_bits}
-use Rattle.tap_defs.specs.TestRows.{row_bit, expect_bit}
-use Rattle.tap_defs.specs.BoardScans.{RowScan, part_bits, bits_by_part, row_bits}
-use Rattle.tap_defs.proofs.ListLemmas.{cons_path, length-filled, map-filled}
-use Rattle.tap_defs.proofs.QuietLemmas.{device_of}
+use Rattle.tap_defs.specs.chain.ShiftRegister.{filled}
+use Rattle.tap_defs.specs.chain.Scan.{ScanBit, joined, tdi_bits, tdo_bits, mask_bits}
+use Rattle.tap_defs.specs.board.TestRows.{row_bit, expect_bit}
+use Rattle.tap_defs.specs.board.BoardScans.{RowScan, part_bits, bits_by_part, row_bits}
+use Rattle.tap_defs.proofs.chain.ListLemmas.{cons_path, length-filled, map-filled}
+use Rattle.tap_defs.proofs.board.QuietLemmas.{device_of}
 use Rattle.scan_planner.specs.Tables.{first_position}
 use Rattle.scan_planner.specs.Laid.{CellBits, part_laid, parts_laid, laid}
 use Rattle.scan_planner.specs.Assigned.{assigned}

@@ -14,13 +14,13 @@ use Rattle.board_defs.specs.declared.board.RawBoard.{RawBoard}
 use Rattle.board_defs.specs.BoardRules.{IsBoard}
 use Rattle.board_defs.specs.DeviceRules.{is_on, is_driving, is_reading, is_receiving, drives_bit, driving_entry, reading_entry}
 use Rattle.board_defs.specs.Pins.{described, device_at, entry_at}
-use Rattle.tap_defs.specs.NetBits.{place_of}
-use Rattle.tap_defs.specs.TestRows.{driving_cell}
-use Rattle.tap_defs.proofs.LiveLemmas.{IsWired, found, find_some, on_is}
-use Rattle.tap_defs.proofs.FeedingLemmas.{PinRules, apart, placed}
-use Rattle.tap_defs.proofs.NetRuleLemmas.{all_read, board_rules}
-use Rattle.tap_defs.proofs.QuietLemmas.{device_of}
-use Rattle.tap_defs.proofs.ReadingLemmas.{IsRead}
+use Rattle.tap_defs.specs.board.NetBits.{place_of}
+use Rattle.tap_defs.specs.board.TestRows.{driving_cell}
+use Rattle.tap_defs.proofs.board.LiveLemmas.{IsWired, found, find_some, on_is}
+use Rattle.tap_defs.proofs.board.FeedingLemmas.{PinRules, apart, placed}
+use Rattle.tap_defs.proofs.board.NetRuleLemmas.{all_read, board_rules}
+use Rattle.tap_defs.proofs.board.QuietLemmas.{device_of}
+use Rattle.tap_defs.proofs.board.ReadingLemmas.{IsRead}
 
 -- the device of a pin of a net, and the one place of the pin in the nets
 pub record Standing (board : RawBoard) (n : ℕ) (net : Net) (place : ℕ) (at : PinAt) : Type 0 where

@@ -15,13 +15,13 @@ use Rattle.board_defs.specs.DeviceRules.{disable_of}
 use Rattle.board_defs.specs.Pins.{device_at, cell_count}
 use Rattle.board_defs.specs.Settings.{holds}
 use Rattle.board_defs.proofs.Members.{Has, has_contains, contains_has, has_map, map_has}
-use Rattle.tap_defs.specs.Quiet.{safe_bit}
-use Rattle.tap_defs.specs.Codes.{instructs}
-use Rattle.tap_defs.specs.TestRows.{is_observed, observed_count, code_width, row_bit, quiet_row}
-use Rattle.tap_defs.specs.BoardScans.{first_row_scan, preload_code, extest_code}
-use Rattle.tap_defs.specs.ShiftRegister.{filled}
-use Rattle.tap_defs.proofs.ScanLemmas.{filled_at}
-use Rattle.tap_defs.proofs.WidthLemmas.{width_is}
+use Rattle.tap_defs.specs.board.Quiet.{safe_bit}
+use Rattle.tap_defs.specs.chain.Codes.{instructs}
+use Rattle.tap_defs.specs.board.TestRows.{is_observed, observed_count, code_width, row_bit, quiet_row}
+use Rattle.tap_defs.specs.board.BoardScans.{first_row_scan, preload_code, extest_code}
+use Rattle.tap_defs.specs.chain.ShiftRegister.{filled}
+use Rattle.tap_defs.proofs.chain.ScanLemmas.{filled_at}
+use Rattle.tap_defs.proofs.board.WidthLemmas.{width_is}
 use Rattle.scan_planner.specs.declared.codes.NetCodes.{NetCodes}
 use Rattle.scan_planner.specs.declared.tables.FixedRows.{FixedRows}
 use Rattle.scan_planner.specs.declared.tables.HeldCell.{HeldCell}

@@ -15,14 +15,14 @@ use Rattle.board_defs.specs.DeviceRules.{IsDevice, OneOf, is_driving, is_reading
 use Rattle.board_defs.specs.Pins.{is_pinned}
 use Rattle.board_defs.proofs.Members.{Has, has_at, has_place, has_filter_map, filter_map_has}
 use Rattle.board_defs.proofs.Places.{any_at, all_stands}
-use Rattle.tap_defs.specs.ShiftRegister.{filled}
-use Rattle.tap_defs.specs.Quiet.{controls_driver, safe_bit, symbol_value}
-use Rattle.tap_defs.proofs.ListLemmas.{length-filled}
-use Rattle.tap_defs.proofs.ScanLemmas.{filled_at}
-use Rattle.tap_defs.proofs.LiveLemmas.{IsWired, found, find_some}
-use Rattle.tap_defs.proofs.NetRuleLemmas.{wired, read}
-use Rattle.tap_defs.proofs.QuietLemmas.{control_is}
-use Rattle.tap_defs.proofs.ReadingLemmas.{any_is}
+use Rattle.tap_defs.specs.chain.ShiftRegister.{filled}
+use Rattle.tap_defs.specs.board.Quiet.{controls_driver, safe_bit, symbol_value}
+use Rattle.tap_defs.proofs.chain.ListLemmas.{length-filled}
+use Rattle.tap_defs.proofs.chain.ScanLemmas.{filled_at}
+use Rattle.tap_defs.proofs.board.LiveLemmas.{IsWired, found, find_some}
+use Rattle.tap_defs.proofs.board.NetRuleLemmas.{wired, read}
+use Rattle.tap_defs.proofs.board.QuietLemmas.{control_is}
+use Rattle.tap_defs.proofs.board.ReadingLemmas.{any_is}
 use Rattle.scan_planner.specs.declared.quiet.CellBit.{CellBit}
 use Rattle.scan_planner.specs.Assigned.{assigned}
 use Rattle.scan_planner.specs.Laid.{quiet_bits}

@@ -15,11 +15,11 @@ use Rattle.board_defs.specs.DeviceRules.{is_on, is_receiving, reading_entry}
 use Rattle.board_defs.specs.Pins.{entry_at, receives_where}
 use Rattle.board_defs.specs.Settings.{holds, enables_where, enables_entry}
 use Rattle.board_defs.proofs.Members.{Has, has_at, has_place, contains_has, has_contains, has_flat_map, flat_map_has}
-use Rattle.tap_defs.specs.NetBits.{Place, place_of}
-use Rattle.tap_defs.specs.TestRows.{TestRow, quiet_row, expect_bit, expect_entry, expect_pin, expect_place, expect_observed, only_if, observing_driver}
-use Rattle.tap_defs.proofs.LiveLemmas.{on_is}
-use Rattle.tap_defs.proofs.FeedingLemmas.{Observing, observing_at}
-use Rattle.tap_defs.proofs.PassingLemmas.{stands_at}
+use Rattle.tap_defs.specs.board.NetBits.{Place, place_of}
+use Rattle.tap_defs.specs.board.TestRows.{TestRow, quiet_row, expect_bit, expect_entry, expect_pin, expect_place, expect_observed, only_if, observing_driver}
+use Rattle.tap_defs.proofs.board.LiveLemmas.{on_is}
+use Rattle.tap_defs.proofs.board.FeedingLemmas.{Observing, observing_at}
+use Rattle.tap_defs.proofs.board.PassingLemmas.{stands_at}
 use Rattle.scan_planner.specs.declared.tables.DriverCell.{DriverCell}
 use Rattle.scan_planner.specs.declared.tables.ReaderCell.{ReaderCell}
 use Rattle.scan_planner.specs.Tables.{first_position, IsDriverCell, IsReaderCell}

@@ -12,7 +12,7 @@ use Rattle.board_defs.specs.declared.board.Ctl.{Ctl}
 use Rattle.board_defs.specs.Settings.{holds}
 use Rattle.board_defs.proofs.Members.{Has, has_at, has_place, contains_has, has_contains, has_append, has_left, has_right, has_flat_map, flat_map_has}
 use Rattle.board_defs.proofs.Places.{any_place, any_at}
-use Rattle.tap_defs.specs.TestRows.{is_observed, observing_driver}
+use Rattle.tap_defs.specs.board.TestRows.{is_observed, observing_driver}
 use Rattle.scan_planner.specs.declared.tables.DriverCell.{DriverCell}
 use Rattle.scan_planner.specs.declared.tables.PassCells.{PassCells}
 use Rattle.scan_planner.specs.declared.tables.PassTables.{PassTables}

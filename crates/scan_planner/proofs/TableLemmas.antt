@@ -17,7 +17,7 @@ use Rattle.board_defs.specs.Pins.{device_at, entry_at, guarded, receives, receiv
 use Rattle.board_defs.specs.Settings.{Enabling, enables, enables_where, enables_entry, enables_by}
 use Rattle.board_defs.proofs.Members.{Has, has_at, has_contains, contains_has, has_left, has_right, has_append, has_map, map_has, has_filter, filter_has}
 use Rattle.board_defs.proofs.Places.{any_place}
-use Rattle.tap_defs.specs.TestRows.{first_enabled, reads_beside, observing_driver, observing_driver_by}
+use Rattle.tap_defs.specs.board.TestRows.{first_enabled, reads_beside, observing_driver, observing_driver_by}
 use Rattle.scan_planner.specs.declared.nets.NetDriver.{NetDriver}
 use Rattle.scan_planner.specs.declared.tables.ReaderCell.{ReaderCell}
 use Rattle.scan_planner.specs.Tables.{first_position, IsReaderCell}

@@ -1,6 +1,6 @@
 -- Bits that are set one after another.
 use Rattle.std.specs.Prelude.{ℕ, ◌==◌, Bool, cond, List, [], fold, slice_index_or, slice_set}
-use Rattle.tap_defs.specs.TestRows.{code_bit}
+use Rattle.tap_defs.specs.board.TestRows.{code_bit}
 use Rattle.scan_planner.specs.declared.tables.DriverCell.{DriverCell}
 use Rattle.scan_planner.specs.declared.tables.ReaderCell.{ReaderCell}
 

@@ -3,7 +3,7 @@ use Rattle.std.specs.Prelude.{◌≡◌, ℕ, suc, ◌-◌, ◌<◌, ◌≤◌, 
 use Rattle.board_defs.specs.declared.board.PartKind.{PartKind}
 use Rattle.board_defs.specs.declared.board.Part.{Part}
 use Rattle.board_defs.specs.Pins.{instruction_length}
-use Rattle.tap_defs.specs.BoardScans.{preload_code, extest_code}
+use Rattle.tap_defs.specs.board.BoardScans.{preload_code, extest_code}
 use Rattle.scan_planner.specs.declared.codes.NetCodes.{NetCodes}
 use Rattle.scan_planner.specs.declared.tables.DriverCell.{DriverCell}
 use Rattle.scan_planner.specs.declared.tables.PassCells.{PassCells}

@@ -6,9 +6,9 @@ use Rattle.board_defs.specs.declared.board.PartKind.TheVariants.{Described, Bypa
 use Rattle.board_defs.specs.declared.board.Part.{Part}
 use Rattle.board_defs.specs.declared.board.RawBoard.{RawBoard}
 use Rattle.board_defs.specs.declared.board.Ctl.{Ctl}
-use Rattle.tap_defs.specs.ShiftRegister.{filled}
-use Rattle.tap_defs.specs.Scan.{joined}
-use Rattle.tap_defs.specs.TestRows.{steady_bit}
+use Rattle.tap_defs.specs.chain.ShiftRegister.{filled}
+use Rattle.tap_defs.specs.chain.Scan.{joined}
+use Rattle.tap_defs.specs.board.TestRows.{steady_bit}
 
 -- a bit for each cell of each described part
 abbrev pub CellBits : Type 0

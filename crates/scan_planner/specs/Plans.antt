@@ -8,10 +8,10 @@ use Rattle.board_defs.specs.declared.board.Ctl.{Ctl}
 use Rattle.board_defs.specs.Pins.{device_at, instruction_bits, data_bits}
 use Rattle.board_defs.specs.Settings.{IsSafe, holds}
 use Rattle.tap_defs.specs.declared.scan.Shape.{Shape}
-use Rattle.tap_defs.specs.Quiet.{controls_driver}
-use Rattle.tap_defs.specs.Scan.{scan_bits}
-use Rattle.tap_defs.specs.TestRows.{TestRow, code_row, is_observed, code_of_net, observed_count, code_width}
-use Rattle.tap_defs.specs.BoardScans.{RowScan, row_now, row_before, test_scans}
+use Rattle.tap_defs.specs.board.Quiet.{controls_driver}
+use Rattle.tap_defs.specs.chain.Scan.{scan_bits}
+use Rattle.tap_defs.specs.board.TestRows.{TestRow, code_row, is_observed, code_of_net, observed_count, code_width}
+use Rattle.tap_defs.specs.board.BoardScans.{RowScan, row_now, row_before, test_scans}
 use Rattle.scan_planner.specs.declared.tables.PlanTables.{PlanTables}
 use Rattle.scan_planner.specs.Tables.{ArePlanTables}
 use Rattle.scan_planner.specs.Building.{all_drivers, all_readers}

@@ -11,10 +11,10 @@ use Rattle.board_defs.specs.declared.board.Ctl.{Ctl}
 use Rattle.board_defs.specs.DeviceRules.{reads_bit, disable_of}
 use Rattle.board_defs.specs.Pins.{data_length, device_at, entry_at, receives_where}
 use Rattle.board_defs.specs.Settings.{holds}
-use Rattle.tap_defs.specs.Scan.{ScanBit, joined, tdi_bits, tdo_bits, mask_bits}
-use Rattle.tap_defs.specs.Codes.{instructs}
-use Rattle.tap_defs.specs.TestRows.{observing_driver}
-use Rattle.tap_defs.specs.BoardScans.{row_bits, first_row_scan, preload_code, extest_code}
+use Rattle.tap_defs.specs.chain.Scan.{ScanBit, joined, tdi_bits, tdo_bits, mask_bits}
+use Rattle.tap_defs.specs.chain.Codes.{instructs}
+use Rattle.tap_defs.specs.board.TestRows.{observing_driver}
+use Rattle.tap_defs.specs.board.BoardScans.{row_bits, first_row_scan, preload_code, extest_code}
 use Rattle.scan_planner.specs.declared.tables.FixedRows.{FixedRows}
 use Rattle.scan_planner.specs.declared.tables.HeldCell.{HeldCell}
 use Rattle.scan_planner.specs.declared.tables.DriverCell.{DriverCell}

@@ -1,6 +1,6 @@
 // The rows that all passes share, with the steady cells set.
 ghost use Rattle.std.specs.Prelude.{◌≡◌, ◌<◌, ◌≤◌, length, IfOk, All};
-ghost use Rattle.tap_defs.specs.ShiftRegister.{filled};
+ghost use Rattle.tap_defs.specs.chain.ShiftRegister.{filled};
 ghost use Rattle.scan_planner.specs.Tables.{common_rows};
 
 use crate::rows::{compare_nets, set_drivers};

@@ -2,8 +2,8 @@
 ghost use Rattle.std.specs.Prelude.{◌≡◌, ◌+◌, ◌*◌, ◌<◌, ◌≤◌, [], suc, true, length, Some, slice_get, slice_index_or};
 ghost use Rattle.std.specs.List.{list_any};
 ghost use Rattle.board_defs.specs.Pins.{data_bits};
-ghost use Rattle.tap_defs.specs.BoardScans.{row_bits};
-ghost use Rattle.tap_defs.specs.Scan.{joined, tdi_bits, tdo_bits, mask_bits};
+ghost use Rattle.tap_defs.specs.board.BoardScans.{row_bits};
+ghost use Rattle.tap_defs.specs.chain.Scan.{joined, tdi_bits, tdo_bits, mask_bits};
 ghost use Rattle.scan_planner.specs.Tables.{ArePassCells, common_rows};
 ghost use Rattle.scan_planner.specs.Plans.{IsPlanOf, IsRoom, FillsScan, scan_count, scan_of_pass};
 

@@ -3,9 +3,9 @@ ghost use Rattle.std.specs.Prelude.{◌≡◌, ◌+◌, ◌<◌, ◌≤◌, ◌+
 ghost use Rattle.board_defs.specs.declared.board.PartKind.TheVariants.{Described};
 ghost use Rattle.board_defs.specs.DeviceRules.{bit_of};
 ghost use Rattle.board_defs.specs.BoardRules.{IsBoard};
-ghost use Rattle.tap_defs.specs.Scan.{tdi_bits, tdo_bits, mask_bits};
-ghost use Rattle.tap_defs.specs.Codes.{code_bits, instructs};
-ghost use Rattle.tap_defs.specs.BoardScans.{preload_code, extest_code};
+ghost use Rattle.tap_defs.specs.chain.Scan.{tdi_bits, tdo_bits, mask_bits};
+ghost use Rattle.tap_defs.specs.chain.Codes.{code_bits, instructs};
+ghost use Rattle.tap_defs.specs.board.BoardScans.{preload_code, extest_code};
 ghost use Rattle.scan_planner.specs.Tables.{AreRowsOf};
 ghost use Rattle.scan_planner.specs.Codes.{code_for, AreCoded, captured_bits, compared_bits};
 

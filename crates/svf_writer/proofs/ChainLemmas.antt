@@ -5,10 +5,10 @@ use Rattle.std.proofs.lemmas.List.Sums.{sum_by-cons, sum_by-le, sum_by-take-drop
 use Rattle.std.specs.Prelude.{◌||◌}
 use Rattle.std.specs.List.{list_any, All}
 use Rattle.std.proofs.Math.Bool.{or-true}
-use Rattle.tap_defs.specs.Scan.{Scan, tdi_bits, tdo_bits, mask_bits}
-use Rattle.tap_defs.specs.Codes.{sent, code_bits}
-use Rattle.tap_defs.specs.Text.{scan_text, scan_texts}
-use Rattle.tap_defs.specs.ChainScans.{marks, compared, chain_scans}
+use Rattle.tap_defs.specs.chain.Scan.{Scan, tdi_bits, tdo_bits, mask_bits}
+use Rattle.tap_defs.specs.chain.Codes.{sent, code_bits}
+use Rattle.tap_defs.specs.chain.Text.{scan_text, scan_texts}
+use Rattle.tap_defs.specs.chain.ChainScans.{marks, compared, chain_scans}
 use Rattle.svf_writer.specs.Chain.{bypass_bits, mark_bits, marked}
 
 -- the first of some equal bits is changed

@@ -4,7 +4,7 @@ use Rattle.std.proofs.lemmas.List.{take_all, drop-drop}
 use Rattle.bt_base.specs.Puts.{Puts, Shown}
 use Rattle.bt_bits.specs.Hex.{hex_text, digit_count}
 use Rattle.bt_bits.proofs.HexLemmas.{length-hex_text}
-use Rattle.tap_defs.specs.Text.{broken}
+use Rattle.tap_defs.specs.chain.Text.{broken}
 
 -- all digits of a field
 pub whole_field : (bits : List Bool) (count : ℕ) → count ≡ digit_count (length bits) → take count (drop 0 (hex_text bits)) ≡ hex_text bits

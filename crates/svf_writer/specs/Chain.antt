@@ -1,8 +1,8 @@
 -- The bits of the two scans of the chain test.
 use Rattle.std.specs.Prelude.{ℕ, ◌+◌, Bool, true, false, List, ◌++◌, map, replicate, slice_set}
-use Rattle.tap_defs.specs.Scan.{ScanBit}
-use Rattle.tap_defs.specs.Codes.{instructs}
-use Rattle.tap_defs.specs.ChainScans.{marks, compared}
+use Rattle.tap_defs.specs.chain.Scan.{ScanBit}
+use Rattle.tap_defs.specs.chain.Codes.{instructs}
+use Rattle.tap_defs.specs.chain.ChainScans.{marks, compared}
 
 -- the code of ones, BYPASS, for each part
 abbrev pub bypass_bits : List ℕ → List ScanBit

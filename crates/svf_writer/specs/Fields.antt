@@ -1,7 +1,7 @@
 -- The parts of the text of a scan, from its rows.
 use Rattle.std.specs.Prelude.{ℕ, ◌+◌, ◌*◌, Bool, true, false, List, ◌∷◌, ◌++◌, length, codes, decimal}
 use Rattle.bt_bits.specs.Hex.{hex_text}
-use Rattle.tap_defs.specs.Text.{command_word, gap, laid, broken}
+use Rattle.tap_defs.specs.chain.Text.{command_word, gap, laid, broken}
 
 -- the command and the length
 abbrev pub command_text : Bool → List Bool → List ℕ

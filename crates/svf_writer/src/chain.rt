@@ -1,9 +1,9 @@
 // The text of the chain test.
 ghost use Rattle.std.specs.Prelude.{◌≡◌, ◌+◌, ◌<◌, ◌≤◌, true, false, length, sum, replicate, slice_set, All};
 ghost use Rattle.bt_base.specs.Puts.{Puts};
-ghost use Rattle.tap_defs.specs.Scan.{tdi_bits, tdo_bits, mask_bits};
-ghost use Rattle.tap_defs.specs.Text.{scan_text, scan_texts};
-ghost use Rattle.tap_defs.specs.ChainScans.{chain_scans};
+ghost use Rattle.tap_defs.specs.chain.Scan.{tdi_bits, tdo_bits, mask_bits};
+ghost use Rattle.tap_defs.specs.chain.Text.{scan_text, scan_texts};
+ghost use Rattle.tap_defs.specs.chain.ChainScans.{chain_scans};
 ghost use Rattle.svf_writer.specs.Chain.{bypass_bits, mark_bits, marked};
 ghost use Rattle.svf_writer.specs.Rows.{IsRoom};
 

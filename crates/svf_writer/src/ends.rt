@@ -1,6 +1,6 @@
 // The lines before and after the scans of a text.
 ghost use Rattle.bt_base.specs.Puts.{Puts};
-ghost use Rattle.tap_defs.specs.Text.{head_text, tail_text};
+ghost use Rattle.tap_defs.specs.chain.Text.{head_text, tail_text};
 
 use bt_base::{PutFault, Sink};
 

@@ -1,6 +1,6 @@
 // The states of a TAP controller.
 ghost use Rattle.std.specs.Prelude.{◌≡◌};
-ghost use Rattle.tap_defs.specs.Tap.{next_state};
+ghost use Rattle.tap_defs.specs.chain.Tap.{next_state};
 
 /// A state of a TAP controller (IEEE 1149.1-1990, section 5).
 #[derive(Clone, Copy, Debug, PartialEq, Eq)]

@@ -23,28 +23,28 @@ use Rattle.board_defs.specs.Settings.{holds, enables_where, enables_entry, enabl
 use Rattle.board_defs.proofs.ControlOrder.{same_refl}
 use Rattle.board_defs.proofs.Members.{Has, has_place, has_any, contains_has, has_filter_map, filter_map_has, any_has}
 use Rattle.board_defs.proofs.Places.{any_at}
-use Rattle.tap_defs.specs.Part.{PinState}
-use Rattle.tap_defs.specs.Chain.{ChainPart, pin_states}
-use Rattle.tap_defs.specs.Run.{Choice}
-use Rattle.tap_defs.specs.Scan.{joined}
-use Rattle.tap_defs.specs.FaultSet.{Or, FaultSet, IsFaultSet}
-use Rattle.tap_defs.specs.NetBits.{Feeding, Undriven, Driven, live_where, feeding, fed, OfNet, is_in_short, shorted_nets, numbered, bits_fed, bits_held, first_combined, short_bit, net_bit, net_bit_by}
-use Rattle.tap_defs.specs.TestRows.{TestRow, quiet_row, first_enabled, observing_driver}
-use Rattle.tap_defs.specs.BoardScans.{is_walked, walk_row}
-use Rattle.tap_defs.specs.RowCaptures.{row_states, row_captured, NoOpenShorted}
-use Rattle.tap_defs.specs.RowDriving.{is_switched_off, cell_bit, entry_feeds, at_feeds, pin_feeds, driver_feeds}
-use Rattle.tap_defs.proofs.ListLemmas.{cons_path}
-use Rattle.tap_defs.proofs.InTestLemmas.{InTest, shifted_row}
-use Rattle.tap_defs.proofs.LiveLemmas.{on_is}
-use Rattle.tap_defs.proofs.WrongLemmas.{Compared, captures}
-use Rattle.tap_defs.proofs.FeedingLemmas.{Observing, observing_at, PinRules, apart, placed, Carries, driven, pulled, carries, dead_at}
-use Rattle.tap_defs.proofs.QuietLemmas.{BoardRules, device_of}
-use Rattle.tap_defs.proofs.NetRuleLemmas.{board_rules}
-use Rattle.tap_defs.proofs.FixedLemmas.{all_decided}
-use Rattle.tap_defs.proofs.ResponseLemmas.{plain_is}
-use Rattle.tap_defs.proofs.OneResponseLemmas.{holding_chain, held_in_test, all_show}
-use Rattle.tap_defs.proofs.DrivingLemmas.{feeding_is}
-use Rattle.tap_defs.proofs.CellPlaceLemmas.{captured_cell, captured_laid, laid as laid_parts, part_laid as laid_part}
+use Rattle.tap_defs.specs.chain.Part.{PinState}
+use Rattle.tap_defs.specs.chain.Chain.{ChainPart, pin_states}
+use Rattle.tap_defs.specs.chain.Run.{Choice}
+use Rattle.tap_defs.specs.chain.Scan.{joined}
+use Rattle.tap_defs.specs.board.FaultSet.{Or, FaultSet, IsFaultSet}
+use Rattle.tap_defs.specs.board.NetBits.{Feeding, Undriven, Driven, live_where, feeding, fed, OfNet, is_in_short, shorted_nets, numbered, bits_fed, bits_held, first_combined, short_bit, net_bit, net_bit_by}
+use Rattle.tap_defs.specs.board.TestRows.{TestRow, quiet_row, first_enabled, observing_driver}
+use Rattle.tap_defs.specs.board.BoardScans.{is_walked, walk_row}
+use Rattle.tap_defs.specs.board.RowCaptures.{row_states, row_captured, NoOpenShorted}
+use Rattle.tap_defs.specs.board.RowDriving.{is_switched_off, cell_bit, entry_feeds, at_feeds, pin_feeds, driver_feeds}
+use Rattle.tap_defs.proofs.chain.ListLemmas.{cons_path}
+use Rattle.tap_defs.proofs.board.InTestLemmas.{InTest, shifted_row}
+use Rattle.tap_defs.proofs.board.LiveLemmas.{on_is}
+use Rattle.tap_defs.proofs.board.WrongLemmas.{Compared, captures}
+use Rattle.tap_defs.proofs.board.FeedingLemmas.{Observing, observing_at, PinRules, apart, placed, Carries, driven, pulled, carries, dead_at}
+use Rattle.tap_defs.proofs.board.QuietLemmas.{BoardRules, device_of}
+use Rattle.tap_defs.proofs.board.NetRuleLemmas.{board_rules}
+use Rattle.tap_defs.proofs.board.FixedLemmas.{all_decided}
+use Rattle.tap_defs.proofs.board.ResponseLemmas.{plain_is}
+use Rattle.tap_defs.proofs.board.OneResponseLemmas.{holding_chain, held_in_test, all_show}
+use Rattle.tap_defs.proofs.board.DrivingLemmas.{feeding_is}
+use Rattle.tap_defs.proofs.board.CellPlaceLemmas.{captured_cell, captured_laid, laid as laid_parts, part_laid as laid_part}
 use Rattle.scan_planner.specs.declared.tables.ReaderCell.{ReaderCell}
 use Rattle.scan_planner.specs.Tables.{first_position, IsReaderCell}
 use Rattle.scan_planner.specs.Laid.{CellBits, part_laid, parts_laid, laid}
@@ -276,11 +276,11 @@ module _ (board : RawBoard) (rules : IsBoard board) (walk : List Ctl) (setting :
         same true x h = h
         same false x h = cc h
 
-        inner : (x : Option ℕ) → Rattle.tap_defs.specs.TestRows.observing_driver_by board w.net x ≡ Some w.driver → x ≡ Some w.driver
+        inner : (x : Option ℕ) → Rattle.tap_defs.specs.board.TestRows.observing_driver_by board w.net x ≡ Some w.driver → x ≡ Some w.driver
         inner None h = cc h
-        inner (Some i) h = same (Rattle.tap_defs.specs.TestRows.reads_beside board i 0 w.net.pins) i h
+        inner (Some i) h = same (Rattle.tap_defs.specs.board.TestRows.reads_beside board i 0 w.net.pins) i h
 
-        go : (g : Bool) → cond g None (Rattle.tap_defs.specs.TestRows.observing_driver_by board w.net (first_enabled board (holds walk) 0 w.net.pins)) ≡ Some w.driver → first_enabled board (holds walk) 0 w.net.pins ≡ Some w.driver
+        go : (g : Bool) → cond g None (Rattle.tap_defs.specs.board.TestRows.observing_driver_by board w.net (first_enabled board (holds walk) 0 w.net.pins)) ≡ Some w.driver → first_enabled board (holds walk) 0 w.net.pins ≡ Some w.driver
         go true h = cc h
         go false h = inner (first_enabled board (holds walk) 0 w.net.pins) h
 

@@ -12,16 +12,16 @@ use Rattle.board_defs.specs.Pins.{data_bits}
 use Rattle.board_defs.specs.Settings.{holds, IsSafe}
 use Rattle.board_defs.proofs.Members.{Has, has_at, contains_has}
 use Rattle.board_defs.proofs.Places.{all_stands}
-use Rattle.tap_defs.specs.FaultSet.{FaultSet, IsFaultSet}
-use Rattle.tap_defs.specs.Run.{Choice}
-use Rattle.tap_defs.specs.Scan.{ScanBit, joined, mask_bits}
-use Rattle.tap_defs.specs.TestRows.{TestRow, quiet_row}
-use Rattle.tap_defs.specs.BoardScans.{RowScan, row_bits, is_walked, walk_row, walk_row_scans, row_now}
-use Rattle.tap_defs.specs.RowCaptures.{row_states, row_captured, AgreeAt, AgreeWhereCompared}
-use Rattle.tap_defs.specs.Explaining.{compared_scans, CompareRows, HasShape, ExplainedBy, IsCapturedBy}
-use Rattle.tap_defs.proofs.CellPlaceLemmas.{agree_at, agree_from, captured_cell}
-use Rattle.tap_defs.proofs.LogLemmas.{rows_counted}
-use Rattle.tap_defs.proofs.PlanLemmas.{observed_by}
+use Rattle.tap_defs.specs.board.FaultSet.{FaultSet, IsFaultSet}
+use Rattle.tap_defs.specs.chain.Run.{Choice}
+use Rattle.tap_defs.specs.chain.Scan.{ScanBit, joined, mask_bits}
+use Rattle.tap_defs.specs.board.TestRows.{TestRow, quiet_row}
+use Rattle.tap_defs.specs.board.BoardScans.{RowScan, row_bits, is_walked, walk_row, walk_row_scans, row_now}
+use Rattle.tap_defs.specs.board.RowCaptures.{row_states, row_captured, AgreeAt, AgreeWhereCompared}
+use Rattle.tap_defs.specs.board.Explaining.{compared_scans, CompareRows, HasShape, ExplainedBy, IsCapturedBy}
+use Rattle.tap_defs.proofs.board.CellPlaceLemmas.{agree_at, agree_from, captured_cell}
+use Rattle.tap_defs.proofs.board.LogLemmas.{rows_counted}
+use Rattle.tap_defs.proofs.board.PlanLemmas.{observed_by}
 use Rattle.scan_planner.specs.declared.tables.DriverCell.{DriverCell}
 use Rattle.scan_planner.specs.declared.tables.ReaderCell.{ReaderCell}
 use Rattle.scan_planner.specs.Tables.{IsDriverCell, IsReaderCell}

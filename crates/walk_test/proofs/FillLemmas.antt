@@ -15,11 +15,11 @@ use Rattle.board_defs.specs.Settings.{holds}
 use Rattle.board_defs.proofs.Members.{Has, has_at, has_place, contains_has, has_contains}
 use Rattle.board_defs.proofs.Places.{any_at}
 use Rattle.tap_defs.specs.declared.scan.Shape.{Shape}
-use Rattle.tap_defs.specs.Scan.{ScanBit, Scan, joined, tdi_bits, tdo_bits, mask_bits, scan_bits}
-use Rattle.tap_defs.specs.TestRows.{TestRow, quiet_row, code_row, code_of_net, code_bit, net_code_bit, observing_driver, observed_count, code_width}
-use Rattle.tap_defs.specs.BoardScans.{RowScan, row_bits, scan_of_row, board_scans, row_scans, pass_scans, row_now, row_before, test_scans, first_row_scan, is_walked, walk_row, walk_row_scans}
-use Rattle.tap_defs.proofs.ScanPlaceLemmas.{scans_placed, front_at, length-pass_scans, pass_scan_at}
-use Rattle.tap_defs.proofs.WidthLemmas.{width_is}
+use Rattle.tap_defs.specs.chain.Scan.{ScanBit, Scan, joined, tdi_bits, tdo_bits, mask_bits, scan_bits}
+use Rattle.tap_defs.specs.board.TestRows.{TestRow, quiet_row, code_row, code_of_net, code_bit, net_code_bit, observing_driver, observed_count, code_width}
+use Rattle.tap_defs.specs.board.BoardScans.{RowScan, row_bits, scan_of_row, board_scans, row_scans, pass_scans, row_now, row_before, test_scans, first_row_scan, is_walked, walk_row, walk_row_scans}
+use Rattle.tap_defs.proofs.board.ScanPlaceLemmas.{scans_placed, front_at, length-pass_scans, pass_scan_at}
+use Rattle.tap_defs.proofs.board.WidthLemmas.{width_is}
 use Rattle.scan_planner.specs.declared.nets.NetDriver.{NetDriver}
 use Rattle.scan_planner.specs.declared.tables.DriverCell.{DriverCell}
 use Rattle.scan_planner.specs.declared.tables.ReaderCell.{ReaderCell}
@@ -384,7 +384,7 @@ module _ (board : RawBoard) (rules : IsBoard board) (t : WalkTables) (w : IsWalk
           (λ i less. by_bit i less (get_or (tdo_of board (walk_row board walk j)) i false) refl)
         where
           long : length (tdo_of board (walk_row board walk j)) ≡ data_bits board
-          long = ap (λ (l : List Bool). length l) (tdo_laid board (record { now = quiet_row; before = walk_row board walk j })) ∙ length-laid (λ part device cell. unwrap_or (Rattle.tap_defs.specs.TestRows.expect_bit board (walk_row board walk j) part device cell) false) board
+          long = ap (λ (l : List Bool). length l) (tdo_laid board (record { now = quiet_row; before = walk_row board walk j })) ∙ length-laid (λ part device cell. unwrap_or (Rattle.tap_defs.specs.board.TestRows.expect_bit board (walk_row board walk j) part device cell) false) board
 
           by_bit : (i : ℕ) → i < length (tdo_of board (walk_row board walk j)) → (b : Bool) → get_or (tdo_of board (walk_row board walk j)) i false ≡ b →
               (get_or (replicate (data_bits board) false) i false ≡ get_or (tdo_of board (walk_row board walk j)) i false) ⊎ ((position : ℕ) × Has c.compared position × (position ≡ i))
@@ -404,7 +404,7 @@ module _ (board : RawBoard) (rules : IsBoard board) (t : WalkTables) (w : IsWalk
           let has : Has c.compared first = has_at c.compared 0 first (slice_get-get_or c.compared 0 0 a.some) in
           let r = reader_in first has in
           let masked : get_or (mask_of board (walk_row board walk j)) first false ≡ true = one_masked (joined (row_bits board (record { now = quiet_row; before = walk_row board walk j }))) first r.0 in
-          let long : length (mask_of board (walk_row board walk j)) ≡ data_bits board = ap (λ (l : List Bool). length l) (mask_laid board (record { now = quiet_row; before = walk_row board walk j })) ∙ length-laid (λ part device cell. is_some (Rattle.tap_defs.specs.TestRows.expect_bit board (walk_row board walk j) part device cell)) board in
+          let long : length (mask_of board (walk_row board walk j)) ≡ data_bits board = ap (λ (l : List Bool). length l) (mask_laid board (record { now = quiet_row; before = walk_row board walk j })) ∙ length-laid (λ part device cell. is_some (Rattle.tap_defs.specs.board.TestRows.expect_bit board (walk_row board walk j) part device cell)) board in
           any_at (λ (bit : Bool). bit) (mask_of board (walk_row board walk j)) first true (slice_get-get_or (mask_of board (walk_row board walk j)) first false (omega (arith, r.1, long)) ∙ ap (λ (b : Bool). Some b) masked) refl
 
     pub mask_row : (j : ℕ) → t.rows.mask.bits ≡ mask_of board (walk_row board walk j)
@@ -414,7 +414,7 @@ module _ (board : RawBoard) (rules : IsBoard board) (t : WalkTables) (w : IsWalk
     length-still = ap (λ (l : List Bool). length l) tables.still ∙ length-tdi board rules walk cells (still_row walk)
 
   pub length-quiet : length t.rows.quiet.bits ≡ data_bits board
-  length-quiet = ap (λ (l : List Bool). length l) (w.quiet ∙ tdi_laid board (record { now = quiet_row; before = quiet_row })) ∙ length-laid (λ part device cell. Rattle.tap_defs.specs.TestRows.row_bit board quiet_row part device cell) board
+  length-quiet = ap (λ (l : List Bool). length l) (w.quiet ∙ tdi_laid board (record { now = quiet_row; before = quiet_row })) ∙ length-laid (λ part device cell. Rattle.tap_defs.specs.board.TestRows.row_bit board quiet_row part device cell) board
 
   -- where the board has a pass, it has a walk setting
   pub setting_there : 0 < length t.plan.passes → (walk : List Ctl) × (walk_setting board ≡ Some walk)
@@ -522,7 +522,7 @@ pub mask_length : (board : RawBoard) (rules : IsBoard board) (t : WalkTables) (w
 mask_length board rules t w some =
     let s = setting_there board rules t w some in
     ap (λ (l : List Bool). length l) ((w.tables s.0 s.1).mask ∙ mask_laid board (record { now = quiet_row; before = still_row s.0 }))
-    ∙ length-laid (λ part device cell. is_some (Rattle.tap_defs.specs.TestRows.expect_bit board (still_row s.0) part device cell)) board
+    ∙ length-laid (λ part device cell. is_some (Rattle.tap_defs.specs.board.TestRows.expect_bit board (still_row s.0) part device cell)) board
 
 pub still_length : (board : RawBoard) (rules : IsBoard board) (t : WalkTables) (w : IsWalkOf board t) → 0 < length t.plan.passes → length t.rows.still.bits ≡ data_bits board
 still_length board rules t w some = let s = setting_there board rules t w some in length-still board rules t w s.0 s.1

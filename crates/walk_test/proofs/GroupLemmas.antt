@@ -9,7 +9,7 @@ use Rattle.board_defs.specs.declared.board.RawBoard.{RawBoard}
 use Rattle.board_defs.proofs.Members.{Has, has_at, has_place, any_has, has_any, has_contains}
 use Rattle.board_defs.proofs.Ordered.{InOrder}
 use Rattle.board_defs.proofs.Places.{all_stands}
-use Rattle.tap_defs.proofs.ListLemmas.{cons_path}
+use Rattle.tap_defs.proofs.chain.ListLemmas.{cons_path}
 use Rattle.walk_test.specs.Groups.{Rise, least_of, AreGroups, group_from, group_of}
 use Rattle.walk_test.specs.Reading.{is_one_group, are_joined}
 

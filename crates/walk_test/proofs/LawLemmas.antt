@@ -10,13 +10,13 @@ use Rattle.board_defs.specs.declared.board.Ctl.{Ctl}
 use Rattle.board_defs.specs.BoardRules.{IsBoard}
 use Rattle.board_defs.specs.Settings.{holds, IsSafe}
 use Rattle.board_defs.proofs.Members.{Has, has_at, has_place, has_contains, contains_has}
-use Rattle.tap_defs.specs.BoardScans.{RowScan, scan_of_row, board_scans, pass_scans, is_walked, walk_row, walk_row_scans, pass_text, walk_text}
-use Rattle.tap_defs.specs.BoardTest.{IsHarmless}
-use Rattle.tap_defs.specs.Explaining.{compared_scans, CompareRows, HasShape, ExplainedBy, AreInTurn, IsCapturedBy}
-use Rattle.tap_defs.specs.FaultSet.{FaultSet}
-use Rattle.tap_defs.specs.TestRows.{quiet_row}
-use Rattle.tap_defs.specs.Text.{svf_text}
-use Rattle.tap_defs.proofs.ScanPlaceLemmas.{length-pass_scans}
+use Rattle.tap_defs.specs.board.BoardScans.{RowScan, scan_of_row, board_scans, pass_scans, is_walked, walk_row, walk_row_scans, pass_text, walk_text}
+use Rattle.tap_defs.specs.board.BoardTest.{IsHarmless}
+use Rattle.tap_defs.specs.board.Explaining.{compared_scans, CompareRows, HasShape, ExplainedBy, AreInTurn, IsCapturedBy}
+use Rattle.tap_defs.specs.board.FaultSet.{FaultSet}
+use Rattle.tap_defs.specs.board.TestRows.{quiet_row}
+use Rattle.tap_defs.specs.chain.Text.{svf_text}
+use Rattle.tap_defs.proofs.board.ScanPlaceLemmas.{length-pass_scans}
 use Rattle.walk_test.specs.WalkTest.{walk_setting, walk_nets, scans_by, walk_row_list, walk_scans, board_walk_text}
 use Rattle.walk_test.specs.Groups.{AreGroups, group_of, or_shorts, Explain}
 use Rattle.walk_test.specs.Reading.{are_joined}

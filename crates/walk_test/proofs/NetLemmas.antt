@@ -12,8 +12,8 @@ use Rattle.board_defs.specs.declared.board.Ctl.{Ctl}
 use Rattle.board_defs.specs.Settings.{holds}
 use Rattle.board_defs.proofs.Members.{has_place, contains_has}
 use Rattle.board_defs.proofs.Ordered.{order_filter, order_range}
-use Rattle.tap_defs.specs.TestRows.{observing_driver}
-use Rattle.tap_defs.specs.BoardScans.{is_walked}
+use Rattle.tap_defs.specs.board.TestRows.{observing_driver}
+use Rattle.tap_defs.specs.board.BoardScans.{is_walked}
 use Rattle.walk_test.specs.WalkTest.{is_walk_net, walk_setting, walk_nets}
 use Rattle.walk_test.proofs.GroupLemmas.{Rises}
 use Rattle.walk_test.proofs.CellLemmas.{WalkedBy}

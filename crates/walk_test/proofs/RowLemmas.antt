@@ -16,9 +16,9 @@ use Rattle.board_defs.specs.BoardRules.{IsBoard}
 use Rattle.board_defs.specs.Pins.{data_bits, entry_at}
 use Rattle.board_defs.specs.Settings.{holds}
 use Rattle.board_defs.proofs.Members.{Has, has_contains, contains_has, flat_map_has, map_has, has_map, has_filter, filter_has, any_has}
-use Rattle.tap_defs.specs.TestRows.{TestRow, quiet_row, code_row, row_bit, expect_bit, observing_driver, reads_beside}
-use Rattle.tap_defs.proofs.WrongLemmas.{Compared, expects}
-use Rattle.tap_defs.proofs.ReadingLemmas.{beside_observing}
+use Rattle.tap_defs.specs.board.TestRows.{TestRow, quiet_row, code_row, row_bit, expect_bit, observing_driver, reads_beside}
+use Rattle.tap_defs.proofs.board.WrongLemmas.{Compared, expects}
+use Rattle.tap_defs.proofs.board.ReadingLemmas.{beside_observing}
 use Rattle.scan_planner.specs.declared.tables.DriverCell.{DriverCell}
 use Rattle.scan_planner.specs.declared.tables.ReaderCell.{ReaderCell}
 use Rattle.scan_planner.specs.declared.tables.PlanTables.{PlanTables}
@@ -199,14 +199,14 @@ module _ (board : RawBoard) (rules : IsBoard board) (walk : List Ctl) (cells : C
           ap (λ (l : List Bool). get_or l d.position false) (tdi_laid board (record { now = mark_row f; before = quiet_row }))
           ∙ ap (λ (i : ℕ). get_or (laid (row_cells board (mark_row f)) board) i false) s.position_is
           ∙ (laid_at (row_cells board (mark_row f)) board s.at.part t.device s.entry.num t.is_device below).1
-          ∙ ap (λ (o : Option Cell). unwrap_or (Rattle.std.specs.Prelude.option_and_then (λ e. Rattle.tap_defs.specs.TestRows.data_pin board (mark_row f) s.at.part e.bit) o) off) (Rattle.scan_planner.proofs.PinLemmas.driving_cell_is t.device t.wired s.at.bit s.entry drives)
-          ∙ ap (λ (o : Option ℕ). unwrap_or (Rattle.tap_defs.specs.TestRows.data_pin board (mark_row f) s.at.part o) off) drives.bit_is
-          ∙ ap (λ (o : Option Rattle.tap_defs.specs.NetBits.Place). unwrap_or (Rattle.tap_defs.specs.TestRows.data_place board (mark_row f) o) off) t.is_place
-          ∙ ap (λ (o : Option ℕ). unwrap_or (Rattle.tap_defs.specs.TestRows.data_observed (Some (f d.net)) d.place o) off) s.observing
-          ∙ ap (λ (b : Bool). unwrap_or (Rattle.tap_defs.specs.TestRows.only_if b (Some (f d.net))) off) (eq-eqb d.place d.place refl)
+          ∙ ap (λ (o : Option Cell). unwrap_or (Rattle.std.specs.Prelude.option_and_then (λ e. Rattle.tap_defs.specs.board.TestRows.data_pin board (mark_row f) s.at.part e.bit) o) off) (Rattle.scan_planner.proofs.PinLemmas.driving_cell_is t.device t.wired s.at.bit s.entry drives)
+          ∙ ap (λ (o : Option ℕ). unwrap_or (Rattle.tap_defs.specs.board.TestRows.data_pin board (mark_row f) s.at.part o) off) drives.bit_is
+          ∙ ap (λ (o : Option Rattle.tap_defs.specs.board.NetBits.Place). unwrap_or (Rattle.tap_defs.specs.board.TestRows.data_place board (mark_row f) o) off) t.is_place
+          ∙ ap (λ (o : Option ℕ). unwrap_or (Rattle.tap_defs.specs.board.TestRows.data_observed (Some (f d.net)) d.place o) off) s.observing
+          ∙ ap (λ (b : Bool). unwrap_or (Rattle.tap_defs.specs.board.TestRows.only_if b (Some (f d.net))) off) (eq-eqb d.place d.place refl)
         where
           off : Bool
-          off = Rattle.tap_defs.specs.TestRows.steady_bit board (holds walk) s.at.part (standing board rules d.net s.net d.place s.pin s.at s.is_net s.is_pin s.is_at).device s.entry.num
+          off = Rattle.tap_defs.specs.board.TestRows.steady_bit board (holds walk) s.at.part (standing board rules d.net s.net d.place s.pin s.at s.is_net s.is_pin s.is_at).device s.entry.num
 
   -- one net's cell set over the row in which none carries 1
   pub marked_row : (f : ℕ → Bool) (d : DriverCell) → IsDriverCell board walk d → f d.net ≡ true → ((n : ℕ) → WalkedBy board walk n → f n ≡ true → n ≡ d.net) → set (tdi_of board (still_row walk)) d.position true ≡ tdi_of board (mark_row f)

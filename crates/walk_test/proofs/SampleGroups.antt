@@ -16,14 +16,14 @@ use Rattle.board_defs.specs.Pins.{data_bits}
 use Rattle.board_defs.proofs.BoardChecks.{board_of}
 use Rattle.board_defs.proofs.Members.{Has}
 use Rattle.board_defs.proofs.Ordered.{order_pairs}
-use Rattle.tap_defs.specs.Run.{Choice}
-use Rattle.tap_defs.specs.TestRows.{quiet_row}
-use Rattle.tap_defs.specs.BoardScans.{scan_of_row}
-use Rattle.tap_defs.specs.RowCaptures.{row_captured, CapturesPass}
-use Rattle.tap_defs.specs.Explaining.{scans_by_log}
-use Rattle.tap_defs.proofs.CaptureLemmas.{log_captured}
-use Rattle.tap_defs.proofs.SampleTexts.{on, off}
-use Rattle.tap_defs.proofs.SampleBoards.{drv, rcv, pin, net, three_wires}
+use Rattle.tap_defs.specs.chain.Run.{Choice}
+use Rattle.tap_defs.specs.board.TestRows.{quiet_row}
+use Rattle.tap_defs.specs.board.BoardScans.{scan_of_row}
+use Rattle.tap_defs.specs.board.RowCaptures.{row_captured, CapturesPass}
+use Rattle.tap_defs.specs.board.Explaining.{scans_by_log}
+use Rattle.tap_defs.proofs.board.CaptureLemmas.{log_captured}
+use Rattle.tap_defs.proofs.chain.SampleTexts.{on, off}
+use Rattle.tap_defs.proofs.board.SampleBoards.{drv, rcv, pin, net, three_wires}
 use Rattle.walk_test.specs.WalkTest.{walk_nets, walk_row_list}
 use Rattle.walk_test.specs.Groups.{Rise, AreGroups, or_shorts, Explain}
 use Rattle.walk_test.specs.GroupText.{groups_text}

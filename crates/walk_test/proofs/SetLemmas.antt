@@ -16,10 +16,10 @@ use Rattle.board_defs.specs.Pins.{data_bits}
 use Rattle.board_defs.specs.Settings.{holds, IsSafe}
 use Rattle.board_defs.proofs.Members.{Has, has_at, has_place, has_contains, contains_has}
 use Rattle.board_defs.proofs.Ordered.{order_pairs}
-use Rattle.tap_defs.specs.BoardScans.{RowScan, board_scans, is_walked, walk_row, walk_row_scans}
-use Rattle.tap_defs.specs.Explaining.{is_compared, compared_scans, CompareRows, HasShape, ExplainedBy, AreInTurn, IsCapturedBy}
-use Rattle.tap_defs.specs.FaultSet.{FaultSet}
-use Rattle.tap_defs.proofs.LogLemmas.{rows_counted}
+use Rattle.tap_defs.specs.board.BoardScans.{RowScan, board_scans, is_walked, walk_row, walk_row_scans}
+use Rattle.tap_defs.specs.board.Explaining.{is_compared, compared_scans, CompareRows, HasShape, ExplainedBy, AreInTurn, IsCapturedBy}
+use Rattle.tap_defs.specs.board.FaultSet.{FaultSet}
+use Rattle.tap_defs.proofs.board.LogLemmas.{rows_counted}
 use Rattle.scan_planner.specs.declared.tables.DriverCell.{DriverCell}
 use Rattle.scan_planner.specs.declared.tables.ReaderCell.{ReaderCell}
 use Rattle.scan_planner.specs.Building.{readers_of as readers_in_order}

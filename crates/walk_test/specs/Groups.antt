@@ -2,8 +2,8 @@
 use Rattle.std.specs.Prelude.{ℕ, suc, ◌<◌, ◌≤◌, ◌==◌, Bool, cond, List, [], ◌∷◌, length, Option, Some, None, slice_index_or, All, AllPairs, Contains, MatchOption}
 use Rattle.std.specs.List.{list_any}
 use Rattle.board_defs.specs.declared.board.RawBoard.{RawBoard}
-use Rattle.tap_defs.specs.FaultSet.{Or, FaultSet, no_faults}
-use Rattle.tap_defs.specs.Explaining.{ExplainedBy}
+use Rattle.tap_defs.specs.board.FaultSet.{Or, FaultSet, no_faults}
+use Rattle.tap_defs.specs.board.Explaining.{ExplainedBy}
 use Rattle.walk_test.specs.WalkTest.{walk_nets, walk_row_list}
 
 -- the numbers rise

@@ -4,9 +4,9 @@ use Rattle.board_defs.specs.declared.board.RawBoard.{RawBoard}
 use Rattle.board_defs.specs.declared.board.Ctl.{Ctl}
 use Rattle.board_defs.specs.BoardRules.{IsBoard}
 use Rattle.board_defs.specs.Settings.{IsSafe, holds}
-use Rattle.tap_defs.specs.BoardTest.{IsHarmless}
-use Rattle.tap_defs.specs.Explaining.{AgreeOn}
-use Rattle.tap_defs.specs.FaultSet.{IsFaultSet}
+use Rattle.tap_defs.specs.board.BoardTest.{IsHarmless}
+use Rattle.tap_defs.specs.board.Explaining.{AgreeOn}
+use Rattle.tap_defs.specs.board.FaultSet.{IsFaultSet}
 use Rattle.walk_test.specs.declared.tables.WalkTables.{WalkTables}
 use Rattle.walk_test.specs.WalkTest.{walk_setting, walk_row_list, walk_scans, board_walk_text}
 use Rattle.walk_test.specs.Groups.{AreGroups, or_shorts, Explain}

@@ -2,7 +2,7 @@
 use Rattle.std.specs.Prelude.{◌≡◌, ℕ, suc, ◌<◌, ◌==◌, nat_le, Bool, true, false, cond, ◌||◌, List, [], ◌∷◌, length, Option, Some, None, slice_get, slice_index_or}
 use Rattle.std.specs.List.{list_all, flat_map, range_with_len}
 use Rattle.board_defs.specs.Pins.{is_same}
-use Rattle.tap_defs.specs.NetBits.{is_in_short}
+use Rattle.tap_defs.specs.board.NetBits.{is_in_short}
 use Rattle.walk_test.specs.declared.tables.NetCells.{NetCells}
 use Rattle.walk_test.specs.Groups.{group_of}
 

@@ -3,7 +3,7 @@ use Rattle.std.specs.Prelude.{◌≡◌, ℕ, ◌<◌, ◌≤◌, Bool, true, fa
 use Rattle.std.specs.List.{list_any}
 use Rattle.board_defs.specs.declared.board.RawBoard.{RawBoard}
 use Rattle.tap_defs.specs.declared.scan.Shape.{Shape}
-use Rattle.tap_defs.specs.Scan.{scan_bits}
+use Rattle.tap_defs.specs.chain.Scan.{scan_bits}
 use Rattle.walk_test.specs.WalkTest.{walk_scans}
 
 -- the rows are scan k of the walking test, in the form in which it is written: they have one length, from 1 to 65,535; something is

@@ -6,9 +6,9 @@ use Rattle.board_defs.specs.declared.board.Net.{Net}
 use Rattle.board_defs.specs.declared.board.RawBoard.{RawBoard}
 use Rattle.board_defs.specs.declared.board.Ctl.{Ctl}
 use Rattle.board_defs.specs.Settings.{holds}
-use Rattle.tap_defs.specs.Scan.{joined, tdi_bits, tdo_bits, mask_bits}
-use Rattle.tap_defs.specs.TestRows.{TestRow, quiet_row, code_row}
-use Rattle.tap_defs.specs.BoardScans.{row_bits, walk_row, row_now, row_before}
+use Rattle.tap_defs.specs.chain.Scan.{joined, tdi_bits, tdo_bits, mask_bits}
+use Rattle.tap_defs.specs.board.TestRows.{TestRow, quiet_row, code_row}
+use Rattle.tap_defs.specs.board.BoardScans.{row_bits, walk_row, row_now, row_before}
 use Rattle.scan_planner.specs.declared.nets.NetDriver.{NetDriver}
 use Rattle.scan_planner.specs.declared.tables.DriverCell.{DriverCell}
 use Rattle.scan_planner.specs.declared.tables.ReaderCell.{ReaderCell}

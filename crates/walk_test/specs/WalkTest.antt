@@ -8,9 +8,9 @@ use Rattle.board_defs.specs.declared.board.Ctl.{Ctl}
 use Rattle.board_defs.specs.Pins.{drive, switches}
 use Rattle.board_defs.specs.Decided.{is_by}
 use Rattle.board_defs.specs.Passes.{passes_of}
-use Rattle.tap_defs.specs.BoardScans.{RowScan, board_scans, is_walked, walk_row_scans}
-use Rattle.tap_defs.specs.Scan.{Scan}
-use Rattle.tap_defs.specs.Text.{svf_text}
+use Rattle.tap_defs.specs.board.BoardScans.{RowScan, board_scans, is_walked, walk_row_scans}
+use Rattle.tap_defs.specs.chain.Scan.{Scan}
+use Rattle.tap_defs.specs.chain.Text.{svf_text}
 
 -- the pin is a switching driver of the net, and this is its control
 abbrev pub is_switched_by : RawBoard → Ctl → Net → NetPin → Bool

@@ -14,7 +14,7 @@ use crate::walk::Walk;
 use board_defs::Board;
 use response_log::Log;
 use std::alloc::{AllocError, Global};
-use tap_defs::log_law::{logs_by_rows, rows_compared, scans_in_turn};
+use tap_defs::board_law::{logs_by_rows, rows_compared, scans_in_turn};
 
 // The nets with a label, in order.
 fn members(alloc: Global, nets: &[u32], labels: &[u32], label: u32) -> Result<Vec<u32>, AllocError>

@@ -1,5 +1,5 @@
-use Rattle.tap_defs.specs.BoardScans.{svf_row_scans}
-use Rattle.tap_defs.specs.Explaining.{set_of}
+use Rattle.tap_defs.specs.board.BoardScans.{svf_row_scans}
+use Rattle.tap_defs.specs.board.Explaining.{set_of}
 use Rattle.btest_cli.proofs.board_test.singles_respond.Goals as goal
 
 pub returns : goal.returns

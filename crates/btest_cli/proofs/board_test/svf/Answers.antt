@@ -1,6 +1,6 @@
 use Rattle.std.proofs.Common.{◌∙◌, ap, map, subst}
 use Rattle.bt_base.specs.Puts.{Puts}
-use Rattle.tap_defs.specs.BoardScans.{board_text}
+use Rattle.tap_defs.specs.board.BoardScans.{board_text}
 use Rattle.btest_core.specs.BoardRead.{IsBoardRead}
 use Rattle.command_line.specs.Words.{Text}
 use Rattle.btest_cli.specs.Worth.{TestsBoard}

@@ -1,5 +1,5 @@
-use Rattle.tap_defs.specs.BoardScans.{board_scans}
-use Rattle.tap_defs.proofs.BoardTestLemmas.{scans_sized}
+use Rattle.tap_defs.specs.board.BoardScans.{board_scans}
+use Rattle.tap_defs.proofs.board.BoardTestLemmas.{scans_sized}
 use Rattle.btest_cli.proofs.board_test.test_means.Goals as goal
 
 pub returns : goal.returns

@@ -1,8 +1,8 @@
 use Rattle.std.proofs.Common.{sym, subst}
 use Rattle.scan_planner.specs.Plans.{IsRoom}
 use Rattle.bt_base.proofs.Cuts.{puts_err}
-use Rattle.tap_defs.specs.Text.{svf_text, head_text, tail_text}
-use Rattle.tap_defs.specs.BoardScans.{test_scans}
+use Rattle.tap_defs.specs.chain.Text.{svf_text, head_text, tail_text}
+use Rattle.tap_defs.specs.board.BoardScans.{test_scans}
 use Rattle.btest_cli.proofs.TestLemmas.{below_count, past_count, puts_scan, cut_scan, puts_tail}
 use Rattle.btest_cli.proofs.board_test.write_test.Goals as goal
 

@@ -1,8 +1,8 @@
 use Rattle.std.proofs.Common.{Ok, take, ◌++◌}
 use Rattle.bt_base.specs.Puts.{Puts}
 use Rattle.bt_base.specs.declared.sink.PutFault.{PutFault}
-use Rattle.tap_defs.specs.Text.{head_text, scan_texts}
-use Rattle.tap_defs.specs.BoardScans.{test_scans}
+use Rattle.tap_defs.specs.chain.Text.{head_text, scan_texts}
+use Rattle.tap_defs.specs.board.BoardScans.{test_scans}
 use Rattle.scan_planner.specs.Plans.{IsRoom}
 use Rattle.btest_cli.proofs.board_test.write_test.Given as goal
 

@@ -1,7 +1,7 @@
 use Rattle.std.proofs.Common.{sym, subst, ◌∙◌}
 use Rattle.scan_planner.specs.Plans.{IsRoom}
 use Rattle.bt_base.proofs.Cuts.{puts_err}
-use Rattle.tap_defs.specs.Text.{svf_text, head_text, tail_text}
+use Rattle.tap_defs.specs.chain.Text.{svf_text, head_text, tail_text}
 use Rattle.walk_test.specs.WalkTest.{walk_scans}
 use Rattle.btest_cli.proofs.TestLemmas.{below, past, puts_scan, cut_scan, puts_tail}
 use Rattle.btest_cli.proofs.board_walk.write_walk.Goals as goal

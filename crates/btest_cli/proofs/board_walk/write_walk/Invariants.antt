@@ -1,7 +1,7 @@
 use Rattle.std.proofs.Common.{Ok, take, ◌++◌}
 use Rattle.bt_base.specs.Puts.{Puts}
 use Rattle.bt_base.specs.declared.sink.PutFault.{PutFault}
-use Rattle.tap_defs.specs.Text.{head_text, scan_texts}
+use Rattle.tap_defs.specs.chain.Text.{head_text, scan_texts}
 use Rattle.walk_test.specs.WalkTest.{walk_scans}
 use Rattle.scan_planner.specs.Plans.{IsRoom}
 use Rattle.btest_cli.proofs.board_walk.write_walk.Given as goal

@@ -1,7 +1,7 @@
 use Rattle.std.proofs.Common.{ℕ, List, map, subst}
 use Rattle.bt_base.specs.Puts.{Puts}
-use Rattle.tap_defs.specs.ChainScans.{chain_text}
-use Rattle.tap_defs.specs.ChainTest.{IsChainTest}
+use Rattle.tap_defs.specs.chain.ChainScans.{chain_text}
+use Rattle.tap_defs.specs.chain.ChainTest.{IsChainTest}
 use Rattle.btest_core.specs.BoardRead.{AreChainLengths}
 use Rattle.btest_cli.specs.Worth.{TestsChain}
 use Rattle.btest_cli.proofs.AnswerLemmas.{answers_fault, takes_by, cut_by}

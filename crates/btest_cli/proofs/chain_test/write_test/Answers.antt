@@ -1,5 +1,5 @@
 use Rattle.bt_base.proofs.Cuts.{puts_ok, puts_err}
-use Rattle.tap_defs.specs.Text.{svf_text}
+use Rattle.tap_defs.specs.chain.Text.{svf_text}
 use Rattle.btest_cli.proofs.chain_test.write_test.Goals as goal
 
 pub returns-in_err-write_head : goal.returns-in_err-write_head

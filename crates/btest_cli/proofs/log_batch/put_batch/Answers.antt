@@ -1,7 +1,7 @@
 use Rattle.std.proofs.Common.{◌≡◌, ◌∙◌, ℕ, List, ap, refl, subst}
 use Rattle.std.specs.Prelude.{Ok}
 use Rattle.bt_base.specs.Puts.{Puts}
-use Rattle.tap_defs.specs.BoardScans.{svf_row_scans}
+use Rattle.tap_defs.specs.board.BoardScans.{svf_row_scans}
 use Rattle.batch_diag.specs.declared.block.Block.{Block}
 use Rattle.batch_diag.specs.declared.verdict.Verdict.{Verdict}
 use Rattle.batch_diag.specs.Batch.{Fails, batch_of}

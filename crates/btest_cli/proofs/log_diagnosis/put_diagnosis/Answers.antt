@@ -3,7 +3,7 @@ use Rattle.std.specs.Prelude.{Ok}
 use Rattle.bt_base.specs.Puts.{Puts}
 use Rattle.board_defs.specs.declared.fault.Single.{Single}
 use Rattle.response_log.specs.LogRows.{Fails, log_rows}
-use Rattle.tap_defs.specs.BoardScans.{svf_row_scans}
+use Rattle.tap_defs.specs.board.BoardScans.{svf_row_scans}
 use Rattle.diagnoser.specs.DiagText.{diag_text}
 use Rattle.btest_cli.specs.LogRead.{IsJudged, Log, OnBoard, diagnosing, diagnosis_text, test_log, test_rows}
 use Rattle.btest_cli.specs.Worth.{Diagnoses}

@@ -1,6 +1,6 @@
 use Rattle.std.proofs.Common.{◌≡◌, ◌+◌, ◌<◌, ℕ, true}
 use Rattle.std.specs.List.{list_all}
-use Rattle.tap_defs.specs.TestRows.{code_bit}
+use Rattle.tap_defs.specs.board.TestRows.{code_bit}
 use Rattle.fault_sim.specs.Fits.{cell_shows}
 use Rattle.fault_sim.proofs.fits.rows_show.Given as goal
 

@@ -1,5 +1,5 @@
 use Rattle.board_defs.specs.Passes.{passes_of}
-use Rattle.tap_defs.specs.TestRows.{code_width, observed_count}
+use Rattle.tap_defs.specs.board.TestRows.{code_width, observed_count}
 use Rattle.fault_sim.proofs.MatchLemmas.{decides_as, expected_is}
 use Rattle.fault_sim.proofs.matching.is_pass.Goals as goal
 

@@ -1,6 +1,6 @@
 use Rattle.std.proofs.Common.{arith}
 use Rattle.board_defs.specs.Passes.{passes_of}
-use Rattle.tap_defs.specs.TestRows.{code_width, observed_count}
+use Rattle.tap_defs.specs.board.TestRows.{code_width, observed_count}
 use Rattle.fault_sim.proofs.MatchLemmas.{decides_as, explains_is, nets_there}
 use Rattle.fault_sim.proofs.matching.matches.Goals as goal
 

@@ -1,5 +1,5 @@
 use Rattle.std.proofs.Common.{◌≡◌, ◌-◌, ◌++◌, false, drop, length, replicate}
-use Rattle.tap_defs.specs.Scan.{tdo_bits, mask_bits}
+use Rattle.tap_defs.specs.chain.Scan.{tdo_bits, mask_bits}
 use Rattle.ident_test.specs.Patterns.{ident_bits}
 use Rattle.ident_test.proofs.ident.set_registers.Given as goal
 

@@ -1,6 +1,6 @@
 use Rattle.std.proofs.Common.{◌++◌}
 use Rattle.bt_base.proofs.Cuts.{puts_ok, puts_err}
-use Rattle.tap_defs.specs.Text.{scan_text, tail_text}
+use Rattle.tap_defs.specs.chain.Text.{scan_text, tail_text}
 use Rattle.svf_writer.proofs.FieldLemmas.{puts_same}
 use Rattle.ident_test.specs.Patterns.{ident_scan}
 use Rattle.ident_test.proofs.RowLemmas.{text_is}

@@ -3,7 +3,7 @@ use Rattle.std.proofs.lemmas.List.{length-map}
 use Rattle.board_defs.specs.declared.board.Ctl.{Ctl}
 use Rattle.board_defs.specs.declared.board.Net.{Net}
 use Rattle.board_defs.proofs.Members.{has_contains}
-use Rattle.tap_defs.specs.ShiftRegister.{filled}
+use Rattle.tap_defs.specs.chain.ShiftRegister.{filled}
 use Rattle.scan_planner.specs.declared.tables.DriverCell.{DriverCell}
 use Rattle.scan_planner.specs.declared.tables.PassCells.{PassCells}
 use Rattle.scan_planner.specs.declared.tables.ReaderCell.{ReaderCell}

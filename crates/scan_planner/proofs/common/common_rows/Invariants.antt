@@ -1,5 +1,5 @@
 use Rattle.std.proofs.Common.{◌≡◌}
-use Rattle.tap_defs.specs.ShiftRegister.{filled}
+use Rattle.tap_defs.specs.chain.ShiftRegister.{filled}
 use Rattle.scan_planner.specs.Tables.{common_rows}
 use Rattle.scan_planner.proofs.common.common_rows.Given as goal
 

@@ -1,7 +1,7 @@
 use Rattle.std.proofs.Common.{◌≡◌, ℕ, Bool, List, false, ap, sym, ◌∙◌, replicate, refl, arith}
 use Rattle.std.specs.List.{list_any}
-use Rattle.tap_defs.specs.BoardScans.{row_bits}
-use Rattle.tap_defs.specs.Scan.{joined, tdo_bits, mask_bits}
+use Rattle.tap_defs.specs.board.BoardScans.{row_bits}
+use Rattle.tap_defs.specs.chain.Scan.{joined, tdo_bits, mask_bits}
 use Rattle.scan_planner.specs.Plans.{scan_of_pass}
 use Rattle.scan_planner.proofs.FillLemmas.{quiet_tdo, quiet_mask}
 use Rattle.scan_planner.proofs.RowLemmas.{none_of_zeros}

@@ -3,7 +3,7 @@ use Rattle.std.proofs.lemmas.Bool.{lt-ltb}
 use Rattle.scan_planner.specs.declared.tables.FixedRows.{FixedRows}
 use Rattle.scan_planner.specs.declared.tables.HeldCell.{HeldCell}
 use Rattle.scan_planner.specs.declared.tables.DriverCell.{DriverCell}
-use Rattle.tap_defs.specs.TestRows.{quiet_row, code_row}
+use Rattle.tap_defs.specs.board.TestRows.{quiet_row, code_row}
 use Rattle.scan_planner.specs.Assigned.{assigned, driver_bit}
 use Rattle.scan_planner.specs.Plans.{scan_of_pass}
 use Rattle.scan_planner.proofs.AssignLemmas.{length-assigned}

@@ -1,8 +1,8 @@
 use Rattle.std.proofs.Common.{◌∙◌, map, arith}
-use Rattle.tap_defs.specs.Scan.{Scan}
-use Rattle.tap_defs.specs.Codes.{instructs}
-use Rattle.tap_defs.specs.BoardScans.{extest_code}
-use Rattle.tap_defs.proofs.ScanPlaceLemmas.{scans_placed}
+use Rattle.tap_defs.specs.chain.Scan.{Scan}
+use Rattle.tap_defs.specs.chain.Codes.{instructs}
+use Rattle.tap_defs.specs.board.BoardScans.{extest_code}
+use Rattle.tap_defs.proofs.board.ScanPlaceLemmas.{scans_placed}
 use Rattle.scan_planner.proofs.FillLemmas.{fills, extest_sized, tdi_length}
 use Rattle.scan_planner.proofs.fill.fill_extest.Goals as goal
 

@@ -1,6 +1,6 @@
 use Rattle.std.proofs.Common.{Bool, [], ap, ◌∙◌, cond, get_or, arith}
 use Rattle.std.proofs.lemmas.Bool.{le-ltb}
-use Rattle.tap_defs.specs.TestRows.{quiet_row, code_row}
+use Rattle.tap_defs.specs.board.TestRows.{quiet_row, code_row}
 use Rattle.scan_planner.specs.Plans.{scan_of_pass}
 use Rattle.scan_planner.proofs.FillLemmas.{quiet_length, quiet_is}
 use Rattle.scan_planner.proofs.fill.fill_now.Goals as goal

@@ -1,8 +1,8 @@
 use Rattle.std.proofs.Common.{◌+◌, ◌*◌, suc, [], get_or, refl}
 use Rattle.std.proofs.lemmas.Option.{slice_get-get_or}
-use Rattle.tap_defs.specs.Scan.{Scan}
-use Rattle.tap_defs.specs.BoardScans.{scan_of_row}
-use Rattle.tap_defs.proofs.ScanPlaceLemmas.{scans_placed}
+use Rattle.tap_defs.specs.chain.Scan.{Scan}
+use Rattle.tap_defs.specs.board.BoardScans.{scan_of_row}
+use Rattle.tap_defs.proofs.board.ScanPlaceLemmas.{scans_placed}
 use Rattle.scan_planner.specs.Plans.{scan_of_pass}
 use Rattle.scan_planner.proofs.FillLemmas.{fills, row_sized}
 use Rattle.scan_planner.proofs.fill.fill_pass.Goals as goal

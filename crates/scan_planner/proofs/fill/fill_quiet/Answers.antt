@@ -1,8 +1,8 @@
 use Rattle.std.proofs.Common.{Bool, List, ap, sym, ◌∙◌, false, refl, replicate, arith}
 use Rattle.std.specs.List.{list_any}
-use Rattle.tap_defs.specs.Scan.{Scan}
-use Rattle.tap_defs.specs.BoardScans.{scan_of_row, first_row_scan}
-use Rattle.tap_defs.proofs.ScanPlaceLemmas.{scans_placed}
+use Rattle.tap_defs.specs.chain.Scan.{Scan}
+use Rattle.tap_defs.specs.board.BoardScans.{scan_of_row, first_row_scan}
+use Rattle.tap_defs.proofs.board.ScanPlaceLemmas.{scans_placed}
 use Rattle.scan_planner.proofs.FillLemmas.{fills, row_sized, quiet_length, quiet_tdo, quiet_mask}
 use Rattle.scan_planner.proofs.RowLemmas.{none_of_zeros}
 use Rattle.scan_planner.proofs.fill.fill_quiet.Goals as goal

@@ -1,5 +1,5 @@
 use Rattle.std.proofs.Common.{◌≡◌, drop}
-use Rattle.tap_defs.specs.Scan.{joined}
+use Rattle.tap_defs.specs.chain.Scan.{joined}
 use Rattle.scan_planner.specs.Laid.{parts_laid, quiet_bits}
 use Rattle.scan_planner.proofs.quiet.row_of.Given as goal
 

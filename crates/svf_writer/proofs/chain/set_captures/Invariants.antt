@@ -1,5 +1,5 @@
 use Rattle.std.proofs.Common.{◌≡◌, ◌-◌, ◌++◌, false, drop, length, replicate, sum}
-use Rattle.tap_defs.specs.Scan.{tdo_bits, mask_bits}
+use Rattle.tap_defs.specs.chain.Scan.{tdo_bits, mask_bits}
 use Rattle.svf_writer.specs.Chain.{bypass_bits}
 use Rattle.svf_writer.proofs.chain.set_captures.Given as goal
 

@@ -1,6 +1,6 @@
 use Rattle.std.proofs.Common.{length, arith}
 use Rattle.bt_base.proofs.Cuts.{puts_ok, puts_err}
-use Rattle.tap_defs.specs.Text.{scan_text}
+use Rattle.tap_defs.specs.chain.Text.{scan_text}
 use Rattle.svf_writer.proofs.FieldLemmas.{puts_same}
 use Rattle.svf_writer.proofs.ChainLemmas.{mark_scan, scan_texts-chain, sum_at_most}
 use Rattle.svf_writer.proofs.chain.write_chain.Goals as goal

@@ -2,7 +2,7 @@ use Rattle.std.proofs.Common.{◌≡◌, ◌+◌, ◌<◌, ◌++◌, length, dro
 use Rattle.bt_base.proofs.Cuts.{puts_ok, puts_err}
 use Rattle.bt_bits.specs.Hex.{hex_text}
 use Rattle.bt_bits.proofs.HexLemmas.{length-hex_text}
-use Rattle.tap_defs.specs.Text.{broken}
+use Rattle.tap_defs.specs.chain.Text.{broken}
 use Rattle.svf_writer.proofs.FieldLemmas.{line_more, line_last, puts_same}
 use Rattle.svf_writer.proofs.scan.put_field.Goals as goal
 

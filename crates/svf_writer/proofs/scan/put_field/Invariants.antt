@@ -2,7 +2,7 @@ use Rattle.std.proofs.Common.{◌-◌, ◌≤◌, ◌++◌, length, drop, Result
 use Rattle.bt_base.specs.Puts.{Puts, Shown}
 use Rattle.bt_base.specs.declared.sink.PutFault.{PutFault}
 use Rattle.bt_bits.specs.Hex.{hex_text}
-use Rattle.tap_defs.specs.Text.{broken}
+use Rattle.tap_defs.specs.chain.Text.{broken}
 use Rattle.svf_writer.proofs.scan.put_field.Given as goal
 
 -- what is still to be put completes the whole

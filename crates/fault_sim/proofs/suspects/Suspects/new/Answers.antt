@@ -1,8 +1,8 @@
 use Rattle.std.proofs.Common.{ℕ, Bool, List, sym, ap, ◌∙◌, subst}
 use Rattle.board_defs.specs.declared.board.Ctl.{Ctl}
 use Rattle.board_defs.specs.Passes.{ArePasses, passes_of}
-use Rattle.tap_defs.specs.Explaining.{set_of}
-use Rattle.tap_defs.specs.TestRows.{code_width, observed_count}
+use Rattle.tap_defs.specs.board.Explaining.{set_of}
+use Rattle.tap_defs.specs.board.TestRows.{code_width, observed_count}
 use Rattle.fault_sim.specs.declared.universe.FaultLists.{FaultLists}
 use Rattle.fault_sim.specs.Suspects.{flagged_nets, CanSuspect, suspects_of, AreSuspects}
 use Rattle.fault_sim.proofs.ExplainLemmas.{can_be, all_suspects}

@@ -1,0 +1,205 @@
+-- Which cells must keep their safe values, and wrong tests that break each part of quiet conduct.
+use Rattle.std.proofs.Common.{◌≡◌, ℕ, zero, suc, ◌==◌, Bool, true, false, not, List, [], ◌∷◌, ◌++◌, map, take, drop, Option, Some, None, refl, inl, inr, arith}
+use Rattle.std.specs.Prelude.{codes, cond}
+use Rattle.std.specs.List.{list_any, enumerate_from}
+use Rattle.board_defs.specs.declared.device.Symbol.{Symbol}
+use Rattle.board_defs.specs.declared.device.Symbol.TheVariants.{Zero, One, Any}
+use Rattle.board_defs.specs.declared.device.Mode.TheVariants.{Inward, Outward}
+use Rattle.board_defs.specs.declared.device.Role.{Role}
+use Rattle.board_defs.specs.declared.device.Role.TheVariants.{Input, Output2, Output3, Control as ControlRole, Internal}
+use Rattle.board_defs.specs.declared.device.Control.{Control}
+use Rattle.board_defs.specs.declared.device.Cell.{Cell}
+use Rattle.board_defs.specs.declared.device.RawDevice.{RawDevice}
+use Rattle.board_defs.specs.declared.board.PartKind.TheVariants.{Described}
+use Rattle.board_defs.specs.declared.board.RawBoard.{RawBoard}
+use Rattle.board_defs.specs.Settings.{SwitchesAt}
+use Rattle.tap_defs.specs.chain.TestLogic.{Instruction, Extest, Sample}
+use Rattle.tap_defs.specs.chain.Part.{PinState}
+use Rattle.tap_defs.specs.chain.Chain.{ChainPart, pin_states}
+use Rattle.tap_defs.specs.chain.Run.{Clock, choices_after, run, shown}
+use Rattle.tap_defs.specs.chain.Codes.{sent, instructs}
+use Rattle.tap_defs.specs.chain.Clocks.{test_clocks}
+use Rattle.tap_defs.specs.board.FaultSet.{no_faults}
+use Rattle.tap_defs.specs.board.OnBoard.{test_logic, board_wiring, IsBoardChain}
+use Rattle.tap_defs.specs.board.BoardScans.{svf_scans}
+use Rattle.tap_defs.specs.board.Quiet.{controls_driver, drives_unguarded, safe_bit, latched_setting, IsSafelySet, KeepsSafeValues, IsQuiet}
+use Rattle.tap_defs.proofs.chain.SampleTexts.{on, off, sdr}
+use Rattle.tap_defs.proofs.board.SampleBoards.{port_bit, one_bit, entry, by, device, ts, od, rcv1, pin, foreign, net, board}
+use Rattle.tap_defs.proofs.board.SampleQuiet.{moment_at, no_set, resting, choices}
+
+-- an entry with this safe value
+abbrev kept : ℕ → Role → Option ℕ → Symbol → Option Control → Cell
+kept num role bit safe ctl = record { num = num; role = role; bit = bit; safe = safe; ctl = ctl }
+
+-- cell 0 drives pin 1, and cell 4 pin 2 with the control cell 5; cells 1 and 2 are internal; cell 3 is a control cell of nothing;
+-- cell 6 reads pin 3; cell 7 would drive a port that has no pin, with the control cell 8; and cells 9 and 10 drive the pins 4 and 5
+abbrev pub keeper : RawDevice
+keeper = device
+    (port_bit 4 None Outward (codes "1") false ∷ port_bit 5 None Outward (codes "2") false ∷ port_bit 6 None Inward (codes "3") false
+    ∷ record (port_bit 7 None Outward [] false) { pin = None } ∷ port_bit 8 None Outward (codes "4") false ∷ port_bit 9 None Outward (codes "5") false ∷ [])
+    (kept 0 Output2 (Some 4) One None ∷ kept 1 Internal None One None ∷ kept 2 Internal None Zero None ∷ kept 3 ControlRole None One None
+    ∷ kept 4 Output3 (Some 5) One (by 5) ∷ kept 5 ControlRole None One None ∷ kept 6 Input (Some 6) One None ∷ kept 7 Output3 (Some 7) Any (by 8)
+    ∷ kept 8 ControlRole None One None ∷ kept 9 Output2 (Some 8) One None ∷ kept 10 Output2 (Some 9) One None ∷ []) 11
+
+-- the pins 1 and 2 are on nets that are not guarded, pin 4 is on a dark one, and pin 5 is on none
+abbrev pub keeping : RawBoard
+keeping = board (Described keeper ∷ []) (net (pin 0 0 ∷ []) ∷ net (pin 0 1 ∷ pin 0 2 ∷ []) ∷ net (pin 0 4 ∷ foreign ∷ []) ∷ [])
+
+abbrev pub cells : List ℕ
+cells = 0 ∷ 1 ∷ 2 ∷ 3 ∷ 4 ∷ 5 ∷ 6 ∷ 7 ∷ 8 ∷ 9 ∷ 10 ∷ []
+
+controlling : map (λ cell. list_any (controls_driver keeping 0 cell) keeper.cells) cells ≡ map (λ cell. cell == 5) cells
+controlling = refl
+
+driving_unguarded : map (λ cell. list_any (drives_unguarded keeping 0 cell) keeper.cells) cells ≡ true ∷ false ∷ false ∷ false ∷ true ∷ false ∷ false ∷ false ∷ false ∷ false ∷ false ∷ []
+driving_unguarded = refl
+
+safe_bits : map (safe_bit keeper) cells ≡
+    Some on ∷ Some on ∷ Some off ∷ Some on ∷ Some on ∷ Some on ∷ Some on ∷ None ∷ Some on ∷ Some on ∷ Some on ∷ []
+safe_bits = refl
+
+-- each latch has the safe value of its cell, but one has the other
+abbrev but : ℕ → List PinState
+but cell = record {
+  current = Extest;
+  latches = map (λ e. cond (e.0 == cell) (not e.1) e.1) (enumerate_from 0 (on ∷ on ∷ off ∷ on ∷ on ∷ on ∷ on ∷ off ∷ on ∷ on ∷ on ∷ []));
+} ∷ []
+
+internal_high : KeepsSafeValues keeping (but 1) → ⊥
+internal_high keeps = let low : false ≡ true = keeps 0 1 keeper true refl refl (omega arith) refl refl refl in cc low
+
+internal_low : KeepsSafeValues keeping (but 2) → ⊥
+internal_low keeps = let high : true ≡ false = keeps 0 2 keeper false refl refl (omega arith) refl refl refl in cc high
+
+control_of_nothing : KeepsSafeValues keeping (but 3) → ⊥
+control_of_nothing keeps = let low : false ≡ true = keeps 0 3 keeper true refl refl (omega arith) refl refl refl in cc low
+
+reading_alone : KeepsSafeValues keeping (but 6) → ⊥
+reading_alone keeps = let low : false ≡ true = keeps 0 6 keeper true refl refl (omega arith) refl refl refl in cc low
+
+control_without_pin : KeepsSafeValues keeping (but 8) → ⊥
+control_without_pin keeps = let low : false ≡ true = keeps 0 8 keeper true refl refl (omega arith) refl refl refl in cc low
+
+driver_of_guarded : KeepsSafeValues keeping (but 9) → ⊥
+driver_of_guarded keeps = let low : false ≡ true = keeps 0 9 keeper true refl refl (omega arith) refl refl refl in cc low
+
+driver_of_no_net : KeepsSafeValues keeping (but 10) → ⊥
+driver_of_no_net keeps = let low : false ≡ true = keeps 0 10 keeper true refl refl (omega arith) refl refl refl in cc low
+
+-- the controls of drivers whose latch differs from the disable value: cell 5 at 0, and not cell 8, whose driver has no pin
+abbrev latched : Bool → List Bool
+latched bit = map (λ cell. latched_setting keeping (record { current = Extest; latches = map (λ k. bit) cells } ∷ []) (record { part = 0; cell = cell })) cells
+
+latched_low : latched off ≡ map (λ cell. cell == 5) cells
+latched_low = refl
+
+latched_high : latched on ≡ map (λ cell. false) cells
+latched_high = refl
+
+-- one part under EXTEST and the other not
+abbrev shows : Instruction → List Bool → PinState
+shows instruction latches = record { current = instruction; latches = latches }
+
+abbrev inner : RawDevice
+inner = device (one_bit Outward) (entry 0 Output2 4 None ∷ kept 1 Internal None One None ∷ []) 2
+
+abbrev wire : RawBoard
+wire = board (Described inner ∷ Described rcv1 ∷ []) (net (pin 0 0 ∷ pin 1 0 ∷ []) ∷ [])
+
+abbrev half_in_test : List PinState
+half_in_test = shows Extest (off ∷ on ∷ []) ∷ shows Sample (off ∷ []) ∷ []
+
+half_unsafe : IsSafelySet wire half_in_test → ⊥
+half_unsafe (inl none) = let z : true ≡ false = none 0 inner refl in cc z
+half_unsafe (inr all) = let z : false ≡ true = all.0 1 rcv1 refl in cc z
+
+-- a controlled driver that is on in a dark net
+abbrev dark : RawBoard
+dark = board (Described ts ∷ Described rcv1 ∷ []) (net (pin 0 0 ∷ pin 1 0 ∷ foreign ∷ []) ∷ [])
+
+abbrev dark_on : List PinState
+dark_on = shows Extest (off ∷ off ∷ []) ∷ shows Extest (off ∷ []) ∷ []
+
+dark_unsafe : IsSafelySet dark dark_on → ⊥
+dark_unsafe (inl none) = let z : true ≡ false = none 0 ts refl in cc z
+dark_unsafe (inr all) = let z : true ≡ false = all.1.free 0 _ 0 (pin 0 0) (record { part = 0; cell = 1 }) refl refl refl refl in cc z
+
+-- a one-sided driver that drives: its net is not pulled
+abbrev unpulled : RawBoard
+unpulled = board (Described od ∷ Described rcv1 ∷ []) (net (pin 0 0 ∷ pin 1 0 ∷ []) ∷ [])
+
+abbrev one_sided_on : List PinState
+one_sided_on = shows Extest (off ∷ []) ∷ shows Extest (off ∷ []) ∷ []
+
+no_switch : SwitchesAt unpulled (record { part = 0; bit = 4 }) true → ⊥
+no_switch (zero, n, i, p, e, f, g, h, pull) = cc (e, pull)
+no_switch (suc k, n, i, p, e, f, g, h, pull) = cc e
+
+one_sided_unsafe : IsSafelySet unpulled one_sided_on → ⊥
+one_sided_unsafe (inl none) = let z : true ≡ false = none 0 od refl in cc z
+one_sided_unsafe (inr all) = no_switch (all.1.own (record { part = 0; bit = 4 }) _ _ refl refl refl refl refl)
+
+-- chains of two parts in Run-Test/Idle with latches 0
+abbrev two_parts : RawDevice → List ChainPart
+two_parts first = record { logic = test_logic (Described first); state = resting (off ∷ off ∷ []) } ∷ record { logic = test_logic (Described rcv1); state = resting (off ∷ []) } ∷ []
+
+wire_start : IsBoardChain wire (two_parts inner)
+wire_start = record {
+  logics_are = refl;
+  states_are = (
+    record { ir = refl; boundary = refl; identification = refl; latches = refl },
+    (record { ir = refl; boundary = refl; identification = refl; latches = refl }, tt),
+  );
+}
+
+dark_start : IsBoardChain dark (two_parts ts)
+dark_start = record {
+  logics_are = refl;
+  states_are = (
+    record { ir = refl; boundary = refl; identification = refl; latches = refl },
+    (record { ir = refl; boundary = refl; identification = refl; latches = refl }, tt),
+  );
+}
+
+abbrev after_reset : RawBoard → RawDevice → List Clock → List PinState
+after_reset b first clocks = pin_states (run (board_wiring b no_faults) (take 5 clocks) choices (two_parts first))
+
+abbrev later_moments : RawBoard → RawDevice → List Clock → List (List PinState)
+later_moments b first clocks =
+    shown (board_wiring b no_faults) (drop 5 clocks) (choices_after (take 5 clocks) choices) (run (board_wiring b no_faults) (take 5 clocks) choices (two_parts first))
+
+-- (a) is broken by a test that leaves one part under SAMPLE, in the update of the third scan
+abbrev one_left : List Clock
+one_left = test_clocks (take 2 (svf_scans wire) ++ instructs ((off ∷ off ∷ []) ∷ (off ∷ on ∷ []) ∷ []) ∷ [])
+
+all_in_extest : IsQuiet wire one_left → ⊥
+unfolding run shown
+all_in_extest quiet =
+    let moments = (quiet no_faults (two_parts inner) choices (no_set wire) wire_start).1 in
+    half_unsafe (moment_at wire (after_reset wire inner one_left) (later_moments wire inner one_left) moments 27 half_in_test refl).0
+
+-- and by one that enables a driver in a dark net, in the update of the fourth scan
+abbrev dark_driven : List Clock
+dark_driven = test_clocks (take 3 (svf_scans dark) ++ sdr (sent off ∷ sent off ∷ sent off ∷ []) ∷ [])
+
+dark_nets_are_left : IsQuiet dark dark_driven → ⊥
+unfolding run shown
+dark_nets_are_left quiet =
+    let moments = (quiet no_faults (two_parts ts) choices (no_set dark) dark_start).1 in
+    dark_unsafe (moment_at dark (after_reset dark ts dark_driven) (later_moments dark ts dark_driven) moments 35 dark_on refl).0
+
+-- (c) is broken by a test that preloads 0 into an internal cell with the safe value 1, in the update that selects EXTEST
+abbrev zeros_preloaded : List Clock
+zeros_preloaded = test_clocks (take 1 (svf_scans wire) ++ sdr (sent off ∷ sent off ∷ sent off ∷ []) ∷ take 1 (drop 2 (svf_scans wire)))
+
+abbrev zeros : List PinState
+zeros = shows Extest (off ∷ off ∷ []) ∷ shows Extest (off ∷ []) ∷ []
+
+zeros_unsafe : KeepsSafeValues wire zeros → ⊥
+zeros_unsafe keeps = let low : false ≡ true = keeps 0 1 inner true refl refl (omega arith) refl refl refl in cc low
+
+safe_values_are_preloaded : IsQuiet wire zeros_preloaded → ⊥
+unfolding run shown
+safe_values_are_preloaded quiet =
+    let moments = (quiet no_faults (two_parts inner) choices (no_set wire) wire_start).1 in
+    zeros_unsafe (moment_at wire (after_reset wire inner zeros_preloaded) (later_moments wire inner zeros_preloaded) moments 27 zeros refl).1

@@ -1,0 +1,255 @@
+-- Logs of the tests of small boards, and which single faults explain them.
+use Rattle.std.proofs.Common.{◌≡◌, ℕ, Bool, true, false, ◌&&◌, ◌+◌, List, [], ◌∷◌, ◌++◌, map, Option, Some, None, refl, arith, length}
+use Rattle.std.specs.Prelude.{codes, filter, slice_index_or}
+use Rattle.std.specs.Bool.{beq}
+use Rattle.std.specs.List.{list_all, enumerate_from, range_with_len}
+use Rattle.std.proofs.lemmas.Bool.{both_ways}
+use Rattle.std.proofs.lemmas.List.Elements.{All-from_recursion}
+use Rattle.board_defs.specs.declared.device.RawDevice.{RawDevice}
+use Rattle.board_defs.specs.declared.device.Mode.TheVariants.{Outward}
+use Rattle.board_defs.specs.declared.device.PortBit.{PortBit}
+use Rattle.board_defs.specs.declared.device.Cell.{Cell}
+use Rattle.board_defs.specs.declared.device.Role.TheVariants.{Output3, Control as ControlRole}
+use Rattle.board_defs.specs.declared.device.Symbol.TheVariants.{One, Any}
+use Rattle.board_defs.specs.declared.board.PartKind.{PartKind}
+use Rattle.board_defs.specs.declared.board.PartKind.TheVariants.{Described, Bypass}
+use Rattle.board_defs.specs.declared.board.Part.{Part}
+use Rattle.board_defs.specs.declared.board.NetPin.{NetPin}
+use Rattle.board_defs.specs.declared.board.Net.{Net}
+use Rattle.board_defs.specs.declared.board.RawBoard.{RawBoard}
+use Rattle.board_defs.specs.declared.fault.Kind.TheVariants.{And, Or, First, Second}
+use Rattle.board_defs.specs.declared.fault.Single.{Single}
+use Rattle.board_defs.specs.declared.fault.Single.TheVariants.{StuckNet, OpenPin, Short}
+use Rattle.board_defs.specs.BoardRules.{IsBoard}
+use Rattle.board_defs.specs.Pins.{data_bits}
+use Rattle.board_defs.specs.Faults.{singles}
+use Rattle.board_defs.proofs.BoardChecks.{board_of}
+use Rattle.tap_defs.specs.chain.Run.{Choice}
+use Rattle.tap_defs.specs.chain.Scan.{Scan}
+use Rattle.tap_defs.specs.chain.Transport.{scan_passes}
+use Rattle.tap_defs.specs.board.FaultSet.{FaultSet}
+use Rattle.tap_defs.specs.board.NetBits.{Place}
+use Rattle.tap_defs.specs.board.TestRows.{TestRow, quiet_row, expect_bit}
+use Rattle.tap_defs.specs.board.BoardScans.{RowScan, scan_of_row, svf_row_scans}
+use Rattle.tap_defs.specs.board.RowCaptures.{row_captured}
+use Rattle.tap_defs.specs.board.Explaining.{set_of, scans_by_log, HasShape, ExplainedBy, Explains, IsExpected, compared_scans, cell_position, read_place}
+use Rattle.tap_defs.specs.board.SingleBits.{single_bit}
+use Rattle.tap_defs.proofs.board.CaptureLemmas.{log_captured}
+use Rattle.tap_defs.proofs.chain.SampleTexts.{on, off}
+use Rattle.tap_defs.proofs.board.SampleBoards.{drv, rcv, rcv1, od, pin, pulled}
+
+-- the free bits are all this one
+abbrev free : Bool → Choice
+free bit = record { parts = λ k. record { ir = λ i. bit; cells = λ i. bit; latches = λ i. bit; tdo = bit; other = bit }; shorts = λ k. bit; tdi = bit }
+
+-- with these free bits each scan compares what the row in the latches lets the cells capture
+abbrev captures_pass : RawBoard → FaultSet → Choice → TestRow → List RowScan → List Scan → Bool
+captures_pass board faults choice row [] scans = true
+captures_pass board faults choice row (t ∷ more) [] = true
+captures_pass board faults choice row (t ∷ more) (scan ∷ scans) = scan_passes scan.bits (row_captured board faults row choice) && captures_pass board faults choice t.now more scans
+
+abbrev captures : RawBoard → List (List Bool) → Single → Bool → Bool
+captures board log single bit =
+    let scans : List RowScan = svf_row_scans board in
+    captures_pass board (set_of single) (free bit) quiet_row scans (scans_by_log (map (scan_of_row board) scans) log)
+
+-- the single faults that give a log, in order
+abbrev explaining : RawBoard → List (List Bool) → List Single
+explaining board log = filter (λ single. captures board log single off && captures board log single on) (singles board)
+
+-- the same by the bit of each compared cell
+abbrev agrees : RawBoard → Single → TestRow → Bool → Option Place → Option Bool → Bool
+agrees board single row logged place None = true
+agrees board single row logged None (Some expected) = false
+agrees board single row logged (Some place) (Some expected) = beq logged (single_bit board single row place expected)
+
+abbrev cells_agree : RawBoard → Single → TestRow → List Bool → ℕ → PartKind → Bool
+cells_agree board single row logged part (Described device) =
+    list_all (λ cell. agrees board single row (slice_index_or logged (cell_position board part cell) off) (read_place board part device cell) (expect_bit board row part device cell))
+    (range_with_len 0 device.boundary)
+cells_agree board single row logged part (Bypass n) = true
+
+abbrev rows_agree : RawBoard → Single → List RowScan → List (List Bool) → Bool
+rows_agree board single [] log = true
+rows_agree board single (t ∷ more) [] = true
+rows_agree board single (t ∷ more) (logged ∷ log) =
+    list_all (λ part. cells_agree board single t.before logged part.0 part.1.kind) (enumerate_from 0 board.chain) && rows_agree board single more log
+
+abbrev predicted : RawBoard → List (List Bool) → List Single
+predicted board log = filter (λ single. rows_agree board single (compared_scans board (svf_row_scans board)) log) (singles board)
+
+-- parts and nets with names of their own
+abbrev named_part : List ℕ → RawDevice → Part
+named_part name device = record { name = name; kind = Described device }
+
+abbrev named : List ℕ → Net → Net
+named name net = record net { name = name }
+
+-- a pin of a part, at a bit counted after those of the test access port, with names of its own
+abbrev pin_of : ℕ → ℕ → NetPin
+pin_of part bit = record (pin part bit) { part = 85 ∷ (49 + part) ∷ []; pin = (49 + bit) ∷ [] }
+
+abbrev open_pin : ℕ → ℕ → Bool → Single
+open_pin net place value = OpenPin (record { net = net; place = place }) value
+
+-- two nets from a driver to a receiver, with the codes 1 and 2: two rows, of which the first bits are those of the two nets
+abbrev two_nets : RawBoard
+two_nets = record {
+  chain = named_part (codes "U1") drv ∷ named_part (codes "U2") rcv ∷ [];
+  nets = named (codes "N1") (pulled None (pin_of 0 0 ∷ pin_of 1 0 ∷ [])) ∷ named (codes "N2") (pulled None (pin_of 0 1 ∷ pin_of 1 1 ∷ [])) ∷ [];
+}
+
+two_nets_rules : IsBoard two_nets
+two_nets_rules = board_of two_nets refl
+
+abbrev row : Bool → Bool → List Bool
+row first second = first ∷ second ∷ off ∷ off ∷ []
+
+abbrev expected_log : List (List Bool)
+expected_log = row on off ∷ row off on ∷ []
+
+-- no fault gives the expected log
+expected_is : explaining two_nets expected_log ≡ []
+expected_is = refl
+
+expected_cells : predicted two_nets expected_log ≡ []
+expected_cells = refl
+
+-- the first net shows 0 in both rows
+constant_is : explaining two_nets (row off off ∷ row off on ∷ []) ≡ StuckNet 0 off ∷ open_pin 0 0 off ∷ open_pin 0 1 off ∷ []
+constant_is = refl
+
+constant_cells : predicted two_nets (row off off ∷ row off on ∷ []) ≡ StuckNet 0 off ∷ open_pin 0 0 off ∷ open_pin 0 1 off ∷ []
+constant_cells = refl
+
+-- bits that are not compared are ignored
+ignored_is : explaining two_nets ((off ∷ off ∷ on ∷ on ∷ []) ∷ (off ∷ on ∷ on ∷ off ∷ []) ∷ []) ≡ StuckNet 0 off ∷ open_pin 0 0 off ∷ open_pin 0 1 off ∷ []
+ignored_is = refl
+
+-- both nets show one bit in each row: their And, their Or, the first's or the second's
+and_is : explaining two_nets (row off off ∷ row off off ∷ []) ≡ Short 0 1 And ∷ []
+and_is = refl
+
+or_is : explaining two_nets (row on on ∷ row on on ∷ []) ≡ Short 0 1 Or ∷ []
+or_is = refl
+
+first_is : explaining two_nets (row on on ∷ row off off ∷ []) ≡ Short 0 1 First ∷ []
+first_is = refl
+
+second_is : explaining two_nets (row off off ∷ row on on ∷ []) ≡ Short 0 1 Second ∷ []
+second_is = refl
+
+shorted_cells : map (predicted two_nets) (
+    (row off off ∷ row off off ∷ []) ∷ (row on on ∷ row on on ∷ []) ∷ (row on on ∷ row off off ∷ []) ∷ (row off off ∷ row on on ∷ []) ∷ [])
+    ≡ (Short 0 1 And ∷ []) ∷ (Short 0 1 Or ∷ []) ∷ (Short 0 1 First ∷ []) ∷ (Short 0 1 Second ∷ []) ∷ []
+shorted_cells = refl
+
+-- two nets that are wrong at once, and not alike
+no_single_is : explaining two_nets (row on off ∷ row on off ∷ []) ≡ []
+no_single_is = refl
+
+no_single_cells : predicted two_nets (row on off ∷ row on off ∷ []) ≡ []
+no_single_cells = refl
+
+-- what explains a log by the definition: in every run the first net shows 0 in both rows
+explained : Explains two_nets (StuckNet 0 off) (row off off ∷ row off on ∷ [])
+explained = record {
+  shape = record { rows = refl; bits = All-from_recursion (λ (r : List Bool). length r ≡ data_bits two_nets) (row off off ∷ row off on ∷ []) (refl, (refl, tt)) };
+  passes = (log_captured two_nets two_nets_rules (set_of (StuckNet 0 off)) (svf_row_scans two_nets) (row off off ∷ row off on ∷ [])).1
+      (λ choice. refl, (λ choice. refl, (λ choice. refl, tt)));
+}
+
+-- the expected log, and one that differs in a bit that is not compared
+is_expected : IsExpected two_nets (svf_row_scans two_nets) ((on ∷ off ∷ on ∷ off ∷ []) ∷ (off ∷ on ∷ off ∷ on ∷ []) ∷ [])
+is_expected = record {
+  shape = record { rows = refl; bits = All-from_recursion (λ (r : List Bool). length r ≡ data_bits two_nets) ((on ∷ off ∷ on ∷ off ∷ []) ∷ (off ∷ on ∷ off ∷ on ∷ []) ∷ []) (refl, (refl, tt)) };
+  bits = refl;
+}
+
+is_unexpected : IsExpected two_nets (svf_row_scans two_nets) (row on off ∷ row on on ∷ []) → ⊥
+is_unexpected h = both_ways _ refl h.bits
+
+-- a log of another shape is explained by nothing, and is not the expected one: a row too few, a row too many, a row too short
+abbrev NoLog : List (List Bool) → Type 0
+NoLog log = HasShape two_nets (svf_row_scans two_nets) log → ⊥
+
+no_rows : NoLog []
+no_rows h = let z : ◌≡◌ {A = ℕ} 0 2 = h.rows in absurd (omega (arith, z))
+
+one_row : NoLog (row off off ∷ [])
+one_row h = let z : ◌≡◌ {A = ℕ} 1 2 = h.rows in absurd (omega (arith, z))
+
+three_rows : NoLog (row off off ∷ row off on ∷ row off on ∷ [])
+three_rows h = let z : ◌≡◌ {A = ℕ} 3 2 = h.rows in absurd (omega (arith, z))
+
+short_row : NoLog (row off off ∷ (off ∷ on ∷ off ∷ []) ∷ [])
+short_row h = let z : ◌≡◌ {A = ℕ} 3 4 = h.bits 1 [] (omega arith) in absurd (omega (arith, z))
+
+unexplained : (faults : FaultSet) → ExplainedBy two_nets faults (svf_row_scans two_nets) [] → ⊥
+unexplained faults h = no_rows h.shape
+
+-- a net that is pulled up, with a driver that drives low only: where the driver is open, the net shows its pull
+abbrev pulled_net : RawBoard
+pulled_net = record {
+  chain = named_part (codes "U1") od ∷ named_part (codes "U2") rcv1 ∷ [];
+  nets = named (codes "N") (pulled (Some on) (pin_of 0 0 ∷ pin_of 1 0 ∷ [])) ∷ [];
+}
+
+pulled_is : map (explaining pulled_net) (((on ∷ off ∷ []) ∷ (on ∷ off ∷ []) ∷ []) ∷ ((off ∷ off ∷ []) ∷ (off ∷ off ∷ []) ∷ []) ∷ [])
+    ≡ (StuckNet 0 on ∷ open_pin 0 0 off ∷ open_pin 0 0 on ∷ open_pin 0 1 on ∷ []) ∷ (StuckNet 0 off ∷ open_pin 0 1 off ∷ []) ∷ []
+pulled_is = refl
+
+pulled_cells : map (predicted pulled_net) (((on ∷ off ∷ []) ∷ (on ∷ off ∷ []) ∷ []) ∷ ((off ∷ off ∷ []) ∷ (off ∷ off ∷ []) ∷ []) ∷ [])
+    ≡ (StuckNet 0 on ∷ open_pin 0 0 off ∷ open_pin 0 0 on ∷ open_pin 0 1 on ∷ []) ∷ (StuckNet 0 off ∷ open_pin 0 1 off ∷ []) ∷ []
+pulled_cells = refl
+
+-- four three-state outputs, of which cell 4 controls the first two and cell 5 the others
+abbrev output : ℕ → ℕ → Cell
+output num control = record { num = num; role = Output3; bit = Some (4 + num); safe = Any; ctl = Some (record { cell = control; disable = true }) }
+
+abbrev control : ℕ → Cell
+control num = record { num = num; role = ControlRole; bit = None; safe = One; ctl = None }
+
+abbrev more_bit : ℕ → PortBit
+more_bit index = record { port = 4; index = Some index; mode = Outward; pin = Some (codes "Q"); tap = false; compliance = false }
+
+abbrev two : RawDevice
+two = record drv {
+  bits = drv.bits ++ more_bit 3 ∷ more_bit 4 ∷ [];
+  cells = output 0 4 ∷ output 1 4 ∷ output 2 5 ∷ output 3 5 ∷ control 4 ∷ control 5 ∷ [];
+  boundary = 6;
+}
+
+-- a bus whose two drivers are on with one of two other nets each: the codes are 1, 2 and 3, and the bus is the second net
+abbrev bus : RawBoard
+bus = record {
+  chain = named_part (codes "U1") two ∷ named_part (codes "U2") rcv ∷ named_part (codes "U3") rcv ∷ [];
+  nets = named (codes "A") (pulled None (pin_of 0 0 ∷ pin_of 1 0 ∷ []))
+      ∷ named (codes "X") (pulled None (pin_of 0 1 ∷ pin_of 0 2 ∷ pin_of 1 1 ∷ []))
+      ∷ named (codes "B") (pulled None (pin_of 0 3 ∷ pin_of 2 0 ∷ [])) ∷ [];
+}
+
+-- a row of the first pass, which shows A and X, and one of the second, which shows X and B
+abbrev with_a : Bool → Bool → List Bool
+with_a a x = off ∷ off ∷ a ∷ x ∷ off ∷ off ∷ off ∷ off ∷ off ∷ off ∷ []
+
+abbrev with_b : Bool → Bool → List Bool
+with_b x b = b ∷ off ∷ off ∷ x ∷ off ∷ off ∷ off ∷ off ∷ off ∷ off ∷ []
+
+-- where A dominates, both nets show A in the first pass, and X shows its own bits in the second, in which A is not driven
+abbrev a_dominates : List (List Bool)
+a_dominates = with_a on on ∷ with_a off off ∷ with_a off off ∷ with_b off on ∷ with_b on on ∷ with_b off off ∷ []
+
+-- where X dominates, both show X
+abbrev x_dominates : List (List Bool)
+x_dominates = with_a off off ∷ with_a on on ∷ with_a off off ∷ with_b off on ∷ with_b on on ∷ with_b off off ∷ []
+
+-- where X and B are shorted, the first pass is as ever. B has each 1 of X, so their Or is B
+abbrev b_dominates : List (List Bool)
+b_dominates = with_a on off ∷ with_a off on ∷ with_a off off ∷ with_b on on ∷ with_b on on ∷ with_b off off ∷ []
+
+bus_is : map (explaining bus) (a_dominates ∷ x_dominates ∷ b_dominates ∷ []) ≡ (Short 0 1 First ∷ []) ∷ (Short 0 1 Second ∷ []) ∷ (Short 1 2 Or ∷ Short 1 2 Second ∷ []) ∷ []
+bus_is = refl
+
+bus_cells : map (predicted bus) (a_dominates ∷ x_dominates ∷ b_dominates ∷ []) ≡ (Short 0 1 First ∷ []) ∷ (Short 0 1 Second ∷ []) ∷ (Short 1 2 Or ∷ Short 1 2 Second ∷ []) ∷ []
+bus_cells = refl

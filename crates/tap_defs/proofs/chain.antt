@@ -1,0 +1,19 @@
+-- Lemmas of the chain.
+pub mod ListLemmas
+pub mod MoveLemmas
+pub mod RunLemmas
+pub mod DataLemmas
+pub mod CodeLemmas
+pub mod HeadLemmas
+pub mod InstructLemmas
+pub mod ChainTestLemmas
+pub mod FieldLemmas
+pub mod TokenLemmas
+pub mod StatementLemmas
+pub mod MeaningLemmas
+pub mod SampleStates
+pub mod SampleTexts
+pub mod SampleRun
+pub mod ScanLemmas
+pub mod StateLemmas
+pub mod TraceLemmas

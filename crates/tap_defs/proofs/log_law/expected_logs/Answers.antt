@@ -1,9 +1,0 @@
-use Rattle.tap_defs.proofs.LogLemmas.{expected_explained, expected_unexplained, own_unexplained}
-use Rattle.tap_defs.proofs.log_law.expected_logs.Goals as goal
-
-pub returns : goal.returns
-returns c = record {
-  passing = λ board faults scans log rules e. expected_explained board rules faults scans log e;
-  unexplained = expected_unexplained;
-  own_unexplained = own_unexplained;
-}

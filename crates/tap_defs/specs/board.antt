@@ -1,0 +1,12 @@
+-- The board round its chain: nets under faults, quiet, the scans of a board's test and what it is worth, which faults explain a log.
+pub mod FaultSet
+pub mod NetBits
+pub mod OnBoard
+pub mod Quiet
+pub mod TestRows
+pub mod BoardScans
+pub mod RowCaptures
+pub mod RowDriving
+pub mod BoardTest
+pub mod Explaining
+pub mod SingleBits

@@ -1,0 +1,18 @@
+-- The chain: TAP controllers, scans, the meaning of SVF text, the chain test. Nothing here knows of boards.
+pub mod Scan
+pub mod Codes
+pub mod Text
+pub mod ChainScans
+pub mod Tap
+pub mod TestLogic
+pub mod ShiftRegister
+pub mod Part
+pub mod Chain
+pub mod Run
+pub mod Clocks
+pub mod SvfTokens
+pub mod SvfStatements
+pub mod Svf
+pub mod ChainRegisters
+pub mod Transport
+pub mod ChainTest

@@ -1,0 +1,25 @@
+-- The scans of the chain test, and its text.
+use Rattle.std.specs.Prelude.{ℕ, Bool, true, false, List, [], ◌∷◌, ◌++◌, length, map, replicate, Some}
+use Rattle.tap_defs.specs.chain.Scan.{ScanBit, Scan}
+use Rattle.tap_defs.specs.chain.Codes.{instructs}
+use Rattle.tap_defs.specs.chain.Text.{svf_text}
+
+-- A5, the lowest bit first
+abbrev pub marks : List Bool
+marks = true ∷ false ∷ true ∷ false ∷ false ∷ true ∷ false ∷ true ∷ []
+
+-- bits that are shifted in, each compared with the bit that leaves
+abbrev pub compared : List Bool → List Bool → List ScanBit
+compared [] out = []
+compared (i ∷ ins) [] = []
+compared (i ∷ ins) (o ∷ out) = record { tdi = i; expect = Some o } ∷ compared ins out
+
+-- the code of ones, BYPASS, for each part; then the marks, which leave as many positions later as there are parts
+abbrev pub chain_scans : List ℕ → List Scan
+chain_scans lengths =
+    let zeros : List Bool = replicate (length lengths) false in
+    instructs (map (λ n. replicate n true) lengths) ∷ record { ir = false; bits = compared (marks ++ zeros) (zeros ++ marks) } ∷ []
+
+-- the text of the chain test of parts with these instruction lengths
+abbrev pub chain_text : List ℕ → List ℕ
+chain_text lengths = svf_text (chain_scans lengths)

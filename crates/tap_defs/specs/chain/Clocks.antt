@@ -1,0 +1,52 @@
+-- The clocks of scans (SVF Revision E, SIR, SDR and STATE; the way of the controllers is that of IEEE 1149.1-1990, section 5).
+use Rattle.std.specs.Prelude.{Bool, true, false, List, [], ◌∷◌, ◌++◌, Some, None}
+use Rattle.tap_defs.specs.chain.Scan.{ScanBit, Scan}
+use Rattle.tap_defs.specs.chain.Run.{Clock}
+
+-- a clock whose TDI may be any bit, and whose TDO is not compared
+abbrev pub plain : Bool → Clock
+plain tms = record { tms = tms; tdi = None; expect = None }
+
+-- a clock that shifts this bit in
+abbrev pub shift_clock : Bool → ScanBit → Clock
+shift_clock tms bit = record { tms = tms; tdi = Some bit.tdi; expect = bit.expect }
+
+-- the clocks that shift these bits in: TMS is 0, but 1 in the last
+abbrev pub shift_clocks : List ScanBit → List Clock
+shift_clocks [] = []
+shift_clocks (b ∷ []) = shift_clock true b ∷ []
+shift_clocks (b ∷ c ∷ bits) = shift_clock false b ∷ shift_clocks (c ∷ bits)
+
+-- from Run-Test/Idle to Shift-DR, the shifts, and back through Update-DR
+abbrev pub sdr_clocks : List ScanBit → List Clock
+sdr_clocks bits = plain true ∷ plain false ∷ plain false ∷ (shift_clocks bits ++ plain true ∷ plain false ∷ [])
+
+-- from Run-Test/Idle to Shift-IR, the shifts, and back through Update-IR
+abbrev pub sir_clocks : List ScanBit → List Clock
+sir_clocks bits = plain true ∷ plain true ∷ plain false ∷ plain false ∷ (shift_clocks bits ++ plain true ∷ plain false ∷ [])
+
+-- those of SIR or of SDR
+abbrev pub clocks_by : Bool → List ScanBit → List Clock
+clocks_by true bits = sir_clocks bits
+clocks_by false bits = sdr_clocks bits
+
+-- the clocks of a scan
+abbrev pub scan_clocks : Scan → List Clock
+scan_clocks scan = clocks_by scan.ir scan.bits
+
+-- the clocks of scans, one after another
+abbrev pub all_clocks : List Scan → List Clock
+all_clocks [] = []
+all_clocks (s ∷ scans) = scan_clocks s ++ all_clocks scans
+
+-- STATE RESET: five clocks with TMS 1 lead from every state to Test-Logic-Reset
+abbrev pub reset_clocks : List Clock
+reset_clocks = plain true ∷ plain true ∷ plain true ∷ plain true ∷ plain true ∷ []
+
+-- STATE RESET and STATE IDLE
+abbrev pub head_clocks : List Clock
+head_clocks = reset_clocks ++ plain false ∷ []
+
+-- the clocks of the head, of the scans and of the tail
+abbrev pub test_clocks : List Scan → List Clock
+test_clocks scans = head_clocks ++ (all_clocks scans ++ reset_clocks)

@@ -1,0 +1,86 @@
+-- The statements of an SVF text (SVF Revision E), as far as this product writes them; any other statement has no meaning.
+use Rattle.std.specs.Prelude.{ℕ, Bool, true, false, ◌&&◌, List, [], ◌∷◌, ◌++◌, map, Option, Some, None, option_map, option_and_then, codes, bytes_eq}
+use Rattle.std.specs.Prelude.{if◌then◌else◌, nat_lt}
+use Rattle.std.specs.Char.{is_ascii_digit}
+use Rattle.std.specs.List.{list_all}
+use Rattle.std.specs.Str.Parse.{digits_value}
+use Rattle.bt_bits.specs.Hex.{field_bits}
+use Rattle.tap_defs.specs.chain.Scan.{ScanBit, Scan, scan_bits}
+use Rattle.tap_defs.specs.chain.Codes.{sent}
+use Rattle.tap_defs.specs.chain.Text.{command_word}
+use Rattle.tap_defs.specs.chain.SvfTokens.{Token, Word, Open, Close}
+
+-- TRST OFF, ENDIR IDLE, ENDDR IDLE, STATE RESET, STATE IDLE, and the statements SIR and SDR
+pub data Statement : Type 0 where
+  TrstOff : Statement
+  EndIrIdle : Statement
+  EndDrIdle : Statement
+  StateReset : Statement
+  StateIdle : Statement
+  ScanOf : Scan → Statement
+
+-- a field: a word, and hexadecimal digits in parentheses
+pub record Field : Type 0 where
+  pub name : List ℕ
+  pub digits : List ℕ
+
+-- the fields that these tokens are, after some of a field that has begun. Between the digits of a field there may be blanks
+abbrev pub fields_from : Option Field → List Token → Option (List Field)
+fields_from None [] = Some []
+fields_from None (Word name ∷ Open ∷ tokens) = fields_from (Some (record { name = name; digits = [] })) tokens
+fields_from None _ = None
+fields_from (Some f) (Word more ∷ tokens) = fields_from (Some (record f { digits = f.digits ++ more })) tokens
+fields_from (Some f) (Close ∷ tokens) = option_map (λ fields. f ∷ fields) (fields_from None tokens)
+fields_from (Some f) _ = None
+
+-- the n bits of a field of this name
+abbrev pub bits_of : List ℕ → ℕ → Field → Option (List Bool)
+bits_of name n field = if bytes_eq field.name name then field_bits n field.digits else None
+
+-- the bits of a scan from those of its three fields
+abbrev pub compared_bits : Option (List Bool) → Option (List Bool) → Option (List Bool) → Option (List ScanBit)
+compared_bits (Some tdi) (Some tdo) (Some mask) = Some (scan_bits tdi tdo mask)
+compared_bits _ _ _ = None
+
+-- the bits of a scan of n bits: TDI alone, or TDI, TDO and MASK
+abbrev pub bits_of_fields : ℕ → List Field → Option (List ScanBit)
+bits_of_fields n (tdi ∷ []) = option_map (map sent) (bits_of (codes "TDI") n tdi)
+bits_of_fields n (tdi ∷ tdo ∷ mask ∷ []) =
+    compared_bits (bits_of (codes "TDI") n tdi) (bits_of (codes "TDO") n tdo) (bits_of (codes "MASK") n mask)
+bits_of_fields n _ = None
+
+-- the length of a scan: a decimal number, and not 0
+abbrev pub length_of : List ℕ → Option ℕ
+length_of word = if list_all is_ascii_digit word && nat_lt 0 (digits_value 10 word) then Some (digits_value 10 word) else None
+
+-- whether the word is SIR, where it is SIR or SDR
+abbrev pub scan_command : List ℕ → Option Bool
+scan_command word =
+    if bytes_eq word (command_word true) then Some true else (
+    if bytes_eq word (command_word false) then Some false else None)
+
+-- a scan of this kind with these bits
+abbrev pub scan_by : Option Bool → Option (List ScanBit) → Option Statement
+scan_by (Some ir) (Some bits) = Some (ScanOf (record { ir = ir; bits = bits }))
+scan_by _ _ = None
+
+-- the statements of two words
+abbrev pub two_words : List ℕ → List ℕ → Option Statement
+two_words a b =
+    if bytes_eq a (codes "TRST") && bytes_eq b (codes "OFF") then Some TrstOff else (
+    if bytes_eq a (codes "ENDIR") && bytes_eq b (codes "IDLE") then Some EndIrIdle else (
+    if bytes_eq a (codes "ENDDR") && bytes_eq b (codes "IDLE") then Some EndDrIdle else (
+    if bytes_eq a (codes "STATE") && bytes_eq b (codes "RESET") then Some StateReset else (
+    if bytes_eq a (codes "STATE") && bytes_eq b (codes "IDLE") then Some StateIdle else None))))
+
+-- the statement that the tokens before a semicolon are
+abbrev pub statement_of : List Token → Option Statement
+statement_of (Word a ∷ Word b ∷ []) = two_words a b
+statement_of (Word command ∷ Word n ∷ t ∷ tokens) =
+    scan_by (scan_command command) (option_and_then (λ m. option_and_then (bits_of_fields m) (fields_from None (t ∷ tokens))) (length_of n))
+statement_of _ = None
+
+-- the statements that these are, where each is one
+abbrev pub statements_of : List (List Token) → Option (List Statement)
+statements_of [] = Some []
+statements_of (piece ∷ pieces) = option_and_then (λ s. option_map (λ more. s ∷ more) (statements_of pieces)) (statement_of piece)

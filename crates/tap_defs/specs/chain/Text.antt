@@ -1,0 +1,61 @@
+-- The SVF text of a list of scans (SVF Revision E).
+use Rattle.std.specs.Prelude.{ℕ, zero, suc, ◌^◌, ◌<◌, Bool, true, false, List, [], ◌∷◌, ◌++◌, length, codes, decimal, nat_lt}
+use Rattle.bt_bits.specs.Hex.{hex_text}
+use Rattle.tap_defs.specs.chain.Scan.{ScanBit, Scan, tdi_bits, tdo_bits, mask_bits, compares}
+
+abbrev pub command_word : Bool → List ℕ
+command_word true = codes "SIR"
+command_word false = codes "SDR"
+
+-- what stands before a field: a line end in the form of several lines, else a space
+abbrev pub gap : Bool → ℕ
+gap true = 10
+gap false = 32
+
+-- digits, with a line end before each that has no room in its line; lines after the first hold 64
+abbrev pub broken : ℕ → List ℕ → List ℕ
+broken room [] = []
+broken zero (d ∷ ds) = 10 ∷ d ∷ broken 63 ds
+broken (suc room) (d ∷ ds) = d ∷ broken room ds
+
+-- the digits of a field: in lines of 64 in the form of several lines
+abbrev pub laid : Bool → List ℕ → List ℕ
+laid true digits = broken 64 digits
+laid false digits = digits
+
+-- from the end of TDI on: TDO and MASK, where something is compared
+abbrev pub compare_text : Bool → List ScanBit → Bool → List ℕ
+compare_text long bits false = codes ");"
+compare_text long bits true =
+    41 ∷ gap long ∷ codes "TDO (" ++ (laid long (hex_text (tdo_bits bits)) ++ (41 ∷ gap long ∷ codes "MASK (" ++ (laid long (hex_text (mask_bits bits)) ++ codes ");")))
+
+-- a scan in one line, or in the form of several lines, without the last line end
+abbrev pub form : Bool → Scan → List ℕ
+form long scan =
+    command_word scan.ir ++ (32 ∷ decimal (length scan.bits) ++ (gap long ∷ codes "TDI (" ++ (laid long (hex_text (tdi_bits scan.bits)) ++ compare_text long scan.bits (compares scan.bits))))
+
+-- one line, where that has at most 80 characters
+abbrev pub scan_text : Scan → List ℕ
+scan_text scan = form (nat_lt 80 (length (form false scan))) scan ++ 10 ∷ []
+
+abbrev pub scan_texts : List Scan → List ℕ
+scan_texts [] = []
+scan_texts (s ∷ scans) = scan_text s ++ scan_texts scans
+
+abbrev pub line : List ℕ → List ℕ
+line words = words ++ 10 ∷ []
+
+abbrev pub head_text : List ℕ
+head_text = line (codes "TRST OFF;") ++ (line (codes "ENDIR IDLE;") ++ (line (codes "ENDDR IDLE;") ++ (line (codes "STATE RESET;") ++ line (codes "STATE IDLE;"))))
+
+abbrev pub tail_text : List ℕ
+tail_text = line (codes "STATE RESET;")
+
+-- the head, the scans and the tail
+unfoldable pub svf_text : List Scan → List ℕ
+svf_text scans = head_text ++ (scan_texts scans ++ tail_text)
+
+-- each scan has some bits, and no more than a number in the text can say
+abbrev pub AllSized : List Scan → Type 0
+AllSized [] = Unit {0}
+AllSized (s ∷ scans) = ((0 < length s.bits) × (length s.bits < 2 ^ 64)) × AllSized scans

@@ -1,0 +1,35 @@
+//! The laws of the chain, as contracts of functions that do nothing: a caller knows the law after the call.
+ghost use Rattle.std.specs.Prelude.{◌≡◌, ℕ, ◌≤◌, List, sum, Some};
+ghost use Rattle.tap_defs.specs.chain.ChainScans.{chain_text};
+ghost use Rattle.tap_defs.specs.chain.ChainTest.{AreIrLengths, IsChainTest};
+ghost use Rattle.tap_defs.specs.chain.Clocks.{test_clocks};
+ghost use Rattle.tap_defs.specs.chain.Scan.{Scan};
+ghost use Rattle.tap_defs.specs.chain.Svf.{meaning};
+ghost use Rattle.tap_defs.specs.chain.Text.{svf_text, AllSized};
+ghost use Rattle.tap_defs.specs.chain.Transport.{DataTransport, LongDataTransport, CodeTransport, LongCodeTransport};
+
+/// A scan of data, whatever the pins capture: what was captured leaves, place by place, and what is shifted in is held
+/// (IEEE 1149.1-1990, section 8).
+pub fn data_scans()
+    ensures transport { DataTransport }
+    ensures any_length { LongDataTransport }
+{}
+
+/// The same of a scan of instructions, under any current instructions. Each part then has the instruction that its code means
+/// (IEEE 1149.1-1990, section 6).
+pub fn code_scans()
+    ensures transport { CodeTransport }
+    ensures any_length { LongCodeTransport }
+{}
+
+/// The text of a head, of any scans and of a tail means the clocks of these scans, with the stated bits compared, and no others
+/// (SVF Revision E).
+pub fn texts_mean()
+    ensures { (scans : List Scan) → AllSized scans → meaning (svf_text scans) ≡ Some (test_clocks scans) }
+{}
+
+/// The chain test passes on every chain of parts with these instruction lengths, and fails on every chain with another number of
+/// parts and no more instruction bits in total.
+pub fn chain_tests()
+    ensures { (lengths : List ℕ) → AreIrLengths lengths → sum lengths ≤ 65535 → IsChainTest lengths (chain_text lengths) }
+{}
