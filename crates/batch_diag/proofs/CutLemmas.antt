@@ -11,7 +11,7 @@ use Rattle.text_lines.proofs.LineLemmas.{words_of_empty}
 use Rattle.response_log.specs.LogRows.{NumberedLine, numbered, holds_word, has_words}
 use Rattle.batch_diag.specs.declared.fault.BatchFault.TheVariants.{Title as WrongTitle}
 use Rattle.batch_diag.specs.Batch.{is_title, id_of, names_board, begins_block, start_fault, title_fault, up_to_title, blocks_of}
-use Rattle.batch_diag.specs.Cutting.{rows_from, begins_row, or_nothing}
+use Rattle.batch_diag.specs.inner.Cutting.{rows_from, begins_row, or_nothing}
 
 -- lines with their numbers, of which those with words count
 abbrev pub rows_at : ℕ → List (List ℕ) → List NumberedLine

@@ -8,7 +8,7 @@ use Rattle.bt_bits.specs.Hex.{digit_count, field_bits}
 use Rattle.response_log.specs.declared.fault.LogFault.{LogFault}
 use Rattle.response_log.specs.declared.fault.LogFault.TheVariants.{Digit, Length, Missing, Extra, Memory as LogMemory}
 use Rattle.response_log.specs.LogRows.{Answer as LogAnswer, Fails as FailsLog, NumberedLine, holds_word, only_word, bits_of_line, word_fault, row_fault, offences, wanted_rows, first_or, rows_of_lines, row_lines, log_rows}
-use Rattle.batch_diag.specs.Cutting.{rows_from, FailsBlock, moved_inner, IsUpTo}
+use Rattle.batch_diag.specs.inner.Cutting.{rows_from, FailsBlock, moved_inner, IsUpTo}
 use Rattle.batch_diag.proofs.CutLemmas.{rows_at, with_line, worded_line}
 
 -- the line as it stands behind so many lines

@@ -12,7 +12,7 @@ use Rattle.batch_diag.specs.declared.block.Block.{Block}
 use Rattle.batch_diag.specs.declared.judging.Batch.{Batch}
 use Rattle.batch_diag.specs.declared.verdict.Verdict.{Verdict}
 use Rattle.batch_diag.specs.Verdicts.{EachPair, IsVerdict, AreVerdicts}
-use Rattle.batch_diag.specs.Judging.{Judges, Judged}
+use Rattle.batch_diag.specs.inner.Judging.{Judges, Judged}
 
 module _ {A B : Type 0} (R : A → B → Type 0) where
   each_append : (xs xs' : List A) (ys ys' : List B) → EachPair R xs ys → EachPair R xs' ys' → EachPair R (xs ++ xs') (ys ++ ys')

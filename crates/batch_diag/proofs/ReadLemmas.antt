@@ -9,7 +9,7 @@ use Rattle.batch_diag.specs.declared.fault.BatchFault.{BatchFault}
 use Rattle.batch_diag.specs.declared.fault.BatchFault.TheVariants.{Start, Title as WrongTitle, Inner, Memory}
 use Rattle.batch_diag.specs.declared.lines.Title.{Title}
 use Rattle.batch_diag.specs.Batch.{Answer, BlockLines, begins_block, is_wrong_title, start_fault, title_fault, IsOfLines, block_then, blocks_of, logs_from, onto, unless, up_to_title, Fails, GivesBy}
-use Rattle.batch_diag.specs.Cutting.{rows_from, blocks_at, FailsBlock}
+use Rattle.batch_diag.specs.inner.Cutting.{rows_from, blocks_at, FailsBlock}
 
 -- blocks that were read, and what is said of those behind them
 abbrev pub after : List Block → Answer → Answer

@@ -8,7 +8,7 @@ ghost use Rattle.response_log.specs.LogRows.{HasSize};
 ghost use Rattle.diagnoser.specs.Diagnosis.{IsNamed};
 ghost use Rattle.fault_sim.specs.Diagnosis.{IsDiagnosis};
 ghost use Rattle.batch_diag.specs.Verdicts.{AreLogs, AreVerdicts};
-ghost use Rattle.batch_diag.specs.Judging.{IsBatch, Judged, first_of};
+ghost use Rattle.batch_diag.specs.inner.Judging.{IsBatch, Judged, first_of};
 
 use crate::block::Block;
 use crate::verdict::Verdict;

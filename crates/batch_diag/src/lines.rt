@@ -3,7 +3,7 @@ ghost use Rattle.std.specs.Prelude.{◌≡◌, ◌+◌, ◌<◌, ◌≤◌, ◌^
 ghost use Rattle.text_lines.specs.Words.{words_of};
 ghost use Rattle.response_log.specs.LogRows.{holds_word, row_lines};
 ghost use Rattle.batch_diag.specs.Batch.{is_title, first_or_none, id_of, is_id, names_board, start_fault, title_fault, up_to_title, blocks_of};
-ghost use Rattle.batch_diag.specs.Cutting.{rows_from, begins_row, blocks_at, or_nothing};
+ghost use Rattle.batch_diag.specs.inner.Cutting.{rows_from, begins_row, blocks_at, or_nothing};
 
 use crate::fault::BatchFault;
 use text_lines::{first_line, is_blank, is_word, next_word};

@@ -2,7 +2,7 @@
 ghost use Rattle.std.specs.Prelude.{◌≡◌, ◌+◌, ◌<◌, ◌^◌, length, All, IfOk, MatchResult};
 ghost use Rattle.response_log.specs.LogRows.{HasSize, row_lines, rows_of_lines};
 ghost use Rattle.batch_diag.specs.Batch.{GivesBy, IsOfLines, batch_of, blocks_of, logs_from};
-ghost use Rattle.batch_diag.specs.Cutting.{GivesLogBy, IsUpTo, moved_inner, rows_from};
+ghost use Rattle.batch_diag.specs.inner.Cutting.{GivesLogBy, IsUpTo, moved_inner, rows_from};
 
 use crate::block::Block;
 use crate::fault::BatchFault;

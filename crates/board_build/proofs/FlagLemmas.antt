@@ -5,7 +5,7 @@ use Rattle.std.proofs.lemmas.List.{drop_more, get_or_past}
 use Rattle.board_defs.specs.declared.device.Cell.{Cell}
 use Rattle.board_defs.specs.declared.device.RawDevice.{RawDevice}
 use Rattle.board_defs.specs.DeviceRules.{is_driving, is_on, drives_bit, driving_entry, HasPlace}
-use Rattle.board_build.specs.Marked.{AreFlags, is_free}
+use Rattle.board_build.specs.inner.Marked.{AreFlags, is_free}
 
 -- one entry more, on the way from the last to the first
 pub flags_more : (cells : List Cell) (i k bits : ℕ) (old new : List Bool) (d : Cell) → k + 1 ≡ i → k < length cells → AreFlags (drop i cells) bits old →

@@ -10,7 +10,7 @@ use Rattle.board_build.specs.declared.fault.BoardFault.TheVariants.{NoPin, PinTw
 use Rattle.board_build.specs.declared.marked.MarkedWord.{MarkedWord}
 use Rattle.board_build.specs.NetWords.{lent_pin, same_pin}
 use Rattle.board_build.specs.BoardRules.{is_kept}
-use Rattle.board_build.specs.Marked.{Marked, seen, same_pins, place_of, number_of, marked_unknown, marked_twice, marked_guarded, marked_two}
+use Rattle.board_build.specs.inner.Marked.{Marked, seen, same_pins, place_of, number_of, marked_unknown, marked_twice, marked_guarded, marked_two}
 use Rattle.board_build.proofs.MarkLemmas.{find-map, once-map, repeated-map}
 
 -- a word by its pin

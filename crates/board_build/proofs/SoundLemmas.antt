@@ -10,7 +10,7 @@ use Rattle.board_build.specs.Names.{named, names_of}
 use Rattle.board_build.specs.NetWords.{net_names, standing_words}
 use Rattle.board_build.specs.ChainParts.{IsChain, pin_places}
 use Rattle.board_build.specs.BoardRules.{board_answer}
-use Rattle.board_build.specs.Marked.{Marked, mark, board_by, marked_fault, marked_answer}
+use Rattle.board_build.specs.inner.Marked.{Marked, mark, board_by, marked_fault, marked_answer}
 use Rattle.board_build.proofs.MarkLemmas.{board_same, fault_same, answer_same}
 use Rattle.board_build.proofs.LawLemmas.{is_board}
 

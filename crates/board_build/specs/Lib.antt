@@ -6,4 +6,4 @@ pub mod ChainParts
 pub mod LineRules
 pub mod BoardNets
 pub mod BoardRules
-pub mod Marked
+pub mod inner

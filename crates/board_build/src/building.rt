@@ -9,7 +9,7 @@ ghost use Rattle.board_build.specs.declared.names.Naming.TheVariants.{Entity, Pa
 ghost use Rattle.board_build.specs.NetWords.{IsShort};
 ghost use Rattle.board_build.specs.ChainParts.{IsChain, chain_parts};
 ghost use Rattle.board_build.specs.BoardRules.{board_answer, board_of};
-ghost use Rattle.board_build.specs.Marked.{board_by, marked_answer, marked_fault, seen};
+ghost use Rattle.board_build.specs.inner.Marked.{board_by, marked_answer, marked_fault, seen};
 
 use crate::fault::BoardFault;
 use crate::marked::{MarkedWord, marked_words};

@@ -3,7 +3,7 @@ ghost use Rattle.std.specs.Prelude.{◌≡◌, ◌∷◌, ℕ, List, length, get
 ghost use Rattle.board_defs.specs.declared.device.Cell.{Cell};
 ghost use Rattle.board_defs.specs.DeviceRules.{driving_entry};
 ghost use Rattle.board_defs.specs.Pins.{described};
-ghost use Rattle.board_build.specs.Marked.{AreFlags, is_free, is_free_bit, is_free_at};
+ghost use Rattle.board_build.specs.inner.Marked.{AreFlags, is_free, is_free_bit, is_free_at};
 
 use board_defs::{Cell, Device, Part, PartKind, PinAt};
 use std::alloc::{AllocError, Global};
@@ -62,7 +62,7 @@ impl<'a> Model for PartDrivers<'a> {
     ghost use Rattle.std.specs.Prelude.{◌≡◌, ℕ, false, get_or};
     ghost use Rattle.board_defs.specs.declared.board.Part.{Part};
     ghost use Rattle.board_defs.specs.Pins.{described};
-    ghost use Rattle.board_build.specs.Marked.{is_free_bit};
+    ghost use Rattle.board_build.specs.inner.Marked.{is_free_bit};
 
     ghost Value = { Part };
 

@@ -5,7 +5,7 @@ ghost use Rattle.board_build.specs.Names.{named, names_of, same_name};
 ghost use Rattle.board_build.specs.declared.names.Naming.TheVariants.{Inert};
 ghost use Rattle.board_build.specs.NetWords.{lent_pin, lent_word, same_pin};
 ghost use Rattle.board_build.specs.ChainParts.{pin_places};
-ghost use Rattle.board_build.specs.Marked.{is_free_at, mark, mark_by, marks_after, seen};
+ghost use Rattle.board_build.specs.inner.Marked.{is_free_at, mark, mark_by, marks_after, seen};
 
 use crate::drivers::{PartDrivers, drivers_of, is_free_at};
 use crate::line_rules::names_in;

@@ -7,7 +7,7 @@ ghost use Rattle.indexmap.specs.IndexMap.{get_by};
 ghost use Rattle.board_build.specs.Names.{named, names_of, same_name};
 ghost use Rattle.board_build.specs.declared.names.Naming.TheVariants.{Supply};
 ghost use Rattle.board_build.specs.LineRules.{pulls_of};
-ghost use Rattle.board_build.specs.Marked.{board_by, group_of, groups_after, net_by, nets_after, nets_with, pin_with, seen};
+ghost use Rattle.board_build.specs.inner.Marked.{board_by, group_of, groups_after, net_by, nets_after, nets_with, pin_with, seen};
 
 use crate::line_rules::{names_in, pull_of_net, pulls_by_net, pulls_of};
 use crate::marked::{MarkedWord, is_known};

@@ -6,7 +6,7 @@ ghost use Rattle.board_defs.specs.Pins.{data_length, is_test_pin};
 ghost use Rattle.board_build.specs.declared.fault.BoardFault.TheVariants.{Limit, NoPin, PinTwice, GuardedDriver, TwoAlwaysOn};
 ghost use Rattle.board_build.specs.NetWords.{lent_pin, same_pin};
 ghost use Rattle.board_build.specs.BoardRules.{data_limit, net_limit, is_kept};
-ghost use Rattle.board_build.specs.Marked.{always_on, file_fault, marked_drivers, marked_guarded, marked_limit, marked_pins, marked_twice, marked_two, marked_unknown, seen};
+ghost use Rattle.board_build.specs.inner.Marked.{always_on, file_fault, marked_drivers, marked_guarded, marked_limit, marked_pins, marked_twice, marked_two, marked_unknown, seen};
 
 use crate::fault::BoardFault;
 use crate::line_rules::line_fault;

@@ -9,7 +9,7 @@ use Rattle.bsdl_lexer.specs.declared.token.LexFault.TheVariants.{Byte, OpenStrin
 use Rattle.bsdl_lexer.specs.Forms.{line_feed}
 use Rattle.bsdl_lexer.specs.Tokens.{line_feeds, line_of, Separates, IsToken, Stand, token_limit}
 use Rattle.bsdl_lexer.specs.Answer.{BeginsToken, StopsAt, IsAnswer, AreFirst, UnlessMemory}
-use Rattle.bsdl_lexer.specs.Steps.{token_of, step}
+use Rattle.bsdl_lexer.specs.inner.Steps.{token_of, step}
 use Rattle.bsdl_lexer.proofs.Places.{some_bytes}
 use Rattle.bsdl_lexer.proofs.Steps.{Found, next, at_end, open_text, no_token, line_behind, begins_found, step_finds, step_to_token, step_to_begin, step_to_end, step_to_open_text, step_to_byte}
 

@@ -8,7 +8,7 @@ use Rattle.std.specs.Char.{is_ascii_alphabetic, is_ascii_digit}
 use Rattle.bsdl_lexer.specs.declared.token.TokenKind.{TokenKind}
 use Rattle.bsdl_lexer.specs.declared.token.TokenKind.TheVariants.{Word, Number, Text, Mark}
 use Rattle.bsdl_lexer.specs.Forms.{IsDigits, IsFraction, IsSigned, IsExponent, IsNumber, HasForm, is_word_byte, is_text_byte, is_mark, is_exponent_letter, is_sign, begins_comment, quote, point}
-use Rattle.bsdl_lexer.specs.Lengths.{with_digits, fraction_len, signed_len, exponent_len, number_len, closed_len, token_at}
+use Rattle.bsdl_lexer.specs.inner.Lengths.{with_digits, fraction_len, signed_len, exponent_len, number_len, closed_len, token_at}
 use Rattle.bsdl_lexer.proofs.Longest.{passes}
 
 chosen : {A : Type 0} (b : Bool) (x y z : A) → cond b x y ≡ z → ((b ≡ true) × (x ≡ z)) ⊎ ((b ≡ false) × (y ≡ z))

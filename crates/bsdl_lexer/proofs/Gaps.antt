@@ -3,7 +3,7 @@ use Rattle.std.proofs.Common.{◌≡◌, ℕ, suc, ◌+◌, ◌≤◌, List, [],
 use Rattle.std.proofs.lemmas.Bool.Decides.{nat_tests}
 use Rattle.std.specs.List.{list_all}
 use Rattle.bsdl_lexer.specs.Forms.{IsGap, nothing, blank, comment, last_comment, is_blank, begins_comment, begins_gap, line_feed, dash}
-use Rattle.bsdl_lexer.specs.Lengths.{gap_len}
+use Rattle.bsdl_lexer.specs.inner.Lengths.{gap_len}
 use Rattle.bsdl_lexer.proofs.Longest.{both_true}
 
 abbrev pub stays : ℕ → Bool

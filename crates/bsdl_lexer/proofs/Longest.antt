@@ -6,7 +6,7 @@ use Rattle.std.specs.Char.{is_ascii_alphabetic, is_ascii_digit}
 use Rattle.bsdl_lexer.specs.declared.token.TokenKind.{TokenKind}
 use Rattle.bsdl_lexer.specs.declared.token.TokenKind.TheVariants.{Word, Number, Text, Mark}
 use Rattle.bsdl_lexer.specs.Forms.{IsWord, IsDigits, IsFraction, IsSigned, IsExponent, IsNumber, IsText, HasForm, is_word_byte, is_text_byte, is_mark, is_exponent_letter, is_sign, begins_comment, quote, point}
-use Rattle.bsdl_lexer.specs.Lengths.{with_digits, fraction_len, signed_len, exponent_len, number_len, closed_len, token_at}
+use Rattle.bsdl_lexer.specs.inner.Lengths.{with_digits, fraction_len, signed_len, exponent_len, number_len, closed_len, token_at}
 
 pub both_true : (a b : Bool) → (a && b) ≡ true → (a ≡ true) × (b ≡ true)
 both_true true b h = (refl, h)

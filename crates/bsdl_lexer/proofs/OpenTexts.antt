@@ -6,7 +6,7 @@ use Rattle.bsdl_lexer.specs.declared.token.TokenKind.{TokenKind}
 use Rattle.bsdl_lexer.specs.declared.token.TokenKind.TheVariants.{Text}
 use Rattle.bsdl_lexer.specs.Forms.{begins_gap, is_text_byte, line_feed, carriage_return, quote}
 use Rattle.bsdl_lexer.specs.Answer.{BeginsOpenText, EndsOpen}
-use Rattle.bsdl_lexer.specs.Lengths.{token_at, closed_len}
+use Rattle.bsdl_lexer.specs.inner.Lengths.{token_at, closed_len}
 use Rattle.bsdl_lexer.proofs.Longest.{both_true}
 
 -- the byte behind the longest front that may stand in a text

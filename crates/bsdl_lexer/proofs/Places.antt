@@ -11,8 +11,8 @@ use Rattle.bsdl_lexer.specs.declared.token.TokenKind.{TokenKind}
 use Rattle.bsdl_lexer.specs.declared.token.TokenKind.TheVariants.{Word, Number, Text, Mark}
 use Rattle.bsdl_lexer.specs.Forms.{HasForm, IsGap, is_blank, is_mark, begins_comment, begins_gap, quote}
 use Rattle.bsdl_lexer.specs.Tokens.{line_of, Separates, IsToken}
-use Rattle.bsdl_lexer.specs.Lengths.{gap_len, token_at}
-use Rattle.bsdl_lexer.specs.Steps.{token_of}
+use Rattle.bsdl_lexer.specs.inner.Lengths.{gap_len, token_at}
+use Rattle.bsdl_lexer.specs.inner.Steps.{token_of}
 use Rattle.bsdl_lexer.proofs.Longest.{IsWithin, within, no_empty, number_first}
 use Rattle.bsdl_lexer.proofs.Found.{IsFront, found_front, some_token, same_token}
 use Rattle.bsdl_lexer.proofs.Gaps.{gap_front, only_gap, gap_len-le}

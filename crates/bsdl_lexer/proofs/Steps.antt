@@ -11,8 +11,8 @@ use Rattle.bsdl_lexer.specs.declared.token.LexFault.TheVariants.{Byte, OpenStrin
 use Rattle.bsdl_lexer.specs.Forms.{begins_comment, begins_gap, quote}
 use Rattle.bsdl_lexer.specs.Tokens.{line_feeds, line_of, Separates, IsToken}
 use Rattle.bsdl_lexer.specs.Answer.{BeginsToken, BeginsOpenText, BeginsNothing}
-use Rattle.bsdl_lexer.specs.Lengths.{gap_len, token_at}
-use Rattle.bsdl_lexer.specs.Steps.{bad_byte, token_of, step_with, step_at, step}
+use Rattle.bsdl_lexer.specs.inner.Lengths.{gap_len, token_at}
+use Rattle.bsdl_lexer.specs.inner.Steps.{bad_byte, token_of, step_with, step_at, step}
 use Rattle.bsdl_lexer.proofs.Longest.{IsWithin, within}
 use Rattle.bsdl_lexer.proofs.Found.{IsFront, found_front, some_token}
 use Rattle.bsdl_lexer.proofs.Gaps.{ends_gap}

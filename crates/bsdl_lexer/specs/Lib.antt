@@ -1,5 +1,4 @@
 pub mod Forms
 pub mod Tokens
 pub mod Answer
-pub mod Lengths
-pub mod Steps
+pub mod inner

@@ -4,7 +4,7 @@ ghost use Rattle.std.specs.List.{prefix_len};
 ghost use Rattle.std.specs.Char.{is_ascii_digit};
 ghost use Rattle.bsdl_lexer.specs.Forms.{is_blank, is_word_byte, is_text_byte, is_mark, is_exponent_letter, is_sign, begins_comment};
 ghost use Rattle.bsdl_lexer.specs.Tokens.{line_feeds};
-ghost use Rattle.bsdl_lexer.specs.Lengths.{with_digits, fraction_len, signed_len, exponent_len, number_len, closed_len, token_at, gap_len};
+ghost use Rattle.bsdl_lexer.specs.inner.Lengths.{with_digits, fraction_len, signed_len, exponent_len, number_len, closed_len, token_at, gap_len};
 
 use crate::token::TokenKind;
 

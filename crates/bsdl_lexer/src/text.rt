@@ -3,7 +3,7 @@ ghost use Rattle.std.specs.Prelude.{◌≡◌, ◌≤◌, ◌<◌, ◌^◌, ◌+
 ghost use Rattle.bsdl_lexer.specs.declared.token.Token.{Token};
 ghost use Rattle.bsdl_lexer.specs.declared.token.LexFault.{LexFault};
 ghost use Rattle.bsdl_lexer.specs.Answer.{IsAnswer, AreFirst, UnlessMemory};
-ghost use Rattle.bsdl_lexer.specs.Steps.{bad_byte, step_at, step};
+ghost use Rattle.bsdl_lexer.specs.inner.Steps.{bad_byte, step_at, step};
 
 use crate::lengths::{gap_at, token_found};
 use crate::token::{LexFault, Token};

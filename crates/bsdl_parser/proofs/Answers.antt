@@ -9,11 +9,11 @@ use Rattle.bsdl_parser.specs.declared.fault.ParseFault.TheVariants.{Expected, Pa
 use Rattle.bsdl_parser.specs.Lexeme.{Lexeme, lexemes}
 use Rattle.bsdl_parser.specs.Entity.{HaveKinds, IsSmall}
 use Rattle.grammars.specs.Grammar.{reader_of}
-use Rattle.grammars.specs.Reader.{Outcome, Reader, found, refused}
+use Rattle.grammars.specs.inner.Reader.{Outcome, Reader, found, refused}
 use Rattle.bsdl_parser.specs.declared.entity.Entity.{Entity}
 use Rattle.bsdl_parser.specs.Bsdl.{file}
 use Rattle.bsdl_parser.specs.Answer.{Derives, IsStray, StartsPackage, IsUnfinished, last_line, IsFault, IsAnswer, UnlessMemory}
-use Rattle.bsdl_parser.specs.Judged.{is_package, fault_at, judged}
+use Rattle.bsdl_parser.specs.inner.Judged.{is_package, fault_at, judged}
 use Rattle.grammars.proofs.Exact.{RunsOut, Reads, Refuses, IsLocalAt, reads_on}
 use Rattle.bsdl_parser.proofs.Integers.{both_true}
 use Rattle.bsdl_parser.proofs.Decided.{decides_file}

@@ -1,12 +1,12 @@
 -- A loop over turns stops where one of its turns does.
 use Rattle.std.proofs.Common.{◌≡◌, List}
 use Rattle.grammars.specs.Turn.{Turn}
-use Rattle.grammars.specs.Reader.{Outcome}
+use Rattle.grammars.specs.inner.Reader.{Outcome}
 use Rattle.grammars.specs.Grammar.{Grammar, turns, reader_of}
 use Rattle.grammars.proofs.Grammars.{TakesToken, EachTurnTakes, stops}
 use Rattle.bsdl_parser.specs.declared.stop.Stop.{Stop}
 use Rattle.bsdl_parser.specs.declared.stop.Stop.TheVariants.{Memory, Stray}
-use Rattle.bsdl_parser.specs.Gives.{StopsBy}
+use Rattle.bsdl_parser.specs.inner.Gives.{StopsBy}
 
 pub stopped : {T A : Type 0} (turn : A → Grammar T (Turn A A)) → ((a : A) → TakesToken (turn a) × EachTurnTakes (turn a)) → (a : A) (tokens rest : List T) (stop : Stop) (outcome : Outcome T A)
     → reader_of (turns turn a) tokens ≡ outcome → StopsBy (reader_of (turn a) tokens) rest stop → StopsBy outcome rest stop

@@ -7,7 +7,7 @@ ghost use Rattle.bsdl_parser.specs.declared.fault.ParseFault.{ParseFault};
 ghost use Rattle.bsdl_parser.specs.Lexeme.{lexemes};
 ghost use Rattle.bsdl_parser.specs.Bsdl.{file};
 ghost use Rattle.bsdl_parser.specs.Entity.{HaveKinds, IsSmall};
-ghost use Rattle.bsdl_parser.specs.Judged.{fault_at, judged};
+ghost use Rattle.bsdl_parser.specs.inner.Judged.{fault_at, judged};
 ghost use Rattle.bsdl_parser.specs.Answer.{IsAnswer, UnlessMemory, last_line};
 
 use crate::cursor::Cursor;

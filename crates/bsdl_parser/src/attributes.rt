@@ -3,7 +3,7 @@ ghost use Rattle.std.specs.Prelude.{◌≡◌, map};
 ghost use Rattle.std.specs.Char.{to_ascii_uppercase};
 ghost use Rattle.grammars.specs.Turn.{turn_of};
 ghost use Rattle.grammars.specs.Grammar.{turns, reader_of};
-ghost use Rattle.bsdl_parser.specs.Gives.{Gives};
+ghost use Rattle.bsdl_parser.specs.inner.Gives.{Gives};
 ghost use Rattle.bsdl_parser.specs.Bsdl.{used, of_class, plain_value, port_value, clock_value, number_value, text_value, value_of, skipped_token, attribute_name, attribute};
 
 use crate::cursor::{Cursor, spells, upper_name};

@@ -6,7 +6,7 @@ ghost use Rattle.std.specs.Char.{to_ascii_uppercase};
 ghost use Rattle.grammars.specs.Grammar.{reader_of};
 ghost use Rattle.bsdl_parser.specs.Lexeme.{bytes_of, lexeme_of, lexemes};
 ghost use Rattle.bsdl_parser.specs.Places as places;
-ghost use Rattle.bsdl_parser.specs.Gives.{Gives};
+ghost use Rattle.bsdl_parser.specs.inner.Gives.{Gives};
 
 use crate::numbers::integer_in;
 use crate::stop::Stop;
@@ -142,7 +142,7 @@ pub(crate) fn upper_name(alloc: Global, bytes: &[u8]) -> Result<Name, AllocError
 }
 
 impl<'a> Cursor<'a> {
-    ghost use Rattle.bsdl_parser.specs.Judged.{front_of};
+    ghost use Rattle.bsdl_parser.specs.inner.Judged.{front_of};
 
     pub(crate) fn new(alloc: Global, text: &'a [u8], tokens: &'a [Token]) -> Self
         ensures { result ≡ lexemes text.now tokens.now }

@@ -1,9 +1,9 @@
 //! A whole file.
 ghost use Rattle.std.specs.Prelude.{◌≡◌};
 ghost use Rattle.grammars.specs.Grammar.{reader_of};
-ghost use Rattle.bsdl_parser.specs.Gives.{Gives};
+ghost use Rattle.bsdl_parser.specs.inner.Gives.{Gives};
 ghost use Rattle.bsdl_parser.specs.Bsdl.{file, close_of, entity_of};
-ghost use Rattle.bsdl_parser.specs.Views.{items_of};
+ghost use Rattle.bsdl_parser.specs.inner.Views.{items_of};
 
 use crate::cursor::Cursor;
 use crate::draft::Draft;

@@ -3,9 +3,9 @@ ghost use Rattle.std.specs.Prelude.{◌≡◌, map};
 ghost use Rattle.std.specs.Char.{to_ascii_uppercase};
 ghost use Rattle.grammars.specs.Turn.{turn_of};
 ghost use Rattle.grammars.specs.Grammar.{turns, reader_of};
-ghost use Rattle.bsdl_parser.specs.Gives.{Gives};
+ghost use Rattle.bsdl_parser.specs.inner.Gives.{Gives};
 ghost use Rattle.bsdl_parser.specs.Bsdl.{fallback, generic, used_package, constant, item_word, item_begin, item, no_items};
-ghost use Rattle.bsdl_parser.specs.Views.{items_of};
+ghost use Rattle.bsdl_parser.specs.inner.Views.{items_of};
 
 use crate::cursor::{Cursor, bytes_at, is_word, spells};
 use crate::draft::{Draft, ItemWord};

@@ -2,7 +2,7 @@
 ghost use Rattle.std.specs.Prelude.{◌≡◌, ◌++◌, [], OnOk};
 ghost use Rattle.grammars.specs.Turn.{turn_of};
 ghost use Rattle.grammars.specs.Grammar.{turns, reader_of};
-ghost use Rattle.bsdl_parser.specs.Gives.{Gives};
+ghost use Rattle.bsdl_parser.specs.inner.Gives.{Gives};
 ghost use Rattle.bsdl_parser.specs.Bsdl.{port_name, range, range_of, ports_of, port_group, ports};
 
 use crate::cursor::Cursor;

@@ -2,7 +2,7 @@
 use Rattle.std.proofs.Common.{◌≡◌, ℕ, ◌<◌, Bool, true, false, List, [], ◌∷◌, ◌++◌, length, Option, Some, None, inl, inr, refl, sym, ◌∙◌, ap}
 use Rattle.board_defs.specs.declared.device.Symbol.{Symbol}
 use Rattle.grammars.specs.Turn.{turn_of}
-use Rattle.grammars.specs.Reader.{found, refused, Outcome}
+use Rattle.grammars.specs.inner.Reader.{found, refused, Outcome}
 use Rattle.grammars.specs.Grammar.{turns, reader_of}
 use Rattle.grammars.proofs.Grammars.{TakesToken, EachTurnTakes, goes_on, ends, stops, turn_shrinks}
 use Rattle.grammars.proofs.ListReaders.{each_takes, read_front, found_front, value_of_list, no_value}
@@ -10,7 +10,7 @@ use Rattle.bsdl_strings.specs.declared.values.PortWord.{PortWord}
 use Rattle.bsdl_strings.specs.declared.stop.Stop.{Stop}
 use Rattle.bsdl_strings.specs.declared.stop.Stop.TheVariants.{Memory, At}
 use Rattle.bsdl_strings.specs.Pieces.{pieces}
-use Rattle.bsdl_strings.specs.Gives.{StopsAt}
+use Rattle.bsdl_strings.specs.inner.Gives.{StopsAt}
 use Rattle.bsdl_strings.specs.Faults.{fault_of, FaultIs}
 use Rattle.bsdl_strings.specs.Strings.{bit_of, bit, bit_turn, first_parenthesis, second_parenthesis, compliance, IsCompliance, HasFirstParenthesis, IsNoCompliance}
 use Rattle.bsdl_strings.proofs.Lists.{can_codes}

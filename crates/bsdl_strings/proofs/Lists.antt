@@ -1,7 +1,7 @@
 -- Lists inside a string: what they are made of can be read, and where one stops the string stops.
 use Rattle.std.proofs.Common.{◌≡◌, ℕ, ◌<◌, ◌^◌, length, arith, subst, sym, ◌∙◌, ap, Bool, true, false, List, [], ◌∷◌, ◌++◌, Option, Some, None, inl}
 use Rattle.std.specs.Borrow.{Bor}
-use Rattle.grammars.specs.Reader.{found}
+use Rattle.grammars.specs.inner.Reader.{found}
 use Rattle.grammars.specs.Grammar.{reader_of}
 use Rattle.grammars.specs.Lists.{list_of}
 use Rattle.grammars.proofs.Grammars.{TakesToken, EachTurnTakes}
@@ -9,7 +9,7 @@ use Rattle.grammars.proofs.ListReaders.{CanRead, Progress, each_takes, stops_at_
 use Rattle.bsdl_strings.specs.declared.stop.Stop.{Stop}
 use Rattle.bsdl_strings.specs.declared.stop.Stop.TheVariants.{Memory, At}
 use Rattle.bsdl_strings.specs.Pieces.{pieces}
-use Rattle.bsdl_strings.specs.Gives.{StopsAt, more_of}
+use Rattle.bsdl_strings.specs.inner.Gives.{StopsAt, more_of}
 use Rattle.bsdl_strings.specs.Faults.{fault_of, FaultIs}
 use Rattle.bsdl_strings.proofs.PieceLemmas.{length_pieces}
 use Rattle.bsdl_strings.specs.Places.{Part, pin, code, comma_or_end}

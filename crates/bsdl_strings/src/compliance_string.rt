@@ -1,9 +1,9 @@
 //! A compliance string: bits in one parenthesis, and patterns in another.
 ghost use Rattle.std.specs.Prelude.{◌<◌, [], IfOk, IfErr};
-ghost use Rattle.grammars.specs.Reader.{found};
+ghost use Rattle.grammars.specs.inner.Reader.{found};
 ghost use Rattle.grammars.specs.Grammar.{reader_of};
 ghost use Rattle.bsdl_strings.specs.Pieces.{pieces};
-ghost use Rattle.bsdl_strings.specs.Gives.{Gives};
+ghost use Rattle.bsdl_strings.specs.inner.Gives.{Gives};
 ghost use Rattle.bsdl_strings.specs.Faults.{FaultIs};
 ghost use Rattle.bsdl_strings.specs.Strings.{bit_of, bit as any_bit, bits as any_bits, first_parenthesis as the_first, second_parenthesis as the_second, IsCompliance, IsNoCompliance};
 

@@ -1,10 +1,10 @@
 //! The entries of pin maps, opcode strings and boundary registers, and their parts.
 ghost use Rattle.std.specs.Prelude.{◌≡◌, [], ◌∷◌, IfOk};
-ghost use Rattle.grammars.specs.Reader.{found};
+ghost use Rattle.grammars.specs.inner.Reader.{found};
 ghost use Rattle.grammars.specs.Grammar.{reader_of};
 ghost use Rattle.grammars.specs.Lists.{list_of};
 ghost use Rattle.bsdl_strings.specs.Pieces.{pieces};
-ghost use Rattle.bsdl_strings.specs.Gives.{Gives};
+ghost use Rattle.bsdl_strings.specs.inner.Gives.{Gives};
 ghost use Rattle.bsdl_strings.specs.Places.{pin as any_pin, code as any_code};
 ghost use Rattle.bsdl_strings.specs.Strings.{comma_or_close, pins_of, map_entry as any_map_entry, opcode as any_opcode, indexed as index_after, place_of, port_place as any_port_place, control_of, control as any_control, cell as any_cell, entry as any_entry};
 

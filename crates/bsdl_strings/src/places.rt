@@ -3,10 +3,10 @@ ghost use Rattle.std.specs.Prelude.{◌≡◌, ◌+◌, ◌-◌, ◌*◌, ◌<�
 ghost use Rattle.std.specs.List.{list_all, take_while};
 ghost use Rattle.std.specs.Str.{bytes_eq};
 ghost use Rattle.std.specs.Char.{is_ascii_digit, to_ascii_uppercase};
-ghost use Rattle.grammars.specs.Reader.{found};
+ghost use Rattle.grammars.specs.inner.Reader.{found};
 ghost use Rattle.grammars.specs.Grammar.{reader_of};
 ghost use Rattle.bsdl_strings.specs.Pieces.{is_word_byte, pieces};
-ghost use Rattle.bsdl_strings.specs.Gives.{Gives, more_of};
+ghost use Rattle.bsdl_strings.specs.inner.Gives.{Gives, more_of};
 ghost use Rattle.bsdl_strings.specs.Places.{upper, is_pin, is_index, is_code, is_symbol, symbol_of, code_of, decimal, role_of, is_result, comma_or_end, word_or_star, pin_or_open, safe_value, result_word, after_bit, the_end};
 ghost use Rattle.bsdl_strings.specs.Places.{is_mark as is_the_mark, is_word as is_any_word, mark as the_mark, either_mark as either_of_marks, word as any_word, pin as any_pin, index as any_index, code as any_code, role as any_role};
 

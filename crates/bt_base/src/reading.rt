@@ -3,7 +3,7 @@ ghost use Rattle.std.specs.Prelude.{◌≡◌, ℕ, ◌+◌, ◌<◌, ◌≤◌,
 ghost use Rattle.std.specs.Io.{ReadsAtMost};
 ghost use Rattle.std.specs.Io.KnownBytes.{ReadConsumes};
 ghost use Rattle.bt_base.specs.Faults.{is_failed};
-ghost use Rattle.bt_base.specs.Reading.{GivesNext};
+ghost use Rattle.bt_base.specs.inner.Reading.{GivesNext};
 
 use crate::FetchFault;
 use std::io;

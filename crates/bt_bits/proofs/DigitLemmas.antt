@@ -9,7 +9,8 @@ use Rattle.std.proofs.lemmas.List.Elements.{All-nil, All-cons, All-head, All-tai
 use Rattle.bt_bits.specs.Hex.{digit_count}
 use Rattle.bt_bits.specs.Rows.{AreDigitsOf}
 use Rattle.bt_bits.proofs.HexLemmas.{take_four}
-use Rattle.bt_bits.specs.Digits.{bit_value, digit_value, digits_of, digit_bit, bits_of, row_bits, with_bit}
+use Rattle.bt_bits.specs.Digits.{bit_value, digit_value, digits_of, digit_bit, bits_of, row_bits}
+use Rattle.bt_bits.specs.inner.Digits.{with_bit}
 
 pub bit_value-le : (bit : Bool) → bit_value bit ≤ 1
 bit_value-le true = omega arith

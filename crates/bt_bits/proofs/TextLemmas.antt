@@ -3,7 +3,8 @@ use Rattle.std.proofs.Common.{◌≡◌, ℕ, ◌+◌, ◌-◌, ◌<◌, ◌≤�
 use Rattle.std.specs.List.{list_all}
 use Rattle.std.proofs.lemmas.List.{append-nil, take_more, length-take-le, drop-set, take-append-drop, take_at, drop_at}
 use Rattle.bt_bits.specs.Hex.{hex_digit, hex_text, digit_count, text_bits, joined_bits, digit_bits, cut_to, field_bits}
-use Rattle.bt_bits.specs.Digits.{digit_value, digits_of, bits_of, row_bits, digit_char, digits_text}
+use Rattle.bt_bits.specs.Digits.{digit_value, digits_of, bits_of, row_bits}
+use Rattle.bt_bits.specs.inner.Digits.{digit_char, digits_text}
 use Rattle.std.specs.Prelude.{MatchBool}
 use Rattle.std.proofs.Math.Seq.{drop-cons}
 use Rattle.bt_bits.proofs.HexLemmas.{field_bits-sized}

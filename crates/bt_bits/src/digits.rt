@@ -3,7 +3,8 @@ ghost use Rattle.std.specs.Prelude.{◌≡◌, ◌+◌, ◌-◌, ◌*◌, ◌/�
 ghost use Rattle.std.specs.Bool.{OnTrue, OnFalse};
 ghost use Rattle.std.specs.List.{list_all};
 ghost use Rattle.bt_bits.specs.Hex.{digit_count, digit_bits, text_bits, field_bits};
-ghost use Rattle.bt_bits.specs.Digits.{bits_of, digit_bit, digit_char, digit_value, digits_of, digits_text, row_bits, with_bit};
+ghost use Rattle.bt_bits.specs.Digits.{bits_of, digit_bit, digit_value, digits_of, row_bits};
+ghost use Rattle.bt_bits.specs.inner.Digits.{digit_char, digits_text, with_bit};
 ghost use Rattle.bt_bits.specs.Rows.{AreDigitsOf};
 
 use crate::Line;

@@ -32,8 +32,8 @@ use Rattle.btest_cli.specs.Worth.{Diagnoses, DiagnosesEach, FindsGroups, IsWorth
 use Rattle.board_gen.specs.BoardTexts as made
 use Rattle.board_gen.specs.DeviceText.{bsdl_text}
 use Rattle.btest_cli.specs.Summary.{summary_text}
-use Rattle.btest_cli.specs.Answers.{Answers, IsCutBy, LogAnswers, NoBoard, Nothing, unput_batch, unput_log, unput_of}
-use Rattle.btest_cli.specs.Failures.{IsAnswered}
+use Rattle.btest_cli.specs.inner.Answers.{Answers, IsCutBy, LogAnswers, NoBoard, Nothing, unput_batch, unput_log, unput_of}
+use Rattle.btest_cli.specs.inner.Failures.{IsAnswered}
 
 -- a fault was found
 pub answers_fault : {A : Type 0} (IsFound : Result A InputFault → Type 0) (text_of : A → Text) (IsWorth : Shown → Type 0) (shown : Shown) (fault : InputFault) → FaultIs (λ f. IsFound (Err f)) fault → Answers IsFound text_of IsWorth shown shown (Err (unput_of fault))

@@ -9,7 +9,7 @@ use Rattle.command_line.specs.Words.{Text}
 use Rattle.btest_cli.specs.declared.texts.Wanted.{Wanted as Lent}
 use Rattle.btest_cli.specs.declared.failure.Unread.{Unread}
 use Rattle.btest_cli.specs.Texts.{Held, Wanted, Reading, Read, TooLong, IsRead, IsReadUpTo, IsText, IsLong, Asks, names_in, read_first, reading_of, reading_in, and_text}
-use Rattle.btest_cli.specs.Failures.{wanted_view}
+use Rattle.btest_cli.specs.inner.Failures.{wanted_view}
 
 not_long : (limit n : ℕ) (b : Bool) → nat_lt limit n ≡ b → n ≤ limit → b ≡ false
 not_long limit n true test short = grind (arith, common_steps)

@@ -40,8 +40,8 @@ use Rattle.walk_test.specs.WalkTest.{board_walk_text}
 use Rattle.btest_cli.specs.LogRead.{IsInputFault, IsJudged, IsWrong, Judging, OnDenoted, TextFault, Input, Log, Batch as OfBatch, diagnosing, diagnosis_text, grouping, grouping_text, judging_each, verdicts_text}
 use Rattle.btest_cli.specs.Refusals.{roles_of, input_fault_line, log_fault_line, batch_fault_line, text_fault_line, long_line, memory_line}
 use Rattle.btest_cli.specs.Outcome.{AsksSome, IsComplete, IsGiven, IsOutcome, IsSaid, IsSaidOfBoard, IsSaidOfChain, IsSaidOfLog, IsSaidOfText, Settles, SomeRose, TookOrCut}
-use Rattle.btest_cli.specs.Failures.{IsUnread, IsPut, IsUnput, wanted_view, unread_status, unread_line, unput_status, unput_line}
-use Rattle.btest_cli.specs.RunOf.{IsRunOf}
+use Rattle.btest_cli.specs.inner.Failures.{IsUnread, IsPut, IsUnput, wanted_view, unread_status, unread_line, unput_status, unput_line}
+use Rattle.btest_cli.specs.inner.RunOf.{IsRunOf}
 
 -- a line that was put, or not whole
 pub took_or_cut : {T E : Type 0} {old new : Shown} {line : Text} (r : Result T E) → Puts old new line r → TookOrCut old new line

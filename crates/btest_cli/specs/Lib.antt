@@ -1,10 +1,7 @@
 pub mod Texts
 pub mod LogRead
 pub mod Refusals
-pub mod NamesView
 pub mod Worth
 pub mod Summary
 pub mod Outcome
-pub mod Answers
-pub mod Failures
-pub mod RunOf
+pub mod inner

@@ -2,7 +2,7 @@
 ghost use Rattle.std.specs.Prelude.{◌<◌, ◌^◌, All, length, map};
 ghost use Rattle.coverage_list.specs.CoverText.{cover_text};
 ghost use Rattle.btest_core.specs.BoardRead.{IsBoardRead};
-ghost use Rattle.btest_cli.specs.Answers.{Answers};
+ghost use Rattle.btest_cli.specs.inner.Answers.{Answers};
 ghost use Rattle.btest_cli.specs.Worth.{ListsCover};
 
 use crate::failure::{Unput, unput_by};

@@ -11,7 +11,7 @@ ghost use Rattle.board_gen.specs.DeviceText.{bsdl_text};
 ghost use Rattle.btest_core.specs.Answers.{Gives};
 ghost use Rattle.btest_core.specs.BoardRead.{IsBoardRead};
 ghost use Rattle.btest_cli.specs.Summary.{counts_line, summary_text};
-ghost use Rattle.btest_cli.specs.Answers.{Answers, Nothing};
+ghost use Rattle.btest_cli.specs.inner.Answers.{Answers, Nothing};
 
 use crate::board_test::{longest_scan, write_test};
 use crate::failure::{Unput, unput_by};

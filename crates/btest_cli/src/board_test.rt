@@ -10,7 +10,7 @@ ghost use Rattle.tap_defs.specs.chain.Text.{scan_text, svf_text};
 ghost use Rattle.scan_planner.specs.Plans.{IsPlanOf, IsRoom, scan_count};
 ghost use Rattle.btest_core.specs.BoardRead.{IsBoardRead};
 ghost use Rattle.btest_cli.specs.Worth.{RespondOnce, TestsBoard};
-ghost use Rattle.btest_cli.specs.Answers.{Answers};
+ghost use Rattle.btest_cli.specs.inner.Answers.{Answers};
 
 use crate::failure::{Unput, unput_by};
 use crate::rows::Rows;
@@ -22,9 +22,8 @@ use net_classes::classify;
 use scan_planner::Plan;
 use std::alloc::{AllocError, Global};
 use svf_writer::{write_head, write_scan, write_tail};
-use tap_defs::board_law::{board_texts_test, scans_placed};
+use tap_defs::board_law::{board_texts_test, one_log, scans_in_turn, scans_placed};
 use tap_defs::chain_law::texts_mean;
-use tap_defs::board_law::{one_log, scans_in_turn};
 
 /// Puts the text that tests the board of these texts. All memory is
 /// taken before the first put.

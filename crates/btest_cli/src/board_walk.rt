@@ -7,7 +7,7 @@ ghost use Rattle.scan_planner.specs.Plans.{IsRoom};
 ghost use Rattle.walk_test.specs.Tables.{IsWalkOf, scan_count};
 ghost use Rattle.walk_test.specs.WalkTest.{board_walk_text, walk_scans};
 ghost use Rattle.btest_core.specs.BoardRead.{Denotes, IsBoardRead};
-ghost use Rattle.btest_cli.specs.Answers.{Answers, NoBoard};
+ghost use Rattle.btest_cli.specs.inner.Answers.{Answers, NoBoard};
 ghost use Rattle.btest_cli.specs.Worth.{WalksBoard};
 
 use crate::board_test::longest_scan;
@@ -126,12 +126,5 @@ fn write_walk_scan<K: Sink>(
 {
     let Walked { board, walk } = walked;
     let shape = walk.fill(board, k, &mut rows.tdi, &mut rows.tdo, &mut rows.mask);
-    write_scan(
-        shape,
-        &rows.tdi,
-        &rows.tdo,
-        &rows.mask,
-        &mut rows.line,
-        out,
-    )
+    write_scan(shape, &rows.tdi, &rows.tdo, &rows.mask, &mut rows.line, out)
 }

@@ -6,7 +6,7 @@ ghost use Rattle.tap_defs.specs.chain.ChainTest.{IsChainTest};
 ghost use Rattle.svf_writer.specs.Rows.{IsRoom};
 ghost use Rattle.btest_core.specs.BoardRead.{AreChainLengths, AreLengths};
 ghost use Rattle.btest_cli.specs.Worth.{TestsChain};
-ghost use Rattle.btest_cli.specs.Answers.{Answers};
+ghost use Rattle.btest_cli.specs.inner.Answers.{Answers};
 
 use crate::failure::{Unput, unput_by};
 use crate::rows::Rows;

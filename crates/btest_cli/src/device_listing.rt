@@ -2,7 +2,7 @@
 ghost use Rattle.std.specs.Prelude.{◌<◌, ◌^◌, length};
 ghost use Rattle.device_check.specs.DeviceText.{device_text};
 ghost use Rattle.btest_core.specs.DevicesRead.{IsDeviceText};
-ghost use Rattle.btest_cli.specs.Answers.{Answers};
+ghost use Rattle.btest_cli.specs.inner.Answers.{Answers};
 ghost use Rattle.btest_cli.specs.Worth.{ListsDevice};
 
 use crate::failure::{Unput, unput_by};

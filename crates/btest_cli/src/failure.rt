@@ -1,12 +1,13 @@
 // Why a command put no whole text, its status and its line.
 ghost use Rattle.std.specs.Prelude.{◌≡◌};
 ghost use Rattle.bt_base.specs.Puts.{Puts};
-ghost use Rattle.btest_cli.specs.Answers.{unput_batch, unput_log, unput_of};
-ghost use Rattle.btest_cli.specs.Failures.{unread_status, unread_line, unput_status, unput_line};
-ghost use Rattle.btest_cli.specs.NamesView.{names_view};
+ghost use Rattle.btest_cli.specs.inner.Answers.{unput_batch, unput_log, unput_of};
+ghost use Rattle.btest_cli.specs.inner.Failures.{unread_status, unread_line, unput_status, unput_line};
+ghost use Rattle.btest_cli.specs.inner.NamesView.{names_view};
 
 use crate::notes::{
-    Names, put_batch_fault, put_input_fault, put_log_fault, put_memory, put_not_read, put_not_written, put_too_long,
+    Names, put_batch_fault, put_input_fault, put_log_fault, put_memory, put_not_read,
+    put_not_written, put_too_long,
 };
 use crate::status::Status;
 use crate::texts::Wanted;

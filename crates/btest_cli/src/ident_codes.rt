@@ -4,7 +4,7 @@ ghost use Rattle.ident_test.specs.IdentTest.{ArePatterns, IsIdentTest};
 ghost use Rattle.ident_test.specs.Patterns.{ident_bits, ident_text};
 ghost use Rattle.btest_core.specs.IdentsRead.{AreIdents};
 ghost use Rattle.btest_cli.specs.Worth.{TestsIdents};
-ghost use Rattle.btest_cli.specs.Answers.{Answers};
+ghost use Rattle.btest_cli.specs.inner.Answers.{Answers};
 
 use crate::failure::{Unput, unput_by};
 use crate::rows::Rows;

@@ -4,7 +4,7 @@ ghost use Rattle.board_defs.specs.Passes.{passes_of};
 ghost use Rattle.scan_planner.specs.Plans.{IsPlanOf};
 ghost use Rattle.btest_cli.specs.LogRead.{OnBoard, OnDenoted, diagnosing, diagnosis_text};
 ghost use Rattle.btest_cli.specs.Worth.{Diagnoses, OfDenoted};
-ghost use Rattle.btest_cli.specs.Answers.{LogAnswers};
+ghost use Rattle.btest_cli.specs.inner.Answers.{LogAnswers};
 
 use crate::board_test::{singles_respond, test_means};
 use crate::failure::{Unput, unput_by_log};

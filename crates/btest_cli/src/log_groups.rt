@@ -3,7 +3,7 @@ ghost use Rattle.std.specs.Prelude.{◌≡◌, ◌<◌, ◌^◌, All, length, ma
 ghost use Rattle.walk_test.specs.Tables.{IsWalkOf};
 ghost use Rattle.btest_cli.specs.LogRead.{OnBoard, OnDenoted, grouping, grouping_text};
 ghost use Rattle.btest_cli.specs.Worth.{FindsGroups, OfDenoted};
-ghost use Rattle.btest_cli.specs.Answers.{LogAnswers};
+ghost use Rattle.btest_cli.specs.inner.Answers.{LogAnswers};
 
 use crate::board_test::test_means;
 use crate::board_walk::{Walked, walked_board};

@@ -4,7 +4,7 @@ ghost use Rattle.board_defs.specs.BoardRules.{IsBoard};
 ghost use Rattle.board_defs.specs.Passes.{passes_of};
 ghost use Rattle.scan_planner.specs.Plans.{IsPlanOf};
 ghost use Rattle.btest_core.specs.BoardRead.{Denotes};
-ghost use Rattle.btest_cli.specs.Answers.{NoBoard};
+ghost use Rattle.btest_cli.specs.inner.Answers.{NoBoard};
 ghost use Rattle.btest_cli.specs.Worth.{TestMeans};
 
 use crate::board_test::board_plan;

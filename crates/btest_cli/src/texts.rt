@@ -3,7 +3,7 @@ ghost use Rattle.std.specs.Prelude.{◌≡◌, ℕ, ◌<◌, ◌≤◌, ◌^◌,
 ghost use Rattle.bt_base.specs.Counts.{Rose};
 ghost use Rattle.btest_cli.specs.declared.failure.Unread.{Unread as Lost};
 ghost use Rattle.btest_cli.specs.Texts.{IsRead, IsText, IsLong, Asks, Read, log_called, names_in, text_called};
-ghost use Rattle.btest_cli.specs.Failures.{IsUnread, wanted_view};
+ghost use Rattle.btest_cli.specs.inner.Failures.{IsUnread, wanted_view};
 
 use crate::failure::Unread;
 use bt_base::{FetchFault, Store};

@@ -3,12 +3,12 @@ ghost use Rattle.std.specs.Prelude.{◌≡◌, ◌≢◌, ◌⊎◌, ◌+◌, �
 ghost use Rattle.bt_base.specs.Counts.{Rose};
 ghost use Rattle.command_line.specs.Words.{Text, ChainNames, Chain, Device, HasNumber, Ident, command_of, names_of};
 ghost use Rattle.command_line.specs.CommandView.{command_view};
-ghost use Rattle.btest_cli.specs.RunOf.{IsRunOf};
-ghost use Rattle.btest_cli.specs.NamesView.{names_view};
+ghost use Rattle.btest_cli.specs.inner.RunOf.{IsRunOf};
+ghost use Rattle.btest_cli.specs.inner.NamesView.{names_view};
 ghost use Rattle.btest_cli.specs.Refusals.{roles_of, usage_line, write_line, memory_line};
 ghost use Rattle.btest_cli.specs.Texts.{text_called, wanted_of};
 ghost use Rattle.btest_cli.specs.Outcome.{AsksSome, ForCommand, IsComplete, IsCutShort, IsDone, IsNotRead, IsRefused, IsWorth, SomeRose, TookOrCut};
-ghost use Rattle.btest_cli.specs.Failures.{IsAnswered, wanted_view};
+ghost use Rattle.btest_cli.specs.inner.Failures.{IsAnswered, wanted_view};
 
 use crate::board_cover::cover;
 use crate::board_summary::summary;
@@ -232,9 +232,7 @@ fn answer<R: Threads + Sync, K: Sink, G: Gate>(
             diagnosis(rt, alloc, log_texts(texts), workers, gate, out)
         }
         Command::Groups { .. } => groups(alloc, log_texts(texts), out),
-        Command::Batch { workers, .. } => {
-            batch(rt, alloc, log_texts(texts), workers, gate, out)
-        }
+        Command::Batch { workers, .. } => { batch(rt, alloc, log_texts(texts), workers, gate, out) }
     }
 }
 

@@ -13,7 +13,7 @@ use Rattle.board_build.specs.Names.{named}
 use Rattle.board_build.specs.NetWords.{IsShort}
 use Rattle.board_build.specs.declared.names.Naming.TheVariants.{Part as PartName, Entity as EntityName}
 use Rattle.series_parts.specs.declared.joining.Joined.{Joined}
-use Rattle.btest_core.specs.Kept.{Kept}
+use Rattle.btest_core.specs.inner.Kept.{Kept}
 use Rattle.series_parts.specs.Nets.{Word}
 use Rattle.series_parts.specs.Joining.{joined_statement, joined_line, joined_net, renaming, joined_chain, joined_nets, joined_files, unless}
 

@@ -3,5 +3,5 @@ pub mod InputFaults
 pub mod TextsRead
 pub mod DevicesRead
 pub mod BoardRead
-pub mod Kept
 pub mod IdentsRead
+pub mod inner

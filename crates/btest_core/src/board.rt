@@ -9,7 +9,7 @@ ghost use Rattle.board_build.specs.Names.{named};
 ghost use Rattle.board_build.specs.NetWords.{IsShort};
 ghost use Rattle.board_build.specs.declared.names.Naming.TheVariants.{Entity as EntityName};
 ghost use Rattle.series_parts.specs.Joining.{joined_files};
-ghost use Rattle.btest_core.specs.Kept.{Kept};
+ghost use Rattle.btest_core.specs.inner.Kept.{Kept};
 ghost use Rattle.btest_core.specs.declared.fault.InputFault.TheVariants.{Nets};
 ghost use Rattle.btest_core.specs.Answers.{Gives, Is};
 ghost use Rattle.btest_core.specs.InputFaults.{in_board, in_file, in_link};

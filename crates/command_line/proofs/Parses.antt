@@ -12,7 +12,7 @@ use Rattle.std.specs.List.{list_all}
 use Rattle.clap.specs.Faults.{other_fault, step_fault, fault_of, level_fault, entered_fault, walk_fault, turn_fault, check_fault, is_simple_and_free}
 use Rattle.clap.proofs.OnLiterals.{clap_on_literals}
 use Rattle.command_line.specs.Words.{is_plain}
-use Rattle.command_line.specs.App.{btest_app, chain_app, single_app, board_app, log_app, groups_app, top_app, names_rule, has_one, has_two, has_three, has_four, is_one, is_accepted}
+use Rattle.command_line.specs.inner.App.{btest_app, chain_app, single_app, board_app, log_app, groups_app, top_app, names_rule, has_one, has_two, has_three, has_four, is_one, is_accepted}
 use Rattle.command_line.proofs.PlainLemmas.{Plain, AllPlain, all_plain, idle_met, plain_fault, before_one, before_more, one_walked, one_turn, more_walked, more_turn}
 use Rattle.command_line.proofs.WalkLemmas.{stopped_at, stopped_walk, stopped_fault, end_fault, fault_from, level_parts, goes_on, row_of, more_rows, TakesNames, names_fault, no_default_fault, no_default}
 

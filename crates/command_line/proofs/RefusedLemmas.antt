@@ -3,7 +3,7 @@ use Rattle.std.proofs.Common.{◌≡◌, ℕ, Bool, true, false, List, [], ◌�
 use Rattle.std.specs.Prelude.{option_map, if◌then◌else◌}
 use Rattle.std.specs.List.{list_all}
 use Rattle.std.specs.Str.{bytes_eq}
-use Rattle.command_line.specs.App.{is_accepted, has_one, is_one, has_two, has_three, has_four}
+use Rattle.command_line.specs.inner.App.{is_accepted, has_one, is_one, has_two, has_three, has_four}
 use Rattle.command_line.specs.Words.{Text, ChainNames, BoardNames, Command, Chain, Ident, Cover, Svf, Walk, Diagnose, Batch, is_plain, command_of, parsed, chain_of, device_of, board_of, make_of, worked_of, groups_of, board_called, log_called}
 
 -- there is a command only where this is accepted

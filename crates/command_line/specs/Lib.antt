@@ -1,3 +1,3 @@
 pub mod Words
-pub mod App
 pub mod CommandView
+pub mod inner

@@ -6,7 +6,7 @@ ghost use Rattle.clap.specs.Walk.{rule_of};
 ghost use Rattle.clap.specs.declared.builder.command.Command.TheViews.{out-Command as fields_of};
 ghost use Rattle.command_line.specs.Words.{is_plain, command_of, parsed, board_called, log_called, chain_of, device_of, board_of, make_of, groups_of, diagnose_of, batch_of, names_of, HasNumber};
 ghost use Rattle.command_line.specs.CommandView.{chain_view, board_view, command_view};
-ghost use Rattle.command_line.specs.App.{name_rule, names_rule, chain_app, single_app, with_board, board_app, log_app, groups_app, top_app, parts_app, boards_app, logs_app, btest_app, is_accepted};
+ghost use Rattle.command_line.specs.inner.App.{name_rule, names_rule, chain_app, single_app, with_board, board_app, log_app, groups_app, top_app, parts_app, boards_app, logs_app, btest_app, is_accepted};
 
 use crate::number::number_of;
 use clap::error::ErrorKind;

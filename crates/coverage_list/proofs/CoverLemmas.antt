@@ -11,7 +11,7 @@ use Rattle.board_defs.specs.Decided.{is_covered, are_paired}
 use Rattle.board_defs.specs.Passes.{pairs_within}
 use Rattle.coverage_list.specs.declared.lines.PinUse.{PinUse}
 use Rattle.coverage_list.specs.CoverText.{is_untested, reason_lines, pin_line, net_pin_lines, pin_lines, pair_line, pair_lines}
-use Rattle.coverage_list.specs.CoverForms.{of_item, texts_from, net_reason, reason_at, place_text, net_pins, pins_at, pair_text, net_pairs, pairs_at}
+use Rattle.coverage_list.specs.inner.CoverForms.{of_item, texts_from, net_reason, reason_at, place_text, net_pins, pins_at, pair_text, net_pairs, pairs_at}
 
 flat_map_same : {X : Type 0} (f g : X → List ℕ) → ((x : X) → f x ≡ g x) → (xs : List X) → flat_map f xs ≡ flat_map g xs
 flat_map_same f g h [] = refl

@@ -20,7 +20,7 @@ use Rattle.net_classes.specs.declared.pair_keys.PairKey.TheVariants.{Uncovered, 
 use Rattle.net_classes.specs.PairKeys.{ArePairKeys, is_free_key, shows_paired, is_covered as key_covered}
 use Rattle.coverage_list.specs.declared.lines.PinUse.{PinUse}
 use Rattle.coverage_list.specs.CoverText.{is_untested, reason_line, pin_line, pair_line}
-use Rattle.coverage_list.specs.CoverForms.{of_item, texts_from, net_reason, reason_at, place_text, net_pins, pins_at, is_unpaired, pair_text, pair_at, net_pairs, pairs_at}
+use Rattle.coverage_list.specs.inner.CoverForms.{of_item, texts_from, net_reason, reason_at, place_text, net_pins, pins_at, is_unpaired, pair_text, pair_at, net_pairs, pairs_at}
 
 pub same_item : {X : Type 0} {o : Option X} {x y : X} → o ≡ Some x → o ≡ Some y → x ≡ y
 same_item {X} {o} {x} {y} e f = cc

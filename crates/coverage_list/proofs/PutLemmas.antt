@@ -5,7 +5,7 @@ use Rattle.bt_base.specs.Puts.{Shown}
 use Rattle.bt_base.specs.declared.sink.PutFault.{PutFault}
 use Rattle.line_printer.specs.Prints.{Prints}
 use Rattle.line_printer.proofs.PrintLemmas.{prints_ok, prints_err, prints_none, prints_same}
-use Rattle.coverage_list.specs.CoverForms.{texts_from}
+use Rattle.coverage_list.specs.inner.CoverForms.{texts_from}
 
 abbrev pub Completes : Shown → Shown → List ℕ → List ℕ → Type 0
 Completes start now rest whole = (new : Shown) (r : Result (Unit {0}) PutFault) → Prints now new [] [] rest r → Prints start new [] [] whole r

@@ -1,3 +1,3 @@
 pub mod CoverText
-pub mod CoverForms
 pub mod CoverList
+pub mod inner

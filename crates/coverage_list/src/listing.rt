@@ -5,11 +5,12 @@ ghost use Rattle.bt_base.specs.Puts.{Puts};
 ghost use Rattle.line_printer.specs.Prints.{Prints};
 ghost use Rattle.board_defs.specs.Pins.{IsOnBoard};
 ghost use Rattle.board_defs.specs.Decided.{is_covered};
-ghost use Rattle.net_classes.specs.Kept.{AreClasses, OfNet};
+ghost use Rattle.net_classes.specs.Kept.{AreClasses};
+ghost use Rattle.net_classes.specs.inner.Kept.{OfNet};
 ghost use Rattle.net_classes.specs.PairKeys.{ArePairKeys};
 ghost use Rattle.net_classes.specs.Pairs.{AreBitsOf, pairs_with};
 ghost use Rattle.coverage_list.specs.CoverText.{cover_text, covered, count_line, is_untested};
-ghost use Rattle.coverage_list.specs.CoverForms.{is_unpaired, net_pairs, net_pins, pair_at, pairs_at, pins_at, place_text, reason_at, texts_from};
+ghost use Rattle.coverage_list.specs.inner.CoverForms.{is_unpaired, net_pairs, net_pins, pair_at, pairs_at, pins_at, place_text, reason_at, texts_from};
 
 use crate::lines::{PinUse, put_counts, put_pair, put_pin, put_reason};
 use board_defs::{Board, Net, NetPin, PinRef};

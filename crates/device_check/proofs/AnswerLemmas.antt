@@ -16,7 +16,7 @@ use Rattle.device_check.specs.declared.strings.Strings.{Strings}
 use Rattle.device_check.specs.Attributes.{number_of, needed_text, pin_map_text, chosen, constants_named}
 use Rattle.device_check.specs.Needed.{is_within, stands_once, is_as_needed, v1}
 use Rattle.device_check.specs.DeviceStrings.{AreStrings, LeavesFirst, in_order}
-use Rattle.device_check.specs.Reading.{FaultIs, IsJudged}
+use Rattle.device_check.specs.inner.Reading.{FaultIs, IsJudged}
 use Rattle.device_check.specs.SoundDevice.{draft_of, IsAnswer, UnlessMemory}
 use Rattle.device_check.proofs.SearchLemmas.{none_at}
 use Rattle.device_check.proofs.StringLemmas.{few_entries}

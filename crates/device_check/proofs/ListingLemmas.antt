@@ -19,7 +19,7 @@ use Rattle.board_defs.specs.declared.device.RawDevice.{RawDevice}
 use Rattle.device_check.specs.declared.listing_table.Entries.{Entries}
 use Rattle.device_check.specs.declared.listing_table.Entries.TheVariants.{Nothing}
 use Rattle.device_check.specs.DeviceText.{symbol_word, code_text, entries_of, port_line, cell_line, cell_lines}
-use Rattle.device_check.specs.ListingForms.{entries_in, Rises}
+use Rattle.device_check.specs.inner.ListingForms.{entries_in, Rises}
 
 -- codes
 code_text-append : (a b : List Symbol) → code_text (a ++ b) ≡ code_text b ++ code_text a

@@ -5,7 +5,7 @@ use Rattle.board_defs.specs.declared.device.RawDevice.{RawDevice}
 use Rattle.board_defs.specs.declared.device.Symbol.{Symbol}
 use Rattle.bsdl_parser.specs.declared.entity.Entity.{Entity}
 use Rattle.bsdl_strings.specs.declared.values.Compliance.{Compliance}
-use Rattle.grammars.specs.Reader.{Outcome, found, refused}
+use Rattle.grammars.specs.inner.Reader.{Outcome, found, refused}
 use Rattle.grammars.specs.Grammar.{production_of, reader_of}
 use Rattle.grammars.specs.Lists.{list_of}
 use Rattle.grammars.proofs.Grammars.{decides_grammar, EachTurnTakes}

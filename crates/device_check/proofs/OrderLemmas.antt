@@ -10,7 +10,7 @@ use Rattle.device_check.specs.declared.fault.DeviceFault.{DeviceFault}
 use Rattle.device_check.specs.declared.fault.DeviceFault.TheVariants.{Rule, Text, Memory}
 use Rattle.device_check.specs.Attributes.{needed_text, text_of, pin_map_text}
 use Rattle.device_check.specs.DeviceStrings.{MayBe, DeviceString, pin_map, opcodes, capture, idcode, compliance, boundary, IsRead, LeavesBy, LeavesFirst, in_order}
-use Rattle.device_check.specs.Reading.{FaultIs}
+use Rattle.device_check.specs.inner.Reading.{FaultIs}
 
 -- a property of the attribute and the entry that follows from another
 weaker : {P Q : ℕ → ℕ → Type 0} → ((attribute entry : ℕ) → P attribute entry → Q attribute entry) → (fault : DeviceFault) → FaultIs P fault → FaultIs Q fault

@@ -8,7 +8,7 @@ use Rattle.bsdl_strings.specs.declared.values.Entry.{Entry}
 use Rattle.bsdl_strings.specs.declared.values.MapEntry.{MapEntry}
 use Rattle.bsdl_strings.specs.declared.values.Opcode.{Opcode}
 use Rattle.bsdl_strings.specs.declared.values.PortWord.{PortWord}
-use Rattle.grammars.specs.Reader.{Outcome, found, refused}
+use Rattle.grammars.specs.inner.Reader.{Outcome, found, refused}
 use Rattle.grammars.specs.Grammar.{production_of, reader_of}
 use Rattle.grammars.proofs.Exact.{Decides}
 use Rattle.grammars.proofs.Grammars.{EachTurnTakes, decides_grammar}

@@ -3,7 +3,7 @@ use Rattle.std.proofs.Common.{◌≡◌, ℕ, zero, suc, ◌+◌, ◌*◌, ◌<�
 use Rattle.std.proofs.Math.Nat.{lt_of_not-le}
 use Rattle.std.specs.List.{take_while}
 use Rattle.board_defs.specs.declared.device.Symbol.{Symbol}
-use Rattle.grammars.specs.Reader.{Outcome, found, refused}
+use Rattle.grammars.specs.inner.Reader.{Outcome, found, refused}
 use Rattle.grammars.specs.Grammar.{Grammar, production_of, reader_of}
 use Rattle.grammars.specs.Lists.{list_of, Fronts, GoesWrongAt}
 use Rattle.grammars.proofs.Exact.{Decides}

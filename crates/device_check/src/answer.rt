@@ -7,7 +7,7 @@ ghost use Rattle.device_rules.specs.Raw.{HasLengths};
 ghost use Rattle.device_check.specs.declared.fault.DeviceFault.{DeviceFault};
 ghost use Rattle.device_check.specs.Needed.{v1};
 ghost use Rattle.device_check.specs.DeviceStrings.{AreStrings};
-ghost use Rattle.device_check.specs.Reading.{IsJudged};
+ghost use Rattle.device_check.specs.inner.Reading.{IsJudged};
 ghost use Rattle.device_check.specs.SoundDevice.{draft_of, IsAnswer, UnlessMemory};
 
 use crate::draft::draft_of;

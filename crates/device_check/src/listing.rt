@@ -5,7 +5,7 @@ ghost use Rattle.bt_base.specs.Puts.{Puts};
 ghost use Rattle.line_printer.specs.Prints.{Prints, line_of, whole};
 ghost use Rattle.board_defs.specs.DeviceRules.{IsDevice};
 ghost use Rattle.device_check.specs.DeviceText.{mode_word, role_word, symbol_word, bit_word, code_text, instructions_text, pattern_text, instruction_line, pin_text, pins_text, port_line, port_name, port_lines, index_text, bit_text, place_text, control_text, cell_line, entries_of, cell_lines, device_text};
-ghost use Rattle.device_check.specs.ListingForms.{Rises, entries_in};
+ghost use Rattle.device_check.specs.inner.ListingForms.{Rises, entries_in};
 
 use crate::listing_table::{Entries, fill_entries};
 use board_defs::{Cell, Control, Device, Edition, Mode, Name, PortBit, RawDevice, Role, Symbol};

@@ -2,7 +2,7 @@
 ghost use Rattle.std.specs.Prelude.{◌≡◌, ◌==◌, ◌<◌, ◌≤◌, ◌+◌, ℕ, [], ◌∷◌, ◌++◌, length, map, slice_index_or, if◌then◌else◌};
 ghost use Rattle.std.specs.List.{range_with_len};
 ghost use Rattle.device_check.specs.DeviceText.{entries_of};
-ghost use Rattle.device_check.specs.ListingForms.{entries_in};
+ghost use Rattle.device_check.specs.inner.ListingForms.{entries_in};
 
 use board_defs::Cell;
 

@@ -4,7 +4,7 @@ ghost use Rattle.bsdl_parser.specs.Entity.{IsShort, HasShortText, IsSmall};
 ghost use Rattle.bsdl_strings.specs.Strings.{IsPinMap, AreOpcodes, IsPattern, IsCompliance, IsBoundary};
 ghost use Rattle.device_check.specs.Attributes.{needed_text, text_of, pin_map_text};
 ghost use Rattle.device_check.specs.DeviceStrings.{MayBe, LeavesBy, pin_map, opcodes, capture, idcode, compliance, boundary};
-ghost use Rattle.device_check.specs.Reading.{fault_of, FaultIs, Gathers};
+ghost use Rattle.device_check.specs.inner.Reading.{fault_of, FaultIs, Gathers};
 
 use crate::attributes::{needed_text, pin_map_text, text_of};
 use crate::fault::DeviceFault;

@@ -9,7 +9,7 @@ use Rattle.bsdl_strings.specs.declared.values.Compliance.{Compliance}
 use Rattle.bsdl_strings.specs.declared.values.PortWord.{PortWord}
 use Rattle.bsdl_strings.specs.declared.values.PortWord.TheVariants.{Star, Plain, Index}
 use Rattle.device_rules.specs.Ports.{Bit, is_named, has_index}
-use Rattle.device_rules.specs.Index.{key_of, is_key, names_bit, words_of}
+use Rattle.device_rules.specs.inner.Index.{key_of, is_key, names_bit, words_of}
 use Rattle.device_rules.specs.Raw.{in_compliance}
 use Rattle.device_rules.proofs.NameLemmas.{bytes_turned}
 use Rattle.device_rules.proofs.PinLemmas.{one_more}

@@ -8,7 +8,7 @@ use Rattle.std.proofs.lemmas.List.{reverse-append, length-reverse}
 use Rattle.board_defs.specs.DeviceRules.{range_indexes, is_on}
 use Rattle.bsdl_parser.specs.declared.entity.Range.{Range}
 use Rattle.device_rules.specs.Ports.{in_order, width, indexes, has_index}
-use Rattle.device_rules.specs.Index.{place_in, index_at}
+use Rattle.device_rules.specs.inner.Index.{place_in, index_at}
 
 -- the first place of an index
 abbrev place_of : ℕ → ℕ → List ℕ → Option ℕ

@@ -16,7 +16,7 @@ use Rattle.device_rules.proofs.NamedLemmas.{in_compliance_is}
 use Rattle.bsdl_strings.specs.declared.values.MapEntry.{MapEntry}
 use Rattle.device_rules.specs.Ports.{Bit, in_order, width, indexes, bits_along, bits_of_port, bits_from, v2}
 use Rattle.device_rules.specs.PinMap.{maps_port}
-use Rattle.device_rules.specs.Index.{index_at, bit_of, names_bit, words_of}
+use Rattle.device_rules.specs.inner.Index.{index_at, bit_of, names_bit, words_of}
 use Rattle.device_rules.proofs.NameLemmas.{place-map}
 use Rattle.device_rules.proofs.RangeLemmas.{index_found, length_indexes}
 use Rattle.device_rules.proofs.BitLemmas.{Apart, apart, length_along}

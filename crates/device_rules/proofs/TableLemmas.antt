@@ -3,7 +3,7 @@ use Rattle.std.proofs.Common.{◌≡◌, ◌≢◌, ℕ, ◌+◌, ◌<◌, ◌�
 use Rattle.std.proofs.Math.ListN.{set, length-set}
 use Rattle.std.proofs.lemmas.List.Sums.{count_by_more_no, count_by_more_yes, count_by-le-length}
 use Rattle.std.proofs.lemmas.List.{length-take-le}
-use Rattle.device_rules.specs.Tables.{Counts}
+use Rattle.device_rules.specs.inner.Tables.{Counts}
 
 same_or_not : (m n : ℕ) → (m ≡ n) ⊎ (m ≢ n)
 same_or_not m n = grind arith

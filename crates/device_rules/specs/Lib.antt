@@ -1,5 +1,4 @@
 pub mod Items
-pub mod Tables
 pub mod Ports
 pub mod Taps
 pub mod PinMap
@@ -8,6 +7,4 @@ pub mod Cells
 pub mod Places
 pub mod Rules
 pub mod Raw
-pub mod Index
-pub mod Seen
-pub mod Named
+pub mod inner

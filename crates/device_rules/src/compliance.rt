@@ -3,9 +3,9 @@ ghost use Rattle.std.specs.Prelude.{◌≡◌, ◌&&◌, nat_eq, option_map, IfO
 ghost use Rattle.std.specs.List.{list_any};
 ghost use Rattle.std.specs.HashSet.{contains};
 ghost use Rattle.std.specs.Str.{bytes_eq};
-ghost use Rattle.device_rules.specs.Named.{IsNamed};
+ghost use Rattle.device_rules.specs.inner.Named.{IsNamed};
 ghost use Rattle.std.specs.Option.{option_eq};
-ghost use Rattle.device_rules.specs.Index.{key_of, names_bit, words_of, Marked};
+ghost use Rattle.device_rules.specs.inner.Index.{key_of, names_bit, words_of, Marked};
 
 use bsdl_strings::{Compliance, PortWord};
 use std::alloc::{AllocError, Global};

@@ -3,8 +3,8 @@ ghost use Rattle.std.specs.Prelude.{◌≡◌, ◌<◌, ◌^◌, ◌++◌, ◌||
 ghost use Rattle.std.specs.Option.{option_copied};
 ghost use Rattle.std.specs.Str.{bytes_eq};
 ghost use Rattle.std.specs.HashSet.{contains};
-ghost use Rattle.device_rules.specs.Index.{IsIndex};
-ghost use Rattle.device_rules.specs.Seen.{Knows};
+ghost use Rattle.device_rules.specs.inner.Index.{IsIndex};
+ghost use Rattle.device_rules.specs.inner.Seen.{Knows};
 ghost use Rattle.device_rules.specs.Ports.{port_of};
 ghost use Rattle.device_rules.specs.PinMap.{has_width, some_repeats, v4};
 

@@ -3,7 +3,7 @@ ghost use Rattle.std.specs.Prelude.{◌≡◌, ◌<◌, ◌^◌, ◌&&◌, not, 
 ghost use Rattle.std.specs.Option.{option_copied};
 ghost use Rattle.board_defs.specs.DeviceRules.{is_driving, is_inner, may_drive};
 ghost use Rattle.device_rules.specs.Ports.{v2, bit_number, named_port};
-ghost use Rattle.device_rules.specs.Index.{IsIndex};
+ghost use Rattle.device_rules.specs.inner.Index.{IsIndex};
 ghost use Rattle.device_rules.specs.Places.{is_star, breaks_place, v9, driven_bit, breaks_driver, v13, breaks_mode, v14};
 
 use crate::draft::TapPorts;

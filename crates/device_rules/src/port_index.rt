@@ -7,7 +7,7 @@ ghost use Rattle.std.specs.List.{position_from};
 ghost use Rattle.indexmap.specs.IndexMap.{get_by};
 ghost use Rattle.first_places.specs.Places.{first_place};
 ghost use Rattle.device_rules.specs.Ports.{v2, bits_of, port_of, port_number, port_bits, is_bit, bit_number};
-ghost use Rattle.device_rules.specs.Index.{AreStarts, IsIndex, place_in};
+ghost use Rattle.device_rules.specs.inner.Index.{AreStarts, IsIndex, place_in};
 
 use crate::ports::bit_count;
 use bsdl_parser::{Port, Range};

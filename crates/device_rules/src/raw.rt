@@ -6,8 +6,8 @@ ghost use Rattle.board_defs.specs.DeviceRules.{IsDevice};
 ghost use Rattle.device_rules.specs.Ports.{v2, in_order, width, bits_of_port};
 ghost use Rattle.device_rules.specs.PinMap.{maps_port};
 ghost use Rattle.device_rules.specs.Rules.{IsShort, first_rule};
-ghost use Rattle.device_rules.specs.Index.{IsIndex, index_at, bit_of};
-ghost use Rattle.device_rules.specs.Named.{IsNamed, ArePlaces};
+ghost use Rattle.device_rules.specs.inner.Index.{IsIndex, index_at, bit_of};
+ghost use Rattle.device_rules.specs.inner.Named.{IsNamed, ArePlaces};
 ghost use Rattle.device_rules.specs.Raw.{port_bit, cell_of, raw_bits, raw_cells, raw_device, HasLengths};
 
 use crate::compliance::{Named, is_named, named_bits};

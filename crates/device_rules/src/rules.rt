@@ -1,6 +1,6 @@
 // The rules in their order.
 ghost use Rattle.std.specs.Prelude.{◌≡◌, ◌<◌, All, None, IfOk};
-ghost use Rattle.device_rules.specs.Index.{IsIndex};
+ghost use Rattle.device_rules.specs.inner.Index.{IsIndex};
 ghost use Rattle.device_rules.specs.Ports.{v2};
 ghost use Rattle.device_rules.specs.Rules.{IsShort, from_3, from_5, from_8, from_9, from_11, first_rule};
 

@@ -4,7 +4,7 @@ ghost use Rattle.std.specs.Option.{option_copied};
 ghost use Rattle.std.specs.List.{list_any, list_all};
 ghost use Rattle.std.specs.Str.{bytes_eq};
 ghost use Rattle.device_rules.specs.Ports.{v2, bit_number, port_of};
-ghost use Rattle.device_rules.specs.Index.{IsIndex};
+ghost use Rattle.device_rules.specs.inner.Index.{IsIndex};
 ghost use Rattle.device_rules.specs.Taps.{is_inward, is_outward, is_plain, breaks_tap, reset_breaks, wrong_tap, complies, v3, listed, tap_names, is_among};
 
 use crate::draft::TapPorts;

@@ -14,7 +14,7 @@ use Rattle.tap_defs.specs.board.Explaining.{Explains}
 use Rattle.fault_sim.specs.Places.{places_of, fault_at}
 use Rattle.diagnoser.specs.declared.search.Search.{Search}
 use Rattle.fault_sim.specs.Diagnosis.{Picks}
-use Rattle.diagnoser.specs.Search.{faults_between, Found, first_of}
+use Rattle.diagnoser.specs.inner.Search.{faults_between, Found, first_of}
 use Rattle.diagnoser.proofs.ThoseLemmas.{those_append}
 
 times_less : (p q m : ℕ) → p ≤ q → p * m ≤ q * m

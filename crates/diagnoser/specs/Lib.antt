@@ -1,4 +1,4 @@
 pub mod Diagnosis
 pub mod DiagText
-pub mod Search
 pub mod Laws
+pub mod inner

@@ -2,8 +2,7 @@
 ghost use Rattle.diagnoser.specs.Laws.{ExplainingListed, OneList, OneDiagnosis, PassingUnexplained};
 
 use board_defs::law as board_law;
-use tap_defs::board_law::singles_observable;
-use tap_defs::board_law::expected_logs;
+use tap_defs::board_law::{expected_logs, singles_observable};
 
 /// The faults of a diagnosis are exactly the board's single faults that explain the log, each once and in order.
 pub fn explaining_listed()

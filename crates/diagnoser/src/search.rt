@@ -2,7 +2,7 @@
 ghost use Rattle.std.specs.Prelude.{◌≡◌, ◌+◌, ◌<◌, ◌≤◌, ◌++◌, length, IfOk, OnOk, IsOkAnd};
 ghost use Rattle.std.specs.Option.{option_to_list};
 ghost use Rattle.std.specs.Thread.{IsSync};
-ghost use Rattle.diagnoser.specs.Search.{IsSearch, Found, first_of};
+ghost use Rattle.diagnoser.specs.inner.Search.{IsSearch, Found, first_of};
 
 use board_defs::{Board, Single};
 use bt_base::Gate;

@@ -8,7 +8,7 @@ use Rattle.board_defs.specs.declared.board.Drive.{Drive}
 use Rattle.board_defs.specs.declared.board.Drive.TheVariants.{AlwaysOn, OneSided, By}
 use Rattle.board_defs.specs.contracts.board.DrivePartialEq.TheImpl as drives
 use Rattle.board_defs.specs.Settings.{same_ctl}
-use Rattle.driver_passes.specs.Shown.{drivers_at}
+use Rattle.driver_passes.specs.inner.Shown.{drivers_at}
 use Rattle.driver_passes.proofs.ControlLemmas.{same_equal, same_self}
 
 -- equal lists of drivers

@@ -6,7 +6,7 @@ use Rattle.std.proofs.lemmas.Option.{slice_get_within, get_or_from_slice_get}
 use Rattle.std.proofs.lemmas.List.Elements.{All-cons, All-nil, All-head, All-tail}
 use Rattle.board_defs.specs.declared.board.Ctl.{Ctl}
 use Rattle.board_defs.specs.Settings.{same_ctl, precedes, holds, inserted, IsInControlOrder}
-use Rattle.driver_passes.specs.Drafts.{chosen}
+use Rattle.driver_passes.specs.inner.Drafts.{chosen}
 use Rattle.driver_passes.proofs.ControlLemmas.{same_self, after_is, ComeAfter, come_after, order_rest, order_with, insert_before, insert_front, insert_behind, none_holds}
 
 -- where no flag is set, none is chosen

@@ -13,10 +13,10 @@ use Rattle.board_defs.proofs.Members.{any_has, has_any}
 use Rattle.board_defs.proofs.PassesKept.{pair_shows}
 use Rattle.net_classes.specs.Laws.{PairsHaveDrivers}
 use Rattle.net_classes.specs.Pairs.{pairs_with}
-use Rattle.driver_passes.specs.NetSets.{has_net}
-use Rattle.driver_passes.specs.Pairs.{AreDone, AreLeft, IsDone, IsDoneTo, StaysDone, is_wanted, pairs_from}
-use Rattle.driver_passes.specs.Progress.{EnableTested}
-use Rattle.driver_passes.specs.Shown.{drivers_at}
+use Rattle.driver_passes.specs.inner.NetSets.{has_net}
+use Rattle.driver_passes.specs.inner.Pairs.{AreDone, AreLeft, IsDone, IsDoneTo, StaysDone, is_wanted, pairs_from}
+use Rattle.driver_passes.specs.inner.Progress.{EnableTested}
+use Rattle.driver_passes.specs.inner.Shown.{drivers_at}
 use Rattle.driver_passes.proofs.EnabledLemmas.{any_end, any_last}
 use Rattle.driver_passes.proofs.ProgressLemmas.{drivers_are, net_there}
 use Rattle.driver_passes.proofs.PairLemmas.{one_done}

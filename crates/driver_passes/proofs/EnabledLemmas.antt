@@ -13,7 +13,7 @@ use Rattle.board_defs.specs.Passes.{add_for_driver, driver_pass, drivers_by_net,
 use Rattle.board_defs.proofs.Members.{Has, contains_has}
 use Rattle.board_defs.proofs.PassSettings.{driver_pass_enables}
 use Rattle.board_defs.proofs.PassesKept.{all_drivers, fold_makes, on_board_driver, tested_can_drive, tested_has}
-use Rattle.driver_passes.specs.Progress.{EnableTested}
+use Rattle.driver_passes.specs.inner.Progress.{EnableTested}
 use Rattle.driver_passes.proofs.ProgressLemmas.{net_there, drivers_are}
 
 -- what some pass does, some pass does after one more

@@ -15,7 +15,7 @@ use Rattle.board_defs.specs.Laws.{PassesAre, DecidesTerms}
 use Rattle.net_classes.specs.Kept.{shared_nets}
 use Rattle.net_classes.specs.Laws.{HaveCommon, NetsAreShared, SaysShared}
 use Rattle.driver_passes.specs.declared.draft.Draft.{Draft}
-use Rattle.driver_passes.specs.Drafts.{chosen, has_number, is_taken, setting_of, IsDraft}
+use Rattle.driver_passes.specs.inner.Drafts.{chosen, has_number, is_taken, setting_of, IsDraft}
 use Rattle.driver_passes.proofs.ControlLemmas.{same_equal, same_self}
 use Rattle.driver_passes.proofs.ChosenLemmas.{chosen_set, chosen_holds, chosen_among}
 

@@ -8,7 +8,7 @@ use Rattle.std.proofs.lemmas.Nat.{and_le_l}
 use Rattle.std.proofs.lemmas.Nat.Bits.{bit_at-lt, bit_at-trailing_zeros, bit_at-zero, bit_at_and, bit_at_mask_below, bit_at_mask_inside, bit_at_not, bit_at_ones, bit_at_set_other, bit_at_set_same, ones_shl}
 use Rattle.std.proofs.lemmas.List.{get_or_past, get_or-set_same, get_or-set_other}
 use Rattle.net_classes.specs.Pairs.{AreBitsOf}
-use Rattle.driver_passes.specs.NetSets.{IsFirst, has_bit, has_net}
+use Rattle.driver_passes.specs.inner.NetSets.{IsFirst, has_bit, has_net}
 
 -- a bit is 1 or 0 as a test says
 pub bit_is : (word i : ℕ) (t : Bool) → bit_at word i ≡ cond t 1 0 → has_bit word i ≡ t

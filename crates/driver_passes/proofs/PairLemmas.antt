@@ -13,8 +13,8 @@ use Rattle.board_defs.specs.declared.board.Drive.{Drive}
 use Rattle.board_defs.specs.Decided.{are_compatible}
 use Rattle.board_defs.specs.Passes.{add_for_nets, are_shown, drivers_by_net, first_pair, pair_pass, pairs_of, pairs_within, tested_drivers, with_pair}
 use Rattle.net_classes.specs.Pairs.{fit}
-use Rattle.driver_passes.specs.Pairs.{pairs_from}
-use Rattle.driver_passes.specs.Shown.{drivers_at}
+use Rattle.driver_passes.specs.inner.Pairs.{pairs_from}
+use Rattle.driver_passes.specs.inner.Shown.{drivers_at}
 use Rattle.driver_passes.proofs.ProgressLemmas.{length_end, some_length}
 
 -- the first pair with the first driver, where there is one

@@ -18,9 +18,9 @@ use Rattle.board_defs.specs.Decided.{any_other, can_enable, drive_in, place_driv
 use Rattle.board_defs.specs.Coverage.{IsUseful}
 use Rattle.board_defs.specs.Passes.{drivers_by_net, tested_drivers, tested_drive, useful_controls, add_for_driver, driver_pass, is_enabled}
 use Rattle.board_defs.specs.Laws.{PassesAre, DecidesTerms, HasTestedDriver}
-use Rattle.driver_passes.specs.Progress.{AreHeld, IsUsefulDriver, is_held}
-use Rattle.driver_passes.specs.Shown.{drivers_at}
-use Rattle.driver_passes.specs.Drafts.{chosen}
+use Rattle.driver_passes.specs.inner.Progress.{AreHeld, IsUsefulDriver, is_held}
+use Rattle.driver_passes.specs.inner.Shown.{drivers_at}
+use Rattle.driver_passes.specs.inner.Drafts.{chosen}
 use Rattle.driver_passes.proofs.ChosenLemmas.{chosen_holds}
 
 or_last : (a b : Bool) → (a || b) ≡ (b || (a || false))

@@ -7,11 +7,11 @@ use Rattle.board_defs.specs.declared.board.Ctl.{Ctl}
 use Rattle.board_defs.specs.declared.board.RawBoard.{RawBoard}
 use Rattle.board_defs.specs.Passes.{are_shown, shows}
 use Rattle.driver_passes.specs.declared.draft.Draft.{Draft}
-use Rattle.driver_passes.specs.Drafts.{setting_of}
-use Rattle.driver_passes.specs.NetSets.{has_net}
-use Rattle.driver_passes.specs.Pairs.{AreLeft}
-use Rattle.driver_passes.specs.Shown.{AreRows, AreShownBy, shows_both}
-use Rattle.driver_passes.specs.Shown.{drivers_at}
+use Rattle.driver_passes.specs.inner.Drafts.{setting_of}
+use Rattle.driver_passes.specs.inner.NetSets.{has_net}
+use Rattle.driver_passes.specs.inner.Pairs.{AreLeft}
+use Rattle.driver_passes.specs.inner.Shown.{AreRows, AreShownBy, shows_both}
+use Rattle.driver_passes.specs.inner.Shown.{drivers_at}
 use Rattle.driver_passes.proofs.ProgressLemmas.{length_end}
 
 -- the row of a draft is that of the pass that it makes

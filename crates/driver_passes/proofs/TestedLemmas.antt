@@ -14,10 +14,10 @@ use Rattle.board_defs.specs.declared.board.Drive.TheVariants.{AlwaysOn, OneSided
 use Rattle.board_defs.specs.Decided.{is_by}
 use Rattle.board_defs.specs.Settings.{holds, precedes, same_ctl, IsInControlOrder}
 use Rattle.board_defs.specs.Passes.{is_enabled, shows, useful_controls}
-use Rattle.driver_passes.specs.Drafts.{chosen, has_number}
-use Rattle.driver_passes.specs.Tested.{AreListed, AreNoted, drives}
-use Rattle.driver_passes.specs.NetSets.{has_net}
-use Rattle.driver_passes.specs.Shown.{drivers_at}
+use Rattle.driver_passes.specs.inner.Drafts.{chosen, has_number}
+use Rattle.driver_passes.specs.inner.Tested.{AreListed, AreNoted, drives}
+use Rattle.driver_passes.specs.inner.NetSets.{has_net}
+use Rattle.driver_passes.specs.inner.Shown.{drivers_at}
 use Rattle.driver_passes.proofs.ControlLemmas.{after_is, same_self}
 use Rattle.driver_passes.proofs.ProgressLemmas.{net_there}
 

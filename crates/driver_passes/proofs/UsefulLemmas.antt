@@ -7,7 +7,7 @@ use Rattle.board_defs.specs.Coverage.{IsUseful}
 use Rattle.board_defs.specs.Settings.{holds}
 use Rattle.board_defs.specs.Passes.{useful_controls}
 use Rattle.board_defs.specs.Laws.{PassesAre}
-use Rattle.driver_passes.specs.Drafts.{chosen}
+use Rattle.driver_passes.specs.inner.Drafts.{chosen}
 use Rattle.driver_passes.specs.Useful.{HoldUseful}
 use Rattle.driver_passes.proofs.ChosenLemmas.{chosen_among}
 

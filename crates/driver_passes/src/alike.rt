@@ -2,8 +2,8 @@
 ghost use Rattle.std.specs.Prelude.{◌≡◌, ◌≤◌, ◌<◌, length, true, IfOk, IfSome};
 ghost use Rattle.board_defs.specs.Passes.{useful_controls};
 ghost use Rattle.net_classes.specs.Kept.{AreClasses};
-ghost use Rattle.driver_passes.specs.Alike.{AreAlike};
-ghost use Rattle.driver_passes.specs.Shown.{drivers_at};
+ghost use Rattle.driver_passes.specs.inner.Alike.{AreAlike};
+ghost use Rattle.driver_passes.specs.inner.Shown.{drivers_at};
 
 use crate::drivers::drivers_of;
 use crate::places::place_of;

@@ -5,8 +5,8 @@ ghost use Rattle.board_defs.specs.Pins.{IsCell};
 ghost use Rattle.board_defs.specs.Settings.{holds, inserted};
 ghost use Rattle.board_defs.specs.Passes.{useful_controls, with_driver};
 ghost use Rattle.net_classes.specs.Kept.{AreClasses};
-ghost use Rattle.driver_passes.specs.Drafts.{IsDraft, chosen, has_number, setting_of};
-ghost use Rattle.driver_passes.specs.Progress.{IsUsefulDriver};
+ghost use Rattle.driver_passes.specs.inner.Drafts.{IsDraft, chosen, has_number, setting_of};
+ghost use Rattle.driver_passes.specs.inner.Progress.{IsUsefulDriver};
 
 use crate::places::place_of;
 use board_defs::{Board, Ctl, Drive, Setting, law};

@@ -5,10 +5,10 @@ ghost use Rattle.board_defs.specs.Pins.{IsCell};
 ghost use Rattle.board_defs.specs.Settings.{holds};
 ghost use Rattle.board_defs.specs.Passes.{add_for_driver, driver_pass, driver_passes, drivers_by_net, is_enabled, useful_controls};
 ghost use Rattle.net_classes.specs.Kept.{AreClasses};
-ghost use Rattle.net_classes.specs.Pairs.{AreByCells};
-ghost use Rattle.driver_passes.specs.Drafts.{IsDraft, setting_of};
-ghost use Rattle.driver_passes.specs.Progress.{EnableTested, IsProgress, IsUsefulDriver, is_held};
-ghost use Rattle.driver_passes.specs.Shown.{drivers_at};
+ghost use Rattle.net_classes.specs.inner.Pairs.{AreByCells};
+ghost use Rattle.driver_passes.specs.inner.Drafts.{IsDraft, setting_of};
+ghost use Rattle.driver_passes.specs.inner.Progress.{EnableTested, IsProgress, IsUsefulDriver, is_held};
+ghost use Rattle.driver_passes.specs.inner.Shown.{drivers_at};
 
 use crate::draft::{Draft, blank, is_set};
 use crate::net_set::NetSet;

@@ -1,8 +1,8 @@
 // Sets of nets, as a bit for each net.
 ghost use Rattle.std.specs.Prelude.{◌≡◌, ◌≤◌, ◌<◌, ◌+◌, ◌*◌, ◌/◌, ◌==◌, ◌&&◌, ◌||◌, ℕ, Bool, not, false, true, length, replicate, slice_index_or, All, MatchOption, IfOk};
 ghost use Rattle.net_classes.specs.Pairs.{AreBitsOf};
-ghost use Rattle.driver_passes.specs.Drafts.{has_number};
-ghost use Rattle.driver_passes.specs.NetSets.{IsFirst, has_bit, has_net};
+ghost use Rattle.driver_passes.specs.inner.Drafts.{has_number};
+ghost use Rattle.driver_passes.specs.inner.NetSets.{IsFirst, has_bit, has_net};
 
 use std::alloc::{AllocError, Global};
 use std::marker::Model;

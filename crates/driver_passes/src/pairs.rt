@@ -3,12 +3,13 @@ ghost use Rattle.std.specs.Prelude.{◌≡◌, ◌<◌, ◌≤◌, ◌+◌, ◌*
 ghost use Rattle.board_defs.specs.Pins.{IsCell};
 ghost use Rattle.board_defs.specs.Passes.{add_for_nets, are_shown, drivers_by_net, first_pair, pair_pass, pair_passes, useful_controls};
 ghost use Rattle.net_classes.specs.Kept.{AreClasses};
-ghost use Rattle.net_classes.specs.Pairs.{AreBitsOf, AreByCells, IsByCell, fit};
-ghost use Rattle.driver_passes.specs.Drafts.{IsDraft, setting_of};
-ghost use Rattle.driver_passes.specs.NetSets.{IsFirst};
-ghost use Rattle.driver_passes.specs.Pairs.{AreDone, AreLeft, ArePairing, IsDone, IsDoneTo, StaysDone, IsUsefulPair, is_wanted, pairs_from};
-ghost use Rattle.driver_passes.specs.Progress.{EnableTested, IsProgress, IsUsefulDriver};
-ghost use Rattle.driver_passes.specs.Shown.{drivers_at};
+ghost use Rattle.net_classes.specs.Pairs.{AreBitsOf, fit};
+ghost use Rattle.net_classes.specs.inner.Pairs.{AreByCells, IsByCell};
+ghost use Rattle.driver_passes.specs.inner.Drafts.{IsDraft, setting_of};
+ghost use Rattle.driver_passes.specs.inner.NetSets.{IsFirst};
+ghost use Rattle.driver_passes.specs.inner.Pairs.{AreDone, AreLeft, ArePairing, IsDone, IsDoneTo, StaysDone, IsUsefulPair, is_wanted, pairs_from};
+ghost use Rattle.driver_passes.specs.inner.Progress.{EnableTested, IsProgress, IsUsefulDriver};
+ghost use Rattle.driver_passes.specs.inner.Shown.{drivers_at};
 ghost use Rattle.driver_passes.specs.Useful.{HoldUseful};
 
 use crate::alike::likes_of;

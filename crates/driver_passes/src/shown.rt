@@ -1,8 +1,8 @@
 // What the rows of the passes, the sets of the nets that they show, say of a net and the others.
 ghost use Rattle.std.specs.Prelude.{◌≡◌, ◌<◌, ◌≤◌, ◌/◌, ◌&&◌, ℕ, not, length, All};
 ghost use Rattle.std.specs.List.{list_all, list_any};
-ghost use Rattle.driver_passes.specs.NetSets.{has_net};
-ghost use Rattle.driver_passes.specs.Shown.{shows_both};
+ghost use Rattle.driver_passes.specs.inner.NetSets.{has_net};
+ghost use Rattle.driver_passes.specs.inner.Shown.{shows_both};
 
 use crate::net_set::NetSet;
 

@@ -3,10 +3,10 @@ ghost use Rattle.std.specs.Prelude.{◌≡◌, ◌<◌, ◌||◌, ◌&&◌, ◌/
 ghost use Rattle.board_defs.specs.Decided.{is_by};
 ghost use Rattle.board_defs.specs.Passes.{shows, useful_controls};
 ghost use Rattle.net_classes.specs.Kept.{AreClasses};
-ghost use Rattle.driver_passes.specs.Drafts.{IsDraft, has_number, setting_of};
-ghost use Rattle.driver_passes.specs.NetSets.{has_net};
-ghost use Rattle.driver_passes.specs.Shown.{AreShownBy};
-ghost use Rattle.driver_passes.specs.Tested.{AreListed, AreNoted, AreTestedNets, drives};
+ghost use Rattle.driver_passes.specs.inner.Drafts.{IsDraft, has_number, setting_of};
+ghost use Rattle.driver_passes.specs.inner.NetSets.{has_net};
+ghost use Rattle.driver_passes.specs.inner.Shown.{AreShownBy};
+ghost use Rattle.driver_passes.specs.inner.Tested.{AreListed, AreNoted, AreTestedNets, drives};
 
 use crate::draft::Draft;
 use crate::drivers::drivers_of;

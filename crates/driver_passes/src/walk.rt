@@ -4,8 +4,8 @@ ghost use Rattle.board_defs.specs.Pins.{IsCell};
 ghost use Rattle.board_defs.specs.Settings.{inserted};
 ghost use Rattle.board_defs.specs.Passes.{first_walk, fits, is_new, second_walk, useful_controls};
 ghost use Rattle.net_classes.specs.Kept.{AreClasses};
-ghost use Rattle.driver_passes.specs.Drafts.{IsDraft, setting_of};
-ghost use Rattle.driver_passes.specs.Progress.{IsProgress};
+ghost use Rattle.driver_passes.specs.inner.Drafts.{IsDraft, setting_of};
+ghost use Rattle.driver_passes.specs.inner.Progress.{IsProgress};
 
 use crate::draft::{Draft, is_set, some_taken};
 use crate::drivers::Progress;

@@ -26,8 +26,9 @@ use Rattle.scan_planner.proofs.FillLemmas.{some_at}
 use Rattle.fault_sim.specs.Effects.{driver_in, readers_in, code_in}
 use Rattle.fault_sim.specs.declared.effect.Effect.TheVariants.{Plain}
 use Rattle.fault_sim.specs.Fits.{bit_in, cell_shows, ShowBy, NetShows, Shows, ShowsOn}
-use Rattle.fault_sim.specs.Tested.{coded_nets}
-use Rattle.fault_sim.specs.Suspects.{IsBefore, AreFlags, flagged_nets, AreDiffering, covered_place}
+use Rattle.fault_sim.specs.inner.Tested.{coded_nets}
+use Rattle.fault_sim.specs.Suspects.{AreDiffering}
+use Rattle.fault_sim.specs.inner.Suspects.{IsBefore, AreFlags, flagged_nets, covered_place}
 use Rattle.fault_sim.proofs.FeedLemmas.{observing_is}
 use Rattle.fault_sim.proofs.TestedLemmas.{filter_numbers, unguarded_by}
 

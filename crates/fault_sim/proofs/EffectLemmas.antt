@@ -20,7 +20,8 @@ use Rattle.scan_planner.specs.declared.nets.NetDriver.{NetDriver}
 use Rattle.scan_planner.specs.declared.tables.PlanTables.{PlanTables}
 use Rattle.scan_planner.specs.Plans.{IsPlanOf}
 use Rattle.fault_sim.specs.declared.effect.Effect.TheVariants.{Plain, Constant, AtPin}
-use Rattle.fault_sim.specs.Effects.{feed_bit, driver_in, pull_in, net_feed, open_effect, short_effect, effect_of, effect_in, effect_bit, fault_bit}
+use Rattle.fault_sim.specs.Effects.{feed_bit, driver_in, pull_in, net_feed, open_effect, short_effect, effect_of, effect_in, effect_bit}
+use Rattle.fault_sim.specs.inner.Effects.{fault_bit}
 use Rattle.fault_sim.proofs.FeedLemmas.{driven_is, first_place}
 
 -- a single fault, where there is one

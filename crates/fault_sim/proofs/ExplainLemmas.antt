@@ -33,11 +33,13 @@ use Rattle.scan_planner.proofs.FillLemmas.{all_has, some_at}
 use Rattle.fault_sim.specs.declared.effect.Effect.{Effect}
 use Rattle.fault_sim.specs.declared.effect.Effect.TheVariants.{Plain, Constant}
 use Rattle.fault_sim.specs.declared.universe.FaultLists.{FaultLists}
-use Rattle.fault_sim.specs.Effects.{driver_in, readers_in, code_in, open_effect, short_effect, effect_of, pull_in, first_net, second_net}
+use Rattle.fault_sim.specs.Effects.{driver_in, readers_in, code_in, open_effect, short_effect, effect_of, pull_in}
+use Rattle.fault_sim.specs.inner.Effects.{first_net, second_net}
 use Rattle.fault_sim.specs.Fits.{ShowBy, ShowsOn, ShowsAll}
-use Rattle.fault_sim.specs.Tested.{paired_in, coded_nets}
+use Rattle.fault_sim.specs.inner.Tested.{paired_in, coded_nets}
 use Rattle.fault_sim.specs.Places.{placed, AreStarts, number_places, listed_places, place_count, places_of, IsUniverse}
-use Rattle.fault_sim.specs.Suspects.{two_from, four_from, first_open, first_short, pair_number, pair_suspects, pin_net, is_net, pin_suspects, net_suspects, covered_place, CanSuspect, suspects_of, suspect_count, AreDiffering, AreSuspects, IsBefore, AreFlags, flagged_nets}
+use Rattle.fault_sim.specs.Suspects.{suspect_count, AreDiffering, AreSuspects}
+use Rattle.fault_sim.specs.inner.Suspects.{two_from, four_from, first_open, first_short, pair_number, pair_suspects, pin_net, is_net, pin_suspects, net_suspects, covered_place, CanSuspect, suspects_of, IsBefore, AreFlags, flagged_nets}
 use Rattle.fault_sim.proofs.PlaceLemmas.{flat_at, length-flat, length-four, stuck_fault, open_fault, short_fault, no_fault, stuck_length, opens_length}
 use Rattle.fault_sim.proofs.MatchLemmas.{explains_is, expected_is}
 use Rattle.fault_sim.proofs.TestedLemmas.{nets_are}

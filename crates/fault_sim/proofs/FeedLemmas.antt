@@ -30,7 +30,7 @@ use Rattle.scan_planner.specs.declared.nets.NetDriver.{NetDriver}
 use Rattle.scan_planner.specs.declared.tables.ReaderCell.{ReaderCell}
 use Rattle.scan_planner.specs.declared.tables.PlanTables.{PlanTables}
 use Rattle.scan_planner.specs.Tables.{first_position}
-use Rattle.scan_planner.specs.Laid.{laid, steady}
+use Rattle.scan_planner.specs.inner.Laid.{laid, steady}
 use Rattle.scan_planner.specs.Building.{is_on, enabled_in, drivers_of, drivers_of_pins, readers_of, is_read_beside}
 use Rattle.scan_planner.specs.Plans.{IsPlanOf}
 use Rattle.scan_planner.proofs.LaidLemmas.{tdi_laid, laid_at, laid_same}

@@ -21,7 +21,7 @@ use Rattle.board_defs.proofs.Places.{below_place, below_at}
 use Rattle.tap_defs.proofs.board.ScanPlaceLemmas.{front_at, rest_at}
 use Rattle.scan_planner.specs.declared.tables.PlanTables.{PlanTables}
 use Rattle.fault_sim.specs.declared.universe.FaultLists.{FaultLists}
-use Rattle.fault_sim.specs.Tested.{paired_in}
+use Rattle.fault_sim.specs.inner.Tested.{paired_in}
 use Rattle.fault_sim.specs.Laws.{PlacesAre}
 use Rattle.fault_sim.specs.Places.{placed, pair_places, stuck_places, open_places, short_places, pairs_before, AreStarts, number_places, listed_places}
 

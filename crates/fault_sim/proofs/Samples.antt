@@ -2,7 +2,8 @@
 use Rattle.std.proofs.Common.{◌≡◌, ℕ, List, [], ◌∷◌, refl}
 use Rattle.fault_sim.specs.declared.universe.FaultLists.{FaultLists}
 use Rattle.fault_sim.specs.Places.{pairs_before, place_count}
-use Rattle.fault_sim.specs.Suspects.{net_suspects, pair_suspects, suspect_count}
+use Rattle.fault_sim.specs.Suspects.{suspect_count}
+use Rattle.fault_sim.specs.inner.Suspects.{net_suspects, pair_suspects}
 
 -- two nets, each of a driver and a receiver
 abbrev two_nets : FaultLists

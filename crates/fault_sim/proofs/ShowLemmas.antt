@@ -35,7 +35,8 @@ use Rattle.scan_planner.proofs.LaidLemmas.{laid_at}
 use Rattle.scan_planner.proofs.PinLemmas.{Standing, standing, on_self, reading_entry_is, Reads, reads_by}
 use Rattle.scan_planner.proofs.FillLemmas.{some_at}
 use Rattle.scan_planner.proofs.TableLemmas.{FirstOn, reader_is, is_reader}
-use Rattle.fault_sim.specs.Effects.{readers_in, code_in, driver_in, effect_in, effect_bit, fault_bit}
+use Rattle.fault_sim.specs.Effects.{readers_in, code_in, driver_in, effect_in, effect_bit}
+use Rattle.fault_sim.specs.inner.Effects.{fault_bit}
 use Rattle.fault_sim.specs.Fits.{bit_in, cell_shows, ShowBy, NetShows, Shows, ShowsAll}
 use Rattle.fault_sim.proofs.FeedLemmas.{drivers_are, readers_are, code_is, first_is, observing_is}
 use Rattle.fault_sim.proofs.EffectLemmas.{IsFault, effect_is}

@@ -38,7 +38,7 @@ use Rattle.scan_planner.specs.Plans.{IsPlanOf}
 use Rattle.scan_planner.proofs.AssignLemmas.{assigned_groups, has_mark, mark_has, length-assigned}
 use Rattle.scan_planner.proofs.TableLemmas.{FirstOn, reader_is, is_reader}
 use Rattle.fault_sim.specs.Effects.{driver_in, readers_in, code_in}
-use Rattle.fault_sim.specs.Tested.{coded_nets, observes_by, observes_in, paired_in, marked_readers, marked_by, marked_in, tested_flags, flagged_pins, pins_of_net, pin_count, net_pins, all_pins}
+use Rattle.fault_sim.specs.inner.Tested.{coded_nets, observes_by, observes_in, paired_in, marked_readers, marked_by, marked_in, tested_flags, flagged_pins, pins_of_net, pin_count, net_pins, all_pins}
 use Rattle.fault_sim.proofs.FeedLemmas.{drivers_are, readers_are, first_is, observing_is as observing_here}
 
 module _ (plan : PlanTables) (n : ℕ) where

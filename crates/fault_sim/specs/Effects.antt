@@ -7,9 +7,9 @@ use Rattle.board_defs.specs.declared.fault.Single.{Single}
 use Rattle.board_defs.specs.declared.fault.Single.TheVariants.{StuckNet, OpenPin, Short}
 use Rattle.board_defs.specs.Pins.{is_same}
 use Rattle.board_defs.specs.Settings.{holds, same_ctl}
-use Rattle.tap_defs.specs.board.NetBits.{or_else, Place}
-use Rattle.tap_defs.specs.board.TestRows.{TestRow, code_bit}
-use Rattle.tap_defs.specs.board.SingleBits.{pulled_to, shorted, single_bit}
+use Rattle.tap_defs.specs.board.NetBits.{or_else}
+use Rattle.tap_defs.specs.board.TestRows.{code_bit}
+use Rattle.tap_defs.specs.board.SingleBits.{pulled_to, shorted}
 use Rattle.scan_planner.specs.declared.nets.NetDriver.{NetDriver}
 use Rattle.scan_planner.specs.declared.tables.ReaderCell.{ReaderCell}
 use Rattle.scan_planner.specs.declared.tables.PlanTables.{PlanTables}
@@ -105,19 +105,3 @@ effect_bit Plain j place expected = expected
 effect_bit (Constant bit) j place expected = bit
 effect_bit (AtPin other bit) j place expected = cond (place == other) bit expected
 effect_bit (Shorted kind first second pull) j place expected = unwrap_or (or_else (shorted kind (feed_bit first j) (feed_bit second j)) pull) expected
-
--- the bit that a compared cell has with this fault, and the expected one where there is none
-abbrev pub fault_bit : RawBoard → Option Single → TestRow → Place → Bool → Bool
-fault_bit board None row place expected = expected
-fault_bit board (Some single) row place expected = single_bit board single row place expected
-
--- the nets of a fault; a stuck net and an open pin have one
-abbrev pub first_net : Single → ℕ
-first_net (StuckNet net value) = net
-first_net (OpenPin pin value) = pin.net
-first_net (Short a b kind) = a
-
-abbrev pub second_net : Single → ℕ
-second_net (StuckNet net value) = net
-second_net (OpenPin pin value) = pin.net
-second_net (Short a b kind) = b

@@ -1,7 +1,7 @@
 pub mod Effects
 pub mod Fits
 pub mod Places
-pub mod Tested
 pub mod Suspects
 pub mod Diagnosis
 pub mod Laws
+pub mod inner

@@ -8,7 +8,7 @@ use Rattle.board_defs.specs.Faults.{Numbered, covered_nets, tested_pins, stuck_f
 use Rattle.board_defs.specs.Passes.{pairs_within}
 use Rattle.scan_planner.specs.declared.tables.PlanTables.{PlanTables}
 use Rattle.fault_sim.specs.declared.universe.FaultLists.{FaultLists}
-use Rattle.fault_sim.specs.Tested.{paired_in}
+use Rattle.fault_sim.specs.inner.Tested.{paired_in}
 
 -- a place for each of these faults
 abbrev pub placed : List Single → List (Option Single)

@@ -1,94 +1,17 @@
 -- The places whose faults may explain a log.
-use Rattle.std.specs.Prelude.{◌≡◌, ◌↔◌, ◌⊎◌, ℕ, suc, ◌+◌, ◌-◌, ◌*◌, ◌<◌, ◌==◌, Bool, false, cond, not, List, [], ◌∷◌, ◌++◌, length, filter, count_by, slice_index_or, slice_get, Option, Some, None, AllPairs, All, Contains, Decides}
-use Rattle.std.specs.List.{flat_map, range_with_len}
-use Rattle.board_defs.specs.declared.board.PinRef.{PinRef}
+use Rattle.std.specs.Prelude.{◌≡◌, ◌↔◌, ℕ, ◌+◌, ◌-◌, ◌*◌, ◌<◌, ◌==◌, Bool, List, [], ◌∷◌, length, count_by, slice_get, Some, None, AllPairs, All, Contains}
 use Rattle.board_defs.specs.declared.board.RawBoard.{RawBoard}
 use Rattle.board_defs.specs.declared.fault.Single.{Single}
 use Rattle.tap_defs.specs.board.Explaining.{Explains}
 use Rattle.scan_planner.specs.declared.tables.PlanTables.{PlanTables}
 use Rattle.fault_sim.specs.declared.universe.FaultLists.{FaultLists}
-use Rattle.fault_sim.specs.Effects.{code_in}
-use Rattle.fault_sim.specs.Fits.{Shows, ShowsOn}
+use Rattle.fault_sim.specs.Fits.{ShowsOn}
 use Rattle.fault_sim.specs.Places.{place_count, places_of}
-
--- a pass before pass x, or pass x itself for a net before net n
-abbrev pub IsBefore : ℕ → ℕ → ℕ → ℕ → Type 0
-IsBefore x n pass net = (pass < x) ⊎ ((pass ≡ x) × (net < n))
-
--- flags of the nets of which some compared cell has not the expected bit in such a pass
-abbrev pub AreFlags : RawBoard → PlanTables → List (List Bool) → ℕ → ℕ → List Bool → Type 0
-AreFlags board plan log x n flags =
-    (net : ℕ) → net < length board.nets → Decides (not (slice_index_or flags net false)) ((pass : ℕ) → IsBefore x n pass net → Shows board plan None log pass net)
-
--- the nets that are flagged
-abbrev pub flagged_nets : List Bool → List ℕ
-flagged_nets flags = filter (λ n. slice_index_or flags n false) (range_with_len 0 (length flags))
 
 -- the nets that differ in a log, in net order: some compared cell of them has a bit that is not the expected one
 pub record AreDiffering (board : RawBoard) (plan : PlanTables) (log : List (List Bool)) (nets : List ℕ) : Type 0 where
   pub rising : AllPairs (λ a b. a < b) nets
   pub exactly : (n : ℕ) → Contains nets n ↔ ((n < length board.nets) × (ShowsOn board plan None log n → ⊥))
-
--- the places of a stuck net, an open pin or a short that begin at this one
-abbrev pub two_from : ℕ → List ℕ
-two_from place = place ∷ (place + 1) ∷ []
-
-abbrev pub four_from : ℕ → List ℕ
-four_from place = place ∷ (place + 1) ∷ (place + 2) ∷ (place + 3) ∷ []
-
--- where the places of open pins begin, and those of shorts
-abbrev pub first_open : FaultLists → ℕ
-first_open lists = 2 * length lists.nets
-
-abbrev pub first_short : FaultLists → ℕ
-first_short lists = 2 * length lists.nets + 2 * length lists.pins
-
--- the number of the pair of covered nets a and b, by their places in the list
-abbrev pub pair_number : FaultLists → ℕ → ℕ → ℕ
-pair_number lists a b = slice_index_or lists.starts a 0 + (b - suc a)
-
--- the places of the shorts of covered nets a and b
-abbrev pub pair_suspects : FaultLists → ℕ → ℕ → List ℕ
-pair_suspects lists a b = four_from (first_short lists + 4 * pair_number lists a b)
-
--- the net of a pin
-abbrev pub pin_net : Option PinRef → Option ℕ
-pin_net None = None
-pin_net (Some pin) = Some pin.net
-
-abbrev pub is_net : ℕ → Option ℕ → Bool
-is_net n None = false
-is_net n (Some net) = net == n
-
--- the places of a pin, where it is one of net n
-abbrev pub pin_suspects : FaultLists → ℕ → ℕ → List ℕ
-pin_suspects lists n i = cond (is_net n (pin_net (slice_get lists.pins i))) (two_from (first_open lists + 2 * i)) []
-
--- the places of the faults of net n, which stands at place k among the covered nets
-abbrev pub net_suspects : FaultLists → ℕ → ℕ → List ℕ
-net_suspects lists n k =
-    two_from (2 * k)
-    ++ (flat_map (pin_suspects lists n) (range_with_len 0 (length lists.pins))
-    ++ (flat_map (λ a. pair_suspects lists a k) (range_with_len 0 k)
-    ++ flat_map (λ b. pair_suspects lists k b) (range_with_len (suc k) (length lists.nets - suc k))))
-
--- the place of a net among the covered nets: their codes number them from 1
-abbrev pub covered_place : PlanTables → ℕ → ℕ
-covered_place plan n = code_in plan n - 1
-
--- the nets stand at their places among the covered nets, in order
-abbrev pub CanSuspect : PlanTables → FaultLists → List ℕ → Type 0
-CanSuspect plan lists [] = Unit {0}
-CanSuspect plan lists (n ∷ []) = covered_place plan n < length lists.nets
-CanSuspect plan lists (m ∷ n ∷ []) = (covered_place plan m < covered_place plan n) × (covered_place plan n < length lists.nets)
-CanSuspect plan lists (m ∷ n ∷ o ∷ nets) = Unit {0}
-
--- the suspects where these nets differ
-abbrev pub suspects_of : PlanTables → FaultLists → List ℕ → List ℕ
-suspects_of plan lists [] = []
-suspects_of plan lists (n ∷ []) = net_suspects lists n (covered_place plan n)
-suspects_of plan lists (m ∷ n ∷ []) = pair_suspects lists (covered_place plan m) (covered_place plan n)
-suspects_of plan lists (m ∷ n ∷ o ∷ nets) = []
 
 -- how many they are
 abbrev pub suspect_count : FaultLists → List ℕ → ℕ

@@ -6,7 +6,7 @@ ghost use Rattle.board_defs.specs.Pins.{data_bits};
 ghost use Rattle.scan_planner.specs.Plans.{IsPlanOf};
 ghost use Rattle.tap_defs.specs.board.BoardScans.{svf_row_scans};
 ghost use Rattle.tap_defs.specs.board.Explaining.{Explains, IsExpected};
-ghost use Rattle.fault_sim.specs.Effects.{first_net, second_net};
+ghost use Rattle.fault_sim.specs.inner.Effects.{first_net, second_net};
 
 use crate::fits::{shows_all, shows_on};
 use board_defs::{Board, Single, law};

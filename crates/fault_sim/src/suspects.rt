@@ -5,7 +5,8 @@ ghost use Rattle.board_defs.specs.Passes.{passes_of};
 ghost use Rattle.board_defs.specs.Pins.{data_bits};
 ghost use Rattle.scan_planner.specs.Plans.{IsPlanOf};
 ghost use Rattle.fault_sim.specs.Places.{AreStarts, IsUniverse};
-ghost use Rattle.fault_sim.specs.Suspects.{AreFlags, flagged_nets, two_from, four_from, pair_number, pair_suspects, pin_suspects, net_suspects, covered_place, CanSuspect, suspects_of, AreSuspects};
+ghost use Rattle.fault_sim.specs.Suspects.{AreSuspects};
+ghost use Rattle.fault_sim.specs.inner.Suspects.{AreFlags, flagged_nets, two_from, four_from, pair_number, pair_suspects, pin_suspects, net_suspects, covered_place, CanSuspect, suspects_of};
 
 use crate::fits::{net_count, shows};
 use crate::tested::{is_set, push_if};
@@ -15,8 +16,8 @@ use response_log::Log;
 use scan_planner::Plan;
 use std::alloc::{AllocError, Global};
 use std::marker::Model;
-use tap_defs::board_law::{codes_number_covered, singles_observable};
 use tap_defs::board_law;
+use tap_defs::board_law::{codes_number_covered, singles_observable};
 
 /// The places of a universe whose faults may explain a log, seen as the list of them. A single fault changes compared
 /// cells of its own net or of its two nets alone, so they are those of the faults on all nets that differ in the log.

@@ -1,6 +1,6 @@
 // The nets and the pins that the passes of a plan test.
 ghost use Rattle.std.specs.Prelude.{◌≡◌, ◌≤◌, ◌++◌, ◌∷◌, ◌&&◌, [], cond, length, fold, slice_index_or, slice_set, true, false, IfOk, OnOk};
-ghost use Rattle.fault_sim.specs.Tested.{coded_nets, observes_in, paired_in, marked_readers, marked_by, marked_in, tested_flags, pin_where, flagged_pins, pin_count, net_pins, all_pins};
+ghost use Rattle.fault_sim.specs.inner.Tested.{coded_nets, observes_in, paired_in, marked_readers, marked_by, marked_in, tested_flags, pin_where, flagged_pins, pin_count, net_pins, all_pins};
 
 use crate::feed::{driver_in, is_read_beside};
 use crate::fits::net_count;

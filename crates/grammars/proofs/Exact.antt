@@ -2,8 +2,8 @@
 use Rattle.std.proofs.Common.{◌≡◌, true, false, List, [], ◌∷◌, ◌++◌, Option, Some, None, IsSome, inl, inr, refl, sym, ◌∙◌, ap, subst, append_assoc, append-nil}
 use Rattle.grammars.specs.Production.{Production}
 use Rattle.grammars.specs.Production as production
-use Rattle.grammars.specs.Reader.{Reader, Outcome, found, refused, after}
-use Rattle.grammars.specs.Reader as reader
+use Rattle.grammars.specs.inner.Reader.{Reader, Outcome, found, refused, after}
+use Rattle.grammars.specs.inner.Reader as reader
 
 -- no token is left
 abbrev pub RunsOut : {T A : Type 0} → Outcome T A → Type 0

@@ -4,8 +4,8 @@ use Rattle.grammars.specs.Turn.{Turn, again, last}
 use Rattle.grammars.specs.Grammar.{Grammar, place, done, in_turn, turns, production_of, reader_of}
 use Rattle.grammars.proofs.Exact.{Decides, decides_place, decides_done, decides_bind}
 use Rattle.grammars.proofs.Turns.{Shrinks, keeps, decides_turns, shrinks_place, shrinks_first, shrinks_second, turns_once}
-use Rattle.grammars.specs.Reader.{Outcome, after, found, refused}
-use Rattle.grammars.specs.Reader as reader
+use Rattle.grammars.specs.inner.Reader.{Outcome, after, found, refused}
+use Rattle.grammars.specs.inner.Reader as reader
 
 -- at least one token
 abbrev pub TakesToken : {T A : Type 0} → Grammar T A → Type 0

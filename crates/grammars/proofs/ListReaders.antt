@@ -1,7 +1,7 @@
 -- A loop that reads a list, entry by entry.
 use Rattle.std.proofs.Common.{◌≡◌, ℕ, zero, suc, ◌+◌, ◌*◌, ◌<◌, ◌≤◌, Bool, true, false, List, [], ◌∷◌, ◌++◌, length, inl, refl, sym, ◌∙◌, ap, subst, arith, length-append}
 use Rattle.grammars.specs.Turn.{turn_of}
-use Rattle.grammars.specs.Reader.{found, refused}
+use Rattle.grammars.specs.inner.Reader.{found, refused}
 use Rattle.grammars.specs.Grammar.{Grammar, turns, production_of, reader_of}
 use Rattle.grammars.specs.Lists.{list_turn, list_of, Fronts, GoesWrongAt}
 use Rattle.grammars.proofs.Exact.{Reads, Decides, IsLocalAt, reads_on, front_alone}

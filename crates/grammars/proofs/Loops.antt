@@ -1,7 +1,7 @@
 -- Loops that read one turn after another, where a test says whether another comes.
 use Rattle.std.proofs.Common.{◌≡◌, Bool, true, false, List, ◌∙◌, ap}
 use Rattle.grammars.specs.Turn.{Turn, turn_of}
-use Rattle.grammars.specs.Reader.{Outcome, found}
+use Rattle.grammars.specs.inner.Reader.{Outcome, found}
 use Rattle.grammars.specs.Grammar.{Grammar, turns, reader_of}
 use Rattle.grammars.proofs.Grammars.{TakesToken, EachTurnTakes, goes_on, ends}
 

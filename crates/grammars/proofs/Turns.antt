@@ -3,8 +3,8 @@ use Rattle.std.proofs.Common.{◌≡◌, ℕ, zero, suc, ◌+◌, ◌<◌, ◌�
 use Rattle.grammars.specs.Turn.{Turn, again, last}
 use Rattle.grammars.specs.Production.{Production}
 use Rattle.grammars.specs.Production as production
-use Rattle.grammars.specs.Reader.{Reader, Outcome, found, refused, after}
-use Rattle.grammars.specs.Reader as reader
+use Rattle.grammars.specs.inner.Reader.{Reader, Outcome, found, refused, after}
+use Rattle.grammars.specs.inner.Reader as reader
 use Rattle.grammars.proofs.Exact.{RunsOut, Reads, Refuses, IsLocalAt, Decides, decides_none, decides_done, decides_bind, runs_out}
 
 -- what it finds takes a token

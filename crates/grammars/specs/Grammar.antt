@@ -3,8 +3,8 @@ use Rattle.std.specs.Prelude.{Option}
 use Rattle.grammars.specs.Turn.{Turn}
 use Rattle.grammars.specs.Production.{Production}
 use Rattle.grammars.specs.Production as production
-use Rattle.grammars.specs.Reader.{Reader}
-use Rattle.grammars.specs.Reader as reader
+use Rattle.grammars.specs.inner.Reader.{Reader}
+use Rattle.grammars.specs.inner.Reader as reader
 
 pub data Grammar (T : Type 0) : Type 0 → Type 1 where
   -- one token, which fits where it has a value

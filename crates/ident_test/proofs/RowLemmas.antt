@@ -8,7 +8,7 @@ use Rattle.board_defs.specs.declared.device.Symbol.{Symbol}
 use Rattle.tap_defs.specs.chain.Scan.{ScanBit, tdi_bits}
 use Rattle.tap_defs.specs.chain.Text.{svf_text, scan_text, head_text, tail_text}
 use Rattle.ident_test.specs.Patterns.{symbol_bit, register_pattern, ident_bits, ident_scan, ident_text}
-use Rattle.ident_test.specs.Rows.{placed}
+use Rattle.ident_test.specs.inner.Rows.{placed}
 use Rattle.ident_test.proofs.LengthLemmas.{length-ident_bits}
 
 -- the scan is as long as all registers

@@ -1,4 +1,4 @@
 pub mod Patterns
-pub mod Rows
 pub mod CodedParts
 pub mod IdentTest
+pub mod inner

@@ -5,7 +5,7 @@ ghost use Rattle.bt_base.specs.Puts.{Puts};
 ghost use Rattle.tap_defs.specs.chain.Scan.{tdi_bits, tdo_bits, mask_bits};
 ghost use Rattle.tap_defs.specs.chain.Text.{scan_text};
 ghost use Rattle.ident_test.specs.Patterns.{wanted, symbol_bit, register_pattern, ident_bits, ident_scan, ident_text};
-ghost use Rattle.ident_test.specs.Rows.{placed};
+ghost use Rattle.ident_test.specs.inner.Rows.{placed};
 
 use board_defs::{Code, Symbol};
 use bt_base::{PutFault, Sink};

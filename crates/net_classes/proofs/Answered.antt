@@ -25,10 +25,10 @@ use Rattle.net_classes.specs.declared.classes.PinClass.{PinClass}
 use Rattle.net_classes.specs.declared.classes.NetClass.{NetClass}
 use Rattle.net_classes.specs.declared.classes.ControlClass.{ControlClass}
 use Rattle.net_classes.specs.declared.facts.PinFacts.{PinFacts}
-use Rattle.net_classes.specs.Facts.{pin_facts_of, net_facts_of}
-use Rattle.net_classes.specs.Found.{is_elsewhere_of, found_below}
+use Rattle.net_classes.specs.inner.Facts.{pin_facts_of, net_facts_of}
+use Rattle.net_classes.specs.inner.Found.{is_elsewhere_of, found_below}
 use Rattle.net_classes.specs.Kept.{pin_class_of, net_class_of}
-use Rattle.net_classes.specs.Answers.{safe_in, enabled_in, drive_of_pin, drive_of, reads_in, reads_at, enables_at_place, readers_of, enablers_of, tested_in, reader_tested_in, pin_class_in, tested_drive_in, drivers_in, first_reason_in, reason_in, class_in}
+use Rattle.net_classes.specs.inner.Answers.{safe_in, enabled_in, drive_of_pin, drive_of, reads_in, reads_at, enables_at_place, readers_of, enablers_of, tested_in, reader_tested_in, pin_class_in, tested_drive_in, drivers_in, first_reason_in, reason_in, class_in}
 use Rattle.net_classes.proofs.Truth.{any_map, not_true}
 use Rattle.net_classes.proofs.FoundLemmas.{elsewhere_is, passes_in}
 

@@ -22,13 +22,13 @@ use Rattle.net_classes.specs.declared.closed_nets.ClosedNets.{ClosedNets}
 use Rattle.net_classes.specs.declared.control_sets.ControlSet.{ControlSet}
 use Rattle.net_classes.specs.declared.facts.PinFacts.{PinFacts}
 use Rattle.net_classes.specs.declared.known.Known.{Known}
-use Rattle.net_classes.specs.Closed.{AreClosed, AreClosedNets, IsKnown, are_by_some, closed_in, closes, driven_in, drives_some, is_by_one, is_closed_by, nets_of, pins_there}
+use Rattle.net_classes.specs.inner.Closed.{AreClosed, AreClosedNets, IsKnown, are_by_some, closed_in, closes, driven_in, drives_some, is_by_one, is_closed_by, nets_of, pins_there}
 use Rattle.net_classes.specs.Pairs.{drivers_at, drivers_there}
-use Rattle.net_classes.specs.ControlSets.{IsSet, has_control}
-use Rattle.net_classes.specs.Facts.{pin_facts_of}
+use Rattle.net_classes.specs.inner.ControlSets.{IsSet, has_control}
+use Rattle.net_classes.specs.inner.Facts.{pin_facts_of}
 use Rattle.net_classes.specs.Kept.{drives_there, item_of, table}
-use Rattle.net_classes.specs.Pairs.{IsByCell}
-use Rattle.net_classes.specs.Switching.{holds_there}
+use Rattle.net_classes.specs.inner.Pairs.{IsByCell}
+use Rattle.net_classes.specs.inner.Switching.{holds_there}
 use Rattle.net_classes.proofs.ControlSetLemmas.{same_set}
 use Rattle.net_classes.proofs.Lists.{any_joined}
 use Rattle.net_classes.proofs.Paired.{has_cells}

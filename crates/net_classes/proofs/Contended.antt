@@ -21,12 +21,12 @@ use Rattle.net_classes.specs.declared.facts.PinFacts.{PinFacts}
 use Rattle.net_classes.specs.declared.facts.NetFacts.{NetFacts}
 use Rattle.net_classes.specs.declared.classes.ControlClass.{ControlClass}
 use Rattle.net_classes.specs.declared.shared.Controls.TheVariants.{Nobody, One, Several}
-use Rattle.net_classes.specs.Facts.{pin_facts_of, net_facts_of}
+use Rattle.net_classes.specs.inner.Facts.{pin_facts_of, net_facts_of}
 use Rattle.net_classes.specs.Found.{IsAscending, Meet}
 use Rattle.net_classes.specs.Laws.{HaveCommon}
 use Rattle.net_classes.specs.Kept.{item_of, drives_there, driven_nets, is_by_other, is_contended, contends_there, shared_nets, control_class_of}
-use Rattle.net_classes.specs.Shared.{with_drive, controls_from, is_several, contended_in, flags_of, is_flagged, shared_in}
-use Rattle.net_classes.specs.Switching.{holds_there}
+use Rattle.net_classes.specs.inner.Shared.{with_drive, controls_from, is_several, contended_in, flags_of, is_flagged, shared_in}
+use Rattle.net_classes.specs.inner.Switching.{holds_there}
 use Rattle.net_classes.proofs.Truth.{same_truth, any_map, and_left, and_right, and_intro, not_true, not_of_false, clash}
 use Rattle.net_classes.proofs.SharedLemmas.{kept_ascend, item_has}
 

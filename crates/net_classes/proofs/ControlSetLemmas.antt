@@ -10,11 +10,11 @@ use Rattle.board_defs.specs.Settings.{same_ctl}
 use Rattle.board_defs.proofs.ControlOrder.{same_equal, same_refl}
 use Rattle.board_defs.proofs.Members.{Has, has_contains, contains_has, has_left, has_right}
 use Rattle.net_classes.specs.declared.control_sets.ControlSet.{ControlSet}
-use Rattle.net_classes.specs.Cells.{filled, put}
-use Rattle.net_classes.specs.ControlSets.{IsSet, has_control, put_all}
+use Rattle.net_classes.specs.inner.Cells.{filled, put}
+use Rattle.net_classes.specs.inner.ControlSets.{IsSet, has_control, put_all}
 use Rattle.net_classes.specs.Kept.{item_of, table}
-use Rattle.net_classes.specs.Rows.{at_control}
-use Rattle.net_classes.specs.Switching.{holds_there}
+use Rattle.net_classes.specs.inner.Rows.{at_control}
+use Rattle.net_classes.specs.inner.Switching.{holds_there}
 use Rattle.net_classes.proofs.Notes.{at_same, at_other}
 use Rattle.net_classes.proofs.Truth.{clash}
 

@@ -9,7 +9,8 @@ use Rattle.board_defs.specs.declared.board.Drive.{Drive}
 use Rattle.board_defs.specs.Decided.{are_compatible}
 use Rattle.board_defs.specs.Passes.{drivers_by_net, first_pair, pairs_of, tested_drivers}
 use Rattle.board_defs.proofs.Members.{Has, any_has, find_has, find_none, has_any, has_pairs_of, pairs_of_has}
-use Rattle.net_classes.specs.Pairs.{drivers_there, fit, fits_some, pair_there, pairs_with, some_fit}
+use Rattle.net_classes.specs.Pairs.{drivers_there, fit, fits_some, pair_there, pairs_with}
+use Rattle.net_classes.specs.inner.Pairs.{some_fit}
 use Rattle.net_classes.proofs.Paired.{pairs_are}
 use Rattle.net_classes.proofs.Truth.{clash, not_true, same_truth}
 

@@ -12,7 +12,7 @@ use Rattle.board_defs.specs.Pins.{entry_at, drive_by, drive_where, receives, gua
 use Rattle.board_defs.specs.Decided.{is_always_on}
 use Rattle.net_classes.specs.declared.facts.PinFacts.{PinFacts}
 use Rattle.net_classes.specs.declared.facts.NetFacts.{NetFacts}
-use Rattle.net_classes.specs.Facts.{pin_facts_of, net_facts_of, drive_from, drive_where_in, pin_facts_in, guarded_in, pins_in, net_facts_in}
+use Rattle.net_classes.specs.inner.Facts.{pin_facts_of, net_facts_of, drive_from, drive_where_in, pin_facts_in, guarded_in, pins_in, net_facts_in}
 use Rattle.net_classes.proofs.Truth.{any_map}
 use Rattle.net_classes.proofs.Answered.{map_same}
 

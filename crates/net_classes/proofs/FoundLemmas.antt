@@ -6,7 +6,7 @@ use Rattle.board_defs.specs.Decided.{any_below, any_other}
 use Rattle.board_defs.proofs.Places.{FoundBelow, below_place, below_at, FoundElsewhere, other_place, other_at}
 use Rattle.net_classes.specs.declared.found.Found.{Found}
 use Rattle.net_classes.specs.declared.found.Found.TheVariants.{Nowhere, At, Several}
-use Rattle.net_classes.specs.Found.{with_place, is_elsewhere_of, found_below}
+use Rattle.net_classes.specs.inner.Found.{with_place, is_elsewhere_of, found_below}
 use Rattle.net_classes.proofs.Truth.{same_truth, clash, eqb_same, eqb_refl, and_left, and_right, and_intro, not_true, not_of_false, false_of_not}
 
 -- one number more

@@ -8,7 +8,8 @@ use Rattle.board_defs.specs.declared.board.Drive.TheVariants.{AlwaysOn, OneSided
 use Rattle.board_defs.specs.Settings.{same_ctl}
 use Rattle.board_defs.specs.Decided.{can_enable, is_safe_alone, share_net}
 use Rattle.board_defs.proofs.Members.{Has}
-use Rattle.net_classes.specs.Kept.{is_free, shared_nets}
+use Rattle.net_classes.specs.Kept.{shared_nets}
+use Rattle.net_classes.specs.inner.Kept.{is_free}
 use Rattle.net_classes.specs.Pairs.{fit}
 use Rattle.net_classes.proofs.Truth.{and_intro, not_true, not_of_false, clash}
 use Rattle.net_classes.proofs.Answered.{some_length}

@@ -4,7 +4,7 @@ use Rattle.std.specs.Prelude.{slice_get, option_map, option_and_then}
 use Rattle.std.proofs.lemmas.List.{length-map}
 use Rattle.std.proofs.lemmas.Option.{slice_get-map, slice_get-get_or}
 use Rattle.board_defs.proofs.Members.{Has, has_at, has_contains, contains_has}
-use Rattle.net_classes.specs.Groups.{AreOneGroup, AreBelow, AreGroups, moved, made_one, joined, joined_all, joined_rows}
+use Rattle.net_classes.specs.inner.Groups.{AreOneGroup, AreBelow, AreGroups, moved, made_one, joined, joined_all, joined_rows}
 use Rattle.net_classes.proofs.Truth.{eqb_same, eqb_refl}
 
 -- what is of one group stays so

@@ -19,11 +19,13 @@ use Rattle.net_classes.specs.declared.classes.NetClass.{NetClass}
 use Rattle.net_classes.specs.declared.pair_keys.Holder.{Holder}
 use Rattle.net_classes.specs.declared.pair_keys.PairKey.{PairKey}
 use Rattle.net_classes.specs.declared.pair_keys.PairKey.TheVariants.{Uncovered, Free, Held, Unclear}
-use Rattle.net_classes.specs.Kept.{item_of, is_free, shared_nets, net_class_of}
-use Rattle.net_classes.specs.Pairs.{IsByCell, fit, fits_some}
-use Rattle.net_classes.specs.Groups.{AreOneGroup, AreBelow, AreGroups}
+use Rattle.net_classes.specs.Kept.{item_of, shared_nets, net_class_of}
+use Rattle.net_classes.specs.inner.Kept.{is_free}
+use Rattle.net_classes.specs.Pairs.{fit, fits_some}
+use Rattle.net_classes.specs.inner.Pairs.{IsByCell}
+use Rattle.net_classes.specs.inner.Groups.{AreOneGroup, AreBelow, AreGroups}
 use Rattle.net_classes.specs.PairKeys.{ArePairKeys, is_covered, are_apart, shows_paired}
-use Rattle.net_classes.specs.MadeKeys.{key_in, key_first, key_by, drive_key, with_key, net_key}
+use Rattle.net_classes.specs.inner.MadeKeys.{key_in, key_first, key_by, drive_key, with_key, net_key}
 use Rattle.net_classes.proofs.Truth.{clash, eqb_refl, false_of_not}
 use Rattle.net_classes.proofs.Answered.{covered_is, some_length}
 use Rattle.net_classes.proofs.Contended.{has_shares}

@@ -6,7 +6,7 @@ use Rattle.board_defs.specs.declared.board.Ctl.{Ctl}
 use Rattle.board_defs.specs.declared.board.Net.{Net}
 use Rattle.board_defs.specs.declared.board.Drive.{Drive}
 use Rattle.net_classes.specs.declared.known.Known.{Known}
-use Rattle.net_classes.specs.Closed.{IsKnown}
+use Rattle.net_classes.specs.inner.Closed.{IsKnown}
 use Rattle.net_classes.specs.Pairs.{drivers_at, drivers_there}
 use Rattle.net_classes.specs.Kept.{net_class_of}
 use Rattle.net_classes.proofs.Answered.{map_map}

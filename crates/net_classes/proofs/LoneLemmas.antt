@@ -13,7 +13,7 @@ use Rattle.net_classes.specs.declared.pair_keys.Holder.{Holder}
 use Rattle.net_classes.specs.declared.pair_keys.PairKey.{PairKey}
 use Rattle.net_classes.specs.declared.pair_keys.PairKey.TheVariants.{Uncovered, Free, Held, Unclear}
 use Rattle.net_classes.specs.PairKeys.{ArePairKeys, is_covered, are_apart, shows_paired}
-use Rattle.net_classes.specs.LoneGroups.{AreLone, IsHolder, freed, is_unclear}
+use Rattle.net_classes.specs.inner.LoneGroups.{AreLone, IsHolder, freed, is_unclear}
 use Rattle.std.proofs.Math.Bool.{or-true}
 use Rattle.board_defs.proofs.Members.{has_at, has_any}
 use Rattle.net_classes.proofs.Truth.{clash, eqb_same, not_true}

@@ -20,9 +20,9 @@ use Rattle.board_defs.proofs.Places.{FoundBelow, below_place, below_at, all_at, 
 use Rattle.net_classes.specs.declared.facts.PinFacts.{PinFacts}
 use Rattle.net_classes.specs.declared.facts.NetFacts.{NetFacts}
 use Rattle.net_classes.specs.declared.classes.ControlClass.{ControlClass}
-use Rattle.net_classes.specs.Facts.{pin_facts_of, net_facts_of}
+use Rattle.net_classes.specs.inner.Facts.{pin_facts_of, net_facts_of}
 use Rattle.net_classes.specs.Kept.{item_of, drives_there, driven_nets}
-use Rattle.net_classes.specs.Rows.{at_control, unsafe_too, ends_with, note_net, note_nets, copies, fresh, fresh_rows, block_where, block_bits, block_parts, made_rows}
+use Rattle.net_classes.specs.inner.Rows.{at_control, unsafe_too, ends_with, note_net, note_nets, copies, fresh, fresh_rows, block_where, block_bits, block_parts, made_rows}
 use Rattle.net_classes.proofs.Truth.{same_truth, not_true, not_false, clash, eqb_refl, eqb_same, and_left, and_right, and_intro, not_of_false, false_of_not, any_map}
 use Rattle.net_classes.proofs.Lists.{upto_end, plus_nothing}
 use Rattle.net_classes.proofs.RowLemmas.{copies_get}

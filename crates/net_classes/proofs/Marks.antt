@@ -21,10 +21,10 @@ use Rattle.board_defs.proofs.PassesKept.{Tested, tested_has, has_tested, tested_
 use Rattle.net_classes.specs.declared.classes.NetClass.{NetClass}
 use Rattle.net_classes.specs.declared.classes.ControlClass.{ControlClass}
 use Rattle.net_classes.specs.Kept.{item_of, net_class_of, control_class_of, driven_nets}
-use Rattle.net_classes.specs.Facts.{net_facts_of}
+use Rattle.net_classes.specs.inner.Facts.{net_facts_of}
 use Rattle.net_classes.specs.declared.facts.NetFacts.{NetFacts}
-use Rattle.net_classes.specs.Rows.{at_control, useful_too, mark_drive, mark_nets, made_rows}
-use Rattle.net_classes.specs.Answers.{serves, useful_in, is_free, class_in}
+use Rattle.net_classes.specs.inner.Rows.{at_control, useful_too, mark_drive, mark_nets, made_rows}
+use Rattle.net_classes.specs.inner.Answers.{serves, useful_in, is_free, class_in}
 use Rattle.net_classes.proofs.Truth.{same_truth, any_map, and_left, and_right, and_intro}
 use Rattle.net_classes.proofs.Notes.{at_same, at_other}
 use Rattle.net_classes.proofs.Made.{made_row, row_before}

@@ -11,7 +11,7 @@ use Rattle.board_defs.proofs.ControlOrder.{same_equal}
 use Rattle.net_classes.specs.declared.facts.PinFacts.{PinFacts}
 use Rattle.net_classes.specs.declared.classes.ControlClass.{ControlClass}
 use Rattle.net_classes.specs.Kept.{item_of}
-use Rattle.net_classes.specs.Rows.{update_at, at_control, added, ends_with, is_number, note_drive, note_pins}
+use Rattle.net_classes.specs.inner.Rows.{update_at, at_control, added, ends_with, is_number, note_drive, note_pins}
 use Rattle.net_classes.proofs.Truth.{not_true, clash, eqb_refl, eqb_same, and_intro}
 
 -- reading at the changed place, and at another

@@ -19,7 +19,7 @@ use Rattle.board_defs.proofs.PassesKept.{tested_can_drive, tested_has}
 use Rattle.board_defs.proofs.Places.{any_at}
 use Rattle.net_classes.specs.declared.pair_rows.PairRows.{PairRows}
 use Rattle.net_classes.specs.Kept.{ArePairRows}
-use Rattle.net_classes.specs.PairRows.{drive_word}
+use Rattle.net_classes.specs.inner.PairRows.{drive_word}
 use Rattle.net_classes.specs.Pairs.{AreBitsOf, drivers_there, fits_at, pairs_with}
 use Rattle.net_classes.proofs.DriverPairs.{there_are}
 use Rattle.net_classes.proofs.Lists.{any_joined}

@@ -13,12 +13,12 @@ use Rattle.board_defs.specs.Decided.{bit_count, port_bits, is_at, is_switched}
 use Rattle.board_defs.proofs.ControlOrder.{same_equal}
 use Rattle.net_classes.specs.declared.facts.PinFacts.{PinFacts}
 use Rattle.net_classes.specs.declared.facts.NetFacts.{NetFacts}
-use Rattle.net_classes.specs.Cells.{put}
+use Rattle.net_classes.specs.inner.Cells.{put}
 use Rattle.net_classes.specs.Kept.{item_of}
-use Rattle.net_classes.specs.Facts.{pin_facts_of, net_facts_of}
-use Rattle.net_classes.specs.Rows.{at_control, copies}
-use Rattle.net_classes.specs.Switching.{mark_at, mark_pins, mark_pulled, blank_bits, pulled_bits, holds_there}
-use Rattle.net_classes.specs.Tables.{SaysPulled}
+use Rattle.net_classes.specs.inner.Facts.{pin_facts_of, net_facts_of}
+use Rattle.net_classes.specs.inner.Rows.{at_control, copies}
+use Rattle.net_classes.specs.inner.Switching.{mark_at, mark_pins, mark_pulled, blank_bits, pulled_bits, holds_there}
+use Rattle.net_classes.specs.inner.Tables.{SaysPulled}
 use Rattle.net_classes.proofs.Truth.{any_map}
 use Rattle.net_classes.proofs.RowLemmas.{copies_get}
 use Rattle.net_classes.proofs.Notes.{at_same, at_other}

@@ -8,7 +8,7 @@ use Rattle.std.proofs.lemmas.List.{map_more}
 use Rattle.std.proofs.lemmas.Option.{slice_get-get_or}
 use Rattle.net_classes.specs.declared.facts.NetFacts.{NetFacts}
 use Rattle.net_classes.specs.Kept.{table}
-use Rattle.net_classes.specs.Rows.{update_at, copies, note_pins, note_net, note_nets}
+use Rattle.net_classes.specs.inner.Rows.{update_at, copies, note_pins, note_net, note_nets}
 use Rattle.net_classes.proofs.Truth.{eqb_same}
 
 pub update_past : {X : Type 0} (i : ℕ) (f : X → X) (xs : List X) → length xs ≤ i → update_at i f xs ≡ xs

@@ -1,5 +1,5 @@
 -- What the classes of a board keep, each by the tests that decide the terms of all safe settings.
-use Rattle.std.specs.Prelude.{◌≡◌, ℕ, ◌==◌, Bool, true, false, not, ◌&&◌, List, [], map, filter, length, Vec, Option, Some, None, slice_get, slice_index_or, is_some, option_and_then}
+use Rattle.std.specs.Prelude.{◌≡◌, ℕ, Bool, true, false, not, ◌&&◌, List, [], map, filter, length, Vec, Option, Some, None, slice_get, slice_index_or, is_some, option_and_then}
 use Rattle.std.specs.List.{list_any, range_with_len}
 use Rattle.std.specs.declared.alloc.Global.{Global}
 use Rattle.board_defs.specs.declared.board.Ctl.{Ctl}
@@ -15,15 +15,10 @@ use Rattle.net_classes.specs.declared.classes.PinClass.{PinClass}
 use Rattle.net_classes.specs.declared.classes.NetClass.{NetClass}
 use Rattle.net_classes.specs.declared.classes.ControlClass.{ControlClass}
 use Rattle.net_classes.specs.declared.classes.Classes.{Classes}
-use Rattle.net_classes.specs.declared.classes.Parts.{Parts}
 use Rattle.net_classes.specs.declared.pair_rows.PairRows.{PairRows}
 use Rattle.net_classes.specs.NetRows.{AreRowBits}
 use Rattle.net_classes.specs.PairKeys.{ArePairKeys}
 use Rattle.net_classes.specs.Pairs.{fits_at}
-
--- it holds of the net of this number
-abbrev pub OfNet : RawBoard → ℕ → (Net → Type 0) → Type 0
-OfNet board n P = (net : Net) → slice_get board.nets n ≡ Some net → P net
 
 -- the control controls a driver of the net, where the net is there
 abbrev pub drives_there : RawBoard → Ctl → Option Net → Bool
@@ -53,12 +48,6 @@ contends_there board c (Some net) = is_contended board c net
 -- the numbers of the nets of which the control and another one control drivers, in net order
 abbrev pub shared_nets : RawBoard → Ctl → List ℕ
 shared_nets board c = filter (λ n. contends_there board c (slice_get board.nets n)) (range_with_len 0 (length board.nets))
-
--- some safe setting enables the driver together with any driver that can be enabled
-abbrev pub is_free : RawBoard → Drive → Bool
-is_free board AlwaysOn = true
-is_free board OneSided = false
-is_free board (By c) = length (shared_nets board c) == 0
 
 -- what is kept of the pin at this place of a net
 abbrev pub pin_class_of : RawBoard → Net → ℕ → PinClass
@@ -96,13 +85,6 @@ row_in pairs k = slice_index_or pairs.rows.items k []
 pub record ArePairRows (board : RawBoard) (pairs : PairRows) : Type 0 where
   pub covered : AreRowBits (fits_at board AlwaysOn) (row_in pairs 0)
   pub each : (c : Ctl) → IsCell board c → is_useful board c ≡ true → AreRowBits (fits_at board (By c)) (row_in pairs (number_in pairs c))
-
--- what is kept of nets and controls is of the board
-pub record AreParts (board : RawBoard) (parts : Parts) : Type 0 where
-  pub nets_are : parts.nets.items ≡ map (net_class_of board) board.nets
-  pub controls_are : (c : Ctl) → IsCell board c → item_of (table parts.controls.items) c ≡ Some (control_class_of board c)
-  pub useful_are : parts.useful.items ≡ useful_controls board
-  pub shared_are : (c : Ctl) → IsCell board c → item_of (table parts.shared.items) c ≡ Some (shared_nets board c)
 
 -- the classes are those of the board
 pub record AreClasses (board : RawBoard) (classes : Classes) : Type 0 where

@@ -1,22 +1,12 @@
 -- Which drivers of two nets one safe setting enables.
-use Rattle.std.specs.Prelude.{◌≡◌, ◌<◌, ◌+◌, ◌*◌, ℕ, Bool, false, List, [], Option, None, Some, All, slice_get, cond}
+use Rattle.std.specs.Prelude.{◌≡◌, ◌<◌, ◌+◌, ◌*◌, ℕ, Bool, false, List, [], Option, None, Some, slice_get, cond}
 use Rattle.std.specs.Int.{bit_at}
 use Rattle.std.specs.List.{list_any}
-use Rattle.board_defs.specs.declared.board.Ctl.{Ctl}
 use Rattle.board_defs.specs.declared.board.Net.{Net}
 use Rattle.board_defs.specs.declared.board.RawBoard.{RawBoard}
 use Rattle.board_defs.specs.declared.board.Drive.{Drive}
-use Rattle.board_defs.specs.declared.board.Drive.TheVariants.{By}
-use Rattle.board_defs.specs.Pins.{IsCell}
 use Rattle.board_defs.specs.Decided.{are_compatible, are_paired}
 use Rattle.board_defs.specs.Passes.{tested_drivers}
-
--- the control of the driver, where it has one, is a cell of the board
-abbrev pub IsByCell : RawBoard → Drive → Type 0
-IsByCell board d = (c : Ctl) → d ≡ By c → IsCell board c
-
-abbrev pub AreByCells : RawBoard → List Drive → Type 0
-AreByCells board ds = All (IsByCell board) ds
 
 -- one safe setting enables both drivers
 abbrev pub fit : RawBoard → Drive → Drive → Bool
@@ -25,10 +15,6 @@ fit board d e = are_compatible board (Some d) (Some e)
 -- one safe setting enables the driver and some driver of the list
 abbrev pub fits_some : RawBoard → List Drive → Drive → Bool
 fits_some board es d = list_any (fit board d) es
-
--- one safe setting enables some driver of each list
-abbrev pub some_fit : RawBoard → List Drive → List Drive → Bool
-some_fit board ds es = list_any (fits_some board es) ds
 
 -- the tested drivers of the net, where it is there
 abbrev pub drivers_there : RawBoard → Option Net → List Drive

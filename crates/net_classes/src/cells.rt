@@ -1,8 +1,8 @@
 // Tables with one item for each cell of each part.
 ghost use Rattle.std.specs.Prelude.{◌≡◌, map, IfOk};
 ghost use Rattle.net_classes.specs.Kept.{item_of, table};
-ghost use Rattle.net_classes.specs.Cells.{filled, put};
-ghost use Rattle.net_classes.specs.Rows.{at_control, update_at};
+ghost use Rattle.net_classes.specs.inner.Cells.{filled, put};
+ghost use Rattle.net_classes.specs.inner.Rows.{at_control, update_at};
 
 use board_defs::Ctl;
 use std::alloc::{AllocError, Global};

@@ -2,10 +2,11 @@
 ghost use Rattle.std.specs.Prelude.{◌≡◌, map, IfOk};
 ghost use Rattle.board_defs.specs.BoardRules.{IsBoard};
 ghost use Rattle.port_entries.specs.Entries.{AreEntries};
-ghost use Rattle.net_classes.specs.Facts.{net_facts_of};
-ghost use Rattle.net_classes.specs.Kept.{AreClasses, ArePairRows, AreParts};
+ghost use Rattle.net_classes.specs.inner.Facts.{net_facts_of};
+ghost use Rattle.net_classes.specs.Kept.{AreClasses, ArePairRows};
+ghost use Rattle.net_classes.specs.inner.Kept.{AreParts};
 ghost use Rattle.net_classes.specs.PairKeys.{ArePairKeys};
-ghost use Rattle.net_classes.specs.Tables.{AreTables};
+ghost use Rattle.net_classes.specs.inner.Tables.{AreTables};
 
 use crate::controls::{Tables, control_rows, mark_useful};
 use crate::facts::{NetFacts, all_net_facts};

@@ -4,8 +4,8 @@ ghost use Rattle.std.specs.List.{list_all, list_any};
 ghost use Rattle.board_defs.specs.declared.board.Ctl.{Ctl};
 ghost use Rattle.board_defs.specs.declared.board.RawBoard.{RawBoard};
 ghost use Rattle.board_defs.specs.Decided.{is_by};
-ghost use Rattle.net_classes.specs.Closed.{AreClosed, AreClosedNets, IsKnown, closed_in, closes, driven_in, drives_some, is_by_one};
-ghost use Rattle.net_classes.specs.ControlSets.{IsSet, has_control};
+ghost use Rattle.net_classes.specs.inner.Closed.{AreClosed, AreClosedNets, IsKnown, closed_in, closes, driven_in, drives_some, is_by_one};
+ghost use Rattle.net_classes.specs.inner.ControlSets.{IsSet, has_control};
 
 use crate::control_sets::ControlSet;
 use crate::facts::PinFacts;

@@ -5,7 +5,7 @@ ghost use Rattle.board_defs.specs.declared.board.RawBoard.{RawBoard};
 ghost use Rattle.board_defs.specs.Pins.{IsCell};
 ghost use Rattle.board_defs.specs.Settings.{same_ctl};
 ghost use Rattle.net_classes.specs.Kept.{item_of, table};
-ghost use Rattle.net_classes.specs.ControlSets.{IsSet, has_control, put_all};
+ghost use Rattle.net_classes.specs.inner.ControlSets.{IsSet, has_control, put_all};
 
 use crate::cells::{filled_table, item_at, put_at};
 use board_defs::Ctl;

@@ -4,8 +4,8 @@ ghost use Rattle.board_defs.specs.BoardRules.{IsBoard};
 ghost use Rattle.board_defs.specs.Pins.{cell_count, described};
 ghost use Rattle.board_defs.specs.Decided.{is_switching, own_control, own_where, port_bits};
 ghost use Rattle.net_classes.specs.Kept.{table};
-ghost use Rattle.net_classes.specs.Tables.{AreTables};
-ghost use Rattle.net_classes.specs.Rows.{added, at_control, block_bits, block_parts, block_where, ends_with, copies, fresh, fresh_rows, made_rows, mark_drive, mark_nets, note_drive, note_nets, note_pins, unsafe_too, update_at, useful_too};
+ghost use Rattle.net_classes.specs.inner.Tables.{AreTables};
+ghost use Rattle.net_classes.specs.inner.Rows.{added, at_control, block_bits, block_parts, block_where, ends_with, copies, fresh, fresh_rows, made_rows, mark_drive, mark_nets, note_drive, note_nets, note_pins, unsafe_too, update_at, useful_too};
 
 use crate::classes::{ControlClass, NetClass};
 use crate::facts::{NetFacts, PinFacts};

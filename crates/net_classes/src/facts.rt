@@ -4,7 +4,7 @@ ghost use Rattle.std.specs.List.{list_any};
 ghost use Rattle.board_defs.specs.Pins.{is_pulled_to, is_test_pin};
 ghost use Rattle.board_defs.specs.Decided.{is_always_on};
 ghost use Rattle.port_entries.specs.Entries.{AreEntries};
-ghost use Rattle.net_classes.specs.Facts.{drive_from, drive_where_in, net_facts_in, pin_facts_in};
+ghost use Rattle.net_classes.specs.inner.Facts.{drive_from, drive_where_in, net_facts_in, pin_facts_in};
 
 use board_defs::{Cell, Ctl, Drive, Items, Net, NetPin, PinAt, RawBoard};
 use port_entries::{BitEntries, driving_entry, has_dark_pin, receives};

@@ -1,7 +1,8 @@
 // Where the items of a list that pass a test stand: nowhere, at one place, or at several.
 ghost use Rattle.std.specs.Prelude.{◌≡◌, if◌then◌else◌};
 ghost use Rattle.std.specs.Bool.{Decides};
-ghost use Rattle.net_classes.specs.Found.{IsAscending, Meet, is_elsewhere_of, with_place};
+ghost use Rattle.net_classes.specs.Found.{IsAscending, Meet};
+ghost use Rattle.net_classes.specs.inner.Found.{is_elsewhere_of, with_place};
 
 #[derive(Clone, Copy, Debug)]
 pub enum Found {

@@ -2,7 +2,7 @@
 // controls whose nets are in two groups share no net.
 ghost use Rattle.std.specs.Prelude.{◌≡◌, ◌==◌, ◌≤◌, cond, fold, length, map, slice_get, IfOk};
 ghost use Rattle.net_classes.specs.Kept.{table};
-ghost use Rattle.net_classes.specs.Groups.{joined, joined_all, joined_rows, moved, AreGroups};
+ghost use Rattle.net_classes.specs.inner.Groups.{joined, joined_all, joined_rows, moved, AreGroups};
 
 use crate::net_numbers::NetNumbers;
 use std::alloc::{AllocError, Global};

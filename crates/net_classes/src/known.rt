@@ -2,7 +2,7 @@
 ghost use Rattle.std.specs.Prelude.{◌≡◌, map, slice_get, IfOk};
 ghost use Rattle.board_defs.specs.Decided.{is_by};
 ghost use Rattle.board_defs.specs.Pins.{IsCell};
-ghost use Rattle.net_classes.specs.Closed.{IsKnown, driven_in, pins_there};
+ghost use Rattle.net_classes.specs.inner.Closed.{IsKnown, driven_in, pins_there};
 ghost use Rattle.net_classes.specs.Pairs.{drivers_at};
 ghost use Rattle.net_classes.specs.Kept.{shared_nets};
 

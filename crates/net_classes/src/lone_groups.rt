@@ -5,7 +5,7 @@ ghost use Rattle.board_defs.specs.declared.board.RawBoard.{RawBoard as RawBoardR
 ghost use Rattle.net_classes.specs.declared.pair_keys.Holder.{Holder as HolderRecord};
 ghost use Rattle.net_classes.specs.declared.pair_keys.PairKey.TheVariants.{Held};
 ghost use Rattle.net_classes.specs.PairKeys.{ArePairKeys};
-ghost use Rattle.net_classes.specs.LoneGroups.{AreLone, IsHolder, freed, is_unclear};
+ghost use Rattle.net_classes.specs.inner.LoneGroups.{AreLone, IsHolder, freed, is_unclear};
 
 use crate::pair_keys::{Holder, PairKey};
 use board_defs::Ctl;

@@ -3,7 +3,7 @@ ghost use Rattle.std.specs.Prelude.{◌≡◌, ◌||◌, ◌==◌, not, fold, ma
 ghost use Rattle.board_defs.specs.Settings.{same_ctl};
 ghost use Rattle.net_classes.specs.Kept.{item_of, table};
 ghost use Rattle.net_classes.specs.PairKeys.{are_apart, is_covered, is_free_key, shows_paired};
-ghost use Rattle.net_classes.specs.MadeKeys.{drive_key, key_by, key_first, net_key, with_key};
+ghost use Rattle.net_classes.specs.inner.MadeKeys.{drive_key, key_by, key_first, net_key, with_key};
 
 use crate::classes::NetClass;
 use crate::groups::group_of;

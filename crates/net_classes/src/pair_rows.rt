@@ -6,11 +6,11 @@ ghost use Rattle.board_defs.specs.declared.board.Ctl.{Ctl};
 ghost use Rattle.board_defs.specs.Pins.{IsCell};
 ghost use Rattle.board_defs.specs.Decided.{is_useful};
 ghost use Rattle.board_defs.specs.Passes.{useful_controls};
-ghost use Rattle.net_classes.specs.Closed.{AreClosed, AreClosedNets, IsKnown};
+ghost use Rattle.net_classes.specs.inner.Closed.{AreClosed, AreClosedNets, IsKnown};
 ghost use Rattle.net_classes.specs.Kept.{shared_nets};
 ghost use Rattle.net_classes.specs.NetRows.{AreRowBits, stands_in};
 ghost use Rattle.net_classes.specs.Pairs.{AreBitsOf};
-ghost use Rattle.net_classes.specs.PairRows.{AddsRow, HasCovered, IsRowFor, drive_word, number_for, owns_at};
+ghost use Rattle.net_classes.specs.inner.PairRows.{AddsRow, HasCovered, IsRowFor, drive_word, number_for, owns_at};
 ghost use Rattle.net_classes.specs.Kept.{ArePairRows, number_in, row_in};
 ghost use Rattle.net_classes.specs.Pairs.{fits_at};
 

@@ -9,9 +9,11 @@ ghost use Rattle.board_defs.specs.declared.board.Drive.TheVariants.{By};
 ghost use Rattle.board_defs.specs.Coverage.{AreTogether, ArePaired, IsCovered, IsReason, IsTestedDriver, IsTestedReceiver, IsUseful};
 ghost use Rattle.board_defs.specs.Decided.{are_paired, are_together, can_enable, is_safe_alone, is_tested_driver, is_tested_receiver, is_useful, place_drive, reason_of, share_net};
 ghost use Rattle.board_defs.specs.Passes.{tested_drivers, useful_controls};
-ghost use Rattle.net_classes.specs.Pairs.{AreBitsOf, AreByCells, IsByCell, fit, pairs_with};
+ghost use Rattle.net_classes.specs.Pairs.{AreBitsOf, fit, pairs_with};
+ghost use Rattle.net_classes.specs.inner.Pairs.{AreByCells, IsByCell};
 ghost use Rattle.net_classes.specs.PairKeys.{ArePairKeys};
-ghost use Rattle.net_classes.specs.Kept.{AreClasses, OfNet, control_class_of, driven_nets, pin_class_of, shared_nets};
+ghost use Rattle.net_classes.specs.Kept.{AreClasses, control_class_of, driven_nets, pin_class_of, shared_nets};
+ghost use Rattle.net_classes.specs.inner.Kept.{OfNet};
 
 use crate::classes::{Classes, ControlClass, PinClass};
 use crate::found::meet;

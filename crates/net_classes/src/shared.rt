@@ -2,7 +2,7 @@
 ghost use Rattle.std.specs.Prelude.{◌≡◌, filter, map, IfOk};
 ghost use Rattle.board_defs.specs.Settings.{same_ctl};
 ghost use Rattle.net_classes.specs.Kept.{table};
-ghost use Rattle.net_classes.specs.Shared.{contended_in, controls_in, flags_of, is_flagged, shared_in, with_control, with_drive};
+ghost use Rattle.net_classes.specs.inner.Shared.{contended_in, controls_in, flags_of, is_flagged, shared_in, with_control, with_drive};
 
 use crate::classes::ControlClass;
 use crate::facts::{NetFacts, PinFacts};

@@ -3,8 +3,8 @@ ghost use Rattle.std.specs.Prelude.{◌≡◌, false, fold, IfOk};
 ghost use Rattle.board_defs.specs.Pins.{described};
 ghost use Rattle.board_defs.specs.Decided.{bit_count};
 ghost use Rattle.net_classes.specs.Kept.{table};
-ghost use Rattle.net_classes.specs.Rows.{copies};
-ghost use Rattle.net_classes.specs.Switching.{blank_bits, is_marked, mark_at, mark_pins, mark_pulled, pulled_bits};
+ghost use Rattle.net_classes.specs.inner.Rows.{copies};
+ghost use Rattle.net_classes.specs.inner.Switching.{blank_bits, is_marked, mark_at, mark_pins, mark_pulled, pulled_bits};
 
 use crate::cells::put_at;
 use crate::facts::{NetFacts, PinFacts, is_pull};

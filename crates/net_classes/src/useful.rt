@@ -3,7 +3,7 @@ ghost use Rattle.std.specs.Prelude.{◌≡◌, ◌++◌, ◌∷◌, [], cond, fi
 ghost use Rattle.board_defs.specs.BoardRules.{IsBoard};
 ghost use Rattle.board_defs.specs.Passes.{all_cells, cells_of};
 ghost use Rattle.net_classes.specs.Kept.{table};
-ghost use Rattle.net_classes.specs.Answers.{useful_in};
+ghost use Rattle.net_classes.specs.inner.Answers.{useful_in};
 
 use crate::classes::ControlClass;
 use crate::controls::cells_of;

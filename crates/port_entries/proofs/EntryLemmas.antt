@@ -19,7 +19,7 @@ use Rattle.board_defs.specs.DeviceRules.{is_on, is_driving, is_receiving, is_lin
 use Rattle.board_defs.specs.Pins.{described, device_at, bit_at, entry_at, is_test_pin, is_dark, is_dark_bit, is_dark_in, is_dark_where, guards, receives_bit, receives_in}
 use Rattle.board_defs.proofs.Places.{all_stands}
 use Rattle.port_entries.specs.Entries.{entries_on, entries_of, entries_at, AreEntries}
-use Rattle.port_entries.specs.Rows.{noted, all_noted, part_rows, entry_rows, dark_by, dark_where, dark_in, guards_in, receives_by}
+use Rattle.port_entries.specs.inner.Rows.{noted, all_noted, part_rows, entry_rows, dark_by, dark_where, dark_in, guards_in, receives_by}
 
 -- a row with one entry more
 noted_get : (rows : List (List Cell)) (bit : Option ℕ) (cell : Cell) (k : ℕ) → k < length rows →

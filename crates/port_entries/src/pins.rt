@@ -4,7 +4,7 @@ ghost use Rattle.std.specs.List.{list_any};
 ghost use Rattle.board_defs.specs.DeviceRules.{is_driving, is_receiving, may_receive};
 ghost use Rattle.board_defs.specs.Pins.{bit_at, entry_at, guarded, is_dark, receives_where};
 ghost use Rattle.port_entries.specs.Entries.{AreEntries, entries_at};
-ghost use Rattle.port_entries.specs.Rows.{dark_by, dark_in, guards_in, receives_by};
+ghost use Rattle.port_entries.specs.inner.Rows.{dark_by, dark_in, guards_in, receives_by};
 
 use crate::table::{BitEntries, entries_at};
 use board_defs::{Cell, Items, Net, NetPin, PinAt, PortBit, RawBoard};

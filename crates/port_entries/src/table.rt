@@ -3,7 +3,7 @@ ghost use Rattle.std.specs.Prelude.{◌≡◌, ◌++◌, ◌∷◌, [], Some, le
 ghost use Rattle.board_defs.specs.BoardRules.{IsBoard};
 ghost use Rattle.board_defs.specs.Pins.{described};
 ghost use Rattle.port_entries.specs.Entries.{AreEntries, entries_at};
-ghost use Rattle.port_entries.specs.Rows.{noted, all_noted, part_rows, entry_rows};
+ghost use Rattle.port_entries.specs.inner.Rows.{noted, all_noted, part_rows, entry_rows};
 
 use board_defs::{Cell, Items, Part, PartKind, PinAt, RawBoard, RawDevice};
 use std::alloc::{AllocError, Global};

@@ -11,7 +11,7 @@ use Rattle.tap_defs.specs.chain.Scan.{ScanBit, tdi_bits, tdo_bits, mask_bits}
 use Rattle.tap_defs.specs.chain.Codes.{sent, code_bits, instructs}
 use Rattle.scan_planner.specs.declared.instructions.Instruction.{Instruction}
 use Rattle.scan_planner.specs.declared.instructions.Instruction.TheVariants.{Preload, Extest}
-use Rattle.scan_planner.specs.Codes.{code_for, IsCoded, AreCoded, captured_bits, compared_bits}
+use Rattle.scan_planner.specs.inner.Codes.{code_for, IsCoded, AreCoded, captured_bits, compared_bits}
 use Rattle.std.proofs.lemmas.List.{length-map, length-replicate}
 
 sent_tdi : (code : List Bool) → tdi_bits (map sent code) ≡ code

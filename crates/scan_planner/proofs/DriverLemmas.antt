@@ -15,7 +15,7 @@ use Rattle.tap_defs.specs.board.TestRows.{TestRow, driving_cell, data_pin, data_
 use Rattle.tap_defs.proofs.board.PassingLemmas.{stands_at}
 use Rattle.scan_planner.specs.declared.tables.DriverCell.{DriverCell}
 use Rattle.scan_planner.specs.Tables.{first_position, IsDriverCell}
-use Rattle.scan_planner.specs.Laid.{laid, steady}
+use Rattle.scan_planner.specs.inner.Laid.{laid, steady}
 use Rattle.scan_planner.specs.Assigned.{assigned}
 use Rattle.scan_planner.proofs.LaidLemmas.{CellOf, Sets, assigned_laid}
 use Rattle.scan_planner.proofs.PinLemmas.{Standing, standing, wired_at, Drives, drives_by, entry_on, driving_cell_is, driving_entry_is}

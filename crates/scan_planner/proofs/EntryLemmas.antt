@@ -16,7 +16,7 @@ use Rattle.board_defs.proofs.Places.{all_stands}
 use Rattle.tap_defs.proofs.board.QuietLemmas.{device_of}
 use Rattle.port_entries.specs.Entries.{entries_on, entries_of, entries_at, AreEntries}
 use Rattle.scan_planner.specs.Building.{reader_of, readers_in, readers_at}
-use Rattle.scan_planner.specs.Entries.{receives_by}
+use Rattle.scan_planner.specs.inner.Entries.{receives_by}
 
 -- the entries on a port bit that a test of roles chooses
 filter_on : (roles : Cell → Bool) (k : ℕ) (cells : List Cell) → filter roles (entries_on cells k) ≡ filter (λ cell. is_on k cell.bit && roles cell) cells

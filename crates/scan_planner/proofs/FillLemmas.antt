@@ -31,11 +31,11 @@ use Rattle.scan_planner.specs.declared.tables.DriverCell.{DriverCell}
 use Rattle.scan_planner.specs.declared.tables.ReaderCell.{ReaderCell}
 use Rattle.scan_planner.specs.declared.tables.PassCells.{PassCells}
 use Rattle.scan_planner.specs.declared.tables.PlanTables.{PlanTables}
-use Rattle.scan_planner.specs.Laid.{laid, steady}
+use Rattle.scan_planner.specs.inner.Laid.{laid, steady}
 use Rattle.scan_planner.specs.Assigned.{assigned, driver_bit, set_readers, set_compared}
 use Rattle.scan_planner.specs.declared.instructions.Instruction.{Instruction}
 use Rattle.scan_planner.specs.declared.instructions.Instruction.TheVariants.{Preload, Extest}
-use Rattle.scan_planner.specs.Codes.{code_for}
+use Rattle.scan_planner.specs.inner.Codes.{code_for}
 use Rattle.scan_planner.specs.Tables.{AreRowsOf, IsHeldCell, IsDriverCell, IsReaderCell, ArePassCells, common_rows}
 use Rattle.scan_planner.specs.Plans.{IsPlanOf, FillsScan}
 use Rattle.scan_planner.proofs.AssignLemmas.{length-assigned, assigned_apart}

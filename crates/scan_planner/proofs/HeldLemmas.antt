@@ -20,7 +20,7 @@ use Rattle.tap_defs.proofs.board.QuietLemmas.{control_is}
 use Rattle.scan_planner.specs.declared.tables.HeldCell.{HeldCell}
 use Rattle.scan_planner.specs.Plans.{controls_in, controls_some}
 use Rattle.scan_planner.specs.Tables.{first_position, IsHeldCell}
-use Rattle.scan_planner.specs.Laid.{laid, steady}
+use Rattle.scan_planner.specs.inner.Laid.{laid, steady}
 use Rattle.scan_planner.specs.Assigned.{assigned}
 use Rattle.scan_planner.proofs.LaidLemmas.{CellOf, Sets, assigned_laid}
 use Rattle.scan_planner.proofs.PinLemmas.{wired_at}

@@ -18,7 +18,7 @@ use Rattle.tap_defs.specs.board.BoardScans.{RowScan, part_bits, bits_by_part, ro
 use Rattle.tap_defs.proofs.chain.ListLemmas.{cons_path, length-filled, map-filled}
 use Rattle.tap_defs.proofs.board.QuietLemmas.{device_of}
 use Rattle.scan_planner.specs.Tables.{first_position}
-use Rattle.scan_planner.specs.Laid.{CellBits, part_laid, parts_laid, laid}
+use Rattle.scan_planner.specs.inner.Laid.{CellBits, part_laid, parts_laid, laid}
 use Rattle.scan_planner.specs.Assigned.{assigned}
 use Rattle.scan_planner.proofs.AssignLemmas.{assigned_is}
 

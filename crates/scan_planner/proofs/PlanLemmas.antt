@@ -29,12 +29,13 @@ use Rattle.scan_planner.specs.declared.tables.DriverCell.{DriverCell}
 use Rattle.scan_planner.specs.declared.tables.ReaderCell.{ReaderCell}
 use Rattle.scan_planner.specs.declared.tables.PassCells.{PassCells}
 use Rattle.scan_planner.specs.declared.tables.PlanTables.{PlanTables}
-use Rattle.scan_planner.specs.Laid.{laid, quiet_bits}
-use Rattle.scan_planner.specs.Codes.{AreCodes, seen_in}
+use Rattle.scan_planner.specs.inner.Laid.{laid, quiet_bits}
+use Rattle.scan_planner.specs.inner.Codes.{AreCodes, seen_in}
 use Rattle.scan_planner.specs.Tables.{first_position, AreRowsOf, IsHeldCell, common_rows}
-use Rattle.scan_planner.specs.Steady.{ArePassTables}
+use Rattle.scan_planner.specs.inner.Steady.{ArePassTables}
 use Rattle.scan_planner.specs.Plans.{controls_in, controls_some, ArePlannable, code_or_zero, IsPlanOf}
-use Rattle.scan_planner.specs.Building.{readers_of, all_readers, all_drivers, held_cell}
+use Rattle.scan_planner.specs.Building.{readers_of, all_readers, all_drivers}
+use Rattle.scan_planner.specs.inner.Building.{held_cell}
 use Rattle.scan_planner.proofs.LaidLemmas.{laid_at, laid_same, tdi_laid}
 use Rattle.scan_planner.proofs.HeldLemmas.{quiet_steady, control_below}
 use Rattle.scan_planner.proofs.TableLemmas.{reader_is, is_reader}

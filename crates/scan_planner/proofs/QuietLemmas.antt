@@ -25,8 +25,8 @@ use Rattle.tap_defs.proofs.board.QuietLemmas.{control_is}
 use Rattle.tap_defs.proofs.board.ReadingLemmas.{any_is}
 use Rattle.scan_planner.specs.declared.quiet.CellBit.{CellBit}
 use Rattle.scan_planner.specs.Assigned.{assigned}
-use Rattle.scan_planner.specs.Laid.{quiet_bits}
-use Rattle.scan_planner.specs.QuietBits.{safe_value_in, is_driver, disable_value_in, set_some, set_by, quiet_values}
+use Rattle.scan_planner.specs.inner.Laid.{quiet_bits}
+use Rattle.scan_planner.specs.inner.QuietBits.{safe_value_in, is_driver, disable_value_in, set_some, set_by, quiet_values}
 use Rattle.scan_planner.proofs.AssignLemmas.{assigned_is}
 
 set_by_is : (gives : Cell → Option CellBit) (bits : List Bool) (entries : List Cell) → set_by gives bits entries ≡ assigned (λ (c : CellBit). c.cell) (λ (c : CellBit). c.bit) bits (filter_map gives entries)

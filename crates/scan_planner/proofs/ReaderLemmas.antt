@@ -23,7 +23,7 @@ use Rattle.tap_defs.proofs.board.PassingLemmas.{stands_at}
 use Rattle.scan_planner.specs.declared.tables.DriverCell.{DriverCell}
 use Rattle.scan_planner.specs.declared.tables.ReaderCell.{ReaderCell}
 use Rattle.scan_planner.specs.Tables.{first_position, IsDriverCell, IsReaderCell}
-use Rattle.scan_planner.specs.Laid.{laid}
+use Rattle.scan_planner.specs.inner.Laid.{laid}
 use Rattle.scan_planner.specs.Assigned.{assigned, set_readers, set_compared}
 use Rattle.scan_planner.proofs.LaidLemmas.{CellOf, assigned_laid}
 use Rattle.scan_planner.proofs.DriverLemmas.{pass_row}

@@ -17,9 +17,9 @@ use Rattle.scan_planner.specs.declared.tables.DriverCell.{DriverCell}
 use Rattle.scan_planner.specs.declared.tables.PassCells.{PassCells}
 use Rattle.scan_planner.specs.declared.tables.PassTables.{PassTables}
 use Rattle.scan_planner.specs.Tables.{IsDriverCell}
-use Rattle.scan_planner.specs.Steady.{ArePassTables}
+use Rattle.scan_planner.specs.inner.Steady.{ArePassTables}
 use Rattle.scan_planner.specs.Assigned.{assigned}
-use Rattle.scan_planner.specs.Codes.{seen_in}
+use Rattle.scan_planner.specs.inner.Codes.{seen_in}
 use Rattle.scan_planner.proofs.AssignLemmas.{length-assigned, assigned_groups, has_mark, mark_has}
 use Rattle.scan_planner.proofs.ReaderLemmas.{driver_cell}
 use Rattle.scan_planner.proofs.FillLemmas.{some_at}

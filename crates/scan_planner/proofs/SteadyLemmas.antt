@@ -16,11 +16,11 @@ use Rattle.scan_planner.specs.declared.tables.DriverCell.{DriverCell}
 use Rattle.scan_planner.specs.declared.tables.PassCells.{PassCells}
 use Rattle.scan_planner.specs.declared.observers.Observer.{Observer}
 use Rattle.scan_planner.specs.declared.uses.Uses.{Uses}
-use Rattle.scan_planner.specs.Laid.{laid, quiet_bits}
+use Rattle.scan_planner.specs.inner.Laid.{laid, quiet_bits}
 use Rattle.scan_planner.specs.Tables.{ArePassCells}
 use Rattle.scan_planner.specs.Plans.{controls_some, ArePlannable}
-use Rattle.scan_planner.specs.Building.{held_cell, observers, table_of, cells_on, pass_cells_of}
-use Rattle.scan_planner.specs.Steady.{held_by, run_at, all_run, HoldsAt, AreRuns, AreUses, is_common, is_steady, steady_cells, moving, ArePassTables}
+use Rattle.scan_planner.specs.inner.Building.{held_cell, observers, table_of, cells_on, pass_cells_of}
+use Rattle.scan_planner.specs.inner.Steady.{held_by, run_at, all_run, HoldsAt, AreRuns, AreUses, is_common, is_steady, steady_cells, moving, ArePassTables}
 use Rattle.scan_planner.proofs.LaidLemmas.{length-laid}
 use Rattle.scan_planner.proofs.AssignLemmas.{assigned_groups, has_mark}
 use Rattle.scan_planner.proofs.DriverTableLemmas.{IsOn, OnBy, cells_has, has_cells}

@@ -1,30 +1,19 @@
 -- How the tables of a plan are made, item by item.
-use Rattle.std.specs.Prelude.{◌≡◌, ℕ, suc, ◌+◌, ◌<◌, ◌==◌, Bool, true, false, not, find, cond, List, [], ◌∷◌, ◌++◌, length, map, filter, fold, drop, sum_by, Option, Some, None, option_map, is_none, replicate, slice_index_or, slice_set}
-use Rattle.std.specs.List.{list_any, flat_map}
+use Rattle.std.specs.Prelude.{ℕ, suc, ◌+◌, ◌==◌, Bool, true, not, find, cond, List, [], ◌∷◌, ◌++◌, map, filter, Option, Some, None, option_map}
+use Rattle.std.specs.List.{list_any}
 use Rattle.board_defs.specs.declared.device.Cell.{Cell}
 use Rattle.board_defs.specs.declared.device.RawDevice.{RawDevice}
-use Rattle.board_defs.specs.declared.board.Part.{Part}
 use Rattle.board_defs.specs.declared.board.PinAt.{PinAt}
 use Rattle.board_defs.specs.declared.board.NetPin.{NetPin}
 use Rattle.board_defs.specs.declared.board.Net.{Net}
 use Rattle.board_defs.specs.declared.board.RawBoard.{RawBoard}
 use Rattle.board_defs.specs.declared.board.Ctl.{Ctl}
 use Rattle.board_defs.specs.DeviceRules.{reads_bit}
-use Rattle.board_defs.specs.Pins.{data_length, device_at, entry_at, receives_where, guarded, cell_count}
+use Rattle.board_defs.specs.Pins.{device_at, entry_at, receives_where, guarded}
 use Rattle.board_defs.specs.Settings.{Enabling}
-use Rattle.scan_planner.specs.declared.tables.HeldCell.{HeldCell}
-use Rattle.scan_planner.specs.declared.tables.DriverCell.{DriverCell}
 use Rattle.scan_planner.specs.declared.tables.ReaderCell.{ReaderCell}
-use Rattle.scan_planner.specs.declared.tables.PassCells.{PassCells}
 use Rattle.scan_planner.specs.declared.nets.NetDriver.{NetDriver}
-use Rattle.scan_planner.specs.declared.observers.Observer.{Observer}
-use Rattle.scan_planner.specs.declared.controls.DriverTable.{DriverTable}
 use Rattle.scan_planner.specs.Tables.{first_position}
-
--- the first position of each part of a chain
-pub record AreFirsts (chain : List Part) (firsts : List ℕ) : Type 0 where
-  pub count : length firsts ≡ length chain
-  pub each : (part : ℕ) → part < length chain → slice_index_or firsts part 0 ≡ sum_by (λ p. data_length p.kind) (drop (part + 1) chain)
 
 -- what each item of a list gives by its place, one after another; the first item has this place
 abbrev pub gathered : {X Y : Type 0} → (ℕ → X → List Y) → ℕ → List X → List Y
@@ -71,32 +60,9 @@ readers_at board place (Some at) = cond (receives_where board (Some at)) (reader
 abbrev pub readers_of : RawBoard → List NetPin → List ReaderCell
 readers_of board pins = gathered (λ place pin. readers_at board place pin.at) 0 pins
 
--- the driver as one of a net
-abbrev pub driver_cell : ℕ → NetDriver → DriverCell
-driver_cell net d = record { net = net; place = d.place; position = d.position }
-
--- a control's cell is one of its part
-abbrev pub IsControlThere : RawBoard → Option Ctl → Type 0
-IsControlThere board ctl = (c : Ctl) → ctl ≡ Some c → c.cell < cell_count (device_at board c.part)
-
--- its position
-abbrev pub control_position : RawBoard → Ctl → ℕ
-control_position board c = first_position board c.part + c.cell
-
--- the driver as one by which its net can be observed
-abbrev pub observer : RawBoard → ℕ → NetDriver → Observer
-observer board net d = record { control = option_map (control_position board) d.ctl; cell = driver_cell net d }
-
 -- another pin than the driver's is read
 abbrev pub is_read_beside : List ReaderCell → NetDriver → Bool
 is_read_beside readers d = list_any (λ r. not (r.place == d.place)) readers
-
--- the drivers by which a net with these drivers and compared cells can be observed
-abbrev pub observers_of : RawBoard → ℕ → List NetDriver → List ReaderCell → List Observer
-observers_of board net drivers readers = map (observer board net) (filter (is_read_beside readers) drivers)
-
-abbrev pub observers_at : RawBoard → ℕ → Net → List Observer
-observers_at board n net = observers_of board n (drivers_of board net) (readers_of board net.pins)
 
 -- the drivers of each net
 abbrev pub all_drivers : RawBoard → List (List NetDriver)
@@ -114,35 +80,3 @@ is_on setting (Some c) = setting c
 -- the driver of a net that a setting enables; a safe setting enables no other
 abbrev pub enabled_in : Enabling → List NetDriver → Option NetDriver
 enabled_in setting drivers = find (λ d. is_on setting d.ctl) drivers
-
--- those of these nets, in net order
-abbrev pub observers : RawBoard → List Net → List Observer
-observers board nets = gathered (observers_at board) 0 nets
-
--- the cells of the drivers that are always on
-abbrev pub always_on : List Observer → List DriverCell
-always_on observers = map (λ x. x.cell) (filter (λ x. is_none x.control) observers)
-
--- the rows of controls with one cell more
-abbrev pub noted_at : List (List DriverCell) → Option ℕ → DriverCell → List (List DriverCell)
-noted_at rows None cell = rows
-noted_at rows (Some control) cell = slice_set rows control (slice_index_or rows control [] ++ cell ∷ [])
-
-abbrev pub all_noted : List (List DriverCell) → List Observer → List (List DriverCell)
-all_noted rows observers = fold (λ done x. noted_at done x.control x.cell) rows observers
-
--- the table of these drivers, for a row of so many bits
-abbrev pub table_of : List Observer → ℕ → DriverTable
-table_of observers bits = record { always = always_on observers; rows = all_noted (replicate bits []) observers }
-
--- the driver cells of a pass that holds these
-abbrev pub cells_on : DriverTable → List HeldCell → List DriverCell
-cells_on table held = table.always ++ flat_map (λ h. slice_index_or table.rows h.position []) held
-
--- the cell of a control, with the opposite of what it holds in the quiet row
-abbrev pub held_cell : RawBoard → List Bool → Ctl → HeldCell
-held_cell board quiet c = record { position = first_position board c.part + c.cell; bit = not (slice_index_or quiet (first_position board c.part + c.cell) false) }
-
--- the cells of a pass
-abbrev pub pass_cells_of : RawBoard → List Bool → DriverTable → List Ctl → PassCells
-pass_cells_of board quiet table pass = let held : List HeldCell = map (held_cell board quiet) pass in record { held = held; drivers = cells_on table held }

@@ -2,9 +2,5 @@ pub mod Tables
 pub mod Plans
 pub mod Assigned
 pub mod Building
-pub mod Codes
-pub mod Laid
 pub mod Laws
-pub mod QuietBits
-pub mod Entries
-pub mod Steady
+pub mod inner

@@ -1,9 +1,9 @@
 // Makes the tables of a plan.
 ghost use Rattle.std.specs.Prelude.{◌≡◌, ◌<◌, ◌≤◌, ◌^◌, length, IfOk};
-ghost use Rattle.scan_planner.specs.Building.{AreFirsts, observers};
-ghost use Rattle.scan_planner.specs.Laid.{laid, quiet_bits};
+ghost use Rattle.scan_planner.specs.inner.Building.{AreFirsts, observers};
+ghost use Rattle.scan_planner.specs.inner.Laid.{laid, quiet_bits};
 ghost use Rattle.scan_planner.specs.Plans.{ArePlannable, IsPlanOf};
-ghost use Rattle.scan_planner.specs.Steady.{ArePassTables};
+ghost use Rattle.scan_planner.specs.inner.Steady.{ArePassTables};
 
 use crate::codes::{number_nets, seen_nets};
 use crate::common::common_rows;

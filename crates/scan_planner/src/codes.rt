@@ -1,6 +1,6 @@
 // The codes of nets.
 ghost use Rattle.std.specs.Prelude.{◌≡◌, ◌≤◌, ◌<◌, ℕ, false, true, suc, cond, length, fold, take, count_by, slice_index_or, IfOk};
-ghost use Rattle.scan_planner.specs.Codes.{AreCodes, marked, seen_in};
+ghost use Rattle.scan_planner.specs.inner.Codes.{AreCodes, marked, seen_in};
 
 use crate::rows::mark;
 use crate::tables::{DriverCell, PassCells};

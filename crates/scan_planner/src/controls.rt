@@ -1,7 +1,7 @@
 // The driver cells of each control, so that the cells of a pass are found by its controls.
 ghost use Rattle.std.specs.Prelude.{◌≡◌, ◌++◌, ◌∷◌, [], Some, length, map, filter, is_none, replicate, slice_index_or, IfOk, OnOk};
 ghost use Rattle.std.specs.List.{flat_map};
-ghost use Rattle.scan_planner.specs.Building.{noted_at, all_noted, always_on, table_of, cells_on};
+ghost use Rattle.scan_planner.specs.inner.Building.{noted_at, all_noted, always_on, table_of, cells_on};
 
 use crate::observers::Observer;
 use crate::tables::{DriverCell, HeldCell};

@@ -1,7 +1,7 @@
 // The drivers of each net that may be enabled.
 ghost use Rattle.std.specs.Prelude.{◌≡◌, ◌≤◌, length, map, IfOk, All};
 ghost use Rattle.scan_planner.specs.Building.{all_drivers, drivers_of};
-ghost use Rattle.scan_planner.specs.Entries.{ArePartTables};
+ghost use Rattle.scan_planner.specs.inner.Entries.{ArePartTables};
 
 use crate::entries::PartTables;
 use crate::nets::{NetDriver, drivers_of};

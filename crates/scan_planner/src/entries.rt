@@ -1,6 +1,6 @@
 // The first position and the entries of each part, so that no pin goes through the cells of its part.
 ghost use Rattle.std.specs.Prelude.{IfOk};
-ghost use Rattle.scan_planner.specs.Entries.{ArePartTables};
+ghost use Rattle.scan_planner.specs.inner.Entries.{ArePartTables};
 
 use crate::positions::first_positions;
 use board_defs::{Board, Items};

@@ -1,7 +1,7 @@
 // Which nets are guarded, by the entries of their pins.
 ghost use Rattle.std.specs.Prelude.{◌≡◌};
 ghost use Rattle.board_defs.specs.Pins.{guarded};
-ghost use Rattle.scan_planner.specs.Entries.{ArePartTables};
+ghost use Rattle.scan_planner.specs.inner.Entries.{ArePartTables};
 
 use crate::entries::PartTables;
 use board_defs::{Board, Net};

@@ -7,7 +7,7 @@ ghost use Rattle.tap_defs.specs.chain.Scan.{tdi_bits, tdo_bits, mask_bits};
 ghost use Rattle.tap_defs.specs.chain.Codes.{code_bits, instructs};
 ghost use Rattle.tap_defs.specs.board.BoardScans.{preload_code, extest_code};
 ghost use Rattle.scan_planner.specs.Tables.{AreRowsOf};
-ghost use Rattle.scan_planner.specs.Codes.{code_for, AreCoded, captured_bits, compared_bits};
+ghost use Rattle.scan_planner.specs.inner.Codes.{code_for, AreCoded, captured_bits, compared_bits};
 
 use crate::rows::row_of;
 use crate::tables::FixedRows;

@@ -2,8 +2,9 @@
 ghost use Rattle.std.specs.Prelude.{◌≡◌, ◌<◌, ◌≤◌, ◌++◌, length, map, filter, Some, IfOk, OnOk, All};
 ghost use Rattle.board_defs.specs.DeviceRules.{is_receiving};
 ghost use Rattle.board_defs.specs.Pins.{device_at, bit_at, entry_at, cell_count};
-ghost use Rattle.scan_planner.specs.Building.{AreFirsts, optional, net_driver, driver_of, drivers_of_pins, drivers_of, reader_of, readers_at, readers_of};
-ghost use Rattle.scan_planner.specs.Entries.{ArePartTables, receives_by};
+ghost use Rattle.scan_planner.specs.Building.{optional, net_driver, driver_of, drivers_of_pins, drivers_of, reader_of, readers_at, readers_of};
+ghost use Rattle.scan_planner.specs.inner.Building.{AreFirsts};
+ghost use Rattle.scan_planner.specs.inner.Entries.{ArePartTables, receives_by};
 
 use crate::entries::PartTables;
 use crate::guards::is_guarded;

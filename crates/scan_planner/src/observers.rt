@@ -1,8 +1,9 @@
 // The drivers by which nets can be observed, and the compared cells of each net.
 ghost use Rattle.std.specs.Prelude.{◌≡◌, ◌≤◌, ◌++◌, ◌∷◌, [], not, ◌==◌, length, map, filter, option_map, IfOk, OnOk, All};
 ghost use Rattle.std.specs.List.{list_any};
-ghost use Rattle.scan_planner.specs.Building.{AreFirsts, IsControlThere, control_position, observer, is_read_beside, observers_of, observers_at, observers, readers_of};
-ghost use Rattle.scan_planner.specs.Entries.{ArePartTables};
+ghost use Rattle.scan_planner.specs.Building.{is_read_beside, readers_of};
+ghost use Rattle.scan_planner.specs.inner.Building.{AreFirsts, IsControlThere, control_position, observer, observers_of, observers_at, observers};
+ghost use Rattle.scan_planner.specs.inner.Entries.{ArePartTables};
 
 use crate::entries::PartTables;
 use crate::nets::{NetDriver, drivers_of, readers_of};

@@ -3,7 +3,7 @@ ghost use Rattle.std.specs.Prelude.{◌≡◌, ◌+◌, ◌<◌, true, length, m
 ghost use Rattle.board_defs.specs.declared.board.Ctl.{Ctl as ControlRecord};
 ghost use Rattle.board_defs.specs.Pins.{device_at, cell_count, data_bits};
 ghost use Rattle.board_defs.specs.Settings.{holds};
-ghost use Rattle.scan_planner.specs.Building.{AreFirsts, held_cell, pass_cells_of};
+ghost use Rattle.scan_planner.specs.inner.Building.{AreFirsts, held_cell, pass_cells_of};
 
 use crate::controls::{DriverTable, cells_on};
 use crate::positions::cell_position;

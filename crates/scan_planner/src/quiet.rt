@@ -3,8 +3,8 @@ ghost use Rattle.std.specs.Prelude.{◌≡◌, ◌≤◌, ◌++◌, false, lengt
 ghost use Rattle.board_defs.specs.DeviceRules.{is_reading, is_writing, IsDevice};
 ghost use Rattle.board_defs.specs.Pins.{is_pinned};
 ghost use Rattle.tap_defs.specs.chain.ShiftRegister.{filled};
-ghost use Rattle.scan_planner.specs.Laid.{laid, part_laid, quiet_bits};
-ghost use Rattle.scan_planner.specs.QuietBits.{safe_value_in, is_driver, disable_value_in, set_some, set_by, quiet_values};
+ghost use Rattle.scan_planner.specs.inner.Laid.{laid, part_laid, quiet_bits};
+ghost use Rattle.scan_planner.specs.inner.QuietBits.{safe_value_in, is_driver, disable_value_in, set_some, set_by, quiet_values};
 
 use board_defs::{Board, Cell, Part, PartKind, PinAt, RawBoard, RawDevice};
 use std::alloc::{AllocError, Global};

@@ -3,8 +3,8 @@ ghost use Rattle.std.specs.Prelude.{◌≡◌, ◌+◌, ◌<◌, ◌^◌, true, 
 ghost use Rattle.board_defs.specs.declared.board.Ctl.{Ctl as ControlRecord};
 ghost use Rattle.board_defs.specs.Pins.{device_at, cell_count, data_bits};
 ghost use Rattle.board_defs.specs.Settings.{holds};
-ghost use Rattle.scan_planner.specs.Building.{AreFirsts};
-ghost use Rattle.scan_planner.specs.Steady.{marked_held, all_marked, held_by, run_at, all_run, AreRuns, AreUses, is_common, is_steady, steady_cells, moving};
+ghost use Rattle.scan_planner.specs.inner.Building.{AreFirsts};
+ghost use Rattle.scan_planner.specs.inner.Steady.{marked_held, all_marked, held_by, run_at, all_run, AreRuns, AreUses, is_common, is_steady, steady_cells, moving};
 
 use crate::observers::Observer;
 use crate::passes::held_cells;

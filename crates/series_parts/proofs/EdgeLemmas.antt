@@ -11,9 +11,9 @@ use Rattle.board_files.specs.declared.chain_file.ChainStatement.TheVariants.{Dev
 use Rattle.board_files.specs.declared.net_file.NetLine.{NetLine}
 use Rattle.series_parts.specs.Nets.{Word, same_word, has_pin, net_names, net_of}
 use Rattle.series_parts.specs.Joining.{Pair, pair_of, link_on, links, leads, joined_name, renaming}
-use Rattle.series_parts.specs.Labels.{Edges, Joined, AreLabels}
-use Rattle.series_parts.specs.Labels.Joined.{here, along, back as against}
-use Rattle.series_parts.specs.Edges.{name_place, pin_place, edge_of, edge_between, edge_on, link_edges, name_edges, edges, at_place, renamed}
+use Rattle.series_parts.specs.inner.Labels.{Edges, Joined, AreLabels}
+use Rattle.series_parts.specs.inner.Labels.Joined.{here, along, back as against}
+use Rattle.series_parts.specs.inner.Edges.{name_place, pin_place, edge_of, edge_between, edge_on, link_edges, name_edges, edges, at_place, renamed}
 use Rattle.series_parts.proofs.LeadLemmas.{Way, way, leads_self, leads_forth, leads_back, same_self, same_is}
 use Rattle.series_parts.proofs.LeadLemmas.Way.{without, forth, back}
 use Rattle.series_parts.proofs.FindLemmas.{place_found, place_none, place_of_item, find_first, find_missing, find_place}

@@ -4,9 +4,9 @@ use Rattle.std.specs.Prelude.{slice_get, All, IfOk, Ok, Err}
 use Rattle.std.proofs.lemmas.Option.{slice_get_within, get_or_from_slice_get}
 use Rattle.std.proofs.lemmas.List.{get_or_push, get_or_append_left}
 use Rattle.std.proofs.lemmas.Bool.{cases_eq}
-use Rattle.series_parts.specs.Labels.{Edges, Joined, AreLabels}
-use Rattle.series_parts.specs.Labels.Joined.{here, along, back}
-use Rattle.series_parts.specs.Roots.{IsLabelling, Reflects, lowered, merged}
+use Rattle.series_parts.specs.inner.Labels.{Edges, Joined, AreLabels}
+use Rattle.series_parts.specs.inner.Labels.Joined.{here, along, back}
+use Rattle.series_parts.specs.inner.Roots.{IsLabelling, Reflects, lowered, merged}
 
 pub joined_trans : (edges : Edges) (a b c : ℕ) → Joined edges a b → Joined edges b c → Joined edges a c
 joined_trans edges a b c here q = q

@@ -11,7 +11,7 @@ use Rattle.series_parts.specs.Nets.{Word, same_word, net_names, net_of}
 use Rattle.series_parts.specs.JoinedFiles.{IsLink, AreJoined, IsLeastJoined, IsReplaced, IsJoinedStatement, IsJoinedLine, IsJoinedNet, Each, AreJoinedFiles}
 use Rattle.series_parts.specs.JoinedFiles.AreJoined.{itself, along, back}
 use Rattle.series_parts.specs.Joining.{Pair, pair_of, link_on, links, leads, joined_name, joined_statement, joined_line, joined_net, renaming, joined_chain, joined_nets}
-use Rattle.series_parts.specs.Edges.{name_place}
+use Rattle.series_parts.specs.inner.Edges.{name_place}
 use Rattle.series_parts.proofs.LeadLemmas.{Way, way, leads_self, leads_forth, leads_back, same_self, same_is}
 use Rattle.series_parts.proofs.LeadLemmas.Way.{without, forth, back as from_end}
 use Rattle.series_parts.proofs.FindLemmas.{place_found, place_of_item, find_first}

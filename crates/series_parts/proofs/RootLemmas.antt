@@ -2,7 +2,7 @@
 use Rattle.std.proofs.Common.{◌≡◌, ℕ, ◌<◌, ◌≤◌, ◌≢◌, ◌⊎◌, List, length, get_or, set, sym, ap, ◌∙◌, arith, subst, inl, inr}
 use Rattle.std.proofs.lemmas.List.{get_or-set_same, get_or-set_other, length-set}
 use Rattle.std.proofs.lemmas.Bool.{cases_eq}
-use Rattle.series_parts.specs.Roots.{IsLabelling, lowered, merged}
+use Rattle.series_parts.specs.inner.Roots.{IsLabelling, lowered, merged}
 
 abbrev pub AreLow : List ℕ → Type 0
 AreLow parents = (x : ℕ) → x < length parents → get_or parents x 0 ≤ x

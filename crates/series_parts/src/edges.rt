@@ -1,7 +1,7 @@
 // The edges between lines of joined nets.
 ghost use Rattle.std.specs.Prelude.{All, ◌≡◌, ◌<◌, ◌^◌, ◌++◌, length, unwrap_or, IfOk, OnOk};
 ghost use Rattle.series_parts.specs.Nets.{net_names};
-ghost use Rattle.series_parts.specs.Edges.{edge_between, edge_of, edge_on, edges, link_edges, name_edges, name_place};
+ghost use Rattle.series_parts.specs.inner.Edges.{edge_between, edge_of, edge_on, edges, link_edges, name_edges, name_place};
 
 use crate::names::Names;
 use crate::pins::Pins;

@@ -1,6 +1,6 @@
 // The lines of files under new names of nets.
 ghost use Rattle.std.specs.Prelude.{◌≡◌, map, IfOk};
-ghost use Rattle.series_parts.specs.Edges.{renamed};
+ghost use Rattle.series_parts.specs.inner.Edges.{renamed};
 ghost use Rattle.series_parts.specs.Joining.{joined_line, joined_net, joined_statement};
 
 use crate::names::Names;

@@ -1,7 +1,7 @@
 // The new names of the nets on the lines of a net file.
 ghost use Rattle.std.specs.Prelude.{◌≡◌, ◌<◌, ℕ, List, [], All, get_or, length, map, IfOk};
 ghost use Rattle.series_parts.specs.Nets.{net_names};
-ghost use Rattle.series_parts.specs.Edges.{renamed};
+ghost use Rattle.series_parts.specs.inner.Edges.{renamed};
 ghost use Rattle.series_parts.specs.Joining.{joined_name, links};
 
 use crate::classes::labels;

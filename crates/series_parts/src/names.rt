@@ -4,7 +4,7 @@ ghost use Rattle.std.proofs.Common.{Bor};
 ghost use Rattle.indexmap.specs.IndexMap.{get_by};
 ghost use Rattle.first_places.specs.Places.{first_place};
 ghost use Rattle.series_parts.specs.Nets.{net_names, same_word};
-ghost use Rattle.series_parts.specs.Edges.{name_place};
+ghost use Rattle.series_parts.specs.inner.Edges.{name_place};
 
 use board_files::NetLine;
 use first_places::first_places;
@@ -44,7 +44,7 @@ impl<'a> Model for Names<'a> {
     ghost use Rattle.std.proofs.Common.{Bor};
     ghost use Rattle.indexmap.specs.IndexMap.{get_by};
     ghost use Rattle.series_parts.specs.Nets.{same_word};
-    ghost use Rattle.series_parts.specs.Edges.{name_place};
+    ghost use Rattle.series_parts.specs.inner.Edges.{name_place};
 
     ghost Value = { List (List ℕ) };
 

@@ -3,7 +3,7 @@ ghost use Rattle.std.specs.Prelude.{◌≡◌, ◌<◌, ◌^◌, ◌&&◌, cond,
 ghost use Rattle.std.proofs.Common.{Bor};
 ghost use Rattle.indexmap.specs.IndexMap.{get_by};
 ghost use Rattle.series_parts.specs.Nets.{same_word, has_word};
-ghost use Rattle.series_parts.specs.Edges.{pin_place};
+ghost use Rattle.series_parts.specs.inner.Edges.{pin_place};
 
 use board_files::{NetLine, PinWord};
 use indexmap::IndexMap;
@@ -57,7 +57,7 @@ impl<'a> Model for Pins<'a> {
     ghost use Rattle.indexmap.specs.IndexMap.{get_by};
     ghost use Rattle.board_files.specs.declared.net_file.NetLine.{NetLine};
     ghost use Rattle.series_parts.specs.Nets.{same_word};
-    ghost use Rattle.series_parts.specs.Edges.{pin_place};
+    ghost use Rattle.series_parts.specs.inner.Edges.{pin_place};
 
     ghost Value = { List NetLine };
 

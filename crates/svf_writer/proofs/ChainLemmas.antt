@@ -9,7 +9,7 @@ use Rattle.tap_defs.specs.chain.Scan.{Scan, tdi_bits, tdo_bits, mask_bits}
 use Rattle.tap_defs.specs.chain.Codes.{sent, code_bits}
 use Rattle.tap_defs.specs.chain.Text.{scan_text, scan_texts}
 use Rattle.tap_defs.specs.chain.ChainScans.{marks, compared, chain_scans}
-use Rattle.svf_writer.specs.Chain.{bypass_bits, mark_bits, marked}
+use Rattle.svf_writer.specs.inner.Chain.{bypass_bits, mark_bits, marked}
 
 -- the first of some equal bits is changed
 set_first : (done : List Bool) (at m : ℕ) (x y : Bool) → length done ≡ at → 0 < m → set (done ++ replicate m x) at y ≡ done ++ y ∷ replicate (m - 1) x

@@ -8,7 +8,7 @@ use Rattle.bt_bits.specs.Hex.{hex_text, digit_count}
 use Rattle.bt_bits.proofs.HexLemmas.{length-hex_text}
 use Rattle.tap_defs.specs.chain.Scan.{ScanBit, Scan, scan_bits, tdi_bits, tdo_bits, mask_bits, compares}
 use Rattle.tap_defs.specs.chain.Text.{command_word, form, scan_text, gap, laid, compare_text}
-use Rattle.svf_writer.specs.Fields.{command_text, rest_text, fields_text, fields_length, fields_lines}
+use Rattle.svf_writer.specs.inner.Fields.{command_text, rest_text, fields_text, fields_length, fields_lines}
 use Rattle.svf_writer.specs.Rows.{IsMasked}
 
 masked_bit : (o m : Bool) → (o ≡ true → m ≡ true) → unwrap_or (cond m (Some o) None) false ≡ o

@@ -1,3 +1,2 @@
-pub mod Chain
-pub mod Fields
 pub mod Rows
+pub mod inner

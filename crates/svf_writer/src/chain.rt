@@ -4,7 +4,7 @@ ghost use Rattle.bt_base.specs.Puts.{Puts};
 ghost use Rattle.tap_defs.specs.chain.Scan.{tdi_bits, tdo_bits, mask_bits};
 ghost use Rattle.tap_defs.specs.chain.Text.{scan_text, scan_texts};
 ghost use Rattle.tap_defs.specs.chain.ChainScans.{chain_scans};
-ghost use Rattle.svf_writer.specs.Chain.{bypass_bits, mark_bits, marked};
+ghost use Rattle.svf_writer.specs.inner.Chain.{bypass_bits, mark_bits, marked};
 ghost use Rattle.svf_writer.specs.Rows.{IsRoom};
 
 use crate::write_scan;

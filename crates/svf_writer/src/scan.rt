@@ -5,7 +5,7 @@ ghost use Rattle.bt_base.specs.Puts.{Puts};
 ghost use Rattle.bt_bits.specs.Hex.{hex_text, digit_count};
 ghost use Rattle.tap_defs.specs.chain.Scan.{scan_bits};
 ghost use Rattle.tap_defs.specs.chain.Text.{broken, scan_text};
-ghost use Rattle.svf_writer.specs.Fields.{command_text, fields_text, fields_length, fields_lines};
+ghost use Rattle.svf_writer.specs.inner.Fields.{command_text, fields_text, fields_length, fields_lines};
 ghost use Rattle.svf_writer.specs.Rows.{IsMasked};
 
 use bt_base::{PutFault, Sink};

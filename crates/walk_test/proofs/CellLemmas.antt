@@ -47,11 +47,11 @@ use Rattle.tap_defs.proofs.board.DrivingLemmas.{feeding_is}
 use Rattle.tap_defs.proofs.board.CellPlaceLemmas.{captured_cell, captured_laid, laid as laid_parts, part_laid as laid_part}
 use Rattle.scan_planner.specs.declared.tables.ReaderCell.{ReaderCell}
 use Rattle.scan_planner.specs.Tables.{first_position, IsReaderCell}
-use Rattle.scan_planner.specs.Laid.{CellBits, part_laid, parts_laid, laid}
+use Rattle.scan_planner.specs.inner.Laid.{CellBits, part_laid, parts_laid, laid}
 use Rattle.scan_planner.proofs.PinLemmas.{Standing, standing, reading_entry_is}
 use Rattle.walk_test.specs.WalkTest.{is_switched_by, switches_some}
 use Rattle.walk_test.specs.Groups.{group_of, or_shorts}
-use Rattle.walk_test.specs.Reading.{is_one_group, are_joined}
+use Rattle.walk_test.specs.inner.Reading.{is_one_group, are_joined}
 
 not_same : (a b : ℕ) → (a == b) ≡ false → (b == a) ≡ false
 not_same a b e = ne_eqb b a (λ same. both_ways (a == b) e (eq-eqb a b (sym same)))

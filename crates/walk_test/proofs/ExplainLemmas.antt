@@ -28,7 +28,7 @@ use Rattle.scan_planner.specs.Tables.{IsDriverCell, IsReaderCell}
 use Rattle.scan_planner.proofs.LaidLemmas.{length-laid, mask_laid}
 use Rattle.walk_test.specs.WalkTest.{walk_setting, walk_nets}
 use Rattle.walk_test.specs.Groups.{AreGroups, group_of, or_shorts}
-use Rattle.walk_test.specs.Reading.{are_joined}
+use Rattle.walk_test.specs.inner.Reading.{are_joined}
 use Rattle.walk_test.specs.Tables.{mask_of}
 use Rattle.walk_test.proofs.GroupLemmas.{Rises, AreOrdered, groups_ordered, all_of, group_found, group_is}
 use Rattle.walk_test.proofs.CellLemmas.{IsWalkSetting, WalkedBy, compared_of, captured_is, cell_is}

@@ -36,7 +36,8 @@ use Rattle.scan_planner.proofs.TableLemmas.{Observed, DriverAt, observed, reader
 use Rattle.walk_test.specs.declared.tables.NetCells.{NetCells}
 use Rattle.walk_test.specs.declared.tables.WalkTables.{WalkTables}
 use Rattle.walk_test.specs.WalkTest.{is_walk_net, walk_setting, walk_nets, scans_by, walk_row_list, walk_scans}
-use Rattle.walk_test.specs.Tables.{tdi_of, tdo_of, mask_of, still_row, observer_in, positions_beside, cells_by, cells_in, nets_in, nets_by, cells_of, AreMade, AreNetCells, AreWalkTables, IsWalkOf, walk_controls, walk_row_of, now_of, before_of}
+use Rattle.walk_test.specs.Tables.{tdi_of, mask_of, still_row, AreNetCells, AreWalkTables, IsWalkOf}
+use Rattle.walk_test.specs.inner.Tables.{tdo_of, observer_in, positions_beside, cells_by, cells_in, nets_in, nets_by, cells_of, AreMade, walk_controls, walk_row_of, now_of, before_of}
 use Rattle.walk_test.specs.Scans.{FillsWalk}
 use Rattle.walk_test.proofs.CellLemmas.{WalkedBy}
 use Rattle.walk_test.proofs.NetLemmas.{walk_at, place_of_walk, count_is, marked_is, no_nets}

@@ -11,7 +11,7 @@ use Rattle.board_defs.proofs.Ordered.{InOrder}
 use Rattle.board_defs.proofs.Places.{all_stands}
 use Rattle.tap_defs.proofs.chain.ListLemmas.{cons_path}
 use Rattle.walk_test.specs.Groups.{Rise, least_of, AreGroups, group_from, group_of}
-use Rattle.walk_test.specs.Reading.{is_one_group, are_joined}
+use Rattle.walk_test.specs.inner.Reading.{is_one_group, are_joined}
 
 abbrev pub Rises : List ℕ → Type 0
 Rises xs = InOrder (λ a b. a < b) xs

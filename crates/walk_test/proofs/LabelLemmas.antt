@@ -16,7 +16,7 @@ use Rattle.board_defs.proofs.Places.{all_from}
 use Rattle.walk_test.specs.declared.tables.NetCells.{NetCells}
 use Rattle.walk_test.specs.WalkTest.{walk_nets}
 use Rattle.walk_test.specs.Groups.{Rise, least_of, AreGroups}
-use Rattle.walk_test.specs.Reading.{are_joined, bit_in, first_one, label_of, net_shows, ShowsIn, ShowsAll, members, group_at, groups_by}
+use Rattle.walk_test.specs.inner.Reading.{are_joined, bit_in, first_one, label_of, net_shows, ShowsIn, ShowsAll, members, group_at, groups_by}
 use Rattle.walk_test.proofs.GroupLemmas.{Rises, pairs_order, all_from_has, least_has, least_le, Before, AreOrdered, Together, joined_cases, joined_self, joined_in}
 
 -- the first row with a 1 at a position

@@ -19,7 +19,7 @@ use Rattle.tap_defs.specs.chain.Text.{svf_text}
 use Rattle.tap_defs.proofs.board.ScanPlaceLemmas.{length-pass_scans}
 use Rattle.walk_test.specs.WalkTest.{walk_setting, walk_nets, scans_by, walk_row_list, walk_scans, board_walk_text}
 use Rattle.walk_test.specs.Groups.{AreGroups, group_of, or_shorts, Explain}
-use Rattle.walk_test.specs.Reading.{are_joined}
+use Rattle.walk_test.specs.inner.Reading.{are_joined}
 use Rattle.walk_test.specs.Tables.{AreNetCells, rows_count, scan_count}
 use Rattle.walk_test.specs.Laws.{WalkSafe, WalkHarmless, ShortsAreFaults, OneSet, ScansCounted}
 use Rattle.walk_test.proofs.GroupLemmas.{AreOrdered, groups_ordered, all_of, Together, joined_cases, joined_in, one_list}

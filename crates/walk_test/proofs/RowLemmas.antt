@@ -24,7 +24,7 @@ use Rattle.scan_planner.specs.declared.tables.ReaderCell.{ReaderCell}
 use Rattle.scan_planner.specs.declared.tables.PlanTables.{PlanTables}
 use Rattle.scan_planner.specs.Assigned.{assigned}
 use Rattle.scan_planner.specs.Building.{readers_of as readers_in_order}
-use Rattle.scan_planner.specs.Laid.{laid, steady}
+use Rattle.scan_planner.specs.inner.Laid.{laid, steady}
 use Rattle.scan_planner.specs.Plans.{IsPlanOf}
 use Rattle.scan_planner.specs.Tables.{first_position, IsDriverCell, IsReaderCell}
 use Rattle.scan_planner.proofs.AssignLemmas.{assigned_is, mark_has}
@@ -34,7 +34,8 @@ use Rattle.scan_planner.proofs.PinLemmas.{Standing, standing, drives_by, entry_o
 use Rattle.scan_planner.proofs.ReaderLemmas.{ReadersOf, Pair, pairs, pairs_of, pair_has, driver_cell, tdo_compared, mask_compared}
 use Rattle.scan_planner.proofs.TableLemmas.{beside_is, reader_is, is_reader}
 use Rattle.walk_test.specs.declared.tables.NetCells.{NetCells}
-use Rattle.walk_test.specs.Tables.{tdi_of, tdo_of, mask_of, still_row, positions_beside, AreNetCells}
+use Rattle.walk_test.specs.Tables.{tdi_of, mask_of, still_row, AreNetCells}
+use Rattle.walk_test.specs.inner.Tables.{tdo_of, positions_beside}
 use Rattle.walk_test.proofs.CellLemmas.{WalkedBy, compared_of, compared_device, compared_position}
 
 -- items that set one bit by two tests: the rows differ only where an item stands whose bits differ

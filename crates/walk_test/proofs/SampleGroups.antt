@@ -27,7 +27,7 @@ use Rattle.tap_defs.proofs.board.SampleBoards.{drv, rcv, pin, net, three_wires}
 use Rattle.walk_test.specs.WalkTest.{walk_nets, walk_row_list}
 use Rattle.walk_test.specs.Groups.{Rise, AreGroups, or_shorts, Explain}
 use Rattle.walk_test.specs.GroupText.{groups_text}
-use Rattle.walk_test.specs.Tables.{walk_row_of}
+use Rattle.walk_test.specs.inner.Tables.{walk_row_of}
 use Rattle.walk_test.proofs.SampleTests.{two_passes, two_passes_nets}
 
 -- what the three nets show in the three rows, with the shorts of these groups and where each free bit is 0

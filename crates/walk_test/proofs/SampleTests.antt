@@ -15,7 +15,7 @@ use Rattle.walk_test.specs.declared.tables.NetCells.{NetCells}
 use Rattle.walk_test.specs.WalkTest.{switches_some, walk_setting, walk_nets, board_walk_text}
 use Rattle.walk_test.specs.Groups.{group_of}
 use Rattle.walk_test.specs.GroupText.{groups_text}
-use Rattle.walk_test.specs.Reading.{are_joined, label_of, net_shows, groups_by}
+use Rattle.walk_test.specs.inner.Reading.{are_joined, label_of, net_shows, groups_by}
 
 -- drivers that are always on want no control
 three_setting : walk_setting three_wires ≡ Some []

@@ -30,7 +30,7 @@ use Rattle.walk_test.specs.declared.tables.NetCells.{NetCells}
 use Rattle.walk_test.specs.declared.tables.WalkTables.{WalkTables}
 use Rattle.walk_test.specs.WalkTest.{walk_setting, walk_nets, scans_by}
 use Rattle.walk_test.specs.Groups.{Rise, AreGroups, or_shorts, Explain, AreFound, IsNamed, AreNamed}
-use Rattle.walk_test.specs.Reading.{are_joined, bit_in, label_of, ShowsAll, groups_by}
+use Rattle.walk_test.specs.inner.Reading.{are_joined, bit_in, label_of, ShowsAll, groups_by}
 use Rattle.walk_test.specs.Tables.{AreNetCells, AreWalkTables, IsWalkOf}
 use Rattle.walk_test.specs.Laws.{WalkSafe}
 use Rattle.walk_test.proofs.GroupLemmas.{AreOrdered, groups_ordered, all_of, all_from_has, joined_self, joined_same, joined_by}

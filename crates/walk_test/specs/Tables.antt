@@ -1,24 +1,18 @@
 -- What a walk keeps of a board: its plan, its nets with their cells, and what all rows share.
-use Rattle.std.specs.Prelude.{◌≡◌, ◌↔◌, ℕ, suc, ◌+◌, ◌<◌, ◌==◌, Bool, false, not, cond, List, [], ◌∷◌, length, map, filter, Option, Some, None, is_some, option_and_then, slice_get, slice_index_or, Contains}
+use Rattle.std.specs.Prelude.{◌≡◌, ◌↔◌, ℕ, suc, ◌+◌, ◌<◌, ◌==◌, Bool, false, List, [], ◌∷◌, length, Some, slice_get, Contains}
 use Rattle.std.specs.Option.{option_to_list}
-use Rattle.std.specs.List.{range_with_len}
 use Rattle.board_defs.specs.declared.board.Net.{Net}
 use Rattle.board_defs.specs.declared.board.RawBoard.{RawBoard}
 use Rattle.board_defs.specs.declared.board.Ctl.{Ctl}
 use Rattle.board_defs.specs.Settings.{holds}
-use Rattle.tap_defs.specs.chain.Scan.{joined, tdi_bits, tdo_bits, mask_bits}
-use Rattle.tap_defs.specs.board.TestRows.{TestRow, quiet_row, code_row}
-use Rattle.tap_defs.specs.board.BoardScans.{row_bits, walk_row, row_now, row_before}
-use Rattle.scan_planner.specs.declared.nets.NetDriver.{NetDriver}
+use Rattle.tap_defs.specs.chain.Scan.{joined, tdi_bits, mask_bits}
+use Rattle.tap_defs.specs.board.TestRows.{TestRow, quiet_row}
+use Rattle.tap_defs.specs.board.BoardScans.{row_bits}
 use Rattle.scan_planner.specs.declared.tables.DriverCell.{DriverCell}
 use Rattle.scan_planner.specs.declared.tables.ReaderCell.{ReaderCell}
-use Rattle.scan_planner.specs.declared.tables.PlanTables.{PlanTables}
-use Rattle.scan_planner.specs.Assigned.{assigned}
-use Rattle.scan_planner.specs.Building.{enabled_in, is_read_beside}
 use Rattle.scan_planner.specs.Plans.{IsPlanOf}
 use Rattle.scan_planner.specs.Tables.{IsDriverCell, IsReaderCell}
 use Rattle.walk_test.specs.declared.tables.NetCells.{NetCells}
-use Rattle.walk_test.specs.declared.tables.WalkRows.{WalkRows}
 use Rattle.walk_test.specs.declared.tables.WalkTables.{WalkTables}
 use Rattle.walk_test.specs.WalkTest.{walk_setting, walk_nets}
 
@@ -26,37 +20,12 @@ use Rattle.walk_test.specs.WalkTest.{walk_setting, walk_nets}
 abbrev pub tdi_of : RawBoard → TestRow → List Bool
 tdi_of board row = tdi_bits (joined (row_bits board (record { now = row; before = quiet_row })))
 
-abbrev pub tdo_of : RawBoard → TestRow → List Bool
-tdo_of board row = tdo_bits (joined (row_bits board (record { now = quiet_row; before = row })))
-
 abbrev pub mask_of : RawBoard → TestRow → List Bool
 mask_of board row = mask_bits (joined (row_bits board (record { now = quiet_row; before = row })))
 
 -- the row of the walk setting in which no walk net carries 1
 abbrev pub still_row : List Ctl → TestRow
 still_row walk = record { setting = holds walk; carried = λ n. Some false }
-
--- the driver by which a setting observes a net, by the tables of a plan
-abbrev pub observer_in : PlanTables → List Ctl → ℕ → Option NetDriver
-observer_in plan walk n =
-    option_and_then (λ d. cond (is_read_beside (slice_index_or plan.readers n []) d) (Some d) None) (enabled_in (holds walk) (slice_index_or plan.drivers n []))
-
--- the positions of the cells that read another pin than the one at this place
-abbrev pub positions_beside : ℕ → List ReaderCell → List ℕ
-positions_beside place readers = map (λ r. r.position) (filter (λ r. not (r.place == place)) readers)
-
--- the cells of a net that is observed by this driver
-abbrev pub cells_by : PlanTables → ℕ → Option NetDriver → NetCells
-cells_by plan n None = record { driver = 0; compared = [] }
-cells_by plan n (Some d) = record { driver = d.position; compared = positions_beside d.place (slice_index_or plan.readers n []) }
-
--- the cells of a net by the tables of a plan
-abbrev pub cells_in : PlanTables → List Ctl → ℕ → NetCells
-cells_in plan walk n = cells_by plan n (observer_in plan walk n)
-
--- the nets that a setting observes, of so many, by the tables of a plan
-abbrev pub nets_in : PlanTables → List Ctl → ℕ → List ℕ
-nets_in plan walk count = filter (λ n. is_some (observer_in plan walk n)) (range_with_len 0 count)
 
 -- the cells of a walk net: that of the driver by which the setting observes it, and those that are compared
 pub record AreNetCells (board : RawBoard) (walk : List Ctl) (n : ℕ) (cells : NetCells) : Type 0 where
@@ -76,21 +45,6 @@ pub record AreWalkTables (board : RawBoard) (walk : List Ctl) (t : WalkTables) :
   pub still : t.rows.still.bits ≡ tdi_of board (still_row walk)
   pub mask : t.rows.mask.bits ≡ mask_of board (still_row walk)
 
--- the same where there is a setting
-abbrev pub nets_by : PlanTables → Option (List Ctl) → ℕ → List ℕ
-nets_by plan None count = []
-nets_by plan (Some walk) count = nets_in plan walk count
-
-abbrev pub cells_of : PlanTables → Option (List Ctl) → List ℕ → List NetCells
-cells_of plan None nets = []
-cells_of plan (Some walk) nets = map (cells_in plan walk) nets
-
--- the rows of a walk as they are made from its plan and the cells of its nets
-pub record AreMade (board : RawBoard) (plan : PlanTables) (cells : List NetCells) (rows : WalkRows) : Type 0 where
-  pub quiet : rows.quiet.bits ≡ tdi_of board quiet_row
-  pub still : 0 < length plan.passes → rows.still.bits ≡ assigned (λ c. c.driver) (λ c. false) (tdi_of board (code_row board plan.passes (slice_index_or plan.passes 0 []) 0)) cells
-  pub mask : 0 < length plan.passes → rows.mask.bits ≡ mask_of board (code_row board plan.passes (slice_index_or plan.passes 0 []) 0)
-
 -- the walk of a board
 pub record IsWalkOf (board : RawBoard) (t : WalkTables) : Type 0 where
   pub plan : IsPlanOf board t.plan
@@ -106,19 +60,3 @@ rows_count (pass ∷ passes) nets = suc (length nets)
 
 abbrev pub scan_count : WalkTables → ℕ
 scan_count t = 3 + rows_count t.plan.passes t.nets
-
--- the controls of the walk setting, and none where the board has no pass
-abbrev pub walk_controls : Option (List Ctl) → List Ctl
-walk_controls None = []
-walk_controls (Some walk) = walk
-
--- row j of the walking test of a board
-abbrev pub walk_row_of : RawBoard → ℕ → TestRow
-walk_row_of board j = walk_row board (walk_controls (walk_setting board)) j
-
--- what scan j after the EXTEST codes shifts in, and what it compares
-abbrev pub now_of : RawBoard → ℕ → ℕ → TestRow
-now_of board count j = row_now (walk_row_of board) count j
-
-abbrev pub before_of : RawBoard → ℕ → TestRow
-before_of board j = row_before (walk_row_of board) j

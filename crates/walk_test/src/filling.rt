@@ -3,7 +3,8 @@ ghost use Rattle.std.specs.Prelude.{◌≡◌, ◌+◌, ◌<◌, ◌≤◌, [], 
 ghost use Rattle.board_defs.specs.Pins.{data_bits};
 ghost use Rattle.scan_planner.specs.Assigned.{assigned};
 ghost use Rattle.scan_planner.specs.Plans.{IsRoom};
-ghost use Rattle.walk_test.specs.Tables.{IsWalkOf, scan_count, tdi_of, tdo_of, mask_of, now_of, before_of};
+ghost use Rattle.walk_test.specs.Tables.{IsWalkOf, scan_count, tdi_of, mask_of};
+ghost use Rattle.walk_test.specs.inner.Tables.{tdo_of, now_of, before_of};
 ghost use Rattle.walk_test.specs.Scans.{FillsWalk};
 
 use crate::tables::{NetCells, WalkTables};

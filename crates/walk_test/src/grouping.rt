@@ -2,7 +2,7 @@
 ghost use Rattle.std.specs.Prelude.{◌≡◌, ◌≤◌, ◌<◌, ◌^◌, ◌++◌, ◌∷◌, ◌==◌, [], cond, length, All, nat_le, Some, None, option_map, IfOk, OnOk};
 ghost use Rattle.board_defs.specs.Pins.{data_bits};
 ghost use Rattle.walk_test.specs.Groups.{Rise, AreFound, AreNamed};
-ghost use Rattle.walk_test.specs.Reading.{members, groups_by};
+ghost use Rattle.walk_test.specs.inner.Reading.{members, groups_by};
 ghost use Rattle.walk_test.specs.Tables.{IsWalkOf};
 
 use crate::group::Group;

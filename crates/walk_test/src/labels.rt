@@ -1,6 +1,6 @@
 // The label of each walk net: the place of the first one whose 1 it reads.
 ghost use Rattle.std.specs.Prelude.{◌≡◌, ◌≤◌, ◌<◌, ◌^◌, [], map, length, slice_index_or, All, IfOk};
-ghost use Rattle.walk_test.specs.Reading.{bit_in, first_one, label_of};
+ghost use Rattle.walk_test.specs.inner.Reading.{bit_in, first_one, label_of};
 
 use crate::tables::NetCells;
 use response_log::Log;

@@ -6,8 +6,9 @@ ghost use Rattle.walk_test.specs.Groups.{AreFound};
 ghost use Rattle.walk_test.specs.Laws.{WalkSafe, WalkHarmless, ShortsAreFaults, GroupsRespond, OneResponse, OneSet, ScansCounted};
 
 use board_defs::law as board_law;
-use tap_defs::board_law::{passes_harmless, walks_harmless};
-use tap_defs::board_law::{logs_by_rows, one_log, rows_compared, scans_in_turn};
+use tap_defs::board_law::{
+    logs_by_rows, one_log, passes_harmless, rows_compared, scans_in_turn, walks_harmless,
+};
 
 /// The walk setting is safe.
 pub fn walk_safe()

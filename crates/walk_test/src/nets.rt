@@ -8,7 +8,8 @@ ghost use Rattle.scan_planner.specs.Building.{is_on, enabled_in, is_read_beside}
 ghost use Rattle.scan_planner.specs.Plans.{IsPlanOf, IsRoom};
 ghost use Rattle.tap_defs.specs.board.TestRows.{quiet_row, code_row};
 ghost use Rattle.walk_test.specs.WalkTest.{walk_setting};
-ghost use Rattle.walk_test.specs.Tables.{tdi_of, mask_of, observer_in, positions_beside, cells_by, cells_in, nets_in, nets_by, cells_of, AreMade, IsWalkOf};
+ghost use Rattle.walk_test.specs.Tables.{tdi_of, mask_of, IsWalkOf};
+ghost use Rattle.walk_test.specs.inner.Tables.{observer_in, positions_beside, cells_by, cells_in, nets_in, nets_by, cells_of, AreMade};
 
 use crate::tables::{NetCells, WalkRows, WalkTables};
 use board_defs::{Board, Ctl, Items, Setting};

@@ -2,7 +2,7 @@
 ghost use Rattle.std.specs.Prelude.{◌≡◌, ◌<◌, ◌≤◌, ◌==◌, ◌^◌, [], true, length, slice_index_or, All, Decides};
 ghost use Rattle.std.specs.List.{list_all};
 ghost use Rattle.board_defs.specs.Pins.{is_same};
-ghost use Rattle.walk_test.specs.Reading.{bit_in, net_shows, ShowsIn, ShowsAll};
+ghost use Rattle.walk_test.specs.inner.Reading.{bit_in, net_shows, ShowsIn, ShowsAll};
 
 use crate::labels::bit_in;
 use crate::tables::NetCells;

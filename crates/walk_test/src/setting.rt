@@ -6,7 +6,7 @@ ghost use Rattle.board_defs.specs.Settings.{holds};
 ghost use Rattle.port_entries.specs.Entries.{AreEntries};
 ghost use Rattle.scan_planner.specs.Plans.{ArePlannable};
 ghost use Rattle.walk_test.specs.WalkTest.{without_switching, walk_setting};
-ghost use Rattle.walk_test.specs.Setting.{own_switch, entry_switch, pin_switch, with_some, with_pins, with_net, all_switching};
+ghost use Rattle.walk_test.specs.inner.Setting.{own_switch, entry_switch, pin_switch, with_some, with_pins, with_net, all_switching};
 
 use board_defs::{Board, Cell, Control, Ctl, Items, Net, NetPin, RawBoard, Setting, law};
 use port_entries::{BitEntries, driving_entry, is_guarded, port_entries};

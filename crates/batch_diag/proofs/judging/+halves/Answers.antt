@@ -1,5 +1,5 @@
 use Rattle.std.proofs.Common.{◌+◌, ◌-◌, ◌/◌, ◌≤◌, length, arith}
-use Rattle.batch_diag.specs.Judging.{first_of}
+use Rattle.batch_diag.specs.inner.Judging.{first_of}
 use Rattle.batch_diag.proofs.JudgeLemmas.{cut_rises, judged_both}
 use Rattle.batch_diag.proofs.judging.+halves.Goals as goal
 

@@ -1,4 +1,4 @@
-use Rattle.batch_diag.specs.Judging.{Judged, first_of}
+use Rattle.batch_diag.specs.inner.Judging.{Judged, first_of}
 use Rattle.batch_diag.proofs.judging.judge_piece.Given as goal
 
 -- the verdicts on the blocks before this one

@@ -2,7 +2,7 @@ use Rattle.std.proofs.Common.{◌≡◌, ◌+◌, ◌<◌, ◌≤◌, length}
 use Rattle.std.specs.Prelude.{All, IfSome}
 use Rattle.response_log.specs.LogRows.{HasSize, row_lines}
 use Rattle.batch_diag.specs.Batch.{blocks_of, logs_from}
-use Rattle.batch_diag.specs.Cutting.{blocks_at}
+use Rattle.batch_diag.specs.inner.Cutting.{blocks_at}
 use Rattle.batch_diag.proofs.ReadLemmas.{after, titles_left}
 use Rattle.batch_diag.proofs.reader.read_blocks.Given as goal
 

@@ -6,7 +6,7 @@ use Rattle.board_build.specs.Faults.{Gives}
 use Rattle.board_build.specs.Names.{named, names_of}
 use Rattle.board_build.specs.NetWords.{lent_word, same_place, words_of, standing_words}
 use Rattle.board_build.specs.ChainParts.{pin_places}
-use Rattle.board_build.specs.Marked.{mark, seen}
+use Rattle.board_build.specs.inner.Marked.{mark, seen}
 use Rattle.board_build.proofs.SoundLemmas.{sound_by, answer_by}
 use Rattle.board_build.proofs.building.board_of.Goals as goal
 

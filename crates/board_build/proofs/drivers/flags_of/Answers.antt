@@ -1,7 +1,7 @@
 -- One entry more.
 use Rattle.std.proofs.Common.{◌≡◌, ◌-◌, ◌<◌, Bool, List, length, drop, sym, subst, arith}
 use Rattle.std.proofs.lemmas.List.{with_items_is}
-use Rattle.board_build.specs.Marked.{AreFlags}
+use Rattle.board_build.specs.inner.Marked.{AreFlags}
 use Rattle.board_build.proofs.FlagLemmas.{flags_more}
 use Rattle.board_build.proofs.drivers.flags_of.Goals as goal
 

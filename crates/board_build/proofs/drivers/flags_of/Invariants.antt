@@ -1,5 +1,5 @@
 use Rattle.std.proofs.Common.{drop}
-use Rattle.board_build.specs.Marked.{AreFlags}
+use Rattle.board_build.specs.inner.Marked.{AreFlags}
 use Rattle.board_build.proofs.drivers.flags_of.Given as goal
 
 abbrev pub invariant-loop-i : goal.invariant-loop-i

@@ -3,7 +3,7 @@ use Rattle.std.specs.Prelude.{is_some}
 use Rattle.indexmap.specs.IndexMap.{get_by}
 use Rattle.board_build.specs.Names.{same_name}
 use Rattle.board_build.specs.NetWords.{lent_pin, same_pin}
-use Rattle.board_build.specs.Marked.{mark_by}
+use Rattle.board_build.specs.inner.Marked.{mark_by}
 use Rattle.board_build.proofs.marked.mark_each.Given as goal
 
 -- the words so far are marked

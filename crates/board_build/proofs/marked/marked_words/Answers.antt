@@ -6,7 +6,7 @@ use Rattle.board_build.specs.declared.names.Naming.TheVariants.{Inert}
 use Rattle.board_build.specs.Names.{named, names_of, same_name}
 use Rattle.board_build.specs.NetWords.{lent_word, lent_pin, same_pin}
 use Rattle.board_build.specs.ChainParts.{pin_places}
-use Rattle.board_build.specs.Marked.{mark, seen}
+use Rattle.board_build.specs.inner.Marked.{mark, seen}
 use Rattle.board_build.proofs.NameLemmas.{if_ok_map}
 use Rattle.board_build.proofs.MarkLemmas.{map-map, map_seen}
 use Rattle.board_build.proofs.GroupLemmas.{mark_cong}

@@ -6,7 +6,7 @@ use Rattle.first_places.specs.Places.{first_place}
 use Rattle.board_build.specs.declared.names.Naming.TheVariants.{Supply}
 use Rattle.board_build.specs.Names.{named, names_of, same_name}
 use Rattle.board_build.specs.LineRules.{pulls_of, pull_of_net}
-use Rattle.board_build.specs.Marked.{group_of, seen}
+use Rattle.board_build.specs.inner.Marked.{group_of, seen}
 use Rattle.board_build.proofs.NameLemmas.{if_ok_map}
 use Rattle.board_build.proofs.GroupLemmas.{nets_zip}
 use Rattle.board_build.proofs.nets.board_nets.Goals as goal

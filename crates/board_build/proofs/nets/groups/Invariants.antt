@@ -1,5 +1,5 @@
 use Rattle.std.proofs.Common.{◌≡◌, ◌<◌, ℕ, [], map, take, get_or, vec_len}
-use Rattle.board_build.specs.Marked.{group_of, seen}
+use Rattle.board_build.specs.inner.Marked.{group_of, seen}
 use Rattle.board_build.proofs.nets.groups.Given as goal
 
 -- each net has its pins of the words so far

@@ -4,7 +4,7 @@ use Rattle.std.specs.Prelude.{is_some, slice_get}
 use Rattle.std.specs.Vec.Iter.{into_iter_items}
 use Rattle.indexmap.specs.IndexMap.{get_by}
 use Rattle.board_build.specs.Names.{same_name}
-use Rattle.board_build.specs.Marked.{net_by, nets_after}
+use Rattle.board_build.specs.inner.Marked.{net_by, nets_after}
 use Rattle.board_build.proofs.GroupLemmas.{zip_step}
 use Rattle.board_build.proofs.nets.nets_by.Goals as goal
 

@@ -3,7 +3,7 @@ use Rattle.std.specs.Prelude.{is_some, zip}
 use Rattle.std.specs.Vec.Iter.{into_iter_items}
 use Rattle.indexmap.specs.IndexMap.{get_by}
 use Rattle.board_build.specs.Names.{same_name}
-use Rattle.board_build.specs.Marked.{net_by}
+use Rattle.board_build.specs.inner.Marked.{net_by}
 use Rattle.board_build.proofs.nets.nets_by.Given as goal
 
 -- the nets so far, and then those of the names and the groups that are left

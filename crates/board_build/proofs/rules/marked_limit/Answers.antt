@@ -3,7 +3,7 @@ use Rattle.std.proofs.Common.{◌∙◌, length, ap, Some, None}
 use Rattle.std.specs.Prelude.{nat_lt, if◌then◌else◌}
 use Rattle.first_places.specs.Places.{once}
 use Rattle.board_build.specs.declared.fault.BoardFault.TheVariants.{Limit}
-use Rattle.board_build.specs.Marked.{marked_limit}
+use Rattle.board_build.specs.inner.Marked.{marked_limit}
 use Rattle.board_build.proofs.NameLemmas.{if_ok_map}
 use Rattle.board_build.proofs.SeenLemmas.{same_lent, pins_counted}
 use Rattle.board_build.proofs.rules.marked_limit.Goals as goal

@@ -1,6 +1,6 @@
 use Rattle.std.proofs.Common.{◌≡◌, ◌+◌, ◌-◌, ◌≤◌, length, take, drop, false}
 use Rattle.bsdl_lexer.specs.Tokens.{line_feeds}
-use Rattle.bsdl_lexer.specs.Lengths.{gap_len}
+use Rattle.bsdl_lexer.specs.inner.Lengths.{gap_len}
 use Rattle.bsdl_lexer.proofs.lengths.gap_at.Given as goal
 
 abbrev pub invariant-loop-next : goal.invariant-loop-next

@@ -1,6 +1,6 @@
 use Rattle.std.proofs.Common.{◌≡◌, length, sym, ◌∙◌, ap, subst, Ok, arith, refl, true, false}
 use Rattle.std.proofs.lemmas.Result.{err_from_is_err_and}
-use Rattle.bsdl_lexer.specs.Steps.{step}
+use Rattle.bsdl_lexer.specs.inner.Steps.{step}
 use Rattle.bsdl_lexer.proofs.Answers.{WalksTo, IsNext, are_first, walks_on, ends_at_fault, ends_full, ends_whole, few_lines, next_of_walk, room_left}
 use Rattle.bsdl_lexer.proofs.text.add_tokens.Goals as goal
 

@@ -1,7 +1,7 @@
 use Rattle.std.proofs.Common.{sym, ◌∙◌}
 use Rattle.grammars.specs.Grammar.{reader_of}
 use Rattle.bsdl_parser.specs.Bsdl.{file}
-use Rattle.bsdl_parser.specs.Judged.{judged}
+use Rattle.bsdl_parser.specs.inner.Judged.{judged}
 use Rattle.bsdl_parser.proofs.Answers.{is_answer, one_answer}
 use Rattle.bsdl_parser.proofs.law.token_lists_have_one_answer.Goals as goal
 

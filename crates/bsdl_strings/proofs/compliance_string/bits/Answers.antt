@@ -1,7 +1,7 @@
 use Rattle.std.proofs.Common.{sym, ◌∙◌, ap}
 use Rattle.std.proofs.lemmas.Result.{err_from_is_err_and}
 use Rattle.grammars.specs.Grammar.{reader_of}
-use Rattle.grammars.specs.Reader.{found}
+use Rattle.grammars.specs.inner.Reader.{found}
 use Rattle.bsdl_strings.specs.Pieces.{pieces}
 use Rattle.bsdl_strings.specs.Strings.{bits}
 use Rattle.bsdl_strings.proofs.ComplianceLemmas.{another_bit, last_bit, bits_stop, fewer_bits}

@@ -1,6 +1,6 @@
 use Rattle.std.proofs.Common.{sym, ◌∙◌, ap, subst}
 use Rattle.std.proofs.lemmas.Result.{err_from_is_err_and}
-use Rattle.grammars.specs.Reader.{found}
+use Rattle.grammars.specs.inner.Reader.{found}
 use Rattle.grammars.proofs.ListReaders.{Progress, goes_further, ends_with}
 use Rattle.bsdl_strings.specs.Pieces.{pieces}
 use Rattle.bsdl_strings.specs.Places.{code}

@@ -1,5 +1,5 @@
 use Rattle.std.proofs.Common.{◌≡◌, ◌-◌, drop, take}
-use Rattle.bt_bits.specs.Digits.{digits_text}
+use Rattle.bt_bits.specs.inner.Digits.{digits_text}
 use Rattle.bt_bits.proofs.digits.fill_text.Given as goal
 
 abbrev pub invariant-loop-k : goal.invariant-loop-k

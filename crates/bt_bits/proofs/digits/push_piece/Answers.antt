@@ -1,6 +1,6 @@
 use Rattle.std.proofs.Common.{◌≡◌, ◌-◌, ◌+◌, ◌∙◌, ap, arith, take, drop, length}
 use Rattle.std.proofs.lemmas.Grind.{common_steps}
-use Rattle.bt_bits.specs.Digits.{digits_text}
+use Rattle.bt_bits.specs.inner.Digits.{digits_text}
 use Rattle.bt_bits.proofs.TextLemmas.{text_piece}
 use Rattle.bt_bits.proofs.digits.push_piece.Goals as goal
 

@@ -1,5 +1,5 @@
 use Rattle.std.proofs.Common.{arith}
-use Rattle.bt_bits.specs.Digits.{digits_text}
+use Rattle.bt_bits.specs.inner.Digits.{digits_text}
 use Rattle.bt_bits.proofs.HexLemmas.{pushed_more}
 use Rattle.bt_bits.proofs.digits.push_text.Goals as goal
 

@@ -1,5 +1,5 @@
 use Rattle.std.proofs.Common.{◌≡◌, ◌-◌, ◌≤◌, ◌++◌, take, drop}
-use Rattle.bt_bits.specs.Digits.{digits_text}
+use Rattle.bt_bits.specs.inner.Digits.{digits_text}
 use Rattle.bt_bits.proofs.digits.push_text.Given as goal
 
 abbrev pub invariant-loop-at : goal.invariant-loop-at

@@ -4,7 +4,7 @@ use Rattle.board_gen.specs.BoardTexts.{chain_text, net_text}
 use Rattle.board_gen.specs.DeviceText.{bsdl_text}
 use Rattle.btest_core.specs.BoardRead.{IsBoardRead}
 use Rattle.btest_cli.specs.Summary.{summary_text}
-use Rattle.btest_cli.specs.Answers.{Nothing}
+use Rattle.btest_cli.specs.inner.Answers.{Nothing}
 use Rattle.btest_cli.proofs.AnswerLemmas.{answers_fault, takes_by, cut_by}
 use Rattle.btest_cli.proofs.SummaryLemmas.{summary_is}
 use Rattle.btest_cli.proofs.board_summary.summary.Goals as goal

@@ -1,5 +1,5 @@
 use Rattle.std.proofs.Common.{Err, ap, ◌∙◌}
-use Rattle.btest_cli.specs.Failures.{wanted_view}
+use Rattle.btest_cli.specs.inner.Failures.{wanted_view}
 use Rattle.btest_cli.proofs.ReadingLemmas.{text_told, long_told}
 use Rattle.btest_cli.proofs.texts.fetch_text.Goals as goal
 

@@ -1,6 +1,6 @@
 use Rattle.std.proofs.Common.{rules, ◌≡◌, ◌+◌, ◌∙◌, ℕ, List, [], Vec, Global, Err, sym, ap, subst, map, take}
 use Rattle.std.specs.Prelude.{slice_index_or}
-use Rattle.btest_cli.specs.Failures.{IsUnread, wanted_view}
+use Rattle.btest_cli.specs.inner.Failures.{IsUnread, wanted_view}
 use Rattle.btest_cli.specs.Texts.{IsText, IsLong}
 use Rattle.btest_cli.proofs.ReadingLemmas.{Continues, continues_all, continues_more, asks_more, asks_all, asks_some, read_up_to, read_long, read_all, texts_more, unread_is}
 use Rattle.bt_base.proofs.Cuts.{rose_after}

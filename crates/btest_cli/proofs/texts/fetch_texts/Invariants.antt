@@ -1,6 +1,6 @@
 use Rattle.std.proofs.Common.{◌≡◌, ◌<◌, ◌≤◌, ◌^◌, ℕ, List, All, map, take, length}
 use Rattle.btest_cli.specs.Texts.{Asks, names_in}
-use Rattle.btest_cli.specs.Failures.{wanted_view}
+use Rattle.btest_cli.specs.inner.Failures.{wanted_view}
 use Rattle.btest_cli.proofs.ReadingLemmas.{Continues}
 use Rattle.btest_cli.proofs.texts.fetch_texts.Given as goal
 

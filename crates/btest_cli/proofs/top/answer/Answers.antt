@@ -2,7 +2,7 @@ use Rattle.std.proofs.Common.{List, sym, ap, subst, map}
 use Rattle.command_line.specs.Words.{Text, Command, Cover, Svf, Walk, Diagnose, Groups, Batch, HasNumber}
 use Rattle.command_line.specs.declared.words.Command.{Command as Lent}
 use Rattle.command_line.specs.CommandView.{board_view, chain_view, command_view}
-use Rattle.btest_cli.specs.Failures.{IsAnswered}
+use Rattle.btest_cli.specs.inner.Failures.{IsAnswered}
 use Rattle.btest_cli.proofs.AnswerLemmas.{batch_told, cover_told, diagnose_told, groups_told, make_told, svf_told, walk_told}
 use Rattle.btest_cli.proofs.top.answer.Goals as goal
 

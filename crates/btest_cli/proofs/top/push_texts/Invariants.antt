@@ -1,6 +1,6 @@
 use Rattle.std.proofs.Common.{◌≡◌, ◌++◌, map, take, string_bytes}
 use Rattle.btest_cli.specs.Texts.{text_called}
-use Rattle.btest_cli.specs.Failures.{wanted_view}
+use Rattle.btest_cli.specs.inner.Failures.{wanted_view}
 use Rattle.btest_cli.proofs.top.push_texts.Given as goal
 
 -- the texts that were there, and then those so far

@@ -1,5 +1,5 @@
 use Rattle.std.proofs.Common.{◌+◌, arith}
-use Rattle.coverage_list.specs.CoverForms.{pair_at, texts_from}
+use Rattle.coverage_list.specs.inner.CoverForms.{pair_at, texts_from}
 use Rattle.coverage_list.proofs.PutLemmas.{each_start, some_ok, some_err, each_end}
 use Rattle.coverage_list.proofs.listing.put_later.Goals as goal
 

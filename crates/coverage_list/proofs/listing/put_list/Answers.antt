@@ -2,7 +2,7 @@ use Rattle.std.proofs.Common.{◌≡◌, ◌++◌, ap, ◌∙◌}
 use Rattle.line_printer.proofs.PrintLemmas.{prints_ok, prints_err, prints_same}
 use Rattle.coverage_list.specs.declared.lines.PinUse.TheVariants.{Driver, Receiver}
 use Rattle.coverage_list.specs.CoverText.{reason_lines, pin_lines, pair_lines, cover_text}
-use Rattle.coverage_list.specs.CoverForms.{texts_from, reason_at, pins_at, pairs_at}
+use Rattle.coverage_list.specs.inner.CoverForms.{texts_from, reason_at, pins_at, pairs_at}
 use Rattle.coverage_list.proofs.CoverLemmas.{reasons_are, pins_are, pairs_are}
 use Rattle.coverage_list.proofs.listing.put_list.Goals as goal
 

@@ -1,5 +1,5 @@
 use Rattle.std.proofs.Common.{length, arith}
-use Rattle.coverage_list.specs.CoverForms.{place_text, texts_from}
+use Rattle.coverage_list.specs.inner.CoverForms.{place_text, texts_from}
 use Rattle.coverage_list.proofs.PutLemmas.{each_start, each_ok, each_err, each_end}
 use Rattle.coverage_list.proofs.listing.put_net_pins.Goals as goal
 

@@ -1,5 +1,5 @@
 use Rattle.std.proofs.Common.{length}
-use Rattle.coverage_list.specs.CoverForms.{place_text, texts_from}
+use Rattle.coverage_list.specs.inner.CoverForms.{place_text, texts_from}
 use Rattle.coverage_list.proofs.PutLemmas.{Completes}
 use Rattle.coverage_list.proofs.listing.put_net_pins.Given as goal
 

@@ -1,5 +1,5 @@
 use Rattle.std.proofs.Common.{arith}
-use Rattle.coverage_list.specs.CoverForms.{pairs_at, texts_from}
+use Rattle.coverage_list.specs.inner.CoverForms.{pairs_at, texts_from}
 use Rattle.coverage_list.proofs.PutLemmas.{each_start, each_ok, each_err, each_end}
 use Rattle.coverage_list.proofs.listing.put_pairs.Goals as goal
 

@@ -1,4 +1,4 @@
-use Rattle.coverage_list.specs.CoverForms.{pairs_at, texts_from}
+use Rattle.coverage_list.specs.inner.CoverForms.{pairs_at, texts_from}
 use Rattle.coverage_list.proofs.PutLemmas.{Completes}
 use Rattle.coverage_list.proofs.listing.put_pairs.Given as goal
 

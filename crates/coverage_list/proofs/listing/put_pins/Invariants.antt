@@ -1,4 +1,4 @@
-use Rattle.coverage_list.specs.CoverForms.{pins_at, texts_from}
+use Rattle.coverage_list.specs.inner.CoverForms.{pins_at, texts_from}
 use Rattle.coverage_list.proofs.PutLemmas.{Completes}
 use Rattle.coverage_list.proofs.listing.put_pins.Given as goal
 

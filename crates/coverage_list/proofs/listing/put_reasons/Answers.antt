@@ -1,5 +1,5 @@
 use Rattle.std.proofs.Common.{arith}
-use Rattle.coverage_list.specs.CoverForms.{reason_at, texts_from}
+use Rattle.coverage_list.specs.inner.CoverForms.{reason_at, texts_from}
 use Rattle.coverage_list.proofs.PutLemmas.{each_start, each_ok, each_err, each_end}
 use Rattle.coverage_list.proofs.listing.put_reasons.Goals as goal
 

@@ -1,4 +1,4 @@
-use Rattle.coverage_list.specs.CoverForms.{reason_at, texts_from}
+use Rattle.coverage_list.specs.inner.CoverForms.{reason_at, texts_from}
 use Rattle.coverage_list.proofs.PutLemmas.{Completes}
 use Rattle.coverage_list.proofs.listing.put_reasons.Given as goal
 

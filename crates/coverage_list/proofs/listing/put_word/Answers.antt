@@ -1,7 +1,7 @@
 use Rattle.std.proofs.Common.{sym, refl, arith}
 use Rattle.line_printer.proofs.PrintLemmas.{prints_none, prints_same}
 use Rattle.coverage_list.proofs.NetLemmas.{full_word}
-use Rattle.coverage_list.specs.CoverForms.{pair_at, texts_from}
+use Rattle.coverage_list.specs.inner.CoverForms.{pair_at, texts_from}
 use Rattle.coverage_list.proofs.PutLemmas.{each_start, each_ok, each_err, each_end}
 use Rattle.coverage_list.proofs.listing.put_word.Goals as goal
 

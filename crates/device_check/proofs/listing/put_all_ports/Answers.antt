@@ -1,7 +1,7 @@
 use Rattle.std.proofs.Common.{ap, sym, subst, ◌∙◌}
 use Rattle.line_printer.proofs.PrintLemmas.{prints_same}
 use Rattle.device_check.specs.DeviceText.{port_lines}
-use Rattle.device_check.specs.ListingForms.{Rises}
+use Rattle.device_check.specs.inner.ListingForms.{Rises}
 use Rattle.device_check.proofs.ListingLemmas.{rises_all}
 use Rattle.device_check.proofs.listing.put_all_ports.Goals as goal
 

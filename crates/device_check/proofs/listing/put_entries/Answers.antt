@@ -2,7 +2,7 @@ use Rattle.std.proofs.Common.{◌++◌, append-nil, sym, ap, ◌∙◌}
 use Rattle.std.specs.List.{flat_map}
 use Rattle.line_printer.proofs.PrintLemmas.{prints_ok, prints_err, prints_same}
 use Rattle.device_check.specs.DeviceText.{cell_line}
-use Rattle.device_check.specs.ListingForms.{entries_in}
+use Rattle.device_check.specs.inner.ListingForms.{entries_in}
 use Rattle.device_check.proofs.listing.put_entries.Goals as goal
 
 pub returns-in_err-put_cell-in-Two : goal.returns-in_err-put_cell-in-Two

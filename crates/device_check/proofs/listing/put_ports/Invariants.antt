@@ -4,7 +4,7 @@ use Rattle.std.specs.List.{flat_map, range_with_len}
 use Rattle.bt_base.specs.declared.sink.PutFault.{PutFault}
 use Rattle.line_printer.specs.Prints.{Prints}
 use Rattle.device_check.specs.DeviceText.{port_line, port_name}
-use Rattle.device_check.specs.ListingForms.{Rises}
+use Rattle.device_check.specs.inner.ListingForms.{Rises}
 use Rattle.device_check.proofs.listing.put_ports.Given as goal
 
 -- the ports so far were put, and the bits of the others are left

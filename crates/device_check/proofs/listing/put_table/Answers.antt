@@ -3,7 +3,7 @@ use Rattle.std.specs.List.{flat_map}
 use Rattle.device_check.specs.declared.listing_table.Entries.{Entries}
 use Rattle.line_printer.proofs.PrintLemmas.{prints_ok, prints_err, prints_none, prints_same, prints_done}
 use Rattle.device_check.specs.DeviceText.{cell_line}
-use Rattle.device_check.specs.ListingForms.{entries_in}
+use Rattle.device_check.specs.inner.ListingForms.{entries_in}
 use Rattle.device_check.proofs.ListingLemmas.{flat-more, flat-split}
 use Rattle.device_check.proofs.listing.put_table.Goals as goal
 

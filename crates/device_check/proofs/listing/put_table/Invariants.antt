@@ -3,7 +3,7 @@ use Rattle.std.specs.List.{flat_map}
 use Rattle.bt_base.specs.declared.sink.PutFault.{PutFault}
 use Rattle.line_printer.specs.Prints.{Prints}
 use Rattle.device_check.specs.DeviceText.{cell_line}
-use Rattle.device_check.specs.ListingForms.{entries_in}
+use Rattle.device_check.specs.inner.ListingForms.{entries_in}
 use Rattle.device_check.proofs.listing.put_table.Given as goal
 
 -- the cells so far were put

@@ -1,7 +1,7 @@
 use Rattle.std.proofs.Common.{◌+◌, ap, sym, subst, ◌∙◌, take, drop, filter}
 use Rattle.std.specs.Prelude.{◌==◌}
 use Rattle.device_check.proofs.ListingLemmas.{split_at_port}
-use Rattle.device_check.specs.ListingForms.{Rises}
+use Rattle.device_check.specs.inner.ListingForms.{Rises}
 use Rattle.device_check.proofs.listing.split_port.Goals as goal
 
 pub returns : goal.returns

@@ -3,7 +3,7 @@ use Rattle.std.proofs.lemmas.List.{take_all}
 use Rattle.std.specs.List.{range_with_len}
 use Rattle.board_defs.specs.declared.device.Cell.{Cell}
 use Rattle.device_check.specs.DeviceText.{entries_of}
-use Rattle.device_check.specs.ListingForms.{entries_in}
+use Rattle.device_check.specs.inner.ListingForms.{entries_in}
 use Rattle.device_check.proofs.ListingLemmas.{table_is, entries_step, has_room}
 use Rattle.device_check.proofs.listing_table.fill_entries.Goals as goal
 

@@ -1,7 +1,7 @@
 use Rattle.std.proofs.Common.{◌≡◌, ℕ, ◌+◌, ◌<◌, length, take}
 use Rattle.std.specs.Prelude.{slice_index_or}
 use Rattle.device_check.specs.DeviceText.{entries_of}
-use Rattle.device_check.specs.ListingForms.{entries_in}
+use Rattle.device_check.specs.inner.ListingForms.{entries_in}
 use Rattle.device_check.specs.declared.listing_table.Entries.TheVariants.{Nothing}
 use Rattle.device_check.proofs.listing_table.fill_entries.Given as goal
 

@@ -1,6 +1,6 @@
 use Rattle.std.proofs.Common.{take}
 use Rattle.device_rules.specs.Cells.{controls_entry}
-use Rattle.device_rules.specs.Tables.{Marks}
+use Rattle.device_rules.specs.inner.Tables.{Marks}
 use Rattle.device_rules.proofs.cells.cells_disabling_by.Given as goal
 
 abbrev pub invariant-loop-entry : goal.invariant-loop-entry

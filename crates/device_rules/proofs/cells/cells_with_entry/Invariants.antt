@@ -1,6 +1,6 @@
 use Rattle.std.proofs.Common.{take}
 use Rattle.device_rules.specs.Cells.{is_entry_of}
-use Rattle.device_rules.specs.Tables.{Marks}
+use Rattle.device_rules.specs.inner.Tables.{Marks}
 use Rattle.device_rules.proofs.cells.cells_with_entry.Given as goal
 
 abbrev pub invariant-loop-entry : goal.invariant-loop-entry

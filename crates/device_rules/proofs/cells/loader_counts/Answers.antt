@@ -1,7 +1,7 @@
 use Rattle.std.proofs.Common.{◌+◌, take, sym, ◌∙◌, ap, subst, arith}
 use Rattle.device_rules.specs.Cells.{loads_cell}
 use Rattle.board_defs.specs.DeviceRules.{is_loading}
-use Rattle.device_rules.specs.Tables.{Counts}
+use Rattle.device_rules.specs.inner.Tables.{Counts}
 use Rattle.device_rules.proofs.TableLemmas.{counts_kept, counts_more, counts_fit}
 use Rattle.device_rules.proofs.CellLemmas.{counts_here, counts_nowhere_else, counts_nowhere, counts_above}
 use Rattle.device_rules.proofs.cells.loader_counts.Goals as goal

@@ -1,6 +1,6 @@
 use Rattle.std.proofs.Common.{take}
 use Rattle.device_rules.specs.Cells.{loads_cell}
-use Rattle.device_rules.specs.Tables.{Counts}
+use Rattle.device_rules.specs.inner.Tables.{Counts}
 use Rattle.device_rules.proofs.cells.loader_counts.Given as goal
 
 abbrev pub invariant-loop-entry : goal.invariant-loop-entry

@@ -6,7 +6,7 @@ use Rattle.std.specs.Option.{option_eq}
 use Rattle.std.specs.HashSet.{contains}
 use Rattle.std.specs.List.{list_any}
 use Rattle.std.proofs.lemmas.List.{take_all}
-use Rattle.device_rules.specs.Index.{names_bit, Marked}
+use Rattle.device_rules.specs.inner.Index.{names_bit, Marked}
 use Rattle.device_rules.proofs.NamedLemmas.{marked_more, marked_none}
 use Rattle.device_rules.proofs.compliance.bits_of.Goals as goal
 use Rattle.device_rules.proofs.compliance.bits_of.Goals.{in-Some+in_ok-insert, in_default}

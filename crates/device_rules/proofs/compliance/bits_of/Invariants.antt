@@ -2,7 +2,7 @@ use Rattle.std.proofs.Common.{◌&&◌, nat_eq, take}
 use Rattle.std.specs.Str.{bytes_eq}
 use Rattle.std.specs.Option.{option_eq}
 use Rattle.std.specs.HashSet.{contains}
-use Rattle.device_rules.specs.Index.{Marked}
+use Rattle.device_rules.specs.inner.Index.{Marked}
 use Rattle.device_rules.proofs.compliance.bits_of.Given as goal
 
 abbrev pub invariant-loop-word : goal.invariant-loop-word

@@ -2,7 +2,7 @@ use Rattle.std.proofs.Common.{◌≡◌, ◌++◌, List, ℕ, take, drop}
 use Rattle.std.specs.Str.{bytes_eq}
 use Rattle.std.specs.HashSet.{contains}
 use Rattle.device_rules.specs.PinMap.{some_repeats}
-use Rattle.device_rules.specs.Seen.{Knows}
+use Rattle.device_rules.specs.inner.Seen.{Knows}
 use Rattle.device_rules.proofs.pin_map.some_repeats.Given as goal
 
 -- what was seen before is known, and the pins so far, of which none repeats

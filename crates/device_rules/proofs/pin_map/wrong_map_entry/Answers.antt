@@ -3,7 +3,7 @@ use Rattle.std.specs.Str.{bytes_eq}
 use Rattle.std.specs.List.{list_any}
 use Rattle.std.specs.HashSet.{contains}
 use Rattle.device_rules.specs.PinMap.{maps_port, some_repeats, pins_of, breaks_map, v4}
-use Rattle.device_rules.specs.Seen.{Knows}
+use Rattle.device_rules.specs.inner.Seen.{Knows}
 use Rattle.device_rules.proofs.ItemLemmas.{first_hit, first_step}
 use Rattle.device_rules.proofs.PinLemmas.{pins_more, breaks_is, third_false, known_more}
 use Rattle.device_rules.proofs.pin_map.wrong_map_entry.Goals as goal

@@ -5,7 +5,7 @@ use Rattle.std.specs.Str.{bytes_eq}
 use Rattle.std.specs.HashSet.{contains}
 use Rattle.device_rules.specs.Items.{first_from}
 use Rattle.device_rules.specs.PinMap.{maps_port, pins_of, breaks_map, v4}
-use Rattle.device_rules.specs.Seen.{Knows}
+use Rattle.device_rules.specs.inner.Seen.{Knows}
 use Rattle.device_rules.proofs.pin_map.wrong_map_entry.Given as goal
 
 abbrev pub invariant-loop-i : goal.invariant-loop-i

@@ -1,7 +1,7 @@
 -- The port's number gives the bit's, with the bits before the port.
 use Rattle.std.proofs.Common.{sym, ap, ◌∙◌, arith}
 use Rattle.device_rules.specs.Ports.{port_named}
-use Rattle.device_rules.specs.Index.{place_in}
+use Rattle.device_rules.specs.inner.Index.{place_in}
 use Rattle.device_rules.proofs.BitLemmas.{number_below, nowhere_bit, outside_bit, inside_bit, bit_fits}
 use Rattle.device_rules.proofs.port_index.bit_in.Goals as goal
 

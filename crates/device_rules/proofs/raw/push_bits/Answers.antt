@@ -1,7 +1,7 @@
 use Rattle.std.proofs.Common.{◌<◌, ◌≤◌, ◌++◌, ◌∷◌, [], length, map, ap, ◌∙◌, arith}
 use Rattle.std.proofs.lemmas.List.{take_all}
 use Rattle.device_rules.specs.Ports.{width, bits_of_port}
-use Rattle.device_rules.specs.Index.{bit_of}
+use Rattle.device_rules.specs.inner.Index.{bit_of}
 use Rattle.device_rules.specs.Raw.{port_bit}
 use Rattle.device_rules.proofs.RawLemmas.{bits_step, bits_all}
 use Rattle.device_rules.proofs.raw.push_bits.Goals as goal

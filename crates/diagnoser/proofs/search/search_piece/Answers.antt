@@ -1,7 +1,7 @@
 use Rattle.std.proofs.Common.{◌≡◌, ℕ, ◌+◌, ◌≤◌, List, length, sym, subst, arith}
 use Rattle.std.specs.Option.{option_to_list}
 use Rattle.board_defs.specs.declared.fault.Single.{Single}
-use Rattle.diagnoser.specs.Search.{Found, first_of}
+use Rattle.diagnoser.specs.inner.Search.{Found, first_of}
 use Rattle.diagnoser.proofs.CutLemmas.{cut_rises, found_append, found_nothing}
 use Rattle.diagnoser.proofs.search.search_piece.Goals as goal
 

@@ -1,4 +1,4 @@
-use Rattle.diagnoser.specs.Search.{Found, first_of}
+use Rattle.diagnoser.specs.inner.Search.{Found, first_of}
 use Rattle.diagnoser.proofs.search.search_piece.Given as goal
 
 -- what the candidates before this one gave

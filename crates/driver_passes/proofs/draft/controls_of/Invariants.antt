@@ -1,5 +1,5 @@
 use Rattle.std.proofs.Common.{◌≡◌, ◌++◌, drop}
-use Rattle.driver_passes.specs.Drafts.{chosen}
+use Rattle.driver_passes.specs.inner.Drafts.{chosen}
 use Rattle.driver_passes.proofs.draft.controls_of.Given as goal
 
 abbrev pub invariant-loop-place : goal.invariant-loop-place

@@ -1,5 +1,5 @@
 use Rattle.std.proofs.Common.{◌≡◌, ℕ, ◌||◌, false, take, get_or}
-use Rattle.driver_passes.specs.Drafts.{has_number}
+use Rattle.driver_passes.specs.inner.Drafts.{has_number}
 use Rattle.driver_passes.proofs.draft.take.Given as goal
 
 abbrev pub invariant-loop-net : goal.invariant-loop-net

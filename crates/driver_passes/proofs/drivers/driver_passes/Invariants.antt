@@ -1,7 +1,7 @@
 use Rattle.std.proofs.Common.{◌≡◌, [], take, fold}
 use Rattle.std.specs.List.{flat_map}
 use Rattle.board_defs.specs.Passes.{add_for_driver, drivers_by_net}
-use Rattle.driver_passes.specs.Progress.{IsProgress}
+use Rattle.driver_passes.specs.inner.Progress.{IsProgress}
 use Rattle.driver_passes.proofs.drivers.driver_passes.Given as goal
 
 abbrev pub invariant-loop-net : goal.invariant-loop-net

@@ -1,6 +1,6 @@
 use Rattle.std.proofs.Common.{◌≡◌, ◌||◌, ◌&&◌, ◌∙◌, sym, ap, refl, true, false, Bool}
 use Rattle.std.specs.Prelude.{◌==◌}
-use Rattle.driver_passes.specs.NetSets.{has_net}
+use Rattle.driver_passes.specs.inner.NetSets.{has_net}
 use Rattle.driver_passes.proofs.NetSetLemmas.{net_set}
 use Rattle.driver_passes.proofs.net_set.set_if.Goals as goal
 

@@ -1,5 +1,5 @@
 use Rattle.std.proofs.Common.{◌+◌, ◌*◌, ◌/◌, arith}
-use Rattle.driver_passes.specs.Pairs.{is_wanted}
+use Rattle.driver_passes.specs.inner.Pairs.{is_wanted}
 use Rattle.driver_passes.proofs.NetSetLemmas.{passed_more}
 use Rattle.driver_passes.proofs.pairs.next_wanted.Goals as goal
 

@@ -1,5 +1,5 @@
 use Rattle.std.proofs.Common.{◌≡◌, ◌-◌, ◌≤◌, ◌<◌, ℕ, false, length}
-use Rattle.driver_passes.specs.Pairs.{is_wanted}
+use Rattle.driver_passes.specs.inner.Pairs.{is_wanted}
 use Rattle.driver_passes.proofs.pairs.next_wanted.Given as goal
 
 abbrev pub invariant-loop-net : goal.invariant-loop-net

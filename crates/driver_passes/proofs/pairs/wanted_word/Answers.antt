@@ -1,6 +1,6 @@
 use Rattle.std.proofs.Common.{◌/◌}
 use Rattle.net_classes.specs.Pairs.{pairs_with}
-use Rattle.driver_passes.specs.NetSets.{has_net}
+use Rattle.driver_passes.specs.inner.NetSets.{has_net}
 use Rattle.driver_passes.proofs.NetSetLemmas.{and_bits, no_bits}
 use Rattle.driver_passes.proofs.pairs.wanted_word.Goals as goal
 

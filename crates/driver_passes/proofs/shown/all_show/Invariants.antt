@@ -1,6 +1,6 @@
 use Rattle.std.proofs.Common.{◌≡◌, true, take}
 use Rattle.std.specs.List.{list_all}
-use Rattle.driver_passes.specs.NetSets.{has_net}
+use Rattle.driver_passes.specs.inner.NetSets.{has_net}
 use Rattle.driver_passes.proofs.shown.all_show.Given as goal
 
 abbrev pub invariant-loop-row : goal.invariant-loop-row

@@ -1,7 +1,7 @@
 use Rattle.std.proofs.Common.{◌≡◌, ◌<◌, ◌≤◌, ◌/◌, ℕ, not, take, length}
 use Rattle.std.specs.List.{list_any}
-use Rattle.driver_passes.specs.NetSets.{has_net}
-use Rattle.driver_passes.specs.Shown.{shows_both}
+use Rattle.driver_passes.specs.inner.NetSets.{has_net}
+use Rattle.driver_passes.specs.inner.Shown.{shows_both}
 use Rattle.driver_passes.proofs.shown.leave_unshown.Given as goal
 
 abbrev pub invariant-loop-row : goal.invariant-loop-row

@@ -7,7 +7,7 @@ use Rattle.board_defs.specs.declared.board.Drive.{Drive}
 use Rattle.board_defs.specs.Decided.{is_by}
 use Rattle.board_defs.specs.Settings.{holds}
 use Rattle.board_defs.specs.Passes.{useful_controls}
-use Rattle.driver_passes.specs.Tested.{AreNoted}
+use Rattle.driver_passes.specs.inner.Tested.{AreNoted}
 use Rattle.driver_passes.proofs.TestedLemmas.{not_held, not_noted, noted}
 use Rattle.driver_passes.proofs.tested.list_driver.Goals as goal
 

@@ -1,5 +1,5 @@
 use Rattle.std.proofs.Common.{take}
-use Rattle.driver_passes.specs.Tested.{AreNoted, drives}
+use Rattle.driver_passes.specs.inner.Tested.{AreNoted, drives}
 use Rattle.driver_passes.proofs.tested.list_drivers.Given as goal
 
 abbrev pub invariant-loop-d : goal.invariant-loop-d

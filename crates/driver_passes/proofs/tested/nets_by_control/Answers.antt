@@ -1,6 +1,6 @@
 use Rattle.std.proofs.Common.{◌≡◌, ◌∙◌, ◌+◌, ℕ, List, ap, length, sym, subst}
 use Rattle.std.proofs.lemmas.List.{with_items_is}
-use Rattle.driver_passes.specs.Tested.{AreListed, AreNoted, drives}
+use Rattle.driver_passes.specs.inner.Tested.{AreListed, AreNoted, drives}
 use Rattle.driver_passes.proofs.TestedLemmas.{listed_more}
 use Rattle.driver_passes.proofs.tested.nets_by_control.Goals as goal
 

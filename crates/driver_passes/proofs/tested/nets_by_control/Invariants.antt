@@ -1,4 +1,4 @@
-use Rattle.driver_passes.specs.Tested.{AreListed}
+use Rattle.driver_passes.specs.inner.Tested.{AreListed}
 use Rattle.driver_passes.proofs.tested.nets_by_control.Given as goal
 
 abbrev pub invariant-loop-net : goal.invariant-loop-net

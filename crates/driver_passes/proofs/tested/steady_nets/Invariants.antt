@@ -1,7 +1,7 @@
 use Rattle.std.proofs.Common.{◌≡◌, ◌<◌, ◌≤◌, ◌+◌, ◌/◌, ℕ, [], false, length}
 use Rattle.board_defs.specs.Passes.{shows}
-use Rattle.driver_passes.specs.NetSets.{has_net}
-use Rattle.driver_passes.specs.Shown.{drivers_at}
+use Rattle.driver_passes.specs.inner.NetSets.{has_net}
+use Rattle.driver_passes.specs.inner.Shown.{drivers_at}
 use Rattle.driver_passes.proofs.tested.steady_nets.Given as goal
 
 abbrev pub invariant-loop-net : goal.invariant-loop-net

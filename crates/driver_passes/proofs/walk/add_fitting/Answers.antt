@@ -3,7 +3,7 @@ use Rattle.std.specs.List.{list_any}
 use Rattle.board_defs.specs.declared.board.Ctl.{Ctl}
 use Rattle.board_defs.specs.Settings.{inserted}
 use Rattle.board_defs.specs.Passes.{fits}
-use Rattle.driver_passes.specs.Drafts.{setting_of}
+use Rattle.driver_passes.specs.inner.Drafts.{setting_of}
 use Rattle.driver_passes.proofs.FitLemmas.{fits_is, held_nothing}
 use Rattle.driver_passes.proofs.walk.add_fitting.Goals as goal
 

@@ -1,6 +1,6 @@
 use Rattle.std.proofs.Common.{◌≡◌, take}
 use Rattle.board_defs.specs.Passes.{second_walk}
-use Rattle.driver_passes.specs.Drafts.{IsDraft, setting_of}
+use Rattle.driver_passes.specs.inner.Drafts.{IsDraft, setting_of}
 use Rattle.driver_passes.proofs.walk.second_walk.Given as goal
 
 abbrev pub invariant-loop-place : goal.invariant-loop-place

@@ -1,5 +1,5 @@
 use Rattle.std.proofs.Common.{◌+◌, Bool, List, sym, subst, arith}
-use Rattle.fault_sim.specs.Suspects.{AreFlags}
+use Rattle.fault_sim.specs.inner.Suspects.{AreFlags}
 use Rattle.fault_sim.proofs.DifferLemmas.{flag_more}
 use Rattle.fault_sim.proofs.suspects.flag_net.Goals as goal
 

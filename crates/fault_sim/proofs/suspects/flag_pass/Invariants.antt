@@ -1,5 +1,5 @@
 use Rattle.std.proofs.Common.{◌≡◌, length}
-use Rattle.fault_sim.specs.Suspects.{AreFlags}
+use Rattle.fault_sim.specs.inner.Suspects.{AreFlags}
 use Rattle.fault_sim.proofs.suspects.flag_pass.Given as goal
 
 abbrev pub invariant-loop-n : goal.invariant-loop-n

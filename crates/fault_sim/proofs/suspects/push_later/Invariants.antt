@@ -1,6 +1,6 @@
 use Rattle.std.proofs.Common.{◌≡◌, ◌++◌, ◌-◌, ◌≤◌, suc}
 use Rattle.std.specs.List.{flat_map, range_with_len}
-use Rattle.fault_sim.specs.Suspects.{pair_suspects}
+use Rattle.fault_sim.specs.inner.Suspects.{pair_suspects}
 use Rattle.fault_sim.proofs.suspects.push_later.Given as goal
 
 abbrev pub invariant-loop-b : goal.invariant-loop-b

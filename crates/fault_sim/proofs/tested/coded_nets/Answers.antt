@@ -1,7 +1,7 @@
 use Rattle.std.proofs.Common.{◌++◌, ◌∷◌, [], ℕ, List, cond, ap, sym, ◌∙◌}
 use Rattle.std.specs.Prelude.{nat_lt}
 use Rattle.fault_sim.specs.Effects.{code_in}
-use Rattle.fault_sim.specs.Tested.{coded_nets}
+use Rattle.fault_sim.specs.inner.Tested.{coded_nets}
 use Rattle.fault_sim.proofs.RangeLemmas.{filter_more}
 use Rattle.fault_sim.proofs.tested.coded_nets.Goals as goal
 

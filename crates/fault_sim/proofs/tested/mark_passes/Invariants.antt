@@ -1,6 +1,6 @@
 use Rattle.std.proofs.Common.{◌≡◌, take}
 use Rattle.std.specs.Prelude.{fold}
-use Rattle.fault_sim.specs.Tested.{marked_in}
+use Rattle.fault_sim.specs.inner.Tested.{marked_in}
 use Rattle.fault_sim.proofs.tested.mark_passes.Given as goal
 
 abbrev pub invariant-loop-pass : goal.invariant-loop-pass

@@ -1,6 +1,6 @@
 use Rattle.std.proofs.Common.{◌++◌, Bool, List, ap, sym, ◌∙◌, append_assoc, get_or, false}
 use Rattle.board_defs.specs.declared.board.PinRef.{PinRef}
-use Rattle.fault_sim.specs.Tested.{flagged_before, pin_where}
+use Rattle.fault_sim.specs.inner.Tested.{flagged_before, pin_where}
 use Rattle.fault_sim.proofs.RangeLemmas.{map_filter_more}
 use Rattle.fault_sim.proofs.tested.push_flagged.Goals as goal
 

@@ -1,5 +1,5 @@
 use Rattle.std.proofs.Common.{◌≡◌, ◌++◌}
-use Rattle.fault_sim.specs.Tested.{flagged_before}
+use Rattle.fault_sim.specs.inner.Tested.{flagged_before}
 use Rattle.fault_sim.proofs.tested.push_flagged.Given as goal
 
 abbrev pub invariant-loop-place : goal.invariant-loop-place

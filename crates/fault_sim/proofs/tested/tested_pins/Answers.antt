@@ -1,6 +1,6 @@
 use Rattle.std.proofs.Common.{◌++◌, List, ap, sym, ◌∙◌, arith}
 use Rattle.board_defs.specs.declared.board.PinRef.{PinRef}
-use Rattle.fault_sim.specs.Tested.{net_pins}
+use Rattle.fault_sim.specs.inner.Tested.{net_pins}
 use Rattle.fault_sim.proofs.RangeLemmas.{flat_more}
 use Rattle.fault_sim.proofs.tested.tested_pins.Goals as goal
 

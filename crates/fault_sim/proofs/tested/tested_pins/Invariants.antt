@@ -1,5 +1,5 @@
 use Rattle.std.proofs.Common.{◌≡◌}
-use Rattle.fault_sim.specs.Tested.{all_pins}
+use Rattle.fault_sim.specs.inner.Tested.{all_pins}
 use Rattle.fault_sim.proofs.tested.tested_pins.Given as goal
 
 abbrev pub invariant-loop-net : goal.invariant-loop-net

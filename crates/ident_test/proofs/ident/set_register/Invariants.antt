@@ -1,7 +1,7 @@
 use Rattle.std.proofs.Common.{◌≡◌, ◌+◌, length, map, take}
 use Rattle.tap_defs.specs.chain.Scan.{tdo_bits, mask_bits}
 use Rattle.ident_test.specs.Patterns.{symbol_bit}
-use Rattle.ident_test.specs.Rows.{placed}
+use Rattle.ident_test.specs.inner.Rows.{placed}
 use Rattle.ident_test.proofs.ident.set_register.Given as goal
 
 abbrev pub invariant-loop-symbol : goal.invariant-loop-symbol

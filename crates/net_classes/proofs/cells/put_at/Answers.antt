@@ -1,6 +1,6 @@
 use Rattle.std.proofs.Common.{arith, sym}
-use Rattle.net_classes.specs.Cells.{put}
-use Rattle.net_classes.specs.Rows.{update_at}
+use Rattle.net_classes.specs.inner.Cells.{put}
+use Rattle.net_classes.specs.inner.Rows.{update_at}
 use Rattle.net_classes.specs.Kept.{table}
 use Rattle.net_classes.proofs.RowLemmas.{set_row, length_table, update_past}
 use Rattle.net_classes.proofs.cells.put_at.Goals as goal

@@ -1,5 +1,5 @@
 use Rattle.std.proofs.Common.{arith, refl, sym}
-use Rattle.net_classes.specs.Cells.{put}
+use Rattle.net_classes.specs.inner.Cells.{put}
 use Rattle.net_classes.proofs.RowLemmas.{set_value, update_past}
 use Rattle.net_classes.proofs.cells.put_in.Goals as goal
 

@@ -1,8 +1,8 @@
 use Rattle.std.proofs.Common.{map, length, refl, ◌∙◌, ap, subst}
 use Rattle.net_classes.specs.declared.classes.NetClass.{NetClass}
-use Rattle.net_classes.specs.Groups.{AreGroups}
+use Rattle.net_classes.specs.inner.Groups.{AreGroups}
 use Rattle.net_classes.specs.Kept.{table}
-use Rattle.net_classes.specs.MadeKeys.{net_key}
+use Rattle.net_classes.specs.inner.MadeKeys.{net_key}
 use Rattle.net_classes.proofs.KeyLemmas.{keys_are}
 use Rattle.net_classes.proofs.classes.keys_of.Goals as goal
 

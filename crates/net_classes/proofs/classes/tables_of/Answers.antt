@@ -1,8 +1,8 @@
 use Rattle.std.proofs.Common.{◌≡◌, Bool, true, false, List, map, sym, ◌∙◌, ap, subst}
 use Rattle.net_classes.specs.Kept.{table}
-use Rattle.net_classes.specs.Facts.{net_facts_of}
-use Rattle.net_classes.specs.Switching.{pulled_bits}
-use Rattle.net_classes.specs.Tables.{SaysPulled}
+use Rattle.net_classes.specs.inner.Facts.{net_facts_of}
+use Rattle.net_classes.specs.inner.Switching.{pulled_bits}
+use Rattle.net_classes.specs.inner.Tables.{SaysPulled}
 use Rattle.net_classes.proofs.Pulled.{says_pulled}
 use Rattle.net_classes.proofs.classes.tables_of.Goals as goal
 

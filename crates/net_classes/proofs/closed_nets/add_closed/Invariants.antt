@@ -1,6 +1,6 @@
 use Rattle.std.proofs.Common.{◌≡◌, ◌++◌, take}
 use Rattle.std.specs.Prelude.{filter}
-use Rattle.net_classes.specs.Closed.{closes, driven_in}
+use Rattle.net_classes.specs.inner.Closed.{closes, driven_in}
 use Rattle.net_classes.proofs.closed_nets.add_closed.Given as goal
 
 abbrev pub invariant-loop-net : goal.invariant-loop-net

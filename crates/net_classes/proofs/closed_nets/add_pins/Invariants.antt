@@ -3,7 +3,7 @@ use Rattle.std.specs.List.{list_any}
 use Rattle.board_defs.specs.declared.board.Ctl.{Ctl}
 use Rattle.board_defs.specs.declared.board.RawBoard.{RawBoard}
 use Rattle.board_defs.specs.Decided.{is_by}
-use Rattle.net_classes.specs.ControlSets.{IsSet}
+use Rattle.net_classes.specs.inner.ControlSets.{IsSet}
 use Rattle.net_classes.proofs.closed_nets.add_pins.Given as goal
 
 abbrev pub invariant-loop-pin : goal.invariant-loop-pin

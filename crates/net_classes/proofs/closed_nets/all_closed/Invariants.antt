@@ -1,5 +1,5 @@
 use Rattle.std.proofs.Common.{◌≡◌, take}
-use Rattle.net_classes.specs.Closed.{closed_in}
+use Rattle.net_classes.specs.inner.Closed.{closed_in}
 use Rattle.net_classes.proofs.closed_nets.all_closed.Given as goal
 
 abbrev pub invariant-loop-c : goal.invariant-loop-c

@@ -1,6 +1,6 @@
 use Rattle.std.proofs.Common.{take, arith}
 use Rattle.std.proofs.lemmas.List.{get_or_default}
-use Rattle.net_classes.specs.Closed.{drives_some}
+use Rattle.net_classes.specs.inner.Closed.{drives_some}
 use Rattle.net_classes.proofs.ClosedLemmas.{set_more}
 use Rattle.net_classes.proofs.closed_nets.gather.Goals as goal
 

@@ -1,7 +1,7 @@
 use Rattle.std.proofs.Common.{Bool, take}
 use Rattle.board_defs.specs.declared.board.Ctl.{Ctl}
-use Rattle.net_classes.specs.Closed.{drives_some}
-use Rattle.net_classes.specs.ControlSets.{IsSet}
+use Rattle.net_classes.specs.inner.Closed.{drives_some}
+use Rattle.net_classes.specs.inner.ControlSets.{IsSet}
 use Rattle.net_classes.proofs.closed_nets.gather.Given as goal
 
 abbrev pub invariant-loop-net : goal.invariant-loop-net

@@ -1,5 +1,5 @@
 use Rattle.std.proofs.Common.{◌≡◌, false, take}
-use Rattle.net_classes.specs.ControlSets.{put_all}
+use Rattle.net_classes.specs.inner.ControlSets.{put_all}
 use Rattle.net_classes.specs.Kept.{table}
 use Rattle.net_classes.proofs.control_sets.unmark.Given as goal
 

@@ -1,5 +1,5 @@
 use Rattle.std.proofs.Common.{arith, sym}
-use Rattle.net_classes.specs.Rows.{added, update_at}
+use Rattle.net_classes.specs.inner.Rows.{added, update_at}
 use Rattle.net_classes.specs.Kept.{table}
 use Rattle.net_classes.proofs.RowLemmas.{set_row, length_table, update_past, on_ok_map}
 use Rattle.net_classes.proofs.controls.add_at.Goals as goal

@@ -1,5 +1,5 @@
 use Rattle.std.proofs.Common.{arith, sym}
-use Rattle.net_classes.specs.Rows.{unsafe_too}
+use Rattle.net_classes.specs.inner.Rows.{unsafe_too}
 use Rattle.net_classes.proofs.RowLemmas.{set_is_update, update_past}
 use Rattle.net_classes.proofs.controls.block.Goals as goal
 

@@ -1,6 +1,6 @@
 use Rattle.std.proofs.Common.{◌≡◌}
 use Rattle.net_classes.specs.Kept.{table}
-use Rattle.net_classes.specs.Rows.{block_parts}
+use Rattle.net_classes.specs.inner.Rows.{block_parts}
 use Rattle.net_classes.proofs.controls.block_all.Given as goal
 
 abbrev pub invariant-loop-part : goal.invariant-loop-part

@@ -1,5 +1,5 @@
 use Rattle.std.proofs.Common.{arith, sym}
-use Rattle.net_classes.specs.Rows.{unsafe_too, update_at}
+use Rattle.net_classes.specs.inner.Rows.{unsafe_too, update_at}
 use Rattle.net_classes.specs.Kept.{table}
 use Rattle.net_classes.proofs.RowLemmas.{set_row, length_table, update_past}
 use Rattle.net_classes.proofs.controls.block_at.Goals as goal

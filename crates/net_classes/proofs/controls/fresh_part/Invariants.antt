@@ -1,5 +1,5 @@
 use Rattle.std.proofs.Common.{◌≡◌}
-use Rattle.net_classes.specs.Rows.{copies, fresh}
+use Rattle.net_classes.specs.inner.Rows.{copies, fresh}
 use Rattle.net_classes.proofs.controls.fresh_part.Given as goal
 
 abbrev pub invariant-loop-cell : goal.invariant-loop-cell

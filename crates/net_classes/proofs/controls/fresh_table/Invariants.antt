@@ -1,6 +1,6 @@
 use Rattle.std.proofs.Common.{◌≡◌, take}
 use Rattle.net_classes.specs.Kept.{table}
-use Rattle.net_classes.specs.Rows.{fresh_rows}
+use Rattle.net_classes.specs.inner.Rows.{fresh_rows}
 use Rattle.net_classes.proofs.controls.fresh_table.Given as goal
 
 abbrev pub invariant-loop-part : goal.invariant-loop-part

@@ -1,5 +1,5 @@
 use Rattle.std.proofs.Common.{arith, sym}
-use Rattle.net_classes.specs.Rows.{useful_too, update_at}
+use Rattle.net_classes.specs.inner.Rows.{useful_too, update_at}
 use Rattle.net_classes.specs.Kept.{table}
 use Rattle.net_classes.proofs.RowLemmas.{set_row, length_table, update_past}
 use Rattle.net_classes.proofs.controls.mark_at.Goals as goal

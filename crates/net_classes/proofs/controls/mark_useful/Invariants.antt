@@ -1,6 +1,6 @@
 use Rattle.std.proofs.Common.{◌≡◌, take}
 use Rattle.net_classes.specs.Kept.{table}
-use Rattle.net_classes.specs.Rows.{mark_nets}
+use Rattle.net_classes.specs.inner.Rows.{mark_nets}
 use Rattle.net_classes.proofs.controls.mark_useful.Given as goal
 
 abbrev pub invariant-loop-net : goal.invariant-loop-net

@@ -1,5 +1,5 @@
 use Rattle.std.proofs.Common.{◌≡◌, length, arith, refl, ◌∙◌, ap, sym}
-use Rattle.net_classes.specs.Rows.{note_nets, note_pins}
+use Rattle.net_classes.specs.inner.Rows.{note_nets, note_pins}
 use Rattle.net_classes.specs.Kept.{table}
 use Rattle.net_classes.proofs.RowLemmas.{note_nets_more}
 use Rattle.net_classes.proofs.controls.note_all.Goals as goal

@@ -1,6 +1,6 @@
 use Rattle.std.proofs.Common.{◌≡◌, take}
 use Rattle.net_classes.specs.Kept.{table}
-use Rattle.net_classes.specs.Rows.{note_pins}
+use Rattle.net_classes.specs.inner.Rows.{note_pins}
 use Rattle.net_classes.proofs.controls.note_net.Given as goal
 
 abbrev pub invariant-loop-pin : goal.invariant-loop-pin

@@ -1,5 +1,5 @@
 use Rattle.std.proofs.Common.{◌≡◌, map, take}
-use Rattle.net_classes.specs.Facts.{net_facts_in}
+use Rattle.net_classes.specs.inner.Facts.{net_facts_in}
 use Rattle.net_classes.proofs.facts.all_net_facts.Given as goal
 
 abbrev pub invariant-loop-net : goal.invariant-loop-net

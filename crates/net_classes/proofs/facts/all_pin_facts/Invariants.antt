@@ -1,5 +1,5 @@
 use Rattle.std.proofs.Common.{◌≡◌, map, take}
-use Rattle.net_classes.specs.Facts.{pin_facts_in}
+use Rattle.net_classes.specs.inner.Facts.{pin_facts_in}
 use Rattle.net_classes.proofs.facts.all_pin_facts.Given as goal
 
 abbrev pub invariant-loop-pin : goal.invariant-loop-pin

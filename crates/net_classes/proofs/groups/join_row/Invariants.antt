@@ -1,5 +1,5 @@
 use Rattle.std.proofs.Common.{◌≡◌, take, fold}
-use Rattle.net_classes.specs.Groups.{joined_all}
+use Rattle.net_classes.specs.inner.Groups.{joined_all}
 use Rattle.net_classes.proofs.groups.join_row.Given as goal
 
 abbrev pub invariant-loop-nets : goal.invariant-loop-nets

@@ -1,6 +1,6 @@
 use Rattle.std.proofs.Common.{◌≡◌, take}
 use Rattle.net_classes.specs.Kept.{table}
-use Rattle.net_classes.specs.Groups.{joined_rows}
+use Rattle.net_classes.specs.inner.Groups.{joined_rows}
 use Rattle.net_classes.proofs.groups.join_rows.Given as goal
 
 abbrev pub invariant-loop-row : goal.invariant-loop-row

@@ -1,5 +1,5 @@
 use Rattle.std.proofs.Common.{◌≡◌, take, fold}
-use Rattle.net_classes.specs.Groups.{joined}
+use Rattle.net_classes.specs.inner.Groups.{joined}
 use Rattle.net_classes.proofs.groups.join_to.Given as goal
 
 abbrev pub invariant-loop-net : goal.invariant-loop-net

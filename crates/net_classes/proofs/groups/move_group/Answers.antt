@@ -2,7 +2,7 @@ use Rattle.std.proofs.Common.{◌<◌, length, get_or, sym, ◌∙◌, ap, arith
 use Rattle.std.specs.Prelude.{slice_set}
 use Rattle.std.proofs.lemmas.List.Edits.{map_over_more}
 use Rattle.std.proofs.lemmas.Option.{slice_get-get_or, get_or_from_slice_get}
-use Rattle.net_classes.specs.Groups.{moved}
+use Rattle.net_classes.specs.inner.Groups.{moved}
 use Rattle.net_classes.proofs.groups.move_group.Goals as goal
 
 pub loop-group-preserved : goal.loop-group-preserved

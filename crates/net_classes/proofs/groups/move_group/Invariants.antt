@@ -1,5 +1,5 @@
 use Rattle.std.proofs.Common.{◌≡◌, ◌++◌, map, take, drop}
-use Rattle.net_classes.specs.Groups.{moved}
+use Rattle.net_classes.specs.inner.Groups.{moved}
 use Rattle.net_classes.proofs.groups.move_group.Given as goal
 
 abbrev pub invariant-loop-group : goal.invariant-loop-group

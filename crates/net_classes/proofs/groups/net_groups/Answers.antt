@@ -1,7 +1,7 @@
 use Rattle.std.proofs.Common.{◌≡◌, length, arith, sym, ◌∙◌, ap, subst}
 use Rattle.std.proofs.lemmas.List.{with_items_is}
 use Rattle.net_classes.specs.Kept.{table}
-use Rattle.net_classes.specs.Groups.{AreGroups, joined_rows}
+use Rattle.net_classes.specs.inner.Groups.{AreGroups, joined_rows}
 use Rattle.net_classes.proofs.GroupLemmas.{groups_are}
 use Rattle.net_classes.proofs.groups.net_groups.Goals as goal
 

@@ -1,7 +1,7 @@
 use Rattle.std.proofs.Common.{◌≡◌, false, sym, ap, ◌∙◌, subst, map}
 use Rattle.std.specs.List.{list_any}
 use Rattle.net_classes.specs.PairKeys.{ArePairKeys}
-use Rattle.net_classes.specs.LoneGroups.{AreLone, freed, is_unclear}
+use Rattle.net_classes.specs.inner.LoneGroups.{AreLone, freed, is_unclear}
 use Rattle.net_classes.proofs.LoneLemmas.{freed_are}
 use Rattle.net_classes.proofs.lone_groups.settled_keys.Goals as goal
 

@@ -1,6 +1,6 @@
 use Rattle.std.proofs.Common.{◌≡◌, map, take}
 use Rattle.net_classes.specs.Kept.{table}
-use Rattle.net_classes.specs.MadeKeys.{net_key}
+use Rattle.net_classes.specs.inner.MadeKeys.{net_key}
 use Rattle.net_classes.proofs.pair_keys.pair_keys.Given as goal
 
 abbrev pub invariant-loop-net : goal.invariant-loop-net

@@ -1,6 +1,6 @@
 use Rattle.std.proofs.Common.{◌≡◌, not, take}
 use Rattle.std.specs.Prelude.{filter}
-use Rattle.net_classes.specs.PairRows.{owns_at}
+use Rattle.net_classes.specs.inner.PairRows.{owns_at}
 use Rattle.net_classes.proofs.pair_rows.failing_nets.Given as goal
 
 abbrev pub invariant-loop-net : goal.invariant-loop-net

@@ -1,8 +1,8 @@
 use Rattle.std.proofs.Common.{take}
 use Rattle.board_defs.specs.declared.board.Ctl.{Ctl}
 use Rattle.board_defs.proofs.Members.{Has}
-use Rattle.net_classes.specs.Closed.{AreClosedNets}
-use Rattle.net_classes.specs.PairRows.{HasCovered, IsRowOf}
+use Rattle.net_classes.specs.inner.Closed.{AreClosedNets}
+use Rattle.net_classes.specs.inner.PairRows.{HasCovered, IsRowOf}
 use Rattle.net_classes.proofs.pair_rows.pair_rows.Given as goal
 
 abbrev pub invariant-loop-c : goal.invariant-loop-c

@@ -1,5 +1,5 @@
 use Rattle.std.proofs.Common.{◌≡◌, take}
-use Rattle.net_classes.specs.Shared.{flags_of}
+use Rattle.net_classes.specs.inner.Shared.{flags_of}
 use Rattle.net_classes.proofs.shared.contended_nets.Given as goal
 
 abbrev pub invariant-loop-net : goal.invariant-loop-net

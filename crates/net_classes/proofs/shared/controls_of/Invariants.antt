@@ -1,5 +1,5 @@
 use Rattle.std.proofs.Common.{◌≡◌, take}
-use Rattle.net_classes.specs.Shared.{controls_in}
+use Rattle.net_classes.specs.inner.Shared.{controls_in}
 use Rattle.net_classes.proofs.shared.controls_of.Given as goal
 
 abbrev pub invariant-loop-pin : goal.invariant-loop-pin

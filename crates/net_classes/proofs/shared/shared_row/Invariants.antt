@@ -1,5 +1,5 @@
 use Rattle.std.proofs.Common.{◌≡◌, take, map}
-use Rattle.net_classes.specs.Shared.{shared_in}
+use Rattle.net_classes.specs.inner.Shared.{shared_in}
 use Rattle.net_classes.proofs.shared.shared_row.Given as goal
 
 abbrev pub invariant-loop-class : goal.invariant-loop-class

@@ -1,6 +1,6 @@
 use Rattle.std.proofs.Common.{◌≡◌, take, map}
 use Rattle.net_classes.specs.Kept.{table}
-use Rattle.net_classes.specs.Shared.{shared_in}
+use Rattle.net_classes.specs.inner.Shared.{shared_in}
 use Rattle.net_classes.proofs.shared.shared_table.Given as goal
 
 abbrev pub invariant-loop-row : goal.invariant-loop-row

@@ -1,5 +1,5 @@
 use Rattle.std.proofs.Common.{◌≡◌, false}
-use Rattle.net_classes.specs.Rows.{copies}
+use Rattle.net_classes.specs.inner.Rows.{copies}
 use Rattle.net_classes.proofs.switching.blank_row.Given as goal
 
 abbrev pub invariant-loop-bit : goal.invariant-loop-bit

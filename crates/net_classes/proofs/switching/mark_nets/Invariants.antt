@@ -1,6 +1,6 @@
 use Rattle.std.proofs.Common.{◌≡◌, take, fold}
 use Rattle.net_classes.specs.Kept.{table}
-use Rattle.net_classes.specs.Switching.{mark_pulled}
+use Rattle.net_classes.specs.inner.Switching.{mark_pulled}
 use Rattle.net_classes.proofs.switching.mark_nets.Given as goal
 
 abbrev pub invariant-loop-net : goal.invariant-loop-net

@@ -1,6 +1,6 @@
 use Rattle.std.proofs.Common.{◌≡◌, take}
 use Rattle.net_classes.specs.Kept.{table}
-use Rattle.net_classes.specs.Switching.{mark_pins}
+use Rattle.net_classes.specs.inner.Switching.{mark_pins}
 use Rattle.net_classes.proofs.switching.mark_pins.Given as goal
 
 abbrev pub invariant-loop-pin : goal.invariant-loop-pin

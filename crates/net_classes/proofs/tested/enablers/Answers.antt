@@ -1,7 +1,7 @@
 use Rattle.std.proofs.Common.{◌≡◌, length, arith, ◌∙◌, ap}
 use Rattle.net_classes.specs.Kept.{table}
-use Rattle.net_classes.specs.Found.{found_below}
-use Rattle.net_classes.specs.Answers.{enables_at_place}
+use Rattle.net_classes.specs.inner.Found.{found_below}
+use Rattle.net_classes.specs.inner.Answers.{enables_at_place}
 use Rattle.net_classes.proofs.FoundLemmas.{found_more}
 use Rattle.net_classes.proofs.tested.enablers.Goals as goal
 

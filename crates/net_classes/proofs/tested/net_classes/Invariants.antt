@@ -1,6 +1,6 @@
 use Rattle.std.proofs.Common.{◌≡◌, map, take}
 use Rattle.net_classes.specs.Kept.{table}
-use Rattle.net_classes.specs.Answers.{class_in}
+use Rattle.net_classes.specs.inner.Answers.{class_in}
 use Rattle.net_classes.proofs.tested.net_classes.Given as goal
 
 abbrev pub invariant-loop-net : goal.invariant-loop-net

@@ -2,7 +2,7 @@ use Rattle.std.proofs.Common.{◌++◌, ◌∷◌, [], map, arith, sym, ◌∙�
 use Rattle.std.specs.List.{range_with_len}
 use Rattle.std.proofs.lemmas.List.FromFn.{map-range_with_len_more}
 use Rattle.net_classes.specs.Kept.{table}
-use Rattle.net_classes.specs.Answers.{pin_class_in}
+use Rattle.net_classes.specs.inner.Answers.{pin_class_in}
 use Rattle.net_classes.proofs.tested.pin_classes.Goals as goal
 
 pub loop-place-preserved : goal.loop-place-preserved

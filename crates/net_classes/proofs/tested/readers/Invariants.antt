@@ -1,6 +1,6 @@
 use Rattle.std.proofs.Common.{◌≡◌}
-use Rattle.net_classes.specs.Found.{found_below}
-use Rattle.net_classes.specs.Answers.{reads_at}
+use Rattle.net_classes.specs.inner.Found.{found_below}
+use Rattle.net_classes.specs.inner.Answers.{reads_at}
 use Rattle.net_classes.proofs.tested.readers.Given as goal
 
 abbrev pub invariant-loop-place : goal.invariant-loop-place

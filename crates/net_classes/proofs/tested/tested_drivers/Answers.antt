@@ -2,7 +2,7 @@ use Rattle.std.proofs.Common.{◌++◌, [], sym, ◌∙◌, ap}
 use Rattle.std.specs.Prelude.{filter_map}
 use Rattle.std.specs.List.{range_with_len, cons_option}
 use Rattle.net_classes.specs.Kept.{table}
-use Rattle.net_classes.specs.Answers.{tested_drive_in}
+use Rattle.net_classes.specs.inner.Answers.{tested_drive_in}
 use Rattle.net_classes.proofs.Lists.{filter_map_more}
 use Rattle.net_classes.proofs.tested.tested_drivers.Goals as goal
 

@@ -3,7 +3,7 @@ use Rattle.std.specs.Prelude.{filter}
 use Rattle.std.specs.List.{range_with_len}
 use Rattle.board_defs.specs.Pins.{described, cell_count}
 use Rattle.net_classes.specs.Kept.{table}
-use Rattle.net_classes.specs.Answers.{useful_in}
+use Rattle.net_classes.specs.inner.Answers.{useful_in}
 use Rattle.net_classes.proofs.UsefulLemmas.{cell_in, cells_are, cell_more}
 use Rattle.net_classes.proofs.useful.add_part.Goals as goal
 

@@ -2,7 +2,7 @@ use Rattle.std.proofs.Common.{◌≡◌, ◌++◌, map}
 use Rattle.std.specs.Prelude.{filter}
 use Rattle.std.specs.List.{range_with_len}
 use Rattle.net_classes.specs.Kept.{table}
-use Rattle.net_classes.specs.Answers.{useful_in}
+use Rattle.net_classes.specs.inner.Answers.{useful_in}
 use Rattle.net_classes.proofs.UsefulLemmas.{cell_in}
 use Rattle.net_classes.proofs.useful.add_part.Given as goal
 

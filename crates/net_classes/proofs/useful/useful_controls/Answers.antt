@@ -2,7 +2,7 @@ use Rattle.std.proofs.Common.{◌≡◌, ◌<◌, ◌≤◌, ◌++◌, get_or, l
 use Rattle.std.specs.Prelude.{filter}
 use Rattle.board_defs.specs.Passes.{cells_of}
 use Rattle.net_classes.specs.Kept.{table}
-use Rattle.net_classes.specs.Answers.{useful_in}
+use Rattle.net_classes.specs.inner.Answers.{useful_in}
 use Rattle.net_classes.proofs.UsefulLemmas.{cells_more, cells_whole}
 use Rattle.net_classes.proofs.useful.useful_controls.Goals as goal
 

@@ -1,7 +1,7 @@
 use Rattle.std.proofs.Common.{◌≡◌}
 use Rattle.std.specs.Prelude.{filter}
 use Rattle.net_classes.specs.Kept.{table}
-use Rattle.net_classes.specs.Answers.{useful_in}
+use Rattle.net_classes.specs.inner.Answers.{useful_in}
 use Rattle.net_classes.proofs.UsefulLemmas.{cells_upto}
 use Rattle.net_classes.proofs.useful.useful_controls.Given as goal
 

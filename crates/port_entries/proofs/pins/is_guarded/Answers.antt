@@ -2,7 +2,7 @@ use Rattle.std.proofs.Common.{Bool, ◌||◌, List, sym, ap, ◌∙◌}
 use Rattle.std.specs.List.{list_any}
 use Rattle.board_defs.specs.declared.board.NetPin.{NetPin}
 use Rattle.board_defs.specs.Pins.{guards}
-use Rattle.port_entries.specs.Rows.{guards_in}
+use Rattle.port_entries.specs.inner.Rows.{guards_in}
 use Rattle.port_entries.proofs.EntryLemmas.{any_guards}
 use Rattle.port_entries.proofs.pins.is_guarded.Goals as goal
 

@@ -1,5 +1,5 @@
 use Rattle.std.proofs.Common.{◌≡◌, take}
-use Rattle.port_entries.specs.Rows.{all_noted}
+use Rattle.port_entries.specs.inner.Rows.{all_noted}
 use Rattle.port_entries.proofs.table.note_cells.Given as goal
 
 abbrev pub invariant-loop-cell : goal.invariant-loop-cell

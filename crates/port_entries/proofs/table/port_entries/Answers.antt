@@ -1,7 +1,7 @@
 use Rattle.std.proofs.Common.{List, ap, ◌∙◌}
 use Rattle.board_defs.specs.declared.device.Cell.{Cell}
 use Rattle.port_entries.specs.Entries.{entries_at}
-use Rattle.port_entries.specs.Rows.{entry_rows}
+use Rattle.port_entries.specs.inner.Rows.{entry_rows}
 use Rattle.port_entries.proofs.EntryLemmas.{are_entries}
 use Rattle.port_entries.proofs.table.port_entries.Goals as goal
 

@@ -5,9 +5,9 @@ use Rattle.scan_planner.specs.declared.observers.Observer.{Observer}
 use Rattle.scan_planner.specs.declared.tables.DriverCell.{DriverCell}
 use Rattle.scan_planner.specs.declared.tables.PassCells.{PassCells}
 use Rattle.scan_planner.specs.declared.tables.PassTables.{PassTables}
-use Rattle.scan_planner.specs.Laid.{quiet_bits}
-use Rattle.scan_planner.specs.Building.{observers, table_of, pass_cells_of}
-use Rattle.scan_planner.specs.Steady.{steady_cells, moving, ArePassTables}
+use Rattle.scan_planner.specs.inner.Laid.{quiet_bits}
+use Rattle.scan_planner.specs.inner.Building.{observers, table_of, pass_cells_of}
+use Rattle.scan_planner.specs.inner.Steady.{steady_cells, moving, ArePassTables}
 use Rattle.scan_planner.proofs.LaidLemmas.{length-laid}
 use Rattle.scan_planner.proofs.PlanLemmas.{control_cells}
 use Rattle.scan_planner.proofs.SteadyLemmas.{tables_are}

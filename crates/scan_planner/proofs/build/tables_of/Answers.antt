@@ -7,11 +7,11 @@ use Rattle.tap_defs.specs.chain.ShiftRegister.{filled}
 use Rattle.scan_planner.specs.declared.tables.DriverCell.{DriverCell}
 use Rattle.scan_planner.specs.declared.tables.PassCells.{PassCells}
 use Rattle.scan_planner.specs.declared.tables.ReaderCell.{ReaderCell}
-use Rattle.scan_planner.specs.Laid.{quiet_bits}
+use Rattle.scan_planner.specs.inner.Laid.{quiet_bits}
 use Rattle.scan_planner.specs.Building.{readers_of}
 use Rattle.scan_planner.specs.Tables.{common_rows}
-use Rattle.scan_planner.specs.Codes.{seen_in}
-use Rattle.scan_planner.specs.Steady.{ArePassTables}
+use Rattle.scan_planner.specs.inner.Codes.{seen_in}
+use Rattle.scan_planner.specs.inner.Steady.{ArePassTables}
 use Rattle.scan_planner.proofs.LaidLemmas.{length-laid}
 use Rattle.scan_planner.proofs.FillLemmas.{all_has, readers_below}
 use Rattle.scan_planner.proofs.ReaderLemmas.{ReadersOf}

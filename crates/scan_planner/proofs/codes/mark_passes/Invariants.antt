@@ -1,5 +1,5 @@
 use Rattle.std.proofs.Common.{◌≡◌, take, fold}
-use Rattle.scan_planner.specs.Codes.{marked}
+use Rattle.scan_planner.specs.inner.Codes.{marked}
 use Rattle.scan_planner.proofs.codes.mark_passes.Given as goal
 
 abbrev pub invariant-loop-cells : goal.invariant-loop-cells

@@ -1,5 +1,5 @@
 use Rattle.std.proofs.Common.{◌≡◌, take}
-use Rattle.scan_planner.specs.Building.{always_on}
+use Rattle.scan_planner.specs.inner.Building.{always_on}
 use Rattle.scan_planner.proofs.controls.always_on.Given as goal
 
 abbrev pub invariant-loop-observer : goal.invariant-loop-observer

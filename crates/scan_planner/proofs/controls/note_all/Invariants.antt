@@ -1,5 +1,5 @@
 use Rattle.std.proofs.Common.{◌≡◌, take}
-use Rattle.scan_planner.specs.Building.{all_noted}
+use Rattle.scan_planner.specs.inner.Building.{all_noted}
 use Rattle.scan_planner.proofs.controls.note_all.Given as goal
 
 abbrev pub invariant-loop-observer : goal.invariant-loop-observer

@@ -1,7 +1,7 @@
 use Rattle.std.proofs.Common.{◌-◌, ◌≤◌, ◌++◌, List, Bool, false, length, get_or, is_some, unwrap_or, ap, sym, ◌∙◌, subst, arith}
 use Rattle.board_defs.specs.declared.board.Part.{Part}
 use Rattle.board_defs.specs.Pins.{instruction_length}
-use Rattle.scan_planner.specs.Codes.{code_for, captured_bits, compared_bits}
+use Rattle.scan_planner.specs.inner.Codes.{code_for, captured_bits, compared_bits}
 use Rattle.scan_planner.proofs.CodeLemmas.{few_left, step_tdi, step_tdo, step_mask}
 use Rattle.scan_planner.proofs.instructions.rows_of.Goals as goal
 

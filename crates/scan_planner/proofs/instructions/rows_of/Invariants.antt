@@ -1,7 +1,7 @@
 use Rattle.std.proofs.Common.{◌≡◌, map, drop}
 use Rattle.tap_defs.specs.chain.Scan.{tdi_bits, tdo_bits, mask_bits}
 use Rattle.tap_defs.specs.chain.Codes.{instructs}
-use Rattle.scan_planner.specs.Codes.{code_for}
+use Rattle.scan_planner.specs.inner.Codes.{code_for}
 use Rattle.scan_planner.proofs.instructions.rows_of.Given as goal
 
 abbrev pub invariant-loop-i : goal.invariant-loop-i

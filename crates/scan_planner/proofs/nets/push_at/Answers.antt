@@ -7,7 +7,7 @@ use Rattle.board_defs.specs.Pins.{device_at, bit_at, cell_count}
 use Rattle.scan_planner.specs.declared.tables.ReaderCell.{ReaderCell}
 use Rattle.scan_planner.specs.Building.{reader_of, readers_at}
 use Rattle.port_entries.specs.Entries.{entries_at}
-use Rattle.scan_planner.specs.Entries.{receives_by}
+use Rattle.scan_planner.specs.inner.Entries.{receives_by}
 use Rattle.scan_planner.proofs.EntryLemmas.{entries_below, readers_is}
 use Rattle.scan_planner.proofs.nets.push_at.Goals as goal
 

@@ -3,7 +3,8 @@ use Rattle.std.proofs.lemmas.List.{take_more, map-append}
 use Rattle.board_defs.specs.declared.board.Net.{Net}
 use Rattle.scan_planner.specs.declared.observers.Observer.{Observer}
 use Rattle.scan_planner.specs.declared.tables.ReaderCell.{ReaderCell}
-use Rattle.scan_planner.specs.Building.{observers_at, readers_of}
+use Rattle.scan_planner.specs.Building.{readers_of}
+use Rattle.scan_planner.specs.inner.Building.{observers_at}
 use Rattle.scan_planner.proofs.BuildLemmas.{gathered-more}
 use Rattle.scan_planner.proofs.observers.cells_of_nets.Goals as goal
 

@@ -1,5 +1,6 @@
 use Rattle.std.proofs.Common.{◌≡◌, map, take}
-use Rattle.scan_planner.specs.Building.{observers, readers_of}
+use Rattle.scan_planner.specs.Building.{readers_of}
+use Rattle.scan_planner.specs.inner.Building.{observers}
 use Rattle.scan_planner.proofs.observers.cells_of_nets.Given as goal
 
 abbrev pub invariant-loop-n : goal.invariant-loop-n

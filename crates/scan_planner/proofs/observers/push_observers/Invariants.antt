@@ -1,5 +1,5 @@
 use Rattle.std.proofs.Common.{◌≡◌, ◌++◌, take}
-use Rattle.scan_planner.specs.Building.{observers_of}
+use Rattle.scan_planner.specs.inner.Building.{observers_of}
 use Rattle.scan_planner.proofs.observers.push_observers.Given as goal
 
 abbrev pub invariant-loop-driver : goal.invariant-loop-driver

@@ -1,5 +1,5 @@
 use Rattle.std.proofs.Common.{◌≡◌, map, take}
-use Rattle.scan_planner.specs.Building.{pass_cells_of}
+use Rattle.scan_planner.specs.inner.Building.{pass_cells_of}
 use Rattle.scan_planner.proofs.passes.all_cells.Given as goal
 
 abbrev pub invariant-loop-pass : goal.invariant-loop-pass

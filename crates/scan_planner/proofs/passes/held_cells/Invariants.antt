@@ -1,5 +1,5 @@
 use Rattle.std.proofs.Common.{◌≡◌, map, take}
-use Rattle.scan_planner.specs.Building.{held_cell}
+use Rattle.scan_planner.specs.inner.Building.{held_cell}
 use Rattle.scan_planner.proofs.passes.held_cells.Given as goal
 
 abbrev pub invariant-loop-c : goal.invariant-loop-c

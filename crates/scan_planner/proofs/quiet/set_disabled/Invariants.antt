@@ -1,5 +1,5 @@
 use Rattle.std.proofs.Common.{◌≡◌, take}
-use Rattle.scan_planner.specs.QuietBits.{disable_value_in, set_by}
+use Rattle.scan_planner.specs.inner.QuietBits.{disable_value_in, set_by}
 use Rattle.scan_planner.proofs.quiet.set_disabled.Given as goal
 
 abbrev pub invariant-loop-entry : goal.invariant-loop-entry

@@ -1,5 +1,5 @@
 use Rattle.std.proofs.Common.{◌≡◌, take}
-use Rattle.scan_planner.specs.Steady.{marked_held}
+use Rattle.scan_planner.specs.inner.Steady.{marked_held}
 use Rattle.scan_planner.proofs.uses.mark_held.Given as goal
 
 abbrev pub invariant-loop-cell : goal.invariant-loop-cell

@@ -1,5 +1,5 @@
 use Rattle.std.proofs.Common.{◌≡◌, take}
-use Rattle.scan_planner.specs.Steady.{moving}
+use Rattle.scan_planner.specs.inner.Steady.{moving}
 use Rattle.scan_planner.proofs.uses.moving.Given as goal
 
 abbrev pub invariant-loop-observer : goal.invariant-loop-observer

@@ -3,8 +3,8 @@ use Rattle.std.proofs.lemmas.List.Sums.{fold_more}
 use Rattle.board_defs.specs.declared.board.Ctl.{Ctl}
 use Rattle.board_defs.proofs.Members.{Has}
 use Rattle.scan_planner.specs.declared.tables.HeldCell.{HeldCell}
-use Rattle.scan_planner.specs.Building.{held_cell}
-use Rattle.scan_planner.specs.Steady.{marked_held, all_run, held_by, AreRuns}
+use Rattle.scan_planner.specs.inner.Building.{held_cell}
+use Rattle.scan_planner.specs.inner.Steady.{marked_held, all_run, held_by, AreRuns}
 use Rattle.scan_planner.proofs.SteadyLemmas.{runs_go_on, held_at}
 use Rattle.scan_planner.proofs.uses.note_passes.Goals as goal
 

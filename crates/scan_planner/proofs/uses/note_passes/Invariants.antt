@@ -1,5 +1,5 @@
 use Rattle.std.proofs.Common.{◌≡◌, take}
-use Rattle.scan_planner.specs.Steady.{all_marked, held_by, AreRuns}
+use Rattle.scan_planner.specs.inner.Steady.{all_marked, held_by, AreRuns}
 use Rattle.scan_planner.proofs.uses.note_passes.Given as goal
 
 abbrev pub invariant-loop-k : goal.invariant-loop-k

@@ -1,5 +1,5 @@
 use Rattle.std.proofs.Common.{◌≡◌, take}
-use Rattle.scan_planner.specs.Steady.{all_run}
+use Rattle.scan_planner.specs.inner.Steady.{all_run}
 use Rattle.scan_planner.proofs.uses.run_all.Given as goal
 
 abbrev pub invariant-loop-cell : goal.invariant-loop-cell

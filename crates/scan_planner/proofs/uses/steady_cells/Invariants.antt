@@ -1,5 +1,5 @@
 use Rattle.std.proofs.Common.{◌≡◌, take}
-use Rattle.scan_planner.specs.Steady.{steady_cells}
+use Rattle.scan_planner.specs.inner.Steady.{steady_cells}
 use Rattle.scan_planner.proofs.uses.steady_cells.Given as goal
 
 abbrev pub invariant-loop-observer : goal.invariant-loop-observer

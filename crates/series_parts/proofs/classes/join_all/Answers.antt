@@ -1,7 +1,7 @@
 -- The labels reflect one more edge at a time.
 use Rattle.std.proofs.Common.{◌≡◌, get_or, refl, arith}
 use Rattle.std.proofs.lemmas.Option.{slice_get-get_or}
-use Rattle.series_parts.specs.Roots.{merged}
+use Rattle.series_parts.specs.inner.Roots.{merged}
 use Rattle.series_parts.proofs.JoinedLemmas.{reflects_more, reflects_none}
 use Rattle.series_parts.proofs.classes.join_all.Goals as goal
 

@@ -1,5 +1,5 @@
 use Rattle.std.proofs.Common.{◌≡◌, ℕ, vec_len}
-use Rattle.series_parts.specs.Roots.{Reflects}
+use Rattle.series_parts.specs.inner.Roots.{Reflects}
 use Rattle.series_parts.proofs.RootLemmas.{AreLow}
 use Rattle.series_parts.proofs.classes.join_all.Given as goal
 

@@ -1,5 +1,5 @@
 use Rattle.std.proofs.Common.{◌≡◌, ◌<◌, ℕ, vec_len}
-use Rattle.series_parts.specs.Roots.{IsLabelling}
+use Rattle.series_parts.specs.inner.Roots.{IsLabelling}
 use Rattle.series_parts.proofs.RootLemmas.{AreLow}
 use Rattle.series_parts.proofs.classes.root.Given as goal
 

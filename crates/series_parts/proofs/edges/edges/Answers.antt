@@ -1,8 +1,8 @@
 -- The ends of the edges are lines.
 use Rattle.std.proofs.Common.{◌≡◌, ◌<◌, ◌++◌, length, ap, sym, subst, ◌∙◌}
 use Rattle.std.specs.Prelude.{All}
-use Rattle.series_parts.specs.Labels.{Edges}
-use Rattle.series_parts.specs.Edges.{edges, link_edges, name_edges}
+use Rattle.series_parts.specs.inner.Labels.{Edges}
+use Rattle.series_parts.specs.inner.Edges.{edges, link_edges, name_edges}
 use Rattle.series_parts.proofs.EdgeLemmas.{all_edges_within}
 use Rattle.series_parts.proofs.edges.edges.Goals as goal
 

@@ -1,6 +1,6 @@
 -- One more edge.
 use Rattle.std.proofs.Common.{◌≡◌, ◌<◌, ◌+◌, drop, length, refl, arith, sym, ◌∙◌, ap, ◌++◌}
-use Rattle.series_parts.specs.Edges.{name_edges, name_place}
+use Rattle.series_parts.specs.inner.Edges.{name_edges, name_place}
 use Rattle.std.specs.Prelude.{unwrap_or}
 use Rattle.series_parts.proofs.EdgeLemmas.{name_edges_step, at}
 use Rattle.series_parts.proofs.edges.name_edges.Goals as goal

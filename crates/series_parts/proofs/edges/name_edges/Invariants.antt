@@ -1,5 +1,5 @@
 use Rattle.std.proofs.Common.{◌≡◌, ◌++◌, drop}
-use Rattle.series_parts.specs.Edges.{name_edges}
+use Rattle.series_parts.specs.inner.Edges.{name_edges}
 use Rattle.series_parts.proofs.edges.name_edges.Given as goal
 
 -- the edges so far, and then those of the names that are left

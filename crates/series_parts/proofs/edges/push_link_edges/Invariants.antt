@@ -1,5 +1,5 @@
 use Rattle.std.proofs.Common.{◌≡◌, ◌++◌, drop}
-use Rattle.series_parts.specs.Edges.{link_edges}
+use Rattle.series_parts.specs.inner.Edges.{link_edges}
 use Rattle.series_parts.proofs.edges.push_link_edges.Given as goal
 
 -- the edges so far, and then those of the lines that are left

@@ -1,5 +1,5 @@
 use Rattle.std.proofs.Common.{◌≡◌, map, take}
-use Rattle.series_parts.specs.Edges.{renamed}
+use Rattle.series_parts.specs.inner.Edges.{renamed}
 use Rattle.series_parts.specs.Joining.{joined_net}
 use Rattle.series_parts.proofs.files.joined_nets.Given as goal
 

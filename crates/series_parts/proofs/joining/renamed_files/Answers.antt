@@ -1,6 +1,6 @@
 -- The lines have the new names.
 use Rattle.std.proofs.Common.{◌≡◌, map, ap, ◌∙◌, Bor, List, ℕ}
-use Rattle.series_parts.specs.Edges.{renamed}
+use Rattle.series_parts.specs.inner.Edges.{renamed}
 use Rattle.series_parts.specs.Joining.{joined_line, joined_net, joined_chain, joined_nets, joined_name, links}
 use Rattle.series_parts.proofs.EdgeLemmas.{renaming_is}
 use Rattle.series_parts.proofs.joining.renamed_files.Goals as goal

@@ -1,6 +1,6 @@
 -- The labels tell the new name of every net.
 use Rattle.std.proofs.Common.{◌≡◌, length, map, ap, sym, ◌∙◌, Bor, List, ℕ}
-use Rattle.series_parts.specs.Edges.{edges}
+use Rattle.series_parts.specs.inner.Edges.{edges}
 use Rattle.series_parts.proofs.PlaceLemmas.{if_ok_map}
 use Rattle.series_parts.proofs.EdgeLemmas.{at, new_names}
 use Rattle.series_parts.proofs.least.least_names.Goals as goal

@@ -1,5 +1,5 @@
 use Rattle.std.proofs.Common.{ap, ◌∙◌}
-use Rattle.svf_writer.specs.Chain.{marked}
+use Rattle.svf_writer.specs.inner.Chain.{marked}
 use Rattle.svf_writer.proofs.ChainLemmas.{mark_bits-tdi, mark_bits-tdo, mark_bits-mask}
 use Rattle.svf_writer.proofs.chain.fill_marks.Goals as goal
 

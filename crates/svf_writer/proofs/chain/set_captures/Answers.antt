@@ -1,6 +1,6 @@
 use Rattle.std.proofs.Common.{◌≡◌, ◌+◌, ◌-◌, ◌≤◌, ◌++◌, ◌∷◌, true, false, drop, get_or, length, replicate, set, sum, sym, ap, ◌∙◌, arith, length-set}
 use Rattle.tap_defs.specs.chain.Scan.{tdo_bits, mask_bits}
-use Rattle.svf_writer.specs.Chain.{bypass_bits}
+use Rattle.svf_writer.specs.inner.Chain.{bypass_bits}
 use Rattle.svf_writer.proofs.ChainLemmas.{tdo_step, mask_step, drop_before, sum_before, room_before}
 use Rattle.svf_writer.proofs.chain.set_captures.Goals as goal
 

@@ -1,6 +1,6 @@
 use Rattle.std.proofs.Common.{◌≡◌, ◌-◌, ◌++◌, false, drop, length, replicate, sum}
 use Rattle.tap_defs.specs.chain.Scan.{tdo_bits, mask_bits}
-use Rattle.svf_writer.specs.Chain.{bypass_bits}
+use Rattle.svf_writer.specs.inner.Chain.{bypass_bits}
 use Rattle.svf_writer.proofs.chain.set_captures.Given as goal
 
 abbrev pub invariant-loop-i : goal.invariant-loop-i

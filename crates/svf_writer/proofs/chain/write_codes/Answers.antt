@@ -1,6 +1,6 @@
 use Rattle.std.proofs.Common.{true, length, sym, ap, ◌∙◌, arith}
 use Rattle.std.specs.List.{list_any}
-use Rattle.svf_writer.specs.Chain.{bypass_bits}
+use Rattle.svf_writer.specs.inner.Chain.{bypass_bits}
 use Rattle.svf_writer.proofs.FieldLemmas.{puts_same}
 use Rattle.svf_writer.proofs.ScanLemmas.{masked_rows, scan_text-rows}
 use Rattle.svf_writer.proofs.ChainLemmas.{length-bypass_tdi, bypass_bits-compared, sum_some}

@@ -1,5 +1,5 @@
 use Rattle.std.proofs.Common.{false, length, ap, arith}
-use Rattle.svf_writer.specs.Chain.{mark_bits}
+use Rattle.svf_writer.specs.inner.Chain.{mark_bits}
 use Rattle.svf_writer.proofs.FieldLemmas.{puts_same}
 use Rattle.svf_writer.proofs.ScanLemmas.{masked_rows, scan_text-rows}
 use Rattle.svf_writer.proofs.ChainLemmas.{length-mark_bits}

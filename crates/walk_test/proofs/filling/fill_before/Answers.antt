@@ -1,5 +1,6 @@
 use Rattle.std.proofs.Common.{◌≡◌, ℕ, false, ap, ◌∙◌, replicate, arith}
-use Rattle.walk_test.specs.Tables.{tdo_of, mask_of, before_of}
+use Rattle.walk_test.specs.Tables.{mask_of}
+use Rattle.walk_test.specs.inner.Tables.{tdo_of, before_of}
 use Rattle.walk_test.proofs.FillLemmas.{first_tdo, first_mask}
 use Rattle.walk_test.proofs.filling.fill_before.Goals as goal
 

@@ -1,7 +1,8 @@
 use Rattle.std.proofs.Common.{◌≤◌, Bool, cond, length, sym, ap, ◌∙◌, arith}
 use Rattle.std.proofs.lemmas.Bool.{le-ltb}
 use Rattle.tap_defs.specs.board.TestRows.{quiet_row}
-use Rattle.walk_test.specs.Tables.{tdi_of, walk_row_of}
+use Rattle.walk_test.specs.Tables.{tdi_of}
+use Rattle.walk_test.specs.inner.Tables.{walk_row_of}
 use Rattle.walk_test.proofs.FillLemmas.{length-quiet}
 use Rattle.walk_test.proofs.filling.fill_now.Goals as goal
 

@@ -1,7 +1,7 @@
 use Rattle.std.proofs.Common.{ℕ, List, length, ap, sym, ◌∙◌, arith}
 use Rattle.std.specs.Prelude.{option_map}
 use Rattle.std.proofs.lemmas.List.{length-map}
-use Rattle.walk_test.specs.Reading.{label_of}
+use Rattle.walk_test.specs.inner.Reading.{label_of}
 use Rattle.walk_test.proofs.SetLemmas.{walked_at, nets_at, nets_in_order, all_within, first_within, ok_then, nothing_at, found_at, found_named}
 use Rattle.walk_test.proofs.grouping.groups.Goals as goal
 

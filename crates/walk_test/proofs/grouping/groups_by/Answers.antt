@@ -1,6 +1,6 @@
 use Rattle.std.proofs.Common.{◌++◌, ◌∷◌, [], ℕ, List, cond, length, nat_le, ap, sym, ◌∙◌}
 use Rattle.std.specs.List.{flat_map, range_with_len}
-use Rattle.walk_test.specs.Reading.{group_at}
+use Rattle.walk_test.specs.inner.Reading.{group_at}
 use Rattle.walk_test.proofs.LabelLemmas.{rise_members, groups_more}
 use Rattle.walk_test.proofs.grouping.groups_by.Goals as goal
 

@@ -1,6 +1,6 @@
 use Rattle.std.proofs.Common.{◌≡◌}
 use Rattle.std.specs.List.{flat_map, range_with_len}
-use Rattle.walk_test.specs.Reading.{group_at}
+use Rattle.walk_test.specs.inner.Reading.{group_at}
 use Rattle.walk_test.proofs.grouping.groups_by.Given as goal
 
 -- the groups of the labels so far

@@ -1,5 +1,5 @@
 use Rattle.std.proofs.Common.{◌≡◌, take}
-use Rattle.walk_test.specs.Reading.{members}
+use Rattle.walk_test.specs.inner.Reading.{members}
 use Rattle.walk_test.proofs.grouping.members.Given as goal
 
 abbrev pub invariant-loop-i : goal.invariant-loop-i

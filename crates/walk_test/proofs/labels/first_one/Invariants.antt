@@ -1,5 +1,5 @@
 use Rattle.std.proofs.Common.{◌≡◌, ◌<◌, ℕ, false}
-use Rattle.walk_test.specs.Reading.{bit_in}
+use Rattle.walk_test.specs.inner.Reading.{bit_in}
 use Rattle.walk_test.proofs.labels.first_one.Given as goal
 
 -- no 1 in the rows so far

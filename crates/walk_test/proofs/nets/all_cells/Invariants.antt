@@ -1,5 +1,5 @@
 use Rattle.std.proofs.Common.{◌≡◌, map, take}
-use Rattle.walk_test.specs.Tables.{cells_in}
+use Rattle.walk_test.specs.inner.Tables.{cells_in}
 use Rattle.walk_test.proofs.nets.all_cells.Given as goal
 
 abbrev pub invariant-loop-n : goal.invariant-loop-n

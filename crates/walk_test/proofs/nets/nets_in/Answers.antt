@@ -1,5 +1,5 @@
 use Rattle.std.proofs.Common.{◌++◌, ◌∷◌, [], ℕ, Bool, List, is_some, cond, ap, sym, ◌∙◌}
-use Rattle.walk_test.specs.Tables.{observer_in, nets_in}
+use Rattle.walk_test.specs.inner.Tables.{observer_in, nets_in}
 use Rattle.walk_test.proofs.NetLemmas.{kept_more}
 use Rattle.walk_test.proofs.nets.nets_in.Goals as goal
 

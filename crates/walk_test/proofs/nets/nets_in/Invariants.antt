@@ -1,5 +1,5 @@
 use Rattle.std.proofs.Common.{◌≡◌}
-use Rattle.walk_test.specs.Tables.{nets_in}
+use Rattle.walk_test.specs.inner.Tables.{nets_in}
 use Rattle.walk_test.proofs.nets.nets_in.Given as goal
 
 abbrev pub invariant-loop-n : goal.invariant-loop-n

@@ -1,5 +1,5 @@
 use Rattle.std.proofs.Common.{◌≡◌, take}
-use Rattle.walk_test.specs.Tables.{positions_beside}
+use Rattle.walk_test.specs.inner.Tables.{positions_beside}
 use Rattle.walk_test.proofs.nets.positions_beside.Given as goal
 
 abbrev pub invariant-loop-reader : goal.invariant-loop-reader

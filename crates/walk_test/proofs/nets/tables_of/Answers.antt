@@ -1,7 +1,7 @@
 use Rattle.std.proofs.Common.{ℕ, List, refl, ap, subst, ◌∙◌}
 use Rattle.std.specs.Prelude.{slice_get}
 use Rattle.walk_test.specs.declared.tables.NetCells.{NetCells}
-use Rattle.walk_test.specs.Tables.{cells_of, AreMade}
+use Rattle.walk_test.specs.inner.Tables.{cells_of, AreMade}
 use Rattle.walk_test.proofs.FillLemmas.{walk_made}
 use Rattle.walk_test.proofs.nets.tables_of.Goals as goal
 

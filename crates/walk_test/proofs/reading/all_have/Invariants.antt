@@ -1,7 +1,7 @@
 use Rattle.std.proofs.Common.{◌≡◌, drop}
 use Rattle.std.specs.List.{list_all}
 use Rattle.board_defs.specs.Pins.{is_same}
-use Rattle.walk_test.specs.Reading.{bit_in}
+use Rattle.walk_test.specs.inner.Reading.{bit_in}
 use Rattle.walk_test.proofs.reading.all_have.Given as goal
 
 -- what is left decides

@@ -1,5 +1,5 @@
 use Rattle.std.proofs.Common.{◌<◌, ℕ}
-use Rattle.walk_test.specs.Reading.{ShowsIn}
+use Rattle.walk_test.specs.inner.Reading.{ShowsIn}
 use Rattle.walk_test.proofs.reading.shows_all.Given as goal
 
 -- the rows so far show it

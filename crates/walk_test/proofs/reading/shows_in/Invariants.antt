@@ -1,7 +1,7 @@
 use Rattle.std.proofs.Common.{◌≡◌, ◌<◌, ℕ, true, Some}
 use Rattle.std.specs.Prelude.{slice_get}
 use Rattle.walk_test.specs.declared.tables.NetCells.{NetCells}
-use Rattle.walk_test.specs.Reading.{net_shows}
+use Rattle.walk_test.specs.inner.Reading.{net_shows}
 use Rattle.walk_test.proofs.reading.shows_in.Given as goal
 
 -- the nets so far show it

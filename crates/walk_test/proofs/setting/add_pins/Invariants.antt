@@ -1,5 +1,5 @@
 use Rattle.std.proofs.Common.{◌≡◌, take}
-use Rattle.walk_test.specs.Setting.{with_pins}
+use Rattle.walk_test.specs.inner.Setting.{with_pins}
 use Rattle.walk_test.proofs.setting.add_pins.Given as goal
 
 abbrev pub invariant-loop-pin : goal.invariant-loop-pin

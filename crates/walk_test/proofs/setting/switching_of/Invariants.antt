@@ -1,5 +1,5 @@
 use Rattle.std.proofs.Common.{◌≡◌, take}
-use Rattle.walk_test.specs.Setting.{all_switching}
+use Rattle.walk_test.specs.inner.Setting.{all_switching}
 use Rattle.walk_test.proofs.setting.switching_of.Given as goal
 
 abbrev pub invariant-loop-net : goal.invariant-loop-net

@@ -4,7 +4,7 @@ use Rattle.board_defs.specs.declared.board.Ctl.{Ctl}
 use Rattle.board_defs.specs.declared.board.Net.{Net}
 use Rattle.board_defs.specs.declared.board.RawBoard.{RawBoard}
 use Rattle.board_defs.specs.Settings.{holds, IsInControlOrder}
-use Rattle.walk_test.specs.Setting.{all_switching}
+use Rattle.walk_test.specs.inner.Setting.{all_switching}
 use Rattle.walk_test.proofs.SettingLemmas.{left_is, left_order}
 use Rattle.walk_test.proofs.setting.without_switching.Goals as goal
 

@@ -2,7 +2,7 @@ use Rattle.std.proofs.lemmas.Result.{err_from_is_err_and}
 use Rattle.grammars.proofs.Grammars.{turn_shrinks}
 use Rattle.grammars.proofs.Loops.{another, no_other}
 use Rattle.bsdl_parser.specs.Bsdl.{item}
-use Rattle.bsdl_parser.specs.Views.{items_of}
+use Rattle.bsdl_parser.specs.inner.Views.{items_of}
 use Rattle.bsdl_parser.proofs.Decided.{item_takes}
 use Rattle.bsdl_parser.proofs.Stopped.{stopped}
 use Rattle.bsdl_parser.proofs.cursor.Cursor.items.Goals as goal

@@ -1,7 +1,7 @@
 use Rattle.std.proofs.Common.{◌≡◌, length}
 use Rattle.grammars.specs.Grammar.{turns, reader_of}
 use Rattle.bsdl_parser.specs.Bsdl.{item, no_items}
-use Rattle.bsdl_parser.specs.Views.{items_of}
+use Rattle.bsdl_parser.specs.inner.Views.{items_of}
 use Rattle.bsdl_parser.proofs.cursor.Cursor.items.Given as goal
 
 -- what is left gives what the whole gives

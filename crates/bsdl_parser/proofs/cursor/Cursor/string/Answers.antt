@@ -1,7 +1,7 @@
 use Rattle.std.proofs.Common.{map, sym, ◌∙◌, ap}
 use Rattle.std.proofs.lemmas.Result.{err_from_is_err_and}
 use Rattle.std.specs.Char.{to_ascii_uppercase}
-use Rattle.grammars.specs.Reader.{found}
+use Rattle.grammars.specs.inner.Reader.{found}
 use Rattle.grammars.specs.Grammar.{turns, reader_of}
 use Rattle.grammars.proofs.Grammars.{turn_shrinks}
 use Rattle.grammars.proofs.Loops.{another, no_other}

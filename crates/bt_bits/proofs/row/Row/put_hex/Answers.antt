@@ -1,6 +1,6 @@
 use Rattle.std.proofs.Common.{◌∙◌, ◌++◌, ◌<◌, ap, sym, arith, length, take, drop}
 use Rattle.std.proofs.lemmas.List.Elements.{All-same}
-use Rattle.bt_bits.specs.Digits.{digits_text}
+use Rattle.bt_bits.specs.inner.Digits.{digits_text}
 use Rattle.bt_bits.proofs.DigitLemmas.{length-digits_of, digits_of-below, seen_digits}
 use Rattle.bt_bits.proofs.TextLemmas.{hex_text-digits}
 use Rattle.bt_bits.proofs.row.Row.put_hex.Goals as goal

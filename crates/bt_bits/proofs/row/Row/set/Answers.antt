@@ -1,6 +1,7 @@
 use Rattle.std.proofs.Common.{◌≡◌, ◌∙◌, ◌/◌, ◌%◌, ◌<◌, ap, arith, length, get_or, set, length-set}
 use Rattle.std.proofs.lemmas.List.{get_or_default}
-use Rattle.bt_bits.specs.Digits.{digits_of, with_bit}
+use Rattle.bt_bits.specs.Digits.{digits_of}
+use Rattle.bt_bits.specs.inner.Digits.{with_bit}
 use Rattle.bt_bits.proofs.DigitLemmas.{length-digits_of, digits_of-set, seen_digits, row_bits-is, digits_of-row}
 use Rattle.bt_bits.proofs.row.Row.set.Goals as goal
 

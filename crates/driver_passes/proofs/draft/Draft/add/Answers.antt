@@ -1,6 +1,6 @@
 use Rattle.std.proofs.Common.{◌≡◌, ◌∙◌, ◌||◌, ap, length, get_or, true, false, refl}
 use Rattle.std.proofs.lemmas.List.{with_items_is}
-use Rattle.driver_passes.specs.Drafts.{has_number}
+use Rattle.driver_passes.specs.inner.Drafts.{has_number}
 use Rattle.std.specs.Vec.{with_item, with_items}
 use Rattle.driver_passes.specs.declared.draft.Draft.{Draft}
 use Rattle.driver_passes.proofs.DraftLemmas.{shared_within, added_setting, added_draft}

@@ -2,7 +2,7 @@ use Rattle.std.proofs.Common.{◌∙◌, ap, sym, subst, List}
 use Rattle.board_defs.specs.declared.board.Ctl.{Ctl}
 use Rattle.board_defs.specs.Settings.{IsInControlOrder}
 use Rattle.board_defs.specs.Passes.{useful_controls}
-use Rattle.driver_passes.specs.Drafts.{chosen}
+use Rattle.driver_passes.specs.inner.Drafts.{chosen}
 use Rattle.driver_passes.proofs.ChosenLemmas.{chosen_order}
 use Rattle.driver_passes.proofs.draft.Draft.setting.Goals as goal
 

@@ -1,6 +1,6 @@
 use Rattle.std.proofs.Common.{◌≡◌, take, fold}
 use Rattle.board_defs.specs.Passes.{add_for_driver}
-use Rattle.driver_passes.specs.Progress.{IsProgress}
+use Rattle.driver_passes.specs.inner.Progress.{IsProgress}
 use Rattle.driver_passes.proofs.drivers.Progress.add_for_drivers.Given as goal
 
 abbrev pub invariant-loop-d : goal.invariant-loop-d

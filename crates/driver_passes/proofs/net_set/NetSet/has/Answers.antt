@@ -1,7 +1,7 @@
 use Rattle.std.proofs.Common.{◌∙◌, ◌/◌, ◌%◌, ap, get_or}
 use Rattle.std.specs.Prelude.{◌==◌}
 use Rattle.std.proofs.lemmas.Nat.Bits.{shr_and_one}
-use Rattle.driver_passes.specs.NetSets.{has_bit, has_net}
+use Rattle.driver_passes.specs.inner.NetSets.{has_bit, has_net}
 use Rattle.driver_passes.proofs.net_set.NetSet.has.Goals as goal
 
 pub returns : goal.returns

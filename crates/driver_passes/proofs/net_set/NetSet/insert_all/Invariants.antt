@@ -1,6 +1,6 @@
 use Rattle.std.proofs.Common.{◌≡◌, ◌||◌, ℕ, take, length}
-use Rattle.driver_passes.specs.Drafts.{has_number}
-use Rattle.driver_passes.specs.NetSets.{has_net}
+use Rattle.driver_passes.specs.inner.Drafts.{has_number}
+use Rattle.driver_passes.specs.inner.NetSets.{has_net}
 use Rattle.driver_passes.proofs.net_set.NetSet.insert_all.Given as goal
 
 abbrev pub invariant-loop-net : goal.invariant-loop-net

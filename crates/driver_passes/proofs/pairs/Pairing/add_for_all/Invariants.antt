@@ -1,6 +1,6 @@
 use Rattle.std.proofs.Common.{◌≡◌, ◌+◌, ◌*◌, ◌≤◌, length, fold}
 use Rattle.board_defs.specs.Passes.{add_for_nets, pair_passes, drivers_by_net}
-use Rattle.driver_passes.specs.Pairs.{AreDone, ArePairing}
+use Rattle.driver_passes.specs.inner.Pairs.{AreDone, ArePairing}
 use Rattle.driver_passes.proofs.PairLemmas.{later_pairs}
 use Rattle.driver_passes.proofs.pairs.Pairing.add_for_all.Given as goal
 

@@ -1,6 +1,6 @@
 use Rattle.std.proofs.Common.{◌≡◌, ◌≤◌, ◌∙◌, not, refl, ap, length, arith}
 use Rattle.std.specs.List.{list_any}
-use Rattle.driver_passes.specs.Shown.{shows_both}
+use Rattle.driver_passes.specs.inner.Shown.{shows_both}
 use Rattle.driver_passes.proofs.RowLemmas.{left_whole}
 use Rattle.driver_passes.proofs.DoneLemmas.{done_next, none_later}
 use Rattle.driver_passes.proofs.pairs.Pairing.add_for_later.Goals as goal

@@ -1,6 +1,6 @@
 use Rattle.std.proofs.Common.{◌≡◌, ◌+◌, ◌-◌, ◌≤◌, ◌<◌, length, fold}
 use Rattle.board_defs.specs.Passes.{add_for_nets}
-use Rattle.driver_passes.specs.Pairs.{AreLeft, ArePairing, IsDoneTo, StaysDone, pairs_from}
+use Rattle.driver_passes.specs.inner.Pairs.{AreLeft, ArePairing, IsDoneTo, StaysDone, pairs_from}
 use Rattle.driver_passes.proofs.pairs.Pairing.add_for_later.Given as goal
 
 abbrev pub invariant-loop-b : goal.invariant-loop-b

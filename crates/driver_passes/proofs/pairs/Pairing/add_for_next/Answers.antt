@@ -1,5 +1,5 @@
 use Rattle.std.proofs.Common.{◌≡◌, ◌∙◌, ◌<◌, ap, length, arith}
-use Rattle.driver_passes.specs.Shown.{drivers_at}
+use Rattle.driver_passes.specs.inner.Shown.{drivers_at}
 use Rattle.driver_passes.proofs.PairLemmas.{one_done}
 use Rattle.driver_passes.proofs.DoneLemmas.{done_kept, done_now, skipped_to, unshown, unwanted, with_last}
 use Rattle.driver_passes.proofs.pairs.Pairing.add_for_next.Goals as goal

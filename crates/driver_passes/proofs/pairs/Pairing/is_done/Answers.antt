@@ -1,6 +1,6 @@
 use Rattle.std.proofs.Common.{◌∙◌, ap, sym}
 use Rattle.std.specs.List.{list_all}
-use Rattle.driver_passes.specs.NetSets.{has_net}
+use Rattle.driver_passes.specs.inner.NetSets.{has_net}
 use Rattle.driver_passes.proofs.DoneLemmas.{all_show, none_tested}
 use Rattle.driver_passes.proofs.PairLemmas.{no_drivers}
 use Rattle.driver_passes.proofs.RowLemmas.{all_rows}

@@ -1,9 +1,9 @@
 use Rattle.std.proofs.Common.{◌≡◌, ◌∙◌, ◌||◌, ◌&&◌, ◌<◌, [], false, ap, sym, length, get_or, arith}
 use Rattle.std.proofs.lemmas.List.{get_or_default}
 use Rattle.board_defs.specs.Passes.{shows, useful_controls}
-use Rattle.driver_passes.specs.Drafts.{chosen, has_number, setting_of}
-use Rattle.driver_passes.specs.NetSets.{has_net}
-use Rattle.driver_passes.specs.Shown.{drivers_at}
+use Rattle.driver_passes.specs.inner.Drafts.{chosen, has_number, setting_of}
+use Rattle.driver_passes.specs.inner.NetSets.{has_net}
+use Rattle.driver_passes.specs.inner.Shown.{drivers_at}
 use Rattle.driver_passes.proofs.TestedLemmas.{left_from, list_within, row_step, shows_split}
 use Rattle.driver_passes.proofs.tested.TestedNets.shown_by.Goals as goal
 

@@ -1,10 +1,10 @@
 use Rattle.std.proofs.Common.{◌≡◌, ◌<◌, ◌+◌, ◌/◌, ◌||◌, ℕ, drop, length}
 use Rattle.std.specs.List.{list_any}
 use Rattle.board_defs.specs.Passes.{shows, useful_controls}
-use Rattle.driver_passes.specs.Drafts.{chosen, setting_of}
-use Rattle.driver_passes.specs.NetSets.{has_net}
-use Rattle.driver_passes.specs.Shown.{drivers_at}
-use Rattle.driver_passes.specs.Tested.{drives}
+use Rattle.driver_passes.specs.inner.Drafts.{chosen, setting_of}
+use Rattle.driver_passes.specs.inner.NetSets.{has_net}
+use Rattle.driver_passes.specs.inner.Shown.{drivers_at}
+use Rattle.driver_passes.specs.inner.Tested.{drives}
 use Rattle.driver_passes.proofs.tested.TestedNets.shown_by.Given as goal
 
 -- the row has the nets that the controls so far and the steady drivers show

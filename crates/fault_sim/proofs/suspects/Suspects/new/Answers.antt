@@ -4,7 +4,8 @@ use Rattle.board_defs.specs.Passes.{ArePasses, passes_of}
 use Rattle.tap_defs.specs.board.Explaining.{set_of}
 use Rattle.tap_defs.specs.board.TestRows.{code_width, observed_count}
 use Rattle.fault_sim.specs.declared.universe.FaultLists.{FaultLists}
-use Rattle.fault_sim.specs.Suspects.{flagged_nets, CanSuspect, suspects_of, AreSuspects}
+use Rattle.fault_sim.specs.Suspects.{AreSuspects}
+use Rattle.fault_sim.specs.inner.Suspects.{flagged_nets, CanSuspect, suspects_of}
 use Rattle.fault_sim.proofs.ExplainLemmas.{can_be, all_suspects}
 use Rattle.fault_sim.proofs.suspects.Suspects.new.Goals as goal
 

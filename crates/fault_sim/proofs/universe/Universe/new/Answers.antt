@@ -4,7 +4,7 @@ use Rattle.board_defs.specs.declared.board.Ctl.{Ctl}
 use Rattle.board_defs.specs.declared.board.PinRef.{PinRef}
 use Rattle.board_defs.specs.Passes.{ArePasses}
 use Rattle.fault_sim.specs.Effects.{code_in}
-use Rattle.fault_sim.specs.Tested.{coded_nets}
+use Rattle.fault_sim.specs.inner.Tested.{coded_nets}
 use Rattle.fault_sim.specs.Places.{AreStarts}
 use Rattle.fault_sim.proofs.RangeLemmas.{filter_most}
 use Rattle.fault_sim.proofs.TestedLemmas.{nets_are, pins_are, tested_few}

@@ -1,6 +1,6 @@
 -- The pin is looked up by its two names.
 use Rattle.std.proofs.Common.{◌∙◌, ap}
-use Rattle.series_parts.specs.Edges.{pin_place}
+use Rattle.series_parts.specs.inner.Edges.{pin_place}
 use Rattle.series_parts.proofs.pins.Pins.place_of.Goals as goal
 
 pub returns : goal.returns

@@ -1,0 +1,35 @@
+-- The answer, from what the reader of a file gives.
+use Rattle.std.specs.Prelude.{ℕ, List, [], ◌∷◌, length, Bool, ◌&&◌, ◌==◌, if◌then◌else◌, Option, Some, None, Result, Ok, Err, codes}
+use Rattle.grammars.specs.inner.Reader.{Outcome, found, refused}
+use Rattle.bsdl_parser.specs.declared.cursor.Front.{Front}
+use Rattle.bsdl_parser.specs.declared.entity.Entity.{Entity}
+use Rattle.bsdl_parser.specs.declared.fault.ParseFault.{ParseFault}
+use Rattle.bsdl_parser.specs.declared.fault.ParseFault.TheVariants.{Expected, Package}
+use Rattle.bsdl_parser.specs.Lexeme.{Lexeme}
+use Rattle.bsdl_parser.specs.Places.{is_the_word}
+use Rattle.bsdl_parser.specs.Answer.{last_line}
+
+abbrev pub is_package : Lexeme → Bool
+is_package token = is_the_word (codes "PACKAGE") token
+
+-- what is known of the next token
+abbrev pub front_of : List Lexeme → Option Front
+front_of [] = None
+front_of (token ∷ after) = Some (record { is_package = is_package token; line = token.line })
+
+abbrev pub fault_at : Bool → ℕ → ParseFault
+fault_at starts_package line = if starts_package then Package line else Expected line
+
+-- behind a whole file every token is stray
+abbrev pub behind_file : Entity → Option Front → Result Entity ParseFault
+behind_file entity None = Ok entity
+behind_file entity (Some front) = Err (fault_at front.is_package front.line)
+
+-- inside a file the word `package` counts as the first token alone
+abbrev pub inside_file : List ℕ → Bool → Option Front → Result Entity ParseFault
+inside_file text is_first None = Err (Expected (last_line text))
+inside_file text is_first (Some front) = Err (fault_at (front.is_package && is_first) front.line)
+
+abbrev pub judged : List ℕ → List Lexeme → Outcome Lexeme Entity → Result Entity ParseFault
+judged text tokens (found entity after) = behind_file entity (front_of after)
+judged text tokens (refused left) = inside_file text (length left == length tokens) (front_of left)

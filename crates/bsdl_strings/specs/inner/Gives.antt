@@ -1,0 +1,22 @@
+-- What a function returned is what reading gives.
+use Rattle.std.specs.Prelude.{◌≡◌, ℕ, List, [], Bool, true, false, Option, Some, None, Result, Ok, Err}
+use Rattle.std.specs.Borrow.{Bor}
+use Rattle.grammars.specs.inner.Reader.{Outcome, found, refused}
+use Rattle.bsdl_strings.specs.declared.stop.Stop.{Stop}
+use Rattle.bsdl_strings.specs.declared.stop.Stop.TheVariants.{Memory, At}
+use Rattle.bsdl_strings.specs.Pieces.{pieces}
+
+-- unless memory ran out, the text from the first piece on that cannot stand
+abbrev pub StopsAt : {A : Type 0} → Stop → Outcome (List ℕ) A → Type 0
+StopsAt (Memory error) outcome = Unit {0}
+StopsAt (At rest) outcome = outcome ≡ refused (pieces rest.now)
+
+-- the value and the text after it, seen so, are what reading finds, or it stopped where reading does
+abbrev pub Gives : {X A : Type 0} → (X → Outcome (List ℕ) A) → Result X Stop → Outcome (List ℕ) A → Type 0
+Gives view (Ok x) outcome = outcome ≡ view x
+Gives view (Err stop) outcome = StopsAt stop outcome
+
+-- the text after a comma, or the end
+abbrev pub more_of : Option (Bor (List ℕ)) → Outcome (List ℕ) Bool
+more_of (Some rest) = found true (pieces rest.now)
+more_of None = found false []

@@ -1,0 +1,5 @@
+-- Terms that serve proofs and the contracts of private functions. No public contract cites them.
+pub mod Tables
+pub mod Index
+pub mod Seen
+pub mod Named

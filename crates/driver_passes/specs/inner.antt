@@ -1,0 +1,8 @@
+-- Terms that serve proofs and the contracts of private functions. No public contract cites them.
+pub mod Drafts
+pub mod NetSets
+pub mod Shown
+pub mod Tested
+pub mod Progress
+pub mod Alike
+pub mod Pairs

@@ -1,0 +1,56 @@
+-- For which pairs of nets a pass is wanted.
+use Rattle.std.specs.Prelude.{◌≡◌, ◌≤◌, ◌<◌, ◌⊎◌, ◌+◌, ◌/◌, ℕ, Bool, true, not, ◌&&◌, List, drop, length, map, None}
+use Rattle.board_defs.specs.declared.board.Ctl.{Ctl}
+use Rattle.board_defs.specs.declared.board.RawBoard.{RawBoard}
+use Rattle.board_defs.specs.declared.board.Drive.{Drive}
+use Rattle.board_defs.specs.Passes.{are_shown, drivers_by_net, first_pair}
+use Rattle.net_classes.specs.Pairs.{pairs_with}
+use Rattle.driver_passes.specs.declared.pairs.Pairing.{Pairing}
+use Rattle.driver_passes.specs.inner.NetSets.{has_net}
+use Rattle.driver_passes.specs.inner.Progress.{EnableTested, IsUsefulDriver}
+use Rattle.driver_passes.specs.inner.Shown.{drivers_at}
+use Rattle.driver_passes.specs.Useful.{HoldUseful}
+use Rattle.driver_passes.specs.inner.Alike.{AreAlike}
+use Rattle.driver_passes.specs.inner.Shown.{AreRows, drivers_at}
+use Rattle.driver_passes.specs.inner.Tested.{AreTestedNets}
+
+-- the rows are those of the passes so far, which enable each tested driver and hold useful controls only; the set has room for each net
+pub record ArePairing (board : RawBoard) (pairing : Pairing) : Type 0 where
+  pub rows : AreRows board pairing.passes.items pairing.rows.items
+  pub alike : AreAlike board pairing.likes.items
+  pub tested : EnableTested board pairing.passes.items
+  pub useful : HoldUseful board pairing.passes.items
+  pub tested_nets : AreTestedNets board pairing.tested_nets
+  pub left_length : length pairing.left ≡ length board.nets / 64 + 1
+
+-- of the nets from net a on, the set has those that none of the passes shows together with net a
+abbrev pub AreLeft : RawBoard → List (List Ctl) → ℕ → List ℕ → Type 0
+AreLeft board passes a left = (n : ℕ) → a ≤ n → n < length board.nets → has_net left n ≡ not (are_shown passes (drivers_at board a) (drivers_at board n))
+
+-- the net is in the set and paired with net a
+abbrev pub is_wanted : RawBoard → List ℕ → ℕ → ℕ → Bool
+is_wanted board left a n = has_net left n && pairs_with board a n
+
+-- no pass is to be added for the two nets: one shows both, or no safe setting enables a driver of each
+abbrev pub IsDone : RawBoard → List (List Ctl) → ℕ → ℕ → Type 0
+IsDone board passes a b = (are_shown passes (drivers_at board a) (drivers_at board b) ≡ true) ⊎ (first_pair board (drivers_at board a) (drivers_at board b) ≡ None)
+
+-- so for net a and each later one below b
+abbrev pub IsDoneTo : RawBoard → List (List Ctl) → ℕ → ℕ → Type 0
+IsDoneTo board passes a b = (n : ℕ) → a < n → n < b → IsDone board passes a n
+
+-- so for each net below a and all later ones
+abbrev pub AreDone : RawBoard → List (List Ctl) → ℕ → Type 0
+AreDone board passes a = (m : ℕ) → m < a → IsDoneTo board passes m (length board.nets)
+
+-- what was done stays done
+abbrev pub StaysDone : RawBoard → List (List Ctl) → List (List Ctl) → Type 0
+StaysDone board before after = (m n : ℕ) → IsDone board before m n → IsDone board after m n
+
+-- the controls of both drivers, where they have one, are useful
+abbrev pub IsUsefulPair : RawBoard → Drive × Drive → Type 0
+IsUsefulPair board pair = IsUsefulDriver board pair.0 × IsUsefulDriver board pair.1
+
+-- the tested drivers of net a and those of another net, for each net from b on in order
+abbrev pub pairs_from : RawBoard → ℕ → ℕ → List (List Drive × List Drive)
+pairs_from board a b = map (λ others. (drivers_at board a, others)) (drop b (drivers_by_net board))

@@ -1,0 +1,30 @@
+-- Which nets each useful control tests.
+use Rattle.std.specs.Prelude.{◌≡◌, ◌==◌, ◌&&◌, ◌||◌, ℕ, Bool, List, [], length, ltb, Some, slice_get, slice_index_or}
+use Rattle.std.specs.List.{list_any}
+use Rattle.board_defs.specs.declared.board.Ctl.{Ctl}
+use Rattle.board_defs.specs.declared.board.RawBoard.{RawBoard}
+use Rattle.board_defs.specs.declared.board.Drive.{Drive}
+use Rattle.board_defs.specs.Decided.{is_by}
+use Rattle.board_defs.specs.Passes.{useful_controls}
+use Rattle.driver_passes.specs.declared.tested.TestedNets.{TestedNets}
+use Rattle.driver_passes.specs.inner.Drafts.{has_number}
+use Rattle.driver_passes.specs.inner.Shown.{AreShownBy, drivers_at}
+
+-- the control controls one of the drivers
+abbrev pub drives : Ctl → List Drive → Bool
+drives c drivers = list_any (λ d. is_by c (Some d)) drivers
+
+-- the lists of useful controls have the net too where the control passes, and else what they had before
+abbrev pub AreNoted : RawBoard → ℕ → (Ctl → Bool) → List (List ℕ) → List (List ℕ) → Type 0
+AreNoted board net passes before after =
+    (place : ℕ) (c : Ctl) → slice_get (useful_controls board) place ≡ Some c → (n : ℕ) → has_number (slice_index_or after place []) n ≡ ((n == net && passes c) || has_number (slice_index_or before place []) n)
+
+-- the lists, one for each useful control, have of the nets below this one those of which it controls a tested driver
+pub record AreListed (board : RawBoard) (most : ℕ) (lists : List (List ℕ)) : Type 0 where
+  pub lists_length : length lists ≡ length (useful_controls board)
+  pub lists_are : (place : ℕ) (c : Ctl) → slice_get (useful_controls board) place ≡ Some c → (n : ℕ) → has_number (slice_index_or lists place []) n ≡ (ltb n most && drives c (drivers_at board n))
+
+-- the set is that of the nets with a tested driver that is always on, and the lists those of the useful controls
+pub record AreTestedNets (board : RawBoard) (nets : TestedNets) : Type 0 where
+  pub steady : AreShownBy board [] nets.steady
+  pub by_control : AreListed board (length board.nets) nets.by_control.items

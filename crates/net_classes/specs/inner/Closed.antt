@@ -1,0 +1,78 @@
+-- Nets whose tested drivers all have controls that drive one of some nets: no control that shares these nets is on together with one of them, but for its own.
+use Rattle.std.specs.Prelude.{◌≡◌, ℕ, Bool, true, false, not, ◌&&◌, List, [], ◌∷◌, Option, None, Some, map, filter, slice_get, Contains}
+use Rattle.std.specs.Bool.{Decides}
+use Rattle.std.specs.List.{list_any, list_all, flat_map}
+use Rattle.board_defs.specs.declared.board.Ctl.{Ctl}
+use Rattle.board_defs.specs.declared.board.Net.{Net}
+use Rattle.board_defs.specs.declared.board.RawBoard.{RawBoard}
+use Rattle.board_defs.specs.declared.board.Drive.{Drive}
+use Rattle.board_defs.specs.declared.board.Drive.TheVariants.{AlwaysOn, OneSided, By}
+use Rattle.board_defs.specs.BoardRules.{IsBoard}
+use Rattle.board_defs.specs.Pins.{IsCell}
+use Rattle.board_defs.specs.Decided.{is_by}
+use Rattle.net_classes.specs.declared.classes.ControlClass.{ControlClass}
+use Rattle.net_classes.specs.declared.facts.PinFacts.{PinFacts}
+use Rattle.net_classes.specs.declared.closed_nets.ClosedNets.{ClosedNets}
+use Rattle.net_classes.specs.declared.known.Known.{Known}
+use Rattle.net_classes.specs.declared.control_sets.ControlSet.{ControlSet}
+use Rattle.net_classes.specs.inner.ControlSets.{IsSet, has_control}
+use Rattle.net_classes.specs.inner.Facts.{net_facts_of, pin_facts_of}
+use Rattle.net_classes.specs.Kept.{control_class_of, drives_there, item_of, net_class_of, shared_nets, table}
+use Rattle.net_classes.specs.Pairs.{drivers_at}
+
+-- what is known is of the board
+pub record IsKnown (known : Known) : Type 0 where
+  pub rules : IsBoard known.board.now
+  pub facts_are : known.facts.now ≡ map (net_facts_of known.board.now) known.board.now.nets
+  pub nets_are : known.nets.now ≡ map (net_class_of known.board.now) known.board.now.nets
+  pub controls_are : (c : Ctl) → IsCell known.board.now c → item_of (table known.controls.now) c ≡ Some (control_class_of known.board.now c)
+  pub shared_are : (c : Ctl) → IsCell known.board.now c → item_of (table known.shared.now) c ≡ Some (shared_nets known.board.now c)
+  pub firsts_are : known.firsts.now ≡ map (λ net. slice_get net.drivers 0) known.nets.now
+
+-- the facts of the pins of the net, where it is there
+abbrev pub pins_there : RawBoard → Option Net → List PinFacts
+pins_there board None = []
+pins_there board (Some net) = map (pin_facts_of board net) net.pins
+
+-- the numbers of the nets that the table has for a control
+abbrev pub nets_of : Option ControlClass → List ℕ
+nets_of None = []
+nets_of (Some class) = class.nets
+
+abbrev pub driven_in : Known → Ctl → List ℕ
+driven_in known c = nets_of (item_of (table known.controls.now) c)
+
+-- the control controls a driver of one of these nets
+abbrev pub drives_some : RawBoard → List ℕ → Ctl → Bool
+drives_some board nets c = list_any (λ n. drives_there board c (slice_get board.nets n)) nets
+
+-- the driver is controlled by a control that passes
+abbrev pub is_by_one : (Ctl → Bool) → Drive → Bool
+is_by_one passes AlwaysOn = false
+is_by_one passes OneSided = false
+is_by_one passes (By c) = passes c
+
+-- there are drivers, and each is controlled by a control that passes
+abbrev pub are_by_some : (Ctl → Bool) → List Drive → Bool
+are_by_some passes [] = false
+are_by_some passes (d ∷ ds) = list_all (is_by_one passes) (d ∷ ds)
+
+-- the net is covered, and all its tested drivers are controlled by controls with a driver on one of these nets
+abbrev pub is_closed_by : RawBoard → List ℕ → ℕ → Bool
+is_closed_by board nets n = are_by_some (drives_some board nets) (drivers_at board n)
+
+abbrev pub AreClosed : RawBoard → List ℕ → List ℕ → Type 0
+AreClosed board nets closed = (n : ℕ) → Decides (is_closed_by board nets n) (Contains closed n)
+
+-- the control is that of the first tested driver of the net, and all of them are controlled by controls of the set
+abbrev pub closes : RawBoard → ControlSet → Ctl → ℕ → Bool
+closes board set c n = is_by c (slice_get (drivers_at board n) 0) && list_all (is_by_one (has_control set)) (drivers_at board n)
+
+-- the nets that are closed by a set, found by the control of the first tested driver
+abbrev pub closed_in : Known → ControlSet → List Ctl → List ℕ
+closed_in known set controls = flat_map (λ c. filter (closes known.board.now set c) (driven_in known c)) controls
+
+-- the closed nets are those by the nets, and the set that of their controls
+pub record AreClosedNets (board : RawBoard) (closed : ClosedNets) : Type 0 where
+  pub set_is : IsSet board (drives_some board closed.by) closed.set
+  pub nets_are : AreClosed board closed.by closed.nets

@@ -1,0 +1,23 @@
+-- Sets of controls.
+use Rattle.std.specs.Prelude.{◌≡◌, Bool, true, Option, Some, List, Contains, fold}
+use Rattle.board_defs.specs.declared.board.Ctl.{Ctl}
+use Rattle.board_defs.specs.declared.board.RawBoard.{RawBoard}
+use Rattle.board_defs.specs.Pins.{IsCell}
+use Rattle.net_classes.specs.declared.control_sets.ControlSet.{ControlSet}
+use Rattle.net_classes.specs.inner.Cells.{put}
+use Rattle.net_classes.specs.Kept.{item_of, table}
+use Rattle.net_classes.specs.inner.Rows.{at_control}
+use Rattle.net_classes.specs.inner.Switching.{holds_there}
+
+-- the control has a mark
+abbrev pub has_control : ControlSet → Ctl → Bool
+has_control set c = holds_there (item_of (table set.marks.items) c)
+
+-- the set has those of the board's cells that pass
+pub record IsSet (board : RawBoard) (passes : Ctl → Bool) (set : ControlSet) : Type 0 where
+  pub marks_are : (c : Ctl) → IsCell board c → item_of (table set.marks.items) c ≡ Some (passes c)
+  pub members_are : (c : Ctl) → IsCell board c → passes c ≡ true → Contains set.members.items c
+
+-- the marks of these controls, put on or off
+abbrev pub put_all : Bool → List (List Bool) → List Ctl → List (List Bool)
+put_all mark rows controls = fold (λ r c. at_control c (put mark) r) rows controls
