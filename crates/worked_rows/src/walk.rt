@@ -25,7 +25,12 @@ const LINKED: &str = "DEVICE U1 DRV -\nDEVICE U2 RCV -\nLINK R1 1 2\n";
 
 const LINKED_NETS: &str = "NET N1A U1.1 R1.1\nNET N1B R1.2 U2.1\nNET N2 U1.2 U2.2\n";
 
-fn bench_of(alloc: Global, chain: &str, nets: &str, log: &str) -> Result<Bench, AllocError> {
+fn bench_of<'x>(
+    alloc: Global,
+    chain: &'x str,
+    nets: &'x str,
+    log: &'x str,
+) -> Result<Bench, AllocError> {
     Bench::with_texts(
         alloc,
         &[

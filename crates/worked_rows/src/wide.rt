@@ -66,16 +66,17 @@ fn bench_of(alloc: Global, log: &str) -> Result<Bench, AllocError> {
     }
     let drivers = device(alloc, "DRIVERS", "out", "output2")?;
     let receivers = device(alloc, "RECEIVERS", "in", "input")?;
-    Bench::with_texts(
+    let mut bench = Bench::with_texts(
         alloc,
         &[
-            ("g", log.as_bytes()),
             ("c", chain.as_bytes()),
             ("n", nets.as_bytes()),
             ("drivers", drivers.as_bytes()),
             ("receivers", receivers.as_bytes()),
         ],
-    )
+    )?;
+    bench.store.add("g", log.as_bytes())?;
+    Ok(bench)
 }
 
 #[test]
