@@ -84,7 +84,7 @@ fn board_of(
     answer(alloc, chain, parts, &names, &marked)
 }
 
-#[tactic(auto, unfolding(crate::specs::Marked::marked_answer, crate::specs::Marked::marked_fault))]
+#[tactic(auto, unfolding(crate::specs::inner::Marked::marked_answer, crate::specs::inner::Marked::marked_fault))]
 fn answer(
     alloc: Global,
     chain: &[ChainLine],

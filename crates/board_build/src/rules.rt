@@ -125,7 +125,7 @@ fn marked_twice(alloc: Global, words: &[MarkedWord<'_>]) -> Result<Option<BoardF
 }
 
 /// The rules on pins, in their order.
-#[tactic(auto, unfolding(crate::specs::Marked::marked_pins))]
+#[tactic(auto, unfolding(crate::specs::inner::Marked::marked_pins))]
 fn pin_fault(alloc: Global, words: &[MarkedWord<'_>]) -> Result<Option<BoardFault>, AllocError>
     ensures { IfOk result (λ fault. fault ≡ marked_pins (map seen words.now)) }
 {
@@ -139,7 +139,7 @@ fn pin_fault(alloc: Global, words: &[MarkedWord<'_>]) -> Result<Option<BoardFaul
 }
 
 /// The rules on the files, in their order.
-#[tactic(auto, unfolding(crate::specs::Marked::file_fault))]
+#[tactic(auto, unfolding(crate::specs::inner::Marked::file_fault))]
 pub fn file_fault(
     alloc: Global,
     lines: &[ChainLine],
@@ -272,7 +272,7 @@ fn marked_two(alloc: Global, drivers: &[MarkedWord<'_>]) -> Result<Option<BoardF
 }
 
 /// The rules on always-on drivers, in their order.
-#[tactic(auto, unfolding(crate::specs::Marked::marked_drivers))]
+#[tactic(auto, unfolding(crate::specs::inner::Marked::marked_drivers))]
 pub fn driver_fault(
     alloc: Global,
     board: &RawBoard,

@@ -19,7 +19,7 @@ fn edge_of(first: Option<u32>, second: Option<u32>) -> Option<(usize, usize)>
 }
 
 /// The edge between the lines of two pins of a part.
-#[tactic(auto, unfolding(crate::specs::Edges::edge_between))]
+#[tactic(auto, unfolding(crate::specs::inner::Edges::edge_between))]
 fn edge_between(pins: &Pins<'_>, part: &[u8], first: &[u8], second: &[u8]) -> Option<(usize, usize)>
     ensures { result ≡ edge_between pins.now part.now first.now second.now }
 {

@@ -43,7 +43,7 @@ fn copy_pins(alloc: Global, pins: &[PinWord]) -> Result<Vec<PinWord>, AllocError
 }
 
 /// The new name of a net, where those of the lines are known.
-#[tactic(auto, unfolding(crate::specs::Edges::renamed))]
+#[tactic(auto, unfolding(crate::specs::inner::Edges::renamed))]
 fn renamed<'a>(names: &Names<'_>, least: &[&'a [u8]], name: &'a [u8]) -> &'a [u8]
     ensures { result.now ≡ renamed names.now (map (λ n. n.now) least.now) name.now }
 {
