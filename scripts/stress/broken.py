@@ -121,4 +121,7 @@ def show_case(seed, number):
     answer = run(words)
     print(f'  in {os.getcwd()}:', f'btest {shlex.join(words)}'.encode('ascii', 'backslashreplace').decode())
     print(f'  {answer.short()}\n  {answer.out[:2000]!r}')
-    return [['case', 'answer'], [number, fault_of(words, answer, run(words)) or 'as it should be']], 1
+    fault = fault_of(words, answer, run(words))
+    if fault:
+        raise Failure(fault)
+    return [['broken texts', 'status'], [number, answer.status]], 1

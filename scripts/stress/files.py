@@ -62,16 +62,16 @@ def chain_test(parts):
                       scan('SDR', parts + 8, 0xA5, 0xA5 << parts, (1 << parts + 8) - 1))
 
 
-def guide_row(what, command, status, line):
+def guide_row(what, status, line, command):
     """The row as it stands in docs/GUIDE.md."""
     shown = '`' + command.replace('|', '\\|') + '`' if command else ''
     said = 'the usage line' if line == USAGE else f'`{line}`' if line else 'none'
     return f'| {what} | {shown} | {status} | {said} |'
 
 
-def judge(what, right, seen, again):
+def judge(what, right, seen):
     if right != seen:
-        raise Failure(f'{what}: {seen}, where {right} is wanted\nto run it again: {again}')
+        raise Failure(f"{what}: {seen}, where {right} is wanted\nto run it again: make stress WITH='files --case \"{what}\"'")
 
 
 def try_row(folder, row):
@@ -88,7 +88,8 @@ def try_row(folder, row):
     told = pathlib.Path(folder, 'status')
     seen = int(told.read_text()) if told.exists() else ran.returncode
     out = chain_test(1) if status == 0 else b''
-    judge(what, (status, out, boards.lines(line) if line else b''), (seen, ran.stdout, ran.stderr), command)
+    judge(what, (status, out, boards.lines(line) if line else b''), (seen, ran.stdout, ran.stderr))
+    return what, status, line
 
 
 def try_change(folder, library, row):
@@ -104,7 +105,8 @@ def try_change(folder, library, row):
         process.send_signal(signal.SIGCONT)
         out, err = process.communicate(timeout=60)
     right = (1, b'', boards.lines(line)) if line else (0, chain_test(parts), b'')
-    judge(what, right, (process.returncode, out, err), "make stress WITH=files")
+    judge(what, right, (process.returncode, out, err))
+    return what, right[0], line
 
 
 def stress(folder, options):
@@ -118,12 +120,10 @@ def stress(folder, options):
     library = refusals.build(folder)
     guide = pathlib.Path(__file__).parents[2].joinpath('docs/GUIDE.md').read_text(encoding='utf-8')
     rows = [['files and streams', 'status', 'line']]
-    for number, (what, command, status, line) in enumerate(ROWS):
-        try_row(f'{folder}/{number}', (what, command, status, line))
-        rows.append([what, status, line])
-        judge('the table of docs/GUIDE.md', True, guide_row(what, command, status, line) in guide, what)
-    for number, (what, change, parts, line) in enumerate(CHANGES):
-        try_change(f'{folder}/change-{number}', library, (what, change, parts, line))
-        rows.append([what, 1 if line else 0, line])
-        judge('the table of docs/GUIDE.md', True, guide_row(what, '', 1 if line else 0, line) in guide, what)
+    for number, row in enumerate(ROWS + CHANGES):
+        if options.case in ('', row[0]):
+            here = f'{folder}/{number}'
+            rows.append(try_row(here, row) if row in ROWS else try_change(here, library, row))
+            if guide_row(*rows[-1], '' if row in CHANGES else row[1]) not in guide:
+                raise Failure(f'docs/GUIDE.md has no such row: {row[0]}')
     return rows, len(rows) - 1

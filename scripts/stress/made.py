@@ -8,14 +8,14 @@ from boards import device, lines
 
 COMMANDS = ['chain', 'device', 'cover', 'svf', 'diagnose', 'make', 'ident', 'walk', 'groups', 'batch']
 
-# Devices of more forms than those of the small boards, each with its pins.
+# The devices of the small boards and one more, each with its pins: `!` is behind one that drives always.
 BUF3 = boards.BUFFER.replace(b'buf2', b'buf3').replace(b'tck : in bit', b'tck, trst, ce : in bit').replace(
     b'tdo:11', b'tdo:11, trst:12, ce:13').replace(
     b'  attribute port_grouping', b'  attribute tap_scan_reset of trst : signal is true;\n'
     b'  attribute compliance_patterns of buf3 : entity is "(ce, a(1)) (0x, 11)";\n  attribute port_grouping')
-DEVICES = {'DRV': (boards.DRV, '12'), 'RCV': (boards.RCV, '12'), 'ONE': (boards.ONE, '1'), 'TRI': (boards.TRI, '1'), 'BUS': (boards.BUS, '1'),
-           'OD': (boards.OD, '1'), 'TWO': (boards.TWO, '1234'), 'CODED': (boards.CODED, '12'), 'LATER': (boards.LATER, '12'),
-           'BUF2': (boards.BUFFER, '12345'), 'BUF3': (BUF3, '12345')}
+DEVICES = {'DRV': (boards.DRV, ['1!', '2!']), 'CODED': (boards.CODED, ['1!', '2!']), 'LATER': (boards.LATER, ['1!', '2!']),
+           'RCV': (boards.RCV, '12'), 'ONE': (boards.ONE, '1'), 'TRI': (boards.TRI, '1'), 'BUS': (boards.BUS, '1'), 'OD': (boards.OD, '1'),
+           'TWO': (boards.TWO, '1234'), 'BUF2': (boards.BUFFER, '12345'), 'BUF3': (BUF3, '12345')}
 
 BAD_WORDS = [b'', b'0', b'1', b'2', b'254', b'255', b'256', b'002', b'0255', b'65535', b'65536', b'999999999', b'1000000000', b'4294967296',
              b'18446744073709551616', b'-', b'--', b'#', b'.', b'U1.', b'.1', b'U1.1', b'U1.1.1', b'*', b'"', b'&', b'(', b')', b';', b':',
@@ -27,32 +27,43 @@ BAD_WORDS = [b'', b'0', b'1', b'2', b'254', b'255', b'256', b'002', b'0255', b'6
 TOKEN = re.compile(rb'[A-Za-z0-9_.]+|[^A-Za-z0-9_.\s]')
 
 
+def made_cells(rng, mode, bit, number, controls):
+    """Entries for a port bit, the first for the cell of this number, and whether they drive it always. `controls` are the disable
+    values of the control cells."""
+    drives, reads = mode in ('out', 'inout', 'buffer') and rng.randrange(8), mode in ('in', 'inout') and rng.randrange(8)
+    safe, control, entries = rng.choice('01X'), rng.randrange(len(controls) or 1), []
+    is_always = drives and not (controls and rng.randrange(4)) and rng.randrange(2)
+    if is_always:
+        entries = [f'(BC_1, {bit}, output2, {safe})']
+    elif drives and controls and rng.randrange(4):
+        function = 'bidir' if mode == 'inout' and rng.randrange(2) else 'output3'
+        reads = reads and function == 'output3'
+        entries = [f'(BC_1, {bit}, {function}, {safe}, {control}, {controls[control]}, Z)']
+    elif drives:
+        entries = [f'(BC_1, {bit}, output2, {safe}, {number}, {rng.choice("01")}, WEAK1)']
+    if reads or not rng.randrange(20):
+        entries.append(f'(BC_1, {bit}, {rng.choice(["input", "input", "clock", "observe_only"])}, X)')
+    return entries, is_always
+
+
 def made_device(rng, name):
-    """The text of a device with a few ports of any mode and cells of any function, mostly as the rules want them, and its pins."""
-    controls = [rng.choice('01') for _ in range(rng.randrange(3))]   # the disable value of each
+    """The text of a device with a few ports of any mode, mostly as the rules want them, and its pins: `!` is behind one that drives
+    always."""
+    controls = [rng.choice('01') for _ in range(rng.randrange(4))]
     entries = [f'(BC_1, *, {rng.choice(["control", "controlr"])}, {rng.choice("01X")})' for _ in controls]
     ports, places, pins = [], [], []
     for port in [f'P{i}' for i in range(rng.randint(1, 4))]:
-        mode, width = rng.choice(['in', 'in', 'out', 'out', 'inout', 'inout', 'buffer', 'linkage']), rng.choice([0, 0, 1, 2, 3])
+        mode, width = rng.choice(['in', 'in', 'in', 'out', 'out', 'inout', 'inout', 'buffer', 'linkage' if not rng.randrange(3) else 'in']), rng.choice([0, 0, 1, 2, 3])
         left, right, way = rng.choice([(0, width - 1, 'to'), (width - 1, 0, 'downto')])
         ports.append(f'{port} : {mode} ' + (f'bit_vector({left} {way} {right})' if width else 'bit'))
-        names = [f'{len(pins) + i}' for i in range(1, (width or 1) + 1)]
-        pins += names
-        if rng.randrange(12):
+        names = []
+        for bit in [f'{port}({i})' for i in (range(left, right + 1) if way == 'to' else range(left, right - 1, -1))] if width else [port]:
+            cells, is_always = made_cells(rng, mode, bit, len(entries), controls)
+            entries += cells
+            names.append(f'{len(pins) + 1}')
+            pins.append(names[-1] + '!' * bool(is_always))
+        if rng.randrange(60):
             places.append(f'{port}:({",".join(names)})' if width else f'{port}:{names[0]}')
-        for bit in [f'{port}({i})' for i in range(width)] or [port]:
-            drives, reads = mode in ('out', 'inout', 'buffer') and rng.randrange(8), mode in ('in', 'inout') and rng.randrange(8)
-            control = rng.randrange(len(controls)) if controls else 0
-            if drives and controls and rng.randrange(3):
-                reads = reads and rng.randrange(2)
-                function = 'output3' if reads or mode != 'inout' else 'bidir'
-                entries.append(f'(BC_1, {bit}, {function}, {rng.choice("01X")}, {control}, {controls[control]}, Z)')
-            elif drives and rng.randrange(2):
-                entries.append(f'(BC_1, {bit}, output2, {rng.choice("01X")}, {len(entries)}, {rng.choice("01")}, WEAK1)')
-            elif drives:
-                entries.append(f'(BC_1, {bit}, output2, {rng.choice("01X")})')
-            if reads or not rng.randrange(12):
-                entries.append(f'(BC_1, {bit}, {rng.choice(["input", "input", "clock", "observe_only"])}, X)')
     if not entries or not rng.randrange(4):
         entries.append('(BC_1, *, internal, 1)')
     more = rng.choice([f'attribute IDCODE_REGISTER of {name} : entity is "XXXX{rng.getrandbits(27):027b}1";\n', '', ''])
@@ -65,43 +76,51 @@ def made_device(rng, name):
 
 
 def made_board(rng):
-    """The files of a board of a few devices. Its nets join pins by chance."""
+    """The files of a board of a few devices. Its nets join pins by chance, mostly not two that drive always."""
     devices = {f'M{i}': made_device(rng, f'M{i}') for i in range(1, 4)} if rng.randrange(2) else DEVICES
-    parts = [(f'U{i}', rng.choice(list(devices))) for i in range(1, rng.choice([2, 3, 3, 4, 5, 6]))]
+    parts = [(f'U{i}', rng.choice(list(devices))) for i in range(1, rng.choice([3, 3, 4, 5, 6, 8]))]
     chain = [f'DEVICE {part} {entity} -' for part, entity in parts]
-    pins = [f'{part}.{pin}' for part, entity in parts for pin in devices[entity][1]]
-    pins += rng.choice([[], [], ['R1.1', 'R1.2'], ['R1.1', 'R1.2', 'R2.1', 'R2.2']])
+    resistors = rng.choice([[], [], ['R1'], ['R1', 'R2']])
+    pins = [f'{part}.{pin}' for part, entity in parts for pin in devices[entity][1]] + [f'{part}.{pin}' for part in resistors for pin in '12']
     rng.shuffle(pins)
-    nets = []
-    while pins:
-        size = rng.choice([1, 2, 2, 2, 3, 4])
-        nets.append(f'NET N{len(nets) + 1} ' + ' '.join(pins[:size]))
-        pins = pins[size:]
-    for line in ('BYPASS B1 4', 'BYPASS B2 2', 'INERT R1', 'INERT R2', 'LINK R1 1 2', 'LINK R2 2 1', f'SUPPLY N{rng.randint(1, 9)}',
-                 f'PULL N{rng.randint(1, 5)} 1', f'PULL N{rng.randint(1, 5)} 0', 'NET N1 U1.T1'):
-        if not rng.randrange(3 if ' R' in line else 8):
-            where = nets if line.startswith('NET') else chain
+    nets = [[] for _ in range(1 + len(pins) * rng.choice([2, 3]) // 6)]
+    for pin in pins:
+        net = rng.choice(nets)
+        if pin[-1] == '!' and any(other[-1] == '!' for other in net) and rng.randrange(20):
+            nets.append([pin])
+        else:
+            net.append(pin)
+    chain += [rng.choice([f'INERT {part}', f'LINK {part} 1 2', f'LINK {part} 2 1']) for part in resistors if rng.randrange(8)]
+    texts = [f'NET N{i} ' + ' '.join(net).replace('!', '') for i, net in enumerate(nets, 1)]
+    for line in ('BYPASS B1 4', 'BYPASS B2 2', 'INERT R3', 'LINK R1 1 2', f'SUPPLY N{rng.randint(1, 9)}', f'PULL N{rng.randint(1, 3)} 1',
+                 f'PULL N{rng.randint(1, 5)} 0', 'NET N1 U1.T1'):
+        if not rng.randrange(12):
+            where = texts if line.startswith('NET') else chain
             where.insert(rng.randint(0, len(where)), line)
     used = sorted({entity for _, entity in parts})
-    return {'c': lines(*chain), 'n': lines(*nets), **{entity: devices[entity][0] for entity in used}}
+    return {'c': lines(*chain), 'n': lines(*texts), **{entity: devices[entity][0] for entity in used}}
 
 
 def made_log(rng, command, files):
-    """A log as the board may give it: the bits that its test expects, some of them changed."""
+    """A log as the board may give it: the bits that its test expects, some of them changed as a fault changes them."""
     program.clear()
     program.write(files)
     text = program.run(['walk' if command == 'groups' else 'svf', *files]).out.decode()
-    rows = [row.replace('\n', '') for row in re.findall(r'SDR \d+\s+TDI \([^)]*\)\s+TDO \(([^)]*)\)', text)]
-    for _ in range(rng.randrange(4)):
-        way, digit, bit = rng.randrange(3), rng.randrange(20), 1 << rng.randrange(4)
+    found = re.findall(r'SDR (\d+)\s+TDI \([^)]*\)\s+TDO \(([^)]*)\)\s+MASK \(([^)]*)\)', text)
+    rows, masks = [int(tdo, 16) for _, tdo, _ in found], [int(mask, 16) for _, _, mask in found]
+    for _ in range(rng.choice([0, 1, 1, 1, 2, 3]) if rows else 0):
+        compared = [bit for bit in range(int(found[0][0])) if rng.choice(masks) >> bit & 1] or [0]
+        one, other, only = rng.choice(compared), rng.choice(compared), rng.randrange(len(rows))
+        way = 3 if command == 'groups' and rng.randrange(2) else rng.randrange(7)
         for at, row in enumerate(rows):
-            place = len(row) - 1 - digit % len(row)
-            value = int(row[place], 16)
-            value = [value | bit, value & ~bit, value if rng.randrange(len(rows)) else value ^ bit][way]
-            rows[at] = row[:place] + f'{value:X}' + row[place + 1:]
+            first, second = row >> one & 1, row >> other & 1
+            first, second = [(0, second), (1, second), (first & second, first & second), (first | second, first | second),
+                             (second, second), (first ^ (at == only), second), (first, second)][way]
+            rows[at] = row & ~(1 << one | 1 << other) | first << one | second << other
+    texts = [f'{row:0{(int(length) + 3) // 4}X}' for row, (length, _, _) in zip(rows, found)]
     if command == 'batch':
-        rows = [line for board in range(rng.randrange(4)) for line in (f'BOARD {board}', *rows)]
-    return lines(*rows)
+        texts = [line for board in range(rng.randrange(4)) for line in (f'BOARD {board}', *texts)]
+    return lines(*texts)
 
 
 def change_token(rng, text):
@@ -189,7 +208,7 @@ def made_case(seed, number):
     """The words and the files of a case. Where it has a log, the program makes the test that the log is of, in the current folder."""
     rng = random.Random(f'{seed} {number}')
     command = rng.choice(COMMANDS)
-    files = made_board(rng) if rng.randrange(2) else {name: text for name, text in boards.CASES[command].files.items() if name != 'g'}
+    files = made_board(rng) if rng.randrange(3) else {name: text for name, text in boards.CASES[command].files.items() if name != 'g'}
     if command == 'make':
         words, files = ['make', str(rng.choice([0, 1, 2, 3, 7, 256] if rng.randrange(100) else [254, 255]))], {}
     elif command == 'device':
@@ -202,7 +221,7 @@ def made_case(seed, number):
     else:
         words = [command, *(name for name in files if name != 'n' or command not in ('chain', 'ident'))]
     changes = [change_token, change_token, change_number, change_number, change_line, change_line, change_bytes, change_text]
-    for _ in range(rng.choice([0, 1, 1, 1, 1, 2, 3])):
+    for _ in range(rng.choice([0, 0, 1, 1, 1, 2, 3])):
         if files:
             name = rng.choice(sorted(files))
             files[name] = rng.choice(changes)(rng, files[name])

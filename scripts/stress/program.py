@@ -5,7 +5,7 @@ import time
 from typing import NamedTuple
 
 PROGRAM = ''    # its path, set once at the beginning
-SECONDS = 300   # a run that takes longer has failed
+SECONDS = 900   # a run that takes longer has failed
 
 
 class Answer(NamedTuple):

@@ -65,10 +65,14 @@ def listing(name, ports, cells):
 LISTING = listing('DRV', ['PORT Q OUT 1 2'], ['CELL 0 OUTPUT2 Q(1) X', 'CELL 1 OUTPUT2 Q(2) X'])
 
 
+def together(many, count):
+    """The same so many times, or with numbers from 0 where it has a place for them."""
+    return b''.join(many % i for i in range(count)) if b'%' in many else many * count
+
+
 def changed(old, new, many, count):
     """The text of a driver with one place changed: in `new` the many things stand at the %s."""
-    there = b''.join(many % i if b'%' in many else many for i in range(count))
-    return {'drv': boards.DRV.replace(old, new.replace(b'%s', there), 1)}, LISTING
+    return {'drv': boards.DRV.replace(old, new.replace(b'%s', together(many, count)), 1)}, LISTING
 
 
 def tokens(count):
@@ -185,8 +189,7 @@ def joined(count):
 
 def repeated(name, front, many, count, out, back=b''):
     """The small board of a driver and a receiver, with one text that holds many of the same."""
-    there = b''.join(many % i if b'%' in many else many for i in range(count))
-    return {**boards.PAIR, name: front + there + back}, out
+    return {**boards.PAIR, name: front + together(many, count) + back}, out
 
 
 SHORT = svf('SIR 4 TDI (F) TDO (1) MASK (3);', 'SDR 9 TDI (0A5) TDO (14A) MASK (1FF);')   # the chain test of a part of 4 bits

@@ -18,3 +18,6 @@ pub use board_defs::Spot;
 pub use building::{board, parts_of_chain};
 pub use fault::BoardFault;
 pub use selection::select;
+
+#[cfg(test)]
+mod tests;

@@ -19,3 +19,6 @@ pub use fault::{Kind, Single};
 pub use items::{Items, Name};
 pub use setting::Setting;
 pub use spot::Spot;
+
+#[cfg(test)]
+mod tests;

@@ -8,3 +8,6 @@ mod row;
 pub use digits::digit_bit;
 pub use line::{Line, MAX_LINE};
 pub use row::{HexFault, Row};
+
+#[cfg(test)]
+mod tests;

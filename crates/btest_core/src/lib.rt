@@ -17,3 +17,6 @@ pub use fault::InputFault;
 pub use idents::read_idents;
 pub use planning::plan;
 pub use texts::read_entity;
+
+#[cfg(test)]
+mod tests;

@@ -16,3 +16,6 @@ mod universe;
 pub use matching::{is_pass, matches};
 pub use suspects::Suspects;
 pub use universe::Universe;
+
+#[cfg(test)]
+mod tests;

@@ -6,3 +6,6 @@ mod ident;
 pub mod law;
 
 pub use ident::write_ident;
+
+#[cfg(test)]
+mod tests;

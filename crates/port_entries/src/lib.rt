@@ -7,3 +7,6 @@ mod table;
 
 pub use pins::{driving_entry, has_dark_pin, is_guarded, receives};
 pub use table::{BitEntries, entries_at, port_entries};
+
+#[cfg(test)]
+mod tests;

@@ -9,7 +9,7 @@ ghost use Rattle.port_entries.specs.inner.Rows.{dark_by, dark_in, guards_in, rec
 use crate::table::{BitEntries, entries_at};
 use board_defs::{Cell, Items, Net, NetPin, PinAt, PortBit, RawBoard};
 
-fn find_driving(entries: &[Cell]) -> Option<Cell>
+pub(crate) fn find_driving(entries: &[Cell]) -> Option<Cell>
     ensures { result ≡ find (λ cell. is_driving cell.role) entries.now }
 {
     entries.iter().copied().find(|cell| cell.role.is_driving())
@@ -29,7 +29,7 @@ fn has_receiving(entries: &[Cell]) -> bool
     entries.iter().any(|cell| cell.role.is_receiving())
 }
 
-fn receives_bit(bit: &PortBit, entries: &[Cell]) -> bool
+pub(crate) fn receives_bit(bit: &PortBit, entries: &[Cell]) -> bool
     ensures { result ≡ receives_by (Some bit.now) entries.now }
 {
     bit.mode.may_receive() && has_receiving(entries)
@@ -61,7 +61,7 @@ fn has_driving(entries: &[Cell]) -> bool
     entries.iter().any(|cell| cell.role.is_driving())
 }
 
-fn is_dark_bit(bit: &PortBit, entries: &[Cell]) -> bool
+pub(crate) fn is_dark_bit(bit: &PortBit, entries: &[Cell]) -> bool
     ensures { result ≡ dark_by (Some bit.now) entries.now }
 {
     if bit.tap {

@@ -65,7 +65,7 @@ fn note_cell(rows: &mut [BitEntries], cell: Cell) -> Result<(), AllocError>
     }
 }
 
-fn note_cells(rows: &mut [BitEntries], cells: &[Cell]) -> Result<(), AllocError>
+pub(crate) fn note_cells(rows: &mut [BitEntries], cells: &[Cell]) -> Result<(), AllocError>
     ensures { OnOk result (rows.new ≡ all_noted rows.old cells.now) }
 {
     for cell in cells {
@@ -74,7 +74,7 @@ fn note_cells(rows: &mut [BitEntries], cells: &[Cell]) -> Result<(), AllocError>
     Ok(())
 }
 
-fn blank(alloc: Global, bits: usize) -> Result<Vec<BitEntries>, AllocError>
+pub(crate) fn blank(alloc: Global, bits: usize) -> Result<Vec<BitEntries>, AllocError>
     ensures { IfOk result (λ rows. rows.items ≡ replicate bits []) }
 {
     let mut rows = Vec::new(alloc);

@@ -13,3 +13,6 @@ mod reader;
 pub use fault::LogFault;
 pub use kept::Log;
 pub use reader::log;
+
+#[cfg(test)]
+mod tests;

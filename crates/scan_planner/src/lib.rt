@@ -25,3 +25,6 @@ mod uses;
 pub use nets::NetDriver;
 pub use plan::Plan;
 pub use tables::ReaderCell;
+
+#[cfg(test)]
+mod tests;

@@ -14,3 +14,6 @@ mod pins;
 
 pub use fault::LinkFault;
 pub use joining::{Joined, join};
+
+#[cfg(test)]
+mod tests;

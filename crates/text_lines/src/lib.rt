@@ -145,3 +145,6 @@ pub fn next_word(line: &[u8]) -> Option<(&[u8], &[u8])>
         None
     }
 }
+
+#[cfg(test)]
+mod tests;

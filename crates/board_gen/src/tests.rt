@@ -1,6 +1,13 @@
 // The texts of small boards, worked by hand.
-use board_gen::make;
+use super::*;
 use std::test::Fail;
+
+fn is_shared<T: Send + Sync>() {}
+
+#[test]
+fn values_may_be_shared() {
+    is_shared::<Made>();
+}
 
 #[test]
 fn makes_the_files_of_a_board(rt: HostRuntime) -> Result<(), Fail> {

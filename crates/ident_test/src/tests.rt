@@ -1,10 +1,9 @@
-//! The text of the identity test.
 ghost use Rattle.std.specs.Prelude.{◌≡◌, length, All, IfSome, IsTrue};
 
+use super::*;
 use board_defs::{Code, Symbol};
 use bt_base::{MemSink, PutFault};
 use bt_bits::{Line, Row};
-use ident_test::write_ident;
 use std::alloc::{AllocError, Global};
 use std::process::Abort;
 use std::test::Fail;
@@ -42,7 +41,7 @@ fn pattern(alloc: Global, digits: &[u8; 32]) -> Result<Option<Code>, AllocError>
 }
 
 // Puts the text of the identity test.
-#[tactic(auto, using(ident_test::proofs::LengthLemmas::room_of))]
+#[tactic(auto, using(crate::proofs::LengthLemmas::room_of))]
 fn put_ident(
     rt: &(impl Abort + AllocGlobal),
     parts: &[Option<Code>],

@@ -1,12 +1,11 @@
-//! The texts of scans.
 ghost use Rattle.std.specs.Prelude.{◌≤◌, ◌<◌, length, All, IsTrue};
 
+use super::*;
 use bt_base::{MemSink, PutFault};
 use bt_bits::{Line, Row};
 use std::alloc::{AllocError, Global};
 use std::process::Abort;
 use std::test::Fail;
-use svf_writer::{write_chain, write_head, write_scan, write_tail};
 use tap_defs::Shape;
 
 // Whether each is the length of an instruction register.
@@ -17,7 +16,7 @@ fn are_lengths(lengths: &[u32]) -> bool
 }
 
 // Puts the scans of the chain test.
-#[tactic(auto, using(svf_writer::proofs::ChainLemmas::sum_at_most))]
+#[tactic(auto, using(crate::proofs::ChainLemmas::sum_at_most))]
 fn put_chain(
     rt: &(impl Abort + AllocGlobal),
     lengths: &[u32],
@@ -60,7 +59,7 @@ fn puts_the_chain_test(rt: HostRuntime) -> Result<(), Fail> {
 }
 
 // Puts a scan whose first and last bits are 1, and of which bit 4 may be compared with 1.
-#[tactic(auto, using(svf_writer::proofs::ScanLemmas::none_compared))]
+#[tactic(auto, using(crate::proofs::ScanLemmas::none_compared))]
 fn put_scan(
     alloc: Global,
     len: u32,

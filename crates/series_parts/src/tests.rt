@@ -1,9 +1,17 @@
 // Joined files, as tables.
+use super::*;
 use board_defs::Name;
 use board_files::{ChainStatement, chain, nets};
-use series_parts::{Joined, LinkFault, join};
 use std::alloc::{AllocError, Global};
 use std::test::Fail;
+
+fn is_shared<T: Send + Sync>() {}
+
+#[test]
+fn values_may_be_shared() {
+    is_shared::<Joined>();
+    is_shared::<LinkFault>();
+}
 
 fn add(shown: &mut Vec<u8>, kind: &[u8], name: &Name) -> Result<(), AllocError> {
     shown.extend_from_slice(kind)?;

@@ -1,5 +1,5 @@
 // What a board's files are refused for, as tables.
-use board_build::{BoardFault, select};
+use super::*;
 use board_defs::{Items, Name};
 use board_files::chain;
 use bsdl_parser::Entity;
@@ -19,6 +19,14 @@ fn entities(alloc: Global, names: &[&[u8]]) -> Result<Vec<Entity>, AllocError> {
         })?;
     }
     Ok(entities)
+}
+
+fn is_shared<T: Send + Sync>() {}
+
+#[test]
+fn values_may_be_shared() {
+    is_shared::<BoardFault>();
+    is_shared::<Spot>();
 }
 
 // Whether this is how the chain is refused, and at which line or text.

@@ -1,6 +1,5 @@
-//! Words of a line.
+use super::*;
 use std::test::Fail;
-use text_lines::next_word;
 
 #[test]
 fn words_of_a_line(rt: HostRuntime) -> Result<(), Fail> {

@@ -1,10 +1,20 @@
-//! Rows of bits and lines of text.
-use bt_bits::{HexFault, Line, Row};
+use super::*;
 use std::alloc::{AllocError, Global};
 use std::test::Fail;
 
+fn is_shared<T: Send + Sync>(_value: &T) {}
+
 #[test]
-#[tactic(auto, using(bt_bits::proofs::DecimalLemmas::decimal_is_short))]
+fn values_may_be_shared(rt: HostRuntime) -> Result<(), Fail> {
+    let alloc = rt.alloc();
+    is_shared(&Row::with_room(alloc, 8)?);
+    is_shared(&Line::new(alloc)?);
+    is_shared(&HexFault::Length);
+    Ok(())
+}
+
+#[test]
+#[tactic(auto, using(crate::proofs::DecimalLemmas::decimal_is_short))]
 fn prints_digits(rt: HostRuntime) -> Result<(), Fail> {
     let alloc = rt.alloc();
     let mut line = Line::new(alloc)?;

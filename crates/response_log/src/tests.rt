@@ -1,7 +1,15 @@
 // What texts answer, as a table. The values are worked by hand.
-use response_log::{Log, log};
+use super::*;
 use std::alloc::{AllocError, Global};
 use std::test::Fail;
+
+fn is_shared<T: Send + Sync>() {}
+
+#[test]
+fn values_may_be_shared() {
+    is_shared::<Log>();
+    is_shared::<LogFault>();
+}
 
 // The bits of each row, the first one to the left, with a space behind each row.
 fn bits_of(alloc: Global, log: &Log) -> Result<String, AllocError> {
