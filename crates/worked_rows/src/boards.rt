@@ -6,8 +6,7 @@ use std::process::Abort;
 use std::test::Fail;
 use std::thread::Threads;
 
-/// The line of refusal that each command of a board gives, which has the words behind the names of its files. A log comes after them, so
-/// it makes no difference that this one is wrong.
+/// The line of refusal that both commands give for a board, which has the words behind the command's name.
 fn is_refused<R: Abort + Sync + Threads>(
     rt: &R,
     alloc: Global,
@@ -16,20 +15,12 @@ fn is_refused<R: Abort + Sync + Threads>(
     nets: &str,
     note: &str,
 ) -> Result<(), Fail> {
-    for command in [
-        "cover",
-        "svf",
-        "walk",
-        "diagnose 2 g",
-        "groups g",
-        "batch 2 g",
-    ] {
+    for command in ["cover", "svf"] {
         let mut bench = Bench::with_board(alloc, chain, nets)?;
-        bench.store.add("g", b"zz\n")?;
         let line = format!(in alloc; "{command} c n {words}")?;
-        assert_eq!(rt; bench.run(rt, &line)?, Status::Refused, "{line}");
-        assert_eq!(rt; bench.notes.bytes(), note.as_bytes(), "{line}");
-        assert_eq!(rt; bench.out.bytes(), b"".as_slice(), "{line}");
+        assert_eq!(rt; bench.run(rt, &line)?, Status::Refused, "{note}");
+        assert_eq!(rt; bench.notes.bytes(), note.as_bytes(), "{note}");
+        assert_eq!(rt; bench.out.bytes(), b"".as_slice(), "{note}");
     }
     Ok(())
 }

@@ -190,12 +190,6 @@ fn words_that_are_no_command_fetch_nothing(rt: HostRuntime) -> Result<(), Fail> 
         "ident",
         "diagnose 0 g c n drv rcv",
         "diagnose 65 g c n drv rcv",
-        "diagnose g c n",
-        "walk c",
-        "groups c n",
-        "batch 0 g c n drv rcv",
-        "batch 65 g c n drv rcv",
-        "batch g c n",
         "--version",
         "-h",
     ];

@@ -115,21 +115,6 @@ fn two_pieces_try_their_candidates_in_step(rt: HostRuntime) -> Result<(), Fail> 
 }
 
 #[test]
-fn two_pieces_take_their_blocks_in_step(rt: HostRuntime) -> Result<(), Fail> {
-    let mut bench = bench_of(rt.alloc())?;
-    bench.store.add("b", b"BOARD A\n1\n2\nBOARD B\n0\n2\n")?;
-    let gate = InStep::new();
-    let line = "batch 2 b c n drv rcv";
-    assert_eq!(rt; bench.run_watched(&rt, line, &gate)?, Status::Done);
-    let text = b"BOARD A\nPASS\nBOARD B\nFAIL 3\nstuck N1 0\nopen U1.1 0\nopen U2.1 0\n".as_slice();
-    assert_eq!(rt; bench.out.bytes(), text);
-    assert!(rt; !gate.late.load(SeqCst));
-    assert_eq!(rt; gate.first.load(SeqCst), 1);
-    assert_eq!(rt; gate.second.load(SeqCst), 1);
-    Ok(())
-}
-
-#[test]
 fn each_candidate_is_tried_once(rt: HostRuntime) -> Result<(), Fail> {
     let alloc = rt.alloc();
     let mut bench = bench_of(alloc)?;
@@ -141,37 +126,6 @@ fn each_candidate_is_tried_once(rt: HostRuntime) -> Result<(), Fail> {
         let (first, second) = match place {
             0 | 1 | 4 | 5 | 6 => (1, 0),
             7 | 12 | 13 | 14 | 15 => (0, 1),
-            _ => (0, 0),
-        };
-        assert_eq!(rt; gate.counter(0, place).load(SeqCst), first, "{place}");
-        assert_eq!(rt; gate.counter(1, place).load(SeqCst), second, "{place}");
-    }
-    assert_eq!(rt; gate.others.load(SeqCst), 0);
-    Ok(())
-}
-
-// A log that passes has no candidate, and where two nets differ the shorts of the two are tried alone.
-#[test]
-fn a_log_has_the_candidates_of_its_nets(rt: HostRuntime) -> Result<(), Fail> {
-    let alloc = rt.alloc();
-    let mut bench = bench_of(alloc)?;
-    bench.store.add("g", b"1\n2\n")?;
-    let gate = Entries::new(alloc)?;
-    let line = "diagnose 2 g c n drv rcv";
-    assert_eq!(rt; bench.run_watched(&rt, line, &gate)?, Status::Done);
-    for place in 0..PLACES {
-        assert_eq!(rt; gate.counter(0, place).load(SeqCst), 0, "{place}");
-        assert_eq!(rt; gate.counter(1, place).load(SeqCst), 0, "{place}");
-    }
-    assert_eq!(rt; gate.others.load(SeqCst), 0);
-    let mut bench = bench_of(alloc)?;
-    bench.store.add("g", b"0\n0\n")?;
-    let gate = Entries::new(alloc)?;
-    assert_eq!(rt; bench.run_watched(&rt, line, &gate)?, Status::Done);
-    for place in 0..PLACES {
-        let (first, second) = match place {
-            12 | 13 => (1, 0),
-            14 | 15 => (0, 1),
             _ => (0, 0),
         };
         assert_eq!(rt; gate.counter(0, place).load(SeqCst), first, "{place}");

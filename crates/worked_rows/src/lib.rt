@@ -2,8 +2,6 @@
 #![tactic(auto)]
 
 #[cfg(test)]
-mod batch;
-#[cfg(test)]
 mod boards;
 #[cfg(test)]
 mod chain;
@@ -16,8 +14,6 @@ mod devices;
 #[cfg(test)]
 mod diagnose;
 #[cfg(test)]
-mod faults;
-#[cfg(test)]
 mod gates;
 #[cfg(test)]
 mod generated;
@@ -29,7 +25,3 @@ mod make;
 mod runs;
 #[cfg(test)]
 mod svf;
-#[cfg(test)]
-mod walk;
-#[cfg(test)]
-mod wide;
