@@ -56,7 +56,8 @@ run_unproved() {
         [ -f "$file" ] && data+=(--data "${file##*/}=../../$file")
     done
     cd crates/btest
-    rt try --cases "$cases" "${data[@]}" 2>&1 | while IFS= read -r line; do
+    # One step of the interpreter, which would run each command a second time: the compiled program checks the same.
+    rt try --steps 1 --cases "$cases" "${data[@]}" 2>&1 | while IFS= read -r line; do
         case $line in
             "== "*) echo "\$ btest ${commands[10#${line#== }]}" ;;
             case=*status=0*) ;;
