@@ -12,12 +12,3 @@ need_rt() {
     echo "and put its bin folder on the PATH. README.md names the kit's version." >&2
     exit 1
 }
-
-# How many crates to prove side by side: one for each processor, and no more than memory allows, at 4 GB each.
-jobs() {
-    local processors memory
-    processors=$(nproc)
-    memory=$(awk '/MemAvailable/ { print int($2 / 4194304) }' /proc/meminfo)
-    [ "$memory" -ge 1 ] || memory=1
-    echo $((processors < memory ? processors : memory))
-}
