@@ -4,6 +4,6 @@ set -eu
 cd "$(dirname "$0")/.."
 source scripts/common.sh
 need_rt
-echo 'The gate: every proof, every edit that must fail, every test and program, from nothing each time. It takes about an hour and'
-echo 'a half on four processors. Each crate is named as it is done, and the last line is N passed, M failed.'
+echo 'The gate: every proof, every edit that must fail, every test and program. From nothing it takes about an hour and a half on four'
+echo 'processors; what passed is kept, and a later run proves what changed since. The last line is N passed, M failed.'
 exec bash .ci/run
