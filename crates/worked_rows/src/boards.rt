@@ -1,6 +1,6 @@
 // Texts that denote no board, each by its first fault.
-use crate::runs::{Bench, CHAIN, NETS};
 use btest_cli::Status;
+use run_bench::{Bench, CHAIN, NETS};
 use std::alloc::Global;
 use std::process::Abort;
 use std::test::Fail;

@@ -1,8 +1,7 @@
 // The chain test of parts that are known by their length.
-use crate::devices::DRV;
-use crate::runs::{Bench, HEAD, TAIL};
 use bt_base::{MemSink, OpenGate};
 use btest_cli::Status;
+use run_bench::{Bench, DRV, HEAD, TAIL};
 use std::test::Fail;
 
 const TWO_PARTS: &str = "BYPASS U1 4\nBYPASS U2 2";

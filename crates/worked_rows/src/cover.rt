@@ -1,7 +1,6 @@
 // What safe settings can reach, as the coverage list says it.
-use crate::devices::{RCV1, edited};
-use crate::runs::{Bench, CHAIN, NETS};
 use btest_cli::Status;
+use run_bench::{Bench, CHAIN, NETS, RCV1, edited};
 use std::alloc::Global;
 use std::process::Abort;
 use std::test::Fail;

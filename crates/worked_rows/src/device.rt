@@ -1,7 +1,6 @@
 // The listing of a device, and why a text describes none.
-use crate::devices::{BUF2, BUF2_LISTING, DRV, DRV1, RCV, RCV1, edited};
-use crate::runs::Bench;
 use btest_cli::Status;
+use run_bench::{BUF2, BUF2_LISTING, Bench, DRV, DRV1, RCV, RCV1, edited};
 use std::alloc::Global;
 use std::process::Abort;
 use std::test::Fail;

@@ -1,7 +1,6 @@
 // The test of the identification codes.
-use crate::devices::{DRV, RCV, edited};
-use crate::runs::{Bench, HEAD, TAIL};
 use btest_cli::Status;
+use run_bench::{Bench, DRV, HEAD, RCV, TAIL, edited};
 use std::alloc::{AllocError, Global};
 use std::test::Fail;
 

@@ -10,18 +10,10 @@ mod cover;
 #[cfg(test)]
 mod device;
 #[cfg(test)]
-mod devices;
-#[cfg(test)]
-mod diagnose;
-#[cfg(test)]
-mod gates;
-#[cfg(test)]
 mod generated;
 #[cfg(test)]
 mod ident;
 #[cfg(test)]
 mod make;
-#[cfg(test)]
-mod runs;
 #[cfg(test)]
 mod svf;

@@ -1,7 +1,7 @@
 // The summary of generated boards.
-use crate::runs::Bench;
 use bt_base::MemSink;
 use btest_cli::Status;
+use run_bench::Bench;
 use std::test::Fail;
 
 #[test]

@@ -1,7 +1,6 @@
 // The test of a board.
-use crate::devices::{TS, edited};
-use crate::runs::{Bench, CHAIN, HEAD, NETS, SCANS, TAIL};
 use btest_cli::Status;
+use run_bench::{Bench, CHAIN, HEAD, NETS, SCANS, TAIL, TS, edited};
 use std::alloc::Global;
 use std::process::Abort;
 use std::test::Fail;

@@ -10,6 +10,7 @@ pub fn edited(alloc: Global, text: &str, edits: &[(&str, &str)]) -> Result<Strin
     Ok(edited)
 }
 
+/// A driver of two outputs that are always on.
 pub const DRV: &str = r#"entity DRV is
 generic (PHYSICAL_PIN_MAP : string := "P");
 port (TDI, TMS, TCK : in bit; TDO : out bit; Q : out bit_vector(1 to 2));
@@ -30,6 +31,7 @@ attribute BOUNDARY_REGISTER of DRV : entity is
 end DRV;
 "#;
 
+/// A receiver of two inputs.
 pub const RCV: &str = r#"entity RCV is
 generic (PHYSICAL_PIN_MAP : string := "P");
 port (TDI, TMS, TCK : in bit; TDO : out bit; D : in bit_vector(1 to 2));
@@ -50,6 +52,7 @@ attribute BOUNDARY_REGISTER of RCV : entity is
 end RCV;
 "#;
 
+/// A receiver of one input.
 pub const RCV1: &str = r#"entity RCV1 is
 generic (PHYSICAL_PIN_MAP : string := "P");
 port (TDI, TMS, TCK : in bit; TDO : out bit; D : in bit);
@@ -69,6 +72,7 @@ attribute BOUNDARY_REGISTER of RCV1 : entity is
 end RCV1;
 "#;
 
+/// A three-state driver of one output.
 pub const TS: &str = r#"entity TS is
 generic (PHYSICAL_PIN_MAP : string := "P");
 port (TDI, TMS, TCK : in bit; TDO : out bit; Q : out bit);
@@ -89,6 +93,7 @@ attribute BOUNDARY_REGISTER of TS : entity is
 end TS;
 "#;
 
+/// A part of one bidirectional pin.
 pub const BI: &str = r#"entity BI is
 generic (PHYSICAL_PIN_MAP : string := "P");
 port (TDI, TMS, TCK : in bit; TDO : out bit; B : inout bit);
@@ -109,6 +114,7 @@ attribute BOUNDARY_REGISTER of BI : entity is
 end BI;
 "#;
 
+/// A driver of four outputs with two controls.
 pub const TWO: &str = r#"entity TWO is
 generic (PHYSICAL_PIN_MAP : string := "P");
 port (TDI, TMS, TCK : in bit; TDO : out bit; Q : out bit_vector(1 to 4));
@@ -133,6 +139,7 @@ attribute BOUNDARY_REGISTER of TWO : entity is
 end TWO;
 "#;
 
+/// A driver of eight outputs with one control.
 pub const OCT: &str = r#"entity OCT is
 generic (PHYSICAL_PIN_MAP : string := "P");
 port (TDI, TMS, TCK : in bit; TDO : out bit; Q : out bit_vector(1 to 8));
@@ -160,6 +167,7 @@ attribute BOUNDARY_REGISTER of OCT : entity is
 end OCT;
 "#;
 
+/// A driver of eight outputs with four controls.
 pub const FOUR: &str = r#"entity FOUR is
 generic (PHYSICAL_PIN_MAP : string := "P");
 port (TDI, TMS, TCK : in bit; TDO : out bit; Q : out bit_vector(1 to 8));
@@ -190,6 +198,7 @@ attribute BOUNDARY_REGISTER of FOUR : entity is
 end FOUR;
 "#;
 
+/// A driver of one open-drain output, which its own cell turns off.
 pub const OD: &str = r#"entity OD is
 generic (PHYSICAL_PIN_MAP : string := "P");
 port (TDI, TMS, TCK : in bit; TDO : out bit; Q : out bit);
@@ -209,6 +218,7 @@ attribute BOUNDARY_REGISTER of OD : entity is
 end OD;
 "#;
 
+/// A device of 2001 with the driver's outputs.
 pub const DRV1: &str = r#"entity DRV1 is
 generic (PHYSICAL_PIN_MAP : string := "P");
 port (TDI, TMS, TCK : in bit; TDO : out bit; Q : out bit_vector(1 to 2));
@@ -230,6 +240,7 @@ attribute COMPONENT_CONFORMANCE of DRV1 : entity is "STD_1149_1_2001";
 end DRV1;
 "#;
 
+/// A two-bit three-state buffer.
 pub const BUF2: &str = r#"-- two-bit three-state buffer
 entity buf2 is
   generic (physical_pin_map : string := "dw");
@@ -283,3 +294,18 @@ CELL 3 INPUT A(1) X
 CELL 4 INPUT OE_N X
 CELL 4 CONTROL * 1
 "#;
+
+/// The texts of the worked devices by their names.
+pub const DEVICES: [(&str, &str); 11] = [
+    ("drv", DRV),
+    ("drv1", DRV1),
+    ("rcv", RCV),
+    ("rcv1", RCV1),
+    ("ts", TS),
+    ("bi", BI),
+    ("two", TWO),
+    ("oct", OCT),
+    ("four", FOUR),
+    ("od", OD),
+    ("buf2", BUF2),
+];

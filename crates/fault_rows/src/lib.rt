@@ -1,0 +1,11 @@
+//! Tests of whole runs in which a read or a write fails or a text is too long, for every command.
+#![tactic(auto)]
+
+#[cfg(test)]
+mod commands;
+#[cfg(test)]
+mod limits;
+#[cfg(test)]
+mod reads;
+#[cfg(test)]
+mod writes;

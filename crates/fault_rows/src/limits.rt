@@ -1,0 +1,88 @@
+// Texts that are too long.
+use crate::commands::{COMMANDS, Command, bench_of};
+use run_bench::{Ending, RowFault};
+use std::alloc::Global;
+use std::thread::Threads;
+
+// Tries a text of this name that is too long.
+fn is_too_long(
+    rt: &(impl Threads + Sync),
+    alloc: Global,
+    line: &str,
+    name: &str,
+    text: &[u8],
+    limit: u32,
+) -> Result<(), RowFault> {
+    let mut bench = bench_of(alloc)?;
+    bench.store.add(name, text)?;
+    let status = bench.run(rt, line)?;
+    let note = format!(in alloc; "{name}: longer than {limit} bytes\n")?;
+    bench.expect(0, status, Ending::Refused(&note))
+}
+
+// Whether the text of this name is a log, which has a limit of its own.
+fn is_log(name: &str) -> bool {
+    name == "g" || name == "w" || name == "b"
+}
+
+// Tries each text of a command that is no log.
+fn are_too_long(
+    rt: &(impl Threads + Sync),
+    alloc: Global,
+    command: &Command,
+    text: &[u8],
+) -> Result<(), RowFault> {
+    for name in command.names {
+        if !is_log(name) {
+            is_too_long(rt, alloc, command.line, name, text, 4_194_304)?;
+        }
+    }
+    Ok(())
+}
+
+#[test]
+fn a_text_that_is_too_long_is_refused_by_every_command(rt: HostRuntime) -> Result<(), RowFault> {
+    let alloc = rt.alloc();
+    let text = " ".repeat(alloc, 4_194_305)?;
+    for command in &COMMANDS {
+        are_too_long(&rt, alloc, command, text.as_bytes())?;
+    }
+    Ok(())
+}
+
+#[test]
+fn a_log_that_is_too_long_is_refused(rt: HostRuntime) -> Result<(), RowFault> {
+    let alloc = rt.alloc();
+    let text = " ".repeat(alloc, 67_108_865)?;
+    let bytes = text.as_bytes();
+    is_too_long(
+        &rt,
+        alloc,
+        "diagnose 2 g c n drv rcv",
+        "g",
+        bytes,
+        67_108_864,
+    )?;
+    is_too_long(&rt, alloc, "groups w c n drv rcv", "w", bytes, 67_108_864)?;
+    is_too_long(&rt, alloc, "batch 2 b c n drv rcv", "b", bytes, 67_108_864)
+}
+
+#[test]
+fn a_log_may_have_as_many_bytes_as_its_limit(rt: HostRuntime) -> Result<(), RowFault> {
+    let alloc = rt.alloc();
+    let text = " ".repeat(alloc, 67_108_864)?;
+    let mut bench = bench_of(alloc)?;
+    bench.store.add("w", text.as_bytes())?;
+    let status = bench.run(&rt, "groups w c n drv rcv")?;
+    bench.expect(0, status, Ending::Refused("w: 0 rows of 2\n"))
+}
+
+#[test]
+fn a_batch_of_blanks_has_no_block(rt: HostRuntime) -> Result<(), RowFault> {
+    let alloc = rt.alloc();
+    let text = " ".repeat(alloc, 67_108_864)?;
+    let mut bench = bench_of(alloc)?;
+    bench.store.add("b", text.as_bytes())?;
+    let status = bench.run(&rt, "batch 2 b c n drv rcv")?;
+    bench.expect(0, status, Ending::Puts(""))
+}

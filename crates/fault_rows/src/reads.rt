@@ -1,0 +1,43 @@
+// Reads that fail.
+use crate::commands::{COMMANDS, Command, bench_of};
+use run_bench::{Ending, RowFault};
+use std::alloc::Global;
+use std::thread::Threads;
+
+// Tries a failure of this read, counted from 1, of the text with this name, whatever the sink would do.
+fn ends_at(
+    rt: &(impl Threads + Sync),
+    alloc: Global,
+    line: &str,
+    call: u32,
+    name: &str,
+) -> Result<(), RowFault> {
+    let mut bench = bench_of(alloc)?;
+    bench.store.fail_at(call)?;
+    bench.out.fail_at(1, 0)?;
+    let status = bench.run(rt, line)?;
+    let note = format!(in alloc; "cannot read {name}\n")?;
+    bench.expect(call as usize, status, Ending::NotRead(&note))
+}
+
+// Tries a failure of each of a command's reads.
+fn ends_at_each(
+    rt: &(impl Threads + Sync),
+    alloc: Global,
+    command: &Command,
+) -> Result<(), RowFault> {
+    let mut call = 1u32;
+    for name in command.names {
+        ends_at(rt, alloc, command.line, call, name)?;
+        call = call.saturating_add(1);
+    }
+    Ok(())
+}
+
+#[test]
+fn a_read_that_fails_ends_every_command(rt: HostRuntime) -> Result<(), RowFault> {
+    for command in &COMMANDS {
+        ends_at_each(&rt, rt.alloc(), command)?;
+    }
+    Ok(())
+}

@@ -1,0 +1,144 @@
+// The diagnoses of many logs in one text.
+use run_bench::{Bench, CHAIN, Ending, NETS, Row, RowFault, logs_hold, rows_hold};
+
+const LINE: &str = "batch 2 g c n drv rcv";
+
+const TWO_BLOCKS: &str = "BOARD A\n1\n2\nBOARD B\n0\n2\n";
+
+const TWO_VERDICTS: &str = "BOARD A\nPASS\nBOARD B\nFAIL 3\nstuck N1 0\nopen U1.1 0\nopen U2.1 0\n";
+
+const LOGS: [(&str, Ending<'static>); 14] = [
+    (TWO_BLOCKS, Ending::Puts(TWO_VERDICTS)),
+    ("", Ending::Puts("")),
+    ("# no board today\r\n\r\n", Ending::Puts("")),
+    // A name may repeat, and lines may have blanks and comments.
+    (
+        " BOARD A # first\r\n\r\n1\r\n2\r\nBOARD A\n# again\n0\n0\n",
+        Ending::Puts("BOARD A\nPASS\nBOARD A\nFAIL 1\nshort AND N1 N2\n"),
+    ),
+    (
+        "BOARD A\n1\nBOARD B\n1\n2\n",
+        Ending::Refused("g board 1: 1 rows of 2\n"),
+    ),
+    ("1\nBOARD A\n", Ending::Refused("g line 1: no board yet\n")),
+    // A block without rows.
+    (
+        "BOARD A\n1\n2\nBOARD B\n",
+        Ending::Refused("g board 2: 0 rows of 2\n"),
+    ),
+    (
+        "BOARD A\n1\n2\n\nBOARD B\n1\n22\n",
+        Ending::Refused("g line 7: wrong length\n"),
+    ),
+    (
+        "BOARD A\n1\nx\nBOARD B\n1\n",
+        Ending::Refused("g line 3: digit not allowed\n"),
+    ),
+    (
+        "BOARD A\n1\n2\n2\n",
+        Ending::Refused("g line 4: row too many\n"),
+    ),
+    // A word of a title in another place of a row.
+    (
+        "BOARD A\n1\n1 BOARD\n",
+        Ending::Refused("g line 3: wrong length\n"),
+    ),
+    // A title that is wrong comes before any fault of a log.
+    (
+        "BOARD A\n1\nBOARD\n1\n2\n",
+        Ending::Refused("g line 3: board not allowed\n"),
+    ),
+    (
+        "BOARD A\n1\nBOARD B C\n",
+        Ending::Refused("g line 3: board not allowed\n"),
+    ),
+    (
+        "BOARD #x\n1\n2\n",
+        Ending::Refused("g line 1: board not allowed\n"),
+    ),
+];
+
+#[test]
+fn each_block_is_diagnosed_by_itself(rt: HostRuntime) -> Result<(), RowFault> {
+    logs_hold(&rt, rt.alloc(), &[], LINE, &LOGS)
+}
+
+const ROWS: [Row; 9] = [
+    Row {
+        texts: &[],
+        line: "batch 1 g c n drv rcv",
+        ending: Ending::Puts(TWO_VERDICTS),
+    },
+    Row {
+        texts: &[],
+        line: "batch 3 g c n drv rcv",
+        ending: Ending::Puts(TWO_VERDICTS),
+    },
+    Row {
+        texts: &[],
+        line: "batch 64 g c n drv rcv",
+        ending: Ending::Puts(TWO_VERDICTS),
+    },
+    Row {
+        texts: &[],
+        line: "batch 0 g c n drv rcv",
+        ending: Ending::Usage,
+    },
+    Row {
+        texts: &[],
+        line: "batch 65 g c n drv rcv",
+        ending: Ending::Usage,
+    },
+    Row {
+        texts: &[],
+        line: "batch g c n drv rcv",
+        ending: Ending::Usage,
+    },
+    Row {
+        texts: &[],
+        line: "batch 2 g c",
+        ending: Ending::Usage,
+    },
+    // Without a pass a log has no row.
+    Row {
+        texts: &[
+            ("c", "DEVICE U2 RCV -\n"),
+            ("n", "NET N1 U2.1\n"),
+            ("g", "BOARD A\nBOARD A\n"),
+        ],
+        line: LINE,
+        ending: Ending::Puts("BOARD A\nPASS\nBOARD A\nPASS\n"),
+    },
+    Row {
+        texts: &[
+            ("c", "DEVICE U2 RCV -\n"),
+            ("n", "NET N1 U2.1\n"),
+            ("g", "BOARD A\nBOARD B\n0\n"),
+        ],
+        line: LINE,
+        ending: Ending::Refused("g line 3: row too many\n"),
+    },
+];
+
+#[test]
+fn any_number_of_workers_gives_the_same(rt: HostRuntime) -> Result<(), RowFault> {
+    let texts = [("g", TWO_BLOCKS)];
+    rows_hold(&rt, rt.alloc(), &texts, &ROWS)
+}
+
+#[test]
+fn ten_thousand_blocks_are_kept_in_order(rt: HostRuntime) -> Result<(), RowFault> {
+    let alloc = rt.alloc();
+    let mut logs = String::new(alloc);
+    let mut text = String::new(alloc);
+    for number in 0..5_000 {
+        // Every second board has a net that stays at 0.
+        write!(logs, "BOARD A{number}\n1\n2\nBOARD B{number}\n0\n2\n")?;
+        write!(text, "BOARD A{number}\nPASS\nBOARD B{number}\nFAIL 3\n")?;
+        text.push_str("stuck N1 0\nopen U1.1 0\nopen U2.1 0\n")?;
+    }
+    let mut bench = Bench::with_board(alloc, CHAIN, NETS)?;
+    bench.store.add("g", logs.as_bytes())?;
+    let status = bench.run(&rt, "batch 4 g c n drv rcv")?;
+    bench.expect(0, status, Ending::Puts(&text))
+}

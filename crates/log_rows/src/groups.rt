@@ -1,0 +1,120 @@
+// The groups of nets that the log of a walking test shows.
+use run_bench::{Ending, Row, RowFault, logs_hold, rows_hold};
+
+/// Two drivers and two receivers.
+pub const WALK: &str = "DEVICE U1 DRV -\nDEVICE U2 DRV -\nDEVICE U3 RCV -\nDEVICE U4 RCV -\n";
+
+/// Three nets of them.
+pub const WALK_NETS: &str = "NET N1 U1.1 U3.1\nNET N2 U1.2 U3.2\nNET N3 U2.1 U4.1\n";
+
+/// A driver that its own cell turns off, on a net with a pull, beside two nets that are driven.
+pub const MIXED: &str =
+    "DEVICE U1 OD -\nDEVICE U2 RCV1 -\nDEVICE U3 DRV -\nDEVICE U4 RCV -\nPULL N 1\n";
+
+/// The net with the pull, and the two.
+pub const MIXED_NETS: &str = "NET N U1.1 U2.1\nNET N1 U3.1 U4.1\nNET N2 U3.2 U4.2\n";
+
+/// That driver and its net alone.
+pub const PULLED: &str = "DEVICE U1 OD -\nDEVICE U2 RCV1 -\nPULL N 1\n";
+
+/// The net.
+pub const PULLED_NETS: &str = "NET N U1.1 U2.1\n";
+
+/// A driver and a receiver, and a part that joins two nets.
+pub const LINKED: &str = "DEVICE U1 DRV -\nDEVICE U2 RCV -\nLINK R1 1 2\n";
+
+/// The two nets, and another.
+pub const LINKED_NETS: &str = "NET N1A U1.1 R1.1\nNET N1B R1.2 U2.1\nNET N2 U1.2 U2.2\n";
+
+const LINE: &str = "groups g c n drv rcv od rcv1";
+
+const THREE_NETS: [(&str, Ending<'static>); 13] = [
+    (
+        "05\n08\n05\n",
+        Ending::Puts("GROUPS 1\nGROUP 2\nNET N1\nNET N3\n"),
+    ),
+    ("04\n08\n01\n", Ending::Puts("GROUPS 0\n")),
+    ("04\n08\n05\n", Ending::Puts("GROUPS none\n")),
+    (
+        "0d\n0D\n0d\n",
+        Ending::Puts("GROUPS 1\nGROUP 3\nNET N1\nNET N2\nNET N3\n"),
+    ),
+    (
+        "# bits that are not compared\n\nf5\nf8\nf5\n",
+        Ending::Puts("GROUPS 1\nGROUP 2\nNET N1\nNET N3\n"),
+    ),
+    // Nets that carry nothing, or each the other's bit, are no group.
+    ("00\n00\n00\n", Ending::Puts("GROUPS none\n")),
+    ("01\n08\n04\n", Ending::Puts("GROUPS none\n")),
+    ("05\n0D\n0D\n", Ending::Puts("GROUPS none\n")),
+    // Logs of another test.
+    ("", Ending::Refused("g: 0 rows of 3\n")),
+    ("04\n08\n", Ending::Refused("g: 2 rows of 3\n")),
+    ("04\n8\n01\n", Ending::Refused("g line 2: wrong length\n")),
+    (
+        "04\n08\n0x\n",
+        Ending::Refused("g line 3: digit not allowed\n"),
+    ),
+    (
+        "04\n08\n01\n01\n",
+        Ending::Refused("g line 4: row too many\n"),
+    ),
+];
+
+#[test]
+fn nets_that_read_one_another_are_a_group(rt: HostRuntime) -> Result<(), RowFault> {
+    let texts = [("c", WALK), ("n", WALK_NETS)];
+    logs_hold(&rt, rt.alloc(), &texts, LINE, &THREE_NETS)
+}
+
+// The net with the pull does not walk, and its bit is not compared.
+const MIXED_LOGS: [(&str, Ending<'static>); 4] = [
+    (
+        "03\n03\n",
+        Ending::Puts("GROUPS 1\nGROUP 2\nNET N1\nNET N2\n"),
+    ),
+    ("01\n02\n", Ending::Puts("GROUPS 0\n")),
+    ("11\n12\n", Ending::Puts("GROUPS 0\n")),
+    ("01\n03\n", Ending::Puts("GROUPS none\n")),
+];
+
+#[test]
+fn groups_are_of_the_nets_that_walk(rt: HostRuntime) -> Result<(), RowFault> {
+    let texts = [("c", MIXED), ("n", MIXED_NETS)];
+    logs_hold(&rt, rt.alloc(), &texts, LINE, &MIXED_LOGS)
+}
+
+const ROWS: [Row; 5] = [
+    // Joined nets are in a group by the first of their names.
+    Row {
+        texts: &[("c", LINKED), ("n", LINKED_NETS), ("g", "3\n3\n")],
+        line: LINE,
+        ending: Ending::Puts("GROUPS 1\nGROUP 2\nNET N1A\nNET N2\n"),
+    },
+    Row {
+        texts: &[("c", LINKED), ("n", LINKED_NETS), ("g", "1\n2\n")],
+        line: LINE,
+        ending: Ending::Puts("GROUPS 0\n"),
+    },
+    // Without a net that walks, and without a pass, a log has no row.
+    Row {
+        texts: &[("c", PULLED), ("n", PULLED_NETS), ("g", "")],
+        line: LINE,
+        ending: Ending::Puts("GROUPS 0\n"),
+    },
+    Row {
+        texts: &[("c", "DEVICE U1 RCV -\n"), ("n", "NET N U1.1\n"), ("g", "")],
+        line: LINE,
+        ending: Ending::Puts("GROUPS 0\n"),
+    },
+    Row {
+        texts: &[],
+        line: "groups g c",
+        ending: Ending::Usage,
+    },
+];
+
+#[test]
+fn links_and_pulls_are_read_as_the_walking_test_has_them(rt: HostRuntime) -> Result<(), RowFault> {
+    rows_hold(&rt, rt.alloc(), &[], &ROWS)
+}

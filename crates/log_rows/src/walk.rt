@@ -1,0 +1,63 @@
+// The walking test of a board.
+use crate::groups::{LINKED, LINKED_NETS, MIXED, MIXED_NETS, PULLED, PULLED_NETS, WALK, WALK_NETS};
+use run_bench::{Ending, Row, RowFault, SCANS, rows_hold};
+
+const LINE: &str = "walk c n drv rcv od rcv1";
+
+const ROWS: [Row; 7] = [
+    Row {
+        texts: &[("c", WALK), ("n", WALK_NETS)],
+        line: "walk c n drv rcv",
+        ending: Ending::Scans(
+            "SIR 8 TDI (AA) TDO (55) MASK (FF);\nSDR 8 TDI (00);\nSIR 8 TDI (00) TDO (55) MASK (FF);\n\
+             SDR 8 TDI (40);\nSDR 8 TDI (80) TDO (04) MASK (0D);\nSDR 8 TDI (10) TDO (08) MASK (0D);\n\
+             SDR 8 TDI (00) TDO (01) MASK (0D);\n",
+        ),
+    },
+    // A net whose driver reaches its pull by turning off takes no part.
+    Row {
+        texts: &[("c", MIXED), ("n", MIXED_NETS)],
+        line: LINE,
+        ending: Ending::Scans(
+            "SIR 8 TDI (AA) TDO (55) MASK (FF);\nSDR 6 TDI (20);\nSIR 8 TDI (00) TDO (55) MASK (FF);\n\
+             SDR 6 TDI (24);\nSDR 6 TDI (28) TDO (01) MASK (03);\nSDR 6 TDI (20) TDO (02) MASK (03);\n",
+        ),
+    },
+    // Joined nets walk as one, and the codes of two nets each have one 1, as here.
+    Row {
+        texts: &[("c", LINKED), ("n", LINKED_NETS)],
+        line: LINE,
+        ending: Ending::Scans(SCANS),
+    },
+    // Where no net walks there is one quiet row, and without a pass none.
+    Row {
+        texts: &[("c", PULLED), ("n", PULLED_NETS)],
+        line: LINE,
+        ending: Ending::Scans(
+            "SIR 4 TDI (A) TDO (5) MASK (F);\nSDR 2 TDI (2);\nSIR 4 TDI (0) TDO (5) MASK (F);\n\
+             SDR 2 TDI (2);\n",
+        ),
+    },
+    Row {
+        texts: &[("c", "DEVICE U1 RCV -\n"), ("n", "NET N U1.1\n")],
+        line: LINE,
+        ending: Ending::Scans(
+            "SIR 2 TDI (2) TDO (1) MASK (3);\nSDR 2 TDI (0);\nSIR 2 TDI (0) TDO (1) MASK (3);\n",
+        ),
+    },
+    Row {
+        texts: &[("c", WALK), ("n", WALK_NETS)],
+        line: "walk c n drv",
+        ending: Ending::Refused("c line 3: entity not given\n"),
+    },
+    Row {
+        texts: &[],
+        line: "walk c",
+        ending: Ending::Usage,
+    },
+];
+
+#[test]
+fn one_net_after_another_carries_1(rt: HostRuntime) -> Result<(), RowFault> {
+    rows_hold(&rt, rt.alloc(), &[], &ROWS)
+}

@@ -1,0 +1,128 @@
+// One run on texts and sinks in memory, and what it left.
+use crate::board::{HEAD, TAIL};
+use crate::devices::DEVICES;
+use crate::row::{Ending, RowFault};
+use bt_base::{Gate, MemSink, MemStore, OpenGate};
+use btest_cli::{Status, run};
+use std::alloc::{AllocError, Global};
+use std::thread::Threads;
+
+// The line of refusal of words that are no command.
+const USAGE: &str =
+    "usage: btest chain, device, cover, svf, diagnose, make, ident, walk, groups or batch\n";
+
+/// What a run is given, and what it left.
+#[derive(Drop)]
+pub struct Bench {
+    alloc: Global,
+    /// The texts by their names.
+    pub store: MemStore,
+    /// What the run put.
+    pub out: MemSink,
+    /// Its lines of refusal.
+    pub notes: MemSink,
+}
+
+impl Bench {
+    /// An empty store, and sinks with ample room.
+    pub fn empty(alloc: Global) -> Result<Bench, AllocError> {
+        Ok(Bench {
+            alloc,
+            store: MemStore::new(alloc),
+            out: MemSink::with_room(alloc, 500_000)?,
+            notes: MemSink::with_room(alloc, 1_000)?,
+        })
+    }
+
+    /// A store that holds these texts, and sinks with ample room.
+    pub fn with_texts(alloc: Global, texts: &[(&str, &[u8])]) -> Result<Bench, AllocError> {
+        let mut bench = Bench::empty(alloc)?;
+        for (name, bytes) in texts {
+            bench.store.add(name, bytes)?;
+        }
+        Ok(bench)
+    }
+
+    /// A store with a chain file `c`, a net file `n`, and the texts of the worked devices by their names.
+    pub fn with_board(alloc: Global, chain: &str, nets: &str) -> Result<Bench, AllocError> {
+        let mut bench = Bench::empty(alloc)?;
+        bench.add(&DEVICES)?;
+        bench.store.add("c", chain.as_bytes())?;
+        bench.store.add("n", nets.as_bytes())?;
+        Ok(bench)
+    }
+
+    /// Adds texts to the store, or puts them in the place of those of their names.
+    pub fn add(&mut self, texts: &[(&str, &str)]) -> Result<(), AllocError> {
+        for (name, text) in texts {
+            self.store.add(name, text.as_bytes())?;
+        }
+        Ok(())
+    }
+
+    /// Runs a command line, whose words are separated by spaces.
+    pub fn run(&mut self, rt: &(impl Threads + Sync), line: &str) -> Result<Status, AllocError> {
+        self.run_watched(rt, line, &OpenGate)
+    }
+
+    /// Runs a command line whose pieces of work enter this gate.
+    pub fn run_watched(
+        &mut self,
+        rt: &(impl Threads + Sync),
+        line: &str,
+        gate: &impl Gate,
+    ) -> Result<Status, AllocError> {
+        let mut words = Vec::new(self.alloc);
+        for word in line.split(' ') {
+            words.push(String::from_str(self.alloc, word)?)?;
+        }
+        Ok(self.run_words(rt, &words, gate))
+    }
+
+    /// Runs the words of a command line.
+    pub fn run_words(
+        &mut self,
+        rt: &(impl Threads + Sync),
+        words: &[String],
+        gate: &impl Gate,
+    ) -> Status {
+        run(
+            rt,
+            self.alloc,
+            words,
+            &mut self.store,
+            &mut self.out,
+            &mut self.notes,
+            gate,
+        )
+    }
+
+    // Whether this is all that the sinks took.
+    fn took(&self, out: &str, notes: &str) -> bool {
+        self.out.bytes() == out.as_bytes() && self.notes.bytes() == notes.as_bytes()
+    }
+
+    /// Compares what the run of a row left with how it is to end.
+    pub fn expect(&self, row: usize, status: Status, ending: Ending) -> Result<(), RowFault> {
+        if self.has_ended(status, ending)? {
+            Ok(())
+        } else {
+            Err(RowFault::Ended { row, status })
+        }
+    }
+
+    // Whether a run with this status left what it should.
+    fn has_ended(&self, status: Status, ending: Ending) -> Result<bool, AllocError> {
+        match ending {
+            Ending::Puts(text) => Ok(status == Status::Done && self.took(text, "")),
+            Ending::Scans(scans) => {
+                let text = format!(in self.alloc; "{HEAD}{scans}{TAIL}")?;
+                Ok(status == Status::Done && self.took(&text, ""))
+            }
+            Ending::Refused(line) => Ok(status == Status::Refused && self.took("", line)),
+            Ending::NotRead(line) => Ok(status == Status::ReadFault && self.took("", line)),
+            Ending::NotPut(text, line) => Ok(status == Status::WriteFault && self.took(text, line)),
+            Ending::Usage => Ok(status == Status::Usage && self.took("", USAGE)),
+        }
+    }
+}
