@@ -20,35 +20,37 @@ fn first(text: &str, count: usize) -> &str {
     text.get(..count).unwrap_or(text)
 }
 
-// Tries a failure of this put, counted from 1, after one byte. The lines before it have so many bytes.
+// Tries a failure of this put, counted from 1, after so many bytes. The lines before it have `before` bytes.
 fn is_cut(
     rt: &(impl Threads + Sync),
     alloc: Global,
     command: &Command,
     call: u32,
+    taken: u32,
     before: usize,
 ) -> Result<(), RowFault> {
     let mut bench = bench_of(alloc)?;
-    bench.out.fail_at(call, 1)?;
+    bench.out.fail_at(call, taken)?;
     let status = bench.run(rt, command.line)?;
-    let taken = first(command.text, before.saturating_add(1));
+    let text = first(command.text, before.saturating_add(taken as usize));
     bench.expect(
         call as usize,
         status,
-        Ending::NotPut(taken, "cannot write\n"),
+        Ending::NotPut(text, "cannot write\n"),
     )
 }
 
-// Tries a failure of the put of each line of a command's text.
+// Tries a failure of the put of each line of a command's text after so many bytes.
 fn is_cut_at_each(
     rt: &(impl Threads + Sync),
     alloc: Global,
     command: &Command,
+    taken: u32,
 ) -> Result<(), RowFault> {
     let mut call = 1u32;
     let mut before = 0usize;
     for line in command.text.split_inclusive('\n') {
-        is_cut(rt, alloc, command, call, before)?;
+        is_cut(rt, alloc, command, call, taken, before)?;
         call = call.saturating_add(1);
         before = before.saturating_add(line.len());
     }
@@ -56,9 +58,17 @@ fn is_cut_at_each(
 }
 
 #[test]
-fn a_write_that_fails_cuts_every_text_short(rt: HostRuntime) -> Result<(), RowFault> {
+fn a_write_that_fails_leaves_the_lines_before_it(rt: HostRuntime) -> Result<(), RowFault> {
     for command in &COMMANDS {
-        is_cut_at_each(&rt, rt.alloc(), command)?;
+        is_cut_at_each(&rt, rt.alloc(), command, 0)?;
+    }
+    Ok(())
+}
+
+#[test]
+fn a_write_that_fails_may_take_a_part_of_its_line(rt: HostRuntime) -> Result<(), RowFault> {
+    for command in &COMMANDS {
+        is_cut_at_each(&rt, rt.alloc(), command, 2)?;
     }
     Ok(())
 }

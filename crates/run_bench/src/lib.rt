@@ -8,8 +8,6 @@ mod devices;
 mod row;
 
 pub use bench::Bench;
-pub use board::{CHAIN, HEAD, NETS, SCANS, TAIL};
-pub use devices::{
-    BI, BUF2, BUF2_LISTING, DEVICES, DRV, DRV1, FOUR, OCT, OD, RCV, RCV1, TS, TWO, edited,
-};
-pub use row::{Ending, Named, Row, RowFault, logs_hold, rows_hold};
+pub use board::{CHAIN, NETS, SCANS};
+pub use devices::{BUF2, BUF2_LISTING, DRV, DRV1, RCV, RCV1, TS, edited};
+pub use row::{Ending, Named, Row, RowFault, lines_hold, logs_hold, rows_hold};

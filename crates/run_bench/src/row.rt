@@ -74,6 +74,21 @@ pub fn rows_hold(
     Ok(())
 }
 
+/// Tries each line on these texts.
+pub fn lines_hold(
+    rt: &(impl Threads + Sync),
+    alloc: Global,
+    texts: &[Named],
+    lines: &[(&'static str, Ending<'static>)],
+) -> Result<(), RowFault> {
+    for (i, (line, ending)) in lines.iter().enumerate() {
+        let mut bench = bench_of(alloc, texts)?;
+        let status = bench.run(rt, line)?;
+        bench.expect(i, status, *ending)?;
+    }
+    Ok(())
+}
+
 /// Tries a line with each of these logs, which is the text `g`.
 pub fn logs_hold(
     rt: &(impl Threads + Sync),

@@ -1,114 +1,149 @@
 // Texts that denote no board, each by its first fault.
-use btest_cli::Status;
-use run_bench::{Bench, CHAIN, NETS};
+use run_bench::{Bench, CHAIN, Ending, NETS, RowFault};
 use std::alloc::Global;
-use std::process::Abort;
-use std::test::Fail;
 use std::thread::Threads;
 
-/// The line of refusal that both commands give for a board, which has the words behind the command's name.
-fn is_refused<R: Abort + Sync + Threads>(
-    rt: &R,
+// The commands of a board, with the names of its files. Where they read a log it comes after the board, so it makes no difference that
+// this one is wrong.
+const COMMANDS: [&str; 6] = [
+    "cover c n",
+    "svf c n",
+    "walk c n",
+    "diagnose 2 g c n",
+    "groups g c n",
+    "batch 2 g c n",
+];
+
+// Tries the line of refusal that each command of a board gives, which has the words behind the names of its files.
+fn is_refused(
+    rt: &(impl Threads + Sync),
     alloc: Global,
     words: &str,
     chain: &str,
     nets: &str,
     note: &str,
-) -> Result<(), Fail> {
-    for command in ["cover", "svf"] {
+) -> Result<(), RowFault> {
+    for (i, command) in COMMANDS.iter().enumerate() {
         let mut bench = Bench::with_board(alloc, chain, nets)?;
-        let line = format!(in alloc; "{command} c n {words}")?;
-        assert_eq!(rt; bench.run(rt, &line)?, Status::Refused, "{note}");
-        assert_eq!(rt; bench.notes.bytes(), note.as_bytes(), "{note}");
-        assert_eq!(rt; bench.out.bytes(), b"".as_slice(), "{note}");
+        bench.store.add("g", b"zz\n")?;
+        let line = format!(in alloc; "{command} {words}")?;
+        let status = bench.run(rt, &line)?;
+        bench.expect(i, status, Ending::Refused(note))?;
     }
     Ok(())
 }
 
-#[test]
-fn the_first_board_rule_that_fails_is_told(rt: HostRuntime) -> Result<(), Fail> {
-    let alloc = rt.alloc();
-    let cases = [
-        ("", "drv rcv", "c: no part in the chain\n"),
-        (
-            "DEVICE U1 DRV -\nBYPASS U1 3",
-            "drv rcv",
-            "c line 2: part twice\n",
-        ),
-        ("DEVICE U1 XYZ -", "drv rcv", "c line 1: entity not given\n"),
-        (CHAIN, "drv rcv drv", "drv: entity given twice\n"),
-        (
-            "DEVICE U1 DRV -\nDEVICE U2 RCV -\nINERT U1",
-            "drv rcv",
-            "c line 3: inert part in the chain\n",
-        ),
-        (
-            "DEVICE U1 DRV -\nDEVICE U2 RCV -\nSUPPLY VCC",
-            "drv rcv",
-            "c line 3: supply net not there\n",
-        ),
-        (
-            "DEVICE U1 DRV -\nDEVICE U2 RCV -\nSUPPLY N1",
-            "drv rcv",
-            "n line 1 word 3: driver on a guarded net\n",
-        ),
-    ];
-    for (chain, words, note) in cases {
-        is_refused(&rt, alloc, words, chain, NETS, note)?;
+// A chain file, a net file, the names of the BSDL texts, and the line of refusal.
+type Case = (&'static str, &'static str, &'static str, &'static str);
+
+fn are_refused(rt: &(impl Threads + Sync), alloc: Global, cases: &[Case]) -> Result<(), RowFault> {
+    for (chain, nets, words, note) in cases {
+        is_refused(rt, alloc, words, chain, nets, note)?;
     }
     Ok(())
 }
 
+const CHAINS: [Case; 7] = [
+    ("", NETS, "drv rcv", "c: no part in the chain\n"),
+    (
+        "DEVICE U1 DRV -\nBYPASS U1 3",
+        NETS,
+        "drv rcv",
+        "c line 2: part twice\n",
+    ),
+    (
+        "DEVICE U1 XYZ -",
+        NETS,
+        "drv rcv",
+        "c line 1: entity not given\n",
+    ),
+    (CHAIN, NETS, "drv rcv drv", "drv: entity given twice\n"),
+    (
+        "DEVICE U1 DRV -\nDEVICE U2 RCV -\nINERT U1",
+        NETS,
+        "drv rcv",
+        "c line 3: inert part in the chain\n",
+    ),
+    (
+        "DEVICE U1 DRV -\nDEVICE U2 RCV -\nSUPPLY VCC",
+        NETS,
+        "drv rcv",
+        "c line 3: supply net not there\n",
+    ),
+    (
+        "DEVICE U1 DRV -\nDEVICE U2 RCV -\nSUPPLY N1",
+        NETS,
+        "drv rcv",
+        "n line 1 word 3: driver on a guarded net\n",
+    ),
+];
+
 #[test]
-fn the_first_fault_of_a_net_file_is_told(rt: HostRuntime) -> Result<(), Fail> {
-    let alloc = rt.alloc();
-    let cases = [
-        ("NET N1 U1.9", "n line 1 word 3: no such pin\n"),
-        (
-            "NET N1 U1.1 U2.1\nNET N2 U1.1",
-            "n line 2 word 3: pin in two nets\n",
-        ),
-        ("NETS N1 U1.1", "n line 1: no statement\n"),
-        ("NET N1 U1.", "n line 1: word not allowed\n"),
-    ];
-    for (nets, note) in cases {
-        is_refused(&rt, alloc, "drv rcv", CHAIN, nets, note)?;
-    }
-    is_refused(
-        &rt,
-        alloc,
-        "drv",
+fn the_first_board_rule_that_fails_is_told(rt: HostRuntime) -> Result<(), RowFault> {
+    are_refused(&rt, rt.alloc(), &CHAINS)
+}
+
+const NET_FILES: [Case; 5] = [
+    (
+        CHAIN,
+        "NET N1 U1.9",
+        "drv rcv",
+        "n line 1 word 3: no such pin\n",
+    ),
+    (
+        CHAIN,
+        "NET N1 U1.1 U2.1\nNET N2 U1.1",
+        "drv rcv",
+        "n line 2 word 3: pin in two nets\n",
+    ),
+    (CHAIN, "NETS N1 U1.1", "drv rcv", "n line 1: no statement\n"),
+    (
+        CHAIN,
+        "NET N1 U1.",
+        "drv rcv",
+        "n line 1: word not allowed\n",
+    ),
+    (
         "DEVICE U1 DRV -\nDEVICE U2 DRV -",
         "NET N U1.1 U2.1",
+        "drv",
         "n line 1 word 4: two drivers always on\n",
-    )
-}
+    ),
+];
 
 #[test]
-fn links_and_pulls_that_name_nothing_are_told(rt: HostRuntime) -> Result<(), Fail> {
-    let alloc = rt.alloc();
-    is_refused(
-        &rt,
-        alloc,
-        "drv rcv",
+fn the_first_fault_of_a_net_file_is_told(rt: HostRuntime) -> Result<(), RowFault> {
+    are_refused(&rt, rt.alloc(), &NET_FILES)
+}
+
+const LINKS_AND_PULLS: [Case; 3] = [
+    (
         "DEVICE U1 DRV -\nDEVICE U2 RCV -\nLINK R1 1 9",
         "NET N1A U1.1 R1.1\nNET N1B R1.2 U2.1\nNET N2 U1.2 U2.2",
+        "drv rcv",
         "c line 3 word 4: link pin not in a net\n",
-    )?;
-    let pulled = "DEVICE U1 OD -\nDEVICE U2 RCV1 -\nPULL N 1\n";
-    let cases = [
-        ("PULL N 1", "c line 4: net pulled twice\n"),
-        ("PULL M 1", "c line 4: pulled net not there\n"),
-    ];
-    for (more, note) in cases {
-        let chain = format!(in alloc; "{pulled}{more}")?;
-        is_refused(&rt, alloc, "od rcv1", &chain, "NET N U1.1 U2.1", note)?;
-    }
-    Ok(())
+    ),
+    (
+        "DEVICE U1 OD -\nDEVICE U2 RCV1 -\nPULL N 1\nPULL N 1",
+        "NET N U1.1 U2.1",
+        "od rcv1",
+        "c line 4: net pulled twice\n",
+    ),
+    (
+        "DEVICE U1 OD -\nDEVICE U2 RCV1 -\nPULL N 1\nPULL M 1",
+        "NET N U1.1 U2.1",
+        "od rcv1",
+        "c line 4: pulled net not there\n",
+    ),
+];
+
+#[test]
+fn links_and_pulls_that_name_nothing_are_told(rt: HostRuntime) -> Result<(), RowFault> {
+    are_refused(&rt, rt.alloc(), &LINKS_AND_PULLS)
 }
 
 #[test]
-fn a_board_has_limits(rt: HostRuntime) -> Result<(), Fail> {
+fn a_board_has_limits(rt: HostRuntime) -> Result<(), RowFault> {
     let alloc = rt.alloc();
     let mut nets = String::new(alloc);
     for i in 0..16_383 {

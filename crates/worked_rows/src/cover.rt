@@ -1,30 +1,25 @@
 // What safe settings can reach, as the coverage list says it.
-use btest_cli::Status;
-use run_bench::{Bench, CHAIN, NETS, RCV1, edited};
+use run_bench::{Bench, CHAIN, Ending, NETS, RCV1, RowFault, edited};
 use std::alloc::Global;
-use std::process::Abort;
-use std::test::Fail;
 use std::thread::Threads;
 
-/// The coverage list of a board.
-fn is_listed<R: Abort + Sync + Threads>(
-    rt: &R,
+// Tries the coverage list of a board.
+fn is_listed(
+    rt: &(impl Threads + Sync),
     alloc: Global,
     words: &str,
     chain: &str,
     nets: &str,
     list: &str,
-) -> Result<(), Fail> {
+) -> Result<(), RowFault> {
     let mut bench = Bench::with_board(alloc, chain, nets)?;
     let line = format!(in alloc; "cover c n {words}")?;
-    assert_eq!(rt; bench.run(rt, &line)?, Status::Done, "{list}");
-    assert_eq!(rt; bench.out.bytes(), list.as_bytes(), "{list}");
-    assert_eq!(rt; bench.notes.bytes(), b"".as_slice(), "{list}");
-    Ok(())
+    let status = bench.run(rt, &line)?;
+    bench.expect(0, status, Ending::Puts(list))
 }
 
 #[test]
-fn a_net_that_is_not_covered_has_its_first_reason(rt: HostRuntime) -> Result<(), Fail> {
+fn a_net_that_is_not_covered_has_its_first_reason(rt: HostRuntime) -> Result<(), RowFault> {
     let alloc = rt.alloc();
     is_listed(
         &rt,
@@ -62,7 +57,7 @@ fn a_net_that_is_not_covered_has_its_first_reason(rt: HostRuntime) -> Result<(),
 }
 
 #[test]
-fn a_part_without_a_description_darkens_its_nets(rt: HostRuntime) -> Result<(), Fail> {
+fn a_part_without_a_description_darkens_its_nets(rt: HostRuntime) -> Result<(), RowFault> {
     let alloc = rt.alloc();
     let nets = "NET N1 U1.1 U2.1 RAM.7\nNET N2 U1.2 U2.2";
     is_listed(
@@ -85,7 +80,9 @@ fn a_part_without_a_description_darkens_its_nets(rt: HostRuntime) -> Result<(), 
 }
 
 #[test]
-fn drivers_and_pairs_that_no_safe_setting_tests_are_listed(rt: HostRuntime) -> Result<(), Fail> {
+fn drivers_and_pairs_that_no_safe_setting_tests_are_listed(
+    rt: HostRuntime,
+) -> Result<(), RowFault> {
     let alloc = rt.alloc();
     is_listed(
         &rt,
@@ -114,7 +111,7 @@ fn drivers_and_pairs_that_no_safe_setting_tests_are_listed(rt: HostRuntime) -> R
 }
 
 #[test]
-fn a_link_joins_two_nets(rt: HostRuntime) -> Result<(), Fail> {
+fn a_link_joins_two_nets(rt: HostRuntime) -> Result<(), RowFault> {
     let alloc = rt.alloc();
     let nets = "NET N1A U1.1 R1.1\nNET N1B R1.2 U2.1\nNET N2 U1.2 U2.2";
     let linked = format!(in alloc; "{CHAIN}LINK R1 1 2")?;
@@ -130,7 +127,7 @@ fn a_link_joins_two_nets(rt: HostRuntime) -> Result<(), Fail> {
 }
 
 #[test]
-fn a_driver_and_a_receiver_are_covered(rt: HostRuntime) -> Result<(), Fail> {
+fn a_driver_and_a_receiver_are_covered(rt: HostRuntime) -> Result<(), RowFault> {
     is_listed(
         &rt,
         rt.alloc(),
@@ -141,31 +138,25 @@ fn a_driver_and_a_receiver_are_covered(rt: HostRuntime) -> Result<(), Fail> {
     )
 }
 
-/// The coverage list of a three-state driver and a receiver whose text has these places changed, on one net.
-fn is_listed_beside<R: Abort + Sync + Threads>(
-    rt: &R,
+// Tries the coverage list of a three-state driver and a receiver whose text has these places changed.
+fn is_listed_beside(
+    rt: &(impl Threads + Sync),
     alloc: Global,
     edits: &[(&str, &str)],
     more: &str,
     nets: &str,
     list: &str,
-) -> Result<(), Fail> {
+) -> Result<(), RowFault> {
     let chain = format!(in alloc; "DEVICE U1 TS -\nDEVICE U2 RCV1 -\n{more}")?;
+    let changed = edited(alloc, RCV1, edits)?;
     let mut bench = Bench::with_board(alloc, &chain, nets)?;
-    bench
-        .store
-        .add("changed", edited(alloc, RCV1, edits)?.as_bytes())?;
-    assert_eq!(rt;
-        bench.run(rt, "cover c n ts changed")?,
-        Status::Done,
-        "{list}"
-    );
-    assert_eq!(rt; bench.out.bytes(), list.as_bytes(), "{list}");
-    Ok(())
+    bench.store.add("changed", changed.as_bytes())?;
+    let status = bench.run(rt, "cover c n ts changed")?;
+    bench.expect(0, status, Ending::Puts(list))
 }
 
 #[test]
-fn a_cell_that_only_observes_is_no_receiver(rt: HostRuntime) -> Result<(), Fail> {
+fn a_cell_that_only_observes_is_no_receiver(rt: HostRuntime) -> Result<(), RowFault> {
     let alloc = rt.alloc();
     let net = "NET N U1.1 U2.1";
     let covered = "NETS 1 COVERED 1\n";
@@ -183,7 +174,7 @@ fn a_cell_that_only_observes_is_no_receiver(rt: HostRuntime) -> Result<(), Fail>
 }
 
 #[test]
-fn supplies_and_compliance_pins_guard_their_nets(rt: HostRuntime) -> Result<(), Fail> {
+fn supplies_and_compliance_pins_guard_their_nets(rt: HostRuntime) -> Result<(), RowFault> {
     let alloc = rt.alloc();
     let net = "NET N U1.1 U2.1";
     let supply = "NETS 1 COVERED 0\nNET N SUPPLY\n";
@@ -194,7 +185,7 @@ fn supplies_and_compliance_pins_guard_their_nets(rt: HostRuntime) -> Result<(), 
 }
 
 #[test]
-fn pins_that_nobody_rules_darken_their_nets(rt: HostRuntime) -> Result<(), Fail> {
+fn pins_that_nobody_rules_darken_their_nets(rt: HostRuntime) -> Result<(), RowFault> {
     let alloc = rt.alloc();
     let nets = "NET N U1.1 U2.1 U2.2";
     let dark = "NETS 1 COVERED 0\nNET N DARK\n";

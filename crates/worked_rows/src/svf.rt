@@ -1,31 +1,26 @@
 // The test of a board.
 use btest_cli::Status;
-use run_bench::{Bench, CHAIN, HEAD, NETS, SCANS, TAIL, TS, edited};
-use std::alloc::Global;
-use std::process::Abort;
-use std::test::Fail;
+use run_bench::{Bench, CHAIN, Ending, NETS, RowFault, SCANS, TS, edited};
+use std::alloc::{AllocError, Global};
 use std::thread::Threads;
 
-/// The scans of a board's test.
-fn is_tested_by<R: Abort + Sync + Threads>(
-    rt: &R,
+// Tries the scans of a board's test.
+fn is_tested_by(
+    rt: &(impl Threads + Sync),
     alloc: Global,
     words: &str,
     chain: &str,
     nets: &str,
     scans: &str,
-) -> Result<(), Fail> {
+) -> Result<(), RowFault> {
     let mut bench = Bench::with_board(alloc, chain, nets)?;
     let line = format!(in alloc; "svf c n {words}")?;
-    assert_eq!(rt; bench.run(rt, &line)?, Status::Done, "{scans}");
-    let text = format!(in alloc; "{HEAD}{scans}{TAIL}")?;
-    assert_eq!(rt; bench.out.bytes(), text.as_bytes(), "{scans}");
-    assert_eq!(rt; bench.notes.bytes(), b"".as_slice(), "{scans}");
-    Ok(())
+    let status = bench.run(rt, &line)?;
+    bench.expect(0, status, Ending::Scans(scans))
 }
 
 #[test]
-fn the_driver_of_each_net_shifts_its_code(rt: HostRuntime) -> Result<(), Fail> {
+fn the_driver_of_each_net_shifts_its_code(rt: HostRuntime) -> Result<(), RowFault> {
     let alloc = rt.alloc();
     is_tested_by(&rt, alloc, "drv rcv", CHAIN, NETS, SCANS)?;
     is_tested_by(
@@ -49,7 +44,7 @@ fn the_driver_of_each_net_shifts_its_code(rt: HostRuntime) -> Result<(), Fail> {
 }
 
 #[test]
-fn a_bus_has_a_pass_for_each_driver(rt: HostRuntime) -> Result<(), Fail> {
+fn a_bus_has_a_pass_for_each_driver(rt: HostRuntime) -> Result<(), RowFault> {
     is_tested_by(
         &rt,
         rt.alloc(),
@@ -63,7 +58,7 @@ fn a_bus_has_a_pass_for_each_driver(rt: HostRuntime) -> Result<(), Fail> {
 }
 
 #[test]
-fn nets_that_are_not_covered_are_left_alone(rt: HostRuntime) -> Result<(), Fail> {
+fn nets_that_are_not_covered_are_left_alone(rt: HostRuntime) -> Result<(), RowFault> {
     let alloc = rt.alloc();
     is_tested_by(
         &rt,
@@ -94,7 +89,7 @@ fn nets_that_are_not_covered_are_left_alone(rt: HostRuntime) -> Result<(), Fail>
 }
 
 #[test]
-fn a_pull_gives_the_bit_of_a_driver_that_is_off(rt: HostRuntime) -> Result<(), Fail> {
+fn a_pull_gives_the_bit_of_a_driver_that_is_off(rt: HostRuntime) -> Result<(), RowFault> {
     is_tested_by(
         &rt,
         rt.alloc(),
@@ -107,7 +102,7 @@ fn a_pull_gives_the_bit_of_a_driver_that_is_off(rt: HostRuntime) -> Result<(), F
 }
 
 #[test]
-fn linked_nets_are_tested_as_one(rt: HostRuntime) -> Result<(), Fail> {
+fn linked_nets_are_tested_as_one(rt: HostRuntime) -> Result<(), RowFault> {
     let alloc = rt.alloc();
     let linked = format!(in alloc; "{CHAIN}LINK R1 1 2")?;
     let nets = "NET N1A U1.1 R1.1\nNET N1B R1.2 U2.1\nNET N2 U1.2 U2.2";
@@ -116,7 +111,7 @@ fn linked_nets_are_tested_as_one(rt: HostRuntime) -> Result<(), Fail> {
 
 // The first board enables the controls of cells 8 and 9, then 10 and 11, then 9 and 10; the second those of cell 4, then 5.
 #[test]
-fn nets_that_are_observed_apart_have_a_pass_together(rt: HostRuntime) -> Result<(), Fail> {
+fn nets_that_are_observed_apart_have_a_pass_together(rt: HostRuntime) -> Result<(), RowFault> {
     let alloc = rt.alloc();
     is_tested_by(
         &rt,
@@ -146,102 +141,58 @@ fn nets_that_are_observed_apart_have_a_pass_together(rt: HostRuntime) -> Result<
     )
 }
 
+// The chain file is too long, and the net file would fail.
 #[test]
-fn a_text_of_a_board_that_is_not_read_is_named(rt: HostRuntime) -> Result<(), Fail> {
+fn a_text_that_is_too_long_ends_the_run(rt: HostRuntime) -> Result<(), RowFault> {
     let alloc = rt.alloc();
-    let cases = [(1, "c"), (2, "n"), (3, "drv"), (4, "rcv")];
-    for (call, name) in cases {
-        let mut bench = Bench::with_board(alloc, CHAIN, NETS)?;
-        bench.store.fail_at(call)?;
-        bench.out.fail_at(1, 0)?;
-        assert_eq!(rt;
-            bench.run(&rt, "svf c n drv rcv")?,
-            Status::ReadFault,
-            "{name}"
-        );
-        let note = format!(in alloc; "cannot read {name}\n")?;
-        assert_eq!(rt; bench.notes.bytes(), note.as_bytes(), "{name}");
-        assert_eq!(rt; bench.out.bytes(), b"".as_slice(), "{name}");
-    }
-    let mut bench = Bench::with_board(alloc, CHAIN, NETS)?;
-    assert_eq!(rt; bench.run(&rt, "svf c n drv none")?, Status::ReadFault);
-    assert_eq!(rt; bench.notes.bytes(), b"cannot read none\n".as_slice());
-    Ok(())
-}
-
-#[test]
-fn the_first_text_that_is_bad_ends_the_run(rt: HostRuntime) -> Result<(), Fail> {
-    let alloc = rt.alloc();
-    let long = vec![in alloc; b' '; 4_194_305]?;
-    // The chain file is too long, and the net file would fail.
-    let mut bench = Bench::with_board(alloc, CHAIN, NETS)?;
-    bench.store.add("c", &long)?;
+    let long = " ".repeat(alloc, 4_194_305)?;
+    let mut bench = Bench::with_board(alloc, &long, NETS)?;
     bench.store.fail_at(2)?;
-    assert_eq!(rt; bench.run(&rt, "svf c n drv rcv")?, Status::Refused);
-    assert_eq!(rt;
-        bench.notes.bytes(),
-        b"c: longer than 4194304 bytes\n".as_slice()
-    );
-    // The chain file fails, and the net file would be too long.
-    let mut bench = Bench::with_board(alloc, CHAIN, NETS)?;
-    bench.store.add("n", &long)?;
+    let status = bench.run(&rt, "svf c n drv rcv")?;
+    bench.expect(0, status, Ending::Refused("c: longer than 4194304 bytes\n"))
+}
+
+// The chain file fails, and the net file would be too long.
+#[test]
+fn a_text_that_is_not_read_ends_the_run(rt: HostRuntime) -> Result<(), RowFault> {
+    let alloc = rt.alloc();
+    let long = " ".repeat(alloc, 4_194_305)?;
+    let mut bench = Bench::with_board(alloc, CHAIN, &long)?;
     bench.store.fail_at(1)?;
-    assert_eq!(rt; bench.run(&rt, "svf c n drv rcv")?, Status::ReadFault);
-    assert_eq!(rt; bench.notes.bytes(), b"cannot read c\n".as_slice());
-    Ok(())
+    let status = bench.run(&rt, "svf c n drv rcv")?;
+    bench.expect(0, status, Ending::NotRead("cannot read c\n"))
 }
 
 #[test]
-fn a_cell_keeps_its_safe_value(rt: HostRuntime) -> Result<(), Fail> {
+fn a_name_that_is_not_held_is_told(rt: HostRuntime) -> Result<(), RowFault> {
+    let mut bench = Bench::with_board(rt.alloc(), CHAIN, NETS)?;
+    let status = bench.run(&rt, "svf c n drv none")?;
+    bench.expect(0, status, Ending::NotRead("cannot read none\n"))
+}
+
+const INTERNAL: [(&str, &str); 2] = [
+    (
+        "entity is 2;\nattribute BOUNDARY_REGISTER",
+        "entity is 3;\nattribute BOUNDARY_REGISTER",
+    ),
+    ("control, 1)\"", "control, 1), 2 (BC_1, *, internal, 1)\""),
+];
+
+#[test]
+fn a_cell_keeps_its_safe_value(rt: HostRuntime) -> Result<(), RowFault> {
     let alloc = rt.alloc();
-    let internal = [
-        (
-            "entity is 2;\nattribute BOUNDARY_REGISTER",
-            "entity is 3;\nattribute BOUNDARY_REGISTER",
-        ),
-        ("control, 1)\"", "control, 1), 2 (BC_1, *, internal, 1)\""),
-    ];
-    let mut bench = Bench::with_board(
-        alloc,
-        "DEVICE U1 TS -\nDEVICE U2 RCV1 -",
-        "NET N U1.1 U2.1",
-    )?;
-    bench
-        .store
-        .add("ts", edited(alloc, TS, &internal)?.as_bytes())?;
-    assert_eq!(rt; bench.run(&rt, "svf c n ts rcv1")?, Status::Done);
+    let chain = "DEVICE U1 TS -\nDEVICE U2 RCV1 -";
+    let text = edited(alloc, TS, &INTERNAL)?;
+    let mut bench = Bench::with_board(alloc, chain, "NET N U1.1 U2.1")?;
+    bench.store.add("ts", text.as_bytes())?;
+    let status = bench.run(&rt, "svf c n ts rcv1")?;
     let scans = "SIR 4 TDI (A) TDO (5) MASK (F);\nSDR 4 TDI (C);\nSIR 4 TDI (0) TDO (5) MASK (F);\n\
                  SDR 4 TDI (A);\nSDR 4 TDI (8) TDO (1) MASK (1);\nSDR 4 TDI (C) TDO (0) MASK (1);\n";
-    let text = format!(in alloc; "{HEAD}{scans}{TAIL}")?;
-    assert_eq!(rt; bench.out.bytes(), text.as_bytes());
-    Ok(())
-}
-
-#[test]
-fn a_put_that_fails_cuts_the_test_short(rt: HostRuntime) -> Result<(), Fail> {
-    let alloc = rt.alloc();
-    let text = format!(in alloc; "{HEAD}{SCANS}{TAIL}")?;
-    let mut before = String::new(alloc);
-    let mut call = 1u32;
-    for line in text.split_inclusive('\n') {
-        let mut bench = Bench::with_board(alloc, CHAIN, NETS)?;
-        bench.out.fail_at(call, 0)?;
-        assert_eq!(rt; bench.run(&rt, "svf c n drv rcv")?, Status::WriteFault);
-        assert_eq!(rt; bench.notes.bytes(), b"cannot write\n".as_slice());
-        assert_eq!(rt; bench.out.bytes(), before.as_bytes());
-        before.push_str(line)?;
-        call = call.saturating_add(1);
-    }
-    assert_eq!(rt; call, 13);
-    let mut bench = Bench::with_board(alloc, CHAIN, NETS)?;
-    bench.out.fail_at(3, 2)?;
-    assert_eq!(rt; bench.run(&rt, "svf c n drv rcv")?, Status::WriteFault);
-    assert_eq!(rt; bench.out.bytes(), b"TRST OFF;\nENDIR IDLE;\nEN".as_slice());
-    Ok(())
+    bench.expect(0, status, Ending::Scans(scans))
 }
 
 /// The BSDL text of a device that has so many internal cells.
-fn internal_cells(alloc: Global, name: &str, cells: u32) -> Result<String, Fail> {
+fn internal_cells(alloc: Global, name: &str, cells: u32) -> Result<String, AllocError> {
     let mut text = String::new(alloc);
     write!(
         text,
@@ -269,25 +220,31 @@ fn internal_cells(alloc: Global, name: &str, cells: u32) -> Result<String, Fail>
     Ok(text)
 }
 
-#[test]
-fn a_scan_has_at_most_65535_bits(rt: HostRuntime) -> Result<(), Fail> {
-    let alloc = rt.alloc();
+// The status of a run on two devices of 32,768 internal cells and of so many.
+fn status_of(
+    rt: &(impl Threads + Sync),
+    alloc: Global,
+    cells: u32,
+) -> Result<(Status, Bench), RowFault> {
     let first = internal_cells(alloc, "A", 32_768)?;
-    let cases = [
-        (32_767, Status::Done, ""),
-        (32_768, Status::Refused, "limit: boundary bits\n"),
-    ];
-    for (cells, status, note) in cases {
-        let second = internal_cells(alloc, "B", cells)?;
-        let texts: [(&str, &[u8]); 4] = [
-            ("c", b"DEVICE U1 A -\nDEVICE U2 B -"),
-            ("n", b""),
-            ("a", first.as_bytes()),
-            ("b", second.as_bytes()),
-        ];
-        let mut bench = Bench::with_texts(alloc, &texts)?;
-        assert_eq!(rt; bench.run(&rt, "svf c n a b")?, status, "{cells}");
-        assert_eq!(rt; bench.notes.bytes(), note.as_bytes(), "{cells}");
+    let second = internal_cells(alloc, "B", cells)?;
+    let mut bench = Bench::with_board(alloc, "DEVICE U1 A -\nDEVICE U2 B -", "")?;
+    bench.store.add("a", first.as_bytes())?;
+    bench.store.add("b", second.as_bytes())?;
+    let status = bench.run(rt, "svf c n a b")?;
+    Ok((status, bench))
+}
+
+#[test]
+fn a_scan_may_have_65535_bits(rt: HostRuntime) -> Result<(), RowFault> {
+    match status_of(&rt, rt.alloc(), 32_767)? {
+        (Status::Done, _) => Ok(()),
+        (status, _) => Err(RowFault::Ended { row: 0, status }),
     }
-    Ok(())
+}
+
+#[test]
+fn a_scan_has_at_most_65535_bits(rt: HostRuntime) -> Result<(), RowFault> {
+    let (status, bench) = status_of(&rt, rt.alloc(), 32_768)?;
+    bench.expect(0, status, Ending::Refused("limit: boundary bits\n"))
 }
