@@ -19,7 +19,7 @@ const BOARD_TEST: &str = "TRST OFF;\nENDIR IDLE;\nENDDR IDLE;\nSTATE RESET;\nSTA
      SDR 4 TDI (4);\nSDR 4 TDI (8) TDO (1) MASK (3);\nSDR 4 TDI (0) TDO (2) MASK (3);\nSTATE RESET;\n";
 
 /// Each command.
-pub const COMMANDS: [Command; 10] = [
+pub static COMMANDS: [Command; 10] = [
     Command {
         line: "chain c drv rcv",
         names: &["c", "drv", "rcv"],

@@ -67,10 +67,11 @@ fn a_log_that_is_too_long_is_refused(rt: HostRuntime) -> Result<(), RowFault> {
     is_too_long(&rt, alloc, "batch 2 b c n drv rcv", "b", bytes, 67_108_864)
 }
 
+// A log may be longer than any other text.
 #[test]
-fn a_log_may_have_as_many_bytes_as_its_limit(rt: HostRuntime) -> Result<(), RowFault> {
+fn a_log_has_a_limit_of_its_own(rt: HostRuntime) -> Result<(), RowFault> {
     let alloc = rt.alloc();
-    let text = " ".repeat(alloc, 67_108_864)?;
+    let text = " ".repeat(alloc, 4_194_305)?;
     let mut bench = bench_of(alloc)?;
     bench.store.add("w", text.as_bytes())?;
     let status = bench.run(&rt, "groups w c n drv rcv")?;
@@ -80,7 +81,7 @@ fn a_log_may_have_as_many_bytes_as_its_limit(rt: HostRuntime) -> Result<(), RowF
 #[test]
 fn a_batch_of_blanks_has_no_block(rt: HostRuntime) -> Result<(), RowFault> {
     let alloc = rt.alloc();
-    let text = " ".repeat(alloc, 67_108_864)?;
+    let text = " ".repeat(alloc, 4_194_305)?;
     let mut bench = bench_of(alloc)?;
     bench.store.add("b", text.as_bytes())?;
     let status = bench.run(&rt, "batch 2 b c n drv rcv")?;

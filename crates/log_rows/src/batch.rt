@@ -7,7 +7,7 @@ const TWO_BLOCKS: &str = "BOARD A\n1\n2\nBOARD B\n0\n2\n";
 
 const TWO_VERDICTS: &str = "BOARD A\nPASS\nBOARD B\nFAIL 3\nstuck N1 0\nopen U1.1 0\nopen U2.1 0\n";
 
-const LOGS: [(&str, Ending<'static>); 14] = [
+static LOGS: [(&str, Ending<'static>); 14] = [
     (TWO_BLOCKS, Ending::Puts(TWO_VERDICTS)),
     ("", Ending::Puts("")),
     ("# no board today\r\n\r\n", Ending::Puts("")),
@@ -63,7 +63,7 @@ fn each_block_is_diagnosed_by_itself(rt: HostRuntime) -> Result<(), RowFault> {
     logs_hold(&rt, rt.alloc(), &[], LINE, &LOGS)
 }
 
-const ROWS: [Row; 9] = [
+static ROWS: [Row; 9] = [
     Row {
         texts: &[],
         line: "batch 1 g c n drv rcv",

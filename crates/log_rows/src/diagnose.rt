@@ -6,7 +6,7 @@ const STUCK: &str = "FAIL 3\nstuck N1 0\nopen U1.1 0\nopen U2.1 0\n";
 
 const LINE: &str = "diagnose 2 g c n drv rcv od rcv1";
 
-const LOGS: [(&str, Ending<'static>); 16] = [
+static LOGS: [(&str, Ending<'static>); 16] = [
     ("1\n2\n", Ending::Puts("PASS\n")),
     (
         "# first board\r\n\r\n1\r\n2 # last\r\n",
@@ -34,7 +34,7 @@ fn lists_the_single_faults_that_explain_a_log(rt: HostRuntime) -> Result<(), Row
     logs_hold(&rt, rt.alloc(), &[], LINE, &LOGS)
 }
 
-const WORKERS: [Row; 10] = [
+static WORKERS: [Row; 10] = [
     Row {
         texts: &[],
         line: "diagnose 1 g c n drv rcv",
@@ -104,7 +104,7 @@ fn a_log_has_a_limit_of_its_own(rt: HostRuntime) -> Result<(), RowFault> {
     bench.expect(0, status, Ending::Refused("g: 0 rows of 2\n"))
 }
 
-const BOARDS: [Row; 4] = [
+static BOARDS: [Row; 4] = [
     Row {
         texts: &[("c", PULLED), ("n", PULLED_NETS), ("g", "1\n1\n")],
         line: LINE,

@@ -28,7 +28,7 @@ pub const LINKED_NETS: &str = "NET N1A U1.1 R1.1\nNET N1B R1.2 U2.1\nNET N2 U1.2
 
 const LINE: &str = "groups g c n drv rcv od rcv1";
 
-const THREE_NETS: [(&str, Ending<'static>); 13] = [
+static THREE_NETS: [(&str, Ending<'static>); 13] = [
     (
         "05\n08\n05\n",
         Ending::Puts("GROUPS 1\nGROUP 2\nNET N1\nNET N3\n"),
@@ -68,7 +68,7 @@ fn nets_that_read_one_another_are_a_group(rt: HostRuntime) -> Result<(), RowFaul
 }
 
 // The net with the pull does not walk, and its bit is not compared.
-const MIXED_LOGS: [(&str, Ending<'static>); 4] = [
+static MIXED_LOGS: [(&str, Ending<'static>); 4] = [
     (
         "03\n03\n",
         Ending::Puts("GROUPS 1\nGROUP 2\nNET N1\nNET N2\n"),
@@ -84,7 +84,7 @@ fn groups_are_of_the_nets_that_walk(rt: HostRuntime) -> Result<(), RowFault> {
     logs_hold(&rt, rt.alloc(), &texts, LINE, &MIXED_LOGS)
 }
 
-const ROWS: [Row; 5] = [
+static ROWS: [Row; 5] = [
     // Joined nets are in a group by the first of their names.
     Row {
         texts: &[("c", LINKED), ("n", LINKED_NETS), ("g", "3\n3\n")],

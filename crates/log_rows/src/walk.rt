@@ -4,7 +4,7 @@ use run_bench::{Ending, Row, RowFault, SCANS, rows_hold};
 
 const LINE: &str = "walk c n drv rcv od rcv1";
 
-const ROWS: [Row; 7] = [
+static ROWS: [Row; 7] = [
     Row {
         texts: &[("c", WALK), ("n", WALK_NETS)],
         line: "walk c n drv rcv",

@@ -43,7 +43,7 @@ fn are_refused(rt: &(impl Threads + Sync), alloc: Global, cases: &[Case]) -> Res
     Ok(())
 }
 
-const CHAINS: [Case; 7] = [
+static CHAINS: [Case; 7] = [
     ("", NETS, "drv rcv", "c: no part in the chain\n"),
     (
         "DEVICE U1 DRV -\nBYPASS U1 3",
@@ -83,7 +83,7 @@ fn the_first_board_rule_that_fails_is_told(rt: HostRuntime) -> Result<(), RowFau
     are_refused(&rt, rt.alloc(), &CHAINS)
 }
 
-const NET_FILES: [Case; 5] = [
+static NET_FILES: [Case; 5] = [
     (
         CHAIN,
         "NET N1 U1.9",
@@ -116,7 +116,7 @@ fn the_first_fault_of_a_net_file_is_told(rt: HostRuntime) -> Result<(), RowFault
     are_refused(&rt, rt.alloc(), &NET_FILES)
 }
 
-const LINKS_AND_PULLS: [Case; 3] = [
+static LINKS_AND_PULLS: [Case; 3] = [
     (
         "DEVICE U1 DRV -\nDEVICE U2 RCV -\nLINK R1 1 9",
         "NET N1A U1.1 R1.1\nNET N1B R1.2 U2.1\nNET N2 U1.2 U2.2",
@@ -142,17 +142,35 @@ fn links_and_pulls_that_name_nothing_are_told(rt: HostRuntime) -> Result<(), Row
     are_refused(&rt, rt.alloc(), &LINKS_AND_PULLS)
 }
 
+// Tries a net file that is too large.
+fn is_too_large(
+    rt: &(impl Threads + Sync),
+    alloc: Global,
+    line: &str,
+    nets: &str,
+    note: &str,
+) -> Result<(), RowFault> {
+    let mut bench = Bench::with_board(alloc, "BYPASS U1 2", nets)?;
+    let status = bench.run(rt, line)?;
+    bench.expect(0, status, Ending::Refused(note))
+}
+
 #[test]
-fn a_board_has_limits(rt: HostRuntime) -> Result<(), RowFault> {
+fn a_board_has_at_most_16382_nets(rt: HostRuntime) -> Result<(), RowFault> {
     let alloc = rt.alloc();
     let mut nets = String::new(alloc);
     for i in 0..16_383 {
         write!(nets, "NET N{i} X.{i}\n")?;
     }
-    is_refused(&rt, alloc, "drv", "BYPASS U1 2", &nets, "limit: nets\n")?;
+    is_too_large(&rt, alloc, "cover c n drv", &nets, "limit: nets\n")
+}
+
+#[test]
+fn a_board_has_at_most_65535_pins(rt: HostRuntime) -> Result<(), RowFault> {
+    let alloc = rt.alloc();
     let mut pins = String::from_str(alloc, "NET N")?;
     for i in 0..65_536 {
         write!(pins, " X.{i}")?;
     }
-    is_refused(&rt, alloc, "drv", "BYPASS U1 2", &pins, "limit: pins\n")
+    is_too_large(&rt, alloc, "svf c n drv", &pins, "limit: pins\n")
 }

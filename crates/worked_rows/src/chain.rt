@@ -10,7 +10,7 @@ const TWO_PARTS: &str = "BYPASS U1 4\nBYPASS U2 2";
 const TWO_PARTS_SCANS: &str =
     "SIR 6 TDI (3F) TDO (05) MASK (0F);\nSDR 10 TDI (0A5) TDO (294) MASK (3FF);\n";
 
-// The runs of `chain c` with this chain file.
+// Tries `chain c` with this chain file.
 fn chain_ends(
     rt: &(impl Threads + Sync),
     alloc: Global,
@@ -23,7 +23,7 @@ fn chain_ends(
     bench.expect(0, status, ending)
 }
 
-const CHAINS: [Row; 5] = [
+static CHAINS: [Row; 5] = [
     Row {
         texts: &[("c", TWO_PARTS)],
         line: "chain c",
@@ -80,7 +80,7 @@ fn a_scan_of_more_than_one_line_is_printed_by_fields(rt: HostRuntime) -> Result<
     chain_ends(&rt, alloc, forty.as_bytes(), Ending::Scans(scans))
 }
 
-const DESCRIBED: [(&str, Ending<'static>); 3] = [
+static DESCRIBED: [(&str, Ending<'static>); 3] = [
     ("chain c", Ending::Refused("c line 1: entity not given\n")),
     ("chain c d", Ending::NotRead("cannot read d\n")),
     (

@@ -78,7 +78,7 @@ fn refuses(
     Ok(())
 }
 
-const OUTSIDE: [(&str, &str, &str); 5] = [
+static OUTSIDE: [(&str, &str, &str); 5] = [
     (
         "generic (PHYSICAL_PIN_MAP : string := \"P\");\n",
         "generic (PHYSICAL_PIN_MAP : string := \"P\");\ngeneric (PHYSICAL_PIN_MAP : string := \"P\");\n",
@@ -140,7 +140,7 @@ fn refuses_texts_that_are_no_entity(rt: HostRuntime) -> Result<(), RowFault> {
 
 const LAST: &str = "end DRV;\n";
 
-const ATTRIBUTES: [(&str, &str, &str); 24] = [
+static ATTRIBUTES: [(&str, &str, &str); 24] = [
     (
         "attribute PIN_MAP of DRV : entity is PHYSICAL_PIN_MAP;\n",
         "",
@@ -261,7 +261,7 @@ fn each_attribute_is_given_as_often_as_it_should_be(rt: HostRuntime) -> Result<(
     refuses(&rt, rt.alloc(), DRV, &ATTRIBUTES)
 }
 
-const STRINGS: [(&str, &str, &str); 11] = [
+static STRINGS: [(&str, &str, &str); 11] = [
     ("Q:(1,2)\"", "Q:(1,2\"", ": PIN_MAP_STRING entry 5"),
     ("TCK:T4, Q", "TCK:T4,, Q", ": PIN_MAP_STRING entry 5"),
     ("SAMPLE (10)", "SAMPLE (12)", ": INSTRUCTION_OPCODE entry 3"),
@@ -305,7 +305,7 @@ fn each_string_is_in_its_grammar(rt: HostRuntime) -> Result<(), RowFault> {
     refuses(&rt, rt.alloc(), DRV, &STRINGS)
 }
 
-const PORTS_AND_PINS: [(&str, &str, &str); 21] = [
+static PORTS_AND_PINS: [(&str, &str, &str); 21] = [
     (
         "Q : out bit_vector(1 to 2)",
         "TDI : out bit",
@@ -358,7 +358,7 @@ fn ports_and_pins_keep_their_rules(rt: HostRuntime) -> Result<(), RowFault> {
     refuses(&rt, rt.alloc(), DRV, &PORTS_AND_PINS)
 }
 
-const INSTRUCTIONS: [(&str, &str, &str); 12] = [
+static INSTRUCTIONS: [(&str, &str, &str); 12] = [
     ("SAMPLE (10)", "SAMPLE (100)", ": rule V5 item 3"),
     (
         "SAMPLE (10)",
@@ -381,7 +381,7 @@ const INSTRUCTIONS: [(&str, &str, &str); 12] = [
     ),
 ];
 
-const INSTRUCTIONS_OF_2001: [(&str, &str, &str); 7] = [
+static INSTRUCTIONS_OF_2001: [(&str, &str, &str); 7] = [
     ("PRELOAD (00)", "PRELOAD (11)", ": rule V6 item 1"),
     (
         "SAMPLE (10), PRELOAD (00)",
@@ -443,7 +443,7 @@ fn either_makes_a_text_of_2001(rt: HostRuntime) -> Result<(), RowFault> {
     Ok(())
 }
 
-const CELLS: [(&str, &str, &str); 16] = [
+static CELLS: [(&str, &str, &str); 16] = [
     (
         "BOUNDARY_LENGTH of DRV : entity is 2",
         "BOUNDARY_LENGTH of DRV : entity is 3",
@@ -490,7 +490,7 @@ const CELLS: [(&str, &str, &str); 16] = [
     ("Q(2), output2, X", "TDI, input, X", ": rule V14 item 2"),
 ];
 
-const CELLS_OF_A_RECEIVER: [(&str, &str, &str); 2] = [
+static CELLS_OF_A_RECEIVER: [(&str, &str, &str); 2] = [
     ("D(1), input, X", "D(1), output2, X", ": rule V14 item 1"),
     (
         "2;\nattribute BOUNDARY_REGISTER of RCV : entity is\n\"0 (BC_1, D(1), input, X),\" &\n\"1 (BC",
@@ -499,7 +499,7 @@ const CELLS_OF_A_RECEIVER: [(&str, &str, &str); 2] = [
     ),
 ];
 
-const CELLS_OF_A_BIT: [(&str, &str, &str); 1] = [(
+static CELLS_OF_A_BIT: [(&str, &str, &str); 1] = [(
     "D, input, X",
     "D(0), input, X",
     ": rule V9 item 1",

@@ -47,7 +47,7 @@ fn ident_ends(
 // A chain file, a pattern, and how the run ends.
 type Case = (&'static str, &'static str, Ending<'static>);
 
-const CASES: [Case; 9] = [
+static CASES: [Case; 9] = [
     (
         "DEVICE U1 IDC -\nDEVICE U2 RCV -\n",
         PATTERN,

@@ -6,7 +6,7 @@ const TWO: Ending<'static> = Ending::Puts(
     "DEVICES 2 NETS 72 COVERED 72 PASSES 2 SCANS 19 BYTES 2373\n",
 );
 
-const SUMMARIES: [(&str, Ending<'static>); 5] = [
+static SUMMARIES: [(&str, Ending<'static>); 5] = [
     ("make 2", TWO),
     ("make 002", TWO),
     ("make 00000000000000000002", TWO),
@@ -25,7 +25,7 @@ fn tells_the_counts_of_a_board(rt: HostRuntime) -> Result<(), RowFault> {
     lines_hold(&rt, rt.alloc(), &[], &SUMMARIES)
 }
 
-const NUMBERS: [(&str, Ending<'static>); 9] = [
+static NUMBERS: [(&str, Ending<'static>); 9] = [
     ("make", Ending::Usage),
     ("make 0", Ending::Usage),
     ("make 256", Ending::Usage),
