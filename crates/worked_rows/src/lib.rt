@@ -1,4 +1,4 @@
-//! Worked examples of whole runs, through the top call.
+//! Tests of whole runs, through the top call: of words, chains, devices and boards.
 #![tactic(auto)]
 
 #[cfg(test)]
