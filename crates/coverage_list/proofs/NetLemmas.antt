@@ -2,7 +2,7 @@
 use Rattle.std.proofs.Common.{◌≡◌, ℕ, zero, suc, ◌+◌, ◌-◌, ◌*◌, ◌/◌, ◌%◌, ◌^◌, ◌<◌, ◌≤◌, subst, Bool, true, false, not, ◌&&◌, cond, List, [], ◌∷◌, ◌++◌, length, Option, Some, None, refl, sym, ap, ◌∙◌, take, filter, get_or, length-append, arith}
 use Rattle.std.specs.Prelude.{◌==◌, slice_get, is_none, sum_by}
 use Rattle.std.specs.Int.{bit_at}
-use Rattle.std.proofs.lemmas.Nat.Bits.{bit_at_ones}
+use Rattle.std.proofs.lemmas.Nat.Bits.{bit_at-zero}
 use Rattle.std.specs.List.{flat_map, range_with_len}
 use Rattle.std.proofs.lemmas.List.{take_more}
 use Rattle.std.proofs.lemmas.List.Elements.{filter-append}
@@ -14,10 +14,7 @@ use Rattle.board_defs.specs.declared.board.NetPin.{NetPin}
 use Rattle.board_defs.specs.declared.coverage.Reason.{Reason}
 use Rattle.board_defs.specs.BoardRules.{IsBoard}
 use Rattle.board_defs.specs.Decided.{is_covered, are_paired, first_reason, reason_of}
-use Rattle.net_classes.specs.Pairs.{AreBitsOf, pair_there, pairs_with}
-use Rattle.net_classes.specs.declared.pair_keys.PairKey.{PairKey}
-use Rattle.net_classes.specs.declared.pair_keys.PairKey.TheVariants.{Uncovered, Free, Held, Unclear}
-use Rattle.net_classes.specs.PairKeys.{ArePairKeys, is_free_key, shows_paired, is_covered as key_covered}
+use Rattle.net_classes.specs.Pairs.{AreBitsOf, covered_there, pair_there, unpaired_with}
 use Rattle.coverage_list.specs.declared.lines.PinUse.{PinUse}
 use Rattle.coverage_list.specs.CoverText.{is_untested, reason_line, pin_line, pair_line}
 use Rattle.coverage_list.specs.inner.CoverForms.{of_item, texts_from, net_reason, reason_at, place_text, net_pins, pins_at, is_unpaired, pair_text, pair_at, net_pairs, pairs_at}
@@ -54,43 +51,10 @@ no_reason board net = by (is_covered board net)
     by true = refl
     by false = refl
 
--- two covered nets that are paired are not listed
-paired_not : (board : RawBoard) (low high : Net) → are_paired board low high ≡ true → is_unpaired board low high ≡ false
-paired_not board low high e = ap (λ t. is_covered board high && not t) e ∙ by (is_covered board high)
-  where
-    by : (t : Bool) → (t && false) ≡ false
-    by true = refl
-    by false = refl
-
--- a net that is paired with every covered net
-abbrev pub IsFree : RawBoard → Net → Type 0
-IsFree board net = (m : ℕ) (other : Net) → slice_get board.nets m ≡ Some other → is_covered board other ≡ true → are_paired board net other ≡ true
-
--- so is a covered net whose key is free
-pub free_by_key : (board : RawBoard) (keys : List PairKey) (n : ℕ) (net : Net) (key : PairKey) → ArePairKeys board keys → slice_get board.nets n ≡ Some net → slice_get keys n ≡ Some key → is_free_key key ≡ true → IsFree board net
-free_by_key board keys n net key are at k e m other at' covered =
-    let within : m < length keys = omega (arith, slice_get_within board.nets m other at', are.each) in
-    let there = item_there keys m within in
-    are.paired n m net other key there.0 at at' k there.1 (sym (are.covered n net key at k) ∙ free_covered key e) covered (free_shows key there.0 e)
-  where
-    free_covered : (key : PairKey) → is_free_key key ≡ true → key_covered key ≡ true
-    free_covered Uncovered e = cc e
-    free_covered Free e = refl
-    free_covered (Held h) e = cc e
-    free_covered Unclear e = cc e
-
-    free_shows : (key other : PairKey) → is_free_key key ≡ true → shows_paired key other ≡ true
-    free_shows Uncovered other e = cc e
-    free_shows Free other e = refl
-    free_shows (Held h) other e = cc e
-    free_shows Unclear other e = cc e
-
-free_not : (board : RawBoard) (m : ℕ) (low high : Net) → slice_get board.nets m ≡ Some high → IsFree board low → is_unpaired board low high ≡ false
-free_not board m low high at free = by (is_covered board high) refl
-  where
-    by : (t : Bool) → is_covered board high ≡ t → is_unpaired board low high ≡ false
-    by true e = paired_not board low high (free m high at e)
-    by false e = ap (λ t. t && not (are_paired board low high)) e
+-- of two nets, whether the second is listed with the first
+unpaired_is : (board : RawBoard) (low high : ℕ) (one two : Net) → slice_get board.nets low ≡ Some one → slice_get board.nets high ≡ Some two → unpaired_with board low high ≡ is_unpaired board one two
+unpaired_is board low high one two at at' =
+    ap (λ o. covered_there board o && not (pair_there board (slice_get board.nets low) o)) at' ∙ ap (λ o. is_covered board two && not (pair_there board o (Some two))) at
 
 -- texts of which each is empty
 texts_empty : (f : ℕ → List ℕ) (n count : ℕ) → ((i : ℕ) → n ≤ i → i < count → f i ≡ []) → texts_from f n count ≡ []
@@ -103,54 +67,41 @@ texts_empty f n count each = by (count - n) n (λ i past below. each i past (ome
 pub not_covered : (board : RawBoard) (n : ℕ) (net : Net) → is_covered board net ≡ false → net_pairs board n net ≡ []
 not_covered board n net e = ap (λ t. cond t (texts_from (pair_at board net) (n + 1) (length board.nets)) []) e
 
-pub free_pairs_none : (board : RawBoard) (n : ℕ) (net : Net) → IsFree board net → net_pairs board n net ≡ []
-free_pairs_none board n net free =
+pub free_pairs_none : (board : RawBoard) (n : ℕ) (net : Net) → slice_get board.nets n ≡ Some net → ((other : ℕ) → unpaired_with board n other ≡ false) → net_pairs board n net ≡ []
+free_pairs_none board n net at free =
     ap (λ t. cond (is_covered board net) t []) (texts_empty (pair_at board net) (n + 1) (length board.nets) (λ i past below. by i (slice_get board.nets i) refl)) ∙ same (is_covered board net) []
   where
     by : (i : ℕ) (o : Option Net) → slice_get board.nets i ≡ o → of_item (pair_text board net) o ≡ []
     by i None e = refl
-    by i (Some other) e = ap (λ t. cond t (pair_line net other) []) (free_not board i net other e free)
+    by i (Some other) e = ap (λ t. cond t (pair_line net other) []) (sym (unpaired_is board n i net other at e) ∙ free i)
 
     same : (t : Bool) (none : List ℕ) → cond t none none ≡ none
     same true none = refl
     same false none = refl
 
--- the bit of a net says whether it is paired
-pub bit_says : (board : RawBoard) (low high word : ℕ) (one two : Net) → AreBitsOf (pairs_with board low) (high / 64) word → slice_get board.nets low ≡ Some one → slice_get board.nets high ≡ Some two → (bit_at word (high % 64) == 1) ≡ are_paired board one two
+-- the bit of a net says whether it is listed
+pub bit_says : (board : RawBoard) (low high word : ℕ) (one two : Net) → AreBitsOf (unpaired_with board low) (high / 64) word → slice_get board.nets low ≡ Some one → slice_get board.nets high ≡ Some two → (bit_at word (high % 64) == 1) ≡ is_unpaired board one two
 bit_says board low high word one two are at at' =
     let here : 64 * (high / 64) + high % 64 ≡ high = omega arith in
-    ap (λ b. b == 1) (are (high % 64) (omega arith)) ∙ by_bit (pairs_with board low (64 * (high / 64) + high % 64)) ∙ ap (pairs_with board low) here ∙ ap (λ o. pair_there board o (slice_get board.nets high)) at ∙ ap (pair_there board (Some one)) at'
+    ap (λ b. b == 1) (are (high % 64) (omega arith)) ∙ by_bit (unpaired_with board low (64 * (high / 64) + high % 64)) ∙ ap (unpaired_with board low) here ∙ unpaired_is board low high one two at at'
   where
     by_bit : (t : Bool) → (cond t 1 0 == 1) ≡ t
     by_bit true = refl
     by_bit false = refl
 
--- a net whose bit is set is not listed
-pub paired_bit : (board : RawBoard) (low high word : ℕ) (one two : Net) (t : Bool) → AreBitsOf (pairs_with board low) (high / 64) word → slice_get board.nets low ≡ Some one → slice_get board.nets high ≡ Some two → t ≡ (bit_at word (high % 64) == 1) → t ≡ true → false ≡ is_unpaired board one two
-paired_bit board low high word one two t are at at' e h = sym (paired_not board one two (sym (bit_says board low high word one two are at at') ∙ sym e ∙ h))
-
--- another one is, where it is covered
-pub parted_bit : (board : RawBoard) (low high word : ℕ) (one two : Net) (t covered : Bool) → AreBitsOf (pairs_with board low) (high / 64) word → slice_get board.nets low ≡ Some one → slice_get board.nets high ≡ Some two → t ≡ (bit_at word (high % 64) == 1) → t ≡ false → covered ≡ is_covered board two → covered ≡ is_unpaired board one two
-parted_bit board low high word one two t covered are at at' e h is =
-    is ∙ and_true (is_covered board two) ∙ ap (λ s. is_covered board two && not s) (sym h ∙ e ∙ bit_says board low high word one two are at at')
+-- a word without a bit
+pub empty_word : (board : RawBoard) (low from end word : ℕ) (one : Net) → AreBitsOf (unpaired_with board low) (from / 64) word → word ≡ 0 → end ≤ 64 * (from / 64 + 1) → slice_get board.nets low ≡ Some one → texts_from (pair_at board one) from end ≡ []
+empty_word board low from end word one are none most at = texts_empty (pair_at board one) from end (λ n past below. by_net n past below (slice_get board.nets n) refl)
   where
-    and_true : (s : Bool) → s ≡ (s && true)
-    and_true true = refl
-    and_true false = refl
-
--- a word with each bit set
-pub full_word : (board : RawBoard) (low from end word : ℕ) (one : Net) → AreBitsOf (pairs_with board low) (from / 64) word → word ≡ 2 ^ 64 - 1 → end ≤ 64 * (from / 64 + 1) → slice_get board.nets low ≡ Some one → texts_from (pair_at board one) from end ≡ []
-full_word board low from end word one are full most at = texts_empty (pair_at board one) from end (λ n past below. by_net n past below (slice_get board.nets n) refl)
-  where
-    set : (n : ℕ) → (bit_at word (n % 64) == 1) ≡ true
-    set n = ap (λ w. bit_at w (n % 64) == 1) full ∙ ap (λ b. b == 1) (bit_at_ones 64 (n % 64) (omega arith))
+    unset : (n : ℕ) → (bit_at word (n % 64) == 1) ≡ false
+    unset n = ap (λ w. bit_at w (n % 64) == 1) none ∙ ap (λ b. b == 1) (bit_at-zero (n % 64))
 
     by_net : (n : ℕ) → from ≤ n → n < end → (o : Option Net) → slice_get board.nets n ≡ o → of_item (pair_text board one) o ≡ []
     by_net n past below None e = refl
     by_net n past below (Some other) e =
         let same : from / 64 ≡ n / 64 = omega (arith, past, below, most) in
-        let P : ℕ → Type 0 = λ k. AreBitsOf (pairs_with board low) k word in
-        ap (λ t. cond t (pair_line one other) []) (paired_not board one other (sym (bit_says board low n word one other (subst P same are) at e) ∙ set n))
+        let P : ℕ → Type 0 = λ k. AreBitsOf (unpaired_with board low) k word in
+        ap (λ t. cond t (pair_line one other) []) (sym (bit_says board low n word one other (subst P same are) at e) ∙ unset n)
 
 -- the texts of a net, a pin and a pair are those of their numbers
 pub is_true : (b : Bool) → not b ≡ false → b ≡ true

@@ -7,8 +7,7 @@ ghost use Rattle.board_defs.specs.Pins.{IsOnBoard};
 ghost use Rattle.board_defs.specs.Decided.{is_covered};
 ghost use Rattle.net_classes.specs.Kept.{AreClasses};
 ghost use Rattle.net_classes.specs.inner.Kept.{OfNet};
-ghost use Rattle.net_classes.specs.PairKeys.{ArePairKeys};
-ghost use Rattle.net_classes.specs.Pairs.{AreBitsOf, pairs_with};
+ghost use Rattle.net_classes.specs.Pairs.{AreBitsOf, unpaired_with};
 ghost use Rattle.coverage_list.specs.CoverText.{cover_text, covered, count_line, is_untested};
 ghost use Rattle.coverage_list.specs.inner.CoverForms.{is_unpaired, net_pairs, net_pins, pair_at, pairs_at, pins_at, place_text, reason_at, texts_from};
 
@@ -16,7 +15,7 @@ use crate::lines::{PinUse, put_counts, put_pair, put_pin, put_reason};
 use board_defs::{Board, Net, NetPin, PinRef};
 use bt_base::{PutFault, Sink};
 use bt_bits::Line;
-use net_classes::{Classes, PairKey};
+use net_classes::Classes;
 
 // How many nets the board has.
 fn net_count(board: &Board) -> u32
@@ -226,15 +225,6 @@ fn put_pins<K: Sink>(
     Ok(())
 }
 
-// The key of the net of a number.
-fn key_at(board: &Board, keys: &[PairKey], n: u32) -> PairKey
-    requires keys { ArePairKeys board.now keys.now }
-    requires net { n < length board.now.nets }
-    ensures { slice_get keys.now n ≡ Some result }
-{
-    keys[n as usize]
-}
-
 // Whether a bit of the word is set.
 fn has_bit(word: u64, place: u32) -> bool
     requires { place < 64 }
@@ -243,37 +233,29 @@ fn has_bit(word: u64, place: u32) -> bool
     word >> place & 1 == 1
 }
 
-// Whether a net is covered and not paired with net `low`, by the word that says which nets are.
-fn is_unpaired(board: &Board, classes: &Classes, paired: u64, low: u32, high: u32) -> bool
-    requires classes { AreClasses board.now classes.now }
-    requires second { high < length board.now.nets }
-    requires paired { AreBitsOf (pairs_with board.now low) (high / 64) paired }
+// Whether net `high` is covered and not paired with net `low`, by the word that says which nets are.
+fn is_unpaired(board: &Board, unpaired: u64, low: u32, high: u32) -> bool
+    requires { AreBitsOf (unpaired_with board.now low) (high / 64) unpaired }
     ensures { OfNet board.now low (λ one. OfNet board.now high (λ two. result ≡ is_unpaired board.now one two)) }
 {
-    if has_bit(paired, high % 64) {
-        false
-    } else {
-        is_covered(board, classes, high)
-    }
+    has_bit(unpaired, high % 64)
 }
 
 // Puts two nets, where the second is covered and not paired with the first.
 fn put_pair_at<K: Sink>(
     board: &Board,
-    classes: &Classes,
-    paired: u64,
+    unpaired: u64,
     low: u32,
     high: u32,
     line: &mut Line,
     out: &mut K,
 ) -> Result<(), PutFault>
-    requires classes { AreClasses board.now classes.now }
     requires first { low < length board.now.nets }
     requires second { high < length board.now.nets }
-    requires paired { AreBitsOf (pairs_with board.now low) (high / 64) paired }
+    requires unpaired { AreBitsOf (unpaired_with board.now low) (high / 64) unpaired }
     ensures { OfNet board.now low (λ net. Prints (K.shown out.old) (K.shown out.new) [] [] (pair_at board.now net high) result) }
 {
-    if is_unpaired(board, classes, paired, low, high) {
+    if is_unpaired(board, unpaired, low, high) {
         put_pair(net_at(board, low), net_at(board, high), line, out)
     } else {
         Ok(())
@@ -296,12 +278,12 @@ fn put_word<K: Sink>(
     requires word { end ≤ 64 * (from / 64 + 1) }
     ensures { OfNet board.now low (λ net. Prints (K.shown out.old) (K.shown out.new) [] [] (texts_from (pair_at board.now net) from end) result) }
 {
-    let paired = classes.paired_word(board, low, from / 64);
-    if paired == u64::MAX {
+    let unpaired = classes.unpaired_word(board, low, from / 64);
+    if unpaired == 0 {
         return Ok(());
     }
     for high in from..end {
-        put_pair_at(board, classes, paired, low, high, line, out)?;
+        put_pair_at(board, unpaired, low, high, line, out)?;
     }
     Ok(())
 }
@@ -330,15 +312,14 @@ fn put_later<K: Sink>(
     Ok(())
 }
 
-// Whether a net is covered and may be unpaired with another covered net, by its key.
-fn may_be_unpaired(board: &Board, keys: &[PairKey], n: u32) -> bool
-    requires keys { ArePairKeys board.now keys.now }
+// Whether a net is covered and may be unpaired with another covered net.
+fn may_be_unpaired(board: &Board, classes: &Classes, n: u32) -> bool
+    requires classes { AreClasses board.now classes.now }
     requires net { n < length board.now.nets }
     ensures free { result ≡ false → OfNet board.now n (λ net. net_pairs board.now n net ≡ []) }
     ensures covered { result ≡ true → OfNet board.now n (λ net. is_covered board.now net ≡ true) }
 {
-    let key = key_at(board, keys, n);
-    key.is_covered() && !key.is_free()
+    is_covered(board, classes, n) && !classes.is_paired_with_all(board, n)
 }
 
 // Puts the pairs of a net and a later one that are covered and not paired.
@@ -355,7 +336,7 @@ fn put_pairs_at<K: Sink>(
     requires net { low < count }
     ensures { Prints (K.shown out.old) (K.shown out.new) [] [] (pairs_at board.now low) result }
 {
-    if may_be_unpaired(board, classes.pair_keys(board), low) {
+    if may_be_unpaired(board, classes, low) {
         put_later(board, classes, low, count, line, out)
     } else {
         Ok(())

@@ -1,5 +1,5 @@
 -- The row of a control is that of the covered nets without the closed ones that are not its own.
-use Rattle.std.proofs.Common.{◌≡◌, ◌⊎◌, inl, inr, ℕ, ◌+◌, ◌/◌, ◌<◌, ◌==◌, Bool, true, false, not, ◌&&◌, ◌||◌, List, [], ◌∷◌, Contains, Decides, length, slice_index_or, nat_lt, Option, Some, None, refl, sym, ◌∙◌, ap, subst, arith, cond, All}
+use Rattle.std.proofs.Common.{◌≡◌, inl, inr, ℕ, ◌+◌, ◌/◌, ◌<◌, ◌==◌, Bool, true, false, not, ◌&&◌, ◌||◌, List, [], ◌∷◌, Contains, Decides, length, slice_index_or, nat_lt, Option, Some, None, refl, sym, ◌∙◌, ap, subst, arith, All}
 use Rattle.std.specs.Prelude.{slice_get, filter}
 use Rattle.std.specs.List.{list_any, list_all}
 use Rattle.std.proofs.lemmas.Option.{slice_get-get_or, slice_get_within}
@@ -10,7 +10,6 @@ use Rattle.board_defs.specs.declared.board.Drive.{Drive}
 use Rattle.board_defs.specs.declared.board.Drive.TheVariants.{AlwaysOn, OneSided, By}
 use Rattle.board_defs.specs.Settings.{same_ctl}
 use Rattle.board_defs.specs.Decided.{can_enable, drives_net, is_by, is_safe_alone, is_useful, share_net, tests_by}
-use Rattle.board_defs.specs.Passes.{tested_drivers}
 use Rattle.board_defs.proofs.ControlOrder.{same_equal, same_refl}
 use Rattle.board_defs.proofs.Members.{Has, any_has, contains_has, filter_has, has_any, has_at, has_contains, has_filter}
 use Rattle.board_defs.proofs.PassesKept.{tested_can_drive, tested_has}
@@ -25,7 +24,7 @@ use Rattle.net_classes.specs.Pairs.{fit}
 use Rattle.net_classes.proofs.ClosedLemmas.{nothing_closed}
 use Rattle.net_classes.proofs.Contended.{has_shares, share_has}
 use Rattle.net_classes.proofs.PairRowLemmas.{covered_bit}
-use Rattle.net_classes.proofs.Truth.{and_intro, and_left, and_right, clash, eqb_refl, eqb_same, not_true, same_truth}
+use Rattle.net_classes.proofs.Truth.{and_intro, and_left, and_right, clash, eqb_refl, eqb_same, same_truth}
 use Rattle.net_classes.proofs.WordLemmas.{same_row}
 
 -- another control drives one of the nets that a control shares exactly where the two share a net

@@ -1,7 +1,6 @@
 -- Paired nets by the first of their tested drivers that one safe setting enables.
-use Rattle.std.proofs.Common.{◌≡◌, ℕ, zero, suc, Bool, true, false, List, [], ◌∷◌, slice_index_or, Option, Some, None, refl, sym, ◌∙◌, ap, cond}
-use Rattle.std.specs.Prelude.{map, slice_get, find, is_some, option_map}
-use Rattle.std.specs.List.{list_any}
+use Rattle.std.proofs.Common.{◌≡◌, ℕ, zero, suc, Bool, true, List, [], ◌∷◌, slice_index_or, Option, Some, None, refl, sym, ◌∙◌, ap}
+use Rattle.std.specs.Prelude.{slice_get, find, is_some, option_map}
 use Rattle.std.proofs.lemmas.Option.{slice_get-map}
 use Rattle.board_defs.specs.declared.board.Net.{Net}
 use Rattle.board_defs.specs.declared.board.RawBoard.{RawBoard}
@@ -12,7 +11,7 @@ use Rattle.board_defs.proofs.Members.{Has, any_has, find_has, find_none, has_any
 use Rattle.net_classes.specs.Pairs.{drivers_there, fit, fits_some, pair_there, pairs_with}
 use Rattle.net_classes.specs.inner.Pairs.{some_fit}
 use Rattle.net_classes.proofs.Paired.{pairs_are}
-use Rattle.net_classes.proofs.Truth.{clash, not_true, same_truth}
+use Rattle.net_classes.proofs.Truth.{clash, not_true}
 
 -- two drivers fit where a first pair is found
 pub fit_found : (board : RawBoard) (ds es : List Drive) → some_fit board ds es ≡ is_some (first_pair board ds es)

@@ -12,10 +12,6 @@ pub mod Marks
 pub mod SharedLemmas
 pub mod Contended
 pub mod Paired
-pub mod Free
-pub mod GroupLemmas
-pub mod KeyLemmas
-pub mod LoneLemmas
 pub mod WordLemmas
 pub mod DriverPairs
 pub mod ControlSetLemmas
@@ -25,3 +21,4 @@ pub mod PairRowLemmas
 pub mod ClosedRows
 pub mod PutRows
 pub mod PairWords
+pub mod UnpairedWords

@@ -1,14 +1,13 @@
 -- Rows of bits, by which the nets that are paired with a net are known.
-use Rattle.std.proofs.Common.{◌≡◌, ◌≢◌, ◌⊎◌, inl, inr, ℕ, suc, ◌+◌, ◌<◌, ◌≤◌, ◌==◌, Bool, true, false, not, ◌&&◌, ◌||◌, List, [], ◌∷◌, ◌++◌, Contains, Decides, length, get_or, map, nat_lt, take, Option, Some, None, refl, sym, ◌∙◌, ap, subst, arith, cond}
-use Rattle.std.specs.Prelude.{slice_get, filter}
-use Rattle.std.specs.List.{list_any, list_all}
+use Rattle.std.proofs.Common.{◌≡◌, ◌≢◌, inl, ℕ, suc, ◌+◌, ◌<◌, ◌≤◌, ◌==◌, Bool, true, false, not, ◌&&◌, ◌||◌, List, [], ◌∷◌, length, get_or, nat_lt, take, Option, Some, None, refl, sym, ◌∙◌, ap, subst, arith}
+use Rattle.std.specs.Prelude.{slice_get}
+use Rattle.std.specs.List.{list_any}
 use Rattle.std.proofs.lemmas.List.{take_more}
 use Rattle.std.proofs.lemmas.Option.{slice_get_within}
-use Rattle.board_defs.specs.declared.board.Ctl.{Ctl}
 use Rattle.board_defs.specs.declared.board.Net.{Net}
 use Rattle.board_defs.specs.declared.board.RawBoard.{RawBoard}
 use Rattle.board_defs.specs.declared.board.Drive.{Drive}
-use Rattle.board_defs.specs.declared.board.Drive.TheVariants.{AlwaysOn, OneSided, By}
+use Rattle.board_defs.specs.declared.board.Drive.TheVariants.{AlwaysOn}
 use Rattle.board_defs.specs.Decided.{can_enable}
 use Rattle.board_defs.specs.Passes.{tested_drivers}
 use Rattle.board_defs.proofs.Members.{Has}
@@ -18,7 +17,7 @@ use Rattle.net_classes.specs.NetRows.{AreRowBits, stands_in}
 use Rattle.net_classes.specs.Pairs.{fits_at}
 use Rattle.net_classes.specs.Pairs.{fit}
 use Rattle.net_classes.proofs.Lists.{any_joined}
-use Rattle.net_classes.proofs.Truth.{and_left, and_right, eqb_refl, eqb_same, not_true, same_truth}
+use Rattle.net_classes.proofs.Truth.{and_right, eqb_refl, eqb_same, not_true, same_truth}
 use Rattle.net_classes.proofs.WordLemmas.{same_row}
 
 -- a number more is taken out

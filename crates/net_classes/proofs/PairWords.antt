@@ -1,5 +1,5 @@
 -- The words of the rows of a net's tested drivers say together which nets are paired with it.
-use Rattle.std.proofs.Common.{◌≡◌, ℕ, ◌+◌, ◌<◌, ◌≤◌, Bool, true, false, ◌||◌, List, [], ◌∷◌, ◌++◌, length, take, get_or, Option, Some, None, refl, sym, ◌∙◌, ap, subst}
+use Rattle.std.proofs.Common.{◌≡◌, ℕ, ◌+◌, ◌<◌, ◌≤◌, Bool, true, false, ◌||◌, List, [], ◌∷◌, ◌++◌, length, take, get_or, Some, refl, sym, ◌∙◌, ap, subst}
 use Rattle.std.specs.Prelude.{slice_get}
 use Rattle.std.specs.List.{list_any}
 use Rattle.std.specs.Int.Bits.{bit_or}
@@ -11,7 +11,7 @@ use Rattle.board_defs.specs.declared.board.RawBoard.{RawBoard}
 use Rattle.board_defs.specs.declared.board.Drive.{Drive}
 use Rattle.board_defs.specs.declared.board.Drive.TheVariants.{AlwaysOn, OneSided, By}
 use Rattle.board_defs.specs.BoardRules.{IsBoard}
-use Rattle.board_defs.specs.Decided.{can_enable, is_by, is_useful}
+use Rattle.board_defs.specs.Decided.{is_by, is_useful}
 use Rattle.board_defs.specs.Passes.{tested_drivers}
 use Rattle.board_defs.proofs.ControlOrder.{same_refl}
 use Rattle.board_defs.proofs.Members.{Has, has_any, has_at}
@@ -25,7 +25,7 @@ use Rattle.net_classes.proofs.DriverPairs.{there_are}
 use Rattle.net_classes.proofs.Lists.{any_joined}
 use Rattle.net_classes.proofs.Marks.{useful_is}
 use Rattle.net_classes.proofs.Paired.{has_cells}
-use Rattle.net_classes.proofs.WordLemmas.{either_word, no_word, same_word}
+use Rattle.net_classes.proofs.WordLemmas.{either_word, same_word}
 
 -- the control of a tested driver is useful
 tested_useful : (board : RawBoard) (n : ℕ) (net : Net) (c : Ctl) → slice_get board.nets n ≡ Some net → Has (tested_drivers board net) (By c) → is_useful board c ≡ true
@@ -33,7 +33,7 @@ tested_useful board n net c at has =
     sym (useful_is board c) ∙ any_at (λ (other : Net). list_any (λ d. is_by c (Some d)) (tested_drivers board other)) board.nets n net at (has_any (λ d. is_by c (Some d)) (tested_drivers board net) (By c) has (same_refl c))
 
 -- the word of one driver
-driver_word : (board : RawBoard) (pairs : PairRows) (n w : ℕ) (net : Net) (d : Drive) → IsBoard board → ArePairRows board pairs → slice_get board.nets n ≡ Some net → Has (tested_drivers board net) d → AreBitsOf (fits_at board d) w (drive_word pairs d w)
+pub driver_word : (board : RawBoard) (pairs : PairRows) (n w : ℕ) (net : Net) (d : Drive) → IsBoard board → ArePairRows board pairs → slice_get board.nets n ≡ Some net → Has (tested_drivers board net) d → AreBitsOf (fits_at board d) w (drive_word pairs d w)
 driver_word board pairs n w net AlwaysOn rules are at has = are.covered w
 driver_word board pairs n w net OneSided rules are at has = let wrong : false ≡ true = tested_can_drive board net OneSided (tested_has board net OneSided has) in cc wrong
 driver_word board pairs n w net (By c) rules are at has = are.each c (has_cells board net (By c) rules has c refl) (tested_useful board n net c at has) w

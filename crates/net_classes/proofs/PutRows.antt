@@ -1,10 +1,9 @@
 -- The rows, with that of one control more.
-use Rattle.std.proofs.Common.{◌≡◌, ◌⊎◌, inl, inr, ℕ, suc, ◌+◌, ◌/◌, ◌<◌, ◌≤◌, Bool, true, false, List, [], ◌∷◌, ◌++◌, length, take, get_or, Option, Some, None, refl, sym, ◌∙◌, ap, subst, arith, length-append}
-use Rattle.std.specs.Prelude.{filter, is_some, option_map, slice_index_or}
-use Rattle.std.specs.List.{list_any}
+use Rattle.std.proofs.Common.{◌≡◌, ◌⊎◌, inl, inr, ℕ, ◌+◌, ◌<◌, ◌≤◌, Bool, true, false, List, [], ◌∷◌, ◌++◌, length, take, get_or, Option, Some, None, refl, sym, ◌∙◌, ap, subst, arith, length-append}
+use Rattle.std.specs.Prelude.{is_some, option_map, slice_index_or}
 use Rattle.std.specs.Option.{option_to_list}
 use Rattle.std.proofs.Math.Seq.{get_or-append_seam}
-use Rattle.std.proofs.lemmas.List.{get_or_append_left, get_or_default, take_all, take_more}
+use Rattle.std.proofs.lemmas.List.{get_or_append_left, take_all, take_more}
 use Rattle.std.proofs.lemmas.Option.{slice_get-get_or}
 use Rattle.board_defs.specs.declared.board.Ctl.{Ctl}
 use Rattle.board_defs.specs.declared.board.RawBoard.{RawBoard}
@@ -13,7 +12,7 @@ use Rattle.board_defs.specs.Pins.{IsCell}
 use Rattle.board_defs.specs.Settings.{holds, same_ctl}
 use Rattle.board_defs.specs.Decided.{is_useful}
 use Rattle.board_defs.specs.Passes.{all_cells, useful_controls}
-use Rattle.board_defs.proofs.ControlOrder.{same_equal, same_refl}
+use Rattle.board_defs.proofs.ControlOrder.{same_equal}
 use Rattle.board_defs.proofs.Members.{Has, any_has, filter_has, has_append, has_at}
 use Rattle.net_classes.specs.declared.pair_rows.PairRows.{PairRows}
 use Rattle.net_classes.specs.inner.Cells.{put}

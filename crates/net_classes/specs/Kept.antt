@@ -17,7 +17,6 @@ use Rattle.net_classes.specs.declared.classes.ControlClass.{ControlClass}
 use Rattle.net_classes.specs.declared.classes.Classes.{Classes}
 use Rattle.net_classes.specs.declared.pair_rows.PairRows.{PairRows}
 use Rattle.net_classes.specs.NetRows.{AreRowBits}
-use Rattle.net_classes.specs.PairKeys.{ArePairKeys}
 use Rattle.net_classes.specs.Pairs.{fits_at}
 
 -- the control controls a driver of the net, where the net is there
@@ -92,5 +91,4 @@ pub record AreClasses (board : RawBoard) (classes : Classes) : Type 0 where
   pub controls_are : (c : Ctl) → IsCell board c → item_of (table classes.controls.items) c ≡ Some (control_class_of board c)
   pub useful_are : classes.useful.items ≡ useful_controls board
   pub shared_are : (c : Ctl) → IsCell board c → item_of (table classes.shared.items) c ≡ Some (shared_nets board c)
-  pub keys_are : ArePairKeys board classes.keys.items
   pub pairs_are : ArePairRows board classes.pairs

@@ -2,6 +2,5 @@ pub mod Kept
 pub mod Laws
 pub mod Found
 pub mod Pairs
-pub mod PairKeys
 pub mod NetRows
 pub mod inner

@@ -1,11 +1,11 @@
 -- Which drivers of two nets one safe setting enables.
-use Rattle.std.specs.Prelude.{◌≡◌, ◌<◌, ◌+◌, ◌*◌, ℕ, Bool, false, List, [], Option, None, Some, slice_get, cond}
+use Rattle.std.specs.Prelude.{◌≡◌, ◌<◌, ◌+◌, ◌*◌, ◌&&◌, ℕ, Bool, false, not, List, [], Option, None, Some, slice_get, cond}
 use Rattle.std.specs.Int.{bit_at}
 use Rattle.std.specs.List.{list_any}
 use Rattle.board_defs.specs.declared.board.Net.{Net}
 use Rattle.board_defs.specs.declared.board.RawBoard.{RawBoard}
 use Rattle.board_defs.specs.declared.board.Drive.{Drive}
-use Rattle.board_defs.specs.Decided.{are_compatible, are_paired}
+use Rattle.board_defs.specs.Decided.{are_compatible, are_paired, is_covered}
 use Rattle.board_defs.specs.Passes.{tested_drivers}
 
 -- one safe setting enables both drivers
@@ -38,6 +38,15 @@ pair_there board (Some a) (Some b) = are_paired board a b
 -- one safe setting observes the nets of both numbers; past the last net there is none
 abbrev pub pairs_with : RawBoard → ℕ → ℕ → Bool
 pairs_with board a b = pair_there board (slice_get board.nets a) (slice_get board.nets b)
+
+-- the net is covered, where it is there
+abbrev pub covered_there : RawBoard → Option Net → Bool
+covered_there board None = false
+covered_there board (Some net) = is_covered board net
+
+-- the net of number b is covered, and no safe setting observes it together with net a
+abbrev pub unpaired_with : RawBoard → ℕ → ℕ → Bool
+unpaired_with board a b = covered_there board (slice_get board.nets b) && not (pairs_with board a b)
 
 -- the bits of the word say which of the 64 numbers from 64 * number on pass
 abbrev pub AreBitsOf : (ℕ → Bool) → ℕ → ℕ → Type 0

@@ -8,9 +8,6 @@ pub mod Tables
 pub mod Rows
 pub mod Answers
 pub mod Pairs
-pub mod Groups
-pub mod MadeKeys
-pub mod LoneGroups
 pub mod Cells
 pub mod ControlSets
 pub mod Closed

@@ -5,16 +5,12 @@ ghost use Rattle.port_entries.specs.Entries.{AreEntries};
 ghost use Rattle.net_classes.specs.inner.Facts.{net_facts_of};
 ghost use Rattle.net_classes.specs.Kept.{AreClasses, ArePairRows};
 ghost use Rattle.net_classes.specs.inner.Kept.{AreParts};
-ghost use Rattle.net_classes.specs.PairKeys.{ArePairKeys};
 ghost use Rattle.net_classes.specs.inner.Tables.{AreTables};
 
 use crate::controls::{Tables, control_rows, mark_useful};
 use crate::facts::{NetFacts, all_net_facts};
-use crate::groups::net_groups;
 use crate::known::{Known, first_drivers};
-use crate::lone_groups::settled_keys;
 use crate::net_numbers::NetNumbers;
-use crate::pair_keys::{PairKey, pair_keys};
 use crate::pair_rows::{PairRows, pair_rows};
 use crate::shared::{contended_nets, shared_table};
 use crate::switching::pulled_bits;
@@ -60,15 +56,13 @@ pub struct ControlClass {
 }
 
 /// The classes of a board: its nets, the cells of its parts as controls, the useful controls, the
-/// nets that each control shares with another one, and a key for each net by which most pairs are
-/// known.
+/// nets that each control shares with another one, and the rows of bits by which pairs are known.
 #[derive(Debug, Drop)]
 pub struct Classes {
     pub(crate) nets: Vec<NetClass>,
     pub(crate) controls: Vec<Vec<ControlClass>>,
     pub(crate) useful: Vec<Ctl>,
     pub(crate) shared: Vec<Vec<NetNumbers>>,
-    pub(crate) keys: Vec<PairKey>,
     pub(crate) pairs: PairRows,
 }
 
@@ -133,17 +127,6 @@ fn parts_of(
     })
 }
 
-fn keys_of(alloc: Global, board: &RawBoard, parts: &Parts) -> Result<Vec<PairKey>, AllocError>
-    requires rules { IsBoard board.now }
-    requires parts { AreParts board.now parts.now }
-    ensures { IfOk result (λ keys. ArePairKeys board.now keys.items) }
-{
-    let groups = net_groups(alloc, board.nets.len(), &parts.shared)?;
-    let open_keys = pair_keys(alloc, &groups, &parts.shared, &parts.nets)?;
-    let keys = settled_keys(alloc, open_keys, groups.len())?;
-    Ok(keys)
-}
-
 fn rows_of(
     alloc: Global,
     board: &RawBoard,
@@ -175,7 +158,6 @@ fn classify_record(alloc: Global, board: &RawBoard) -> Result<Classes, AllocErro
     let facts = facts_of(alloc, board, entries.as_slice())?;
     let tables = tables_of(alloc, board, entries, &facts)?;
     let parts = parts_of(alloc, board, &tables, &facts)?;
-    let keys = keys_of(alloc, board, &parts)?;
     let pairs = rows_of(alloc, board, &facts, &parts)?;
     let Parts {
         nets,
@@ -188,7 +170,6 @@ fn classify_record(alloc: Global, board: &RawBoard) -> Result<Classes, AllocErro
         controls,
         useful,
         shared,
-        keys,
         pairs,
     })
 }

@@ -8,13 +8,10 @@ mod control_sets;
 mod controls;
 mod facts;
 mod found;
-mod groups;
 mod known;
 pub mod law;
-mod lone_groups;
 mod net_numbers;
 mod net_rows;
-mod pair_keys;
 mod pair_rows;
 mod questions;
 mod shared;
@@ -26,7 +23,6 @@ mod words;
 pub use classes::{Classes, ControlClass, NetClass, PinClass, classify};
 pub use found::meet;
 pub use net_numbers::NetNumbers;
-pub use pair_keys::{Holder, PairKey};
 
 #[cfg(test)]
 mod tests;

@@ -60,6 +60,17 @@ impl PairRows {
             Drive::By(c) => self.row_word(self.number(c), word),
         }
     }
+
+    /// Whether the row of the driver is that of the covered nets.
+    pub(crate) fn fits_all(&self, d: Drive) -> bool
+        ensures { result ≡ true → (w : ℕ) → drive_word self.now d w ≡ drive_word self.now AlwaysOn w }
+    {
+        match d {
+            Drive::AlwaysOn => true,
+            Drive::OneSided => false,
+            Drive::By(c) => self.number(c) == 0,
+        }
+    }
 }
 
 fn owns(known: Known<'_>, c: Ctl, net: u32) -> bool

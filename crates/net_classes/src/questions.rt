@@ -9,15 +9,13 @@ ghost use Rattle.board_defs.specs.declared.board.Drive.TheVariants.{By};
 ghost use Rattle.board_defs.specs.Coverage.{AreTogether, ArePaired, IsCovered, IsReason, IsTestedDriver, IsTestedReceiver, IsUseful};
 ghost use Rattle.board_defs.specs.Decided.{are_paired, are_together, can_enable, is_safe_alone, is_tested_driver, is_tested_receiver, is_useful, place_drive, reason_of, share_net};
 ghost use Rattle.board_defs.specs.Passes.{tested_drivers, useful_controls};
-ghost use Rattle.net_classes.specs.Pairs.{AreBitsOf, fit, pairs_with};
+ghost use Rattle.net_classes.specs.Pairs.{AreBitsOf, fit, pairs_with, unpaired_with};
 ghost use Rattle.net_classes.specs.inner.Pairs.{AreByCells, IsByCell};
-ghost use Rattle.net_classes.specs.PairKeys.{ArePairKeys};
 ghost use Rattle.net_classes.specs.Kept.{AreClasses, control_class_of, driven_nets, pin_class_of, shared_nets};
 ghost use Rattle.net_classes.specs.inner.Kept.{OfNet};
 
 use crate::classes::{Classes, ControlClass, PinClass};
 use crate::found::meet;
-use crate::pair_keys::PairKey;
 use crate::words::has_bit;
 use board_defs::{Board, Ctl, Drive, PinRef, Reason, law};
 
@@ -248,12 +246,30 @@ impl Classes {
         bits
     }
 
-    /// For each net a key, by which most pairs are seen to be paired without a look at drivers.
-    pub fn pair_keys(&self, board: &Board) -> &[PairKey]
-        requires { AreClasses board.now self.now }
-        ensures { ArePairKeys board.now result.now }
+    /// Of the 64 nets from net 64 * word on, those that are covered and not paired with the net.
+    pub fn unpaired_word(&self, board: &Board, net: u32, word: u32) -> u64
+        requires classes { AreClasses board.now self.now }
+        requires net { net < length board.now.nets }
+        ensures { AreBitsOf (unpaired_with board.now net) word result }
     {
-        &self.keys
+        let covered = self.pairs.word(Drive::AlwaysOn, word);
+        covered & !self.paired_word(board, net, word)
+    }
+
+    /// Whether one tested driver of the net shows at once that each covered net is paired with it.
+    /// Where it is false, they may all be paired with it too, by several drivers.
+    pub fn is_paired_with_all(&self, board: &Board, net: u32) -> bool
+        requires classes { AreClasses board.now self.now }
+        requires net { net < length board.now.nets }
+        ensures { result ≡ true → (other : ℕ) → unpaired_with board.now net other ≡ false }
+    {
+        let _rules = board.raw();
+        for d in self.drivers(board, net) {
+            if self.pairs.fits_all(*d) {
+                return true;
+            }
+        }
+        false
     }
 
     /// Whether the setting of the control alone is safe.

@@ -1,4 +1,4 @@
-use crate::{Classes, ControlClass, NetClass, PairKey, PinClass};
+use crate::{Classes, ControlClass, NetClass, PinClass};
 
 /// That values of the type may go to another thread and be shared between threads.
 fn crosses_threads<T: Send + Sync>() -> bool {
@@ -9,5 +9,4 @@ fn crosses_threads<T: Send + Sync>() -> bool {
 fn classes_cross_threads(rt: HostRuntime) {
     assert!(rt; crosses_threads::<Classes>() && crosses_threads::<NetClass>());
     assert!(rt; crosses_threads::<ControlClass>() && crosses_threads::<PinClass>());
-    assert!(rt; crosses_threads::<PairKey>());
 }

@@ -1,5 +1,5 @@
 -- Nets whose tested drivers all have controls that drive one of some nets: no control that shares these nets is on together with one of them, but for its own.
-use Rattle.std.specs.Prelude.{◌≡◌, ℕ, Bool, true, false, not, ◌&&◌, List, [], ◌∷◌, Option, None, Some, map, filter, slice_get, Contains}
+use Rattle.std.specs.Prelude.{◌≡◌, ℕ, Bool, false, ◌&&◌, List, [], ◌∷◌, Option, None, Some, map, filter, slice_get, Contains}
 use Rattle.std.specs.Bool.{Decides}
 use Rattle.std.specs.List.{list_any, list_all, flat_map}
 use Rattle.board_defs.specs.declared.board.Ctl.{Ctl}

@@ -1,5 +1,5 @@
 -- Sets of controls.
-use Rattle.std.specs.Prelude.{◌≡◌, Bool, true, Option, Some, List, Contains, fold}
+use Rattle.std.specs.Prelude.{◌≡◌, Bool, true, Some, List, Contains, fold}
 use Rattle.board_defs.specs.declared.board.Ctl.{Ctl}
 use Rattle.board_defs.specs.declared.board.RawBoard.{RawBoard}
 use Rattle.board_defs.specs.Pins.{IsCell}

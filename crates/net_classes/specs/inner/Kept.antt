@@ -1,10 +1,8 @@
 -- What serves the proofs alone. What the classes of a board keep, each by the tests that decide the terms of all safe settings.
-use Rattle.std.specs.Prelude.{◌≡◌, ℕ, ◌==◌, Bool, true, false, map, length, Some, slice_get}
+use Rattle.std.specs.Prelude.{◌≡◌, ℕ, map, Some, slice_get}
 use Rattle.board_defs.specs.declared.board.Ctl.{Ctl}
 use Rattle.board_defs.specs.declared.board.Net.{Net}
 use Rattle.board_defs.specs.declared.board.RawBoard.{RawBoard}
-use Rattle.board_defs.specs.declared.board.Drive.{Drive}
-use Rattle.board_defs.specs.declared.board.Drive.TheVariants.{AlwaysOn, OneSided, By}
 use Rattle.board_defs.specs.Pins.{IsCell}
 use Rattle.board_defs.specs.Passes.{useful_controls}
 use Rattle.net_classes.specs.declared.classes.Parts.{Parts}
@@ -13,12 +11,6 @@ use Rattle.net_classes.specs.Kept.{shared_nets, net_class_of, control_class_of, 
 -- it holds of the net of this number
 abbrev pub OfNet : RawBoard → ℕ → (Net → Type 0) → Type 0
 OfNet board n P = (net : Net) → slice_get board.nets n ≡ Some net → P net
-
--- some safe setting enables the driver together with any driver that can be enabled
-abbrev pub is_free : RawBoard → Drive → Bool
-is_free board AlwaysOn = true
-is_free board OneSided = false
-is_free board (By c) = length (shared_nets board c) == 0
 
 -- what is kept of nets and controls is of the board
 pub record AreParts (board : RawBoard) (parts : Parts) : Type 0 where

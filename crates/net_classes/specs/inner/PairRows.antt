@@ -1,15 +1,13 @@
 -- Rows of bits, by which the nets that are paired with a net are known.
-use Rattle.std.specs.Prelude.{◌≡◌, ℕ, ◌<◌, ◌+◌, ◌/◌, Bool, true, false, List, [], length, Option, None, Some, is_some, slice_index, slice_index_or}
+use Rattle.std.specs.Prelude.{◌≡◌, ℕ, ◌<◌, ◌+◌, ◌/◌, Bool, true, false, List, length, Option, None, Some, is_some, slice_index}
 use Rattle.std.specs.List.{list_any}
 use Rattle.board_defs.specs.declared.board.Ctl.{Ctl}
-use Rattle.board_defs.specs.declared.board.Net.{Net}
 use Rattle.board_defs.specs.declared.board.RawBoard.{RawBoard}
 use Rattle.board_defs.specs.declared.board.Drive.{Drive}
 use Rattle.board_defs.specs.declared.board.Drive.TheVariants.{AlwaysOn, OneSided, By}
 use Rattle.board_defs.specs.Pins.{IsCell}
 use Rattle.board_defs.specs.Settings.{same_ctl}
-use Rattle.board_defs.specs.Decided.{is_by, is_useful}
-use Rattle.board_defs.specs.Passes.{tested_drivers}
+use Rattle.board_defs.specs.Decided.{is_by}
 use Rattle.net_classes.specs.declared.pair_rows.PairRows.{PairRows}
 use Rattle.net_classes.specs.Kept.{item_of, number_in, row_in, table}
 use Rattle.net_classes.specs.NetRows.{AreRowBits}

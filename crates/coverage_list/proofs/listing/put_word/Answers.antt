@@ -1,12 +1,12 @@
 use Rattle.std.proofs.Common.{sym, refl, arith}
 use Rattle.line_printer.proofs.PrintLemmas.{prints_none, prints_same}
-use Rattle.coverage_list.proofs.NetLemmas.{full_word}
+use Rattle.coverage_list.proofs.NetLemmas.{empty_word}
 use Rattle.coverage_list.specs.inner.CoverForms.{pair_at, texts_from}
 use Rattle.coverage_list.proofs.PutLemmas.{each_start, each_ok, each_err, each_end}
 use Rattle.coverage_list.proofs.listing.put_word.Goals as goal
 
-pub returns-then-paired : goal.returns-then-paired
-returns-then-paired g c net at = prints_same (sym (full_word c.args.board.now c.args.low c.args.from c.args.end c.paired_word-paired.result net c.paired_word-paired.ensures c.if-paired.true c.requires.word at)) (prints_none tt refl)
+pub returns-then-unpaired-eq0 : goal.returns-then-unpaired-eq0
+returns-then-unpaired-eq0 g c net at = prints_same (sym (empty_word c.args.board.now c.args.low c.args.from c.args.end c.unpaired_word-unpaired.result net c.unpaired_word-unpaired.ensures c.if-unpaired-eq0.true c.requires.word at)) (prints_none tt refl)
 
 pub loop-high-init : goal.loop-high-init
 loop-high-init g c net e = each_start _ _

@@ -1,4 +1,4 @@
-use Rattle.std.proofs.Common.{map, ◌∙◌, ap, arith, sym, Vec, Global}
+use Rattle.std.proofs.Common.{map, ◌∙◌, ap, arith, sym}
 use Rattle.std.proofs.lemmas.List.{take_all}
 use Rattle.net_classes.proofs.Answered.{map_map}
 use Rattle.net_classes.proofs.RowLemmas.{table_more}

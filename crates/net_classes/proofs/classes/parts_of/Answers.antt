@@ -3,10 +3,10 @@ use Rattle.std.specs.Prelude.{filter}
 use Rattle.std.proofs.lemmas.List.{with_items_is}
 use Rattle.board_defs.specs.Passes.{all_cells}
 use Rattle.net_classes.specs.Kept.{table, item_of}
-use Rattle.net_classes.specs.inner.Rows.{made_rows, mark_nets}
+use Rattle.net_classes.specs.inner.Rows.{mark_nets}
 use Rattle.net_classes.specs.inner.Answers.{class_in, useful_in}
 use Rattle.net_classes.specs.declared.classes.ControlClass.{ControlClass}
-use Rattle.net_classes.specs.inner.Shared.{flags_of, shared_in}
+use Rattle.net_classes.specs.inner.Shared.{shared_in}
 use Rattle.net_classes.proofs.Answered.{map_map}
 use Rattle.net_classes.proofs.Contended.{shared_rows}
 use Rattle.net_classes.proofs.Marks.{Made, made_of}

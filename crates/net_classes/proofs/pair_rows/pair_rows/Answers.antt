@@ -1,4 +1,3 @@
-use Rattle.std.proofs.Common.{◌+◌, ◌≤◌, length, take, arith}
 use Rattle.std.proofs.lemmas.List.{get_or_default}
 use Rattle.net_classes.proofs.PutRows.{each_useful, listed, rows_more}
 use Rattle.net_classes.proofs.UsefulLemmas.{useful_cells}

@@ -1,4 +1,4 @@
-use Rattle.std.proofs.Common.{◌∙◌, not, sym}
+use Rattle.std.proofs.Common.{◌∙◌, not}
 use Rattle.std.proofs.lemmas.List.{nil_from_length}
 use Rattle.board_defs.specs.declared.board.Drive.TheVariants.{AlwaysOn}
 use Rattle.net_classes.specs.Kept.{shared_nets}

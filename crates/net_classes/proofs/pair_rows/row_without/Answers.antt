@@ -1,4 +1,4 @@
-use Rattle.std.proofs.Common.{ℕ, ◌+◌, not, ◌&&◌, length, take, ◌∙◌, ap}
+use Rattle.std.proofs.Common.{◌+◌, not, ◌&&◌, length, take, ◌∙◌, ap}
 use Rattle.net_classes.specs.NetRows.{stands_in}
 use Rattle.net_classes.proofs.PairRowLemmas.{nothing_out, out_now, out_still}
 use Rattle.net_classes.proofs.pair_rows.row_without.Goals as goal
