@@ -153,5 +153,7 @@ pub fn cells_on(
 {
     let mut cells = table.always.as_slice().to_vec(alloc)?;
     push_controlled(table.rows.as_slice(), held, &mut cells)?;
+    // These lists are what a plan of many passes is mostly made of.
+    cells.shrink_to_fit();
     Ok(Items::of(cells))
 }
