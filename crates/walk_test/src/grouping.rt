@@ -1,14 +1,15 @@
 // The groups that explain a log.
-ghost use Rattle.std.specs.Prelude.{◌≡◌, ◌≤◌, ◌<◌, ◌^◌, ◌++◌, ◌∷◌, ◌==◌, [], cond, length, All, nat_le, Some, None, option_map, IfOk, OnOk};
+ghost use Rattle.std.specs.Prelude.{◌≡◌, ◌≤◌, ◌<◌, ◌^◌, ◌++◌, ◌∷◌, ◌==◌, [], cond, length, map, replicate, All, Some, None, option_map, IfOk, OnOk};
+ghost use Rattle.std.specs.List.{flat_map, range_with_len};
 ghost use Rattle.board_defs.specs.Pins.{data_bits};
 ghost use Rattle.walk_test.specs.Groups.{Rise, AreFound, AreNamed};
-ghost use Rattle.walk_test.specs.inner.Reading.{members, groups_by};
+ghost use Rattle.walk_test.specs.inner.Reading.{members, noted, where_several, groups_by};
 ghost use Rattle.walk_test.specs.Tables.{IsWalkOf};
 
 use crate::group::Group;
 use crate::labels::labels_of;
 use crate::law::walk_safe;
-use crate::nets::push_if;
+use crate::members::Members;
 use crate::reading::shows_all;
 use crate::walk::Walk;
 use board_defs::Board;
@@ -16,22 +17,43 @@ use response_log::Log;
 use std::alloc::{AllocError, Global};
 use tap_defs::board_law::{logs_by_rows, rows_compared, scans_in_turn};
 
-// The nets with a label, in order.
-fn members(alloc: Global, nets: &[u32], labels: &[u32], label: u32) -> Result<Vec<u32>, AllocError>
-    requires { length labels.now ≡ length nets.now }
-    ensures { IfOk result (λ group. group.items ≡ members nets.now labels.now label) }
+// Adds a net to those with its label.
+fn note(lists: &mut [Members], label: u32, net: u32) -> Result<(), AllocError>
+    ensures { OnOk result (lists.new ≡ noted lists.old label net) }
 {
-    let mut group = Vec::new(alloc);
-    for i in 0..nets.len() {
-        push_if(&mut group, nets[i], labels[i] == label)?;
+    let place = label as usize;
+    if place < lists.len() {
+        lists[place].push(net)?;
     }
-    Ok(group)
+    Ok(())
+}
+
+fn blank(alloc: Global, count: usize) -> Result<Vec<Members>, AllocError>
+    ensures { IfOk result (λ lists. lists.items ≡ replicate count []) }
+{
+    let mut lists = Vec::new(alloc);
+    for _list in 0..count {
+        lists.push(Members::none(alloc))?;
+    }
+    Ok(lists)
+}
+
+// The nets with each label that is the place of a net, in order.
+fn all_members(alloc: Global, nets: &[u32], labels: &[u32]) -> Result<Vec<Members>, AllocError>
+    requires { length labels.now ≡ length nets.now }
+    ensures { IfOk result (λ lists. lists.items ≡ map (members nets.now labels.now) (range_with_len 0 (length labels.now))) }
+{
+    let mut lists = blank(alloc, labels.len())?;
+    for i in 0..nets.len() {
+        note(&mut lists, labels[i], nets[i])?;
+    }
+    Ok(lists)
 }
 
 // Adds these nets as a group, where they are two or more.
 fn push_group(groups: &mut Vec<Group>, nets: Vec<u32>) -> Result<(), AllocError>
     requires { Rise nets.items }
-    ensures { OnOk result (groups.new.items ≡ groups.old.items ++ cond (nat_le 2 (length nets.items)) (nets.items ∷ []) []) }
+    ensures { OnOk result (groups.new.items ≡ groups.old.items ++ where_several nets.items) }
 {
     if nets.len() >= 2 {
         groups.push(Group::of(nets))?;
@@ -39,18 +61,25 @@ fn push_group(groups: &mut Vec<Group>, nets: Vec<u32>) -> Result<(), AllocError>
     Ok(())
 }
 
+// The groups among lists of nets.
+fn groups_among(alloc: Global, lists: Vec<Members>) -> Result<Vec<Group>, AllocError>
+    requires { All Rise lists.items }
+    ensures { IfOk result (λ groups. groups.items ≡ flat_map where_several lists.items) }
+{
+    let mut groups = Vec::new(alloc);
+    for list in lists {
+        push_group(&mut groups, list.into_nets())?;
+    }
+    Ok(groups)
+}
+
 // The groups of all labels, which are places of the nets.
 fn groups_by(alloc: Global, nets: &[u32], labels: &[u32]) -> Result<Vec<Group>, AllocError>
     requires rise { Rise nets.now }
-    requires few { length nets.now < 2 ^ 32 }
     requires labels { length labels.now ≡ length nets.now }
     ensures { IfOk result (λ groups. groups.items ≡ groups_by nets.now labels.now) }
 {
-    let mut groups = Vec::new(alloc);
-    for label in 0..labels.len() {
-        push_group(&mut groups, members(alloc, nets, labels, label as u32)?)?;
-    }
-    Ok(groups)
+    groups_among(alloc, all_members(alloc, nets, labels)?)
 }
 
 // The groups by these labels, where each compared cell reads what they say.
@@ -61,7 +90,6 @@ fn groups_where(
     is_shown: bool,
 ) -> Result<Option<Vec<Group>>, AllocError>
     requires rise { Rise nets.now }
-    requires few { length nets.now < 2 ^ 32 }
     requires labels { length labels.now ≡ length nets.now }
     ensures { IfOk result (λ found. option_map (λ groups. groups.items) found ≡ cond is_shown (Some (groups_by nets.now labels.now)) None) }
 {
@@ -77,7 +105,8 @@ fn groups_where(
 /// scan of data. The nets of the groups are nets of the board.
 ///
 /// A set of groups explains the log where, with the Or shorts of these groups and no other fault, every run of the test gives each
-/// bit of it that is compared. Each such bit is looked at a few times.
+/// bit of it that is compared. The log is read twice, row by row, each bit that is compared looked at once or twice; the groups are
+/// made in about the time of the nets.
 pub fn groups(
     alloc: Global,
     board: &Board,
@@ -102,6 +131,6 @@ pub fn groups(
     let nets = tables.nets.as_slice();
     let cells = tables.cells.as_slice();
     let labels = labels_of(alloc, log, cells)?;
-    let is_shown = shows_all(log, &labels, cells);
+    let is_shown = shows_all(alloc, log, &labels, cells)?;
     groups_where(alloc, nets, &labels, is_shown)
 }

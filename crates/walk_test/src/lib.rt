@@ -11,6 +11,7 @@ mod labels;
 pub mod law;
 mod lines;
 mod listing;
+mod members;
 mod nets;
 mod reading;
 mod setting;

@@ -15,13 +15,13 @@ labels_of-requires-clause-within c =
     let w = walked_at c.args.board.now c.args.walk.now c.walk.inside.tables c.as_slice-cells.result.now c.pass_count.result c.requires.walk c.walk.view_is c.as_slice-cells.ensures c.pass_count.ensures c.if-pass_count-eq0.false in
     first_within c.args.board.now c.raw-rules.ensures.rules c.as_slice-cells.result.now w c.args.log.now c.requires.bits
 
-pub shows_all-is_shown-requires-clause-rows : goal.shows_all-is_shown-requires-clause-rows
-shows_all-is_shown-requires-clause-rows c =
+pub shows_all-requires-clause-rows : goal.shows_all-requires-clause-rows
+shows_all-requires-clause-rows c =
     let w = walked_at c.args.board.now c.args.walk.now c.walk.inside.tables c.as_slice-cells.result.now c.pass_count.result c.requires.walk c.walk.view_is c.as_slice-cells.ensures c.pass_count.ensures c.if-pass_count-eq0.false in
     omega (arith, w.are.count, c.requires.rows, ap (λ (l : List ℕ). length l) c.requires.walk.nets)
 
-pub shows_all-is_shown-requires-clause-within : goal.shows_all-is_shown-requires-clause-within
-shows_all-is_shown-requires-clause-within c =
+pub shows_all-requires-clause-within : goal.shows_all-requires-clause-within
+shows_all-requires-clause-within c =
     let w = walked_at c.args.board.now c.args.walk.now c.walk.inside.tables c.as_slice-cells.result.now c.pass_count.result c.requires.walk c.walk.view_is c.as_slice-cells.ensures c.pass_count.ensures c.if-pass_count-eq0.false in
     all_within c.args.board.now c.raw-rules.ensures.rules c.as_slice-cells.result.now w c.args.log.now c.requires.bits
 
@@ -43,7 +43,7 @@ returns-clause-found c =
     (λ found is.
     found_at c.walk_safe.ensures c.logs_by_rows.ensures c.rows_compared.ensures.walk c.scans_in_turn.ensures.walk c.args.board.now c.raw-rules.ensures.rules c.as_slice-cells.result.now w c.args.log.now
     (c.requires.rows ∙ ap (λ (l : List ℕ). length l) c.requires.walk.nets) c.requires.bits c.as_slice-nets.result.now c.deref.result.now c.deref-2.result.now nets (c.deref.ensures.value ∙ c.in_ok-labels.ensures) (c.deref-2.ensures.value ∙ c.in_ok-labels.ensures)
-    c.shows_all-is_shown.result c.shows_all-is_shown.ensures (option_map (λ groups. groups.items) found) is)
+    c.in_ok-is_shown.is_shown c.in_ok-is_shown.ensures (option_map (λ groups. groups.items) found) is)
 
 pub returns-clause-named : goal.returns-clause-named
 returns-clause-named c = ok_then c.groups_where.result (returns-clause-found c) (λ found are. found_named c.args.board.now c.args.log.now (option_map (λ groups. groups.items) found) are)

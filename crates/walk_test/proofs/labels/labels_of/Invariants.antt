@@ -1,6 +1,7 @@
-use Rattle.std.proofs.Common.{◌≡◌, take, map}
-use Rattle.walk_test.specs.inner.Reading.{label_of}
+use Rattle.std.proofs.Common.{◌≡◌, map}
+use Rattle.walk_test.specs.inner.Reading.{seen_from}
 use Rattle.walk_test.proofs.labels.labels_of.Given as goal
 
-abbrev pub invariant-loop-net : goal.invariant-loop-net
-invariant-loop-net l = l.labels.items ≡ map (label_of l.log) (take l.net-index l.cells)
+-- the rows from this one on are seen
+abbrev pub invariant-loop-row : goal.invariant-loop-row
+invariant-loop-row l = l.cells.items ≡ map (seen_from l.log l.row) l.nets
