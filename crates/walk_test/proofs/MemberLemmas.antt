@@ -1,9 +1,9 @@
 -- The nets with each label, gathered net by net, and the groups among them.
-use Rattle.std.proofs.Common.{◌≡◌, ℕ, zero, suc, ◌+◌, ◌<◌, ◌≤◌, ◌==◌, Bool, true, false, cond, List, [], ◌∷◌, ◌++◌, length, map, take, replicate, get_or, Some, refl, sym, ap, ◌∙◌, subst, arith, append-nil, nat_le}
-use Rattle.std.specs.Prelude.{slice_get, slice_set, All}
+use Rattle.std.proofs.Common.{◌≡◌, ℕ, zero, suc, ◌+◌, ◌<◌, ◌==◌, Bool, cond, List, [], ◌∷◌, ◌++◌, length, map, take, replicate, Some, refl, sym, ap, ◌∙◌, subst, arith, append-nil}
+use Rattle.std.specs.Prelude.{slice_get, All}
 use Rattle.std.specs.List.{flat_map, range_with_len}
 use Rattle.std.proofs.lemmas.Bool.{eq-eqb, ne_eqb}
-use Rattle.board_defs.proofs.Members.{Has, map_has}
+use Rattle.board_defs.proofs.Members.{map_has}
 use Rattle.tap_defs.proofs.chain.ListLemmas.{cons_path}
 use Rattle.walk_test.specs.Groups.{Rise}
 use Rattle.walk_test.specs.inner.Reading.{members, noted, where_several, group_at, groups_by}

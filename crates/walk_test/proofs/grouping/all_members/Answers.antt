@@ -1,4 +1,4 @@
-use Rattle.std.proofs.Common.{◌≡◌, ◌<◌, List, ℕ, length, get_or, ap, sym, ◌∙◌, arith}
+use Rattle.std.proofs.Common.{List, ℕ, length, get_or, ◌∙◌, arith}
 use Rattle.std.proofs.lemmas.List.{with_items_is}
 use Rattle.std.proofs.lemmas.Option.{slice_get-get_or}
 use Rattle.walk_test.proofs.MemberLemmas.{all_members_more, no_members}

@@ -1,4 +1,4 @@
-use Rattle.std.proofs.Common.{◌≡◌, ◌-◌, ◌<◌, suc, List, ℕ, length, map, ap, sym, ◌∙◌, arith, subst}
+use Rattle.std.proofs.Common.{◌-◌, List, ◌∙◌, arith}
 use Rattle.std.proofs.lemmas.List.{with_items_is}
 use Rattle.walk_test.specs.declared.tables.LabelledCell.{LabelledCell}
 use Rattle.walk_test.proofs.ReadLemmas.{all_seen, seen_more, seen_within}

@@ -1,4 +1,4 @@
-use Rattle.std.proofs.Common.{ap, sym, ◌∙◌}
+use Rattle.std.proofs.Common.{◌∙◌}
 use Rattle.walk_test.proofs.ReadLemmas.{labelled_within, shown_by_rows}
 use Rattle.walk_test.proofs.reading.shows_all.Goals as goal
 
