@@ -117,8 +117,8 @@ fn net_cells(
     }
 }
 
-/// Adds a number where it is one of those that are wanted.
-pub fn push_if(nets: &mut Vec<u32>, n: u32, is_one: bool) -> Result<(), AllocError>
+// Adds a number where it is one of those that are wanted.
+fn push_if(nets: &mut Vec<u32>, n: u32, is_one: bool) -> Result<(), AllocError>
     ensures { OnOk result (nets.new.items ≡ nets.old.items ++ cond is_one (n ∷ []) []) }
 {
     if is_one {
