@@ -14,8 +14,8 @@ use crate::block::Block;
 use crate::verdict::Verdict;
 use board_defs::{Board, Items};
 use bt_base::{Gate, OpenGate};
-use diagnoser::diagnose;
-use fault_sim::is_pass;
+use diagnoser::diagnose_by;
+use fault_sim::{differing_nets, none_differs};
 use response_log::Log;
 use scan_planner::Plan;
 use std::alloc::{AllocError, Global};
@@ -78,9 +78,10 @@ fn verdict_on<R: Threads + Sync>(
     ensures diagnosis { IfOk result (λ verdict. IsDiagnosis board.now log.now verdict.pass verdict.faults) }
     ensures named { IfOk result (λ verdict. All (IsNamed board.now) verdict.faults) }
 {
-    let faults = diagnose(rt, alloc, board, plan, log, 1, &OpenGate)?;
+    let nets = differing_nets(alloc, board, plan, log)?;
+    let faults = diagnose_by(rt, alloc, board, plan, log, &nets, 1, &OpenGate)?;
     Ok(Verdict {
-        pass: is_pass(board, plan, log),
+        pass: none_differs(board, plan, log, &nets),
         faults: Items::of(faults),
     })
 }

@@ -13,8 +13,8 @@ use crate::texts::LogTexts;
 use bt_base::{Gate, Sink};
 use bt_bits::Line;
 use diagnoser::law::{explaining_listed, passing_unexplained};
-use diagnoser::{diagnose, write_diagnosis};
-use fault_sim::is_pass;
+use diagnoser::{diagnose_by, write_diagnosis};
+use fault_sim::{differing_nets, none_differs};
 use response_log::log;
 use std::alloc::Global;
 use std::thread::Threads;
@@ -67,8 +67,11 @@ fn put_diagnosis<R: Threads + Sync, K: Sink, G: Gate>(
         Ok(log) => log,
         Err(fault) => return Err(unput_by_log(plan.rows(), fault)),
     };
-    let pass = is_pass(board, plan, &log);
-    let Ok(faults) = diagnose(rt, alloc, board, plan, &log, workers, gate) else {
+    let Ok(nets) = differing_nets(alloc, board, plan, &log) else {
+        return Err(Unput::Memory);
+    };
+    let pass = none_differs(board, plan, &log, &nets);
+    let Ok(faults) = diagnose_by(rt, alloc, board, plan, &log, &nets, workers, gate) else {
         return Err(Unput::Memory);
     };
     let Ok(mut line) = Line::new(alloc) else {

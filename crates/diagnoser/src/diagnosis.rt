@@ -3,12 +3,13 @@ ghost use Rattle.std.specs.Prelude.{◌≡◌, ◌*◌, ◌≤◌, length, All, 
 ghost use Rattle.board_defs.specs.Passes.{passes_of};
 ghost use Rattle.board_defs.specs.Pins.{data_bits};
 ghost use Rattle.scan_planner.specs.Plans.{IsPlanOf};
+ghost use Rattle.fault_sim.specs.Suspects.{AreDiffering};
 ghost use Rattle.diagnoser.specs.Diagnosis.{AreExplaining, IsNamed};
 
 use crate::search::{Search, search_pieces};
 use board_defs::{Board, Single};
 use bt_base::Gate;
-use fault_sim::{Suspects, Universe, law};
+use fault_sim::{Suspects, Universe, differing_nets, law};
 use response_log::Log;
 use scan_planner::Plan;
 use std::alloc::{AllocError, Global};
@@ -39,14 +40,40 @@ pub fn diagnose<R: Threads + Sync, G: Gate>(
     ensures faults { IfOk result (λ faults. AreExplaining board.now log.now faults.items) }
     ensures named { IfOk result (λ faults. All (IsNamed board.now) faults.items) }
 {
+    let nets = differing_nets(alloc, board, plan, log)?;
+    diagnose_by(rt, alloc, board, plan, log, &nets, workers, gate)
+}
+
+/// The same where these are the nets that differ in the log, so that the log is gone through no second time.
+pub fn diagnose_by<R: Threads + Sync, G: Gate>(
+    rt: &R,
+    alloc: Global,
+    board: &Board,
+    plan: &Plan,
+    log: &Log,
+    nets: &[u32],
+    workers: u32,
+    gate: &G,
+) -> Result<Vec<Single>, AllocError>
+    requires some { 1 ≤ workers }
+    requires few { workers ≤ 64 }
+    requires plan { IsPlanOf board.now plan.now }
+    requires passes { plan.now.passes ≡ passes_of board.now }
+    requires rows { length log.now ≡ length plan.now.passes * plan.now.width }
+    requires bits { All (λ row. length row ≡ data_bits board.now) log.now }
+    requires differing { AreDiffering board.now plan.now log.now nets.now }
+    ensures faults { IfOk result (λ faults. AreExplaining board.now log.now faults.items) }
+    ensures named { IfOk result (λ faults. All (IsNamed board.now) faults.items) }
+{
     let _rules = board.raw();
     law::suspects_suffice();
     let universe = Universe::new(alloc, board, plan)?;
-    let suspects = Suspects::new(alloc, board, plan, &universe, log)?;
+    let suspects = Suspects::of_nets(alloc, board, plan, &universe, log, nets)?;
     let search = Search {
         board,
         plan,
         log,
+        nets,
         universe: &universe,
         suspects: &suspects,
         pieces: workers,

@@ -10,5 +10,5 @@ mod lines;
 mod listing;
 mod search;
 
-pub use diagnosis::diagnose;
+pub use diagnosis::{diagnose, diagnose_by};
 pub use listing::write_diagnosis;

@@ -6,19 +6,20 @@ ghost use Rattle.diagnoser.specs.inner.Search.{IsSearch, Found, first_of};
 
 use board_defs::{Board, Single};
 use bt_base::Gate;
-use fault_sim::{Suspects, Universe, matches};
+use fault_sim::{Suspects, Universe, matches_by};
 use response_log::Log;
 use scan_planner::Plan;
 use std::alloc::{AllocError, Global};
 use std::thread::{Threads, join};
 
-/// A log of a board's test, its candidates, which are the places of the faults that may explain it, and the number of the
-/// pieces that these are cut into.
+/// A log of a board's test, the nets that differ in it, its candidates, which are the places of the faults that may explain it, and the
+/// number of the pieces that these are cut into.
 #[derive(Clone, Copy)]
 pub struct Search<'a> {
     pub board: &'a Board,
     pub plan: &'a Plan,
     pub log: &'a Log,
+    pub nets: &'a [u32],
     pub universe: &'a Universe,
     pub suspects: &'a Suspects,
     pub pieces: u32,
@@ -34,7 +35,7 @@ fn try_candidate<G: Gate>(search: Search<'_>, piece: u32, i: u64, gate: &G) -> O
     let place = search.suspects.place(i);
     gate.enter(piece, place);
     let fault = search.universe.at(search.plan, place)?;
-    if matches(search.board, search.plan, fault, search.log) {
+    if matches_by(search.board, search.plan, fault, search.log, search.nets) {
         Some(fault)
     } else {
         None

@@ -1,8 +1,8 @@
 -- Which nets differ in a log, and where they stand among the covered nets.
 use Rattle.std.proofs.Common.{◌≡◌, ◌⊎◌, inl, inr, ℕ, zero, suc, ◌+◌, ◌*◌, ◌<◌, ◌==◌, Bool, true, false, cond, not, ◌||◌, List, [], ◌∷◌, length, map, get_or, set, Option, Some, None, is_some, Decides, refl, sym, ap, ◌∙◌, subst, arith}
-use Rattle.std.specs.Prelude.{slice_get, filter, take, count_by, nat_lt, Contains}
+use Rattle.std.specs.Prelude.{slice_get, filter, take, count_by, nat_lt, Contains, Result, Ok, Err, IfOk}
 use Rattle.std.specs.List.{enumerate_from, range_with_len}
-use Rattle.std.proofs.lemmas.Bool.{lt-ltb, both_ways, cases_eq, cases_Bool}
+use Rattle.std.proofs.lemmas.Bool.{lt-ltb, both_ways, cases_eq, cases_Bool, ne_eqb}
 use Rattle.std.proofs.lemmas.List.{get_or-set_same, get_or-set_other}
 use Rattle.std.proofs.lemmas.List.Sums.{sum_by-cons}
 use Rattle.std.proofs.lemmas.Option.{get_or_from_slice_get}
@@ -25,7 +25,7 @@ use Rattle.scan_planner.specs.Plans.{IsPlanOf}
 use Rattle.scan_planner.proofs.FillLemmas.{some_at}
 use Rattle.fault_sim.specs.Effects.{driver_in, readers_in, code_in}
 use Rattle.fault_sim.specs.declared.effect.Effect.TheVariants.{Plain}
-use Rattle.fault_sim.specs.Fits.{bit_in, cell_shows, ShowBy, NetShows, Shows, ShowsOn}
+use Rattle.fault_sim.specs.Fits.{bit_in, cell_shows, ShowBy, NetShows, Shows, ShowsOn, ShowsAll}
 use Rattle.fault_sim.specs.inner.Tested.{coded_nets}
 use Rattle.fault_sim.specs.Suspects.{AreDiffering}
 use Rattle.fault_sim.specs.inner.Suspects.{IsBefore, AreFlags, flagged_nets, covered_place}
@@ -83,9 +83,18 @@ module _ (board : RawBoard) (plan : PlanTables) (log : List (List Bool)) where
   pub flagged_differ : (flags : List Bool) → length flags ≡ length board.nets → AreFlags board plan log (length plan.passes) 0 flags → AreDiffering board plan log (flagged_nets flags)
   flagged_differ flags long are = record {
     rising = order_pairs (λ (a b : ℕ). a < b) (flagged_nets flags) (order_filter (λ (a b : ℕ). a < b) (λ n. get_or flags n false) (range_with_len 0 (length flags)) (order_range 0 (length flags)));
+    others = others;
     exactly = λ n. (to n, from n);
   }
     where
+      others : (n : ℕ) → n < length board.nets → Contains (flagged_nets flags) n ⊎ ShowsOn board plan None log n
+      others n within = by_flag (cases_Bool (get_or flags n false))
+        where
+          by_flag : (get_or flags n false ≡ true) ⊎ (get_or flags n false ≡ false) → Contains (flagged_nets flags) n ⊎ ShowsOn board plan None log n
+          by_flag (inl e) =
+              inl (has_contains (flagged_nets flags) n (has_filter (λ k. get_or flags k false) (range_with_len 0 (length flags)) n (has_range 0 (length flags) n (omega arith) (omega (arith, within, long))) e))
+          by_flag (inr e) = inr (λ x less. (are n within).0 (ap not e) x (inl less))
+
       to : (n : ℕ) → Contains (flagged_nets flags) n → (n < length board.nets) × (ShowsOn board plan None log n → ⊥)
       to n h =
           let f = filter_has (λ k. get_or flags k false) (range_with_len 0 (length flags)) n (contains_has (flagged_nets flags) n h) in
@@ -105,6 +114,24 @@ module _ (board : RawBoard) (plan : PlanTables) (log : List (List Bool)) where
           by_flag : (get_or flags n false ≡ true) ⊎ (get_or flags n false ≡ false) → get_or flags n false ≡ true
           by_flag (inl e) = e
           by_flag (inr e) = absurd (hidden (λ x less. (are n within).0 (ap not e) x (inl less)))
+
+-- so those that were found are
+pub found_differ : {V E : Type 0} (board : RawBoard) (plan : PlanTables) (log : List (List Bool)) (view : V → List ℕ) (result : Result V E) (flags lent : List Bool) → lent ≡ flags → length flags ≡ length board.nets → AreFlags board plan log (length plan.passes) 0 flags →
+    IfOk result (λ v. view v ≡ flagged_nets lent) → IfOk result (λ v. AreDiffering board plan log (view v))
+found_differ board plan log view (Err e) flags lent same long are found = tt
+found_differ board plan log view (Ok v) flags lent same long are found = subst (λ (l : List ℕ). AreDiffering board plan log l) (sym (found ∙ ap (λ (l : List Bool). flagged_nets l) same)) (flagged_differ board plan log flags long are)
+
+-- a net is none of no nets
+not_among : {P : Type 0} (n : ℕ) (nets : List ℕ) → length nets ≡ 0 → Contains nets n ⊎ P → P
+not_among n [] e (inl has) = absurd (contains_has [] n has)
+not_among n [] e (inr p) = p
+not_among n (m ∷ nets) e s = absurd (omega (arith, e))
+
+-- no net differs exactly where all show
+pub none_decides : (board : RawBoard) (plan : PlanTables) (log : List (List Bool)) (nets : List ℕ) → AreDiffering board plan log nets → (P : Type 0) → (P → ShowsAll board plan None log) → (ShowsAll board plan None log → P) → (r : Bool) → r ≡ (length nets == 0) → Decides r P
+none_decides board plan log [] differ P to back r is = (λ e. back (λ x less n within. not_among n [] refl (differ.others n within) x less), λ p. is)
+none_decides board plan log (n ∷ nets) differ P to back r is =
+    (λ e. absurd (both_ways r (is ∙ ne_eqb (length (n ∷ nets)) 0 (λ z. omega (arith, z))) e), λ p. let d = (differ.exactly n).0 (has_contains (n ∷ nets) n (inl refl)) in absurd (d.1 (λ x less. to p x less n d.0)))
 
 -- the place of a net among those that pass a test
 place_in_filter : (g : Net → Bool) (a : ℕ) (nets : List Net) (n : ℕ) (net : Net) → slice_get nets n ≡ Some net → g net ≡ true →

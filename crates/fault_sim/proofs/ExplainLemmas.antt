@@ -1,8 +1,8 @@
 -- The suspects for a log: every place whose fault explains it is among them.
 use Rattle.std.proofs.Common.{◌≡◌, ◌≢◌, ◌⊎◌, inl, inr, ℕ, zero, suc, ◌+◌, ◌-◌, ◌*◌, ◌/◌, ◌%◌, ◌<◌, ◌≤◌, ◌==◌, Bool, true, false, cond, not, ◌||◌, List, [], ◌∷◌, ◌++◌, length, drop, get_or, Option, Some, None, refl, sym, ap, ◌∙◌, subst, arith, length-append}
 use Rattle.std.specs.Prelude.{◌↔◌, slice_get, count_by, All, Contains}
-use Rattle.std.specs.List.{flat_map, range_with_len}
-use Rattle.std.proofs.lemmas.Bool.{both_ways, cases_lt, cases_eq, cases_Bool, ne_eqb}
+use Rattle.std.specs.List.{flat_map, list_all, range_with_len}
+use Rattle.std.proofs.lemmas.Bool.{both_ways, eq-eqb, cases_lt, cases_eq, cases_Bool, ne_eqb}
 use Rattle.std.proofs.lemmas.List.{drop_all}
 use Rattle.std.proofs.lemmas.List.Sums.{sum_by-cons}
 use Rattle.std.proofs.lemmas.Option.{slice_get_within, get_or_from_slice_get}
@@ -20,7 +20,8 @@ use Rattle.board_defs.specs.declared.board.Net.{Net}
 use Rattle.board_defs.specs.Decided.{is_covered}
 use Rattle.board_defs.specs.Passes.{ArePasses, pairs_within, passes_of}
 use Rattle.board_defs.specs.Pins.{data_bits}
-use Rattle.board_defs.proofs.Members.{Has, has_at, has_contains, contains_has}
+use Rattle.board_defs.proofs.Members.{Has, has_at, has_contains, contains_has, all_has as all_holds}
+use Rattle.board_defs.proofs.Places.{all_from}
 use Rattle.board_defs.proofs.Ordered.{InOrder, order_map, order_pairs}
 use Rattle.tap_defs.specs.board.BoardScans.{svf_row_scans}
 use Rattle.tap_defs.specs.board.Explaining.{CompareRows, HasShape, Explains, IsExpected, ShowsBits, compared_scans}
@@ -35,7 +36,7 @@ use Rattle.fault_sim.specs.declared.effect.Effect.TheVariants.{Plain, Constant}
 use Rattle.fault_sim.specs.declared.universe.FaultLists.{FaultLists}
 use Rattle.fault_sim.specs.Effects.{driver_in, readers_in, code_in, open_effect, short_effect, effect_of, pull_in}
 use Rattle.fault_sim.specs.inner.Effects.{first_net, second_net}
-use Rattle.fault_sim.specs.Fits.{ShowBy, ShowsOn, ShowsAll}
+use Rattle.fault_sim.specs.Fits.{ShowBy, Shows, ShowsOn, ShowsBoth, ShowsAll}
 use Rattle.fault_sim.specs.inner.Tested.{paired_in, coded_nets}
 use Rattle.fault_sim.specs.Places.{placed, AreStarts, number_places, listed_places, place_count, places_of, IsUniverse}
 use Rattle.fault_sim.specs.Suspects.{suspect_count, AreDiffering, AreSuspects}
@@ -45,7 +46,7 @@ use Rattle.fault_sim.proofs.MatchLemmas.{explains_is, expected_is}
 use Rattle.fault_sim.proofs.TestedLemmas.{nets_are}
 use Rattle.fault_sim.proofs.UniverseLemmas.{covered_order, listed_are}
 use Rattle.fault_sim.proofs.OrderLemmas.{place_single}
-use Rattle.fault_sim.proofs.DifferLemmas.{flagged_differ, differing_observed, covered_there}
+use Rattle.fault_sim.proofs.DifferLemmas.{differing_observed, covered_there}
 use Rattle.fault_sim.proofs.SuspectLemmas.{PairAt, pair_at, net_order, net_below, has_stuck, has_open, has_earlier, has_later, pair_order, pair_below, has_pair}
 
 -- where a fault stands
@@ -164,6 +165,47 @@ pub others_show : (board : RawBoard) (plan : PlanTables) (log : List (List Bool)
 others_show board plan log single n within show a b x less =
     subst (λ (effect : Effect). ShowBy log (x * plan.width) plan.width (code_in plan n) (readers_in plan n) effect (driver_in plan (get_or plan.passes x []) n))
     (plain_effect board plan (get_or plan.passes x []) single n a b) (show x less n within)
+
+-- where the nets that differ are nets of a fault, its effect is shown on all nets exactly where it is on its own
+module _ (board : RawBoard) (plan : PlanTables) (log : List (List Bool)) (single : Single) (a b : ℕ) (first : a ≡ first_net single) (second : b ≡ second_net single) (nets : List ℕ) (differ : AreDiffering board plan log nets) where
+  is_one : ℕ → Bool
+  is_one n = (n == a) || (n == b)
+
+  -- the nets that differ are nets of a fault that is shown on all nets
+  pub are_own : ShowsAll board plan (Some single) log → list_all (λ n. (n == a) || (n == b)) nets ≡ true
+  are_own show = all_from (λ n. (n == a) || (n == b)) nets (λ i n at. by_first n (has_contains nets n (has_at nets i n at)) (cases_eq n a))
+    where
+      by_second : (n : ℕ) → Contains nets n → n ≢ a → (n ≡ b) ⊎ (n ≡ b → ⊥) → ((n == a) || (n == b)) ≡ true
+      by_second n has not_a (inl e) = ap (λ (t : Bool). (n == a) || t) (eq-eqb n b e) ∙ or_true (n == a)
+        where
+          or_true : (t : Bool) → (t || true) ≡ true
+          or_true true = refl
+          or_true false = refl
+      by_second n has not_a (inr not_b) =
+          let d = (differ.exactly n).0 has in
+          absurd (d.1 (others_show board plan log single n d.0 show (λ e. not_a (e ∙ sym first)) (λ e. not_b (e ∙ sym second))))
+
+      by_first : (n : ℕ) → Contains nets n → (n ≡ a) ⊎ (n ≡ a → ⊥) → ((n == a) || (n == b)) ≡ true
+      by_first n has (inl e) = ap (λ (t : Bool). t || (n == b)) (eq-eqb n a e)
+      by_first n has (inr not_a) = by_second n has not_a (cases_eq n b)
+
+  pub own_enough : list_all (λ n. (n == a) || (n == b)) nets ≡ true → ShowsBoth board plan (Some single) log a b → ShowsAll board plan (Some single) log
+  own_enough own both x less n within = by_first (cases_eq n a)
+    where
+      shown : n ≢ a → n ≢ b → Contains nets n ⊎ ShowsOn board plan None log n → Shows board plan (Some single) log x n
+      shown not_a not_b (inl has) =
+          absurd (both_ways ((n == a) || (n == b)) (ap (λ (t : Bool). t || (n == b)) (ne_eqb n a not_a) ∙ ne_eqb n b not_b) (all_holds (λ (m : ℕ). (m == a) || (m == b)) nets n own (contains_has nets n has)))
+      shown not_a not_b (inr shows) =
+          subst (λ (effect : Effect). ShowBy log (x * plan.width) plan.width (code_in plan n) (readers_in plan n) effect (driver_in plan (get_or plan.passes x []) n))
+          (sym (plain_effect board plan (get_or plan.passes x []) single n (λ e. not_a (e ∙ sym first)) (λ e. not_b (e ∙ sym second)))) (shows x less)
+
+      by_second : n ≢ a → (n ≡ b) ⊎ (n ≡ b → ⊥) → Shows board plan (Some single) log x n
+      by_second not_a (inl e) = subst (λ (m : ℕ). Shows board plan (Some single) log x m) (sym e) (both x less).1
+      by_second not_a (inr not_b) = shown not_a not_b (differ.others n within)
+
+      by_first : (n ≡ a) ⊎ (n ≡ a → ⊥) → Shows board plan (Some single) log x n
+      by_first (inl e) = subst (λ (m : ℕ). Shows board plan (Some single) log x m) (sym e) (both x less).0
+      by_first (inr not_a) = by_second not_a (cases_eq n b)
 
 module _ (board : RawBoard) (plan : PlanTables) (lists : FaultLists) (starts : AreStarts (length lists.nets) lists.starts) (rising : InOrder (λ (x y : ℕ). x < y) lists.nets) (log : List (List Bool))
     (decided : (n : ℕ) → n < length board.nets → ShowsOn board plan None log n ⊎ (ShowsOn board plan None log n → ⊥))
@@ -423,7 +465,7 @@ module _ (board : RawBoard) (rules : IsBoard board) (plan : PlanTables) (p : IsP
     (expect : IsExpected board (svf_row_scans board) log ↔ (HasShape board (svf_row_scans board) log × ShowsBits board (svf_row_scans board) (λ row place expected. expected) log))
     (none : (single : Single) → IsSingle board single → IsExpected board (svf_row_scans board) log → Explains board single log → ⊥)
     (lists : FaultLists) (universe : IsUniverse board lists) (starts : AreStarts (length lists.nets) lists.starts)
-    (flags : List Bool) (long : length flags ≡ length board.nets) (are : AreFlags board plan log (length plan.passes) 0 flags) where
+    (nets : List ℕ) (differ : AreDiffering board plan log nets) where
   nets_same : lists.nets ≡ coded_nets plan (length board.nets)
   nets_same = universe.nets ∙ sym (nets_are board rules plan p kept observed)
 
@@ -439,29 +481,22 @@ module _ (board : RawBoard) (rules : IsBoard board) (plan : PlanTables) (p : IsP
       ∙ covered_there board rules plan p log n (net.0) net.1 (differing_observed board rules plan p log n (net.0) net.1 hidden)
 
   decided : (n : ℕ) → n < length board.nets → ShowsOn board plan None log n ⊎ (ShowsOn board plan None log n → ⊥)
-  decided n within = by_flag (cases_Bool (get_or flags n false))
+  decided n within = by_others (differ.others n within)
     where
-      early : (pass : ℕ) → IsBefore (length plan.passes) 0 pass n → pass < length plan.passes
-      early pass (inl h) = h
-      early pass (inr (e, nothing)) = absurd (omega (arith, nothing))
+      by_others : Contains nets n ⊎ ShowsOn board plan None log n → ShowsOn board plan None log n ⊎ (ShowsOn board plan None log n → ⊥)
+      by_others (inl has) = inr ((differ.exactly n).0 has).1
+      by_others (inr shown) = inl shown
 
-      by_flag : (get_or flags n false ≡ true) ⊎ (get_or flags n false ≡ false) → ShowsOn board plan None log n ⊎ (ShowsOn board plan None log n → ⊥)
-      by_flag (inl e) = inr (λ shown. both_ways (not (get_or flags n false)) (ap not e) ((are n within).1 (λ pass before. shown pass (early pass before))))
-      by_flag (inr e) = inl (λ x less. (are n within).0 (ap not e) x (inl less))
-
-  differ : AreDiffering board plan log (flagged_nets flags)
-  differ = flagged_differ board plan log flags long are
-
-  pub can_be : CanSuspect plan lists (flagged_nets flags)
+  pub can_be : CanSuspect plan lists nets
   can_be =
       can_suspect board plan lists starts nets_rise log decided there
       (λ single show explains is. none single is ((expected_is board rules plan p passes log rows bits compared shape expect).1 show) explains)
       (λ single is explains. (explains_is board rules plan p passes log rows bits compared shape single is (respond single is)).0 explains)
-      (listed_are board rules plan p kept lists universe) (place_single board rules) (flagged_nets flags) differ
+      (listed_are board rules plan p kept lists universe) (place_single board rules) nets differ
 
-  pub all_suspects : AreSuspects board plan lists log (suspects_of plan lists (flagged_nets flags))
+  pub all_suspects : AreSuspects board plan lists log (suspects_of plan lists nets)
   all_suspects =
       are_suspects board plan lists starts nets_rise log decided there
       (λ single show explains is. none single is ((expected_is board rules plan p passes log rows bits compared shape expect).1 show) explains)
       (λ single is explains. (explains_is board rules plan p passes log rows bits compared shape single is (respond single is)).0 explains)
-      (listed_are board rules plan p kept lists universe) (place_single board rules) (flagged_nets flags) differ
+      (listed_are board rules plan p kept lists universe) (place_single board rules) nets differ

@@ -39,6 +39,14 @@ NetShows board plan fault log first pass n =
 abbrev pub Shows : RawBoard → PlanTables → Option Single → List (List Bool) → ℕ → ℕ → Type 0
 Shows board plan fault log x n = NetShows board plan fault log (x * plan.width) (slice_index_or plan.passes x []) n
 
+-- on nets a and b in pass x
+abbrev pub ShowsPair : RawBoard → PlanTables → Option Single → List (List Bool) → ℕ → ℕ → ℕ → Type 0
+ShowsPair board plan fault log x a b = Shows board plan fault log x a × Shows board plan fault log x b
+
+-- on both in each pass
+abbrev pub ShowsBoth : RawBoard → PlanTables → Option Single → List (List Bool) → ℕ → ℕ → Type 0
+ShowsBoth board plan fault log a b = (x : ℕ) → x < length plan.passes → ShowsPair board plan fault log x a b
+
 -- on net n in each pass
 abbrev pub ShowsOn : RawBoard → PlanTables → Option Single → List (List Bool) → ℕ → Type 0
 ShowsOn board plan fault log n = (x : ℕ) → x < length plan.passes → Shows board plan fault log x n

@@ -1,5 +1,5 @@
 -- The places whose faults may explain a log.
-use Rattle.std.specs.Prelude.{◌≡◌, ◌↔◌, ℕ, ◌+◌, ◌-◌, ◌*◌, ◌<◌, ◌==◌, Bool, List, [], ◌∷◌, length, count_by, slice_get, Some, None, AllPairs, All, Contains}
+use Rattle.std.specs.Prelude.{◌≡◌, ◌↔◌, ◌⊎◌, ℕ, ◌+◌, ◌-◌, ◌*◌, ◌<◌, ◌==◌, Bool, List, [], ◌∷◌, length, count_by, slice_get, Some, None, AllPairs, All, Contains}
 use Rattle.board_defs.specs.declared.board.RawBoard.{RawBoard}
 use Rattle.board_defs.specs.declared.fault.Single.{Single}
 use Rattle.tap_defs.specs.board.Explaining.{Explains}
@@ -8,9 +8,11 @@ use Rattle.fault_sim.specs.declared.universe.FaultLists.{FaultLists}
 use Rattle.fault_sim.specs.Fits.{ShowsOn}
 use Rattle.fault_sim.specs.Places.{place_count, places_of}
 
--- the nets that differ in a log, in net order: some compared cell of them has a bit that is not the expected one
+-- the nets that differ in a log, in net order: some compared cell of them has a bit that is not the expected one, and each other net shows
+-- the expected bits
 pub record AreDiffering (board : RawBoard) (plan : PlanTables) (log : List (List Bool)) (nets : List ℕ) : Type 0 where
   pub rising : AllPairs (λ a b. a < b) nets
+  pub others : (n : ℕ) → n < length board.nets → Contains nets n ⊎ ShowsOn board plan None log n
   pub exactly : (n : ℕ) → Contains nets n ↔ ((n < length board.nets) × (ShowsOn board plan None log n → ⊥))
 
 -- how many they are

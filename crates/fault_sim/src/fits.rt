@@ -4,7 +4,7 @@ ghost use Rattle.std.specs.List.{list_all};
 ghost use Rattle.board_defs.specs.Pins.{data_bits};
 ghost use Rattle.scan_planner.specs.Plans.{IsPlanOf};
 ghost use Rattle.tap_defs.specs.board.TestRows.{code_bit};
-ghost use Rattle.fault_sim.specs.Fits.{bit_in, cell_shows, ShowRows, ShowBy, NetShows, Shows, ShowsOn, ShowsIn, ShowsAll};
+ghost use Rattle.fault_sim.specs.Fits.{bit_in, cell_shows, ShowRows, ShowBy, NetShows, Shows, ShowsPair, ShowsBoth, ShowsIn, ShowsAll};
 
 use crate::effect::{Effect, effect_bit, effect_in};
 use crate::feed::{code_bit, driver_in, is_same};
@@ -158,16 +158,46 @@ pub fn shows(board: &Board, plan: &Plan, fault: Option<Single>, log: &Log, x: u3
     net_shows(board, plan, fault, log, first, plan.pass(x), net)
 }
 
-/// Whether a log shows the effect of a fault on a net.
-pub fn shows_on(board: &Board, plan: &Plan, fault: Option<Single>, log: &Log, net: u32) -> bool
+// The same on two nets, which may be one.
+fn shows_pair(
+    board: &Board,
+    plan: &Plan,
+    fault: Option<Single>,
+    log: &Log,
+    x: u32,
+    a: u32,
+    b: u32,
+) -> bool
     requires plan { IsPlanOf board.now plan.now }
     requires rows { length log.now ≡ length plan.now.passes * plan.now.width }
     requires bits { All (λ row. length row ≡ data_bits board.now) log.now }
-    requires net { net < length board.now.nets }
-    ensures { Decides result (ShowsOn board.now plan.now fault log.now net) }
+    requires pass { x < length plan.now.passes }
+    requires first { a < length board.now.nets }
+    requires second { b < length board.now.nets }
+    ensures { Decides result (ShowsPair board.now plan.now fault log.now x a b) }
+{
+    shows(board, plan, fault, log, x, a) && shows(board, plan, fault, log, x, b)
+}
+
+/// Whether a log shows the effect of a fault on two nets, which may be one. Both are looked at pass by pass, since the first pass in which
+/// either tells is mostly an early one.
+pub fn shows_both(
+    board: &Board,
+    plan: &Plan,
+    fault: Option<Single>,
+    log: &Log,
+    a: u32,
+    b: u32,
+) -> bool
+    requires plan { IsPlanOf board.now plan.now }
+    requires rows { length log.now ≡ length plan.now.passes * plan.now.width }
+    requires bits { All (λ row. length row ≡ data_bits board.now) log.now }
+    requires first { a < length board.now.nets }
+    requires second { b < length board.now.nets }
+    ensures { Decides result (ShowsBoth board.now plan.now fault log.now a b) }
 {
     for x in 0..plan.pass_count() {
-        if !shows(board, plan, fault, log, x, net) {
+        if !shows_pair(board, plan, fault, log, x, a, b) {
             return false;
         }
     }

@@ -4,6 +4,7 @@
 //! differs from the expected one at the cells of the faulty nets alone.
 #![tactic(auto)]
 
+mod differing;
 mod effect;
 mod feed;
 mod fits;
@@ -13,7 +14,8 @@ mod suspects;
 mod tested;
 mod universe;
 
-pub use matching::{is_pass, matches};
+pub use differing::{differing_nets, none_differs};
+pub use matching::{is_pass, matches, matches_by};
 pub use suspects::Suspects;
 pub use universe::Universe;
 

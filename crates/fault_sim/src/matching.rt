@@ -1,5 +1,6 @@
 // Whether a single fault explains a log, and whether a log is the expected one.
-ghost use Rattle.std.specs.Prelude.{◌≡◌, ◌*◌, length, All, Decides};
+ghost use Rattle.std.specs.Prelude.{◌≡◌, ◌*◌, ◌==◌, ◌||◌, length, All, Decides};
+ghost use Rattle.std.specs.List.{list_all};
 ghost use Rattle.board_defs.specs.Faults.{IsSingle};
 ghost use Rattle.board_defs.specs.Passes.{passes_of};
 ghost use Rattle.board_defs.specs.Pins.{data_bits};
@@ -7,8 +8,9 @@ ghost use Rattle.scan_planner.specs.Plans.{IsPlanOf};
 ghost use Rattle.tap_defs.specs.board.BoardScans.{svf_row_scans};
 ghost use Rattle.tap_defs.specs.board.Explaining.{Explains, IsExpected};
 ghost use Rattle.fault_sim.specs.inner.Effects.{first_net, second_net};
+ghost use Rattle.fault_sim.specs.Suspects.{AreDiffering};
 
-use crate::fits::{shows_all, shows_on};
+use crate::fits::{shows_all, shows_both};
 use board_defs::{Board, Single, law};
 use response_log::Log;
 use scan_planner::Plan;
@@ -66,11 +68,37 @@ pub fn matches(board: &Board, plan: &Plan, fault: Single, log: &Log) -> bool
     law::passes_kept();
     board_law::rows_compared();
     board_law::singles_respond();
-    if !shows_on(board, plan, Some(fault), log, first_net(fault)) {
-        return false;
-    }
-    if !shows_on(board, plan, Some(fault), log, second_net(fault)) {
+    if !shows_both(board, plan, Some(fault), log, first_net(fault), second_net(fault)) {
         return false;
     }
     shows_all(board, plan, Some(fault), log)
+}
+
+// Whether each of these nets is one of two.
+fn are_of(nets: &[u32], a: u32, b: u32) -> bool
+    ensures { result ≡ list_all (λ n. (n == a) || (n == b)) nets.now }
+{
+    nets.iter().all(|n| *n == a || *n == b)
+}
+
+/// The same where these are the nets that differ in the log: then no cell of any net but the fault's own is looked at.
+pub fn matches_by(board: &Board, plan: &Plan, fault: Single, log: &Log, nets: &[u32]) -> bool
+    requires plan { IsPlanOf board.now plan.now }
+    requires passes { plan.now.passes ≡ passes_of board.now }
+    requires fault { IsSingle board.now fault }
+    requires rows { length log.now ≡ length plan.now.passes * plan.now.width }
+    requires bits { All (λ row. length row ≡ data_bits board.now) log.now }
+    requires differing { AreDiffering board.now plan.now log.now nets.now }
+    ensures { Decides result (Explains board.now fault log.now) }
+{
+    let _rules = board.raw();
+    law::passes_kept();
+    board_law::rows_compared();
+    board_law::singles_respond();
+    let first = first_net(fault);
+    let second = second_net(fault);
+    if !are_of(nets, first, second) {
+        return false;
+    }
+    shows_both(board, plan, Some(fault), log, first, second)
 }

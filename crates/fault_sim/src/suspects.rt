@@ -1,15 +1,14 @@
 // The places whose faults may explain a log.
-ghost use Rattle.std.specs.Prelude.{◌≡◌, ◌+◌, ◌-◌, ◌*◌, ◌<◌, ◌≤◌, ◌^◌, ◌++◌, ◌∷◌, [], suc, cond, true, length, All, IfOk, OnOk, slice_get, slice_set, Some};
+ghost use Rattle.std.specs.Prelude.{◌≡◌, ◌+◌, ◌-◌, ◌*◌, ◌<◌, ◌≤◌, ◌^◌, ◌++◌, ◌∷◌, [], suc, length, All, IfOk, OnOk, slice_get, Some};
 ghost use Rattle.std.specs.List.{flat_map, range_with_len};
 ghost use Rattle.board_defs.specs.Passes.{passes_of};
 ghost use Rattle.board_defs.specs.Pins.{data_bits};
 ghost use Rattle.scan_planner.specs.Plans.{IsPlanOf};
 ghost use Rattle.fault_sim.specs.Places.{AreStarts, IsUniverse};
-ghost use Rattle.fault_sim.specs.Suspects.{AreSuspects};
-ghost use Rattle.fault_sim.specs.inner.Suspects.{AreFlags, flagged_nets, two_from, four_from, pair_number, pair_suspects, pin_suspects, net_suspects, covered_place, CanSuspect, suspects_of};
+ghost use Rattle.fault_sim.specs.Suspects.{AreDiffering, AreSuspects};
+ghost use Rattle.fault_sim.specs.inner.Suspects.{two_from, four_from, pair_number, pair_suspects, pin_suspects, net_suspects, covered_place, CanSuspect, suspects_of};
 
-use crate::fits::{net_count, shows};
-use crate::tested::{is_set, push_if};
+use crate::differing::differing_nets;
 use crate::universe::{FaultLists, Universe, pin_at, start_at};
 use board_defs::{Board, law};
 use response_log::Log;
@@ -32,73 +31,6 @@ impl Model for Suspects {
     ghost Value = { List ℕ };
 
     ghost view = { λ a. a.places.items };
-}
-
-// Sets a flag, unless its net is shown.
-fn set_unless(flags: &mut [bool], n: usize, shown: bool)
-    requires { n < length flags.old }
-    ensures { flags.new ≡ cond shown flags.old (slice_set flags.old n true) }
-{
-    if !shown {
-        flags[n] = true;
-    }
-}
-
-// Flags net `n` where it does not show the expected bits in pass `x`.
-fn flag_net(flags: &mut [bool], board: &Board, plan: &Plan, log: &Log, x: u32, n: u32)
-    requires plan { IsPlanOf board.now plan.now }
-    requires rows { length log.now ≡ length plan.now.passes * plan.now.width }
-    requires bits { All (λ row. length row ≡ data_bits board.now) log.now }
-    requires pass { x < length plan.now.passes }
-    requires net { n < length board.now.nets }
-    requires count { length flags.old ≡ length board.now.nets }
-    requires flags { AreFlags board.now plan.now log.now x n flags.old }
-    ensures flags { AreFlags board.now plan.now log.now x (n + 1) flags.new }
-    ensures count { length flags.new ≡ length flags.old }
-{
-    let shown = shows(board, plan, None, log, x, n);
-    set_unless(flags, n as usize, shown);
-}
-
-fn flag_pass(flags: &mut [bool], board: &Board, plan: &Plan, log: &Log, x: u32)
-    requires plan { IsPlanOf board.now plan.now }
-    requires rows { length log.now ≡ length plan.now.passes * plan.now.width }
-    requires bits { All (λ row. length row ≡ data_bits board.now) log.now }
-    requires pass { x < length plan.now.passes }
-    requires count { length flags.old ≡ length board.now.nets }
-    requires flags { AreFlags board.now plan.now log.now x 0 flags.old }
-    ensures flags { AreFlags board.now plan.now log.now (x + 1) 0 flags.new }
-    ensures count { length flags.new ≡ length flags.old }
-{
-    for n in 0..net_count(board) {
-        flag_net(flags, board, plan, log, x, n);
-    }
-}
-
-// Flags the nets that differ in a log, in one pass over its rows.
-fn flags_of(alloc: Global, board: &Board, plan: &Plan, log: &Log) -> Result<Vec<bool>, AllocError>
-    requires plan { IsPlanOf board.now plan.now }
-    requires rows { length log.now ≡ length plan.now.passes * plan.now.width }
-    requires bits { All (λ row. length row ≡ data_bits board.now) log.now }
-    ensures flags { IfOk result (λ flags. AreFlags board.now plan.now log.now (length plan.now.passes) 0 flags.items) }
-    ensures count { IfOk result (λ flags. length flags.items ≡ length board.now.nets) }
-{
-    let mut flags = vec![in alloc; false; net_count(board) as usize]?;
-    for x in 0..plan.pass_count() {
-        flag_pass(&mut flags, board, plan, log, x);
-    }
-    Ok(flags)
-}
-
-fn flagged_nets(alloc: Global, flags: &[bool]) -> Result<Vec<u32>, AllocError>
-    requires { length flags.now ≤ 65535 }
-    ensures { IfOk result (λ nets. nets.items ≡ flagged_nets flags.now) }
-{
-    let mut nets = Vec::new(alloc);
-    for n in 0..flags.len() {
-        push_if(&mut nets, n as u32, is_set(flags, n))?;
-    }
-    Ok(nets)
 }
 
 fn push_two(places: &mut Vec<u64>, place: u64) -> Result<(), AllocError>
@@ -288,6 +220,27 @@ impl Suspects {
         requires bits { All (λ row. length row ≡ data_bits board.now) log.now }
         ensures { IfOk result (λ suspects. AreSuspects board.now plan.now universe.now log.now suspects) }
     {
+        let nets = differing_nets(alloc, board, plan, log)?;
+        Suspects::of_nets(alloc, board, plan, universe, log, &nets)
+    }
+
+    /// The same where these are the nets that differ in the log.
+    pub fn of_nets(
+        alloc: Global,
+        board: &Board,
+        plan: &Plan,
+        universe: &Universe,
+        log: &Log,
+        nets: &[u32],
+    ) -> Result<Suspects, AllocError>
+        requires plan { IsPlanOf board.now plan.now }
+        requires passes { plan.now.passes ≡ passes_of board.now }
+        requires universe { IsUniverse board.now universe.now }
+        requires rows { length log.now ≡ length plan.now.passes * plan.now.width }
+        requires bits { All (λ row. length row ≡ data_bits board.now) log.now }
+        requires differing { AreDiffering board.now plan.now log.now nets.now }
+        ensures { IfOk result (λ suspects. AreSuspects board.now plan.now universe.now log.now suspects) }
+    {
         let _rules = board.raw();
         law::passes_kept();
         codes_number_covered();
@@ -296,9 +249,7 @@ impl Suspects {
         board_law::singles_respond();
         board_law::expected_bits();
         board_law::expected_logs();
-        let flags = flags_of(alloc, board, plan, log)?;
-        let nets = flagged_nets(alloc, &flags)?;
-        let places = suspects_of(alloc, plan, universe.lists(), &nets)?;
+        let places = suspects_of(alloc, plan, universe.lists(), nets)?;
         Ok(Suspects { places })
     }
 

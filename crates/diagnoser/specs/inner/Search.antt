@@ -7,7 +7,7 @@ use Rattle.board_defs.specs.Pins.{data_bits}
 use Rattle.tap_defs.specs.board.Explaining.{Explains}
 use Rattle.scan_planner.specs.Plans.{IsPlanOf}
 use Rattle.fault_sim.specs.Places.{IsUniverse, fault_at}
-use Rattle.fault_sim.specs.Suspects.{AreSuspects}
+use Rattle.fault_sim.specs.Suspects.{AreDiffering, AreSuspects}
 use Rattle.diagnoser.specs.declared.search.Search.{Search}
 use Rattle.fault_sim.specs.Diagnosis.{Picks}
 
@@ -17,6 +17,7 @@ pub record IsSearch (s : Search) : Type 0 where
   pub passes : s.plan.now.passes ≡ passes_of s.board.now
   pub rows : length s.log.now ≡ length s.plan.now.passes * s.plan.now.width
   pub bits : All (λ row. length row ≡ data_bits s.board.now) s.log.now
+  pub differing : AreDiffering s.board.now s.plan.now s.log.now s.nets.now
   pub universe : IsUniverse s.board.now s.universe.now
   pub suspects : AreSuspects s.board.now s.plan.now s.universe.now s.log.now s.suspects.now
   pub few : length s.suspects.now < 2 ^ 32

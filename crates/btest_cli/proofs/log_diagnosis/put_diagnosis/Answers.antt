@@ -5,12 +5,21 @@ use Rattle.board_defs.specs.declared.fault.Single.{Single}
 use Rattle.response_log.specs.LogRows.{Fails, log_rows}
 use Rattle.tap_defs.specs.board.BoardScans.{svf_row_scans}
 use Rattle.diagnoser.specs.DiagText.{diag_text}
+use Rattle.fault_sim.specs.Suspects.{AreDiffering}
 use Rattle.btest_cli.specs.LogRead.{IsJudged, Log, OnBoard, diagnosing, diagnosis_text, test_log, test_rows}
 use Rattle.btest_cli.specs.Worth.{Diagnoses}
 use Rattle.btest_cli.proofs.AnswerLemmas.{log_wrong, takes_by, cut_by}
 use Rattle.btest_cli.proofs.TestLemmas.{rows_are}
 use Rattle.btest_cli.proofs.VerdictLemmas.{is_right}
 use Rattle.btest_cli.proofs.log_diagnosis.put_diagnosis.Goals as goal
+
+pub none_differs-requires-clause-differing : goal.none_differs-requires-clause-differing
+none_differs-requires-clause-differing g c =
+    subst (λ (nets : List ℕ). AreDiffering c.args.planned.now.board c.args.planned.now.plan c.in-Ok.log nets) (sym c.deref.ensures.value) c.in-Ok-differing_nets.ensures
+
+pub diagnose_by-requires-clause-differing : goal.diagnose_by-requires-clause-differing
+diagnose_by-requires-clause-differing g c = λ κs within.
+    subst (λ (nets : List ℕ). AreDiffering c.args.planned.now.board c.args.planned.now.plan c.in-Ok.log nets) (sym c.deref-2.ensures.value) c.in-Ok-differing_nets.ensures
 
 pub returns-in-Err : goal.returns-in-Err
 returns-in-Err g c =
@@ -29,11 +38,11 @@ returns-in-Ok-write_diagnosis g c =
     let count = c.rows.ensures ∙ rows_are board c.args.planned.now.plan c.requires.plan c.requires.passes in
     let counted = subst (λ (n : ℕ). log_rows c.args.text.now n c.dr_bits.result ≡ Ok c.in-Ok.log) count c.in-Ok.ensures.read in
     let read : test_log c.args.text.now board ≡ Ok c.in-Ok.log = subst (λ (n : ℕ). log_rows c.args.text.now (test_rows board) n ≡ Ok c.in-Ok.log) c.dr_bits.ensures counted in
-    let puts = subst (λ (faults : List Single). Puts (g.K.Sink.shown c.args.out.now) (g.K.Sink.shown c.write_diagnosis.new.out) (diag_text board c.is_pass-pass.result faults) c.write_diagnosis.result) c.deref.ensures.value c.write_diagnosis.ensures in
+    let puts = subst (λ (faults : List Single). Puts (g.K.Sink.shown c.args.out.now) (g.K.Sink.shown c.write_diagnosis.new.out) (diag_text board c.none_differs-pass.result faults) c.write_diagnosis.result) c.deref-3.ensures.value c.write_diagnosis.ensures in
     let takes = takes_by _ _ _ puts c.in-Ok-write_diagnosis.is in
-    let found : IsJudged diagnosing c.args.text.now board (c.is_pass-pass.result, c.in-Ok-diagnose.faults.items) = record { contents = c.in-Ok.log; holds = read; finds = record { passes = c.is_pass-pass.ensures; list = c.in-Ok-diagnose.ensures.faults } } in
+    let found : IsJudged diagnosing c.args.text.now board (c.none_differs-pass.result, c.in-Ok-diagnose_by.faults.items) = record { contents = c.in-Ok.log; holds = read; finds = record { passes = c.none_differs-pass.ensures; list = c.in-Ok-diagnose_by.ensures.faults } } in
     record {
-      value = (c.is_pass-pass.result, c.in-Ok-diagnose.faults.items);
+      value = (c.none_differs-pass.result, c.in-Ok-diagnose_by.faults.items);
       found = found;
       takes = takes;
       worth = record {
@@ -41,9 +50,9 @@ returns-in-Ok-write_diagnosis g c =
         respond = c.singles_respond.ensures;
         rows = c.in-Ok.log;
         read = read;
-        pass = c.is_pass-pass.result;
-        faults = c.in-Ok-diagnose.faults.items;
-        right = is_right c.explaining_listed.ensures c.passing_unexplained.ensures board c.raw-rules.ensures.rules c.in-Ok.log c.is_pass-pass.result c.in-Ok-diagnose.faults.items c.is_pass-pass.ensures c.in-Ok-diagnose.ensures.faults;
+        pass = c.none_differs-pass.result;
+        faults = c.in-Ok-diagnose_by.faults.items;
+        right = is_right c.explaining_listed.ensures c.passing_unexplained.ensures board c.raw-rules.ensures.rules c.in-Ok.log c.none_differs-pass.result c.in-Ok-diagnose_by.faults.items c.none_differs-pass.ensures c.in-Ok-diagnose_by.ensures.faults;
         takes = takes;
       };
     }
@@ -54,6 +63,6 @@ returns g c =
     let count = c.rows.ensures ∙ rows_are board c.args.planned.now.plan c.requires.plan c.requires.passes in
     let counted = subst (λ (n : ℕ). log_rows c.args.text.now n c.dr_bits.result ≡ Ok c.in-Ok.log) count c.in-Ok.ensures.read in
     let read : test_log c.args.text.now board ≡ Ok c.in-Ok.log = subst (λ (n : ℕ). log_rows c.args.text.now (test_rows board) n ≡ Ok c.in-Ok.log) c.dr_bits.ensures counted in
-    let puts = subst (λ (faults : List Single). Puts (g.K.Sink.shown c.args.out.now) (g.K.Sink.shown c.write_diagnosis.new.out) (diag_text board c.is_pass-pass.result faults) c.write_diagnosis.result) c.deref.ensures.value c.write_diagnosis.ensures in
-    let found : IsJudged diagnosing c.args.text.now board (c.is_pass-pass.result, c.in-Ok-diagnose.faults.items) = record { contents = c.in-Ok.log; holds = read; finds = record { passes = c.is_pass-pass.ensures; list = c.in-Ok-diagnose.ensures.faults } } in
-    cut_by (OnBoard diagnosing c.args.text.now board) (λ found. diagnosis_text (board, found)) _ _ (c.is_pass-pass.result, c.in-Ok-diagnose.faults.items) found puts c.in-Err-write_diagnosis.is
+    let puts = subst (λ (faults : List Single). Puts (g.K.Sink.shown c.args.out.now) (g.K.Sink.shown c.write_diagnosis.new.out) (diag_text board c.none_differs-pass.result faults) c.write_diagnosis.result) c.deref-3.ensures.value c.write_diagnosis.ensures in
+    let found : IsJudged diagnosing c.args.text.now board (c.none_differs-pass.result, c.in-Ok-diagnose_by.faults.items) = record { contents = c.in-Ok.log; holds = read; finds = record { passes = c.none_differs-pass.ensures; list = c.in-Ok-diagnose_by.ensures.faults } } in
+    cut_by (OnBoard diagnosing c.args.text.now board) (λ found. diagnosis_text (board, found)) _ _ (c.none_differs-pass.result, c.in-Ok-diagnose_by.faults.items) found puts c.in-Err-write_diagnosis.is

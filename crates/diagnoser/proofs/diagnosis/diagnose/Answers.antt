@@ -1,16 +1,6 @@
-use Rattle.std.specs.Prelude.{IfOk}
-use Rattle.diagnoser.specs.Diagnosis.{AreExplaining}
-use Rattle.diagnoser.proofs.FaultLemmas.{all_found, all_named}
+use Rattle.std.proofs.Common.{ℕ, List, sym, subst}
+use Rattle.fault_sim.specs.Suspects.{AreDiffering}
 use Rattle.diagnoser.proofs.diagnosis.diagnose.Goals as goal
-use Rattle.diagnoser.proofs.diagnosis.diagnose.Goals.{After-search_pieces}
 
-explaining : (g : _) (c : After-search_pieces g) → IfOk c.search_pieces.result (λ faults. AreExplaining c.args.board.now c.args.log.now faults.items)
-explaining g c =
-    all_found c.args.board.now c.raw-rules.ensures.rules c.args.plan.now c.in_ok-universe.universe c.args.log.now c.in_ok-suspects.suspects c.in_ok-suspects.ensures c.suspects_suffice.ensures c.args.workers c.requires.some
-    (λ v. v.items) c.search_pieces.result c.search_pieces.ensures
-
-pub returns-clause-faults : goal.returns-clause-faults
-returns-clause-faults g c = explaining g (goal.at.returns-clause-faults g c).After-search_pieces
-
-pub returns-clause-named : goal.returns-clause-named
-returns-clause-named g c = all_named c.args.board.now c.raw-rules.ensures.rules c.args.log.now (λ v. v.items) c.search_pieces.result (explaining g (goal.at.returns-clause-named g c).After-search_pieces)
+pub diagnose_by-requires-clause-differing : goal.diagnose_by-requires-clause-differing
+diagnose_by-requires-clause-differing g c = λ κs within. subst (λ (l : List ℕ). AreDiffering c.args.board.now c.args.plan.now c.args.log.now l) (sym c.deref.ensures.value) c.in_ok-nets.ensures

@@ -12,20 +12,20 @@ returns-in_err-fault g c =
     let at : slice_get (places_of s.board.now) c.place-place.result ≡ Some None = c.in_err-fault.ensures s.board.now c.raw-rules.ensures.rules c.requires.search.plan c.requires.search.passes c.requires.search.universe in
     rw c.from_residual.ensures (found_none s c.args.i c.place-place.result c.place-place.ensures at)
 
-pub matches-requires-clause-fault : goal.matches-requires-clause-fault
-matches-requires-clause-fault g c =
+pub matches_by-requires-clause-fault : goal.matches_by-requires-clause-fault
+matches_by-requires-clause-fault g c =
     let s = c.args.search in
     let at : slice_get (places_of s.board.now) c.place-place.result ≡ Some (Some c.in_ok-fault.fault) = c.in_ok-fault.ensures s.board.now c.raw-rules.ensures.rules c.requires.search.plan c.requires.search.passes c.requires.search.universe in
     place_single s.board.now c.raw-rules.ensures.rules c.place-place.result c.in_ok-fault.fault at
 
-pub returns-then-matches : goal.returns-then-matches
-returns-then-matches g c =
+pub returns-then-matches_by : goal.returns-then-matches_by
+returns-then-matches_by g c =
     let s = c.args.search in
     let at : slice_get (places_of s.board.now) c.place-place.result ≡ Some (Some c.in_ok-fault.fault) = c.in_ok-fault.ensures s.board.now c.raw-rules.ensures.rules c.requires.search.plan c.requires.search.passes c.requires.search.universe in
-    found_one s c.args.i c.place-place.result c.in_ok-fault.fault true c.place-place.ensures at c.if-matches.ensures
+    found_one s c.args.i c.place-place.result c.in_ok-fault.fault true c.place-place.ensures at c.if-matches_by.ensures
 
-pub returns-else-matches : goal.returns-else-matches
-returns-else-matches g c =
+pub returns-else-matches_by : goal.returns-else-matches_by
+returns-else-matches_by g c =
     let s = c.args.search in
     let at : slice_get (places_of s.board.now) c.place-place.result ≡ Some (Some c.in_ok-fault.fault) = c.in_ok-fault.ensures s.board.now c.raw-rules.ensures.rules c.requires.search.plan c.requires.search.passes c.requires.search.universe in
-    found_one s c.args.i c.place-place.result c.in_ok-fault.fault false c.place-place.ensures at c.if-matches.ensures
+    found_one s c.args.i c.place-place.result c.in_ok-fault.fault false c.place-place.ensures at c.if-matches_by.ensures

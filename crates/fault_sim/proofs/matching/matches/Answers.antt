@@ -4,36 +4,24 @@ use Rattle.tap_defs.specs.board.TestRows.{code_width, observed_count}
 use Rattle.fault_sim.proofs.MatchLemmas.{decides_as, explains_is, nets_there}
 use Rattle.fault_sim.proofs.matching.matches.Goals as goal
 
-pub shows_on-requires-clause-net : goal.shows_on-requires-clause-net
-shows_on-requires-clause-net c = omega (arith, c.first_net.ensures, (nets_there c.args.board.now c.args.fault c.requires.fault).0)
+pub shows_both-requires-clause-first : goal.shows_both-requires-clause-first
+shows_both-requires-clause-first c = omega (arith, c.first_net.ensures, (nets_there c.args.board.now c.args.fault c.requires.fault).0)
 
-pub shows_on-requires-2-clause-net : goal.shows_on-requires-2-clause-net
-shows_on-requires-2-clause-net c = omega (arith, c.second_net.ensures, (nets_there c.args.board.now c.args.fault c.requires.fault).1)
+pub shows_both-requires-clause-second : goal.shows_both-requires-clause-second
+shows_both-requires-clause-second c = omega (arith, c.second_net.ensures, (nets_there c.args.board.now c.args.fault c.requires.fault).1)
 
-pub returns-then-not-shows_on : goal.returns-then-not-shows_on
-returns-then-not-shows_on c =
+pub returns-then-not-shows_both : goal.returns-then-not-shows_both
+returns-then-not-shows_both c =
     let board = c.args.board.now in
     let log = c.args.log.now in
     let rules = c.raw-rules.ensures.rules in
     let kept = (c.passes_kept.ensures board rules).kept in
     let width = code_width (observed_count board (passes_of board)) in
     let law = explains_is board rules c.args.plan.now c.requires.plan c.requires.passes log c.requires.rows c.requires.bits (c.rows_compared.ensures.passes board (passes_of board) width rules kept)
-    (c.rows_compared.ensures.shape board (passes_of board) width log rules kept) c.args.fault c.requires.fault (c.singles_respond.ensures.own board c.args.fault log rules c.requires.fault) in (
+    (c.rows_compared.ensures.shape board (passes_of board) width log rules kept) c.args.fault c.requires.fault (c.singles_respond.ensures.own board c.args.fault log rules c.requires.fault) in
+    let there = nets_there board c.args.fault c.requires.fault in (
       λ bad. cc bad,
-      λ explains. c.if-not-shows_on.ensures.1 (λ x less. law.0 explains x less c.first_net.result (omega (arith, c.first_net.ensures, (nets_there board c.args.fault c.requires.fault).0))),
-    )
-
-pub returns-then-not-shows_on-2 : goal.returns-then-not-shows_on-2
-returns-then-not-shows_on-2 c =
-    let board = c.args.board.now in
-    let log = c.args.log.now in
-    let rules = c.raw-rules.ensures.rules in
-    let kept = (c.passes_kept.ensures board rules).kept in
-    let width = code_width (observed_count board (passes_of board)) in
-    let law = explains_is board rules c.args.plan.now c.requires.plan c.requires.passes log c.requires.rows c.requires.bits (c.rows_compared.ensures.passes board (passes_of board) width rules kept)
-    (c.rows_compared.ensures.shape board (passes_of board) width log rules kept) c.args.fault c.requires.fault (c.singles_respond.ensures.own board c.args.fault log rules c.requires.fault) in (
-      λ bad. cc bad,
-      λ explains. c.if-not-shows_on-2.ensures.1 (λ x less. law.0 explains x less c.second_net.result (omega (arith, c.second_net.ensures, (nets_there board c.args.fault c.requires.fault).1))),
+      λ explains. c.if-not-shows_both.ensures.1 (λ x less. (law.0 explains x less c.first_net.result (omega (arith, c.first_net.ensures, there.0)), law.0 explains x less c.second_net.result (omega (arith, c.second_net.ensures, there.1)))),
     )
 
 pub returns : goal.returns

@@ -1,49 +1,6 @@
-use Rattle.std.proofs.Common.{ℕ, Bool, List, sym, ap, ◌∙◌, subst}
-use Rattle.board_defs.specs.declared.board.Ctl.{Ctl}
-use Rattle.board_defs.specs.Passes.{ArePasses, passes_of}
-use Rattle.tap_defs.specs.board.Explaining.{set_of}
-use Rattle.tap_defs.specs.board.TestRows.{code_width, observed_count}
-use Rattle.fault_sim.specs.declared.universe.FaultLists.{FaultLists}
-use Rattle.fault_sim.specs.Suspects.{AreSuspects}
-use Rattle.fault_sim.specs.inner.Suspects.{flagged_nets, CanSuspect, suspects_of}
-use Rattle.fault_sim.proofs.ExplainLemmas.{can_be, all_suspects}
+use Rattle.std.proofs.Common.{ℕ, List, sym, subst}
+use Rattle.fault_sim.specs.Suspects.{AreDiffering}
 use Rattle.fault_sim.proofs.suspects.Suspects.new.Goals as goal
 
-pub suspects_of-requires-clause-can : goal.suspects_of-requires-clause-can
-suspects_of-requires-clause-can c =
-    let board = c.args.board.now in
-    let plan = c.args.plan.now in
-    let log = c.args.log.now in
-    let rules = c.raw-rules.ensures.rules in
-    let own = (c.passes_kept.ensures board rules).kept in
-    let kept = subst (λ (l : List (List Ctl)). ArePasses board l) (sym c.requires.passes) own in
-    let width = code_width (observed_count board (passes_of board)) in
-    let lists = c.args.universe.now in
-    let flags = c.in_ok-flags.flags.items in
-    let nets = c.deref-2.ensures.value ∙ c.in_ok-nets.ensures ∙ ap (λ (l : List Bool). flagged_nets l) c.deref.ensures.value in
-    let can = can_be board rules plan c.requires.plan c.requires.passes log c.requires.rows c.requires.bits (c.rows_compared.ensures.passes board (passes_of board) width rules own)
-    (c.rows_compared.ensures.shape board (passes_of board) width log rules own) kept (c.codes_number_covered.ensures board rules plan.passes kept) (λ single is. c.singles_respond.ensures.own board single log rules is)
-    (c.expected_bits.ensures.bits board _ log)
-    (λ single is expected explains. c.expected_logs.ensures.own_unexplained board rules log expected (set_of single) (c.singles_observable.ensures.observable board single is) (c.singles_observable.ensures.nonempty single) explains)
-    lists c.requires.universe c.lists.ensures.starts flags c.in_ok-flags.ensures.count c.in_ok-flags.ensures.flags in
-    subst (λ (l : FaultLists). CanSuspect plan l c.deref-2.result.now) (sym c.lists.ensures.value) (subst (λ (l : List ℕ). CanSuspect plan lists l) (sym nets) can)
-
-pub returns : goal.returns
-returns c =
-    let board = c.args.board.now in
-    let plan = c.args.plan.now in
-    let log = c.args.log.now in
-    let rules = c.raw-rules.ensures.rules in
-    let own = (c.passes_kept.ensures board rules).kept in
-    let kept = subst (λ (l : List (List Ctl)). ArePasses board l) (sym c.requires.passes) own in
-    let width = code_width (observed_count board (passes_of board)) in
-    let lists = c.args.universe.now in
-    let flags = c.in_ok-flags.flags.items in
-    let nets = c.deref-2.ensures.value ∙ c.in_ok-nets.ensures ∙ ap (λ (l : List Bool). flagged_nets l) c.deref.ensures.value in
-    let all = all_suspects board rules plan c.requires.plan c.requires.passes log c.requires.rows c.requires.bits (c.rows_compared.ensures.passes board (passes_of board) width rules own)
-    (c.rows_compared.ensures.shape board (passes_of board) width log rules own) kept (c.codes_number_covered.ensures board rules plan.passes kept) (λ single is. c.singles_respond.ensures.own board single log rules is)
-    (c.expected_bits.ensures.bits board _ log)
-    (λ single is expected explains. c.expected_logs.ensures.own_unexplained board rules log expected (set_of single) (c.singles_observable.ensures.observable board single is) (c.singles_observable.ensures.nonempty single) explains)
-    lists c.requires.universe c.lists.ensures.starts flags c.in_ok-flags.ensures.count c.in_ok-flags.ensures.flags in
-    subst (λ (l : List ℕ). AreSuspects board plan lists log l)
-    (sym (c.in_ok-places.ensures ∙ ap (λ (l : FaultLists). suspects_of plan l c.deref-2.result.now) c.lists.ensures.value ∙ ap (λ (l : List ℕ). suspects_of plan lists l) nets)) all
+pub of_nets-requires-clause-differing : goal.of_nets-requires-clause-differing
+of_nets-requires-clause-differing c = subst (λ (l : List ℕ). AreDiffering c.args.board.now c.args.plan.now c.args.log.now l) (sym c.deref.ensures.value) c.in_ok-nets.ensures

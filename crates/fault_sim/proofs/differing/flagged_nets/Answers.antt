@@ -2,7 +2,7 @@ use Rattle.std.proofs.Common.{◌++◌, ◌∷◌, [], ℕ, Bool, List, false, c
 use Rattle.std.specs.Prelude.{filter}
 use Rattle.std.specs.List.{range_with_len}
 use Rattle.fault_sim.proofs.RangeLemmas.{filter_more}
-use Rattle.fault_sim.proofs.suspects.flagged_nets.Goals as goal
+use Rattle.fault_sim.proofs.differing.flagged_nets.Goals as goal
 
 pub loop-n-preserved : goal.loop-n-preserved
 loop-n-preserved c =

@@ -1,7 +1,7 @@
 use Rattle.std.proofs.Common.{◌+◌, Bool, List, sym, subst, arith}
 use Rattle.fault_sim.specs.inner.Suspects.{AreFlags}
 use Rattle.fault_sim.proofs.DifferLemmas.{flag_more}
-use Rattle.fault_sim.proofs.suspects.flag_net.Goals as goal
+use Rattle.fault_sim.proofs.differing.flag_net.Goals as goal
 
 pub returns-clause-flags : goal.returns-clause-flags
 returns-clause-flags c =

@@ -1,0 +1,6 @@
+use Rattle.std.proofs.Common.{◌<◌, ℕ}
+use Rattle.fault_sim.specs.Fits.{ShowsPair}
+use Rattle.fault_sim.proofs.fits.shows_both.Given as goal
+
+abbrev pub invariant-loop-x : goal.invariant-loop-x
+invariant-loop-x l = (k : ℕ) → k < l.x → ShowsPair l.board l.plan l.fault l.log k l.a l.b

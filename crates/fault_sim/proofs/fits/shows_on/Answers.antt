@@ -1,4 +1,0 @@
-use Rattle.fault_sim.proofs.fits.shows_on.Goals as goal
-
-pub returns-then-not-shows : goal.returns-then-not-shows
-returns-then-not-shows c = (λ bad. cc bad, λ shown. c.if-not-shows.ensures.1 (shown c.loop-x.x (omega (Rattle.std.proofs.Common.arith, c.loop-x-test.true, c.pass_count-x-end.ensures))))
