@@ -5,12 +5,12 @@ use Rattle.std.proofs.Math.Nat.{suc-mul}
 use Rattle.std.proofs.lemmas.List.{take_all, take-append-le, drop-append-le, length-take-le, get_or-take, get_or-drop, nil_from_length, drop-drop}
 use Rattle.std.proofs.lemmas.List.Elements.{All-nil, All-cons}
 use Rattle.std.proofs.lemmas.Nat.{mul-le}
-use Rattle.std.proofs.lemmas.Option.{slice_get-get_or}
+use Rattle.std.proofs.lemmas.Option.{get_or_from_slice_get, slice_get-get_or}
 use Rattle.bt_bits.specs.Hex.{digit_count}
 use Rattle.bt_bits.specs.Digits.{bits_of, digit_bit, digits_of, row_bits}
 use Rattle.bt_bits.proofs.DigitLemmas.{length-digits_of, row_bits-is}
 use Rattle.bt_bits.proofs.TextLemmas.{length-row_bits}
-use Rattle.response_log.specs.Kept.{kept_rows}
+use Rattle.response_log.specs.Kept.{AreRowDigits, kept_rows}
 use Rattle.response_log.specs.LogRows.{HasSize, log_bit}
 
 pub length-kept_rows : (len rows : ℕ) (digits : List ℕ) → length (kept_rows len rows digits) ≡ rows
@@ -125,3 +125,22 @@ kept_rows-size len rows digits sized = record {
   rows = length-kept_rows len rows digits;
   bits = kept_rows-lengths len rows digits sized;
 }
+
+-- the digits of a row of rows that are seen
+pub kept_digits : (len rows : ℕ) (digits : List ℕ) (log : List (List Bool)) (row : ℕ) → length digits ≡ rows * digit_count len → kept_rows len rows digits ≡ log → row < length log →
+    (row * digit_count len + digit_count len ≤ length digits) × AreRowDigits (get_or log row []) (take (digit_count len) (drop (row * digit_count len) digits))
+kept_digits len rows digits log row sized is within =
+    let here : row < rows = omega (arith, within, ap length is, length-kept_rows len rows digits) in
+    let inside = row_within (digit_count len) rows digits row sized here in
+    let mine : List ℕ = take (digit_count len) (drop (row * digit_count len) digits) in
+    let long : length mine ≡ digit_count len = length-take-le (digit_count len) (drop (row * digit_count len) digits) (omega (arith, length-drop (row * digit_count len) digits, inside)) in
+    let row_is : get_or log row [] ≡ row_bits len mine =
+    ap (λ (l : List (List Bool)). get_or l row []) (sym is) ∙ get_or_from_slice_get (kept_rows len rows digits) row (row_bits len mine) [] (kept_rows-get len rows digits row here) in
+    let sized_row : length (get_or log row []) ≡ len = ap length row_is ∙ length-row_bits len mine long in (
+      inside,
+      record {
+        count = long ∙ ap digit_count (sym sized_row);
+        bits = λ at below. ap (λ (l : List Bool). get_or l at false) row_is
+            ∙ get_or_from_slice_get (row_bits len mine) at (digit_bit (get_or mine (at / 4) 0) (at % 4)) false (row_bits-get len mine at long (omega (arith, below, sized_row)));
+      },
+    )

@@ -1,7 +1,7 @@
 // A log in memory.
-ghost use Rattle.std.specs.Prelude.{◌≡◌, ◌*◌, ◌<◌, [], length, slice_index_or, All, Some};
+ghost use Rattle.std.specs.Prelude.{◌≡◌, ◌+◌, ◌*◌, ◌<◌, ◌≤◌, [], length, take, drop, slice_index_or, All, Some};
 ghost use Rattle.bt_bits.specs.Hex.{digit_count};
-ghost use Rattle.response_log.specs.Kept.{kept_rows};
+ghost use Rattle.response_log.specs.Kept.{AreRowDigits, kept_rows};
 ghost use Rattle.response_log.specs.LogRows.{log_bit};
 
 use bt_bits::digit_bit;
@@ -13,6 +13,15 @@ pub(crate) fn digit_count(len: u32) -> usize
     ensures { result ≡ digit_count len }
 {
     (len as usize + 3) / 4
+}
+
+// So many digits, from the one at this place on.
+#[inline]
+fn digits_from(digits: &[u8], first: usize, count: usize) -> &[u8]
+    requires { first + count ≤ length digits.now }
+    ensures { result.now ≡ take count (drop first digits.now) }
+{
+    &digits[first..first + count]
 }
 
 /// A response log, seen as the list of its rows. Each row is the list of its bits, the one that left the chain first
@@ -71,5 +80,16 @@ impl Log {
     {
         let first = row as usize * digit_count(self.len);
         digit_bit(self.digits[first + (at / 4) as usize], at % 4)
+    }
+    /// The values of the digits of a row, which is below their number. Each has four bits, and the one that left the chain first is the
+    /// lowest of the first digit.
+    #[inline]
+    pub fn digits(&self, row: u64) -> &[u8]
+        requires { row < length self.now }
+        ensures { AreRowDigits (slice_index_or self.now row []) result.now }
+    {
+        let count = digit_count(self.len);
+        let first = row as usize * count;
+        digits_from(&self.digits, first, count)
     }
 }
