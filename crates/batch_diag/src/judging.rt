@@ -7,6 +7,7 @@ ghost use Rattle.scan_planner.specs.Plans.{IsPlanOf};
 ghost use Rattle.response_log.specs.LogRows.{HasSize};
 ghost use Rattle.diagnoser.specs.Diagnosis.{IsNamed};
 ghost use Rattle.fault_sim.specs.Diagnosis.{IsDiagnosis};
+ghost use Rattle.fault_sim.specs.Places.{IsUniverse};
 ghost use Rattle.batch_diag.specs.Verdicts.{AreLogs, AreVerdicts};
 ghost use Rattle.batch_diag.specs.inner.Judging.{IsBatch, Judged, first_of};
 
@@ -14,18 +15,19 @@ use crate::block::Block;
 use crate::verdict::Verdict;
 use board_defs::{Board, Items};
 use bt_base::{Gate, OpenGate};
-use diagnoser::diagnose_by;
-use fault_sim::{differing_nets, none_differs};
+use diagnoser::diagnose_in;
+use fault_sim::{Universe, differing_nets, none_differs};
 use response_log::Log;
 use scan_planner::Plan;
 use std::alloc::{AllocError, Global};
 use std::thread::{Threads, join};
 
-/// Blocks whose logs are of a board's test, and the number of the pieces that these are cut into.
+/// Blocks whose logs are of a board's test, with the universe of the board, and the number of the pieces that these are cut into.
 #[derive(Clone, Copy)]
 pub struct Batch<'a> {
     pub board: &'a Board,
     pub plan: &'a Plan,
+    pub universe: &'a Universe,
     pub blocks: &'a [Block],
     pub pieces: u32,
 }
@@ -55,9 +57,11 @@ pub fn diagnose_all<R: Threads + Sync, G: Gate>(
     ensures count { IfOk result (λ verdicts. length verdicts.items ≡ length blocks.now) }
     ensures named { IfOk result (λ verdicts. All (λ verdict. All (IsNamed board.now) verdict.faults) verdicts.items) }
 {
+    let universe = Universe::new(alloc, board, plan)?;
     let batch = Batch {
         board,
         plan,
+        universe: &universe,
         blocks,
         pieces: workers,
     };
@@ -70,16 +74,18 @@ fn verdict_on<R: Threads + Sync>(
     alloc: Global,
     board: &Board,
     plan: &Plan,
+    universe: &Universe,
     log: &Log,
 ) -> Result<Verdict, AllocError>
     requires plan { IsPlanOf board.now plan.now }
     requires passes { plan.now.passes ≡ passes_of board.now }
+    requires universe { IsUniverse board.now universe.now }
     requires size { HasSize (length plan.now.passes * plan.now.width) (data_bits board.now) log.now }
     ensures diagnosis { IfOk result (λ verdict. IsDiagnosis board.now log.now verdict.pass verdict.faults) }
     ensures named { IfOk result (λ verdict. All (IsNamed board.now) verdict.faults) }
 {
     let nets = differing_nets(alloc, board, plan, log)?;
-    let faults = diagnose_by(rt, alloc, board, plan, log, &nets, 1, &OpenGate)?;
+    let faults = diagnose_in(rt, alloc, board, plan, universe, log, &nets, 1, &OpenGate)?;
     Ok(Verdict {
         pass: none_differs(board, plan, log, &nets),
         faults: Items::of(faults),
@@ -100,7 +106,8 @@ fn judge<R: Threads + Sync, G: Gate>(
     ensures { IfOk result (λ verdict. Judged batch.entry i (i + 1) (verdict ∷ [])) }
 {
     gate.enter(piece, i as u64);
-    verdict_on(rt, alloc, batch.board, batch.plan, &batch.blocks[i].log)
+    let log = &batch.blocks[i].log;
+    verdict_on(rt, alloc, batch.board, batch.plan, batch.universe, log)
 }
 
 // The first block of a piece, and the number of blocks for the piece after the last.

@@ -3,6 +3,7 @@ ghost use Rattle.std.specs.Prelude.{◌≡◌, ◌*◌, ◌≤◌, length, All, 
 ghost use Rattle.board_defs.specs.Passes.{passes_of};
 ghost use Rattle.board_defs.specs.Pins.{data_bits};
 ghost use Rattle.scan_planner.specs.Plans.{IsPlanOf};
+ghost use Rattle.fault_sim.specs.Places.{IsUniverse};
 ghost use Rattle.fault_sim.specs.Suspects.{AreDiffering};
 ghost use Rattle.diagnoser.specs.Diagnosis.{AreExplaining, IsNamed};
 
@@ -65,16 +66,42 @@ pub fn diagnose_by<R: Threads + Sync, G: Gate>(
     ensures faults { IfOk result (λ faults. AreExplaining board.now log.now faults.items) }
     ensures named { IfOk result (λ faults. All (IsNamed board.now) faults.items) }
 {
+    let universe = Universe::new(alloc, board, plan)?;
+    diagnose_in(rt, alloc, board, plan, &universe, log, nets, workers, gate)
+}
+
+/// The same where this is also the universe of the board, which many logs of one test share.
+pub fn diagnose_in<R: Threads + Sync, G: Gate>(
+    rt: &R,
+    alloc: Global,
+    board: &Board,
+    plan: &Plan,
+    universe: &Universe,
+    log: &Log,
+    nets: &[u32],
+    workers: u32,
+    gate: &G,
+) -> Result<Vec<Single>, AllocError>
+    requires some { 1 ≤ workers }
+    requires few { workers ≤ 64 }
+    requires plan { IsPlanOf board.now plan.now }
+    requires passes { plan.now.passes ≡ passes_of board.now }
+    requires rows { length log.now ≡ length plan.now.passes * plan.now.width }
+    requires bits { All (λ row. length row ≡ data_bits board.now) log.now }
+    requires universe { IsUniverse board.now universe.now }
+    requires differing { AreDiffering board.now plan.now log.now nets.now }
+    ensures faults { IfOk result (λ faults. AreExplaining board.now log.now faults.items) }
+    ensures named { IfOk result (λ faults. All (IsNamed board.now) faults.items) }
+{
     let _rules = board.raw();
     law::suspects_suffice();
-    let universe = Universe::new(alloc, board, plan)?;
-    let suspects = Suspects::of_nets(alloc, board, plan, &universe, log, nets)?;
+    let suspects = Suspects::of_nets(alloc, board, plan, universe, log, nets)?;
     let search = Search {
         board,
         plan,
         log,
         nets,
-        universe: &universe,
+        universe,
         suspects: &suspects,
         pieces: workers,
     };

@@ -28,59 +28,34 @@ use Rattle.fault_sim.specs.declared.effect.Effect.TheVariants.{Plain}
 use Rattle.fault_sim.specs.Fits.{bit_in, cell_shows, ShowBy, NetShows, Shows, ShowsOn, ShowsAll}
 use Rattle.fault_sim.specs.inner.Tested.{coded_nets}
 use Rattle.fault_sim.specs.Suspects.{AreDiffering}
-use Rattle.fault_sim.specs.inner.Suspects.{IsBefore, AreFlags, flagged_nets, covered_place}
+use Rattle.fault_sim.specs.inner.Suspects.{AreFlags, flagged_nets, covered_place}
 use Rattle.fault_sim.proofs.FeedLemmas.{observing_is}
 use Rattle.fault_sim.proofs.TestedLemmas.{filter_numbers, unguarded_by}
 
 module _ (board : RawBoard) (plan : PlanTables) (log : List (List Bool)) where
-  abbrev Expected : ℕ → ℕ → Type 0
-  Expected x n = Shows board plan None log x n
+  abbrev Expected : ℕ → Type 0
+  Expected n = ShowsOn board plan None log n
 
-  -- what is before net n + 1 of pass x is what is before net n, or net n
-  before_more : (x n pass net : ℕ) → (IsBefore x n pass net → Expected pass net) → (net ≡ n → Expected x net) → IsBefore x (n + 1) pass net → Expected pass net
-  before_more x n pass net earlier here (inl h) = earlier (inl h)
-  before_more x n pass net earlier here (inr (e, less)) = by_net (cases_eq net n)
+  not_twice : (shown : Bool) → not (not shown) ≡ shown
+  not_twice true = refl
+  not_twice false = refl
+
+  pub flag_more : (n : ℕ) (flags : List Bool) (shown : Bool) → Decides shown (Expected n) → n < length flags → AreFlags board plan log n flags → AreFlags board plan log (n + 1) (set flags n (not shown))
+  flag_more n flags shown decides within are net less = by_net (cases_eq net n)
     where
-      by_net : (net ≡ n) ⊎ (net ≡ n → ⊥) → Expected pass net
-      by_net (inl same) = subst (λ (i : ℕ). Expected i net) (sym e) (here same)
-      by_net (inr differ) = earlier (inr (e, lower differ))
+      by_net : (net ≡ n) ⊎ (net ≡ n → ⊥) → Decides (not (get_or (set flags n (not shown)) net false)) (Expected net)
+      by_net (inl same) =
+          let here : shown ≡ not (get_or (set flags n (not shown)) net false) =
+          sym (ap (λ (i : ℕ). not (get_or (set flags n (not shown)) i false)) same ∙ ap not (get_or-set_same flags n (not shown) false within) ∙ not_twice shown) in
+          subst (λ (b : Bool). Decides b (Expected net)) here (subst (λ (i : ℕ). Decides shown (Expected i)) (sym same) decides)
+      by_net (inr differ) =
+          subst (λ (b : Bool). Decides (not b) (Expected net)) (sym (get_or-set_other flags n net (not shown) false differ)) (are net (lower differ))
         where
           lower : (net ≡ n → ⊥) → net < n
           lower ne = grind arith
 
-  more_before : (x n pass net : ℕ) → IsBefore x n pass net → IsBefore x (n + 1) pass net
-  more_before x n pass net (inl h) = inl h
-  more_before x n pass net (inr (e, less)) = inr (e, omega (arith, less))
-
-  pub flag_kept : (x n : ℕ) (flags : List Bool) → AreFlags board plan log x n flags → Expected x n → AreFlags board plan log x (n + 1) flags
-  flag_kept x n flags are shown net less =
-      let d = are net less in (
-        λ e pass before. before_more x n pass net (d.0 e pass) (λ same. subst (λ (i : ℕ). Expected x i) (sym same) shown) before,
-        λ all. d.1 (λ pass before. all pass (more_before x n pass net before)),
-      )
-
-  pub flag_set : (x n : ℕ) (flags : List Bool) → n < length flags → AreFlags board plan log x n flags → (Expected x n → ⊥) → AreFlags board plan log x (n + 1) (set flags n true)
-  flag_set x n flags within are hidden net less = by_net (cases_eq net n)
-    where
-      by_net : (net ≡ n) ⊎ (net ≡ n → ⊥) → Decides (not (get_or (set flags n true) net false)) ((pass : ℕ) → IsBefore x (n + 1) pass net → Expected pass net)
-      by_net (inl same) =
-          let here : get_or (set flags n true) net false ≡ true = ap (λ (i : ℕ). get_or (set flags n true) i false) same ∙ get_or-set_same flags n true false within in (
-            λ e. absurd (both_ways (not (get_or (set flags n true) net false)) (ap not here) e),
-            λ all. absurd (hidden (subst (λ (i : ℕ). Expected x i) same (all x (inr (refl, omega (arith, same)))))),
-          )
-      by_net (inr differ) =
-          let d = are net less in
-          let there : get_or (set flags n true) net false ≡ get_or flags net false = get_or-set_other flags n net true false differ in (
-            λ e pass before. before_more x n pass net (d.0 (sym (ap not there) ∙ e) pass) (λ same. absurd (differ same)) before,
-            λ all. ap not there ∙ d.1 (λ pass before. all pass (more_before x n pass net before)),
-          )
-
-  pub flag_more : (x n : ℕ) (flags : List Bool) (shown : Bool) → Decides shown (Expected x n) → n < length flags → AreFlags board plan log x n flags → AreFlags board plan log x (n + 1) (cond shown flags (set flags n true))
-  flag_more x n flags true decides within are = flag_kept x n flags are (decides.0 refl)
-  flag_more x n flags false decides within are = flag_set x n flags within are (λ shown. let bad : false ≡ true = decides.1 shown in cc bad)
-
   -- the flagged nets are those that differ
-  pub flagged_differ : (flags : List Bool) → length flags ≡ length board.nets → AreFlags board plan log (length plan.passes) 0 flags → AreDiffering board plan log (flagged_nets flags)
+  pub flagged_differ : (flags : List Bool) → length flags ≡ length board.nets → AreFlags board plan log (length board.nets) flags → AreDiffering board plan log (flagged_nets flags)
   flagged_differ flags long are = record {
     rising = order_pairs (λ (a b : ℕ). a < b) (flagged_nets flags) (order_filter (λ (a b : ℕ). a < b) (λ n. get_or flags n false) (range_with_len 0 (length flags)) (order_range 0 (length flags)));
     others = others;
@@ -93,18 +68,14 @@ module _ (board : RawBoard) (plan : PlanTables) (log : List (List Bool)) where
           by_flag : (get_or flags n false ≡ true) ⊎ (get_or flags n false ≡ false) → Contains (flagged_nets flags) n ⊎ ShowsOn board plan None log n
           by_flag (inl e) =
               inl (has_contains (flagged_nets flags) n (has_filter (λ k. get_or flags k false) (range_with_len 0 (length flags)) n (has_range 0 (length flags) n (omega arith) (omega (arith, within, long))) e))
-          by_flag (inr e) = inr (λ x less. (are n within).0 (ap not e) x (inl less))
+          by_flag (inr e) = inr ((are n within).0 (ap not e))
 
       to : (n : ℕ) → Contains (flagged_nets flags) n → (n < length board.nets) × (ShowsOn board plan None log n → ⊥)
       to n h =
           let f = filter_has (λ k. get_or flags k false) (range_with_len 0 (length flags)) n (contains_has (flagged_nets flags) n h) in
           let w = range_has 0 (length flags) n f.0 in
           let within : n < length board.nets = omega (arith, w.1, long) in
-          (within, λ shown. both_ways (not (get_or flags n false)) (ap not f.1) ((are n within).1 (λ pass before. shown pass (early pass before))))
-        where
-          early : (pass : ℕ) → IsBefore (length plan.passes) 0 pass n → pass < length plan.passes
-          early pass (inl h) = h
-          early pass (inr (e, none)) = absurd (omega (arith, none))
+          (within, λ shown. both_ways (not (get_or flags n false)) (ap not f.1) ((are n within).1 shown))
 
       from : (n : ℕ) → ((n < length board.nets) × (ShowsOn board plan None log n → ⊥)) → Contains (flagged_nets flags) n
       from n (within, hidden) =
@@ -113,10 +84,10 @@ module _ (board : RawBoard) (plan : PlanTables) (log : List (List Bool)) where
         where
           by_flag : (get_or flags n false ≡ true) ⊎ (get_or flags n false ≡ false) → get_or flags n false ≡ true
           by_flag (inl e) = e
-          by_flag (inr e) = absurd (hidden (λ x less. (are n within).0 (ap not e) x (inl less)))
+          by_flag (inr e) = absurd (hidden ((are n within).0 (ap not e)))
 
 -- so those that were found are
-pub found_differ : {V E : Type 0} (board : RawBoard) (plan : PlanTables) (log : List (List Bool)) (view : V → List ℕ) (result : Result V E) (flags lent : List Bool) → lent ≡ flags → length flags ≡ length board.nets → AreFlags board plan log (length plan.passes) 0 flags →
+pub found_differ : {V E : Type 0} (board : RawBoard) (plan : PlanTables) (log : List (List Bool)) (view : V → List ℕ) (result : Result V E) (flags lent : List Bool) → lent ≡ flags → length flags ≡ length board.nets → AreFlags board plan log (length board.nets) flags →
     IfOk result (λ v. view v ≡ flagged_nets lent) → IfOk result (λ v. AreDiffering board plan log (view v))
 found_differ board plan log view (Err e) flags lent same long are found = tt
 found_differ board plan log view (Ok v) flags lent same long are found = subst (λ (l : List ℕ). AreDiffering board plan log l) (sym (found ∙ ap (λ (l : List Bool). flagged_nets l) same)) (flagged_differ board plan log flags long are)

@@ -40,7 +40,7 @@ use Rattle.fault_sim.specs.Fits.{ShowBy, Shows, ShowsOn, ShowsBoth, ShowsAll}
 use Rattle.fault_sim.specs.inner.Tested.{paired_in, coded_nets}
 use Rattle.fault_sim.specs.Places.{placed, AreStarts, number_places, listed_places, place_count, places_of, IsUniverse}
 use Rattle.fault_sim.specs.Suspects.{suspect_count, AreDiffering, AreSuspects}
-use Rattle.fault_sim.specs.inner.Suspects.{two_from, four_from, first_open, first_short, pair_number, pair_suspects, pin_net, is_net, pin_suspects, net_suspects, covered_place, CanSuspect, suspects_of, IsBefore, AreFlags, flagged_nets}
+use Rattle.fault_sim.specs.inner.Suspects.{two_from, four_from, first_open, first_short, pair_number, pair_suspects, pin_net, is_net, pin_suspects, net_suspects, covered_place, CanSuspect, suspects_of}
 use Rattle.fault_sim.proofs.PlaceLemmas.{flat_at, length-flat, length-four, stuck_fault, open_fault, short_fault, no_fault, stuck_length, opens_length}
 use Rattle.fault_sim.proofs.MatchLemmas.{explains_is, expected_is}
 use Rattle.fault_sim.proofs.TestedLemmas.{nets_are}

@@ -7,6 +7,7 @@ pub mod RangeLemmas
 pub mod TestedLemmas
 pub mod UniverseLemmas
 pub mod SuspectLemmas
+pub mod MarkLemmas
 pub mod DifferLemmas
 pub mod OrderLemmas
 pub mod ExplainLemmas

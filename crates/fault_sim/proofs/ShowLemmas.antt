@@ -74,7 +74,7 @@ same_bits true b e = sym e
 same_bits false true e = cc e
 same_bits false false e = refl
 
-bits_same : (a b : Bool) → a ≡ b → is_same a b ≡ true
+pub bits_same : (a b : Bool) → a ≡ b → is_same a b ≡ true
 bits_same a b e = ap (λ (x : Bool). is_same a x) (sym e) ∙ by_bit a
   where
     by_bit : (x : Bool) → is_same x x ≡ true
@@ -146,6 +146,82 @@ module _ (board : RawBoard) (row : TestRow) (part : ℕ) (device : RawDevice) (c
 
 not_same : (a b : ℕ) → (a == b) ≡ false → (b == a) ≡ false
 not_same a b e = ne_eqb b a (λ same. both_ways (a == b) e (eq-eqb a b (sym same)))
+
+-- a cell that reads a net beside the driver that a pass enables: row j of the pass compares it with the bit of the net's code
+pub record ComparedCell (board : RawBoard) (plan : PlanTables) (pass : List Ctl) (j n : ℕ) (net : Net) (reader : ReaderCell) : Type 0 where
+  pub part : ℕ
+  pub device : RawDevice
+  pub cell : ℕ
+  pub position_is : reader.position ≡ first_position board part + cell
+  pub compared : IsCompared board (code_row board plan.passes pass j) part device cell (record { number = n; net = net; place = reader.place }) (net_code_bit board plan.passes j n)
+  pub code_is : code_in plan n ≡ code_of_net board plan.passes n
+
+module _ (board : RawBoard) (rules : IsBoard board) (plan : PlanTables) (p : IsPlanOf board plan) where
+  enabled_unguarded : (pass : List Ctl) (n : ℕ) (net : Net) → slice_get board.nets n ≡ Some net → (d : NetDriver) → driver_in plan pass n ≡ Some d → guarded board net ≡ false
+  enabled_unguarded pass n net is_net d enabled = by_guard (guarded board net) refl
+    where
+      by_guard : (b : Bool) → guarded board net ≡ b → b ≡ false
+      by_guard false e = refl
+      by_guard true e =
+          let bad : None ≡ Some d =
+          sym (ap (λ (l : List NetDriver). enabled_in (holds pass) l) (drivers_are board rules plan p n net is_net ∙ ap (λ (b : Bool). cond b [] (drivers_of_pins board net.pins)) e)) ∙ enabled in
+          cc bad
+
+  module _ (x : ℕ) (pass : List Ctl) (stands : slice_get plan.passes x ≡ Some pass) (j : ℕ) (n : ℕ) (net : Net) (is_net : slice_get board.nets n ≡ Some net) (d : NetDriver) (enabled : driver_in plan pass n ≡ Some d)
+      (reader : ReaderCell) (has : Has (readers_in plan n) reader) (differs : (reader.place == d.place) ≡ false) where
+    q : IsReaderCell board net reader
+    q = reader_is board net reader (subst (λ (l : List ReaderCell). Has l reader) (readers_are board rules plan p n net is_net) has)
+
+    t : Standing board n net reader.place q.at
+    t = standing board rules n net reader.place q.pin q.at is_net q.is_pin q.is_at
+
+    beside : is_read_beside (readers_in plan n) d ≡ true
+    beside = has_any (λ (y : ReaderCell). not (y.place == d.place)) (readers_in plan n) reader has (ap not differs)
+
+    observing : observing_driver board (holds pass) net ≡ Some d.place
+    observing = observing_is board rules plan p n net is_net x pass stands (enabled_unguarded pass n net is_net d enabled) d enabled ∙ ap (λ (b : Bool). cond b (Some d.place) None) beside
+
+    same_device : q.device ≡ t.device
+    same_device = let two : Some q.device ≡ Some t.device = sym q.is_device ∙ t.is_device in cc two
+
+    stands_in : (i : ℕ) × (slice_get q.device.cells i ≡ Some q.entry)
+    stands_in = has_place q.device.cells q.entry (contains_has q.device.cells q.entry q.is_entry)
+
+    entry_at : slice_get t.device.cells stands_in.0 ≡ Some q.entry
+    entry_at = subst (λ (v : RawDevice). slice_get v.cells stands_in.0 ≡ Some q.entry) same_device stands_in.1
+
+    parts : (is_on q.at.bit q.entry.bit ≡ true) × (is_receiving q.entry.role ≡ true)
+    parts = and_parts (is_on q.at.bit q.entry.bit) (is_receiving q.entry.role) q.reads
+
+    entry_is : reading_entry t.device q.entry.num ≡ Some q.entry
+    entry_is = reading_entry_is t.device t.read stands_in.0 q.entry entry_at parts.1
+
+    compared_is : IsCompared board (code_row board plan.passes pass j) q.at.part t.device q.entry.num (record { number = n; net = net; place = reader.place }) (net_code_bit board plan.passes j n)
+    compared_is = record {
+      is_device = t.is_device;
+      below = t.read.num_below stands_in.0 q.entry entry_at;
+      reads = ap (λ (o : Option Cell). option_and_then (λ e. option_and_then (λ b. place_of (record { part = q.at.part; bit = b }) 0 board.nets) e.bit) o) entry_is
+          ∙ ap (λ (o : Option ℕ). option_and_then (λ b. place_of (record { part = q.at.part; bit = b }) 0 board.nets) o) (on_is q.at.bit q.entry.bit parts.0)
+          ∙ t.is_place;
+      expects =
+          ap (λ (o : Option Cell). expect_entry board (code_row board plan.passes pass j) q.at.part o) entry_is
+          ∙ ap (λ (b : Bool). cond b (expect_pin board (code_row board plan.passes pass j) q.at.part q.entry.bit) None) parts.1
+          ∙ ap (λ (o : Option ℕ). expect_pin board (code_row board plan.passes pass j) q.at.part o) (on_is q.at.bit q.entry.bit parts.0)
+          ∙ ap (λ (b : Bool). cond b (expect_place board (code_row board plan.passes pass j) (place_of q.at 0 board.nets)) None) q.receives
+          ∙ ap (λ (o : Option Place). expect_place board (code_row board plan.passes pass j) o) t.is_place
+          ∙ ap (λ (o : Option ℕ). expect_observed (Some (net_code_bit board plan.passes j n)) reader.place o) observing
+          ∙ ap (λ (b : Bool). only_if (not b) (Some (net_code_bit board plan.passes j n))) (not_same reader.place d.place differs);
+    }
+
+    pub compared_cell : ComparedCell board plan pass j n net reader
+    compared_cell = record {
+      part = q.at.part;
+      device = t.device;
+      cell = q.entry.num;
+      position_is = q.position_is;
+      compared = compared_is;
+      code_is = code_is board rules plan p n net is_net x pass d.place stands observing;
+    }
 
 module _ (board : RawBoard) (rules : IsBoard board) (plan : PlanTables) (p : IsPlanOf board plan) (fault : Option Single) (is_fault : IsFault board fault) (log : List (List Bool))
     (rows : length log ≡ length plan.passes * plan.width) (bits : All (λ row. length row ≡ data_bits board) log)
@@ -280,75 +356,22 @@ module _ (board : RawBoard) (rules : IsBoard board) (plan : PlanTables) (p : IsP
 
     -- and the bit of each compared cell is shown
     module _ (shows : ShowsBits board scans (fault_bit board fault) log) (n : ℕ) (net : Net) (is_net : slice_get board.nets n ≡ Some net) (d : NetDriver) (enabled : driver_in plan pass n ≡ Some d) where
-      unguarded : guarded board net ≡ false
-      unguarded = by_guard (guarded board net) refl
-        where
-          by_guard : (b : Bool) → guarded board net ≡ b → b ≡ false
-          by_guard false e = refl
-          by_guard true e =
-              let bad : None ≡ Some d =
-              sym (ap (λ (l : List NetDriver). enabled_in (holds pass) l) (drivers_are board rules plan p n net is_net ∙ ap (λ (b : Bool). cond b [] (drivers_of_pins board net.pins)) e)) ∙ enabled in
-              cc bad
-
       module _ (reader : ReaderCell) (has : Has (readers_in plan n) reader) (differs : (reader.place == d.place) ≡ false) where
-        q : IsReaderCell board net reader
-        q = reader_is board net reader (subst (λ (l : List ReaderCell). Has l reader) (readers_are board rules plan p n net is_net) has)
-
-        t : Standing board n net reader.place q.at
-        t = standing board rules n net reader.place q.pin q.at is_net q.is_pin q.is_at
-
-        beside : is_read_beside (readers_in plan n) d ≡ true
-        beside = has_any (λ (y : ReaderCell). not (y.place == d.place)) (readers_in plan n) reader has (ap not differs)
-
-        observing : observing_driver board (holds pass) net ≡ Some d.place
-        observing = observing_is board rules plan p n net is_net x pass stands unguarded d enabled ∙ ap (λ (b : Bool). cond b (Some d.place) None) beside
-
-        same_device : q.device ≡ t.device
-        same_device = let two : Some q.device ≡ Some t.device = sym q.is_device ∙ t.is_device in cc two
-
-        stands_in : (i : ℕ) × (slice_get q.device.cells i ≡ Some q.entry)
-        stands_in = has_place q.device.cells q.entry (contains_has q.device.cells q.entry q.is_entry)
-
-        entry_at : slice_get t.device.cells stands_in.0 ≡ Some q.entry
-        entry_at = subst (λ (v : RawDevice). slice_get v.cells stands_in.0 ≡ Some q.entry) same_device stands_in.1
-
-        parts : (is_on q.at.bit q.entry.bit ≡ true) × (is_receiving q.entry.role ≡ true)
-        parts = and_parts (is_on q.at.bit q.entry.bit) (is_receiving q.entry.role) q.reads
-
-        entry_is : reading_entry t.device q.entry.num ≡ Some q.entry
-        entry_is = reading_entry_is t.device t.read stands_in.0 q.entry entry_at parts.1
-
         abbrev expected : Bool
         expected = net_code_bit board plan.passes j n
 
-        compared : IsCompared board row q.at.part t.device q.entry.num (record { number = n; net = net; place = reader.place }) expected
-        compared = record {
-          is_device = t.is_device;
-          below = t.read.num_below stands_in.0 q.entry entry_at;
-          reads = ap (λ (o : Option Cell). option_and_then (λ e. option_and_then (λ b. place_of (record { part = q.at.part; bit = b }) 0 board.nets) e.bit) o) entry_is
-              ∙ ap (λ (o : Option ℕ). option_and_then (λ b. place_of (record { part = q.at.part; bit = b }) 0 board.nets) o) (on_is q.at.bit q.entry.bit parts.0)
-              ∙ t.is_place;
-          expects =
-              ap (λ (o : Option Cell). expect_entry board row q.at.part o) entry_is
-              ∙ ap (λ (b : Bool). cond b (expect_pin board row q.at.part q.entry.bit) None) parts.1
-              ∙ ap (λ (o : Option ℕ). expect_pin board row q.at.part o) (on_is q.at.bit q.entry.bit parts.0)
-              ∙ ap (λ (b : Bool). cond b (expect_place board row (place_of q.at 0 board.nets)) None) q.receives
-              ∙ ap (λ (o : Option Place). expect_place board row o) t.is_place
-              ∙ ap (λ (o : Option ℕ). expect_observed (row.carried n) reader.place o) observing
-              ∙ ap (λ (b : Bool). only_if (not b) (row.carried n)) (not_same reader.place d.place differs);
-        }
-
         bit_is : bit_in log number reader.position ≡ effect_bit (effect_in board plan pass fault n) j reader.place (code_bit (code_in plan n) j)
         bit_is =
+            let c : ComparedCell board plan pass j n net reader = compared_cell board rules plan p x pass stands j n net is_net d enabled reader has differs in
             let logged = some_at log number row_there in
-            let shown = shows number scan_here logged.0 q.at.part t.device q.entry.num (record { number = n; net = net; place = reader.place }) expected scan_is logged.1 compared in
-            let there = logged_is logged.0 logged.1 q.at.part t.device q.entry.num t.is_device (t.read.num_below stands_in.0 q.entry entry_at) in
-            let two : Some (bit_in log number (first_position board q.at.part + q.entry.num)) ≡ Some (fault_bit board fault row (record { number = n; net = net; place = reader.place }) expected) = sym there ∙ shown in
-            let same : bit_in log number (first_position board q.at.part + q.entry.num) ≡ fault_bit board fault row (record { number = n; net = net; place = reader.place }) expected = cc two in
+            let shown = shows number scan_here logged.0 c.part c.device c.cell (record { number = n; net = net; place = reader.place }) expected scan_is logged.1 c.compared in
+            let there = logged_is logged.0 logged.1 c.part c.device c.cell c.compared.is_device c.compared.below in
+            let two : Some (bit_in log number (first_position board c.part + c.cell)) ≡ Some (fault_bit board fault row (record { number = n; net = net; place = reader.place }) expected) = sym there ∙ shown in
+            let same : bit_in log number (first_position board c.part + c.cell) ≡ fault_bit board fault row (record { number = n; net = net; place = reader.place }) expected = cc two in
             let other : reader.place ≢ d.place = λ e. both_ways (reader.place == d.place) differs (eq-eqb reader.place d.place e) in
-            ap (λ (i : ℕ). bit_in log number i) q.position_is ∙ same
-            ∙ sym (value_is n net is_net unguarded d enabled reader.place other expected)
-            ∙ sym (ap (λ (k : ℕ). effect_bit (effect_in board plan pass fault n) j reader.place (code_bit k j)) (code_is board rules plan p n net is_net x pass d.place stands observing))
+            ap (λ (i : ℕ). bit_in log number i) c.position_is ∙ same
+            ∙ sym (value_is n net is_net (enabled_unguarded board rules plan p pass n net is_net d enabled) d enabled reader.place other expected)
+            ∙ sym (ap (λ (k : ℕ). effect_bit (effect_in board plan pass fault n) j reader.place (code_bit k j)) c.code_is)
 
       pub cells_are_shown : list_all (cell_shows log number d.place (effect_in board plan pass fault n) j (code_bit (code_in plan n) j)) (readers_in plan n) ≡ true
       cells_are_shown =

@@ -1,7 +1,7 @@
 -- What the passes of a plan test is what some safe setting tests.
 use Rattle.std.proofs.Common.{◌≡◌, ◌≢◌, ◌⊎◌, inl, inr, ℕ, zero, suc, ◌+◌, ◌<◌, ◌≤◌, Bool, true, false, cond, ◌&&◌, List, [], ◌∷◌, ◌++◌, length, map, get_or, set, replicate, Option, Some, None, refl, sym, ap, ◌∙◌, subst, arith, length-append}
 use Rattle.std.specs.Prelude.{slice_get, sum_by, filter, fold, nat_lt}
-use Rattle.std.specs.List.{list_any, flat_map, enumerate_from, range_with_len}
+use Rattle.std.specs.List.{list_all, list_any, flat_map, enumerate_from, range_with_len}
 use Rattle.std.proofs.lemmas.Bool.{lt-ltb, and_parts, and_from, or_cases, or_left, or_right, cases_eq}
 use Rattle.std.proofs.lemmas.List.{length-map, length-replicate, get_or-replicate}
 use Rattle.std.proofs.lemmas.Option.{slice_get_within, get_or_from_slice_get}
@@ -378,3 +378,29 @@ module _ (board : RawBoard) (rules : IsBoard board) (plan : PlanTables) (p : IsP
               (and_from (observes_in plan pass a) (observes_in plan pass b)
               (is_observing board rules plan p a one ea x pass stands i (subst (λ (u : Net). ObservesBy board (holds pass) u i) (net_same board a one v ea ev) o))
               (is_observing board rules plan p b two eb x pass stands j (subst (λ (u : Net). ObservesBy board (holds pass) u j) (net_same board b two w eb ew) q)))
+
+-- flags that are all set stay as they are
+set_kept : (flags : List Bool) (i : ℕ) → list_all (λ flag. flag) flags ≡ true → set flags i true ≡ flags
+set_kept [] i all = refl
+set_kept (true ∷ flags) zero all = refl
+set_kept (true ∷ flags) (suc i) all = ap (λ (l : List Bool). true ∷ l) (set_kept flags i all)
+set_kept (false ∷ flags) i all = cc all
+
+readers_kept : (readers : List ReaderCell) (flags : List Bool) → list_all (λ flag. flag) flags ≡ true → marked_readers flags readers ≡ flags
+readers_kept [] flags all = refl
+readers_kept (r ∷ readers) flags all = ap (λ (l : List Bool). marked_readers l readers) (set_kept flags r.place all) ∙ readers_kept readers flags all
+
+pass_kept : (plan : PlanTables) (n : ℕ) (flags : List Bool) (pass : List Ctl) → list_all (λ flag. flag) flags ≡ true → marked_in plan n flags pass ≡ flags
+pass_kept plan n flags pass all = by_driver (driver_in plan pass n)
+  where
+    by_test : (d : NetDriver) (b : Bool) → cond b (marked_readers (set flags d.place true) (readers_in plan n)) flags ≡ flags
+    by_test d true = ap (λ (l : List Bool). marked_readers l (readers_in plan n)) (set_kept flags d.place all) ∙ readers_kept (readers_in plan n) flags all
+    by_test d false = refl
+
+    by_driver : (o : Option NetDriver) → marked_by o (readers_in plan n) flags ≡ flags
+    by_driver None = refl
+    by_driver (Some d) = by_test d (is_read_beside (readers_in plan n) d)
+
+pub passes_kept : (plan : PlanTables) (n : ℕ) (passes : List (List Ctl)) (flags : List Bool) → list_all (λ flag. flag) flags ≡ true → fold (marked_in plan n) flags passes ≡ flags
+passes_kept plan n [] flags all = refl
+passes_kept plan n (pass ∷ passes) flags all = ap (λ (l : List Bool). fold (marked_in plan n) l passes) (pass_kept plan n flags pass all) ∙ passes_kept plan n passes flags all

@@ -1,14 +1,17 @@
 // The nets that differ in a log.
-ghost use Rattle.std.specs.Prelude.{◌≡◌, ◌+◌, ◌*◌, ◌<◌, ◌≤◌, cond, true, length, All, Decides, IfOk, slice_set};
+ghost use Rattle.std.specs.Prelude.{◌≡◌, ◌+◌, ◌*◌, ◌<◌, ◌≤◌, length, All, Decides, IfOk};
 ghost use Rattle.board_defs.specs.Passes.{passes_of};
 ghost use Rattle.board_defs.specs.Pins.{data_bits};
 ghost use Rattle.scan_planner.specs.Plans.{IsPlanOf};
 ghost use Rattle.tap_defs.specs.board.BoardScans.{svf_row_scans};
 ghost use Rattle.tap_defs.specs.board.Explaining.{IsExpected};
 ghost use Rattle.fault_sim.specs.Suspects.{AreDiffering};
+ghost use Rattle.fault_sim.specs.Fits.{ShowsOn};
+ghost use Rattle.fault_sim.specs.inner.Marks.{AreMarks};
 ghost use Rattle.fault_sim.specs.inner.Suspects.{AreFlags, flagged_nets};
 
-use crate::fits::{net_count, shows};
+use crate::fits::{net_count, shows_on};
+use crate::marks::{are_marked, marks_of};
 use crate::tested::{is_set, push_if};
 use board_defs::{Board, law};
 use response_log::Log;
@@ -16,58 +19,49 @@ use scan_planner::Plan;
 use std::alloc::{AllocError, Global};
 use tap_defs::board_law;
 
-// Sets a flag, unless its net is shown.
-fn set_unless(flags: &mut [bool], n: usize, shown: bool)
-    requires { n < length flags.old }
-    ensures { flags.new ≡ cond shown flags.old (slice_set flags.old n true) }
-{
-    if !shown {
-        flags[n] = true;
-    }
-}
-
-// Flags net `n` where it does not show the expected bits in pass `x`.
-fn flag_net(flags: &mut [bool], board: &Board, plan: &Plan, log: &Log, x: u32, n: u32)
+// Whether a net shows the expected bits in each pass. Where none of the digits of its cells has a mark, its cells need not be looked at.
+fn shows_expected(board: &Board, plan: &Plan, log: &Log, marks: &[u8], n: u32) -> bool
     requires plan { IsPlanOf board.now plan.now }
     requires rows { length log.now ≡ length plan.now.passes * plan.now.width }
     requires bits { All (λ row. length row ≡ data_bits board.now) log.now }
-    requires pass { x < length plan.now.passes }
+    requires net { n < length board.now.nets }
+    requires marks { AreMarks board.now plan.now log.now (length plan.now.passes) marks.now }
+    ensures { Decides result (ShowsOn board.now plan.now None log.now n) }
+{
+    let _rules = board.raw();
+    if !are_marked(marks, plan.readers(n)) {
+        return true;
+    }
+    shows_on(board, plan, None, log, n)
+}
+
+// Flags net `n` where it does not show the expected bits in each pass.
+fn flag_net(flags: &mut [bool], board: &Board, plan: &Plan, log: &Log, marks: &[u8], n: u32)
+    requires plan { IsPlanOf board.now plan.now }
+    requires rows { length log.now ≡ length plan.now.passes * plan.now.width }
+    requires bits { All (λ row. length row ≡ data_bits board.now) log.now }
     requires net { n < length board.now.nets }
     requires count { length flags.old ≡ length board.now.nets }
-    requires flags { AreFlags board.now plan.now log.now x n flags.old }
-    ensures flags { AreFlags board.now plan.now log.now x (n + 1) flags.new }
+    requires marks { AreMarks board.now plan.now log.now (length plan.now.passes) marks.now }
+    requires flags { AreFlags board.now plan.now log.now n flags.old }
+    ensures flags { AreFlags board.now plan.now log.now (n + 1) flags.new }
     ensures count { length flags.new ≡ length flags.old }
 {
-    let shown = shows(board, plan, None, log, x, n);
-    set_unless(flags, n as usize, shown);
+    flags[n as usize] = !shows_expected(board, plan, log, marks, n);
 }
 
-fn flag_pass(flags: &mut [bool], board: &Board, plan: &Plan, log: &Log, x: u32)
-    requires plan { IsPlanOf board.now plan.now }
-    requires rows { length log.now ≡ length plan.now.passes * plan.now.width }
-    requires bits { All (λ row. length row ≡ data_bits board.now) log.now }
-    requires pass { x < length plan.now.passes }
-    requires count { length flags.old ≡ length board.now.nets }
-    requires flags { AreFlags board.now plan.now log.now x 0 flags.old }
-    ensures flags { AreFlags board.now plan.now log.now (x + 1) 0 flags.new }
-    ensures count { length flags.new ≡ length flags.old }
-{
-    for n in 0..net_count(board) {
-        flag_net(flags, board, plan, log, x, n);
-    }
-}
-
-// Flags the nets that differ in a log, in one pass over its rows.
+// Flags the nets that differ in a log. Its rows are gone through once, and then the cells of the nets with marks.
 fn flags_of(alloc: Global, board: &Board, plan: &Plan, log: &Log) -> Result<Vec<bool>, AllocError>
     requires plan { IsPlanOf board.now plan.now }
     requires rows { length log.now ≡ length plan.now.passes * plan.now.width }
     requires bits { All (λ row. length row ≡ data_bits board.now) log.now }
-    ensures flags { IfOk result (λ flags. AreFlags board.now plan.now log.now (length plan.now.passes) 0 flags.items) }
+    ensures flags { IfOk result (λ flags. AreFlags board.now plan.now log.now (length board.now.nets) flags.items) }
     ensures count { IfOk result (λ flags. length flags.items ≡ length board.now.nets) }
 {
+    let marks = marks_of(alloc, board, plan, log)?;
     let mut flags = vec![in alloc; false; net_count(board) as usize]?;
-    for x in 0..plan.pass_count() {
-        flag_pass(&mut flags, board, plan, log, x);
+    for n in 0..net_count(board) {
+        flag_net(&mut flags, board, plan, log, &marks, n);
     }
     Ok(flags)
 }
@@ -84,7 +78,7 @@ fn flagged_nets(alloc: Global, flags: &[bool]) -> Result<Vec<u32>, AllocError>
 }
 
 /// The nets that differ in a log, in net order: some compared cell of them has a bit that is not the expected one. The log has the
-/// plan's rows, each as long as a scan of data, and is gone through once.
+/// plan's rows, each as long as a scan of data. Its rows are gone through once, and then the cells of few nets beside those that differ.
 pub fn differing_nets(
     alloc: Global,
     board: &Board,

@@ -4,7 +4,7 @@ ghost use Rattle.std.specs.List.{list_all};
 ghost use Rattle.board_defs.specs.Pins.{data_bits};
 ghost use Rattle.scan_planner.specs.Plans.{IsPlanOf};
 ghost use Rattle.tap_defs.specs.board.TestRows.{code_bit};
-ghost use Rattle.fault_sim.specs.Fits.{bit_in, cell_shows, ShowRows, ShowBy, NetShows, Shows, ShowsPair, ShowsBoth, ShowsIn, ShowsAll};
+ghost use Rattle.fault_sim.specs.Fits.{bit_in, cell_shows, ShowRows, ShowBy, NetShows, Shows, ShowsPair, ShowsBoth, ShowsOn, ShowsIn, ShowsAll};
 
 use crate::effect::{Effect, effect_bit, effect_in};
 use crate::feed::{code_bit, driver_in, is_same};
@@ -145,8 +145,8 @@ fn net_shows(
     )
 }
 
-/// Whether a log shows the effect of a fault on a net in pass `x`.
-pub fn shows(board: &Board, plan: &Plan, fault: Option<Single>, log: &Log, x: u32, net: u32) -> bool
+// Whether a log shows the effect of a fault on a net in pass `x`.
+fn shows(board: &Board, plan: &Plan, fault: Option<Single>, log: &Log, x: u32, net: u32) -> bool
     requires plan { IsPlanOf board.now plan.now }
     requires rows { length log.now ≡ length plan.now.passes * plan.now.width }
     requires bits { All (λ row. length row ≡ data_bits board.now) log.now }
@@ -198,6 +198,22 @@ pub fn shows_both(
 {
     for x in 0..plan.pass_count() {
         if !shows_pair(board, plan, fault, log, x, a, b) {
+            return false;
+        }
+    }
+    true
+}
+
+/// Whether a log shows the effect of a fault on a net.
+pub fn shows_on(board: &Board, plan: &Plan, fault: Option<Single>, log: &Log, net: u32) -> bool
+    requires plan { IsPlanOf board.now plan.now }
+    requires rows { length log.now ≡ length plan.now.passes * plan.now.width }
+    requires bits { All (λ row. length row ≡ data_bits board.now) log.now }
+    requires net { net < length board.now.nets }
+    ensures { Decides result (ShowsOn board.now plan.now fault log.now net) }
+{
+    for x in 0..plan.pass_count() {
+        if !shows(board, plan, fault, log, x, net) {
             return false;
         }
     }

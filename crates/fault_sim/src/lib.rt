@@ -9,6 +9,7 @@ mod effect;
 mod feed;
 mod fits;
 pub mod law;
+mod marks;
 mod matching;
 mod suspects;
 mod tested;

@@ -68,7 +68,14 @@ pub fn matches(board: &Board, plan: &Plan, fault: Single, log: &Log) -> bool
     law::passes_kept();
     board_law::rows_compared();
     board_law::singles_respond();
-    if !shows_both(board, plan, Some(fault), log, first_net(fault), second_net(fault)) {
+    if !shows_both(
+        board,
+        plan,
+        Some(fault),
+        log,
+        first_net(fault),
+        second_net(fault),
+    ) {
         return false;
     }
     shows_all(board, plan, Some(fault), log)

@@ -1,5 +1,6 @@
 // The nets and the pins that the passes of a plan test.
 ghost use Rattle.std.specs.Prelude.{◌≡◌, ◌≤◌, ◌++◌, ◌∷◌, ◌&&◌, [], cond, length, fold, slice_index_or, slice_set, true, false, IfOk, OnOk};
+ghost use Rattle.std.specs.List.{list_all};
 ghost use Rattle.fault_sim.specs.inner.Tested.{coded_nets, observes_in, paired_in, marked_readers, marked_by, marked_in, tested_flags, pin_where, flagged_pins, pin_count, net_pins, all_pins};
 
 use crate::feed::{driver_in, is_read_beside};
@@ -90,10 +91,20 @@ fn mark_pass(flags: &mut [bool], plan: &Plan, pass: &Setting, net: u32)
     mark_by(flags, driver_in(plan, pass, net), plan.readers(net));
 }
 
+fn are_set(flags: &[bool]) -> bool
+    ensures { result ≡ list_all (λ flag. flag) flags.now }
+{
+    flags.iter().all(|flag| *flag)
+}
+
+// Mostly one pass tests all pins of a net, and then no later one needs to be asked.
 fn mark_passes(flags: &mut [bool], plan: &Plan, net: u32)
     ensures { flags.new ≡ fold (marked_in plan.now net) flags.old plan.now.passes }
 {
     for pass in plan.passes() {
+        if are_set(flags) {
+            return;
+        }
         mark_pass(flags, plan, pass, net);
     }
 }

@@ -2,6 +2,7 @@
 use Rattle.std.specs.Prelude.{◌≡◌, ℕ, ◌-◌, ◌*◌, ◌/◌, ◌<◌, List, length, take, drop, All}
 use Rattle.board_defs.specs.Passes.{passes_of}
 use Rattle.scan_planner.specs.Plans.{IsPlanOf}
+use Rattle.fault_sim.specs.Places.{IsUniverse}
 use Rattle.diagnoser.specs.Diagnosis.{IsNamed}
 use Rattle.batch_diag.specs.declared.block.Block.{Block}
 use Rattle.batch_diag.specs.declared.judging.Batch.{Batch}
@@ -12,6 +13,7 @@ use Rattle.batch_diag.specs.Verdicts.{EachPair, IsVerdict, AreLogs}
 pub record IsBatch (b : Batch) : Type 0 where
   pub plan : IsPlanOf b.board.now b.plan.now
   pub passes : b.plan.now.passes ≡ passes_of b.board.now
+  pub universe : IsUniverse b.board.now b.universe.now
   pub logs : AreLogs b.board.now b.plan.now b.blocks.now
   pub some : 0 < b.pieces
 

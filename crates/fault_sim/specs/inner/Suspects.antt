@@ -6,16 +6,11 @@ use Rattle.board_defs.specs.declared.board.RawBoard.{RawBoard}
 use Rattle.scan_planner.specs.declared.tables.PlanTables.{PlanTables}
 use Rattle.fault_sim.specs.declared.universe.FaultLists.{FaultLists}
 use Rattle.fault_sim.specs.Effects.{code_in}
-use Rattle.fault_sim.specs.Fits.{Shows}
+use Rattle.fault_sim.specs.Fits.{ShowsOn}
 
--- a pass before pass x, or pass x itself for a net before net n
-abbrev pub IsBefore : ℕ → ℕ → ℕ → ℕ → Type 0
-IsBefore x n pass net = (pass < x) ⊎ ((pass ≡ x) × (net < n))
-
--- flags of the nets of which some compared cell has not the expected bit in such a pass
-abbrev pub AreFlags : RawBoard → PlanTables → List (List Bool) → ℕ → ℕ → List Bool → Type 0
-AreFlags board plan log x n flags =
-    (net : ℕ) → net < length board.nets → Decides (not (slice_index_or flags net false)) ((pass : ℕ) → IsBefore x n pass net → Shows board plan None log pass net)
+-- flags of the nets below a number of which some compared cell has not the expected bit
+abbrev pub AreFlags : RawBoard → PlanTables → List (List Bool) → ℕ → List Bool → Type 0
+AreFlags board plan log count flags = (n : ℕ) → n < count → Decides (not (slice_index_or flags n false)) (ShowsOn board plan None log n)
 
 -- the nets that are flagged
 abbrev pub flagged_nets : List Bool → List ℕ

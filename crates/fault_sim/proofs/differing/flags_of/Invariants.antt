@@ -2,5 +2,5 @@ use Rattle.std.proofs.Common.{◌≡◌, length}
 use Rattle.fault_sim.specs.inner.Suspects.{AreFlags}
 use Rattle.fault_sim.proofs.differing.flags_of.Given as goal
 
-abbrev pub invariant-loop-x : goal.invariant-loop-x
-invariant-loop-x l = (length l.flags.items ≡ length l.board.nets) × AreFlags l.board l.plan l.log l.x 0 l.flags.items
+abbrev pub invariant-loop-n : goal.invariant-loop-n
+invariant-loop-n l = (length l.flags.items ≡ length l.board.nets) × AreFlags l.board l.plan l.log l.n l.flags.items

@@ -1,12 +1,12 @@
 use Rattle.std.specs.Prelude.{IfOk}
 use Rattle.diagnoser.specs.Diagnosis.{AreExplaining}
 use Rattle.diagnoser.proofs.FaultLemmas.{all_found, all_named}
-use Rattle.diagnoser.proofs.diagnosis.diagnose_by.Goals as goal
-use Rattle.diagnoser.proofs.diagnosis.diagnose_by.Goals.{After-search_pieces}
+use Rattle.diagnoser.proofs.diagnosis.diagnose_in.Goals as goal
+use Rattle.diagnoser.proofs.diagnosis.diagnose_in.Goals.{After-search_pieces}
 
 explaining : (g : _) (c : After-search_pieces g) → IfOk c.search_pieces.result (λ faults. AreExplaining c.args.board.now c.args.log.now faults.items)
 explaining g c =
-    all_found c.args.board.now c.raw-rules.ensures.rules c.args.plan.now c.in_ok-universe.universe c.args.log.now c.in_ok-suspects.suspects c.in_ok-suspects.ensures c.suspects_suffice.ensures c.args.workers c.requires.some
+    all_found c.args.board.now c.raw-rules.ensures.rules c.args.plan.now c.args.universe.now c.args.log.now c.in_ok-suspects.suspects c.in_ok-suspects.ensures c.suspects_suffice.ensures c.args.workers c.requires.some
     (λ v. v.items) c.search_pieces.result c.search_pieces.ensures
 
 pub returns-clause-faults : goal.returns-clause-faults

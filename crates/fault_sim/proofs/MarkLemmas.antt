@@ -1,0 +1,223 @@
+-- Marks of digits, and the nets that show the expected bits where they have none.
+use Rattle.std.proofs.Common.{◌≡◌, ◌⊎◌, inl, inr, ℕ, zero, suc, ◌+◌, ◌-◌, ◌*◌, ◌/◌, ◌%◌, ◌<◌, ◌≤◌, ◌==◌, Bool, true, false, cond, not, ◌||◌, List, [], ◌∷◌, length, map, get_or, set, min, max, Option, Some, None, is_some, unwrap_or, refl, sym, ap, ◌∙◌, subst, arith}
+use Rattle.std.specs.Prelude.{slice_get, All}
+use Rattle.std.specs.List.{list_all, list_any}
+use Rattle.std.specs.Int.{bit_at}
+use Rattle.std.specs.Int.Bits.{bit_and, bit_or, bit_xor}
+use Rattle.std.proofs.lemmas.Bool.{eqb-true, both_ways, cases_eq}
+use Rattle.std.proofs.lemmas.Nat.{mul-add-lt}
+use Rattle.std.proofs.lemmas.Nat.Bits.{bit_at-zero, bit_at-lt, bit_at_and, bit_at_or, bit_at_xor, same_from_bits}
+use Rattle.std.proofs.lemmas.List.{length-map, get_or-set_same, get_or-set_other}
+use Rattle.std.proofs.lemmas.Option.{get_or_from_slice_get, slice_get_within}
+use Rattle.bt_bits.specs.Digits.{digit_bit, digits_of}
+use Rattle.bt_bits.proofs.DigitLemmas.{digits_of-get}
+use Rattle.board_defs.specs.declared.board.Net.{Net}
+use Rattle.board_defs.specs.declared.board.RawBoard.{RawBoard}
+use Rattle.board_defs.specs.declared.board.Ctl.{Ctl}
+use Rattle.board_defs.specs.BoardRules.{IsBoard}
+use Rattle.board_defs.specs.Pins.{data_bits, is_same}
+use Rattle.board_defs.proofs.Members.{Has, has_at, has_any}
+use Rattle.board_defs.proofs.Places.{all_from}
+use Rattle.tap_defs.specs.declared.scan.Shape.{Shape}
+use Rattle.tap_defs.specs.chain.Scan.{ScanBit, Scan, joined, tdi_bits, tdo_bits, mask_bits, scan_bits}
+use Rattle.tap_defs.specs.board.TestRows.{code_row, code_bit, code_of_net, net_code_bit, expect_bit}
+use Rattle.tap_defs.specs.board.BoardScans.{RowScan, row_bits, scan_of_row, row_now, row_before, test_scans, AreTestScans}
+use Rattle.response_log.specs.Kept.{AreRowDigits}
+use Rattle.scan_planner.specs.declared.nets.NetDriver.{NetDriver}
+use Rattle.scan_planner.specs.declared.tables.ReaderCell.{ReaderCell}
+use Rattle.scan_planner.specs.declared.tables.PlanTables.{PlanTables}
+use Rattle.scan_planner.specs.Tables.{first_position}
+use Rattle.scan_planner.specs.Plans.{IsPlanOf, FillsScan, scan_of_pass, scan_count}
+use Rattle.scan_planner.proofs.LaidLemmas.{laid_at, length-laid, tdi_laid, tdo_laid, mask_laid}
+use Rattle.scan_planner.proofs.FillLemmas.{some_at}
+use Rattle.fault_sim.specs.declared.effect.Effect.TheVariants.{Plain}
+use Rattle.fault_sim.specs.declared.marks.ScanRows.{ScanRows}
+use Rattle.fault_sim.specs.Effects.{readers_in, code_in, driver_in}
+use Rattle.fault_sim.specs.Fits.{bit_in, cell_shows, ShowBy, NetShows, Shows, ShowsOn}
+use Rattle.fault_sim.specs.inner.Marks.{CompareAt, HasExpected, IsUnmarked, MarkRows, AreMarks, are_marked, compared_in, expected_in}
+use Rattle.fault_sim.proofs.ShowLemmas.{ComparedCell, compared_cell, bits_same}
+
+-- numbers that agree wherever a third has a 1
+masked_same : (a b mask k : ℕ) → bit_and (bit_xor a b) mask ≡ 0 → digit_bit mask k ≡ true → digit_bit a k ≡ digit_bit b k
+masked_same a b mask k none on =
+    let one : bit_at mask k ≡ 1 = eqb-true (bit_at mask k) 1 on in
+    let zero_bit : min (bit_at (bit_xor a b) k) (bit_at mask k) ≡ 0 = sym (bit_at_and (bit_xor a b) mask k) ∙ ap (λ (n : ℕ). bit_at n k) none ∙ bit_at-zero k in
+    let even : bit_at (bit_xor a b) k ≡ 0 = omega (arith, zero_bit, one) in
+    let sum : (bit_at a k + bit_at b k) % 2 ≡ 0 = sym (bit_at_xor a b k) ∙ even in
+    let same : bit_at a k ≡ bit_at b k = omega (arith, sum, bit_at-lt a k, bit_at-lt b k) in
+    ap (λ (n : ℕ). n == 1) same
+
+-- neither of two numbers has a 1 where their union has none
+pub or_zeros : (a b : ℕ) → bit_or a b ≡ 0 → (a ≡ 0) × (b ≡ 0)
+or_zeros a b none = (same_from_bits a 0 (λ i. omega (arith, union i, bit_at-zero i)), same_from_bits b 0 (λ i. omega (arith, union i, bit_at-zero i)))
+  where
+    union : (i : ℕ) → max (bit_at a i) (bit_at b i) ≡ 0
+    union i = sym (bit_at_or a b i) ∙ ap (λ (n : ℕ). bit_at n i) none ∙ bit_at-zero i
+
+-- one digit more is looked at
+module _ (start marks : List ℕ) (wrong : ℕ → ℕ) (k : ℕ) (left : (i : ℕ) → k ≤ i → get_or marks i 0 ≡ get_or start i 0) where
+  pub marked_more : k < length marks → ((i : ℕ) → i < k → get_or marks i 0 ≡ 0 → (get_or start i 0 ≡ 0) × (wrong i ≡ 0)) → (i : ℕ) → i < k + 1 → get_or (set marks k (bit_or (get_or marks k 0) (wrong k))) i 0 ≡ 0 →
+      (get_or start i 0 ≡ 0) × (wrong i ≡ 0)
+  marked_more within done i less none = by_place (cases_eq i k)
+    where
+      by_place : (i ≡ k) ⊎ (i ≡ k → ⊥) → (get_or start i 0 ≡ 0) × (wrong i ≡ 0)
+      by_place (inl same) =
+          let is : get_or (set marks k (bit_or (get_or marks k 0) (wrong k))) k 0 ≡ bit_or (get_or marks k 0) (wrong k) = get_or-set_same marks k (bit_or (get_or marks k 0) (wrong k)) 0 within in
+          let zeros = or_zeros (get_or marks k 0) (wrong k) (sym is ∙ sym (ap (λ (n : ℕ). get_or (set marks k (bit_or (get_or marks k 0) (wrong k))) n 0) same) ∙ none) in
+          (ap (λ (n : ℕ). get_or start n 0) same ∙ sym (left k (omega arith)) ∙ zeros.0, ap wrong same ∙ zeros.1)
+      by_place (inr differ) = done i (lower differ) (sym (get_or-set_other marks k i (bit_or (get_or marks k 0) (wrong k)) 0 differ) ∙ none)
+        where
+          lower : (i ≡ k → ⊥) → i < k
+          lower ne = grind arith
+
+  pub unmarked_left : (mark i : ℕ) → k + 1 ≤ i → get_or (set marks k mark) i 0 ≡ get_or start i 0
+  unmarked_left mark i le = get_or-set_other marks k i mark 0 (λ same. omega (arith, le, same)) ∙ left i (omega (arith, le))
+
+-- what a scan of these rows compares
+scan_bits-at : (tdi tdo mask : List Bool) (at : ℕ) → get_or (mask_bits (scan_bits tdi tdo mask)) at false ≡ true →
+    (get_or mask at false ≡ true) × (get_or (tdo_bits (scan_bits tdi tdo mask)) at false ≡ get_or tdo at false)
+scan_bits-at [] tdo mask at e = cc e
+scan_bits-at (i ∷ tdi) [] mask at e = cc e
+scan_bits-at (i ∷ tdi) (o ∷ tdo) [] at e = cc e
+scan_bits-at (i ∷ tdi) (o ∷ tdo) (true ∷ mask) zero e = (refl, refl)
+scan_bits-at (i ∷ tdi) (o ∷ tdo) (false ∷ mask) zero e = cc e
+scan_bits-at (i ∷ tdi) (o ∷ tdo) (m ∷ mask) (suc at) e = scan_bits-at tdi tdo mask at e
+
+length-scan_bits : (tdi tdo mask : List Bool) → length tdo ≡ length tdi → length mask ≡ length tdi → length (scan_bits tdi tdo mask) ≡ length tdi
+length-scan_bits [] tdo mask d m = refl
+length-scan_bits (i ∷ tdi) [] mask d m = absurd (omega (arith, d))
+length-scan_bits (i ∷ tdi) (o ∷ tdo) [] d m = absurd (omega (arith, m))
+length-scan_bits (i ∷ tdi) (o ∷ tdo) (b ∷ mask) d m = ap suc (length-scan_bits tdi tdo mask (omega (arith, d)) (omega (arith, m)))
+
+-- a row of a pass is one of the log
+pub row_there : (passes width x j rows : ℕ) → rows ≡ passes * width → x < passes → j < width → x * width + j < rows
+row_there passes width x j rows count x_less j_less = omega (arith, mul-add-lt x width j passes x_less j_less, commute width passes, count)
+  where
+    commute : (a b : ℕ) → a * b ≡ b * a
+    commute a b = grind arith
+
+module _ (board : RawBoard) (plan : PlanTables) where
+  -- the rows that the plan fills compare what is to be compared
+  pub compare_at : (k x j : ℕ) (shape : Shape) (rows : ScanRows) → AreTestScans board plan.passes plan.width (test_scans board plan.passes plan.width) → k ≡ 3 + x * (plan.width + 1) + j + 1 → x < length plan.passes → j < plan.width →
+      FillsScan board plan.passes plan.width k shape rows.tdi.bits rows.tdo.bits rows.mask.bits → CompareAt board plan x j rows
+  compare_at k x j shape rows placed k_is x_less j_less f = record {
+    tdo_length = f.tdo_length ∙ tdi_long;
+    mask_length = f.mask_length ∙ tdi_long;
+    bits = λ at on. let s = scan_bits-at rows.tdi.bits rows.tdo.bits rows.mask.bits at (sym (ap (λ (l : List ScanBit). get_or (mask_bits l) at false) bits_are) ∙ on) in
+        (s.0, ap (λ (l : List ScanBit). get_or (tdo_bits l) at false) bits_are ∙ s.1);
+  }
+    where
+      pass : (pass : List Ctl) × (slice_get plan.passes x ≡ Some pass)
+      pass = some_at plan.passes x x_less
+
+      number : 3 + (x * suc plan.width + suc j) ≡ k
+      number = times x plan.width k_is
+        where
+          times : (x w : ℕ) → k ≡ 3 + x * (w + 1) + j + 1 → 3 + (x * suc w + suc j) ≡ k
+          times x w e = grind (arith, e)
+
+      here : Scan
+      here = scan_of_row board (scan_of_pass board plan x (suc j))
+
+      stands : slice_get (test_scans board plan.passes plan.width) k ≡ Some here
+      stands =
+          sym (ap (λ (i : ℕ). slice_get (test_scans board plan.passes plan.width) i) number)
+          ∙ placed.rows x pass.0 (suc j) pass.1 (omega (arith, j_less))
+          ∙ sym (ap (λ (q : List Ctl). Some (scan_of_row board (record { now = row_now (code_row board plan.passes q) plan.width (suc j); before = row_before (code_row board plan.passes q) (suc j) }))) (get_or_from_slice_get plan.passes x pass.0 [] pass.1))
+
+      bits_are : joined (row_bits board (scan_of_pass board plan x (suc j))) ≡ scan_bits rows.tdi.bits rows.tdo.bits rows.mask.bits
+      bits_are =
+          let two : Some here ≡ Some (record { ir = shape.ir; bits = scan_bits rows.tdi.bits rows.tdo.bits rows.mask.bits }) = sym stands ∙ f.scan in
+          let one : ◌≡◌ {A = Scan} here (record { ir = shape.ir; bits = scan_bits rows.tdi.bits rows.tdo.bits rows.mask.bits }) = cc two in
+          ap (λ (s : Scan). s.bits) one
+
+      tdi_long : length rows.tdi.bits ≡ data_bits board
+      tdi_long =
+          sym (length-scan_bits rows.tdi.bits rows.tdo.bits rows.mask.bits f.tdo_length f.mask_length)
+          ∙ sym (ap length bits_are)
+          ∙ sym (length-map (joined (row_bits board (scan_of_pass board plan x (suc j)))) (λ (b : ScanBit). b.tdi))
+          ∙ ap length (tdi_laid board (scan_of_pass board plan x (suc j)))
+          ∙ length-laid _ board
+
+  -- a digit that is right has the expected bits
+  pub digit_expected : (log : List (List Bool)) (x j at : ℕ) (rows : ScanRows) (digits : List ℕ) → CompareAt board plan x j rows → AreRowDigits (get_or log (x * plan.width + j) []) digits → at < data_bits board → length (get_or log (x * plan.width + j) []) ≡ data_bits board →
+      bit_and (bit_xor (get_or digits (at / 4) 0) (get_or (digits_of rows.tdo.bits) (at / 4) 0)) (get_or (digits_of rows.mask.bits) (at / 4) 0) ≡ 0 → HasExpected board plan log x j at
+  digit_expected log x j at rows digits c are within long none on =
+      let s = c.bits at on in
+      are.bits at (omega (arith, within, long))
+      ∙ masked_same (get_or digits (at / 4) 0) (get_or (digits_of rows.tdo.bits) (at / 4) 0) (get_or (digits_of rows.mask.bits) (at / 4) 0) (at % 4) none (digits_of-get rows.mask.bits at (omega (arith, within, c.mask_length)) ∙ s.0)
+      ∙ digits_of-get rows.tdo.bits at (omega (arith, within, c.tdo_length))
+      ∙ sym s.1
+
+module _ (board : RawBoard) (rules : IsBoard board) (plan : PlanTables) (p : IsPlanOf board plan) (log : List (List Bool)) (marks : List ℕ) (are : AreMarks board plan log (length plan.passes) marks) where
+  -- the cells of an unmarked net that row j of a pass compares have the bit of its code
+  module _ (n : ℕ) (unmarked : are_marked marks (readers_in plan n) ≡ false) (x : ℕ) (less : x < length plan.passes) (net : Net) (is_net : slice_get board.nets n ≡ Some net) (pass : List Ctl) (stands : slice_get plan.passes x ≡ Some pass) (d : NetDriver) (enabled : driver_in plan pass n ≡ Some d) (j : ℕ) (j_less : j < plan.width) where
+    module _ (reader : ReaderCell) (has : Has (readers_in plan n) reader) (differs : (reader.place == d.place) ≡ false) where
+      c : ComparedCell board plan pass j n net reader
+      c = compared_cell board rules plan p x pass stands j n net is_net d enabled reader has differs
+
+      expects : expect_bit board (scan_of_pass board plan x (suc j)).before c.part c.device c.cell ≡ Some (net_code_bit board plan.passes j n)
+      expects =
+          ap (λ (q : List Ctl). expect_bit board (code_row board plan.passes q j) c.part c.device c.cell) (get_or_from_slice_get plan.passes x pass [] stands) ∙ c.compared.expects
+
+      inside : reader.position < data_bits board
+      inside = omega (arith, c.position_is, (laid_at (λ q e b. false) board c.part c.device c.cell c.compared.is_device c.compared.below).0)
+
+      compares : get_or (compared_in board plan x j) reader.position false ≡ true
+      compares =
+          ap (λ (i : ℕ). get_or (compared_in board plan x j) i false) c.position_is
+          ∙ ap (λ (l : List Bool). get_or l (first_position board c.part + c.cell) false) (mask_laid board (scan_of_pass board plan x (suc j)))
+          ∙ (laid_at (λ q e b. is_some (expect_bit board (scan_of_pass board plan x (suc j)).before q e b)) board c.part c.device c.cell c.compared.is_device c.compared.below).1
+          ∙ ap (λ (o : Option Bool). is_some o) expects
+
+      wants : get_or (expected_in board plan x j) reader.position false ≡ net_code_bit board plan.passes j n
+      wants =
+          ap (λ (i : ℕ). get_or (expected_in board plan x j) i false) c.position_is
+          ∙ ap (λ (l : List Bool). get_or l (first_position board c.part + c.cell) false) (tdo_laid board (scan_of_pass board plan x (suc j)))
+          ∙ (laid_at (λ q e b. unwrap_or (expect_bit board (scan_of_pass board plan x (suc j)).before q e b) false) board c.part c.device c.cell c.compared.is_device c.compared.below).1
+          ∙ ap (λ (o : Option Bool). unwrap_or o false) expects
+
+      clear : get_or marks (reader.position / 4) 0 ≡ 0
+      clear = by_mark (get_or marks (reader.position / 4) 0 == 0) refl
+        where
+          by_mark : (b : Bool) → (get_or marks (reader.position / 4) 0 == 0) ≡ b → get_or marks (reader.position / 4) 0 ≡ 0
+          by_mark true e = eqb-true (get_or marks (reader.position / 4) 0) 0 e
+          by_mark false e =
+              absurd (both_ways (are_marked marks (readers_in plan n)) unmarked (has_any (λ (r : ReaderCell). not (get_or marks (r.position / 4) 0 == 0)) (readers_in plan n) reader has (ap not e)))
+
+      bit_is : bit_in log (x * plan.width + j) reader.position ≡ code_bit (code_in plan n) j
+      bit_is = are reader.position inside clear x less j j_less compares ∙ wants ∙ sym (ap (λ (k : ℕ). code_bit k j) c.code_is)
+
+    cells_expected : list_all (cell_shows log (x * plan.width + j) d.place Plain j (code_bit (code_in plan n) j)) (readers_in plan n) ≡ true
+    cells_expected =
+        all_from (cell_shows log (x * plan.width + j) d.place Plain j (code_bit (code_in plan n) j)) (readers_in plan n)
+        (λ i y e. by_place y (has_at (readers_in plan n) i y e) (y.place == d.place) refl)
+      where
+        by_place : (reader : ReaderCell) → Has (readers_in plan n) reader → (b : Bool) → (reader.place == d.place) ≡ b →
+            (b || is_same (bit_in log (x * plan.width + j) reader.position) (code_bit (code_in plan n) j)) ≡ true
+        by_place y has true e = refl
+        by_place y has false e = bits_same (bit_in log (x * plan.width + j) y.position) (code_bit (code_in plan n) j) (bit_is y has e)
+
+  -- a net shows the expected bits where none of the digits of its cells has a mark
+  pub unmarked_shows : (n : ℕ) → n < length board.nets → are_marked marks (readers_in plan n) ≡ false → ShowsOn board plan None log n
+  unmarked_shows n within unmarked x less =
+      let net = some_at board.nets n within in
+      let pass = some_at plan.passes x less in
+      subst (λ (q : List Ctl). NetShows board plan None log (x * plan.width) q n) (sym (get_or_from_slice_get plan.passes x pass.0 [] pass.1))
+      (by_driver net.0 net.1 pass.0 pass.1 (driver_in plan pass.0 n) refl)
+    where
+      by_driver : (net : Net) → slice_get board.nets n ≡ Some net → (pass : List Ctl) → slice_get plan.passes x ≡ Some pass → (o : Option NetDriver) → driver_in plan pass n ≡ o →
+          ShowBy log (x * plan.width) plan.width (code_in plan n) (readers_in plan n) Plain o
+      by_driver net is_net pass stands None e = tt
+      by_driver net is_net pass stands (Some d) e = λ j j_less. cells_expected n unmarked x less net is_net pass stands d e j j_less
+
+-- one pass more is gone through
+pub pass_more : (board : RawBoard) (plan : PlanTables) (log : List (List Bool)) (x : ℕ) (old new : List ℕ) → AreMarks board plan log x old → MarkRows board plan log x plan.width old new → AreMarks board plan log (x + 1) new
+pass_more board plan log x old new are more at within unmarked pass less = by_pass (cases_eq pass x)
+  where
+    by_pass : (pass ≡ x) ⊎ (pass ≡ x → ⊥) → (j : ℕ) → j < plan.width → HasExpected board plan log pass j at
+    by_pass (inl same) j below = subst (λ (i : ℕ). HasExpected board plan log i j at) (sym same) ((more at within unmarked).1 j below)
+    by_pass (inr differ) j below = are at within ((more at within unmarked).0) pass (lower differ) j below
+      where
+        lower : (pass ≡ x → ⊥) → pass < x
+        lower ne = grind arith

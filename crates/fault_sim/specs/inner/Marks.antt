@@ -1,0 +1,54 @@
+-- What serves the proofs alone. Marks of the digits of a log's rows in which some compared bit is not the expected one.
+use Rattle.std.specs.Prelude.{◌≡◌, ℕ, suc, ◌+◌, ◌*◌, ◌/◌, ◌<◌, ◌==◌, Bool, true, false, not, List, length, slice_index_or}
+use Rattle.std.specs.List.{list_any}
+use Rattle.board_defs.specs.declared.board.RawBoard.{RawBoard}
+use Rattle.board_defs.specs.Pins.{data_bits}
+use Rattle.tap_defs.specs.chain.Scan.{joined, tdo_bits, mask_bits}
+use Rattle.tap_defs.specs.board.BoardScans.{row_bits}
+use Rattle.scan_planner.specs.declared.tables.ReaderCell.{ReaderCell}
+use Rattle.scan_planner.specs.declared.tables.PlanTables.{PlanTables}
+use Rattle.scan_planner.specs.Plans.{IsRoom, scan_of_pass}
+use Rattle.fault_sim.specs.declared.marks.ScanRows.{ScanRows}
+use Rattle.fault_sim.specs.Fits.{bit_in}
+
+-- the rows have room for each scan of the board
+pub record HaveRoom (board : RawBoard) (rows : ScanRows) : Type 0 where
+  pub tdi : IsRoom board rows.tdi.room
+  pub tdo : IsRoom board rows.tdo.room
+  pub mask : IsRoom board rows.mask.room
+
+-- the bits of TDO and MASK in the scan that compares row j of pass x
+abbrev pub expected_in : RawBoard → PlanTables → ℕ → ℕ → List Bool
+expected_in board plan x j = tdo_bits (joined (row_bits board (scan_of_pass board plan x (suc j))))
+
+abbrev pub compared_in : RawBoard → PlanTables → ℕ → ℕ → List Bool
+compared_in board plan x j = mask_bits (joined (row_bits board (scan_of_pass board plan x (suc j))))
+
+-- where they have the bits of such a scan
+pub record CompareAt (board : RawBoard) (plan : PlanTables) (x j : ℕ) (rows : ScanRows) : Type 0 where
+  pub tdo_length : length rows.tdo.bits ≡ data_bits board
+  pub mask_length : length rows.mask.bits ≡ data_bits board
+  pub bits : (at : ℕ) → slice_index_or (compared_in board plan x j) at false ≡ true →
+      (slice_index_or rows.mask.bits at false ≡ true) × (slice_index_or (expected_in board plan x j) at false ≡ slice_index_or rows.tdo.bits at false)
+
+-- if row j of pass x is compared at a position, the log has the expected bit there
+abbrev pub HasExpected : RawBoard → PlanTables → List (List Bool) → ℕ → ℕ → ℕ → Type 0
+HasExpected board plan log x j at = slice_index_or (compared_in board plan x j) at false ≡ true → bit_in log (x * plan.width + j) at ≡ slice_index_or (expected_in board plan x j) at false
+
+-- the digit of a position has no mark
+abbrev pub IsUnmarked : List ℕ → ℕ → Type 0
+IsUnmarked marks at = slice_index_or marks (at / 4) 0 ≡ 0
+
+-- a position whose digit is left unmarked by row j of pass x, by the first so many rows of the pass, and by the first so many passes
+abbrev pub MarkRow : RawBoard → PlanTables → List (List Bool) → ℕ → ℕ → List ℕ → List ℕ → Type 0
+MarkRow board plan log x j old new = (at : ℕ) → at < data_bits board → IsUnmarked new at → IsUnmarked old at × HasExpected board plan log x j at
+
+abbrev pub MarkRows : RawBoard → PlanTables → List (List Bool) → ℕ → ℕ → List ℕ → List ℕ → Type 0
+MarkRows board plan log x rows old new = (at : ℕ) → at < data_bits board → IsUnmarked new at → IsUnmarked old at × ((j : ℕ) → j < rows → HasExpected board plan log x j at)
+
+abbrev pub AreMarks : RawBoard → PlanTables → List (List Bool) → ℕ → List ℕ → Type 0
+AreMarks board plan log passes marks = (at : ℕ) → at < data_bits board → IsUnmarked marks at → (x : ℕ) → x < passes → (j : ℕ) → j < plan.width → HasExpected board plan log x j at
+
+-- a digit of some of these cells has a mark
+abbrev pub are_marked : List ℕ → List ReaderCell → Bool
+are_marked marks readers = list_any (λ r. not (slice_index_or marks (r.position / 4) 0 == 0)) readers
