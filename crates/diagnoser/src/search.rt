@@ -58,7 +58,8 @@ fn first_of(search: Search<'_>, piece: u32) -> u64
     ensures value { result ≡ first_of search.entry piece }
     ensures within { result ≤ length search.entry.suspects.now }
 {
-    u64::from(piece) * search.suspects.count() / u64::from(search.pieces)
+    let sum = u128::from(piece) * u128::from(search.suspects.count());
+    (sum / u128::from(search.pieces)) as u64
 }
 
 // What a piece finds.

@@ -1,5 +1,5 @@
 -- What a search for the faults that explain a log finds.
-use Rattle.std.specs.Prelude.{◌≡◌, ℕ, ◌+◌, ◌-◌, ◌*◌, ◌/◌, ◌^◌, ◌<◌, List, length, take, drop, filter_map, All}
+use Rattle.std.specs.Prelude.{◌≡◌, ℕ, ◌+◌, ◌-◌, ◌*◌, ◌/◌, ◌<◌, List, length, take, drop, filter_map, All}
 use Rattle.board_defs.specs.declared.board.RawBoard.{RawBoard}
 use Rattle.board_defs.specs.declared.fault.Single.{Single}
 use Rattle.board_defs.specs.Passes.{passes_of}
@@ -20,7 +20,6 @@ pub record IsSearch (s : Search) : Type 0 where
   pub differing : AreDiffering s.board.now s.plan.now s.log.now s.nets.now
   pub universe : IsUniverse s.board.now s.universe.now
   pub suspects : AreSuspects s.board.now s.plan.now s.universe.now s.log.now s.suspects.now
-  pub few : length s.suspects.now < 2 ^ 32
   pub some : 0 < s.pieces
 
 -- the faults at the candidates from one up to but without another
