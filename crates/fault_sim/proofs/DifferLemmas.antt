@@ -25,7 +25,7 @@ use Rattle.scan_planner.specs.Plans.{IsPlanOf}
 use Rattle.scan_planner.proofs.FillLemmas.{some_at}
 use Rattle.fault_sim.specs.Effects.{driver_in, readers_in, code_in}
 use Rattle.fault_sim.specs.declared.effect.Effect.TheVariants.{Plain}
-use Rattle.fault_sim.specs.Fits.{bit_in, cell_shows, ShowBy, NetShows, Shows, ShowsOn, ShowsAll}
+use Rattle.fault_sim.specs.Fits.{bit_in, cell_shows, ShowBy, NetShows, ShowsOn, ShowsAll}
 use Rattle.fault_sim.specs.inner.Tested.{coded_nets}
 use Rattle.fault_sim.specs.Suspects.{AreDiffering}
 use Rattle.fault_sim.specs.inner.Suspects.{AreFlags, flagged_nets, covered_place}

@@ -1,14 +1,14 @@
 -- Marks of digits, and the nets that show the expected bits where they have none.
-use Rattle.std.proofs.Common.{◌≡◌, ◌⊎◌, inl, inr, ℕ, zero, suc, ◌+◌, ◌-◌, ◌*◌, ◌/◌, ◌%◌, ◌<◌, ◌≤◌, ◌==◌, Bool, true, false, cond, not, ◌||◌, List, [], ◌∷◌, length, map, get_or, set, min, max, Option, Some, None, is_some, unwrap_or, refl, sym, ap, ◌∙◌, subst, arith}
-use Rattle.std.specs.Prelude.{slice_get, All}
-use Rattle.std.specs.List.{list_all, list_any}
+use Rattle.std.proofs.Common.{◌≡◌, ◌⊎◌, inl, inr, ℕ, zero, suc, ◌+◌, ◌-◌, ◌*◌, ◌/◌, ◌%◌, ◌<◌, ◌≤◌, ◌==◌, Bool, true, false, not, ◌||◌, List, [], ◌∷◌, length, get_or, set, min, max, Option, Some, None, is_some, unwrap_or, refl, sym, ap, ◌∙◌, subst, arith}
+use Rattle.std.specs.Prelude.{slice_get}
+use Rattle.std.specs.List.{list_all}
 use Rattle.std.specs.Int.{bit_at}
 use Rattle.std.specs.Int.Bits.{bit_and, bit_or, bit_xor}
 use Rattle.std.proofs.lemmas.Bool.{eqb-true, both_ways, cases_eq}
 use Rattle.std.proofs.lemmas.Nat.{mul-add-lt}
 use Rattle.std.proofs.lemmas.Nat.Bits.{bit_at-zero, bit_at-lt, bit_at_and, bit_at_or, bit_at_xor, same_from_bits}
 use Rattle.std.proofs.lemmas.List.{length-map, get_or-set_same, get_or-set_other}
-use Rattle.std.proofs.lemmas.Option.{get_or_from_slice_get, slice_get_within}
+use Rattle.std.proofs.lemmas.Option.{get_or_from_slice_get}
 use Rattle.bt_bits.specs.Digits.{digit_bit, digits_of}
 use Rattle.bt_bits.proofs.DigitLemmas.{digits_of-get}
 use Rattle.board_defs.specs.declared.board.Net.{Net}
@@ -19,22 +19,22 @@ use Rattle.board_defs.specs.Pins.{data_bits, is_same}
 use Rattle.board_defs.proofs.Members.{Has, has_at, has_any}
 use Rattle.board_defs.proofs.Places.{all_from}
 use Rattle.tap_defs.specs.declared.scan.Shape.{Shape}
-use Rattle.tap_defs.specs.chain.Scan.{ScanBit, Scan, joined, tdi_bits, tdo_bits, mask_bits, scan_bits}
-use Rattle.tap_defs.specs.board.TestRows.{code_row, code_bit, code_of_net, net_code_bit, expect_bit}
-use Rattle.tap_defs.specs.board.BoardScans.{RowScan, row_bits, scan_of_row, row_now, row_before, test_scans, AreTestScans}
+use Rattle.tap_defs.specs.chain.Scan.{ScanBit, Scan, joined, tdo_bits, mask_bits, scan_bits}
+use Rattle.tap_defs.specs.board.TestRows.{code_row, code_bit, net_code_bit, expect_bit}
+use Rattle.tap_defs.specs.board.BoardScans.{row_bits, scan_of_row, row_now, row_before, test_scans, AreTestScans}
 use Rattle.response_log.specs.Kept.{AreRowDigits}
 use Rattle.scan_planner.specs.declared.nets.NetDriver.{NetDriver}
 use Rattle.scan_planner.specs.declared.tables.ReaderCell.{ReaderCell}
 use Rattle.scan_planner.specs.declared.tables.PlanTables.{PlanTables}
 use Rattle.scan_planner.specs.Tables.{first_position}
-use Rattle.scan_planner.specs.Plans.{IsPlanOf, FillsScan, scan_of_pass, scan_count}
+use Rattle.scan_planner.specs.Plans.{IsPlanOf, FillsScan, scan_of_pass}
 use Rattle.scan_planner.proofs.LaidLemmas.{laid_at, length-laid, tdi_laid, tdo_laid, mask_laid}
 use Rattle.scan_planner.proofs.FillLemmas.{some_at}
 use Rattle.fault_sim.specs.declared.effect.Effect.TheVariants.{Plain}
 use Rattle.fault_sim.specs.declared.marks.ScanRows.{ScanRows}
 use Rattle.fault_sim.specs.Effects.{readers_in, code_in, driver_in}
-use Rattle.fault_sim.specs.Fits.{bit_in, cell_shows, ShowBy, NetShows, Shows, ShowsOn}
-use Rattle.fault_sim.specs.inner.Marks.{CompareAt, HasExpected, IsUnmarked, MarkRows, AreMarks, are_marked, compared_in, expected_in}
+use Rattle.fault_sim.specs.Fits.{bit_in, cell_shows, ShowBy, NetShows, ShowsOn}
+use Rattle.fault_sim.specs.inner.Marks.{CompareAt, HasExpected, MarkRows, AreMarks, are_marked, compared_in, expected_in}
 use Rattle.fault_sim.proofs.ShowLemmas.{ComparedCell, compared_cell, bits_same}
 
 -- numbers that agree wherever a third has a 1

@@ -19,7 +19,7 @@ use Rattle.board_defs.specs.Settings.{holds}
 use Rattle.board_defs.proofs.Members.{Has, has_at, has_place, has_any, all_has, contains_has, has_contains}
 use Rattle.board_defs.proofs.Places.{all_from, all_stands}
 use Rattle.tap_defs.specs.board.NetBits.{Place, place_of}
-use Rattle.tap_defs.specs.board.TestRows.{TestRow, quiet_row, code_row, code_bit, code_of_net, net_code_bit, code_width, observed_count, observing_driver, only_if, expect_bit, expect_entry, expect_pin, expect_place, expect_observed}
+use Rattle.tap_defs.specs.board.TestRows.{TestRow, code_row, code_bit, code_of_net, net_code_bit, observing_driver, only_if, expect_entry, expect_pin, expect_place, expect_observed}
 use Rattle.tap_defs.specs.board.BoardScans.{RowScan, row_now}
 use Rattle.tap_defs.specs.board.Explaining.{CompareRows, IsCompared, ShowsBits, compared_scans, cell_position}
 use Rattle.tap_defs.proofs.board.LiveLemmas.{on_is}

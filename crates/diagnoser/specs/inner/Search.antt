@@ -1,6 +1,5 @@
 -- What a search for the faults that explain a log finds.
-use Rattle.std.specs.Prelude.{◌≡◌, ℕ, ◌+◌, ◌-◌, ◌*◌, ◌/◌, ◌<◌, List, length, take, drop, filter_map, All}
-use Rattle.board_defs.specs.declared.board.RawBoard.{RawBoard}
+use Rattle.std.specs.Prelude.{◌≡◌, ℕ, ◌-◌, ◌*◌, ◌/◌, ◌<◌, List, length, take, drop, filter_map, All}
 use Rattle.board_defs.specs.declared.fault.Single.{Single}
 use Rattle.board_defs.specs.Passes.{passes_of}
 use Rattle.board_defs.specs.Pins.{data_bits}

@@ -1,6 +1,5 @@
-use Rattle.std.proofs.Common.{◌≡◌, Option, Some, None, true, false}
+use Rattle.std.proofs.Common.{◌≡◌, Some, None, true, false}
 use Rattle.std.specs.Prelude.{slice_get}
-use Rattle.board_defs.specs.declared.fault.Single.{Single}
 use Rattle.fault_sim.specs.Places.{places_of}
 use Rattle.fault_sim.proofs.OrderLemmas.{place_single}
 use Rattle.diagnoser.proofs.CutLemmas.{found_none, found_one}

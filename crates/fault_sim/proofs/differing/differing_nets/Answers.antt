@@ -1,5 +1,3 @@
-use Rattle.std.proofs.Common.{Bool, List, ap, ◌∙◌, sym, subst}
-use Rattle.fault_sim.specs.Suspects.{AreDiffering}
 use Rattle.fault_sim.specs.inner.Suspects.{flagged_nets}
 use Rattle.fault_sim.proofs.DifferLemmas.{found_differ}
 use Rattle.fault_sim.proofs.differing.differing_nets.Goals as goal

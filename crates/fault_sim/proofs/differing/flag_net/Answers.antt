@@ -1,5 +1,4 @@
-use Rattle.std.proofs.Common.{◌+◌, Bool, List, sym, subst, arith}
-use Rattle.fault_sim.specs.inner.Suspects.{AreFlags}
+use Rattle.std.proofs.Common.{arith}
 use Rattle.fault_sim.proofs.DifferLemmas.{flag_more}
 use Rattle.fault_sim.proofs.differing.flag_net.Goals as goal
 

@@ -1,4 +1,4 @@
-use Rattle.std.proofs.Common.{List, refl, sym, subst, ◌∙◌, ap}
+use Rattle.std.proofs.Common.{List, refl, sym, ◌∙◌, ap}
 use Rattle.scan_planner.specs.declared.tables.ReaderCell.{ReaderCell}
 use Rattle.fault_sim.specs.inner.Marks.{are_marked}
 use Rattle.fault_sim.proofs.MarkLemmas.{unmarked_shows}

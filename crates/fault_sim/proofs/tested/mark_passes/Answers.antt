@@ -1,4 +1,4 @@
-use Rattle.std.proofs.Common.{◌≡◌, ◌∙◌, drop, sym}
+use Rattle.std.proofs.Common.{◌∙◌, drop, sym}
 use Rattle.fault_sim.proofs.TestedLemmas.{passes_kept}
 use Rattle.fault_sim.proofs.tested.mark_passes.Goals as goal
 
