@@ -13,8 +13,8 @@ use Rattle.btest_cli.proofs.TestLemmas.{rows_are}
 use Rattle.btest_cli.proofs.VerdictLemmas.{is_right}
 use Rattle.btest_cli.proofs.log_diagnosis.put_diagnosis.Goals as goal
 
-pub none_differs-requires-clause-differing : goal.none_differs-requires-clause-differing
-none_differs-requires-clause-differing g c =
+pub none_differs-pass-requires-clause-differing : goal.none_differs-pass-requires-clause-differing
+none_differs-pass-requires-clause-differing g c =
     subst (λ (nets : List ℕ). AreDiffering c.args.planned.now.board c.args.planned.now.plan c.in-Ok.log nets) (sym c.deref.ensures.value) c.in-Ok-differing_nets.ensures
 
 pub diagnose_by-requires-clause-differing : goal.diagnose_by-requires-clause-differing
