@@ -2,6 +2,7 @@
 # Times the program on large inputs. Usage: bench.sh PROGRAM
 set -eu
 program=$(realpath "$1")
+here=$(realpath "$0")
 work=$(mktemp -d)
 trap 'rm -rf "$work"' EXIT
 cd "$work"
@@ -195,6 +196,9 @@ awk 'function add(bit) {
         print made(12, 1)
     }' >lot.log
 
+# Boards whose nets have several drivers each.
+python3 "$(dirname "$here")/shapes.py" .
+
 # The user time of a run, which is little changed by what else the machine does.
 figure() {
     local name=$1 user
@@ -222,6 +226,11 @@ figure 'svf, 16,256 covered nets' svf mesh.chain mesh.nets mesh.bsd
 figure 'cover, 16,256 nets of two drivers' cover twin.chain twin.nets twin.bsd
 figure 'svf, 16,256 nets of two drivers' svf twin.chain twin.nets twin.bsd
 figure 'svf, a bus of 2,000 drivers' svf long.chain long.nets long.bsd
+for shape in eight sixty-four many own quarter linked woven pairs added; do
+    figure "cover, shape $shape" cover "$shape".{chain,nets,bsd}
+    # The test of a bus of 10,000 drivers is too long.
+    [ "$shape" = woven ] || figure "svf, shape $shape" svf "$shape".{chain,nets,bsd}
+done
 
 # The elapsed time of a run with one worker and with four.
 workers() {

@@ -36,7 +36,7 @@ use Rattle.net_classes.proofs.SharedLemmas.{driven_has}
 use Rattle.net_classes.proofs.Truth.{and_intro, and_left, and_right, any_map}
 
 -- one net more
-pins_drive : (board : RawBoard) (c : Ctl) (net : Option Net) → list_any (λ (pin : PinFacts). is_by c pin.drive) (pins_there board net) ≡ drives_there board c net
+pub pins_drive : (board : RawBoard) (c : Ctl) (net : Option Net) → list_any (λ (pin : PinFacts). is_by c pin.drive) (pins_there board net) ≡ drives_there board c net
 pins_drive board c None = refl
 pins_drive board c (Some net) = any_map (pin_facts_of board net) (λ (pin : PinFacts). is_by c pin.drive) net.pins
 
@@ -61,7 +61,7 @@ tested_in board net c has = let t : Tested board net (By c) = tested_has board n
     by_pin place None e h = cc h
     by_pin place (Some p) e h = any_at (λ (p : NetPin). is_by c (drive board net p)) net.pins place p e (is_by_drive c (drive board net p) h)
 
-all_on : {X : Type 0} (p q : X → Bool) (xs : List X) → ((x : X) → Has xs x → p x ≡ true → q x ≡ true) → list_all p xs ≡ true → list_all q xs ≡ true
+pub all_on : {X : Type 0} (p q : X → Bool) (xs : List X) → ((x : X) → Has xs x → p x ≡ true → q x ≡ true) → list_all p xs ≡ true → list_all q xs ≡ true
 all_on p q [] f h = refl
 all_on p q (x ∷ xs) f h = and_intro (q x) (list_all q xs) (f x (inl refl) (and_left (p x) (list_all p xs) h)) (all_on p q xs (λ y k. f y (inr k)) (and_right (p x) (list_all p xs) h))
 
@@ -148,8 +148,9 @@ nobody (By c ∷ ds) h = cc h
 pub nothing_closed : (board : RawBoard) → AreClosed board [] []
 nothing_closed board n = (λ h. absurd (nobody (drivers_at board n) h), λ h. absurd (contains_has {X = ℕ} [] n h))
 
-pub no_closed_nets : (board : RawBoard) (closed : ClosedNets) → closed.by ≡ [] → closed.nets ≡ [] → IsSet board (λ c. false) closed.set → AreClosedNets board closed
-no_closed_nets board closed e f is = record {
+pub no_closed_nets : (board : RawBoard) (closed : ClosedNets) → closed.by ≡ [] → closed.nets ≡ [] → IsSet board (λ c. false) closed.set → IsSet board (λ c. false) closed.others → AreClosedNets board closed
+no_closed_nets board closed e f is others = record {
+  others_are = record { passes = λ c. false; is_set = others };
   set_is = let P : List ℕ → Type 0 = λ v. IsSet board (drives_some board v) closed.set in subst P (sym e) is;
   nets_are = let P : List ℕ → Type 0 = λ v. AreClosed board v closed.nets in let Q : List ℕ → Type 0 = λ v. AreClosed board [] v in subst P (sym e) (subst Q (sym f) (nothing_closed board));
 }

@@ -17,6 +17,7 @@ pub mod DriverPairs
 pub mod ControlSetLemmas
 pub mod KnownLemmas
 pub mod ClosedLemmas
+pub mod OtherControls
 pub mod PairRowLemmas
 pub mod ClosedRows
 pub mod PutRows

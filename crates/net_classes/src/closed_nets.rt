@@ -1,10 +1,11 @@
 // The nets whose tested drivers all have controls that drive one of some nets.
-ghost use Rattle.std.specs.Prelude.{◌≡◌, ◌&&◌, ◌||◌, ◌++◌, Bool, filter, slice_get, IfOk, OnOk};
-ghost use Rattle.std.specs.List.{list_all, list_any};
+ghost use Rattle.std.specs.Prelude.{◌≡◌, ◌<◌, ◌&&◌, ◌||◌, ◌++◌, ◌∷◌, [], Bool, Contains, filter, length, not, slice_get, IfOk, OnOk};
+ghost use Rattle.std.specs.List.{flat_map, list_all, list_any};
 ghost use Rattle.board_defs.specs.declared.board.Ctl.{Ctl};
 ghost use Rattle.board_defs.specs.declared.board.RawBoard.{RawBoard};
+ghost use Rattle.board_defs.specs.Settings.{same_ctl};
 ghost use Rattle.board_defs.specs.Decided.{is_by};
-ghost use Rattle.net_classes.specs.inner.Closed.{AreClosed, AreClosedNets, IsKnown, closed_in, closes, driven_in, drives_some, is_by_one};
+ghost use Rattle.net_classes.specs.inner.Closed.{AreClosed, AreClosedNets, AreOthers, IsKnown, closed_beside, closed_in, closes, closes_beside, driven_in, drives_some, has_either, is_by_one};
 ghost use Rattle.net_classes.specs.inner.ControlSets.{IsSet, has_control};
 
 use crate::control_sets::ControlSet;
@@ -59,6 +60,137 @@ fn are_by_members(set: &ControlSet, drivers: &[Drive]) -> bool
     drivers.iter().all(|d| is_by_member(set, *d))
 }
 
+fn add_other(
+    others: &mut ControlSet,
+    set: &ControlSet,
+    drive: Option<Drive>,
+) -> Result<(), AllocError>
+    ensures { (board : RawBoard) (passes : Ctl → Bool) → IsSet board passes others.old → OnOk result (IsSet board (λ c. passes c || (is_by c drive && not (has_control set.now c))) others.new) }
+{
+    match drive {
+        Some(Drive::By(c)) => add_outside(others, set, c),
+        _ => Ok(()),
+    }
+}
+
+/// Adds the control, where the other set has it not.
+fn add_outside(others: &mut ControlSet, set: &ControlSet, c: Ctl) -> Result<(), AllocError>
+    ensures { (board : RawBoard) (passes : Ctl → Bool) → IsSet board passes others.old → OnOk result (IsSet board (λ d. passes d || (same_ctl c d && not (has_control set.now d))) others.new) }
+{
+    if set.has(c) {
+        return Ok(());
+    }
+    others.insert(c)?;
+    Ok(())
+}
+
+fn add_other_pins(
+    others: &mut ControlSet,
+    set: &ControlSet,
+    pins: &[PinFacts],
+) -> Result<(), AllocError>
+    ensures { (board : RawBoard) (passes : Ctl → Bool) → IsSet board passes others.old → OnOk result (IsSet board (λ c. passes c || list_any (λ pin. is_by c pin.drive && not (has_control set.now c)) pins.now) others.new) }
+{
+    for pin in pins {
+        add_other(others, set, pin.drive)?;
+    }
+    Ok(())
+}
+
+/// Makes the second set that of the controls with a driver on one of the nets, but for those of the
+/// first, which has the controls with a driver on net `core`.
+fn gather_others(
+    others: &mut ControlSet,
+    set: &ControlSet,
+    known: Known<'_>,
+    core: u32,
+    nets: &[u32],
+) -> Result<(), AllocError>
+    requires known { IsKnown known }
+    requires set { IsSet known.board.now (drives_some known.board.now (core ∷ [])) set.now }
+    ensures { (passes : Ctl → Bool) → IsSet known.entry.board.now passes others.old → OnOk result (AreOthers known.entry.board.now set.now nets.now others.new) }
+{
+    others.clear();
+    for net in nets {
+        if *net != core {
+            add_other_pins(others, set, known.pins(*net))?;
+        }
+    }
+    Ok(())
+}
+
+fn is_by_either(set: &ControlSet, others: &ControlSet, d: Drive) -> bool
+    ensures { result ≡ is_by_one (has_either set.now others.now) d }
+{
+    match d {
+        Drive::By(c) => set.has(c) || others.has(c),
+        _ => false,
+    }
+}
+
+fn are_by_either(set: &ControlSet, others: &ControlSet, drivers: &[Drive]) -> bool
+    ensures { result ≡ list_all (is_by_one (has_either set.now others.now)) drivers.now }
+{
+    drivers.iter().all(|d| is_by_either(set, others, *d))
+}
+
+fn closes_beside(set: &ControlSet, others: &ControlSet, known: Known<'_>, net: u32) -> bool
+    requires { IsKnown known }
+    ensures { result ≡ closes_beside known.entry.board.now set.now others.now net }
+{
+    let drivers = known.drivers(net);
+    drivers.len() > 0 && are_by_either(set, others, drivers)
+}
+
+fn add_closed_by(
+    nets: &mut NetNumbers,
+    set: &ControlSet,
+    others: &ControlSet,
+    known: Known<'_>,
+    c: Ctl,
+) -> Result<(), AllocError>
+    requires { IsKnown known }
+    ensures { OnOk result (nets.new ≡ nets.old ++ closed_beside known.entry set.now others.now c) }
+{
+    for net in known.driven(c) {
+        push_if(nets, *net, closes_beside(set, others, known, *net))?;
+    }
+    Ok(())
+}
+
+/// The nets that one set closes, and those with a driver of the other set that both close together.
+fn closed_by_both(
+    alloc: Global,
+    closed: &[u32],
+    set: &ControlSet,
+    others: &ControlSet,
+    known: Known<'_>,
+) -> Result<NetNumbers, AllocError>
+    requires { IsKnown known }
+    ensures { IfOk result (λ nets. nets ≡ closed.now ++ flat_map (closed_beside known.entry set.now others.now) others.now.members.items) }
+{
+    let mut nets = NetNumbers::copy_of(alloc, closed)?;
+    for c in &others.members {
+        add_closed_by(&mut nets, set, others, known, *c)?;
+    }
+    Ok(nets)
+}
+
+/// Of the nets, one with the most pins.
+fn core_of(known: Known<'_>, nets: &[u32]) -> u32
+    requires known { IsKnown known }
+    requires some { 0 < length nets.now }
+    ensures { Contains nets.now result }
+{
+    let mut core = nets[0];
+    for net in nets {
+        if known.pins(*net).len() > known.pins(core).len() {
+            core = *net;
+        }
+    }
+    core
+}
+
 fn closes(set: &ControlSet, known: Known<'_>, c: Ctl, net: u32) -> bool
     requires { IsKnown known }
     ensures { result ≡ closes known.entry.board.now set.now c net }
@@ -109,12 +241,14 @@ fn closed_nets(
 }
 
 /// The nets that are closed by some nets, kept until others are asked for: many controls share the
-/// same nets.
+/// same nets, or a bus.
 #[derive(Drop)]
 pub struct ClosedNets {
     pub(crate) by: NetNumbers,
     pub(crate) set: ControlSet,
     pub(crate) nets: NetNumbers,
+    /// Room for the controls of other nets.
+    pub(crate) others: ControlSet,
 }
 
 impl ClosedNets {
@@ -127,16 +261,55 @@ impl ClosedNets {
             by: NetNumbers::new(alloc),
             set: ControlSet::new(alloc, known.shared)?,
             nets: NetNumbers::new(alloc),
+            others: ControlSet::new(alloc, known.shared)?,
         })
     }
 
-    /// Turns to those that are closed by these nets.
-    pub fn turn_to(
+    /// Those that are closed by these nets. Where one of them is a bus that has most of the
+    /// controls, what it closes is kept for the next nets.
+    pub fn closed_by(
         &mut self,
         alloc: Global,
         known: Known<'_>,
         nets: &[u32],
-    ) -> Result<(), AllocError>
+    ) -> Result<NetNumbers, AllocError>
+        requires known { IsKnown known }
+        requires some { 0 < length nets.now }
+        requires closed { AreClosedNets known.board.now self.old }
+        ensures closed { OnOk result (AreClosedNets known.entry.board.now self.new) }
+        ensures nets { IfOk result (λ closed. AreClosed known.entry.board.now nets.now closed) }
+    {
+        if self.by.as_slice() == nets {
+            return NetNumbers::copy_of(alloc, self.nets.as_slice());
+        }
+        let core = core_of(known, nets);
+        self.turn_to(alloc, known, &[core])?;
+        gather_others(&mut self.others, &self.set, known, core, nets)?;
+        if self.others.members.len() > self.set.members.len() / 8 {
+            return self.closed_anew(alloc, known, nets);
+        }
+        let closed = self.nets.as_slice();
+        let both = closed_by_both(alloc, closed, &self.set, &self.others, known)?;
+        Ok(both)
+    }
+
+    fn closed_anew(
+        &mut self,
+        alloc: Global,
+        known: Known<'_>,
+        nets: &[u32],
+    ) -> Result<NetNumbers, AllocError>
+        requires known { IsKnown known }
+        requires closed { AreClosedNets known.board.now self.old }
+        ensures closed { OnOk result (AreClosedNets known.entry.board.now self.new) }
+        ensures nets { IfOk result (λ closed. AreClosed known.entry.board.now nets.now closed) }
+    {
+        self.turn_to(alloc, known, nets)?;
+        NetNumbers::copy_of(alloc, self.nets.as_slice())
+    }
+
+    /// Turns to those that are closed by these nets.
+    fn turn_to(&mut self, alloc: Global, known: Known<'_>, nets: &[u32]) -> Result<(), AllocError>
         requires known { IsKnown known }
         requires closed { AreClosedNets known.board.now self.old }
         ensures closed { OnOk result (AreClosedNets known.entry.board.now self.new) }

@@ -196,8 +196,8 @@ fn add_control(
     if shared.len() == 0 {
         return put_row(pairs, known, c, None);
     }
-    closed.turn_to(alloc, known, shared)?;
-    let row = row_for(alloc, known, &pairs.rows[0], closed.nets.as_slice(), c)?;
+    let nets = closed.closed_by(alloc, known, shared)?;
+    let row = row_for(alloc, known, &pairs.rows[0], nets.as_slice(), c)?;
     put_row(pairs, known, c, row)
 }
 

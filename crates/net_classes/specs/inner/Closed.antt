@@ -1,5 +1,5 @@
 -- Nets whose tested drivers all have controls that drive one of some nets: no control that shares these nets is on together with one of them, but for its own.
-use Rattle.std.specs.Prelude.{◌≡◌, ℕ, Bool, false, ◌&&◌, List, [], ◌∷◌, Option, None, Some, map, filter, slice_get, Contains}
+use Rattle.std.specs.Prelude.{◌≡◌, ℕ, Bool, true, false, ◌&&◌, ◌||◌, List, [], ◌∷◌, Option, None, Some, map, filter, length, nat_lt, slice_get, Contains}
 use Rattle.std.specs.Bool.{Decides}
 use Rattle.std.specs.List.{list_any, list_all, flat_map}
 use Rattle.board_defs.specs.declared.board.Ctl.{Ctl}
@@ -72,7 +72,32 @@ closes board set c n = is_by c (slice_get (drivers_at board n) 0) && list_all (i
 abbrev pub closed_in : Known → ControlSet → List Ctl → List ℕ
 closed_in known set controls = flat_map (λ c. filter (closes known.board.now set c) (driven_in known c)) controls
 
+-- the control is in one of the two sets
+abbrev pub has_either : ControlSet → ControlSet → Ctl → Bool
+has_either set others c = has_control set c || has_control others c
+
+-- the net is covered, and all its tested drivers are controlled by controls of the two sets
+abbrev pub closes_beside : RawBoard → ControlSet → ControlSet → ℕ → Bool
+closes_beside board set others n = nat_lt 0 (length (drivers_at board n)) && list_all (is_by_one (has_either set others)) (drivers_at board n)
+
+-- such nets that the control drives
+abbrev pub closed_beside : Known → ControlSet → ControlSet → Ctl → List ℕ
+closed_beside known set others c = filter (closes_beside known.board.now set others) (driven_in known c)
+
+-- the second set has those controls with a driver on one of the nets that the first one has not
+pub record AreOthers (board : RawBoard) (set : ControlSet) (nets : List ℕ) (others : ControlSet) : Type 0 where
+  pub passes : Ctl → Bool
+  pub are_set : IsSet board passes others
+  pub drive : (c : Ctl) → passes c ≡ true → drives_some board nets c ≡ true
+  pub all : (c : Ctl) → IsCell board c → drives_some board nets c ≡ true → has_control set c ≡ false → passes c ≡ true
+
+-- a set of some controls
+pub record IsSomeSet (board : RawBoard) (set : ControlSet) : Type 0 where
+  pub passes : Ctl → Bool
+  pub is_set : IsSet board passes set
+
 -- the closed nets are those by the nets, and the set that of their controls
 pub record AreClosedNets (board : RawBoard) (closed : ClosedNets) : Type 0 where
   pub set_is : IsSet board (drives_some board closed.by) closed.set
   pub nets_are : AreClosed board closed.by closed.nets
+  pub others_are : IsSomeSet board closed.others
