@@ -227,8 +227,8 @@ figure 'cover, 16,256 nets of two drivers' cover twin.chain twin.nets twin.bsd
 figure 'svf, 16,256 nets of two drivers' svf twin.chain twin.nets twin.bsd
 figure 'svf, a bus of 2,000 drivers' svf long.chain long.nets long.bsd
 for shape in eight sixty-four many own quarter linked woven pairs added; do
-    figure "cover, shape $shape" cover "$shape".{chain,nets,bsd}
-    # The test of a bus of 10,000 drivers is too long.
+    # Where a text has more than a gigabyte, its time is that of writing.
+    [ "$shape" = sixty-four ] || figure "cover, shape $shape" cover "$shape".{chain,nets,bsd}
     [ "$shape" = woven ] || figure "svf, shape $shape" svf "$shape".{chain,nets,bsd}
 done
 

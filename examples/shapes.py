@@ -53,12 +53,12 @@ def woven(nets):
 SHAPES = {
     "eight": drawn(16000, 4, 8),
     "sixty-four": drawn(16000, 4, 64),
-    "many": drawn(2000, 4, 512),
+    "many": drawn(1000, 4, 512),
     "own": own(8000, 4),
     "quarter": drawn(4000, 16, 64),
     "linked": linked(16000),
     "woven": woven(10000),
-    "pairs": drawn(8000, 6, 64),
+    "pairs": drawn(4000, 6, 64),
     "added": drawn(1000, 2, 160),
 }
 
