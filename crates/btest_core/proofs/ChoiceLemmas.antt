@@ -1,5 +1,5 @@
 -- The choices that are left.
-use Rattle.std.proofs.Common.{inl, inr, ◌⊎◌, ◌≡◌, ℕ, ◌+◌, ◌<◌, ◌≤◌, List, [], ◌∷◌, ◌++◌, map, drop, length, zip, slice_index_or, ap, sym, refl, ◌∙◌, subst, append_assoc, arith, Option, option_copied, Bor}
+use Rattle.std.proofs.Common.{inl, inr, ◌⊎◌, ◌≡◌, ℕ, ◌+◌, ◌<◌, ◌≤◌, List, [], ◌∷◌, ◌++◌, map, drop, length, zip, slice_index_or, slice_get, option_map, unwrap_or, zero, suc, Some, None, Ok, Err, ap, sym, refl, ◌∙◌, subst, append_assoc, arith, Option, option_copied}
 use Rattle.std.specs.List.{AllByRecursion, filter_map}
 use Rattle.std.proofs.lemmas.Slice.Zip.{length-zip}
 use Rattle.board_files.specs.declared.chain_file.ChainLine.{ChainLine}
@@ -7,28 +7,60 @@ use Rattle.board_files.specs.declared.chain_file.ChainStatement.{ChainStatement}
 use Rattle.board_files.specs.declared.chain_file.ChainStatement.TheVariants.{Device as DeviceLine, Bypass, Inert, Supply, Pull, Link}
 use Rattle.board_build.specs.Names.{named}
 use Rattle.board_build.specs.declared.names.Naming.TheVariants.{Entity as EntityName}
-use Rattle.std.proofs.lemmas.List.{drop_all, at_drop_more, length-map}
+use Rattle.std.proofs.Math.Seq.{drop-cons}
+use Rattle.std.proofs.lemmas.List.{drop_all, length-map}
+use Rattle.std.proofs.lemmas.Option.{slice_get-get_or, slice_get-map, none-some}
 use Rattle.board_defs.specs.declared.device.RawDevice.{RawDevice}
 use Rattle.bsdl_parser.specs.declared.entity.Entity.{Entity}
 use Rattle.btest_core.specs.DevicesRead.{Chosen, IsDeviceOf, package_in, chosen}
-use Rattle.btest_core.proofs.EachLemmas.{Completes}
+use Rattle.btest_core.specs.Answers.{EachOf}
+use Rattle.btest_core.specs.declared.fault.InputFault.{InputFault}
+use Rattle.btest_core.specs.inner.Choices.{Lent, choices_of, AreOfChoices}
+use Rattle.btest_core.proofs.EachLemmas.{Completes, completes_all, completes_more, completes_fault, completes_end}
 
--- a choice with its package in memory
-abbrev pub Lent : Type 0
-Lent = ℕ × Option (Bor (List ℕ))
+-- these are the devices of the first n choices, and what the other choices give completes them
+pub record Chooses (entities : List Entity) (choices : List Chosen) (n : ℕ) (front : List RawDevice) : Type 0 where
+  pub completes : Completes (IsDeviceOf entities) choices (drop n choices) front
+  pub devices : AreOfChoices entities choices front
 
-abbrev pub choices_of : List Lent → List Chosen
-choices_of chosen = map (λ choice. (choice.0, option_copied choice.1)) chosen
+pub chooses_none : (entities : List Entity) (choices : List Chosen) → Chooses entities choices 0 []
+chooses_none entities choices = record {
+  completes = completes_all (IsDeviceOf entities) choices;
+  devices = λ i choice device chosen there. absurd (none-some device there);
+}
 
--- what the choices that are left give completes the devices
-abbrev pub CompletesChoices : List Entity → List Lent → List Chosen → List RawDevice → Type 0
-CompletesChoices entities chosen rest front = Completes (IsDeviceOf entities) (choices_of chosen) rest front
+-- the devices of the choices with one more behind them
+of_more : (entities : List Entity) (choices : List Chosen) (front : List RawDevice) (device : RawDevice) → AreOfChoices entities choices front → ((choice : Chosen) → slice_get choices (length front) ≡ Some choice → IsDeviceOf entities choice (Ok device)) → AreOfChoices entities choices (front ++ device ∷ [])
+of_more entities [] front device are is i choice found chosen there = absurd (none-some choice chosen)
+of_more entities (first ∷ choices) [] device are is zero choice found chosen there = subst (λ d. IsDeviceOf entities choice (Ok d)) (ap (λ (o : Option RawDevice). unwrap_or o device) there) (is choice chosen)
+of_more entities (first ∷ choices) [] device are is (suc i) choice found chosen there = absurd (none-some found there)
+of_more entities (first ∷ choices) (d ∷ front) device are is zero choice found chosen there = are 0 choice found chosen there
+of_more entities (first ∷ choices) (d ∷ front) device are is (suc i) choice found chosen there = of_more entities choices front device (λ k. are (suc k)) is i choice found chosen there
 
-pub choices_left : (entities : List Entity) (chosen : List Lent) (n : ℕ) (front : List RawDevice) (d : Lent) → n < length chosen → CompletesChoices entities chosen (choices_of (drop n chosen)) front → CompletesChoices entities chosen (((slice_index_or chosen n d).0, option_copied (slice_index_or chosen n d).1) ∷ choices_of (drop (n + 1) chosen)) front
-choices_left entities chosen n front d within completes = subst (λ rest. CompletesChoices entities chosen rest front) (at_drop_more choices_of chosen n d within) completes
+-- the choice at a place before the end, and those behind it
+left_at : (choices : List Chosen) (n : ℕ) → n < length choices → drop n choices ≡ slice_index_or choices n (0, None) ∷ drop (n + 1) choices
+left_at choices n within = let next : n + 1 ≡ suc n = omega arith in rw next (drop-cons choices n (0, None) within)
 
-pub no_choices_left : (entities : List Entity) (chosen : List Lent) (n : ℕ) (front : List RawDevice) → length chosen ≤ n → CompletesChoices entities chosen (choices_of (drop n chosen)) front → CompletesChoices entities chosen [] front
-no_choices_left entities chosen n front past completes = subst (λ rest. CompletesChoices entities chosen (choices_of rest) front) (drop_all n chosen past) completes
+-- a choice with its package as a list
+pub choice_at : (chosen : List Lent) (n : ℕ) (d : Lent) (choice : Chosen) → n < length chosen → slice_get (choices_of chosen) n ≡ Some choice → ((slice_index_or chosen n d).0, option_copied (slice_index_or chosen n d).1) ≡ choice
+choice_at chosen n d choice within there =
+    let view : Lent → Chosen = λ lent. (lent.0, option_copied lent.1) in
+    let got : slice_get (map view chosen) n ≡ option_map view (slice_get chosen n) = slice_get-map view chosen n in
+    let item : slice_get chosen n ≡ Some (slice_index_or chosen n d) = slice_get-get_or chosen n d within in
+    let both : Some (view (slice_index_or chosen n d)) ≡ Some choice = sym (ap (option_map view) item) ∙ sym got ∙ there in
+    ap (λ (o : Option Chosen). unwrap_or o choice) both
+
+pub chooses_more : (entities : List Entity) (choices : List Chosen) (n : ℕ) (front : List RawDevice) (device : RawDevice) → n < length choices → length front ≡ n → Chooses entities choices n front → ((choice : Chosen) → slice_get choices n ≡ Some choice → IsDeviceOf entities choice (Ok device)) → Chooses entities choices (n + 1) (front ++ device ∷ [])
+chooses_more entities choices n front device within count so_far is = record {
+  completes = completes_more (IsDeviceOf entities) choices (slice_index_or choices n (0, None)) (drop (n + 1) choices) front device (subst (λ rest. Completes (IsDeviceOf entities) choices rest front) (left_at choices n within) so_far.completes) (is _ (slice_get-get_or choices n (0, None) within));
+  devices = of_more entities choices front device so_far.devices (λ choice chosen. is choice (subst (λ k. slice_get choices k ≡ Some choice) count chosen));
+}
+
+pub chooses_fault : (entities : List Entity) (choices : List Chosen) (n : ℕ) (front : List RawDevice) (fault : InputFault) → n < length choices → Chooses entities choices n front → IsDeviceOf entities (slice_index_or choices n (0, None)) (Err fault) → EachOf (IsDeviceOf entities) choices (Err fault)
+chooses_fault entities choices n front fault within so_far is = completes_fault (IsDeviceOf entities) choices (slice_index_or choices n (0, None)) (drop (n + 1) choices) front fault (subst (λ rest. Completes (IsDeviceOf entities) choices rest front) (left_at choices n within) so_far.completes) is
+
+pub chooses_all : (entities : List Entity) (choices : List Chosen) (n : ℕ) (front : List RawDevice) → length choices ≤ n → Chooses entities choices n front → EachOf (IsDeviceOf entities) choices (Ok front)
+chooses_all entities choices n front past so_far = completes_end (IsDeviceOf entities) choices front (subst (λ rest. Completes (IsDeviceOf entities) choices rest front) (drop_all n choices past) so_far.completes)
 
 -- where one of two lists has ended, there are no more pairs
 pub no_pairs : {A B : Type 0} (xs : List A) (ys : List B) → (length xs ≡ 0) ⊎ (length ys ≡ 0) → ◌≡◌ {A = List (A × B)} (zip xs ys) []

@@ -1,5 +1,5 @@
 // The devices of a chain.
-ghost use Rattle.std.specs.Prelude.{◌≡◌, ℕ, ◌<◌, ◌^◌, All, IfOk, length, map, vec_len, zip, option_copied, option_map};
+ghost use Rattle.std.specs.Prelude.{◌≡◌, ℕ, ◌<◌, ◌^◌, All, Decides, IfOk, IfSome, Some, length, map, vec_len, zip, option_copied, option_map, slice_get};
 ghost use Rattle.std.specs.List.{AllByRecursion, filter_map};
 ghost use Rattle.board_build.specs.ChainParts.{IsChain};
 ghost use Rattle.board_build.specs.Names.{named};
@@ -8,8 +8,10 @@ ghost use Rattle.board_build.specs.Selection.{selection};
 ghost use Rattle.bsdl_parser.specs.Entity.{IsSmall};
 ghost use Rattle.btest_core.specs.Answers.{EachOf, Gives, Is};
 ghost use Rattle.btest_core.specs.InputFaults.{in_board};
-ghost use Rattle.btest_core.specs.DevicesRead.{package_in, chosen, IsDeviceIn, IsDeviceOf, AreSelected, AreDevices, IsDeviceText};
+ghost use Rattle.btest_core.specs.inner.Choices.{AreOfChoices, choices_of};
+ghost use Rattle.btest_core.specs.DevicesRead.{Chosen, package_in, chosen, IsDeviceIn, IsDeviceOf, AreSelected, AreDevices, IsDeviceText};
 
+use crate::copies::device_copy;
 use crate::fault::InputFault;
 use crate::texts::{entities, read_entity};
 use board_build::{BoardFault, select};
@@ -62,6 +64,52 @@ fn device_of(
     device_in(alloc, &entities[text as usize], text, package)
 }
 
+fn is_same_package(a: Option<&[u8]>, b: Option<&[u8]>) -> bool
+    ensures { Decides result (option_copied a.entry ≡ option_copied b.entry) }
+{
+    match (a, b) {
+        (None, None) => true,
+        (Some(first), Some(second)) => first == second,
+        _ => false,
+    }
+}
+
+// The place of the first of these choices that is the one at place `i`, where that is an earlier place.
+fn earlier(chosen: &[(u32, Option<&[u8]>)], i: usize) -> Option<usize>
+    requires { i < length chosen.now }
+    ensures before { IfSome result (λ j. j < i) }
+    ensures same { IfSome result (λ j. slice_get (choices_of chosen.now) j ≡ slice_get (choices_of chosen.now) i) }
+{
+    for j in 0..i {
+        if chosen[j].0 == chosen[i].0 && is_same_package(chosen[j].1, chosen[i].1) {
+            return Some(j);
+        }
+    }
+    None
+}
+
+// The device of the choice at place `i`, behind these devices of the choices before it: a copy of one of these, where the choice is the
+// same.
+fn next_device(
+    alloc: Global,
+    entities: &[Entity],
+    chosen: &[(u32, Option<&[u8]>)],
+    devices: &[Device],
+    i: usize,
+) -> Result<Device, InputFault>
+    requires there { AllByRecursion (λ choice. choice.0 < length entities.now) chosen.now }
+    requires small { All IsSmall entities.now }
+    requires next { i < length chosen.now }
+    requires before { length devices.now ≡ i }
+    requires devices { AreOfChoices entities.now (choices_of chosen.now) devices.now }
+    ensures { (choice : Chosen) → slice_get (choices_of chosen.now) i ≡ Some choice → Gives (λ device. device) (IsDeviceOf entities.now choice) result }
+{
+    match earlier(chosen, i) {
+        Some(j) => Ok(device_copy(alloc, &devices[j])?),
+        None => device_of(alloc, entities, chosen[i].0, chosen[i].1),
+    }
+}
+
 // The devices that are chosen among the entities.
 fn chosen_devices(
     alloc: Global,
@@ -70,12 +118,12 @@ fn chosen_devices(
 ) -> Result<Vec<Device>, InputFault>
     requires there { AllByRecursion (λ choice. choice.0 < length entities.now) chosen.now }
     requires small { All IsSmall entities.now }
-    ensures devices { Gives (λ devices. devices.items) (EachOf (IsDeviceOf entities.now) (map (λ choice. (choice.0, option_copied choice.1)) chosen.now)) result }
+    ensures devices { Gives (λ devices. devices.items) (EachOf (IsDeviceOf entities.now) (choices_of chosen.now)) result }
     ensures count { IfOk result (λ devices. vec_len devices ≡ length chosen.now) }
 {
     let mut devices = Vec::new(alloc);
-    for choice in chosen {
-        let device = match device_of(alloc, entities, choice.0, choice.1) {
+    for i in 0..chosen.len() {
+        let device = match next_device(alloc, entities, chosen, &devices, i) {
             Ok(device) => device,
             Err(fault) => return Err(fault),
         };

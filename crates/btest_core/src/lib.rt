@@ -3,6 +3,7 @@
 
 mod board;
 mod chain;
+mod copies;
 mod devices;
 mod fault;
 mod idents;

@@ -1,6 +1,7 @@
 use Rattle.std.proofs.Common.{◌<◌, ◌∙◌, ap, sym, subst, map, zip, option_copied}
 use Rattle.std.specs.List.{AllByRecursion}
-use Rattle.btest_core.proofs.ChoiceLemmas.{choices_of, zip_seconds, zip_firsts}
+use Rattle.btest_core.specs.inner.Choices.{choices_of}
+use Rattle.btest_core.proofs.ChoiceLemmas.{zip_seconds, zip_firsts}
 use Rattle.btest_core.proofs.devices.chosen.Goals as goal
 
 pub returns-clause-chosen : goal.returns-clause-chosen

@@ -4,7 +4,8 @@ use Rattle.std.specs.List.{AllByRecursion}
 use Rattle.std.proofs.lemmas.List.Elements.{recursion_from_All}
 use Rattle.btest_core.specs.Answers.{Gives, EachOf}
 use Rattle.btest_core.specs.DevicesRead.{IsDeviceOf, chosen, Chosen}
-use Rattle.btest_core.proofs.ChoiceLemmas.{choices_of, count_choices}
+use Rattle.btest_core.specs.inner.Choices.{choices_of}
+use Rattle.btest_core.proofs.ChoiceLemmas.{count_choices}
 use Rattle.btest_core.proofs.devices.devices_by.Goals as goal
 
 pub chosen_devices-requires-clause-there : goal.chosen_devices-requires-clause-there

@@ -1,0 +1,94 @@
+// Copies of devices, so that the entity and the package of several parts are judged once.
+ghost use Rattle.std.specs.Prelude.{◌≡◌, IfOk};
+
+use board_defs::{Code, Device, Items, Name, PortBit, RawDevice};
+use std::alloc::{AllocError, Global};
+
+fn name_copy(alloc: Global, name: &Name) -> Result<Name, AllocError>
+    ensures { IfOk result (λ copy. copy ≡ name.now) }
+{
+    Name::of(alloc, name.bytes())
+}
+
+fn names_copy(alloc: Global, names: &[Name]) -> Result<Vec<Name>, AllocError>
+    ensures { IfOk result (λ copy. copy.items ≡ names.now) }
+{
+    let mut copy = Vec::with_capacity(alloc, names.len())?;
+    for name in names {
+        copy.push(name_copy(alloc, name)?)?;
+    }
+    Ok(copy)
+}
+
+fn pin_copy(alloc: Global, pin: &Option<Name>) -> Result<Option<Name>, AllocError>
+    ensures { IfOk result (λ copy. copy ≡ pin.now) }
+{
+    match pin {
+        None => Ok(None),
+        Some(name) => Ok(Some(name_copy(alloc, name)?)),
+    }
+}
+
+fn bit_copy(alloc: Global, bit: &PortBit) -> Result<PortBit, AllocError>
+    ensures { IfOk result (λ copy. copy ≡ bit.now) }
+{
+    Ok(PortBit {
+        port: bit.port,
+        index: bit.index,
+        mode: bit.mode,
+        pin: pin_copy(alloc, &bit.pin)?,
+        tap: bit.tap,
+        compliance: bit.compliance,
+    })
+}
+
+fn bits_copy(alloc: Global, bits: &[PortBit]) -> Result<Vec<PortBit>, AllocError>
+    ensures { IfOk result (λ copy. copy.items ≡ bits.now) }
+{
+    let mut copy = Vec::with_capacity(alloc, bits.len())?;
+    for bit in bits {
+        copy.push(bit_copy(alloc, bit)?)?;
+    }
+    Ok(copy)
+}
+
+fn code_copy(alloc: Global, code: &Code) -> Result<Code, AllocError>
+    ensures { IfOk result (λ copy. copy ≡ code.now) }
+{
+    Code::of(alloc, code.symbols())
+}
+
+fn idcode_copy(alloc: Global, code: &Option<Code>) -> Result<Option<Code>, AllocError>
+    ensures { IfOk result (λ copy. copy ≡ code.now) }
+{
+    match code {
+        None => Ok(None),
+        Some(code) => Ok(Some(code_copy(alloc, code)?)),
+    }
+}
+
+fn raw_copy(alloc: Global, raw: &RawDevice) -> Result<RawDevice, AllocError>
+    ensures { IfOk result (λ copy. copy ≡ raw.now) }
+{
+    Ok(RawDevice {
+        entity: name_copy(alloc, &raw.entity)?,
+        package: name_copy(alloc, &raw.package)?,
+        edition: raw.edition,
+        ports: Items::of(names_copy(alloc, raw.ports.as_slice())?),
+        ir: raw.ir,
+        sample: code_copy(alloc, &raw.sample)?,
+        extest: code_copy(alloc, &raw.extest)?,
+        idcode: idcode_copy(alloc, &raw.idcode)?,
+        boundary: raw.boundary,
+        bits: Items::of(bits_copy(alloc, raw.bits.as_slice())?),
+        cells: Items::of(raw.cells.as_slice().to_vec(alloc)?),
+    })
+}
+
+/// A device with the record of another one.
+pub fn device_copy(alloc: Global, device: &Device) -> Result<Device, AllocError>
+    ensures { IfOk result (λ copy. copy ≡ device.now) }
+{
+    let raw = raw_copy(alloc, device.raw())?;
+    Ok(Device::new(raw))
+}
