@@ -18,6 +18,3 @@ pub use fault::InputFault;
 pub use idents::read_idents;
 pub use planning::plan;
 pub use texts::read_entity;
-
-#[cfg(test)]
-mod tests;

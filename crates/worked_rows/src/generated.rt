@@ -1,6 +1,6 @@
 // The generated boards, in tests of about the same number of parts.
 use board_gen::make;
-use btest_core::read_board;
+use btest_core::{InputFault, read_board};
 use std::alloc::Global;
 use std::process::Abort;
 use std::test::Fail;
@@ -68,4 +68,11 @@ fn numbers_up_to_242_make_boards(rt: HostRuntime) -> Result<(), Fail> {
 #[test]
 fn numbers_up_to_255_make_boards(rt: HostRuntime) -> Result<(), Fail> {
     are_boards(&rt, rt.alloc(), 243, 255)
+}
+
+fn is_shared<T: Send + Sync>() {}
+
+#[test]
+fn faults_may_be_shared() {
+    is_shared::<InputFault>();
 }
