@@ -27,7 +27,7 @@ need_rt
 log=$(mktemp)
 trap 'rm -f "$log"' EXIT
 total=$(libraries | wc -l)
-echo "Proving $total crates. From nothing this takes about half an hour on four processors."
+echo "Proving $total crates. From nothing this takes half an hour to an hour on four processors."
 begun=$SECONDS
 number=0
 for crate in $(libraries); do
