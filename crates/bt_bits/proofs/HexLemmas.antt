@@ -1,7 +1,6 @@
 -- Lemmas on bits as hexadecimal text.
-use Rattle.std.proofs.Common.{◌≡◌, ℕ, ◌+◌, ◌-◌, ◌<◌, ◌≤◌, zero, suc, Option, None, Some, Bool, false, cond, eq-eqb, option_and_then, List, [], ◌∷◌, ◌++◌, length, take, drop, get_or, refl, sym, ap, ◌∙◌, append_assoc, length-append, arith}
-use Rattle.std.proofs.lemmas.List.{take_more, drop-drop}
-use Rattle.std.proofs.Math.Seq.{take-add}
+use Rattle.std.proofs.Common.{◌≡◌, ℕ, ◌+◌, ◌<◌, zero, suc, Option, None, Some, Bool, false, cond, eq-eqb, option_and_then, List, [], ◌∷◌, ◌++◌, length, take, get_or, refl, ap, ◌∙◌, append_assoc, length-append, arith}
+use Rattle.std.proofs.lemmas.List.{take_more}
 use Rattle.bt_bits.specs.Hex.{hex_digit, hex_text, digit_count, digit_bits, text_bits, joined_bits, cut_to, field_bits}
 
 pub length-hex_text : (bits : List Bool) → length (hex_text bits) ≡ digit_count (length bits)
@@ -15,15 +14,6 @@ length-hex_text (a ∷ b ∷ c ∷ d ∷ bits) =
 -- four bits more
 pub take_four : (bits : List Bool) (i : ℕ) → i + 3 < length bits → take (i + 4) bits ≡ take i bits ++ get_or bits i false ∷ get_or bits (i + 1) false ∷ get_or bits (i + 2) false ∷ get_or bits (i + 3) false ∷ []
 take_four bits i within = grind (arith, take_more {X = Bool}, append_assoc {A = Bool})
-
--- digits that were pushed, and a piece more
-pub pushed_more : (old line next digits : List ℕ) (from at some : ℕ) → from ≤ at → line ≡ old ++ take (at - from) (drop from digits) → next ≡ line ++ take some (drop at digits) → next ≡ old ++ take (at + some - from) (drop from digits)
-pushed_more old line next digits from at some after so_far pushed =
-    let more : at + some - from ≡ (at - from) + some = omega arith in
-    let place : from + (at - from) ≡ at = omega arith in
-    pushed ∙ ap (λ t. t ++ take some (drop at digits)) so_far ∙ append_assoc old (take (at - from) (drop from digits)) (take some (drop at digits))
-    ∙ ap (λ t. old ++ t) (sym (ap (λ n. take n (drop from digits)) more ∙ take-add (at - from) some (drop from digits)
-    ∙ ap (λ t. take (at - from) (drop from digits) ++ take some t) (drop-drop (at - from) from digits ∙ ap (λ n. drop n digits) place)))
 
 joined_bits-none : (bits : Option (List Bool)) → joined_bits bits None ≡ None
 joined_bits-none None = refl

@@ -1,14 +1,17 @@
 -- Lemmas on digits and their hexadecimal text.
-use Rattle.std.proofs.Common.{◌≡◌, ℕ, ◌+◌, ◌-◌, ◌<◌, ◌≤◌, suc, Some, None, Bool, true, false, not, cond, option_and_then, List, [], ◌∷◌, ◌++◌, length, take, drop, get_or, set, refl, sym, ap, ◌∙◌, append_assoc, length-append, length-drop, arith}
+use Rattle.std.proofs.Common.{◌≡◌, ℕ, ◌+◌, ◌-◌, ◌<◌, ◌≤◌, suc, subst, Some, None, Bool, true, false, not, cond, option_and_then, List, [], ◌∷◌, ◌++◌, length, take, drop, get_or, set, refl, sym, ap, ◌∙◌, append_assoc, length-append, length-drop, arith}
 use Rattle.std.specs.List.{list_all}
-use Rattle.std.proofs.lemmas.List.{append-nil, take_more, length-take-le, drop-set, take-append-drop, take_at, drop_at}
+use Rattle.std.proofs.lemmas.List.{append-nil, take_all, take_more, take_more_set, length-take-le, drop-set, take-append-drop, take_at, drop_at}
 use Rattle.bt_bits.specs.Hex.{hex_digit, hex_text, digit_count, text_bits, joined_bits, digit_bits, cut_to, field_bits}
 use Rattle.bt_bits.specs.Digits.{digit_value, digits_of, bits_of, row_bits}
-use Rattle.bt_bits.specs.inner.Digits.{digit_char, digits_text}
-use Rattle.std.specs.Prelude.{MatchBool}
+use Rattle.bt_bits.specs.inner.Digits.{AreRead, IsValueOf, digit_char, digits_text}
+use Rattle.std.specs.Prelude.{MatchBool, All, max, ◌&&◌, nat_lt}
 use Rattle.std.proofs.Math.Seq.{drop-cons}
-use Rattle.bt_bits.proofs.HexLemmas.{field_bits-sized}
-use Rattle.bt_bits.proofs.DigitLemmas.{bits_of-append, length-bits_of}
+use Rattle.bt_bits.proofs.HexLemmas.{field_bits-sized, text_bits-none}
+use Rattle.std.proofs.lemmas.List.Elements.{All-push, All-same}
+use Rattle.bt_bits.proofs.DigitLemmas.{bits_of-append, length-bits_of, kept_digits}
+use Rattle.std.specs.Bool.{OnTrue}
+use Rattle.bt_bits.specs.Rows.{AreDigitsOf}
 
 digit_char-value : (a b c d : Bool) → digit_char (digit_value a b c d) ≡ hex_digit a b c d
 digit_char-value false false false false = refl
@@ -74,11 +77,43 @@ text_piece digits from count within =
     let part : length mid ≡ count = length-digits_text (take count (drop (length digits - from - count) digits)) ∙ length-take-le count (drop (length digits - from - count) digits) (omega (arith, few)) in
     sym (ap (λ t. take count (drop from t)) all ∙ ap (take count) (drop_at top (mid ++ bottom) from above) ∙ take_at mid bottom count part)
 
+max_below : (a b : ℕ) → nat_lt (max a b) 16 ≡ (nat_lt b 16 && nat_lt a 16)
+max_below a b = grind arith
+
 -- one digit more is read
-pub read_more : (text : List ℕ) (at : ℕ) (digits : List ℕ) (x : ℕ) → at < length text → text_bits (drop (suc at) text) ≡ Some (bits_of digits) → digit_bits (get_or text at 0) ≡ Some (bits_of (x ∷ [])) → text_bits (drop at text) ≡ Some (bits_of (digits ++ x ∷ []))
+read_more : (text : List ℕ) (at : ℕ) (digits : List ℕ) (x : ℕ) → at < length text → text_bits (drop (suc at) text) ≡ Some (bits_of digits) → digit_bits (get_or text at 0) ≡ Some (bits_of (x ∷ [])) → text_bits (drop at text) ≡ Some (bits_of (digits ++ x ∷ []))
 read_more text at digits x within so_far is =
     ap text_bits (drop-cons text at 0 within) ∙ ap (λ o. joined_bits o (digit_bits (get_or text at 0))) so_far
     ∙ ap (λ o. joined_bits (Some (bits_of digits)) o) is ∙ ap (λ t. Some t) (sym (bits_of-append digits (x ∷ [])))
+
+both : {A B C D E F : Type 0} (first second : Bool) → MatchBool first A B → MatchBool second C D → (A → C → second ≡ true → E) → (B → F) → (D → F) → MatchBool (first && second) E F
+both true true a c e f g = e a c refl
+both true false a d e f g = g d
+both false second b other e f g = f b
+
+is_below : (x : ℕ) → nat_lt x 16 ≡ true → x < 16
+is_below x small = grind arith
+
+-- a text that is read from the right takes one byte more
+pub read_digit : (text digits : List ℕ) (n k most x next : ℕ) → n ≡ length text → length digits ≡ n → k < n → next ≡ max x most → IsValueOf (get_or text (n - 1 - k) 0) x → AreRead text (n - k) (take k digits) (nat_lt most 16) → AreRead text (n - (k + 1)) (take (k + 1) (set digits k x)) (nat_lt next 16)
+read_digit text digits n k most x next is_n sized within is_next value so_far =
+    let at : n - (k + 1) ≡ n - 1 - k = omega arith in
+    let before : suc (n - 1 - k) ≡ n - k = omega arith in
+    let pushed = take_more_set digits k x (omega arith) in
+    let all : nat_lt next 16 ≡ (nat_lt most 16 && nat_lt x 16) = ap (λ m. nat_lt m 16) is_next ∙ max_below x most in
+    subst (AreRead text (n - (k + 1)) (take (k + 1) (set digits k x))) (sym all) (both (nat_lt most 16) (nat_lt x 16) so_far value
+    (λ read digit small. (
+      ap (λ i. text_bits (drop i text)) at ∙ read_more text (n - 1 - k) (take k digits) x (omega arith) (ap (λ i. text_bits (drop i text)) before ∙ read.0) digit ∙ ap (λ t. Some (bits_of t)) (sym pushed),
+      All-same (λ x. x < 16) _ _ pushed (All-push (λ x. x < 16) (take k digits) x read.1 (is_below x small)),
+    ))
+    (λ none. none)
+    (λ none. text_bits-none text (n - 1 - k) (omega arith) none))
+
+-- and is read whole at its first byte
+pub read_whole : (text digits : List ℕ) (n k : ℕ) (all : Bool) → length digits ≡ n → n ≤ k → AreRead text (n - k) (take k digits) all → AreRead text 0 digits all
+read_whole text digits n k all sized whole read =
+    let at : n - k ≡ 0 = omega arith in
+    subst (λ i. AreRead text i digits all) at (subst (λ ds. AreRead text (n - k) ds all) (take_all k digits (omega arith)) read)
 
 -- a field whose digits were read
 pub field_bits-read : (len : ℕ) (text digits : List ℕ) (cut : Bool) → length text ≡ digit_count len → text_bits text ≡ Some (bits_of digits) → cut ≡ list_all not (drop len (bits_of digits)) → MatchBool cut (field_bits len text ≡ Some (row_bits len digits)) (field_bits len text ≡ None)
@@ -94,3 +129,11 @@ pub length-row_bits : (len : ℕ) (digits : List ℕ) → length digits ≡ digi
 unfolding row_bits
 length-row_bits len digits sized =
     length-take-le len (bits_of digits) (omega (arith, length-bits_of digits))
+
+-- and what is kept of it
+pub field_kept : (len : ℕ) (digits : List ℕ) (cut : Bool) → length digits ≡ digit_count len → All (λ x. x < 16) digits → cut ≡ list_all not (drop len (bits_of digits)) → OnTrue cut (AreDigitsOf (row_bits len digits) len digits)
+field_kept len digits false sized below is = tt
+field_kept len digits true sized below is = record {
+  count = length-row_bits len digits sized;
+  values = kept_digits digits len below sized (sym is);
+}

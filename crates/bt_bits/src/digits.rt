@@ -4,13 +4,13 @@ ghost use Rattle.std.specs.Bool.{OnTrue, OnFalse};
 ghost use Rattle.std.specs.List.{list_all};
 ghost use Rattle.bt_bits.specs.Hex.{digit_count, digit_bits, text_bits, field_bits};
 ghost use Rattle.bt_bits.specs.Digits.{bits_of, digit_bit, digit_value, digits_of, row_bits};
-ghost use Rattle.bt_bits.specs.inner.Digits.{digit_char, digits_text, with_bit};
+ghost use Rattle.bt_bits.specs.inner.Digits.{AreRead, IsValueOf, digit_char, digits_text, with_bit};
 ghost use Rattle.bt_bits.specs.Rows.{AreDigitsOf};
 
 use crate::Line;
 
-// How many digits are pushed at once.
-const PIECE: usize = 64;
+// What stands for the value of a byte that is no digit.
+const NO_VALUE: u8 = 16;
 
 // How many digits so many bits have.
 #[inline]
@@ -116,7 +116,7 @@ fn digit_char(value: u8) -> u8
 
 // Fills a place for each digit with its text.
 #[inline]
-fn fill_text(digits: &[u8], text: &mut [u8])
+pub fn fill_text(digits: &[u8], text: &mut [u8])
     requires below { All (λ x. x < 16) digits.now }
     requires places { length text.old ≡ length digits.now }
     ensures { text.new ≡ digits_text digits.now }
@@ -127,20 +127,6 @@ fn fill_text(digits: &[u8], text: &mut [u8])
     }
 }
 
-// Pushes a piece of the text of the digits.
-fn push_piece(digits: &[u8], from: usize, count: usize, line: &mut Line)
-    requires few { count ≤ PIECE }
-    requires below { All (λ x. x < 16) digits.now }
-    requires digits { from + count ≤ length digits.now }
-    requires room { length line.old + count ≤ 1024 }
-    ensures { line.new ≡ line.old ++ take count (drop from (digits_text digits.now)) }
-{
-    let low = digits.len() - from - count;
-    let mut piece = [0; PIECE];
-    fill_text(&digits[low..low + count], &mut piece[..count]);
-    line.push(&piece[..count]);
-}
-
 // Pushes so much of the text of the digits, from one digit on from the left.
 pub fn push_text(digits: &[u8], from: usize, count: usize, line: &mut Line)
     requires below { All (λ x. x < 16) digits.now }
@@ -148,58 +134,38 @@ pub fn push_text(digits: &[u8], from: usize, count: usize, line: &mut Line)
     requires room { length line.old + count ≤ 1024 }
     ensures { line.new ≡ line.old ++ take count (drop from (digits_text digits.now)) }
 {
-    let end = from + count;
-    let mut at = from;
-    while at < end {
-        let part = PIECE.min(end - at);
-        push_piece(digits, at, part, line);
-        at += part;
-    }
+    let low = digits.len() - from - count;
+    line.push_digits(&digits[low..low + count]);
 }
 
-// The value of a hexadecimal digit of either case.
+// The value of a hexadecimal digit of either case, or 16 for another byte. Ranges, and not a table or one digit after
+// the other, let the compiler take many bytes at once.
 #[inline]
-fn value_of(c: u8) -> Option<u8>
-    ensures below { MatchOption result (digit_bits c ≡ None) (λ x. x < 16) }
-    ensures bits { MatchOption result (digit_bits c ≡ None) (λ x. digit_bits c ≡ Some (bits_of (x ∷ []))) }
+fn value_of(c: u8) -> u8
+    ensures { IsValueOf c result }
 {
     match c {
-        b'0' => Some(0),
-        b'1' => Some(1),
-        b'2' => Some(2),
-        b'3' => Some(3),
-        b'4' => Some(4),
-        b'5' => Some(5),
-        b'6' => Some(6),
-        b'7' => Some(7),
-        b'8' => Some(8),
-        b'9' => Some(9),
-        b'A' | b'a' => Some(10),
-        b'B' | b'b' => Some(11),
-        b'C' | b'c' => Some(12),
-        b'D' | b'd' => Some(13),
-        b'E' | b'e' => Some(14),
-        b'F' | b'f' => Some(15),
-        _ => None,
+        b'0'..=b'9' => c - b'0',
+        b'A'..=b'F' => c - (b'A' - 10),
+        b'a'..=b'f' => c - (b'a' - 10),
+        _ => NO_VALUE,
     }
 }
 
-// Reads a text into an empty vector, from the right, and says whether all bytes are digits.
-fn read_values(text: &[u8], digits: &mut Vec<u8>) -> bool
-    requires empty { digits.old.items ≡ [] }
-    requires room { length text.now ≤ vec_capacity digits.old }
-    ensures bits { MatchBool result (text_bits text.now ≡ Some (bits_of digits.new.items)) (text_bits text.now ≡ None) }
-    ensures below { All (λ x. x < 16) digits.new.items }
-    ensures one_each { OnTrue result (length digits.new.items ≡ length text.now) }
-    ensures capacity { vec_capacity digits.old ≤ vec_capacity digits.new }
+// Fills a place for each byte with its value, from the right, and says whether all bytes are digits. It does not stop
+// at one that is none, so that the loop has one way out.
+fn fill_digits(text: &[u8], digits: &mut [u8]) -> bool
+    requires { length digits.old ≡ length text.now }
+    ensures { AreRead text.now 0 digits.new result }
 {
-    for at in (0..text.len()).rev() {
-        let Some(value) = value_of(text[at]) else {
-            return false;
-        };
-        digits.push(value).unwrap();
+    let count = digits.len();
+    let mut most = 0;
+    for k in 0..count {
+        let value = value_of(text[count - 1 - k]);
+        digits[k] = value;
+        most = value.max(most);
     }
-    true
+    most < NO_VALUE
 }
 
 // Whether no bit of a digit from bit `count` on is 1.
@@ -225,6 +191,16 @@ fn is_cut(digits: &[u8], len: usize) -> bool
     count == 0 || is_digit_cut(digits[len / 4], count)
 }
 
+// Reads the field of so many bits into places for its digits, and says whether there is one.
+pub fn fill_field(text: &[u8], len: usize, digits: &mut [u8]) -> bool
+    requires text { length text.now ≡ digit_count len }
+    requires places { length digits.old ≡ digit_count len }
+    ensures bits { MatchBool result (field_bits len text.now ≡ Some (row_bits len digits.new)) (field_bits len text.now ≡ None) }
+    ensures kept { OnTrue result (AreDigitsOf (row_bits len digits.new) len digits.new) }
+{
+    fill_digits(text, digits) && is_cut(digits, len)
+}
+
 // Reads the field of so many bits into a vector with room for its digits, and says whether there is one. Where there
 // is none, the digits are those of as many zeros.
 pub fn read_field(text: &[u8], len: usize, digits: &mut Vec<u8>) -> bool
@@ -236,8 +212,8 @@ pub fn read_field(text: &[u8], len: usize, digits: &mut Vec<u8>) -> bool
     ensures kept { AreDigitsOf (row_bits len digits.new.items) len digits.new.items }
     ensures capacity { vec_capacity digits.old ≤ vec_capacity digits.new }
 {
-    digits.clear();
-    if read_values(text, digits) && is_cut(digits, len) {
+    make_zeros(len, digits);
+    if fill_field(text, len, digits) {
         return true;
     }
     make_zeros(len, digits);

@@ -7,7 +7,7 @@ mod row;
 
 pub use digits::digit_bit;
 pub use line::{Line, MAX_LINE};
-pub use row::{HexFault, Row};
+pub use row::{HexFault, Row, read_digits};
 
 #[cfg(test)]
 mod tests;

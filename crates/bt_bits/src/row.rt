@@ -1,10 +1,11 @@
 ghost use Rattle.std.specs.Prelude.{◌≡◌, ◌≢◌, ◌↔◌, ◌+◌, ◌<◌, ◌≤◌, [], ◌++◌, false, length, take, drop, replicate, slice_get, slice_set, Some, None, IfOk, OnOk, OnErr, IsErrOf};
-ghost use Rattle.bt_bits.specs.Digits.{digits_of};
+ghost use Rattle.bt_bits.specs.Digits.{digits_of, row_bits};
 ghost use Rattle.bt_bits.specs.Hex.{hex_text, digit_count, field_bits};
+ghost use Rattle.bt_bits.specs.Rows.{AreDigitsOf};
 
 use crate::Line;
 use crate::digits::{
-    copy_bits, digit_bit, digit_count, make_zeros, push_text, read_field, with_bit,
+    copy_bits, digit_bit, digit_count, fill_field, make_zeros, push_text, read_field, with_bit,
 };
 use std::alloc::{AllocError, Global};
 use std::marker::Model;
@@ -161,4 +162,23 @@ impl Row {
         }
         Ok(())
     }
+}
+
+/// Fills a place for each digit of a row of `len` bits from a field, as `Row::read_hex` reads it. The first place has the
+/// first four bits. What the places hold after a refusal is not said.
+pub fn read_digits(text: &[u8], len: u32, digits: &mut [u8]) -> Result<(), HexFault>
+    requires { length digits.old ≡ digit_count len }
+    ensures ok { OnOk result (field_bits len text.now ≡ Some (row_bits len digits.new)) }
+    ensures kept { OnOk result (AreDigitsOf (row_bits len digits.new) len digits.new) }
+    ensures length { IsErrOf result HexFault.Length ↔ (length text.now ≢ digit_count len) }
+    ensures digit { IsErrOf result HexFault.Digit
+        ↔ ((length text.now ≡ digit_count len) × (field_bits len text.now ≡ None)) }
+{
+    if text.len() != digits.len() {
+        return Err(HexFault::Length);
+    }
+    if !fill_field(text, len as usize, digits) {
+        return Err(HexFault::Digit);
+    }
+    Ok(())
 }
