@@ -1,12 +1,14 @@
 // From a text to the rows of a log.
 ghost use Rattle.std.specs.Prelude.{◌≡◌, ◌*◌, ◌<◌, ◌≤◌, ◌^◌, length, min, IfOk, MatchResult, Some, None};
+ghost use Rattle.bt_bits.specs.Digits.{row_bits};
 ghost use Rattle.bt_bits.specs.Hex.{digit_count};
+ghost use Rattle.bt_bits.specs.Rows.{AreDigitsOf};
 ghost use Rattle.response_log.specs.LogRows.{Gives, GivesBy, HasSize, bits_of_line, line_of, log_rows, row_fault};
 ghost use Rattle.response_log.specs.Kept.{kept_rows};
 
 use crate::fault::LogFault;
 use crate::kept::{Log, digit_count};
-use bt_bits::{HexFault, Row};
+use bt_bits::{HexFault, read_digits};
 use std::alloc::Global;
 use text_lines::{first_line, next_word};
 
@@ -37,7 +39,7 @@ fn read_rows(alloc: Global, bytes: &[u8], rows: u64, len: u32) -> Result<Vec<u8>
     ensures read { GivesBy (λ digits. kept_rows len rows digits.items) result (log_rows bytes.now rows len) }
     ensures count { IfOk result (λ digits. length digits.items ≡ rows * digit_count len) }
 {
-    let mut row = Row::with_room(alloc, len)?;
+    let width = digit_count(len);
     let mut digits = Vec::with_capacity(alloc, room(bytes, rows, len))?;
     let mut found = 0u64;
     let mut rest = Some(bytes);
@@ -49,8 +51,9 @@ fn read_rows(alloc: Global, bytes: &[u8], rows: u64, len: u32) -> Result<Vec<u8>
             if found >= rows {
                 return Err(LogFault::Extra(line_number));
             }
-            read_row(line_number, word, behind, len, &mut row)?;
-            digits.extend_from_slice(row.digits())?;
+            let first = digits.len();
+            digits.resize(first + width, 0)?;
+            read_row(line_number, word, behind, len, &mut digits[first..])?;
             found += 1;
         }
         number += 1;
@@ -62,18 +65,23 @@ fn read_rows(alloc: Global, bytes: &[u8], rows: u64, len: u32) -> Result<Vec<u8>
     Ok(digits)
 }
 
-// Reads a line that is to be a row, by its first word and what stands behind it.
-fn read_row(line: u32, word: &[u8], behind: &[u8], len: u32, row: &mut Row) -> Result<(), LogFault>
-    requires { len ≤ row.old.room }
+// Reads a line that is to be a row into places for its digits, by its first word and what stands behind it.
+fn read_row(
+    line: u32,
+    word: &[u8],
+    behind: &[u8],
+    len: u32,
+    digits: &mut [u8],
+) -> Result<(), LogFault>
+    requires { length digits.old ≡ digit_count len }
     ensures fault { MatchResult result (λ _. row_fault len (line_of line word.now behind.now) ≡ None) (λ fault. row_fault len (line_of line word.now behind.now) ≡ Some fault) }
-    ensures bits { IfOk result (λ _. bits_of_line len (line_of line word.now behind.now) ≡ Some row.new.bits) }
-    ensures len { IfOk result (λ _. length row.new.bits ≡ len) }
-    ensures room { row.new.room ≡ row.old.room }
+    ensures bits { IfOk result (λ _. bits_of_line len (line_of line word.now behind.now) ≡ Some (row_bits len digits.new)) }
+    ensures kept { IfOk result (λ _. AreDigitsOf (row_bits len digits.new) len digits.new) }
 {
     if next_word(behind).is_some() {
         return Err(LogFault::Length(line));
     }
-    match row.read_hex(word, len) {
+    match read_digits(word, len, digits) {
         Ok(()) => Ok(()),
         Err(HexFault::Length) => Err(LogFault::Length(line)),
         Err(HexFault::Digit) => Err(LogFault::Digit(line)),

@@ -1,19 +1,36 @@
 -- Cutting a text into lines, and a line into words.
-use Rattle.std.proofs.Common.{◌≡◌, ℕ, ◌+◌, ◌<◌, ◌≤◌, Bool, true, false, cond, List, [], ◌∷◌, length, Option, Some, None, refl, ap, ◌∙◌, arith, not, nat_lt, map, subst, take, suc}
+use Rattle.std.proofs.Common.{◌≡◌, ℕ, ◌+◌, ◌<◌, ◌≤◌, Bool, true, false, cond, List, [], ◌∷◌, length, Option, Some, None, refl, ap, ◌∙◌, arith, not, map, subst, take, drop, get_or, suc, sym, ◌-◌}
 use Rattle.std.specs.Prelude.{IfSome, IfNone, option_map, filter, take_while, ◌==◌}
-use Rattle.std.proofs.lemmas.Grind.{common_steps}
-use Rattle.std.proofs.lemmas.List.Sums.{prefix_len-le-length, take_while-cons}
-use Rattle.std.specs.List.{slice_split, position, position_or_len, onto_first, before_first}
-use Rattle.text_lines.specs.Words.{words_of, is_blank, is_filled, begins_no_comment, begins_blank, begins_word}
+use Rattle.memchr.specs.Find.{Nowhere, NoneBefore, Passes}
+use Rattle.std.proofs.lemmas.List.Sums.{prefix_len_is, take_while-cons}
+use Rattle.std.specs.List.{slice_split, position_or_len, onto_first, before_first}
+use Rattle.text_lines.specs.Words.{words_of, IsCut, is_blank, is_filled, begins_no_comment, begins_blank, begins_word}
 use Rattle.std.proofs.lemmas.List.Splits.{slice_split-cons_yes, slice_split-cons_no}
+use Rattle.std.proofs.lemmas.List.{take_rest}
 use Rattle.std.proofs.lemmas.Bool.{false≢true}
 
-none_at : (a b : ℕ) → a ≤ b → cond (nat_lt a b) (Some a) None ≡ None → a ≡ b
-none_at a b h e = grind (arith, common_steps)
+passes_not : (b : Bool) → ¬ (b ≡ true) → not b ≡ true
+passes_not true not_true = absurd (not_true refl)
+passes_not false not_true = refl
 
 -- a byte that has no place passes nowhere
-pub no_place : (p : ℕ → Bool) (xs : List ℕ) → position p xs ≡ None → position_or_len p xs ≡ length xs
-no_place p xs e = none_at (position_or_len p xs) (length xs) (prefix_len-le-length (λ x. not (p x)) xs) e
+pub no_place : (p : ℕ → Bool) (xs : List ℕ) → Nowhere (Passes p xs) 0 (length xs) → position_or_len p xs ≡ length xs
+no_place p xs nowhere =
+    prefix_len_is (λ x. not (p x)) xs (length xs) 0 (omega arith) (λ k within. passes_not (p (get_or xs k 0)) (nowhere k (omega arith) within)) (λ within. absurd (omega arith))
+
+-- the first byte that passes
+pub first_place : (p : ℕ → Bool) (xs : List ℕ) (k : ℕ) → NoneBefore (Passes p xs) 0 (length xs) k → Passes p xs k → position_or_len p xs ≡ k
+first_place p xs k before passes =
+    prefix_len_is (λ x. not (p x)) xs k 0 (omega (arith, before.high)) (λ j within. passes_not (p (get_or xs j 0)) (before.before j (omega arith) within)) (λ within. ap not passes)
+
+-- what stands before and behind it
+pub cut_there : (p : ℕ → Bool) (xs : List ℕ) (k : ℕ) → (NoneBefore (Passes p xs) 0 (length xs) k × Passes p xs k) → IsCut p xs (Some (take k xs, take (length xs - (k + 1)) (drop (k + 1) xs)))
+cut_there p xs k (before, passes) =
+    let place = first_place p xs k before passes in (
+      omega (arith, place, before.high),
+      sym (ap (λ n. take n xs) place),
+      take_rest xs (k + 1) ∙ sym (ap (λ n. drop (n + 1) xs) place),
+    )
 
 whole : (p : ℕ → Bool) (x : ℕ) (xs : List ℕ) (b : Bool) → cond (not b) (1 + position_or_len p xs) 0 ≡ 1 + length xs → (position_or_len p xs ≡ length xs → slice_split p xs ≡ xs ∷ []) → cond b ([] ∷ slice_split p xs) (onto_first x (slice_split p xs)) ≡ (x ∷ xs) ∷ []
 whole p x xs true e ih = absurd (omega arith)

@@ -5,10 +5,11 @@
 #![tactic(auto)]
 
 ghost use Rattle.std.specs.Prelude.{◌≡◌, ◌==◌, [], ◌∷◌, true, false, MatchOption, map, IfOk, IfSome, IfNone, option_map, option_copied, length, ◌+◌};
-ghost use Rattle.std.specs.List.{slice_split, list_all, position};
+ghost use Rattle.std.specs.List.{slice_split, list_all};
 ghost use Rattle.std.specs.Char.{is_ascii_graphic};
 ghost use Rattle.text_lines.specs.Words.{words_of, is_newline, is_blank, is_word, is_filled, begins_no_comment, begins_blank, begins_word, lines_of, IsCut};
 
+use memchr::{memchr, memchr3};
 use std::alloc::{AllocError, Global};
 
 /// Whether the byte is a carriage return, a tab or a space.
@@ -59,17 +60,11 @@ pub fn is_word(word: &[u8]) -> bool
     is_filled(word) && word.len() <= 255 && is_graphic(word)
 }
 
-fn place_of(text: &[u8], byte: u8) -> Option<usize>
-    ensures { result ≡ position (λ b. b == byte) text.now }
-{
-    text.iter().position(|b| *b == byte)
-}
-
 /// What stands before and behind the first such byte.
 pub fn cut_at(text: &[u8], byte: u8) -> Option<(&[u8], &[u8])>
     ensures { IsCut (λ b. b == byte) text.now (option_map (λ cut. (cut.0.now, cut.1.now)) result) }
 {
-    match place_of(text, byte) {
+    match memchr(byte, text) {
         Some(i) => Some((&text[..i], &text[i + 1..])),
         None => None,
     }
@@ -106,17 +101,11 @@ fn begins_word(line: &[u8]) -> bool
     is_filled(line) && begins_no_comment(line)
 }
 
-fn blank_place(text: &[u8]) -> Option<usize>
-    ensures { result ≡ position is_blank text.now }
-{
-    text.iter().position(|b| is_blank(*b))
-}
-
 // What stands before and behind the first blank.
 fn cut_at_blank(text: &[u8]) -> Option<(&[u8], &[u8])>
     ensures { IsCut is_blank text.now (option_map (λ cut. (cut.0.now, cut.1.now)) result) }
 {
-    match blank_place(text) {
+    match memchr3(b'\r', b'\t', b' ', text) {
         Some(i) => Some((&text[..i], &text[i + 1..])),
         None => None,
     }

@@ -13,7 +13,6 @@ invariant-loop-rest l = record {
   said : log_rows l.bytes l.rows l.len ≡ rows_after l.rows l.len (kept_rows l.len l.found l.digits.items) (lines_left l.number (option_copied l.rest));
   count : length l.digits.items ≡ l.found * digit_count l.len;
   few : l.found ≤ l.rows;
-  room : l.row.room ≡ l.len;
   place : IfSome l.rest (λ text. l.number + length text.now ≤ 1 + length l.bytes);
 }
 
