@@ -1,8 +1,10 @@
 -- Rows of bits that are kept as digits, one row after the other.
 use Rattle.std.proofs.Common.{◌≡◌, ℕ, ◌+◌, ◌*◌, ◌/◌, ◌%◌, ◌<◌, ◌≤◌, zero, suc, Bool, false, Some, List, [], ◌∷◌, ◌++◌, length, take, drop, get_or, refl, sym, ap, ◌∙◌, arith, length-drop, length-append, option_and_then}
 use Rattle.std.specs.Prelude.{All, slice_get}
+use Rattle.std.specs.Global.{Vec}
+use Rattle.std.specs.Vec.{with_items}
 use Rattle.std.proofs.Math.Nat.{suc-mul}
-use Rattle.std.proofs.lemmas.List.{take_all, take-append-le, drop-append-le, length-take-le, get_or-take, get_or-drop, nil_from_length, drop-drop}
+use Rattle.std.proofs.lemmas.List.{take_all, take_at, append-nil, with_items_is, take-append-le, drop-append-le, length-take-le, get_or-take, get_or-drop, nil_from_length, drop-drop}
 use Rattle.std.proofs.lemmas.List.Elements.{All-nil, All-cons}
 use Rattle.std.proofs.lemmas.Nat.{mul-le}
 use Rattle.std.proofs.lemmas.Option.{get_or_from_slice_get, slice_get-get_or}
@@ -55,6 +57,14 @@ pub length-more : (len rows : ℕ) (digits next : List ℕ) (bits : List Bool) �
 length-more len rows digits next bits is sized long =
     let more : (rows + 1) * digit_count len ≡ rows * digit_count len + digit_count len = ap (λ n. n * digit_count len) (omega arith) ∙ suc-mul rows (digit_count len) in
     ap length is ∙ length-append digits (digits_of bits) ∙ omega (arith, more, sized, length-digits_of bits, long)
+
+-- digits that were written over zeros at the end of a vector are appended
+pub row_appended : (longer all : Vec ℕ) (old lent zeros places rest : List ℕ) (first width : ℕ) → all ≡ with_items longer (take first lent ++ (places ++ rest)) → first ≡ length old → lent ≡ take (first + width) old ++ zeros → longer.len ≡ first + width → length places ≡ width → rest ≡ [] → all.items ≡ old ++ places
+row_appended longer all old lent zeros places rest first width is at zeroed long sized none =
+    let kept : take first lent ≡ old = ap (take first) (zeroed ∙ ap (λ ds. ds ++ zeros) (take_all (first + width) old (omega arith))) ∙ take_at old zeros first (sym at) in
+    let written : take first lent ++ (places ++ rest) ≡ old ++ places = ap (λ ds. ds ++ (places ++ rest)) kept ∙ ap (λ ds. old ++ (places ++ ds)) none ∙ ap (λ ds. old ++ ds) (append-nil places) in
+    let whole : length (take first lent ++ (places ++ rest)) ≡ longer.len = ap length written ∙ length-append old places ∙ omega (arith, at, sized, long) in
+    ap (λ v. v.items) is ∙ with_items_is longer (take first lent ++ (places ++ rest)) whole ∙ written
 
 -- where a row stands
 kept_rows-get : (len rows : ℕ) (digits : List ℕ) (row : ℕ) → row < rows → slice_get (kept_rows len rows digits) row ≡ Some (row_bits len (take (digit_count len) (drop (row * digit_count len) digits)))

@@ -1,17 +1,20 @@
 -- A line at a time.
-use Rattle.std.proofs.Common.{◌≡◌, ◌+◌, ◌≤◌, ◌++◌, length, ap, ◌∙◌, sym, rules, arith, Ok, Err}
+use Rattle.std.proofs.Common.{◌≡◌, ◌+◌, ◌-◌, ◌≤◌, ◌++◌, length, ap, ◌∙◌, sym, rules, arith, Ok, Err, List, ℕ, [], drop, length-drop}
 use Rattle.std.specs.Prelude.{option_copied}
 use Rattle.std.proofs.lemmas.Result.{err_from_is_err_and}
 use Rattle.text_lines.specs.Words.{words_of, lines_of}
 use Rattle.text_lines.proofs.LineLemmas.{at_some, next_place, line_within}
-use Rattle.bt_bits.specs.Digits.{digits_of}
+use Rattle.bt_bits.specs.Digits.{row_bits}
+use Rattle.bt_bits.specs.Hex.{digit_count}
+use Rattle.bt_bits.proofs.DigitLemmas.{length-digits_of}
+use Rattle.std.proofs.lemmas.List.{drop_all}
 use Rattle.response_log.specs.declared.fault.LogFault.TheVariants.{Missing}
 use Rattle.response_log.specs.Kept.{kept_rows}
 use Rattle.response_log.specs.LogRows.{line_of}
-use Rattle.response_log.proofs.KeptLemmas.{length-kept_rows, kept_rows-more, length-more}
+use Rattle.response_log.proofs.KeptLemmas.{length-kept_rows, kept_rows-more, length-more, row_appended}
 use Rattle.response_log.proofs.LineLemmas.{rows_after, lines_left, left_blank, left_words, after_extra, after_fault, after_row, after_few, after_all, filled_line, fails_by}
 use Rattle.response_log.proofs.reader.read_rows.Goals as goal
-use Rattle.response_log.proofs.reader.read_rows.Goals.{in-Some-next_word+else-found-rows+in_ok-read_row+in_ok-extend_from_slice, in_default-next_word}
+use Rattle.response_log.proofs.reader.read_rows.Goals.{in-Some-next_word+else-found-rows+in_ok-resize+in_ok-read_row, in_default-next_word}
 
 pub overflow_cast-line_number : goal.overflow_cast-line_number
 overflow_cast-line_number c =
@@ -42,27 +45,30 @@ loop-rest-preserved c =
     let left = lines_left (c.loop-rest.number + 1) (option_copied c.first_line.result.1) in
     let log = kept_rows c.args.len c.loop-rest.found c.loop-rest.digits.items in
     elim c.match-next_word.branch [
-      | in-Some-next_word+else-found-rows+in_ok-read_row+in_ok-extend_from_slice w ↦
+      | in-Some-next_word+else-found-rows+in_ok-resize+in_ok-read_row w ↦
           let line = left_words c.loop-rest.number (option_copied c.loop-rest.rest) c.in-Some.text.now c.first_line.result.0.now more w.in-Some-next_word.word.now w.in-Some-next_word.behind.now (ap option_copied c.in-Some.is) c.first_line.ensures.lines w.in-Some-next_word.ensures in
-          let bits = w.read_row.new.row.bits in
-          let appended : w.extend_from_slice.new.self.items ≡ c.loop-rest.digits.items ++ digits_of w.read_row.new.row.bits = w.in_ok-extend_from_slice.ensures.items ∙ ap (λ ds. c.loop-rest.digits.items ++ ds) w.digits.ensures in
-          rw (w.found-is, w.digits-is, w.row-is) (record {
+          let bits = row_bits c.args.len w.read_row.new.digits in
+          let sized : length w.read_row.new.digits ≡ c.digit_count-width.result = ap length w.in_ok-read_row.ensures.kept.values ∙ length-digits_of bits ∙ ap digit_count w.in_ok-read_row.ensures.kept.count ∙ sym c.digit_count-width.ensures in
+          let lent : List ℕ = w.deref_mut.result.now in
+          let none : drop (length lent - w.len-first.result) (drop w.len-first.result lent) ≡ [] = drop_all (length lent - w.len-first.result) (drop w.len-first.result lent) (omega (arith, length-drop w.len-first.result lent)) in
+          let appended = row_appended w.resize.new.self c.match-next_word.digits c.loop-rest.digits.items w.deref_mut.result.now _ w.read_row.new.digits _ w.len-first.result c.digit_count-width.result
+          w.digits-is (w.len-first.ensures ∙ c.loop-rest.digits.ok.0) (w.deref_mut.ensures.value ∙ w.in_ok-resize.ensures.items) w.in_ok-resize.ensures.len sized none
+          ∙ ap (λ ds. c.loop-rest.digits.items ++ ds) w.in_ok-read_row.ensures.kept.values in
+          rw w.found-is (record {
             said = c.loop-rest.invariant.said ∙ ap (rows_after c.args.rows c.args.len log) line
                 ∙ after_row c.args.rows c.args.len log (line_of c.loop-rest.number w.in-Some-next_word.word.now w.in-Some-next_word.behind.now) left bits
                 (omega (arith, length-kept_rows c.args.len c.loop-rest.found c.loop-rest.digits.items, w.if-found-rows.false)) w.in_ok-read_row.ensures.fault w.in_ok-read_row.ensures.bits
-                ∙ ap (λ log. rows_after c.args.rows c.args.len log left) (sym (kept_rows-more c.args.len c.loop-rest.found c.loop-rest.digits.items w.extend_from_slice.new.self.items bits appended c.loop-rest.invariant.count w.in_ok-read_row.ensures.len));
-            count = length-more c.args.len c.loop-rest.found c.loop-rest.digits.items w.extend_from_slice.new.self.items bits appended c.loop-rest.invariant.count w.in_ok-read_row.ensures.len;
+                ∙ ap (λ log. rows_after c.args.rows c.args.len log left) (sym (kept_rows-more c.args.len c.loop-rest.found c.loop-rest.digits.items c.match-next_word.digits.items bits appended c.loop-rest.invariant.count w.in_ok-read_row.ensures.kept.count));
+            count = length-more c.args.len c.loop-rest.found c.loop-rest.digits.items c.match-next_word.digits.items bits appended c.loop-rest.invariant.count w.in_ok-read_row.ensures.kept.count;
             few = omega (arith, w.if-found-rows.false);
-            room = w.read_row.ensures.room ∙ c.loop-rest.invariant.room;
             place = place;
           })
       | in_default-next_word w ↦
           let blank = left_blank c.loop-rest.number (option_copied c.loop-rest.rest) c.in-Some.text.now c.first_line.result.0.now more (ap option_copied c.in-Some.is) c.first_line.ensures.lines (search rules) in
-          rw (w.found-is, w.digits-is, w.row-is) (record {
+          rw (w.found-is, w.digits-is) (record {
             said = c.loop-rest.invariant.said ∙ ap (rows_after c.args.rows c.args.len log) blank;
             count = c.loop-rest.invariant.count;
             few = c.loop-rest.invariant.few;
-            room = c.loop-rest.invariant.room;
             place = place;
           })
     ]
