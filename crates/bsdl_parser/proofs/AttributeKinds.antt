@@ -11,7 +11,8 @@ use Rattle.bsdl_parser.specs.declared.draft.ItemWord.TheVariants as words
 use Rattle.bsdl_parser.specs.declared.draft.AttrForm.{AttrForm}
 use Rattle.bsdl_parser.specs.declared.draft.AttrForm.TheVariants as forms
 use Rattle.bsdl_parser.specs.Lexeme.{Lexeme}
-use Rattle.bsdl_parser.specs.Places.{Phrase, some_if}
+use Rattle.grammars.specs.Values.{some_if}
+use Rattle.bsdl_parser.specs.Places.{Phrase}
 use Rattle.bsdl_parser.specs.Bsdl.{used, plain_value, port_value, clock_value, number_value, text_value, value_of, attribute_of, attribute_name, attribute, listed, Items, no_items, item_of, item, file}
 use Rattle.bsdl_parser.specs.Answer.{Derives}
 use Rattle.bsdl_parser.specs.Entity.{is_among, HasKind, HaveKinds}

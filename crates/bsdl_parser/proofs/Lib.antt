@@ -1,4 +1,3 @@
-pub mod Spelled
 pub mod Integers
 pub mod Decided
 pub mod Stopped

@@ -23,7 +23,8 @@ use Rattle.bsdl_parser.specs.declared.draft.ItemWord.TheVariants as words
 use Rattle.bsdl_parser.specs.declared.draft.AttrForm.{AttrForm}
 use Rattle.bsdl_parser.specs.declared.draft.AttrForm.TheVariants as forms
 use Rattle.bsdl_parser.specs.Lexeme.{Lexeme, lexeme_of, lexemes}
-use Rattle.bsdl_parser.specs.Places.{Phrase, some_if, is_word, is_text, any_word, any_text, contents}
+use Rattle.grammars.specs.Values.{some_if}
+use Rattle.bsdl_parser.specs.Places.{Phrase, is_word, is_text, any_word, any_text, contents}
 use Rattle.bsdl_parser.specs.Bsdl.{string_piece, string, fallback, generic, port_name, ports_of, group, port_group, ports, used_package, constant, of_class, plain_value, port_value, clock_value, number_value, text_value, value_of, attribute_of, attribute, listed, Items, no_items, item_of, item_begin, item, file}
 use Rattle.bsdl_parser.specs.Answer.{Derives}
 use Rattle.bsdl_parser.specs.Entity.{HasShortText, IsSmall}

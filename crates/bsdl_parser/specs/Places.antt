@@ -1,13 +1,13 @@
 -- What fits one token's place, and its value.
-use Rattle.std.specs.Prelude.{ℕ, ◌+◌, ◌-◌, ◌*◌, List, length, fold, Bool, true, false, ◌&&◌, if◌then◌else◌, Option, Some, None, nat_le, nat_lt, codes}
-use Rattle.std.specs.List.{list_all, slice_range}
+use Rattle.std.specs.Prelude.{ℕ, ◌-◌, List, length, Bool, true, false, ◌&&◌, if◌then◌else◌, Option, Some, None, codes}
+use Rattle.std.specs.List.{slice_range}
 use Rattle.std.specs.Str.{bytes_eq}
-use Rattle.std.specs.Char.{is_ascii_digit}
 use Rattle.bsdl_lexer.specs.declared.token.TokenKind.{TokenKind}
 use Rattle.bsdl_lexer.specs.declared.token.TokenKind.TheVariants as kinds
 use Rattle.board_defs.specs.declared.device.Mode.{Mode}
 use Rattle.board_defs.specs.declared.device.Mode.TheVariants.{Inward, Outward, Both, Buffer, Linkage}
 use Rattle.grammars.specs.Grammar.{Grammar, place}
+use Rattle.grammars.specs.Values.{some_if, is_integer, digits_value}
 use Rattle.bsdl_parser.specs.Lexeme.{Lexeme}
 
 -- the grammar of a part of a BSDL text
@@ -29,10 +29,6 @@ is_text _ = false
 abbrev pub is_mark : TokenKind → Bool
 is_mark kinds.Mark = true
 is_mark _ = false
-
-abbrev pub some_if : {A : Type 0} → Bool → A → Option A
-some_if true a = Some a
-some_if false a = None
 
 abbrev pub is_the_word : List ℕ → Lexeme → Bool
 is_the_word name token = is_word token.kind && bytes_eq token.spelled name
@@ -69,16 +65,9 @@ contents spelled = slice_range spelled 1 (length spelled - 1)
 abbrev pub any_text : Phrase (List ℕ)
 any_text = place (λ token. some_if (is_text token.kind) (contents token.spelled))
 
--- 1 to 9 digits
-abbrev pub is_integer : List ℕ → Bool
-is_integer spelled = nat_lt 0 (length spelled) && (nat_le (length spelled) 9 && list_all is_ascii_digit spelled)
-
-abbrev pub decimal : List ℕ → ℕ
-decimal digits = fold (λ number digit. 10 * number + (digit - 48)) 0 digits
-
 -- a number of 1 to 9 digits without point and exponent
 abbrev pub integer : Phrase ℕ
-integer = place (λ token. some_if (is_number token.kind && is_integer token.spelled) (decimal token.spelled))
+integer = place (λ token. some_if (is_number token.kind && is_integer token.spelled) (digits_value token.spelled))
 
 -- "in" | "out" | "inout" | "buffer" | "linkage"
 abbrev pub mode_of : List ℕ → Option Mode

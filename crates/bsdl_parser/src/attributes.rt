@@ -6,10 +6,11 @@ ghost use Rattle.grammars.specs.Grammar.{turns, reader_of};
 ghost use Rattle.bsdl_parser.specs.inner.Gives.{Gives};
 ghost use Rattle.bsdl_parser.specs.Bsdl.{used, of_class, plain_value, port_value, clock_value, number_value, text_value, value_of, skipped_token, attribute_name, attribute};
 
-use crate::cursor::{Cursor, spells, upper_name};
+use crate::cursor::{Cursor, upper_name};
 use crate::draft::AttrForm;
 use crate::entity::{Attr, AttrValue};
 use crate::stop::Stop;
+use grammars::spells;
 
 /// The number and the form of an attribute that is used.
 fn used_attribute(name: &[u8]) -> Option<(u32, AttrForm)>

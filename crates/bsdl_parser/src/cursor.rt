@@ -1,7 +1,5 @@
 //! The tokens that are left, read from the front.
-ghost use Rattle.std.specs.Prelude.{◌≡◌, map, length, nat_eq, zip, IfOk};
-ghost use Rattle.std.specs.List.{list_all};
-ghost use Rattle.std.specs.Str.{bytes_eq};
+ghost use Rattle.std.specs.Prelude.{◌≡◌, map, length, IfOk};
 ghost use Rattle.std.specs.Char.{to_ascii_uppercase};
 ghost use Rattle.grammars.specs.Grammar.{reader_of};
 ghost use Rattle.bsdl_parser.specs.Lexeme.{bytes_of, lexeme_of, lexemes};
@@ -12,6 +10,7 @@ use crate::numbers::integer_in;
 use crate::stop::Stop;
 use board_defs::{Mode, Name};
 use bsdl_lexer::{Token, TokenKind};
+use grammars::{spells, upper_bytes};
 use std::alloc::{AllocError, Global};
 use std::marker::Model;
 
@@ -45,27 +44,6 @@ pub(crate) fn bytes_at<'t>(text: &'t [u8], token: &Token) -> &'t [u8]
     let end = (token.end as usize).min(text.len());
     let start = token.start as usize;
     if start <= end { &text[start..end] } else { &[] }
-}
-
-fn each_agrees(bytes: &[u8], name: &[u8]) -> bool
-    ensures { result ≡ list_all (λ pair. nat_eq (to_ascii_uppercase pair.0) pair.1) (zip bytes.now name.now) }
-{
-    bytes
-        .iter()
-        .zip(name)
-        .all(|(byte, letter)| byte.to_ascii_uppercase() == *letter)
-}
-
-/// Whether the bytes in upper case are the name.
-#[tactic(auto, using(crate::proofs::Spelled::differs))]
-pub(crate) fn spells(bytes: &[u8], name: &[u8]) -> bool
-    ensures { result ≡ bytes_eq (map to_ascii_uppercase bytes.now) name.now }
-{
-    if bytes.len() == name.len() {
-        each_agrees(bytes, name)
-    } else {
-        false
-    }
 }
 
 pub(crate) fn is_word(kind: TokenKind) -> bool
@@ -136,9 +114,7 @@ fn mode_named(bytes: &[u8]) -> Option<Mode>
 pub(crate) fn upper_name(alloc: Global, bytes: &[u8]) -> Result<Name, AllocError>
     ensures { IfOk result (λ name. name ≡ map to_ascii_uppercase bytes.now) }
 {
-    let mut upper = bytes.to_vec(alloc)?;
-    upper.as_mut_slice().make_ascii_uppercase();
-    Ok(Name::from_vec(upper))
+    Ok(Name::from_vec(upper_bytes(alloc, bytes)?))
 }
 
 impl<'a> Cursor<'a> {

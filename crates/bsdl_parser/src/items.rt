@@ -7,11 +7,12 @@ ghost use Rattle.bsdl_parser.specs.inner.Gives.{Gives};
 ghost use Rattle.bsdl_parser.specs.Bsdl.{fallback, generic, used_package, constant, item_word, item_begin, item, no_items};
 ghost use Rattle.bsdl_parser.specs.inner.Views.{items_of};
 
-use crate::cursor::{Cursor, bytes_at, is_word, spells};
+use crate::cursor::{Cursor, bytes_at, is_word};
 use crate::draft::{Draft, ItemWord};
 use crate::entity::Constant;
 use crate::stop::Stop;
 use board_defs::Name;
+use grammars::spells;
 
 /// What the word begins behind the items so far.
 fn begun(word: &[u8], draft: &Draft) -> Option<ItemWord>

@@ -1,13 +1,14 @@
 -- What fits the place of one piece, and its value. Letters have no case, and names are taken in upper case.
-use Rattle.std.specs.Prelude.{ℕ, ◌+◌, ◌-◌, ◌*◌, ◌==◌, List, [], ◌∷◌, length, map, reverse, fold, Bool, true, false, ◌&&◌, ◌||◌, if◌then◌else◌, Option, Some, None, nat_le, nat_lt, codes}
+use Rattle.std.specs.Prelude.{ℕ, ◌==◌, List, [], ◌∷◌, length, map, reverse, Bool, true, false, ◌&&◌, ◌||◌, if◌then◌else◌, Option, Some, None, nat_lt, codes}
 use Rattle.std.specs.List.{list_all}
 use Rattle.std.specs.Str.{bytes_eq}
-use Rattle.std.specs.Char.{is_ascii_digit, is_ascii_alphabetic, to_ascii_uppercase}
+use Rattle.std.specs.Char.{is_ascii_alphabetic, to_ascii_uppercase}
 use Rattle.board_defs.specs.declared.device.Symbol.{Symbol}
 use Rattle.board_defs.specs.declared.device.Symbol.TheVariants.{Zero, One, Any}
 use Rattle.board_defs.specs.declared.device.Role.{Role}
 use Rattle.board_defs.specs.declared.device.Role.TheVariants as roles
 use Rattle.grammars.specs.Grammar.{Grammar, place}
+use Rattle.grammars.specs.Values.{some_if, upper, is_integer, digits_value}
 use Rattle.bsdl_strings.specs.Pieces.{is_word_byte, is_end}
 
 -- `(`
@@ -30,15 +31,6 @@ comma = 44
 abbrev pub colon : ℕ
 colon = 58
 
--- the value, where the test holds
-abbrev pub some_if : {A : Type 0} → Bool → A → Option A
-some_if true a = Some a
-some_if false a = None
-
--- the piece in upper case
-abbrev pub upper : List ℕ → List ℕ
-upper piece = map to_ascii_uppercase piece
-
 -- the piece is this byte alone
 abbrev pub is_mark : ℕ → List ℕ → Bool
 is_mark byte [] = false
@@ -57,14 +49,6 @@ is_pin piece = nat_lt 0 (length piece) && list_all is_word_byte piece
 -- a letter, and then letters, digits and `_`
 abbrev pub is_word : List ℕ → Bool
 is_word piece = starts_with_letter piece && list_all is_word_byte piece
-
--- 1 to 9 digits
-abbrev pub is_index : List ℕ → Bool
-is_index piece = nat_lt 0 (length piece) && (nat_le (length piece) 9 && list_all is_ascii_digit piece)
-
--- what decimal digits mean
-abbrev pub decimal : List ℕ → ℕ
-decimal digits = fold (λ number digit. 10 * number + (digit - 48)) 0 digits
 
 -- 0, 1 or X
 abbrev pub is_symbol : ℕ → Bool
@@ -135,7 +119,7 @@ word_or_star = place (λ piece. if is_mark star piece then Some None else some_i
 
 -- an index, by its number
 abbrev pub index : Part ℕ
-index = place (λ piece. some_if (is_index piece) (decimal piece))
+index = place (λ piece. some_if (is_integer piece) (digits_value piece))
 
 -- a code, from the bit nearest TDO on
 abbrev pub code : Part (List Symbol)

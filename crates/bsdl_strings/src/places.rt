@@ -1,18 +1,18 @@
 //! One piece's place: what stands at the front, and the text after it.
-ghost use Rattle.std.specs.Prelude.{◌≡◌, ◌+◌, ◌-◌, ◌*◌, ◌<◌, ◌≤◌, ◌^◌, [], map, length, IsTrue, IfOk, nat_eq, zip};
+ghost use Rattle.std.specs.Prelude.{◌≡◌, ◌-◌, ◌*◌, ◌<◌, ◌≤◌, ◌^◌, [], length, IfOk};
 ghost use Rattle.std.specs.List.{list_all, take_while};
-ghost use Rattle.std.specs.Str.{bytes_eq};
-ghost use Rattle.std.specs.Char.{is_ascii_digit, to_ascii_uppercase};
 ghost use Rattle.grammars.specs.inner.Reader.{found};
 ghost use Rattle.grammars.specs.Grammar.{reader_of};
+ghost use Rattle.grammars.specs.Values.{upper};
 ghost use Rattle.bsdl_strings.specs.Pieces.{is_word_byte, pieces};
 ghost use Rattle.bsdl_strings.specs.inner.Gives.{Gives, more_of};
-ghost use Rattle.bsdl_strings.specs.Places.{upper, is_pin, is_index, is_code, is_symbol, symbol_of, code_of, decimal, role_of, is_result, comma_or_end, word_or_star, pin_or_open, safe_value, result_word, after_bit, the_end};
+ghost use Rattle.bsdl_strings.specs.Places.{is_pin, is_code, is_symbol, symbol_of, code_of, role_of, is_result, comma_or_end, word_or_star, pin_or_open, safe_value, result_word, after_bit, the_end};
 ghost use Rattle.bsdl_strings.specs.Places.{is_mark as is_the_mark, is_word as is_any_word, mark as the_mark, either_mark as either_of_marks, word as any_word, pin as any_pin, index as any_index, code as any_code, role as any_role};
 
 use crate::pieces::{joins_word, next_piece};
 use crate::stop::Stop;
 use board_defs::{Code, Name, Role, Symbol};
+use grammars::{decimal_of, is_short_number, spells, upper_bytes};
 use std::alloc::{AllocError, Global};
 
 fn is_mark(piece: &[u8], byte: u8) -> bool
@@ -43,30 +43,6 @@ fn is_word(piece: &[u8]) -> bool
         [first, ..] => first.is_ascii_alphabetic() && are_word_bytes(piece),
         [] => false,
     }
-}
-
-fn are_digits(piece: &[u8]) -> bool
-    ensures { result ≡ list_all is_ascii_digit piece.now }
-{
-    piece.iter().all(|byte| byte.is_ascii_digit())
-}
-
-fn is_short_number(piece: &[u8]) -> bool
-    ensures { result ≡ is_index piece.now }
-{
-    !piece.is_empty() && piece.len() <= 9 && are_digits(piece)
-}
-
-/// What 1 to 9 digits mean.
-fn decimal_of(digits: &[u8]) -> u32
-    requires { IsTrue (is_index digits.now) }
-    ensures { result ≡ decimal digits.now }
-{
-    let mut number = 0u32;
-    for digit in digits {
-        number = 10 * number + (digit - b'0') as u32;
-    }
-    number
 }
 
 fn fits_symbol(byte: u8) -> bool
@@ -131,34 +107,11 @@ fn short_code_from(alloc: Global, piece: &[u8]) -> Result<Code, AllocError>
     }
 }
 
-fn each_agrees(bytes: &[u8], name: &[u8]) -> bool
-    ensures { result ≡ list_all (λ pair. nat_eq (to_ascii_uppercase pair.0) pair.1) (zip bytes.now name.now) }
-{
-    bytes
-        .iter()
-        .zip(name)
-        .all(|(byte, letter)| byte.to_ascii_uppercase() == *letter)
-}
-
-/// Whether the piece in upper case is the name.
-#[tactic(auto, using(crate::proofs::Spelled::differs))]
-fn spells(piece: &[u8], name: &[u8]) -> bool
-    ensures { result ≡ bytes_eq (upper piece.now) name.now }
-{
-    if piece.len() == name.len() {
-        each_agrees(piece, name)
-    } else {
-        false
-    }
-}
-
 /// The name with these bytes in upper case.
 fn upper_name(alloc: Global, bytes: &[u8]) -> Result<Name, AllocError>
     ensures { IfOk result (λ name. name ≡ upper bytes.now) }
 {
-    let mut upper = bytes.to_vec(alloc)?;
-    upper.as_mut_slice().make_ascii_uppercase();
-    Ok(Name::from_vec(upper))
+    Ok(Name::from_vec(upper_bytes(alloc, bytes)?))
 }
 
 /// The text after this mark.

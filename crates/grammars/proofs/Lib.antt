@@ -4,3 +4,5 @@ pub mod Grammars
 pub mod Loops
 pub mod Keeps
 pub mod ListReaders
+pub mod Spelled
+pub mod Integers

@@ -1,5 +1,10 @@
 //! Grammars as data: which token lists they derive with which values, which lists begin such a
 //! list, and the law that reading from left to right decides both.
 //!
-//! The crate has definitions (`specs/`) and their laws (`proofs/`) alone.
+//! The crate has definitions (`specs/`) and their laws (`proofs/`), and functions on the bytes of
+//! one token (`bytes`).
 #![tactic(auto)]
+
+mod bytes;
+
+pub use bytes::{decimal_of, is_short_number, spells, upper_bytes};

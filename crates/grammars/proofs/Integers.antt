@@ -2,9 +2,9 @@
 use Rattle.std.proofs.Common.{ℕ, ◌<◌, ◌≤◌, ◌^◌, List, length, IsTrue, arith, lit<}
 use Rattle.std.proofs.Math.Nat.{pow-le-pow_right}
 use Rattle.std.proofs.lemmas.Bool.Decides.{nat_tests}
-use Rattle.bsdl_strings.specs.Places.{is_index}
+use Rattle.grammars.specs.Values.{is_integer}
 
-pub at_most_nine : (xs : List ℕ) → IsTrue (is_index xs) → length xs ≤ 9
+pub at_most_nine : (xs : List ℕ) → IsTrue (is_integer xs) → length xs ≤ 9
 at_most_nine xs h = grind (arith, nat_tests)
 
 pub below_limit : (number index len : ℕ) → number < 10 ^ index → index < len → len ≤ 9 → number < 100_000_000

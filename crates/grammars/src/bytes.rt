@@ -1,0 +1,63 @@
+//! What the bytes of one token tell. Letters have no case.
+ghost use Rattle.std.specs.Prelude.{◌≡◌, IsTrue, IfOk, nat_eq, zip};
+ghost use Rattle.std.specs.List.{list_all};
+ghost use Rattle.std.specs.Str.{bytes_eq};
+ghost use Rattle.std.specs.Char.{is_ascii_digit, to_ascii_uppercase};
+ghost use Rattle.grammars.specs.Values.{upper, is_integer, digits_value};
+
+use std::alloc::{AllocError, Global};
+
+fn are_digits(bytes: &[u8]) -> bool
+    ensures { result ≡ list_all is_ascii_digit bytes.now }
+{
+    bytes.iter().all(|byte| byte.is_ascii_digit())
+}
+
+/// Whether the bytes are 1 to 9 digits.
+pub fn is_short_number(bytes: &[u8]) -> bool
+    ensures { result ≡ is_integer bytes.now }
+{
+    !bytes.is_empty() && bytes.len() <= 9 && are_digits(bytes)
+}
+
+/// What 1 to 9 digits mean.
+pub fn decimal_of(digits: &[u8]) -> u32
+    requires { IsTrue (is_integer digits.now) }
+    ensures { result ≡ digits_value digits.now }
+{
+    let mut number = 0u32;
+    for digit in digits {
+        number = 10 * number + (digit - b'0') as u32;
+    }
+    number
+}
+
+fn each_agrees(bytes: &[u8], name: &[u8]) -> bool
+    ensures { result ≡ list_all (λ pair. nat_eq (to_ascii_uppercase pair.0) pair.1) (zip bytes.now name.now) }
+{
+    bytes
+        .iter()
+        .zip(name)
+        .all(|(byte, letter)| byte.to_ascii_uppercase() == *letter)
+}
+
+/// Whether the bytes in upper case are the name.
+#[tactic(auto, using(crate::proofs::Spelled::differs))]
+pub fn spells(bytes: &[u8], name: &[u8]) -> bool
+    ensures { result ≡ bytes_eq (upper bytes.now) name.now }
+{
+    if bytes.len() == name.len() {
+        each_agrees(bytes, name)
+    } else {
+        false
+    }
+}
+
+/// The bytes in upper case.
+pub fn upper_bytes(alloc: Global, bytes: &[u8]) -> Result<Vec<u8>, AllocError>
+    ensures { IfOk result (λ changed. changed.items ≡ upper bytes.now) }
+{
+    let mut upper = bytes.to_vec(alloc)?;
+    upper.as_mut_slice().make_ascii_uppercase();
+    Ok(upper)
+}
