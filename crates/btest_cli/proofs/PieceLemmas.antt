@@ -1,36 +1,22 @@
 -- Texts that go out in pieces.
 use Rattle.std.proofs.Common.{◌≡◌, ℕ, ◌<◌, List, [], ◌∷◌, ◌++◌, length, take, drop, map, Result, Ok, Err, IsErr, refl, sym, ap, ◌∙◌, subst, append_assoc, append-nil, Bor, get_or, ◌+◌}
-use Rattle.std.proofs.lemmas.List.{drop_more, take-append-drop}
 use Rattle.bt_base.specs.Puts.{Puts, Shown}
 use Rattle.bt_base.proofs.Cuts.{puts_ok, puts_err}
+use Rattle.line_printer.proofs.PrintLemmas.{whole-split}
 use Rattle.command_line.specs.Words.{Text}
-use Rattle.btest_cli.specs.Refusals.{whole}
+use Rattle.line_printer.specs.Prints.{whole}
 
 -- the first piece alone
 pub puts_first : {E : Type 0} {old mid : Shown} {first : Text} {r : Result (Unit {0}) E} {x : Unit {0}} → Puts old mid first r → r ≡ Ok x → Puts {T = Unit {0}} {E = E} old mid (first ++ []) (Ok tt)
 puts_first {E} {old} {mid} {first} {r} {x} put ok =
     subst (λ (t : Text). Puts {T = Unit {0}} {E = E} old mid t (Ok tt)) (sym (append-nil first)) (subst (λ (q : Result (Unit {0}) E). Puts old mid first q) ok put)
 
-whole-append : (a b : List Text) → whole (a ++ b) ≡ whole a ++ whole b
-whole-append [] b = refl
-whole-append (x ∷ a) b = ap (λ t. x ++ t) (whole-append a b) ∙ sym (append_assoc x (whole a) (whole b))
-
-map-append-lent : (a b : List (Bor Text)) → map (λ p. p.now) (a ++ b) ≡ map (λ p. p.now) a ++ map (λ p. p.now) b
-map-append-lent [] b = refl
-map-append-lent (x ∷ a) b = ap (λ t. x.now ∷ t) (map-append-lent a b)
-
-whole-at : (first : Text) (done : List (Bor Text)) (piece : Bor Text) (rest : List (Bor Text))
-    → first ++ whole (map (λ p. p.now) (done ++ piece ∷ rest)) ≡ (first ++ whole (map (λ p. p.now) done)) ++ (piece.now ++ whole (map (λ p. p.now) rest))
-whole-at first done piece rest =
-    ap (λ t. first ++ t) (ap whole (map-append-lent done (piece ∷ rest)) ∙ whole-append (map (λ p. p.now) done) (piece.now ∷ map (λ p. p.now) rest))
-    ∙ sym (append_assoc first (whole (map (λ p. p.now) done)) (piece.now ++ whole (map (λ p. p.now) rest)))
-
--- all of the pieces, as those before a place, the one there and those after it
-pub whole-split : (first : Text) (others : List (Bor Text)) (i : ℕ) (d : Bor Text) → i < length others
+-- the first piece and all others, as those before a place, the one there and those after it
+pub whole-from : (first : Text) (others : List (Bor Text)) (i : ℕ) (d : Bor Text) → i < length others
     → first ++ whole (map (λ p. p.now) others) ≡ (first ++ whole (map (λ p. p.now) (take i others))) ++ ((get_or others i d).now ++ whole (map (λ p. p.now) (drop (i + 1) others)))
-whole-split first others i d within =
-    let cut : others ≡ take i others ++ get_or others i d ∷ drop (i + 1) others = sym (take-append-drop i others) ∙ ap (λ l. take i others ++ l) (drop_more others i d within) in
-    ap (λ l. first ++ whole (map (λ p. p.now) l)) cut ∙ whole-at first (take i others) (get_or others i d) (drop (i + 1) others)
+whole-from first others i d within =
+    ap (λ t. first ++ t) (sym (whole-split others i d within))
+    ∙ sym (append_assoc first (whole (map (λ p. p.now) (take i others))) ((get_or others i d).now ++ whole (map (λ p. p.now) (drop (i + 1) others))))
 
 -- a piece that was cut short ends the text
 pub puts_cut : {E : Type 0} {old mid new : Shown} {a b all : Text} {r s : Result (Unit {0}) E} {e : E} → (rest : Text) → Puts {T = Unit {0}} {E = E} old mid a (Ok tt) → Puts mid new b r → r ≡ Err e → IsErr s → all ≡ a ++ (b ++ rest) → Puts old new all s

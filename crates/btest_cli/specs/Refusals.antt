@@ -1,6 +1,6 @@
 -- The lines on standard error.
 use Rattle.std.specs.Prelude.{ℕ, List, [], ◌∷◌, codes, decimal, slice_get, unwrap_or, ◌==◌, if◌then◌else◌}
-use Rattle.std.specs.List.{flat_map}
+use Rattle.line_printer.specs.Prints.{whole}
 use Rattle.board_defs.specs.declared.spot.Spot.{Spot}
 use Rattle.board_files.specs.declared.fault.LineFault.{LineFault}
 use Rattle.board_files.specs.declared.fault.LineFault.TheVariants as line
@@ -23,10 +23,6 @@ use Rattle.response_log.specs.declared.fault.LogFault.TheVariants as log
 use Rattle.batch_diag.specs.declared.fault.BatchFault.{BatchFault}
 use Rattle.batch_diag.specs.declared.fault.BatchFault.TheVariants as batch
 use Rattle.btest_cli.specs.LogRead.{TextFault, Input, Log, Batch as OfBatch}
-
--- pieces, one after the other
-abbrev pub whole : List Text → Text
-whole pieces = flat_map (λ piece. piece) pieces
 
 abbrev pub usage_line : Text
 usage_line = codes "usage: btest chain, device, cover, svf, diagnose, make, ident, walk, groups or batch\n"

@@ -1,7 +1,8 @@
 // The lines on standard error.
 ghost use Rattle.std.specs.Prelude.{◌≡◌, ◌++◌, ◌∷◌, [], List, map, codes, decimal, string_bytes};
 ghost use Rattle.bt_base.specs.Puts.{Puts};
-ghost use Rattle.btest_cli.specs.Refusals.{whole, about, at_line, at_spot, line_fault_line, board_fault_line, limit_line, lex_fault_line, parse_fault_line, rule_line, string_line, attribute_name, device_fault_line, link_fault_line, input_fault_line, log_fault_line, block_fault_line, batch_fault_line, text_name, long_line, read_line, usage_line, write_line, memory_line};
+ghost use Rattle.line_printer.specs.Prints.{whole};
+ghost use Rattle.btest_cli.specs.Refusals.{about, at_line, at_spot, line_fault_line, board_fault_line, limit_line, lex_fault_line, parse_fault_line, rule_line, string_line, attribute_name, device_fault_line, link_fault_line, input_fault_line, log_fault_line, block_fault_line, batch_fault_line, text_name, long_line, read_line, usage_line, write_line, memory_line};
 ghost use Rattle.btest_cli.specs.inner.NamesView.{names_view, text_names_view};
 ghost use Rattle.btest_cli.specs.inner.Failures.{wanted_view};
 

@@ -1,5 +1,5 @@
 use Rattle.bt_base.proofs.Cuts.{puts_err}
-use Rattle.btest_cli.proofs.PieceLemmas.{puts_first, puts_cut, whole-split}
+use Rattle.btest_cli.proofs.PieceLemmas.{puts_first, puts_cut, whole-from}
 use Rattle.std.proofs.Common.{arith}
 use Rattle.btest_cli.proofs.notes.put_all.Goals as goal
 
@@ -12,4 +12,4 @@ loop-piece-init g c = puts_first c.put.ensures c.in_ok-put.was
 pub returns-in_err-put-2 : goal.returns-in_err-put-2
 returns-in_err-put-2 g c =
     puts_cut _ c.loop-piece.invariant c.put-in-loop-piece.ensures c.in_err-put-2.was c.from_residual-in_err-put-2.ensures.0
-    (whole-split c.args.first.now c.args.others.now c.loop-piece.piece-index _ (omega arith))
+    (whole-from c.args.first.now c.args.others.now c.loop-piece.piece-index _ (omega arith))

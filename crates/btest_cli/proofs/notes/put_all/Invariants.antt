@@ -1,7 +1,7 @@
 use Rattle.std.proofs.Common.{Ok, take, map, ◌++◌}
 use Rattle.bt_base.specs.Puts.{Puts}
 use Rattle.bt_base.specs.declared.sink.PutFault.{PutFault}
-use Rattle.btest_cli.specs.Refusals.{whole}
+use Rattle.line_printer.specs.Prints.{whole}
 use Rattle.btest_cli.proofs.notes.put_all.Given as goal
 
 -- the pieces so far were put
