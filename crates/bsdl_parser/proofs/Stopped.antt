@@ -6,7 +6,7 @@ use Rattle.grammars.specs.Grammar.{Grammar, turns, reader_of}
 use Rattle.grammars.proofs.Grammars.{TakesToken, EachTurnTakes, stops}
 use Rattle.bsdl_parser.specs.declared.stop.Stop.{Stop}
 use Rattle.bsdl_parser.specs.declared.stop.Stop.TheVariants.{Memory, Stray}
-use Rattle.bsdl_parser.specs.inner.Gives.{StopsBy}
+use Rattle.bsdl_parser.specs.inner.Reading.{StopsBy}
 
 pub stopped : {T A : Type 0} (turn : A → Grammar T (Turn A A)) → ((a : A) → TakesToken (turn a) × EachTurnTakes (turn a)) → (a : A) (tokens rest : List T) (stop : Stop) (outcome : Outcome T A)
     → reader_of (turns turn a) tokens ≡ outcome → StopsBy (reader_of (turn a) tokens) rest stop → StopsBy outcome rest stop

@@ -3,7 +3,7 @@ ghost use Rattle.std.specs.Prelude.{◌≡◌, map};
 ghost use Rattle.std.specs.Char.{to_ascii_uppercase};
 ghost use Rattle.grammars.specs.Turn.{turn_of};
 ghost use Rattle.grammars.specs.Grammar.{turns, reader_of};
-ghost use Rattle.bsdl_parser.specs.inner.Gives.{Gives};
+ghost use Rattle.bsdl_parser.specs.inner.Reading.{ReadsTokens};
 ghost use Rattle.bsdl_parser.specs.Bsdl.{used, of_class, plain_value, port_value, clock_value, number_value, text_value, value_of, skipped_token, attribute_name, attribute};
 
 use crate::cursor::{Cursor, upper_name};
@@ -51,7 +51,7 @@ fn used_attribute(name: &[u8]) -> Option<(u32, AttrForm)>
 
 impl<'a> Cursor<'a> {
     fn attribute_name(&mut self) -> Result<Option<(u32, AttrForm)>, Stop>
-        ensures { Gives (reader_of attribute_name) self.old self.new result (λ known. known) }
+        ensures { ReadsTokens (reader_of attribute_name) self.old self.new result (λ known. known) }
     {
         let name = self.word_bytes()?;
         Ok(used_attribute(name))
@@ -60,7 +60,7 @@ impl<'a> Cursor<'a> {
     /// `of`, a word, the class and `is`.
     #[tactic(auto, unfolding(crate::specs::Bsdl::of_class))]
     fn of_class(&mut self, class: &[u8]) -> Result<&'a [u8], Stop>
-        ensures { Gives (reader_of (of_class class.now)) self.old self.new result (λ word. map to_ascii_uppercase word.now) }
+        ensures { ReadsTokens (reader_of (of_class class.now)) self.old self.new result (λ word. map to_ascii_uppercase word.now) }
     {
         self.keyword(b"OF")?;
         let word = self.word_bytes()?;
@@ -72,7 +72,7 @@ impl<'a> Cursor<'a> {
 
     #[tactic(auto, unfolding(crate::specs::Bsdl::plain_value))]
     fn plain_value(&mut self) -> Result<AttrValue, Stop>
-        ensures { Gives (reader_of plain_value) self.old self.new result (λ value. value) }
+        ensures { ReadsTokens (reader_of plain_value) self.old self.new result (λ value. value) }
     {
         self.of_class(b"ENTITY")?;
         self.keyword(b"PHYSICAL_PIN_MAP")?;
@@ -82,7 +82,7 @@ impl<'a> Cursor<'a> {
 
     #[tactic(auto, unfolding(crate::specs::Bsdl::port_value))]
     fn port_value(&mut self) -> Result<AttrValue, Stop>
-        ensures { Gives (reader_of port_value) self.old self.new result (λ value. value) }
+        ensures { ReadsTokens (reader_of port_value) self.old self.new result (λ value. value) }
     {
         let port = self.of_class(b"SIGNAL")?;
         self.keyword(b"TRUE")?;
@@ -92,7 +92,7 @@ impl<'a> Cursor<'a> {
 
     #[tactic(auto, unfolding(crate::specs::Bsdl::clock_value))]
     fn clock_value(&mut self) -> Result<AttrValue, Stop>
-        ensures { Gives (reader_of clock_value) self.old self.new result (λ value. value) }
+        ensures { ReadsTokens (reader_of clock_value) self.old self.new result (λ value. value) }
     {
         let port = self.of_class(b"SIGNAL")?;
         self.mark(b"(")?;
@@ -106,7 +106,7 @@ impl<'a> Cursor<'a> {
 
     #[tactic(auto, unfolding(crate::specs::Bsdl::number_value))]
     fn number_value(&mut self) -> Result<AttrValue, Stop>
-        ensures { Gives (reader_of number_value) self.old self.new result (λ value. value) }
+        ensures { ReadsTokens (reader_of number_value) self.old self.new result (λ value. value) }
     {
         self.of_class(b"ENTITY")?;
         let number = self.integer()?;
@@ -116,7 +116,7 @@ impl<'a> Cursor<'a> {
 
     #[tactic(auto, unfolding(crate::specs::Bsdl::text_value))]
     fn text_value(&mut self) -> Result<AttrValue, Stop>
-        ensures { Gives (reader_of text_value) self.old self.new result (λ value. value) }
+        ensures { ReadsTokens (reader_of text_value) self.old self.new result (λ value. value) }
     {
         self.of_class(b"ENTITY")?;
         let text = self.string(b";")?;
@@ -124,7 +124,7 @@ impl<'a> Cursor<'a> {
     }
 
     fn value(&mut self, form: AttrForm) -> Result<AttrValue, Stop>
-        ensures { Gives (reader_of (value_of form)) self.old self.new result (λ value. value) }
+        ensures { ReadsTokens (reader_of (value_of form)) self.old self.new result (λ value. value) }
     {
         match form {
             AttrForm::Plain => self.plain_value(),
@@ -138,7 +138,7 @@ impl<'a> Cursor<'a> {
     /// One token that is read over, and whether another follows.
     #[tactic(auto, unfolding(crate::specs::Bsdl::skipped_token))]
     fn skipped_token(&mut self) -> Result<bool, Stop>
-        ensures { Gives (reader_of (skipped_token tt)) self.old self.new result (λ more. turn_of more tt) }
+        ensures { ReadsTokens (reader_of (skipped_token tt)) self.old self.new result (λ more. turn_of more tt) }
     {
         let more = self.other_than(b";")?;
         Ok(more)
@@ -146,7 +146,7 @@ impl<'a> Cursor<'a> {
 
     /// All tokens up to the next `;`, and that.
     fn skipped(&mut self) -> Result<(), Stop>
-        ensures { Gives (reader_of (turns skipped_token tt)) self.old self.new result (λ x. x) }
+        ensures { ReadsTokens (reader_of (turns skipped_token tt)) self.old self.new result (λ x. x) }
     {
         'tokens: while self.skipped_token()? {}
         Ok(())
@@ -155,7 +155,7 @@ impl<'a> Cursor<'a> {
     /// An attribute item behind its first word. One that is not used is read over.
     #[tactic(auto, unfolding(crate::specs::Bsdl::attribute))]
     pub(crate) fn attribute_item(&mut self) -> Result<Option<Attr>, Stop>
-        ensures { Gives (reader_of attribute) self.old self.new result (λ attribute. attribute) }
+        ensures { ReadsTokens (reader_of attribute) self.old self.new result (λ attribute. attribute) }
     {
         match self.attribute_name()? {
             Some((number, form)) => {

@@ -4,7 +4,7 @@ ghost use Rattle.std.specs.Char.{to_ascii_uppercase};
 ghost use Rattle.grammars.specs.Grammar.{reader_of};
 ghost use Rattle.bsdl_parser.specs.Lexeme.{bytes_of, lexeme_of, lexemes};
 ghost use Rattle.bsdl_parser.specs.Places as places;
-ghost use Rattle.bsdl_parser.specs.inner.Gives.{Gives};
+ghost use Rattle.bsdl_parser.specs.inner.Reading.{ReadsTokens};
 
 use crate::numbers::integer_in;
 use crate::stop::Stop;
@@ -155,7 +155,7 @@ impl<'a> Cursor<'a> {
 
     /// This word, in either case.
     pub(crate) fn keyword(&mut self, name: &[u8]) -> Result<(), Stop>
-        ensures { Gives (reader_of (places.keyword name.now)) self.old self.new result (λ x. x) }
+        ensures { ReadsTokens (reader_of (places.keyword name.now)) self.old self.new result (λ x. x) }
     {
         match self.rest {
             [token, rest @ ..] if is_the_word(self.text, token, name) => {
@@ -168,7 +168,7 @@ impl<'a> Cursor<'a> {
 
     /// This mark.
     pub(crate) fn mark(&mut self, name: &[u8]) -> Result<(), Stop>
-        ensures { Gives (reader_of (places.mark name.now)) self.old self.new result (λ x. x) }
+        ensures { ReadsTokens (reader_of (places.mark name.now)) self.old self.new result (λ x. x) }
     {
         match self.rest {
             [token, rest @ ..] if is_the_mark(self.text, token, name) => {
@@ -181,7 +181,7 @@ impl<'a> Cursor<'a> {
 
     /// One of two words: whether it is the first.
     pub(crate) fn either_word(&mut self, first: &[u8], second: &[u8]) -> Result<bool, Stop>
-        ensures { Gives (reader_of (places.either_word first.now second.now)) self.old self.new result (λ x. x) }
+        ensures { ReadsTokens (reader_of (places.either_word first.now second.now)) self.old self.new result (λ x. x) }
     {
         match self.rest {
             [token, rest @ ..] if is_the_word(self.text, token, first) => {
@@ -198,7 +198,7 @@ impl<'a> Cursor<'a> {
 
     /// One of two marks: whether it is the first.
     pub(crate) fn either_mark(&mut self, first: &[u8], second: &[u8]) -> Result<bool, Stop>
-        ensures { Gives (reader_of (places.either_mark first.now second.now)) self.old self.new result (λ x. x) }
+        ensures { ReadsTokens (reader_of (places.either_mark first.now second.now)) self.old self.new result (λ x. x) }
     {
         match self.rest {
             [token, rest @ ..] if is_the_mark(self.text, token, first) => {
@@ -215,7 +215,7 @@ impl<'a> Cursor<'a> {
 
     /// A word, or this mark: whether it is the word.
     pub(crate) fn word_or_mark(&mut self, name: &[u8]) -> Result<bool, Stop>
-        ensures { Gives (reader_of (places.word_or_mark name.now)) self.old self.new result (λ x. x) }
+        ensures { ReadsTokens (reader_of (places.word_or_mark name.now)) self.old self.new result (λ x. x) }
     {
         match self.rest {
             [token, rest @ ..] if is_word(token.kind) => {
@@ -232,7 +232,7 @@ impl<'a> Cursor<'a> {
 
     /// Any token: whether it is another than this mark.
     pub(crate) fn other_than(&mut self, name: &[u8]) -> Result<bool, Stop>
-        ensures { Gives (reader_of (places.other_than name.now)) self.old self.new result (λ x. x) }
+        ensures { ReadsTokens (reader_of (places.other_than name.now)) self.old self.new result (λ x. x) }
     {
         match self.rest {
             [] => Err(Stop::Stray),
@@ -244,7 +244,7 @@ impl<'a> Cursor<'a> {
     }
 
     pub(crate) fn number(&mut self) -> Result<(), Stop>
-        ensures { Gives (reader_of places.any_number) self.old self.new result (λ x. x) }
+        ensures { ReadsTokens (reader_of places.any_number) self.old self.new result (λ x. x) }
     {
         match self.rest {
             [token, rest @ ..] if is_number(token.kind) => {
@@ -257,7 +257,7 @@ impl<'a> Cursor<'a> {
 
     /// A number of 1 to 9 digits without point and exponent.
     pub(crate) fn integer(&mut self) -> Result<u32, Stop>
-        ensures { Gives (reader_of places.integer) self.old self.new result (λ x. x) }
+        ensures { ReadsTokens (reader_of places.integer) self.old self.new result (λ x. x) }
     {
         match self.rest {
             [token, rest @ ..] if is_number(token.kind) => {
@@ -271,7 +271,7 @@ impl<'a> Cursor<'a> {
 
     /// Any word, as it stands in the text.
     pub(crate) fn word_bytes(&mut self) -> Result<&'a [u8], Stop>
-        ensures { Gives (reader_of places.any_word) self.old self.new result (λ bytes. map to_ascii_uppercase bytes.now) }
+        ensures { ReadsTokens (reader_of places.any_word) self.old self.new result (λ bytes. map to_ascii_uppercase bytes.now) }
     {
         match self.rest {
             [token, rest @ ..] if is_word(token.kind) => {
@@ -284,7 +284,7 @@ impl<'a> Cursor<'a> {
 
     /// Any word, in upper case.
     pub(crate) fn word(&mut self) -> Result<Name, Stop>
-        ensures { Gives (reader_of places.any_word) self.old self.new result (λ name. name) }
+        ensures { ReadsTokens (reader_of places.any_word) self.old self.new result (λ name. name) }
     {
         let bytes = self.word_bytes()?;
         Ok(upper_name(self.alloc, bytes)?)
@@ -292,7 +292,7 @@ impl<'a> Cursor<'a> {
 
     /// The contents of any text, as they stand in the text.
     pub(crate) fn text_bytes(&mut self) -> Result<&'a [u8], Stop>
-        ensures { Gives (reader_of places.any_text) self.old self.new result (λ bytes. map to_ascii_uppercase bytes.now) }
+        ensures { ReadsTokens (reader_of places.any_text) self.old self.new result (λ bytes. map to_ascii_uppercase bytes.now) }
     {
         match self.rest {
             [token, rest @ ..] if is_text(token.kind) => {
@@ -305,7 +305,7 @@ impl<'a> Cursor<'a> {
 
     /// The mode of a port.
     pub(crate) fn mode(&mut self) -> Result<Mode, Stop>
-        ensures { Gives (reader_of places.mode) self.old self.new result (λ mode. mode) }
+        ensures { ReadsTokens (reader_of places.mode) self.old self.new result (λ mode. mode) }
     {
         match self.rest {
             [token, rest @ ..] if is_word(token.kind) => {

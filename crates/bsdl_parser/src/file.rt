@@ -1,7 +1,7 @@
 //! A whole file.
 ghost use Rattle.std.specs.Prelude.{◌≡◌};
 ghost use Rattle.grammars.specs.Grammar.{reader_of};
-ghost use Rattle.bsdl_parser.specs.inner.Gives.{Gives};
+ghost use Rattle.bsdl_parser.specs.inner.Reading.{ReadsTokens};
 ghost use Rattle.bsdl_parser.specs.Bsdl.{file, close_of, entity_of};
 ghost use Rattle.bsdl_parser.specs.inner.Views.{items_of};
 
@@ -35,7 +35,7 @@ fn entity_from(name: Name, draft: Draft) -> Entity
 
 impl<'a> Cursor<'a> {
     fn close(&mut self, is_named: bool) -> Result<(), Stop>
-        ensures { Gives (reader_of (close_of is_named)) self.old self.new result (λ x. x) }
+        ensures { ReadsTokens (reader_of (close_of is_named)) self.old self.new result (λ x. x) }
     {
         if is_named { self.mark(b";") } else { Ok(()) }
     }
@@ -43,7 +43,7 @@ impl<'a> Cursor<'a> {
     /// The entity of the file at the front.
     #[tactic(auto, unfolding(crate::specs::Bsdl::file))]
     pub(crate) fn file(&mut self) -> Result<Entity, Stop>
-        ensures { Gives (reader_of file) self.old self.new result (λ entity. entity) }
+        ensures { ReadsTokens (reader_of file) self.old self.new result (λ entity. entity) }
     {
         self.keyword(b"ENTITY")?;
         let name = self.word()?;

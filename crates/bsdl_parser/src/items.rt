@@ -3,7 +3,7 @@ ghost use Rattle.std.specs.Prelude.{◌≡◌, map};
 ghost use Rattle.std.specs.Char.{to_ascii_uppercase};
 ghost use Rattle.grammars.specs.Turn.{turn_of};
 ghost use Rattle.grammars.specs.Grammar.{turns, reader_of};
-ghost use Rattle.bsdl_parser.specs.inner.Gives.{Gives};
+ghost use Rattle.bsdl_parser.specs.inner.Reading.{ReadsTokens};
 ghost use Rattle.bsdl_parser.specs.Bsdl.{fallback, generic, used_package, constant, item_word, item_begin, item, no_items};
 ghost use Rattle.bsdl_parser.specs.inner.Views.{items_of};
 
@@ -45,7 +45,7 @@ fn begun(word: &[u8], draft: &Draft) -> Option<ItemWord>
 
 impl<'a> Cursor<'a> {
     fn fallback_if(&mut self, is_given: bool) -> Result<Option<Name>, Stop>
-        ensures { Gives (reader_of (fallback is_given)) self.old self.new result (λ name. name) }
+        ensures { ReadsTokens (reader_of (fallback is_given)) self.old self.new result (λ name. name) }
     {
         if is_given {
             self.mark(b"=")?;
@@ -58,7 +58,7 @@ impl<'a> Cursor<'a> {
     /// A generic item behind its first word: the default of PHYSICAL_PIN_MAP.
     #[tactic(auto, unfolding(crate::specs::Bsdl::generic))]
     fn generic_item(&mut self) -> Result<Option<Name>, Stop>
-        ensures { Gives (reader_of generic) self.old self.new result (λ name. name) }
+        ensures { ReadsTokens (reader_of generic) self.old self.new result (λ name. name) }
     {
         self.mark(b"(")?;
         self.keyword(b"PHYSICAL_PIN_MAP")?;
@@ -73,7 +73,7 @@ impl<'a> Cursor<'a> {
     /// A use item behind its first word: the package.
     #[tactic(auto, unfolding(crate::specs::Bsdl::used_package))]
     fn use_item(&mut self) -> Result<Name, Stop>
-        ensures { Gives (reader_of used_package) self.old self.new result (λ name. name) }
+        ensures { ReadsTokens (reader_of used_package) self.old self.new result (λ name. name) }
     {
         let name = self.word()?;
         self.mark(b".")?;
@@ -85,7 +85,7 @@ impl<'a> Cursor<'a> {
     /// A constant item behind its first word.
     #[tactic(auto, unfolding(crate::specs::Bsdl::constant))]
     fn constant_item(&mut self) -> Result<Constant, Stop>
-        ensures { Gives (reader_of constant) self.old self.new result (λ constant. constant) }
+        ensures { ReadsTokens (reader_of constant) self.old self.new result (λ constant. constant) }
     {
         let name = self.word()?;
         self.mark(b":")?;
@@ -97,7 +97,7 @@ impl<'a> Cursor<'a> {
     }
 
     fn item_begin(&mut self, draft: &Draft) -> Result<ItemWord, Stop>
-        ensures { Gives (reader_of (item_begin (items_of draft.now))) self.old self.new result (λ word. word) }
+        ensures { ReadsTokens (reader_of (item_begin (items_of draft.now))) self.old self.new result (λ word. word) }
     {
         match self.rest {
             [token, rest @ ..] if is_word(token.kind) => {
@@ -112,7 +112,7 @@ impl<'a> Cursor<'a> {
     /// One item, added to those before, and whether it was an item and not the end.
     #[tactic(auto, unfolding(crate::specs::Bsdl::item, crate::specs::Bsdl::item_of))]
     fn item(&mut self, draft: &mut Draft) -> Result<bool, Stop>
-        ensures { Gives (reader_of (item (items_of draft.old))) self.old self.new result (λ more. turn_of more (items_of draft.new)) }
+        ensures { ReadsTokens (reader_of (item (items_of draft.old))) self.old self.new result (λ more. turn_of more (items_of draft.new)) }
     {
         match self.item_begin(draft)? {
             ItemWord::Generic => {
@@ -137,7 +137,7 @@ impl<'a> Cursor<'a> {
 
     /// The items up to the word `end`, and that word.
     pub(crate) fn items(&mut self) -> Result<Draft, Stop>
-        ensures { Gives (reader_of (turns item no_items)) self.old self.new result (λ draft. items_of draft) }
+        ensures { ReadsTokens (reader_of (turns item no_items)) self.old self.new result (λ draft. items_of draft) }
     {
         let mut draft = Draft {
             has_generic: false,

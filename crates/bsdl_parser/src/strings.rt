@@ -3,7 +3,7 @@ ghost use Rattle.std.specs.Prelude.{◌≡◌, map};
 ghost use Rattle.std.specs.Char.{to_ascii_uppercase};
 ghost use Rattle.grammars.specs.Turn.{turn_of};
 ghost use Rattle.grammars.specs.Grammar.{reader_of};
-ghost use Rattle.bsdl_parser.specs.inner.Gives.{Gives};
+ghost use Rattle.bsdl_parser.specs.inner.Reading.{ReadsTokens};
 ghost use Rattle.bsdl_parser.specs.Bsdl.{string_piece, string};
 
 use crate::cursor::Cursor;
@@ -22,7 +22,7 @@ impl<'a> Cursor<'a> {
     /// One text, added to those before, and whether another follows.
     #[tactic(auto, unfolding(crate::specs::Bsdl::string_piece))]
     fn piece(&mut self, close: &[u8], content: &mut Vec<u8>) -> Result<bool, Stop>
-        ensures { Gives (reader_of (string_piece close.now (map to_ascii_uppercase content.old.items))) self.old self.new result (λ joined. turn_of joined (map to_ascii_uppercase content.new.items)) }
+        ensures { ReadsTokens (reader_of (string_piece close.now (map to_ascii_uppercase content.old.items))) self.old self.new result (λ joined. turn_of joined (map to_ascii_uppercase content.new.items)) }
     {
         let text = self.text_bytes()?;
         content.extend_from_slice(text)?;
@@ -31,7 +31,7 @@ impl<'a> Cursor<'a> {
 
     /// A string up to the mark that closes it, and that mark.
     pub(crate) fn string(&mut self, close: &[u8]) -> Result<Name, Stop>
-        ensures { Gives (reader_of (string close.now)) self.old self.new result (λ name. name) }
+        ensures { ReadsTokens (reader_of (string close.now)) self.old self.new result (λ name. name) }
     {
         let mut content = Vec::new(self.allocator());
         while self.piece(close, &mut content)? {}

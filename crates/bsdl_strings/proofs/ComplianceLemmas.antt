@@ -10,12 +10,12 @@ use Rattle.bsdl_strings.specs.declared.values.PortWord.{PortWord}
 use Rattle.bsdl_strings.specs.declared.stop.Stop.{Stop}
 use Rattle.bsdl_strings.specs.declared.stop.Stop.TheVariants.{Memory, At}
 use Rattle.bsdl_strings.specs.Pieces.{pieces}
-use Rattle.bsdl_strings.specs.inner.Gives.{StopsAt}
-use Rattle.bsdl_strings.specs.Faults.{fault_of, FaultIs}
-use Rattle.bsdl_strings.specs.Strings.{bit_of, bit, bit_turn, first_parenthesis, second_parenthesis, compliance, IsCompliance, HasFirstParenthesis, IsNoCompliance}
+use Rattle.bsdl_strings.specs.inner.Reading.{StopsOn}
+use Rattle.bsdl_strings.specs.Faults.{fault_of, NamesEntry}
+use Rattle.bsdl_strings.specs.Strings.{bit_behind, bit, bit_turn, first_parenthesis, second_parenthesis, compliance, IsCompliance, HasFirstParenthesis, IsNoCompliance}
 use Rattle.bsdl_strings.proofs.Lists.{can_codes}
 
-bit_of_takes : (name : List ℕ) (next : Option Bool) → EachTurnTakes (bit_of name next)
+bit_of_takes : (name : List ℕ) (next : Option Bool) → EachTurnTakes (bit_behind name next)
 bit_of_takes name (Some more) = tt
 bit_of_takes name None = (tt, λ i. (tt, λ u. (tt, λ more. tt)))
 
@@ -60,7 +60,7 @@ last_bit before all one tokens rest outcome so_far e more pushed =
     ∙ ap (λ xs. found xs rest) (sym pushed)
 
 pub bits_stop : (before : List PortWord) (stop : Stop) (tokens : List (List ℕ)) (outcome : Outcome (List ℕ) (List PortWord)) → reader_of (turns bit_turn before) tokens ≡ outcome
-    → StopsAt stop (reader_of bit tokens) → StopsAt stop outcome
+    → StopsOn stop (reader_of bit tokens) → StopsOn stop outcome
 bits_stop before (Memory error) tokens outcome so_far e = tt
 bits_stop before (At rest) tokens outcome so_far e = stops bit_turn turn_takes before tokens (pieces rest.now) outcome so_far (turn_refuses before tokens (pieces rest.now) e)
 
@@ -90,10 +90,10 @@ no_first text rest e h = let k = found_front first_parenthesis first_takes (piec
 has_first : (text : List ℕ) (mid : List (List ℕ)) (ports : List PortWord) → reader_of first_parenthesis (pieces text) ≡ found ports mid → HasFirstParenthesis text
 has_first text mid ports e = let k = read_front first_parenthesis first_takes (pieces text) ports mid e in record { front = k.front; back = mid; value = ports; split = k.split; first = k.whole; next = tt }
 
-pub wrong_first : (text : List ℕ) (stop : Stop) → StopsAt stop (reader_of first_parenthesis (pieces text)) → FaultIs (IsNoCompliance text) (fault_of stop 0)
+pub wrong_first : (text : List ℕ) (stop : Stop) → StopsOn stop (reader_of first_parenthesis (pieces text)) → NamesEntry (IsNoCompliance text) (fault_of stop 0)
 wrong_first text (Memory error) e = tt
 wrong_first text (At rest) e = record { no_value = no_value compliance compliance_takes (pieces text) (pieces rest.now) (refuses_first text (pieces rest.now) e); place = inl (refl, no_first text (pieces rest.now) e) }
 
-pub wrong_second : (text : List ℕ) (mid : List (List ℕ)) (ports : List PortWord) (stop : Stop) → reader_of first_parenthesis (pieces text) ≡ found ports mid → StopsAt stop (reader_of second_parenthesis mid) → FaultIs (IsNoCompliance text) (fault_of stop 1)
+pub wrong_second : (text : List ℕ) (mid : List (List ℕ)) (ports : List PortWord) (stop : Stop) → reader_of first_parenthesis (pieces text) ≡ found ports mid → StopsOn stop (reader_of second_parenthesis mid) → NamesEntry (IsNoCompliance text) (fault_of stop 1)
 wrong_second text mid ports (Memory error) e f = tt
 wrong_second text mid ports (At rest) e f = record { no_value = no_value compliance compliance_takes (pieces text) (pieces rest.now) (refuses_second text mid (pieces rest.now) ports e f); place = inr (refl, has_first text mid ports e) }

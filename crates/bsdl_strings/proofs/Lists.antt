@@ -9,8 +9,8 @@ use Rattle.grammars.proofs.ListReaders.{CanRead, Progress, each_takes, stops_at_
 use Rattle.bsdl_strings.specs.declared.stop.Stop.{Stop}
 use Rattle.bsdl_strings.specs.declared.stop.Stop.TheVariants.{Memory, At}
 use Rattle.bsdl_strings.specs.Pieces.{pieces}
-use Rattle.bsdl_strings.specs.inner.Gives.{StopsAt, more_of}
-use Rattle.bsdl_strings.specs.Faults.{fault_of, FaultIs}
+use Rattle.bsdl_strings.specs.inner.Reading.{StopsOn, more_of}
+use Rattle.bsdl_strings.specs.Faults.{fault_of, NamesEntry}
 use Rattle.bsdl_strings.proofs.PieceLemmas.{length_pieces}
 use Rattle.bsdl_strings.specs.Places.{Part, pin, code, comma_or_end}
 use Rattle.bsdl_strings.specs.Strings.{comma_or_close, pins_of, map_entry, opcode, indexed, place_of, port_place, control_of, control, cell, entry, IsListOf, IsNoListOf}
@@ -67,12 +67,12 @@ can_entries = record {
 }
 
 pub stops_in_entry : {A : Type 0} {entry : Part A} {more : Part Bool} → CanRead entry more → (tokens here : List (List ℕ)) (before : List A) (stop : Stop)
-    → Progress entry more tokens here before → StopsAt stop (reader_of entry here) → StopsAt stop (reader_of (list_of entry more) tokens)
+    → Progress entry more tokens here before → StopsOn stop (reader_of entry here) → StopsOn stop (reader_of (list_of entry more) tokens)
 stops_in_entry can tokens here before (Memory error) so_far e = tt
 stops_in_entry can tokens here before (At rest) so_far e = stops_at_entry can tokens here (pieces rest.now) before so_far e
 
 pub stops_in_mark : {A : Type 0} {entry : Part A} {more : Part Bool} → CanRead entry more → (tokens here mid : List (List ℕ)) (before : List A) (one : A) (stop : Stop)
-    → Progress entry more tokens here before → reader_of entry here ≡ found one mid → StopsAt stop (reader_of more mid) → StopsAt stop (reader_of (list_of entry more) tokens)
+    → Progress entry more tokens here before → reader_of entry here ≡ found one mid → StopsOn stop (reader_of more mid) → StopsOn stop (reader_of (list_of entry more) tokens)
 stops_in_mark can tokens here mid before one (Memory error) so_far e f = tt
 stops_in_mark can tokens here mid before one (At rest) so_far e f = stops_after_entry can tokens here mid (pieces rest.now) before one so_far e f
 
@@ -81,12 +81,12 @@ pub few_entries : {A : Type 0} {entry : Part A} (text rest : List ℕ) (before :
 few_entries text rest before so_far short = omega (arith, so_far.fewer, (length_pieces text).1, (length_pieces rest).0)
 
 pub wrong_in_entry : {A : Type 0} {entry : Part A} → CanRead entry comma_or_end → (text : List ℕ) (here : List (List ℕ)) (before : List A) (stop : Stop)
-    → Progress entry comma_or_end (pieces text) here before → StopsAt stop (reader_of entry here) → FaultIs (IsNoListOf entry text) (fault_of stop (length before))
+    → Progress entry comma_or_end (pieces text) here before → StopsOn stop (reader_of entry here) → NamesEntry (IsNoListOf entry text) (fault_of stop (length before))
 wrong_in_entry can text here before (Memory error) so_far e = tt
 wrong_in_entry can text here before (At rest) so_far e = wrong_at_entry can (pieces text) here (pieces rest.now) before so_far e
 
 pub wrong_in_mark : {A : Type 0} {entry : Part A} → CanRead entry comma_or_end → (text : List ℕ) (here mid : List (List ℕ)) (before : List A) (one : A) (stop : Stop)
-    → Progress entry comma_or_end (pieces text) here before → reader_of entry here ≡ found one mid → StopsAt stop (reader_of comma_or_end mid) → FaultIs (IsNoListOf entry text) (fault_of stop (length before))
+    → Progress entry comma_or_end (pieces text) here before → reader_of entry here ≡ found one mid → StopsOn stop (reader_of comma_or_end mid) → NamesEntry (IsNoListOf entry text) (fault_of stop (length before))
 wrong_in_mark can text here mid before one (Memory error) so_far e f = tt
 wrong_in_mark can text here mid before one (At rest) so_far e f = wrong_after_entry can (pieces text) here mid (pieces rest.now) before one so_far e f
 

@@ -11,6 +11,6 @@ fault_of (stops.Memory error) entries = faults.Memory error
 fault_of (stops.At rest) entries = faults.At (entries + 1)
 
 -- the number of the entry has this property, where there is one: want of memory says nothing
-abbrev pub FaultIs : (ℕ → Type 0) → StringFault → Type 0
-FaultIs P (faults.At number) = P number
-FaultIs P (faults.Memory error) = Unit {0}
+abbrev pub NamesEntry : (ℕ → Type 0) → StringFault → Type 0
+NamesEntry P (faults.At number) = P number
+NamesEntry P (faults.Memory error) = Unit {0}

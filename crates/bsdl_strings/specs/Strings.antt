@@ -105,9 +105,9 @@ entry = do
   done (record { num = num; port = port; role = role; safe = safe; ctl = ctl })
 
 -- what stands behind the word of a compliance bit
-abbrev pub bit_of : List ℕ → Option Bool → Part (PortWord × Bool)
-bit_of name (Some more) = done (Plain name, more)
-bit_of name None = do
+abbrev pub bit_behind : List ℕ → Option Bool → Part (PortWord × Bool)
+bit_behind name (Some more) = done (Plain name, more)
+bit_behind name None = do
   i ← index
   _ ← mark close_mark
   more ← comma_or_close
@@ -118,7 +118,7 @@ unfoldable pub bit : Part (PortWord × Bool)
 bit = do
   name ← word
   next ← after_bit
-  bit_of name next
+  bit_behind name next
 
 -- one bit, with the comma or the parenthesis behind it
 unfoldable pub bit_turn : List PortWord → Part (Turn (List PortWord) (List PortWord))

@@ -3,9 +3,9 @@ ghost use Rattle.std.specs.Prelude.{◌<◌, [], IfOk, IfErr};
 ghost use Rattle.grammars.specs.inner.Reader.{found};
 ghost use Rattle.grammars.specs.Grammar.{reader_of};
 ghost use Rattle.bsdl_strings.specs.Pieces.{pieces};
-ghost use Rattle.bsdl_strings.specs.inner.Gives.{Gives};
-ghost use Rattle.bsdl_strings.specs.Faults.{FaultIs};
-ghost use Rattle.bsdl_strings.specs.Strings.{bit_of, bit as any_bit, bits as any_bits, first_parenthesis as the_first, second_parenthesis as the_second, IsCompliance, IsNoCompliance};
+ghost use Rattle.bsdl_strings.specs.inner.Reading.{ReadsPieces};
+ghost use Rattle.bsdl_strings.specs.Faults.{NamesEntry};
+ghost use Rattle.bsdl_strings.specs.Strings.{bit_behind, bit as any_bit, bits as any_bits, first_parenthesis as the_first, second_parenthesis as the_second, IsCompliance, IsNoCompliance};
 
 use crate::entries::codes;
 use crate::fault::StringFault;
@@ -21,7 +21,7 @@ fn bit_from(
     next: Option<bool>,
     text: &[u8],
 ) -> Result<((PortWord, bool), &[u8]), Stop<'_>>
-    ensures { Gives (λ x. found x.0 (pieces x.1.now)) result (reader_of (bit_of name next) (pieces text.now)) }
+    ensures { ReadsPieces (λ x. found x.0 (pieces x.1.now)) result (reader_of (bit_behind name next) (pieces text.now)) }
 {
     match next {
         Some(more) => Ok(((PortWord::Plain(name), more), text)),
@@ -37,7 +37,7 @@ fn bit_from(
 /// A compliance bit, and whether another comes.
 #[tactic(auto, unfolding(crate::specs::Strings::bit))]
 fn bit(alloc: Global, text: &[u8]) -> Result<((PortWord, bool), &[u8]), Stop<'_>>
-    ensures { Gives (λ x. found x.0 (pieces x.1.now)) result (reader_of any_bit (pieces text.now)) }
+    ensures { ReadsPieces (λ x. found x.0 (pieces x.1.now)) result (reader_of any_bit (pieces text.now)) }
 {
     let (name, rest) = word(alloc, text)?;
     let (next, rest) = mark_after_bit(rest)?;
@@ -46,7 +46,7 @@ fn bit(alloc: Global, text: &[u8]) -> Result<((PortWord, bool), &[u8]), Stop<'_>
 
 /// Bits up to the parenthesis that closes.
 fn bits(alloc: Global, text: &[u8]) -> Result<(Items<PortWord>, &[u8]), Stop<'_>>
-    ensures { Gives (λ x. found x.0 (pieces x.1.now)) result (reader_of any_bits (pieces text.now)) }
+    ensures { ReadsPieces (λ x. found x.0 (pieces x.1.now)) result (reader_of any_bits (pieces text.now)) }
 {
     let mut bits = Vec::new(alloc);
     let mut rest = text;
@@ -62,7 +62,7 @@ fn bits(alloc: Global, text: &[u8]) -> Result<(Items<PortWord>, &[u8]), Stop<'_>
 
 #[tactic(auto, unfolding(crate::specs::Strings::first_parenthesis))]
 fn first_parenthesis(alloc: Global, text: &[u8]) -> Result<(Items<PortWord>, &[u8]), Stop<'_>>
-    ensures { Gives (λ x. found x.0 (pieces x.1.now)) result (reader_of the_first (pieces text.now)) }
+    ensures { ReadsPieces (λ x. found x.0 (pieces x.1.now)) result (reader_of the_first (pieces text.now)) }
 {
     let rest = mark(text, b'(')?;
     bits(alloc, rest)
@@ -70,7 +70,7 @@ fn first_parenthesis(alloc: Global, text: &[u8]) -> Result<(Items<PortWord>, &[u
 
 #[tactic(auto, unfolding(crate::specs::Strings::second_parenthesis))]
 fn second_parenthesis(alloc: Global, text: &[u8]) -> Result<Items<Code>, Stop<'_>>
-    ensures { Gives (λ x. found x []) result (reader_of the_second (pieces text.now)) }
+    ensures { ReadsPieces (λ x. found x []) result (reader_of the_second (pieces text.now)) }
 {
     let rest = mark(text, b'(')?;
     let (patterns, rest) = codes(alloc, rest)?;
@@ -84,7 +84,7 @@ fn second_parenthesis(alloc: Global, text: &[u8]) -> Result<Items<Code>, Stop<'_
 /// parenthesis of bits stands whole at its front, and 2 where one does.
 pub fn compliance(alloc: Global, text: &[u8]) -> Result<Compliance, StringFault>
     ensures value { IfOk result (λ value. IsCompliance text.now value) }
-    ensures fault { IfErr result (FaultIs (IsNoCompliance text.now)) }
+    ensures fault { IfErr result (NamesEntry (IsNoCompliance text.now)) }
 {
     let (ports, rest) = match first_parenthesis(alloc, text) {
         Ok(found) => found,

@@ -5,7 +5,7 @@ ghost use Rattle.grammars.specs.inner.Reader.{found};
 ghost use Rattle.grammars.specs.Grammar.{reader_of};
 ghost use Rattle.grammars.specs.Values.{upper};
 ghost use Rattle.bsdl_strings.specs.Pieces.{is_word_byte, pieces};
-ghost use Rattle.bsdl_strings.specs.inner.Gives.{Gives, more_of};
+ghost use Rattle.bsdl_strings.specs.inner.Reading.{ReadsPieces, more_of};
 ghost use Rattle.bsdl_strings.specs.Places.{is_pin, is_code, is_symbol, symbol_of, code_of, role_of, is_result, comma_or_end, word_or_star, pin_or_open, safe_value, result_word, after_bit, the_end};
 ghost use Rattle.bsdl_strings.specs.Places.{is_mark as is_the_mark, is_word as is_any_word, mark as the_mark, either_mark as either_of_marks, word as any_word, pin as any_pin, index as any_index, code as any_code, role as any_role};
 
@@ -116,7 +116,7 @@ fn upper_name(alloc: Global, bytes: &[u8]) -> Result<Name, AllocError>
 
 /// The text after this mark.
 pub(crate) fn mark(text: &[u8], byte: u8) -> Result<&[u8], Stop<'_>>
-    ensures { Gives (λ rest. found tt (pieces rest.now)) result (reader_of (the_mark byte) (pieces text.now)) }
+    ensures { ReadsPieces (λ rest. found tt (pieces rest.now)) result (reader_of (the_mark byte) (pieces text.now)) }
 {
     match next_piece(text) {
         Some((piece, rest)) if is_mark(piece, byte) => Ok(rest),
@@ -126,7 +126,7 @@ pub(crate) fn mark(text: &[u8], byte: u8) -> Result<&[u8], Stop<'_>>
 
 /// One of two marks: whether it is the first.
 pub(crate) fn either_mark(text: &[u8], first: u8, second: u8) -> Result<(bool, &[u8]), Stop<'_>>
-    ensures { Gives (λ x. found x.0 (pieces x.1.now)) result (reader_of (either_of_marks first second) (pieces text.now)) }
+    ensures { ReadsPieces (λ x. found x.0 (pieces x.1.now)) result (reader_of (either_of_marks first second) (pieces text.now)) }
 {
     match next_piece(text) {
         Some((piece, rest)) if is_mark(piece, first) => Ok((true, rest)),
@@ -137,7 +137,7 @@ pub(crate) fn either_mark(text: &[u8], first: u8, second: u8) -> Result<(bool, &
 
 /// A letter, and then letters, digits and `_`.
 pub(crate) fn word(alloc: Global, text: &[u8]) -> Result<(Name, &[u8]), Stop<'_>>
-    ensures { Gives (λ x. found x.0 (pieces x.1.now)) result (reader_of any_word (pieces text.now)) }
+    ensures { ReadsPieces (λ x. found x.0 (pieces x.1.now)) result (reader_of any_word (pieces text.now)) }
 {
     match next_piece(text) {
         Some((piece, rest)) if is_word(piece) => Ok((upper_name(alloc, piece)?, rest)),
@@ -147,7 +147,7 @@ pub(crate) fn word(alloc: Global, text: &[u8]) -> Result<(Name, &[u8]), Stop<'_>
 
 /// Letters, digits and `_`, at least one.
 pub(crate) fn pin(alloc: Global, text: &[u8]) -> Result<(Name, &[u8]), Stop<'_>>
-    ensures { Gives (λ x. found x.0 (pieces x.1.now)) result (reader_of any_pin (pieces text.now)) }
+    ensures { ReadsPieces (λ x. found x.0 (pieces x.1.now)) result (reader_of any_pin (pieces text.now)) }
 {
     match next_piece(text) {
         Some((piece, rest)) if names_pin(piece) => Ok((upper_name(alloc, piece)?, rest)),
@@ -157,7 +157,7 @@ pub(crate) fn pin(alloc: Global, text: &[u8]) -> Result<(Name, &[u8]), Stop<'_>>
 
 /// A number of 1 to 9 digits.
 pub(crate) fn index(text: &[u8]) -> Result<(u32, &[u8]), Stop<'_>>
-    ensures { Gives (λ x. found x.0 (pieces x.1.now)) result (reader_of any_index (pieces text.now)) }
+    ensures { ReadsPieces (λ x. found x.0 (pieces x.1.now)) result (reader_of any_index (pieces text.now)) }
 {
     match next_piece(text) {
         Some((piece, rest)) if is_short_number(piece) => Ok((decimal_of(piece), rest)),
@@ -167,7 +167,7 @@ pub(crate) fn index(text: &[u8]) -> Result<(u32, &[u8]), Stop<'_>>
 
 /// One or more of 0, 1 and X.
 pub(crate) fn code(alloc: Global, text: &[u8]) -> Result<(Code, &[u8]), Stop<'_>>
-    ensures { Gives (λ x. found x.0 (pieces x.1.now)) result (reader_of any_code (pieces text.now)) }
+    ensures { ReadsPieces (λ x. found x.0 (pieces x.1.now)) result (reader_of any_code (pieces text.now)) }
 {
     match next_piece(text) {
         Some((piece, rest)) if spells_code(piece) => Ok((short_code_from(alloc, piece)?, rest)),
@@ -177,7 +177,7 @@ pub(crate) fn code(alloc: Global, text: &[u8]) -> Result<(Code, &[u8]), Stop<'_>
 
 /// A comma, or the end: the text after the comma, or None at the end.
 pub(crate) fn comma(text: &[u8]) -> Result<Option<&[u8]>, Stop<'_>>
-    ensures { Gives (λ x. more_of x) result (reader_of comma_or_end (pieces text.now)) }
+    ensures { ReadsPieces (λ x. more_of x) result (reader_of comma_or_end (pieces text.now)) }
 {
     match next_piece(text) {
         None => Ok(None),
@@ -188,7 +188,7 @@ pub(crate) fn comma(text: &[u8]) -> Result<Option<&[u8]>, Stop<'_>>
 
 /// A pin, or None for the parenthesis of several.
 pub(crate) fn pin_or_group(alloc: Global, text: &[u8]) -> Result<(Option<Name>, &[u8]), Stop<'_>>
-    ensures { Gives (λ x. found x.0 (pieces x.1.now)) result (reader_of pin_or_open (pieces text.now)) }
+    ensures { ReadsPieces (λ x. found x.0 (pieces x.1.now)) result (reader_of pin_or_open (pieces text.now)) }
 {
     match next_piece(text) {
         Some((piece, rest)) if is_mark(piece, b'(') => Ok((None, rest)),
@@ -202,7 +202,7 @@ pub(crate) fn word_unless_star(
     alloc: Global,
     text: &[u8],
 ) -> Result<(Option<Name>, &[u8]), Stop<'_>>
-    ensures { Gives (λ x. found x.0 (pieces x.1.now)) result (reader_of word_or_star (pieces text.now)) }
+    ensures { ReadsPieces (λ x. found x.0 (pieces x.1.now)) result (reader_of word_or_star (pieces text.now)) }
 {
     match next_piece(text) {
         Some((piece, rest)) if is_mark(piece, b'*') => Ok((None, rest)),
@@ -213,7 +213,7 @@ pub(crate) fn word_unless_star(
 
 /// A safe value: 0, 1 or X.
 pub(crate) fn safe(text: &[u8]) -> Result<(Symbol, &[u8]), Stop<'_>>
-    ensures { Gives (λ x. found x.0 (pieces x.1.now)) result (reader_of safe_value (pieces text.now)) }
+    ensures { ReadsPieces (λ x. found x.0 (pieces x.1.now)) result (reader_of safe_value (pieces text.now)) }
 {
     match next_piece(text) {
         Some((piece, rest)) if is_mark(piece, b'0') => Ok((Symbol::Zero, rest)),
@@ -251,7 +251,7 @@ fn role_named(piece: &[u8]) -> Option<Role>
 
 /// The function of a cell.
 pub(crate) fn role(text: &[u8]) -> Result<(Role, &[u8]), Stop<'_>>
-    ensures { Gives (λ x. found x.0 (pieces x.1.now)) result (reader_of any_role (pieces text.now)) }
+    ensures { ReadsPieces (λ x. found x.0 (pieces x.1.now)) result (reader_of any_role (pieces text.now)) }
 {
     match next_piece(text) {
         None => Err(Stop::At(text)),
@@ -275,7 +275,7 @@ fn names_result(piece: &[u8]) -> bool
 
 /// What a driver gives while it is disabled. In each case it does not drive.
 pub(crate) fn result_of_disabling(text: &[u8]) -> Result<&[u8], Stop<'_>>
-    ensures { Gives (λ rest. found tt (pieces rest.now)) result (reader_of result_word (pieces text.now)) }
+    ensures { ReadsPieces (λ rest. found tt (pieces rest.now)) result (reader_of result_word (pieces text.now)) }
 {
     match next_piece(text) {
         Some((piece, rest)) if names_result(piece) => Ok(rest),
@@ -285,7 +285,7 @@ pub(crate) fn result_of_disabling(text: &[u8]) -> Result<&[u8], Stop<'_>>
 
 /// What follows the word of a compliance bit: None for an index, else whether another bit comes.
 pub(crate) fn mark_after_bit(text: &[u8]) -> Result<(Option<bool>, &[u8]), Stop<'_>>
-    ensures { Gives (λ x. found x.0 (pieces x.1.now)) result (reader_of after_bit (pieces text.now)) }
+    ensures { ReadsPieces (λ x. found x.0 (pieces x.1.now)) result (reader_of after_bit (pieces text.now)) }
 {
     match next_piece(text) {
         Some((piece, rest)) if is_mark(piece, b'(') => Ok((None, rest)),
@@ -297,7 +297,7 @@ pub(crate) fn mark_after_bit(text: &[u8]) -> Result<(Option<bool>, &[u8]), Stop<
 
 /// The end of the string.
 pub(crate) fn end(text: &[u8]) -> Result<(), Stop<'_>>
-    ensures { Gives (λ x. found tt []) result (reader_of the_end (pieces text.now)) }
+    ensures { ReadsPieces (λ x. found tt []) result (reader_of the_end (pieces text.now)) }
 {
     match next_piece(text) {
         None => Ok(()),

@@ -1,6 +1,6 @@
 //! Lists of entries, and patterns.
 ghost use Rattle.std.specs.Prelude.{◌≡◌, ◌<◌, ◌^◌, length, IfOk, IfErr};
-ghost use Rattle.bsdl_strings.specs.Faults.{fault_of, FaultIs};
+ghost use Rattle.bsdl_strings.specs.Faults.{fault_of, NamesEntry};
 ghost use Rattle.bsdl_strings.specs.Strings.{IsPinMap, IsNoPinMap, AreOpcodes, AreNoOpcodes, IsBoundary, IsNoBoundary, IsPattern, IsNoPattern};
 
 use crate::entries::{entry, map_entry, opcode};
@@ -29,7 +29,7 @@ pub(crate) fn fault(stop: Stop<'_>, entries: usize) -> StringFault
 pub fn pin_map(alloc: Global, text: &[u8]) -> Result<Vec<MapEntry>, StringFault>
     requires { length text.now < 2 ^ 32 }
     ensures value { IfOk result (λ maps. IsPinMap text.now maps.items) }
-    ensures fault { IfErr result (FaultIs (IsNoPinMap text.now)) }
+    ensures fault { IfErr result (NamesEntry (IsNoPinMap text.now)) }
 {
     let mut maps = Vec::new(alloc);
     let mut rest = text;
@@ -58,7 +58,7 @@ pub fn pin_map(alloc: Global, text: &[u8]) -> Result<Vec<MapEntry>, StringFault>
 pub fn opcodes(alloc: Global, text: &[u8]) -> Result<Vec<Opcode>, StringFault>
     requires { length text.now < 2 ^ 32 }
     ensures value { IfOk result (λ ops. AreOpcodes text.now ops.items) }
-    ensures fault { IfErr result (FaultIs (AreNoOpcodes text.now)) }
+    ensures fault { IfErr result (NamesEntry (AreNoOpcodes text.now)) }
 {
     let mut ops = Vec::new(alloc);
     let mut rest = text;
@@ -87,7 +87,7 @@ pub fn opcodes(alloc: Global, text: &[u8]) -> Result<Vec<Opcode>, StringFault>
 pub fn boundary(alloc: Global, text: &[u8]) -> Result<Vec<Entry>, StringFault>
     requires { length text.now < 2 ^ 32 }
     ensures value { IfOk result (λ cells. IsBoundary text.now cells.items) }
-    ensures fault { IfErr result (FaultIs (IsNoBoundary text.now)) }
+    ensures fault { IfErr result (NamesEntry (IsNoBoundary text.now)) }
 {
     let mut cells = Vec::new(alloc);
     let mut rest = text;
@@ -117,7 +117,7 @@ pub fn boundary(alloc: Global, text: &[u8]) -> Result<Vec<Entry>, StringFault>
 pub fn pattern(alloc: Global, text: &[u8]) -> Result<Code, StringFault>
     requires { length text.now < 2 ^ 32 }
     ensures value { IfOk result (λ code. IsPattern text.now code) }
-    ensures fault { IfErr result (FaultIs (IsNoPattern text.now)) }
+    ensures fault { IfErr result (NamesEntry (IsNoPattern text.now)) }
 {
     if spells_code(text) {
         Ok(code_from(alloc, text)?)

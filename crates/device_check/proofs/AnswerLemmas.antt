@@ -8,7 +8,7 @@ use Rattle.bsdl_parser.specs.Entity.{IsSmall}
 use Rattle.bsdl_strings.proofs.Lists.{can_maps, can_opcodes, can_entries}
 use Rattle.device_rules.specs.declared.broken.Broken.{Broken}
 use Rattle.device_rules.specs.declared.draft.Draft.{Draft}
-use Rattle.device_rules.specs.Rules.{first_rule, IsShort}
+use Rattle.device_rules.specs.Rules.{first_rule, HasShortLists}
 use Rattle.device_rules.specs.Raw.{raw_device, HasLengths}
 use Rattle.device_check.specs.declared.fault.DeviceFault.{DeviceFault}
 use Rattle.device_check.specs.declared.fault.DeviceFault.TheVariants.{Rule, Text, Memory}
@@ -16,7 +16,7 @@ use Rattle.device_check.specs.declared.strings.Strings.{Strings}
 use Rattle.device_check.specs.Attributes.{number_of, needed_text, pin_map_text, chosen, constants_named}
 use Rattle.device_check.specs.Needed.{is_within, stands_once, is_as_needed, v1}
 use Rattle.device_check.specs.DeviceStrings.{AreStrings, LeavesFirst, in_order}
-use Rattle.device_check.specs.inner.Reading.{FaultIs, IsJudged}
+use Rattle.device_check.specs.inner.Reading.{NamesPlace, IsJudged}
 use Rattle.device_check.specs.SoundDevice.{draft_of, IsAnswer, UnlessMemory}
 use Rattle.device_check.proofs.SearchLemmas.{none_at}
 use Rattle.device_check.proofs.StringLemmas.{few_entries}
@@ -27,7 +27,7 @@ pub needs_answer : (entity : Entity) (given : Option (List ℕ)) (item : ℕ) �
 needs_answer entity given item e = inl (refl, e)
 
 -- a string fails
-pub text_answer : (entity : Entity) (given : Option (List ℕ)) (fault : DeviceFault) → v1 entity given ≡ None → FaultIs (LeavesFirst entity given in_order) fault → UnlessMemory (Err fault) (IsAnswer entity given (Err fault))
+pub text_answer : (entity : Entity) (given : Option (List ℕ)) (fault : DeviceFault) → v1 entity given ≡ None → NamesPlace (LeavesFirst entity given in_order) fault → UnlessMemory (Err fault) (IsAnswer entity given (Err fault))
 text_answer entity given (Rule number item) e h = absurd h
 text_answer entity given (Text attribute entry) e h = record { needed = e; leaves = h }
 text_answer entity given (Memory error) e h = tt
@@ -43,7 +43,7 @@ judged_answer entity given strings draft result e read is h = by_result result (
     by_result (Err (Memory error)) k = tt
 
 -- the lists of a small entity are short
-short_strings : (entity : Entity) (given : Option (List ℕ)) (strings : Strings) → IsSmall entity → AreStrings entity given strings → IsShort (draft_of entity given strings)
+short_strings : (entity : Entity) (given : Option (List ℕ)) (strings : Strings) → IsSmall entity → AreStrings entity given strings → HasShortLists (draft_of entity given strings)
 short_strings entity given strings small read = record {
   ports = small.ports;
   map = few_entries can_maps (pin_map_text entity given) strings.map read.map_is (short_pin_map entity given small.constant_texts);
@@ -51,8 +51,8 @@ short_strings entity given strings small read = record {
   entries = few_entries can_entries (needed_text entity 10) strings.entries read.entries_are (short_needed entity 10 small.attribute_texts);
 }
 
-pub short_draft : (entity : Entity) (given : Option (List ℕ)) (strings : Strings) (draft : Draft) → IsSmall entity → AreStrings entity given strings → draft ≡ draft_of entity given strings → IsShort draft
-short_draft entity given strings draft small read is = subst IsShort (sym is) (short_strings entity given strings small read)
+pub short_draft : (entity : Entity) (given : Option (List ℕ)) (strings : Strings) (draft : Draft) → IsSmall entity → AreStrings entity given strings → draft ≡ draft_of entity given strings → HasShortLists draft
+short_draft entity given strings draft small read is = subst HasShortLists (sym is) (short_strings entity given strings small read)
 
 right_of : (a b : Bool) → (a && b) ≡ true → b ≡ true
 right_of true b h = h

@@ -2,7 +2,7 @@
 ghost use Rattle.std.specs.Prelude.{◌≡◌, None, Result, IfOk, option_copied};
 ghost use Rattle.board_defs.specs.declared.device.RawDevice.{RawDevice};
 ghost use Rattle.bsdl_parser.specs.Entity.{IsSmall};
-ghost use Rattle.device_rules.specs.Rules.{IsShort};
+ghost use Rattle.device_rules.specs.Rules.{HasShortLists};
 ghost use Rattle.device_rules.specs.Raw.{HasLengths};
 ghost use Rattle.device_check.specs.declared.fault.DeviceFault.{DeviceFault};
 ghost use Rattle.device_check.specs.Needed.{v1};
@@ -21,7 +21,7 @@ use std::alloc::Global;
 
 /// The device of a draft, or the first of the rules V2 to V14 that fails.
 fn judge(alloc: Global, draft: &Draft) -> Result<Device, DeviceFault>
-    requires short { IsShort draft.now }
+    requires short { HasShortLists draft.now }
     requires lengths { HasLengths draft.now }
     ensures { IsJudged draft.now result }
 {

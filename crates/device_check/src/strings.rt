@@ -4,7 +4,7 @@ ghost use Rattle.bsdl_parser.specs.Entity.{IsShort, HasShortText, IsSmall};
 ghost use Rattle.bsdl_strings.specs.Strings.{IsPinMap, AreOpcodes, IsPattern, IsCompliance, IsBoundary};
 ghost use Rattle.device_check.specs.Attributes.{needed_text, text_of, pin_map_text};
 ghost use Rattle.device_check.specs.DeviceStrings.{MayBe, LeavesBy, pin_map, opcodes, capture, idcode, compliance, boundary};
-ghost use Rattle.device_check.specs.inner.Reading.{fault_of, FaultIs, Gathers};
+ghost use Rattle.device_check.specs.inner.Reading.{fault_of, NamesPlace, Gathers};
 
 use crate::attributes::{needed_text, pin_map_text, text_of};
 use crate::fault::DeviceFault;
@@ -42,7 +42,7 @@ fn read_pin_map(
 ) -> Result<Items<MapEntry>, DeviceFault>
     requires { All (λ constant. IsShort constant.text) entity.now.constants }
     ensures value { IfOk result (λ map. IsPinMap (pin_map_text entity.now (option_copied «package».entry)) map) }
-    ensures fault { IfErr result (FaultIs (LeavesBy entity.now (option_copied «package».entry) pin_map)) }
+    ensures fault { IfErr result (NamesPlace (LeavesBy entity.now (option_copied «package».entry) pin_map)) }
 {
     match bsdl_strings::pin_map(alloc, pin_map_text(entity, package)) {
         Ok(map) => Ok(Items::of(map)),
@@ -54,7 +54,7 @@ fn read_pin_map(
 fn read_opcodes(alloc: Global, entity: &Entity) -> Result<Items<Opcode>, DeviceFault>
     requires { All (λ attribute. HasShortText attribute.value) entity.now.attributes }
     ensures value { IfOk result (λ opcodes. AreOpcodes (needed_text entity.now 7) opcodes) }
-    ensures fault { (given : Option (List ℕ)) → IfErr result (FaultIs (LeavesBy entity.now given opcodes)) }
+    ensures fault { (given : Option (List ℕ)) → IfErr result (NamesPlace (LeavesBy entity.now given opcodes)) }
 {
     match bsdl_strings::opcodes(alloc, needed_text(entity, 7)) {
         Ok(opcodes) => Ok(Items::of(opcodes)),
@@ -66,7 +66,7 @@ fn read_opcodes(alloc: Global, entity: &Entity) -> Result<Items<Opcode>, DeviceF
 fn read_capture(alloc: Global, entity: &Entity) -> Result<Code, DeviceFault>
     requires { All (λ attribute. HasShortText attribute.value) entity.now.attributes }
     ensures value { IfOk result (λ code. IsPattern (needed_text entity.now 8) code) }
-    ensures fault { (given : Option (List ℕ)) → IfErr result (FaultIs (LeavesBy entity.now given capture)) }
+    ensures fault { (given : Option (List ℕ)) → IfErr result (NamesPlace (LeavesBy entity.now given capture)) }
 {
     match bsdl_strings::pattern(alloc, needed_text(entity, 8)) {
         Ok(code) => Ok(code),
@@ -78,7 +78,7 @@ fn read_capture(alloc: Global, entity: &Entity) -> Result<Code, DeviceFault>
 fn read_idcode(alloc: Global, entity: &Entity) -> Result<Option<Code>, DeviceFault>
     requires { All (λ attribute. HasShortText attribute.value) entity.now.attributes }
     ensures value { IfOk result (λ code. MayBe IsPattern (text_of entity.now 12) code) }
-    ensures fault { (given : Option (List ℕ)) → IfErr result (FaultIs (LeavesBy entity.now given idcode)) }
+    ensures fault { (given : Option (List ℕ)) → IfErr result (NamesPlace (LeavesBy entity.now given idcode)) }
 {
     match text_of(entity, 12) {
         None => Ok(None),
@@ -91,7 +91,7 @@ fn read_idcode(alloc: Global, entity: &Entity) -> Result<Option<Code>, DeviceFau
 
 fn read_compliance(alloc: Global, entity: &Entity) -> Result<Option<Compliance>, DeviceFault>
     ensures value { IfOk result (λ value. MayBe IsCompliance (text_of entity.now 13) value) }
-    ensures fault { (given : Option (List ℕ)) → IfErr result (FaultIs (LeavesBy entity.now given compliance)) }
+    ensures fault { (given : Option (List ℕ)) → IfErr result (NamesPlace (LeavesBy entity.now given compliance)) }
 {
     match text_of(entity, 13) {
         None => Ok(None),
@@ -106,7 +106,7 @@ fn read_compliance(alloc: Global, entity: &Entity) -> Result<Option<Compliance>,
 fn read_boundary(alloc: Global, entity: &Entity) -> Result<Items<Entry>, DeviceFault>
     requires { All (λ attribute. HasShortText attribute.value) entity.now.attributes }
     ensures value { IfOk result (λ entries. IsBoundary (needed_text entity.now 10) entries) }
-    ensures fault { (given : Option (List ℕ)) → IfErr result (FaultIs (LeavesBy entity.now given boundary)) }
+    ensures fault { (given : Option (List ℕ)) → IfErr result (NamesPlace (LeavesBy entity.now given boundary)) }
 {
     match bsdl_strings::boundary(alloc, needed_text(entity, 10)) {
         Ok(entries) => Ok(Items::of(entries)),

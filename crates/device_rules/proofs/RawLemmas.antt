@@ -16,7 +16,7 @@ use Rattle.device_rules.proofs.NamedLemmas.{in_compliance_is}
 use Rattle.bsdl_strings.specs.declared.values.MapEntry.{MapEntry}
 use Rattle.device_rules.specs.Ports.{Bit, in_order, width, indexes, bits_along, bits_of_port, bits_from, v2}
 use Rattle.device_rules.specs.PinMap.{maps_port}
-use Rattle.device_rules.specs.inner.Index.{index_at, bit_of, names_bit, words_of}
+use Rattle.device_rules.specs.inner.Index.{index_at, bit_of_port, names_bit, words_of}
 use Rattle.device_rules.proofs.NameLemmas.{place-map}
 use Rattle.device_rules.proofs.RangeLemmas.{index_found, length_indexes}
 use Rattle.device_rules.proofs.BitLemmas.{Apart, apart, length_along}
@@ -36,19 +36,19 @@ get_along number port place (i ∷ ixs) (suc k) d less =
     let sums : (place + 1) + k ≡ place + suc k = omega arith in
     get_along number port (place + 1) ixs k d (omega arith) ∙ ap (bit_with number port (get_or ixs k None)) sums
 
-get_bit : (number : ℕ) (port : Port) (k : ℕ) (d : Bit) → in_order port.range ≡ true → k < width port.range → get_or (bits_of_port number port) k d ≡ bit_of number port k
+get_bit : (number : ℕ) (port : Port) (k : ℕ) (d : Bit) → in_order port.range ≡ true → k < width port.range → get_or (bits_of_port number port) k d ≡ bit_of_port number port k
 get_bit number port k d e less =
     let within : k < length (indexes port.range) = omega (arith, less, length_indexes port.range e) in
     get_along number port 0 (indexes port.range) k d within ∙ ap (λ p. bit_with number port (get_or (indexes port.range) k None) p) (omega arith) ∙ ap (λ i. bit_with number port i k) (index_found port.range k e less)
 
 -- the bits of a port, one more
 pub bits_step : {B : Type 0} (f : Bit → B) (number : ℕ) (port : Port) (k : ℕ) (before : List B) → in_order port.range ≡ true → k < width port.range
-    → (before ++ map f (take k (bits_of_port number port))) ++ f (bit_of number port k) ∷ [] ≡ before ++ map f (take (k + 1) (bits_of_port number port))
+    → (before ++ map f (take k (bits_of_port number port))) ++ f (bit_of_port number port k) ∷ [] ≡ before ++ map f (take (k + 1) (bits_of_port number port))
 bits_step f number port k before e less =
     let bits = bits_of_port number port in
     let within : k < length bits = omega (arith, less, length_along number port 0 (indexes port.range), length_indexes port.range e) in
-    let more : take (k + 1) bits ≡ take k bits ++ bit_of number port k ∷ [] = take_more bits k (bit_of number port k) within ∙ ap (λ b. take k bits ++ b ∷ []) (get_bit number port k (bit_of number port k) e less) in
-    append_assoc before (map f (take k bits)) (f (bit_of number port k) ∷ []) ∙ ap (λ bs. before ++ bs) (sym (map-append f (take k bits) (bit_of number port k ∷ [])) ∙ sym (ap (map f) more))
+    let more : take (k + 1) bits ≡ take k bits ++ bit_of_port number port k ∷ [] = take_more bits k (bit_of_port number port k) within ∙ ap (λ b. take k bits ++ b ∷ []) (get_bit number port k (bit_of_port number port k) e less) in
+    append_assoc before (map f (take k bits)) (f (bit_of_port number port k) ∷ []) ∙ ap (λ bs. before ++ bs) (sym (map-append f (take k bits) (bit_of_port number port k ∷ [])) ∙ sym (ap (map f) more))
 
 pub bits_all : (number : ℕ) (port : Port) → in_order port.range ≡ true → length (bits_of_port number port) ≡ width port.range
 bits_all number port e = length_along number port 0 (indexes port.range) ∙ length_indexes port.range e
@@ -77,11 +77,11 @@ map_place_is names entries q e = ap (λ ns. first_place bytes_eq ns q) e ∙ sym
 pub bit_is : (entries : List MapEntry) (taps : TapPorts) (compliance : Option Compliance) (number : ℕ) (port : Port) (place : ℕ) (name : List ℕ) (index : Option ℕ) (pin : Option (List ℕ)) (tap named : Bool) (slice : List MapEntry)
     → name ≡ port.name → index ≡ index_at port.range place → slice ≡ entries → pin ≡ option_and_then (λ entry. slice_get entry.pins place) (find (maps_port name) slice) → tap ≡ is_among (tap_names taps) name
     → named ≡ list_any (names_bit name index) (words_of compliance)
-    → made number port.mode index pin tap named ≡ port_bit entries taps compliance (bit_of number port place)
+    → made number port.mode index pin tap named ≡ port_bit entries taps compliance (bit_of_port number port place)
 bit_is entries taps compliance number port place name index pin tap named slice n i s p t c =
     ap (λ x. made number port.mode x pin tap named) i
     ∙ ap (λ x. made number port.mode (index_at port.range place) x tap named)
     (p ∙ ap (λ m. option_and_then (λ entry. slice_get entry.pins place) (find (maps_port m) slice)) n ∙ ap (λ es. option_and_then (λ entry. slice_get entry.pins place) (find (maps_port port.name) es)) s)
-    ∙ ap (λ x. made number port.mode (index_at port.range place) (pin_of entries (bit_of number port place)) x named) (t ∙ ap (is_among (tap_names taps)) n)
-    ∙ ap (λ x. made number port.mode (index_at port.range place) (pin_of entries (bit_of number port place)) (is_among (tap_names taps) port.name) x)
-    (c ∙ ap (λ m. list_any (names_bit m index) (words_of compliance)) n ∙ ap (λ x. list_any (names_bit port.name x) (words_of compliance)) i ∙ in_compliance_is compliance (bit_of number port place))
+    ∙ ap (λ x. made number port.mode (index_at port.range place) (pin_of entries (bit_of_port number port place)) x named) (t ∙ ap (is_among (tap_names taps)) n)
+    ∙ ap (λ x. made number port.mode (index_at port.range place) (pin_of entries (bit_of_port number port place)) (is_among (tap_names taps) port.name) x)
+    (c ∙ ap (λ m. list_any (names_bit m index) (words_of compliance)) n ∙ ap (λ x. list_any (names_bit port.name x) (words_of compliance)) i ∙ in_compliance_is compliance (bit_of_port number port place))

@@ -69,7 +69,7 @@ pub record KeepsRules (draft : Draft) : Type 0 where
   pub v14 : v14 draft.ports draft.taps draft.entries ≡ None
 
 -- each list whose items are numbered has fewer than 2^32
-pub record IsShort (draft : Draft) : Type 0 where
+pub record HasShortLists (draft : Draft) : Type 0 where
   pub ports : length draft.ports < 2 ^ 32
   pub map : length draft.map < 2 ^ 32
   pub opcodes : length draft.opcodes < 2 ^ 32

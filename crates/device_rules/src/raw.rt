@@ -5,8 +5,8 @@ ghost use Rattle.std.specs.Option.{option_copied};
 ghost use Rattle.board_defs.specs.DeviceRules.{IsDevice};
 ghost use Rattle.device_rules.specs.Ports.{v2, in_order, width, bits_of_port};
 ghost use Rattle.device_rules.specs.PinMap.{maps_port};
-ghost use Rattle.device_rules.specs.Rules.{IsShort, first_rule};
-ghost use Rattle.device_rules.specs.inner.Index.{IsIndex, index_at, bit_of};
+ghost use Rattle.device_rules.specs.Rules.{HasShortLists, first_rule};
+ghost use Rattle.device_rules.specs.inner.Index.{IsIndex, index_at, bit_of_port};
 ghost use Rattle.device_rules.specs.inner.Named.{IsNamed, ArePlaces};
 ghost use Rattle.device_rules.specs.Raw.{port_bit, cell_of, raw_bits, raw_cells, raw_device, HasLengths};
 
@@ -127,7 +127,7 @@ fn port_bit(
     requires named { IsNamed draft.now.compliance named.now }
     requires ordered { in_order port.now.range ≡ true }
     requires within { place < width port.now.range }
-    ensures { IfOk result (λ bit. bit ≡ port_bit draft.now.map draft.now.taps draft.now.compliance (bit_of number port.now place)) }
+    ensures { IfOk result (λ bit. bit ≡ port_bit draft.now.map draft.now.taps draft.now.compliance (bit_of_port number port.now place)) }
 {
     let name = port.name.bytes();
     let index = index_at(port.range, place);
@@ -209,7 +209,7 @@ fn all_cells(alloc: Global, ports: &[Port], entries: &[Entry]) -> Result<Vec<Cel
 }
 
 fn described(alloc: Global, draft: &Draft) -> Result<RawDevice, AllocError>
-    requires short { IsShort draft.now }
+    requires short { HasShortLists draft.now }
     requires rules { first_rule draft.now ≡ None }
     ensures { IfOk result (λ raw. raw ≡ raw_device draft.now) }
 {
@@ -234,7 +234,7 @@ fn described(alloc: Global, draft: &Draft) -> Result<RawDevice, AllocError>
 /// their ranges: from 2 to 255 for the instruction register, and from 1 to 65,535 for the
 /// boundary register.
 pub fn raw_device(alloc: Global, draft: &Draft) -> Result<RawDevice, AllocError>
-    requires short { IsShort draft.now }
+    requires short { HasShortLists draft.now }
     requires rules { first_rule draft.now ≡ None }
     requires lengths { HasLengths draft.now }
     ensures raw { IfOk result (λ raw. raw ≡ raw_device draft.now) }

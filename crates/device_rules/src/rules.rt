@@ -2,7 +2,7 @@
 ghost use Rattle.std.specs.Prelude.{◌≡◌, ◌<◌, All, None, IfOk};
 ghost use Rattle.device_rules.specs.inner.Index.{IsIndex};
 ghost use Rattle.device_rules.specs.Ports.{v2};
-ghost use Rattle.device_rules.specs.Rules.{IsShort, from_3, from_5, from_8, from_9, from_11, first_rule};
+ghost use Rattle.device_rules.specs.Rules.{HasShortLists, from_3, from_5, from_8, from_9, from_11, first_rule};
 
 use crate::broken::Broken;
 use crate::cells::{crowded_cell, two_valued_control, wrong_cell, wrong_control};
@@ -23,7 +23,7 @@ fn first_from_11(
 ) -> Result<Option<Broken>, AllocError>
     requires index { IsIndex draft.now.ports index.now }
     requires ports { v2 draft.now.ports ≡ None }
-    requires short { IsShort draft.now }
+    requires short { HasShortLists draft.now }
     ensures { IfOk result (λ broken. broken ≡ from_11 draft.now) }
 {
     let ports = draft.ports.as_slice();
@@ -51,7 +51,7 @@ fn first_from_9(
 ) -> Result<Option<Broken>, AllocError>
     requires index { IsIndex draft.now.ports index.now }
     requires ports { v2 draft.now.ports ≡ None }
-    requires short { IsShort draft.now }
+    requires short { HasShortLists draft.now }
     requires below { All (λ entry. entry.num < draft.now.boundary) draft.now.entries }
     ensures { IfOk result (λ broken. broken ≡ from_9 draft.now) }
 {
@@ -73,7 +73,7 @@ fn first_from_8(
 ) -> Result<Option<Broken>, AllocError>
     requires index { IsIndex draft.now.ports index.now }
     requires ports { v2 draft.now.ports ≡ None }
-    requires short { IsShort draft.now }
+    requires short { HasShortLists draft.now }
     ensures { IfOk result (λ broken. broken ≡ from_8 draft.now) }
 {
     match wrong_cell(alloc, draft.boundary, draft.entries.as_slice())? {
@@ -90,7 +90,7 @@ fn first_from_5(
 ) -> Result<Option<Broken>, AllocError>
     requires index { IsIndex draft.now.ports index.now }
     requires ports { v2 draft.now.ports ≡ None }
-    requires short { IsShort draft.now }
+    requires short { HasShortLists draft.now }
     ensures { IfOk result (λ broken. broken ≡ from_5 draft.now) }
 {
     let opcodes = draft.opcodes.as_slice();
@@ -114,7 +114,7 @@ fn first_from_3(
 ) -> Result<Option<Broken>, AllocError>
     requires index { IsIndex draft.now.ports index.now }
     requires ports { v2 draft.now.ports ≡ None }
-    requires short { IsShort draft.now }
+    requires short { HasShortLists draft.now }
     ensures { IfOk result (λ broken. broken ≡ from_3 draft.now) }
 {
     let ports = draft.ports.as_slice();
@@ -131,7 +131,7 @@ fn first_from_3(
 /// keeps them all.
 #[tactic(auto, unfolding(crate::specs::Rules::first_rule))]
 pub fn first_rule(alloc: Global, draft: &Draft) -> Result<Option<Broken>, AllocError>
-    requires { IsShort draft.now }
+    requires { HasShortLists draft.now }
     ensures { IfOk result (λ broken. broken ≡ first_rule draft.now) }
 {
     let ports = draft.ports.as_slice();

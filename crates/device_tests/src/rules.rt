@@ -1,6 +1,6 @@
 //! A device with one broken rule at a time, and the device that a draft describes.
 ghost use Rattle.std.specs.Prelude.{◌≡◌, true};
-ghost use Rattle.device_rules.specs.Rules.{IsShort};
+ghost use Rattle.device_rules.specs.Rules.{HasShortLists};
 
 use crate::texts::bytes_of;
 use board_defs::{Edition, Items, Mode, Name, PortBit, Symbol};
@@ -151,7 +151,7 @@ fn draft(alloc: Global, texts: &Texts) -> Result<Draft, StringFault> {
 }
 
 fn is_short(draft: &Draft) -> bool
-    ensures { result ≡ true → IsShort draft.now }
+    ensures { result ≡ true → HasShortLists draft.now }
 {
     draft.ports.len() < 1000
         && draft.map.len() < 1000

@@ -9,7 +9,7 @@ use Rattle.tap_defs.specs.chain.Chain.{ChainPart, IsChainOf}
 use Rattle.tap_defs.specs.chain.Run.{Clock, tdos, run_passes}
 use Rattle.tap_defs.specs.chain.Clocks.{test_clocks}
 use Rattle.tap_defs.specs.chain.Text.{svf_text}
-use Rattle.tap_defs.proofs.chain.SampleTexts.{off, on, whole}
+use Rattle.tap_defs.proofs.chain.SampleTexts.{off, on, sample_text}
 use Rattle.tap_defs.proofs.chain.SampleRun.{choices, no_wiring, pausing, shifting}
 use Rattle.ident_test.specs.Patterns.{ident_scan, ident_text}
 use Rattle.ident_test.specs.CodedParts.{all_fit}
@@ -22,16 +22,16 @@ known_part =
     ∷ Any ∷ Any ∷ Any ∷ Any ∷ []
 
 -- the last part has the lowest position
-known_text : ident_text (Some known_part ∷ None ∷ []) ≡ whole (codes "SDR 33 TDI (000000000) TDO (00246800E) MASK (01FFFFFFF);" ∷ [])
+known_text : ident_text (Some known_part ∷ None ∷ []) ≡ sample_text (codes "SDR 33 TDI (000000000) TDO (00246800E) MASK (01FFFFFFF);" ∷ [])
 unfolding svf_text digits
 known_text = refl
 
-turned_text : ident_text (None ∷ Some known_part ∷ []) ≡ whole (codes "SDR 33 TDI (000000000) TDO (001234007) MASK (10FFFFFFF);" ∷ [])
+turned_text : ident_text (None ∷ Some known_part ∷ []) ≡ sample_text (codes "SDR 33 TDI (000000000) TDO (001234007) MASK (10FFFFFFF);" ∷ [])
 unfolding svf_text digits
 turned_text = refl
 
 -- where nothing is compared, nothing but TDI is printed
-unknown_text : ident_text (Some (replicate 32 Any) ∷ []) ≡ whole (codes "SDR 32 TDI (00000000);" ∷ [])
+unknown_text : ident_text (Some (replicate 32 Any) ∷ []) ≡ sample_text (codes "SDR 32 TDI (00000000);" ∷ [])
 unfolding svf_text digits
 unknown_text = refl
 

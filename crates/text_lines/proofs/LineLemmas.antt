@@ -32,14 +32,14 @@ cut_there p xs k (before, passes) =
       take_rest xs (k + 1) ∙ sym (ap (λ n. drop (n + 1) xs) place),
     )
 
-whole : (p : ℕ → Bool) (x : ℕ) (xs : List ℕ) (b : Bool) → cond (not b) (1 + position_or_len p xs) 0 ≡ 1 + length xs → (position_or_len p xs ≡ length xs → slice_split p xs ≡ xs ∷ []) → cond b ([] ∷ slice_split p xs) (onto_first x (slice_split p xs)) ≡ (x ∷ xs) ∷ []
-whole p x xs true e ih = absurd (omega arith)
-whole p x xs false e ih = let same : position_or_len p xs ≡ length xs = omega arith in ap (onto_first x) (ih same)
+split_behind : (p : ℕ → Bool) (x : ℕ) (xs : List ℕ) (b : Bool) → cond (not b) (1 + position_or_len p xs) 0 ≡ 1 + length xs → (position_or_len p xs ≡ length xs → slice_split p xs ≡ xs ∷ []) → cond b ([] ∷ slice_split p xs) (onto_first x (slice_split p xs)) ≡ (x ∷ xs) ∷ []
+split_behind p x xs true e ih = absurd (omega arith)
+split_behind p x xs false e ih = let same : position_or_len p xs ≡ length xs = omega arith in ap (onto_first x) (ih same)
 
 -- where no element passes, the list is the one part
 pub split_whole : (p : ℕ → Bool) (xs : List ℕ) → position_or_len p xs ≡ length xs → slice_split p xs ≡ xs ∷ []
 split_whole p [] h = refl
-split_whole p (x ∷ xs) h = whole p x xs (p x) (h ∙ omega arith) (split_whole p xs)
+split_whole p (x ∷ xs) h = split_behind p x xs (p x) (h ∙ omega arith) (split_whole p xs)
 
 -- a line without bytes has no words
 pub words_of_empty : (line : List ℕ) → length line ≡ 0 → words_of line ≡ []

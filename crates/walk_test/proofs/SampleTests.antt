@@ -9,7 +9,7 @@ use Rattle.board_defs.specs.declared.board.PartKind.TheVariants.{Described}
 use Rattle.board_defs.specs.declared.board.RawBoard.{RawBoard}
 use Rattle.board_defs.specs.Passes.{passes_of}
 use Rattle.tap_defs.specs.chain.Text.{svf_text}
-use Rattle.tap_defs.proofs.chain.SampleTexts.{whole}
+use Rattle.tap_defs.proofs.chain.SampleTexts.{sample_text as whole}
 use Rattle.tap_defs.proofs.board.SampleBoards.{one_bit, entry, control, by, device, drv, rcv, rcv1, ts, od, buf2, pin, net, pulled, board, wires, bus, pulled_up, three_wires}
 use Rattle.walk_test.specs.declared.tables.NetCells.{NetCells}
 use Rattle.walk_test.specs.WalkTest.{switches_some, walk_setting, walk_nets, board_walk_text}

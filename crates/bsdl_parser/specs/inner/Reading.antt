@@ -10,6 +10,6 @@ StopsBy outcome left (Memory error) = Unit {0}
 StopsBy outcome left Stray = outcome ≡ refused left
 
 -- the tokens left before and after, and the value, seen as one of the grammar
-abbrev pub Gives : {T X A : Type 0} → Reader T A → List T → List T → Result X Stop → (X → A) → Type 0
-Gives read old new (Ok x) view = read old ≡ found (view x) new
-Gives read old new (Err stop) view = StopsBy (read old) new stop
+abbrev pub ReadsTokens : {T X A : Type 0} → Reader T A → List T → List T → Result X Stop → (X → A) → Type 0
+ReadsTokens read old new (Ok x) view = read old ≡ found (view x) new
+ReadsTokens read old new (Err stop) view = StopsBy (read old) new stop

@@ -7,14 +7,14 @@ use Rattle.bsdl_strings.specs.declared.stop.Stop.TheVariants.{Memory, At}
 use Rattle.bsdl_strings.specs.Pieces.{pieces}
 
 -- unless memory ran out, the text from the first piece on that cannot stand
-abbrev pub StopsAt : {A : Type 0} → Stop → Outcome (List ℕ) A → Type 0
-StopsAt (Memory error) outcome = Unit {0}
-StopsAt (At rest) outcome = outcome ≡ refused (pieces rest.now)
+abbrev pub StopsOn : {A : Type 0} → Stop → Outcome (List ℕ) A → Type 0
+StopsOn (Memory error) outcome = Unit {0}
+StopsOn (At rest) outcome = outcome ≡ refused (pieces rest.now)
 
 -- the value and the text after it, seen so, are what reading finds, or it stopped where reading does
-abbrev pub Gives : {X A : Type 0} → (X → Outcome (List ℕ) A) → Result X Stop → Outcome (List ℕ) A → Type 0
-Gives view (Ok x) outcome = outcome ≡ view x
-Gives view (Err stop) outcome = StopsAt stop outcome
+abbrev pub ReadsPieces : {X A : Type 0} → (X → Outcome (List ℕ) A) → Result X Stop → Outcome (List ℕ) A → Type 0
+ReadsPieces view (Ok x) outcome = outcome ≡ view x
+ReadsPieces view (Err stop) outcome = StopsOn stop outcome
 
 -- the text after a comma, or the end
 abbrev pub more_of : Option (Bor (List ℕ)) → Outcome (List ℕ) Bool

@@ -14,10 +14,10 @@ use Rattle.device_check.specs.declared.strings.Strings.{Strings}
 use Rattle.device_check.specs.DeviceStrings.{LeavesFirst, in_order, AreStrings}
 
 -- the fault names an attribute and an entry that have this property: want of memory says nothing
-abbrev pub FaultIs : (ℕ → ℕ → Type 0) → DeviceFault → Type 0
-FaultIs P (faults.Rule number item) = ⊥
-FaultIs P (faults.Text attribute entry) = P attribute entry
-FaultIs P (faults.Memory error) = Unit {0}
+abbrev pub NamesPlace : (ℕ → ℕ → Type 0) → DeviceFault → Type 0
+NamesPlace P (faults.Rule number item) = ⊥
+NamesPlace P (faults.Text attribute entry) = P attribute entry
+NamesPlace P (faults.Memory error) = Unit {0}
 
 -- the fault of the string of this attribute
 abbrev pub fault_of : ℕ → StringFault → DeviceFault
@@ -27,7 +27,7 @@ fault_of attribute (Memory error) = faults.Memory error
 -- the values of all strings, or the first that leaves its grammar
 abbrev pub Gathers : Entity → Option (List ℕ) → Result Strings DeviceFault → Type 0
 Gathers entity given (Ok strings) = AreStrings entity given strings
-Gathers entity given (Err fault) = FaultIs (LeavesFirst entity given in_order) fault
+Gathers entity given (Err fault) = NamesPlace (LeavesFirst entity given in_order) fault
 
 -- the device of the draft, or the first rule that fails with its item
 abbrev pub IsJudged : Draft → Result RawDevice DeviceFault → Type 0

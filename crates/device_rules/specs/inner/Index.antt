@@ -38,8 +38,8 @@ index_at None place = None
 index_at (Some range) place = Some (if range.up then range.left + place else range.left - place)
 
 -- the bit at this place of a port
-abbrev pub bit_of : ℕ → Port → ℕ → Bit
-bit_of number port place = record { port = number; name = port.name; index = index_at port.range place; place = place; mode = port.mode }
+abbrev pub bit_of_port : ℕ → Port → ℕ → Bit
+bit_of_port number port place = record { port = number; name = port.name; index = index_at port.range place; place = place; mode = port.mode }
 
 -- the name and the index of the bit that a word names
 abbrev pub key_of : PortWord → Option (List ℕ × Option ℕ)

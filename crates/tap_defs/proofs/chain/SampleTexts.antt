@@ -17,8 +17,9 @@ abbrev pub lines : List (List ℕ) → List ℕ
 lines [] = []
 lines (l ∷ more) = l ++ 10 ∷ lines more
 
-abbrev pub whole : List (List ℕ) → List ℕ
-whole scans = head_text ++ (lines scans ++ tail_text)
+-- such lines with the head and the tail
+abbrev pub sample_text : List (List ℕ) → List ℕ
+sample_text scans = head_text ++ (lines scans ++ tail_text)
 
 abbrev pub off : Bool
 off = false
@@ -38,7 +39,7 @@ sdr bits = record { ir = false; bits = bits }
 
 -- the chain test of a chain of two parts, with instruction lengths 4 and 2
 abbrev pub two_parts : List ℕ
-two_parts = whole (codes "SIR 6 TDI (3F) TDO (05) MASK (0F);" ∷ codes "SDR 10 TDI (0A5) TDO (294) MASK (3FF);" ∷ [])
+two_parts = sample_text (codes "SIR 6 TDI (3F) TDO (05) MASK (0F);" ∷ codes "SDR 10 TDI (0A5) TDO (294) MASK (3FF);" ∷ [])
 
 abbrev pub two_parts_scans : List Scan
 two_parts_scans =
@@ -66,7 +67,7 @@ two_parts_tms = refl
 
 -- the test of two described parts without control cells, with codes A and 0 in four instruction bits, and four cells
 abbrev pub two_nets : List ℕ
-two_nets = whole (
+two_nets = sample_text (
     codes "SIR 4 TDI (A) TDO (5) MASK (F);" ∷ codes "SDR 4 TDI (0);" ∷ codes "SIR 4 TDI (0) TDO (5) MASK (F);"
     ∷ codes "SDR 4 TDI (4);" ∷ codes "SDR 4 TDI (8) TDO (1) MASK (3);" ∷ codes "SDR 4 TDI (0) TDO (2) MASK (3);" ∷ [])
 
@@ -89,11 +90,11 @@ unfolding meaning text_statements tokens_from
 two_nets_mean = refl
 
 -- the chain test of one part, and of forty parts, whose first scan has 89 characters in one line
-pub one_part_text : chain_text (2 ∷ []) ≡ whole (codes "SIR 2 TDI (3) TDO (1) MASK (3);" ∷ codes "SDR 9 TDI (0A5) TDO (14A) MASK (1FF);" ∷ [])
+pub one_part_text : chain_text (2 ∷ []) ≡ sample_text (codes "SIR 2 TDI (3) TDO (1) MASK (3);" ∷ codes "SDR 9 TDI (0A5) TDO (14A) MASK (1FF);" ∷ [])
 unfolding svf_text digits
 one_part_text = refl
 
-pub forty_parts_text : chain_text (replicate 40 2) ≡ whole (
+pub forty_parts_text : chain_text (replicate 40 2) ≡ sample_text (
     codes "SIR 80" ∷ codes "TDI (FFFFFFFFFFFFFFFFFFFF)" ∷ codes "TDO (55555555555555555555)" ∷ codes "MASK (FFFFFFFFFFFFFFFFFFFF);"
     ∷ codes "SDR 48 TDI (0000000000A5) TDO (A50000000000) MASK (FFFFFFFFFFFF);" ∷ [])
 unfolding svf_text digits
@@ -103,16 +104,16 @@ forty_parts_text = refl
 abbrev pub zero_digits : ℕ → List ℕ
 zero_digits n = replicate n 48
 
-pub eighty_text : svf_text (sdr (replicate 260 (sent off)) ∷ []) ≡ whole ((codes "SDR 260 TDI (" ++ (zero_digits 65 ++ codes ");")) ∷ [])
+pub eighty_text : svf_text (sdr (replicate 260 (sent off)) ∷ []) ≡ sample_text ((codes "SDR 260 TDI (" ++ (zero_digits 65 ++ codes ");")) ∷ [])
 unfolding svf_text digits
 eighty_text = refl
 
 pub eighty_one_text : svf_text (sdr (replicate 264 (sent off)) ∷ [])
-    ≡ whole (codes "SDR 264" ∷ (codes "TDI (" ++ zero_digits 64) ∷ codes "00);" ∷ [])
+    ≡ sample_text (codes "SDR 264" ∷ (codes "TDI (" ++ zero_digits 64) ∷ codes "00);" ∷ [])
 unfolding svf_text digits
 eighty_one_text = refl
 
-pub full_lines_text : svf_text (sir (replicate 256 (read off off)) ∷ []) ≡ whole (
+pub full_lines_text : svf_text (sir (replicate 256 (read off off)) ∷ []) ≡ sample_text (
     codes "SIR 256" ∷ (codes "TDI (" ++ (zero_digits 64 ++ codes ")")) ∷ (codes "TDO (" ++ (zero_digits 64 ++ codes ")"))
     ∷ (codes "MASK (" ++ (replicate 64 70 ++ codes ");")) ∷ [])
 unfolding svf_text digits

@@ -1,7 +1,7 @@
 use Rattle.std.proofs.Common.{◌<◌, ◌≤◌, ◌++◌, ◌∷◌, [], length, map, ap, ◌∙◌, arith}
 use Rattle.std.proofs.lemmas.List.{take_all}
 use Rattle.device_rules.specs.Ports.{width, bits_of_port}
-use Rattle.device_rules.specs.inner.Index.{bit_of}
+use Rattle.device_rules.specs.inner.Index.{bit_of_port}
 use Rattle.device_rules.specs.Raw.{port_bit}
 use Rattle.device_rules.proofs.RawLemmas.{bits_step, bits_all}
 use Rattle.device_rules.proofs.raw.push_bits.Goals as goal
@@ -12,7 +12,7 @@ loop-place-preserved c =
     let place = c.loop-place.place in
     let F = port_bit draft.map draft.taps draft.compliance in
     let less : place < width c.args.port.now.range = omega (arith, c.loop-place-test.true, c.bit_count-place-end.ensures.count) in
-    c.in_ok-push.ensures.items ∙ ap (λ b. c.loop-place.bits.items ++ b ∷ []) c.in_ok-port_bit.ensures ∙ ap (λ bs. bs ++ F (bit_of c.args.number c.args.port.now place) ∷ []) c.loop-place.invariant
+    c.in_ok-push.ensures.items ∙ ap (λ b. c.loop-place.bits.items ++ b ∷ []) c.in_ok-port_bit.ensures ∙ ap (λ bs. bs ++ F (bit_of_port c.args.number c.args.port.now place) ∷ []) c.loop-place.invariant
     ∙ bits_step F c.args.number c.args.port.now place c.args.bits.now.items c.requires.ordered less
 
 pub returns : goal.returns
