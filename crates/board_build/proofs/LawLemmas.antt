@@ -18,15 +18,17 @@ use Rattle.board_defs.specs.declared.board.Drive.TheVariants.{AlwaysOn}
 use Rattle.board_defs.specs.Pins.{drive, is_test_pin}
 use Rattle.board_defs.specs.BoardRules.{IsBoard, IsPart, IsPlaced, PinsDiffer, AreInertAlike, NoGuardedDriver, OneAlwaysOn}
 use Rattle.board_build.specs.declared.names.Naming.TheVariants.{Part as PartName, Inert}
-use Rattle.board_build.specs.Names.{named, names_of, same_name}
+use Rattle.board_files.specs.Names.{same_word}
+use Rattle.board_build.specs.Names.{named, names_of}
 use Rattle.board_build.specs.NetWords.{NetWord, net_of, pin_of, is_among, net_names, standing_words}
 use Rattle.board_build.specs.ChainParts.{IsChain, pin_places, described_names}
 use Rattle.board_build.specs.BoardNets.{Marks, marks_of, net_pin, board_nets, board_with}
-use Rattle.board_build.specs.BoardRules.{board_fault, drives_always, is_always_on, always_on, is_kept, is_unknown, have_same_pin}
+use Rattle.board_defs.specs.Decided.{is_always_on}
+use Rattle.board_build.specs.BoardRules.{board_fault, drives_always, always_on, is_kept, is_unknown, have_same_pin}
 use Rattle.board_build.proofs.ApartLemmas.{Apart, each_map, apart_pairs, apart_passing, pairs_at, Passing, passing, once_apart}
 use Rattle.first_places.specs.Places.{once}
 use Rattle.board_build.proofs.PartLemmas.{placed}
-use Rattle.board_build.proofs.NetLemmas.{words_on, PinAtWord, pin_at_word, SameWord, same_word, nets_differ, count_nets, pins_fit}
+use Rattle.board_build.proofs.NetLemmas.{words_on, PinAtWord, pin_at_word, SameWord, one_word, nets_differ, count_nets, pins_fit}
 use Rattle.board_build.proofs.RuleLemmas.{then_none, LimitsKept, limits_kept, PinsKept, pins_kept, not_inert, inert_kept, DriversKept, drivers_kept}
 
 -- the board of parts, marks, words and names
@@ -39,7 +41,7 @@ pins_differ parts marks words names apart m n i j first second p q at_p at_q sam
     let b : PinAtWord marks words n j q = pin_at_word marks words names n second j q at_q.on_board at_q.in_net in
     let part : (pin_of a.word).0 ≡ (pin_of b.word).0 = sym (ap (λ (v : NetPin). v.part) a.is) ∙ same_part ∙ ap (λ (v : NetPin). v.part) b.is in
     let pin : (pin_of a.word).1 ≡ (pin_of b.word).1 = sym (ap (λ (v : NetPin). v.pin) a.is) ∙ same_pins ∙ ap (λ (v : NetPin). v.pin) b.is in
-    let r : SameWord m n i j = same_word words apart m n i j a.word b.word a.stands b.stands part pin in
+    let r : SameWord m n i j = one_word words apart m n i j a.word b.word a.stands b.stands part pin in
     (r.net, r.place)
 
 -- what holds of each pin of each net
@@ -158,7 +160,7 @@ is_board chain nets parts selected names kinds e =
       parts = kinds;
       data_most = limits.bits;
       nets_most = subst (λ n. n ≤ 16382) (sym (count_nets (marks_of chain parts) words 0 (net_names nets))) limits.nets;
-      nets_differ = nets_differ (marks_of chain parts) words (net_names nets) (once_apart same_name (map (λ line. line.name) nets));
+      nets_differ = nets_differ (marks_of chain parts) words (net_names nets) (once_apart same_word (map (λ line. line.name) nets));
       pins_most = omega (arith, fit, whole, limits.pins);
       pins_differ = pins_differ parts (marks_of chain parts) words (net_names nets) pins.differ;
       placed = all_placed parts (marks_of chain parts) words (net_names nets) refl pins.known;

@@ -6,7 +6,8 @@ use Rattle.std.specs.List.{list_any, position_from}
 use Rattle.first_places.specs.Places.{first_place, first_repeat, repeat_from}
 use Rattle.board_files.specs.declared.chain_file.ChainLine.{ChainLine}
 use Rattle.board_build.specs.declared.names.Naming.{Naming}
-use Rattle.board_build.specs.Names.{Named, same_name, named, name_of, with_name}
+use Rattle.board_files.specs.Names.{same_word}
+use Rattle.board_build.specs.Names.{Named, named, name_of, with_name}
 
 pub any-map : {A B : Type 0} (f : A → B) (p : B → Bool) (xs : List A) → list_any (λ a. p (f a)) xs ≡ list_any p (map f xs)
 any-map f p [] = refl
@@ -36,11 +37,11 @@ pub named_none : (line : ℕ) (o : Option (List ℕ)) (done rest all : List Name
 named_none line o done rest all e same = same ∙ ap (λ o. done ++ with_name line o rest) e
 
 -- the first name that stands a second time, of lent names
-pub first_repeat_lent : (names : List (Bor (List ℕ))) → first_repeat (λ a b. same_name a.now b.now) names ≡ first_repeat same_name (map (λ n. n.now) names)
-first_repeat_lent names = repeat-map (λ n. n.now) same_name [] 0 names
+pub first_repeat_lent : (names : List (Bor (List ℕ))) → first_repeat (λ a b. same_word a.now b.now) names ≡ first_repeat same_word (map (λ n. n.now) names)
+first_repeat_lent names = repeat-map (λ n. n.now) same_word [] 0 names
 
-pub first_place_lent : (names : List (Bor (List ℕ))) (q : Bor (List ℕ)) → first_place (λ a b. same_name a.now b.now) names q ≡ first_place same_name (map (λ n. n.now) names) q.now
-first_place_lent names q = place-map (λ n. n.now) (λ n. same_name n q.now) 0 names
+pub first_place_lent : (names : List (Bor (List ℕ))) (q : Bor (List ℕ)) → first_place (λ a b. same_word a.now b.now) names q ≡ first_place same_word (map (λ n. n.now) names) q.now
+first_place_lent names q = place-map (λ n. n.now) (λ n. same_word n q.now) 0 names
 
 pub if_ok_map : {V E : Type 0} (P Q : V → Type 0) → ((v : V) → P v → Q v) → (r : Result V E) → IfOk r P → IfOk r Q
 if_ok_map P Q f (Ok v) h = f v h

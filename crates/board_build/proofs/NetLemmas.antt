@@ -8,7 +8,7 @@ use Rattle.std.proofs.lemmas.List.{length-map}
 use Rattle.std.proofs.lemmas.List.Kept.{AllPairs-filter}
 use Rattle.board_defs.specs.declared.board.NetPin.{NetPin}
 use Rattle.board_defs.specs.declared.board.Net.{Net}
-use Rattle.board_build.specs.Names.{same_name}
+use Rattle.board_files.specs.Names.{same_word}
 use Rattle.board_build.specs.NetWords.{Pin, NetWord, same_pin, net_of, pin_of, pins_of_net}
 use Rattle.board_build.specs.BoardRules.{have_same_pin}
 use Rattle.board_build.specs.BoardNets.{Marks, net_pin, board_net, nets_from, board_nets}
@@ -44,7 +44,7 @@ names_of_nets marks words first [] = refl
 names_of_nets marks words first (name ∷ names) = ap (λ (v : List (List ℕ)). name ∷ v) (names_of_nets marks words (first + 1) names)
 
 -- nets with names that differ
-pub nets_differ : (marks : Marks) (words : List NetWord) (names : List (List ℕ)) → Apart (λ a b. same_name a b ≡ false) names → AllPairs (λ (a b : Net). a.name ≢ b.name) (board_nets marks words names)
+pub nets_differ : (marks : Marks) (words : List NetWord) (names : List (List ℕ)) → Apart (λ a b. same_word a b ≡ false) names → AllPairs (λ (a b : Net). a.name ≢ b.name) (board_nets marks words names)
 nets_differ marks words names h =
     let P : List (List ℕ) → Type 0 = λ v. Apart (λ a b. a ≢ b) v in
     apart_pairs _ _ (apart_map (λ (net : Net). net.name) (λ a b. a ≢ b) (board_nets marks words names) (subst P (sym (names_of_nets marks words 0 names)) (apart_weaker _ _ (λ a b e. other_text a b (sym e)) names h)))
@@ -65,12 +65,12 @@ pin_at_word marks words names n net place pin at e =
     let two = mapped pin_of (words_on words n) place one.0 one.1 in
     record { word = two.0; stands = two.1; is = sym one.2 ∙ ap (net_pin marks) (sym two.2) }
 
-same_name_refl : (a : List ℕ) → same_name a a ≡ true
+same_name_refl : (a : List ℕ) → same_word a a ≡ true
 same_name_refl [] = refl
-same_name_refl (x ∷ xs) = and_from (x == x) (same_name xs xs) (eq-eqb x x refl) (same_name_refl xs)
+same_name_refl (x ∷ xs) = and_from (x == x) (same_word xs xs) (eq-eqb x x refl) (same_name_refl xs)
 
 pub same_pin_of : (a b : Pin) → a.0 ≡ b.0 → a.1 ≡ b.1 → same_pin a b ≡ true
-same_pin_of a b e f = and_from (same_name a.0 b.0) (same_name a.1 b.1) (sym (ap (same_name a.0) e) ∙ same_name_refl a.0) (sym (ap (same_name a.1) f) ∙ same_name_refl a.1)
+same_pin_of a b e f = and_from (same_word a.0 b.0) (same_word a.1 b.1) (sym (ap (same_word a.0) e) ∙ same_name_refl a.0) (sym (ap (same_word a.1) f) ∙ same_name_refl a.1)
 
 not_apart : (a b : NetWord) → (pin_of a).0 ≡ (pin_of b).0 → (pin_of a).1 ≡ (pin_of b).1 → have_same_pin a b ≡ false → ⊥
 not_apart a b e f h = wrong (have_same_pin a b) (same_pin_of (pin_of a) (pin_of b) e f) h
@@ -84,9 +84,9 @@ pub record SameWord (m n i j : ℕ) : Type 0 where
   pub net : m ≡ n
   pub place : i ≡ j
 
-pub same_word : (words : List NetWord) → Apart (λ a b. have_same_pin a b ≡ false) words → (m n i j : ℕ) (a b : NetWord) → slice_get (words_on words m) i ≡ Some a → slice_get (words_on words n) j ≡ Some b →
+pub one_word : (words : List NetWord) → Apart (λ a b. have_same_pin a b ≡ false) words → (m n i j : ℕ) (a b : NetWord) → slice_get (words_on words m) i ≡ Some a → slice_get (words_on words n) j ≡ Some b →
     (pin_of a).0 ≡ (pin_of b).0 → (pin_of a).1 ≡ (pin_of b).1 → SameWord m n i j
-same_word words apart m n i j a b ea eb e f =
+one_word words apart m n i j a b ea eb e f =
     let at_a : Passing (λ word. net_of word == m) words a = passing (λ word. net_of word == m) words i a ea in
     let at_b : Passing (λ word. net_of word == n) words b = passing (λ word. net_of word == n) words j b eb in
     let pairs : AllPairs (λ a b. have_same_pin a b ≡ false) words = apart_pairs _ words apart in

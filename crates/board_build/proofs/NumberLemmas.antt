@@ -13,8 +13,10 @@ use Rattle.board_defs.specs.declared.spot.Spot.{Spot}
 use Rattle.board_build.specs.declared.fault.BoardFault.{BoardFault}
 use Rattle.board_build.specs.declared.fault.BoardFault.TheVariants.{NoEntity}
 use Rattle.board_build.specs.declared.names.Naming.TheVariants.{Part, Entity as EntityName}
-use Rattle.board_build.specs.Faults.{◌then◌, unless, Gives}
-use Rattle.board_build.specs.Names.{Named, same_name, named, names_of}
+use Rattle.answers.specs.Gives.{Gives}
+use Rattle.board_build.specs.Faults.{◌then◌, unless, board_told}
+use Rattle.board_files.specs.Names.{same_word}
+use Rattle.board_build.specs.Names.{Named, named, names_of}
 use Rattle.board_build.specs.Selection.{spot_at, selection, answer, first_fault, no_chain, part_twice, no_entity, entity_twice, chain_limit, entity_places, entity_names}
 
 -- nothing was found
@@ -57,11 +59,11 @@ within_more n k x xs rest more true found =
 within_more n k x xs rest more false found = omega (arith, more found)
 
 -- places of which none is missing are within the list
-place_within : (n : ℕ) (entities : List (List ℕ)) (name : List ℕ) (k : ℕ) → position_from (λ e. same_name e name) n entities ≡ Some k → k < n + length entities
+place_within : (n : ℕ) (entities : List (List ℕ)) (name : List ℕ) (k : ℕ) → position_from (λ e. same_word e name) n entities ≡ Some k → k < n + length entities
 place_within n [] name k e = absurd cc
-place_within n (entity ∷ entities) name k e = within_more n k entity entities _ (place_within (n + 1) entities name k) (same_name entity name) e
+place_within n (entity ∷ entities) name k e = within_more n k entity entities _ (place_within (n + 1) entities name k) (same_word entity name) e
 
-unwrapped_within : (entities : List (List ℕ)) (name : List ℕ) (place : Option ℕ) → first_place same_name entities name ≡ place → is_none place ≡ false → unwrap_or place 0 < length entities
+unwrapped_within : (entities : List (List ℕ)) (name : List ℕ) (place : Option ℕ) → first_place same_word entities name ≡ place → is_none place ≡ false → unwrap_or place 0 < length entities
 unwrapped_within entities name None is e = absurd cc
 unwrapped_within entities name (Some k) is e = omega (arith, place_within 0 entities name k is)
 
@@ -81,9 +83,9 @@ position_within n (None ∷ places) k e =
     omega (arith, same)
 position_within n (Some p ∷ places) k e = omega (arith, position_within (n + 1) places k e)
 
-numbers_within : (entities : List (List ℕ)) (names : List (List ℕ)) → none_missing (map (first_place same_name entities) names) → AllByRecursion (λ number. number < length entities) (map (λ place. unwrap_or place 0) (map (first_place same_name entities) names))
+numbers_within : (entities : List (List ℕ)) (names : List (List ℕ)) → none_missing (map (first_place same_word entities) names) → AllByRecursion (λ number. number < length entities) (map (λ place. unwrap_or place 0) (map (first_place same_word entities) names))
 numbers_within entities [] all = tt
-numbers_within entities (name ∷ names) all = (unwrapped_within entities name (first_place same_name entities name) refl all.0, numbers_within entities names all.1)
+numbers_within entities (name ∷ names) all = (unwrapped_within entities name (first_place same_word entities name) refl all.0, numbers_within entities names all.1)
 
 pub numbers_of_entities : (lines : List ChainLine) (entities : List Entity) (numbers : List ℕ) → selection lines entities ≡ Ok numbers → All (λ number. number < length entities) numbers
 unfolding answer first_fault no_entity
@@ -105,6 +107,6 @@ numbers_of_entities lines entities numbers e =
     (subst (λ n. All (λ number. number < n) (map (λ place. unwrap_or place 0) places)) entity_count
     (All-from_recursion (λ number. number < length texts) _ (numbers_within texts (names_of devices) (no_position 0 places (sym (position_from-zero is_none places) ∙ missing)))))
 
-pub if_selected : (lines : List ChainLine) (entities : List Entity) (answer : Result (Vec ℕ Global) BoardFault) → Gives (λ numbers. numbers.items) answer (selection lines entities) → IfOk answer (λ numbers. All (λ number. number < length entities) numbers.items)
+pub if_selected : (lines : List ChainLine) (entities : List Entity) (answer : Result (Vec ℕ Global) BoardFault) → Gives board_told (λ numbers. numbers.items) (λ said. selection lines entities ≡ said) answer → IfOk answer (λ numbers. All (λ number. number < length entities) numbers.items)
 if_selected lines entities (Ok numbers) is = numbers_of_entities lines entities numbers.items is
 if_selected lines entities (Err fault) is = tt

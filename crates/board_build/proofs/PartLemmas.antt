@@ -21,7 +21,8 @@ use Rattle.board_defs.specs.Pins.{described}
 use Rattle.board_defs.specs.BoardRules.{IsPlaced, IsPlacedAt}
 use Rattle.board_defs.proofs.Members.{Has, has_append, find_has}
 use Rattle.board_build.specs.declared.names.Naming.TheVariants.{Part as PartName, Entity as EntityName}
-use Rattle.board_build.specs.Names.{named, names_of, with_name, part_of, entity_of, same_name}
+use Rattle.board_files.specs.Names.{same_word}
+use Rattle.board_build.specs.Names.{named, names_of, with_name, part_of, entity_of}
 use Rattle.board_build.specs.NetWords.{Pin, same_pin, is_among}
 use Rattle.board_build.specs.ChainParts.{PinPlace, chain_parts, part_of_line, devices_after, bit_places, with_place, part_places, places_from, pin_places, place_of_pin, name_in, described_names}
 use Rattle.board_build.specs.BoardNets.{Marks, net_pin}
@@ -123,19 +124,19 @@ site n (p ∷ parts) s h = by_part (site (n + 1) parts s) (has_append (part_plac
     by_part rest (inr k) = site_later n p parts s (rest k)
 
 -- no name is this one
-none_among : (names : List (List ℕ)) (x : List ℕ) (n : ℕ) → is_some (position_from (λ k. same_name k x) n names) ≡ false → AllByRecursion (λ name. same_name name x ≡ false) names
+none_among : (names : List (List ℕ)) (x : List ℕ) (n : ℕ) → is_some (position_from (λ k. same_word k x) n names) ≡ false → AllByRecursion (λ name. same_word name x ≡ false) names
 none_among [] x n h = tt
-none_among (name ∷ names) x n h = by_test (none_among names x (n + 1)) (same_name name x) refl h
+none_among (name ∷ names) x n h = by_test (none_among names x (n + 1)) (same_word name x) refl h
   where
-    by_test : (is_some (position_from (λ k. same_name k x) (n + 1) names) ≡ false → AllByRecursion (λ k. same_name k x ≡ false) names) → (b : Bool) → same_name name x ≡ b → is_some (cond b (Some n) (position_from (λ k. same_name k x) (n + 1) names)) ≡ false →
-        (same_name name x ≡ false) × AllByRecursion (λ k. same_name k x ≡ false) names
+    by_test : (is_some (position_from (λ k. same_word k x) (n + 1) names) ≡ false → AllByRecursion (λ k. same_word k x ≡ false) names) → (b : Bool) → same_word name x ≡ b → is_some (cond b (Some n) (position_from (λ k. same_word k x) (n + 1) names)) ≡ false →
+        (same_word name x ≡ false) × AllByRecursion (λ k. same_word k x ≡ false) names
     by_test rest true e k = cc k
     by_test rest false e k = (e, rest k)
 
 pub not_among : (names : List (List ℕ)) (x : List ℕ) → is_among names x ≡ false → AllByRecursion (λ name. name ≢ x) names
 not_among names x h = weaker names (none_among names x 0 h)
   where
-    weaker : (list : List (List ℕ)) → AllByRecursion (λ name. same_name name x ≡ false) list → AllByRecursion (λ name. name ≢ x) list
+    weaker : (list : List (List ℕ)) → AllByRecursion (λ name. same_word name x ≡ false) list → AllByRecursion (λ name. name ≢ x) list
     weaker [] h = tt
     weaker (name ∷ list) h = (other_text name x (sym h.0), weaker list h.1)
 
@@ -162,7 +163,7 @@ placed_where board marks pin (Some at) same e h = by_found (find (λ i. same_pin
     by_found (Some s) f k =
         let here : s.1 ≡ at = cc k in
         let found = find_has (λ i. same_pin i.0 pin) marks.places s f in
-        let parts = and_parts (same_name s.0.0 pin.0) (same_name s.0.1 pin.1) found.1 in
+        let parts = and_parts (same_word s.0.0 pin.0) (same_word s.0.1 pin.1) found.1 in
         let P : List PinPlace → Type 0 = λ v. Has v s in
         let r : Site 0 board.chain s = site 0 board.chain s (subst P same found.0) in
         let number : r.index ≡ s.1.part = omega (arith, r.number) in

@@ -18,7 +18,8 @@ use Rattle.board_build.specs.declared.fault.BoardFault.{BoardFault}
 use Rattle.board_build.specs.declared.fault.BoardFault.TheVariants.{Limit, InertInChain}
 use Rattle.board_build.specs.declared.names.Naming.TheVariants.{Part as PartName, Inert}
 use Rattle.board_build.specs.Faults.{◌then◌}
-use Rattle.board_build.specs.Names.{Named, named, names_of, same_name}
+use Rattle.board_files.specs.Names.{same_word}
+use Rattle.board_build.specs.Names.{Named, named, names_of}
 use Rattle.board_build.specs.NetWords.{NetWord, net_of, pin_of, is_among}
 use Rattle.board_build.specs.Selection.{spot_at}
 use Rattle.board_build.specs.ChainParts.{pin_places, described_names}
@@ -108,11 +109,11 @@ none_at {A} test n (y ∷ ys) x e h = by_test (none_at test (n + 1) ys x) (test 
     by_test rest false t k (inl same) = sym (ap test same) ∙ t
     by_test rest false t k (inr p) = rest k p
 
-among_has : (names : List (List ℕ)) (x : List ℕ) (n : ℕ) → is_some (position_from (λ k. same_name k x) n names) ≡ true → Has names x
+among_has : (names : List (List ℕ)) (x : List ℕ) (n : ℕ) → is_some (position_from (λ k. same_word k x) n names) ≡ true → Has names x
 among_has [] x n h = cc h
-among_has (name ∷ names) x n h = by_test (among_has names x (n + 1)) (same_name name x) refl h
+among_has (name ∷ names) x n h = by_test (among_has names x (n + 1)) (same_word name x) refl h
   where
-    by_test : (is_some (position_from (λ k. same_name k x) (n + 1) names) ≡ true → Has names x) → (b : Bool) → same_name name x ≡ b → is_some (cond b (Some n) (position_from (λ k. same_name k x) (n + 1) names)) ≡ true → (name ≡ x) ⊎ Has names x
+    by_test : (is_some (position_from (λ k. same_word k x) (n + 1) names) ≡ true → Has names x) → (b : Bool) → same_word name x ≡ b → is_some (cond b (Some n) (position_from (λ k. same_word k x) (n + 1) names)) ≡ true → (name ≡ x) ⊎ Has names x
     by_test rest true e k = inl (same_text name x (sym e))
     by_test rest false e k = inr (rest k)
 
@@ -120,10 +121,10 @@ among_has (name ∷ names) x n h = by_test (among_has names x (n + 1)) (same_nam
 pub not_inert : (inerts : List Named) (parts : List (List ℕ)) → inert_in_chain inerts parts ≡ None → (x : List ℕ) → is_among (names_of inerts) x ≡ true → AllByRecursion (λ name. name ≢ x) parts
 unfolding inert_in_chain
 not_inert inerts parts e x among =
-    let count : length (places_of inerts parts) ≡ length inerts = length-map (names_of inerts) (first_place same_name parts) ∙ length-map inerts (λ n. n.1) in
+    let count : length (places_of inerts parts) ≡ length inerts = length-map (names_of inerts) (first_place same_word parts) ∙ length-map inerts (λ n. n.1) in
     let none : position is_some (places_of inerts parts) ≡ None = no_place InertInChain inerts is_some (places_of inerts parts) count e in
     let from : position_from is_some 0 (places_of inerts parts) ≡ None = sym (position_from-zero is_some (places_of inerts parts)) ∙ none in
-    not_among parts x (none_at is_some 0 (places_of inerts parts) (first_place same_name parts x) from (has_map (first_place same_name parts) (names_of inerts) x (among_has (names_of inerts) x 0 among)))
+    not_among parts x (none_at is_some 0 (places_of inerts parts) (first_place same_word parts x) from (has_map (first_place same_word parts) (names_of inerts) x (among_has (names_of inerts) x 0 among)))
 
 pub inert_kept : (chain : List ChainLine) (names : List (List ℕ)) → line_fault chain names ≡ None → inert_in_chain (named Inert chain) (names_of (named PartName chain)) ≡ None
 unfolding line_fault

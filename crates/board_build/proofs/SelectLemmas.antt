@@ -12,8 +12,10 @@ use Rattle.board_defs.specs.declared.spot.Spot.{Spot}
 use Rattle.board_build.specs.declared.fault.BoardFault.{BoardFault}
 use Rattle.board_build.specs.declared.fault.BoardFault.TheVariants.{PartTwice, Limit}
 use Rattle.board_build.specs.declared.names.Naming.TheVariants.{Part as PartName, Entity as EntityName}
-use Rattle.board_build.specs.Faults.{Gives, unless}
-use Rattle.board_build.specs.Names.{Named, named, names_of, same_name}
+use Rattle.answers.specs.Gives.{Gives}
+use Rattle.board_build.specs.Faults.{unless, board_told}
+use Rattle.board_files.specs.Names.{same_word}
+use Rattle.board_build.specs.Names.{Named, named, names_of}
 use Rattle.board_build.specs.Selection.{spot_at, no_chain, part_twice, chain_limit, first_fault, entity_names, entity_places, answer, selection}
 use Rattle.board_build.specs.ChainParts.{IsChain}
 use Rattle.board_build.proofs.ApartLemmas.{apart_pairs, apart_weaker, unrepeated_apart}
@@ -43,14 +45,14 @@ there : (s : Option Named) → option_map PartTwice (option_map (λ (m : Named).
 there None e = refl
 there (Some m) e = cc e
 
-parts_differ : (parts : List Named) → part_twice parts ≡ None → first_repeat same_name (names_of parts) ≡ None
+parts_differ : (parts : List Named) → part_twice parts ≡ None → first_repeat same_word (names_of parts) ≡ None
 unfolding part_twice
-parts_differ parts e = by_place (first_repeat same_name (names_of parts)) refl e
+parts_differ parts e = by_place (first_repeat same_word (names_of parts)) refl e
   where
-    by_place : (o : Option ℕ) → first_repeat same_name (names_of parts) ≡ o → option_map PartTwice (option_and_then (spot_at parts) o) ≡ None → o ≡ None
+    by_place : (o : Option ℕ) → first_repeat same_word (names_of parts) ≡ o → option_map PartTwice (option_and_then (spot_at parts) o) ≡ None → o ≡ None
     by_place None f k = refl
     by_place (Some n) f k =
-        let r : Repeat 0 (length (names_of parts)) n = repeat_within same_name [] 0 (names_of parts) n f in
+        let r : Repeat 0 (length (names_of parts)) n = repeat_within same_word [] 0 (names_of parts) n f in
         let count : length (names_of parts) ≡ length parts = length-map parts (λ m. m.1) in
         let within : n < length parts = omega (arith, r.below, count) in
         let d : Named = (0, []) in
@@ -79,19 +81,19 @@ chain_kept lines devices places entities e =
     let second = then_none _ _ first.1 in
     let third = then_none _ _ second.1 in
     let fourth = then_none _ _ third.1 in
-    let once_ = no_repeat same_name [] 0 (names_of (named PartName lines)) (parts_differ (named PartName lines) second.0) in
+    let once_ = no_repeat same_word [] 0 (names_of (named PartName lines)) (parts_differ (named PartName lines) second.0) in
     record {
       some = some_parts (named PartName lines) first.0;
       most = few_parts (named PartName lines) fourth.1;
-      differ = apart_pairs _ _ (apart_weaker _ _ (λ a b h. other_text a b (sym h)) (names_of (named PartName lines)) (unrepeated_apart same_name (names_of (named PartName lines)) once_));
+      differ = apart_pairs _ _ (apart_weaker _ _ (λ a b h. other_text a b (sym h)) (names_of (named PartName lines)) (unrepeated_apart same_word (names_of (named PartName lines)) once_));
     }
 
-pub selected_chain : {U : Type 0} (view : U → List ℕ) (lines : List ChainLine) (entities : List Entity) (r : Result U BoardFault) → Gives view r (selection lines entities) → IfOk r (λ v. IsChain lines × (length (view v) ≡ length (named EntityName lines)))
+pub selected_chain : {U : Type 0} (view : U → List ℕ) (lines : List ChainLine) (entities : List Entity) (r : Result U BoardFault) → Gives board_told view (λ said. selection lines entities ≡ said) r → IfOk r (λ v. IsChain lines × (length (view v) ≡ length (named EntityName lines)))
 unfolding answer
 selected_chain view lines entities (Err e) g = tt
 selected_chain view lines entities (Ok v) g =
     let devices = named EntityName lines in
     let places = entity_places devices (entity_names entities) in
     let ok = unless_ok (first_fault (named PartName lines) devices places (entity_names entities)) (map (λ (place : Option ℕ). unwrap_or place 0) places) (view v) g in
-    let count : length (view v) ≡ length devices = sym (ap length ok.1) ∙ length-map places (λ (place : Option ℕ). unwrap_or place 0) ∙ length-map (names_of devices) (first_place same_name (entity_names entities)) ∙ length-map devices (λ n. n.1) in
+    let count : length (view v) ≡ length devices = sym (ap length ok.1) ∙ length-map places (λ (place : Option ℕ). unwrap_or place 0) ∙ length-map (names_of devices) (first_place same_word (entity_names entities)) ∙ length-map devices (λ n. n.1) in
     (chain_kept lines devices places (entity_names entities) ok.0, count)

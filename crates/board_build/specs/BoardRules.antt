@@ -8,9 +8,8 @@ use Rattle.board_defs.specs.declared.device.RawDevice.{RawDevice}
 use Rattle.board_defs.specs.declared.board.Part.{Part}
 use Rattle.board_defs.specs.declared.board.Net.{Net}
 use Rattle.board_defs.specs.declared.board.RawBoard.{RawBoard}
-use Rattle.board_defs.specs.declared.board.Drive.{Drive}
-use Rattle.board_defs.specs.declared.board.Drive.TheVariants.{AlwaysOn, OneSided, By}
 use Rattle.board_defs.specs.Pins.{data_length, drive, is_test_pin}
+use Rattle.board_defs.specs.Decided.{is_always_on}
 use Rattle.board_build.specs.declared.fault.BoardFault.{BoardFault}
 use Rattle.board_build.specs.declared.fault.BoardFault.TheVariants.{Limit, NoPin, PinTwice, GuardedDriver, TwoAlwaysOn}
 use Rattle.board_build.specs.declared.names.Naming.TheVariants.{Part as PartName, Inert, Supply, Pull}
@@ -48,12 +47,6 @@ no_pin described places words = option_map (λ word. NoPin (spot_of word)) (find
 -- the first pin that stands earlier in another net: each counts once in a net
 unfoldable pub pin_twice : List NetWord → Option BoardFault
 pin_twice words = option_map (λ word. PinTwice (spot_of word)) (first_repeated have_same_pin words)
-
-abbrev pub is_always_on : Option Drive → Bool
-is_always_on None = false
-is_always_on (Some AlwaysOn) = true
-is_always_on (Some OneSided) = false
-is_always_on (Some (By c)) = false
 
 -- the pin is an always-on driver of the net
 abbrev pub drives_always : RawBoard → Marks → Pin → Option Net → Bool

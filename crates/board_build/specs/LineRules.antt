@@ -7,12 +7,13 @@ use Rattle.board_files.specs.declared.chain_file.ChainStatement.{ChainStatement}
 use Rattle.board_files.specs.declared.chain_file.ChainStatement.TheVariants.{Device, Bypass, Inert, Supply, Pull, Link}
 use Rattle.board_build.specs.declared.fault.BoardFault.{BoardFault}
 use Rattle.board_build.specs.declared.fault.BoardFault.TheVariants.{InertInChain, NoSupplyNet, NoPullNet, PullTwice}
-use Rattle.board_build.specs.Names.{Named, same_name, names_of}
+use Rattle.board_files.specs.Names.{same_word}
+use Rattle.board_build.specs.Names.{Named, names_of}
 use Rattle.board_build.specs.Selection.{spot_at}
 
 -- where each of these names stands among the others
 abbrev pub places_of : List Named → List (List ℕ) → List (Option ℕ)
-places_of list others = map (first_place same_name others) (names_of list)
+places_of list others = map (first_place same_word others) (names_of list)
 
 -- the first INERT line whose part is in the chain
 unfoldable pub inert_in_chain : List Named → List (List ℕ) → Option BoardFault
@@ -28,7 +29,7 @@ no_pull_net pulls nets = option_map NoPullNet (option_and_then (spot_at pulls) (
 
 -- the first PULL line whose net an earlier PULL line names
 unfoldable pub pull_twice : List Named → Option BoardFault
-pull_twice pulls = option_map PullTwice (option_and_then (spot_at pulls) (first_repeat same_name (names_of pulls)))
+pull_twice pulls = option_map PullTwice (option_and_then (spot_at pulls) (first_repeat same_word (names_of pulls)))
 
 -- a net and the value that a resistor pulls it to
 abbrev pub Pulled : Type 0
@@ -49,4 +50,4 @@ pulls_of (line ∷ lines) = cons_option (pull_of_line line.statement) (pulls_of 
 
 -- the value of the PULL line that names the net, and none where no line does
 abbrev pub pull_of_net : List Pulled → List ℕ → Option Bool
-pull_of_net pulls name = first_value same_name pulls name
+pull_of_net pulls name = first_value same_word pulls name

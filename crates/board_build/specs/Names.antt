@@ -1,6 +1,5 @@
 -- The names on the lines of a chain file.
-use Rattle.std.specs.Prelude.{ℕ, Bool, List, [], ◌∷◌, map, nat_eq, Option, Some, None}
-use Rattle.std.specs.Cmp.Lexicographic.{pointwise}
+use Rattle.std.specs.Prelude.{ℕ, List, [], ◌∷◌, map, Option, Some, None}
 use Rattle.board_files.specs.declared.chain_file.ChainLine.{ChainLine}
 use Rattle.board_files.specs.declared.chain_file.ChainStatement.{ChainStatement}
 use Rattle.board_files.specs.declared.chain_file.ChainStatement.TheVariants.{Device, Bypass, Inert as InertLine, Supply as SupplyLine, Pull as PullLine, Link}
@@ -10,9 +9,6 @@ use Rattle.board_build.specs.declared.names.Naming.TheVariants.{Part, Entity, In
 -- a name and the line on which it stands
 abbrev pub Named : Type 0
 Named = ℕ × List ℕ
-
-abbrev pub same_name : List ℕ → List ℕ → Bool
-same_name = pointwise nat_eq
 
 -- the part of a DEVICE or BYPASS line
 abbrev pub part_of : ChainStatement → Option (List ℕ)

@@ -5,14 +5,14 @@ use Rattle.first_places.specs.Places.{first_place, once}
 use Rattle.board_files.specs.declared.net_file.NetLine.{NetLine}
 use Rattle.board_files.specs.declared.net_file.PinWord.{PinWord}
 use Rattle.board_defs.specs.declared.spot.Spot.{Spot}
-use Rattle.board_build.specs.Names.{same_name}
+use Rattle.board_files.specs.Names.{same_word, line_names}
 
 -- a pin by its part and its name
 abbrev pub Pin : Type 0
 Pin = List ℕ × List ℕ
 
 abbrev pub same_pin : Pin → Pin → Bool
-same_pin a b = same_name a.0 b.0 && same_name a.1 b.1
+same_pin a b = same_word a.0 b.0 && same_word a.1 b.1
 
 -- a word that names a pin: the number of the net, the pin, and where the word stands
 abbrev pub NetWord : Type 0
@@ -40,18 +40,18 @@ same_place a b = (net_of a == net_of b) && same_pin (pin_of a) (pin_of b)
 
 -- the name is one of these
 abbrev pub is_among : List (List ℕ) → List ℕ → Bool
-is_among names name = is_some (first_place same_name names name)
+is_among names name = is_some (first_place same_word names name)
 
 -- the names of the nets in the order of their first lines: a net's number is its place here
 abbrev pub net_names : List NetLine → List (List ℕ)
-net_names lines = once same_name (map (λ line. line.name) lines)
+net_names lines = once same_word (line_names lines)
 
 abbrev pub net_number : List (List ℕ) → List ℕ → ℕ
-net_number names name = unwrap_or (first_place same_name names name) 0
+net_number names name = unwrap_or (first_place same_word names name) 0
 
 -- the words of a line are numbered below 2^32
-abbrev pub IsShort : NetLine → Type 0
-IsShort line = length line.pins ≤ 2 ^ 32 - 3
+abbrev pub HasFewPins : NetLine → Type 0
+HasFewPins line = length line.pins ≤ 2 ^ 32 - 3
 
 -- the pins of a line, from word n on
 abbrev pub line_words : ℕ → ℕ → ℕ → List PinWord → List NetWord

@@ -7,7 +7,8 @@ use Rattle.board_defs.specs.declared.spot.Spot.{Spot}
 use Rattle.board_build.specs.declared.fault.BoardFault.{BoardFault}
 use Rattle.board_build.specs.declared.fault.BoardFault.TheVariants.{NoChain, PartTwice, NoEntity, EntityTwice, Limit}
 use Rattle.board_build.specs.declared.names.Naming.TheVariants.{Part, Entity as EntityName}
-use Rattle.board_build.specs.Names.{Named, same_name, named, names_of}
+use Rattle.board_files.specs.Names.{same_word}
+use Rattle.board_build.specs.Names.{Named, named, names_of}
 use Rattle.board_build.specs.Faults.{◌then◌, unless}
 
 -- the line on which the name at the place stands. A chain line is named whole, as its word 1
@@ -20,11 +21,11 @@ no_chain parts = if nat_eq (length parts) 0 then Some NoChain else None
 
 -- the first part that stands a second time
 unfoldable pub part_twice : List Named → Option BoardFault
-part_twice parts = option_map PartTwice (option_and_then (spot_at parts) (first_repeat same_name (names_of parts)))
+part_twice parts = option_map PartTwice (option_and_then (spot_at parts) (first_repeat same_word (names_of parts)))
 
 -- where the entity of each described part stands among the texts
 abbrev pub entity_places : List Named → List (List ℕ) → List (Option ℕ)
-entity_places devices entities = map (first_place same_name entities) (names_of devices)
+entity_places devices entities = map (first_place same_word entities) (names_of devices)
 
 -- the first entity that no text has
 unfoldable pub no_entity : List Named → List (Option ℕ) → Option BoardFault
@@ -32,7 +33,7 @@ no_entity devices places = option_map NoEntity (option_and_then (spot_at devices
 
 -- the first text whose entity an earlier text has
 unfoldable pub entity_twice : List (List ℕ) → Option BoardFault
-entity_twice entities = option_map EntityTwice (first_repeat same_name entities)
+entity_twice entities = option_map EntityTwice (first_repeat same_word entities)
 
 -- at most 255 parts
 unfoldable pub chain_limit : List Named → Option BoardFault

@@ -3,10 +3,11 @@ ghost use Rattle.std.specs.Prelude.{◌≡◌, ◌<◌, ◌≤◌, ◌^◌, All,
 ghost use Rattle.std.specs.List.{AllByRecursion};
 ghost use Rattle.board_files.specs.ChainLines.{HasLength};
 ghost use Rattle.board_defs.specs.BoardRules.{IsBoard, IsPart};
-ghost use Rattle.board_build.specs.Faults.{Gives};
+ghost use Rattle.answers.specs.Gives.{Gives};
+ghost use Rattle.board_build.specs.Faults.{board_told};
 ghost use Rattle.board_build.specs.Names.{named, names_of};
 ghost use Rattle.board_build.specs.declared.names.Naming.TheVariants.{Entity, Part as PartName};
-ghost use Rattle.board_build.specs.NetWords.{IsShort};
+ghost use Rattle.board_build.specs.NetWords.{HasFewPins};
 ghost use Rattle.board_build.specs.ChainParts.{IsChain, chain_parts};
 ghost use Rattle.board_build.specs.BoardRules.{board_answer, board_of};
 ghost use Rattle.board_build.specs.inner.Marked.{board_by, marked_answer, marked_fault, seen};
@@ -38,8 +39,8 @@ pub fn board(
     requires devices { vec_len devices ≡ length (named Entity chain.now) }
     requires chain_lines { length chain.now < 2 ^ 32 }
     requires net_lines { length nets.now < 2 ^ 32 }
-    requires net_words { AllByRecursion IsShort nets.now }
-    ensures { Gives (λ board. board) result (board_of chain.now nets.now devices.items) }
+    requires net_words { AllByRecursion HasFewPins nets.now }
+    ensures { Gives board_told (λ board. board) (λ said. board_of chain.now nets.now devices.items ≡ said) result }
 {
     let lines = chain.lines();
     let parts = chain_parts(alloc, lines, devices)?;
@@ -75,8 +76,8 @@ fn board_of(
     requires parts { All (λ part. IsPart part.kind) parts.items }
     requires chain_lines { length chain.now < 2 ^ 32 }
     requires net_lines { length nets.now < 2 ^ 32 }
-    requires net_words { All IsShort nets.now }
-    ensures { Gives (λ board. board) result (board_answer chain.now nets.now parts.items) }
+    requires net_words { All HasFewPins nets.now }
+    ensures { Gives board_told (λ board. board) (λ said. board_answer chain.now nets.now parts.items ≡ said) result }
 {
     let names = net_names(alloc, nets)?;
     let words = standing_words(alloc, &names, nets)?;
@@ -96,7 +97,7 @@ fn answer(
     requires parts { vec_len parts ≤ 255 }
     requires names { length names.now < 2 ^ 32 }
     requires sound { marked_fault chain.now parts.items (map (λ n. n.now) names.now) (map seen words.now) ≡ None → IsBoard (board_by chain.now parts.items (map (λ n. n.now) names.now) (map seen words.now)) }
-    ensures { Gives (λ board. board) result (marked_answer chain.now parts.items (map (λ n. n.now) names.now) (map seen words.now)) }
+    ensures { Gives board_told (λ board. board) (λ said. marked_answer chain.now parts.items (map (λ n. n.now) names.now) (map seen words.now) ≡ said) result }
 {
     if let Some(fault) = file_fault(alloc, chain, &parts, names, words)? {
         return Err(fault);

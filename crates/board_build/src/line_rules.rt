@@ -2,7 +2,8 @@
 ghost use Rattle.std.specs.Prelude.{◌≡◌, ◌<◌, ◌≤◌, ◌^◌, map, length, vec_len, IfOk, position, is_some, option_map, Option, List, ℕ};
 ghost use Rattle.std.proofs.Common.{Bor};
 ghost use Rattle.indexmap.specs.IndexMap.{get_by};
-ghost use Rattle.board_build.specs.Names.{named, names_of, same_name};
+ghost use Rattle.board_files.specs.Names.{same_word};
+ghost use Rattle.board_build.specs.Names.{named, names_of};
 ghost use Rattle.board_build.specs.BoardRules.{line_fault};
 ghost use Rattle.board_build.specs.LineRules.{places_of, inert_in_chain, no_supply_net, no_pull_net, pull_twice, pulls_of, pull_of_line, Pulled, pull_of_net};
 
@@ -127,14 +128,14 @@ pub fn pulls_by_net<'a>(
     alloc: Global,
     pulls: &[(&'a [u8], bool)],
 ) -> Result<IndexMap<&'a [u8], bool>, AllocError>
-    ensures { IfOk result (λ known. (q : Bor (List ℕ)) → get_by (λ n. same_name q.now n.now) known ≡ pull_of_net (map (λ p. (p.0.now, p.1)) pulls.now) q.now) }
+    ensures { IfOk result (λ known. (q : Bor (List ℕ)) → get_by (λ n. same_word q.now n.now) known ≡ pull_of_net (map (λ p. (p.0.now, p.1)) pulls.now) q.now) }
 {
     first_values(alloc, pulls)
 }
 
 /// The value that a net is pulled to.
 pub fn pull_of_net(pulls: &IndexMap<&[u8], bool>, net: &[u8]) -> Option<bool>
-    ensures { result ≡ get_by (λ n. same_name net.now n.now) pulls.now }
+    ensures { result ≡ get_by (λ n. same_word net.now n.now) pulls.now }
 {
     pulls.get(&net).copied()
 }

@@ -1,7 +1,8 @@
 // Net words with what is known of their pins.
 ghost use Rattle.std.specs.Prelude.{◌≡◌, ◌<◌, ◌≤◌, ◌^◌, vec_len, length, map, IfOk, OnOk, is_none, is_some, option_copied, slice_get};
 ghost use Rattle.indexmap.specs.IndexMap.{get_by};
-ghost use Rattle.board_build.specs.Names.{named, names_of, same_name};
+ghost use Rattle.board_files.specs.Names.{same_word};
+ghost use Rattle.board_build.specs.Names.{named, names_of};
 ghost use Rattle.board_build.specs.declared.names.Naming.TheVariants.{Inert};
 ghost use Rattle.board_build.specs.NetWords.{lent_pin, lent_word, same_pin};
 ghost use Rattle.board_build.specs.ChainParts.{pin_places};
@@ -37,7 +38,7 @@ pub struct MarkedWord<'a> {
 
 /// Whether the name is one of these.
 pub fn is_known(names: &IndexMap<&[u8], u32>, name: &[u8]) -> bool
-    ensures { result ≡ is_some (get_by (λ n. same_name name.now n.now) names.now) }
+    ensures { result ≡ is_some (get_by (λ n. same_word name.now n.now) names.now) }
 {
     place_of(names, name).is_some()
 }
@@ -55,7 +56,7 @@ fn mark<'a>(
     described: &IndexMap<&[u8], u32>,
     inerts: &IndexMap<&[u8], u32>,
 ) -> MarkedWord<'a>
-    ensures { result ≡ mark_by parts.now (λ q. is_some (get_by (λ n. same_name q.now n.now) described.now)) (λ q. get_by (λ p. same_pin (lent_pin q) (lent_pin p)) places.now) (λ q. is_some (get_by (λ n. same_name q.now n.now) inerts.now)) word.now }
+    ensures { result ≡ mark_by parts.now (λ q. is_some (get_by (λ n. same_word q.now n.now) described.now)) (λ q. get_by (λ p. same_pin (lent_pin q) (lent_pin p)) places.now) (λ q. is_some (get_by (λ n. same_word q.now n.now) inerts.now)) word.now }
 {
     let at = place_of_pin(places, &word.0.1);
     MarkedWord {
@@ -79,7 +80,7 @@ fn mark_at<'a>(
     described: &IndexMap<&[u8], u32>,
     inerts: &IndexMap<&[u8], u32>,
 ) -> Result<(), AllocError>
-    ensures { OnOk result (marked.new.items ≡ marks_after (mark_by parts.now (λ q. is_some (get_by (λ n. same_name q.now n.now) described.now)) (λ q. get_by (λ p. same_pin (lent_pin q) (lent_pin p)) places.now) (λ q. is_some (get_by (λ n. same_name q.now n.now) inerts.now))) (slice_get words.now place) marked.old.items) }
+    ensures { OnOk result (marked.new.items ≡ marks_after (mark_by parts.now (λ q. is_some (get_by (λ n. same_word q.now n.now) described.now)) (λ q. get_by (λ p. same_pin (lent_pin q) (lent_pin p)) places.now) (λ q. is_some (get_by (λ n. same_word q.now n.now) inerts.now))) (slice_get words.now place) marked.old.items) }
 {
     match words.get(place) {
         Some(word) => {
@@ -98,7 +99,7 @@ fn mark_each<'a>(
     described: &IndexMap<&[u8], u32>,
     inerts: &IndexMap<&[u8], u32>,
 ) -> Result<Vec<MarkedWord<'a>>, AllocError>
-    ensures { IfOk result (λ marked. marked.items ≡ map (mark_by parts.now (λ q. is_some (get_by (λ n. same_name q.now n.now) described.now)) (λ q. get_by (λ p. same_pin (lent_pin q) (lent_pin p)) places.now) (λ q. is_some (get_by (λ n. same_name q.now n.now) inerts.now))) words.now) }
+    ensures { IfOk result (λ marked. marked.items ≡ map (mark_by parts.now (λ q. is_some (get_by (λ n. same_word q.now n.now) described.now)) (λ q. get_by (λ p. same_pin (lent_pin q) (lent_pin p)) places.now) (λ q. is_some (get_by (λ n. same_word q.now n.now) inerts.now))) words.now) }
 {
     let mut marked = Vec::new(alloc);
     for i in 0..words.len() {
@@ -115,7 +116,7 @@ fn mark_all<'a>(
     described: &IndexMap<&[u8], u32>,
     inerts: &IndexMap<&[u8], u32>,
 ) -> Result<Vec<MarkedWord<'a>>, AllocError>
-    ensures { IfOk result (λ marked. marked.items ≡ map (mark_by parts.now (λ q. is_some (get_by (λ n. same_name q.now n.now) described.now)) (λ q. get_by (λ p. same_pin (lent_pin q) (lent_pin p)) places.now) (λ q. is_some (get_by (λ n. same_name q.now n.now) inerts.now))) words.now) }
+    ensures { IfOk result (λ marked. marked.items ≡ map (mark_by parts.now (λ q. is_some (get_by (λ n. same_word q.now n.now) described.now)) (λ q. get_by (λ p. same_pin (lent_pin q) (lent_pin p)) places.now) (λ q. is_some (get_by (λ n. same_word q.now n.now) inerts.now))) words.now) }
 {
     let drivers = drivers_of(alloc, parts)?;
     mark_each(alloc, words, &drivers, places, described, inerts)

@@ -3,7 +3,8 @@ ghost use Rattle.std.specs.Prelude.{◌≡◌, ◌<◌, ◌≤◌, ◌^◌, vec_
 ghost use Rattle.std.proofs.Common.{Bor};
 ghost use Rattle.first_places.specs.Places.{first_place, first_repeat, once};
 ghost use Rattle.indexmap.specs.IndexMap.{get_by};
-ghost use Rattle.board_build.specs.Names.{name_of, named, names_of, same_name};
+ghost use Rattle.board_files.specs.Names.{same_word};
+ghost use Rattle.board_build.specs.Names.{name_of, named, names_of};
 
 use board_defs::Name;
 use board_files::{ChainLine, ChainStatement};
@@ -68,7 +69,7 @@ pub fn names_of<'a>(alloc: Global, named: &[(u32, &'a [u8])]) -> Result<Vec<&'a 
 /// The first name that stands a second time.
 pub fn first_repeat_of(alloc: Global, names: &[&[u8]]) -> Result<Option<u32>, AllocError>
     requires { length names.now < 2 ^ 32 }
-    ensures { IfOk result (λ place. place ≡ first_repeat same_name (map (λ n. n.now) names.now)) }
+    ensures { IfOk result (λ place. place ≡ first_repeat same_word (map (λ n. n.now) names.now)) }
 {
     first_repeat(alloc, names)
 }
@@ -79,14 +80,14 @@ pub fn first_places_of<'a>(
     names: &[&'a [u8]],
 ) -> Result<IndexMap<&'a [u8], u32>, AllocError>
     requires { length names.now < 2 ^ 32 }
-    ensures { IfOk result (λ places. (q : Bor (List ℕ)) → get_by (λ n. same_name q.now n.now) places ≡ first_place same_name (map (λ n. n.now) names.now) q.now) }
+    ensures { IfOk result (λ places. (q : Bor (List ℕ)) → get_by (λ n. same_word q.now n.now) places ≡ first_place same_word (map (λ n. n.now) names.now) q.now) }
 {
     first_places(alloc, names)
 }
 
 /// Where this name stands.
 pub fn place_of(places: &IndexMap<&[u8], u32>, name: &[u8]) -> Option<u32>
-    ensures { result ≡ get_by (λ n. same_name name.now n.now) places.now }
+    ensures { result ≡ get_by (λ n. same_word name.now n.now) places.now }
 {
     places.get(&name).copied()
 }
@@ -96,7 +97,7 @@ fn places_by(
     names: &[&[u8]],
     known: &IndexMap<&[u8], u32>,
 ) -> Result<Vec<Option<u32>>, AllocError>
-    ensures { IfOk result (λ places. places.items ≡ map (λ name. get_by (λ n. same_name name.now n.now) known.now) names.now) }
+    ensures { IfOk result (λ places. places.items ≡ map (λ name. get_by (λ n. same_word name.now n.now) known.now) names.now) }
 {
     names
         .iter()
@@ -111,7 +112,7 @@ pub fn places_among(
     others: &[&[u8]],
 ) -> Result<Vec<Option<u32>>, AllocError>
     requires { length others.now < 2 ^ 32 }
-    ensures { IfOk result (λ places. places.items ≡ map (first_place same_name (map (λ n. n.now) others.now)) (map (λ n. n.now) names.now)) }
+    ensures { IfOk result (λ places. places.items ≡ map (first_place same_word (map (λ n. n.now) others.now)) (map (λ n. n.now) names.now)) }
 {
     let known = first_places_of(alloc, others)?;
     places_by(alloc, names, &known)
@@ -119,7 +120,7 @@ pub fn places_among(
 
 /// The different names, each at its first place.
 pub fn once_names<'a>(alloc: Global, names: &[&'a [u8]]) -> Result<Vec<&'a [u8]>, AllocError>
-    ensures once { IfOk result (λ kept. map (λ n. n.now) kept.items ≡ once same_name (map (λ n. n.now) names.now)) }
+    ensures once { IfOk result (λ kept. map (λ n. n.now) kept.items ≡ once same_word (map (λ n. n.now) names.now)) }
     ensures few { IfOk result (λ kept. vec_len kept ≤ length names.now) }
 {
     once(alloc, names)

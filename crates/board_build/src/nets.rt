@@ -4,7 +4,8 @@ ghost use Rattle.std.specs.Option.{option_to_list};
 ghost use Rattle.std.specs.Vec.Iter.{into_iter_items};
 ghost use Rattle.std.proofs.Common.{get_or, set};
 ghost use Rattle.indexmap.specs.IndexMap.{get_by};
-ghost use Rattle.board_build.specs.Names.{named, names_of, same_name};
+ghost use Rattle.board_files.specs.Names.{same_word};
+ghost use Rattle.board_build.specs.Names.{named, names_of};
 ghost use Rattle.board_build.specs.declared.names.Naming.TheVariants.{Supply};
 ghost use Rattle.board_build.specs.LineRules.{pulls_of};
 ghost use Rattle.board_build.specs.inner.Marked.{board_by, group_of, groups_after, net_by, nets_after, nets_with, pin_with, seen};
@@ -104,7 +105,7 @@ fn net(
     pulls: &IndexMap<&[u8], bool>,
     pins: Vec<NetPin>,
 ) -> Result<Net, AllocError>
-    ensures { IfOk result (λ net. net ≡ record { name = name.now; supply = is_some (get_by (λ n. same_name name.now n.now) supplies.now); pull = get_by (λ n. same_name name.now n.now) pulls.now; pins = pins.items }) }
+    ensures { IfOk result (λ net. net ≡ record { name = name.now; supply = is_some (get_by (λ n. same_word name.now n.now) supplies.now); pull = get_by (λ n. same_word name.now n.now) pulls.now; pins = pins.items }) }
 {
     Ok(Net {
         name: Name::of(alloc, name)?,
@@ -130,7 +131,7 @@ fn push_net(
     pulls: &IndexMap<&[u8], bool>,
     group: Option<Vec<NetPin>>,
 ) -> Result<(), AllocError>
-    ensures { OnOk result (nets.new.items ≡ nets.old.items ++ option_to_list (option_map (λ g. record { name = name.now; supply = is_some (get_by (λ n. same_name name.now n.now) supplies.now); pull = get_by (λ n. same_name name.now n.now) pulls.now; pins = g }) (option_map (λ g. g.items) group))) }
+    ensures { OnOk result (nets.new.items ≡ nets.old.items ++ option_to_list (option_map (λ g. record { name = name.now; supply = is_some (get_by (λ n. same_word name.now n.now) supplies.now); pull = get_by (λ n. same_word name.now n.now) pulls.now; pins = g }) (option_map (λ g. g.items) group))) }
 {
     if let Some(pins) = group {
         nets.push(net(alloc, name, supplies, pulls, pins)?)?;
@@ -147,7 +148,7 @@ fn push_at(
     pulls: &IndexMap<&[u8], bool>,
     group: Option<Vec<NetPin>>,
 ) -> Result<(), AllocError>
-    ensures { OnOk result (nets.new.items ≡ nets_after (net_by (λ q. is_some (get_by (λ n. same_name q.now n.now) supplies.now)) (λ q. get_by (λ n. same_name q.now n.now) pulls.now)) (slice_get names.now place) (option_map (λ g. g.items) group) nets.old.items) }
+    ensures { OnOk result (nets.new.items ≡ nets_after (net_by (λ q. is_some (get_by (λ n. same_word q.now n.now) supplies.now)) (λ q. get_by (λ n. same_word q.now n.now) pulls.now)) (slice_get names.now place) (option_map (λ g. g.items) group) nets.old.items) }
 {
     match names.get(place) {
         Some(name) => push_net(alloc, nets, name, supplies, pulls, group),
@@ -162,7 +163,7 @@ fn nets_by(
     pulls: &IndexMap<&[u8], bool>,
     groups: Vec<Vec<NetPin>>,
 ) -> Result<Vec<Net>, AllocError>
-    ensures { IfOk result (λ nets. nets.items ≡ map (net_by (λ q. is_some (get_by (λ n. same_name q.now n.now) supplies.now)) (λ q. get_by (λ n. same_name q.now n.now) pulls.now)) (zip names.now (map (λ g. g.items) groups.items))) }
+    ensures { IfOk result (λ nets. nets.items ≡ map (net_by (λ q. is_some (get_by (λ n. same_word q.now n.now) supplies.now)) (λ q. get_by (λ n. same_word q.now n.now) pulls.now)) (zip names.now (map (λ g. g.items) groups.items))) }
 {
     let mut nets = Vec::new(alloc);
     let mut groups = groups.into_iter();

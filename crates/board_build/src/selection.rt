@@ -1,6 +1,7 @@
 // Which entity each described part of a chain is of.
 ghost use Rattle.std.specs.Prelude.{◌≡◌, ◌<◌, ◌^◌, All, map, length, vec_len, IfOk, unwrap_or, Option, position, is_none};
-ghost use Rattle.board_build.specs.Faults.{Gives};
+ghost use Rattle.answers.specs.Gives.{Gives};
+ghost use Rattle.board_build.specs.Faults.{board_told};
 ghost use Rattle.board_build.specs.Names.{named};
 ghost use Rattle.board_build.specs.declared.names.Naming.TheVariants.{Entity as EntityName};
 ghost use Rattle.board_build.specs.ChainParts.{IsChain};
@@ -17,7 +18,7 @@ use std::alloc::{AllocError, Global};
 pub fn select(alloc: Global, chain: &ChainFile, entities: &[Entity]) -> Result<Vec<u32>, BoardFault>
     requires chain { length chain.now < 2 ^ 32 }
     requires entities { length entities.now < 2 ^ 32 }
-    ensures numbers { Gives (λ numbers. numbers.items) result (selection chain.now entities.now) }
+    ensures numbers { Gives board_told (λ numbers. numbers.items) (λ said. selection chain.now entities.now ≡ said) result }
     ensures chain { IfOk result (λ numbers. IsChain chain.now) }
     ensures count { IfOk result (λ numbers. vec_len numbers ≡ length (named EntityName chain.now)) }
     ensures within { IfOk result (λ numbers. All (λ number. number < length entities.now) numbers.items) }
@@ -32,7 +33,7 @@ fn entity_numbers(
 ) -> Result<Vec<u32>, BoardFault>
     requires chain { length chain.now < 2 ^ 32 }
     requires entities { length entities.now < 2 ^ 32 }
-    ensures { Gives (λ numbers. numbers.items) result (selection chain.now entities.now) }
+    ensures { Gives board_told (λ numbers. numbers.items) (λ said. selection chain.now entities.now ≡ said) result }
 {
     let parts = named(alloc, chain.lines(), Naming::Part)?;
     let devices = named(alloc, chain.lines(), Naming::Entity)?;
@@ -52,7 +53,7 @@ fn answer(
 ) -> Result<Vec<u32>, BoardFault>
     requires parts { length parts.now < 2 ^ 32 }
     requires entities { length entities.now < 2 ^ 32 }
-    ensures { Gives (λ numbers. numbers.items) result (answer (map (λ n. (n.0, n.1.now)) parts.now) (map (λ n. (n.0, n.1.now)) devices.now) places.now (map (λ n. n.now) entities.now)) }
+    ensures { Gives board_told (λ numbers. numbers.items) (λ said. answer (map (λ n. (n.0, n.1.now)) parts.now) (map (λ n. (n.0, n.1.now)) devices.now) places.now (map (λ n. n.now) entities.now) ≡ said) result }
 {
     match first_fault(alloc, parts, devices, places, entities)? {
         Some(fault) => Err(fault),

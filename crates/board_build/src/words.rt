@@ -2,12 +2,12 @@
 ghost use Rattle.std.specs.Prelude.{◌≡◌, ◌<◌, ◌≤◌, ◌-◌, ◌^◌, ◌++◌, All, vec_len, length, map, IfOk, OnOk, unwrap_or};
 ghost use Rattle.indexmap.specs.IndexMap.{get_by};
 ghost use Rattle.first_places.specs.Places.{once};
-ghost use Rattle.board_build.specs.Names.{same_name};
-ghost use Rattle.board_build.specs.NetWords.{lent_word, same_place, net_names, net_number, line_words, words_of, IsShort};
+ghost use Rattle.board_files.specs.Names.{same_word};
+ghost use Rattle.board_build.specs.NetWords.{lent_word, same_place, net_names, net_number, line_words, words_of, HasFewPins};
 
 use crate::names::{first_places_of, once_names, place_of};
 use board_defs::Spot;
-use board_files::{NetLine, PinWord};
+use board_files::{NetLine, PinWord, line_names};
 use first_places::once_by;
 use indexmap::IndexMap;
 use std::alloc::{AllocError, Global};
@@ -27,19 +27,8 @@ pub fn net_names<'a>(alloc: Global, lines: &'a [NetLine]) -> Result<Vec<&'a [u8]
     once_names(alloc, &names)
 }
 
-fn line_names<'a>(alloc: Global, lines: &'a [NetLine]) -> Result<Vec<&'a [u8]>, AllocError>
-    ensures names { IfOk result (λ names. map (λ n. n.now) names.items ≡ map (λ line. line.name) lines.now) }
-    ensures count { IfOk result (λ names. vec_len names ≡ length lines.now) }
-{
-    let mut names = Vec::new(alloc);
-    for line in lines {
-        names.push(line.name.bytes())?;
-    }
-    Ok(names)
-}
-
 fn net_number(numbers: &IndexMap<&[u8], u32>, name: &[u8]) -> u32
-    ensures { result ≡ unwrap_or (get_by (λ n. same_name name.now n.now) numbers.now) 0 }
+    ensures { result ≡ unwrap_or (get_by (λ n. same_word name.now n.now) numbers.now) 0 }
 {
     place_of(numbers, name).unwrap_or(0)
 }
@@ -73,7 +62,7 @@ fn net_words<'a>(
     lines: &'a [NetLine],
 ) -> Result<Vec<NetWord<'a>>, AllocError>
     requires names { length names.now < 2 ^ 32 }
-    requires short { All IsShort lines.now }
+    requires short { All HasFewPins lines.now }
     ensures { IfOk result (λ words. map lent_word words.items ≡ words_of (map (λ n. n.now) names.now) lines.now) }
 {
     let numbers = first_places_of(alloc, names)?;
@@ -92,7 +81,7 @@ pub fn standing_words<'a>(
     lines: &'a [NetLine],
 ) -> Result<Vec<NetWord<'a>>, AllocError>
     requires names { length names.now < 2 ^ 32 }
-    requires short { All IsShort lines.now }
+    requires short { All HasFewPins lines.now }
     ensures { IfOk result (λ words. map lent_word words.items ≡ once same_place (words_of (map (λ n. n.now) names.now) lines.now)) }
 {
     let words = net_words(alloc, names, lines)?;

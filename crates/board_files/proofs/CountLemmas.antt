@@ -8,7 +8,7 @@ use Rattle.board_files.specs.declared.fault.LineFault.{LineFault}
 use Rattle.board_files.specs.declared.net_file.NetLine.{NetLine}
 use Rattle.board_files.specs.declared.net_file.PinWord.{PinWord}
 use Rattle.text_lines.specs.Words.{Word, words_of, is_newline, is_blank, is_filled, begins_no_comment, is_word}
-use Rattle.board_files.specs.Reading.{◌>>=◌, Gives, line_then, lines_from}
+use Rattle.board_files.specs.Reading.{◌>>=◌, Reads, line_then, lines_from}
 use Rattle.board_files.specs.NetLines.{pin_of, pins_of, net_of, net_line, net_lines}
 
 -- the pieces that hold something are no more than the bytes
@@ -160,7 +160,7 @@ net_counts text values is =
     let counts = counts_from (length text) 1 (slice_split is_newline text) (pieces_within is_newline text) values is in
     record { lines_few = omega (arith, counts.lines_few, few_filled is_newline text); pins_few = counts.pins_few }
 
-pub if_counted : (text : List ℕ) (answer : Result (List NetLine) LineFault) → Gives answer (net_lines text) → IfOk answer (λ lines. HasCounts (length text) (length text) lines)
+pub if_counted : (text : List ℕ) (answer : Result (List NetLine) LineFault) → Reads (λ lines. lines) answer (net_lines text) → IfOk answer (λ lines. HasCounts (length text) (length text) lines)
 if_counted text (Ok lines) is = net_counts text lines is
 if_counted text (Err fault) is = tt
 

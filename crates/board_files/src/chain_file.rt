@@ -2,7 +2,7 @@
 ghost use Rattle.std.specs.Prelude.{◌≡◌, ◌<◌, ◌≤◌, ◌^◌, List, map, length, vec_len, IfOk, IsTrue, Some, None, option_map, option_copied, codes, if◌then◌else◌};
 ghost use Rattle.std.specs.Str.{bytes_eq};
 ghost use Rattle.std.specs.List.{AllByRecursion};
-ghost use Rattle.board_files.specs.Reading.{Gives, GivesBy};
+ghost use Rattle.board_files.specs.Reading.{Reads};
 ghost use Rattle.board_files.specs.ChainLines.{package_of, decimal_from, length_of, is_bit, device_of, bypass_of, inert_of, supply_of, pull_of, link_of, statement_of, chain_line, chain_lines, HasLength};
 
 use crate::fault::LineFault;
@@ -87,7 +87,7 @@ impl ChainFile {
 /// the first of the faults Statement, Word and Number that it has. Any bytes may stand in it.
 pub fn chain(alloc: Global, bytes: &[u8]) -> Result<ChainFile, LineFault>
     requires { length bytes.now < 2 ^ 32 }
-    ensures read { Gives result (chain_lines bytes.now) }
+    ensures read { Reads (λ file. file) result (chain_lines bytes.now) }
     ensures lengths { IfOk result (AllByRecursion (λ line. HasLength line.statement)) }
     ensures count { IfOk result (λ file. length file ≤ length bytes.now) }
 {
@@ -98,7 +98,7 @@ pub fn chain(alloc: Global, bytes: &[u8]) -> Result<ChainFile, LineFault>
 // The lines of a chain file, or its first faulty line.
 fn read_lines(alloc: Global, bytes: &[u8]) -> Result<Vec<ChainLine>, LineFault>
     requires { length bytes.now < 2 ^ 32 }
-    ensures read { GivesBy (λ lines. lines.items) result (chain_lines bytes.now) }
+    ensures read { Reads (λ lines. lines.items) result (chain_lines bytes.now) }
     ensures count { IfOk result (λ lines. vec_len lines ≤ length bytes.now) }
 {
     let mut lines = Vec::new(alloc);
@@ -117,7 +117,7 @@ fn read_lines(alloc: Global, bytes: &[u8]) -> Result<Vec<ChainLine>, LineFault>
 }
 
 fn chain_line(alloc: Global, line: u32, words: &[&[u8]]) -> Result<ChainLine, LineFault>
-    ensures { Gives result (chain_line line (map (λ w. w.now) words.now)) }
+    ensures { Reads (λ line. line) result (chain_line line (map (λ w. w.now) words.now)) }
 {
     match words {
         [] => Err(LineFault::Statement(line)),
@@ -135,7 +135,7 @@ fn statement(
     name: &[u8],
     words: &[&[u8]],
 ) -> Result<ChainStatement, LineFault>
-    ensures { Gives result (statement_of line name.now (map (λ w. w.now) words.now)) }
+    ensures { Reads (λ statement. statement) result (statement_of line name.now (map (λ w. w.now) words.now)) }
 {
     if name == b"DEVICE".as_slice() {
         device(alloc, line, three_of(words))
@@ -169,7 +169,7 @@ fn device(
     line: u32,
     words: Option<(&[u8], &[u8], &[u8])>,
 ) -> Result<ChainStatement, LineFault>
-    ensures { Gives result (device_of line (option_map (λ w. (w.0.now, w.1.now, w.2.now)) words.entry)) }
+    ensures { Reads (λ statement. statement) result (device_of line (option_map (λ w. (w.0.now, w.1.now, w.2.now)) words.entry)) }
 {
     match words {
         None => Err(LineFault::Statement(line)),
@@ -220,7 +220,7 @@ fn bypass(
     line: u32,
     words: Option<(&[u8], &[u8])>,
 ) -> Result<ChainStatement, LineFault>
-    ensures { Gives result (bypass_of line (option_map (λ w. (w.0.now, w.1.now)) words.entry)) }
+    ensures { Reads (λ statement. statement) result (bypass_of line (option_map (λ w. (w.0.now, w.1.now)) words.entry)) }
 {
     match words {
         None => Err(LineFault::Statement(line)),
@@ -241,7 +241,7 @@ fn bypass(
 }
 
 fn inert(alloc: Global, line: u32, word: Option<&[u8]>) -> Result<ChainStatement, LineFault>
-    ensures { Gives result (inert_of line (option_copied word.entry)) }
+    ensures { Reads (λ statement. statement) result (inert_of line (option_copied word.entry)) }
 {
     match word {
         None => Err(LineFault::Statement(line)),
@@ -258,7 +258,7 @@ fn inert(alloc: Global, line: u32, word: Option<&[u8]>) -> Result<ChainStatement
 }
 
 fn supply(alloc: Global, line: u32, word: Option<&[u8]>) -> Result<ChainStatement, LineFault>
-    ensures { Gives result (supply_of line (option_copied word.entry)) }
+    ensures { Reads (λ statement. statement) result (supply_of line (option_copied word.entry)) }
 {
     match word {
         None => Err(LineFault::Statement(line)),
@@ -279,13 +279,13 @@ fn pull(
     line: u32,
     words: Option<(&[u8], &[u8])>,
 ) -> Result<ChainStatement, LineFault>
-    ensures { Gives result (pull_of line (option_map (λ w. (w.0.now, w.1.now)) words.entry)) }
+    ensures { Reads (λ statement. statement) result (pull_of line (option_map (λ w. (w.0.now, w.1.now)) words.entry)) }
 {
     match words {
         None => Err(LineFault::Statement(line)),
         Some((net, value)) => {
             if is_word(net) && is_word(value) {
-                match bit_of(value) {
+                match pulled_to(value) {
                     Some(value) => Ok(ChainStatement::Pull {
                         net: Name::of(alloc, net)?,
                         value,
@@ -299,7 +299,7 @@ fn pull(
     }
 }
 
-fn bit_of(word: &[u8]) -> Option<bool>
+fn pulled_to(word: &[u8]) -> Option<bool>
     ensures { result ≡ (if is_bit word.now then Some (bytes_eq word.now (codes "1")) else None) }
 {
     if word == b"0".as_slice() {
@@ -316,7 +316,7 @@ fn link(
     line: u32,
     words: Option<(&[u8], &[u8], &[u8])>,
 ) -> Result<ChainStatement, LineFault>
-    ensures { Gives result (link_of line (option_map (λ w. (w.0.now, w.1.now, w.2.now)) words.entry)) }
+    ensures { Reads (λ statement. statement) result (link_of line (option_map (λ w. (w.0.now, w.1.now, w.2.now)) words.entry)) }
 {
     match words {
         None => Err(LineFault::Statement(line)),

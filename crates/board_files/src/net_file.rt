@@ -1,14 +1,15 @@
 // The net file.
-ghost use Rattle.std.specs.Prelude.{◌≡◌, ◌+◌, ◌<◌, ◌≤◌, ◌^◌, ◌∷◌, List, map, length, IfOk, Option, Some, None};
+ghost use Rattle.std.specs.Prelude.{◌≡◌, ◌+◌, ◌<◌, ◌≤◌, ◌^◌, ◌∷◌, List, map, length, vec_len, IfOk, Option, Some, None};
 ghost use Rattle.std.specs.List.{AllByRecursion, before_first, after_first};
 ghost use Rattle.board_files.specs.Words.{is_dot};
-ghost use Rattle.board_files.specs.Reading.{Gives, GivesBy};
+ghost use Rattle.board_files.specs.Reading.{Reads};
+ghost use Rattle.board_files.specs.Names.{line_names};
 ghost use Rattle.board_files.specs.NetLines.{pin_of, pins_of, net_of, net_line, net_lines};
 
 use crate::fault::LineFault;
 use crate::words::upper;
 use board_defs::{Items, Name};
-use std::alloc::Global;
+use std::alloc::{AllocError, Global};
 use std::marker::Model;
 use text_lines::{cut_at, first_line, is_filled, is_word, words};
 
@@ -56,11 +57,23 @@ impl NetFile {
     }
 }
 
+/// The names on the lines, in order.
+pub fn line_names<'a>(alloc: Global, lines: &'a [NetLine]) -> Result<Vec<&'a [u8]>, AllocError>
+    ensures names { IfOk result (λ names. map (λ n. n.now) names.items ≡ line_names lines.now) }
+    ensures count { IfOk result (λ names. vec_len names ≡ length lines.now) }
+{
+    let mut names = Vec::new(alloc);
+    for line in lines {
+        names.push(line.name.bytes())?;
+    }
+    Ok(names)
+}
+
 /// The lines of a net file, or its first faulty line. A text has no more lines with words than
 /// bytes, and no line has more words.
 pub fn nets(alloc: Global, bytes: &[u8]) -> Result<NetFile, LineFault>
     requires { length bytes.now < 2 ^ 32 }
-    ensures read { Gives result (net_lines bytes.now) }
+    ensures read { Reads (λ file. file) result (net_lines bytes.now) }
     ensures count { IfOk result (λ file. length file ≤ length bytes.now) }
     ensures pins { IfOk result (AllByRecursion (λ line. length line.pins + 2 ≤ length bytes.now)) }
 {
@@ -69,7 +82,7 @@ pub fn nets(alloc: Global, bytes: &[u8]) -> Result<NetFile, LineFault>
 
 fn read_lines(alloc: Global, bytes: &[u8]) -> Result<NetFile, LineFault>
     requires { length bytes.now < 2 ^ 32 }
-    ensures { Gives result (net_lines bytes.now) }
+    ensures { Reads (λ file. file) result (net_lines bytes.now) }
 {
     let mut lines = Vec::new(alloc);
     let mut rest = Some(bytes);
@@ -87,7 +100,7 @@ fn read_lines(alloc: Global, bytes: &[u8]) -> Result<NetFile, LineFault>
 }
 
 fn net_line(alloc: Global, line: u32, words: &[&[u8]]) -> Result<NetLine, LineFault>
-    ensures { Gives result (net_line line (map (λ w. w.now) words.now)) }
+    ensures { Reads (λ line. line) result (net_line line (map (λ w. w.now) words.now)) }
 {
     match words {
         [keyword, rest @ ..] if *keyword == b"NET".as_slice() => net(alloc, line, rest),
@@ -97,7 +110,7 @@ fn net_line(alloc: Global, line: u32, words: &[&[u8]]) -> Result<NetLine, LineFa
 
 #[tactic(auto, unfolding(crate::specs::NetLines::net_of))]
 fn net(alloc: Global, line: u32, words: &[&[u8]]) -> Result<NetLine, LineFault>
-    ensures { Gives result (net_of line (map (λ w. w.now) words.now)) }
+    ensures { Reads (λ line. line) result (net_of line (map (λ w. w.now) words.now)) }
 {
     match words {
         [name, rest @ ..] => {
@@ -117,7 +130,7 @@ fn net(alloc: Global, line: u32, words: &[&[u8]]) -> Result<NetLine, LineFault>
 }
 
 fn pins(alloc: Global, line: u32, words: &[&[u8]]) -> Result<Vec<PinWord>, LineFault>
-    ensures { GivesBy (λ pins. pins.items) result (pins_of line (map (λ w. w.now) words.now)) }
+    ensures { Reads (λ pins. pins.items) result (pins_of line (map (λ w. w.now) words.now)) }
 {
     let mut pins = Vec::new(alloc);
     for word in words {
@@ -127,7 +140,7 @@ fn pins(alloc: Global, line: u32, words: &[&[u8]]) -> Result<Vec<PinWord>, LineF
 }
 
 fn pin(alloc: Global, line: u32, word: &[u8]) -> Result<PinWord, LineFault>
-    ensures { Gives result (pin_of line word.now) }
+    ensures { Reads (λ pin. pin) result (pin_of line word.now) }
 {
     if !is_word(word) {
         return Err(LineFault::Word(line));

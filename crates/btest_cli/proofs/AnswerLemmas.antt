@@ -1,11 +1,12 @@
 -- What a command does with what it finds.
 use Rattle.std.proofs.Common.{◌≡◌, ◌≤◌, ℕ, List, [], ◌∷◌, map, drop, length, slice_index_or, Result, Ok, Err, Vec, Global, refl, sym, ap, ◌∙◌, subst, inl, inr, arith}
+use Rattle.std.specs.Prelude.{IfSome}
 use Rattle.bt_base.specs.Puts.{Puts, Shown, Takes}
 use Rattle.tap_defs.specs.chain.ChainScans.{chain_text}
 use Rattle.tap_defs.specs.board.BoardScans.{board_text}
 use Rattle.device_check.specs.DeviceText.{device_text}
 use Rattle.coverage_list.specs.CoverText.{cover_text}
-use Rattle.btest_core.specs.Answers.{FaultIs}
+use Rattle.btest_core.specs.Answers.{input_told}
 use Rattle.btest_core.specs.declared.fault.InputFault.{InputFault}
 use Rattle.btest_core.specs.declared.fault.InputFault.TheVariants as input
 use Rattle.btest_core.specs.BoardRead.{AreChainLengths, IsBoardRead}
@@ -36,7 +37,7 @@ use Rattle.btest_cli.specs.inner.Answers.{Answers, IsCutBy, LogAnswers, NoBoard,
 use Rattle.btest_cli.specs.inner.Failures.{IsAnswered}
 
 -- a fault was found
-pub answers_fault : {A : Type 0} (IsFound : Result A InputFault → Type 0) (text_of : A → Text) (IsWorth : Shown → Type 0) (shown : Shown) (fault : InputFault) → FaultIs (λ f. IsFound (Err f)) fault → Answers IsFound text_of IsWorth shown shown (Err (unput_of fault))
+pub answers_fault : {A : Type 0} (IsFound : Result A InputFault → Type 0) (text_of : A → Text) (IsWorth : Shown → Type 0) (shown : Shown) (fault : InputFault) → IfSome (input_told fault) (λ f. IsFound (Err f)) → Answers IsFound text_of IsWorth shown shown (Err (unput_of fault))
 answers_fault IsFound text_of IsWorth shown (input.Memory e) is = refl
 answers_fault IsFound text_of IsWorth shown (input.Chain fault) is = (is, refl)
 answers_fault IsFound text_of IsWorth shown (input.Nets fault) is = (is, refl)
@@ -119,7 +120,7 @@ pub make_told : (number : ℕ) (texts : List Text) (old new : Shown) (result : R
 make_told number texts old new result answers = answered (Make number) texts (IsBoardRead (made.chain_text number) (made.net_text number) (bsdl_text ∷ [])) summary_text Nothing old new result (λ o says. says) (λ worth. worth) answers
 
 -- there is no board: its texts have a first fault, or memory ran out
-pub no_board : (chain nets : Text) (texts : List Text) (fault : InputFault) → FaultIs (λ f. IsBoardRead chain nets texts (Err f)) fault → NoBoard chain nets texts (unput_of fault)
+pub no_board : (chain nets : Text) (texts : List Text) (fault : InputFault) → IfSome (input_told fault) (λ f. IsBoardRead chain nets texts (Err f)) → NoBoard chain nets texts (unput_of fault)
 no_board chain nets texts (input.Memory e) is = tt
 no_board chain nets texts (input.Chain fault) is = is
 no_board chain nets texts (input.Nets fault) is = is

@@ -8,7 +8,8 @@ ghost use Rattle.coverage_list.specs.CoverText.{covered};
 ghost use Rattle.scan_planner.specs.Plans.{IsPlanOf, IsRoom, scan_count};
 ghost use Rattle.board_gen.specs.BoardTexts.{chain_text, net_text};
 ghost use Rattle.board_gen.specs.DeviceText.{bsdl_text};
-ghost use Rattle.btest_core.specs.Answers.{Gives};
+ghost use Rattle.answers.specs.Gives.{Gives};
+ghost use Rattle.btest_core.specs.Answers.{input_told};
 ghost use Rattle.btest_core.specs.BoardRead.{IsBoardRead};
 ghost use Rattle.btest_cli.specs.Summary.{counts_line, summary_text};
 ghost use Rattle.btest_cli.specs.inner.Answers.{Answers, Nothing};
@@ -71,7 +72,7 @@ pub fn summary<K: Sink>(alloc: Global, number: u32, out: &mut K) -> Result<(), U
 fn generated_board(alloc: Global, number: u32) -> Result<Board, InputFault>
     requires some { 1 ≤ number }
     requires few { number ≤ 255 }
-    ensures { Gives (λ board. board) (IsBoardRead (chain_text number) (net_text number) (bsdl_text ∷ [])) result }
+    ensures { Gives input_told (λ board. board) (IsBoardRead (chain_text number) (net_text number) (bsdl_text ∷ [])) result }
 {
     let Made { chain, nets, bsdl } = make(alloc, number)?;
     let mut texts = Vec::new(alloc);

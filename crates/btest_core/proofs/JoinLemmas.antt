@@ -10,7 +10,7 @@ use Rattle.board_files.specs.declared.net_file.NetLine.{NetLine}
 use Rattle.board_files.specs.ChainLines.{HasLength}
 use Rattle.board_build.specs.ChainParts.{IsChain}
 use Rattle.board_build.specs.Names.{named}
-use Rattle.board_build.specs.NetWords.{IsShort}
+use Rattle.board_build.specs.NetWords.{HasFewPins}
 use Rattle.board_build.specs.declared.names.Naming.TheVariants.{Part as PartName, Entity as EntityName}
 use Rattle.series_parts.specs.declared.joining.Joined.{Joined}
 use Rattle.btest_core.specs.inner.Kept.{Kept}
@@ -60,7 +60,7 @@ same_lengths : (rename : Word → Word) (lines : List ChainLine) → AllByRecurs
 same_lengths rename [] all = tt
 same_lengths rename (line ∷ lines) all = (same_length rename line.statement all.0, same_lengths rename lines all.1)
 
-same_pins : (rename : Word → Word) (lines : List NetLine) → AllByRecursion IsShort lines → AllByRecursion IsShort (map (joined_net rename) lines)
+same_pins : (rename : Word → Word) (lines : List NetLine) → AllByRecursion HasFewPins lines → AllByRecursion HasFewPins (map (joined_net rename) lines)
 same_pins rename [] all = tt
 same_pins rename (line ∷ lines) all = (all.0, same_pins rename lines all.1)
 

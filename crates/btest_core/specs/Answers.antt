@@ -1,5 +1,5 @@
 -- Answers that are found step by step, the first fault of which counts.
-use Rattle.std.specs.Prelude.{◌≡◌, ◌⊎◌, List, [], ◌∷◌, Result, Ok, Err}
+use Rattle.std.specs.Prelude.{◌≡◌, ◌⊎◌, List, [], ◌∷◌, Option, Some, None, Result, Ok, Err}
 use Rattle.btest_core.specs.declared.fault.InputFault.{InputFault}
 use Rattle.btest_core.specs.declared.fault.InputFault.TheVariants.{Chain, Nets, Lex, Parse, Board, Device, Link, NoIdent, Memory}
 
@@ -17,19 +17,14 @@ abbrev pub EachOf : {A B : Type 0} → (A → Result B InputFault → Type 0) �
 EachOf IsOf [] answer = Is (Ok []) answer
 EachOf IsOf (item ∷ items) answer = Follows (IsOf item) (λ value. Follows (EachOf IsOf items) (λ values. Is (Ok (value ∷ values)))) answer
 
--- the fault is of this kind, where memory was not refused
-abbrev pub FaultIs : (InputFault → Type 0) → InputFault → Type 0
-FaultIs P (Memory error) = Unit {0}
-FaultIs P (Chain fault) = P (Chain fault)
-FaultIs P (Nets fault) = P (Nets fault)
-FaultIs P (Lex text fault) = P (Lex text fault)
-FaultIs P (Parse text fault) = P (Parse text fault)
-FaultIs P (Board fault) = P (Board fault)
-FaultIs P (Device text fault) = P (Device text fault)
-FaultIs P (Link fault) = P (Link fault)
-FaultIs P (NoIdent line) = P (NoIdent line)
-
--- the answer, seen by a view, is of this kind, where memory was not refused
-abbrev pub Gives : {U V : Type 0} → (U → V) → (Result V InputFault → Type 0) → Result U InputFault → Type 0
-Gives view IsAnswer (Ok value) = IsAnswer (Ok (view value))
-Gives view IsAnswer (Err fault) = FaultIs (λ f. IsAnswer (Err f)) fault
+-- what a fault tells
+abbrev pub input_told : InputFault → Option InputFault
+input_told (Memory error) = None
+input_told (Chain fault) = Some (Chain fault)
+input_told (Nets fault) = Some (Nets fault)
+input_told (Lex text fault) = Some (Lex text fault)
+input_told (Parse text fault) = Some (Parse text fault)
+input_told (Board fault) = Some (Board fault)
+input_told (Device text fault) = Some (Device text fault)
+input_told (Link fault) = Some (Link fault)
+input_told (NoIdent line) = Some (NoIdent line)

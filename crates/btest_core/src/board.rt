@@ -6,12 +6,13 @@ ghost use Rattle.board_files.specs.NetLines.{net_lines};
 ghost use Rattle.board_build.specs.BoardRules.{board_of};
 ghost use Rattle.board_build.specs.ChainParts.{IsChain};
 ghost use Rattle.board_build.specs.Names.{named};
-ghost use Rattle.board_build.specs.NetWords.{IsShort};
+ghost use Rattle.board_build.specs.NetWords.{HasFewPins};
 ghost use Rattle.board_build.specs.declared.names.Naming.TheVariants.{Entity as EntityName};
 ghost use Rattle.series_parts.specs.Joining.{joined_files};
 ghost use Rattle.btest_core.specs.inner.Kept.{Kept};
 ghost use Rattle.btest_core.specs.declared.fault.InputFault.TheVariants.{Nets};
-ghost use Rattle.btest_core.specs.Answers.{Gives, Is};
+ghost use Rattle.answers.specs.Gives.{Gives};
+ghost use Rattle.btest_core.specs.Answers.{Is, input_told};
 ghost use Rattle.btest_core.specs.InputFaults.{in_board, in_file, in_link};
 ghost use Rattle.btest_core.specs.BoardRead.{IsJoinedBoard, IsFilesBoard, IsBoardRead};
 
@@ -27,9 +28,9 @@ use std::alloc::Global;
 // The net file of a text.
 fn net_file(alloc: Global, text: &[u8]) -> Result<NetFile, InputFault>
     requires { length text.now < 2 ^ 32 }
-    ensures read { Gives (λ file. file) (Is (in_file Nets (net_lines text.now))) result }
+    ensures read { Gives input_told (λ file. file) (Is (in_file Nets (net_lines text.now))) result }
     ensures count { IfOk result (λ file. length file < 2 ^ 32) }
-    ensures pins { IfOk result (AllByRecursion IsShort) }
+    ensures pins { IfOk result (AllByRecursion HasFewPins) }
 {
     match nets(alloc, text) {
         Ok(file) => Ok(file),
@@ -42,7 +43,7 @@ fn net_file(alloc: Global, text: &[u8]) -> Result<NetFile, InputFault>
 fn joined_files(alloc: Global, chain: &ChainFile, nets: NetFile) -> Result<Joined, InputFault>
     requires chain { length chain.now < 2 ^ 32 }
     requires nets { length nets < 2 ^ 32 }
-    ensures joined { Gives (λ joined. joined) (Is (in_link (joined_files chain.now nets))) result }
+    ensures joined { Gives input_told (λ joined. joined) (Is (in_link (joined_files chain.now nets))) result }
     ensures kept { IfOk result (Kept chain.now nets) }
 {
     match join(alloc, chain, &nets) {
@@ -64,8 +65,8 @@ fn board_of(
     requires devices { vec_len devices ≡ length (named EntityName chain.now) }
     requires chain_lines { length chain.now < 2 ^ 32 }
     requires net_lines { length nets.now < 2 ^ 32 }
-    requires net_words { AllByRecursion IsShort nets.now }
-    ensures { Gives (λ board. board) (Is (in_board (board_of chain.now nets.now devices.items))) result }
+    requires net_words { AllByRecursion HasFewPins nets.now }
+    ensures { Gives input_told (λ board. board) (Is (in_board (board_of chain.now nets.now devices.items))) result }
 {
     match board(alloc, chain, nets, devices) {
         Ok(board) => Ok(board),
@@ -86,8 +87,8 @@ fn joined_board(
     requires devices { vec_len devices ≡ length (named EntityName chain.now) }
     requires chain_lines { length chain.now < 2 ^ 32 }
     requires net_lines { length nets < 2 ^ 32 }
-    requires net_words { AllByRecursion IsShort nets }
-    ensures { Gives (λ board. board) (IsJoinedBoard chain.now nets devices.items) result }
+    requires net_words { AllByRecursion HasFewPins nets }
+    ensures { Gives input_told (λ board. board) (IsJoinedBoard chain.now nets devices.items) result }
 {
     match joined_files(alloc, chain, nets) {
         Ok(joined) => board_of(alloc, &joined.chain, &joined.nets, devices),
@@ -105,10 +106,10 @@ fn files_board(
     requires lengths { AllByRecursion (λ line. HasLength line.statement) chain.now }
     requires chain_lines { length chain.now < 2 ^ 32 }
     requires net_lines { length nets < 2 ^ 32 }
-    requires net_words { AllByRecursion IsShort nets }
+    requires net_words { AllByRecursion HasFewPins nets }
     requires each { All (λ text. length text.items < 2 ^ 32) bsdl.now }
     requires count { length bsdl.now < 2 ^ 32 }
-    ensures { Gives (λ board. board) (IsFilesBoard chain.now nets (map (λ text. text.items) bsdl.now)) result }
+    ensures { Gives input_told (λ board. board) (IsFilesBoard chain.now nets (map (λ text. text.items) bsdl.now)) result }
 {
     match devices(alloc, chain, bsdl) {
         Ok(devices) => joined_board(alloc, chain, nets, devices),
@@ -130,7 +131,7 @@ pub fn read_board(
     requires nets { length nets.now < 2 ^ 32 }
     requires each { All (λ text. length text.items < 2 ^ 32) bsdl.now }
     requires count { length bsdl.now < 2 ^ 32 }
-    ensures { Gives (λ board. board) (IsBoardRead chain.now nets.now (map (λ text. text.items) bsdl.now)) result }
+    ensures { Gives input_told (λ board. board) (IsBoardRead chain.now nets.now (map (λ text. text.items) bsdl.now)) result }
 {
     let chain = match chain_file(alloc, chain) {
         Ok(chain) => chain,

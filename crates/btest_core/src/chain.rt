@@ -7,7 +7,8 @@ ghost use Rattle.board_build.specs.ChainParts.{chain_parts, IsChain};
 ghost use Rattle.board_build.specs.Names.{named};
 ghost use Rattle.board_build.specs.declared.names.Naming.TheVariants.{Entity as EntityName};
 ghost use Rattle.btest_core.specs.declared.fault.InputFault.TheVariants.{Chain};
-ghost use Rattle.btest_core.specs.Answers.{Gives, Is};
+ghost use Rattle.answers.specs.Gives.{Gives};
+ghost use Rattle.btest_core.specs.Answers.{Is, input_told};
 ghost use Rattle.btest_core.specs.InputFaults.{in_file};
 ghost use Rattle.btest_core.specs.BoardRead.{AreFileLengths, AreChainLengths, AreLengths};
 
@@ -21,7 +22,7 @@ use std::alloc::{AllocError, Global};
 /// The chain file of a text.
 pub(crate) fn chain_file(alloc: Global, text: &[u8]) -> Result<ChainFile, InputFault>
     requires { length text.now < 2 ^ 32 }
-    ensures read { Gives (λ file. file) (Is (in_file Chain (chain_lines text.now))) result }
+    ensures read { Gives input_told (λ file. file) (Is (in_file Chain (chain_lines text.now))) result }
     ensures lengths { IfOk result (AllByRecursion (λ line. HasLength line.statement)) }
     ensures count { IfOk result (λ file. length file ≤ length text.now) }
 {
@@ -72,7 +73,7 @@ fn file_lengths(alloc: Global, file: &ChainFile, bsdl: &[Vec<u8>]) -> Result<Vec
     requires lengths { AllByRecursion (λ line. HasLength line.statement) file.now }
     requires each { All (λ text. length text.items < 2 ^ 32) bsdl.now }
     requires count { length bsdl.now < 2 ^ 32 }
-    ensures read { Gives (λ lengths. lengths.items) (AreFileLengths file.now (map (λ text. text.items) bsdl.now)) result }
+    ensures read { Gives input_told (λ lengths. lengths.items) (AreFileLengths file.now (map (λ text. text.items) bsdl.now)) result }
     ensures bounds { IfOk result (λ lengths. AreLengths lengths.items) }
 {
     match devices(alloc, file, bsdl) {
@@ -91,7 +92,7 @@ pub fn read_chain(alloc: Global, chain: &[u8], bsdl: &[Vec<u8>]) -> Result<Vec<u
     requires size { length chain.now < 2 ^ 32 }
     requires each { All (λ text. length text.items < 2 ^ 32) bsdl.now }
     requires count { length bsdl.now < 2 ^ 32 }
-    ensures read { Gives (λ lengths. lengths.items) (AreChainLengths chain.now (map (λ text. text.items) bsdl.now)) result }
+    ensures read { Gives input_told (λ lengths. lengths.items) (AreChainLengths chain.now (map (λ text. text.items) bsdl.now)) result }
     ensures bounds { IfOk result (λ lengths. AreLengths lengths.items) }
 {
     match chain_file(alloc, chain) {

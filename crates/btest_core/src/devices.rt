@@ -6,7 +6,8 @@ ghost use Rattle.board_build.specs.Names.{named};
 ghost use Rattle.board_build.specs.declared.names.Naming.TheVariants.{Entity as EntityName};
 ghost use Rattle.board_build.specs.Selection.{selection};
 ghost use Rattle.bsdl_parser.specs.Entity.{IsSmall};
-ghost use Rattle.btest_core.specs.Answers.{EachOf, Gives, Is};
+ghost use Rattle.answers.specs.Gives.{Gives};
+ghost use Rattle.btest_core.specs.Answers.{EachOf, Is, input_told};
 ghost use Rattle.btest_core.specs.InputFaults.{in_board};
 ghost use Rattle.btest_core.specs.inner.Choices.{AreOfChoices, choices_of};
 ghost use Rattle.btest_core.specs.DevicesRead.{Chosen, package_in, chosen, IsDeviceIn, IsDeviceOf, AreSelected, AreDevices, IsDeviceText};
@@ -25,7 +26,7 @@ use std::alloc::{AllocError, Global};
 /// gives the text the number 0.
 pub fn read_device(alloc: Global, bytes: &[u8]) -> Result<Device, InputFault>
     requires { length bytes.now < 2 ^ 32 }
-    ensures { Gives (λ device. device) (IsDeviceText bytes.now) result }
+    ensures { Gives input_told (λ device. device) (IsDeviceText bytes.now) result }
 {
     match read_entity(alloc, bytes, 0) {
         Ok(entity) => device_in(alloc, &entity, 0, None),
@@ -41,7 +42,7 @@ fn device_in(
     package: Option<&[u8]>,
 ) -> Result<Device, InputFault>
     requires { IsSmall entity.now }
-    ensures { Gives (λ device. device) (IsDeviceIn entity.now (text, option_copied «package».entry)) result }
+    ensures { Gives input_told (λ device. device) (IsDeviceIn entity.now (text, option_copied «package».entry)) result }
 {
     match device(alloc, entity, package) {
         Ok(device) => Ok(device),
@@ -59,7 +60,7 @@ fn device_of(
 ) -> Result<Device, InputFault>
     requires there { text < length entities.now }
     requires small { All IsSmall entities.now }
-    ensures { Gives (λ device. device) (IsDeviceOf entities.now (text, option_copied «package».entry)) result }
+    ensures { Gives input_told (λ device. device) (IsDeviceOf entities.now (text, option_copied «package».entry)) result }
 {
     device_in(alloc, &entities[text as usize], text, package)
 }
@@ -102,7 +103,7 @@ fn next_device(
     requires next { i < length chosen.now }
     requires before { length devices.now ≡ i }
     requires devices { AreOfChoices entities.now (choices_of chosen.now) devices.now }
-    ensures { (choice : Chosen) → slice_get (choices_of chosen.now) i ≡ Some choice → Gives (λ device. device) (IsDeviceOf entities.now choice) result }
+    ensures { (choice : Chosen) → slice_get (choices_of chosen.now) i ≡ Some choice → Gives input_told (λ device. device) (IsDeviceOf entities.now choice) result }
 {
     match earlier(chosen, i) {
         Some(j) => Ok(device_copy(alloc, &devices[j])?),
@@ -118,7 +119,7 @@ fn chosen_devices(
 ) -> Result<Vec<Device>, InputFault>
     requires there { AllByRecursion (λ choice. choice.0 < length entities.now) chosen.now }
     requires small { All IsSmall entities.now }
-    ensures devices { Gives (λ devices. devices.items) (EachOf (IsDeviceOf entities.now) (choices_of chosen.now)) result }
+    ensures devices { Gives input_told (λ devices. devices.items) (EachOf (IsDeviceOf entities.now) (choices_of chosen.now)) result }
     ensures count { IfOk result (λ devices. vec_len devices ≡ length chosen.now) }
 {
     let mut devices = Vec::new(alloc);
@@ -187,7 +188,7 @@ fn zipped<'a>(
 fn numbers(alloc: Global, file: &ChainFile, entities: &[Entity]) -> Result<Vec<u32>, InputFault>
     requires lines { length file.now < 2 ^ 32 }
     requires entities { length entities.now < 2 ^ 32 }
-    ensures numbers { Gives (λ numbers. numbers.items) (Is (in_board (selection file.now entities.now))) result }
+    ensures numbers { Gives input_told (λ numbers. numbers.items) (Is (in_board (selection file.now entities.now))) result }
     ensures chain { IfOk result (λ numbers. IsChain file.now) }
     ensures count { IfOk result (λ numbers. vec_len numbers ≡ length (named EntityName file.now)) }
     ensures within { IfOk result (λ numbers. All (λ number. number < length entities.now) numbers.items) }
@@ -208,7 +209,7 @@ fn devices_by(
 ) -> Result<Vec<Device>, InputFault>
     requires within { All (λ number. number < length entities.now) numbers.now }
     requires small { All IsSmall entities.now }
-    ensures devices { Gives (λ devices. devices.items) (EachOf (IsDeviceOf entities.now) (chosen lines.now numbers.now)) result }
+    ensures devices { Gives input_told (λ devices. devices.items) (EachOf (IsDeviceOf entities.now) (chosen lines.now numbers.now)) result }
     ensures number { IfOk result (λ devices. vec_len devices ≡ length (chosen lines.now numbers.now)) }
 {
     let chosen = chosen(alloc, lines, numbers)?;
@@ -224,7 +225,7 @@ fn selected_devices(
     requires lines { length file.now < 2 ^ 32 }
     requires entities { length entities.now < 2 ^ 32 }
     requires small { All IsSmall entities.now }
-    ensures devices { Gives (λ devices. devices.items) (AreSelected file.now entities.now) result }
+    ensures devices { Gives input_told (λ devices. devices.items) (AreSelected file.now entities.now) result }
     ensures chain { IfOk result (λ devices. IsChain file.now) }
     ensures number { IfOk result (λ devices. vec_len devices ≡ length (named EntityName file.now)) }
 {
@@ -244,7 +245,7 @@ pub(crate) fn devices(
     requires lines { length file.now < 2 ^ 32 }
     requires each { All (λ text. length text.items < 2 ^ 32) texts.now }
     requires count { length texts.now < 2 ^ 32 }
-    ensures devices { Gives (λ devices. devices.items) (AreDevices file.now (map (λ text. text.items) texts.now)) result }
+    ensures devices { Gives input_told (λ devices. devices.items) (AreDevices file.now (map (λ text. text.items) texts.now)) result }
     ensures chain { IfOk result (λ devices. IsChain file.now) }
     ensures number { IfOk result (λ devices. vec_len devices ≡ length (named EntityName file.now)) }
 {

@@ -3,7 +3,8 @@ ghost use Rattle.std.specs.Prelude.{◌≡◌, ◌<◌, ◌≤◌, ◌^◌, All,
 ghost use Rattle.board_build.specs.ChainParts.{IsChain};
 ghost use Rattle.board_build.specs.Names.{named};
 ghost use Rattle.board_build.specs.declared.names.Naming.TheVariants.{Entity as EntityName};
-ghost use Rattle.btest_core.specs.Answers.{Gives, Is};
+ghost use Rattle.answers.specs.Gives.{Gives};
+ghost use Rattle.btest_core.specs.Answers.{Is, input_told};
 ghost use Rattle.btest_core.specs.IdentsRead.{is_bypass, first_bypass, idents_unless, AreFileIdents, AreIdents};
 
 use crate::chain::chain_file;
@@ -63,7 +64,7 @@ fn idents_unless_bypass(
 ) -> Result<Vec<Option<Code>>, InputFault>
     requires chain { IsChain file.now }
     requires devices { length devices.now ≡ length (named EntityName file.now) }
-    ensures read { Gives (λ idents. idents.items) (Is (idents_unless (first_bypass file.now) devices.now)) result }
+    ensures read { Gives input_told (λ idents. idents.items) (Is (idents_unless (first_bypass file.now) devices.now)) result }
     ensures count { IfOk result (λ idents. (0 < length idents.items) × (length idents.items ≤ 255)) }
     ensures symbols { IfOk result (λ idents. All (λ ident. IfSome ident (λ code. length code ≡ 32)) idents.items) }
 {
@@ -82,7 +83,7 @@ fn file_idents(
     requires lines { length file.now < 2 ^ 32 }
     requires each { All (λ text. length text.items < 2 ^ 32) bsdl.now }
     requires count { length bsdl.now < 2 ^ 32 }
-    ensures read { Gives (λ idents. idents.items) (AreFileIdents file.now (map (λ text. text.items) bsdl.now)) result }
+    ensures read { Gives input_told (λ idents. idents.items) (AreFileIdents file.now (map (λ text. text.items) bsdl.now)) result }
     ensures count { IfOk result (λ idents. (0 < length idents.items) × (length idents.items ≤ 255)) }
     ensures symbols { IfOk result (λ idents. All (λ ident. IfSome ident (λ code. length code ≡ 32)) idents.items) }
 {
@@ -105,7 +106,7 @@ pub fn read_idents(
     requires size { length chain.now < 2 ^ 32 }
     requires each { All (λ text. length text.items < 2 ^ 32) bsdl.now }
     requires count { length bsdl.now < 2 ^ 32 }
-    ensures read { Gives (λ idents. idents.items) (AreIdents chain.now (map (λ text. text.items) bsdl.now)) result }
+    ensures read { Gives input_told (λ idents. idents.items) (AreIdents chain.now (map (λ text. text.items) bsdl.now)) result }
     ensures count { IfOk result (λ idents. (0 < length idents.items) × (length idents.items ≤ 255)) }
     ensures symbols { IfOk result (λ idents. All (λ ident. IfSome ident (λ code. length code ≡ 32)) idents.items) }
 {

@@ -1,8 +1,9 @@
 // The entities of BSDL texts.
-ghost use Rattle.std.specs.Prelude.{◌≡◌, ◌<◌, ◌^◌, All, IfOk, IfErr, length, map, vec_len};
+ghost use Rattle.std.specs.Prelude.{◌≡◌, ◌<◌, ◌^◌, All, IfOk, IfErr, IfSome, length, map, vec_len};
 ghost use Rattle.bsdl_lexer.specs.Tokens.{AreTokens};
 ghost use Rattle.bsdl_parser.specs.Entity.{HaveKinds, IsSmall};
-ghost use Rattle.btest_core.specs.Answers.{FaultIs, Gives};
+ghost use Rattle.answers.specs.Gives.{Gives};
+ghost use Rattle.btest_core.specs.Answers.{input_told};
 ghost use Rattle.btest_core.specs.TextsRead.{IsTextFault, IsEntityOf, AreEntities};
 
 use crate::fault::InputFault;
@@ -14,7 +15,7 @@ use std::alloc::Global;
 /// to the text.
 pub fn read_entity(alloc: Global, bytes: &[u8], text: u32) -> Result<Entity, InputFault>
     requires { length bytes.now < 2 ^ 32 }
-    ensures read { Gives (λ entity. entity) (IsEntityOf bytes.now text) result }
+    ensures read { Gives input_told (λ entity. entity) (IsEntityOf bytes.now text) result }
     ensures kinds { IfOk result HaveKinds }
     ensures small { IfOk result IsSmall }
 {
@@ -30,7 +31,7 @@ pub fn read_entity(alloc: Global, bytes: &[u8], text: u32) -> Result<Entity, Inp
 fn tokens_of(alloc: Global, bytes: &[u8], text: u32) -> Result<Vec<Token>, InputFault>
     requires { length bytes.now < 2 ^ 32 }
     ensures tokens { IfOk result (λ tokens. AreTokens bytes.now tokens.items) }
-    ensures fault { IfErr result (FaultIs (IsTextFault bytes.now text)) }
+    ensures fault { IfErr result (λ fault. IfSome (input_told fault) (IsTextFault bytes.now text)) }
 {
     let mut tokens = Vec::new(alloc);
     match lex(bytes, &mut tokens) {
@@ -44,7 +45,7 @@ fn tokens_of(alloc: Global, bytes: &[u8], text: u32) -> Result<Vec<Token>, Input
 pub(crate) fn entities(alloc: Global, texts: &[Vec<u8>]) -> Result<Vec<Entity>, InputFault>
     requires each { All (λ text. length text.items < 2 ^ 32) texts.now }
     requires count { length texts.now < 2 ^ 32 }
-    ensures read { Gives (λ entities. entities.items) (AreEntities (map (λ text. text.items) texts.now)) result }
+    ensures read { Gives input_told (λ entities. entities.items) (AreEntities (map (λ text. text.items) texts.now)) result }
     ensures kinds { IfOk result (λ entities. All HaveKinds entities.items) }
     ensures small { IfOk result (λ entities. All IsSmall entities.items) }
     ensures number { IfOk result (λ entities. vec_len entities ≡ length texts.now) }

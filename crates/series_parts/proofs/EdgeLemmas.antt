@@ -9,7 +9,8 @@ use Rattle.board_files.specs.declared.chain_file.ChainLine.{ChainLine}
 use Rattle.board_files.specs.declared.chain_file.ChainStatement.{ChainStatement}
 use Rattle.board_files.specs.declared.chain_file.ChainStatement.TheVariants.{Device, Bypass, Inert, Supply, Pull, Link}
 use Rattle.board_files.specs.declared.net_file.NetLine.{NetLine}
-use Rattle.series_parts.specs.Nets.{Word, same_word, has_pin, net_names, net_of}
+use Rattle.board_files.specs.Names.{same_word, line_names}
+use Rattle.series_parts.specs.Nets.{Word, has_pin, net_of}
 use Rattle.series_parts.specs.Joining.{Pair, pair_of, link_on, links, leads, joined_name, renaming}
 use Rattle.series_parts.specs.inner.Labels.{Edges, Joined, AreLabels}
 use Rattle.series_parts.specs.inner.Labels.Joined.{here, along, back as against}
@@ -39,15 +40,15 @@ option_pair names None b = refl
 option_pair names (Some a) None = refl
 option_pair names (Some a) (Some b) = refl
 
-pub net_at : (nets : List NetLine) (part pin : Word) → net_of nets part pin ≡ option_map (at (net_names nets)) (pin_place nets part pin)
+pub net_at : (nets : List NetLine) (part pin : Word) → net_of nets part pin ≡ option_map (at (line_names nets)) (pin_place nets part pin)
 net_at nets part pin = find_place (λ (line : NetLine). line.name) (has_pin part pin) nets []
 
-link_ends : (nets : List NetLine) (s : ChainStatement) → link_on nets s ≡ option_map (ends (net_names nets)) (edge_on nets s)
+link_ends : (nets : List NetLine) (s : ChainStatement) → link_on nets s ≡ option_map (ends (line_names nets)) (edge_on nets s)
 unfolding edge_between
 link_ends nets (Link part first second) =
     ap (λ a. pair_of a (net_of nets part second)) (net_at nets part first)
-    ∙ ap (pair_of (option_map (at (net_names nets)) (pin_place nets part first))) (net_at nets part second)
-    ∙ option_pair (net_names nets) (pin_place nets part first) (pin_place nets part second)
+    ∙ ap (pair_of (option_map (at (line_names nets)) (pin_place nets part first))) (net_at nets part second)
+    ∙ option_pair (line_names nets) (pin_place nets part first) (pin_place nets part second)
 link_ends nets (Device part entity pack) = refl
 link_ends nets (Bypass part bits) = refl
 link_ends nets (Inert part) = refl
@@ -59,12 +60,12 @@ cons_map f None xs = refl
 cons_map f (Some x) xs = refl
 
 -- the pairs of nets are those at the ends of the edges
-pub links_ends : (nets : List NetLine) (chain : List ChainLine) → links nets chain ≡ map (ends (net_names nets)) (link_edges nets chain)
+pub links_ends : (nets : List NetLine) (chain : List ChainLine) → links nets chain ≡ map (ends (line_names nets)) (link_edges nets chain)
 links_ends nets [] = refl
 links_ends nets (line ∷ chain) =
     ap (λ o. cons_option o (links nets chain)) (link_ends nets line.statement)
-    ∙ ap (cons_option (option_map (ends (net_names nets)) (edge_on nets line.statement))) (links_ends nets chain)
-    ∙ cons_map (ends (net_names nets)) (edge_on nets line.statement) (link_edges nets chain)
+    ∙ ap (cons_option (option_map (ends (line_names nets)) (edge_on nets line.statement))) (links_ends nets chain)
+    ∙ cons_map (ends (line_names nets)) (edge_on nets line.statement) (link_edges nets chain)
 
 place_within : {A : Type 0} (p : A → Bool) (xs : List A) (m : ℕ) → position_from p 0 xs ≡ Some m → m < length xs
 place_within p [] m h = cc h
@@ -88,7 +89,7 @@ edge_on_within nets (Inert part) e h = cc h
 edge_on_within nets (Supply net) e h = cc h
 edge_on_within nets (Pull net value) e h = cc h
 
-pub link_edges_within : (nets : List NetLine) (chain : List ChainLine) (e : ℕ × ℕ) → Has (link_edges nets chain) e → IsWithin (length (net_names nets)) e
+pub link_edges_within : (nets : List NetLine) (chain : List ChainLine) (e : ℕ × ℕ) → Has (link_edges nets chain) e → IsWithin (length (line_names nets)) e
 link_edges_within nets chain e h =
     let r = filter_map_has (λ (line : ChainLine). edge_on nets line.statement) chain e h in
     subst (λ (n : ℕ). IsWithin n e) (sym (length-map nets (λ (line : NetLine). line.name))) (edge_on_within nets r.0.statement e r.2)
@@ -147,21 +148,21 @@ is_name_edge names e h =
     subst (IsNameEdge names) is (record { within = (lt, f.within); same = sym f.same })
 
 -- an edge is of names or of a LINK line
-pub edge_kind : (nets : List NetLine) (chain : List ChainLine) (e : ℕ × ℕ) → Has (edges nets chain) e → IsNameEdge (net_names nets) e ⊎ Has (link_edges nets chain) e
-edge_kind nets chain e h = by_part (has_append (name_edges (net_names nets) 0 (net_names nets)) (link_edges nets chain) e h)
+pub edge_kind : (nets : List NetLine) (chain : List ChainLine) (e : ℕ × ℕ) → Has (edges nets chain) e → IsNameEdge (line_names nets) e ⊎ Has (link_edges nets chain) e
+edge_kind nets chain e h = by_part (has_append (name_edges (line_names nets) 0 (line_names nets)) (link_edges nets chain) e h)
   where
-    by_part : Has (name_edges (net_names nets) 0 (net_names nets)) e ⊎ Has (link_edges nets chain) e → IsNameEdge (net_names nets) e ⊎ Has (link_edges nets chain) e
-    by_part (inl p) = inl (is_name_edge (net_names nets) e p)
+    by_part : Has (name_edges (line_names nets) 0 (line_names nets)) e ⊎ Has (link_edges nets chain) e → IsNameEdge (line_names nets) e ⊎ Has (link_edges nets chain) e
+    by_part (inl p) = inl (is_name_edge (line_names nets) e p)
     by_part (inr p) = inr p
 
-edges_within : (nets : List NetLine) (chain : List ChainLine) (e : ℕ × ℕ) → Has (edges nets chain) e → IsWithin (length (net_names nets)) e
+edges_within : (nets : List NetLine) (chain : List ChainLine) (e : ℕ × ℕ) → Has (edges nets chain) e → IsWithin (length (line_names nets)) e
 edges_within nets chain e h = by_kind (edge_kind nets chain e h)
   where
-    by_kind : IsNameEdge (net_names nets) e ⊎ Has (link_edges nets chain) e → IsWithin (length (net_names nets)) e
+    by_kind : IsNameEdge (line_names nets) e ⊎ Has (link_edges nets chain) e → IsWithin (length (line_names nets)) e
     by_kind (inl p) = p.within
     by_kind (inr p) = link_edges_within nets chain e p
 
-pub all_edges_within : (nets : List NetLine) (chain : List ChainLine) (count : ℕ) → count ≡ length (net_names nets) → All (λ e. (e.0 < count) × (e.1 < count)) (edges nets chain)
+pub all_edges_within : (nets : List NetLine) (chain : List ChainLine) (count : ℕ) → count ≡ length (line_names nets) → All (λ e. (e.0 < count) × (e.1 < count)) (edges nets chain)
 all_edges_within nets chain count same k d lt =
     subst (λ (n : ℕ). IsWithin n (get_or (edges nets chain) k d)) (sym same)
     (edges_within nets chain (get_or (edges nets chain) k d) (has_at (edges nets chain) k (get_or (edges nets chain) k d) (slice_get-get_or (edges nets chain) k d lt)))
@@ -171,10 +172,10 @@ label_edge : (es : Edges) (labels : List ℕ) → AreLabels es labels → (e : �
 label_edge es labels h e has = let r = has_place es e has in h.ends r.0 e.0 e.1 r.1
 
 -- lines of one name have one label
-label_name : (nets : List NetLine) (chain : List ChainLine) (labels : List ℕ) → AreLabels (edges nets chain) labels → (i j : ℕ) → i < length (net_names nets) → j < length (net_names nets) →
-    at (net_names nets) i ≡ at (net_names nets) j → get_or labels i 0 ≡ get_or labels j 0
+label_name : (nets : List NetLine) (chain : List ChainLine) (labels : List ℕ) → AreLabels (edges nets chain) labels → (i j : ℕ) → i < length (line_names nets) → j < length (line_names nets) →
+    at (line_names nets) i ≡ at (line_names nets) j → get_or labels i 0 ≡ get_or labels j 0
 label_name nets chain labels h i j within_i within_j same =
-    let names = net_names nets in
+    let names = line_names nets in
     let f = first_line names i within_i in
     let g = first_line names j within_j in
     let one : Some f.first ≡ Some g.first = sym f.found ∙ ap (name_place names) same ∙ g.found in
@@ -209,41 +210,41 @@ lead_labels names labels [] x y one labelled p i j within_i within_j is_x is_y =
 lead_labels names labels (e ∷ es) x y one labelled p i j within_i within_j is_x is_y =
     lead_way names labels e es x y (labelled e (inl refl)).0 (labelled e (inl refl)).1 (λ u v q. lead_labels names labels es u v one (λ d has. labelled d (inr has)) q) (way (ends names e) (map (ends names) es) x y p) i j within_i within_j is_x is_y
 
-has_link : (nets : List NetLine) (chain : List ChainLine) (e : ℕ × ℕ) → Has (link_edges nets chain) e → Has (links nets chain) (ends (net_names nets) e)
-has_link nets chain e h = subst (λ (ps : List Pair). Has ps (ends (net_names nets) e)) (sym (links_ends nets chain)) (has_map (ends (net_names nets)) (link_edges nets chain) e h)
+has_link : (nets : List NetLine) (chain : List ChainLine) (e : ℕ × ℕ) → Has (link_edges nets chain) e → Has (links nets chain) (ends (line_names nets) e)
+has_link nets chain e h = subst (λ (ps : List Pair). Has ps (ends (line_names nets) e)) (sym (links_ends nets chain)) (has_map (ends (line_names nets)) (link_edges nets chain) e h)
 
 -- points that edges join are of nets to which links lead
-joined_leads : (nets : List NetLine) (chain : List ChainLine) (x y : ℕ) → Joined (edges nets chain) x y → leads (links nets chain) (at (net_names nets) x) (at (net_names nets) y) ≡ true
-joined_leads nets chain x y here = leads_self (links nets chain) (at (net_names nets) x)
+joined_leads : (nets : List NetLine) (chain : List ChainLine) (x y : ℕ) → Joined (edges nets chain) x y → leads (links nets chain) (at (line_names nets) x) (at (line_names nets) y) ≡ true
+joined_leads nets chain x y here = leads_self (links nets chain) (at (line_names nets) x)
 joined_leads nets chain x y (along {b = d} k e p) = by_kind (edge_kind nets chain (x, d) (has_at (edges nets chain) k (x, d) e)) (joined_leads nets chain d y p)
   where
-    by_kind : IsNameEdge (net_names nets) (x, d) ⊎ Has (link_edges nets chain) (x, d) → leads (links nets chain) (at (net_names nets) d) (at (net_names nets) y) ≡ true → leads (links nets chain) (at (net_names nets) x) (at (net_names nets) y) ≡ true
-    by_kind (inl n) q = ap (λ w. leads (links nets chain) w (at (net_names nets) y)) n.same ∙ q
-    by_kind (inr h) q = leads_forth (links nets chain) (at (net_names nets) x) (at (net_names nets) d) (at (net_names nets) y) (has_link nets chain (x, d) h) q
+    by_kind : IsNameEdge (line_names nets) (x, d) ⊎ Has (link_edges nets chain) (x, d) → leads (links nets chain) (at (line_names nets) d) (at (line_names nets) y) ≡ true → leads (links nets chain) (at (line_names nets) x) (at (line_names nets) y) ≡ true
+    by_kind (inl n) q = ap (λ w. leads (links nets chain) w (at (line_names nets) y)) n.same ∙ q
+    by_kind (inr h) q = leads_forth (links nets chain) (at (line_names nets) x) (at (line_names nets) d) (at (line_names nets) y) (has_link nets chain (x, d) h) q
 joined_leads nets chain x y (against {b = d} k e p) = by_kind (edge_kind nets chain (d, x) (has_at (edges nets chain) k (d, x) e)) (joined_leads nets chain d y p)
   where
-    by_kind : IsNameEdge (net_names nets) (d, x) ⊎ Has (link_edges nets chain) (d, x) → leads (links nets chain) (at (net_names nets) d) (at (net_names nets) y) ≡ true → leads (links nets chain) (at (net_names nets) x) (at (net_names nets) y) ≡ true
-    by_kind (inl n) q = ap (λ w. leads (links nets chain) w (at (net_names nets) y)) (sym n.same) ∙ q
-    by_kind (inr h) q = leads_back (links nets chain) (at (net_names nets) x) (at (net_names nets) d) (at (net_names nets) y) (has_link nets chain (d, x) h) q
+    by_kind : IsNameEdge (line_names nets) (d, x) ⊎ Has (link_edges nets chain) (d, x) → leads (links nets chain) (at (line_names nets) d) (at (line_names nets) y) ≡ true → leads (links nets chain) (at (line_names nets) x) (at (line_names nets) y) ≡ true
+    by_kind (inl n) q = ap (λ w. leads (links nets chain) w (at (line_names nets) y)) (sym n.same) ∙ q
+    by_kind (inr h) q = leads_back (links nets chain) (at (line_names nets) x) (at (line_names nets) d) (at (line_names nets) y) (has_link nets chain (d, x) h) q
 
 false_by : (b : Bool) → (b ≡ true → ⊥) → b ≡ false
 false_by true f = absurd (f refl)
 false_by false f = refl
 
 -- links lead from a line's net to an earlier line's only where the labels agree
-labels_agree : (nets : List NetLine) (chain : List ChainLine) (labels : List ℕ) → AreLabels (edges nets chain) labels → (k i : ℕ) → k < length (net_names nets) → i < length (net_names nets) →
-    leads (links nets chain) (at (net_names nets) k) (at (net_names nets) i) ≡ true → get_or labels k 0 ≡ get_or labels i 0
+labels_agree : (nets : List NetLine) (chain : List ChainLine) (labels : List ℕ) → AreLabels (edges nets chain) labels → (k i : ℕ) → k < length (line_names nets) → i < length (line_names nets) →
+    leads (links nets chain) (at (line_names nets) k) (at (line_names nets) i) ≡ true → get_or labels k 0 ≡ get_or labels i 0
 labels_agree nets chain labels h k i within_k within_i p =
-    lead_labels (net_names nets) labels (link_edges nets chain) (at (net_names nets) k) (at (net_names nets) i) (label_name nets chain labels h)
-    (λ e has. (link_edges_within nets chain e has, label_edge (edges nets chain) labels h e (has_right (name_edges (net_names nets) 0 (net_names nets)) (link_edges nets chain) e has)))
-    (ap (λ ps. leads ps (at (net_names nets) k) (at (net_names nets) i)) (sym (links_ends nets chain)) ∙ p) k i within_k within_i refl refl
+    lead_labels (line_names nets) labels (link_edges nets chain) (at (line_names nets) k) (at (line_names nets) i) (label_name nets chain labels h)
+    (λ e has. (link_edges_within nets chain e has, label_edge (edges nets chain) labels h e (has_right (name_edges (line_names nets) 0 (line_names nets)) (link_edges nets chain) e has)))
+    (ap (λ ps. leads ps (at (line_names nets) k) (at (line_names nets) i)) (sym (links_ends nets chain)) ∙ p) k i within_k within_i refl refl
 
 -- the joined name of a line's net is the name on the line of its label
-pub least_name : (nets : List NetLine) (chain : List ChainLine) (labels : List ℕ) → AreLabels (edges nets chain) labels → length labels ≡ length (net_names nets) → (k : ℕ) → k < length (net_names nets) →
-    at (net_names nets) (get_or labels k 0) ≡ joined_name (links nets chain) (net_names nets) (at (net_names nets) k)
+pub least_name : (nets : List NetLine) (chain : List ChainLine) (labels : List ℕ) → AreLabels (edges nets chain) labels → length labels ≡ length (line_names nets) → (k : ℕ) → k < length (line_names nets) →
+    at (line_names nets) (get_or labels k 0) ≡ joined_name (links nets chain) (line_names nets) (at (line_names nets) k)
 unfolding joined_name
 least_name nets chain labels h count k within =
-    let names = net_names nets in
+    let names = line_names nets in
     let low : get_or labels k 0 ≤ k = h.least k (omega arith) in
     let inside : get_or labels k 0 < length names = omega arith in
     sym (ap (λ o. unwrap_or o (at names k))
@@ -261,10 +262,10 @@ same_maps f g (x ∷ xs) [] d e count same = absurd (omega arith)
 same_maps f g (x ∷ xs) (y ∷ ys) d e count same = ap (λ z. z ∷ map f xs) (same 0 (omega arith)) ∙ ap (λ zs. g y ∷ zs) (same_maps f g xs ys d e (omega arith) (λ k lt. same (suc k) (omega arith)))
 
 -- the joined names of the lines
-pub least_names : (nets : List NetLine) (chain : List ChainLine) (labels : List ℕ) → AreLabels (edges nets chain) labels → length labels ≡ length (net_names nets) →
-    map (at (net_names nets)) labels ≡ map (joined_name (links nets chain) (net_names nets)) (net_names nets)
+pub least_names : (nets : List NetLine) (chain : List ChainLine) (labels : List ℕ) → AreLabels (edges nets chain) labels → length labels ≡ length (line_names nets) →
+    map (at (line_names nets)) labels ≡ map (joined_name (links nets chain) (line_names nets)) (line_names nets)
 least_names nets chain labels h count =
-    same_maps (at (net_names nets)) (joined_name (links nets chain) (net_names nets)) labels (net_names nets) 0 [] count (λ k lt. least_name nets chain labels h count k lt)
+    same_maps (at (line_names nets)) (joined_name (links nets chain) (line_names nets)) labels (line_names nets) 0 [] count (λ k lt. least_name nets chain labels h count k lt)
 
 absent_way : (names : List Word) (e : ℕ × ℕ) (es : Edges) (x y : Word) → ((i : ℕ) → i < length names → at names i ≡ x → ⊥) → IsWithin (length names) e → ((v : Word) → leads (map (ends names) es) x v ≡ true → x ≡ v) → Way (ends names e) (map (ends names) es) x y → x ≡ y
 absent_way names e es x y none inside rest (without q) = rest y q
@@ -277,19 +278,19 @@ absent names [] x y none within p = same_is x y p
 absent names (e ∷ es) x y none within p = absent_way names e es x y none (within e (inl refl)) (λ v q. absent names es x v none (λ d has. within d (inr has)) q) (way (ends names e) (map (ends names) es) x y p)
 
 -- a name on no line stays
-pub kept_name : (nets : List NetLine) (chain : List ChainLine) (name : Word) → name_place (net_names nets) name ≡ None → joined_name (links nets chain) (net_names nets) name ≡ name
+pub kept_name : (nets : List NetLine) (chain : List ChainLine) (name : Word) → name_place (line_names nets) name ≡ None → joined_name (links nets chain) (line_names nets) name ≡ name
 unfolding joined_name
 kept_name nets chain name none =
-    let names = net_names nets in
+    let names = line_names nets in
     let missing : (i : ℕ) → i < length names → at names i ≡ name → ⊥ = λ i lt e. true≢false (sym (same_self name) ∙ ap (λ w. same_word w name) (sym e) ∙ place_none (λ n. same_word n name) 0 names [] i none lt) in
     ap (λ o. unwrap_or o name) (find_missing (leads (links nets chain) name) names [] (λ i lt. false_by (leads (links nets chain) name (at names i)) (λ p.
     missing i lt (sym (absent names (link_edges nets chain) name (at names i) missing (λ e has. link_edges_within nets chain e has) (ap (λ ps. leads ps name (at names i)) (sym (links_ends nets chain)) ∙ p))))))
 
-renames_by : (nets : List NetLine) (chain : List ChainLine) (least : List Word) (name : Word) → least ≡ map (joined_name (links nets chain) (net_names nets)) (net_names nets) →
-    (o : Option ℕ) → name_place (net_names nets) name ≡ o → at_place least name o ≡ joined_name (links nets chain) (net_names nets) name
+renames_by : (nets : List NetLine) (chain : List ChainLine) (least : List Word) (name : Word) → least ≡ map (joined_name (links nets chain) (line_names nets)) (line_names nets) →
+    (o : Option ℕ) → name_place (line_names nets) name ≡ o → at_place least name o ≡ joined_name (links nets chain) (line_names nets) name
 renames_by nets chain least name is None e = sym (kept_name nets chain name e)
 renames_by nets chain least name is (Some m) e =
-    let names = net_names nets in
+    let names = line_names nets in
     let f = joined_name (links nets chain) names in
     let r = place_found (λ n. same_word n name) 0 names [] m e in
     let same : m ≡ r.0 = omega (arith, r.1) in
@@ -297,22 +298,22 @@ renames_by nets chain least name is (Some m) e =
     ap (λ l. get_or l m name) is ∙ get_or-map f names m [] name inside ∙ ap (λ i. f (at names i)) same ∙ ap f (same_is (at names r.0) name r.2.passes)
 
 -- the new names of the lines give the new name of every net
-pub renames : (nets : List NetLine) (chain : List ChainLine) (least : List Word) (name : Word) → least ≡ map (joined_name (links nets chain) (net_names nets)) (net_names nets) →
-    renamed (net_names nets) least name ≡ joined_name (links nets chain) (net_names nets) name
+pub renames : (nets : List NetLine) (chain : List ChainLine) (least : List Word) (name : Word) → least ≡ map (joined_name (links nets chain) (line_names nets)) (line_names nets) →
+    renamed (line_names nets) least name ≡ joined_name (links nets chain) (line_names nets) name
 unfolding renamed
-renames nets chain least name is = renames_by nets chain least name is (name_place (net_names nets) name) refl
+renames nets chain least name is = renames_by nets chain least name is (name_place (line_names nets) name) refl
 
 -- the new name of every net, from the labels of the lines
-pub new_names : (nets : List NetLine) (chain : List ChainLine) (names : List Word) (es : Edges) (labels : List ℕ) (least : List Word) → names ≡ net_names nets → es ≡ edges nets chain → AreLabels es labels → length labels ≡ length names →
+pub new_names : (nets : List NetLine) (chain : List ChainLine) (names : List Word) (es : Edges) (labels : List ℕ) (least : List Word) → names ≡ line_names nets → es ≡ edges nets chain → AreLabels es labels → length labels ≡ length names →
     least ≡ map (at names) labels → (name : Word) → renamed names least name ≡ joined_name (links nets chain) names name
 new_names nets chain names es labels least is whole h count e name =
     let labelled : AreLabels (edges nets chain) labels = subst (λ (es : Edges). AreLabels es labels) whole h in
-    let all : least ≡ map (joined_name (links nets chain) (net_names nets)) (net_names nets) = e ∙ ap (λ ns. map (at ns) labels) is ∙ least_names nets chain labels labelled (count ∙ ap length is) in
+    let all : least ≡ map (joined_name (links nets chain) (line_names nets)) (line_names nets) = e ∙ ap (λ ns. map (at ns) labels) is ∙ least_names nets chain labels labelled (count ∙ ap length is) in
     ap (λ ns. renamed ns least name) is ∙ renames nets chain least name all ∙ ap (λ ns. joined_name (links nets chain) ns name) (sym is)
 
 -- the same as an equation of functions, for names that were looked up
-pub renaming_is : (nets : List NetLine) (chain : List ChainLine) (names least seen : List Word) → names ≡ net_names nets → seen ≡ least → ((name : Word) → renamed names least name ≡ joined_name (links nets chain) names name) →
+pub renaming_is : (nets : List NetLine) (chain : List ChainLine) (names least seen : List Word) → names ≡ line_names nets → seen ≡ least → ((name : Word) → renamed names least name ≡ joined_name (links nets chain) names name) →
     renamed names seen ≡ renaming chain nets
 renaming_is nets chain names least seen is same h =
-    let each : (name : Word) → renamed names seen name ≡ joined_name (links nets chain) (net_names nets) name = λ name. ap (λ l. renamed names l name) same ∙ h name ∙ ap (λ ns. joined_name (links nets chain) ns name) is in
+    let each : (name : Word) → renamed names seen name ≡ joined_name (links nets chain) (line_names nets) name = λ name. ap (λ l. renamed names l name) same ∙ h name ∙ ap (λ ns. joined_name (links nets chain) ns name) is in
     λ i name. each name i

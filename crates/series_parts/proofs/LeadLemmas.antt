@@ -3,7 +3,8 @@ use Rattle.std.proofs.Common.{◌≡◌, true, ◌&&◌, ◌||◌, List, [], ◌
 use Rattle.std.proofs.lemmas.Bool.{and_parts, and_from, or_cases, or_left, or_right}
 use Rattle.std.specs.Cmp.Lexicographic.{bytes_decides}
 use Rattle.board_defs.proofs.Members.{Has}
-use Rattle.series_parts.specs.Nets.{Word, same_word}
+use Rattle.board_files.specs.Names.{same_word}
+use Rattle.series_parts.specs.Nets.{Word}
 use Rattle.series_parts.specs.Joining.{Pair, leads}
 
 pub same_self : (a : Word) → same_word a a ≡ true

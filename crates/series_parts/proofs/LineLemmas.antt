@@ -9,10 +9,11 @@ use Rattle.board_files.specs.declared.chain_file.ChainStatement.{ChainStatement}
 use Rattle.board_files.specs.declared.chain_file.ChainStatement.TheVariants.{Device, Bypass, Inert, Supply, Pull, Link}
 use Rattle.board_files.specs.declared.net_file.NetLine.{NetLine}
 use Rattle.board_files.specs.ChainLines.{HasLength}
-use Rattle.series_parts.specs.Nets.{Word, net_names}
+use Rattle.board_files.specs.Names.{line_names}
+use Rattle.series_parts.specs.Nets.{Word}
 use Rattle.series_parts.specs.LinkPins.{missing_on, missing_link_pin, ◌then◌}
 use Rattle.series_parts.specs.Joining.{link_on, links, leads, joined_name, joined_statement, joined_line, joined_net, renaming, joined_chain, joined_nets, joined_files, unless}
-use Rattle.series_parts.specs.Lines.{is_link, has_link, is_chain_part, chain_parts}
+use Rattle.series_parts.specs.Lines.{is_link, has_link, is_chain_part, chain_part_lines}
 use Rattle.series_parts.proofs.LeadLemmas.{same_is}
 
 no_link : (f : Word → Word) (s : ChainStatement) → is_link (joined_statement f s) ≡ false
@@ -36,9 +37,9 @@ parts_on f n (Inert part) old new e = e
 parts_on f n (Supply net) old new e = e
 parts_on f n (Pull net value) old new e = e
 
-pub same_parts : (f : Word → Word) (chain : List ChainLine) → chain_parts (map (joined_line f) chain) ≡ chain_parts chain
+pub same_parts : (f : Word → Word) (chain : List ChainLine) → chain_part_lines (map (joined_line f) chain) ≡ chain_part_lines chain
 same_parts f [] = refl
-same_parts f (line ∷ chain) = parts_on f line.line line.statement (chain_parts chain) (chain_parts (map (joined_line f) chain)) (same_parts f chain)
+same_parts f (line ∷ chain) = parts_on f line.line line.statement (chain_part_lines chain) (chain_part_lines (map (joined_line f) chain)) (same_parts f chain)
 
 length_on : (f : Word → Word) (s : ChainStatement) → HasLength s → HasLength (joined_statement f s)
 length_on f (Link part first second) h = tt
@@ -114,7 +115,7 @@ nets_stay f (line ∷ nets) h = ap (λ w. record { line = line.line; name = w; p
 -- files without LINK lines are their own joined files
 pub files_stay : (chain : List ChainLine) (nets : List NetLine) → has_link chain ≡ false → joined_files chain nets ≡ Ok (record { chain = chain; nets = nets })
 files_stay chain nets none =
-    let same : (w : Word) → renaming chain nets w ≡ w = λ w. ap (λ ps. joined_name ps (net_names nets) w) (no_pairs nets chain none) ∙ name_stays (net_names nets) w in
+    let same : (w : Word) → renaming chain nets w ≡ w = λ w. ap (λ ps. joined_name ps (line_names nets) w) (no_pairs nets chain none) ∙ name_stays (line_names nets) w in
     let new_chain = chain_stays (renaming chain nets) chain same none in
     let new_nets = nets_stay (renaming chain nets) nets same in
     ap (λ o. unless o (record { chain = joined_chain chain nets; nets = joined_nets chain nets })) (none_missing nets chain none)

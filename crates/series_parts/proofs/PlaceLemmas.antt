@@ -3,7 +3,7 @@ use Rattle.std.proofs.Common.{◌≡◌, ℕ, ◌+◌, Bool, true, false, cond, 
 use Rattle.std.specs.Prelude.{IfOk}
 use Rattle.std.specs.List.{position_from}
 use Rattle.first_places.specs.Places.{first_place}
-use Rattle.series_parts.specs.Nets.{same_word}
+use Rattle.board_files.specs.Names.{same_word}
 
 pub place-map : {A B : Type 0} (f : A → B) (p : B → Bool) (n : ℕ) (xs : List A) → position_from (λ a. p (f a)) n xs ≡ position_from p n (map f xs)
 place-map f p n [] = refl

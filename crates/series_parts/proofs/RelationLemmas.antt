@@ -7,7 +7,8 @@ use Rattle.board_files.specs.declared.chain_file.ChainLine.{ChainLine}
 use Rattle.board_files.specs.declared.chain_file.ChainStatement.{ChainStatement}
 use Rattle.board_files.specs.declared.chain_file.ChainStatement.TheVariants.{Device, Bypass, Inert, Supply, Pull, Link}
 use Rattle.board_files.specs.declared.net_file.NetLine.{NetLine}
-use Rattle.series_parts.specs.Nets.{Word, same_word, net_names, net_of}
+use Rattle.board_files.specs.Names.{same_word, line_names}
+use Rattle.series_parts.specs.Nets.{Word, net_of}
 use Rattle.series_parts.specs.JoinedFiles.{IsLink, AreJoined, IsLeastJoined, IsReplaced, IsJoinedStatement, IsJoinedLine, IsJoinedNet, Each, AreJoinedFiles}
 use Rattle.series_parts.specs.JoinedFiles.AreJoined.{itself, along, back}
 use Rattle.series_parts.specs.Joining.{Pair, pair_of, link_on, links, leads, joined_name, joined_statement, joined_line, joined_net, renaming, joined_chain, joined_nets}
@@ -97,10 +98,10 @@ le_by (suc m) zero f = absurd (f (omega arith))
 le_by (suc m) (suc k) f = let r : m ≤ k = le_by m k (λ lt. f (omega arith)) in omega arith
 
 -- a net that is there has the joined name of the least-numbered net joined with it
-least_joined : (chain : List ChainLine) (nets : List NetLine) (name : Word) → Contains (net_names nets) name → IsLeastJoined chain nets name (joined_name (links nets chain) (net_names nets) name)
+least_joined : (chain : List ChainLine) (nets : List NetLine) (name : Word) → Contains (line_names nets) name → IsLeastJoined chain nets name (joined_name (links nets chain) (line_names nets) name)
 unfolding joined_name
 least_joined chain nets name has =
-    let names = net_names nets in
+    let names = line_names nets in
     let p = leads (links nets chain) name in
     let s = has_place names name (contains_has names name has) in
     let itself_there : get_or names s.0 [] ≡ name = get_or_from_slice_get names s.0 name [] s.1 in
@@ -118,15 +119,15 @@ contains_found names name m e =
     let r = place_found (λ n. same_word n name) 0 names [] m e in
     has_contains names name (has_at names r.0 name (slice_get-get_or names r.0 [] r.2.within ∙ ap Some (same_is (at names r.0) name r.2.passes)))
 
-kept_by : (chain : List ChainLine) (nets : List NetLine) (name : Word) → (Contains (net_names nets) name → ⊥) → (o : Option ℕ) → name_place (net_names nets) name ≡ o → joined_name (links nets chain) (net_names nets) name ≡ name
+kept_by : (chain : List ChainLine) (nets : List NetLine) (name : Word) → (Contains (line_names nets) name → ⊥) → (o : Option ℕ) → name_place (line_names nets) name ≡ o → joined_name (links nets chain) (line_names nets) name ≡ name
 kept_by chain nets name none None e = kept_name nets chain name e
-kept_by chain nets name none (Some m) e = absurd (none (contains_found (net_names nets) name m e))
+kept_by chain nets name none (Some m) e = absurd (none (contains_found (line_names nets) name m e))
 
 -- the function's name replaces the old one
 pub replaced : (chain : List ChainLine) (nets : List NetLine) (name : Word) → IsReplaced chain nets name (renaming chain nets name)
 replaced chain nets name = record {
   there = λ has. least_joined chain nets name has;
-  missing = λ none. kept_by chain nets name none (name_place (net_names nets) name) refl;
+  missing = λ none. kept_by chain nets name none (name_place (line_names nets) name) refl;
 }
 
 least_once : (chain : List ChainLine) (nets : List NetLine) (name x y : Word) → IsLeastJoined chain nets name x → IsLeastJoined chain nets name y → x ≡ y
@@ -134,21 +135,21 @@ least_once chain nets name x y a b =
     let below : a.place ≤ b.place = a.first b.place y b.stands b.joined in
     let above : b.place ≤ a.place = b.first a.place x a.stands a.joined in
     let same : a.place ≡ b.place = omega arith in
-    let one : Some x ≡ Some y = sym a.stands ∙ ap (slice_get (net_names nets)) same ∙ b.stands in
+    let one : Some x ≡ Some y = sym a.stands ∙ ap (slice_get (line_names nets)) same ∙ b.stands in
     ap (λ o. unwrap_or o x) one
 
-replaced_by : (chain : List ChainLine) (nets : List NetLine) (name x y : Word) → IsReplaced chain nets name x → IsReplaced chain nets name y → (o : Option ℕ) → name_place (net_names nets) name ≡ o → x ≡ y
-replaced_by chain nets name x y a b (Some m) e = let has = contains_found (net_names nets) name m e in least_once chain nets name x y (a.there has) (b.there has)
+replaced_by : (chain : List ChainLine) (nets : List NetLine) (name x y : Word) → IsReplaced chain nets name x → IsReplaced chain nets name y → (o : Option ℕ) → name_place (line_names nets) name ≡ o → x ≡ y
+replaced_by chain nets name x y a b (Some m) e = let has = contains_found (line_names nets) name m e in least_once chain nets name x y (a.there has) (b.there has)
 replaced_by chain nets name x y a b None e = a.missing none ∙ sym (b.missing none)
   where
-    none : Contains (net_names nets) name → ⊥
+    none : Contains (line_names nets) name → ⊥
     none has =
-        let s = has_place (net_names nets) name (contains_has (net_names nets) name has) in
-        let r = place_of_item (λ n. same_word n name) (net_names nets) [] s.0 (slice_get_within (net_names nets) s.0 name s.1) (ap (λ w. same_word w name) (get_or_from_slice_get (net_names nets) s.0 name [] s.1) ∙ same_self name) in
+        let s = has_place (line_names nets) name (contains_has (line_names nets) name has) in
+        let r = place_of_item (λ n. same_word n name) (line_names nets) [] s.0 (slice_get_within (line_names nets) s.0 name s.1) (ap (λ w. same_word w name) (get_or_from_slice_get (line_names nets) s.0 name [] s.1) ∙ same_self name) in
         none-some r.0 (sym e ∙ r.1)
 
 pub replaced_once : (chain : List ChainLine) (nets : List NetLine) (name new : Word) → IsReplaced chain nets name new → new ≡ renaming chain nets name
-replaced_once chain nets name new r = replaced_by chain nets name new (renaming chain nets name) r (replaced chain nets name) (name_place (net_names nets) name) refl
+replaced_once chain nets name new r = replaced_by chain nets name new (renaming chain nets name) r (replaced chain nets name) (name_place (line_names nets) name) refl
 
 each_map : {A : Type 0} (R : A → A → Type 0) (f : A → A) → ((x : A) → R x (f x)) → (xs : List A) → Each R xs (map f xs)
 each_map R f h [] = tt

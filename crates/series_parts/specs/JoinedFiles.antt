@@ -4,7 +4,8 @@ use Rattle.board_files.specs.declared.chain_file.ChainLine.{ChainLine}
 use Rattle.board_files.specs.declared.chain_file.ChainStatement.{ChainStatement}
 use Rattle.board_files.specs.declared.chain_file.ChainStatement.TheVariants.{Device, Bypass, Inert, Supply, Pull, Link}
 use Rattle.board_files.specs.declared.net_file.NetLine.{NetLine}
-use Rattle.series_parts.specs.Nets.{Word, net_names, net_of}
+use Rattle.board_files.specs.Names.{line_names}
+use Rattle.series_parts.specs.Nets.{Word, net_of}
 
 -- a LINK line has its pins in these two nets
 pub record IsLink (chain : List ChainLine) (nets : List NetLine) (a b : Word) : Type 0 where
@@ -27,13 +28,13 @@ pub data AreJoined (chain : List ChainLine) (nets : List NetLine) : Word → Wor
 pub record IsLeastJoined (chain : List ChainLine) (nets : List NetLine) (net least : Word) : Type 0 where
   pub joined : AreJoined chain nets net least
   pub place : ℕ
-  pub stands : slice_get (net_names nets) place ≡ Some least
-  pub first : (k : ℕ) (other : Word) → slice_get (net_names nets) k ≡ Some other → AreJoined chain nets net other → place ≤ k
+  pub stands : slice_get (line_names nets) place ≡ Some least
+  pub first : (k : ℕ) (other : Word) → slice_get (line_names nets) k ≡ Some other → AreJoined chain nets net other → place ≤ k
 
 -- the name of a net is replaced by that of the least-numbered net joined with it; a net that isn't there keeps its name
 pub record IsReplaced (chain : List ChainLine) (nets : List NetLine) (old new : Word) : Type 0 where
-  pub there : Contains (net_names nets) old → IsLeastJoined chain nets old new
-  pub missing : (Contains (net_names nets) old → ⊥) → new ≡ old
+  pub there : Contains (line_names nets) old → IsLeastJoined chain nets old new
+  pub missing : (Contains (line_names nets) old → ⊥) → new ≡ old
 
 abbrev pub IsJoinedStatement : List ChainLine → List NetLine → ChainStatement → ChainStatement → Type 0
 IsJoinedStatement chain nets (Link part first second) new = new ≡ Inert part

@@ -1,5 +1,5 @@
 -- The joined files as a function of the files.
-use Rattle.std.specs.Prelude.{◌≡◌, ◌&&◌, ◌||◌, Bool, List, [], ◌∷◌, map, find, filter_map, Option, Some, None, Result, Ok, Err, option_map, option_and_then, unwrap_or}
+use Rattle.std.specs.Prelude.{◌&&◌, ◌||◌, Bool, List, [], ◌∷◌, map, find, filter_map, Option, Some, None, Result, Ok, Err, option_map, option_and_then, unwrap_or}
 use Rattle.board_files.specs.declared.chain_file.ChainLine.{ChainLine}
 use Rattle.board_files.specs.declared.chain_file.ChainStatement.{ChainStatement}
 use Rattle.board_files.specs.declared.chain_file.ChainStatement.TheVariants.{Device, Bypass, Inert, Supply, Pull, Link}
@@ -8,7 +8,8 @@ use Rattle.board_defs.specs.declared.spot.Spot.{Spot}
 use Rattle.series_parts.specs.declared.fault.LinkFault.{LinkFault}
 use Rattle.series_parts.specs.declared.fault.LinkFault.TheVariants.{NoLinkPin, Memory}
 use Rattle.series_parts.specs.declared.joining.Joined.{Joined}
-use Rattle.series_parts.specs.Nets.{Word, same_word, net_names, net_of}
+use Rattle.board_files.specs.Names.{same_word, line_names}
+use Rattle.series_parts.specs.Nets.{Word, net_of}
 use Rattle.series_parts.specs.LinkPins.{missing_link_pin}
 
 -- two nets that a LINK line joins
@@ -55,7 +56,7 @@ joined_net rename line = record { line = line.line; name = rename line.name; pin
 
 -- the new name of each net
 abbrev pub renaming : List ChainLine → List NetLine → Word → Word
-renaming chain nets = joined_name (links nets chain) (net_names nets)
+renaming chain nets = joined_name (links nets chain) (line_names nets)
 
 abbrev pub joined_chain : List ChainLine → List NetLine → List ChainLine
 joined_chain chain nets = map (joined_line (renaming chain nets)) chain
@@ -72,8 +73,7 @@ unless (Some spot) value = Err (NoLinkPin spot)
 abbrev pub joined_files : List ChainLine → List NetLine → Result Joined LinkFault
 joined_files chain nets = unless (missing_link_pin nets chain) (record { chain = joined_chain chain nets; nets = joined_nets chain nets })
 
--- an answer is this one, unless memory ran out
-abbrev pub Gives : Result Joined LinkFault → Result Joined LinkFault → Type 0
-Gives (Ok joined) answer = answer ≡ Ok joined
-Gives (Err (NoLinkPin spot)) answer = answer ≡ Err (NoLinkPin spot)
-Gives (Err (Memory e)) answer = Unit {0}
+-- what a fault tells
+abbrev pub link_told : LinkFault → Option LinkFault
+link_told (NoLinkPin spot) = Some (NoLinkPin spot)
+link_told (Memory e) = None

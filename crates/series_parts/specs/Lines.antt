@@ -25,5 +25,5 @@ is_chain_part (Pull net value) = false
 is_chain_part (Link part first second) = false
 
 -- the DEVICE and BYPASS lines
-abbrev pub chain_parts : List ChainLine → List ChainLine
-chain_parts chain = filter (λ line. is_chain_part line.statement) chain
+abbrev pub chain_part_lines : List ChainLine → List ChainLine
+chain_part_lines chain = filter (λ line. is_chain_part line.statement) chain

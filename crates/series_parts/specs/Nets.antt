@@ -1,19 +1,12 @@
 -- The nets of a net file, and the net of a pin.
-use Rattle.std.specs.Prelude.{ℕ, ◌&&◌, Bool, List, map, find, nat_eq, Option, option_map}
+use Rattle.std.specs.Prelude.{ℕ, ◌&&◌, Bool, List, find, Option, option_map}
 use Rattle.std.specs.List.{list_any}
-use Rattle.std.specs.Cmp.Lexicographic.{pointwise}
 use Rattle.board_files.specs.declared.net_file.NetLine.{NetLine}
 use Rattle.board_files.specs.declared.net_file.PinWord.{PinWord}
+use Rattle.board_files.specs.Names.{same_word}
 
 abbrev pub Word : Type 0
 Word = List ℕ
-
-abbrev pub same_word : Word → Word → Bool
-same_word = pointwise nat_eq
-
--- the names on the lines, in order; a net's number is that of the first line with its name
-abbrev pub net_names : List NetLine → List Word
-net_names nets = map (λ line. line.name) nets
 
 abbrev pub has_word : Word → Word → List PinWord → Bool
 has_word part pin words = list_any (λ word. same_word word.part part && same_word word.pin pin) words

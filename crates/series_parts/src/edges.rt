@@ -1,6 +1,6 @@
 // The edges between lines of joined nets.
 ghost use Rattle.std.specs.Prelude.{All, ◌≡◌, ◌<◌, ◌^◌, ◌++◌, length, unwrap_or, IfOk, OnOk};
-ghost use Rattle.series_parts.specs.Nets.{net_names};
+ghost use Rattle.board_files.specs.Names.{line_names};
 ghost use Rattle.series_parts.specs.inner.Edges.{edge_between, edge_of, edge_on, edges, link_edges, name_edges, name_place};
 
 use crate::names::Names;
@@ -85,7 +85,7 @@ pub fn edges(
     names: &Names<'_>,
     pins: &Pins<'_>,
 ) -> Result<Vec<(usize, usize)>, AllocError>
-    requires { names.now ≡ net_names pins.now }
+    requires { names.now ≡ line_names pins.now }
     ensures edges { IfOk result (λ list. list.items ≡ edges pins.now chain.now) }
     ensures within { IfOk result (λ list. All (λ e. (e.0 < length names.now) × (e.1 < length names.now)) list.items) }
 {

@@ -1,7 +1,8 @@
 // The joined files.
 ghost use Rattle.std.specs.Prelude.{◌≡◌, ◌<◌, ◌^◌, length, IfOk};
 ghost use Rattle.series_parts.specs.JoinedFiles.{AreJoinedFiles};
-ghost use Rattle.series_parts.specs.Joining.{Gives, joined_chain, joined_files, joined_nets};
+ghost use Rattle.answers.specs.Gives.{Gives};
+ghost use Rattle.series_parts.specs.Joining.{link_told, joined_chain, joined_files, joined_nets};
 
 use crate::fault::LinkFault;
 use crate::files;
@@ -43,7 +44,7 @@ fn renamed_files(
 pub fn join(alloc: Global, chain: &ChainFile, nets: &NetFile) -> Result<Joined, LinkFault>
     requires chain { length chain.now < 2 ^ 32 }
     requires nets { length nets.now < 2 ^ 32 }
-    ensures answer { Gives result (joined_files chain.now nets.now) }
+    ensures answer { Gives link_told (λ joined. joined) (λ answer. joined_files chain.now nets.now ≡ answer) result }
     ensures joined { IfOk result (λ joined. AreJoinedFiles chain.now nets.now joined.chain joined.nets) }
 {
     let pins = Pins::of(alloc, nets.lines())?;

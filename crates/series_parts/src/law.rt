@@ -7,7 +7,7 @@ ghost use Rattle.board_files.specs.declared.chain_file.ChainLine.{ChainLine};
 ghost use Rattle.board_files.specs.declared.net_file.NetLine.{NetLine};
 ghost use Rattle.series_parts.specs.JoinedFiles.{AreJoinedFiles};
 ghost use Rattle.series_parts.specs.Joining.{joined_chain, joined_files, joined_nets};
-ghost use Rattle.series_parts.specs.Lines.{chain_parts, has_link};
+ghost use Rattle.series_parts.specs.Lines.{chain_part_lines, has_link};
 
 /// The files of the function `joined_files` are the joined files, and there are no others.
 pub fn joined_once()
@@ -24,7 +24,7 @@ pub fn unlinked_files()
 /// the numbers of its lines. A joined net file has the pins of the net file, line by line.
 pub fn kept_lines()
     ensures links { (chain : List ChainLine) (nets : List NetLine) → has_link (joined_chain chain nets) ≡ false }
-    ensures parts { (chain : List ChainLine) (nets : List NetLine) → chain_parts (joined_chain chain nets) ≡ chain_parts chain }
+    ensures parts { (chain : List ChainLine) (nets : List NetLine) → chain_part_lines (joined_chain chain nets) ≡ chain_part_lines chain }
     ensures lengths { (chain : List ChainLine) (nets : List NetLine) → AllByRecursion (λ line. HasLength line.statement) chain → AllByRecursion (λ line. HasLength line.statement) (joined_chain chain nets) }
     ensures chain_lines { (chain : List ChainLine) (nets : List NetLine) → map (λ line. line.line) (joined_chain chain nets) ≡ map (λ line. line.line) chain }
     ensures net_lines { (chain : List ChainLine) (nets : List NetLine) → map (λ line. line.line) (joined_nets chain nets) ≡ map (λ line. line.line) nets }

@@ -1,6 +1,6 @@
 // The new names of the nets on the lines of a net file.
 ghost use Rattle.std.specs.Prelude.{◌≡◌, ◌<◌, ℕ, List, [], All, get_or, length, map, IfOk};
-ghost use Rattle.series_parts.specs.Nets.{net_names};
+ghost use Rattle.board_files.specs.Names.{line_names};
 ghost use Rattle.series_parts.specs.inner.Edges.{renamed};
 ghost use Rattle.series_parts.specs.Joining.{joined_name, links};
 
@@ -34,7 +34,7 @@ pub fn least_names<'a>(
     names: &Names<'a>,
     pins: &Pins<'_>,
 ) -> Result<Vec<&'a [u8]>, AllocError>
-    requires { names.now ≡ net_names pins.now }
+    requires { names.now ≡ line_names pins.now }
     ensures { IfOk result (λ least. (name : List ℕ) → renamed names.now (map (λ n. n.now) least.items) name ≡ joined_name (links pins.now chain.now) names.now name) }
 {
     let edges = edges(alloc, chain, names, pins)?;

@@ -3,26 +3,14 @@ ghost use Rattle.std.specs.Prelude.{◌≡◌, [], ◌<◌, ◌^◌, get_or, len
 ghost use Rattle.std.proofs.Common.{Bor};
 ghost use Rattle.indexmap.specs.IndexMap.{get_by};
 ghost use Rattle.first_places.specs.Places.{first_place};
-ghost use Rattle.series_parts.specs.Nets.{net_names, same_word};
+ghost use Rattle.board_files.specs.Names.{same_word, line_names};
 ghost use Rattle.series_parts.specs.inner.Edges.{name_place};
 
-use board_files::NetLine;
+use board_files::{NetLine, line_names};
 use first_places::first_places;
 use indexmap::IndexMap;
 use std::alloc::{AllocError, Global};
 use std::marker::Model;
-
-/// The names of the lines, in order.
-fn net_names<'a>(alloc: Global, lines: &'a [NetLine]) -> Result<Vec<&'a [u8]>, AllocError>
-    ensures names { IfOk result (λ names. map (λ n. n.now) names.items ≡ net_names lines.now) }
-    ensures count { IfOk result (λ names. vec_len names ≡ length lines.now) }
-{
-    let mut names = Vec::new(alloc);
-    for line in lines {
-        names.push(line.name.bytes())?;
-    }
-    Ok(names)
-}
 
 /// The first line of each name.
 fn name_places<'a>(alloc: Global, names: &[&'a [u8]]) -> Result<IndexMap<&'a [u8], u32>, AllocError>
@@ -43,7 +31,7 @@ impl<'a> Model for Names<'a> {
     ghost use Rattle.std.specs.Prelude.{◌≡◌, [], List, ℕ, map};
     ghost use Rattle.std.proofs.Common.{Bor};
     ghost use Rattle.indexmap.specs.IndexMap.{get_by};
-    ghost use Rattle.series_parts.specs.Nets.{same_word};
+    ghost use Rattle.board_files.specs.Names.{same_word};
     ghost use Rattle.series_parts.specs.inner.Edges.{name_place};
 
     ghost Value = { List (List ℕ) };
@@ -57,9 +45,9 @@ impl<'a> Names<'a> {
     /// The names of these lines.
     pub fn of(alloc: Global, lines: &'a [NetLine]) -> Result<Names<'a>, AllocError>
         requires { length lines.now < 2 ^ 32 }
-        ensures { IfOk result (λ names. names ≡ net_names lines.now) }
+        ensures { IfOk result (λ names. names ≡ line_names lines.now) }
     {
-        let names = net_names(alloc, lines)?;
+        let names = line_names(alloc, lines)?;
         let places = name_places(alloc, &names)?;
         Ok(Names { names, places })
     }

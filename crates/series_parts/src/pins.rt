@@ -2,7 +2,8 @@
 ghost use Rattle.std.specs.Prelude.{◌≡◌, ◌<◌, ◌^◌, ◌&&◌, cond, length, IfOk, OnOk, List, ℕ, Some};
 ghost use Rattle.std.proofs.Common.{Bor};
 ghost use Rattle.indexmap.specs.IndexMap.{get_by};
-ghost use Rattle.series_parts.specs.Nets.{same_word, has_word};
+ghost use Rattle.board_files.specs.Names.{same_word};
+ghost use Rattle.series_parts.specs.Nets.{has_word};
 ghost use Rattle.series_parts.specs.inner.Edges.{pin_place};
 
 use board_files::{NetLine, PinWord};
@@ -56,7 +57,7 @@ impl<'a> Model for Pins<'a> {
     ghost use Rattle.std.proofs.Common.{Bor};
     ghost use Rattle.indexmap.specs.IndexMap.{get_by};
     ghost use Rattle.board_files.specs.declared.net_file.NetLine.{NetLine};
-    ghost use Rattle.series_parts.specs.Nets.{same_word};
+    ghost use Rattle.board_files.specs.Names.{same_word};
     ghost use Rattle.series_parts.specs.inner.Edges.{pin_place};
 
     ghost Value = { List NetLine };

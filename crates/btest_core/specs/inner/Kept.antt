@@ -6,7 +6,7 @@ use Rattle.board_files.specs.declared.net_file.NetLine.{NetLine}
 use Rattle.board_files.specs.ChainLines.{HasLength}
 use Rattle.board_build.specs.ChainParts.{IsChain}
 use Rattle.board_build.specs.Names.{named}
-use Rattle.board_build.specs.NetWords.{IsShort}
+use Rattle.board_build.specs.NetWords.{HasFewPins}
 use Rattle.board_build.specs.declared.names.Naming.TheVariants.{Entity as EntityName}
 use Rattle.series_parts.specs.declared.joining.Joined.{Joined}
 
@@ -17,4 +17,4 @@ pub record Kept (chain : List ChainLine) (nets : List NetLine) (joined : Joined)
   pub entities : named EntityName joined.chain ≡ named EntityName chain
   pub chain_count : length joined.chain ≡ length chain
   pub net_count : length joined.nets ≡ length nets
-  pub pins : AllByRecursion IsShort nets → AllByRecursion IsShort joined.nets
+  pub pins : AllByRecursion HasFewPins nets → AllByRecursion HasFewPins joined.nets

@@ -6,7 +6,8 @@ use Rattle.board_files.specs.declared.chain_file.ChainLine.{ChainLine}
 use Rattle.board_files.specs.declared.chain_file.ChainStatement.{ChainStatement}
 use Rattle.board_files.specs.declared.chain_file.ChainStatement.TheVariants.{Device, Bypass, Inert, Supply, Pull, Link}
 use Rattle.board_files.specs.declared.net_file.NetLine.{NetLine}
-use Rattle.series_parts.specs.Nets.{Word, same_word, has_pin, net_names}
+use Rattle.board_files.specs.Names.{same_word, line_names}
+use Rattle.series_parts.specs.Nets.{Word, has_pin}
 use Rattle.series_parts.specs.inner.Labels.{Edges}
 
 -- the first line of a name
@@ -42,7 +43,7 @@ name_edges all n [] = []
 name_edges all n (name ∷ names) = (n, unwrap_or (name_place all name) n) ∷ name_edges all (n + 1) names
 
 abbrev pub edges : List NetLine → List ChainLine → Edges
-edges nets chain = name_edges (net_names nets) 0 (net_names nets) ++ link_edges nets chain
+edges nets chain = name_edges (line_names nets) 0 (line_names nets) ++ link_edges nets chain
 
 abbrev pub at_place : List Word → Word → Option ℕ → Word
 at_place least name None = name

@@ -2,7 +2,8 @@
 use Rattle.std.proofs.Common.{◌≡◌, map, ap, subst, ◌∙◌}
 use Rattle.first_places.specs.Places.{once}
 use Rattle.board_build.specs.declared.names.Naming.TheVariants.{Inert}
-use Rattle.board_build.specs.Faults.{Gives}
+use Rattle.answers.specs.Gives.{Gives}
+use Rattle.board_build.specs.Faults.{board_told}
 use Rattle.board_build.specs.Names.{named, names_of}
 use Rattle.board_build.specs.NetWords.{lent_word, same_place, words_of, standing_words}
 use Rattle.board_build.specs.ChainParts.{pin_places}
@@ -26,4 +27,4 @@ returns c =
     let marked : map seen c.in_ok-marked.marked.items ≡ map (mark c.args.parts.items (pin_places c.args.parts.items) inerts) (standing_words c.args.nets.now) =
     c.in_ok-marked.ensures ∙ ap (λ v. map (mark v (pin_places v) inerts) (map lent_word c.deref-3.result.now)) c.deref-2.ensures.value
     ∙ ap (λ v. map (mark c.args.parts.items (pin_places c.args.parts.items) inerts) (map lent_word v)) c.deref-3.ensures.value ∙ ap (map (mark c.args.parts.items (pin_places c.args.parts.items) inerts)) words in
-    subst (Gives (λ board. board) c.answer.result) (answer_by c.args.chain.now c.args.nets.now c.args.parts.items _ _ (ap (map (λ n. n.now)) c.deref-4.ensures.value ∙ c.in_ok-names.ensures.names) (ap (map seen) c.deref-5.ensures.value ∙ marked)) c.answer.ensures
+    subst (λ answer. Gives board_told (λ board. board) (λ said. answer ≡ said) c.answer.result) (answer_by c.args.chain.now c.args.nets.now c.args.parts.items _ _ (ap (map (λ n. n.now)) c.deref-4.ensures.value ∙ c.in_ok-names.ensures.names) (ap (map seen) c.deref-5.ensures.value ∙ marked)) c.answer.ensures

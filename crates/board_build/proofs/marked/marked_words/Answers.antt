@@ -3,7 +3,8 @@ use Rattle.std.proofs.Common.{map, ap, ◌∙◌}
 use Rattle.std.specs.Prelude.{is_some}
 use Rattle.first_places.specs.Places.{first_place, first_value}
 use Rattle.board_build.specs.declared.names.Naming.TheVariants.{Inert}
-use Rattle.board_build.specs.Names.{named, names_of, same_name}
+use Rattle.board_files.specs.Names.{same_word}
+use Rattle.board_build.specs.Names.{named, names_of}
 use Rattle.board_build.specs.NetWords.{lent_word, lent_pin, same_pin}
 use Rattle.board_build.specs.ChainParts.{pin_places}
 use Rattle.board_build.specs.inner.Marked.{mark, seen}
@@ -17,8 +18,8 @@ returns c =
     if_ok_map _ _
     (λ marked e. ap (map seen) e ∙ map-map _ seen c.args.words.now ∙ map_seen _ lent_word (mark c.args.parts.now (pin_places c.args.parts.now) (names_of (named Inert c.args.lines.now)))
     (λ w. mark_cong c.args.parts.now (lent_word w) _ _ _ _ _ _
-    (ap is_some (c.in_ok-by_name.ensures w.0.1.0 ∙ ap (λ v. first_place same_name (map (λ n. n.now) v) w.0.1.0.now) c.deref-2.ensures.value ∙ ap (λ v. first_place same_name v w.0.1.0.now) c.in_ok-names.ensures.names))
+    (ap is_some (c.in_ok-by_name.ensures w.0.1.0 ∙ ap (λ v. first_place same_word (map (λ n. n.now) v) w.0.1.0.now) c.deref-2.ensures.value ∙ ap (λ v. first_place same_word v w.0.1.0.now) c.in_ok-names.ensures.names))
     (c.in_ok-by_pin.ensures w.0.1 ∙ ap (λ v. first_value same_pin (map (λ p. (lent_pin p.0, p.1)) v) (lent_pin w.0.1)) c.deref.ensures.value ∙ ap (λ v. first_value same_pin v (lent_pin w.0.1)) c.in_ok-places.ensures)
-    (ap is_some (c.in_ok-by_inert.ensures w.0.1.0 ∙ ap (λ v. first_place same_name (map (λ n. n.now) v) w.0.1.0.now) c.deref-3.ensures.value ∙ ap (λ v. first_place same_name v w.0.1.0.now) c.in_ok-inerts.ensures.names)))
+    (ap is_some (c.in_ok-by_inert.ensures w.0.1.0 ∙ ap (λ v. first_place same_word (map (λ n. n.now) v) w.0.1.0.now) c.deref-3.ensures.value ∙ ap (λ v. first_place same_word v w.0.1.0.now) c.in_ok-inerts.ensures.names)))
     c.args.words.now)
     c.mark_all.result c.mark_all.ensures

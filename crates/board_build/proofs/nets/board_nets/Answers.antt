@@ -4,7 +4,8 @@ use Rattle.std.specs.Prelude.{is_some}
 use Rattle.std.proofs.lemmas.List.{length-map}
 use Rattle.first_places.specs.Places.{first_place}
 use Rattle.board_build.specs.declared.names.Naming.TheVariants.{Supply}
-use Rattle.board_build.specs.Names.{named, names_of, same_name}
+use Rattle.board_files.specs.Names.{same_word}
+use Rattle.board_build.specs.Names.{named, names_of}
 use Rattle.board_build.specs.LineRules.{pulls_of, pull_of_net}
 use Rattle.board_build.specs.inner.Marked.{group_of, seen}
 use Rattle.board_build.proofs.NameLemmas.{if_ok_map}
@@ -17,7 +18,7 @@ returns c =
     let size : length (map (λ g. g.items) c.in_ok-groups.groups.items) ≡ length c.args.names.now = length-map c.in_ok-groups.groups.items (λ g. g.items) ∙ count in
     if_ok_map _ _
     (λ nets e. e ∙ nets_zip _ _ (names_of (named Supply c.args.lines.now)) (pulls_of c.args.lines.now) (map seen c.args.words.now)
-    (λ q. ap is_some (c.in_ok-by_supply.ensures q ∙ ap (λ v. first_place same_name (map (λ n. n.now) v) q.now) c.deref.ensures.value ∙ ap (λ v. first_place same_name v q.now) c.in_ok-supplies.ensures.names))
+    (λ q. ap is_some (c.in_ok-by_supply.ensures q ∙ ap (λ v. first_place same_word (map (λ n. n.now) v) q.now) c.deref.ensures.value ∙ ap (λ v. first_place same_word v q.now) c.in_ok-supplies.ensures.names))
     (λ q. c.in_ok-by_pull.ensures q ∙ ap (λ v. pull_of_net (map (λ p. (p.0.now, p.1)) v) q.now) c.deref-2.ensures.value ∙ ap (λ v. pull_of_net v q.now) c.in_ok-pulls.ensures)
     c.args.names.now (map (λ g. g.items) c.in_ok-groups.groups.items) 0 size
     (λ k less. let here : k ≡ 0 + k = omega arith in c.in_ok-groups.ensures.groups k less ∙ ap (group_of (map seen c.args.words.now)) here))

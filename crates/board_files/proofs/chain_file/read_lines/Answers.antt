@@ -1,11 +1,11 @@
 -- A line at a time.
-use Rattle.std.proofs.Common.{◌≡◌, ◌+◌, ◌<◌, ◌≤◌, ◌^◌, ◌++◌, ◌∷◌, [], length, map, ap, ◌∙◌, sym, rules, arith}
+use Rattle.std.proofs.Common.{◌≡◌, ◌+◌, ◌<◌, ◌≤◌, ◌^◌, ◌++◌, ◌∷◌, [], length, map, ap, ◌∙◌, sym, Ok, rules, arith}
 use Rattle.std.specs.Prelude.{option_copied}
 use Rattle.std.proofs.lemmas.List.{length-map, length_push}
 use Rattle.text_lines.specs.Words.{lines_of}
-use Rattle.board_files.specs.Reading.{lines_from, text_of}
+use Rattle.board_files.specs.Reading.{◌>>=◌, lines_from, text_of}
 use Rattle.board_files.specs.ChainLines.{chain_line}
-use Rattle.board_files.proofs.LineLemmas.{front, at_line, at_words, at_blank, front_step}
+use Rattle.board_files.proofs.LineLemmas.{front, at_line, at_words, at_blank, front_step, fails_first}
 use Rattle.text_lines.proofs.LineLemmas.{count_at, count_more, count_same, at_some, next_place, line_within, has_bytes}
 use Rattle.board_files.proofs.chain_file.read_lines.Goals as goal
 use Rattle.board_files.proofs.chain_file.read_lines.Goals.{then-not-is_empty+in_ok-chain_line+in_ok-push, else-not-is_empty}
@@ -50,3 +50,11 @@ loop-rest-preserved c =
           ];
       place = next_place (λ rest. rest.now) c.first_line.result.1 c.first_line.result.0.now c.in-Some.text.now c.loop-rest.number (length c.args.bytes.now) c.first_line.ensures.shorter (at_some (λ text. c.loop-rest.number + length text.now ≤ 1 + length c.args.bytes.now) c.loop-rest.rest c.in-Some.text c.in-Some.is c.loop-rest.invariant.place);
     }
+
+pub returns-in_err-chain_line-clause-read : goal.returns-in_err-chain_line-clause-read
+returns-in_err-chain_line-clause-read c =
+    let here = at_line chain_line c.loop-rest.number c.loop-rest.lines.items (text_of chain_line c.args.bytes.now) (option_copied c.loop-rest.rest) c.in-Some.text.now c.first_line.result.0.now (lines_of (option_copied c.first_line.result.1)) (map (λ w. w.now) c.in_ok-words.words.items) c.loop-rest.invariant.read (ap option_copied c.in-Some.is) c.first_line.ensures.lines c.in_ok-words.ensures in
+    let filled : 0 < length (map (λ w. w.now) c.in_ok-words.words.items) = rw length-map (search rules) in
+    let all = at_words chain_line c.loop-rest.number c.loop-rest.lines.items (text_of chain_line c.args.bytes.now) (lines_from chain_line (c.loop-rest.number + 1) (lines_of (option_copied c.first_line.result.1))) (map (λ w. w.now) c.in_ok-words.words.items) here filled in
+    let fails = fails_first c.in_err-chain_line.field-0.0 c.loop-rest.lines.items (chain_line c.loop-rest.number (map (λ w. w.now) c.in_ok-words.words.items)) (λ v. lines_from chain_line (c.loop-rest.number + 1) (lines_of (option_copied c.first_line.result.1)) >>= (λ vs. Ok (v ∷ vs))) (text_of chain_line c.args.bytes.now) all (rw c.deref.ensures.value at c.in_err-chain_line.ensures) in
+    search (rules, fails)

@@ -2,7 +2,8 @@ use Rattle.std.proofs.Common.{◌≡◌, ◌<◌, ◌∙◌, ap, sym, subst, len
 use Rattle.std.specs.Prelude.{IfOk, vec_len}
 use Rattle.std.specs.List.{AllByRecursion}
 use Rattle.std.proofs.lemmas.List.Elements.{recursion_from_All}
-use Rattle.btest_core.specs.Answers.{Gives, EachOf}
+use Rattle.answers.specs.Gives.{Gives}
+use Rattle.btest_core.specs.Answers.{EachOf, input_told}
 use Rattle.btest_core.specs.DevicesRead.{IsDeviceOf, chosen, Chosen}
 use Rattle.btest_core.specs.inner.Choices.{choices_of}
 use Rattle.btest_core.proofs.ChoiceLemmas.{count_choices}
@@ -16,7 +17,7 @@ chosen_devices-requires-clause-there c =
 pub returns-clause-devices : goal.returns-clause-devices
 returns-clause-devices c =
     let same : choices_of c.deref.result.now ≡ chosen c.args.lines.now c.args.numbers.now = ap choices_of c.deref.ensures.value ∙ c.in_ok-chosen.ensures.chosen in
-    subst (λ (list : List Chosen). Gives (λ devices. devices.items) (EachOf (IsDeviceOf c.args.entities.now) list) c.chosen_devices.result) same c.chosen_devices.ensures.devices
+    subst (λ (list : List Chosen). Gives input_told (λ devices. devices.items) (EachOf (IsDeviceOf c.args.entities.now) list) c.chosen_devices.result) same c.chosen_devices.ensures.devices
 
 pub returns-clause-number : goal.returns-clause-number
 returns-clause-number c =

@@ -1,6 +1,7 @@
 use Rattle.std.proofs.Common.{◌∙◌, ◌<◌, Ok, sym, refl, subst, length, arith}
 use Rattle.std.proofs.lemmas.Option.{slice_get_read}
-use Rattle.btest_core.specs.Answers.{Gives}
+use Rattle.answers.specs.Gives.{Gives}
+use Rattle.btest_core.specs.Answers.{input_told}
 use Rattle.btest_core.specs.DevicesRead.{IsDeviceOf}
 use Rattle.btest_core.proofs.ChoiceLemmas.{choice_at}
 use Rattle.btest_core.proofs.devices.next_device.Goals as goal
@@ -13,4 +14,4 @@ returns-in_ok-device_copy-in-Some c = λ choice chosen.
 
 pub returns-in-None : goal.returns-in-None
 returns-in-None c = λ choice chosen.
-    subst (λ choice. Gives (λ device. device) (IsDeviceOf c.args.entities.now choice) c.device_of.result) (choice_at c.args.chosen.now c.args.i _ choice c.requires.next chosen) c.device_of.ensures
+    subst (λ choice. Gives input_told (λ device. device) (IsDeviceOf c.args.entities.now choice) c.device_of.result) (choice_at c.args.chosen.now c.args.i _ choice c.requires.next chosen) c.device_of.ensures

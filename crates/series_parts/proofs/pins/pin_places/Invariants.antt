@@ -1,7 +1,8 @@
 use Rattle.std.proofs.Common.{◌≡◌, ◌≤◌, ◌&&◌, length, drop, ℕ, List, Bor}
 use Rattle.std.specs.List.{position_from}
 use Rattle.indexmap.specs.IndexMap.{get_by}
-use Rattle.series_parts.specs.Nets.{same_word, has_pin}
+use Rattle.board_files.specs.Names.{same_word}
+use Rattle.series_parts.specs.Nets.{has_pin}
 use Rattle.series_parts.proofs.pins.pin_places.Given as goal
 
 -- the map has the first places of the pins of the lines from i on

@@ -1,6 +1,7 @@
 use Rattle.std.proofs.Common.{◌≡◌, ◌&&◌, cond, drop, ℕ, List, Bor, Some}
 use Rattle.indexmap.specs.IndexMap.{get_by}
-use Rattle.series_parts.specs.Nets.{same_word, has_word}
+use Rattle.board_files.specs.Names.{same_word}
+use Rattle.series_parts.specs.Nets.{has_word}
 use Rattle.series_parts.proofs.pins.put_pins.Given as goal
 
 -- the pins that are left complete what is to be put
