@@ -12,7 +12,7 @@ use Rattle.std.proofs.lemmas.Option.{slice_get_past, slice_get-get_or}
 use Rattle.std.proofs.lemmas.Iterator.Adapters.{position_from-zero}
 use Rattle.std.proofs.lemmas.Bool.Decides.{nat_tests}
 use Rattle.bsdl_parser.specs.declared.entity.Port.{Port}
-use Rattle.device_rules.specs.Items.{first_from, or_else}
+use Rattle.first_places.specs.Items.{first_from, or_else}
 use Rattle.device_rules.specs.Ports.{in_order, width, bits_of, port_named, breaks_port, v2, indexes, bits_along, bits_of_port, bits_from, port_bits, has_index, is_bit, is_named, bit_number, Bit}
 use Rattle.bsdl_strings.specs.declared.values.PortWord.TheVariants.{Star}
 use Rattle.device_rules.specs.inner.Index.{place_in}

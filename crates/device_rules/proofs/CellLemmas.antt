@@ -7,7 +7,7 @@ use Rattle.std.proofs.lemmas.Bool.Decides.{nat_tests}
 use Rattle.board_defs.specs.declared.device.Role.{Role}
 use Rattle.bsdl_strings.specs.declared.values.Entry.{Entry}
 use Rattle.board_defs.specs.DeviceRules.{is_controlling}
-use Rattle.device_rules.specs.Items.{or_else}
+use Rattle.first_places.specs.Items.{or_else}
 use Rattle.device_rules.specs.Cells.{is_entry_of, is_control_of, has_control_entry, too_large, v8}
 
 another_cell : (cell boundary : ℕ) (entry : Entry) → boundary ≤ cell → entry.num < boundary → is_control_of cell entry ≡ false

@@ -12,8 +12,8 @@ use Rattle.board_defs.specs.DeviceRules.{is_loading, is_writing, is_controlling,
 use Rattle.board_defs.proofs.Members.{Has, has_at, has_place, has_map, has_any, any_has, has_contains}
 use Rattle.bsdl_strings.specs.declared.values.Entry.{Entry}
 use Rattle.device_rules.specs.declared.draft.Draft.{Draft}
-use Rattle.device_rules.specs.Items.{or_else}
-use Rattle.device_rules.specs.Instructions.{same_bit}
+use Rattle.first_places.specs.Items.{or_else}
+use Rattle.instruction_rules.specs.Instructions.{same_bit}
 use Rattle.device_rules.specs.Cells.{is_entry_of, too_large, is_missing, v8, needs_control, may_have_control, is_control_of, has_control_entry, breaks_control_of, breaks_control, v10, is_disabled_by, controls_entry, has_two_values, v11, loads_cell, writes_cell, is_crowded, v12}
 use Rattle.device_rules.specs.Raw.{cell_of, raw_cells, raw_device}
 use Rattle.device_rules.proofs.RuleLemmas.{holds, none_below}

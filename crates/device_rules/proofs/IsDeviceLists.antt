@@ -8,7 +8,7 @@ use Rattle.std.proofs.lemmas.List.Elements.{All-nil, All-cons, All-contains}
 use Rattle.std.proofs.lemmas.List.Sums.{sum_by-cons}
 use Rattle.std.proofs.lemmas.Slice.Eq.{bytes_eq-Decides}
 use Rattle.board_defs.proofs.Members.{Has, has_at, has_place, has_append, has_contains}
-use Rattle.device_rules.specs.Items.{Holds}
+use Rattle.first_places.specs.Items.{Holds}
 
 -- names
 pub same_name : (a b : List ℕ) → bytes_eq a b ≡ true → a ≡ b

@@ -11,7 +11,7 @@ use Rattle.bsdl_parser.specs.declared.entity.Port.{Port}
 use Rattle.bsdl_strings.specs.declared.values.MapEntry.{MapEntry}
 use Rattle.bsdl_strings.specs.declared.values.Compliance.{Compliance}
 use Rattle.device_rules.specs.declared.draft.TapPorts.{TapPorts}
-use Rattle.device_rules.specs.Items.{Holds}
+use Rattle.first_places.specs.Items.{Holds}
 use Rattle.device_rules.specs.Ports.{width, port_named, port_of, Bit, indexes, port_bits}
 use Rattle.device_rules.specs.Taps.{is_among}
 use Rattle.device_rules.specs.PinMap.{maps_port, has_width, some_repeats, pins_of, breaks_map, v4}

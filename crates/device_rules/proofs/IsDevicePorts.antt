@@ -10,7 +10,7 @@ use Rattle.board_defs.specs.DeviceRules.{range_indexes}
 use Rattle.board_defs.proofs.Members.{Has, has_at, has_place, has_append}
 use Rattle.bsdl_parser.specs.declared.entity.Port.{Port}
 use Rattle.bsdl_parser.specs.declared.entity.Range.{Range}
-use Rattle.device_rules.specs.Items.{Holds}
+use Rattle.first_places.specs.Items.{Holds}
 use Rattle.device_rules.specs.Ports.{in_order, width, bits_of, port_named, breaks_port, v2, Bit, indexes, bits_along, bits_of_port, bits_from, port_bits}
 use Rattle.device_rules.proofs.RuleLemmas.{holds}
 use Rattle.device_rules.proofs.IsDeviceLists.{name_same, clash, earlier, holds_at, none_has, Once, once_nil, once_cons, once_tail, once_head, once_append, once_by_order}

@@ -15,7 +15,7 @@ use Rattle.bsdl_parser.specs.declared.entity.Range.{Range}
 use Rattle.bsdl_strings.specs.declared.values.Compliance.{Compliance}
 use Rattle.device_rules.specs.declared.draft.Draft.{Draft}
 use Rattle.device_rules.specs.declared.draft.TapPorts.{TapPorts}
-use Rattle.device_rules.specs.Items.{or_else, broken_by}
+use Rattle.first_places.specs.Items.{or_else, broken_by}
 use Rattle.device_rules.specs.Ports.{port_named, port_of, Bit, indexes, bits_along, bits_of_port, bits_from, port_bits}
 use Rattle.device_rules.specs.Taps.{is_inward, is_outward, is_plain, is_among, breaks_tap, reset_breaks, four_taps, listed, tap_names, wrong_tap, complies, v3}
 use Rattle.device_rules.specs.Raw.{port_bit, raw_bits, raw_device}

@@ -2,7 +2,7 @@
 use Rattle.std.proofs.Common.{◌≡◌, ℕ, ◌+◌, ◌<◌, ◌≤◌, get_or, Bool, true, false, List, [], ◌∷◌, ◌++◌, length, take, drop, Option, Some, None, refl, sym, ◌∙◌, ap, subst, arith, length-append, append_assoc, append-nil}
 use Rattle.std.proofs.Math.ListN.{drop_of_length-le}
 use Rattle.std.proofs.lemmas.List.{take_more, drop_more, length-take-le}
-use Rattle.device_rules.specs.Items.{first_from, first_break, IsFound}
+use Rattle.first_places.specs.Items.{first_from, first_break, IsFound}
 
 pub first_more : {A : Type 0} (breaks : List A → A → Bool) (before : List A) (item : A) (items : List A) → breaks before item ≡ false → first_from breaks before (item ∷ items) ≡ first_from breaks (before ++ item ∷ []) items
 first_more breaks before item items e = rw e refl

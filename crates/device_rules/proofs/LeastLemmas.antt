@@ -1,7 +1,7 @@
 -- A loop that looks for the least number with a property.
 use Rattle.std.proofs.Common.{◌≡◌, ℕ, zero, suc, ◌+◌, ◌-◌, ◌<◌, ◌≤◌, Bool, true, false, Option, Some, None, refl, sym, ◌∙◌, ap, arith, ◌⊎◌, inl, inr}
 use Rattle.std.specs.Bool.{if◌then◌else◌}
-use Rattle.device_rules.specs.Items.{least_from, least_below, IsLeast}
+use Rattle.first_places.specs.Items.{least_from, least_below, IsLeast}
 
 one_on : (n bound : ℕ) → n < bound → bound - n ≡ suc (bound - (n + 1))
 one_on n bound lt = omega arith

@@ -2,11 +2,11 @@
 use Rattle.std.proofs.Common.{◌≡◌, ℕ, List, Option, Some, None, Bool, refl, subst}
 use Rattle.device_rules.specs.declared.draft.Draft.{Draft}
 use Rattle.device_rules.specs.declared.broken.Broken.{Broken}
-use Rattle.device_rules.specs.Items.{first_break, least_below, Holds, IsFound, IsLeast}
+use Rattle.first_places.specs.Items.{first_break, least_below, Holds, IsFound, IsLeast}
 use Rattle.device_rules.specs.Ports.{v2}
 use Rattle.device_rules.specs.Taps.{v3}
 use Rattle.device_rules.specs.PinMap.{v4}
-use Rattle.device_rules.specs.Instructions.{v5, v6, v7}
+use Rattle.instruction_rules.specs.Instructions.{v5, v6, v7}
 use Rattle.device_rules.specs.Cells.{v8, v10, v11, v12}
 use Rattle.device_rules.specs.Places.{v9, v13, v14}
 use Rattle.device_rules.specs.Rules.{rule, from_3, from_5, from_8, from_9, from_11, first_rule, KeepsRules}

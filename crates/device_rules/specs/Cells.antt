@@ -6,8 +6,8 @@ use Rattle.board_defs.specs.declared.device.Role.TheVariants.{Input, Output2, Ou
 use Rattle.board_defs.specs.declared.device.Control.{Control}
 use Rattle.board_defs.specs.DeviceRules.{is_controlling, is_loading, is_writing}
 use Rattle.bsdl_strings.specs.declared.values.Entry.{Entry}
-use Rattle.device_rules.specs.Items.{first_break, least_below, or_else}
-use Rattle.device_rules.specs.Instructions.{same_bit}
+use Rattle.first_places.specs.Items.{first_break, least_below, or_else}
+use Rattle.instruction_rules.specs.Instructions.{same_bit}
 
 abbrev pub is_entry_of : ℕ → Entry → Bool
 is_entry_of cell entry = entry.num == cell

@@ -1,8 +1,6 @@
-pub mod Items
 pub mod Ports
 pub mod Taps
 pub mod PinMap
-pub mod Instructions
 pub mod Cells
 pub mod Places
 pub mod Rules

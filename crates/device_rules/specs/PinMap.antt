@@ -4,7 +4,7 @@ use Rattle.std.specs.List.{list_any}
 use Rattle.std.specs.Str.{bytes_eq}
 use Rattle.bsdl_parser.specs.declared.entity.Port.{Port}
 use Rattle.bsdl_strings.specs.declared.values.MapEntry.{MapEntry}
-use Rattle.device_rules.specs.Items.{first_break}
+use Rattle.first_places.specs.Items.{first_break}
 use Rattle.device_rules.specs.Ports.{width, port_of}
 use Rattle.device_rules.specs.Taps.{is_among}
 

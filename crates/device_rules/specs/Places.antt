@@ -8,7 +8,7 @@ use Rattle.bsdl_strings.specs.declared.values.PortWord.{PortWord}
 use Rattle.bsdl_strings.specs.declared.values.PortWord.TheVariants.{Star, Plain, Index}
 use Rattle.bsdl_strings.specs.declared.values.Entry.{Entry}
 use Rattle.device_rules.specs.declared.draft.TapPorts.{TapPorts}
-use Rattle.device_rules.specs.Items.{first_break}
+use Rattle.first_places.specs.Items.{first_break}
 use Rattle.device_rules.specs.Ports.{bit_number, named_port}
 use Rattle.device_rules.specs.Taps.{is_among, tap_names}
 

@@ -8,7 +8,7 @@ use Rattle.bsdl_parser.specs.declared.entity.Port.{Port}
 use Rattle.bsdl_parser.specs.declared.entity.Range.{Range}
 use Rattle.bsdl_strings.specs.declared.values.PortWord.{PortWord}
 use Rattle.bsdl_strings.specs.declared.values.PortWord.TheVariants.{Star, Plain, Index}
-use Rattle.device_rules.specs.Items.{first_break}
+use Rattle.first_places.specs.Items.{first_break}
 
 -- a `to` range goes up, and a `downto` range down
 abbrev pub in_order : Option Range → Bool

@@ -13,7 +13,7 @@ use Rattle.device_rules.specs.declared.draft.TapPorts.{TapPorts}
 use Rattle.device_rules.specs.Ports.{Bit, port_bits, is_named, bit_number}
 use Rattle.device_rules.specs.Taps.{is_among, tap_names}
 use Rattle.device_rules.specs.PinMap.{maps_port}
-use Rattle.device_rules.specs.Instructions.{preload, extest}
+use Rattle.instruction_rules.specs.Instructions.{preload, extest}
 
 -- the pins of a port follow its range from left to right; a port that the map does not name has none
 abbrev pub pin_of : List MapEntry → Bit → Option (List ℕ)

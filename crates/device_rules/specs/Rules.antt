@@ -5,7 +5,7 @@ use Rattle.device_rules.specs.declared.broken.Broken.{Broken}
 use Rattle.device_rules.specs.Ports.{v2}
 use Rattle.device_rules.specs.Taps.{v3}
 use Rattle.device_rules.specs.PinMap.{v4}
-use Rattle.device_rules.specs.Instructions.{v5, v6, v7}
+use Rattle.instruction_rules.specs.Instructions.{v5, v6, v7}
 use Rattle.device_rules.specs.Cells.{v8, v10, v11, v12}
 use Rattle.device_rules.specs.Places.{v9, v13, v14}
 

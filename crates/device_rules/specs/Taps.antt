@@ -7,7 +7,7 @@ use Rattle.board_defs.specs.declared.device.Mode.TheVariants.{Inward, Outward, B
 use Rattle.bsdl_parser.specs.declared.entity.Port.{Port}
 use Rattle.bsdl_strings.specs.declared.values.Compliance.{Compliance}
 use Rattle.device_rules.specs.declared.draft.TapPorts.{TapPorts}
-use Rattle.device_rules.specs.Items.{or_else, broken_by}
+use Rattle.first_places.specs.Items.{or_else, broken_by}
 use Rattle.device_rules.specs.Ports.{port_of, bit_number}
 
 abbrev pub is_inward : Mode → Bool

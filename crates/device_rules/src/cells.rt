@@ -2,7 +2,7 @@
 ghost use Rattle.std.specs.Prelude.{◌≡◌, ◌<◌, ◌+◌, ◌^◌, ℕ, length, All, IfOk, find, option_map, nat_le, true, false, vec_len, slice_index, slice_set};
 ghost use Rattle.std.specs.List.{list_any};
 ghost use Rattle.board_defs.specs.DeviceRules.{is_controlling, is_loading, is_writing};
-ghost use Rattle.device_rules.specs.Items.{least_below};
+ghost use Rattle.first_places.specs.Items.{least_below};
 ghost use Rattle.device_rules.specs.Cells.{needs_control, may_have_control, is_control_of, is_entry_of, controls_entry, has_control_entry, has_two_values, is_missing, breaks_control, too_large, loads_cell, writes_cell, is_crowded, v8, v10, v11, v12};
 ghost use Rattle.device_rules.specs.inner.Tables.{Marks, Counts};
 

@@ -7,7 +7,6 @@ mod broken;
 mod cells;
 mod compliance;
 mod draft;
-mod instructions;
 pub mod law;
 mod pin_map;
 mod places;

@@ -12,14 +12,14 @@ ghost use Rattle.device_rules.specs.Raw.{port_bit, cell_of, raw_bits, raw_cells,
 
 use crate::compliance::{Named, is_named, named_bits};
 use crate::draft::Draft;
-use crate::instructions::{copy_of, extest, preload};
 use crate::port_index::{PortIndex, bit_at, first_places_of, index_of, place_of};
 use crate::ports::bit_count;
 use crate::taps::is_tap;
-use board_defs::{Cell, Items, Name, PortBit, RawDevice};
+use board_defs::{Cell, Code, Items, Name, PortBit, RawDevice};
 use bsdl_parser::{Port, Range};
 use bsdl_strings::{Entry, MapEntry};
 use indexmap::IndexMap;
+use instruction_rules::{extest, preload};
 use std::alloc::{AllocError, Global};
 
 fn copy(alloc: Global, name: &Name) -> Result<Name, AllocError>
@@ -228,6 +228,16 @@ fn described(alloc: Global, draft: &Draft) -> Result<RawDevice, AllocError>
         bits: Items::of(all_bits(alloc, draft, ports)?),
         cells: Items::of(all_cells(alloc, ports, draft.entries.as_slice())?),
     })
+}
+
+// A copy of the IDCODE pattern, where there is one.
+fn copy_of(alloc: Global, code: &Option<Code>) -> Result<Option<Code>, AllocError>
+    ensures { IfOk result (λ copy. copy ≡ code.now) }
+{
+    match code {
+        Some(code) => Ok(Some(Code::of(alloc, code.symbols())?)),
+        None => Ok(None),
+    }
 }
 
 /// The device that the text describes, where no rule is broken and the registers have lengths in

@@ -7,12 +7,12 @@ ghost use Rattle.device_rules.specs.Rules.{HasShortLists, from_3, from_5, from_8
 use crate::broken::Broken;
 use crate::cells::{crowded_cell, two_valued_control, wrong_cell, wrong_control};
 use crate::draft::Draft;
-use crate::instructions::{wrong_instruction, wrong_opcode, wrong_pattern};
 use crate::pin_map::wrong_map_entry;
 use crate::places::{misfit, second_driver, wrong_place};
 use crate::port_index::{PortIndex, index_of};
 use crate::ports::wrong_port;
 use crate::taps::wrong_attribute;
+use instruction_rules::{wrong_instruction, wrong_opcode, wrong_pattern};
 use std::alloc::{AllocError, Global};
 
 #[tactic(auto, unfolding(crate::specs::Rules::from_11))]

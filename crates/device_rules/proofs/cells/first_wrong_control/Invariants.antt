@@ -1,5 +1,5 @@
 use Rattle.std.proofs.Common.{◌≡◌, take, drop}
-use Rattle.device_rules.specs.Items.{first_from}
+use Rattle.first_places.specs.Items.{first_from}
 use Rattle.device_rules.specs.Cells.{breaks_control, v10}
 use Rattle.device_rules.proofs.cells.first_wrong_control.Given as goal
 

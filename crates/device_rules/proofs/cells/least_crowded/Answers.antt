@@ -1,6 +1,6 @@
 use Rattle.std.proofs.Common.{sym, ◌∙◌}
 use Rattle.device_rules.specs.Cells.{is_crowded}
-use Rattle.device_rules.specs.Items.{least_below}
+use Rattle.first_places.specs.Items.{least_below}
 use Rattle.device_rules.proofs.LeastLemmas.{least_step}
 use Rattle.device_rules.proofs.cells.least_crowded.Goals as goal
 

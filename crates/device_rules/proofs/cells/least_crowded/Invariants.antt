@@ -1,6 +1,6 @@
 use Rattle.std.proofs.Common.{◌≡◌, ◌-◌}
 use Rattle.device_rules.specs.Cells.{is_crowded}
-use Rattle.device_rules.specs.Items.{least_from, least_below}
+use Rattle.first_places.specs.Items.{least_from, least_below}
 use Rattle.device_rules.proofs.cells.least_crowded.Given as goal
 
 abbrev pub invariant-loop-cell : goal.invariant-loop-cell

@@ -1,6 +1,6 @@
 use Rattle.device_rules.specs.Ports.{breaks_port, v2}
 use Rattle.device_rules.specs.PinMap.{breaks_map, v4}
-use Rattle.device_rules.specs.Instructions.{breaks_opcode, v5}
+use Rattle.instruction_rules.specs.Instructions.{breaks_opcode, v5}
 use Rattle.device_rules.specs.Cells.{breaks_control, has_two_values, is_crowded, v10, v11, v12}
 use Rattle.device_rules.specs.Places.{breaks_place, breaks_driver, breaks_mode, v9, v13, v14}
 use Rattle.device_rules.proofs.ItemLemmas.{first_is_found}

@@ -3,7 +3,7 @@ use Rattle.std.specs.Borrow.{Bor}
 use Rattle.std.specs.List.{list_any}
 use Rattle.std.specs.Str.{bytes_eq}
 use Rattle.std.specs.HashSet.{contains}
-use Rattle.device_rules.specs.Items.{first_from}
+use Rattle.first_places.specs.Items.{first_from}
 use Rattle.device_rules.specs.PinMap.{maps_port, pins_of, breaks_map, v4}
 use Rattle.device_rules.specs.inner.Seen.{Knows}
 use Rattle.device_rules.proofs.pin_map.wrong_map_entry.Given as goal

@@ -1,5 +1,5 @@
 use Rattle.std.proofs.Common.{◌≡◌, take, drop}
-use Rattle.device_rules.specs.Items.{first_from}
+use Rattle.first_places.specs.Items.{first_from}
 use Rattle.device_rules.specs.Places.{breaks_mode, v14}
 use Rattle.device_rules.proofs.places.misfit.Given as goal
 

@@ -2,7 +2,7 @@ use Rattle.std.proofs.Common.{◌≡◌, ℕ, take, drop, nat_eq}
 use Rattle.std.specs.List.{list_any}
 use Rattle.std.specs.HashSet.{contains}
 use Rattle.board_defs.specs.DeviceRules.{is_on}
-use Rattle.device_rules.specs.Items.{first_from}
+use Rattle.first_places.specs.Items.{first_from}
 use Rattle.device_rules.specs.Places.{driven_bit, breaks_driver, v13}
 use Rattle.device_rules.proofs.places.second_driver.Given as goal
 

@@ -3,7 +3,7 @@ use Rattle.std.specs.Borrow.{Bor}
 use Rattle.std.specs.List.{list_any}
 use Rattle.std.specs.Str.{bytes_eq}
 use Rattle.std.specs.HashSet.{contains}
-use Rattle.device_rules.specs.Items.{first_from}
+use Rattle.first_places.specs.Items.{first_from}
 use Rattle.device_rules.specs.Ports.{port_named, bits_of, breaks_port, v2}
 use Rattle.device_rules.proofs.ports.wrong_port.Given as goal
 

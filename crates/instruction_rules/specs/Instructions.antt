@@ -8,7 +8,7 @@ use Rattle.board_defs.specs.declared.device.Edition.{Edition}
 use Rattle.board_defs.specs.declared.device.Edition.TheVariants.{Old, Of2001}
 use Rattle.board_defs.specs.DeviceRules.{bit_of}
 use Rattle.bsdl_strings.specs.declared.values.Opcode.{Opcode}
-use Rattle.device_rules.specs.Items.{first_break, or_else}
+use Rattle.first_places.specs.Items.{first_break, or_else}
 
 abbrev pub has_length : ℕ → List Symbol → Bool
 has_length n code = length code == n

@@ -3,9 +3,9 @@ use Rattle.std.specs.Borrow.{Bor}
 use Rattle.std.specs.List.{list_any}
 use Rattle.std.specs.Str.{bytes_eq}
 use Rattle.std.specs.HashSet.{contains}
-use Rattle.device_rules.specs.Items.{first_from}
-use Rattle.device_rules.specs.Instructions.{is_called, breaks_opcode, v5}
-use Rattle.device_rules.proofs.instructions.wrong_opcode.Given as goal
+use Rattle.first_places.specs.Items.{first_from}
+use Rattle.instruction_rules.specs.Instructions.{is_called, breaks_opcode, v5}
+use Rattle.instruction_rules.proofs.instructions.wrong_opcode.Given as goal
 
 abbrev pub invariant-loop-i : goal.invariant-loop-i
 invariant-loop-i l = record {

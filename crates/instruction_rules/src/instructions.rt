@@ -4,7 +4,7 @@ ghost use Rattle.std.specs.Option.{option_copied};
 ghost use Rattle.std.specs.List.{list_all, list_any};
 ghost use Rattle.board_defs.specs.declared.device.Symbol.TheVariants.{Zero};
 ghost use Rattle.board_defs.specs.DeviceRules.{bit_of};
-ghost use Rattle.device_rules.specs.Instructions.{has_length, v5, fits_one, fits_zero, opcode as the_opcode, first_code as the_first_code, preload_code, is_all_ones, may_preload, same_bit, same_code, may_extest, has_code, extest_holds, v6, ends_in_01, may_be_idcode, v7, settled, settled_code, preload, extest};
+ghost use Rattle.instruction_rules.specs.Instructions.{has_length, v5, fits_one, fits_zero, opcode as the_opcode, first_code as the_first_code, preload_code, is_all_ones, may_preload, same_bit, same_code, may_extest, has_code, extest_holds, v6, ends_in_01, may_be_idcode, v7, settled, settled_code, preload, extest};
 
 use board_defs::{Code, Edition, Symbol};
 use bsdl_strings::Opcode;
@@ -167,9 +167,10 @@ fn bypass_is_right(ops: &[Opcode]) -> bool
     }
 }
 
-/// V6: 1 for the code of preloading, 2 for EXTEST, 3 for BYPASS.
+/// The first of the three instructions that a test needs whose code is missing or of no use (V6): 1 for the code of preloading, 2 for
+/// EXTEST, 3 for BYPASS.
 #[tactic(auto, unfolding(crate::specs::Instructions::v6))]
-pub(crate) fn wrong_instruction(edition: Edition, ops: &[Opcode]) -> Option<u32>
+pub fn wrong_instruction(edition: Edition, ops: &[Opcode]) -> Option<u32>
     ensures { result ≡ v6 edition ops.now }
 {
     if !can_preload(edition, preload_code(edition, ops)) {
@@ -207,9 +208,10 @@ fn can_be_idcode(idcode: &Option<Code>) -> bool
     }
 }
 
-/// V7: 1 for the capture pattern, 2 for the IDCODE pattern.
+/// The first pattern that can't be one (V7): 1 for the capture pattern, which has the length of an instruction and ends in 01, 2 for the
+/// IDCODE pattern, which has 32 characters.
 #[tactic(auto, unfolding(crate::specs::Instructions::v7))]
-pub(crate) fn wrong_pattern(ir: u32, capture: &Code, idcode: &Option<Code>) -> Option<u32>
+pub fn wrong_pattern(ir: u32, capture: &Code, idcode: &Option<Code>) -> Option<u32>
     ensures { result ≡ v7 ir capture.now idcode.now }
 {
     if !(is_long(ir, capture) && ends_in_zero_one(capture.symbols())) {
@@ -227,9 +229,9 @@ fn are_long(length: u32, codes: &[Code]) -> bool
     codes.iter().all(|code| is_long(length, code))
 }
 
-/// V5: the first opcode with a name that came before, or with a code of another length.
+/// The number, from 1, of the first opcode with a name that came before, or with a code that is not as long as an instruction (V5).
 #[tactic(auto, unfolding(crate::specs::Instructions::v5))]
-pub(crate) fn wrong_opcode(
+pub fn wrong_opcode(
     alloc: Global,
     ir: u32,
     ops: &[Opcode],
@@ -275,17 +277,17 @@ fn settled_code(alloc: Global, code: Option<&Code>) -> Result<Code, AllocError>
     }
 }
 
-/// The preload code, with X as 0.
+/// The code of preloading, with X as 0: that of PRELOAD in a text of 2001 that lists it, else that of SAMPLE.
 #[tactic(auto, unfolding(crate::specs::Instructions::preload))]
-pub(crate) fn preload(alloc: Global, edition: Edition, ops: &[Opcode]) -> Result<Code, AllocError>
+pub fn preload(alloc: Global, edition: Edition, ops: &[Opcode]) -> Result<Code, AllocError>
     ensures { IfOk result (λ code. code ≡ preload edition ops.now) }
 {
     settled_code(alloc, preload_code(edition, ops))
 }
 
-/// The EXTEST code, with X as 0.
+/// The code of EXTEST, with X as 0: all zeros in an old text, and in a text of 2001 the first that is listed.
 #[tactic(auto, unfolding(crate::specs::Instructions::extest))]
-pub(crate) fn extest(
+pub fn extest(
     alloc: Global,
     edition: Edition,
     ir: u32,
@@ -296,15 +298,5 @@ pub(crate) fn extest(
     match edition {
         Edition::Old => Ok(Code::from_vec(vec![in alloc; Symbol::Zero; ir as usize]?)),
         Edition::Of2001 => settled_code(alloc, first_code(ops, b"EXTEST")),
-    }
-}
-
-/// A copy of the IDCODE pattern, where there is one.
-pub(crate) fn copy_of(alloc: Global, code: &Option<Code>) -> Result<Option<Code>, AllocError>
-    ensures { IfOk result (λ copy. copy ≡ code.now) }
-{
-    match code {
-        Some(code) => Ok(Some(Code::of(alloc, code.symbols())?)),
-        None => Ok(None),
     }
 }
