@@ -1,5 +1,5 @@
 -- The items that were seen, and what they leave of those that come after them.
-use Rattle.std.proofs.Common.{◌≡◌, ℕ, ◌+◌, ◌<◌, Bool, true, false, cond, ◌||◌, List, [], ◌∷◌, ◌++◌, length, take, drop, get_or, Option, Some, refl, sym, ap, ◌∙◌, append_assoc}
+use Rattle.std.proofs.Common.{◌≡◌, ℕ, suc, ◌+◌, ◌<◌, ◌≤◌, Bool, true, false, cond, ◌||◌, List, [], ◌∷◌, ◌++◌, length, take, drop, get_or, Option, Some, refl, sym, ap, ◌∙◌, append_assoc, arith}
 use Rattle.std.proofs.lemmas.List.{drop_more, take_more}
 use Rattle.std.proofs.lemmas.List.Folds.{list_any-append}
 use Rattle.std.specs.List.{list_any}
@@ -63,3 +63,12 @@ once_step {I} eq items i x done kept all false within read found taken same =
     once_new eq items i x done all within read (sym found) same ∙ ap (λ (k : List I). k ++ once_from eq (take (i + 1) items) (drop (i + 1) items)) (sym taken)
 once_step {I} eq items i x done kept all true within read found taken same =
     once_old eq items i x done all within read (sym found) same ∙ ap (λ (k : List I). k ++ once_from eq (take (i + 1) items) (drop (i + 1) items)) (sym taken)
+
+few : {I : Type 0} (was : Bool) (kept : List I) (i : I) (n : ℕ) → length kept ≤ n → length (cond was kept (i ∷ kept)) ≤ suc n
+few true kept i n within = omega arith
+few false kept i n within = omega arith
+
+-- no more items are different than there are
+pub once_few : {I : Type 0} (eq : I → I → Bool) (seen items : List I) → length (once_from eq seen items) ≤ length items
+once_few eq seen [] = omega arith
+once_few eq seen (i ∷ items) = few (list_any (λ s. eq s i) seen) (once_from eq (seen ++ i ∷ []) items) i (length items) (once_few eq (seen ++ i ∷ []) items)
