@@ -231,11 +231,7 @@ fn are_long(length: u32, codes: &[Code]) -> bool
 
 /// The number, from 1, of the first opcode with a name that came before, or with a code that is not as long as an instruction (V5).
 #[tactic(auto, unfolding(crate::specs::Instructions::v5))]
-pub fn wrong_opcode(
-    alloc: Global,
-    ir: u32,
-    ops: &[Opcode],
-) -> Result<Option<u32>, AllocError>
+pub fn wrong_opcode(alloc: Global, ir: u32, ops: &[Opcode]) -> Result<Option<u32>, AllocError>
     requires { length ops.now < 2 ^ 32 }
     ensures { IfOk result (λ item. item ≡ v5 ir ops.now) }
 {
@@ -287,12 +283,7 @@ pub fn preload(alloc: Global, edition: Edition, ops: &[Opcode]) -> Result<Code, 
 
 /// The code of EXTEST, with X as 0: all zeros in an old text, and in a text of 2001 the first that is listed.
 #[tactic(auto, unfolding(crate::specs::Instructions::extest))]
-pub fn extest(
-    alloc: Global,
-    edition: Edition,
-    ir: u32,
-    ops: &[Opcode],
-) -> Result<Code, AllocError>
+pub fn extest(alloc: Global, edition: Edition, ir: u32, ops: &[Opcode]) -> Result<Code, AllocError>
     ensures { IfOk result (λ code. code ≡ extest edition ir ops.now) }
 {
     match edition {
