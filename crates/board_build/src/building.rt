@@ -85,7 +85,7 @@ fn board_of(
     answer(alloc, chain, parts, &names, &marked)
 }
 
-#[tactic(auto, unfolding(crate::specs::inner::Marked::marked_answer, crate::specs::inner::Marked::marked_fault))]
+#[tactic(auto, using(crate::proofs::FaultLemmas::told_as), unfolding(crate::specs::inner::Marked::marked_answer, crate::specs::inner::Marked::marked_fault))]
 fn answer(
     alloc: Global,
     chain: &[ChainLine],
