@@ -58,13 +58,14 @@ assigned_apart place bit spot value start xs (y ∷ ys) apart =
     assigned_apart place bit spot value (set start (spot y) (value y)) xs ys (λ x z h k. apart x z h (inr k))
     ∙ ap (λ (l : List Bool). assigned spot value l ys) (set_apart place bit xs start (spot y) (value y) (λ x h. apart x y h (inl refl)))
 
--- items that are set in groups
+-- items that are gone through in groups
+pub fold_groups : {X G S : Type 0} (step : S → X → S) (items : G → List X) (groups : List G) (start : S) → fold (λ done g. fold step done (items g)) start groups ≡ fold step start (flat_map items groups)
+fold_groups step items [] start = refl
+fold_groups step items (g ∷ groups) start = fold_groups step items groups (fold step start (items g)) ∙ sym (fold-append step start (items g) (flat_map items groups))
+
 pub assigned_groups : {X G : Type 0} (place : X → ℕ) (bit : X → Bool) (items : G → List X) (groups : List G) (start : List Bool) →
     fold (λ done g. assigned place bit done (items g)) start groups ≡ assigned place bit start (flat_map items groups)
-assigned_groups place bit items [] start = refl
-assigned_groups place bit items (g ∷ groups) start =
-    assigned_groups place bit items groups (assigned place bit start (items g))
-    ∙ sym (fold-append (λ bits x. set bits (place x) (bit x)) start (items g) (flat_map items groups))
+assigned_groups place bit items groups start = fold_groups (λ bits x. set bits (place x) (bit x)) items groups start
 
 -- flags that items set
 flag_stays : (flags : List Bool) (p i : ℕ) → get_or flags i false ≡ true → get_or (set flags p true) i false ≡ true

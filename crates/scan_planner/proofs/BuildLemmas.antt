@@ -14,11 +14,10 @@ use Rattle.board_defs.specs.Pins.{device_at, cell_count, entry_at, data_bits, da
 use Rattle.tap_defs.proofs.board.QuietLemmas.{device_of}
 use Rattle.tap_defs.specs.chain.ShiftRegister.{filled}
 use Rattle.tap_defs.specs.chain.Scan.{joined}
-use Rattle.scan_planner.specs.Tables.{first_position}
+use Rattle.scan_planner.specs.Tables.{first_position, AreFirsts}
 use Rattle.scan_planner.specs.inner.Laid.{CellBits, part_laid, parts_laid}
 use Rattle.scan_planner.proofs.CodeLemmas.{part_before}
 use Rattle.scan_planner.specs.Building.{gathered}
-use Rattle.scan_planner.specs.inner.Building.{AreFirsts}
 use Rattle.scan_planner.proofs.LaidLemmas.{laid_at}
 use Rattle.scan_planner.proofs.PinLemmas.{wired_at, drives_by}
 

@@ -8,7 +8,8 @@ use Rattle.board_defs.proofs.Members.{Has, has_append, has_left, has_right, has_
 use Rattle.scan_planner.specs.declared.tables.HeldCell.{HeldCell}
 use Rattle.scan_planner.specs.declared.tables.DriverCell.{DriverCell}
 use Rattle.scan_planner.specs.declared.observers.Observer.{Observer}
-use Rattle.scan_planner.specs.inner.Building.{always_on, noted_at, all_noted, table_of, cells_on}
+use Rattle.scan_planner.specs.Tables.{cells_on}
+use Rattle.scan_planner.specs.inner.Building.{always_on, noted_at, all_noted, table_of}
 
 -- one of these drivers with this control and this cell
 pub record Noted (observers : List Observer) (control : ℕ) (cell : DriverCell) : Type 0 where

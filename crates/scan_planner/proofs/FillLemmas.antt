@@ -1,7 +1,7 @@
 -- What a plan's tables fill in is the scan.
-use Rattle.std.proofs.Common.{◌≡◌, ℕ, zero, suc, ◌<◌, ◌≤◌, Bool, true, false, cond, List, [], ◌∷◌, ◌++◌, length, map, get_or, set, replicate, Option, Some, None, is_some, unwrap_or, refl, sym, ap, ◌∙◌, subst, arith, length-append}
+use Rattle.std.proofs.Common.{◌≡◌, ℕ, zero, suc, ◌<◌, ◌≤◌, Bool, true, false, cond, List, [], ◌∷◌, ◌++◌, fold, length, map, get_or, set, replicate, Option, Some, None, is_some, unwrap_or, refl, sym, ap, ◌∙◌, subst, arith, length-append}
 use Rattle.std.specs.Prelude.{slice_get, sum_by, All}
-use Rattle.std.specs.List.{list_any}
+use Rattle.std.specs.List.{flat_map, list_any}
 use Rattle.std.proofs.lemmas.List.{length-map, length-replicate}
 use Rattle.std.proofs.lemmas.List.Sums.{sum_by-cons, fold-append}
 use Rattle.std.proofs.lemmas.Option.{slice_get-get_or, get_or_from_slice_get}
@@ -12,10 +12,10 @@ use Rattle.board_defs.specs.declared.board.Net.{Net}
 use Rattle.board_defs.specs.declared.board.RawBoard.{RawBoard}
 use Rattle.board_defs.specs.declared.board.Ctl.{Ctl}
 use Rattle.board_defs.specs.BoardRules.{IsBoard}
-use Rattle.board_defs.specs.Pins.{instruction_length, instruction_bits, data_bits}
+use Rattle.board_defs.specs.Pins.{instruction_length, instruction_bits, device_at, cell_count, data_bits}
 use Rattle.board_defs.specs.Settings.{holds}
 use Rattle.board_defs.proofs.BoardLemmas.{chain_length}
-use Rattle.board_defs.proofs.Members.{Has, has_at, has_place, has_right, contains_has, has_contains}
+use Rattle.board_defs.proofs.Members.{Has, has_at, has_place, has_left, has_right, has_map, has_flat_map, contains_has, has_contains}
 use Rattle.board_defs.proofs.Places.{any_at}
 use Rattle.tap_defs.specs.declared.scan.Shape.{Shape}
 use Rattle.tap_defs.specs.board.OnBoard.{test_logic}
@@ -29,22 +29,24 @@ use Rattle.scan_planner.specs.declared.tables.FixedRows.{FixedRows}
 use Rattle.scan_planner.specs.declared.tables.HeldCell.{HeldCell}
 use Rattle.scan_planner.specs.declared.tables.DriverCell.{DriverCell}
 use Rattle.scan_planner.specs.declared.tables.ReaderCell.{ReaderCell}
-use Rattle.scan_planner.specs.declared.tables.PassCells.{PassCells}
+use Rattle.scan_planner.specs.Tables.{PassCells, AreRowsOf, IsHeldCell, IsDriverCell, IsReaderCell, ArePassCells, common_rows, held_cell, pass_cells_of}
+use Rattle.scan_planner.specs.inner.Building.{controlled, AreDrivers}
 use Rattle.scan_planner.specs.declared.tables.PlanTables.{PlanTables}
 use Rattle.scan_planner.specs.inner.Laid.{laid, steady}
 use Rattle.scan_planner.specs.Assigned.{assigned, driver_bit, set_readers, set_compared}
 use Rattle.scan_planner.specs.declared.instructions.Instruction.{Instruction}
 use Rattle.scan_planner.specs.declared.instructions.Instruction.TheVariants.{Preload, Extest}
 use Rattle.scan_planner.specs.inner.Codes.{code_for}
-use Rattle.scan_planner.specs.Tables.{AreRowsOf, IsHeldCell, IsDriverCell, IsReaderCell, ArePassCells, common_rows}
 use Rattle.scan_planner.specs.Plans.{IsPlanOf, FillsScan}
 use Rattle.scan_planner.proofs.AssignLemmas.{length-assigned, assigned_apart}
 use Rattle.scan_planner.proofs.RowLemmas.{length-set_compared}
 use Rattle.scan_planner.proofs.LaidLemmas.{laid_at, length-laid, laid_same, zeros_laid, tdi_laid, tdo_laid, mask_laid}
-use Rattle.scan_planner.proofs.HeldLemmas.{quiet_steady, control_below, controls_any, held_laid}
+use Rattle.scan_planner.proofs.HeldLemmas.{quiet_steady, control_cells, held_laid}
 use Rattle.scan_planner.proofs.DriverLemmas.{drivers_laid}
 use Rattle.scan_planner.proofs.ReaderLemmas.{ReadersOf, Pair, pairs, quiet_expect, set_compared_is, tdo_compared, mask_compared}
 use Rattle.scan_planner.proofs.PinLemmas.{Standing, standing, read_at, drives_by, entry_on}
+use Rattle.scan_planner.proofs.ObserverLemmas.{holds_has}
+use Rattle.scan_planner.proofs.PassLemmas.{fold_on}
 
 -- the scan that its rows make
 expected : (expect : Option Bool) → cond (is_some expect) (Some (unwrap_or expect false)) None ≡ expect
@@ -215,98 +217,114 @@ module _ (board : RawBoard) (rules : IsBoard board) (plan : PlanTables) (p : IsP
     stands = slice_get-get_or plan.passes x [] less
 
     -- the cells of the pass
-    pub cells_are : (cells : PassCells) → cells ≡ get_or plan.cells x cells → ArePassCells board plan.steady pass cells
-    cells_are cells is =
-        let t = p.tables.cells x pass stands in
-        let same : t.0 ≡ cells = sym (is ∙ get_or_from_slice_get plan.cells x t.0 cells t.1) in
-        subst (λ (v : PassCells). ArePassCells board plan.steady pass v) same t.2
+    abbrev cells : PassCells
+    cells = pass_cells_of board plan.quiet.bits plan.by_control pass
 
-    pub cells_there : x < length plan.cells
-    cells_there = let t = p.tables.cells x pass stands in Rattle.std.proofs.lemmas.Option.slice_get_within plan.cells x t.0 t.1
+    are : ArePassCells board plan.steady pass cells
+    are = let t = p.tables.cells x pass stands in subst (λ (v : PassCells). ArePassCells board plan.steady pass v) t.1 t.2
 
-    module _ (cells : PassCells) (are : ArePassCells board plan.steady pass cells) where
-      -- the driver cells of the pass
-      abbrev all : List DriverCell
-      all = plan.steady ++ cells.drivers
+    -- its driver cells
+    abbrev all : List DriverCell
+    all = plan.steady ++ cells.drivers
 
-      held_only : (h : HeldCell) → Has cells.held h → IsHeldCell board pass h
-      held_only h has = (are.held h).0 (has_contains cells.held h has)
+    held_only : (h : HeldCell) → Has cells.held h → IsHeldCell board pass h
+    held_only h has = (are.held h).0 (has_contains cells.held h has)
 
-      driver_only : (d : DriverCell) → Has all d → IsDriverCell board pass d
-      driver_only d has = (are.drivers d).0 (has_contains all d has)
+    driver_only : (d : DriverCell) → Has all d → IsDriverCell board pass d
+    driver_only d has = (are.drivers d).0 (has_contains all d has)
 
-      own_only : (d : DriverCell) → Has cells.drivers d → IsDriverCell board pass d
-      own_only d has = driver_only d (has_right plan.steady cells.drivers d has)
+    own_only : (d : DriverCell) → Has cells.drivers d → IsDriverCell board pass d
+    own_only d has = driver_only d (has_right plan.steady cells.drivers d has)
 
-      every : (d : DriverCell) → IsDriverCell board pass d → Has all d
-      every d is = contains_has all d ((are.drivers d).1 is)
+    every : (d : DriverCell) → IsDriverCell board pass d → Has all d
+    every d is = contains_has all d ((are.drivers d).1 is)
 
-      pub held_within : All (λ h. h.position < data_bits board) cells.held
-      held_within = all_has (λ h. h.position < data_bits board) cells.held (λ h has.
-          let s = held_only h has in
-          let below : s.control.cell < s.device.boundary = control_below board rules s.control s.device s.is_device (controls_any board s.control s.device s.is_device (p.plannable.controls x pass s.control stands s.is_held)) in
-          omega (arith, s.position_is, (laid_at (steady board (λ c. false)) board s.control.part s.device s.control.cell s.is_device below).0))
+    driver_within : (d : DriverCell) → Has cells.drivers d → d.position < data_bits board
+    driver_within d has =
+        let s = own_only d has in
+        let t : Standing board d.net s.net d.place s.at = standing board rules d.net s.net d.place s.pin s.at s.is_net s.is_pin s.is_at in
+        let drives = drives_by t.device s.at.bit s.entry (sym (entry_on board s.at t.device t.is_device) ∙ s.is_entry) in
+        omega (arith, s.position_is, (laid_at (steady board (λ c. false)) board s.at.part t.device s.entry.num t.is_device (t.wired.num_below drives.index s.entry drives.stands)).0)
 
-      driver_within : (d : DriverCell) → Has cells.drivers d → d.position < data_bits board
-      driver_within d has =
-          let s = own_only d has in
-          let t : Standing board d.net s.net d.place s.at = standing board rules d.net s.net d.place s.pin s.at s.is_net s.is_pin s.is_at in
-          let drives = drives_by t.device s.at.bit s.entry (sym (entry_on board s.at t.device t.is_device) ∙ s.is_entry) in
-          omega (arith, s.position_is, (laid_at (steady board (λ c. false)) board s.at.part t.device s.entry.num t.is_device (t.wired.num_below drives.index s.entry drives.stands)).0)
+    are_drivers : (setting : List Ctl) → setting ≡ pass → (P : DriverCell → Type 0) → ((d : DriverCell) → Has cells.drivers d → P d) → AreDrivers board plan.by_control setting P
+    are_drivers setting is P each =
+        let rows : HeldCell → List DriverCell = λ h. get_or plan.by_control.rows h.position [] in
+        let always = plan.by_control.always in
+        record {
+          always = all_has P always (λ d has. each d (has_left always (flat_map rows cells.held) d has));
+          by_control = λ c on.
+              all_has P (controlled board plan.by_control.rows c) (λ d has.
+              each d (has_right always (flat_map rows cells.held) d
+              (has_flat_map rows cells.held (held_cell board plan.quiet.bits c) d (has_map (held_cell board plan.quiet.bits) pass c (subst (λ (q : List Ctl). Has q c) is (holds_has setting c on))) has)));
+        }
 
-      pub drivers_within : All (λ d. d.position < data_bits board) cells.drivers
-      drivers_within = all_has (λ d. d.position < data_bits board) cells.drivers driver_within
+    pub drivers_within : (setting : List Ctl) → setting ≡ pass → (n : ℕ) → n ≡ data_bits board → AreDrivers board plan.by_control setting (λ d. d.position < n)
+    drivers_within setting is n bits = are_drivers setting is (λ d. d.position < n) (λ d has. omega (arith, driver_within d has, bits))
 
-      pub drivers_on_nets : All (λ d. d.net < length board.nets) cells.drivers
-      drivers_on_nets = all_has (λ d. d.net < length board.nets) cells.drivers (λ d has. let s = own_only d has in Rattle.std.proofs.lemmas.Option.slice_get_within board.nets d.net s.net s.is_net)
+    pub drivers_on_nets : (setting : List Ctl) → setting ≡ pass → (n : ℕ) → n ≡ length board.nets → AreDrivers board plan.by_control setting (λ d. d.net < n)
+    drivers_on_nets setting is n nets =
+        are_drivers setting is (λ d. d.net < n) (λ d has. let s = own_only d has in omega (arith, Rattle.std.proofs.lemmas.Option.slice_get_within board.nets d.net s.net s.is_net, nets))
 
-      -- what a net carries is what its code's bit says
-      abbrev carried : ℕ → ℕ → Option Bool
-      carried j n = Some (net_code_bit board plan.passes j n)
+    pub controls_there : (setting : List Ctl) → setting ≡ pass → (c : Ctl) → holds setting c ≡ true → c.cell < cell_count (device_at board c.part)
+    controls_there setting is c on = control_cells board rules c (p.plannable.controls x pass c stands (sym (ap (λ (q : List Ctl). holds q c) is) ∙ on))
 
-      carries : (j : ℕ) (d : DriverCell) → Has all d → carried j d.net ≡ Some (driver_bit plan.codes j d)
-      carries j d has =
-          let s = driver_only d has in
-          let observed : is_observed board plan.passes s.net ≡ true = any_at (λ (q : List Ctl). is_some (observing_driver board (holds q) s.net)) plan.passes x pass stands (ap (λ (o : Option ℕ). is_some o) s.observing) in
-          let code : get_or plan.codes d.net 0 ≡ code_of_net board plan.passes d.net =
-          p.codes_are d.net s.net s.is_net ∙ ap (λ (b : Bool). cond b (code_of_net board plan.passes d.net) 0) observed in
-          sym (ap (λ (n : ℕ). Some (code_bit n j)) code)
+    -- what a net carries is what its code's bit says
+    abbrev carried : ℕ → ℕ → Option Bool
+    carried j n = Some (net_code_bit board plan.passes j n)
 
-      -- a row of the pass, over that of all passes
-      pub code_row_is : (j : ℕ) (scan : RowScan) → scan.now ≡ code_row board plan.passes pass j →
-          assigned (λ d. d.position) (driver_bit plan.codes j) (assigned (λ h. h.position) (λ h. h.bit) (common_rows plan.quiet.bits plan.codes plan.readers plan.steady j).tdi.bits cells.held) cells.drivers
-          ≡ tdi_bits (joined (row_bits board scan))
-      code_row_is j scan e =
-          let bit : DriverCell → Bool = driver_bit plan.codes j in
-          ap (λ (l : List Bool). assigned (λ d. d.position) bit l cells.drivers)
-          (assigned_apart (λ (h : HeldCell). h.position) (λ h. h.bit) (λ (d : DriverCell). d.position) bit plan.quiet.bits cells.held plan.steady
-          (λ h d in_held in_steady. are.apart h d (has_contains cells.held h in_held) (has_contains plan.steady d in_steady)))
-          ∙ sym (fold-append (λ bits (d : DriverCell). set bits d.position (bit d)) (assigned (λ h. h.position) (λ h. h.bit) plan.quiet.bits cells.held) plan.steady cells.drivers)
-          ∙ ap (λ (l : List Bool). assigned (λ d. d.position) bit (assigned (λ h. h.position) (λ h. h.bit) l cells.held) all) quiet_laid
-          ∙ ap (λ (l : List Bool). assigned (λ d. d.position) bit l all)
-          (held_laid board rules pass (λ c has. p.plannable.controls x pass c stands has) cells.held held_only (λ h is. contains_has cells.held h ((are.held h).1 is)))
-          ∙ drivers_laid board rules pass (carried j) bit all driver_only every (carries j)
-          ∙ sym (tdi_laid board scan ∙ ap (λ (row : TestRow). laid (λ part device cell. row_bit board row part device cell) board) e)
+    carries : (j : ℕ) (d : DriverCell) → Has all d → carried j d.net ≡ Some (driver_bit plan.codes j d)
+    carries j d has =
+        let s = driver_only d has in
+        let observed : is_observed board plan.passes s.net ≡ true = any_at (λ (q : List Ctl). is_some (observing_driver board (holds q) s.net)) plan.passes x pass stands (ap (λ (o : Option ℕ). is_some o) s.observing) in
+        let code : get_or plan.codes d.net 0 ≡ code_of_net board plan.passes d.net =
+        p.codes_are d.net s.net s.is_net ∙ ap (λ (b : Bool). cond b (code_of_net board plan.passes d.net) 0) observed in
+        sym (ap (λ (n : ℕ). Some (code_bit n j)) code)
 
-      -- what is compared of it, over what is compared of all
-      compared_is : (bit : DriverCell → Bool) →
-          set_compared bit plan.readers (set_compared bit plan.readers (replicate (length plan.quiet.bits) false) plan.steady) cells.drivers
-          ≡ assigned (λ (x : Pair). x.1.position) (λ x. bit x.0) (laid (λ part device cell. false) board) (pairs plan.readers all)
-      compared_is bit =
-          sym (fold-append (λ done (d : DriverCell). set_readers d.place (bit d) done (get_or plan.readers d.net [])) (replicate (length plan.quiet.bits) false) plan.steady cells.drivers)
-          ∙ ap (λ (l : List Bool). set_compared bit plan.readers l all) (ap (λ n. replicate n false) quiet_length ∙ zeros_laid board)
-          ∙ set_compared_is bit plan.readers all (laid (λ part device cell. false) board)
+    -- a row of the pass, over that of all passes
+    pub code_row_is : (j : ℕ) (scan : RowScan) → scan.now ≡ code_row board plan.passes pass j →
+        (let bit : DriverCell → Bool = driver_bit plan.codes j in
+        let held : List Bool = assigned (λ h. h.position) (λ h. h.bit) (common_rows plan.quiet.bits plan.codes plan.readers plan.steady j).tdi.bits cells.held in
+        fold (λ done c. assigned (λ d. d.position) bit done (controlled board plan.by_control.rows c)) (assigned (λ d. d.position) bit held plan.by_control.always) pass)
+        ≡ tdi_bits (joined (row_bits board scan))
+    code_row_is j scan e =
+        let bit : DriverCell → Bool = driver_bit plan.codes j in
+        fold_on board plan.quiet.bits plan.by_control pass (λ bits (d : DriverCell). set bits d.position (bit d))
+        (assigned (λ h. h.position) (λ h. h.bit) (common_rows plan.quiet.bits plan.codes plan.readers plan.steady j).tdi.bits cells.held)
+        ∙ ap (λ (l : List Bool). assigned (λ d. d.position) bit l cells.drivers)
+        (assigned_apart (λ (h : HeldCell). h.position) (λ h. h.bit) (λ (d : DriverCell). d.position) bit plan.quiet.bits cells.held plan.steady
+        (λ h d in_held in_steady. are.apart h d (has_contains cells.held h in_held) (has_contains plan.steady d in_steady)))
+        ∙ sym (fold-append (λ bits (d : DriverCell). set bits d.position (bit d)) (assigned (λ h. h.position) (λ h. h.bit) plan.quiet.bits cells.held) plan.steady cells.drivers)
+        ∙ ap (λ (l : List Bool). assigned (λ d. d.position) bit (assigned (λ h. h.position) (λ h. h.bit) l cells.held) all) quiet_laid
+        ∙ ap (λ (l : List Bool). assigned (λ d. d.position) bit l all)
+        (held_laid board rules pass (λ c has. p.plannable.controls x pass c stands has) cells.held held_only (λ h is. contains_has cells.held h ((are.held h).1 is)))
+        ∙ drivers_laid board rules pass (carried j) bit all driver_only every (carries j)
+        ∙ sym (tdi_laid board scan ∙ ap (λ (row : TestRow). laid (λ part device cell. row_bit board row part device cell) board) e)
 
-      pub tdo_is : (j : ℕ) (scan : RowScan) → scan.before ≡ code_row board plan.passes pass j →
-          set_compared (driver_bit plan.codes j) plan.readers (common_rows plan.quiet.bits plan.codes plan.readers plan.steady j).tdo.bits cells.drivers ≡ tdo_bits (joined (row_bits board scan))
-      tdo_is j scan e =
-          compared_is (driver_bit plan.codes j)
-          ∙ tdo_compared board rules pass (carried j) (driver_bit plan.codes j) all driver_only every (carries j) plan.readers readers_of
-          ∙ sym (tdo_laid board scan ∙ ap (λ (row : TestRow). laid (λ part device cell. unwrap_or (expect_bit board row part device cell) false) board) e)
+    -- what is compared of it, over what is compared of all
+    abbrev compared : (DriverCell → Bool) → List Bool
+    compared bit =
+        let common : List Bool = set_compared bit plan.readers (replicate (length plan.quiet.bits) false) plan.steady in
+        fold (λ done c. set_compared bit plan.readers done (controlled board plan.by_control.rows c)) (set_compared bit plan.readers common plan.by_control.always) pass
 
-      pub mask_is : (j : ℕ) (scan : RowScan) → scan.before ≡ code_row board plan.passes pass j →
-          set_compared (λ d. true) plan.readers (common_rows plan.quiet.bits plan.codes plan.readers plan.steady j).mask.bits cells.drivers ≡ mask_bits (joined (row_bits board scan))
-      mask_is j scan e =
-          compared_is (λ d. true)
-          ∙ mask_compared board rules pass (carried j) (driver_bit plan.codes j) all driver_only every (carries j) plan.readers readers_of
-          ∙ sym (mask_laid board scan ∙ ap (λ (row : TestRow). laid (λ part device cell. is_some (expect_bit board row part device cell)) board) e)
+    compared_is : (bit : DriverCell → Bool) →
+        compared bit ≡ assigned (λ (x : Pair). x.1.position) (λ x. bit x.0) (laid (λ part device cell. false) board) (pairs plan.readers all)
+    compared_is bit =
+        fold_on board plan.quiet.bits plan.by_control pass (λ done (d : DriverCell). set_readers d.place (bit d) done (get_or plan.readers d.net []))
+        (set_compared bit plan.readers (replicate (length plan.quiet.bits) false) plan.steady)
+        ∙ sym (fold-append (λ done (d : DriverCell). set_readers d.place (bit d) done (get_or plan.readers d.net [])) (replicate (length plan.quiet.bits) false) plan.steady cells.drivers)
+        ∙ ap (λ (l : List Bool). set_compared bit plan.readers l all) (ap (λ n. replicate n false) quiet_length ∙ zeros_laid board)
+        ∙ set_compared_is bit plan.readers all (laid (λ part device cell. false) board)
+
+    pub tdo_is : (j : ℕ) (scan : RowScan) → scan.before ≡ code_row board plan.passes pass j →
+        compared (driver_bit plan.codes j) ≡ tdo_bits (joined (row_bits board scan))
+    tdo_is j scan e =
+        compared_is (driver_bit plan.codes j)
+        ∙ tdo_compared board rules pass (carried j) (driver_bit plan.codes j) all driver_only every (carries j) plan.readers readers_of
+        ∙ sym (tdo_laid board scan ∙ ap (λ (row : TestRow). laid (λ part device cell. unwrap_or (expect_bit board row part device cell) false) board) e)
+
+    pub mask_is : (j : ℕ) (scan : RowScan) → scan.before ≡ code_row board plan.passes pass j →
+        compared (λ d. true) ≡ mask_bits (joined (row_bits board scan))
+    mask_is j scan e =
+        compared_is (λ d. true)
+        ∙ mask_compared board rules pass (carried j) (driver_bit plan.codes j) all driver_only every (carries j) plan.readers readers_of
+        ∙ sym (mask_laid board scan ∙ ap (λ (row : TestRow). laid (λ part device cell. is_some (expect_bit board row part device cell)) board) e)

@@ -9,7 +9,7 @@ use Rattle.board_defs.specs.declared.board.RawBoard.{RawBoard}
 use Rattle.board_defs.specs.declared.board.Ctl.{Ctl}
 use Rattle.board_defs.specs.BoardRules.{IsBoard}
 use Rattle.board_defs.specs.DeviceRules.{is_control_of, is_driving, disable_of}
-use Rattle.board_defs.specs.Pins.{device_at, is_pinned}
+use Rattle.board_defs.specs.Pins.{device_at, cell_count, is_pinned}
 use Rattle.board_defs.specs.Settings.{holds}
 use Rattle.board_defs.proofs.Members.{Has}
 use Rattle.tap_defs.specs.board.NetBits.{Place, place_of}
@@ -66,6 +66,14 @@ control_below board rules c device e any =
 pub controls_any : (board : RawBoard) (c : Ctl) (device : RawDevice) → device_at board c.part ≡ Some device → controls_some board c ≡ true →
     list_any (controls_driver board c.part c.cell) device.cells ≡ true
 controls_any board c device e controls = sym (ap (λ (o : Option RawDevice). controls_in board c o) e) ∙ controls
+
+-- its cell is one of its part
+pub control_cells : (board : RawBoard) → IsBoard board → (c : Ctl) → controls_some board c ≡ true → c.cell < cell_count (device_at board c.part)
+control_cells board rules c controls = by_device (device_at board c.part) refl controls
+  where
+    by_device : (o : Option RawDevice) → device_at board c.part ≡ o → controls_in board c o ≡ true → c.cell < cell_count o
+    by_device None e h = cc h
+    by_device (Some device) e h = control_below board rules c device e h
 
 pub held_laid : (board : RawBoard) → IsBoard board → (pass : List Ctl) → ((c : Ctl) → holds pass c ≡ true → controls_some board c ≡ true) →
     (cells : List HeldCell) → ((h : HeldCell) → Has cells h → IsHeldCell board pass h) → ((h : HeldCell) → IsHeldCell board pass h → Has cells h) →

@@ -17,3 +17,4 @@ pub mod ObserverLemmas
 pub mod SeenLemmas
 pub mod PlanLemmas
 pub mod SteadyLemmas
+pub mod PassLemmas

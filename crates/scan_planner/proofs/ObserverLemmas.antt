@@ -22,10 +22,10 @@ use Rattle.scan_planner.specs.declared.observers.Observer.{Observer}
 use Rattle.scan_planner.specs.declared.tables.HeldCell.{HeldCell}
 use Rattle.scan_planner.specs.declared.tables.DriverCell.{DriverCell}
 use Rattle.scan_planner.specs.declared.tables.ReaderCell.{ReaderCell}
-use Rattle.scan_planner.specs.Tables.{first_position, IsDriverCell}
+use Rattle.scan_planner.specs.Tables.{first_position, IsDriverCell, control_position, held_cell}
 use Rattle.scan_planner.specs.inner.Laid.{laid}
 use Rattle.scan_planner.specs.Building.{is_on, optional, net_driver, driver_of, drivers_of_pins, drivers_of, readers_of, is_read_beside}
-use Rattle.scan_planner.specs.inner.Building.{driver_cell, IsControlThere, control_position, observer, observers_at, observers, held_cell}
+use Rattle.scan_planner.specs.inner.Building.{driver_cell, IsControlThere, observer, observers_at, observers}
 use Rattle.scan_planner.proofs.LaidLemmas.{laid_at}
 use Rattle.scan_planner.proofs.BuildLemmas.{cell_there, entry_below, position_within}
 use Rattle.scan_planner.proofs.PinLemmas.{wired_at, drives_by, entry_on}

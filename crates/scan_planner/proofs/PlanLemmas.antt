@@ -27,15 +27,14 @@ use Rattle.scan_planner.specs.declared.tables.FixedRows.{FixedRows}
 use Rattle.scan_planner.specs.declared.tables.HeldCell.{HeldCell}
 use Rattle.scan_planner.specs.declared.tables.DriverCell.{DriverCell}
 use Rattle.scan_planner.specs.declared.tables.ReaderCell.{ReaderCell}
-use Rattle.scan_planner.specs.declared.tables.PassCells.{PassCells}
+use Rattle.scan_planner.specs.Tables.{first_position, AreFirsts, AreRowsOf, IsHeldCell, common_rows, held_cell, pass_cells_of}
+use Rattle.scan_planner.specs.declared.tables.PassTables.{PassTables}
 use Rattle.scan_planner.specs.declared.tables.PlanTables.{PlanTables}
 use Rattle.scan_planner.specs.inner.Laid.{laid, quiet_bits}
 use Rattle.scan_planner.specs.inner.Codes.{AreCodes, seen_in}
-use Rattle.scan_planner.specs.Tables.{first_position, AreRowsOf, IsHeldCell, common_rows}
 use Rattle.scan_planner.specs.inner.Steady.{ArePassTables}
 use Rattle.scan_planner.specs.Plans.{controls_in, controls_some, ArePlannable, code_or_zero, IsPlanOf}
 use Rattle.scan_planner.specs.Building.{readers_of, all_readers, all_drivers}
-use Rattle.scan_planner.specs.inner.Building.{held_cell}
 use Rattle.scan_planner.proofs.LaidLemmas.{laid_at, laid_same, tdi_laid}
 use Rattle.scan_planner.proofs.HeldLemmas.{quiet_steady, control_below}
 use Rattle.scan_planner.proofs.TableLemmas.{reader_is, is_reader}
@@ -73,9 +72,6 @@ module _ (board : RawBoard) (rules : IsBoard board) where
             quiet = ap (λ (b : Bool). cond b (cond false (not off) off) (unwrap_or (safe_bit device c.cell) false)) h;
             below = control_below board rules c device e h;
           }
-
-  pub control_cells : (c : Ctl) → controls_some board c ≡ true → c.cell < cell_count (device_at board c.part)
-  control_cells c h = let k = controlled c h in subst (λ (o : Option RawDevice). c.cell < cell_count o) (sym k.is_device) k.below
 
   held_bit : (quiet : List Bool) → quiet ≡ laid (quiet_bits board) board → (c : Ctl) (k : Controlled c) →
       not (get_or quiet (first_position board c.part + c.cell) false) ≡ not (unwrap_or (disable_of k.device c.cell) false)
@@ -149,13 +145,13 @@ pins_most board rules k d less =
 
 -- the plan
 pub is_plan : (board : RawBoard) → IsBoard board → (plan : PlanTables) → ArePlannable board plan.passes → plan.quiet.bits ≡ laid (quiet_bits board) board →
-    plan.readers ≡ all_readers board → plan.drivers ≡ all_drivers board → ArePassTables board plan.passes (record { steady = plan.steady; cells = plan.cells }) →
-    (seen : List Bool) → seen ≡ seen_in (length board.nets) plan.steady plan.cells → (codes : NetCodes) → AreCodes seen codes → plan.codes ≡ codes.codes →
+    plan.readers ≡ all_readers board → plan.drivers ≡ all_drivers board → AreFirsts board.chain plan.firsts → ArePassTables board plan.passes plan.steady (pass_cells_of board plan.quiet.bits plan.by_control) →
+    (seen : List Bool) → seen ≡ seen_in board (length board.nets) plan.steady plan.by_control plan.passes → (codes : NetCodes) → AreCodes seen codes → plan.codes ≡ codes.codes →
     codes.count + 2 ≤ 2 ^ plan.width → ((less : ℕ) → less < plan.width → 2 ^ less < codes.count + 2) →
     plan.common ≡ filled plan.width (common_rows plan.quiet.bits plan.codes plan.readers plan.steady) →
     AreRowsOf ((instructs (map (λ part. preload_code part.kind) board.chain)).bits) plan.preload →
     AreRowsOf ((instructs (map (λ part. extest_code part.kind) board.chain)).bits) plan.extest → IsPlanOf board plan
-is_plan board rules plan plannable quiet readers_are drivers_are tables seen seen_is codes are_codes codes_are enough least common preload extest =
+is_plan board rules plan plannable quiet readers_are drivers_are firsts tables seen seen_is codes are_codes codes_are enough least common preload extest =
     record {
       plannable = plannable;
       width_is = code_width_is codes.count plan.width enough least ∙ ap code_width (are_codes.count_is ∙ count_is);
@@ -167,7 +163,8 @@ is_plan board rules plan plannable quiet readers_are drivers_are tables seen see
         preload = preload;
         extest = extest;
         quiet = quiet ∙ sym (tdi_laid board first_row_scan ∙ laid_same board (λ part device cell. row_bit board quiet_row part device cell) (quiet_bits board) (quiet_steady board));
-        cells = tables.each;
+        firsts = firsts;
+        cells = λ x pass e. (pass_cells_of board plan.quiet.bits plan.by_control pass, refl, tables.each x pass e);
         common = λ j less. ap (λ (l : List FixedRows). slice_get l j) common ∙ filled_at plan.width (common_rows plan.quiet.bits plan.codes plan.readers plan.steady) j less;
         readers = λ n net e. (
           readers_of board net.pins,
@@ -179,7 +176,7 @@ is_plan board rules plan plannable quiet readers_are drivers_are tables seen see
     }
   where
     seen_are : seen ≡ map (is_observed board plan.passes) board.nets
-    seen_are = seen_is ∙ Rattle.scan_planner.proofs.SeenLemmas.seen_are board plan.passes (record { steady = plan.steady; cells = plan.cells }) tables
+    seen_are = seen_is ∙ Rattle.scan_planner.proofs.SeenLemmas.seen_are board plan.quiet.bits plan.passes plan.steady plan.by_control tables
 
     count_is : count_by (λ b. b) seen ≡ observed_count board plan.passes
     count_is =
@@ -202,10 +199,10 @@ is_plan board rules plan plannable quiet readers_are drivers_are tables seen see
         ∙ ap (λ (k : ℕ). cond (p net) (suc k) 0) before
 
 -- the nets and their codes are few
-pub seen_most : (board : RawBoard) → IsBoard board → (readers : List (List ReaderCell)) (steady : List DriverCell) (cells : List PassCells) (seen : List Bool) → readers ≡ all_readers board →
-    seen ≡ seen_in (length readers) steady cells → (length seen ≡ length board.nets) × (length seen ≤ 16382)
-seen_most board rules readers steady cells seen readers_are seen_is =
-    let same : length seen ≡ length board.nets = ap (λ (l : List Bool). length l) seen_is ∙ length-seen_in (length readers) steady cells
+pub seen_most : (board : RawBoard) → IsBoard board → (readers : List (List ReaderCell)) (tables : PassTables) (passes : List (List Ctl)) (seen : List Bool) → readers ≡ all_readers board →
+    seen ≡ seen_in board (length readers) tables.steady tables.by_control passes → (length seen ≡ length board.nets) × (length seen ≤ 16382)
+seen_most board rules readers tables passes seen readers_are seen_is =
+    let same : length seen ≡ length board.nets = ap (λ (l : List Bool). length l) seen_is ∙ length-seen_in board (length readers) tables.steady tables.by_control passes
     ∙ ap (λ (l : List (List ReaderCell)). length l) readers_are ∙ length-map board.nets (λ (net : Net). readers_of board net.pins) in
     (same, omega (arith, same, rules.nets_most))
 

@@ -1,5 +1,5 @@
 -- The nets that have a driver cell in some pass are those that some pass observes.
-use Rattle.std.proofs.Common.{◌≡◌, ℕ, ◌<◌, Bool, true, false, List, ◌++◌, set, length, map, get_or, replicate, Option, Some, None, is_some, refl, sym, ap, ◌∙◌, subst, arith, ◌⊎◌, inl, inr}
+use Rattle.std.proofs.Common.{◌≡◌, ℕ, ◌<◌, Bool, true, false, List, [], ◌∷◌, ◌++◌, fold, set, length, map, get_or, replicate, Option, Some, None, is_some, refl, sym, ap, ◌∙◌, subst, arith, ◌⊎◌, inl, inr}
 use Rattle.std.specs.Prelude.{slice_get, option_map}
 use Rattle.std.specs.Cmp.{both_ways}
 use Rattle.std.specs.List.{flat_map}
@@ -14,40 +14,56 @@ use Rattle.board_defs.proofs.Members.{Has, has_at, has_place, contains_has, has_
 use Rattle.board_defs.proofs.Places.{any_place, any_at}
 use Rattle.tap_defs.specs.board.TestRows.{is_observed, observing_driver}
 use Rattle.scan_planner.specs.declared.tables.DriverCell.{DriverCell}
-use Rattle.scan_planner.specs.declared.tables.PassCells.{PassCells}
-use Rattle.scan_planner.specs.declared.tables.PassTables.{PassTables}
-use Rattle.scan_planner.specs.Tables.{IsDriverCell}
+use Rattle.scan_planner.specs.Tables.{IsDriverCell, pass_cells_of}
+use Rattle.scan_planner.specs.declared.controls.DriverTable.{DriverTable}
 use Rattle.scan_planner.specs.inner.Steady.{ArePassTables}
 use Rattle.scan_planner.specs.Assigned.{assigned}
-use Rattle.scan_planner.specs.inner.Codes.{seen_in}
-use Rattle.scan_planner.proofs.AssignLemmas.{length-assigned, assigned_groups, has_mark, mark_has}
+use Rattle.scan_planner.specs.inner.Codes.{marked, marked_on, seen_in}
+use Rattle.scan_planner.proofs.AssignLemmas.{length-assigned, has_mark, mark_has}
+use Rattle.scan_planner.proofs.PassLemmas.{fold_on}
 use Rattle.scan_planner.proofs.ReaderLemmas.{driver_cell}
 use Rattle.scan_planner.proofs.FillLemmas.{some_at}
 
 -- all driver cells of passes
-abbrev all_cells : List DriverCell → List PassCells → List DriverCell
-all_cells steady cells = steady ++ flat_map (λ c. c.drivers) cells
+abbrev all_cells : RawBoard → List Bool → List (List Ctl) → List DriverCell → DriverTable → List DriverCell
+all_cells board quiet passes steady table = steady ++ flat_map (λ pass. (pass_cells_of board quiet table pass).drivers) passes
 
-marked_all : (nets : ℕ) (steady : List DriverCell) (cells : List PassCells) → seen_in nets steady cells ≡ assigned (λ d. d.net) (λ d. true) (replicate nets false) (all_cells steady cells)
-marked_all nets steady cells =
-    assigned_groups (λ (d : DriverCell). d.net) (λ d. true) (λ (c : PassCells). c.drivers) cells (assigned (λ d. d.net) (λ d. true) (replicate nets false) steady)
-    ∙ sym (fold-append (λ flags (d : DriverCell). set flags d.net true) (replicate nets false) steady (flat_map (λ (c : PassCells). c.drivers) cells))
+-- the nets of passes, pass after pass
+marked_passes : (board : RawBoard) (quiet : List Bool) (table : DriverTable) (passes : List (List Ctl)) (flags : List Bool) →
+    fold (marked_on board table) flags passes ≡ marked flags (flat_map (λ pass. (pass_cells_of board quiet table pass).drivers) passes)
+marked_passes board quiet table [] flags = refl
+marked_passes board quiet table (pass ∷ passes) flags =
+    let mark : List Bool → DriverCell → List Bool = λ done d. set done d.net true in
+    let own : List DriverCell = (pass_cells_of board quiet table pass).drivers in
+    let others : List DriverCell = flat_map (λ q. (pass_cells_of board quiet table q).drivers) passes in
+    marked_passes board quiet table passes (marked_on board table flags pass)
+    ∙ ap (λ (l : List Bool). marked l others) (fold_on board quiet table pass mark flags)
+    ∙ sym (fold-append mark flags own others)
 
-pub length-seen_in : (nets : ℕ) (steady : List DriverCell) (cells : List PassCells) → length (seen_in nets steady cells) ≡ nets
-length-seen_in nets steady cells =
-    ap (λ (l : List Bool). length l) (marked_all nets steady cells)
-    ∙ length-assigned (λ (d : DriverCell). d.net) (λ d. true) (replicate nets false) (all_cells steady cells)
+marked_all : (board : RawBoard) (quiet : List Bool) (nets : ℕ) (passes : List (List Ctl)) (steady : List DriverCell) (table : DriverTable) →
+    seen_in board nets steady table passes ≡ marked (replicate nets false) (all_cells board quiet passes steady table)
+marked_all board quiet nets passes steady table =
+    marked_passes board quiet table passes (marked (replicate nets false) steady)
+    ∙ sym (fold-append (λ flags (d : DriverCell). set flags d.net true) (replicate nets false) steady (flat_map (λ pass. (pass_cells_of board quiet table pass).drivers) passes))
+
+pub length-seen_in : (board : RawBoard) (nets : ℕ) (steady : List DriverCell) (table : DriverTable) (passes : List (List Ctl)) → length (seen_in board nets steady table passes) ≡ nets
+length-seen_in board nets steady table passes =
+    ap (λ (l : List Bool). length l) (marked_all board [] nets passes steady table)
+    ∙ length-assigned (λ (d : DriverCell). d.net) (λ d. true) (replicate nets false) (all_cells board [] passes steady table)
     ∙ length-replicate nets false
 
-module _ (board : RawBoard) (passes : List (List Ctl)) (tables : PassTables) (are : ArePassTables board passes tables) where
+module _ (board : RawBoard) (quiet : List Bool) (passes : List (List Ctl)) (steady : List DriverCell) (table : DriverTable) (are : ArePassTables board passes steady (pass_cells_of board quiet table)) where
+  abbrev own_cells : List Ctl → List DriverCell
+  own_cells pass = (pass_cells_of board quiet table pass).drivers
+
   abbrev seen : List Bool
-  seen = seen_in (length board.nets) tables.steady tables.cells
+  seen = seen_in board (length board.nets) steady table passes
 
   abbrev all : List DriverCell
-  all = all_cells tables.steady tables.cells
+  all = all_cells board quiet passes steady table
 
   is_marked : seen ≡ assigned (λ d. d.net) (λ d. true) (replicate (length board.nets) false) all
-  is_marked = marked_all (length board.nets) tables.steady tables.cells
+  is_marked = marked_all board quiet (length board.nets) passes steady table
 
   -- each of them is one of some pass
   pub record InPass (d : DriverCell) : Type 0 where
@@ -57,36 +73,27 @@ module _ (board : RawBoard) (passes : List (List Ctl)) (tables : PassTables) (ar
     pub is_cell : IsDriverCell board pass d
 
   in_pass : (d : DriverCell) → Has all d → InPass d
-  in_pass d h = by_part (has_append tables.steady (flat_map (λ c. c.drivers) tables.cells) d h)
+  in_pass d h = by_part (has_append steady (flat_map own_cells passes) d h)
     where
-      by_part : Has tables.steady d ⊎ Has (flat_map (λ c. c.drivers) tables.cells) d → InPass d
+      of : (x : ℕ) (pass : List Ctl) → slice_get passes x ≡ Some pass → Has (steady ++ own_cells pass) d → InPass d
+      of x pass e has = record { number = x; pass = pass; is_pass = e; is_cell = ((are.each x pass e).drivers d).0 (has_contains (steady ++ own_cells pass) d has) }
+
+      by_part : Has steady d ⊎ Has (flat_map own_cells passes) d → InPass d
       by_part (inl k) =
-          let pass = some_at passes 0 (are.some d (has_contains tables.steady d k)) in
-          let t = are.each 0 (pass.0) pass.1 in
-          record { number = 0; pass = pass.0; is_pass = pass.1; is_cell = (t.2.drivers d).0 (has_contains (tables.steady ++ (t.0).drivers) d (has_left tables.steady (t.0).drivers d k)) }
+          let pass = some_at passes 0 (are.some d (has_contains steady d k)) in
+          of 0 (pass.0) pass.1 (has_left steady (own_cells (pass.0)) d k)
       by_part (inr k) =
-          let m = flat_map_has (λ (c : PassCells). c.drivers) tables.cells d k in
-          let place = has_place tables.cells (m.0) m.1 in
-          let pass = some_at passes place.0 (omega (arith, slice_get_within tables.cells place.0 (m.0) place.1, are.count)) in
-          let t = are.each place.0 (pass.0) pass.1 in
-          let two : Some (m.0) ≡ Some (t.0) = sym place.1 ∙ t.1 in
-          let same : m.0 ≡ t.0 = cc two in
-          record {
-            number = place.0;
-            pass = pass.0;
-            is_pass = pass.1;
-            is_cell = (t.2.drivers d).0 (has_contains (tables.steady ++ (t.0).drivers) d (has_right tables.steady (t.0).drivers d (subst (λ (c : PassCells). Has c.drivers d) same m.2)));
-          }
+          let m = flat_map_has own_cells passes d k in
+          let place = has_place passes (m.0) m.1 in
+          of (place.0) (m.0) place.1 (has_right steady (own_cells (m.0)) d m.2)
 
   -- and those of each pass are among them
   of_pass : (x : ℕ) (pass : List Ctl) → slice_get passes x ≡ Some pass → (d : DriverCell) → IsDriverCell board pass d → Has all d
-  of_pass x pass e d is =
-      let t = are.each x pass e in
-      by_part (t.0) t.1 (has_append tables.steady (t.0).drivers d (contains_has (tables.steady ++ (t.0).drivers) d ((t.2.drivers d).1 is)))
+  of_pass x pass e d is = by_part (has_append steady (own_cells pass) d (contains_has (steady ++ own_cells pass) d (((are.each x pass e).drivers d).1 is)))
     where
-      by_part : (c : PassCells) → slice_get tables.cells x ≡ Some c → Has tables.steady d ⊎ Has c.drivers d → Has all d
-      by_part c at (inl k) = has_left tables.steady (flat_map (λ c. c.drivers) tables.cells) d k
-      by_part c at (inr k) = has_right tables.steady (flat_map (λ c. c.drivers) tables.cells) d (has_flat_map (λ (y : PassCells). y.drivers) tables.cells c d (has_at tables.cells x c at) k)
+      by_part : Has steady d ⊎ Has (own_cells pass) d → Has all d
+      by_part (inl k) = has_left steady (flat_map own_cells passes) d k
+      by_part (inr k) = has_right steady (flat_map own_cells passes) d (has_flat_map own_cells passes pass d (has_at passes x pass e) k)
 
   module _ (n : ℕ) (net : Net) (is_net : slice_get board.nets n ≡ Some net) where
     within : n < length board.nets
@@ -119,11 +126,11 @@ module _ (board : RawBoard) (passes : List (List Ctl)) (tables : PassTables) (ar
             ∙ ap (λ (k : ℕ). get_or (assigned (λ (c : DriverCell). c.net) (λ c. true) (replicate (length board.nets) false) all) k false) (sym d.2)
             ∙ has_mark (λ (c : DriverCell). c.net) all (replicate (length board.nets) false) (d.0) has (omega (arith, within, d.2, length-replicate (length board.nets) false))
 
-  pub seen_are : seen_in (length board.nets) tables.steady tables.cells ≡ map (is_observed board passes) board.nets
+  pub seen_are : seen ≡ map (is_observed board passes) board.nets
   seen_are =
       ext_get_or false seen (map (is_observed board passes) board.nets)
-      (length-seen_in (length board.nets) tables.steady tables.cells ∙ sym (length-map board.nets (is_observed board passes)))
-      (λ n less. each n (some_at board.nets n (omega (arith, less, length-seen_in (length board.nets) tables.steady tables.cells))))
+      (length-seen_in board (length board.nets) steady table passes ∙ sym (length-map board.nets (is_observed board passes)))
+      (λ n less. each n (some_at board.nets n (omega (arith, less, length-seen_in board (length board.nets) steady table passes))))
     where
       each : (n : ℕ) → ((net : Net) × (slice_get board.nets n ≡ Some net)) → get_or seen n false ≡ get_or (map (is_observed board passes) board.nets) n false
       each n (net, e) =

@@ -13,19 +13,19 @@ use Rattle.board_defs.specs.Settings.{holds}
 use Rattle.board_defs.proofs.Members.{Has, has_at, contains_has, has_contains, has_append, has_left, has_right, has_map, map_has, has_filter, filter_has, has_flat_map}
 use Rattle.scan_planner.specs.declared.tables.HeldCell.{HeldCell}
 use Rattle.scan_planner.specs.declared.tables.DriverCell.{DriverCell}
-use Rattle.scan_planner.specs.declared.tables.PassCells.{PassCells}
+use Rattle.scan_planner.specs.Tables.{PassCells, ArePassCells, held_cell, cells_on, pass_cells_of}
 use Rattle.scan_planner.specs.declared.observers.Observer.{Observer}
 use Rattle.scan_planner.specs.declared.uses.Uses.{Uses}
 use Rattle.scan_planner.specs.inner.Laid.{laid, quiet_bits}
-use Rattle.scan_planner.specs.Tables.{ArePassCells}
 use Rattle.scan_planner.specs.Plans.{controls_some, ArePlannable}
-use Rattle.scan_planner.specs.inner.Building.{held_cell, observers, table_of, cells_on, pass_cells_of}
+use Rattle.scan_planner.specs.inner.Building.{observers, table_of}
 use Rattle.scan_planner.specs.inner.Steady.{held_by, run_at, all_run, HoldsAt, AreRuns, AreUses, is_common, is_steady, steady_cells, moving, ArePassTables}
 use Rattle.scan_planner.proofs.LaidLemmas.{length-laid}
 use Rattle.scan_planner.proofs.AssignLemmas.{assigned_groups, has_mark}
 use Rattle.scan_planner.proofs.DriverTableLemmas.{IsOn, OnBy, cells_has, has_cells}
 use Rattle.scan_planner.proofs.ObserverLemmas.{observer_below, observer_stands, is_cell, cell_is_on}
-use Rattle.scan_planner.proofs.PlanLemmas.{control_cells, held_only, is_held_cell}
+use Rattle.scan_planner.proofs.PlanLemmas.{held_only, is_held_cell}
+use Rattle.scan_planner.proofs.HeldLemmas.{control_cells}
 
 -- runs that go on
 run_goes_on : (passes : List (List HeldCell)) (runs : List ℕ) (k : ℕ) (h : HeldCell) → Has (get_or passes k []) h → AreRuns passes runs → AreRuns passes (run_at k runs h.position)
@@ -204,10 +204,9 @@ module _ (board : RawBoard) (rules : IsBoard board) (quiet : List Bool) (quiet_i
       apart = λ h d has s same. apart h d (contains_has held h has) (steady_cell d s) same;
     }
 
-  pub tables_are : ArePassTables board passes (record { steady = steady_cells uses (length passes) (observers board board.nets); cells = map (pass_cells_of board quiet (table_of (moving uses (length passes) (observers board board.nets)) bits)) passes })
+  pub tables_are : ArePassTables board passes (steady_cells uses (length passes) (observers board board.nets)) (pass_cells_of board quiet (table_of (moving uses (length passes) (observers board board.nets)) bits))
   tables_are = record {
-    count = length-map passes cells_of;
-    each = λ x pass e. (cells_of pass, slice_get-map cells_of passes x ∙ ap (λ (o : Option (List Ctl)). option_map cells_of o) e, pass_cells_are x pass e);
+    each = pass_cells_are;
     some = λ d h. (steady_cell d h).steady.some;
     nets = λ d h. let s = steady_cell d h in subst (λ (c : DriverCell). c.net < length board.nets) s.cell_is (observer_stands board rules s.observer s.is_in).0;
     within = λ d h. let s = steady_cell d h in subst (λ (c : DriverCell). c.position < data_bits board) s.cell_is (observer_stands board rules s.observer s.is_in).1;

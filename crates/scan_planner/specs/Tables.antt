@@ -1,8 +1,10 @@
 -- What a plan keeps of a board: rows that every test of it has, rows that all passes share, and the positions at which those of a pass differ.
-use Rattle.std.specs.Prelude.{◌≡◌, ◌≢◌, ◌↔◌, ℕ, suc, ◌+◌, ◌<◌, Bool, true, false, not, List, ◌++◌, replicate, length, map, drop, sum_by, Some, slice_get, unwrap_or, Contains}
+use Rattle.std.specs.Prelude.{◌≡◌, ◌≢◌, ◌↔◌, ℕ, suc, ◌+◌, ◌<◌, Bool, true, false, not, List, [], ◌++◌, replicate, length, map, drop, sum_by, Some, slice_get, slice_index_or, unwrap_or, Contains}
+use Rattle.std.specs.List.{flat_map}
 use Rattle.bt_bits.specs.Rows.{BitRow}
 use Rattle.board_defs.specs.declared.device.Cell.{Cell}
 use Rattle.board_defs.specs.declared.device.RawDevice.{RawDevice}
+use Rattle.board_defs.specs.declared.board.Part.{Part}
 use Rattle.board_defs.specs.declared.board.PinAt.{PinAt}
 use Rattle.board_defs.specs.declared.board.NetPin.{NetPin}
 use Rattle.board_defs.specs.declared.board.Net.{Net}
@@ -19,13 +21,22 @@ use Rattle.scan_planner.specs.declared.tables.FixedRows.{FixedRows}
 use Rattle.scan_planner.specs.declared.tables.HeldCell.{HeldCell}
 use Rattle.scan_planner.specs.declared.tables.DriverCell.{DriverCell}
 use Rattle.scan_planner.specs.declared.tables.ReaderCell.{ReaderCell}
-use Rattle.scan_planner.specs.declared.tables.PassCells.{PassCells}
+use Rattle.scan_planner.specs.declared.controls.DriverTable.{DriverTable}
 use Rattle.scan_planner.specs.declared.tables.PlanTables.{PlanTables}
 use Rattle.scan_planner.specs.Assigned.{assigned, driver_bit, set_compared}
 
 -- the position of a part's first bit in a scan of data: behind those of the parts after it
 abbrev pub first_position : RawBoard → ℕ → ℕ
 first_position board part = sum_by (λ p. data_length p.kind) (drop (suc part) board.chain)
+
+-- the first position of each part of a chain
+pub record AreFirsts (chain : List Part) (firsts : List ℕ) : Type 0 where
+  pub count : length firsts ≡ length chain
+  pub each : (part : ℕ) → part < length chain → slice_index_or firsts part 0 ≡ sum_by (λ p. data_length p.kind) (drop (part + 1) chain)
+
+-- the position of a control's cell
+abbrev pub control_position : RawBoard → Ctl → ℕ
+control_position board c = first_position board c.part + c.cell
 
 -- the rows of a scan with these bits
 pub record AreRowsOf (bits : List ScanBit) (rows : FixedRows) : Type 0 where
@@ -69,6 +80,23 @@ pub record IsReaderCell (board : RawBoard) (net : Net) (r : ReaderCell) : Type 0
   pub reads : reads_bit at.bit entry ≡ true
   pub position_is : r.position ≡ first_position board at.part + entry.num
 
+-- the cells in which the rows of a pass differ from those that all passes share
+pub record PassCells : Type 0 where
+  pub held : List HeldCell
+  pub drivers : List DriverCell
+
+-- the cell of a control, with the opposite of what it holds in the quiet row
+abbrev pub held_cell : RawBoard → List Bool → Ctl → HeldCell
+held_cell board quiet c = record { position = control_position board c; bit = not (slice_index_or quiet (control_position board c) false) }
+
+-- the driver cells of a pass that holds these
+abbrev pub cells_on : DriverTable → List HeldCell → List DriverCell
+cells_on table held = table.always ++ flat_map (λ h. slice_index_or table.rows h.position []) held
+
+-- the cells of a pass, found by its controls
+abbrev pub pass_cells_of : RawBoard → List Bool → DriverTable → List Ctl → PassCells
+pass_cells_of board quiet table pass = let held : List HeldCell = map (held_cell board quiet) pass in record { held = held; drivers = cells_on table held }
+
 -- the cells of a pass, each in some place: those of its controls, and with the steady cells those of its drivers. No cell of a control is steady
 pub record ArePassCells (board : RawBoard) (steady : List DriverCell) (pass : List Ctl) (cells : PassCells) : Type 0 where
   pub held : (h : HeldCell) → Contains cells.held h ↔ IsHeldCell board pass h
@@ -98,7 +126,8 @@ pub record ArePlanTables (board : RawBoard) (plan : PlanTables) : Type 0 where
   pub preload : AreRowsOf ((instructs (map (λ part. preload_code part.kind) board.chain)).bits) plan.preload
   pub extest : AreRowsOf ((instructs (map (λ part. extest_code part.kind) board.chain)).bits) plan.extest
   pub quiet : plan.quiet.bits ≡ tdi_bits (joined (row_bits board first_row_scan))
-  pub cells : (x : ℕ) (pass : List Ctl) → slice_get plan.passes x ≡ Some pass → (cells : PassCells) × (slice_get plan.cells x ≡ Some cells) × ArePassCells board plan.steady pass cells
+  pub firsts : AreFirsts board.chain plan.firsts
+  pub cells : (x : ℕ) (pass : List Ctl) → slice_get plan.passes x ≡ Some pass → (cells : PassCells) × (cells ≡ pass_cells_of board plan.quiet.bits plan.by_control pass) × ArePassCells board plan.steady pass cells
   pub common : (j : ℕ) → j < plan.width → slice_get plan.common j ≡ Some (common_rows plan.quiet.bits plan.codes plan.readers plan.steady j)
   pub readers : (n : ℕ) (net : Net) → slice_get board.nets n ≡ Some net → (readers : List ReaderCell) × (slice_get plan.readers n ≡ Some readers) × AreReaders board net readers
   pub readers_length : length plan.readers ≡ length board.nets

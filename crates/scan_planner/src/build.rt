@@ -1,6 +1,7 @@
 // Makes the tables of a plan.
 ghost use Rattle.std.specs.Prelude.{◌≡◌, ◌<◌, ◌≤◌, ◌^◌, length, IfOk};
-ghost use Rattle.scan_planner.specs.inner.Building.{AreFirsts, observers};
+ghost use Rattle.scan_planner.specs.Tables.{AreFirsts, pass_cells_of};
+ghost use Rattle.scan_planner.specs.inner.Building.{observers};
 ghost use Rattle.scan_planner.specs.inner.Laid.{laid, quiet_bits};
 ghost use Rattle.scan_planner.specs.Plans.{ArePlannable, IsPlanOf};
 ghost use Rattle.scan_planner.specs.inner.Steady.{ArePassTables};
@@ -12,12 +13,12 @@ use crate::drivers::all_drivers;
 use crate::entries::part_tables;
 use crate::instructions::{Instruction, instruction_rows};
 use crate::observers::{Observer, net_cells};
-use crate::passes::all_cells;
 use crate::quiet::quiet_row;
 use crate::rows::row_of;
 use crate::tables::{PassTables, PlanTables};
 use crate::uses::{moving, steady_cells, uses_of};
 use board_defs::{Board, Items, Setting};
+use bt_bits::Row;
 use counting_codes::width;
 use std::alloc::{AllocError, Global};
 
@@ -26,25 +27,24 @@ fn pass_tables(
     alloc: Global,
     board: &Board,
     firsts: &[u32],
-    quiet: &[bool],
+    quiet: &Row,
     drivers: &[Observer],
     passes: &[Setting],
 ) -> Result<PassTables, AllocError>
     requires firsts { AreFirsts board.now.chain firsts.now }
-    requires quiet { quiet.now ≡ laid (quiet_bits board.now) board.now }
+    requires quiet { quiet.now.bits ≡ laid (quiet_bits board.now) board.now }
     requires drivers { drivers.now ≡ observers board.now board.now.nets }
     requires few { length passes.now < 2 ^ 32 }
     requires plannable { ArePlannable board.now passes.now }
-    ensures { IfOk result (λ tables. ArePassTables board.now passes.now tables) }
+    ensures { IfOk result (λ tables. ArePassTables board.now passes.now tables.steady (pass_cells_of board.now quiet.now.bits tables.by_control)) }
 {
     let _ = board.raw();
     let count = passes.len() as u32;
     let uses = uses_of(alloc, board, firsts, quiet, passes)?;
     let steady = steady_cells(alloc, &uses, count, drivers)?;
     let others = moving(alloc, &uses, count, drivers)?;
-    let table = driver_table(alloc, others.as_slice(), board.dr_bits() as usize)?;
-    let cells = all_cells(alloc, board, firsts, quiet, &table, passes)?;
-    Ok(PassTables { steady, cells })
+    let by_control = driver_table(alloc, others.as_slice(), board.dr_bits() as usize)?;
+    Ok(PassTables { steady, by_control })
 }
 
 /// The tables of the plan of these passes.
@@ -68,15 +68,15 @@ pub fn tables_of(
     let drivers = all_drivers(alloc, board, &parts)?;
     let readers = nets.readers.as_slice();
     let observers = nets.observers.as_slice();
-    let tables = pass_tables(alloc, board, firsts, &bits, observers, passes.as_slice())?;
-    let steady = tables.steady.as_slice();
-    let seen = seen_nets(alloc, readers.len(), steady, tables.cells.as_slice())?;
+    let settings = passes.as_slice();
+    let tables = pass_tables(alloc, board, firsts, &quiet, observers, settings)?;
+    let seen = seen_nets(alloc, board, firsts, readers.len(), &tables, settings)?;
     let codes = number_nets(alloc, &seen)?;
     let width = width(codes.count);
     let common = common_rows(
         alloc,
         &quiet,
-        steady,
+        tables.steady.as_slice(),
         readers,
         codes.codes.as_slice(),
         width,
@@ -92,7 +92,8 @@ pub fn tables_of(
         quiet,
         steady: tables.steady,
         common,
-        cells: tables.cells,
+        firsts: parts.firsts,
+        by_control: tables.by_control,
         readers: nets.readers,
         drivers,
     })

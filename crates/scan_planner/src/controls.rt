@@ -1,11 +1,13 @@
 // The driver cells of each control, so that the cells of a pass are found by its controls.
-ghost use Rattle.std.specs.Prelude.{◌≡◌, ◌++◌, ◌∷◌, [], Some, length, map, filter, is_none, replicate, slice_index_or, IfOk, OnOk};
-ghost use Rattle.std.specs.List.{flat_map};
-ghost use Rattle.scan_planner.specs.inner.Building.{noted_at, all_noted, always_on, table_of, cells_on};
+ghost use Rattle.std.specs.Prelude.{◌≡◌, ◌<◌, ◌++◌, ◌∷◌, [], Some, length, map, filter, is_none, replicate, slice_index_or, IfOk, OnOk};
+ghost use Rattle.board_defs.specs.Pins.{device_at, cell_count};
+ghost use Rattle.scan_planner.specs.Tables.{AreFirsts};
+ghost use Rattle.scan_planner.specs.inner.Building.{noted_at, all_noted, always_on, table_of, controlled};
 
 use crate::observers::Observer;
-use crate::tables::{DriverCell, HeldCell};
-use board_defs::Items;
+use crate::positions::cell_position;
+use crate::tables::DriverCell;
+use board_defs::{Board, Ctl, Items};
 use std::alloc::{AllocError, Global};
 use std::marker::Model;
 
@@ -121,7 +123,8 @@ pub fn driver_table(
     })
 }
 
-fn cells_at(rows: &[ControlCells], control: usize) -> &[DriverCell]
+/// The driver cells of the control whose cell stands at a position; none where no row has it.
+pub fn cells_at(rows: &[ControlCells], control: usize) -> &[DriverCell]
     ensures { result.now ≡ slice_index_or rows.now control [] }
 {
     match rows.get(control) {
@@ -130,30 +133,16 @@ fn cells_at(rows: &[ControlCells], control: usize) -> &[DriverCell]
     }
 }
 
-fn push_controlled(
-    rows: &[ControlCells],
-    held: &[HeldCell],
-    cells: &mut Vec<DriverCell>,
-) -> Result<(), AllocError>
-    ensures { OnOk result (cells.new.items ≡ cells.old.items ++ flat_map (λ h. slice_index_or rows.now h.position []) held.now) }
+/// The driver cells of a control.
+pub fn controlled<'a>(
+    board: &Board,
+    firsts: &[u32],
+    rows: &'a [ControlCells],
+    c: Ctl,
+) -> &'a [DriverCell]
+    requires firsts { AreFirsts board.now.chain firsts.now }
+    requires cell { c.cell < cell_count (device_at board.now c.part) }
+    ensures { result.now ≡ controlled board.now rows.now c }
 {
-    for control in held {
-        cells.extend_from_slice(cells_at(rows, control.position as usize))?;
-    }
-    Ok(())
-}
-
-/// The driver cells of a pass with these controls.
-pub fn cells_on(
-    alloc: Global,
-    table: &DriverTable,
-    held: &[HeldCell],
-) -> Result<Items<DriverCell>, AllocError>
-    ensures { IfOk result (λ cells. cells ≡ cells_on table.now held.now) }
-{
-    let mut cells = table.always.as_slice().to_vec(alloc)?;
-    push_controlled(table.rows.as_slice(), held, &mut cells)?;
-    // These lists are what a plan of many passes is mostly made of.
-    cells.shrink_to_fit();
-    Ok(Items::of(cells))
+    cells_at(rows, cell_position(board, firsts, c.part, c.cell) as usize)
 }

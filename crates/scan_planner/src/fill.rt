@@ -4,11 +4,12 @@ ghost use Rattle.std.specs.List.{list_any};
 ghost use Rattle.board_defs.specs.Pins.{data_bits};
 ghost use Rattle.tap_defs.specs.board.BoardScans.{row_bits};
 ghost use Rattle.tap_defs.specs.chain.Scan.{joined, tdi_bits, tdo_bits, mask_bits};
-ghost use Rattle.scan_planner.specs.Tables.{ArePassCells, common_rows};
+ghost use Rattle.scan_planner.specs.Tables.{common_rows};
 ghost use Rattle.scan_planner.specs.Plans.{IsPlanOf, IsRoom, FillsScan, scan_count, scan_of_pass};
 
-use crate::rows::{compare_nets, has_one, set_drivers, set_held};
-use crate::tables::{FixedRows, PassCells, PlanTables};
+use crate::passes::{compare_controlled, pass_at, set_controlled, set_held};
+use crate::rows::has_one;
+use crate::tables::{FixedRows, PlanTables};
 use board_defs::Board;
 use bt_bits::Row;
 use tap_defs::Shape;
@@ -115,23 +116,6 @@ fn fill_quiet(
     }
 }
 
-fn cells_at(cells: &[PassCells], pass: usize) -> &PassCells
-    requires { pass < length cells.now }
-    ensures { slice_get cells.now pass ≡ Some result.now }
-{
-    &cells[pass]
-}
-
-// The cells of a pass.
-fn pass_cells<'a>(board: &Board, tables: &'a PlanTables, pass: usize) -> &'a PassCells
-    requires plan { IsPlanOf board.now tables.now }
-    requires pass { pass < length tables.now.passes }
-    ensures { ArePassCells board.now tables.now.steady (slice_index_or tables.now.passes pass []) result.now }
-{
-    let _ = board.raw();
-    cells_at(tables.cells.as_slice(), pass)
-}
-
 fn rows_at(common: &[FixedRows], j: usize) -> &FixedRows
     requires { j < length common.now }
     ensures { slice_get common.now j ≡ Some result.now }
@@ -161,10 +145,12 @@ fn fill_code_row(board: &Board, tables: &PlanTables, pass: usize, j: u32, tdi: &
 {
     let _ = board.raw();
     let common = common_row(board, tables, j);
-    let cells = pass_cells(board, tables, pass);
+    let setting = pass_at(tables.passes.as_slice(), pass);
+    let firsts = tables.firsts.as_slice();
+    let codes = tables.codes.as_slice();
     tdi.copy_row(&common.tdi);
-    set_held(cells.held.as_slice(), tdi);
-    set_drivers(cells.drivers.as_slice(), tables.codes.as_slice(), j, tdi);
+    set_held(board, firsts, &tables.quiet, setting, tdi);
+    set_controlled(board, firsts, &tables.by_control, setting, codes, j, tdi);
 }
 
 // Shifts row `j` of a pass in, or the quiet row after the last.
@@ -206,11 +192,14 @@ fn compare_row(
 {
     let _ = board.raw();
     let common = common_row(board, tables, j);
-    let cells = pass_cells(board, tables, pass);
+    let setting = pass_at(tables.passes.as_slice(), pass);
     tdo.copy_row(&common.tdo);
     mask.copy_row(&common.mask);
-    compare_nets(
-        cells.drivers.as_slice(),
+    compare_controlled(
+        board,
+        tables.firsts.as_slice(),
+        &tables.by_control,
+        setting,
         tables.readers.as_slice(),
         tables.codes.as_slice(),
         j,

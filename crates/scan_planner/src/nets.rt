@@ -3,7 +3,7 @@ ghost use Rattle.std.specs.Prelude.{◌≡◌, ◌<◌, ◌≤◌, ◌++◌, len
 ghost use Rattle.board_defs.specs.DeviceRules.{is_receiving};
 ghost use Rattle.board_defs.specs.Pins.{device_at, bit_at, entry_at, cell_count};
 ghost use Rattle.scan_planner.specs.Building.{optional, net_driver, driver_of, drivers_of_pins, drivers_of, reader_of, readers_at, readers_of};
-ghost use Rattle.scan_planner.specs.inner.Building.{AreFirsts};
+ghost use Rattle.scan_planner.specs.Tables.{AreFirsts};
 ghost use Rattle.scan_planner.specs.inner.Entries.{ArePartTables, receives_by};
 
 use crate::entries::PartTables;

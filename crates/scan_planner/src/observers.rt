@@ -2,7 +2,8 @@
 ghost use Rattle.std.specs.Prelude.{◌≡◌, ◌≤◌, ◌++◌, ◌∷◌, [], not, ◌==◌, length, map, filter, option_map, IfOk, OnOk, All};
 ghost use Rattle.std.specs.List.{list_any};
 ghost use Rattle.scan_planner.specs.Building.{is_read_beside, readers_of};
-ghost use Rattle.scan_planner.specs.inner.Building.{AreFirsts, IsControlThere, control_position, observer, observers_of, observers_at, observers};
+ghost use Rattle.scan_planner.specs.Tables.{AreFirsts, control_position};
+ghost use Rattle.scan_planner.specs.inner.Building.{IsControlThere, observer, observers_of, observers_at, observers};
 ghost use Rattle.scan_planner.specs.inner.Entries.{ArePartTables};
 
 use crate::entries::PartTables;

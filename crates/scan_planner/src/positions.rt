@@ -1,8 +1,7 @@
 // Positions in scans of data.
 ghost use Rattle.std.specs.Prelude.{◌≡◌, ◌+◌, ◌<◌, ◌≤◌, length, sum_by, IfOk};
 ghost use Rattle.board_defs.specs.Pins.{data_length, device_at, cell_count};
-ghost use Rattle.scan_planner.specs.Tables.{first_position};
-ghost use Rattle.scan_planner.specs.inner.Building.{AreFirsts};
+ghost use Rattle.scan_planner.specs.Tables.{first_position, AreFirsts};
 
 use board_defs::{Board, Part};
 use std::alloc::{AllocError, Global};

@@ -2,6 +2,7 @@
 ghost use Rattle.std.specs.Prelude.{◌≡◌, ◌<◌, ◌≤◌, [], false, length, slice_index_or};
 
 use crate::nets::NetDriver;
+use crate::passes::pass_at;
 use crate::plan::Plan;
 use crate::tables::ReaderCell;
 use board_defs::{Items, Setting};
@@ -22,13 +23,6 @@ fn readers_at(rows: &[Items<ReaderCell>], net: usize) -> &[ReaderCell]
         None => &[],
         Some(row) => row.as_slice(),
     }
-}
-
-fn pass_at(passes: &[Setting], x: usize) -> &Setting
-    requires { x < length passes.now }
-    ensures { result.now ≡ slice_index_or passes.now x [] }
-{
-    &passes[x]
 }
 
 impl Plan {

@@ -3,7 +3,7 @@ ghost use Rattle.std.specs.Prelude.{◌≡◌, ◌<◌, ◌≤◌, true, length,
 ghost use Rattle.std.specs.List.{list_any};
 ghost use Rattle.scan_planner.specs.Assigned.{assigned, driver_bit, set_readers, set_compared};
 
-use crate::tables::{DriverCell, HeldCell, ReaderCell};
+use crate::tables::{DriverCell, ReaderCell};
 use board_defs::Items;
 use bt_bits::Row;
 use counting_codes::bit;
@@ -40,23 +40,13 @@ pub fn has_one(row: &Row) -> bool
     false
 }
 
-/// Sets the cells of the controls of a pass.
-pub fn set_held(held: &[HeldCell], row: &mut Row)
-    requires { All (λ h. h.position < length row.old.bits) held.now }
-    ensures bits { row.new.bits ≡ assigned (λ h. h.position) (λ h. h.bit) row.old.bits held.now }
-    ensures room { row.new.room ≡ row.old.room }
-{
-    for cell in held {
-        row.set(cell.position, cell.bit);
-    }
-}
-
 /// Sets the cells of drivers to bit `j` of the codes of their nets.
 pub fn set_drivers(drivers: &[DriverCell], codes: &[u32], j: u32, row: &mut Row)
     requires bit { j < 32 }
     requires nets { All (λ d. d.net < length codes.now) drivers.now }
     requires within { All (λ d. d.position < length row.old.bits) drivers.now }
     ensures bits { row.new.bits ≡ assigned (λ d. d.position) (driver_bit codes.now j) row.old.bits drivers.now }
+    ensures same_length { length row.new.bits ≡ length row.old.bits }
     ensures room { row.new.room ≡ row.old.room }
 {
     for cell in drivers {
@@ -97,6 +87,8 @@ pub fn compare_nets(
     requires mask_within { All (λ cells. All (λ r. r.position < length mask.old.bits) cells) readers.now }
     ensures tdo { tdo.new.bits ≡ set_compared (driver_bit codes.now j) readers.now tdo.old.bits drivers.now }
     ensures mask { mask.new.bits ≡ set_compared (λ d. true) readers.now mask.old.bits drivers.now }
+    ensures tdo_length { length tdo.new.bits ≡ length tdo.old.bits }
+    ensures mask_length { length mask.new.bits ≡ length mask.old.bits }
     ensures tdo_kept { tdo.new.room ≡ tdo.old.room }
     ensures mask_kept { mask.new.room ≡ mask.old.room }
 {

@@ -1,4 +1,5 @@
 // What a plan keeps: positions and bits, from which each scan is made.
+use crate::controls::DriverTable;
 use crate::nets::NetDriver;
 use board_defs::{Items, Setting};
 use bt_bits::Row;
@@ -34,22 +35,16 @@ pub struct ReaderCell {
     pub position: u32,
 }
 
-/// The cells in which the rows of a pass differ from those that all passes share.
-#[derive(Debug, Drop)]
-pub struct PassCells {
-    pub held: Items<HeldCell>,
-    pub drivers: Items<DriverCell>,
-}
-
-/// The driver cells that are the same in all passes, and the cells of each pass.
+/// The driver cells that are the same in all passes, and those that a pass has by its controls.
 #[derive(Debug, Drop)]
 pub struct PassTables {
     pub steady: Items<DriverCell>,
-    pub cells: Items<PassCells>,
+    pub by_control: DriverTable,
 }
 
 /// The tables of a plan: the driver cells that are the same in all passes, what all passes have in each row with these
-/// cells set, and the cells of each pass. The codes, the readers and the drivers stand net by net.
+/// cells set, and what finds the cells of a pass by its controls: the position of each part's first bit, and the driver
+/// cells of each control. The codes, the readers and the drivers stand net by net.
 #[derive(Drop)]
 pub struct PlanTables {
     pub passes: Items<Setting>,
@@ -60,7 +55,8 @@ pub struct PlanTables {
     pub quiet: Row,
     pub steady: Items<DriverCell>,
     pub common: Items<FixedRows>,
-    pub cells: Items<PassCells>,
+    pub firsts: Items<u32>,
+    pub by_control: DriverTable,
     pub readers: Items<Items<ReaderCell>>,
     pub drivers: Items<Items<NetDriver>>,
 }

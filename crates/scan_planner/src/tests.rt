@@ -1,10 +1,10 @@
-// Rows of a bus with two drivers and a receiver, by hand, the cells of passes, and codes.
+// Rows of a bus with two drivers and a receiver, by hand, the cells of controls, and codes.
 use crate::Plan;
 use crate::codes::number_nets;
-use crate::controls::{cells_on, driver_table};
+use crate::controls::{cells_at, driver_table};
 use crate::observers::Observer;
-use crate::rows::{compare_nets, has_one, set_drivers, set_held};
-use crate::tables::{DriverCell, HeldCell, ReaderCell};
+use crate::rows::{compare_nets, has_one, set_drivers};
+use crate::tables::{DriverCell, ReaderCell};
 use crate::uses::{Uses, moving, steady_cells};
 use board_defs::Items;
 use bt_bits::Row;
@@ -26,17 +26,13 @@ const QUIET: [bool; 5] = [false, false, true, false, true];
 #[test]
 fn the_enabled_driver_holds_the_code(rt: HostRuntime) -> Result<(), Fail> {
     let mut row = Row::with_room(rt.alloc(), 5)?;
-    let held = [HeldCell {
-        position: 4,
-        bit: false,
-    }];
     let drivers = [DriverCell {
         net: 0,
         place: 0,
         position: 3,
     }];
     row.copy_from(&QUIET);
-    set_held(&held, &mut row);
+    row.set(4, false);
     set_drivers(&drivers, &[1], 0, &mut row);
     for (i, bit) in [false, false, true, true, false].iter().enumerate() {
         assert!(rt; row.get(i as u32) == *bit, "{i}");
@@ -93,7 +89,7 @@ fn driver(net: u32, control: Option<u32>) -> Observer {
 }
 
 #[test]
-fn a_pass_has_the_cells_of_its_controls(rt: HostRuntime) -> Result<(), Fail> {
+fn each_control_has_the_cells_of_its_drivers(rt: HostRuntime) -> Result<(), Fail> {
     let drivers = [
         driver(0, Some(4)),
         driver(1, None),
@@ -101,16 +97,13 @@ fn a_pass_has_the_cells_of_its_controls(rt: HostRuntime) -> Result<(), Fail> {
         driver(3, Some(4)),
     ];
     let table = driver_table(rt.alloc(), &drivers, 6)?;
-    let held = [HeldCell {
-        position: 4,
-        bit: false,
-    }];
-    let cells = cells_on(rt.alloc(), &table, &held)?;
-    let nets = [1, 0, 3];
-    assert_eq!(rt; cells.len(), 3);
-    for (cell, net) in cells.as_slice().iter().zip(nets) {
-        assert_eq!(rt; cell.net, net);
-    }
+    let rows = table.rows.as_slice();
+    assert_eq!(rt; table.always.as_slice(), [drivers[1].cell].as_slice());
+    assert_eq!(rt;
+        cells_at(rows, 4),
+        [drivers[0].cell, drivers[3].cell].as_slice()
+    );
+    assert_eq!(rt; cells_at(rows, 5), [drivers[2].cell].as_slice());
     Ok(())
 }
 

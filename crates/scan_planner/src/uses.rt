@@ -3,7 +3,7 @@ ghost use Rattle.std.specs.Prelude.{◌≡◌, ◌+◌, ◌<◌, ◌^◌, true, 
 ghost use Rattle.board_defs.specs.declared.board.Ctl.{Ctl as ControlRecord};
 ghost use Rattle.board_defs.specs.Pins.{device_at, cell_count, data_bits};
 ghost use Rattle.board_defs.specs.Settings.{holds};
-ghost use Rattle.scan_planner.specs.inner.Building.{AreFirsts};
+ghost use Rattle.scan_planner.specs.Tables.{AreFirsts};
 ghost use Rattle.scan_planner.specs.inner.Steady.{marked_held, all_marked, held_by, run_at, all_run, AreRuns, AreUses, is_common, is_steady, steady_cells, moving};
 
 use crate::observers::Observer;
@@ -11,6 +11,7 @@ use crate::passes::held_cells;
 use crate::rows::mark;
 use crate::tables::{DriverCell, HeldCell};
 use board_defs::{Board, Items, Setting};
+use bt_bits::Row;
 use std::alloc::{AllocError, Global};
 
 /// For each position, whether some pass holds the cell there, and how many passes from the first on all do.
@@ -54,18 +55,18 @@ fn note_passes(
     alloc: Global,
     board: &Board,
     firsts: &[u32],
-    quiet: &[bool],
+    quiet: &Row,
     passes: &[Setting],
     held: &mut [bool],
     runs: &mut [u32],
 ) -> Result<(), AllocError>
     requires firsts { AreFirsts board.now.chain firsts.now }
-    requires quiet { length quiet.now ≡ data_bits board.now }
+    requires quiet { length quiet.now.bits ≡ data_bits board.now }
     requires few { length passes.now < 2 ^ 32 }
     requires cells { All (λ pass. (c : ControlRecord) → holds pass c ≡ true → c.cell < cell_count (device_at board.now c.part)) passes.now }
-    requires runs { AreRuns (held_by board.now quiet.now passes.now) runs.old }
-    ensures held { OnOk result (held.new ≡ all_marked board.now quiet.now held.old passes.now) }
-    ensures runs { OnOk result (AreRuns (held_by board.now quiet.now passes.now) runs.new) }
+    requires runs { AreRuns (held_by board.now quiet.now.bits passes.now) runs.old }
+    ensures held { OnOk result (held.new ≡ all_marked board.now quiet.now.bits held.old passes.now) }
+    ensures runs { OnOk result (AreRuns (held_by board.now quiet.now.bits passes.now) runs.new) }
 {
     for k in 0..passes.len() {
         let cells = held_cells(alloc, board, firsts, quiet, &passes[k])?;
@@ -80,17 +81,18 @@ pub fn uses_of(
     alloc: Global,
     board: &Board,
     firsts: &[u32],
-    quiet: &[bool],
+    quiet: &Row,
     passes: &[Setting],
 ) -> Result<Uses, AllocError>
     requires firsts { AreFirsts board.now.chain firsts.now }
-    requires quiet { length quiet.now ≡ data_bits board.now }
+    requires quiet { length quiet.now.bits ≡ data_bits board.now }
     requires few { length passes.now < 2 ^ 32 }
     requires cells { All (λ pass. (c : ControlRecord) → holds pass c ≡ true → c.cell < cell_count (device_at board.now c.part)) passes.now }
-    ensures { IfOk result (λ uses. AreUses board.now quiet.now passes.now uses) }
+    ensures { IfOk result (λ uses. AreUses board.now quiet.now.bits passes.now uses) }
 {
-    let mut held = vec![in alloc; false; quiet.len()]?;
-    let mut runs = vec![in alloc; 0u32; quiet.len()]?;
+    let bits = quiet.len() as usize;
+    let mut held = vec![in alloc; false; bits]?;
+    let mut runs = vec![in alloc; 0u32; bits]?;
     note_passes(alloc, board, firsts, quiet, passes, &mut held, &mut runs)?;
     Ok(Uses {
         held: Items::of(held),

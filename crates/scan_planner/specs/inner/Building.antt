@@ -1,25 +1,17 @@
 -- What serves the proofs alone. How the tables of a plan are made, item by item.
-use Rattle.std.specs.Prelude.{◌≡◌, ℕ, ◌+◌, ◌<◌, Bool, false, not, List, [], ◌∷◌, ◌++◌, length, map, filter, fold, drop, sum_by, Option, Some, None, option_map, is_none, replicate, slice_index_or, slice_set}
-use Rattle.std.specs.List.{flat_map}
-use Rattle.board_defs.specs.declared.board.Part.{Part}
+use Rattle.std.specs.Prelude.{◌≡◌, ℕ, ◌<◌, true, All, List, [], ◌∷◌, ◌++◌, map, filter, fold, Option, Some, None, option_map, is_none, replicate, slice_index_or, slice_set}
 use Rattle.board_defs.specs.declared.board.Net.{Net}
 use Rattle.board_defs.specs.declared.board.RawBoard.{RawBoard}
 use Rattle.board_defs.specs.declared.board.Ctl.{Ctl}
-use Rattle.board_defs.specs.Pins.{data_length, device_at, cell_count}
-use Rattle.scan_planner.specs.declared.tables.HeldCell.{HeldCell}
+use Rattle.board_defs.specs.Pins.{device_at, cell_count}
+use Rattle.board_defs.specs.Settings.{holds}
 use Rattle.scan_planner.specs.declared.tables.DriverCell.{DriverCell}
 use Rattle.scan_planner.specs.declared.tables.ReaderCell.{ReaderCell}
-use Rattle.scan_planner.specs.declared.tables.PassCells.{PassCells}
 use Rattle.scan_planner.specs.declared.nets.NetDriver.{NetDriver}
 use Rattle.scan_planner.specs.declared.observers.Observer.{Observer}
 use Rattle.scan_planner.specs.declared.controls.DriverTable.{DriverTable}
-use Rattle.scan_planner.specs.Tables.{first_position}
+use Rattle.scan_planner.specs.Tables.{control_position}
 use Rattle.scan_planner.specs.Building.{gathered, drivers_of, readers_of, is_read_beside}
-
--- the first position of each part of a chain
-pub record AreFirsts (chain : List Part) (firsts : List ℕ) : Type 0 where
-  pub count : length firsts ≡ length chain
-  pub each : (part : ℕ) → part < length chain → slice_index_or firsts part 0 ≡ sum_by (λ p. data_length p.kind) (drop (part + 1) chain)
 
 -- the driver as one of a net
 abbrev pub driver_cell : ℕ → NetDriver → DriverCell
@@ -28,10 +20,6 @@ driver_cell net d = record { net = net; place = d.place; position = d.position }
 -- a control's cell is one of its part
 abbrev pub IsControlThere : RawBoard → Option Ctl → Type 0
 IsControlThere board ctl = (c : Ctl) → ctl ≡ Some c → c.cell < cell_count (device_at board c.part)
-
--- its position
-abbrev pub control_position : RawBoard → Ctl → ℕ
-control_position board c = first_position board c.part + c.cell
 
 -- the driver as one by which its net can be observed
 abbrev pub observer : RawBoard → ℕ → NetDriver → Observer
@@ -64,14 +52,11 @@ all_noted rows observers = fold (λ done x. noted_at done x.control x.cell) rows
 abbrev pub table_of : List Observer → ℕ → DriverTable
 table_of observers bits = record { always = always_on observers; rows = all_noted (replicate bits []) observers }
 
--- the driver cells of a pass that holds these
-abbrev pub cells_on : DriverTable → List HeldCell → List DriverCell
-cells_on table held = table.always ++ flat_map (λ h. slice_index_or table.rows h.position []) held
+-- the driver cells of a control
+abbrev pub controlled : RawBoard → List (List DriverCell) → Ctl → List DriverCell
+controlled board rows c = slice_index_or rows (control_position board c) []
 
--- the cell of a control, with the opposite of what it holds in the quiet row
-abbrev pub held_cell : RawBoard → List Bool → Ctl → HeldCell
-held_cell board quiet c = record { position = first_position board c.part + c.cell; bit = not (slice_index_or quiet (first_position board c.part + c.cell) false) }
-
--- the cells of a pass
-abbrev pub pass_cells_of : RawBoard → List Bool → DriverTable → List Ctl → PassCells
-pass_cells_of board quiet table pass = let held : List HeldCell = map (held_cell board quiet) pass in record { held = held; drivers = cells_on table held }
+-- what holds of each driver cell that a pass has by its controls
+pub record AreDrivers (board : RawBoard) (table : DriverTable) (pass : List Ctl) (P : DriverCell → Type 0) : Type 0 where
+  pub always : All P table.always
+  pub by_control : (c : Ctl) → holds pass c ≡ true → All P (controlled board table.rows c)

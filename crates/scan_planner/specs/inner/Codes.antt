@@ -2,12 +2,15 @@
 use Rattle.std.specs.Prelude.{◌≡◌, ℕ, suc, ◌-◌, ◌<◌, ◌≤◌, Bool, true, false, cond, List, ◌∷◌, All, length, fold, replicate, take, count_by, slice_index_or}
 use Rattle.board_defs.specs.declared.board.PartKind.{PartKind}
 use Rattle.board_defs.specs.declared.board.Part.{Part}
+use Rattle.board_defs.specs.declared.board.RawBoard.{RawBoard}
+use Rattle.board_defs.specs.declared.board.Ctl.{Ctl}
 use Rattle.board_defs.specs.Pins.{instruction_length}
 use Rattle.tap_defs.specs.board.BoardScans.{preload_code, extest_code}
 use Rattle.scan_planner.specs.declared.codes.NetCodes.{NetCodes}
 use Rattle.scan_planner.specs.declared.tables.DriverCell.{DriverCell}
-use Rattle.scan_planner.specs.declared.tables.PassCells.{PassCells}
+use Rattle.scan_planner.specs.declared.controls.DriverTable.{DriverTable}
 use Rattle.scan_planner.specs.Assigned.{assigned}
+use Rattle.scan_planner.specs.inner.Building.{controlled}
 use Rattle.scan_planner.specs.declared.instructions.Instruction.{Instruction}
 use Rattle.scan_planner.specs.declared.instructions.Instruction.TheVariants.{Preload, Extest}
 
@@ -35,9 +38,13 @@ compared_bits length = true ∷ true ∷ replicate (length - 2) false
 abbrev pub marked : List Bool → List DriverCell → List Bool
 marked flags cells = assigned (λ d. d.net) (λ d. true) flags cells
 
+-- the flags of the nets of a pass's cells set
+abbrev pub marked_on : RawBoard → DriverTable → List Bool → List Ctl → List Bool
+marked_on board table flags pass = fold (λ done c. marked done (controlled board table.rows c)) (marked flags table.always) pass
+
 -- which of so many nets have a cell among the steady ones or those of some pass
-abbrev pub seen_in : ℕ → List DriverCell → List PassCells → List Bool
-seen_in nets steady passes = fold (λ done cells. marked done cells.drivers) (marked (replicate nets false) steady) passes
+abbrev pub seen_in : RawBoard → ℕ → List DriverCell → DriverTable → List (List Ctl) → List Bool
+seen_in board nets steady table passes = fold (marked_on board table) (marked (replicate nets false) steady) passes
 
 -- the nets that are observed are numbered from 1, and the others have 0
 pub record AreCodes (seen : List Bool) (codes : NetCodes) : Type 0 where

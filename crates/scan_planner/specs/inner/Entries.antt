@@ -4,7 +4,7 @@ use Rattle.board_defs.specs.declared.device.PortBit.{PortBit}
 use Rattle.board_defs.specs.declared.board.RawBoard.{RawBoard}
 use Rattle.board_defs.specs.DeviceRules.{may_receive}
 use Rattle.port_entries.specs.Entries.{AreEntries}
-use Rattle.scan_planner.specs.inner.Building.{AreFirsts}
+use Rattle.scan_planner.specs.Tables.{AreFirsts}
 use Rattle.scan_planner.specs.declared.entries.PartTables.{PartTables}
 
 -- the first position and the entries of each part

@@ -5,13 +5,10 @@ use Rattle.board_defs.specs.declared.board.Ctl.{Ctl}
 use Rattle.board_defs.specs.Pins.{data_bits}
 use Rattle.scan_planner.specs.declared.tables.HeldCell.{HeldCell}
 use Rattle.scan_planner.specs.declared.tables.DriverCell.{DriverCell}
-use Rattle.scan_planner.specs.declared.tables.PassCells.{PassCells}
-use Rattle.scan_planner.specs.declared.tables.PassTables.{PassTables}
 use Rattle.scan_planner.specs.declared.observers.Observer.{Observer}
 use Rattle.scan_planner.specs.declared.uses.Uses.{Uses}
 use Rattle.scan_planner.specs.Assigned.{assigned}
-use Rattle.scan_planner.specs.Tables.{ArePassCells}
-use Rattle.scan_planner.specs.inner.Building.{held_cell}
+use Rattle.scan_planner.specs.Tables.{PassCells, held_cell, ArePassCells}
 
 -- the flags of these cells set
 abbrev pub marked_held : List Bool → List HeldCell → List Bool
@@ -62,9 +59,8 @@ abbrev pub moving : Uses → ℕ → List Observer → List Observer
 moving uses passes observers = filter (λ x. not (is_steady uses passes x)) observers
 
 -- the cells of passes: those of each pass, and steady cells that stand in the nets and the rows of the board; without a pass no cell is steady
-pub record ArePassTables (board : RawBoard) (passes : List (List Ctl)) (tables : PassTables) : Type 0 where
-  pub count : length tables.cells ≡ length passes
-  pub each : (x : ℕ) (pass : List Ctl) → slice_get passes x ≡ Some pass → (cells : PassCells) × (slice_get tables.cells x ≡ Some cells) × ArePassCells board tables.steady pass cells
-  pub some : (d : DriverCell) → Contains tables.steady d → 0 < length passes
-  pub nets : (d : DriverCell) → Contains tables.steady d → d.net < length board.nets
-  pub within : (d : DriverCell) → Contains tables.steady d → d.position < data_bits board
+pub record ArePassTables (board : RawBoard) (passes : List (List Ctl)) (steady : List DriverCell) (cells : List Ctl → PassCells) : Type 0 where
+  pub each : (x : ℕ) (pass : List Ctl) → slice_get passes x ≡ Some pass → ArePassCells board steady pass (cells pass)
+  pub some : (d : DriverCell) → Contains steady d → 0 < length passes
+  pub nets : (d : DriverCell) → Contains steady d → d.net < length board.nets
+  pub within : (d : DriverCell) → Contains steady d → d.position < data_bits board

@@ -1,33 +1,39 @@
-use Rattle.std.proofs.Common.{◌≡◌, ◌<◌, ℕ, List, Bool, length, map, refl, sym, ap, ◌∙◌, subst, arith}
+use Rattle.std.proofs.Common.{◌≡◌, ◌<◌, ℕ, List, Bool, length, map, get_or, refl, sym, ap, ◌∙◌, subst, arith}
 use Rattle.std.proofs.lemmas.List.{length-map}
+use Rattle.std.proofs.lemmas.Option.{slice_get-get_or}
 use Rattle.board_defs.specs.declared.board.Ctl.{Ctl}
 use Rattle.board_defs.specs.declared.board.Net.{Net}
 use Rattle.board_defs.proofs.Members.{has_contains}
 use Rattle.tap_defs.specs.chain.ShiftRegister.{filled}
 use Rattle.scan_planner.specs.declared.tables.DriverCell.{DriverCell}
-use Rattle.scan_planner.specs.declared.tables.PassCells.{PassCells}
+use Rattle.scan_planner.specs.Tables.{common_rows, pass_cells_of}
 use Rattle.scan_planner.specs.declared.tables.ReaderCell.{ReaderCell}
 use Rattle.scan_planner.specs.inner.Laid.{quiet_bits}
 use Rattle.scan_planner.specs.Building.{readers_of}
-use Rattle.scan_planner.specs.Tables.{common_rows}
 use Rattle.scan_planner.specs.inner.Codes.{seen_in}
 use Rattle.scan_planner.specs.inner.Steady.{ArePassTables}
 use Rattle.scan_planner.proofs.LaidLemmas.{length-laid}
+use Rattle.scan_planner.proofs.HeldLemmas.{control_cells}
 use Rattle.scan_planner.proofs.FillLemmas.{all_has, readers_below}
 use Rattle.scan_planner.proofs.ReaderLemmas.{ReadersOf}
 use Rattle.scan_planner.proofs.PlanLemmas.{is_plan, width_most, readers_are, seen_most, count_most}
 use Rattle.scan_planner.proofs.build.tables_of.Goals as goal
 
+pub seen_nets-requires-clause-cells : goal.seen_nets-requires-clause-cells
+seen_nets-requires-clause-cells c =
+    rw c.as_slice-settings.ensures (λ k d less x on.
+    control_cells c.args.board.now c.raw.ensures.rules x (c.requires.plannable.controls k (get_or c.args.passes k d) x (slice_get-get_or c.args.passes k d less) on))
+
 pub number_nets-requires : goal.number_nets-requires
 number_nets-requires c =
-    (seen_most c.args.board.now c.raw.ensures.rules c.as_slice-readers.result.now c.as_slice-steady.result.now c.as_slice-2.result.now c.deref-3.result.now
-    (c.as_slice-readers.ensures ∙ c.in_ok-nets.ensures.readers) (c.deref-3.ensures.value ∙ c.in_ok-seen.ensures)).1
+    (seen_most c.args.board.now c.raw.ensures.rules c.as_slice-readers.result.now c.in_ok-tables.tables c.as_slice-settings.result.now c.deref-2.result.now
+    (c.as_slice-readers.ensures ∙ c.in_ok-nets.ensures.readers) (c.deref-2.ensures.value ∙ c.in_ok-seen.ensures)).1
 
 pub width-width-requires : goal.width-width-requires
 width-width-requires c =
-    count_most c.deref-3.result.now c.in_ok-codes.codes c.in_ok-codes.ensures
-    (seen_most c.args.board.now c.raw.ensures.rules c.as_slice-readers.result.now c.as_slice-steady.result.now c.as_slice-2.result.now c.deref-3.result.now
-    (c.as_slice-readers.ensures ∙ c.in_ok-nets.ensures.readers) (c.deref-3.ensures.value ∙ c.in_ok-seen.ensures)).1
+    count_most c.deref-2.result.now c.in_ok-codes.codes c.in_ok-codes.ensures
+    (seen_most c.args.board.now c.raw.ensures.rules c.as_slice-readers.result.now c.in_ok-tables.tables c.as_slice-settings.result.now c.deref-2.result.now
+    (c.as_slice-readers.ensures ∙ c.in_ok-nets.ensures.readers) (c.deref-2.ensures.value ∙ c.in_ok-seen.ensures)).1
 
 pub row_of-requires : goal.row_of-requires
 row_of-requires c =
@@ -40,25 +46,25 @@ common_rows-requires-clause-few c =
 pub common_rows-requires-clause-width : goal.common_rows-requires-clause-width
 common_rows-requires-clause-width c =
     width_most c.in_ok-codes.codes.count c.width-width.result
-    (count_most c.deref-3.result.now c.in_ok-codes.codes c.in_ok-codes.ensures
-    (seen_most c.args.board.now c.raw.ensures.rules c.as_slice-readers.result.now c.as_slice-steady.result.now c.as_slice-2.result.now c.deref-3.result.now
-    (c.as_slice-readers.ensures ∙ c.in_ok-nets.ensures.readers) (c.deref-3.ensures.value ∙ c.in_ok-seen.ensures)).1) c.width-width.ensures.least
+    (count_most c.deref-2.result.now c.in_ok-codes.codes c.in_ok-codes.ensures
+    (seen_most c.args.board.now c.raw.ensures.rules c.as_slice-readers.result.now c.in_ok-tables.tables c.as_slice-settings.result.now c.deref-2.result.now
+    (c.as_slice-readers.ensures ∙ c.in_ok-nets.ensures.readers) (c.deref-2.ensures.value ∙ c.in_ok-seen.ensures)).1) c.width-width.ensures.least
 
 pub common_rows-requires-clause-codes : goal.common_rows-requires-clause-codes
 common_rows-requires-clause-codes c =
-    rw c.as_slice-steady.ensures (all_has (λ (d : DriverCell). d.net < length c.as_slice-3.result.now) c.in_ok-tables.tables.steady (λ d has.
+    rw c.as_slice.ensures (all_has (λ (d : DriverCell). d.net < length c.as_slice-2.result.now) c.in_ok-tables.tables.steady (λ d has.
     omega (
       arith,
       c.in_ok-tables.ensures.nets d (has_contains c.in_ok-tables.tables.steady d has),
-      ap (λ l. length l) c.as_slice-3.ensures,
+      ap (λ l. length l) c.as_slice-2.ensures,
       c.in_ok-codes.ensures.length_is,
-      (seen_most c.args.board.now c.raw.ensures.rules c.as_slice-readers.result.now c.as_slice-steady.result.now c.as_slice-2.result.now c.deref-3.result.now
-          (c.as_slice-readers.ensures ∙ c.in_ok-nets.ensures.readers) (c.deref-3.ensures.value ∙ c.in_ok-seen.ensures)).0,
+      (seen_most c.args.board.now c.raw.ensures.rules c.as_slice-readers.result.now c.in_ok-tables.tables c.as_slice-settings.result.now c.deref-2.result.now
+          (c.as_slice-readers.ensures ∙ c.in_ok-nets.ensures.readers) (c.deref-2.ensures.value ∙ c.in_ok-seen.ensures)).0,
     )))
 
 pub common_rows-requires-clause-nets : goal.common_rows-requires-clause-nets
 common_rows-requires-clause-nets c =
-    rw c.as_slice-steady.ensures (all_has (λ (d : DriverCell). d.net < length c.as_slice-readers.result.now) c.in_ok-tables.tables.steady (λ d has.
+    rw c.as_slice.ensures (all_has (λ (d : DriverCell). d.net < length c.as_slice-readers.result.now) c.in_ok-tables.tables.steady (λ d has.
     omega (
       arith,
       c.in_ok-tables.ensures.nets d (has_contains c.in_ok-tables.tables.steady d has),
@@ -68,7 +74,7 @@ common_rows-requires-clause-nets c =
 
 pub common_rows-requires-clause-within : goal.common_rows-requires-clause-within
 common_rows-requires-clause-within c =
-    rw c.as_slice-steady.ensures (all_has (λ (d : DriverCell). d.position < length c.in_ok-quiet.quiet.bits) c.in_ok-tables.tables.steady (λ d has.
+    rw c.as_slice.ensures (all_has (λ (d : DriverCell). d.position < length c.in_ok-quiet.quiet.bits) c.in_ok-tables.tables.steady (λ d has.
     omega (
       arith,
       c.in_ok-tables.ensures.within d (has_contains c.in_ok-tables.tables.steady d has),
@@ -95,28 +101,27 @@ returns-clause-plan c =
     let width = c.width-width.result in
     let codes = c.in_ok-codes.codes.codes in
     let steady = c.in_ok-tables.tables.steady in
-    let steady_now = c.as_slice-steady.result.now in
-    let cells_now = c.as_slice-2.result.now in
+    let steady_now = c.as_slice.result.now in
     let readers_now = c.as_slice-readers.result.now in
-    let n : ℕ = length board.nets in
-    is_plan board c.raw.ensures.rules _ c.requires.plannable (c.in_ok-quiet.ensures ∙ c.deref.ensures.value ∙ c.in_ok-bits.ensures) c.in_ok-nets.ensures.readers c.in_ok-drivers.ensures
-    (subst (λ (p : List (List Ctl)). ArePassTables board p c.in_ok-tables.tables) c.as_slice.ensures c.in_ok-tables.ensures)
-    c.deref-3.result.now
-    (c.deref-3.ensures.value ∙ c.in_ok-seen.ensures
-    ∙ ap (λ (r : List (List ReaderCell)). seen_in (length r) steady_now cells_now) (c.as_slice-readers.ensures ∙ c.in_ok-nets.ensures.readers)
-    ∙ ap (λ (k : ℕ). seen_in k steady_now cells_now) (length-map board.nets (λ (net : Net). readers_of board net.pins))
-    ∙ ap (λ (s : List DriverCell). seen_in n s cells_now) c.as_slice-steady.ensures
-    ∙ ap (λ (l : List PassCells). seen_in n steady l) c.as_slice-2.ensures)
+    let table = c.in_ok-tables.tables.by_control in
+    let passes_now = c.as_slice-settings.result.now in
+    is_plan board c.raw.ensures.rules _ c.requires.plannable (c.in_ok-quiet.ensures ∙ c.deref.ensures.value ∙ c.in_ok-bits.ensures) c.in_ok-nets.ensures.readers c.in_ok-drivers.ensures c.in_ok-parts.ensures.firsts
+    (subst (λ (p : List (List Ctl)). ArePassTables board p steady (pass_cells_of board quiet table)) c.as_slice-settings.ensures c.in_ok-tables.ensures)
+    c.deref-2.result.now
+    (c.deref-2.ensures.value ∙ c.in_ok-seen.ensures
+    ∙ ap (λ (r : List (List ReaderCell)). seen_in board (length r) steady table passes_now) (c.as_slice-readers.ensures ∙ c.in_ok-nets.ensures.readers)
+    ∙ ap (λ (k : ℕ). seen_in board k steady table passes_now) (length-map board.nets (λ (net : Net). readers_of board net.pins))
+    ∙ ap (λ (p : List (List Ctl)). seen_in board (length board.nets) steady table p) c.as_slice-settings.ensures)
     c.in_ok-codes.codes c.in_ok-codes.ensures refl c.width-width.ensures.enough c.width-width.ensures.least
     (c.in_ok-common.ensures
-    ∙ ap (λ (k : List ℕ). filled width (common_rows quiet k readers_now steady_now)) c.as_slice-3.ensures
+    ∙ ap (λ (k : List ℕ). filled width (common_rows quiet k readers_now steady_now)) c.as_slice-2.ensures
     ∙ ap (λ (r : List (List ReaderCell)). filled width (common_rows quiet codes r steady_now)) c.as_slice-readers.ensures
-    ∙ ap (λ (s : List DriverCell). filled width (common_rows quiet codes c.in_ok-nets.nets.readers s)) c.as_slice-steady.ensures)
+    ∙ ap (λ (s : List DriverCell). filled width (common_rows quiet codes c.in_ok-nets.nets.readers s)) c.as_slice.ensures)
     c.in_ok-preload.ensures c.in_ok-extest.ensures
 
 pub returns-clause-width : goal.returns-clause-width
 returns-clause-width c =
     width_most c.in_ok-codes.codes.count c.width-width.result
-    (count_most c.deref-3.result.now c.in_ok-codes.codes c.in_ok-codes.ensures
-    (seen_most c.args.board.now c.raw.ensures.rules c.as_slice-readers.result.now c.as_slice-steady.result.now c.as_slice-2.result.now c.deref-3.result.now
-    (c.as_slice-readers.ensures ∙ c.in_ok-nets.ensures.readers) (c.deref-3.ensures.value ∙ c.in_ok-seen.ensures)).1) c.width-width.ensures.least
+    (count_most c.deref-2.result.now c.in_ok-codes.codes c.in_ok-codes.ensures
+    (seen_most c.args.board.now c.raw.ensures.rules c.as_slice-readers.result.now c.in_ok-tables.tables c.as_slice-settings.result.now c.deref-2.result.now
+    (c.as_slice-readers.ensures ∙ c.in_ok-nets.ensures.readers) (c.deref-2.ensures.value ∙ c.in_ok-seen.ensures)).1) c.width-width.ensures.least

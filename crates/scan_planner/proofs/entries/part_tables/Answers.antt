@@ -1,7 +1,7 @@
 use Rattle.std.proofs.Common.{ℕ, List, sym, subst}
 use Rattle.board_defs.specs.declared.board.RawBoard.{RawBoard}
 use Rattle.port_entries.specs.Entries.{AreEntries}
-use Rattle.scan_planner.specs.inner.Building.{AreFirsts}
+use Rattle.scan_planner.specs.Tables.{AreFirsts}
 use Rattle.scan_planner.proofs.entries.part_tables.Goals as goal
 
 pub returns : goal.returns

@@ -1,9 +1,12 @@
-use Rattle.std.proofs.Common.{suc, length, ap, ◌∙◌, true, refl, arith}
+use Rattle.std.proofs.Common.{◌≡◌, Bool, List, ℕ, [], suc, fold, length, get_or, ap, ◌∙◌, true, refl, arith}
+use Rattle.board_defs.specs.declared.board.Ctl.{Ctl}
 use Rattle.scan_planner.specs.declared.tables.FixedRows.{FixedRows}
 use Rattle.scan_planner.specs.declared.tables.DriverCell.{DriverCell}
+use Rattle.scan_planner.specs.declared.tables.ReaderCell.{ReaderCell}
 use Rattle.scan_planner.specs.Assigned.{set_compared, driver_bit}
 use Rattle.scan_planner.specs.Plans.{scan_of_pass}
-use Rattle.scan_planner.proofs.FillLemmas.{compared_length, drivers_on_nets, readers_within, tdo_is, mask_is}
+use Rattle.scan_planner.specs.inner.Building.{controlled}
+use Rattle.scan_planner.proofs.FillLemmas.{compared_length, drivers_on_nets, controls_there, readers_within, tdo_is, mask_is}
 use Rattle.scan_planner.proofs.fill.compare_row.Goals as goal
 
 pub copy_row-requires : goal.copy_row-requires
@@ -24,29 +27,28 @@ copy_row-requires-2 c =
       c.requires.mask_room,
     )
 
-pub compare_nets-requires-clause-codes : goal.compare_nets-requires-clause-codes
-compare_nets-requires-clause-codes c =
-    rw c.as_slice.ensures (λ k d less.
-    omega (
-      arith,
-      drivers_on_nets c.args.board.now c.raw.ensures.rules c.args.tables.now c.requires.plan c.args.pass c.requires.pass c.pass_cells-cells.result.now c.pass_cells-cells.ensures k d less,
-      c.requires.plan.codes_length,
-      ap (λ l. length l) c.as_slice-3.ensures,
-    ))
+pub compare_controlled-requires-clause-cells : goal.compare_controlled-requires-clause-cells
+compare_controlled-requires-clause-cells c =
+    controls_there c.args.board.now c.raw.ensures.rules c.args.tables.now c.requires.plan c.args.pass c.requires.pass c.pass_at-setting.result.now
+    (c.pass_at-setting.ensures ∙ ap (λ (l : List (List Ctl)). get_or l c.args.pass []) c.as_slice.ensures)
 
-pub compare_nets-requires-clause-nets : goal.compare_nets-requires-clause-nets
-compare_nets-requires-clause-nets c =
-    rw c.as_slice.ensures (λ k d less.
-    omega (
-      arith,
-      drivers_on_nets c.args.board.now c.raw.ensures.rules c.args.tables.now c.requires.plan c.args.pass c.requires.pass c.pass_cells-cells.result.now c.pass_cells-cells.ensures k d less,
-      c.requires.plan.tables.readers_length,
-      ap (λ l. length l) c.as_slice-2.ensures,
-    ))
+pub compare_controlled-requires-clause-codes : goal.compare_controlled-requires-clause-codes
+compare_controlled-requires-clause-codes c =
+    drivers_on_nets c.args.board.now c.raw.ensures.rules c.args.tables.now c.requires.plan c.args.pass c.requires.pass c.pass_at-setting.result.now
+    (c.pass_at-setting.ensures ∙ ap (λ (l : List (List Ctl)). get_or l c.args.pass []) c.as_slice.ensures)
+    (length c.as_slice-4.result.now)
+    (ap (λ (l : List ℕ). length l) c.as_slice-4.ensures ∙ c.requires.plan.codes_length)
 
-pub compare_nets-requires-clause-tdo_within : goal.compare_nets-requires-clause-tdo_within
-compare_nets-requires-clause-tdo_within c =
-    rw c.as_slice-2.ensures (λ k d less i r within.
+pub compare_controlled-requires-clause-nets : goal.compare_controlled-requires-clause-nets
+compare_controlled-requires-clause-nets c =
+    drivers_on_nets c.args.board.now c.raw.ensures.rules c.args.tables.now c.requires.plan c.args.pass c.requires.pass c.pass_at-setting.result.now
+    (c.pass_at-setting.ensures ∙ ap (λ (l : List (List Ctl)). get_or l c.args.pass []) c.as_slice.ensures)
+    (length c.as_slice-3.result.now)
+    (ap (λ (l : List (List ReaderCell)). length l) c.as_slice-3.ensures ∙ c.requires.plan.tables.readers_length)
+
+pub compare_controlled-requires-clause-tdo_within : goal.compare_controlled-requires-clause-tdo_within
+compare_controlled-requires-clause-tdo_within c =
+    rw c.as_slice-3.ensures (λ k d less i r within.
     omega (
       arith,
       readers_within c.args.board.now c.raw.ensures.rules c.args.tables.now c.requires.plan k d less i r within,
@@ -55,9 +57,9 @@ compare_nets-requires-clause-tdo_within c =
       compared_length c.args.board.now c.raw.ensures.rules c.args.tables.now c.requires.plan (driver_bit c.args.tables.now.codes c.args.j),
     ))
 
-pub compare_nets-requires-clause-mask_within : goal.compare_nets-requires-clause-mask_within
-compare_nets-requires-clause-mask_within c =
-    rw c.as_slice-2.ensures (λ k d less i r within.
+pub compare_controlled-requires-clause-mask_within : goal.compare_controlled-requires-clause-mask_within
+compare_controlled-requires-clause-mask_within c =
+    rw c.as_slice-3.ensures (λ k d less i r within.
     omega (
       arith,
       readers_within c.args.board.now c.raw.ensures.rules c.args.tables.now c.requires.plan k d less i r within,
@@ -72,13 +74,15 @@ returns-clause-tdo c =
     let plan = c.args.tables.now in
     let x = c.args.pass in
     let j = c.args.j in
-    let cells = c.pass_cells-cells.result.now in
-    c.compare_nets.ensures.tdo
-    ∙ ap (λ codes. set_compared (driver_bit codes j) c.as_slice-2.result.now c.copy_row.new.self.bits c.as_slice.result.now) c.as_slice-3.ensures
-    ∙ ap (λ readers. set_compared (driver_bit plan.codes j) readers c.copy_row.new.self.bits c.as_slice.result.now) c.as_slice-2.ensures
-    ∙ ap (λ drivers. set_compared (driver_bit plan.codes j) plan.readers c.copy_row.new.self.bits drivers) c.as_slice.ensures
-    ∙ ap (λ bits. set_compared (driver_bit plan.codes j) plan.readers bits cells.drivers) (c.copy_row.ensures.bits ∙ ap (λ (r : FixedRows). r.tdo.bits) c.common_row-common.ensures)
-    ∙ tdo_is board c.raw.ensures.rules plan c.requires.plan x c.requires.pass cells c.pass_cells-cells.ensures j (scan_of_pass board plan x (suc j)) refl
+    let pass_is : c.pass_at-setting.result.now ≡ get_or plan.passes x [] = c.pass_at-setting.ensures ∙ ap (λ (l : List (List Ctl)). get_or l x []) c.as_slice.ensures in
+    let row : List ℕ → List (List ReaderCell) → List Ctl → List Bool → List Bool = λ codes readers pass start.
+    fold (λ done k. set_compared (driver_bit codes j) readers done (controlled board plan.by_control.rows k)) (set_compared (driver_bit codes j) readers start plan.by_control.always) pass in
+    c.compare_controlled.ensures.tdo
+    ∙ ap (λ (codes : List ℕ). row codes c.as_slice-3.result.now c.pass_at-setting.result.now c.copy_row.new.self.bits) c.as_slice-4.ensures
+    ∙ ap (λ (readers : List (List ReaderCell)). row plan.codes readers c.pass_at-setting.result.now c.copy_row.new.self.bits) c.as_slice-3.ensures
+    ∙ ap (λ (pass : List Ctl). row plan.codes plan.readers pass c.copy_row.new.self.bits) pass_is
+    ∙ ap (λ (bits : List Bool). row plan.codes plan.readers (get_or plan.passes x []) bits) (c.copy_row.ensures.bits ∙ ap (λ (r : FixedRows). r.tdo.bits) c.common_row-common.ensures)
+    ∙ tdo_is board c.raw.ensures.rules plan c.requires.plan x c.requires.pass j (scan_of_pass board plan x (suc j)) refl
 
 pub returns-clause-mask : goal.returns-clause-mask
 returns-clause-mask c =
@@ -86,9 +90,11 @@ returns-clause-mask c =
     let plan = c.args.tables.now in
     let x = c.args.pass in
     let j = c.args.j in
-    let cells = c.pass_cells-cells.result.now in
-    c.compare_nets.ensures.mask
-    ∙ ap (λ readers. set_compared (λ (d : DriverCell). true) readers c.copy_row-2.new.self.bits c.as_slice.result.now) c.as_slice-2.ensures
-    ∙ ap (λ drivers. set_compared (λ (d : DriverCell). true) plan.readers c.copy_row-2.new.self.bits drivers) c.as_slice.ensures
-    ∙ ap (λ bits. set_compared (λ (d : DriverCell). true) plan.readers bits cells.drivers) (c.copy_row-2.ensures.bits ∙ ap (λ (r : FixedRows). r.mask.bits) c.common_row-common.ensures)
-    ∙ mask_is board c.raw.ensures.rules plan c.requires.plan x c.requires.pass cells c.pass_cells-cells.ensures j (scan_of_pass board plan x (suc j)) refl
+    let pass_is : c.pass_at-setting.result.now ≡ get_or plan.passes x [] = c.pass_at-setting.ensures ∙ ap (λ (l : List (List Ctl)). get_or l x []) c.as_slice.ensures in
+    let row : List (List ReaderCell) → List Ctl → List Bool → List Bool = λ readers pass start.
+    fold (λ done k. set_compared (λ (d : DriverCell). true) readers done (controlled board plan.by_control.rows k)) (set_compared (λ (d : DriverCell). true) readers start plan.by_control.always) pass in
+    c.compare_controlled.ensures.mask
+    ∙ ap (λ (readers : List (List ReaderCell)). row readers c.pass_at-setting.result.now c.copy_row-2.new.self.bits) c.as_slice-3.ensures
+    ∙ ap (λ (pass : List Ctl). row plan.readers pass c.copy_row-2.new.self.bits) pass_is
+    ∙ ap (λ (bits : List Bool). row plan.readers (get_or plan.passes x []) bits) (c.copy_row-2.ensures.bits ∙ ap (λ (r : FixedRows). r.mask.bits) c.common_row-common.ensures)
+    ∙ mask_is board c.raw.ensures.rules plan c.requires.plan x c.requires.pass j (scan_of_pass board plan x (suc j)) refl

@@ -3,7 +3,7 @@ use Rattle.std.proofs.lemmas.List.Sums.{fold_more}
 use Rattle.board_defs.specs.declared.board.Ctl.{Ctl}
 use Rattle.board_defs.proofs.Members.{Has}
 use Rattle.scan_planner.specs.declared.tables.HeldCell.{HeldCell}
-use Rattle.scan_planner.specs.inner.Building.{held_cell}
+use Rattle.scan_planner.specs.Tables.{held_cell}
 use Rattle.scan_planner.specs.inner.Steady.{marked_held, all_run, held_by, AreRuns}
 use Rattle.scan_planner.proofs.SteadyLemmas.{runs_go_on, held_at}
 use Rattle.scan_planner.proofs.uses.note_passes.Goals as goal
@@ -11,7 +11,7 @@ use Rattle.scan_planner.proofs.uses.note_passes.Goals as goal
 pub loop-k-preserved : goal.loop-k-preserved
 loop-k-preserved c =
     let board = c.args.board.now in
-    let quiet = c.args.quiet.now in
+    let quiet = c.args.quiet.now.bits in
     let passes = c.args.passes.now in
     let k = c.loop-k.k in
     let less = c.loop-k-test.true in
