@@ -11,5 +11,5 @@ mod SampleGroups
 mod LabelLemmas
 mod SetLemmas
 mod PutLemmas
-mod ReadLemmas
 mod MemberLemmas
+mod DigitLemmas

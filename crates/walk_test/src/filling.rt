@@ -51,7 +51,8 @@ fn fill_now(board: &Board, tables: &WalkTables, j: usize, tdi: &mut Row)
     }
 }
 
-fn set_all(positions: &[u32], row: &mut Row)
+/// Sets the bits at these positions.
+pub fn set_all(positions: &[u32], row: &mut Row)
     requires { All (λ p. p < length row.old.bits) positions.now }
     ensures bits { row.new.bits ≡ assigned (λ p. p) (λ p. true) row.old.bits positions.now }
     ensures room { row.new.room ≡ row.old.room }

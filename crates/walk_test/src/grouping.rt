@@ -1,5 +1,5 @@
 // The groups that explain a log.
-ghost use Rattle.std.specs.Prelude.{◌≡◌, ◌≤◌, ◌<◌, ◌^◌, ◌++◌, ◌∷◌, ◌==◌, [], cond, length, map, replicate, All, Some, None, option_map, IfOk, OnOk};
+ghost use Rattle.std.specs.Prelude.{◌≡◌, ◌≤◌, ◌<◌, ◌^◌, ◌++◌, ◌∷◌, ◌==◌, [], length, map, replicate, All, option_map, IfOk, OnOk};
 ghost use Rattle.std.specs.List.{flat_map, range_with_len};
 ghost use Rattle.board_defs.specs.Pins.{data_bits};
 ghost use Rattle.walk_test.specs.Groups.{Rise, AreFound, AreNamed};
@@ -7,10 +7,9 @@ ghost use Rattle.walk_test.specs.inner.Reading.{members, noted, where_several, g
 ghost use Rattle.walk_test.specs.Tables.{IsWalkOf};
 
 use crate::group::Group;
-use crate::labels::labels_of;
+use crate::labels::shown_labels;
 use crate::law::walk_safe;
 use crate::members::Members;
-use crate::reading::shows_all;
 use crate::walk::Walk;
 use board_defs::Board;
 use response_log::Log;
@@ -82,31 +81,13 @@ fn groups_by(alloc: Global, nets: &[u32], labels: &[u32]) -> Result<Vec<Group>, 
     groups_among(alloc, all_members(alloc, nets, labels)?)
 }
 
-// The groups by these labels, where each compared cell reads what they say.
-fn groups_where(
-    alloc: Global,
-    nets: &[u32],
-    labels: &[u32],
-    is_shown: bool,
-) -> Result<Option<Vec<Group>>, AllocError>
-    requires rise { Rise nets.now }
-    requires labels { length labels.now ≡ length nets.now }
-    ensures { IfOk result (λ found. option_map (λ groups. groups.items) found ≡ cond is_shown (Some (groups_by nets.now labels.now)) None) }
-{
-    if is_shown {
-        Ok(Some(groups_by(alloc, nets, labels)?))
-    } else {
-        Ok(None)
-    }
-}
-
 /// The one set of groups of walk nets that explains a log of the walking test, as groups in the order of their least nets, and
 /// `None` exactly where no set does. The walk is that of the board, and the log has a row for each walk net, each as long as a
 /// scan of data. The nets of the groups are nets of the board.
 ///
 /// A set of groups explains the log where, with the Or shorts of these groups and no other fault, every run of the test gives each
-/// bit of it that is compared. The log is read twice, row by row, each bit that is compared looked at once or twice; the groups are
-/// made in about the time of the nets.
+/// bit of it that is compared. The log is read once, row by row, many bits at a time; the groups are made in about the time of the
+/// nets.
 pub fn groups(
     alloc: Global,
     board: &Board,
@@ -130,7 +111,8 @@ pub fn groups(
     }
     let nets = tables.nets.as_slice();
     let cells = tables.cells.as_slice();
-    let labels = labels_of(alloc, log, cells)?;
-    let is_shown = shows_all(alloc, log, &labels, cells)?;
-    groups_where(alloc, nets, &labels, is_shown)
+    match shown_labels(alloc, log, cells, board.dr_bits())? {
+        None => Ok(None),
+        Some(labels) => Ok(Some(groups_by(alloc, nets, &labels)?)),
+    }
 }

@@ -1,8 +1,13 @@
 // The label of each walk net: the place of the first one whose 1 it reads.
-ghost use Rattle.std.specs.Prelude.{◌≡◌, ◌≤◌, ◌<◌, ◌^◌, [], map, length, slice_index_or, All, IfOk};
-ghost use Rattle.walk_test.specs.inner.Reading.{bit_in, label_of, unread, seen};
+ghost use Rattle.std.specs.Prelude.{◌≡◌, ◌<◌, ◌≤◌, ◌^◌, true, false, [], length, map, replicate, slice_index_or, All, IfOk, MatchOption};
+ghost use Rattle.std.specs.List.{flat_map, list_all};
+ghost use Rattle.scan_planner.specs.Assigned.{assigned};
+ghost use Rattle.walk_test.specs.inner.Reading.{bit_in, label_of, first_at, first_in, is_even, AreCompared, ShowsAll};
 
-use crate::tables::{LabelledCell, NetCells};
+use crate::filling::set_all;
+use crate::reading::read_rows;
+use crate::tables::NetCells;
+use bt_bits::Row;
 use response_log::Log;
 use std::alloc::{AllocError, Global};
 
@@ -16,82 +21,87 @@ pub fn bit_in(log: &Log, row: u64, at: u32) -> bool
     log.bit(row, at)
 }
 
-fn first_of(positions: &[u32]) -> u32
-    ensures { result ≡ slice_index_or positions.now 0 0 }
+/// The first position of a net that is compared.
+#[inline]
+pub fn first_of(net: &NetCells) -> u32
+    ensures { result ≡ first_at net.now }
 {
-    match positions.first() {
+    match net.compared.as_slice().first() {
         None => 0,
         Some(position) => *position,
     }
 }
 
-// The first cell of a net, with the number of rows as its label.
-fn unread(net: &NetCells, rows: u32) -> LabelledCell
-    ensures { result ≡ unread rows net.now }
+// A row of so many bits, those of them 1 that are compared.
+fn compared_row(alloc: Global, nets: &[NetCells], len: u32) -> Result<Row, AllocError>
+    requires { All (λ net. All (λ p. p < len) net.compared) nets.now }
+    ensures { IfOk result (λ row. row.bits ≡ assigned (λ p. p) (λ p. true) (replicate len false) (flat_map (λ net. net.compared) nets.now)) }
 {
-    LabelledCell {
-        at: first_of(net.compared.as_slice()),
-        label: rows,
-    }
-}
-
-fn all_unread(alloc: Global, nets: &[NetCells], rows: u32) -> Result<Vec<LabelledCell>, AllocError>
-    ensures { IfOk result (λ cells. cells.items ≡ map (unread rows) nets.now) }
-{
-    let mut cells = Vec::new(alloc);
+    let mut row = Row::with_room(alloc, len)?;
+    row.clear(len);
     for net in nets {
-        cells.push(unread(net, rows))?;
+        set_all(net.compared.as_slice(), &mut row);
     }
-    Ok(cells)
+    Ok(row)
 }
 
-// The cell with this row as its label, where it reads 1 in the row.
 #[inline]
-fn seen(log: &Log, row: u32, cell: LabelledCell) -> LabelledCell
-    requires row { row < length log.now }
-    requires within { cell.at < length (slice_index_or log.now row []) }
-    ensures { result ≡ seen log.now row cell }
+fn row_at(firsts: &[u32], at: u32) -> u32
+    ensures { result ≡ slice_index_or firsts.now at 0 }
 {
-    if bit_in(log, row as u64, cell.at) {
-        LabelledCell {
-            at: cell.at,
-            label: row,
-        }
-    } else {
-        cell
+    match firsts.get(at as usize) {
+        None => 0,
+        Some(row) => *row,
     }
 }
 
-fn see_row(log: &Log, row: u32, cells: &mut [LabelledCell])
-    requires row { row < length log.now }
-    requires within { All (λ c. c.at < length (slice_index_or log.now row [])) cells.old }
-    ensures { cells.new ≡ map (seen log.now row) cells.old }
+// Whether all positions of a net have one row.
+fn is_even(firsts: &[u32], net: &NetCells) -> bool
+    ensures { result ≡ is_even firsts.now net.now }
 {
-    for cell in cells.iter_mut() {
-        *cell = seen(log, row, *cell);
-    }
+    let first = row_at(firsts, first_of(net));
+    net.compared
+        .as_slice()
+        .iter()
+        .all(|p| row_at(firsts, *p) == first)
 }
 
-fn labels_in(alloc: Global, cells: &[LabelledCell]) -> Result<Vec<u32>, AllocError>
-    ensures { IfOk result (λ labels. labels.items ≡ map (λ c. c.label) cells.now) }
+fn are_even(firsts: &[u32], nets: &[NetCells]) -> bool
+    ensures { result ≡ list_all (is_even firsts.now) nets.now }
+{
+    nets.iter().all(|net| is_even(firsts, net))
+}
+
+fn labels_in(alloc: Global, firsts: &[u32], nets: &[NetCells]) -> Result<Vec<u32>, AllocError>
+    ensures { IfOk result (λ labels. labels.items ≡ map (first_in firsts.now) nets.now) }
 {
     let mut labels = Vec::new(alloc);
-    for cell in cells {
-        labels.push(cell.label)?;
+    for net in nets {
+        labels.push(row_at(firsts, first_of(net)))?;
     }
     Ok(labels)
 }
 
-/// The labels of walk nets with these cells. The log is read once, row by row from the last one, so that each earlier 1 of a cell
-/// takes the place of the later ones.
-pub fn labels_of(alloc: Global, log: &Log, nets: &[NetCells]) -> Result<Vec<u32>, AllocError>
+/// The labels of walk nets with these cells, where in each row of a log each compared cell reads what the labels say. The log is read
+/// once, row by row.
+pub fn shown_labels(
+    alloc: Global,
+    log: &Log,
+    nets: &[NetCells],
+    len: u32,
+) -> Result<Option<Vec<u32>>, AllocError>
     requires few { length log.now < 2 ^ 32 }
-    requires within { All (λ c. All (λ row. slice_index_or c.compared 0 0 < length row) log.now) nets.now }
-    ensures { IfOk result (λ labels. labels.items ≡ map (label_of log.now) nets.now) }
+    requires rows { length log.now ≡ length nets.now }
+    requires bits { All (λ row. length row ≡ len) log.now }
+    requires within { All (λ net. All (λ p. p < len) net.compared) nets.now }
+    requires some { All (λ net. 0 < length net.compared) nets.now }
+    ensures { IfOk result (λ found. MatchOption found (ShowsAll log.now (map (label_of log.now) nets.now) nets.now → ⊥) (λ labels. (labels.items ≡ map (label_of log.now) nets.now) × ShowsAll log.now labels.items nets.now)) }
 {
-    let mut cells = all_unread(alloc, nets, log.rows() as u32)?;
-    for row in (0..log.rows()).rev() {
-        see_row(log, row as u32, &mut cells);
+    let none = log.rows() as u32;
+    let mask = compared_row(alloc, nets, len)?;
+    let mut firsts = vec![in alloc; none; len as usize]?;
+    if !read_rows(&mut firsts, log, &mask, nets, none) || !are_even(&firsts, nets) {
+        return Ok(None);
     }
-    labels_in(alloc, &cells)
+    Ok(Some(labels_in(alloc, &firsts, nets)?))
 }

@@ -4,6 +4,7 @@
 //! In each row one walk net carries 1 and all others carry 0. A net that reads the 1 of another is in one group with it.
 #![tactic(auto)]
 
+mod digits;
 mod filling;
 mod group;
 mod grouping;

@@ -1,90 +1,95 @@
-// Whether each compared cell reads what the labels of the walk nets say.
-ghost use Rattle.std.specs.Prelude.{◌≡◌, ◌<◌, ◌≤◌, ◌++◌, ◌==◌, ℕ, [], true, length, map, slice_index_or, All, Decides, IfOk, OnOk};
-ghost use Rattle.std.specs.List.{list_all};
-ghost use Rattle.board_defs.specs.Pins.{is_same};
-ghost use Rattle.walk_test.specs.inner.Reading.{bit_in, cell_with, labelled_cells, cell_shows, ShowsAll};
+// The rows of a log, read one after the other for the first one in which each compared position reads 1.
+ghost use Rattle.std.specs.Prelude.{◌≡◌, ℕ, ◌<◌, nat_lt, length, map, slice_index_or, All, Decides, MatchBool};
+ghost use Rattle.std.specs.Bool.{OnFalse, OnTrue};
+ghost use Rattle.bt_bits.specs.Hex.{digit_count};
+ghost use Rattle.walk_test.specs.inner.Digits.{IsFresh, IsMarked};
+ghost use Rattle.walk_test.specs.inner.Reading.{label_of, AreCompared, AreRead, AreSameRows, AreStarted, StartsGroup, ShowsAll};
 
-use crate::labels::bit_in;
-use crate::tables::{LabelledCell, NetCells};
+use crate::digits::{are_alike, is_one, position_after};
+use crate::labels::{bit_in, first_of};
+use crate::tables::NetCells;
+use bt_bits::Row;
 use response_log::Log;
-use std::alloc::{AllocError, Global};
 
-// Adds the cells at these positions with a label.
-fn push_cells(
-    cells: &mut Vec<LabelledCell>,
-    positions: &[u32],
-    label: u32,
-) -> Result<(), AllocError>
-    ensures { OnOk result (cells.new.items ≡ cells.old.items ++ map (cell_with label) positions.now) }
+// Gives row `j` to each compared position that reads 1 in it, and tells whether none of them had a row before. A position without a
+// row has `none` in its place. Where one had a row, nothing is said of what is given.
+fn mark_row(firsts: &mut [u32], row: &[u8], mask: &[u8], j: u32, none: u32) -> bool
+    requires row { length row.now ≡ digit_count (length firsts.old) }
+    requires mask { length mask.now ≡ length row.now }
+    ensures fresh { Decides result (IsFresh row.now mask.now none firsts.old (length firsts.old)) }
+    ensures marked { OnTrue result (IsMarked row.now mask.now j none firsts.old firsts.new (length firsts.old)) }
 {
-    for at in positions {
-        cells.push(LabelledCell { at: *at, label })?;
-    }
-    Ok(())
-}
-
-// The compared cells of all nets, each with the label of its net.
-fn labelled_cells(
-    alloc: Global,
-    labels: &[u32],
-    nets: &[NetCells],
-) -> Result<Vec<LabelledCell>, AllocError>
-    requires { length labels.now ≡ length nets.now }
-    ensures { IfOk result (λ cells. cells.items ≡ labelled_cells labels.now nets.now) }
-{
-    let mut cells = Vec::new(alloc);
-    for i in 0..nets.len() {
-        push_cells(&mut cells, nets[i].compared.as_slice(), labels[i])?;
-    }
-    Ok(cells)
-}
-
-fn is_same(a: bool, b: bool) -> bool
-    ensures { result ≡ is_same a b }
-{
-    if a { b } else { !b }
-}
-
-// Whether each cell reads in a row whether its label is this one.
-fn shows_in(log: &Log, row: u64, label: u32, cells: &[LabelledCell]) -> bool
-    requires row { row < length log.now }
-    requires within { All (λ c. c.at < length (slice_index_or log.now row [])) cells.now }
-    ensures { result ≡ list_all (cell_shows log.now row label) cells.now }
-{
-    for cell in cells {
-        if !is_same(bit_in(log, row, cell.at), cell.label == label) {
-            return false;
+    let mut at = 0;
+    while at < firsts.len() {
+        if is_one(row, mask, at) {
+            if firsts[at] != none {
+                return false;
+            }
+            firsts[at] = j;
         }
+        at = position_after(row, mask, at);
     }
     true
 }
 
-// Whether each cell reads in row `j` whether its label is that of the net at place `j`.
-fn shows_each(log: &Log, labels: &[u32], cells: &[LabelledCell]) -> bool
-    requires rows { length labels.now ≤ length log.now }
-    requires within { All (λ row. All (λ c. c.at < length row) cells.now) log.now }
-    ensures { Decides result ((j : ℕ) → j < length labels.now → list_all (cell_shows log.now j (slice_index_or labels.now j 0)) cells.now ≡ true) }
+// Whether the net with position `at` reads 1 in row `j`, and no compared position that reads 1 in it had a row before. These then have
+// row `j`.
+fn start_group(firsts: &mut [u32], log: &Log, mask: &Row, at: u32, j: u32, none: u32) -> bool
+    requires row { j < length log.now }
+    requires bits { All (λ row. length row ≡ length mask.now.bits) log.now }
+    requires firsts { length firsts.old ≡ length mask.now.bits }
+    requires at { at < length mask.now.bits }
+    ensures starts { Decides result (StartsGroup log.now mask.now.bits j at none firsts.old) }
+    ensures started { OnTrue result (AreStarted log.now mask.now.bits j none firsts.old firsts.new) }
 {
-    for j in 0..labels.len() {
-        if !shows_in(log, j as u64, labels[j], cells) {
+    let row = u64::from(j);
+    bit_in(log, row, at) && mark_row(firsts, log.digits(row), mask.digits(), j, none)
+}
+
+// Whether two rows of a log read the same wherever a position is compared.
+fn are_same_rows(log: &Log, mask: &Row, j: u32, other: u32) -> bool
+    requires row { j < length log.now }
+    requires other { other < length log.now }
+    requires bits { All (λ row. length row ≡ length mask.now.bits) log.now }
+    ensures { Decides result (AreSameRows log.now mask.now.bits j other) }
+{
+    let row = log.digits(u64::from(j));
+    are_alike(row, log.digits(u64::from(other)), mask.digits())
+}
+
+// Reads row `j`, that of the net with position `at`. Where the position reads 1 in an earlier row, row `j` is to read what that one
+// does. Else a group starts with the net.
+fn read_row(firsts: &mut [u32], log: &Log, mask: &Row, at: u32, j: u32, none: u32) -> bool
+    requires row { j < length log.now }
+    requires bits { All (λ row. length row ≡ length mask.now.bits) log.now }
+    requires firsts { length firsts.old ≡ length mask.now.bits }
+    requires at { at < length mask.now.bits }
+    ensures again { OnTrue (nat_lt (slice_index_or firsts.old at none) j) (Decides result (AreSameRows log.now mask.now.bits j (slice_index_or firsts.old at none)) × (firsts.new ≡ firsts.old)) }
+    ensures starts { OnFalse (nat_lt (slice_index_or firsts.old at none) j) (Decides result (StartsGroup log.now mask.now.bits j at none firsts.old) × OnTrue result (AreStarted log.now mask.now.bits j none firsts.old firsts.new)) }
+{
+    let first = firsts[at as usize];
+    if first < j {
+        are_same_rows(log, mask, j, first)
+    } else {
+        start_group(firsts, log, mask, at, j, none)
+    }
+}
+
+/// Reads the rows of all nets, in order, and tells whether each reads what the earlier ones let expect. Each position that is compared
+/// then has the first row in which it reads 1. Before, each has `none`, the number of rows.
+pub fn read_rows(firsts: &mut [u32], log: &Log, mask: &Row, nets: &[NetCells], none: u32) -> bool
+    requires rows { length log.now ≡ length nets.now }
+    requires none { none ≡ length log.now }
+    requires bits { All (λ row. length row ≡ length mask.now.bits) log.now }
+    requires firsts { length firsts.old ≡ length mask.now.bits }
+    requires blank { (at : ℕ) → slice_index_or firsts.old at none ≡ none }
+    requires compared { AreCompared nets.now mask.now.bits }
+    ensures { MatchBool result (AreRead log.now mask.now.bits nets.now none (length nets.now) firsts.new) (ShowsAll log.now (map (label_of log.now) nets.now) nets.now → ⊥) }
+{
+    for j in 0..nets.len() {
+        if !read_row(firsts, log, mask, first_of(&nets[j]), j as u32, none) {
             return false;
         }
     }
     true
-}
-
-/// Whether in each row of a log each compared cell reads what the labels say. The log is read once, row by row.
-pub fn shows_all(
-    alloc: Global,
-    log: &Log,
-    labels: &[u32],
-    nets: &[NetCells],
-) -> Result<bool, AllocError>
-    requires count { length labels.now ≡ length nets.now }
-    requires rows { length nets.now ≤ length log.now }
-    requires within { All (λ row. All (λ net. All (λ p. p < length row) net.compared) nets.now) log.now }
-    ensures { IfOk result (λ is_shown. Decides is_shown (ShowsAll log.now labels.now nets.now)) }
-{
-    let cells = labelled_cells(alloc, labels, nets)?;
-    Ok(shows_each(log, labels, &cells))
 }

@@ -10,13 +10,6 @@ pub struct NetCells {
     pub compared: Items<u32>,
 }
 
-/// A compared cell by its position, with a label: that of its net, or of the first row in which it reads 1.
-#[derive(Clone, Copy, Debug, PartialEq, Eq)]
-pub struct LabelledCell {
-    pub at: u32,
-    pub label: u32,
-}
-
 /// The quiet row, and what all rows of a walk share: what is shifted in while no walk net carries 1, and what is compared.
 /// The last two are not needed where there is no pass.
 #[derive(Drop)]

@@ -1,10 +1,9 @@
 -- How walk nets read one another, and what a log shows of it.
-use Rattle.std.specs.Prelude.{◌≡◌, ℕ, suc, ◌+◌, ◌<◌, ◌==◌, nat_le, Bool, true, false, cond, ◌||◌, List, [], ◌∷◌, ◌++◌, length, map, drop, Option, Some, None, slice_get, slice_set, slice_index_or}
+use Rattle.std.specs.Prelude.{◌≡◌, ℕ, suc, ◌<◌, ◌≤◌, ◌==◌, nat_le, nat_lt, Bool, true, false, cond, ◌||◌, List, [], ◌∷◌, ◌++◌, length, Option, Some, None, slice_get, slice_set, slice_index_or, Contains}
 use Rattle.std.specs.List.{list_all, flat_map, range_with_len}
 use Rattle.board_defs.specs.Pins.{is_same}
 use Rattle.tap_defs.specs.board.NetBits.{is_in_short}
 use Rattle.walk_test.specs.declared.tables.NetCells.{NetCells}
-use Rattle.walk_test.specs.declared.tables.LabelledCell.{LabelledCell}
 use Rattle.walk_test.specs.Groups.{group_of}
 
 -- both nets are in one group
@@ -29,31 +28,51 @@ first_one (row ∷ log) at = cond (slice_index_or row at false) 0 (suc (first_on
 abbrev pub label_of : List (List Bool) → NetCells → ℕ
 label_of log cells = first_one log (slice_index_or cells.compared 0 0)
 
--- the cell at a position with a label
-abbrev pub cell_with : ℕ → ℕ → LabelledCell
-cell_with label at = record { at = at; label = label }
+-- its first compared position
+abbrev pub first_at : NetCells → ℕ
+first_at cells = slice_index_or cells.compared 0 0
 
--- the first compared cell of a net, with the number of rows as its label
-abbrev pub unread : ℕ → NetCells → LabelledCell
-unread rows net = cell_with rows (slice_index_or net.compared 0 0)
+-- the first row of a net, by those of all positions
+abbrev pub first_in : List ℕ → NetCells → ℕ
+first_in firsts cells = slice_index_or firsts (first_at cells) 0
 
--- a cell that has row j as its label where it reads 1 in it
-abbrev pub seen : List (List Bool) → ℕ → LabelledCell → LabelledCell
-seen log j cell = cond (bit_in log j cell.at) (cell_with j cell.at) cell
+-- all positions of a net have one first row
+abbrev pub is_even : List ℕ → NetCells → Bool
+is_even firsts cells = list_all (λ at. slice_index_or firsts at 0 == first_in firsts cells) cells.compared
 
--- the first compared cell of a net, with the first of the rows from row j on in which it reads 1
-abbrev pub seen_from : List (List Bool) → ℕ → NetCells → LabelledCell
-seen_from log j net = cell_with (j + first_one (drop j log) (slice_index_or net.compared 0 0)) (slice_index_or net.compared 0 0)
+-- the bits are those of the positions at which nets are compared
+pub record AreCompared (nets : List NetCells) (mask : List Bool) : Type 0 where
+  pub all : (i at : ℕ) (net : NetCells) → slice_get nets i ≡ Some net → Contains net.compared at → slice_index_or mask at false ≡ true
+  pub only : (at : ℕ) → slice_index_or mask at false ≡ true → (i : ℕ) × (net : NetCells) × (slice_get nets i ≡ Some net) × Contains net.compared at
+  pub some : (i : ℕ) (net : NetCells) → slice_get nets i ≡ Some net → 0 < length net.compared
 
--- the compared cells of all nets, each with the label of its net
-abbrev pub labelled_cells : List ℕ → List NetCells → List LabelledCell
-labelled_cells [] nets = []
-labelled_cells (label ∷ labels) [] = []
-labelled_cells (label ∷ labels) (net ∷ nets) = map (cell_with label) net.compared ++ labelled_cells labels nets
+-- two rows read the same wherever a position is compared
+abbrev pub AreSameRows : List (List Bool) → List Bool → ℕ → ℕ → Type 0
+AreSameRows log mask j other = (at : ℕ) → slice_index_or mask at false ≡ true → bit_in log j at ≡ bit_in log other at
 
--- a cell reads in row j whether its label is this one
-abbrev pub cell_shows : List (List Bool) → ℕ → ℕ → LabelledCell → Bool
-cell_shows log j label cell = is_same (bit_in log j cell.at) (cell.label == label)
+-- row j starts a group of the net with position own, where each position that has a row has the first one before row j in which it reads 1
+pub record StartsGroup (log : List (List Bool)) (mask : List Bool) (j own none : ℕ) (firsts : List ℕ) : Type 0 where
+  pub is_read : bit_in log j own ≡ true
+  pub fresh : (at : ℕ) → slice_index_or mask at false ≡ true → bit_in log j at ≡ true → slice_index_or firsts at none ≡ none
+
+-- the compared positions that read 1 in row j have this row, and the other ones what they had
+pub record AreStarted (log : List (List Bool)) (mask : List Bool) (j none : ℕ) (old new : List ℕ) : Type 0 where
+  pub marked : (at : ℕ) → slice_index_or mask at false ≡ true → bit_in log j at ≡ true → slice_index_or new at none ≡ j
+  pub kept : (at : ℕ) → slice_index_or mask at false ≡ true → bit_in log j at ≡ false → slice_index_or new at none ≡ slice_index_or old at none
+
+-- a row below row j, or else none
+abbrev pub below : ℕ → ℕ → ℕ → ℕ
+below j none row = cond (nat_lt row j) row none
+
+-- row k reads 1 at the compared positions that have the first row of its net, whose position this is
+pub record IsRowRight (log : List (List Bool)) (mask : List Bool) (k own : ℕ) : Type 0 where
+  pub low : first_one log own ≤ k
+  pub reads : (at : ℕ) → slice_index_or mask at false ≡ true → bit_in log k at ≡ (first_one log at == first_one log own)
+
+-- the first j rows are right, and each compared position has the first of them in which it reads 1
+pub record AreRead (log : List (List Bool)) (mask : List Bool) (nets : List NetCells) (none j : ℕ) (firsts : List ℕ) : Type 0 where
+  pub right : (k : ℕ) (net : NetCells) → k < j → slice_get nets k ≡ Some net → IsRowRight log mask k (first_at net)
+  pub firsts : (at : ℕ) → slice_index_or mask at false ≡ true → slice_index_or firsts at none ≡ below j none (first_one log at)
 
 -- all compared cells of the net at place i read in row j whether the labels of these two nets are one
 abbrev pub net_shows : List (List Bool) → List ℕ → ℕ → ℕ → NetCells → Bool

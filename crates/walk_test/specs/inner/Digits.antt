@@ -1,0 +1,26 @@
+-- Rows by the values of their digits, and what is marked as one is gone through.
+use Rattle.std.specs.Prelude.{◌≡◌, ℕ, ◌/◌, ◌%◌, ◌<◌, ◌≤◌, Bool, true, false, ◌&&◌, List, length, slice_index_or}
+use Rattle.std.specs.Int.Bits.{bit_and, bit_xor}
+use Rattle.bt_bits.specs.Digits.{digit_bit}
+
+-- the bit at a position
+abbrev pub bit_of : List ℕ → ℕ → Bool
+bit_of digits at = digit_bit (slice_index_or digits (at / 4) 0) (at % 4)
+
+-- a position is compared and reads 1
+abbrev pub is_one : List ℕ → List ℕ → ℕ → Bool
+is_one row mask at = bit_of mask at && bit_of row at
+
+-- the compared bits of a digit in which two rows differ
+abbrev pub differing : List ℕ → List ℕ → List ℕ → ℕ → ℕ
+differing row other mask k = bit_and (bit_xor (slice_index_or row k 0) (slice_index_or other k 0)) (slice_index_or mask k 0)
+
+-- no position that is compared and reads 1 below an end has a row yet
+abbrev pub IsFresh : List ℕ → List ℕ → ℕ → List ℕ → ℕ → Type 0
+IsFresh row mask none firsts end = (at : ℕ) → at < end → at < length firsts → is_one row mask at ≡ true → slice_index_or firsts at none ≡ none
+
+-- those below an end get row j, and all others keep theirs
+pub record IsMarked (row mask : List ℕ) (j none : ℕ) (old new : List ℕ) (end : ℕ) : Type 0 where
+  pub marked : (at : ℕ) → at < end → at < length old → is_one row mask at ≡ true → slice_index_or new at none ≡ j
+  pub kept : (at : ℕ) → at < end → is_one row mask at ≡ false → slice_index_or new at none ≡ slice_index_or old at none
+  pub left : (at : ℕ) → end ≤ at → slice_index_or new at none ≡ slice_index_or old at none
