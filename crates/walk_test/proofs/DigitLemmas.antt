@@ -6,6 +6,7 @@ use Rattle.std.proofs.lemmas.Bool.{eqb-true, cases_lt}
 use Rattle.std.proofs.lemmas.Nat.{le_or_l, le_or_r}
 use Rattle.std.proofs.lemmas.Nat.Bits.{bit_at-zero, bit_at-lt, bit_at_and, bit_at_xor, bit_at_above, same_from_bits}
 use Rattle.bt_bits.specs.Digits.{digit_bit}
+use Rattle.walk_test.specs.inner.Digits.{is_one, IsFresh, IsMarked}
 
 -- a digit with no compared 1 has none at any of its bits
 pub clear_bit : (x m k : ℕ) → bit_and x m ≡ 0 → (digit_bit m k && digit_bit x k) ≡ false
@@ -35,3 +36,35 @@ union_more f union k zeros all =
     let before : union ≡ 0 = zeros (λ i less. all i (omega (arith, less))) in
     let last : f k ≡ 0 = all k (omega arith) in
     ap (λ (n : ℕ). bit_or n (f k)) before ∙ ap (λ (n : ℕ). bit_or 0 n) last
+
+-- a position and those behind it that read no compared 1 are gone through
+module _ (row mask : List ℕ) (j none : ℕ) (old : List ℕ) (at next : ℕ) (past : at < next) (gap : (p : ℕ) → at < p → p < next → is_one row mask p ≡ false) where
+  -- where a position below the next one is
+  by_place : (P : ℕ → Type 0) (p : ℕ) → (p < at → P p) → P at → (at < p → P p) → P p
+  by_place P p before here behind = by_side (cases_lt p at) (cases_lt at p)
+    where
+      by_side : (p < at) ⊎ (at ≤ p) → (at < p) ⊎ (p ≤ at) → P p
+      by_side (inl less) k = before less
+      by_side (inr low) (inl less) = behind less
+      by_side (inr low) (inr high) = let same : at ≡ p = omega (arith, low, high) in subst P same here
+
+  pub fresh_more : IsFresh row mask none old at → (at < length old → is_one row mask at ≡ true → get_or old at none ≡ none) → IsFresh row mask none old next
+  fresh_more fresh here p less =
+      by_place (λ q. q < length old → is_one row mask q ≡ true → get_or old q none ≡ none) p (fresh p) here
+      (λ behind within one. let bad : true ≡ false = sym one ∙ gap p behind less in cc bad)
+
+  module _ (now new : List ℕ) (left : (p : ℕ) → at ≤ p → get_or now p none ≡ get_or old p none) (others : (p : ℕ) → (p ≡ at → ⊥) → get_or new p none ≡ get_or now p none) where
+    pub left_more : (p : ℕ) → next ≤ p → get_or new p none ≡ get_or old p none
+    left_more p low = others p (λ same. omega (arith, past, low, same)) ∙ left p (omega (arith, past, low))
+
+    pub marked_more : IsMarked row mask j none old now at → (at < length old → is_one row mask at ≡ true → get_or new at none ≡ j) → (is_one row mask at ≡ false → get_or new at none ≡ get_or now at none) → IsMarked row mask j none old new next
+    marked_more marked one zero_bit = record {
+      marked = λ p less. by_place (λ q. q < length old → is_one row mask q ≡ true → get_or new q none ≡ j) p
+          (λ before within on. others p (λ same. omega (arith, before, same)) ∙ marked.marked p before within on)
+          one
+          (λ behind within on. let bad : true ≡ false = sym on ∙ gap p behind less in cc bad);
+      kept = λ p less. by_place (λ q. is_one row mask q ≡ false → get_or new q none ≡ get_or old q none) p
+          (λ before off. others p (λ same. omega (arith, before, same)) ∙ marked.kept p before off)
+          (λ off. zero_bit off ∙ left at (omega arith))
+          (λ behind off. others p (λ same. omega (arith, behind, same)) ∙ left p (omega (arith, behind)));
+    }

@@ -13,3 +13,5 @@ mod SetLemmas
 mod PutLemmas
 mod MemberLemmas
 mod DigitLemmas
+mod MaskLemmas
+mod ReadLemmas

@@ -1,8 +1,7 @@
 // The label of each walk net: the place of the first one whose 1 it reads.
-ghost use Rattle.std.specs.Prelude.{◌≡◌, ◌<◌, ◌≤◌, ◌^◌, true, false, [], length, map, replicate, slice_index_or, All, IfOk, MatchOption};
-ghost use Rattle.std.specs.List.{flat_map, list_all};
-ghost use Rattle.scan_planner.specs.Assigned.{assigned};
-ghost use Rattle.walk_test.specs.inner.Reading.{bit_in, label_of, first_at, first_in, is_even, AreCompared, ShowsAll};
+ghost use Rattle.std.specs.Prelude.{◌≡◌, ◌<◌, ◌^◌, [], length, map, slice_index_or, All, IfOk, MatchOption};
+ghost use Rattle.std.specs.List.{list_all};
+ghost use Rattle.walk_test.specs.inner.Reading.{bit_in, compared_bits, first_at, first_in, is_even, label_of, ShowsAll};
 
 use crate::filling::set_all;
 use crate::reading::read_rows;
@@ -35,7 +34,7 @@ pub fn first_of(net: &NetCells) -> u32
 // A row of so many bits, those of them 1 that are compared.
 fn compared_row(alloc: Global, nets: &[NetCells], len: u32) -> Result<Row, AllocError>
     requires { All (λ net. All (λ p. p < len) net.compared) nets.now }
-    ensures { IfOk result (λ row. row.bits ≡ assigned (λ p. p) (λ p. true) (replicate len false) (flat_map (λ net. net.compared) nets.now)) }
+    ensures { IfOk result (λ row. row.bits ≡ compared_bits len nets.now) }
 {
     let mut row = Row::with_room(alloc, len)?;
     row.clear(len);
@@ -45,39 +44,46 @@ fn compared_row(alloc: Global, nets: &[NetCells], len: u32) -> Result<Row, Alloc
     Ok(row)
 }
 
+// The first row of a position, by those of all.
 #[inline]
-fn row_at(firsts: &[u32], at: u32) -> u32
-    ensures { result ≡ slice_index_or firsts.now at 0 }
+fn row_at(firsts: &[u32], at: u32, none: u32) -> u32
+    ensures { result ≡ slice_index_or firsts.now at none }
 {
     match firsts.get(at as usize) {
-        None => 0,
+        None => none,
         Some(row) => *row,
     }
 }
 
-// Whether all positions of a net have one row.
-fn is_even(firsts: &[u32], net: &NetCells) -> bool
-    ensures { result ≡ is_even firsts.now net.now }
+// Whether all compared positions of a net have one first row.
+fn is_even(firsts: &[u32], net: &NetCells, none: u32) -> bool
+    ensures { result ≡ is_even none firsts.now net.now }
 {
-    let first = row_at(firsts, first_of(net));
+    let first = row_at(firsts, first_of(net), none);
     net.compared
         .as_slice()
         .iter()
-        .all(|p| row_at(firsts, *p) == first)
+        .all(|at| row_at(firsts, *at, none) == first)
 }
 
-fn are_even(firsts: &[u32], nets: &[NetCells]) -> bool
-    ensures { result ≡ list_all (is_even firsts.now) nets.now }
+fn are_even(firsts: &[u32], nets: &[NetCells], none: u32) -> bool
+    ensures { result ≡ list_all (is_even none firsts.now) nets.now }
 {
-    nets.iter().all(|net| is_even(firsts, net))
+    nets.iter().all(|net| is_even(firsts, net, none))
 }
 
-fn labels_in(alloc: Global, firsts: &[u32], nets: &[NetCells]) -> Result<Vec<u32>, AllocError>
-    ensures { IfOk result (λ labels. labels.items ≡ map (first_in firsts.now) nets.now) }
+// The labels of nets by the first row of each position.
+fn labels_in(
+    alloc: Global,
+    firsts: &[u32],
+    nets: &[NetCells],
+    none: u32,
+) -> Result<Vec<u32>, AllocError>
+    ensures { IfOk result (λ labels. labels.items ≡ map (first_in none firsts.now) nets.now) }
 {
     let mut labels = Vec::new(alloc);
     for net in nets {
-        labels.push(row_at(firsts, first_of(net)))?;
+        labels.push(row_at(firsts, first_of(net), none))?;
     }
     Ok(labels)
 }
@@ -100,8 +106,11 @@ pub fn shown_labels(
     let none = log.rows() as u32;
     let mask = compared_row(alloc, nets, len)?;
     let mut firsts = vec![in alloc; none; len as usize]?;
-    if !read_rows(&mut firsts, log, &mask, nets, none) || !are_even(&firsts, nets) {
+    if !read_rows(&mut firsts, log, &mask, nets, none) {
         return Ok(None);
     }
-    Ok(Some(labels_in(alloc, &firsts, nets)?))
+    if !are_even(&firsts, nets, none) {
+        return Ok(None);
+    }
+    Ok(Some(labels_in(alloc, &firsts, nets, none)?))
 }

@@ -1,5 +1,5 @@
 -- Rows by the values of their digits, and what is marked as one is gone through.
-use Rattle.std.specs.Prelude.{◌≡◌, ℕ, ◌/◌, ◌%◌, ◌<◌, ◌≤◌, Bool, true, false, ◌&&◌, List, length, slice_index_or}
+use Rattle.std.specs.Prelude.{◌≡◌, ℕ, ◌/◌, ◌%◌, ◌<◌, Bool, true, false, ◌&&◌, List, length, slice_index_or}
 use Rattle.std.specs.Int.Bits.{bit_and, bit_xor}
 use Rattle.bt_bits.specs.Digits.{digit_bit}
 
@@ -19,8 +19,7 @@ differing row other mask k = bit_and (bit_xor (slice_index_or row k 0) (slice_in
 abbrev pub IsFresh : List ℕ → List ℕ → ℕ → List ℕ → ℕ → Type 0
 IsFresh row mask none firsts end = (at : ℕ) → at < end → at < length firsts → is_one row mask at ≡ true → slice_index_or firsts at none ≡ none
 
--- those below an end get row j, and all others keep theirs
+-- those below an end have row j, and the other positions below it what they had
 pub record IsMarked (row mask : List ℕ) (j none : ℕ) (old new : List ℕ) (end : ℕ) : Type 0 where
   pub marked : (at : ℕ) → at < end → at < length old → is_one row mask at ≡ true → slice_index_or new at none ≡ j
   pub kept : (at : ℕ) → at < end → is_one row mask at ≡ false → slice_index_or new at none ≡ slice_index_or old at none
-  pub left : (at : ℕ) → end ≤ at → slice_index_or new at none ≡ slice_index_or old at none

@@ -1,8 +1,9 @@
 -- How walk nets read one another, and what a log shows of it.
-use Rattle.std.specs.Prelude.{◌≡◌, ℕ, suc, ◌<◌, ◌≤◌, ◌==◌, nat_le, nat_lt, Bool, true, false, cond, ◌||◌, List, [], ◌∷◌, ◌++◌, length, Option, Some, None, slice_get, slice_set, slice_index_or, Contains}
+use Rattle.std.specs.Prelude.{◌≡◌, ℕ, suc, ◌<◌, ◌≤◌, ◌==◌, nat_le, nat_lt, Bool, true, false, cond, ◌||◌, List, [], ◌∷◌, ◌++◌, length, fold, replicate, Option, Some, None, slice_get, slice_set, slice_index_or, Contains}
 use Rattle.std.specs.List.{list_all, flat_map, range_with_len}
 use Rattle.board_defs.specs.Pins.{is_same}
 use Rattle.tap_defs.specs.board.NetBits.{is_in_short}
+use Rattle.scan_planner.specs.Assigned.{assigned}
 use Rattle.walk_test.specs.declared.tables.NetCells.{NetCells}
 use Rattle.walk_test.specs.Groups.{group_of}
 
@@ -33,12 +34,19 @@ abbrev pub first_at : NetCells → ℕ
 first_at cells = slice_index_or cells.compared 0 0
 
 -- the first row of a net, by those of all positions
-abbrev pub first_in : List ℕ → NetCells → ℕ
-first_in firsts cells = slice_index_or firsts (first_at cells) 0
+abbrev pub first_in : ℕ → List ℕ → NetCells → ℕ
+first_in none firsts cells = slice_index_or firsts (first_at cells) none
 
 -- all positions of a net have one first row
-abbrev pub is_even : List ℕ → NetCells → Bool
-is_even firsts cells = list_all (λ at. slice_index_or firsts at 0 == first_in firsts cells) cells.compared
+abbrev pub is_even : ℕ → List ℕ → NetCells → Bool
+is_even none firsts cells = list_all (λ at. slice_index_or firsts at none == first_in none firsts cells) cells.compared
+
+-- so many bits, those at the positions at which nets are compared 1
+abbrev pub with_compared : List Bool → NetCells → List Bool
+with_compared bits cells = assigned (λ at. at) (λ at. true) bits cells.compared
+
+abbrev pub compared_bits : ℕ → List NetCells → List Bool
+compared_bits len nets = fold with_compared (replicate len false) nets
 
 -- the bits are those of the positions at which nets are compared
 pub record AreCompared (nets : List NetCells) (mask : List Bool) : Type 0 where
@@ -72,7 +80,7 @@ pub record IsRowRight (log : List (List Bool)) (mask : List Bool) (k own : ℕ) 
 -- the first j rows are right, and each compared position has the first of them in which it reads 1
 pub record AreRead (log : List (List Bool)) (mask : List Bool) (nets : List NetCells) (none j : ℕ) (firsts : List ℕ) : Type 0 where
   pub right : (k : ℕ) (net : NetCells) → k < j → slice_get nets k ≡ Some net → IsRowRight log mask k (first_at net)
-  pub firsts : (at : ℕ) → slice_index_or mask at false ≡ true → slice_index_or firsts at none ≡ below j none (first_one log at)
+  pub found : (at : ℕ) → slice_index_or mask at false ≡ true → slice_index_or firsts at none ≡ below j none (first_one log at)
 
 -- all compared cells of the net at place i read in row j whether the labels of these two nets are one
 abbrev pub net_shows : List (List Bool) → List ℕ → ℕ → ℕ → NetCells → Bool

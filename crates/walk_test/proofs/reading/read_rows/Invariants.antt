@@ -1,0 +1,10 @@
+use Rattle.std.proofs.Common.{◌≡◌, length}
+use Rattle.walk_test.specs.inner.Reading.{AreRead}
+use Rattle.walk_test.proofs.reading.read_rows.Given as goal
+
+-- the rows so far are read
+abbrev pub invariant-loop-j : goal.invariant-loop-j
+invariant-loop-j l = record {
+  long : length l.firsts ≡ length l.fn.firsts;
+  read : AreRead l.log l.mask.bits l.nets l.none l.j l.firsts;
+}
