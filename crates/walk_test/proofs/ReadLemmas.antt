@@ -1,10 +1,11 @@
 -- Rows of a log that are read one after the other: what the first ones tell of the next, and all of them of the labels.
-use Rattle.std.proofs.Common.{◌≡◌, ◌⊎◌, inl, inr, ℕ, zero, suc, ◌+◌, ◌<◌, ◌≤◌, ◌==◌, Bool, true, false, cond, List, [], ◌∷◌, length, map, get_or, Decides, Some, nat_lt, replicate, refl, sym, ap, ◌∙◌, subst, arith}
+use Rattle.std.proofs.Common.{◌≡◌, ◌⊎◌, inl, inr, ℕ, zero, suc, ◌+◌, ◌<◌, ◌≤◌, ◌==◌, Bool, true, false, cond, List, [], ◌∷◌, length, map, take, get_or, Decides, Some, nat_lt, replicate, refl, sym, ap, ◌∙◌, subst, arith}
 use Rattle.std.specs.Prelude.{slice_get, All, Contains}
 use Rattle.std.specs.Bool.{OnFalse, OnTrue}
 use Rattle.std.specs.List.{list_all, flat_map}
 use Rattle.std.proofs.lemmas.Bool.{cases_eq, cases_lt, eqb-true, eq-eqb, lt-ltb, ltb-true, ltb-false, ne_eqb, OnFalse_at, OnTrue_at}
-use Rattle.std.proofs.lemmas.List.{get_or-replicate, get_or_past, length-replicate}
+use Rattle.std.proofs.lemmas.List.{get_or-replicate, get_or_past, length-replicate, take_more}
+use Rattle.std.proofs.lemmas.List.Sums.{fold-append}
 use Rattle.std.proofs.lemmas.Option.{slice_get_within, slice_get-get_or, get_or_from_slice_get}
 use Rattle.board_defs.proofs.Members.{Has, has_at, has_place, has_contains, contains_has, all_has, has_flat_map, flat_map_has}
 use Rattle.board_defs.proofs.Places.{all_from}
@@ -12,7 +13,7 @@ use Rattle.scan_planner.specs.Assigned.{assigned}
 use Rattle.scan_planner.proofs.AssignLemmas.{assigned_groups, has_mark, length-assigned, mark_has}
 use Rattle.tap_defs.proofs.chain.ListLemmas.{cons_path}
 use Rattle.walk_test.specs.declared.tables.NetCells.{NetCells}
-use Rattle.walk_test.specs.inner.Reading.{bit_in, compared_bits, first_one, label_of, first_at, first_in, is_even, below, AreCompared, AreSameRows, StartsGroup, AreStarted, IsRowRight, AreRead, ShowsAll}
+use Rattle.walk_test.specs.inner.Reading.{bit_in, compared_bits, with_compared, first_one, label_of, first_at, first_in, is_even, below, AreCompared, AreSameRows, StartsGroup, AreStarted, IsRowRight, AreRead, ShowsAll}
 use Rattle.walk_test.proofs.GroupLemmas.{all_of}
 use Rattle.walk_test.proofs.LabelLemmas.{first_low, first_holds, first_same, label_is, first_compared, each_shows, shows_each}
 
@@ -47,7 +48,12 @@ first_most (row ∷ log) at = by_test (get_or row at false) (first_most log at)
 first_reads : (log : List (List Bool)) (at j : ℕ) → j < length log → first_one log at ≡ j → bit_in log j at ≡ true
 first_reads log at j less is = ap (λ (k : ℕ). bit_in log k at) (sym is) ∙ first_holds log at (omega (arith, less, is))
 
--- the row of what is compared
+-- the row of what is compared, net by net
+pub compared_more : (len : ℕ) (nets : List NetCells) (i : ℕ) (net : NetCells) → i < length nets → net ≡ get_or nets i net → with_compared (compared_bits len (take i nets)) net ≡ compared_bits len (take (i + 1) nets)
+compared_more len nets i net less is =
+    ap (λ (n : NetCells). with_compared (compared_bits len (take i nets)) n) is
+    ∙ sym (ap (λ (l : List NetCells). compared_bits len l) (take_more nets i net less) ∙ fold-append with_compared (replicate len false) (take i nets) (get_or nets i net ∷ []))
+
 module _ (len : ℕ) (nets : List NetCells) where
   bits_are : compared_bits len nets ≡ assigned (λ at. at) (λ at. true) (replicate len false) (flat_map (λ (net : NetCells). net.compared) nets)
   bits_are = assigned_groups (λ at. at) (λ at. true) (λ (net : NetCells). net.compared) nets (replicate len false)
@@ -251,26 +257,26 @@ module _ (log : List (List Bool)) (mask : List Bool) (nets : List NetCells) (non
     Starts at new t = OnFalse (nat_lt (get_or firsts at none) j) (Decides t (StartsGroup log mask j at none firsts) × OnTrue t (AreStarted log mask j none firsts new))
 
     pub row_read : (at : ℕ) → at ≡ own → (new : List ℕ) (t : Bool) → t ≡ true → Again at new t → Starts at new t → AreRead log mask nets none (j + 1) new
-    row_read at is new t yes again starts = by_test (nat_lt first j) refl
+    row_read at is new t on again starts = by_test (nat_lt first j) refl
       where
         by_test : (b : Bool) → nat_lt first j ≡ b → AreRead log mask nets none (j + 1) new
         by_test true e =
             let r = OnTrue_at e (subst (λ (k : ℕ). Again k new t) is again) in
-            subst (λ (l : List ℕ). AreRead log mask nets none (j + 1) l) (sym r.1) (again_read e (r.0.0 yes))
+            subst (λ (l : List ℕ). AreRead log mask nets none (j + 1) l) (sym r.1) (again_read e (r.0.0 on))
         by_test false e =
             let r = OnFalse_at e (subst (λ (k : ℕ). Starts k new t) is starts) in
-            start_read e (r.0.0 yes) new (OnTrue_at yes r.1)
+            start_read e (r.0.0 on) new (OnTrue_at on r.1)
 
     pub row_not : (at : ℕ) → at ≡ own → (new : List ℕ) (t : Bool) → t ≡ false → Again at new t → Starts at new t → ShowsAll log (map (label_of log) nets) nets → ⊥
-    row_not at is new t no again starts shows = by_test (nat_lt first j) refl
+    row_not at is new t off again starts shows = by_test (nat_lt first j) refl
       where
         by_test : (b : Bool) → nat_lt first j ≡ b → ⊥
         by_test true e =
             let r = OnTrue_at e (subst (λ (k : ℕ). Again k new t) is again) in
-            let bad : true ≡ false = sym (r.0.1 (again_shown e shows)) ∙ no in cc bad
+            let bad : true ≡ false = sym (r.0.1 (again_shown e shows)) ∙ off in cc bad
         by_test false e =
             let r = OnFalse_at e (subst (λ (k : ℕ). Starts k new t) is starts) in
-            let bad : true ≡ false = sym (r.0.1 (start_shown e shows)) ∙ no in cc bad
+            let bad : true ≡ false = sym (r.0.1 (start_shown e shows)) ∙ off in cc bad
 
   -- once all rows are read
   module _ (firsts : List ℕ) (read : AreRead log mask nets none (length nets) firsts) where

@@ -180,31 +180,21 @@ nets_at board seen t nets w same are = are ∙ ap (λ (x : WalkTables). x.nets) 
 pub nets_in_order : (board : RawBoard) (nets : List ℕ) → nets ≡ walk_nets board → Rise nets
 nets_in_order board nets are = subst (λ (l : List ℕ). Rise l) (sym are) (order_pairs (λ a b. a < b) (walk_nets board) (nets_rise board))
 
--- each position is within each row of a log
-module _ (board : RawBoard) (rules : IsBoard board) (cells : List NetCells) (w : Walked board cells) (log : List (List Bool)) (bits : All (λ row. length row ≡ data_bits board) log) where
+-- each position is within a row of so many bits, and each net has one
+module _ (board : RawBoard) (rules : IsBoard board) (cells : List NetCells) (w : Walked board cells) where
   net_cells_at : (c : NetCells) → Has cells c → (n : ℕ) × AreNetCells board w.walk n c
   net_cells_at c h =
       let at = has_place cells c h in
       let n : ℕ = get_or (walk_nets board) at.0 0 in
       (n, w.are.are at.0 n c (slice_get-get_or (walk_nets board) at.0 0 (omega (arith, slice_get_within cells at.0 c at.1, w.are.count))) at.1)
 
-  in_row : (row : List Bool) → Has log row → (c : NetCells) → Has cells c → (p : ℕ) → Has c.compared p → p < length row
-  in_row row in_log c h p k =
-      let a = net_cells_at c h in
-      let long : length row ≡ data_bits board = all_of (λ (r : List Bool). length r ≡ data_bits board) log row bits in_log in
-      omega (arith, position_within board rules w.walk a.0 c a.1 p k, long)
+  pub all_within : (len : ℕ) → len ≡ data_bits board → All (λ net. All (λ p. p < len) net.compared) cells
+  all_within len is =
+      all_from_has (λ (net : NetCells). All (λ p. p < len) net.compared) cells
+      (λ c h. all_from_has (λ (p : ℕ). p < len) c.compared (λ p k. let a = net_cells_at c h in omega (arith, is, position_within board rules w.walk a.0 c a.1 p k)))
 
-  pub all_within : All (λ row. All (λ net. All (λ p. p < length row) net.compared) cells) log
-  all_within =
-      all_from_has (λ (row : List Bool). All (λ net. All (λ p. p < length row) net.compared) cells) log
-      (λ row in_log. all_from_has (λ (net : NetCells). All (λ p. p < length row) net.compared) cells
-      (λ c h. all_from_has (λ (p : ℕ). p < length row) c.compared (λ p k. in_row row in_log c h p k)))
-
-  pub first_within : All (λ c. All (λ row. get_or c.compared 0 0 < length row) log) cells
-  first_within =
-      all_from_has (λ (c : NetCells). All (λ row. get_or c.compared 0 0 < length row) log) cells
-      (λ c h. all_from_has (λ (row : List Bool). get_or c.compared 0 0 < length row) log
-      (λ row in_log. let a = net_cells_at c h in in_row row in_log c h (get_or c.compared 0 0) (first_compared c a.1.some)))
+  pub all_compared : All (λ net. 0 < length net.compared) cells
+  all_compared = all_from_has (λ (net : NetCells). 0 < length net.compared) cells (λ c h. let a = net_cells_at c h in a.1.some)
 
 -- what follows from what is said of a value that may be there
 pub ok_then : {T E : Type 0} (r : Result T E) {P Q : T → Type 0} → IfOk r P → ((x : T) → P x → Q x) → IfOk r Q
@@ -444,6 +434,19 @@ module _ (safe : WalkSafe) (by_rows : (board : RawBoard) (faults : FaultSet) (sc
       ∙ ap (λ (l : List ℕ). cond shown (Some (groups_by l used)) None) given_is
       ∙ ap (λ (l : List ℕ). cond shown (Some (groups_by (walk_nets board) l)) None) used_is))
       (found_by board rules w.walk w.is log cells w.are rows bits shown by_labels)
+
+  -- where nothing is shown, no groups explain the log
+  pub none_found : (board : RawBoard) → IsBoard board → (cells : List NetCells) → Walked board cells → (log : List (List Bool)) → length log ≡ length (walk_nets board) → All (λ row. length row ≡ data_bits board) log →
+      (ShowsAll log (map (label_of log) cells) cells → ⊥) → AreFound board log None
+  none_found board rules cells w log rows bits hidden =
+      let decides : Decides false (ShowsAll log (map (label_of log) cells) cells) = (λ e. cc e, λ shows. absurd (hidden shows)) in
+      found_at board rules cells w log rows bits (walk_nets board) (map (label_of log) cells) (map (label_of log) cells) refl refl refl false decides None refl
+
+  -- and where all is shown, those by the labels do
+  pub groups_found : (board : RawBoard) → IsBoard board → (cells : List NetCells) → Walked board cells → (log : List (List Bool)) → length log ≡ length (walk_nets board) → All (λ row. length row ≡ data_bits board) log →
+      (nets labels used : List ℕ) → nets ≡ walk_nets board → labels ≡ map (label_of log) cells → used ≡ labels → ShowsAll log labels cells → (groups : List (List ℕ)) → groups ≡ groups_by nets used → AreFound board log (Some groups)
+  groups_found board rules cells w log rows bits nets labels used nets_are are used_are shows groups groups_are =
+      found_at board rules cells w log rows bits nets labels used nets_are are (used_are ∙ are) true (λ e. shows, λ s. refl) (Some groups) (ap (λ (l : List (List ℕ)). Some l) groups_are)
 
   -- each log has an answer
   pub some_found : (board : RawBoard) (log : List (List Bool)) → IsBoard board → (found : Option (List (List ℕ))) × AreFound board log found
