@@ -1,5 +1,5 @@
 -- The rules that a board's files keep, and the order in which they are tried.
-use Rattle.std.specs.Prelude.{ℕ, ◌==◌, Bool, true, false, ◌&&◌, ◌||◌, List, filter, find, length, nat_lt, slice_get, sum_by, Option, Some, None, Result, option_map, is_none, if◌then◌else◌}
+use Rattle.std.specs.Prelude.{ℕ, ◌==◌, Bool, false, ◌&&◌, ◌||◌, List, filter, find, length, nat_lt, slice_get, sum_by, Option, Some, None, Result, option_map, is_none, if◌then◌else◌}
 use Rattle.std.specs.List.{list_any}
 use Rattle.first_places.specs.Places.{once, first_repeated}
 use Rattle.board_files.specs.declared.chain_file.ChainLine.{ChainLine}

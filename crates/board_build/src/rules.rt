@@ -76,6 +76,10 @@ fn count_pins(alloc: Global, pins: &[(PinName<'_>, Spot)]) -> Result<usize, Allo
 fn pin_limit(alloc: Global, pins: &[(PinName<'_>, Spot)]) -> Result<Option<BoardFault>, AllocError>
     ensures { IfOk result (λ fault. fault ≡ (if nat_lt 65535 (length (once (λ a b. same_pin (lent_pin a.0) (lent_pin b.0)) pins.now)) then Some (Limit 4) else None)) }
 {
+    // So few words name no more pins than a board may have, and need not be told apart.
+    if pins.len() <= 65535 {
+        return Ok(None);
+    }
     let count = count_pins(alloc, pins)?;
     if 65535 < count {
         Ok(Some(BoardFault::Limit(4)))

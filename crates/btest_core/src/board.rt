@@ -9,6 +9,7 @@ ghost use Rattle.board_build.specs.Names.{named};
 ghost use Rattle.board_build.specs.NetWords.{HasFewPins};
 ghost use Rattle.board_build.specs.declared.names.Naming.TheVariants.{Entity as EntityName};
 ghost use Rattle.series_parts.specs.Joining.{joined_files};
+ghost use Rattle.series_parts.specs.Lines.{has_link, is_link};
 ghost use Rattle.btest_core.specs.inner.Kept.{Kept};
 ghost use Rattle.btest_core.specs.declared.fault.InputFault.TheVariants.{Nets};
 ghost use Rattle.answers.specs.Gives.{Gives};
@@ -21,7 +22,8 @@ use crate::devices::devices;
 use crate::fault::InputFault;
 use board_build::{BoardFault, board};
 use board_defs::{Board, Device};
-use board_files::{ChainFile, LineFault, NetFile, nets};
+use board_files::{ChainFile, ChainStatement, LineFault, NetFile, nets};
+use series_parts::law::unlinked_files;
 use series_parts::{Joined, LinkFault, join};
 use std::alloc::Global;
 
@@ -37,6 +39,19 @@ fn net_file(alloc: Global, text: &[u8]) -> Result<NetFile, InputFault>
         Err(LineFault::Memory(e)) => Err(InputFault::Memory(e)),
         Err(fault) => Err(InputFault::Nets(fault)),
     }
+}
+
+fn is_link(statement: &ChainStatement) -> bool
+    ensures { result ≡ is_link statement.now }
+{
+    matches!(statement, ChainStatement::Link { .. })
+}
+
+// Whether a LINK line stands in the chain file.
+fn has_link(chain: &ChainFile) -> bool
+    ensures { result ≡ has_link chain.now }
+{
+    chain.lines().iter().any(|line| is_link(&line.statement))
 }
 
 // The joined files. The net file is given back before a board is made, since each holds a copy of all names.
@@ -75,7 +90,7 @@ fn board_of(
     }
 }
 
-// The board of files and devices, by their joined files.
+// The board of files and devices, by their joined files. Files without LINK lines are joined already, and aren't copied.
 fn joined_board(
     alloc: Global,
     chain: &ChainFile,
@@ -90,6 +105,10 @@ fn joined_board(
     requires net_words { AllByRecursion HasFewPins nets }
     ensures { Gives input_told (λ board. board) (IsJoinedBoard chain.now nets devices.items) result }
 {
+    if !has_link(chain) {
+        unlinked_files();
+        return board_of(alloc, chain, &nets, devices);
+    }
     match joined_files(alloc, chain, nets) {
         Ok(joined) => board_of(alloc, &joined.chain, &joined.nets, devices),
         Err(fault) => Err(fault),
