@@ -1,257 +1,225 @@
 //! Whole texts, read from their bytes on.
-use crate::texts::{BUF2, DRV, with_lines};
-use board_defs::Mode;
-use bsdl_lexer::{LexFault, lex};
-use bsdl_parser::{AttrValue, ParseFault, Range, parse};
-use std::alloc::{AllocError, Global};
-use std::test::Fail;
+use bsdl_lexer::LexFault::{Byte, OpenString, TooMany};
+use bsdl_parser::ParseFault::{Expected, Package};
+use device_bench::Reading::{Entity, Lex, Parse};
+use device_bench::Source::{Buffer, Bytes, Driver, Filled, Front};
+use device_bench::{CaseFault, Reading, Source, entities_hold, readings_hold};
 
-/// How reading a text ends.
-#[derive(Clone, Copy, Debug, PartialEq, Eq)]
-enum Ending {
-    Entity,
-    Lex(LexFault),
-    Parse(ParseFault),
-    TooLong,
-}
-
-fn outcome(alloc: Global, text: &[u8]) -> Ending {
-    if text.len() >= 1 << 32 {
-        return Ending::TooLong;
-    }
-    let mut tokens = Vec::new(alloc);
-    match lex(text, &mut tokens) {
-        Err(fault) => Ending::Lex(fault),
-        Ok(()) => match parse(alloc, text, &tokens) {
-            Ok(_) => Ending::Entity,
-            Err(fault) => Ending::Parse(fault),
-        },
-    }
-}
-
-fn expected(line: u32) -> Ending {
-    Ending::Parse(ParseFault::Expected(line))
-}
-
-fn package(line: u32) -> Ending {
-    Ending::Parse(ParseFault::Package(line))
-}
-
-/// The first lines of a text.
-fn front_of(alloc: Global, text: &str, lines: usize) -> Result<String, AllocError> {
-    let mut front = String::new(alloc);
-    for line in text.lines().take(lines) {
-        front.push_str(line)?;
-        front.push_str("\n")?;
-    }
-    Ok(front)
-}
-
-#[test]
-fn whole_texts_and_changed_lines(rt: HostRuntime) -> Result<(), Fail> {
-    let generic = "generic (PHYSICAL_PIN_MAP : string := \"P\");\n";
-    let rows = [
-        // the text as it is; no generic; no ports; the generic twice
-        (1, "entity DRV is\n", Ending::Entity),
-        (2, "", expected(17)),
-        (3, "", expected(17)),
-        (3, generic, expected(3)),
-        // a port item twice; no default
-        (4, "port (A : buffer bit);\n", expected(4)),
-        (2, "generic (PHYSICAL_PIN_MAP : string);\n", Ending::Entity),
-        // a byte that begins nothing, and a string that is not closed
-        (
-            4,
-            "\u{7}use STD_1149_1_1994.all;\n",
-            Ending::Lex(LexFault::Byte(4)),
-        ),
-        (16, "\"0 (BC_1,\n", Ending::Lex(LexFault::OpenString(16))),
-        // a word where an integer is wanted; ten digits; a clock of another kind
-        (
-            11,
-            "attribute INSTRUCTION_LENGTH of DRV : entity is two;\n",
-            expected(11),
-        ),
-        (
+static CHANGED: [(Source, Reading); 24] = [
+    // the text as it is; no generic; no ports; the generic twice
+    (Driver(&[(1, "entity DRV is\n")]), Entity),
+    (Driver(&[(2, "")]), Parse(Expected(17))),
+    (Driver(&[(3, "")]), Parse(Expected(17))),
+    (
+        Driver(&[(3, "generic (PHYSICAL_PIN_MAP : string := \"P\");\n")]),
+        Parse(Expected(3)),
+    ),
+    // a port item twice; no default
+    (
+        Driver(&[(4, "port (A : buffer bit);\n")]),
+        Parse(Expected(4)),
+    ),
+    (
+        Driver(&[(2, "generic (PHYSICAL_PIN_MAP : string);\n")]),
+        Entity,
+    ),
+    // a byte that begins nothing, and a string that is not closed
+    (
+        Driver(&[(4, "\u{7}use STD_1149_1_1994.all;\n")]),
+        Lex(Byte(4)),
+    ),
+    (Driver(&[(16, "\"0 (BC_1,\n")]), Lex(OpenString(16))),
+    // a word where an integer is wanted; ten digits; a clock of another kind
+    (
+        Driver(&[(11, "attribute INSTRUCTION_LENGTH of DRV : entity is two;\n")]),
+        Parse(Expected(11)),
+    ),
+    (
+        Driver(&[(
             14,
             "attribute BOUNDARY_LENGTH of DRV : entity is 1234567890;\n",
-            expected(14),
-        ),
-        (
+        )]),
+        Parse(Expected(14)),
+    ),
+    (
+        Driver(&[(
             10,
             "attribute TAP_SCAN_CLOCK of TCK : signal is (1.0e6, HIGH);\n",
-            expected(10),
-        ),
-        // an attribute that is not used; one that is not used and not closed
-        (
+        )]),
+        Parse(Expected(10)),
+    ),
+    // an attribute that is not used; one that is not used and not closed
+    (
+        Driver(&[(
             14,
             "attribute FOO ( ( \"a\" end\n;attribute PIN_MAP_STRING;\n",
-            Ending::Entity,
-        ),
-        (14, "attribute FOO\n", Ending::Entity),
-        // attributes that are needed at most once, and inout and linkage ports
-        (
+        )]),
+        Entity,
+    ),
+    (Driver(&[(14, "attribute FOO\n")]), Entity),
+    // attributes that are needed at most once, and inout and linkage ports
+    (
+        Driver(&[(
             18,
             "attribute IDCODE_REGISTER of DRV : entity is \"XXXX0001001000110100\" & \"000000000111\";\nend DRV;\n",
-            Ending::Entity,
-        ),
-        (
+        )]),
+        Entity,
+    ),
+    (
+        Driver(&[(
             18,
             "attribute COMPONENT_CONFORMANCE of DRV : entity is \"STD_1149_1_2001\";\nend;\n",
-            Ending::Entity,
-        ),
-        (
+        )]),
+        Entity,
+    ),
+    (
+        Driver(&[(
             3,
             "port (B : inout bit; C, D : linkage bit_vector(7 downto 0));\n",
-            Ending::Entity,
-        ),
-        // what stands behind the file
-        (18, "end ;\n-- package\n", Ending::Entity),
-        (18, "end DRV;\npackage X is\n", package(19)),
-        (18, "end DRV;\nentity X is\n", expected(19)),
-        (18, "end package;\npackage\n", package(19)),
-        (18, "package DRV;\n", expected(18)),
-        (18, "end DRV\n\n", expected(19)),
-    ];
-    for (number, line, wanted) in rows {
-        let text = with_lines(rt.alloc(), DRV, &[(number, line)])?;
-        assert_eq!(rt;
-            outcome(rt.alloc(), text.as_bytes()),
-            wanted,
-            "line {number}: {line}"
-        );
-    }
-    assert_eq!(rt; outcome(rt.alloc(), BUF2.as_bytes()), Ending::Entity);
-    Ok(())
-}
+        )]),
+        Entity,
+    ),
+    // what stands behind the file
+    (Driver(&[(18, "end ;\n-- package\n")]), Entity),
+    (
+        Driver(&[(18, "end DRV;\npackage X is\n")]),
+        Parse(Package(19)),
+    ),
+    (
+        Driver(&[(18, "end DRV;\nentity X is\n")]),
+        Parse(Expected(19)),
+    ),
+    (
+        Driver(&[(18, "end package;\npackage\n")]),
+        Parse(Package(19)),
+    ),
+    (Driver(&[(18, "package DRV;\n")]), Parse(Expected(18))),
+    (Driver(&[(18, "end DRV\n\n")]), Parse(Expected(19))),
+    // the text of another device
+    (Buffer, Entity),
+    // generic and ports exchanged
+    (
+        Driver(&[
+            (
+                2,
+                "port (tdi, tms, tck : in bit; tdo : out bit; q : out bit_vector(1 to 2));\n",
+            ),
+            (3, "generic (physical_pin_map : string := \"p\");\n"),
+        ]),
+        Entity,
+    ),
+];
 
 #[test]
-fn parts_of_texts(rt: HostRuntime) -> Result<(), Fail> {
-    let front = front_of(rt.alloc(), DRV, 10)?;
-    let mut cut = front_of(rt.alloc(), DRV, 15)?;
-    cut.push_str("\"0 (BC_1,")?;
-    let rows = [
-        (front.as_bytes(), expected(10)),
-        (cut.as_bytes(), Ending::Lex(LexFault::OpenString(16))),
-        (b"".as_slice(), expected(1)),
-        (b"-- nothing\n\n".as_slice(), expected(2)),
-        (b"package body X is\n".as_slice(), package(1)),
-        (b"\nEntity x\nPackage".as_slice(), expected(3)),
-        (b"entity E is end;".as_slice(), expected(1)),
-        (
-            b"entity E is\nport (A : in bit);\nend;".as_slice(),
-            expected(3),
-        ),
-        (b"\x00".as_slice(), Ending::Lex(LexFault::Byte(1))),
-        (b"\xff".as_slice(), Ending::Lex(LexFault::Byte(1))),
-    ];
-    for (text, wanted) in rows {
-        assert_eq!(rt; outcome(rt.alloc(), text), wanted);
-    }
-    Ok(())
+fn whole_texts_and_changed_lines(rt: HostRuntime) -> Result<(), CaseFault> {
+    readings_hold(rt.alloc(), &CHANGED)
 }
 
-/// What an attribute says.
-fn value_bytes(value: &AttrValue) -> &[u8] {
-    match value {
-        AttrValue::Plain => b"plain",
-        AttrValue::Number(_) => b"number",
-        AttrValue::Port(port) => port.bytes(),
-        AttrValue::Text(text) => text.bytes(),
-    }
-}
+static PARTS: [(Source, Reading); 10] = [
+    (Front(10, ""), Parse(Expected(10))),
+    (Front(15, "\"0 (BC_1,"), Lex(OpenString(16))),
+    (Bytes(b""), Parse(Expected(1))),
+    (Bytes(b"-- nothing\n\n"), Parse(Expected(2))),
+    (Bytes(b"package body X is\n"), Parse(Package(1))),
+    (Bytes(b"\nEntity x\nPackage"), Parse(Expected(3))),
+    (Bytes(b"entity E is end;"), Parse(Expected(1))),
+    (
+        Bytes(b"entity E is\nport (A : in bit);\nend;"),
+        Parse(Expected(3)),
+    ),
+    (Bytes(b"\x00"), Lex(Byte(1))),
+    (Bytes(b"\xff"), Lex(Byte(1))),
+];
 
 #[test]
-fn parts_of_an_entity(rt: HostRuntime) -> Result<(), Fail> {
-    let alloc = rt.alloc();
-    let mut tokens = Vec::new(alloc);
-    lex(DRV.as_bytes(), &mut tokens)?;
-    let entity = parse(alloc, DRV.as_bytes(), &tokens)?;
-    assert_eq!(rt; entity.name.bytes(), b"DRV".as_slice());
-    let fallback = entity.fallback.as_ref().map(|name| name.bytes());
-    assert_eq!(rt; fallback, Some(b"P".as_slice()));
-    assert_eq!(rt; entity.uses.len(), 1);
-    assert_eq!(rt;
-        entity.uses.as_slice()[0].bytes(),
-        b"STD_1149_1_1994".as_slice()
-    );
-    assert_eq!(rt; entity.constants.len(), 1);
-    let map = &entity.constants.as_slice()[0];
-    assert_eq!(rt; map.name.bytes(), b"P".as_slice());
-    assert_eq!(rt;
-        map.text.bytes(),
-        b"TDI:T1, TDO:T2, TMS:T3, TCK:T4, Q:(1,2)".as_slice()
-    );
-
-    let range = Range {
-        left: 1,
-        right: 2,
-        up: true,
-    };
-    let ports = [
-        (b"TDI".as_slice(), Mode::Inward, None),
-        (b"TMS".as_slice(), Mode::Inward, None),
-        (b"TCK".as_slice(), Mode::Inward, None),
-        (b"TDO".as_slice(), Mode::Outward, None),
-        (b"Q".as_slice(), Mode::Outward, Some(range)),
-    ];
-    assert_eq!(rt; entity.ports.len(), ports.len());
-    for (port, (name, mode, range)) in entity.ports.as_slice().iter().zip(ports) {
-        assert_eq!(rt; port.name.bytes(), name);
-        assert_eq!(rt; port.mode, mode);
-        assert_eq!(rt; port.range, range);
-    }
-    Ok(())
+fn parts_of_texts(rt: HostRuntime) -> Result<(), CaseFault> {
+    readings_hold(rt.alloc(), &PARTS)
 }
 
+static LARGE: [(Source, Reading); 2] = [
+    // a nest that is not used
+    (
+        Filled {
+            lines: 17,
+            head: "attribute FOO ",
+            byte: b'(',
+            count: 100_000,
+            tail: ";\nend DRV;\n",
+        },
+        Entity,
+    ),
+    // a token more than may be
+    (
+        Filled {
+            lines: 0,
+            head: "",
+            byte: b',',
+            count: 1_048_577,
+            tail: "",
+        },
+        Lex(TooMany(1)),
+    ),
+];
+
 #[test]
-fn attributes_in_any_order(rt: HostRuntime) -> Result<(), Fail> {
-    let alloc = rt.alloc();
-    let mut tokens = Vec::new(alloc);
-    lex(BUF2.as_bytes(), &mut tokens)?;
-    let entity = parse(alloc, BUF2.as_bytes(), &tokens)?;
-    assert_eq!(rt; entity.constants.len(), 2);
-    let entries = b"4 (BC_1, OE_N, INPUT, X), 4 (BC_1, *, CONTROL, 1), \
-3 (BC_1, A(1), INPUT, X), 2 (BC_1, A(0), INPUT, X), \
-1 (BC_1, Y(1), OUTPUT3, X, 4, 1, Z), 0 (BC_1, Y(0), OUTPUT3, X, 4, 1, Z)";
-    let wanted = [
-        (1, b"plain".as_slice()),
-        (5, b"TCK".as_slice()),
-        (2, b"TDI".as_slice()),
-        (3, b"TDO".as_slice()),
-        (4, b"TMS".as_slice()),
-        (9, b"number".as_slice()),
-        (10, entries.as_slice()),
-        (6, b"number".as_slice()),
-        (7, b"EXTEST (00), SAMPLE (10), BYPASS (11, 01)".as_slice()),
-        (8, b"01".as_slice()),
-    ];
-    assert_eq!(rt; entity.attributes.len(), wanted.len());
-    for (attribute, (number, bytes)) in entity.attributes.as_slice().iter().zip(wanted) {
-        assert_eq!(rt; attribute.number, number);
-        assert_eq!(rt; value_bytes(&attribute.value), bytes);
-    }
-    Ok(())
+fn large_texts(rt: HostRuntime) -> Result<(), CaseFault> {
+    readings_hold(rt.alloc(), &LARGE)
 }
 
+static ENTITIES: [(Source, &str); 2] = [
+    (
+        Driver(&[]),
+        "entity DRV P
+use STD_1149_1_1994
+constant P TDI:T1, TDO:T2, TMS:T3, TCK:T4, Q:(1,2)
+port TDI Inward
+port TMS Inward
+port TCK Inward
+port TDO Outward
+port Q Outward 1 to 2
+1
+2 port TDI
+3 port TDO
+4 port TMS
+5 port TCK
+6 number 2
+7 text BYPASS (11), EXTEST (00), SAMPLE (10)
+8 text 01
+9 number 2
+10 text 0 (BC_1, Q(1), OUTPUT2, X),1 (BC_1, Q(2), OUTPUT2, X)
+",
+    ),
+    // two packages, and attributes in any order
+    (
+        Buffer,
+        "entity BUF2 DW
+use STD_1149_1_1990
+constant DW OE_N:1, A:(2,3), Y:(4,5), GND:6, VCC:7, TDI:8, TMS:9, TCK:10, TDO:11
+constant FK OE_N:A1, A:(A2,A3), Y:(B1,B2), GND:C1, VCC:C2, TDI:D1, TMS:D2, TCK:D3, TDO:D4
+port OE_N Inward
+port A Inward 1 downto 0
+port Y Outward 1 downto 0
+port GND Linkage
+port VCC Linkage
+port TDI Inward
+port TMS Inward
+port TCK Inward
+port TDO Outward
+1
+5 port TCK
+2 port TDI
+3 port TDO
+4 port TMS
+9 number 5
+10 text 4 (BC_1, OE_N, INPUT, X), 4 (BC_1, *, CONTROL, 1), 3 (BC_1, A(1), INPUT, X), 2 (BC_1, A(0), INPUT, X), 1 (BC_1, Y(1), OUTPUT3, X, 4, 1, Z), 0 (BC_1, Y(0), OUTPUT3, X, 4, 1, Z)
+6 number 2
+7 text EXTEST (00), SAMPLE (10), BYPASS (11, 01)
+8 text 01
+",
+    ),
+];
+
 #[test]
-fn exchanged_items_and_large_texts(rt: HostRuntime) -> Result<(), Fail> {
-    let alloc = rt.alloc();
-    let ports = "port (tdi, tms, tck : in bit; tdo : out bit; q : out bit_vector(1 to 2));\n";
-    let exchanged = with_lines(alloc, DRV, &[(2, ports)])?;
-    let generic = "generic (physical_pin_map : string := \"p\");\n";
-    let exchanged = with_lines(alloc, exchanged.as_str(), &[(3, generic)])?;
-    assert_eq!(rt; outcome(alloc, exchanged.as_bytes()), Ending::Entity);
-
-    let mut nested = front_of(alloc, DRV, 17)?;
-    nested.push_str("attribute FOO ")?;
-    for _ in 0..100_000u32 {
-        nested.push_str("(")?;
-    }
-    nested.push_str(";\nend DRV;\n")?;
-    assert_eq!(rt; outcome(alloc, nested.as_bytes()), Ending::Entity);
-
-    let commas = vec![in alloc; b','; 1_048_577]?;
-    assert_eq!(rt; outcome(alloc, &commas), Ending::Lex(LexFault::TooMany(1)));
-    Ok(())
+fn parts_of_an_entity(rt: HostRuntime) -> Result<(), CaseFault> {
+    entities_hold(rt.alloc(), &ENTITIES)
 }

@@ -1,0 +1,52 @@
+// Cases that do not hold.
+use bsdl_strings::StringFault;
+use std::alloc::{AllocError, AllocFailed};
+use thiserror::Error;
+
+/// Why a table of cases does not hold.
+#[derive(Debug, Drop, Error)]
+pub enum CaseFault {
+    /// The first case that ends otherwise, from 0, and how it ends.
+    #[error("case {case} ends otherwise: {found}")]
+    Ended {
+        /// The number of the case.
+        case: usize,
+        /// How it ends.
+        found: String,
+    },
+    /// A text has 2^32 bytes or more.
+    #[error("too long")]
+    TooLong,
+    /// A string that is to have a value has none.
+    #[error("{0}")]
+    String(StringFault),
+    #[error("out of memory")]
+    Memory(AllocError),
+}
+
+impl From<AllocError> for CaseFault {
+    fn from(error: AllocError) -> CaseFault {
+        CaseFault::Memory(error)
+    }
+}
+
+impl<T: Drop> From<AllocFailed<T>> for CaseFault {
+    fn from(_failed: AllocFailed<T>) -> CaseFault {
+        CaseFault::Memory(AllocError)
+    }
+}
+
+impl From<StringFault> for CaseFault {
+    fn from(fault: StringFault) -> CaseFault {
+        CaseFault::String(fault)
+    }
+}
+
+/// Compares how a case ends with how it should.
+pub fn compare(case: usize, found: String, wanted: &str) -> Result<(), CaseFault> {
+    if found.as_str() == wanted {
+        Ok(())
+    } else {
+        Err(CaseFault::Ended { case, found })
+    }
+}

@@ -1,0 +1,255 @@
+// What texts say of a device, with one rule broken at a time, and the device that it describes.
+ghost use Rattle.std.specs.Prelude.{◌≡◌, true};
+ghost use Rattle.device_rules.specs.Rules.{IsShort};
+
+use crate::case::{CaseFault, compare};
+use crate::source::bytes_of;
+use board_defs::{Edition, Items, Mode, Name, PortBit, RawDevice, Symbol};
+use bsdl_parser::{Port, Range};
+use bsdl_strings::{boundary, compliance, opcodes, pattern, pin_map};
+use device_rules::{Draft, TapPorts, first_rule, raw_device};
+use std::alloc::{AllocError, Global};
+
+/// What a text says, as strings.
+#[derive(Drop)]
+struct Texts {
+    edition: Edition,
+    range: Range,
+    scan_out: &'static str,
+    clock: &'static str,
+    reset: Option<&'static str>,
+    compliance: Option<&'static str>,
+    map: &'static str,
+    opcodes: &'static str,
+    capture: &'static str,
+    idcode: &'static str,
+    boundary: u32,
+    entries: &'static str,
+}
+
+/// One place of a text that is another than in a text without fault.
+#[derive(Clone, Copy)]
+pub enum Change {
+    /// No place.
+    None,
+    /// The range of the port Q: its bounds, and whether they are joined by `to`.
+    Range(u32, u32, bool),
+    /// TAP_SCAN_OUT.
+    ScanOut(&'static str),
+    /// TAP_SCAN_CLOCK.
+    Clock(&'static str),
+    /// TAP_SCAN_RESET.
+    Reset(&'static str),
+    /// COMPLIANCE_PATTERNS.
+    Compliance(&'static str),
+    /// The pin map.
+    Map(&'static str),
+    /// INSTRUCTION_OPCODE.
+    Opcodes(&'static str),
+    /// INSTRUCTION_OPCODE of a text of 2001.
+    Of2001(&'static str),
+    /// INSTRUCTION_CAPTURE.
+    Capture(&'static str),
+    /// IDCODE_REGISTER.
+    Idcode(&'static str),
+    /// BOUNDARY_LENGTH and BOUNDARY_REGISTER.
+    Entries(u32, &'static str),
+}
+
+/// Tries each change: the rule that it breaks and the item, or zeros where it breaks none.
+pub fn rules_hold(alloc: Global, cases: &[(Change, (u32, u32))]) -> Result<(), CaseFault> {
+    for (case, (change, (rule, item))) in cases.iter().enumerate() {
+        let found = broken(alloc, &changed(&[*change]))?;
+        if found.0 != *rule || found.1 != *item {
+            let found = format!(in alloc; "V{} item {}", found.0, found.1)?;
+            return Err(CaseFault::Ended { case, found });
+        }
+    }
+    Ok(())
+}
+
+/// Tries these changes together: each port bit with its index, its pin, whether it is of the TAP and whether the
+/// compliance patterns name it, then each cell with its port bit, and how many ones the preload code has.
+pub fn draft_holds(alloc: Global, changes: &[Change], wanted: &str) -> Result<(), CaseFault> {
+    let shown = shown_device(alloc, &changed(changes))?;
+    compare(0, shown, wanted)
+}
+
+/// What the text of a device of two outputs says, with these changes.
+fn changed(changes: &[Change]) -> Texts {
+    let mut texts = sound();
+    for change in changes {
+        apply(*change, &mut texts);
+    }
+    texts
+}
+
+fn sound() -> Texts {
+    Texts {
+        edition: Edition::Old,
+        range: Range {
+            left: 1,
+            right: 2,
+            up: true,
+        },
+        scan_out: "TDO",
+        clock: "TCK",
+        reset: None,
+        compliance: None,
+        map: "TDI:T1, TDO:T2, TMS:T3, TCK:T4, Q:(1,2)",
+        opcodes: "BYPASS (11), EXTEST (00), SAMPLE (10)",
+        capture: "01",
+        idcode: "XXXX0001001000110100000000000111",
+        boundary: 2,
+        entries: "0 (BC_1, Q(1), output2, X), 1 (BC_1, Q(2), output2, X)",
+    }
+}
+
+fn apply(change: Change, texts: &mut Texts) {
+    match change {
+        Change::None => {}
+        Change::Range(left, right, up) => texts.range = Range { left, right, up },
+        Change::ScanOut(name) => texts.scan_out = name,
+        Change::Clock(name) => texts.clock = name,
+        Change::Reset(name) => texts.reset = Some(name),
+        Change::Compliance(text) => texts.compliance = Some(text),
+        Change::Map(text) => texts.map = text,
+        Change::Opcodes(text) => texts.opcodes = text,
+        Change::Of2001(text) => {
+            texts.edition = Edition::Of2001;
+            texts.opcodes = text;
+        }
+        Change::Capture(text) => texts.capture = text,
+        Change::Idcode(text) => texts.idcode = text,
+        Change::Entries(length, text) => {
+            texts.boundary = length;
+            texts.entries = text;
+        }
+    }
+}
+
+fn name(alloc: Global, text: &str) -> Result<Name, AllocError> {
+    Name::of(alloc, text.as_bytes())
+}
+
+fn ports(alloc: Global, range: Range) -> Result<Vec<Port>, AllocError> {
+    let plain = [
+        ("TDI", Mode::Inward),
+        ("TMS", Mode::Inward),
+        ("TCK", Mode::Inward),
+        ("TDO", Mode::Outward),
+    ];
+    let mut ports = Vec::new(alloc);
+    for (text, mode) in plain {
+        ports.push(Port {
+            name: name(alloc, text)?,
+            mode,
+            range: None,
+        })?;
+    }
+    ports.push(Port {
+        name: name(alloc, "Q")?,
+        mode: Mode::Outward,
+        range: Some(range),
+    })?;
+    Ok(ports)
+}
+
+fn taps(alloc: Global, texts: &Texts) -> Result<TapPorts, AllocError> {
+    let reset = match texts.reset {
+        Some(text) => Some(name(alloc, text)?),
+        None => None,
+    };
+    Ok(TapPorts {
+        scan_in: name(alloc, "TDI")?,
+        scan_out: name(alloc, texts.scan_out)?,
+        mode: name(alloc, "TMS")?,
+        clock: name(alloc, texts.clock)?,
+        reset,
+    })
+}
+
+fn draft(alloc: Global, texts: &Texts) -> Result<Draft, CaseFault> {
+    let compliance = match texts.compliance {
+        Some(text) => Some(compliance(alloc, bytes_of(text)?)?),
+        None => None,
+    };
+    Ok(Draft {
+        entity: name(alloc, "DRV")?,
+        package: name(alloc, "P")?,
+        edition: texts.edition,
+        ports: Items::of(ports(alloc, texts.range)?),
+        taps: taps(alloc, texts)?,
+        ir: 2,
+        opcodes: Items::of(opcodes(alloc, bytes_of(texts.opcodes)?)?),
+        capture: pattern(alloc, bytes_of(texts.capture)?)?,
+        idcode: Some(pattern(alloc, bytes_of(texts.idcode)?)?),
+        compliance,
+        boundary: texts.boundary,
+        map: Items::of(pin_map(alloc, bytes_of(texts.map)?)?),
+        entries: Items::of(boundary(alloc, bytes_of(texts.entries)?)?),
+    })
+}
+
+fn is_short(draft: &Draft) -> bool
+    ensures { result ≡ true → IsShort draft.now }
+{
+    draft.ports.len() < 1000
+        && draft.map.len() < 1000
+        && draft.opcodes.len() < 1000
+        && draft.entries.len() < 1000
+}
+
+/// The rule and the item, or zeros where no rule is broken.
+fn broken(alloc: Global, texts: &Texts) -> Result<(u32, u32), CaseFault> {
+    let draft = draft(alloc, texts)?;
+    if !is_short(&draft) {
+        return Err(CaseFault::TooLong);
+    }
+    match first_rule(alloc, &draft)? {
+        Some(broken) => Ok((broken.rule, broken.item)),
+        None => Ok((0, 0)),
+    }
+}
+
+fn shown_device(alloc: Global, texts: &Texts) -> Result<String, CaseFault> {
+    let draft = draft(alloc, texts)?;
+    if !is_short(&draft) || !(1 <= draft.boundary && draft.boundary < 1000) {
+        return Err(CaseFault::TooLong);
+    }
+    if draft.ir != 2 || first_rule(alloc, &draft)?.is_some() {
+        return Ok(String::from_str(alloc, "no device")?);
+    }
+    let raw = raw_device(alloc, &draft)?;
+    Ok(shown_raw(alloc, &raw)?)
+}
+
+fn shown_raw(alloc: Global, raw: &RawDevice) -> Result<String, AllocError> {
+    let mut shown = String::new(alloc);
+    for bit in raw.bits.as_slice() {
+        add_bit(bit, alloc, &mut shown)?;
+    }
+    for cell in raw.cells.as_slice() {
+        let bit = cell.bit.unwrap_or(99);
+        let line = format!(in alloc; "{} {bit}; ", cell.num)?;
+        shown.push_str(line.as_str())?;
+    }
+    let preload = raw.sample.symbols();
+    let ones = preload.iter().filter(|s| **s == Symbol::One).count();
+    let line = format!(in alloc; "{ones}")?;
+    shown.push_str(line.as_str())?;
+    Ok(shown)
+}
+
+fn add_bit(bit: &PortBit, alloc: Global, shown: &mut String) -> Result<(), AllocError> {
+    let port = bit.port;
+    let index = bit.index.unwrap_or(0);
+    let pin = match &bit.pin {
+        Some(pin) => std::str::from_utf8(pin.bytes()).unwrap_or("?"),
+        None => "-",
+    };
+    let tap = bit.tap;
+    let compliance = bit.compliance;
+    let line = format!(in alloc; "{port} {index} {pin} {tap} {compliance}; ")?;
+    shown.push_str(line.as_str())
+}

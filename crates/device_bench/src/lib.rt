@@ -1,0 +1,22 @@
+//! Comparisons of what BSDL texts denote with what is wanted, for the crate that tests them. Each is proved here once, and no contract
+//! says how it ends: a test is then a table and one call, and has little to prove.
+#![tactic(auto)]
+
+mod case;
+mod devices;
+mod drafts;
+mod lexing;
+mod listing;
+mod parsing;
+mod shown;
+mod source;
+mod strings;
+
+pub use case::CaseFault;
+pub use devices::{devices_hold, packages_hold};
+pub use drafts::{Change, draft_holds, rules_hold};
+pub use lexing::{lexings_hold, tokens_hold};
+pub use listing::{cuts_hold, listing_ends, listings_hold};
+pub use parsing::{Reading, entities_hold, readings_hold};
+pub use source::{BUF2, DRV, Line, Source};
+pub use strings::{Grammar, strings_hold, symbols_hold};

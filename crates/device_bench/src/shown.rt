@@ -1,0 +1,23 @@
+// Names and codes as cases spell them.
+use board_defs::{Code, Symbol};
+use std::alloc::AllocError;
+
+/// The bytes of a name or a token.
+pub fn add_bytes(bytes: &[u8], shown: &mut String) -> Result<(), AllocError> {
+    match std::str::from_utf8(bytes) {
+        Ok(text) => shown.push_str(text),
+        Err(_) => shown.push_str("?"),
+    }
+}
+
+/// The symbols as a string spells them, the bit nearest TDO last.
+pub fn add_code(code: &Code, shown: &mut String) -> Result<(), AllocError> {
+    for symbol in code.symbols().iter().rev() {
+        match symbol {
+            Symbol::Zero => shown.push_str("0")?,
+            Symbol::One => shown.push_str("1")?,
+            Symbol::Any => shown.push_str("X")?,
+        }
+    }
+    Ok(())
+}
