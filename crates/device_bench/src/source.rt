@@ -136,9 +136,8 @@ fn made(alloc: Global, source: &Source) -> Result<Vec<u8>, AllocError> {
         } => {
             let mut made = front_of(alloc, *lines)?;
             made.extend_from_slice(head.as_bytes())?;
-            for _ in 0..*count {
-                made.push(*byte)?;
-            }
+            let fill = vec![in alloc; *byte; *count]?;
+            made.extend_from_slice(&fill)?;
             made.extend_from_slice(tail.as_bytes())?;
             Ok(made)
         }
