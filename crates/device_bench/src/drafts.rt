@@ -4,9 +4,11 @@ ghost use Rattle.device_rules.specs.Rules.{IsShort};
 
 use crate::case::{CaseFault, compare};
 use crate::source::bytes_of;
-use board_defs::{Edition, Items, Mode, Name, PortBit, RawDevice, Symbol};
+use board_defs::{Code, Edition, Items, Mode, Name, PortBit, RawDevice, Symbol};
 use bsdl_parser::{Port, Range};
-use bsdl_strings::{boundary, compliance, opcodes, pattern, pin_map};
+use bsdl_strings::{
+    Compliance, Entry, MapEntry, Opcode, boundary, compliance, opcodes, pattern, pin_map,
+};
 use device_rules::{Draft, TapPorts, first_rule, raw_device};
 use std::alloc::{AllocError, Global};
 
@@ -169,25 +171,54 @@ fn taps(alloc: Global, texts: &Texts) -> Result<TapPorts, AllocError> {
     })
 }
 
+fn opcodes_of(alloc: Global, text: &str) -> Result<Items<Opcode>, CaseFault> {
+    Ok(Items::of(opcodes(alloc, bytes_of(text)?)?))
+}
+
+fn map_of(alloc: Global, text: &str) -> Result<Items<MapEntry>, CaseFault> {
+    Ok(Items::of(pin_map(alloc, bytes_of(text)?)?))
+}
+
+fn entries_of(alloc: Global, text: &str) -> Result<Items<Entry>, CaseFault> {
+    Ok(Items::of(boundary(alloc, bytes_of(text)?)?))
+}
+
+fn code_of(alloc: Global, text: &str) -> Result<Code, CaseFault> {
+    Ok(pattern(alloc, bytes_of(text)?)?)
+}
+
+fn compliance_of(alloc: Global, text: Option<&str>) -> Result<Option<Compliance>, CaseFault> {
+    match text {
+        Some(text) => Ok(Some(compliance(alloc, bytes_of(text)?)?)),
+        None => Ok(None),
+    }
+}
+
 fn draft(alloc: Global, texts: &Texts) -> Result<Draft, CaseFault> {
-    let compliance = match texts.compliance {
-        Some(text) => Some(compliance(alloc, bytes_of(text)?)?),
-        None => None,
-    };
+    let opcodes = opcodes_of(alloc, texts.opcodes)?;
+    let capture = code_of(alloc, texts.capture)?;
+    let idcode = Some(code_of(alloc, texts.idcode)?);
+    let compliance = compliance_of(alloc, texts.compliance)?;
+    let map = map_of(alloc, texts.map)?;
+    let entries = entries_of(alloc, texts.entries)?;
+    let ports = Items::of(ports(alloc, texts.range)?);
+    let taps = taps(alloc, texts)?;
+    let entity = name(alloc, "DRV")?;
+    let package = name(alloc, "P")?;
     Ok(Draft {
-        entity: name(alloc, "DRV")?,
-        package: name(alloc, "P")?,
+        entity,
+        package,
         edition: texts.edition,
-        ports: Items::of(ports(alloc, texts.range)?),
-        taps: taps(alloc, texts)?,
+        ports,
+        taps,
         ir: 2,
-        opcodes: Items::of(opcodes(alloc, bytes_of(texts.opcodes)?)?),
-        capture: pattern(alloc, bytes_of(texts.capture)?)?,
-        idcode: Some(pattern(alloc, bytes_of(texts.idcode)?)?),
+        opcodes,
+        capture,
+        idcode,
         compliance,
         boundary: texts.boundary,
-        map: Items::of(pin_map(alloc, bytes_of(texts.map)?)?),
-        entries: Items::of(boundary(alloc, bytes_of(texts.entries)?)?),
+        map,
+        entries,
     })
 }
 

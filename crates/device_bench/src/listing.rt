@@ -11,9 +11,10 @@ use std::alloc::{AllocError, Global};
 
 /// Tries each text: the listing of its device.
 pub fn listings_hold(alloc: Global, cases: &[(Source, &'static str)]) -> Result<(), CaseFault> {
+    let mut line = Line::new(alloc)?;
     for (case, (source, wanted)) in cases.iter().enumerate() {
         let device = described(alloc, case, source)?;
-        let (has_failed, out) = listed(alloc, &device, None)?;
+        let (has_failed, out) = listed(alloc, &device, &mut line, None)?;
         if has_failed || out.bytes() != wanted.as_bytes() {
             return Err(ended(alloc, case, &out)?);
         }
@@ -24,7 +25,8 @@ pub fn listings_hold(alloc: Global, cases: &[(Source, &'static str)]) -> Result<
 /// Tries a text: the last lines of the listing of its device.
 pub fn listing_ends(alloc: Global, source: Source, end: &str) -> Result<(), CaseFault> {
     let device = described(alloc, 0, &source)?;
-    let (has_failed, out) = listed(alloc, &device, None)?;
+    let mut line = Line::new(alloc)?;
+    let (has_failed, out) = listed(alloc, &device, &mut line, None)?;
     if has_failed || !out.bytes().ends_with(end.as_bytes()) {
         return Err(ended(alloc, 0, &out)?);
     }
@@ -38,8 +40,9 @@ pub fn cuts_hold(
     cases: &[(u32, usize, &'static str)],
 ) -> Result<(), CaseFault> {
     let device = described(alloc, 0, &source)?;
+    let mut line = Line::new(alloc)?;
     for (case, (call, taken, end)) in cases.iter().enumerate() {
-        let (has_failed, out) = listed(alloc, &device, Some(*call))?;
+        let (has_failed, out) = listed(alloc, &device, &mut line, Some(*call))?;
         let bytes = out.bytes();
         if !has_failed || bytes.len() != *taken || !bytes.ends_with(end.as_bytes()) {
             return Err(ended(alloc, case, &out)?);
@@ -59,18 +62,18 @@ fn described(alloc: Global, case: usize, source: &Source) -> Result<Device, Case
     }
 }
 
-/// Whether the listing fails, and what of it is taken, where this put fails.
+/// Whether the listing fails, and what of it is taken, where this put fails. The line may hold what an earlier one left.
 fn listed(
     alloc: Global,
     device: &Device,
+    line: &mut Line,
     failing: Option<u32>,
 ) -> Result<(bool, MemSink), AllocError> {
-    let mut line = Line::new(alloc)?;
     let mut out = MemSink::with_room(alloc, 4000)?;
     if let Some(call) = failing {
         out.fail_at(call, 0)?;
     }
-    let has_failed = write_device(device, &mut line, &mut out).is_err();
+    let has_failed = write_device(device, line, &mut out).is_err();
     Ok((has_failed, out))
 }
 
