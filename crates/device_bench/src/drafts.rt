@@ -1,6 +1,6 @@
 // What texts say of a device, with one rule broken at a time, and the device that it describes.
 ghost use Rattle.std.specs.Prelude.{◌≡◌, true};
-ghost use Rattle.device_rules.specs.Rules.{IsShort};
+ghost use Rattle.device_rules.specs.Rules.{HasShortLists};
 
 use crate::case::{CaseFault, compare};
 use crate::source::bytes_of;
@@ -223,7 +223,7 @@ fn draft(alloc: Global, texts: &Texts) -> Result<Draft, CaseFault> {
 }
 
 fn is_short(draft: &Draft) -> bool
-    ensures { result ≡ true → IsShort draft.now }
+    ensures { result ≡ true → HasShortLists draft.now }
 {
     draft.ports.len() < 1000
         && draft.map.len() < 1000
