@@ -1,10 +1,10 @@
 -- Rows by the values of their digits: what is compared of them, and how positions are marked.
-use Rattle.std.proofs.Common.{◌≡◌, ◌⊎◌, inl, inr, ℕ, suc, ◌+◌, ◌*◌, ◌/◌, ◌%◌, ◌<◌, ◌≤◌, ◌==◌, ◌^◌, Bool, true, false, ◌&&◌, List, length, get_or, min, refl, sym, ap, ◌∙◌, subst, arith}
+use Rattle.std.proofs.Common.{◌≡◌, ◌⊎◌, inl, inr, ℕ, ◌+◌, ◌<◌, ◌≤◌, ◌==◌, Bool, true, false, ◌&&◌, List, length, get_or, min, refl, sym, ap, ◌∙◌, subst, arith}
 use Rattle.std.specs.Int.{bit_at}
-use Rattle.std.specs.Int.Bits.{bit_and, bit_or, bit_xor}
+use Rattle.std.specs.Int.Bits.{bit_and, bit_or}
 use Rattle.std.proofs.lemmas.Bool.{eqb-true, cases_lt}
 use Rattle.std.proofs.lemmas.Nat.{le_or_l, le_or_r}
-use Rattle.std.proofs.lemmas.Nat.Bits.{bit_at-zero, bit_at-lt, bit_at_and, bit_at_xor, bit_at_above, same_from_bits}
+use Rattle.std.proofs.lemmas.Nat.Bits.{bit_at-zero, bit_at_and}
 use Rattle.bt_bits.specs.Digits.{digit_bit}
 use Rattle.walk_test.specs.inner.Digits.{is_one, IsFresh, IsMarked}
 

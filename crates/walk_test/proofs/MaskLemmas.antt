@@ -1,12 +1,11 @@
 -- Rows of a log by their digits, as far as their bits are compared.
-use Rattle.std.proofs.Common.{◌≡◌, ◌⊎◌, inl, inr, ℕ, zero, suc, ◌+◌, ◌*◌, ◌/◌, ◌%◌, ◌<◌, ◌≤◌, ◌==◌, ◌^◌, Bool, true, false, ◌&&◌, List, [], ◌∷◌, length, get_or, min, Decides, refl, sym, ap, ◌∙◌, subst, arith}
-use Rattle.std.specs.Prelude.{All}
+use Rattle.std.proofs.Common.{◌≡◌, ◌⊎◌, inl, inr, ℕ, zero, suc, ◌+◌, ◌*◌, ◌/◌, ◌%◌, ◌<◌, ◌≤◌, ◌==◌, ◌^◌, Bool, true, false, ◌&&◌, List, [], ◌∷◌, length, get_or, min, Decides, refl, sym, ap, ◌∙◌, arith}
 use Rattle.std.specs.Int.{bit_at}
 use Rattle.std.specs.Int.Bits.{bit_and, bit_xor}
 use Rattle.std.proofs.lemmas.Bool.{eqb-true, cases_lt}
 use Rattle.std.proofs.lemmas.List.{get_or_past}
 use Rattle.std.proofs.lemmas.Nat.Bits.{bit_at-zero, bit_at-lt, bit_at_and, bit_at_xor, bit_at_above, same_from_bits}
-use Rattle.bt_bits.specs.Digits.{digit_bit, digit_value, digits_of, bit_value}
+use Rattle.bt_bits.specs.Digits.{digit_bit, digit_value, digits_of}
 use Rattle.bt_bits.specs.Hex.{digit_count}
 use Rattle.bt_bits.proofs.DigitLemmas.{bit_value-le, length-digits_of, digits_of-below, digits_of-get}
 use Rattle.response_log.specs.Kept.{AreRowDigits}

@@ -1,4 +1,4 @@
-use Rattle.std.proofs.Common.{◌≡◌, ℕ, ◌<◌, Decides}
+use Rattle.std.proofs.Common.{◌≡◌, ℕ, ◌<◌}
 use Rattle.walk_test.specs.inner.Digits.{differing}
 use Rattle.walk_test.proofs.digits.are_alike.Given as goal
 

@@ -1,8 +1,8 @@
-use Rattle.std.proofs.Common.{◌≡◌, ◌+◌, ℕ, List, Bool, true, take, length, sym, ap, ◌∙◌}
+use Rattle.std.proofs.Common.{◌≡◌, ℕ, List, Bool, true, length, ap, ◌∙◌}
 use Rattle.scan_planner.specs.Assigned.{assigned}
 use Rattle.scan_planner.proofs.AssignLemmas.{length-assigned}
 use Rattle.walk_test.specs.declared.tables.NetCells.{NetCells}
-use Rattle.walk_test.specs.inner.Reading.{compared_bits, with_compared}
+use Rattle.walk_test.specs.inner.Reading.{with_compared}
 use Rattle.walk_test.proofs.ReadLemmas.{compared_more}
 use Rattle.walk_test.proofs.labels.compared_row.Goals as goal
 

@@ -1,7 +1,7 @@
-use Rattle.std.proofs.Common.{◌≡◌, ℕ, Bool, true, false, List, length, map, sym, ap, subst, ◌∙◌, arith}
+use Rattle.std.proofs.Common.{◌≡◌, ℕ, true, false, List, map, sym, ap, subst, ◌∙◌, arith}
 use Rattle.std.specs.List.{list_all}
 use Rattle.std.proofs.lemmas.List.{with_items_is}
-use Rattle.walk_test.specs.inner.Reading.{AreRead, first_in, is_even, label_of, ShowsAll}
+use Rattle.walk_test.specs.inner.Reading.{first_in, is_even, label_of, ShowsAll}
 use Rattle.walk_test.proofs.ReadLemmas.{compared_length, compared_are, labels_are, even_shows, shows_even}
 use Rattle.walk_test.proofs.labels.shown_labels.Goals as goal
 

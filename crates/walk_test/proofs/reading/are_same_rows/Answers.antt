@@ -1,4 +1,4 @@
-use Rattle.std.proofs.Common.{ℕ, [], get_or, length, subst}
+use Rattle.std.proofs.Common.{ℕ, [], get_or, subst}
 use Rattle.response_log.specs.Kept.{AreRowDigits}
 use Rattle.walk_test.proofs.MaskLemmas.{row_count, same_rows}
 use Rattle.walk_test.proofs.reading.are_same_rows.Goals as goal
