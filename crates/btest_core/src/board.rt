@@ -1,5 +1,5 @@
 // The board of a chain file, a net file and BSDL texts.
-ghost use Rattle.std.specs.Prelude.{◌≡◌, ◌+◌, ◌<◌, ◌≤◌, ◌^◌, All, IfOk, length, map, vec_len};
+ghost use Rattle.std.specs.Prelude.{◌≡◌, ◌+◌, ◌<◌, ◌≤◌, ◌^◌, All, IfOk, false, length, map, vec_len};
 ghost use Rattle.std.specs.List.{AllByRecursion};
 ghost use Rattle.board_files.specs.ChainLines.{HasLength};
 ghost use Rattle.board_files.specs.NetLines.{net_lines};
@@ -90,7 +90,27 @@ fn board_of(
     }
 }
 
-// The board of files and devices, by their joined files. Files without LINK lines are joined already, and aren't copied.
+// The board of files without LINK lines and devices. Such files are joined already, and aren't copied.
+fn unlinked_board(
+    alloc: Global,
+    chain: &ChainFile,
+    nets: &NetFile,
+    devices: Vec<Device>,
+) -> Result<Board, InputFault>
+    requires unlinked { has_link chain.now ≡ false }
+    requires selected { IsChain chain.now }
+    requires lengths { AllByRecursion (λ line. HasLength line.statement) chain.now }
+    requires devices { vec_len devices ≡ length (named EntityName chain.now) }
+    requires chain_lines { length chain.now < 2 ^ 32 }
+    requires net_lines { length nets.now < 2 ^ 32 }
+    requires net_words { AllByRecursion HasFewPins nets.now }
+    ensures { Gives input_told (λ board. board) (IsJoinedBoard chain.now nets.now devices.items) result }
+{
+    unlinked_files();
+    board_of(alloc, chain, nets, devices)
+}
+
+// The board of files and devices, by their joined files.
 fn joined_board(
     alloc: Global,
     chain: &ChainFile,
@@ -106,8 +126,7 @@ fn joined_board(
     ensures { Gives input_told (λ board. board) (IsJoinedBoard chain.now nets devices.items) result }
 {
     if !has_link(chain) {
-        unlinked_files();
-        return board_of(alloc, chain, &nets, devices);
+        return unlinked_board(alloc, chain, &nets, devices);
     }
     match joined_files(alloc, chain, nets) {
         Ok(joined) => board_of(alloc, &joined.chain, &joined.nets, devices),
