@@ -1,7 +1,7 @@
 -- Lemmas on bits that are kept by fours.
 use Rattle.std.proofs.Common.{◌≡◌, ℕ, ◌+◌, ◌-◌, ◌*◌, ◌/◌, ◌%◌, ◌^◌, ◌<◌, ◌≤◌, zero, suc, Bool, true, false, not, List, [], ◌∷◌, ◌++◌, length, take, drop, get_or, set, replicate, refl, sym, ap, ◌∙◌, arith, eqb, length-set}
-use Rattle.std.specs.Prelude.{All, bit_and}
-use Rattle.std.specs.List.{list_all}
+use Rattle.std.specs.Prelude.{All, bit_and, ◌||◌, ◌==◌}
+use Rattle.std.specs.List.{list_all, list_any}
 use Rattle.std.proofs.lemmas.Nat.Bits.{and_pow}
 use Rattle.std.proofs.lemmas.List.{take_more_set, take_all, take-append-drop, length-take-le, drop_all}
 use Rattle.std.proofs.lemmas.Bool.{false≢true}
@@ -66,6 +66,41 @@ digits_of-below (a ∷ b ∷ c ∷ []) =
     All-cons (λ x. x < 16) _ [] (omega (arith, bit_value-le a, bit_value-le b, bit_value-le c)) (All-nil (λ x. x < 16))
 digits_of-below (a ∷ b ∷ c ∷ d ∷ bits) =
     All-cons (λ x. x < 16) _ (digits_of bits) (omega (arith, bit_value-le a, bit_value-le b, bit_value-le c, bit_value-le d)) (digits_of-below bits)
+
+some_of : (a b c d : Bool) → not (digit_value a b c d == 0) ≡ a || b || c || d
+some_of true true true true = refl
+some_of true true true false = refl
+some_of true true false true = refl
+some_of true true false false = refl
+some_of true false true true = refl
+some_of true false true false = refl
+some_of true false false true = refl
+some_of true false false false = refl
+some_of false true true true = refl
+some_of false true true false = refl
+some_of false true false true = refl
+some_of false true false false = refl
+some_of false false true true = refl
+some_of false false true false = refl
+some_of false false false true = refl
+some_of false false false false = refl
+
+or_rest : (a b c d rest : Bool) → (a || b || c || d) || rest ≡ a || (b || (c || (d || rest)))
+or_rest true b c d rest = refl
+or_rest false true c d rest = refl
+or_rest false false true d rest = refl
+or_rest false false false true rest = refl
+or_rest false false false false rest = refl
+
+-- some bit is 1 where some digit is not 0
+pub any_digit : (bits : List Bool) → list_any (λ x. not (x == 0)) (digits_of bits) ≡ list_any (λ bit. bit) bits
+any_digit [] = refl
+any_digit (a ∷ []) = ap (λ some. some || false) (some_of a false false false) ∙ or_rest a false false false false
+any_digit (a ∷ b ∷ []) = ap (λ some. some || false) (some_of a b false false) ∙ or_rest a b false false false
+any_digit (a ∷ b ∷ c ∷ []) = ap (λ some. some || false) (some_of a b c false) ∙ or_rest a b c false false
+any_digit (a ∷ b ∷ c ∷ d ∷ bits) =
+    ap (λ some. some || list_any (λ x. not (x == 0)) (digits_of bits)) (some_of a b c d)
+    ∙ ap (λ rest. (a || b || c || d) || rest) (any_digit bits) ∙ or_rest a b c d (list_any (λ bit. bit) bits)
 
 -- the bits of the digits of bits are these bits
 pub row_bits-digits_of : (bits : List Bool) → row_bits (length bits) (digits_of bits) ≡ bits

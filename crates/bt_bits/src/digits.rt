@@ -1,7 +1,7 @@
 // Bits kept by fours, each four the value of a digit, and the hexadecimal text of digits.
-ghost use Rattle.std.specs.Prelude.{◌≡◌, ◌+◌, ◌-◌, ◌*◌, ◌/◌, ◌<◌, ◌≤◌, ◌^◌, ◌%◌, Bool, List, ℕ, [], ◌∷◌, ◌++◌, length, take, drop, replicate, false, not, Some, None, MatchOption, MatchBool, vec_capacity, All};
+ghost use Rattle.std.specs.Prelude.{◌≡◌, ◌+◌, ◌-◌, ◌*◌, ◌/◌, ◌<◌, ◌≤◌, ◌^◌, ◌%◌, ◌==◌, Bool, List, ℕ, [], ◌∷◌, ◌++◌, length, take, drop, replicate, false, not, Some, None, MatchOption, MatchBool, vec_capacity, All};
 ghost use Rattle.std.specs.Bool.{OnTrue, OnFalse};
-ghost use Rattle.std.specs.List.{list_all};
+ghost use Rattle.std.specs.List.{list_all, list_any};
 ghost use Rattle.bt_bits.specs.Hex.{digit_count, digit_bits, text_bits, field_bits};
 ghost use Rattle.bt_bits.specs.Digits.{bits_of, digit_bit, digit_value, digits_of, row_bits};
 ghost use Rattle.bt_bits.specs.inner.Digits.{AreRead, IsValueOf, digit_char, digits_text, with_bit};
@@ -28,6 +28,13 @@ pub fn digit_bit(digit: u8, k: u32) -> bool
     ensures { result ≡ digit_bit digit k }
 {
     (digit >> k) & 1 == 1
+}
+
+// Whether some digit has a bit that is 1.
+pub fn has_one(digits: &[u8]) -> bool
+    ensures { result ≡ list_any (λ x. not (x == 0)) digits.now }
+{
+    digits.iter().any(|digit| *digit != 0)
 }
 
 // A digit with its bit `k` changed.

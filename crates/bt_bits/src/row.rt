@@ -1,11 +1,13 @@
 ghost use Rattle.std.specs.Prelude.{◌≡◌, ◌≢◌, ◌↔◌, ◌+◌, ◌<◌, ◌≤◌, [], ◌++◌, false, length, take, drop, replicate, slice_get, slice_set, Some, None, IfOk, OnOk, OnErr, IsErrOf};
+ghost use Rattle.std.specs.List.{list_any};
 ghost use Rattle.bt_bits.specs.Digits.{digits_of, row_bits};
 ghost use Rattle.bt_bits.specs.Hex.{hex_text, digit_count, field_bits};
 ghost use Rattle.bt_bits.specs.Rows.{AreDigitsOf};
 
 use crate::Line;
 use crate::digits::{
-    copy_bits, digit_bit, digit_count, fill_field, make_zeros, push_text, read_field, with_bit,
+    copy_bits, digit_bit, digit_count, fill_field, has_one, make_zeros, push_text, read_field,
+    with_bit,
 };
 use std::alloc::{AllocError, Global};
 use std::marker::Model;
@@ -115,6 +117,13 @@ impl Row {
         ensures { slice_get self.now.bits i ≡ Some result }
     {
         digit_bit(self.digits[(i / 4) as usize], i % 4)
+    }
+
+    /// Whether some bit is 1.
+    pub fn has_one(&self) -> bool
+        ensures { result ≡ list_any (λ bit. bit) self.now.bits }
+    {
+        has_one(&self.digits)
     }
 
     /// Changes one bit.

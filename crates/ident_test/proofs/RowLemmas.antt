@@ -152,27 +152,6 @@ tdi_zero (part ∷ patterns) =
     ∙ ap (λ t. tdi_bits (ident_bits patterns) ++ t) (sym (symbols_zero here))
     ∙ sym (map-append (λ b. b.tdi) (ident_bits patterns) (map symbol_bit here))
 
--- whether some bit so far is 1
-any_first : (bits : List Bool) (at : ℕ) (b : Bool) → slice_get bits at ≡ Some b → list_any (λ bit. bit) (take at bits) ≡ false →
-    list_any (λ bit. bit) (take (suc at) bits) ≡ b
-any_first [] at b got h = cc got
-any_first (true ∷ bits) zero b got h = cc got
-any_first (false ∷ bits) zero b got h = cc got
-any_first (true ∷ bits) (suc at) b got h = cc h
-any_first (false ∷ bits) (suc at) b got h = any_first bits at b got h
-
-pub any_more : (bits : List Bool) (at : ℕ) (b : Bool) → slice_get bits at ≡ Some b → list_any (λ bit. bit) (take at bits) ≡ false →
-    list_any (λ bit. bit) (take (at + 1) bits) ≡ b
-any_more bits at b got h =
-    let next : at + 1 ≡ suc at = omega arith in
-    ap (λ n. list_any (λ bit. bit) (take n bits)) next ∙ any_first bits at b got h
-
-pub any_found : (bits : List Bool) (at : ℕ) → slice_get bits at ≡ Some true → list_any (λ bit. bit) bits ≡ true
-any_found [] at got = cc got
-any_found (true ∷ bits) at got = refl
-any_found (false ∷ bits) zero got = cc got
-any_found (false ∷ bits) (suc at) got = any_found bits at got
-
 -- the text of the test is that of its scan, between the head and the tail
 pub text_is : (patterns : List (Option (List Symbol))) → head_text ++ (scan_text (ident_scan patterns) ++ tail_text) ≡ ident_text patterns
 unfolding svf_text

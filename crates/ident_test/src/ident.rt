@@ -1,6 +1,5 @@
 // The text of the identity test.
 ghost use Rattle.std.specs.Prelude.{◌≡◌, ◌+◌, ◌<◌, ◌≤◌, false, length, map, replicate, unwrap_or, is_some, All, IfSome};
-ghost use Rattle.std.specs.List.{list_any};
 ghost use Rattle.bt_base.specs.Puts.{Puts};
 ghost use Rattle.tap_defs.specs.chain.Scan.{tdi_bits, tdo_bits, mask_bits};
 ghost use Rattle.tap_defs.specs.chain.Text.{scan_text};
@@ -120,18 +119,6 @@ fn fill_rows(parts: &[Option<Code>], tdi: &mut Row, tdo: &mut Row, mask: &mut Ro
     set_registers(parts, tdo, mask);
 }
 
-// Whether some bit of a row is 1.
-fn has_one(row: &Row) -> bool
-    ensures { result ≡ list_any (λ bit. bit) row.now.bits }
-{
-    for at in 0..row.len() {
-        if row.get(at) {
-            return true;
-        }
-    }
-    false
-}
-
 // Puts the scan.
 fn put_scan<K: Sink>(
     parts: &[Option<Code>],
@@ -155,7 +142,7 @@ fn put_scan<K: Sink>(
     fill_rows(parts, tdi, tdo, mask);
     let shape = Shape {
         ir: false,
-        compare: has_one(mask),
+        compare: mask.has_one(),
     };
     write_scan(shape, tdi, tdo, mask, line, out)
 }

@@ -2,18 +2,10 @@
 use Rattle.std.proofs.Common.{◌≡◌, ℕ, zero, suc, ◌+◌, ◌<◌, ◌==◌, Bool, true, false, cond, List, [], ◌∷◌, length, take, replicate, get_or, set, refl, sym, ap, ◌∙◌, length-set}
 use Rattle.std.specs.Prelude.{◌||◌}
 use Rattle.std.specs.List.{list_any}
-use Rattle.std.proofs.lemmas.List.Folds.{list_any_more}
 use Rattle.std.proofs.lemmas.Option.{slice_get-get_or, get_or_from_slice_get}
 use Rattle.scan_planner.specs.declared.tables.DriverCell.{DriverCell}
 use Rattle.scan_planner.specs.declared.tables.ReaderCell.{ReaderCell}
 use Rattle.scan_planner.specs.Assigned.{set_readers, set_compared}
-
--- one bit more is looked at
-pub any_more : (bits : List Bool) (i : ℕ) → i < length bits → list_any (λ bit. bit) (take i bits) ≡ false → get_or bits i false ≡ false → list_any (λ bit. bit) (take (i + 1) bits) ≡ false
-any_more bits i less none e =
-    list_any_more (λ bit. bit) bits i false less
-    ∙ ap (λ (t : Bool). t || get_or bits i false) none
-    ∙ e
 
 -- no bit is looked for in zeros
 pub none_of_zeros : (n : ℕ) → list_any (λ bit. bit) (replicate n false) ≡ false

@@ -8,7 +8,6 @@ ghost use Rattle.scan_planner.specs.Tables.{common_rows};
 ghost use Rattle.scan_planner.specs.Plans.{IsPlanOf, IsRoom, FillsScan, scan_count, scan_of_pass};
 
 use crate::passes::{compare_controlled, pass_at, set_controlled, set_held};
-use crate::rows::has_one;
 use crate::tables::{FixedRows, PlanTables};
 use board_defs::Board;
 use bt_bits::Row;
@@ -21,7 +20,7 @@ fn code_shape(mask: &Row) -> Shape
 {
     Shape {
         ir: true,
-        compare: has_one(mask),
+        compare: mask.has_one(),
     }
 }
 
@@ -232,7 +231,7 @@ fn fill_before(
     let _ = board.raw();
     if j > 0 {
         compare_row(board, tables, pass, j - 1, tdo, mask);
-        has_one(mask)
+        mask.has_one()
     } else {
         let len = board.dr_bits();
         tdo.clear(len);

@@ -1,6 +1,5 @@
 // Bits that are set in rows.
 ghost use Rattle.std.specs.Prelude.{◌≡◌, ◌<◌, ◌≤◌, true, length, slice_set, IfOk, All};
-ghost use Rattle.std.specs.List.{list_any};
 ghost use Rattle.scan_planner.specs.Assigned.{assigned, driver_bit, set_readers, set_compared};
 
 use crate::tables::{DriverCell, ReaderCell};
@@ -26,18 +25,6 @@ pub fn row_of(alloc: Global, bits: &[bool]) -> Result<Row, AllocError>
     let mut row = Row::with_room(alloc, bits.len() as u32)?;
     row.copy_from(bits);
     Ok(row)
-}
-
-/// Whether some bit of a row is 1.
-pub fn has_one(row: &Row) -> bool
-    ensures { result ≡ list_any (λ bit. bit) row.now.bits }
-{
-    for i in 0..row.len() {
-        if row.get(i) {
-            return true;
-        }
-    }
-    false
 }
 
 /// Sets the cells of drivers to bit `j` of the codes of their nets.

@@ -3,7 +3,7 @@ use crate::Plan;
 use crate::codes::number_nets;
 use crate::controls::{cells_at, driver_table};
 use crate::observers::Observer;
-use crate::rows::{compare_nets, has_one, set_drivers};
+use crate::rows::{compare_nets, set_drivers};
 use crate::tables::{DriverCell, ReaderCell};
 use crate::uses::{Uses, moving, steady_cells};
 use board_defs::Items;
@@ -54,7 +54,7 @@ fn the_pin_of_the_driver_is_not_compared(rt: HostRuntime) -> Result<(), Fail> {
     let mut mask = Row::with_room(rt.alloc(), 5)?;
     tdo.clear(5);
     mask.clear(5);
-    assert!(rt; !has_one(&mask));
+    assert!(rt; !mask.has_one());
     let drivers = [DriverCell {
         net: 0,
         place: 0,
@@ -70,7 +70,7 @@ fn the_pin_of_the_driver_is_not_compared(rt: HostRuntime) -> Result<(), Fail> {
     };
     let readers = [Items::of(vec![in rt.alloc(); own, other]?)];
     compare_nets(&drivers, &readers, &[1], 0, &mut tdo, &mut mask);
-    assert!(rt; has_one(&mask));
+    assert!(rt; mask.has_one());
     assert!(rt; tdo.get(0) && mask.get(0));
     assert!(rt; !tdo.get(3) && !mask.get(3));
     Ok(())

@@ -7,6 +7,7 @@
 ghost use Rattle.std.specs.Prelude.{◌≡◌, ◌==◌, [], ◌∷◌, true, false, MatchOption, map, IfOk, IfSome, IfNone, option_map, option_copied, length, ◌+◌};
 ghost use Rattle.std.specs.List.{slice_split, list_all};
 ghost use Rattle.std.specs.Char.{is_ascii_graphic};
+ghost use Rattle.memchr.specs.Find.{IsFirstByte, is_byte};
 ghost use Rattle.text_lines.specs.Words.{words_of, is_newline, is_blank, is_word, is_filled, begins_no_comment, begins_blank, begins_word, lines_of, IsCut};
 
 use memchr::{memchr, memchr3};
@@ -60,11 +61,22 @@ pub fn is_word(word: &[u8]) -> bool
     is_filled(word) && word.len() <= 255 && is_graphic(word)
 }
 
+// Where the byte stands first. A text may have millions of lines without a byte, so the first byte is looked at before
+// a search is begun.
+fn place_of(text: &[u8], byte: u8) -> Option<usize>
+    ensures { IsFirstByte (is_byte byte) text.now result }
+{
+    match text {
+        [first, ..] if *first == byte => Some(0),
+        _ => memchr(byte, text),
+    }
+}
+
 /// What stands before and behind the first such byte.
 pub fn cut_at(text: &[u8], byte: u8) -> Option<(&[u8], &[u8])>
     ensures { IsCut (λ b. b == byte) text.now (option_map (λ cut. (cut.0.now, cut.1.now)) result) }
 {
-    match memchr(byte, text) {
+    match place_of(text, byte) {
         Some(i) => Some((&text[..i], &text[i + 1..])),
         None => None,
     }
