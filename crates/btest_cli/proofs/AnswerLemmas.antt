@@ -27,7 +27,8 @@ use Rattle.batch_diag.specs.Batch.{Answer as BatchAnswer, Fails as BatchFails}
 use Rattle.walk_test.specs.WalkTest.{board_walk_text}
 use Rattle.board_defs.specs.declared.board.RawBoard.{RawBoard}
 use Rattle.btest_cli.specs.LogRead.{Judging, OnBoard, OnDenoted, TextFault, Input, Log, Batch as OfBatch, diagnosing, diagnosis_text, grouping, grouping_text, judging_each, verdicts_text}
-use Rattle.btest_cli.specs.Refusals.{roles_of, input_fault_line, text_fault_line}
+use Rattle.refusal_lines.specs.Refusals.{input_fault_line}
+use Rattle.btest_cli.specs.Refusals.{roles_of, text_fault_line}
 use Rattle.btest_cli.specs.Outcome.{IsGiven, IsSaid}
 use Rattle.btest_cli.specs.Worth.{Diagnoses, DiagnosesEach, FindsGroups, IsWorthFor, ListsCover, ListsDevice, OfDenoted, TestsBoard, TestsChain, TestsIdents, WalksBoard}
 use Rattle.board_gen.specs.BoardTexts as made

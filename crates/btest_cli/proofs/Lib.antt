@@ -1,4 +1,3 @@
-pub mod PieceLemmas
 pub mod AnswerLemmas
 pub mod ReadingLemmas
 pub mod RunLemmas

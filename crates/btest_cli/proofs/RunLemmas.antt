@@ -38,7 +38,8 @@ use Rattle.walk_test.specs.Groups.{AreFound, Explain}
 use Rattle.walk_test.specs.Laws.{OneSet}
 use Rattle.walk_test.specs.WalkTest.{board_walk_text}
 use Rattle.btest_cli.specs.LogRead.{IsInputFault, IsJudged, IsWrong, Judging, OnDenoted, TextFault, Input, Log, Batch as OfBatch, diagnosing, diagnosis_text, grouping, grouping_text, judging_each, verdicts_text}
-use Rattle.btest_cli.specs.Refusals.{roles_of, input_fault_line, log_fault_line, batch_fault_line, text_fault_line, long_line, memory_line}
+use Rattle.refusal_lines.specs.Refusals.{input_fault_line, log_fault_line, batch_fault_line, long_line, memory_line}
+use Rattle.btest_cli.specs.Refusals.{roles_of, text_fault_line}
 use Rattle.btest_cli.specs.Outcome.{AsksSome, IsComplete, IsGiven, IsOutcome, IsSaid, IsSaidOfBoard, IsSaidOfChain, IsSaidOfLog, IsSaidOfText, Settles, SomeRose, TookOrCut}
 use Rattle.btest_cli.specs.inner.Failures.{IsUnread, IsPut, IsUnput, wanted_view, unread_status, unread_line, unput_status, unput_line}
 use Rattle.btest_cli.specs.inner.RunOf.{IsRunOf}
@@ -143,7 +144,7 @@ asked_all command asked asked' asks = (length (names_of command), subst (Asks as
 pub run_unread : (command : Command) (held : Held) (before now : Text → ℕ) (asked asked' : List Text) (lost : Unread) (out notes notes' : Shown) → IsUnread held before now asked asked' (wanted_of command) lost → TookOrCut notes notes' (unread_line lost)
     → IsRunOf command held before now asked asked' out out notes notes' (unread_status lost)
 run_unread command held before now asked asked' (unread.TooLong wanted) out notes notes' is noted =
-    refused_run command held before now asked asked' (TooLong (wanted_view wanted)) (long_line (wanted_view wanted)) out notes notes' is.0 is.1 refl noted
+    refused_run command held before now asked asked' (TooLong (wanted_view wanted)) (long_line wanted.name.now wanted.limit) out notes notes' is.0 is.1 refl noted
 run_unread command held before now asked asked' (unread.Failed wanted) out notes notes' is noted = record {
   no_usage = λ e. cc;
   done = λ e. absurd cc;
@@ -594,6 +595,6 @@ some_given devices chains idents boards logs (Batch workers log names) found cou
 
 -- texts that say something give some outcome
 pub some_outcome : SomeDevice → SomeChain → SomeIdents → SomeBoard → LogsSaySome → SomeOutcome
-some_outcome devices chains idents boards logs command texts (TooLong wanted) reads = (Err (long_line wanted), refl)
+some_outcome devices chains idents boards logs command texts (TooLong wanted) reads = (Err (long_line wanted.name wanted.limit), refl)
 some_outcome devices chains idents boards logs command texts (Read found) reads =
     some_given devices chains idents boards logs command found (count_read texts (wanted_of command) found reads ∙ wanted_count command)

@@ -3,7 +3,7 @@ use Rattle.std.proofs.Common.{◌≡◌, ◌<◌, ◌≤◌, ℕ, zero, suc, ◌
 use Rattle.std.specs.Prelude.{IfSome}
 use Rattle.std.proofs.lemmas.List.{take_all}
 use Rattle.bt_base.specs.Puts.{Puts, Shown}
-use Rattle.bt_base.proofs.Cuts.{puts_ok}
+use Rattle.bt_base.proofs.Cuts.{puts_ok, puts_cut}
 use Rattle.board_defs.specs.declared.board.RawBoard.{RawBoard}
 use Rattle.board_defs.specs.declared.board.Ctl.{Ctl}
 use Rattle.board_defs.specs.Passes.{passes_of}
@@ -15,7 +15,6 @@ use Rattle.scan_planner.specs.declared.tables.PlanTables.{PlanTables}
 use Rattle.scan_planner.specs.Plans.{IsPlanOf}
 use Rattle.command_line.specs.Words.{Text}
 use Rattle.btest_cli.specs.LogRead.{test_rows}
-use Rattle.btest_cli.proofs.PieceLemmas.{puts_cut}
 
 same_scan : (x y : Scan) → ◌≡◌ {A = Option Scan} (Some x) (Some y) → x ≡ y
 same_scan x y e = cc

@@ -20,7 +20,8 @@ use Rattle.btest_cli.specs.declared.status.Status.TheVariants.{Done, Refused, No
 use Rattle.btest_cli.specs.Texts.{Held, Wanted, Reading, Read, TooLong, reading_of, IsRead, IsReadUpTo, Asks, AsksFor, wanted_of}
 use Rattle.walk_test.specs.WalkTest.{board_walk_text}
 use Rattle.btest_cli.specs.LogRead.{Judging, OnDenoted, diagnosing, diagnosis_text, grouping, grouping_text, judging_each, verdicts_text}
-use Rattle.btest_cli.specs.Refusals.{roles_of, input_fault_line, text_fault_line, long_line, read_line}
+use Rattle.refusal_lines.specs.Refusals.{input_fault_line, long_line, read_line}
+use Rattle.btest_cli.specs.Refusals.{roles_of, text_fault_line}
 use Rattle.btest_cli.specs.Summary.{summary_text}
 use Rattle.btest_cli.specs.Worth.{IsWorthFor}
 
@@ -67,7 +68,7 @@ IsGiven (Batch workers log names) texts outcome = IsSaidOfLog verdicts_text (tex
 -- the same for what was read: a text that is too long is the first fault
 abbrev pub IsOutcome : Command → Reading → Result Text Text → Type 0
 IsOutcome command (Read texts) outcome = IsGiven command texts outcome
-IsOutcome command (TooLong wanted) outcome = outcome ≡ Err (long_line wanted)
+IsOutcome command (TooLong wanted) outcome = outcome ≡ Err (long_line wanted.name wanted.limit)
 
 -- the texts were read, each asked for once and in order, and the sink took the text that they give
 pub record IsDone (held : Held) (command : Command) (asked asked' : List Text) (old new : Shown) : Type 0 where

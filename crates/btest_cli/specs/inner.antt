@@ -1,5 +1,4 @@
 -- Terms that serve proofs and the contracts of private functions. No public contract cites them.
-pub mod NamesView
 pub mod Answers
 pub mod Failures
 pub mod RunOf

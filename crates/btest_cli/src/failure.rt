@@ -3,17 +3,17 @@ ghost use Rattle.std.specs.Prelude.{◌≡◌};
 ghost use Rattle.bt_base.specs.Puts.{Puts};
 ghost use Rattle.btest_cli.specs.inner.Answers.{unput_batch, unput_log, unput_of};
 ghost use Rattle.btest_cli.specs.inner.Failures.{unread_status, unread_line, unput_status, unput_line};
-ghost use Rattle.btest_cli.specs.inner.NamesView.{names_view};
+ghost use Rattle.refusal_lines.specs.NamesView.{names_view};
 
-use crate::notes::{
-    Names, put_batch_fault, put_input_fault, put_log_fault, put_memory, put_not_read,
-    put_not_written, put_too_long,
-};
 use crate::status::Status;
 use crate::texts::Wanted;
 use batch_diag::BatchFault;
 use bt_base::{PutFault, Sink};
 use btest_core::InputFault;
+use refusal_lines::{
+    Names, put_batch_fault, put_input_fault, put_log_fault, put_memory, put_not_read,
+    put_not_written, put_too_long,
+};
 use response_log::LogFault;
 
 /// Why the texts of a command were not all read.
@@ -99,7 +99,7 @@ pub fn put_unread<N: Sink>(failure: &Unread, notes: &mut N) -> Result<(), PutFau
     ensures { Puts (N.shown notes.old) (N.shown notes.new) (unread_line failure.now) result }
 {
     match failure {
-        Unread::TooLong(wanted) => put_too_long(*wanted, notes),
+        Unread::TooLong(wanted) => put_too_long(wanted.name, wanted.limit, notes),
         Unread::Failed(wanted) => put_not_read(wanted.name, notes),
         Unread::Memory => put_memory(notes),
     }

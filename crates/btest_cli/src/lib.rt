@@ -12,13 +12,12 @@ mod ident_codes;
 mod log_batch;
 mod log_diagnosis;
 mod log_groups;
-mod notes;
 mod planned;
 mod rows;
 mod status;
 mod texts;
 mod top;
 
-pub use notes::put_usage;
+pub use refusal_lines::put_usage;
 pub use status::Status;
 pub use top::run;

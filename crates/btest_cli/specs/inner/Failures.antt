@@ -11,7 +11,8 @@ use Rattle.btest_cli.specs.declared.status.Status.{Status}
 use Rattle.btest_cli.specs.declared.status.Status.TheVariants.{Refused, ReadFault, WriteFault, NoMemory}
 use Rattle.btest_cli.specs.declared.texts.Wanted.{Wanted as Lent}
 use Rattle.btest_cli.specs.Texts.{Held, Wanted, TooLong, Asks, IsRead, IsReadUpTo, names_in}
-use Rattle.btest_cli.specs.Refusals.{Names, roles_of, input_fault_line, log_fault_line, batch_fault_line, long_line, read_line, write_line, memory_line}
+use Rattle.refusal_lines.specs.Refusals.{Names, input_fault_line, log_fault_line, batch_fault_line, long_line, read_line, write_line, memory_line}
+use Rattle.btest_cli.specs.Refusals.{roles_of}
 use Rattle.btest_cli.specs.Outcome.{IsGiven}
 use Rattle.btest_cli.specs.Worth.{IsWorthFor}
 
@@ -25,7 +26,7 @@ unread_status (unread.Failed wanted) = ReadFault
 unread_status unread.Memory = NoMemory
 
 abbrev pub unread_line : Unread → Text
-unread_line (unread.TooLong wanted) = long_line (wanted_view wanted)
+unread_line (unread.TooLong wanted) = long_line wanted.name.now wanted.limit
 unread_line (unread.Failed wanted) = read_line wanted.name.now
 unread_line unread.Memory = memory_line
 

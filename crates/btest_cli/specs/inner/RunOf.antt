@@ -5,7 +5,7 @@ use Rattle.bt_base.specs.Puts.{Shown}
 use Rattle.btest_cli.specs.declared.status.Status.{Status}
 use Rattle.btest_cli.specs.declared.status.Status.TheVariants.{Done, Refused, Usage, ReadFault, WriteFault, NoMemory}
 use Rattle.command_line.specs.Words.{Text, Command}
-use Rattle.btest_cli.specs.Refusals.{write_line, memory_line}
+use Rattle.refusal_lines.specs.Refusals.{write_line, memory_line}
 use Rattle.btest_cli.specs.Texts.{Held}
 use Rattle.btest_cli.specs.Outcome.{AsksSome, IsCutShort, IsDone, IsNotRead, IsRefused, IsWorth, TookOrCut}
 

@@ -4,7 +4,7 @@ use Rattle.std.proofs.lemmas.List.{length-map}
 use Rattle.bt_base.specs.Puts.{Puts}
 use Rattle.command_line.specs.CommandView.{command_view}
 use Rattle.btest_cli.specs.declared.failure.Unput.{Unput}
-use Rattle.btest_cli.specs.Refusals.{Names}
+use Rattle.refusal_lines.specs.Refusals.{Names}
 use Rattle.btest_cli.specs.Texts.{Wanted, Asks, IsRead, Read, names_in, wanted_of}
 use Rattle.btest_cli.specs.inner.Failures.{IsAnswered, IsUnread, unput_line, wanted_view}
 use Rattle.btest_cli.proofs.RunLemmas.{memory_run, none_asked, run_put, run_unread, run_unput, took_or_cut, wanted_count}

@@ -1,10 +1,9 @@
 -- The names of texts without where they lie in memory.
 use Rattle.std.specs.Prelude.{List, [], ◌∷◌, map, string_bytes}
-use Rattle.command_line.specs.Words.{Text}
-use Rattle.btest_cli.specs.declared.notes.Names.{Names as Lent}
-use Rattle.btest_cli.specs.declared.notes.TextNames.{TextNames}
-use Rattle.btest_cli.specs.declared.notes.TextNames.TheVariants as given
-use Rattle.btest_cli.specs.Refusals.{Names}
+use Rattle.refusal_lines.specs.declared.names.Names.{Names as Lent}
+use Rattle.refusal_lines.specs.declared.names.TextNames.{TextNames}
+use Rattle.refusal_lines.specs.declared.names.TextNames.TheVariants as given
+use Rattle.refusal_lines.specs.Refusals.{Names, Text}
 
 abbrev pub text_names_view : TextNames → List Text
 text_names_view (given.One name) = name.now ∷ []

@@ -1,4 +1,4 @@
-use Rattle.btest_cli.proofs.notes.put_too_long.Goals as goal
+use Rattle.refusal_lines.proofs.ends.put_too_long.Goals as goal
 
 pub returns : goal.returns
 returns g c =

@@ -2,7 +2,7 @@ use Rattle.std.proofs.Common.{Ok, take, map, ◌++◌}
 use Rattle.bt_base.specs.Puts.{Puts}
 use Rattle.bt_base.specs.declared.sink.PutFault.{PutFault}
 use Rattle.line_printer.specs.Prints.{whole}
-use Rattle.btest_cli.proofs.notes.put_all.Given as goal
+use Rattle.refusal_lines.proofs.pieces.put_all.Given as goal
 
 -- the pieces so far were put
 abbrev pub invariant-loop-piece : goal.invariant-loop-piece

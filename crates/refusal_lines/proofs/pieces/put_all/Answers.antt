@@ -1,7 +1,7 @@
-use Rattle.bt_base.proofs.Cuts.{puts_err}
-use Rattle.btest_cli.proofs.PieceLemmas.{puts_first, puts_cut, whole-from}
+use Rattle.bt_base.proofs.Cuts.{puts_cut, puts_err}
+use Rattle.refusal_lines.proofs.PieceLemmas.{puts_first, whole-from}
 use Rattle.std.proofs.Common.{arith}
-use Rattle.btest_cli.proofs.notes.put_all.Goals as goal
+use Rattle.refusal_lines.proofs.pieces.put_all.Goals as goal
 
 pub returns-in_err-put : goal.returns-in_err-put
 returns-in_err-put g c = puts_err _ c.put.ensures c.in_err-put.was c.from_residual.ensures.0

@@ -1,9 +1,9 @@
 use Rattle.std.proofs.Common.{subst, sym}
 use Rattle.bt_base.specs.Puts.{Puts}
 use Rattle.btest_core.specs.declared.fault.InputFault.{InputFault}
-use Rattle.btest_cli.specs.inner.NamesView.{names_view}
-use Rattle.btest_cli.specs.Refusals.{input_fault_line}
-use Rattle.btest_cli.proofs.notes.put_input_fault.Goals as goal
+use Rattle.refusal_lines.specs.NamesView.{names_view}
+use Rattle.refusal_lines.specs.Refusals.{input_fault_line}
+use Rattle.refusal_lines.proofs.texts.put_input_fault.Goals as goal
 
 pub returns-in-NoIdent : goal.returns-in-NoIdent
 returns-in-NoIdent g c =

@@ -1,0 +1,167 @@
+-- The lines on standard error.
+use Rattle.std.specs.Prelude.{ℕ, List, [], ◌∷◌, codes, decimal, slice_get, unwrap_or, ◌==◌, if◌then◌else◌}
+use Rattle.line_printer.specs.Prints.{whole}
+use Rattle.board_defs.specs.declared.spot.Spot.{Spot}
+use Rattle.board_files.specs.declared.fault.LineFault.{LineFault}
+use Rattle.board_files.specs.declared.fault.LineFault.TheVariants as line
+use Rattle.board_build.specs.declared.fault.BoardFault.{BoardFault}
+use Rattle.board_build.specs.declared.fault.BoardFault.TheVariants as board
+use Rattle.bsdl_lexer.specs.declared.token.LexFault.{LexFault}
+use Rattle.bsdl_lexer.specs.declared.token.LexFault.TheVariants as lex
+use Rattle.bsdl_parser.specs.declared.fault.ParseFault.{ParseFault}
+use Rattle.bsdl_parser.specs.declared.fault.ParseFault.TheVariants as parse
+use Rattle.device_check.specs.declared.fault.DeviceFault.{DeviceFault}
+use Rattle.device_check.specs.declared.fault.DeviceFault.TheVariants as device
+use Rattle.series_parts.specs.declared.fault.LinkFault.{LinkFault}
+use Rattle.series_parts.specs.declared.fault.LinkFault.TheVariants as link
+use Rattle.btest_core.specs.declared.fault.InputFault.{InputFault}
+use Rattle.btest_core.specs.declared.fault.InputFault.TheVariants as input
+use Rattle.response_log.specs.declared.fault.LogFault.{LogFault}
+use Rattle.response_log.specs.declared.fault.LogFault.TheVariants as log
+use Rattle.batch_diag.specs.declared.fault.BatchFault.{BatchFault}
+use Rattle.batch_diag.specs.declared.fault.BatchFault.TheVariants as batch
+
+abbrev pub Text : Type 0
+Text = List ℕ
+
+abbrev pub usage_line : Text
+usage_line = codes "usage: btest chain, device, cover, svf, diagnose, make, ident, walk, groups or batch\n"
+
+abbrev pub read_line : Text → Text
+read_line name = whole (codes "cannot read " ∷ name ∷ codes "\n" ∷ [])
+
+abbrev pub write_line : Text
+write_line = codes "cannot write\n"
+
+abbrev pub memory_line : Text
+memory_line = codes "out of memory\n"
+
+-- a text, and what is wrong with it
+abbrev pub about : Text → Text → Text
+about name wrong = whole (name ∷ wrong ∷ [])
+
+-- a text that has more bytes than it may
+abbrev pub long_line : Text → ℕ → Text
+long_line name limit = whole (name ∷ codes ": longer than " ∷ decimal limit ∷ codes " bytes\n" ∷ [])
+
+-- a line of a text, and what is wrong with it
+abbrev pub at_line : Text → ℕ → Text → Text
+at_line name n wrong = whole (name ∷ codes " line " ∷ decimal n ∷ wrong ∷ [])
+
+-- a word of a line of a text
+abbrev pub at_spot : Text → Spot → Text → Text
+at_spot name spot wrong = whole (name ∷ codes " line " ∷ decimal spot.line ∷ codes " word " ∷ decimal spot.word ∷ wrong ∷ [])
+
+-- a faulty line of a chain or net file
+abbrev pub line_fault_line : Text → LineFault → Text
+line_fault_line name (line.Statement n) = at_line name n (codes ": no statement\n")
+line_fault_line name (line.Word n) = at_line name n (codes ": word not allowed\n")
+line_fault_line name (line.Number n) = at_line name n (codes ": number not allowed\n")
+line_fault_line name (line.Memory e) = memory_line
+
+-- the names of the texts of a command
+pub record Names : Type 0 where
+  pub log : Text
+  pub chain : Text
+  pub nets : Text
+  pub bsdl : List Text
+
+-- the name of a BSDL text, by its number from 0
+abbrev pub text_name : List Text → ℕ → Text
+text_name names n = unwrap_or (slice_get names n) []
+
+abbrev pub limit_line : ℕ → Text
+limit_line which =
+    if which == 1 then codes "limit: chain parts\n" else (if which == 2 then codes "limit: boundary bits\n"
+    else (if which == 3 then codes "limit: nets\n" else codes "limit: pins\n"))
+
+-- a board rule that fails
+abbrev pub board_fault_line : Names → BoardFault → Text
+board_fault_line names board.NoChain = about names.chain (codes ": no part in the chain\n")
+board_fault_line names (board.PartTwice spot) = at_line names.chain spot.line (codes ": part twice\n")
+board_fault_line names (board.NoEntity spot) = at_line names.chain spot.line (codes ": entity not given\n")
+board_fault_line names (board.EntityTwice text) = about (text_name names.bsdl text) (codes ": entity given twice\n")
+board_fault_line names (board.NoPin spot) = at_spot names.nets spot (codes ": no such pin\n")
+board_fault_line names (board.PinTwice spot) = at_spot names.nets spot (codes ": pin in two nets\n")
+board_fault_line names (board.InertInChain spot) = at_line names.chain spot.line (codes ": inert part in the chain\n")
+board_fault_line names (board.NoSupplyNet spot) = at_line names.chain spot.line (codes ": supply net not there\n")
+board_fault_line names (board.GuardedDriver spot) = at_spot names.nets spot (codes ": driver on a guarded net\n")
+board_fault_line names (board.TwoAlwaysOn spot) = at_spot names.nets spot (codes ": two drivers always on\n")
+board_fault_line names (board.Limit which) = limit_line which
+board_fault_line names (board.NoPullNet spot) = at_line names.chain spot.line (codes ": pulled net not there\n")
+board_fault_line names (board.PullTwice spot) = at_line names.chain spot.line (codes ": net pulled twice\n")
+board_fault_line names (board.Memory e) = memory_line
+
+-- the first bad place of a BSDL text
+abbrev pub lex_fault_line : Text → LexFault → Text
+lex_fault_line name (lex.Byte n) = at_line name n (codes ": byte not allowed\n")
+lex_fault_line name (lex.OpenString n) = at_line name n (codes ": string not closed\n")
+lex_fault_line name (lex.TooMany n) = at_line name n (codes ": too many tokens\n")
+lex_fault_line name (lex.Memory e) = memory_line
+
+-- the first token that can't stand in a BSDL text
+abbrev pub parse_fault_line : Text → ParseFault → Text
+parse_fault_line name (parse.Expected n) = at_line name n (codes ": not in the grammar\n")
+parse_fault_line name (parse.Package n) = at_line name n (codes ": package text\n")
+parse_fault_line name (parse.Memory e) = memory_line
+
+-- the attribute with this number, of those whose strings are read
+abbrev pub attribute_name : ℕ → Text
+attribute_name n =
+    if n == 7 then codes "INSTRUCTION_OPCODE" else (if n == 8 then codes "INSTRUCTION_CAPTURE"
+    else (if n == 10 then codes "BOUNDARY_REGISTER" else (if n == 12 then codes "IDCODE_REGISTER"
+    else (if n == 13 then codes "COMPLIANCE_PATTERNS" else codes "PIN_MAP_STRING"))))
+
+-- a rule of a device, with the first item that breaks it
+abbrev pub rule_line : Text → ℕ → ℕ → Text
+rule_line name number item = whole (name ∷ codes ": rule V" ∷ decimal number ∷ codes " item " ∷ decimal item ∷ codes "\n" ∷ [])
+
+-- a string of a device, with the entry at which it leaves its grammar
+abbrev pub string_line : Text → ℕ → ℕ → Text
+string_line name attribute entry = whole (name ∷ codes ": " ∷ attribute_name attribute ∷ codes " entry " ∷ decimal entry ∷ codes "\n" ∷ [])
+
+-- the first rule or string of a device that fails
+abbrev pub device_fault_line : Text → DeviceFault → Text
+device_fault_line name (device.Rule number item) = rule_line name number item
+device_fault_line name (device.Text attribute entry) = string_line name attribute entry
+device_fault_line name (device.Memory e) = memory_line
+
+-- the first pin of a LINK line that stands in no net
+abbrev pub link_fault_line : Text → LinkFault → Text
+link_fault_line name (link.NoLinkPin spot) = at_spot name spot (codes ": link pin not in a net\n")
+link_fault_line name (link.Memory e) = memory_line
+
+-- the first fault of the texts
+abbrev pub input_fault_line : Names → InputFault → Text
+input_fault_line names (input.Chain fault) = line_fault_line names.chain fault
+input_fault_line names (input.Nets fault) = line_fault_line names.nets fault
+input_fault_line names (input.Lex text fault) = lex_fault_line (text_name names.bsdl text) fault
+input_fault_line names (input.Parse text fault) = parse_fault_line (text_name names.bsdl text) fault
+input_fault_line names (input.Board fault) = board_fault_line names fault
+input_fault_line names (input.Device text fault) = device_fault_line (text_name names.bsdl text) fault
+input_fault_line names (input.Link fault) = link_fault_line names.chain fault
+input_fault_line names (input.NoIdent line) = at_line names.chain line (codes ": part without a description\n")
+input_fault_line names (input.Memory e) = memory_line
+
+-- a log of which so many rows are wanted
+abbrev pub log_fault_line : Text → ℕ → LogFault → Text
+log_fault_line name rows (log.Digit n) = at_line name n (codes ": digit not allowed\n")
+log_fault_line name rows (log.Length n) = at_line name n (codes ": wrong length\n")
+log_fault_line name rows (log.Extra n) = at_line name n (codes ": row too many\n")
+log_fault_line name rows (log.Missing found) = whole (name ∷ codes ": " ∷ decimal found ∷ codes " rows of " ∷ decimal rows ∷ codes "\n" ∷ [])
+log_fault_line name rows (log.Memory e) = memory_line
+
+-- the lines of a block of a batch that are no log, by the number of its board; so many rows are wanted
+abbrev pub block_fault_line : Text → ℕ → ℕ → LogFault → Text
+block_fault_line name rows board (log.Digit n) = log_fault_line name rows (log.Digit n)
+block_fault_line name rows board (log.Length n) = log_fault_line name rows (log.Length n)
+block_fault_line name rows board (log.Extra n) = log_fault_line name rows (log.Extra n)
+block_fault_line name rows board (log.Missing found) = whole (name ∷ codes " board " ∷ decimal board ∷ codes ": " ∷ decimal found ∷ codes " rows of " ∷ decimal rows ∷ codes "\n" ∷ [])
+block_fault_line name rows board (log.Memory e) = memory_line
+
+-- a batch of logs of which so many rows are wanted
+abbrev pub batch_fault_line : Text → ℕ → BatchFault → Text
+batch_fault_line name rows (batch.Start n) = at_line name n (codes ": no board yet\n")
+batch_fault_line name rows (batch.Title n) = at_line name n (codes ": board not allowed\n")
+batch_fault_line name rows (batch.Inner board fault) = block_fault_line name rows board fault
+batch_fault_line name rows (batch.Memory e) = memory_line
