@@ -29,7 +29,7 @@ fn ports_taps_and_pins(rt: HostRuntime) -> Result<(), CaseFault> {
     rules_hold(rt.alloc(), &PORTS_AND_PINS)
 }
 
-static INSTRUCTIONS: [(Change, (u32, u32)); 17] = [
+static INSTRUCTIONS: [(Change, (u32, u32)); 20] = [
     (Change::Opcodes("SAMPLE (100)"), (5, 1)),
     (Change::Opcodes("SAMPLE (10), EXTEST (00, 0)"), (5, 2)),
     (Change::Opcodes("SAMPLE (10), SAMPLE (10)"), (5, 2)),
@@ -40,10 +40,18 @@ static INSTRUCTIONS: [(Change, (u32, u32)); 17] = [
     (Change::Opcodes("SAMPLE (10), EXTEST (01)"), (6, 2)),
     (Change::Opcodes("SAMPLE (10), EXTEST (01, X0)"), (0, 0)),
     (Change::Opcodes("SAMPLE (10), BYPASS (10)"), (6, 3)),
+    // one of several codes is enough, and X fits
+    (Change::Opcodes("SAMPLE (10), BYPASS (10, 11)"), (0, 0)),
+    (Change::Opcodes("SAMPLE (10), BYPASS (1X)"), (0, 0)),
     (Change::Of2001("SAMPLE (10)"), (6, 2)),
     (Change::Of2001("PRELOAD (11), SAMPLE (10)"), (6, 1)),
     (Change::Of2001("PRELOAD (00), EXTEST (0X)"), (6, 2)),
     (Change::Of2001("PRELOAD (00), EXTEST (01)"), (0, 0)),
+    // SAMPLE is not loaded where PRELOAD is listed
+    (
+        Change::Of2001("SAMPLE (11), PRELOAD (00), EXTEST (01)"),
+        (0, 0),
+    ),
     (Change::Capture("10"), (7, 1)),
     (Change::Capture("001"), (7, 1)),
     (Change::Idcode("01"), (7, 2)),

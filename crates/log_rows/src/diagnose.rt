@@ -132,6 +132,54 @@ static BOARDS: [Row; 4] = [
     },
 ];
 
+// A bus of two drivers, which two passes enable one after the other.
+const BUS: &str = "DEVICE U1 TS -\nDEVICE U2 TS -\nDEVICE U3 RCV1 -\n";
+
+static BUS_LOGS: [(&str, Ending<'static>); 5] = [
+    ("01\n00\n01\n00\n", Ending::Puts("PASS\n")),
+    // One driver alone is open, and its pass shows it.
+    ("00\n00\n01\n00\n", Ending::Puts("FAIL 1\nopen U1.1 0\n")),
+    ("01\n00\n01\n01\n", Ending::Puts("FAIL 1\nopen U2.1 1\n")),
+    (
+        "00\n00\n00\n00\n",
+        Ending::Puts("FAIL 2\nstuck BUS 0\nopen U3.1 0\n"),
+    ),
+    ("00\n00\n01\n01\n", Ending::Puts("FAIL 0\n")),
+];
+
+// Two controls that exclude each other: the first pass shows A and X, the second X and B.
+const APART: &str = "DEVICE U1 TWO -\nDEVICE U2 RCV -\nDEVICE U3 RCV -\n";
+
+const APART_NETS: &str = "NET A U1.1 U2.1\nNET X U1.2 U1.3 U2.2\nNET B U1.4 U3.1\n";
+
+static APART_LOGS: [(&str, Ending<'static>); 4] = [
+    ("004\n008\n000\n001\n009\n000\n", Ending::Puts("PASS\n")),
+    (
+        "000\n008\n000\n001\n009\n000\n",
+        Ending::Puts("FAIL 3\nstuck A 0\nopen U1.1 0\nopen U2.1 0\n"),
+    ),
+    (
+        "000\n000\n000\n001\n009\n000\n",
+        Ending::Puts("FAIL 1\nshort AND A X\n"),
+    ),
+    // A and B are wrong, which are not paired.
+    ("000\n008\n000\n000\n008\n000\n", Ending::Puts("FAIL 0\n")),
+];
+
+#[test]
+fn a_net_is_judged_by_each_pass_that_shows_it(rt: HostRuntime) -> Result<(), RowFault> {
+    let bus = [("c", BUS), ("n", "NET BUS U1.1 U2.1 U3.1\n")];
+    logs_hold(&rt, rt.alloc(), &bus, "diagnose 2 g c n ts rcv1", &BUS_LOGS)?;
+    let apart = [("c", APART), ("n", APART_NETS)];
+    logs_hold(
+        &rt,
+        rt.alloc(),
+        &apart,
+        "diagnose 2 g c n two rcv",
+        &APART_LOGS,
+    )
+}
+
 #[test]
 fn pulls_and_links_are_read_as_the_test_has_them(rt: HostRuntime) -> Result<(), RowFault> {
     rows_hold(&rt, rt.alloc(), &[], &BOARDS)

@@ -84,7 +84,28 @@ fn groups_are_of_the_nets_that_walk(rt: HostRuntime) -> Result<(), RowFault> {
     logs_hold(&rt, rt.alloc(), &texts, LINE, &MIXED_LOGS)
 }
 
-static ROWS: [Row; 5] = [
+// Two cells read the first net.
+const READ_TWICE: &str = "DEVICE U1 DRV -\nDEVICE U2 RCV -\nDEVICE U3 RCV1 -\n";
+
+const TWICE_NETS: &str = "NET N1 U1.1 U2.1 U3.1\nNET N2 U1.2 U2.2\n";
+
+static ROWS: [Row; 8] = [
+    Row {
+        texts: &[("c", READ_TWICE), ("n", TWICE_NETS), ("g", "03\n04\n")],
+        line: LINE,
+        ending: Ending::Puts("GROUPS 0\n"),
+    },
+    Row {
+        texts: &[("c", READ_TWICE), ("n", TWICE_NETS), ("g", "07\n07\n")],
+        line: LINE,
+        ending: Ending::Puts("GROUPS 1\nGROUP 2\nNET N1\nNET N2\n"),
+    },
+    // They do not agree.
+    Row {
+        texts: &[("c", READ_TWICE), ("n", TWICE_NETS), ("g", "02\n04\n")],
+        line: LINE,
+        ending: Ending::Puts("GROUPS none\n"),
+    },
     // Joined nets are in a group by the first of their names.
     Row {
         texts: &[("c", LINKED), ("n", LINKED_NETS), ("g", "3\n3\n")],
