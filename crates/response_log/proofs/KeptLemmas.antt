@@ -1,5 +1,5 @@
 -- Rows of bits that are kept as digits, one row after the other.
-use Rattle.std.proofs.Common.{◌≡◌, ℕ, ◌+◌, ◌*◌, ◌/◌, ◌%◌, ◌<◌, ◌≤◌, zero, suc, Bool, false, Some, List, [], ◌∷◌, ◌++◌, length, take, drop, get_or, refl, sym, ap, ◌∙◌, arith, length-drop, length-append, option_and_then}
+use Rattle.std.proofs.Common.{◌≡◌, ℕ, ◌+◌, ◌*◌, ◌/◌, ◌%◌, ◌<◌, ◌≤◌, zero, suc, Bool, false, Some, List, [], ◌∷◌, ◌++◌, length, take, drop, get_or, refl, sym, ap, ◌∙◌, arith, length-drop, length-append, option_and_then, subst}
 use Rattle.std.specs.Prelude.{All, slice_get}
 use Rattle.std.specs.Global.{Vec}
 use Rattle.std.specs.Vec.{with_items}
@@ -12,7 +12,7 @@ use Rattle.bt_bits.specs.Hex.{digit_count}
 use Rattle.bt_bits.specs.Digits.{bits_of, digit_bit, digits_of, row_bits}
 use Rattle.bt_bits.proofs.DigitLemmas.{length-digits_of, row_bits-is}
 use Rattle.bt_bits.proofs.TextLemmas.{length-row_bits}
-use Rattle.response_log.specs.Kept.{AreRowDigits, kept_rows}
+use Rattle.response_log.specs.Kept.{AreRowDigits, AreWhole, kept_rows}
 use Rattle.response_log.specs.LogRows.{HasSize, log_bit}
 
 pub length-kept_rows : (len rows : ℕ) (digits : List ℕ) → length (kept_rows len rows digits) ≡ rows
@@ -57,6 +57,39 @@ pub length-more : (len rows : ℕ) (digits next : List ℕ) (bits : List Bool) �
 length-more len rows digits next bits is sized long =
     let more : (rows + 1) * digit_count len ≡ rows * digit_count len + digit_count len = ap (λ n. n * digit_count len) (omega arith) ∙ suc-mul rows (digit_count len) in
     ap length is ∙ length-append digits (digits_of bits) ∙ omega (arith, more, sized, length-digits_of bits, long)
+
+-- a row more of digits that are those of its bits
+whole-push : (len rows : ℕ) (digits bits : List ℕ) → length digits ≡ rows * digit_count len → length bits ≡ digit_count len → bits ≡ digits_of (row_bits len bits) → AreWhole len rows digits → AreWhole len (suc rows) (digits ++ bits)
+whole-push len zero digits bits sized long own whole =
+    let none : digits ≡ [] = nil_from_length digits (omega arith) in
+    let same : take (digit_count len) (digits ++ bits) ≡ bits = ap (λ ds. take (digit_count len) (ds ++ bits)) none ∙ take_all (digit_count len) bits (omega arith) in (
+      same ∙ own ∙ sym (ap (λ ds. digits_of (row_bits len ds)) same),
+      tt,
+    )
+whole-push len (suc rows) digits bits sized long own whole =
+    let first = has_first (digit_count len) rows digits sized in
+    let same = take-append-le (digit_count len) digits bits first in
+    let behind = whole-push len rows (drop (digit_count len) digits) bits (length-behind (digit_count len) rows digits sized) long own whole.1 in (
+      same ∙ whole.0 ∙ sym (ap (λ ds. digits_of (row_bits len ds)) same),
+      subst (AreWhole len (suc rows)) (sym (drop-append-le (digit_count len) digits bits first)) behind,
+    )
+
+-- the same where the digits were appended
+pub whole-more : (len rows : ℕ) (digits next bits : List ℕ) → next ≡ digits ++ bits → length digits ≡ rows * digit_count len → length bits ≡ digit_count len → bits ≡ digits_of (row_bits len bits) → AreWhole len rows digits → AreWhole len (rows + 1) next
+whole-more len rows digits next bits is sized long own whole =
+    let more : suc rows ≡ rows + 1 = omega arith in
+    subst (λ (n : ℕ). AreWhole len n next) more (subst (AreWhole len (suc rows)) (sym is) (whole-push len rows digits bits sized long own whole))
+
+-- the digits of a row are those of its bits
+whole-get : (len rows : ℕ) (digits : List ℕ) (row : ℕ) → row < rows → AreWhole len rows digits → take (digit_count len) (drop (row * digit_count len) digits) ≡ digits_of (row_bits len (take (digit_count len) (drop (row * digit_count len) digits)))
+whole-get len zero digits row within whole = absurd (omega arith)
+whole-get len (suc rows) digits zero within whole =
+    let none : 0 * digit_count len ≡ 0 = omega arith in
+    subst (λ (n : ℕ). take (digit_count len) (drop n digits) ≡ digits_of (row_bits len (take (digit_count len) (drop n digits)))) (sym none) whole.0
+whole-get len (suc rows) digits (suc row) within whole =
+    let place : digit_count len + row * digit_count len ≡ suc row * digit_count len = omega (arith, suc-mul row (digit_count len)) in
+    let there : drop (row * digit_count len) (drop (digit_count len) digits) ≡ drop (suc row * digit_count len) digits = drop-drop (row * digit_count len) (digit_count len) digits ∙ ap (λ n. drop n digits) place in
+    subst (λ (ds : List ℕ). take (digit_count len) ds ≡ digits_of (row_bits len (take (digit_count len) ds))) there (whole-get len rows (drop (digit_count len) digits) row (omega arith) whole.1)
 
 -- digits that were written over zeros at the end of a vector are appended
 pub row_appended : (longer all : Vec ℕ) (old lent zeros places rest : List ℕ) (first width : ℕ) → all ≡ with_items longer (take first lent ++ (places ++ rest)) → first ≡ length old → lent ≡ take (first + width) old ++ zeros → longer.len ≡ first + width → length places ≡ width → rest ≡ [] → all.items ≡ old ++ places
@@ -137,9 +170,9 @@ kept_rows-size len rows digits sized = record {
 }
 
 -- the digits of a row of rows that are seen
-pub kept_digits : (len rows : ℕ) (digits : List ℕ) (log : List (List Bool)) (row : ℕ) → length digits ≡ rows * digit_count len → kept_rows len rows digits ≡ log → row < length log →
+pub kept_digits : (len rows : ℕ) (digits : List ℕ) (log : List (List Bool)) (row : ℕ) → length digits ≡ rows * digit_count len → AreWhole len rows digits → kept_rows len rows digits ≡ log → row < length log →
     (row * digit_count len + digit_count len ≤ length digits) × AreRowDigits (get_or log row []) (take (digit_count len) (drop (row * digit_count len) digits))
-kept_digits len rows digits log row sized is within =
+kept_digits len rows digits log row sized whole is within =
     let here : row < rows = omega (arith, within, ap length is, length-kept_rows len rows digits) in
     let inside = row_within (digit_count len) rows digits row sized here in
     let mine : List ℕ = take (digit_count len) (drop (row * digit_count len) digits) in
@@ -149,6 +182,7 @@ kept_digits len rows digits log row sized is within =
     let sized_row : length (get_or log row []) ≡ len = ap length row_is ∙ length-row_bits len mine long in (
       inside,
       record {
+        values = whole-get len rows digits row here whole ∙ ap digits_of (sym row_is);
         count = long ∙ ap digit_count (sym sized_row);
         bits = λ at below. ap (λ (l : List Bool). get_or l at false) row_is
             ∙ get_or_from_slice_get (row_bits len mine) at (digit_bit (get_or mine (at / 4) 0) (at % 4)) false (row_bits-get len mine at long (omega (arith, below, sized_row)));

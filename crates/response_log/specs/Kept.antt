@@ -1,6 +1,6 @@
 -- How the rows of a log are kept: the values of the digits of each row, one row after the other.
 use Rattle.std.specs.Prelude.{◌≡◌, ℕ, zero, suc, ◌/◌, ◌%◌, ◌<◌, Bool, false, List, [], ◌∷◌, take, drop, length, slice_index_or}
-use Rattle.bt_bits.specs.Digits.{digit_bit, row_bits}
+use Rattle.bt_bits.specs.Digits.{digit_bit, digits_of, row_bits}
 use Rattle.bt_bits.specs.Hex.{digit_count}
 
 -- so many rows of so many bits each
@@ -8,7 +8,13 @@ abbrev pub kept_rows : ℕ → ℕ → List ℕ → List (List Bool)
 kept_rows len zero digits = []
 kept_rows len (suc rows) digits = row_bits len (take (digit_count len) digits) ∷ kept_rows len rows (drop (digit_count len) digits)
 
+-- the digits of each row hold its bits and nothing else
+abbrev pub AreWhole : ℕ → ℕ → List ℕ → Type 0
+AreWhole len zero digits = Unit {0}
+AreWhole len (suc rows) digits = (take (digit_count len) digits ≡ digits_of (row_bits len (take (digit_count len) digits))) × AreWhole len rows (drop (digit_count len) digits)
+
 -- the values of the digits of a row: each has four bits
 pub record AreRowDigits (row : List Bool) (digits : List ℕ) : Type 0 where
+  pub values : digits ≡ digits_of row
   pub count : length digits ≡ digit_count (length row)
   pub bits : (at : ℕ) → at < length row → slice_index_or row at false ≡ digit_bit (slice_index_or digits (at / 4) 0) (at % 4)

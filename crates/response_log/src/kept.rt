@@ -1,7 +1,7 @@
 // A log in memory.
 ghost use Rattle.std.specs.Prelude.{◌≡◌, ◌+◌, ◌*◌, ◌<◌, ◌≤◌, [], length, take, drop, slice_index_or, All, Some};
 ghost use Rattle.bt_bits.specs.Hex.{digit_count};
-ghost use Rattle.response_log.specs.Kept.{AreRowDigits, kept_rows};
+ghost use Rattle.response_log.specs.Kept.{AreRowDigits, AreWhole, kept_rows};
 ghost use Rattle.response_log.specs.LogRows.{log_bit};
 
 use bt_bits::digit_bit;
@@ -37,19 +37,20 @@ pub struct Log {
 impl Model for Log {
     ghost use Rattle.std.specs.Prelude.{◌≡◌, ◌*◌, List, Bool, length};
     ghost use Rattle.bt_bits.specs.Hex.{digit_count};
-    ghost use Rattle.response_log.specs.Kept.{kept_rows};
+    ghost use Rattle.response_log.specs.Kept.{AreWhole, kept_rows};
 
     ghost Value = { List (List Bool) };
 
     ghost view = { λ a. kept_rows a.len a.rows a.digits.items };
 
-    ghost invariant = { λ a. length a.digits.items ≡ a.rows * digit_count a.len };
+    ghost invariant = { λ a. (length a.digits.items ≡ a.rows * digit_count a.len) × AreWhole a.len a.rows a.digits.items };
 }
 
 impl Log {
     // The log of so many rows of `len` bits each, whose digits are these.
     pub(crate) fn of(digits: Vec<u8>, rows: u64, len: u32) -> Log
-        requires { length digits.items ≡ rows * digit_count len }
+        requires count { length digits.items ≡ rows * digit_count len }
+        requires whole { AreWhole len rows digits.items }
         ensures { result ≡ kept_rows len rows digits.items }
     {
         Log { digits, rows, len }

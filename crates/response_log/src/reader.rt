@@ -4,7 +4,7 @@ ghost use Rattle.bt_bits.specs.Digits.{row_bits};
 ghost use Rattle.bt_bits.specs.Hex.{digit_count};
 ghost use Rattle.bt_bits.specs.Rows.{AreDigitsOf};
 ghost use Rattle.response_log.specs.LogRows.{Gives, GivesBy, HasSize, bits_of_line, line_of, log_rows, row_fault};
-ghost use Rattle.response_log.specs.Kept.{kept_rows};
+ghost use Rattle.response_log.specs.Kept.{AreWhole, kept_rows};
 
 use crate::fault::LogFault;
 use crate::kept::{Log, digit_count};
@@ -38,6 +38,7 @@ fn read_rows(alloc: Global, bytes: &[u8], rows: u64, len: u32) -> Result<Vec<u8>
     requires { length bytes.now < 2 ^ 32 }
     ensures read { GivesBy (λ digits. kept_rows len rows digits.items) result (log_rows bytes.now rows len) }
     ensures count { IfOk result (λ digits. length digits.items ≡ rows * digit_count len) }
+    ensures whole { IfOk result (λ digits. AreWhole len rows digits.items) }
 {
     let width = digit_count(len);
     let mut digits = Vec::with_capacity(alloc, room(bytes, rows, len))?;

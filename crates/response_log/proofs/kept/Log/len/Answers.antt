@@ -6,4 +6,4 @@ use Rattle.response_log.proofs.kept.Log.len.Goals as goal
 pub returns : goal.returns
 returns c =
     All-same (λ (bits : List Bool). length bits ≡ c.self.inside.len) _ _ (sym c.self.view_is)
-    (kept_rows-lengths c.self.inside.len c.self.inside.rows c.self.inside.digits.items c.self.invariant)
+    (kept_rows-lengths c.self.inside.len c.self.inside.rows c.self.inside.digits.items c.self.invariant.0)
