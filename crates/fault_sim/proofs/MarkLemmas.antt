@@ -18,7 +18,6 @@ use Rattle.board_defs.specs.BoardRules.{IsBoard}
 use Rattle.board_defs.specs.Pins.{data_bits, is_same}
 use Rattle.board_defs.proofs.Members.{Has, has_at, has_any}
 use Rattle.board_defs.proofs.Places.{all_from}
-use Rattle.tap_defs.specs.declared.scan.Shape.{Shape}
 use Rattle.tap_defs.specs.chain.Scan.{ScanBit, Scan, joined, tdo_bits, mask_bits, scan_bits}
 use Rattle.tap_defs.specs.board.TestRows.{code_row, code_bit, net_code_bit, expect_bit}
 use Rattle.tap_defs.specs.board.BoardScans.{row_bits, scan_of_row, row_now, row_before, test_scans, AreTestScans}
@@ -28,13 +27,12 @@ use Rattle.scan_planner.specs.declared.tables.ReaderCell.{ReaderCell}
 use Rattle.scan_planner.specs.declared.tables.PlanTables.{PlanTables}
 use Rattle.scan_planner.specs.Tables.{first_position}
 use Rattle.scan_planner.specs.Plans.{IsPlanOf, FillsScan, scan_of_pass}
-use Rattle.scan_planner.proofs.LaidLemmas.{laid_at, length-laid, tdi_laid, tdo_laid, mask_laid}
+use Rattle.scan_planner.proofs.LaidLemmas.{laid_at, length-laid, tdo_laid, mask_laid}
 use Rattle.scan_planner.proofs.FillLemmas.{some_at}
 use Rattle.fault_sim.specs.declared.effect.Effect.TheVariants.{Plain}
-use Rattle.fault_sim.specs.declared.marks.ScanRows.{ScanRows}
 use Rattle.fault_sim.specs.Effects.{readers_in, code_in, driver_in}
 use Rattle.fault_sim.specs.Fits.{bit_in, cell_shows, ShowBy, NetShows, ShowsOn}
-use Rattle.fault_sim.specs.inner.Marks.{CompareAt, HasExpected, MarkRows, AreMarks, are_marked, compared_in, expected_in}
+use Rattle.fault_sim.specs.inner.Marks.{HasExpected, MarkRows, AreMarks, are_marked, compared_in, expected_in}
 use Rattle.fault_sim.proofs.ShowLemmas.{ComparedCell, compared_cell, bits_same}
 
 -- numbers that agree wherever a third has a 1
@@ -73,22 +71,6 @@ module _ (start marks : List ℕ) (wrong : ℕ → ℕ) (k : ℕ) (left : (i : �
   pub unmarked_left : (mark i : ℕ) → k + 1 ≤ i → get_or (set marks k mark) i 0 ≡ get_or start i 0
   unmarked_left mark i le = get_or-set_other marks k i mark 0 (λ same. omega (arith, le, same)) ∙ left i (omega (arith, le))
 
--- what a scan of these rows compares
-scan_bits-at : (tdi tdo mask : List Bool) (at : ℕ) → get_or (mask_bits (scan_bits tdi tdo mask)) at false ≡ true →
-    (get_or mask at false ≡ true) × (get_or (tdo_bits (scan_bits tdi tdo mask)) at false ≡ get_or tdo at false)
-scan_bits-at [] tdo mask at e = cc e
-scan_bits-at (i ∷ tdi) [] mask at e = cc e
-scan_bits-at (i ∷ tdi) (o ∷ tdo) [] at e = cc e
-scan_bits-at (i ∷ tdi) (o ∷ tdo) (true ∷ mask) zero e = (refl, refl)
-scan_bits-at (i ∷ tdi) (o ∷ tdo) (false ∷ mask) zero e = cc e
-scan_bits-at (i ∷ tdi) (o ∷ tdo) (m ∷ mask) (suc at) e = scan_bits-at tdi tdo mask at e
-
-length-scan_bits : (tdi tdo mask : List Bool) → length tdo ≡ length tdi → length mask ≡ length tdi → length (scan_bits tdi tdo mask) ≡ length tdi
-length-scan_bits [] tdo mask d m = refl
-length-scan_bits (i ∷ tdi) [] mask d m = absurd (omega (arith, d))
-length-scan_bits (i ∷ tdi) (o ∷ tdo) [] d m = absurd (omega (arith, m))
-length-scan_bits (i ∷ tdi) (o ∷ tdo) (b ∷ mask) d m = ap suc (length-scan_bits tdi tdo mask (omega (arith, d)) (omega (arith, m)))
-
 -- a row of a pass is one of the log
 pub row_there : (passes width x j rows : ℕ) → rows ≡ passes * width → x < passes → j < width → x * width + j < rows
 row_there passes width x j rows count x_less j_less = omega (arith, mul-add-lt x width j passes x_less j_less, commute width passes, count)
@@ -97,57 +79,23 @@ row_there passes width x j rows count x_less j_less = omega (arith, mul-add-lt x
     commute a b = grind arith
 
 module _ (board : RawBoard) (plan : PlanTables) where
-  -- the rows that the plan fills compare what is to be compared
-  pub compare_at : (k x j : ℕ) (shape : Shape) (rows : ScanRows) → AreTestScans board plan.passes plan.width (test_scans board plan.passes plan.width) → k ≡ 3 + x * (plan.width + 1) + j + 1 → x < length plan.passes → j < plan.width →
-      FillsScan board plan.passes plan.width k shape rows.tdi.bits rows.tdo.bits rows.mask.bits → CompareAt board plan x j rows
-  compare_at k x j shape rows placed k_is x_less j_less f = record {
-    tdo_length = f.tdo_length ∙ tdi_long;
-    mask_length = f.mask_length ∙ tdi_long;
-    bits = λ at on. let s = scan_bits-at rows.tdi.bits rows.tdo.bits rows.mask.bits at (sym (ap (λ (l : List ScanBit). get_or (mask_bits l) at false) bits_are) ∙ on) in
-        (s.0, ap (λ (l : List ScanBit). get_or (tdo_bits l) at false) bits_are ∙ s.1);
-  }
-    where
-      pass : (pass : List Ctl) × (slice_get plan.passes x ≡ Some pass)
-      pass = some_at plan.passes x x_less
+  -- what is compared is as long as a scan of data
+  pub length-expected : (x j : ℕ) → length (expected_in board plan x j) ≡ data_bits board
+  length-expected x j = ap length (tdo_laid board (scan_of_pass board plan x (suc j))) ∙ length-laid _ board
 
-      number : 3 + (x * suc plan.width + suc j) ≡ k
-      number = times x plan.width k_is
-        where
-          times : (x w : ℕ) → k ≡ 3 + x * (w + 1) + j + 1 → 3 + (x * suc w + suc j) ≡ k
-          times x w e = grind (arith, e)
-
-      here : Scan
-      here = scan_of_row board (scan_of_pass board plan x (suc j))
-
-      stands : slice_get (test_scans board plan.passes plan.width) k ≡ Some here
-      stands =
-          sym (ap (λ (i : ℕ). slice_get (test_scans board plan.passes plan.width) i) number)
-          ∙ placed.rows x pass.0 (suc j) pass.1 (omega (arith, j_less))
-          ∙ sym (ap (λ (q : List Ctl). Some (scan_of_row board (record { now = row_now (code_row board plan.passes q) plan.width (suc j); before = row_before (code_row board plan.passes q) (suc j) }))) (get_or_from_slice_get plan.passes x pass.0 [] pass.1))
-
-      bits_are : joined (row_bits board (scan_of_pass board plan x (suc j))) ≡ scan_bits rows.tdi.bits rows.tdo.bits rows.mask.bits
-      bits_are =
-          let two : Some here ≡ Some (record { ir = shape.ir; bits = scan_bits rows.tdi.bits rows.tdo.bits rows.mask.bits }) = sym stands ∙ f.scan in
-          let one : ◌≡◌ {A = Scan} here (record { ir = shape.ir; bits = scan_bits rows.tdi.bits rows.tdo.bits rows.mask.bits }) = cc two in
-          ap (λ (s : Scan). s.bits) one
-
-      tdi_long : length rows.tdi.bits ≡ data_bits board
-      tdi_long =
-          sym (length-scan_bits rows.tdi.bits rows.tdo.bits rows.mask.bits f.tdo_length f.mask_length)
-          ∙ sym (ap length bits_are)
-          ∙ sym (length-map (joined (row_bits board (scan_of_pass board plan x (suc j)))) (λ (b : ScanBit). b.tdi))
-          ∙ ap length (tdi_laid board (scan_of_pass board plan x (suc j)))
-          ∙ length-laid _ board
+  pub length-compared : (x j : ℕ) → length (compared_in board plan x j) ≡ data_bits board
+  length-compared x j = ap length (mask_laid board (scan_of_pass board plan x (suc j))) ∙ length-laid _ board
 
   -- a digit that is right has the expected bits
-  pub digit_expected : (log : List (List Bool)) (x j at : ℕ) (rows : ScanRows) (digits : List ℕ) → CompareAt board plan x j rows → AreRowDigits (get_or log (x * plan.width + j) []) digits → at < data_bits board → length (get_or log (x * plan.width + j) []) ≡ data_bits board →
-      bit_and (bit_xor (get_or digits (at / 4) 0) (get_or (digits_of rows.tdo.bits) (at / 4) 0)) (get_or (digits_of rows.mask.bits) (at / 4) 0) ≡ 0 → HasExpected board plan log x j at
-  digit_expected log x j at rows digits c are within long none on =
-      let s = c.bits at on in
+  pub digit_expected : (log : List (List Bool)) (x j at : ℕ) (tdo mask : List Bool) (digits : List ℕ) → tdo ≡ expected_in board plan x j → mask ≡ compared_in board plan x j → AreRowDigits (get_or log (x * plan.width + j) []) digits → at < data_bits board →
+      length (get_or log (x * plan.width + j) []) ≡ data_bits board →
+      bit_and (bit_xor (get_or digits (at / 4) 0) (get_or (digits_of tdo) (at / 4) 0)) (get_or (digits_of mask) (at / 4) 0) ≡ 0 → HasExpected board plan log x j at
+  digit_expected log x j at tdo mask digits tdo_is mask_is are within long none on =
       are.bits at (omega (arith, within, long))
-      ∙ masked_same (get_or digits (at / 4) 0) (get_or (digits_of rows.tdo.bits) (at / 4) 0) (get_or (digits_of rows.mask.bits) (at / 4) 0) (at % 4) none (digits_of-get rows.mask.bits at (omega (arith, within, c.mask_length)) ∙ s.0)
-      ∙ digits_of-get rows.tdo.bits at (omega (arith, within, c.tdo_length))
-      ∙ sym s.1
+      ∙ masked_same (get_or digits (at / 4) 0) (get_or (digits_of tdo) (at / 4) 0) (get_or (digits_of mask) (at / 4) 0) (at % 4) none
+      (digits_of-get mask at (omega (arith, within, ap length mask_is, length-compared x j)) ∙ ap (λ (l : List Bool). get_or l at false) mask_is ∙ on)
+      ∙ digits_of-get tdo at (omega (arith, within, ap length tdo_is, length-expected x j))
+      ∙ ap (λ (l : List Bool). get_or l at false) tdo_is
 
 module _ (board : RawBoard) (rules : IsBoard board) (plan : PlanTables) (p : IsPlanOf board plan) (log : List (List Bool)) (marks : List ℕ) (are : AreMarks board plan log (length plan.passes) marks) where
   -- the cells of an unmarked net that row j of a pass compares have the bit of its code

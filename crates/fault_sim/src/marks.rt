@@ -4,48 +4,30 @@ ghost use Rattle.std.specs.Int.Bits.{bit_and, bit_xor};
 ghost use Rattle.board_defs.specs.Pins.{data_bits};
 ghost use Rattle.bt_bits.specs.Hex.{digit_count};
 ghost use Rattle.scan_planner.specs.Plans.{IsPlanOf};
-ghost use Rattle.fault_sim.specs.inner.Marks.{HaveRoom, CompareAt, MarkRow, MarkRows, AreMarks, are_marked};
+ghost use Rattle.fault_sim.specs.inner.Marks.{HaveRoom, MarkRow, MarkRows, AreMarks, are_marked};
 
 use board_defs::Board;
 use bt_bits::Row;
 use response_log::Log;
 use scan_planner::{Plan, ReaderCell};
 use std::alloc::{AllocError, Global};
-use tap_defs::board_law::scans_placed;
 
-/// The rows in which the scans of a test are made, one after the other.
+/// The expected bits of a row of a log, and where they are compared.
 #[derive(Drop)]
-pub struct ScanRows {
-    pub tdi: Row,
+pub struct ComparedRows {
     pub tdo: Row,
     pub mask: Row,
 }
 
-// Rows with room for each scan of a board.
-fn scan_rows(alloc: Global, board: &Board) -> Result<ScanRows, AllocError>
+// Rows with room for a scan of data.
+fn compared_rows(alloc: Global, board: &Board) -> Result<ComparedRows, AllocError>
     ensures { IfOk result (HaveRoom board.now) }
 {
-    let room = board.ir_bits().max(board.dr_bits());
-    Ok(ScanRows {
-        tdi: Row::with_room(alloc, room)?,
+    let room = board.dr_bits();
+    Ok(ComparedRows {
         tdo: Row::with_room(alloc, room)?,
         mask: Row::with_room(alloc, room)?,
     })
-}
-
-// Makes the rows those of the scan that compares row `j` of pass `x`.
-fn fill_compared(board: &Board, plan: &Plan, x: u32, j: u32, rows: &mut ScanRows)
-    requires plan { IsPlanOf board.now plan.now }
-    requires pass { x < length plan.now.passes }
-    requires row { j < plan.now.width }
-    requires room { HaveRoom board.now rows.old }
-    ensures bits { CompareAt board.now plan.now x j rows.new }
-    ensures room { HaveRoom board.now rows.new }
-{
-    scans_placed();
-    let scans = u64::from(plan.width()) + 1;
-    let scan = 3 + u64::from(x) * scans + u64::from(j) + 1;
-    plan.fill(board, scan, &mut rows.tdi, &mut rows.tdo, &mut rows.mask);
 }
 
 // Marks each digit in which a compared bit is not the expected one.
@@ -63,7 +45,7 @@ fn mark_digits(marks: &mut [u8], log: &[u8], expected: &[u8], compared: &[u8])
 // The same for row `j` of pass `x`.
 fn mark_row(
     marks: &mut [u8],
-    rows: &mut ScanRows,
+    rows: &mut ComparedRows,
     board: &Board,
     plan: &Plan,
     log: &Log,
@@ -80,7 +62,7 @@ fn mark_row(
     ensures marks { MarkRow board.now plan.now log.now x j marks.old marks.new }
     ensures room { HaveRoom board.now rows.new }
 {
-    fill_compared(board, plan, x, j, rows);
+    plan.fill_compared(board, x, j, &mut rows.tdo, &mut rows.mask);
     let row = u64::from(x) * u64::from(plan.width()) + u64::from(j);
     mark_digits(
         marks,
@@ -90,7 +72,14 @@ fn mark_row(
     );
 }
 
-fn mark_pass(marks: &mut [u8], rows: &mut ScanRows, board: &Board, plan: &Plan, log: &Log, x: u32)
+fn mark_pass(
+    marks: &mut [u8],
+    rows: &mut ComparedRows,
+    board: &Board,
+    plan: &Plan,
+    log: &Log,
+    x: u32,
+)
     requires plan { IsPlanOf board.now plan.now }
     requires rows { length log.now ≡ length plan.now.passes * plan.now.width }
     requires bits { All (λ row. length row ≡ data_bits board.now) log.now }
@@ -113,7 +102,7 @@ pub fn marks_of(alloc: Global, board: &Board, plan: &Plan, log: &Log) -> Result<
     requires bits { All (λ row. length row ≡ data_bits board.now) log.now }
     ensures { IfOk result (λ marks. AreMarks board.now plan.now log.now (length plan.now.passes) marks.items) }
 {
-    let mut rows = scan_rows(alloc, board)?;
+    let mut rows = compared_rows(alloc, board)?;
     let count = (board.dr_bits() as usize + 3) / 4;
     let mut marks = vec![in alloc; 0u8; count]?;
     for x in 0..plan.pass_count() {

@@ -169,8 +169,8 @@ fn fill_now(board: &Board, tables: &PlanTables, pass: usize, j: u32, tdi: &mut R
     }
 }
 
-// Compares row `j` of a pass: its nets and those that all passes observe.
-fn compare_row(
+/// Compares row `j` of a pass: its nets and those that all passes observe.
+pub fn compare_row(
     board: &Board,
     tables: &PlanTables,
     pass: usize,

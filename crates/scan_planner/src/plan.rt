@@ -1,9 +1,12 @@
 // A plan, and its counts.
 ghost use Rattle.std.specs.Prelude.{◌≡◌, ◌+◌, ◌*◌, ◌<◌, ◌≤◌, ◌^◌, suc, length, slice_index_or, IfOk};
-ghost use Rattle.scan_planner.specs.Plans.{ArePlannable, IsPlanOf, IsRoom, FillsScan, scan_count};
+ghost use Rattle.board_defs.specs.Pins.{data_bits};
+ghost use Rattle.tap_defs.specs.board.BoardScans.{row_bits};
+ghost use Rattle.tap_defs.specs.chain.Scan.{joined, mask_bits, tdo_bits};
+ghost use Rattle.scan_planner.specs.Plans.{ArePlannable, IsPlanOf, IsRoom, FillsScan, scan_count, scan_of_pass};
 
 use crate::build::tables_of;
-use crate::fill::fill_scan;
+use crate::fill::{compare_row, fill_scan};
 use crate::tables::PlanTables;
 use board_defs::{Board, Items, Setting};
 use bt_bits::Row;
@@ -88,5 +91,21 @@ impl Plan {
         ensures mask_kept { mask.new.room ≡ mask.old.room }
     {
         fill_scan(board, &self.tables, k, tdi, tdo, mask)
+    }
+
+    /// Fills two rows with what the scan after row `row` of a pass compares: the expected bits, and where they are compared. The board
+    /// is that of the plan, and each row has room for a scan of data. No memory is taken.
+    pub fn fill_compared(&self, board: &Board, pass: u32, row: u32, tdo: &mut Row, mask: &mut Row)
+        requires plan { IsPlanOf board.now self.now }
+        requires pass { pass < length self.now.passes }
+        requires row { row < self.now.width }
+        requires tdo_room { data_bits board.now ≤ tdo.old.room }
+        requires mask_room { data_bits board.now ≤ mask.old.room }
+        ensures tdo { tdo.new.bits ≡ tdo_bits (joined (row_bits board.now (scan_of_pass board.now self.now pass (suc row)))) }
+        ensures mask { mask.new.bits ≡ mask_bits (joined (row_bits board.now (scan_of_pass board.now self.now pass (suc row)))) }
+        ensures tdo_kept { tdo.new.room ≡ tdo.old.room }
+        ensures mask_kept { mask.new.room ≡ mask.old.room }
+    {
+        compare_row(board, &self.tables, pass as usize, row, tdo, mask);
     }
 }

@@ -1,5 +1,5 @@
 -- What serves the proofs alone. Marks of the digits of a log's rows in which some compared bit is not the expected one.
-use Rattle.std.specs.Prelude.{◌≡◌, ℕ, suc, ◌+◌, ◌*◌, ◌/◌, ◌<◌, ◌==◌, Bool, true, false, not, List, length, slice_index_or}
+use Rattle.std.specs.Prelude.{◌≡◌, ℕ, suc, ◌+◌, ◌*◌, ◌/◌, ◌<◌, ◌≤◌, ◌==◌, Bool, true, false, not, List, length, slice_index_or}
 use Rattle.std.specs.List.{list_any}
 use Rattle.board_defs.specs.declared.board.RawBoard.{RawBoard}
 use Rattle.board_defs.specs.Pins.{data_bits}
@@ -7,15 +7,14 @@ use Rattle.tap_defs.specs.chain.Scan.{joined, tdo_bits, mask_bits}
 use Rattle.tap_defs.specs.board.BoardScans.{row_bits}
 use Rattle.scan_planner.specs.declared.tables.ReaderCell.{ReaderCell}
 use Rattle.scan_planner.specs.declared.tables.PlanTables.{PlanTables}
-use Rattle.scan_planner.specs.Plans.{IsRoom, scan_of_pass}
-use Rattle.fault_sim.specs.declared.marks.ScanRows.{ScanRows}
+use Rattle.scan_planner.specs.Plans.{scan_of_pass}
+use Rattle.fault_sim.specs.declared.marks.ComparedRows.{ComparedRows}
 use Rattle.fault_sim.specs.Fits.{bit_in}
 
--- the rows have room for each scan of the board
-pub record HaveRoom (board : RawBoard) (rows : ScanRows) : Type 0 where
-  pub tdi : IsRoom board rows.tdi.room
-  pub tdo : IsRoom board rows.tdo.room
-  pub mask : IsRoom board rows.mask.room
+-- the rows have room for a scan of data
+pub record HaveRoom (board : RawBoard) (rows : ComparedRows) : Type 0 where
+  pub tdo : data_bits board ≤ rows.tdo.room
+  pub mask : data_bits board ≤ rows.mask.room
 
 -- the bits of TDO and MASK in the scan that compares row j of pass x
 abbrev pub expected_in : RawBoard → PlanTables → ℕ → ℕ → List Bool
@@ -23,13 +22,6 @@ expected_in board plan x j = tdo_bits (joined (row_bits board (scan_of_pass boar
 
 abbrev pub compared_in : RawBoard → PlanTables → ℕ → ℕ → List Bool
 compared_in board plan x j = mask_bits (joined (row_bits board (scan_of_pass board plan x (suc j))))
-
--- where they have the bits of such a scan
-pub record CompareAt (board : RawBoard) (plan : PlanTables) (x j : ℕ) (rows : ScanRows) : Type 0 where
-  pub tdo_length : length rows.tdo.bits ≡ data_bits board
-  pub mask_length : length rows.mask.bits ≡ data_bits board
-  pub bits : (at : ℕ) → slice_index_or (compared_in board plan x j) at false ≡ true →
-      (slice_index_or rows.mask.bits at false ≡ true) × (slice_index_or (expected_in board plan x j) at false ≡ slice_index_or rows.tdo.bits at false)
 
 -- if row j of pass x is compared at a position, the log has the expected bit there
 abbrev pub HasExpected : RawBoard → PlanTables → List (List Bool) → ℕ → ℕ → ℕ → Type 0
