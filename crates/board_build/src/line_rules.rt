@@ -137,6 +137,10 @@ pub fn pulls_by_net<'a>(
 pub fn pull_of_net(pulls: &IndexMap<&[u8], bool>, net: &[u8]) -> Option<bool>
     ensures { result ≡ get_by (λ n. same_word net.now n.now) pulls.now }
 {
+    // A look-up hashes the name, even where nothing can be found.
+    if pulls.is_empty() {
+        return None;
+    }
     pulls.get(&net).copied()
 }
 

@@ -89,6 +89,10 @@ pub fn first_places_of<'a>(
 pub fn place_of(places: &IndexMap<&[u8], u32>, name: &[u8]) -> Option<u32>
     ensures { result ≡ get_by (λ n. same_word name.now n.now) places.now }
 {
+    // A look-up hashes the name, even where nothing can be found.
+    if places.is_empty() {
+        return None;
+    }
     places.get(&name).copied()
 }
 
@@ -114,6 +118,10 @@ pub fn places_among(
     requires { length others.now < 2 ^ 32 }
     ensures { IfOk result (λ places. places.items ≡ map (first_place same_word (map (λ n. n.now) others.now)) (map (λ n. n.now) names.now)) }
 {
+    // Where no name is asked for, the others need no map.
+    if names.is_empty() {
+        return Ok(Vec::new(alloc));
+    }
     let known = first_places_of(alloc, others)?;
     places_by(alloc, names, &known)
 }
