@@ -17,6 +17,9 @@ use board_files::ChainLine;
 use first_places::{first_repeated, once_by};
 use std::alloc::{AllocError, Global};
 
+/// The most different pins that the nets of a board may name.
+const PIN_LIMIT: usize = 65_535;
+
 /// The bits of a data scan of the whole chain.
 fn data_bits(parts: &[Part]) -> u64
     requires { length parts.now ≤ 255 }
@@ -76,12 +79,8 @@ fn count_pins(alloc: Global, pins: &[(PinName<'_>, Spot)]) -> Result<usize, Allo
 fn pin_limit(alloc: Global, pins: &[(PinName<'_>, Spot)]) -> Result<Option<BoardFault>, AllocError>
     ensures { IfOk result (λ fault. fault ≡ (if nat_lt 65535 (length (once (λ a b. same_pin (lent_pin a.0) (lent_pin b.0)) pins.now)) then Some (Limit 4) else None)) }
 {
-    // So few words name no more pins than a board may have, and need not be told apart.
-    if pins.len() <= 65535 {
-        return Ok(None);
-    }
     let count = count_pins(alloc, pins)?;
-    if 65535 < count {
+    if PIN_LIMIT < count {
         Ok(Some(BoardFault::Limit(4)))
     } else {
         Ok(None)
@@ -111,6 +110,10 @@ fn unknown_pin(words: &[MarkedWord<'_>]) -> Option<BoardFault>
 fn marked_limit(alloc: Global, words: &[MarkedWord<'_>]) -> Result<Option<BoardFault>, AllocError>
     ensures { IfOk result (λ fault. fault ≡ marked_limit (map seen words.now)) }
 {
+    // So few words name no more pins than a board may have, and need not be told apart.
+    if words.len() <= PIN_LIMIT {
+        return Ok(None);
+    }
     let pins = by_pin(alloc, words)?;
     pin_limit(alloc, &pins)
 }

@@ -1,12 +1,22 @@
 -- As many pins are counted.
-use Rattle.std.proofs.Common.{◌∙◌, length, ap, Some, None}
-use Rattle.std.specs.Prelude.{nat_lt, if◌then◌else◌}
+use Rattle.std.proofs.Common.{◌≡◌, ◌∙◌, length, map, [], ap, sym, arith, Some, None}
+use Rattle.std.specs.Prelude.{nat_lt, false, if◌then◌else◌}
+use Rattle.std.proofs.lemmas.List.{length-map}
 use Rattle.first_places.specs.Places.{once}
+use Rattle.first_places.proofs.OnceLemmas.{once_few}
 use Rattle.board_build.specs.declared.fault.BoardFault.TheVariants.{Limit}
-use Rattle.board_build.specs.inner.Marked.{marked_limit}
+use Rattle.board_build.specs.inner.Marked.{marked_limit, same_pins, seen}
 use Rattle.board_build.proofs.NameLemmas.{if_ok_map}
 use Rattle.board_build.proofs.SeenLemmas.{same_lent, pins_counted}
 use Rattle.board_build.proofs.rules.marked_limit.Goals as goal
+
+pub returns-then-words-le-PIN_LIMIT : goal.returns-then-words-le-PIN_LIMIT
+unfolding marked_limit
+returns-then-words-le-PIN_LIMIT c =
+    let few = once_few same_pins [] (map seen c.args.words.now) in
+    let count = length-map c.args.words.now seen in
+    let past : nat_lt 65535 (length (once same_pins (map seen c.args.words.now))) ≡ false = grind (arith, few, count, c.if-words-le-PIN_LIMIT.true) in
+    ap (λ b. if b then Some (Limit 4) else None) (sym past)
 
 pub returns : goal.returns
 unfolding marked_limit
