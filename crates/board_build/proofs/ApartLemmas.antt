@@ -7,7 +7,8 @@ use Rattle.std.proofs.lemmas.Option.{slice_get_within, get_or_from_slice_get}
 use Rattle.std.proofs.lemmas.List.Folds.{list_any-append}
 use Rattle.std.proofs.lemmas.List.Elements.{All-from_recursion}
 use Rattle.std.proofs.lemmas.List.Kept.{AllPairs-cons}
-use Rattle.first_places.specs.Places.{once_from, once, repeated_from, first_repeated}
+use Rattle.first_places.specs.Places.{once_from, once, first_repeated}
+use Rattle.first_places.proofs.OnceLemmas.{unrepeated}
 
 -- R of each item and each later one
 abbrev pub Apart : {X : Type 0} → (X → X → Type 0) → List X → Type 0
@@ -113,21 +114,9 @@ once_from_apart {X} eq seen (x ∷ items) =
 pub once_apart : {X : Type 0} (eq : X → X → Bool) (items : List X) → Apart (λ a b. eq a b ≡ false) (once eq items)
 once_apart eq items = once_from_apart eq [] items
 
-once_whole : {X : Type 0} (eq : X → X → Bool) (seen items : List X) → repeated_from eq seen items ≡ None → once_from eq seen items ≡ items
-once_whole eq seen [] e = refl
-once_whole {X} eq seen (x ∷ items) e = by_test (once_whole eq (seen ++ x ∷ []) items) (list_any (λ s. eq s x) seen) e
-  where
-    by_test : (repeated_from eq (seen ++ x ∷ []) items ≡ None → once_from eq (seen ++ x ∷ []) items ≡ items) → (b : Bool) → cond b (Some x) (repeated_from eq (seen ++ x ∷ []) items) ≡ None →
-        cond b (once_from eq (seen ++ x ∷ []) items) (x ∷ once_from eq (seen ++ x ∷ []) items) ≡ x ∷ items
-    by_test rest true k = cc k
-    by_test rest false k = ap (λ (v : List X). x ∷ v) (rest k)
-
--- where no item is repeated, all are kept
-pub unrepeated : {X : Type 0} (eq : X → X → Bool) (items : List X) → first_repeated eq items ≡ None → once eq items ≡ items
-unrepeated eq items e = once_whole eq [] items e
-
+-- items of which none is repeated differ
 pub unrepeated_apart : {X : Type 0} (eq : X → X → Bool) (items : List X) → first_repeated eq items ≡ None → Apart (λ a b. eq a b ≡ false) items
-unrepeated_apart {X} eq items e = let P : List X → Type 0 = λ v. Apart (λ a b. eq a b ≡ false) v in subst P (unrepeated eq items e) (once_apart eq items)
+unrepeated_apart {X} eq items e = let P : List X → Type 0 = λ v. Apart (λ a b. eq a b ≡ false) v in subst P (unrepeated eq eq (λ a b h. h) items e) (once_apart eq items)
 
 -- an item that passes, and its place in the whole list
 pub record Passing {X : Type 0} (p : X → Bool) (xs : List X) (x : X) : Type 0 where

@@ -9,6 +9,7 @@ use Rattle.std.proofs.lemmas.List.{length-map}
 use Rattle.std.proofs.lemmas.Option.{slice_get-get_or}
 use Rattle.board_defs.proofs.Members.{Has, has_map}
 use Rattle.first_places.specs.Places.{once, first_place}
+use Rattle.first_places.proofs.OnceLemmas.{unrepeated}
 use Rattle.board_files.specs.declared.chain_file.ChainLine.{ChainLine}
 use Rattle.board_defs.specs.declared.board.Part.{Part}
 use Rattle.board_defs.specs.declared.board.RawBoard.{RawBoard}
@@ -25,7 +26,7 @@ use Rattle.board_build.specs.Selection.{spot_at}
 use Rattle.board_build.specs.ChainParts.{pin_places, described_names}
 use Rattle.board_build.specs.LineRules.{places_of, inert_in_chain}
 use Rattle.board_build.specs.BoardRules.{data_limit, net_limit, pin_limit, have_same_pin, is_unknown, no_pin, pin_twice, is_kept, guarded_driver, two_always_on, limit_fault, pin_fault, line_fault, driver_fault}
-use Rattle.board_build.proofs.ApartLemmas.{Apart, unrepeated, unrepeated_apart}
+use Rattle.board_build.proofs.ApartLemmas.{Apart, unrepeated_apart}
 use Rattle.board_build.proofs.PartLemmas.{not_among}
 
 pub then_none : {F : Type 0} (a b : Option F) → (a then b) ≡ None → (a ≡ None) × (b ≡ None)
@@ -72,7 +73,7 @@ pins_kept parts words e =
     let once_ = map_none _ _ first.1 in
     record {
       known = map_none _ _ first.0;
-      whole = unrepeated have_same_pin words once_;
+      whole = unrepeated have_same_pin have_same_pin (λ a b h. h) words once_;
       differ = unrepeated_apart have_same_pin words once_;
     }
 

@@ -1,17 +1,19 @@
 -- What the marked words of the files say of their board.
-use Rattle.std.proofs.Common.{◌≡◌, ℕ, List, map, None, sym, subst, ◌∙◌, ap}
-use Rattle.std.specs.Prelude.{All}
+use Rattle.std.proofs.Common.{◌≡◌, ℕ, List, [], map, None, sym, subst, ◌∙◌, ap}
+use Rattle.std.specs.Prelude.{All, option_map}
+use Rattle.first_places.specs.Places.{first_repeated}
 use Rattle.board_files.specs.declared.chain_file.ChainLine.{ChainLine}
 use Rattle.board_files.specs.declared.net_file.NetLine.{NetLine}
 use Rattle.board_defs.specs.declared.board.Part.{Part}
 use Rattle.board_defs.specs.BoardRules.{IsBoard, IsPart}
 use Rattle.board_build.specs.declared.names.Naming.TheVariants.{Part as PartName, Inert}
 use Rattle.board_build.specs.Names.{named, names_of}
-use Rattle.board_build.specs.NetWords.{net_names, standing_words}
+use Rattle.board_build.specs.NetWords.{NetWord, net_names, standing_words, spot_of}
 use Rattle.board_build.specs.ChainParts.{IsChain, pin_places}
-use Rattle.board_build.specs.BoardRules.{board_answer}
-use Rattle.board_build.specs.inner.Marked.{Marked, mark, board_by, marked_fault, marked_answer}
-use Rattle.board_build.proofs.MarkLemmas.{board_same, fault_same, answer_same}
+use Rattle.board_build.specs.declared.fault.BoardFault.TheVariants.{PinTwice}
+use Rattle.board_build.specs.BoardRules.{board_answer, have_same_pin, pin_twice}
+use Rattle.board_build.specs.inner.Marked.{Marked, mark, board_by, marked_fault, marked_answer, marked_twice}
+use Rattle.board_build.proofs.MarkLemmas.{board_same, fault_same, answer_same, twice_same}
 use Rattle.board_build.proofs.LawLemmas.{is_board}
 
 -- where no rule finds a fault, the record is a board
@@ -26,3 +28,12 @@ pub answer_by : (chain : List ChainLine) (nets : List NetLine) (parts : List Par
     names ≡ net_names nets → words ≡ map (mark parts (pin_places parts) (names_of (named Inert chain))) (standing_words nets) → marked_answer chain parts names words ≡ board_answer chain nets parts
 answer_by chain nets parts names words en ew =
     ap (λ v. marked_answer chain parts v words) en ∙ ap (marked_answer chain parts (net_names nets)) ew ∙ answer_same chain nets parts
+
+no_twice : (words : List NetWord) → first_repeated have_same_pin words ≡ None → pin_twice words ≡ None
+unfolding pin_twice
+no_twice words e = ap (option_map (λ (w : NetWord). PinTwice (spot_of w))) e
+
+-- where no pin is repeated, the rule on pins in two nets finds none
+pub twice_none : (chain : List ChainLine) (parts : List Part) (words : List NetWord) → first_repeated have_same_pin words ≡ None →
+    marked_twice (map (mark parts (pin_places parts) (names_of (named Inert chain))) words) ≡ None
+twice_none chain parts words e = twice_same chain parts [] words ∙ no_twice words e

@@ -1,5 +1,5 @@
 // The board that a chain file, a net file and devices denote.
-ghost use Rattle.std.specs.Prelude.{◌≡◌, ◌<◌, ◌≤◌, ◌^◌, All, IfOk, length, map, None, vec_len};
+ghost use Rattle.std.specs.Prelude.{◌≡◌, ◌<◌, ◌≤◌, ◌^◌, All, IfOk, length, map, true, None, vec_len};
 ghost use Rattle.std.specs.List.{AllByRecursion};
 ghost use Rattle.board_files.specs.ChainLines.{HasLength};
 ghost use Rattle.board_defs.specs.BoardRules.{IsBoard, IsPart};
@@ -10,7 +10,7 @@ ghost use Rattle.board_build.specs.declared.names.Naming.TheVariants.{Entity, Pa
 ghost use Rattle.board_build.specs.NetWords.{HasFewPins};
 ghost use Rattle.board_build.specs.ChainParts.{IsChain, chain_parts};
 ghost use Rattle.board_build.specs.BoardRules.{board_answer, board_of};
-ghost use Rattle.board_build.specs.inner.Marked.{board_by, marked_answer, marked_fault, seen};
+ghost use Rattle.board_build.specs.inner.Marked.{board_by, marked_answer, marked_fault, marked_twice, seen};
 
 use crate::fault::BoardFault;
 use crate::marked::{MarkedWord, marked_words};
@@ -80,9 +80,9 @@ fn board_of(
     ensures { Gives board_told (λ board. board) (λ said. board_answer chain.now nets.now parts.items ≡ said) result }
 {
     let names = net_names(alloc, nets)?;
-    let words = standing_words(alloc, &names, nets)?;
-    let marked = marked_words(alloc, chain, &parts, &words)?;
-    answer(alloc, chain, parts, &names, &marked)
+    let standing = standing_words(alloc, &names, nets)?;
+    let marked = marked_words(alloc, chain, &parts, &standing.words)?;
+    answer(alloc, chain, parts, &names, &marked, standing.differ)
 }
 
 #[tactic(auto, using(crate::proofs::FaultLemmas::told_as), unfolding(crate::specs::inner::Marked::marked_answer, crate::specs::inner::Marked::marked_fault))]
@@ -92,14 +92,16 @@ fn answer(
     parts: Vec<Part>,
     names: &[&[u8]],
     words: &[MarkedWord<'_>],
+    differ: bool,
 ) -> Result<Board, BoardFault>
     requires lines { length chain.now < 2 ^ 32 }
     requires parts { vec_len parts ≤ 255 }
     requires names { length names.now < 2 ^ 32 }
+    requires differ { differ ≡ true → marked_twice (map seen words.now) ≡ None }
     requires sound { marked_fault chain.now parts.items (map (λ n. n.now) names.now) (map seen words.now) ≡ None → IsBoard (board_by chain.now parts.items (map (λ n. n.now) names.now) (map seen words.now)) }
     ensures { Gives board_told (λ board. board) (λ said. marked_answer chain.now parts.items (map (λ n. n.now) names.now) (map seen words.now) ≡ said) result }
 {
-    if let Some(fault) = file_fault(alloc, chain, &parts, names, words)? {
+    if let Some(fault) = file_fault(alloc, chain, &parts, names, words, differ)? {
         return Err(fault);
     }
     let raw = board_by(alloc, chain, parts, names, words)?;

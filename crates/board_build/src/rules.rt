@@ -1,5 +1,5 @@
 // The rules that a board's files keep, in their order.
-ghost use Rattle.std.specs.Prelude.{◌≡◌, ◌<◌, ◌≤◌, ◌^◌, ◌==◌, ◌&&◌, length, vec_len, map, filter, find, nat_lt, sum_by, slice_get, unwrap_or, IfOk, Option, Some, None, option_map, is_none, false, if◌then◌else◌};
+ghost use Rattle.std.specs.Prelude.{◌≡◌, ◌<◌, ◌≤◌, ◌^◌, ◌==◌, ◌&&◌, length, vec_len, map, filter, find, nat_lt, sum_by, slice_get, unwrap_or, IfOk, Option, Some, None, option_map, is_none, true, false, if◌then◌else◌};
 ghost use Rattle.std.specs.List.{list_any};
 ghost use Rattle.first_places.specs.Places.{first_repeated, once};
 ghost use Rattle.board_defs.specs.Pins.{data_length, is_test_pin};
@@ -124,16 +124,29 @@ fn marked_unknown(words: &[MarkedWord<'_>]) -> Option<BoardFault>
     unknown_pin(words)
 }
 
-fn marked_twice(alloc: Global, words: &[MarkedWord<'_>]) -> Result<Option<BoardFault>, AllocError>
+fn marked_twice(
+    alloc: Global,
+    words: &[MarkedWord<'_>],
+    differ: bool,
+) -> Result<Option<BoardFault>, AllocError>
+    requires { differ ≡ true → marked_twice (map seen words.now) ≡ None }
     ensures { IfOk result (λ fault. fault ≡ marked_twice (map seen words.now)) }
 {
+    if differ {
+        return Ok(None);
+    }
     let pins = by_pin(alloc, words)?;
     pin_twice(alloc, &pins)
 }
 
 /// The rules on pins, in their order.
 #[tactic(auto, unfolding(crate::specs::inner::Marked::marked_pins))]
-fn pin_fault(alloc: Global, words: &[MarkedWord<'_>]) -> Result<Option<BoardFault>, AllocError>
+fn pin_fault(
+    alloc: Global,
+    words: &[MarkedWord<'_>],
+    differ: bool,
+) -> Result<Option<BoardFault>, AllocError>
+    requires { differ ≡ true → marked_twice (map seen words.now) ≡ None }
     ensures { IfOk result (λ fault. fault ≡ marked_pins (map seen words.now)) }
 {
     if let Some(fault) = marked_limit(alloc, words)? {
@@ -142,10 +155,10 @@ fn pin_fault(alloc: Global, words: &[MarkedWord<'_>]) -> Result<Option<BoardFaul
     if let Some(fault) = marked_unknown(words) {
         return Ok(Some(fault));
     }
-    marked_twice(alloc, words)
+    marked_twice(alloc, words, differ)
 }
 
-/// The rules on the files, in their order.
+/// The rules on the files, in their order. Words that differ need no search for a pin that stands twice.
 #[tactic(auto, unfolding(crate::specs::inner::Marked::file_fault))]
 pub fn file_fault(
     alloc: Global,
@@ -153,10 +166,12 @@ pub fn file_fault(
     parts: &[Part],
     names: &[&[u8]],
     words: &[MarkedWord<'_>],
+    differ: bool,
 ) -> Result<Option<BoardFault>, AllocError>
     requires lines { length lines.now < 2 ^ 32 }
     requires parts { length parts.now ≤ 255 }
     requires names { length names.now < 2 ^ 32 }
+    requires differ { differ ≡ true → marked_twice (map seen words.now) ≡ None }
     ensures { IfOk result (λ fault. fault ≡ file_fault lines.now parts.now (map (λ n. n.now) names.now) (map seen words.now)) }
 {
     if let Some(fault) = data_limit(parts) {
@@ -165,7 +180,7 @@ pub fn file_fault(
     if let Some(fault) = net_limit(names) {
         return Ok(Some(fault));
     }
-    if let Some(fault) = pin_fault(alloc, words)? {
+    if let Some(fault) = pin_fault(alloc, words, differ)? {
         return Ok(Some(fault));
     }
     line_fault(alloc, lines, names)

@@ -1,14 +1,15 @@
 // The words of a net file that name pins.
-ghost use Rattle.std.specs.Prelude.{◌≡◌, ◌<◌, ◌≤◌, ◌-◌, ◌^◌, ◌++◌, All, vec_len, length, map, IfOk, OnOk, unwrap_or};
+ghost use Rattle.std.specs.Prelude.{◌≡◌, ◌<◌, ◌≤◌, ◌-◌, ◌^◌, ◌++◌, All, vec_len, length, map, true, None, is_none, IfOk, OnOk, unwrap_or};
 ghost use Rattle.indexmap.specs.IndexMap.{get_by};
-ghost use Rattle.first_places.specs.Places.{once};
+ghost use Rattle.first_places.specs.Places.{first_repeated, once};
 ghost use Rattle.board_files.specs.Names.{same_word};
-ghost use Rattle.board_build.specs.NetWords.{lent_word, same_place, net_names, net_number, line_words, words_of, HasFewPins};
+ghost use Rattle.board_build.specs.NetWords.{lent_pin, lent_word, same_pin, same_place, net_names, net_number, line_words, words_of, HasFewPins};
+ghost use Rattle.board_build.specs.BoardRules.{have_same_pin};
 
 use crate::names::{first_places_of, once_names, place_of};
 use board_defs::Spot;
 use board_files::{NetLine, PinWord, line_names};
-use first_places::once_by;
+use first_places::{first_repeated, once_by};
 use indexmap::IndexMap;
 use std::alloc::{AllocError, Global};
 
@@ -17,6 +18,14 @@ pub type PinName<'a> = (&'a [u8], &'a [u8]);
 
 /// A pin in the net of a number, and where the word stands that says so.
 pub type NetWord<'a> = ((u32, PinName<'a>), Spot);
+
+/// The words of a net file that count, in their order.
+#[derive(Drop)]
+pub struct StandingWords<'a> {
+    pub words: Vec<NetWord<'a>>,
+    /// Told only where no two of the words name the same pin.
+    pub differ: bool,
+}
 
 /// The names of the nets in the order of their first lines. A net's number is its place here.
 pub fn net_names<'a>(alloc: Global, lines: &'a [NetLine]) -> Result<Vec<&'a [u8]>, AllocError>
@@ -75,17 +84,56 @@ fn net_words<'a>(
 }
 
 /// Each word whose pin does not stand earlier in the same net.
+///
+/// Where no pin stands twice, one set of all pins is enough: each word stands, and the words differ.
 pub fn standing_words<'a>(
     alloc: Global,
     names: &[&[u8]],
     lines: &'a [NetLine],
-) -> Result<Vec<NetWord<'a>>, AllocError>
+) -> Result<StandingWords<'a>, AllocError>
     requires names { length names.now < 2 ^ 32 }
     requires short { All HasFewPins lines.now }
-    ensures { IfOk result (λ words. map lent_word words.items ≡ once same_place (words_of (map (λ n. n.now) names.now) lines.now)) }
+    ensures words { IfOk result (λ standing. map lent_word standing.words.items ≡ once same_place (words_of (map (λ n. n.now) names.now) lines.now)) }
+    ensures differ { IfOk result (λ standing. standing.differ ≡ true → first_repeated have_same_pin (map lent_word standing.words.items) ≡ None) }
 {
     let words = net_words(alloc, names, lines)?;
-    once_words(alloc, &words)
+    if pins_differ(alloc, &words)? {
+        return Ok(StandingWords {
+            words,
+            differ: true,
+        });
+    }
+    let words = once_words(alloc, &words)?;
+    Ok(StandingWords {
+        words,
+        differ: false,
+    })
+}
+
+/// The words by their pins.
+fn by_pin<'a>(alloc: Global, words: &[NetWord<'a>]) -> Result<Vec<(PinName<'a>, Spot)>, AllocError>
+    ensures { IfOk result (λ pins. pins.items ≡ map (λ w. (w.0.1, w.1)) words.now) }
+{
+    let mut pins = Vec::new(alloc);
+    for word in words {
+        pins.push((word.0.1, word.1))?;
+    }
+    Ok(pins)
+}
+
+fn are_different(alloc: Global, pins: &[(PinName<'_>, Spot)]) -> Result<bool, AllocError>
+    ensures { IfOk result (λ differ. differ ≡ is_none (first_repeated (λ a b. same_pin (lent_pin a.0) (lent_pin b.0)) pins.now)) }
+{
+    let again = first_repeated(alloc, pins)?;
+    Ok(again.is_none())
+}
+
+/// Whether each word names another pin.
+fn pins_differ(alloc: Global, words: &[NetWord<'_>]) -> Result<bool, AllocError>
+    ensures { IfOk result (λ differ. differ ≡ is_none (first_repeated have_same_pin (map lent_word words.now))) }
+{
+    let pins = by_pin(alloc, words)?;
+    are_different(alloc, &pins)
 }
 
 fn once_words<'a>(alloc: Global, words: &[NetWord<'a>]) -> Result<Vec<NetWord<'a>>, AllocError>

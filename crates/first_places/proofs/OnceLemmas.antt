@@ -1,9 +1,9 @@
 -- The items that were seen, and what they leave of those that come after them.
-use Rattle.std.proofs.Common.{◌≡◌, ℕ, suc, ◌+◌, ◌<◌, ◌≤◌, Bool, true, false, cond, ◌||◌, List, [], ◌∷◌, ◌++◌, length, take, drop, get_or, Option, Some, refl, sym, ap, ◌∙◌, append_assoc, arith}
+use Rattle.std.proofs.Common.{◌≡◌, ℕ, suc, ◌+◌, ◌<◌, ◌≤◌, Bool, true, false, cond, ◌||◌, List, [], ◌∷◌, ◌++◌, length, take, drop, get_or, Option, Some, None, refl, sym, ap, ◌∙◌, append_assoc, arith}
 use Rattle.std.proofs.lemmas.List.{drop_more, take_more}
 use Rattle.std.proofs.lemmas.List.Folds.{list_any-append}
 use Rattle.std.specs.List.{list_any}
-use Rattle.first_places.specs.Places.{once_from, repeated_from}
+use Rattle.first_places.specs.Places.{once, once_from, first_repeated, repeated_from}
 
 seen_more : {I : Type 0} (items : List I) (i : ℕ) (x : I) → i < length items → get_or items i x ≡ x → take i items ++ x ∷ [] ≡ take (i + 1) items
 seen_more items i x within read = ap (λ y. take i items ++ y ∷ []) (sym read) ∙ sym (take_more items i x within)
@@ -72,3 +72,26 @@ few false kept i n within = omega arith
 pub once_few : {I : Type 0} (eq : I → I → Bool) (seen items : List I) → length (once_from eq seen items) ≤ length items
 once_few eq seen [] = omega arith
 once_few eq seen (i ∷ items) = few (list_any (λ s. eq s i) seen) (once_from eq (seen ++ i ∷ []) items) i (length items) (once_few eq (seen ++ i ∷ []) items)
+
+none_finer : {I : Type 0} (p q : I → Bool) → ((i : I) → p i ≡ false → q i ≡ false) → (items : List I) → list_any p items ≡ false → list_any q items ≡ false
+none_finer p q h [] e = refl
+none_finer {I} p q h (i ∷ items) e = by_test (none_finer p q h items) (p i) refl e
+  where
+    by_test : (list_any p items ≡ false → list_any q items ≡ false) → (b : Bool) → p i ≡ b → (b || list_any p items) ≡ false → (q i || list_any q items) ≡ false
+    by_test rest true t k = cc k
+    by_test rest false t k = ap (λ b. b || list_any q items) (h i t) ∙ rest k
+
+whole_from : {I : Type 0} (eq fine : I → I → Bool) → ((a b : I) → eq a b ≡ false → fine a b ≡ false) → (seen items : List I) → repeated_from eq seen items ≡ None → once_from fine seen items ≡ items
+whole_from eq fine h seen [] e = refl
+whole_from {I} eq fine h seen (i ∷ items) e = by_test (whole_from eq fine h (seen ++ i ∷ []) items) (list_any (λ s. eq s i) seen) refl e
+  where
+    by_test : (repeated_from eq (seen ++ i ∷ []) items ≡ None → once_from fine (seen ++ i ∷ []) items ≡ items) → (b : Bool) → list_any (λ s. eq s i) seen ≡ b → cond b (Some i) (repeated_from eq (seen ++ i ∷ []) items) ≡ None →
+        cond (list_any (λ s. fine s i) seen) (once_from fine (seen ++ i ∷ []) items) (i ∷ once_from fine (seen ++ i ∷ []) items) ≡ i ∷ items
+    by_test rest true t k = cc k
+    by_test rest false t k =
+        ap (λ b. cond b (once_from fine (seen ++ i ∷ []) items) (i ∷ once_from fine (seen ++ i ∷ []) items)) (none_finer (λ s. eq s i) (λ s. fine s i) (λ s. h s i) seen t)
+        ∙ ap (λ (v : List I). i ∷ v) (rest k)
+
+-- where no item is repeated, all are kept, by a finer equality too
+pub unrepeated : {I : Type 0} (eq fine : I → I → Bool) → ((a b : I) → eq a b ≡ false → fine a b ≡ false) → (items : List I) → first_repeated eq items ≡ None → once fine items ≡ items
+unrepeated eq fine h items e = whole_from eq fine h [] items e

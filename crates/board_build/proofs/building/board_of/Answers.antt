@@ -7,14 +7,23 @@ use Rattle.board_build.specs.Faults.{board_told}
 use Rattle.board_build.specs.Names.{named, names_of}
 use Rattle.board_build.specs.NetWords.{lent_word, same_place, words_of, standing_words}
 use Rattle.board_build.specs.ChainParts.{pin_places}
-use Rattle.board_build.specs.inner.Marked.{mark, seen}
-use Rattle.board_build.proofs.SoundLemmas.{sound_by, answer_by}
+use Rattle.board_build.specs.inner.Marked.{mark, marked_twice, seen}
+use Rattle.board_build.proofs.SoundLemmas.{sound_by, answer_by, twice_none}
 use Rattle.board_build.proofs.building.board_of.Goals as goal
+
+pub answer-requires-clause-differ : goal.answer-requires-clause-differ
+answer-requires-clause-differ c =
+    let inerts = names_of (named Inert c.args.chain.now) in
+    let words = map lent_word c.in_ok-standing.standing.words.items in
+    let marked : map seen c.deref-5.result.now ≡ map (mark c.args.parts.items (pin_places c.args.parts.items) inerts) words =
+    ap (map seen) c.deref-5.ensures.value ∙ c.in_ok-marked.ensures ∙ ap (λ v. map (mark v (pin_places v) inerts) (map lent_word c.deref-3.result.now)) c.deref-2.ensures.value
+    ∙ ap (λ v. map (mark c.args.parts.items (pin_places c.args.parts.items) inerts) (map lent_word v)) c.deref-3.ensures.value in
+    λ differ. ap marked_twice marked ∙ twice_none c.args.chain.now c.args.parts.items words (c.in_ok-standing.ensures.differ differ)
 
 pub answer-requires-clause-sound : goal.answer-requires-clause-sound
 answer-requires-clause-sound c =
     let inerts = names_of (named Inert c.args.chain.now) in
-    let words : map lent_word c.in_ok-words.words.items ≡ standing_words c.args.nets.now = c.in_ok-words.ensures ∙ ap (λ v. once same_place (words_of (map (λ n. n.now) v) c.args.nets.now)) c.deref.ensures.value ∙ ap (λ v. once same_place (words_of v c.args.nets.now)) c.in_ok-names.ensures.names in
+    let words : map lent_word c.in_ok-standing.standing.words.items ≡ standing_words c.args.nets.now = c.in_ok-standing.ensures.words ∙ ap (λ v. once same_place (words_of (map (λ n. n.now) v) c.args.nets.now)) c.deref.ensures.value ∙ ap (λ v. once same_place (words_of v c.args.nets.now)) c.in_ok-names.ensures.names in
     let marked : map seen c.in_ok-marked.marked.items ≡ map (mark c.args.parts.items (pin_places c.args.parts.items) inerts) (standing_words c.args.nets.now) =
     c.in_ok-marked.ensures ∙ ap (λ v. map (mark v (pin_places v) inerts) (map lent_word c.deref-3.result.now)) c.deref-2.ensures.value
     ∙ ap (λ v. map (mark c.args.parts.items (pin_places c.args.parts.items) inerts) (map lent_word v)) c.deref-3.ensures.value ∙ ap (map (mark c.args.parts.items (pin_places c.args.parts.items) inerts)) words in
@@ -23,7 +32,7 @@ answer-requires-clause-sound c =
 pub returns : goal.returns
 returns c =
     let inerts = names_of (named Inert c.args.chain.now) in
-    let words : map lent_word c.in_ok-words.words.items ≡ standing_words c.args.nets.now = c.in_ok-words.ensures ∙ ap (λ v. once same_place (words_of (map (λ n. n.now) v) c.args.nets.now)) c.deref.ensures.value ∙ ap (λ v. once same_place (words_of v c.args.nets.now)) c.in_ok-names.ensures.names in
+    let words : map lent_word c.in_ok-standing.standing.words.items ≡ standing_words c.args.nets.now = c.in_ok-standing.ensures.words ∙ ap (λ v. once same_place (words_of (map (λ n. n.now) v) c.args.nets.now)) c.deref.ensures.value ∙ ap (λ v. once same_place (words_of v c.args.nets.now)) c.in_ok-names.ensures.names in
     let marked : map seen c.in_ok-marked.marked.items ≡ map (mark c.args.parts.items (pin_places c.args.parts.items) inerts) (standing_words c.args.nets.now) =
     c.in_ok-marked.ensures ∙ ap (λ v. map (mark v (pin_places v) inerts) (map lent_word c.deref-3.result.now)) c.deref-2.ensures.value
     ∙ ap (λ v. map (mark c.args.parts.items (pin_places c.args.parts.items) inerts) (map lent_word v)) c.deref-3.ensures.value ∙ ap (map (mark c.args.parts.items (pin_places c.args.parts.items) inerts)) words in
