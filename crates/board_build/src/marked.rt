@@ -64,7 +64,8 @@ fn mark<'a>(
         part: word.0.1.0,
         pin: word.0.1.1,
         spot: word.1,
-        described: is_known(described, word.0.1.0),
+        // A pin that has a place is of a described part, whose name need not be looked up.
+        described: at.is_some() || is_known(described, word.0.1.0),
         at,
         inert: is_known(inerts, word.0.1.0),
         always_on: is_free_at(parts, at),

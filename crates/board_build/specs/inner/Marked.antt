@@ -1,5 +1,5 @@
 -- Net words with what is known of their pins, as the code keeps them.
-use Rattle.std.specs.Prelude.{◌≡◌, ℕ, ◌+◌, ◌<◌, ◌==◌, Bool, false, ◌&&◌, List, [], ◌∷◌, ◌++◌, length, map, filter, find, nat_lt, slice_get, Option, Some, None, Result, option_and_then, option_map, is_none, if◌then◌else◌}
+use Rattle.std.specs.Prelude.{◌≡◌, ℕ, ◌+◌, ◌<◌, ◌==◌, Bool, false, ◌&&◌, ◌||◌, List, [], ◌∷◌, ◌++◌, length, map, filter, find, nat_lt, slice_get, Option, Some, None, Result, option_and_then, option_map, is_none, is_some, if◌then◌else◌}
 use Rattle.std.proofs.Common.{Bor, get_or, set}
 use Rattle.std.specs.Option.{option_to_list}
 use Rattle.board_defs.specs.declared.device.Cell.{Cell}
@@ -75,14 +75,14 @@ seen m = record {
   always_on = m.always_on;
 }
 
--- the marking of a lent word, by what is asked of its pin
+-- the marking of a lent word, by what is asked of its pin: one that has a place is of a described part
 abbrev pub mark_by : List Part → (Bor (List ℕ) → Bool) → (Bor (List ℕ) × Bor (List ℕ) → Option PinAt) → (Bor (List ℕ) → Bool) → (ℕ × (Bor (List ℕ) × Bor (List ℕ))) × Spot → MarkedWord
 mark_by parts described place inert w = record {
   net = w.0.0;
   part = w.0.1.0;
   pin = w.0.1.1;
   spot = w.1;
-  described = described w.0.1.0;
+  described = is_some (place w.0.1) || described w.0.1.0;
   at = place w.0.1;
   inert = inert w.0.1.0;
   always_on = is_free_at parts (place w.0.1);

@@ -11,15 +11,18 @@ use Rattle.board_build.specs.inner.Marked.{mark, seen}
 use Rattle.board_build.proofs.NameLemmas.{if_ok_map}
 use Rattle.board_build.proofs.MarkLemmas.{map-map, map_seen}
 use Rattle.board_build.proofs.GroupLemmas.{mark_cong}
+use Rattle.board_build.proofs.KnownLemmas.{known_same}
 use Rattle.board_build.proofs.marked.marked_words.Goals as goal
 
 pub returns : goal.returns
 returns c =
     if_ok_map _ _
     (λ marked e. ap (map seen) e ∙ map-map _ seen c.args.words.now ∙ map_seen _ lent_word (mark c.args.parts.now (pin_places c.args.parts.now) (names_of (named Inert c.args.lines.now)))
-    (λ w. mark_cong c.args.parts.now (lent_word w) _ _ _ _ _ _
-    (ap is_some (c.in_ok-by_name.ensures w.0.1.0 ∙ ap (λ v. first_place same_word (map (λ n. n.now) v) w.0.1.0.now) c.deref-2.ensures.value ∙ ap (λ v. first_place same_word v w.0.1.0.now) c.in_ok-names.ensures.names))
-    (c.in_ok-by_pin.ensures w.0.1 ∙ ap (λ v. first_value same_pin (map (λ p. (lent_pin p.0, p.1)) v) (lent_pin w.0.1)) c.deref.ensures.value ∙ ap (λ v. first_value same_pin v (lent_pin w.0.1)) c.in_ok-places.ensures)
+    (λ w.
+    let place = c.in_ok-by_pin.ensures w.0.1 ∙ ap (λ v. first_value same_pin (map (λ p. (lent_pin p.0, p.1)) v) (lent_pin w.0.1)) c.deref.ensures.value ∙ ap (λ v. first_value same_pin v (lent_pin w.0.1)) c.in_ok-places.ensures in
+    mark_cong c.args.parts.now (lent_word w) _ _ _ _ _ _
+    (known_same c.args.parts.now (lent_pin w.0.1) _ _ (ap is_some (c.in_ok-by_name.ensures w.0.1.0 ∙ ap (λ v. first_place same_word (map (λ n. n.now) v) w.0.1.0.now) c.deref-2.ensures.value ∙ ap (λ v. first_place same_word v w.0.1.0.now) c.in_ok-names.ensures.names)) place)
+    place
     (ap is_some (c.in_ok-by_inert.ensures w.0.1.0 ∙ ap (λ v. first_place same_word (map (λ n. n.now) v) w.0.1.0.now) c.deref-3.ensures.value ∙ ap (λ v. first_place same_word v w.0.1.0.now) c.in_ok-inerts.ensures.names)))
     c.args.words.now)
     c.mark_all.result c.mark_all.ensures
