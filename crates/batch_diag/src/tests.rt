@@ -5,15 +5,6 @@ use super::*;
 use std::alloc::{AllocError, Global};
 use std::test::Fail;
 
-fn is_shared<T: Send + Sync>() {}
-
-#[test]
-fn values_may_be_shared() {
-    is_shared::<Block>();
-    is_shared::<BatchFault>();
-    is_shared::<Verdict>();
-}
-
 // The id of each block, and the bits of each of its rows, the first one to the left.
 fn shown(alloc: Global, blocks: &[Block]) -> Result<String, AllocError> {
     let mut text = String::new(alloc);

@@ -5,6 +5,3 @@ mod number;
 mod words;
 
 pub use words::{BoardNames, ChainNames, Command, command_of};
-
-#[cfg(test)]
-mod tests;

@@ -23,6 +23,3 @@ mod words;
 pub use classes::{Classes, ControlClass, NetClass, PinClass, classify};
 pub use found::meet;
 pub use net_numbers::NetNumbers;
-
-#[cfg(test)]
-mod tests;

@@ -5,14 +5,6 @@ use board_files::{ChainStatement, chain, nets};
 use std::alloc::{AllocError, Global};
 use std::test::Fail;
 
-fn is_shared<T: Send + Sync>() {}
-
-#[test]
-fn values_may_be_shared() {
-    is_shared::<Joined>();
-    is_shared::<LinkFault>();
-}
-
 fn add(shown: &mut Vec<u8>, kind: &[u8], name: &Name) -> Result<(), AllocError> {
     shown.extend_from_slice(kind)?;
     shown.extend_from_slice(name.bytes())?;
