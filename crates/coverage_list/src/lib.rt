@@ -6,6 +6,3 @@ mod lines;
 mod listing;
 
 pub use listing::{covered_nets, write_cover};
-
-#[cfg(test)]
-mod tests;

@@ -11,3 +11,4 @@ pub mod PairLemmas
 pub mod EnabledLemmas
 pub mod DoneLemmas
 pub mod UsefulLemmas
+mod Samples

@@ -14,6 +14,3 @@ mod tested;
 mod walk;
 
 pub use making::passes;
-
-#[cfg(test)]
-mod tests;

@@ -13,3 +13,4 @@ pub mod OrderLemmas
 pub mod ExplainLemmas
 pub mod DiagnosisLemmas
 mod Samples
+mod SampleEffects

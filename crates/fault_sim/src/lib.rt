@@ -19,6 +19,3 @@ pub use differing::{differing_nets, none_differs};
 pub use matching::{is_pass, matches, matches_by};
 pub use suspects::Suspects;
 pub use universe::Universe;
-
-#[cfg(test)]
-mod tests;

@@ -18,3 +18,4 @@ pub mod SeenLemmas
 pub mod PlanLemmas
 pub mod SteadyLemmas
 pub mod PassLemmas
+mod Samples

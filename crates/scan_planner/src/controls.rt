@@ -124,7 +124,7 @@ pub fn driver_table(
 }
 
 /// The driver cells of the control whose cell stands at a position; none where no row has it.
-pub fn cells_at(rows: &[ControlCells], control: usize) -> &[DriverCell]
+fn cells_at(rows: &[ControlCells], control: usize) -> &[DriverCell]
     ensures { result.now ≡ slice_index_or rows.now control [] }
 {
     match rows.get(control) {

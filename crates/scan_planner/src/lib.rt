@@ -25,6 +25,3 @@ mod uses;
 pub use nets::NetDriver;
 pub use plan::Plan;
 pub use tables::ReaderCell;
-
-#[cfg(test)]
-mod tests;

@@ -8,6 +8,7 @@ mod LawLemmas
 mod FillLemmas
 mod SampleTests
 mod SampleGroups
+mod SampleLines
 mod LabelLemmas
 mod SetLemmas
 mod PutLemmas

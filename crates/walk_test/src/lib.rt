@@ -23,6 +23,3 @@ pub use group::Group;
 pub use grouping::groups;
 pub use listing::write_groups;
 pub use walk::Walk;
-
-#[cfg(test)]
-mod tests;

@@ -1,0 +1,85 @@
+-- Flags, sets of nets and the first net of a word, worked by hand.
+use Rattle.std.proofs.Common.{◌≡◌, ℕ, ◌+◌, ◌-◌, ◌^◌, ◌<◌, ◌≤◌, Bool, true, false, not, List, [], ◌∷◌, map, filter, replicate, refl, arith}
+use Rattle.std.specs.Prelude.{slice_index_or}
+use Rattle.std.specs.List.{list_all, list_any, range_with_len}
+use Rattle.std.proofs.lemmas.Bool.{not-true}
+use Rattle.board_defs.proofs.Members.{all_has, has_range}
+use Rattle.driver_passes.specs.inner.NetSets.{has_bit, has_net, IsFirst}
+
+-- one flag is set, and past the last one none is
+abbrev one_flag : List Bool
+one_flag = false ∷ false ∷ true ∷ false ∷ []
+
+flags : map (λ n. slice_index_or one_flag n false) (2 ∷ 1 ∷ 4 ∷ []) ≡ true ∷ false ∷ false ∷ []
+flags = refl
+
+-- the flag of some of these nets is set
+abbrev some_set : List Bool → List ℕ → Bool
+some_set flags nets = list_any (λ n. slice_index_or flags n false) nets
+
+none_set : some_set (replicate 4 false) (0 ∷ 3 ∷ []) ≡ false
+none_set = refl
+
+one_set : map (some_set one_flag) ((0 ∷ 2 ∷ []) ∷ (0 ∷ 1 ∷ 9 ∷ []) ∷ []) ≡ true ∷ false ∷ []
+one_set = refl
+
+-- the nets of a set of three words
+abbrev nets_of : List ℕ → List ℕ
+nets_of words = filter (has_net words) (range_with_len 0 192)
+
+no_nets : nets_of (0 ∷ 0 ∷ 0 ∷ []) ≡ []
+unfolding has_net
+no_nets = refl
+
+outer_nets : nets_of (1 ∷ 2 ^ 63 ∷ 0 ∷ []) ≡ 0 ∷ 127 ∷ []
+unfolding has_net
+outer_nets = refl
+
+more_nets : nets_of (33 ∷ (2 ^ 63 + 1) ∷ 0 ∷ []) ≡ 0 ∷ 5 ∷ 64 ∷ 127 ∷ []
+unfolding has_net
+more_nets = refl
+
+past_the_words : has_net (1 ∷ 2 ^ 63 ∷ 0 ∷ []) 1000 ≡ false
+unfolding has_net
+past_the_words = refl
+
+-- where nets 3 and 66 are taken out of all nets from word 1 on, net 66 alone is missing
+abbrev all : ℕ
+all = 2 ^ 64 - 1
+
+taken_out : filter (λ n. not (has_net (all ∷ (all - 4) ∷ all ∷ []) n)) (range_with_len 0 192) ≡ 66 ∷ []
+unfolding has_net
+taken_out = refl
+
+-- none of the numbers from this one up to the end passes, by computing
+none_by : (passes : ℕ → Bool) (from end : ℕ) → list_all (λ n. not (passes n)) (range_with_len from (end - from)) ≡ true → (n : ℕ) → from ≤ n → n < end → passes n ≡ false
+none_by passes from end none n least below = not-true _ (all_has (λ m. not (passes m)) (range_with_len from (end - from)) n none (has_range from (end - from) n least (omega (arith, least, below))))
+
+first_by : (passes : ℕ → Bool) (from first : ℕ) → from ≤ first → passes first ≡ true → list_all (λ n. not (passes n)) (range_with_len from (first - from)) ≡ true → IsFirst passes from first
+first_by passes from first least found none = record { least = least; found = found; earlier = none_by passes from first none }
+
+-- bits 0 and 3 of word 0
+first_from_0 : IsFirst (has_bit 9) 0 0
+first_from_0 = first_by (has_bit 9) 0 0 (omega arith) refl refl
+
+first_from_1 : IsFirst (has_bit 9) 1 3
+first_from_1 = first_by (has_bit 9) 1 3 (omega arith) refl refl
+
+none_from_4 : (n : ℕ) → 4 ≤ n → n < 64 → has_bit 9 n ≡ false
+none_from_4 = none_by (has_bit 9) 4 64 refl
+
+-- word 2 has its last bit, too
+abbrev late : List ℕ
+late = 0 ∷ 0 ∷ (2 ^ 63 + 9) ∷ []
+
+first_from_129 : IsFirst (has_net late) 129 131
+unfolding has_net
+first_from_129 = first_by (has_net late) 129 131 (omega arith) refl refl
+
+first_from_132 : IsFirst (has_net late) 132 191
+unfolding has_net
+first_from_132 = first_by (has_net late) 132 191 (omega arith) refl refl
+
+none_from_64 : (n : ℕ) → 64 ≤ n → n < 128 → has_net late n ≡ false
+unfolding has_net
+none_from_64 = none_by (has_net late) 64 128 refl
