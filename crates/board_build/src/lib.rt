@@ -18,6 +18,3 @@ pub use board_defs::Spot;
 pub use building::{board, parts_of_chain};
 pub use fault::BoardFault;
 pub use selection::select;
-
-#[cfg(test)]
-mod tests;

@@ -43,7 +43,7 @@ fn are_refused(rt: &(impl Threads + Sync), alloc: Global, cases: &[Case]) -> Res
     Ok(())
 }
 
-static CHAINS: [Case; 7] = [
+static CHAINS: [Case; 8] = [
     ("", NETS, "drv rcv", "c: no part in the chain\n"),
     (
         "DEVICE U1 DRV -\nBYPASS U1 3",
@@ -52,10 +52,16 @@ static CHAINS: [Case; 7] = [
         "c line 2: part twice\n",
     ),
     (
-        "DEVICE U1 XYZ -",
+        "DEVICE U1 XYZ -\nDEVICE U2 RCV -",
         NETS,
         "drv rcv",
         "c line 1: entity not given\n",
+    ),
+    (
+        "DEVICE U1 XYZ -\nDEVICE U1 RCV -",
+        NETS,
+        "drv rcv",
+        "c line 2: part twice\n",
     ),
     (CHAIN, NETS, "drv rcv drv", "drv: entity given twice\n"),
     (

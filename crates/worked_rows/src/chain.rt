@@ -1,7 +1,7 @@
 // The chain test of parts that are known by their length.
 use bt_base::{MemSink, OpenGate};
 use btest_cli::Status;
-use run_bench::{Bench, Ending, Row, RowFault, lines_hold, rows_hold};
+use run_bench::{Bench, DRV, Ending, Row, RowFault, lines_hold, rows_hold};
 use std::alloc::Global;
 use std::thread::Threads;
 
@@ -80,18 +80,22 @@ fn a_scan_of_more_than_one_line_is_printed_by_fields(rt: HostRuntime) -> Result<
     chain_ends(&rt, alloc, forty.as_bytes(), Ending::Scans(scans))
 }
 
-static DESCRIBED: [(&str, Ending<'static>); 3] = [
+static DESCRIBED: [(&str, Ending<'static>); 4] = [
     ("chain c", Ending::Refused("c line 1: entity not given\n")),
     ("chain c d", Ending::NotRead("cannot read d\n")),
     (
         "chain c drv drv",
         Ending::Refused("drv: entity given twice\n"),
     ),
+    (
+        "chain c drv rcv again",
+        Ending::Refused("again: entity given twice\n"),
+    ),
 ];
 
 #[test]
 fn each_entity_is_given_once(rt: HostRuntime) -> Result<(), RowFault> {
-    let texts = [("c", "DEVICE U1 DRV -\nBYPASS U9 3")];
+    let texts = [("c", "DEVICE U1 DRV -\nBYPASS U9 3"), ("again", DRV)];
     lines_hold(&rt, rt.alloc(), &texts, &DESCRIBED)
 }
 

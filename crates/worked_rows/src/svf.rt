@@ -1,6 +1,6 @@
 // The test of a board.
 use btest_cli::Status;
-use run_bench::{Bench, CHAIN, Ending, NETS, RowFault, SCANS, TS, edited};
+use run_bench::{Bench, CHAIN, Ending, NETS, Row, RowFault, SCANS, TS, edited, rows_hold};
 use std::alloc::{AllocError, Global};
 use std::thread::Threads;
 
@@ -19,28 +19,42 @@ fn is_tested_by(
     bench.expect(0, status, Ending::Scans(scans))
 }
 
+static CODES: [Row; 4] = [
+    Row {
+        texts: &[],
+        line: "svf c n drv rcv",
+        ending: Ending::Scans(SCANS),
+    },
+    Row {
+        texts: &[("c", "DEVICE U1 DRV1 -\nDEVICE U2 RCV -")],
+        line: "svf c n drv1 rcv",
+        ending: Ending::Scans(
+            "SIR 4 TDI (2) TDO (5) MASK (F);\nSDR 4 TDI (0);\nSIR 4 TDI (4) TDO (5) MASK (F);\n\
+             SDR 4 TDI (4);\nSDR 4 TDI (8) TDO (1) MASK (3);\nSDR 4 TDI (0) TDO (2) MASK (3);\n",
+        ),
+    },
+    Row {
+        texts: &[("c", "DEVICE U1 DRV -\nBYPASS U9 3\nDEVICE U2 RCV -")],
+        line: "svf c n drv rcv",
+        ending: Ending::Scans(
+            "SIR 7 TDI (5E) TDO (25) MASK (6F);\nSDR 5 TDI (00);\nSIR 7 TDI (1C) TDO (25) MASK (6F);\n\
+             SDR 5 TDI (08);\nSDR 5 TDI (10) TDO (01) MASK (03);\nSDR 5 TDI (00) TDO (02) MASK (03);\n",
+        ),
+    },
+    // The texts stand in another order than the parts.
+    Row {
+        texts: &[("c", "DEVICE U2 RCV -\nBYPASS U9 3\nDEVICE U1 DRV -")],
+        line: "svf c n drv rcv",
+        ending: Ending::Scans(
+            "SIR 7 TDI (5E) TDO (25) MASK (6F);\nSDR 5 TDI (00);\nSIR 7 TDI (1C) TDO (25) MASK (6F);\n\
+             SDR 5 TDI (01);\nSDR 5 TDI (02) TDO (08) MASK (18);\nSDR 5 TDI (00) TDO (10) MASK (18);\n",
+        ),
+    },
+];
+
 #[test]
 fn the_driver_of_each_net_shifts_its_code(rt: HostRuntime) -> Result<(), RowFault> {
-    let alloc = rt.alloc();
-    is_tested_by(&rt, alloc, "drv rcv", CHAIN, NETS, SCANS)?;
-    is_tested_by(
-        &rt,
-        alloc,
-        "drv1 rcv",
-        "DEVICE U1 DRV1 -\nDEVICE U2 RCV -",
-        NETS,
-        "SIR 4 TDI (2) TDO (5) MASK (F);\nSDR 4 TDI (0);\nSIR 4 TDI (4) TDO (5) MASK (F);\n\
-         SDR 4 TDI (4);\nSDR 4 TDI (8) TDO (1) MASK (3);\nSDR 4 TDI (0) TDO (2) MASK (3);\n",
-    )?;
-    is_tested_by(
-        &rt,
-        alloc,
-        "drv rcv",
-        "DEVICE U1 DRV -\nBYPASS U9 3\nDEVICE U2 RCV -",
-        NETS,
-        "SIR 7 TDI (5E) TDO (25) MASK (6F);\nSDR 5 TDI (00);\nSIR 7 TDI (1C) TDO (25) MASK (6F);\n\
-         SDR 5 TDI (08);\nSDR 5 TDI (10) TDO (01) MASK (03);\nSDR 5 TDI (00) TDO (02) MASK (03);\n",
-    )
+    rows_hold(&rt, rt.alloc(), &[], &CODES)
 }
 
 #[test]
