@@ -1,5 +1,5 @@
 -- The driver cells that a pass has by its controls, control after control.
-use Rattle.std.proofs.Common.{◌≡◌, Bool, List, [], ◌++◌, fold, map, get_or, sym, ap, ◌∙◌}
+use Rattle.std.proofs.Common.{◌≡◌, Bool, List, [], ◌++◌, fold, get_or, sym, ap, ◌∙◌}
 use Rattle.std.specs.List.{flat_map}
 use Rattle.std.proofs.lemmas.List.Folds.{flat_map-map}
 use Rattle.std.proofs.lemmas.List.Sums.{fold-append}

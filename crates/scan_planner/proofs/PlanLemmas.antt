@@ -12,7 +12,7 @@ use Rattle.board_defs.specs.declared.board.RawBoard.{RawBoard}
 use Rattle.board_defs.specs.declared.board.Ctl.{Ctl}
 use Rattle.board_defs.specs.BoardRules.{IsBoard}
 use Rattle.board_defs.specs.DeviceRules.{disable_of}
-use Rattle.board_defs.specs.Pins.{device_at, cell_count}
+use Rattle.board_defs.specs.Pins.{device_at}
 use Rattle.board_defs.specs.Settings.{holds}
 use Rattle.board_defs.proofs.Members.{Has, has_contains, contains_has, has_map, map_has}
 use Rattle.tap_defs.specs.board.Quiet.{safe_bit}
@@ -25,7 +25,6 @@ use Rattle.tap_defs.proofs.board.WidthLemmas.{width_is}
 use Rattle.scan_planner.specs.declared.codes.NetCodes.{NetCodes}
 use Rattle.scan_planner.specs.declared.tables.FixedRows.{FixedRows}
 use Rattle.scan_planner.specs.declared.tables.HeldCell.{HeldCell}
-use Rattle.scan_planner.specs.declared.tables.DriverCell.{DriverCell}
 use Rattle.scan_planner.specs.declared.tables.ReaderCell.{ReaderCell}
 use Rattle.scan_planner.specs.Tables.{first_position, AreFirsts, AreRowsOf, IsHeldCell, common_rows, held_cell, pass_cells_of}
 use Rattle.scan_planner.specs.declared.tables.PassTables.{PassTables}
