@@ -1,14 +1,15 @@
 -- A block's lines by themselves, and at their place in the text.
 use Rattle.std.proofs.Common.{◌≡◌, ℕ, zero, suc, ◌+◌, ◌≤◌, Bool, true, false, cond, nat_lt, Option, Some, None, Ok, Err, List, [], ◌∷◌, ◌++◌, length, map, take, drop, refl, sym, ap, ◌∙◌, subst, arith}
-use Rattle.std.specs.Prelude.{filter_map, ◌==◌, is_some}
+use Rattle.std.specs.Prelude.{IfSome, filter_map, ◌==◌, is_some}
 use Rattle.std.specs.List.{slice_split, onto_first, cons_option}
 use Rattle.std.proofs.lemmas.List.{length-map}
 use Rattle.text_lines.specs.Words.{Word, words_of, is_newline}
 use Rattle.bt_bits.specs.Hex.{digit_count, field_bits}
 use Rattle.response_log.specs.declared.fault.LogFault.{LogFault}
 use Rattle.response_log.specs.declared.fault.LogFault.TheVariants.{Digit, Length, Missing, Extra, Memory as LogMemory}
-use Rattle.response_log.specs.LogRows.{Answer as LogAnswer, Fails as FailsLog, NumberedLine, holds_word, only_word, bits_of_line, word_fault, row_fault, offences, wanted_rows, first_or, rows_of_lines, row_lines, log_rows}
-use Rattle.batch_diag.specs.inner.Cutting.{rows_from, FailsBlock, moved_inner, IsUpTo}
+use Rattle.response_log.specs.LogRows.{Answer as LogAnswer, NumberedLine, holds_word, only_word, bits_of_line, word_fault, row_fault, offences, wanted_rows, first_or, rows_of_lines, row_lines, log_rows, log_told}
+use Rattle.batch_diag.specs.Batch.{batch_told}
+use Rattle.batch_diag.specs.inner.Cutting.{rows_from, in_block, moved_inner, IsUpTo}
 use Rattle.batch_diag.proofs.CutLemmas.{rows_at, with_line, worded_line}
 
 -- the line as it stands behind so many lines
@@ -87,14 +88,14 @@ pub said_at_place : (own : List ℕ) (before rows len : ℕ) → rows_of_lines r
 said_at_place own before rows len =
     ap (rows_of_lines rows len) (rows_moved before 1 (slice_split is_newline own)) ∙ lines_moved before rows len (row_lines own)
 
-pub log_at_place : (own : List ℕ) (before rows len : ℕ) (log : List (List Bool)) → log_rows own rows len ≡ Ok log → rows_of_lines rows len (rows_from (before + 1) own) ≡ Ok log
-log_at_place own before rows len log is = said_at_place own before rows len ∙ ap (moved before) is
+pub log_at_place : (own : List ℕ) (before rows len board : ℕ) (log : List (List Bool)) → log_rows own rows len ≡ Ok log → in_block board (rows_of_lines rows len (rows_from (before + 1) own)) ≡ Ok log
+log_at_place own before rows len board log is = ap (in_block board) (said_at_place own before rows len ∙ ap (moved before) is)
 
-pub fault_at_place : (own : List ℕ) (before rows len board : ℕ) (fault : LogFault) → FailsLog fault (log_rows own rows len) → FailsBlock board (moved_inner board before fault) (rows_of_lines rows len (rows_from (before + 1) own))
-fault_at_place own before rows len board (Digit n) is = (refl, said_at_place own before rows len ∙ ap (moved before) is)
-fault_at_place own before rows len board (Length n) is = (refl, said_at_place own before rows len ∙ ap (moved before) is)
-fault_at_place own before rows len board (Missing found) is = (refl, said_at_place own before rows len ∙ ap (moved before) is)
-fault_at_place own before rows len board (Extra n) is = (refl, said_at_place own before rows len ∙ ap (moved before) is)
+pub fault_at_place : (own : List ℕ) (before rows len board : ℕ) (fault : LogFault) → IfSome (log_told fault) (λ f. log_rows own rows len ≡ Err f) → IfSome (batch_told (moved_inner board before fault)) (λ f. in_block board (rows_of_lines rows len (rows_from (before + 1) own)) ≡ Err f)
+fault_at_place own before rows len board (Digit n) is = ap (in_block board) (said_at_place own before rows len ∙ ap (moved before) is)
+fault_at_place own before rows len board (Length n) is = ap (in_block board) (said_at_place own before rows len ∙ ap (moved before) is)
+fault_at_place own before rows len board (Missing found) is = ap (in_block board) (said_at_place own before rows len ∙ ap (moved before) is)
+fault_at_place own before rows len board (Extra n) is = ap (in_block board) (said_at_place own before rows len ∙ ap (moved before) is)
 fault_at_place own before rows len board (LogMemory e) is = tt
 
 -- no line is named behind the last one with words
@@ -160,7 +161,7 @@ said_up_to : (own : List ℕ) (rows len : ℕ) → SaysUpTo (length own) (log_ro
 said_up_to own rows len =
     faults_up_to (length own) rows len (wanted_rows rows len (row_lines own)) (row_lines own) (rows_up_to (length own) 1 (slice_split is_newline own) (omega (arith, size_split own))) (wanted_up_to (length own) rows len (row_lines own))
 
-pub fault_up_to : (own : List ℕ) (rows len : ℕ) (fault : LogFault) → FailsLog fault (log_rows own rows len) → IsUpTo (length own) fault
+pub fault_up_to : (own : List ℕ) (rows len : ℕ) (fault : LogFault) → IfSome (log_told fault) (λ f. log_rows own rows len ≡ Err f) → IsUpTo (length own) fault
 fault_up_to own rows len (Digit n) is = subst (SaysUpTo (length own)) is (said_up_to own rows len)
 fault_up_to own rows len (Length n) is = subst (SaysUpTo (length own)) is (said_up_to own rows len)
 fault_up_to own rows len (Missing found) is = tt

@@ -1,5 +1,5 @@
 -- The blocks of a batch of logs, each with the log of one board.
-use Rattle.std.specs.Prelude.{◌≡◌, ℕ, ◌+◌, Bool, false, not, ◌&&◌, List, [], ◌∷◌, take_while, Option, Some, None, Result, Ok, Err, codes, if◌then◌else◌}
+use Rattle.std.specs.Prelude.{ℕ, ◌+◌, Bool, false, not, ◌&&◌, List, [], ◌∷◌, take_while, Option, Some, None, Result, Ok, Err, codes, if◌then◌else◌}
 use Rattle.std.specs.Str.{bytes_eq}
 use Rattle.text_lines.specs.Words.{Word, is_word}
 use Rattle.response_log.specs.declared.fault.LogFault.{LogFault}
@@ -94,16 +94,10 @@ blocks_of_lines rows len lines = unless (start_fault lines) (unless (title_fault
 abbrev pub batch_of : List ℕ → ℕ → ℕ → Answer
 batch_of text rows len = blocks_of_lines rows len (row_lines text)
 
--- an answer is what the text says, unless memory ran out
-abbrev pub Fails : BatchFault → Answer → Type 0
-Fails (Start n) said = said ≡ Err (Start n)
-Fails (Title n) said = said ≡ Err (Title n)
-Fails (Inner board fault) said = said ≡ Err (Inner board fault)
-Fails (Memory e) said = Unit {0}
-
-abbrev pub GivesBy : {V : Type 0} → (V → List Block) → Result V BatchFault → Answer → Type 0
-GivesBy view (Ok value) said = said ≡ Ok (view value)
-GivesBy view (Err fault) said = Fails fault said
+-- what a fault tells
+abbrev pub batch_told : BatchFault → Option BatchFault
+batch_told (Memory e) = None
+batch_told fault = Some fault
 
 -- the fault of a block's lines is never want of memory
 abbrev pub IsOfLines : BatchFault → Type 0

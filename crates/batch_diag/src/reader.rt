@@ -1,8 +1,9 @@
 // From a text to the logs of boards.
 ghost use Rattle.std.specs.Prelude.{◌≡◌, ◌+◌, ◌<◌, ◌^◌, length, All, IfOk, MatchResult};
+ghost use Rattle.answers.specs.Gives.{Gives};
 ghost use Rattle.response_log.specs.LogRows.{HasSize, row_lines, rows_of_lines};
-ghost use Rattle.batch_diag.specs.Batch.{GivesBy, IsOfLines, batch_of, blocks_of, logs_from};
-ghost use Rattle.batch_diag.specs.inner.Cutting.{GivesLogBy, IsUpTo, moved_inner, rows_from};
+ghost use Rattle.batch_diag.specs.Batch.{IsOfLines, batch_of, batch_told, blocks_of, logs_from};
+ghost use Rattle.batch_diag.specs.inner.Cutting.{IsUpTo, in_block, moved_inner, rows_from};
 
 use crate::block::Block;
 use crate::fault::BatchFault;
@@ -20,7 +21,7 @@ use std::alloc::Global;
 /// and a byte for each digit.
 pub fn blocks(alloc: Global, bytes: &[u8], rows: u64, len: u32) -> Result<Vec<Block>, BatchFault>
     requires { length bytes.now < 2 ^ 32 }
-    ensures read { GivesBy (λ blocks. blocks.items) result (batch_of bytes.now rows len) }
+    ensures read { Gives batch_told (λ blocks. blocks.items) (λ said. batch_of bytes.now rows len ≡ said) result }
     ensures size { IfOk result (λ blocks. All (λ block. HasSize rows len block.log) blocks.items) }
     ensures inner { MatchResult result (λ _. Unit {0}) IsOfLines }
 {
@@ -36,7 +37,7 @@ pub fn blocks(alloc: Global, bytes: &[u8], rows: u64, len: u32) -> Result<Vec<Bl
 // The blocks of a text, whatever its titles are.
 fn read_blocks(alloc: Global, bytes: &[u8], rows: u64, len: u32) -> Result<Vec<Block>, BatchFault>
     requires { length bytes.now < 2 ^ 32 }
-    ensures read { GivesBy (λ blocks. blocks.items) result (logs_from rows len 1 (blocks_of (row_lines bytes.now))) }
+    ensures read { Gives batch_told (λ blocks. blocks.items) (λ said. logs_from rows len 1 (blocks_of (row_lines bytes.now)) ≡ said) result }
     ensures size { IfOk result (λ blocks. All (λ block. HasSize rows len block.log) blocks.items) }
     ensures inner { MatchResult result (λ _. Unit {0}) IsOfLines }
 {
@@ -62,7 +63,7 @@ fn read_block(
 ) -> Result<Block, BatchFault>
     requires { title.line + length own.now < 2 ^ 32 }
     ensures id { IfOk result (λ block. block.id ≡ title.entry.id.now) }
-    ensures log { GivesLogBy board (λ block. block.log) result (rows_of_lines rows len (rows_from (title.entry.line + 1) own.now)) }
+    ensures log { Gives batch_told (λ block. block.log) (λ said. in_block board (rows_of_lines rows len (rows_from (title.entry.line + 1) own.now)) ≡ said) result }
     ensures size { IfOk result (λ block. HasSize rows len block.log) }
     ensures inner { MatchResult result (λ _. Unit {0}) IsOfLines }
 {
@@ -83,7 +84,7 @@ fn read_log(
     board: u32,
 ) -> Result<Log, BatchFault>
     requires { before + length own.now < 2 ^ 32 }
-    ensures log { GivesLogBy board (λ log. log) result (rows_of_lines rows len (rows_from (before + 1) own.now)) }
+    ensures log { Gives batch_told (λ log. log) (λ said. in_block board (rows_of_lines rows len (rows_from (before + 1) own.now)) ≡ said) result }
     ensures size { IfOk result (HasSize rows len) }
     ensures inner { MatchResult result (λ _. Unit {0}) IsOfLines }
 {

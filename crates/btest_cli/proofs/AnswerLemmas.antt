@@ -19,11 +19,11 @@ use Rattle.btest_cli.specs.declared.failure.Unput.{Unput}
 use Rattle.btest_cli.specs.declared.failure.Unput.TheVariants as unput
 use Rattle.response_log.specs.declared.fault.LogFault.{LogFault}
 use Rattle.response_log.specs.declared.fault.LogFault.TheVariants as log
-use Rattle.response_log.specs.LogRows.{Answer as LogAnswer, Fails}
+use Rattle.response_log.specs.LogRows.{Answer as LogAnswer, log_told}
 use Rattle.btest_core.specs.BoardRead.{Denotes}
 use Rattle.batch_diag.specs.declared.fault.BatchFault.{BatchFault}
 use Rattle.batch_diag.specs.declared.fault.BatchFault.TheVariants as batch
-use Rattle.batch_diag.specs.Batch.{Answer as BatchAnswer, Fails as BatchFails}
+use Rattle.batch_diag.specs.Batch.{Answer as BatchAnswer, batch_told}
 use Rattle.walk_test.specs.WalkTest.{board_walk_text}
 use Rattle.board_defs.specs.declared.board.RawBoard.{RawBoard}
 use Rattle.btest_cli.specs.LogRead.{Judging, OnBoard, OnDenoted, TextFault, Input, Log, Batch as OfBatch, diagnosing, diagnosis_text, grouping, grouping_text, judging_each, verdicts_text}
@@ -162,7 +162,7 @@ judged_denoted judging text_of P text chain nets texts board denoted old new (Er
 judged_denoted judging text_of P text chain nets texts board denoted old new (Err unput.Memory) same = same
 
 -- a log is wrong
-pub log_wrong : {A : Type 0} (IsFound : Result A TextFault → Type 0) (text_of : A → Text) (IsWorth : Shown → Type 0) (shown : Shown) (rows : ℕ) (said : LogAnswer) (fault : LogFault) → Fails fault said → ((f : LogFault) → said ≡ Err f → IsFound (Err (Log rows f)))
+pub log_wrong : {A : Type 0} (IsFound : Result A TextFault → Type 0) (text_of : A → Text) (IsWorth : Shown → Type 0) (shown : Shown) (rows : ℕ) (said : LogAnswer) (fault : LogFault) → IfSome (log_told fault) (λ f. said ≡ Err f) → ((f : LogFault) → said ≡ Err f → IsFound (Err (Log rows f)))
     → LogAnswers IsFound text_of IsWorth shown shown (Err (unput_log rows fault))
 log_wrong IsFound text_of IsWorth shown rows said (log.Memory e) fails is = refl
 log_wrong IsFound text_of IsWorth shown rows said (log.Digit line) fails is = (is (log.Digit line) fails, refl)
@@ -171,7 +171,7 @@ log_wrong IsFound text_of IsWorth shown rows said (log.Extra line) fails is = (i
 log_wrong IsFound text_of IsWorth shown rows said (log.Missing found) fails is = (is (log.Missing found) fails, refl)
 
 -- a batch of logs is wrong
-pub batch_wrong : {A : Type 0} (IsFound : Result A TextFault → Type 0) (text_of : A → Text) (IsWorth : Shown → Type 0) (shown : Shown) (rows : ℕ) (said : BatchAnswer) (fault : BatchFault) → BatchFails fault said → ((f : BatchFault) → said ≡ Err f → IsFound (Err (OfBatch rows f)))
+pub batch_wrong : {A : Type 0} (IsFound : Result A TextFault → Type 0) (text_of : A → Text) (IsWorth : Shown → Type 0) (shown : Shown) (rows : ℕ) (said : BatchAnswer) (fault : BatchFault) → IfSome (batch_told fault) (λ f. said ≡ Err f) → ((f : BatchFault) → said ≡ Err f → IsFound (Err (OfBatch rows f)))
     → LogAnswers IsFound text_of IsWorth shown shown (Err (unput_batch rows fault))
 batch_wrong IsFound text_of IsWorth shown rows said (batch.Memory e) fails is = refl
 batch_wrong IsFound text_of IsWorth shown rows said (batch.Start line) fails is = (is (batch.Start line) fails, refl)

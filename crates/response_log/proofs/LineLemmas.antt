@@ -1,13 +1,13 @@
 -- From the lines of a text to the rows of a log.
 use Rattle.std.proofs.Common.{◌≡◌, ℕ, ◌+◌, ◌-◌, ◌<◌, ◌≤◌, zero, suc, Bool, cond, nat_lt, Option, Some, None, Ok, Err, List, [], ◌∷◌, ◌++◌, length, map, take, drop, refl, sym, ap, ◌∙◌, arith, append_assoc}
-use Rattle.std.specs.Prelude.{filter, filter_map}
+use Rattle.std.specs.Prelude.{IfSome, filter, filter_map}
 use Rattle.std.specs.List.{slice_split, cons_option}
 use Rattle.std.proofs.lemmas.List.{append-nil, length_push}
 use Rattle.text_lines.specs.Words.{Word, words_of, is_newline, lines_of}
 use Rattle.text_lines.proofs.LineLemmas.{words_of_empty}
 use Rattle.response_log.specs.declared.fault.LogFault.{LogFault}
 use Rattle.response_log.specs.declared.fault.LogFault.TheVariants.{Digit, Length, Missing, Extra, Memory}
-use Rattle.response_log.specs.LogRows.{Answer, Fails, NumberedLine, line_of, numbered, holds_word, has_words, bits_of_line, row_fault, offences, first_or, wanted_rows, rows_of_lines}
+use Rattle.response_log.specs.LogRows.{Answer, NumberedLine, line_of, log_told, numbered, holds_word, has_words, bits_of_line, row_fault, offences, first_or, wanted_rows, rows_of_lines}
 
 -- what is said of so many rows, whose lines do not offend
 abbrev pub counted : ℕ → ℕ → List (List Bool) → Answer
@@ -100,7 +100,7 @@ filled_line [] word words is =
 filled_line (b ∷ bs) word words is = omega arith
 
 -- a fault that is said
-pub fails_by : (fault : LogFault) (said : Answer) → said ≡ Err fault → Fails fault said
+pub fails_by : (fault : LogFault) (said : Answer) → said ≡ Err fault → IfSome (log_told fault) (λ f. said ≡ Err f)
 fails_by (Digit n) said is = is
 fails_by (Length n) said is = is
 fails_by (Missing found) said is = is

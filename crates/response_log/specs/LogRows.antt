@@ -80,22 +80,10 @@ pub record IsLogOf (text : List ℕ) (rows len : ℕ) (log : List (List Bool)) :
   pub lines : map (bits_of_line len) (row_lines text) ≡ map Some log
   pub count : length log ≡ rows
 
--- an answer is what the text says, unless memory ran out
-abbrev pub Fails : LogFault → Answer → Type 0
-Fails (Digit n) said = said ≡ Err (Digit n)
-Fails (Length n) said = said ≡ Err (Length n)
-Fails (Missing found) said = said ≡ Err (Missing found)
-Fails (Extra n) said = said ≡ Err (Extra n)
-Fails (Memory e) said = Unit {0}
-
-abbrev pub Gives : Answer → Answer → Type 0
-Gives (Ok log) said = said ≡ Ok log
-Gives (Err fault) said = Fails fault said
-
--- the same of a value that is seen by a view
-abbrev pub GivesBy : {V : Type 0} → (V → List (List Bool)) → Result V LogFault → Answer → Type 0
-GivesBy view (Ok value) said = said ≡ Ok (view value)
-GivesBy view (Err fault) said = Fails fault said
+-- what a fault tells
+abbrev pub log_told : LogFault → Option LogFault
+log_told (Memory e) = None
+log_told fault = Some fault
 
 -- a log of so many rows with so many bits each
 pub record HasSize (count len : ℕ) (log : List (List Bool)) : Type 0 where

@@ -3,7 +3,8 @@ ghost use Rattle.std.specs.Prelude.{◌≡◌, ◌*◌, ◌<◌, ◌≤◌, ◌^
 ghost use Rattle.bt_bits.specs.Digits.{row_bits};
 ghost use Rattle.bt_bits.specs.Hex.{digit_count};
 ghost use Rattle.bt_bits.specs.Rows.{AreDigitsOf};
-ghost use Rattle.response_log.specs.LogRows.{Gives, GivesBy, HasSize, bits_of_line, line_of, log_rows, row_fault};
+ghost use Rattle.answers.specs.Gives.{Gives};
+ghost use Rattle.response_log.specs.LogRows.{HasSize, bits_of_line, line_of, log_rows, log_told, row_fault};
 ghost use Rattle.response_log.specs.Kept.{AreWhole, kept_rows};
 
 use crate::fault::LogFault;
@@ -18,7 +19,7 @@ use text_lines::{first_line, next_word};
 /// for each digit.
 pub fn log(alloc: Global, bytes: &[u8], rows: u64, len: u32) -> Result<Log, LogFault>
     requires { length bytes.now < 2 ^ 32 }
-    ensures read { Gives result (log_rows bytes.now rows len) }
+    ensures read { Gives log_told (λ log. log) (λ said. log_rows bytes.now rows len ≡ said) result }
     ensures size { IfOk result (HasSize rows len) }
 {
     let digits = read_rows(alloc, bytes, rows, len)?;
@@ -36,7 +37,7 @@ fn room(bytes: &[u8], rows: u64, len: u32) -> usize
 // The digits of all rows, one row after the other.
 fn read_rows(alloc: Global, bytes: &[u8], rows: u64, len: u32) -> Result<Vec<u8>, LogFault>
     requires { length bytes.now < 2 ^ 32 }
-    ensures read { GivesBy (λ digits. kept_rows len rows digits.items) result (log_rows bytes.now rows len) }
+    ensures read { Gives log_told (λ digits. kept_rows len rows digits.items) (λ said. log_rows bytes.now rows len ≡ said) result }
     ensures count { IfOk result (λ digits. length digits.items ≡ rows * digit_count len) }
     ensures whole { IfOk result (λ digits. AreWhole len rows digits.items) }
 {

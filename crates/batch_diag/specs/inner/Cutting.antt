@@ -1,12 +1,12 @@
 -- How the text of a batch is cut into the texts of its blocks.
-use Rattle.std.specs.Prelude.{◌≡◌, ℕ, ◌+◌, ◌≤◌, ◌==◌, Bool, false, not, ◌&&◌, List, [], ◌∷◌, filter, Option, Some, None, Result, Ok, Err}
+use Rattle.std.specs.Prelude.{ℕ, ◌+◌, ◌≤◌, ◌==◌, Bool, false, not, ◌&&◌, List, [], ◌∷◌, filter, Option, Some, None, Result, Ok, Err}
 use Rattle.std.specs.List.{slice_split}
 use Rattle.text_lines.specs.Words.{is_newline, is_blank}
 use Rattle.response_log.specs.declared.fault.LogFault.{LogFault}
 use Rattle.response_log.specs.declared.fault.LogFault.TheVariants.{Digit, Length, Missing, Extra, Memory as LogMemory}
 use Rattle.response_log.specs.LogRows.{NumberedLine, numbered, has_words, Answer as LogAnswer}
 use Rattle.batch_diag.specs.declared.fault.BatchFault.{BatchFault}
-use Rattle.batch_diag.specs.declared.fault.BatchFault.TheVariants.{Start, Title as WrongTitle, Inner, Memory}
+use Rattle.batch_diag.specs.declared.fault.BatchFault.TheVariants.{Inner, Memory}
 use Rattle.batch_diag.specs.declared.lines.Title.{Title}
 use Rattle.batch_diag.specs.Batch.{BlockLines, blocks_of, up_to_title}
 
@@ -31,16 +31,10 @@ blocks_at (Some title) =
     let behind = rows_from (title.line + 1) title.behind.now in
     record { id = title.id.now; lines = up_to_title behind } ∷ blocks_of behind
 
--- what is said of the block with this number is what its lines say, unless memory ran out
-abbrev pub FailsBlock : ℕ → BatchFault → LogAnswer → Type 0
-FailsBlock board (Start n) said = ⊥
-FailsBlock board (WrongTitle n) said = ⊥
-FailsBlock board (Inner b fault) said = (b ≡ board) × (said ≡ Err fault)
-FailsBlock board (Memory e) said = Unit {0}
-
-abbrev pub GivesLogBy : {V : Type 0} → ℕ → (V → List (List Bool)) → Result V BatchFault → LogAnswer → Type 0
-GivesLogBy board view (Ok value) said = said ≡ Ok (view value)
-GivesLogBy board view (Err fault) said = FailsBlock board fault said
+-- what is said of the block with this number, by what its lines say
+abbrev pub in_block : ℕ → LogAnswer → Result (List (List Bool)) BatchFault
+in_block board (Ok log) = Ok log
+in_block board (Err fault) = Err (Inner board fault)
 
 -- what is said of the block with this number where its lines, by themselves, have a fault: so many lines of the text stand before them
 abbrev pub moved_inner : ℕ → ℕ → LogFault → BatchFault

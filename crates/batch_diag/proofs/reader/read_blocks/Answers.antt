@@ -20,7 +20,7 @@ loop-next-preserved c =
     let count : length blocks < title.line = at_some (λ t. length blocks < t.line) c.loop-next.next title c.in-Some.is c.loop-next.invariant.count in
     let place : title.line + length title.behind.now ≤ length c.args.bytes.now = at_some (λ t. t.line + length t.behind.now ≤ length c.args.bytes.now) c.loop-next.next title c.in-Some.is c.loop-next.invariant.place in
     rw items (record {
-      said = next_block c.args.rows c.args.len said blocks c.loop-next.next following title own c.in-Some.is c.loop-next.invariant.said c.cut_at_title-in-Some.ensures.own c.cut_at_title-in-Some.ensures.rest block c.in_ok-read_block.ensures.id c.in_ok-read_block.ensures.log;
+      said = next_block c.args.rows c.args.len said blocks c.loop-next.next following title own c.in-Some.is c.loop-next.invariant.said c.cut_at_title-in-Some.ensures.own c.cut_at_title-in-Some.ensures.rest block (c.len.result + 1) c.in_ok-read_block.ensures.id c.in_ok-read_block.ensures.log;
       size = All-push (λ (b : Block). HasSize c.args.rows c.args.len b.log) blocks block c.loop-next.invariant.size c.in_ok-read_block.ensures.size;
       count = next_count following blocks block title.line count c.cut_at_title-in-Some.ensures.later;
       place = next_place following title.line (length title.behind.now) (length c.args.bytes.now) place c.cut_at_title-in-Some.ensures.place;

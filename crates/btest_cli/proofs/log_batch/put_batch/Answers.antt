@@ -1,10 +1,10 @@
 use Rattle.std.proofs.Common.{◌≡◌, ◌∙◌, ℕ, List, ap, refl, subst}
-use Rattle.std.specs.Prelude.{Ok}
+use Rattle.std.specs.Prelude.{IfSome, Ok, Err}
 use Rattle.bt_base.specs.Puts.{Puts}
 use Rattle.tap_defs.specs.board.BoardScans.{svf_row_scans}
 use Rattle.batch_diag.specs.declared.block.Block.{Block}
 use Rattle.batch_diag.specs.declared.verdict.Verdict.{Verdict}
-use Rattle.batch_diag.specs.Batch.{Fails, batch_of}
+use Rattle.batch_diag.specs.Batch.{batch_of, batch_told}
 use Rattle.batch_diag.specs.BatchText.{batch_text}
 use Rattle.batch_diag.specs.Verdicts.{AreVerdicts}
 use Rattle.btest_cli.specs.LogRead.{Batch, IsJudged, OnBoard, judging_each, test_blocks, test_rows, verdicts_text}
@@ -18,8 +18,8 @@ pub returns-in-Err : goal.returns-in-Err
 returns-in-Err g c =
     let board = c.args.planned.now.board in
     let count = c.rows.ensures ∙ rows_are board c.args.planned.now.plan c.requires.plan c.requires.passes in
-    let counted = subst (λ (n : ℕ). Fails c.in-Err.fault (batch_of c.args.text.now n c.dr_bits.result)) count c.in-Err.ensures.read in
-    let faulty = subst (λ (n : ℕ). Fails c.in-Err.fault (batch_of c.args.text.now (test_rows board) n)) c.dr_bits.ensures counted in
+    let counted = subst (λ (n : ℕ). IfSome (batch_told c.in-Err.fault) (λ f. batch_of c.args.text.now n c.dr_bits.result ≡ Err f)) count c.in-Err.ensures.read in
+    let faulty = subst (λ (n : ℕ). IfSome (batch_told c.in-Err.fault) (λ f. batch_of c.args.text.now (test_rows board) n ≡ Err f)) c.dr_bits.ensures counted in
     let wanted = c.rows-in-Err.ensures ∙ rows_are board c.args.planned.now.plan c.requires.plan c.requires.passes in
     rw c.unput_by_batch.ensures
     (batch_wrong (OnBoard judging_each c.args.text.now board) (λ found. verdicts_text (board, found)) (DiagnosesEach c.args.text.now board (g.K.Sink.shown c.args.out.now)) (g.K.Sink.shown c.args.out.now) c.rows-in-Err.result (test_blocks c.args.text.now board) c.in-Err.fault faulty

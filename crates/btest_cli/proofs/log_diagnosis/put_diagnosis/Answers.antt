@@ -1,8 +1,8 @@
 use Rattle.std.proofs.Common.{◌≡◌, ◌∙◌, ℕ, List, ap, subst, sym}
-use Rattle.std.specs.Prelude.{Ok}
+use Rattle.std.specs.Prelude.{IfSome, Ok, Err}
 use Rattle.bt_base.specs.Puts.{Puts}
 use Rattle.board_defs.specs.declared.fault.Single.{Single}
-use Rattle.response_log.specs.LogRows.{Fails, log_rows}
+use Rattle.response_log.specs.LogRows.{log_rows, log_told}
 use Rattle.tap_defs.specs.board.BoardScans.{svf_row_scans}
 use Rattle.diagnoser.specs.DiagText.{diag_text}
 use Rattle.fault_sim.specs.Suspects.{AreDiffering}
@@ -25,8 +25,8 @@ pub returns-in-Err : goal.returns-in-Err
 returns-in-Err g c =
     let board = c.args.planned.now.board in
     let count = c.rows.ensures ∙ rows_are board c.args.planned.now.plan c.requires.plan c.requires.passes in
-    let counted = subst (λ (n : ℕ). Fails c.in-Err.fault (log_rows c.args.text.now n c.dr_bits.result)) count c.in-Err.ensures.read in
-    let faulty = subst (λ (n : ℕ). Fails c.in-Err.fault (log_rows c.args.text.now (test_rows board) n)) c.dr_bits.ensures counted in
+    let counted = subst (λ (n : ℕ). IfSome (log_told c.in-Err.fault) (λ f. log_rows c.args.text.now n c.dr_bits.result ≡ Err f)) count c.in-Err.ensures.read in
+    let faulty = subst (λ (n : ℕ). IfSome (log_told c.in-Err.fault) (λ f. log_rows c.args.text.now (test_rows board) n ≡ Err f)) c.dr_bits.ensures counted in
     let wanted = c.rows-in-Err.ensures ∙ rows_are board c.args.planned.now.plan c.requires.plan c.requires.passes in
     rw c.unput_by_log.ensures
     (log_wrong (OnBoard diagnosing c.args.text.now board) (λ found. diagnosis_text (board, found)) (Diagnoses c.args.text.now board (g.K.Sink.shown c.args.out.now)) (g.K.Sink.shown c.args.out.now) c.rows-in-Err.result (test_log c.args.text.now board) c.in-Err.fault faulty

@@ -1,7 +1,7 @@
 use Rattle.std.proofs.Common.{◌≡◌, ◌∙◌, ℕ, Bool, List, Option, ap, length, subst}
-use Rattle.std.specs.Prelude.{Ok, option_map}
+use Rattle.std.specs.Prelude.{IfSome, Ok, Err, option_map}
 use Rattle.bt_base.specs.Puts.{Puts}
-use Rattle.response_log.specs.LogRows.{Fails, log_rows}
+use Rattle.response_log.specs.LogRows.{log_rows, log_told}
 use Rattle.walk_test.specs.GroupText.{groups_text}
 use Rattle.walk_test.specs.WalkTest.{walk_nets, walk_row_list}
 use Rattle.btest_cli.specs.LogRead.{IsJudged, Log, OnBoard, grouping, grouping_text, walk_log, walk_rows}
@@ -14,8 +14,8 @@ pub returns-in-Err : goal.returns-in-Err
 returns-in-Err g c =
     let board = c.args.walked.now.board in
     let count : length c.nets.result.now ≡ walk_rows board = ap (λ (nets : List ℕ). length nets) (c.nets.ensures ∙ c.requires.walk.nets) in
-    let counted = subst (λ (n : ℕ). Fails c.in-Err.fault (log_rows c.args.text.now n c.dr_bits.result)) count c.in-Err.ensures.read in
-    let faulty = subst (λ (n : ℕ). Fails c.in-Err.fault (log_rows c.args.text.now (walk_rows board) n)) c.dr_bits.ensures counted in
+    let counted = subst (λ (n : ℕ). IfSome (log_told c.in-Err.fault) (λ f. log_rows c.args.text.now n c.dr_bits.result ≡ Err f)) count c.in-Err.ensures.read in
+    let faulty = subst (λ (n : ℕ). IfSome (log_told c.in-Err.fault) (λ f. log_rows c.args.text.now (walk_rows board) n ≡ Err f)) c.dr_bits.ensures counted in
     rw c.unput_by_log.ensures
     (log_wrong (OnBoard grouping c.args.text.now board) (λ found. grouping_text (board, found)) (FindsGroups c.args.text.now board (g.K.Sink.shown c.args.out.now)) (g.K.Sink.shown c.args.out.now) (length c.nets.result.now) (walk_log c.args.text.now board) c.in-Err.fault faulty
     (λ fault fails. record { cause = fault; fails = fails; is = ap (λ (n : ℕ). Log n fault) count }))
