@@ -5,8 +5,9 @@ ghost use Rattle.board_defs.specs.Pins.{instruction_bits, data_bits, drive_at, s
 ghost use Rattle.board_defs.specs.Settings.{same_ctl};
 
 use crate::device::Device;
-use crate::items::{Items, Name};
 use crate::lengths::{data_bits, instruction_bits};
+use crate::name::Name;
+use lists::Items;
 use std::marker::Model;
 
 /// What a part of the chain is: a described device, or a part of which only the length of its

@@ -2,7 +2,8 @@
 ghost use Rattle.std.specs.Prelude.{◌≡◌, ◌==◌, ◌<◌, ◌^◌, length, slice_get, Some, IfOk};
 ghost use Rattle.board_defs.specs.DeviceRules.{IsDevice};
 
-use crate::items::{Items, Name};
+use crate::name::Name;
+use lists::Items;
 use std::alloc::{AllocError, Global};
 use std::marker::Model;
 

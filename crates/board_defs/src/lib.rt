@@ -5,9 +5,9 @@ mod board;
 mod coverage;
 mod device;
 mod fault;
-mod items;
 pub mod law;
 mod lengths;
+mod name;
 mod pins;
 mod setting;
 mod spot;
@@ -16,7 +16,8 @@ pub use board::{Board, Ctl, Drive, Net, NetPin, Part, PartKind, PinAt, PinRef, R
 pub use coverage::Reason;
 pub use device::{Cell, Code, Control, Device, Edition, Mode, PortBit, RawDevice, Role, Symbol};
 pub use fault::{Kind, Single};
-pub use items::{Items, Name};
+pub use lists::Items;
+pub use name::Name;
 pub use setting::Setting;
 pub use spot::Spot;
 

@@ -1,10 +1,10 @@
 -- The table of the entries has those of each port bit, and says what the board's terms say.
-use Rattle.std.proofs.Common.{◌≡◌, ℕ, suc, ◌<◌, ◌≤◌, ◌==◌, Bool, true, false, not, cond, ◌&&◌, ◌||◌, List, [], ◌∷◌, ◌++◌, length, get_or, set, replicate, Option, Some, None, unwrap_or, refl, sym, ap, ◌∙◌, arith, append_assoc, length-set, ◌⊎◌, inl, inr}
+use Rattle.std.proofs.Common.{◌≡◌, ℕ, suc, ◌<◌, ◌≤◌, ◌==◌, Bool, true, false, not, cond, ◌&&◌, ◌||◌, List, [], ◌∷◌, ◌++◌, length, get_or, replicate, Option, Some, None, unwrap_or, refl, sym, ap, ◌∙◌, arith, append_assoc, ◌⊎◌, inl, inr}
 use Rattle.std.specs.Prelude.{slice_get, option_and_then, option_map, find, All}
 use Rattle.std.specs.List.{list_any}
-use Rattle.std.proofs.lemmas.Bool.{cases_eq, cases_lt, eq-eqb, ne_eqb}
+use Rattle.std.proofs.lemmas.Bool.{cases_lt, ne_eqb}
 use Rattle.std.proofs.lemmas.Option.{slice_get-map, unwrap_or-slice_get}
-use Rattle.std.proofs.lemmas.List.{append-nil, get_or-set_same, get_or-set_other, get_or-replicate, length-replicate, get_or_past}
+use Rattle.std.proofs.lemmas.List.{append-nil, get_or-replicate, length-replicate, get_or_past}
 use Rattle.board_defs.specs.declared.device.Cell.{Cell}
 use Rattle.board_defs.specs.declared.device.PortBit.{PortBit}
 use Rattle.board_defs.specs.declared.device.RawDevice.{RawDevice}
@@ -18,28 +18,10 @@ use Rattle.board_defs.specs.BoardRules.{IsBoard, IsPart}
 use Rattle.board_defs.specs.DeviceRules.{is_on, is_driving, is_receiving, is_linkage, may_drive, may_receive, drives_bit, HasPlace}
 use Rattle.board_defs.specs.Pins.{described, device_at, bit_at, entry_at, is_test_pin, is_dark, is_dark_bit, is_dark_in, is_dark_where, guards, receives_bit, receives_in}
 use Rattle.board_defs.proofs.Places.{all_stands}
+use Rattle.lists.specs.Rows.{noted}
+use Rattle.lists.proofs.RowLemmas.{length-noted, noted_get}
 use Rattle.port_entries.specs.Entries.{entries_on, entries_of, entries_at, AreEntries}
-use Rattle.port_entries.specs.inner.Rows.{noted, all_noted, part_rows, entry_rows, dark_by, dark_where, dark_in, guards_in, receives_by}
-
--- a row with one entry more
-noted_get : (rows : List (List Cell)) (bit : Option ℕ) (cell : Cell) (k : ℕ) → k < length rows →
-    get_or (noted rows bit cell) k [] ≡ get_or rows k [] ++ cond (is_on k bit) (cell ∷ []) []
-noted_get rows None cell k less = sym (append-nil (get_or rows k []))
-noted_get rows (Some b) cell k less = by_bit (cases_eq k b)
-  where
-    by_bit : (k ≡ b) ⊎ (k ≡ b → ⊥) → get_or (set rows b (get_or rows b [] ++ cell ∷ [])) k [] ≡ get_or rows k [] ++ cond (b == k) (cell ∷ []) []
-    by_bit (inl e) =
-        ap (λ (n : ℕ). get_or (set rows n (get_or rows n [] ++ cell ∷ [])) k []) (sym e)
-        ∙ get_or-set_same rows k (get_or rows k [] ++ cell ∷ []) [] less
-        ∙ ap (λ (t : Bool). get_or rows k [] ++ cond t (cell ∷ []) []) (sym (eq-eqb b k (sym e)))
-    by_bit (inr ne) =
-        get_or-set_other rows b k (get_or rows b [] ++ cell ∷ []) [] ne
-        ∙ sym (append-nil (get_or rows k []))
-        ∙ ap (λ (t : Bool). get_or rows k [] ++ cond t (cell ∷ []) []) (sym (ne_eqb b k (λ e. ne (sym e))))
-
-length-noted : (rows : List (List Cell)) (bit : Option ℕ) (cell : Cell) → length (noted rows bit cell) ≡ length rows
-length-noted rows None cell = refl
-length-noted rows (Some b) cell = length-set rows b (get_or rows b [] ++ cell ∷ [])
+use Rattle.port_entries.specs.inner.Rows.{all_noted, part_rows, entry_rows, dark_by, dark_where, dark_in, guards_in, receives_by}
 
 length-all_noted : (cells : List Cell) (rows : List (List Cell)) → length (all_noted rows cells) ≡ length rows
 length-all_noted [] rows = refl

@@ -1,87 +1,24 @@
 // The table of the entries: for each part a row, with the entries of each port bit.
-ghost use Rattle.std.specs.Prelude.{◌≡◌, ◌++◌, ◌∷◌, [], Some, length, slice_get, replicate, unwrap_or, IfOk, OnOk};
+ghost use Rattle.std.specs.Prelude.{◌≡◌, [], length, slice_get, replicate, unwrap_or, IfOk, OnOk};
 ghost use Rattle.board_defs.specs.BoardRules.{IsBoard};
 ghost use Rattle.board_defs.specs.Pins.{described};
 ghost use Rattle.port_entries.specs.Entries.{AreEntries, entries_at};
-ghost use Rattle.port_entries.specs.inner.Rows.{noted, all_noted, part_rows, entry_rows};
+ghost use Rattle.port_entries.specs.inner.Rows.{all_noted, part_rows, entry_rows};
 
 use board_defs::{Cell, Items, Part, PartKind, PinAt, RawBoard, RawDevice};
+use lists::{blank, note_where};
 use std::alloc::{AllocError, Global};
-use std::marker::Model;
 
 /// The entries on a port bit, in their order.
-#[derive(Debug, Drop)]
-pub struct BitEntries {
-    cells: Vec<Cell>,
-}
-
-impl Model for BitEntries {
-    ghost use Rattle.std.specs.Prelude.{List};
-    ghost use Rattle.board_defs.specs.declared.device.Cell.{Cell};
-
-    ghost Value = { List Cell };
-
-    ghost view = { λ a. a.cells.items };
-}
-
-impl BitEntries {
-    fn none(alloc: Global) -> BitEntries
-        ensures { result ≡ [] }
-    {
-        BitEntries {
-            cells: Vec::new(alloc),
-        }
-    }
-
-    fn push(&mut self, cell: Cell) -> Result<(), AllocError>
-        ensures { OnOk result (self.new ≡ self.old ++ cell ∷ []) }
-    {
-        self.cells.push(cell)?;
-        Ok(())
-    }
-
-    fn as_slice(&self) -> &[Cell]
-        ensures { result.now ≡ self.now }
-    {
-        &self.cells
-    }
-}
-
-fn note_at(rows: &mut [BitEntries], bit: usize, cell: Cell) -> Result<(), AllocError>
-    ensures { OnOk result (rows.new ≡ noted rows.old (Some bit) cell) }
-{
-    if bit < rows.len() {
-        rows[bit].push(cell)?;
-    }
-    Ok(())
-}
-
-fn note_cell(rows: &mut [BitEntries], cell: Cell) -> Result<(), AllocError>
-    ensures { OnOk result (rows.new ≡ noted rows.old cell.bit cell) }
-{
-    match cell.bit {
-        None => Ok(()),
-        Some(bit) => note_at(rows, bit as usize, cell),
-    }
-}
+pub type BitEntries = Items<Cell>;
 
 pub(crate) fn note_cells(rows: &mut [BitEntries], cells: &[Cell]) -> Result<(), AllocError>
     ensures { OnOk result (rows.new ≡ all_noted rows.old cells.now) }
 {
     for cell in cells {
-        note_cell(rows, *cell)?;
+        note_where(rows, cell.bit, *cell)?;
     }
     Ok(())
-}
-
-pub(crate) fn blank(alloc: Global, bits: usize) -> Result<Vec<BitEntries>, AllocError>
-    ensures { IfOk result (λ rows. rows.items ≡ replicate bits []) }
-{
-    let mut rows = Vec::new(alloc);
-    for _bit in 0..bits {
-        rows.push(BitEntries::none(alloc))?;
-    }
-    Ok(rows)
 }
 
 fn device_rows(alloc: Global, device: &RawDevice) -> Result<Items<BitEntries>, AllocError>

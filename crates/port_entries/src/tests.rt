@@ -1,8 +1,9 @@
 // The entries of a small part, and what they say of its port bits.
 use crate::pins::{find_driving, is_dark_bit, receives_bit};
-use crate::table::{blank, note_cells};
+use crate::table::note_cells;
 use crate::{BitEntries, entries_at};
 use board_defs::{Cell, Items, Mode, PinAt, PortBit, Role, Symbol};
+use lists::blank;
 use std::test::Fail;
 
 /// That values of the type may go to another thread and be shared between threads.

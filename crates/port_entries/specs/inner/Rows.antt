@@ -1,5 +1,5 @@
 -- How the table is filled, and what its entries say of a pin.
-use Rattle.std.specs.Prelude.{ℕ, ◌==◌, Bool, true, false, not, ◌&&◌, ◌||◌, List, [], ◌∷◌, ◌++◌, length, map, fold, replicate, Option, Some, None, slice_set, slice_index_or}
+use Rattle.std.specs.Prelude.{◌==◌, Bool, true, false, not, ◌&&◌, ◌||◌, List, [], length, map, fold, replicate, Option, Some, None}
 use Rattle.std.specs.List.{list_any}
 use Rattle.board_defs.specs.declared.device.Cell.{Cell}
 use Rattle.board_defs.specs.declared.device.PortBit.{PortBit}
@@ -10,13 +10,10 @@ use Rattle.board_defs.specs.declared.board.NetPin.{NetPin}
 use Rattle.board_defs.specs.declared.board.RawBoard.{RawBoard}
 use Rattle.board_defs.specs.DeviceRules.{is_driving, is_receiving, is_linkage, may_drive, may_receive}
 use Rattle.board_defs.specs.Pins.{described, bit_at, is_test_pin}
+use Rattle.lists.specs.Rows.{noted}
 use Rattle.port_entries.specs.Entries.{entries_at}
 
--- the rows of a part with one entry more
-abbrev pub noted : List (List Cell) → Option ℕ → Cell → List (List Cell)
-noted rows None cell = rows
-noted rows (Some bit) cell = slice_set rows bit (slice_index_or rows bit [] ++ cell ∷ [])
-
+-- the rows of a part with these entries more
 abbrev pub all_noted : List (List Cell) → List Cell → List (List Cell)
 all_noted rows cells = fold (λ done cell. noted done cell.bit cell) rows cells
 

@@ -1,0 +1,21 @@
+// Flags that are read and set by place.
+ghost use Rattle.std.specs.Prelude.{◌≡◌, true, false, slice_set, slice_index_or};
+
+/// Whether the flag at a place is set; none past the end is.
+pub fn is_set(flags: &[bool], place: usize) -> bool
+    ensures { result ≡ slice_index_or flags.now place false }
+{
+    match flags.get(place) {
+        None => false,
+        Some(flag) => *flag,
+    }
+}
+
+/// Sets the flag at a place, where there is one.
+pub fn mark(flags: &mut [bool], place: usize)
+    ensures { flags.new ≡ slice_set flags.old place true }
+{
+    if place < flags.len() {
+        flags[place] = true;
+    }
+}

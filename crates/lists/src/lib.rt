@@ -1,0 +1,10 @@
+//! Lists that contracts see as lists, flags by place, and lists by place.
+#![tactic(auto)]
+
+mod flags;
+mod items;
+mod rows;
+
+pub use flags::{is_set, mark};
+pub use items::Items;
+pub use rows::{blank, note, note_where};

@@ -1,0 +1,41 @@
+// Lists by place, which a walk fills.
+ghost use Rattle.std.specs.Prelude.{◌≡◌, [], Some, replicate, IfOk, OnOk};
+ghost use Rattle.lists.specs.Rows.{noted};
+
+use crate::items::Items;
+use std::alloc::{AllocError, Global};
+
+/// So many empty lists.
+pub fn blank<T: Drop>(alloc: Global, count: usize) -> Result<Vec<Items<T>>, AllocError>
+    ensures { IfOk result (λ rows. rows.items ≡ replicate count []) }
+{
+    let mut rows = Vec::new(alloc);
+    for _place in 0..count {
+        rows.push(Items::none(alloc))?;
+    }
+    Ok(rows)
+}
+
+/// Adds the item to the list at a place, where there is one.
+pub fn note<T: Drop>(rows: &mut [Items<T>], place: usize, item: T) -> Result<(), AllocError>
+    ensures { OnOk result (rows.new ≡ noted rows.old (Some place) item) }
+{
+    if place < rows.len() {
+        rows[place].push(item)?;
+    }
+    Ok(())
+}
+
+/// Adds the item to the list at its place, where it has one.
+pub fn note_where<T: Drop>(
+    rows: &mut [Items<T>],
+    place: Option<u32>,
+    item: T,
+) -> Result<(), AllocError>
+    ensures { OnOk result (rows.new ≡ noted rows.old place item) }
+{
+    match place {
+        None => Ok(()),
+        Some(place) => note(rows, place as usize, item),
+    }
+}
