@@ -1,5 +1,5 @@
 -- The lines of groups, worked by hand.
-use Rattle.std.proofs.Common.{◌≡◌, List, [], ◌∷◌, codes, refl}
+use Rattle.std.proofs.Common.{◌≡◌, [], ◌∷◌, codes, refl}
 use Rattle.std.specs.Fmt.{digits}
 use Rattle.line_printer.specs.Prints.{line_of, whole}
 use Rattle.walk_test.specs.GroupText.{size_line, count_line}
