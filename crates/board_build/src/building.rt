@@ -79,10 +79,10 @@ fn board_of(
     requires net_words { All HasFewPins nets.now }
     ensures { Gives board_told (λ board. board) (λ said. board_answer chain.now nets.now parts.items ≡ said) result }
 {
-    let names = net_names(alloc, nets)?;
-    let standing = standing_words(alloc, &names, nets)?;
+    let net = net_names(alloc, nets)?;
+    let standing = standing_words(alloc, &net.numbers, nets)?;
     let marked = marked_words(alloc, chain, &parts, &standing.words)?;
-    answer(alloc, chain, parts, &names, &marked, standing.differ)
+    answer(alloc, chain, parts, &net.names, &marked, standing.differ)
 }
 
 #[tactic(auto, using(crate::proofs::FaultLemmas::told_as), unfolding(crate::specs::inner::Marked::marked_answer, crate::specs::inner::Marked::marked_fault))]

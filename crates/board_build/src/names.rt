@@ -1,14 +1,14 @@
 // The names on the lines of a chain file.
 ghost use Rattle.std.specs.Prelude.{◌≡◌, ◌<◌, ◌≤◌, ◌^◌, vec_len, List, length, ℕ, map, IfOk, option_map, option_copied, Option};
 ghost use Rattle.std.proofs.Common.{Bor};
-ghost use Rattle.first_places.specs.Places.{first_place, first_repeat, once};
+ghost use Rattle.first_places.specs.Places.{first_place, first_repeat, number_in, once};
 ghost use Rattle.indexmap.specs.IndexMap.{get_by};
 ghost use Rattle.board_files.specs.Names.{same_word};
 ghost use Rattle.board_build.specs.Names.{name_of, named, names_of};
 
 use board_defs::Name;
 use board_files::{ChainLine, ChainStatement};
-use first_places::{first_places, first_repeat, once};
+use first_places::{first_places, first_repeat, numbered};
 use indexmap::IndexMap;
 use std::alloc::{AllocError, Global};
 
@@ -126,10 +126,15 @@ pub fn places_among(
     places_by(alloc, names, &known)
 }
 
-/// The different names, each at its first place.
-pub fn once_names<'a>(alloc: Global, names: &[&'a [u8]]) -> Result<Vec<&'a [u8]>, AllocError>
-    ensures once { IfOk result (λ kept. map (λ n. n.now) kept.items ≡ once same_word (map (λ n. n.now) names.now)) }
-    ensures few { IfOk result (λ kept. vec_len kept ≤ length names.now) }
+/// The different names, each at its first place, and the number of each name among these.
+pub fn numbered_names<'a>(
+    alloc: Global,
+    names: &[&'a [u8]],
+) -> Result<(Vec<&'a [u8]>, Vec<u32>), AllocError>
+    requires { length names.now < 2 ^ 32 }
+    ensures once { IfOk result (λ r. map (λ n. n.now) r.0.items ≡ once same_word (map (λ n. n.now) names.now)) }
+    ensures few { IfOk result (λ r. vec_len r.0 ≤ length names.now) }
+    ensures numbers { IfOk result (λ r. r.1.items ≡ map (number_in same_word (once same_word (map (λ n. n.now) names.now))) (map (λ n. n.now) names.now)) }
 {
-    once(alloc, names)
+    numbered(alloc, names)
 }

@@ -1,16 +1,13 @@
 // The words of a net file that name pins.
-ghost use Rattle.std.specs.Prelude.{◌≡◌, ◌<◌, ◌≤◌, ◌-◌, ◌^◌, ◌++◌, All, vec_len, length, map, true, None, is_none, IfOk, OnOk, unwrap_or};
-ghost use Rattle.indexmap.specs.IndexMap.{get_by};
+ghost use Rattle.std.specs.Prelude.{◌≡◌, ◌<◌, ◌≤◌, ◌-◌, ◌^◌, ◌++◌, All, vec_len, length, map, true, None, is_none, IfOk, OnOk, slice_get, unwrap_or};
 ghost use Rattle.first_places.specs.Places.{first_repeated, once};
-ghost use Rattle.board_files.specs.Names.{same_word};
-ghost use Rattle.board_build.specs.NetWords.{lent_pin, lent_word, same_pin, same_place, net_names, net_number, line_words, words_of, HasFewPins};
+ghost use Rattle.board_build.specs.NetWords.{lent_pin, lent_word, same_pin, same_place, net_names, net_number, net_words, standing_words, line_words, HasFewPins};
 ghost use Rattle.board_build.specs.BoardRules.{have_same_pin};
 
-use crate::names::{first_places_of, once_names, place_of};
+use crate::names::numbered_names;
 use board_defs::Spot;
 use board_files::{NetLine, PinWord, line_names};
 use first_places::{first_repeated, once_by};
-use indexmap::IndexMap;
 use std::alloc::{AllocError, Global};
 
 /// A pin by its part and its name.
@@ -27,19 +24,37 @@ pub struct StandingWords<'a> {
     pub differ: bool,
 }
 
-/// The names of the nets in the order of their first lines. A net's number is its place here.
-pub fn net_names<'a>(alloc: Global, lines: &'a [NetLine]) -> Result<Vec<&'a [u8]>, AllocError>
-    ensures names { IfOk result (λ names. map (λ n. n.now) names.items ≡ net_names lines.now) }
-    ensures few { IfOk result (λ names. vec_len names ≤ length lines.now) }
-{
-    let names = line_names(alloc, lines)?;
-    once_names(alloc, &names)
+/// The nets of a net file by their names.
+#[derive(Drop)]
+pub struct NetNames<'a> {
+    /// The names in the order of their first lines. A net's number is its place here.
+    pub names: Vec<&'a [u8]>,
+    /// The number of each line's net.
+    pub numbers: Vec<u32>,
 }
 
-fn net_number(numbers: &IndexMap<&[u8], u32>, name: &[u8]) -> u32
-    ensures { result ≡ unwrap_or (get_by (λ n. same_word name.now n.now) numbers.now) 0 }
+/// The nets that the lines name, and which of them each line names.
+pub fn net_names<'a>(alloc: Global, lines: &'a [NetLine]) -> Result<NetNames<'a>, AllocError>
+    requires { length lines.now < 2 ^ 32 }
+    ensures names { IfOk result (λ net. map (λ n. n.now) net.names.items ≡ net_names lines.now) }
+    ensures few { IfOk result (λ net. vec_len net.names ≤ length lines.now) }
+    ensures numbers { IfOk result (λ net. net.numbers.items ≡ map (λ line. net_number (net_names lines.now) line.name) lines.now) }
 {
-    place_of(numbers, name).unwrap_or(0)
+    let names = line_names(alloc, lines)?;
+    let (different, numbers) = numbered_names(alloc, &names)?;
+    Ok(NetNames {
+        names: different,
+        numbers,
+    })
+}
+
+fn number_at(numbers: &[u32], place: usize) -> u32
+    ensures { result ≡ unwrap_or (slice_get numbers.now place) 0 }
+{
+    match numbers.get(place) {
+        Some(number) => *number,
+        None => 0,
+    }
 }
 
 /// Adds the words of a line. Its first pin is word 3.
@@ -67,17 +82,17 @@ fn push_line<'a>(
 /// The pins of all lines.
 fn net_words<'a>(
     alloc: Global,
-    names: &[&[u8]],
+    numbers: &[u32],
     lines: &'a [NetLine],
 ) -> Result<Vec<NetWord<'a>>, AllocError>
-    requires names { length names.now < 2 ^ 32 }
+    requires numbers { numbers.now ≡ map (λ line. net_number (net_names lines.now) line.name) lines.now }
     requires short { All HasFewPins lines.now }
-    ensures { IfOk result (λ words. map lent_word words.items ≡ words_of (map (λ n. n.now) names.now) lines.now) }
+    ensures { IfOk result (λ words. map lent_word words.items ≡ net_words lines.now) }
 {
-    let numbers = first_places_of(alloc, names)?;
     let mut words = Vec::new(alloc);
-    for line in lines {
-        let net = net_number(&numbers, line.name.bytes());
+    for i in 0..lines.len() {
+        let line = &lines[i];
+        let net = number_at(numbers, i);
         push_line(&mut words, net, line.line, line.pins.as_slice())?;
     }
     Ok(words)
@@ -88,15 +103,15 @@ fn net_words<'a>(
 /// Where no pin stands twice, one set of all pins is enough: each word stands, and the words differ.
 pub fn standing_words<'a>(
     alloc: Global,
-    names: &[&[u8]],
+    numbers: &[u32],
     lines: &'a [NetLine],
 ) -> Result<StandingWords<'a>, AllocError>
-    requires names { length names.now < 2 ^ 32 }
+    requires numbers { numbers.now ≡ map (λ line. net_number (net_names lines.now) line.name) lines.now }
     requires short { All HasFewPins lines.now }
-    ensures words { IfOk result (λ standing. map lent_word standing.words.items ≡ once same_place (words_of (map (λ n. n.now) names.now) lines.now)) }
+    ensures words { IfOk result (λ standing. map lent_word standing.words.items ≡ standing_words lines.now) }
     ensures differ { IfOk result (λ standing. standing.differ ≡ true → first_repeated have_same_pin (map lent_word standing.words.items) ≡ None) }
 {
-    let words = net_words(alloc, names, lines)?;
+    let words = net_words(alloc, numbers, lines)?;
     if pins_differ(alloc, &words)? {
         return Ok(StandingWords {
             words,

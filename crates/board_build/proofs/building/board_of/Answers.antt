@@ -1,11 +1,10 @@
 -- The marked words are those of the definitions.
 use Rattle.std.proofs.Common.{◌≡◌, map, ap, subst, ◌∙◌}
-use Rattle.first_places.specs.Places.{once}
 use Rattle.board_build.specs.declared.names.Naming.TheVariants.{Inert}
 use Rattle.answers.specs.Gives.{Gives}
 use Rattle.board_build.specs.Faults.{board_told}
 use Rattle.board_build.specs.Names.{named, names_of}
-use Rattle.board_build.specs.NetWords.{lent_word, same_place, words_of, standing_words}
+use Rattle.board_build.specs.NetWords.{lent_word, standing_words}
 use Rattle.board_build.specs.ChainParts.{pin_places}
 use Rattle.board_build.specs.inner.Marked.{mark, marked_twice, seen}
 use Rattle.board_build.proofs.SoundLemmas.{sound_by, answer_by, twice_none}
@@ -23,17 +22,17 @@ answer-requires-clause-differ c =
 pub answer-requires-clause-sound : goal.answer-requires-clause-sound
 answer-requires-clause-sound c =
     let inerts = names_of (named Inert c.args.chain.now) in
-    let words : map lent_word c.in_ok-standing.standing.words.items ≡ standing_words c.args.nets.now = c.in_ok-standing.ensures.words ∙ ap (λ v. once same_place (words_of (map (λ n. n.now) v) c.args.nets.now)) c.deref.ensures.value ∙ ap (λ v. once same_place (words_of v c.args.nets.now)) c.in_ok-names.ensures.names in
+    let words : map lent_word c.in_ok-standing.standing.words.items ≡ standing_words c.args.nets.now = c.in_ok-standing.ensures.words in
     let marked : map seen c.in_ok-marked.marked.items ≡ map (mark c.args.parts.items (pin_places c.args.parts.items) inerts) (standing_words c.args.nets.now) =
     c.in_ok-marked.ensures ∙ ap (λ v. map (mark v (pin_places v) inerts) (map lent_word c.deref-3.result.now)) c.deref-2.ensures.value
     ∙ ap (λ v. map (mark c.args.parts.items (pin_places c.args.parts.items) inerts) (map lent_word v)) c.deref-3.ensures.value ∙ ap (map (mark c.args.parts.items (pin_places c.args.parts.items) inerts)) words in
-    sound_by c.args.chain.now c.args.nets.now c.args.parts.items _ _ c.requires.selected c.requires.names c.requires.parts (ap (map (λ n. n.now)) c.deref-4.ensures.value ∙ c.in_ok-names.ensures.names) (ap (map seen) c.deref-5.ensures.value ∙ marked)
+    sound_by c.args.chain.now c.args.nets.now c.args.parts.items _ _ c.requires.selected c.requires.names c.requires.parts (ap (map (λ n. n.now)) c.deref-4.ensures.value ∙ c.in_ok-net.ensures.names) (ap (map seen) c.deref-5.ensures.value ∙ marked)
 
 pub returns : goal.returns
 returns c =
     let inerts = names_of (named Inert c.args.chain.now) in
-    let words : map lent_word c.in_ok-standing.standing.words.items ≡ standing_words c.args.nets.now = c.in_ok-standing.ensures.words ∙ ap (λ v. once same_place (words_of (map (λ n. n.now) v) c.args.nets.now)) c.deref.ensures.value ∙ ap (λ v. once same_place (words_of v c.args.nets.now)) c.in_ok-names.ensures.names in
+    let words : map lent_word c.in_ok-standing.standing.words.items ≡ standing_words c.args.nets.now = c.in_ok-standing.ensures.words in
     let marked : map seen c.in_ok-marked.marked.items ≡ map (mark c.args.parts.items (pin_places c.args.parts.items) inerts) (standing_words c.args.nets.now) =
     c.in_ok-marked.ensures ∙ ap (λ v. map (mark v (pin_places v) inerts) (map lent_word c.deref-3.result.now)) c.deref-2.ensures.value
     ∙ ap (λ v. map (mark c.args.parts.items (pin_places c.args.parts.items) inerts) (map lent_word v)) c.deref-3.ensures.value ∙ ap (map (mark c.args.parts.items (pin_places c.args.parts.items) inerts)) words in
-    subst (λ answer. Gives board_told (λ board. board) (λ said. answer ≡ said) c.answer.result) (answer_by c.args.chain.now c.args.nets.now c.args.parts.items _ _ (ap (map (λ n. n.now)) c.deref-4.ensures.value ∙ c.in_ok-names.ensures.names) (ap (map seen) c.deref-5.ensures.value ∙ marked)) c.answer.ensures
+    subst (λ answer. Gives board_told (λ board. board) (λ said. answer ≡ said) c.answer.result) (answer_by c.args.chain.now c.args.nets.now c.args.parts.items _ _ (ap (map (λ n. n.now)) c.deref-4.ensures.value ∙ c.in_ok-net.ensures.names) (ap (map seen) c.deref-5.ensures.value ∙ marked)) c.answer.ensures
