@@ -10,6 +10,7 @@ ghost use Rattle.driver_passes.specs.inner.Progress.{IsUsefulDriver};
 
 use crate::places::place_of;
 use board_defs::{Board, Ctl, Drive, Setting, law};
+use lists::is_set;
 use net_classes::Classes;
 use std::alloc::{AllocError, Global};
 
@@ -37,16 +38,6 @@ fn take(taken: &mut [bool], nets: &[u32])
 {
     for net in nets {
         taken[*net as usize] = true;
-    }
-}
-
-/// Whether the flag at this place is set; none is past the end.
-pub fn is_set(flags: &[bool], place: usize) -> bool
-    ensures { result ≡ slice_index_or flags.now place false }
-{
-    match flags.get(place) {
-        None => false,
-        Some(flag) => *flag,
     }
 }
 

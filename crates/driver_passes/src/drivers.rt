@@ -10,12 +10,13 @@ ghost use Rattle.driver_passes.specs.inner.Drafts.{IsDraft, setting_of};
 ghost use Rattle.driver_passes.specs.inner.Progress.{EnableTested, IsProgress, IsUsefulDriver, is_held};
 ghost use Rattle.driver_passes.specs.inner.Shown.{drivers_at};
 
-use crate::draft::{Draft, blank, is_set};
+use crate::draft::{Draft, blank};
 use crate::net_set::NetSet;
 use crate::places::place_of;
 use crate::tested::TestedNets;
 use crate::walk::{first_walk, second_walk};
 use board_defs::{Board, Ctl, Drive, Setting, law};
+use lists::is_set;
 use net_classes::Classes;
 use std::alloc::{AllocError, Global};
 

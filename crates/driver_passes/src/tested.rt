@@ -1,5 +1,5 @@
 // Which nets each useful control tests, and so which nets a pass shows.
-ghost use Rattle.std.specs.Prelude.{◌≡◌, ◌<◌, ◌||◌, ◌&&◌, ◌/◌, ℕ, [], true, length, replicate, Some, All, IfOk, OnOk};
+ghost use Rattle.std.specs.Prelude.{◌≡◌, ◌<◌, ◌||◌, ◌&&◌, ◌/◌, ℕ, [], true, length, Some, All, IfOk, OnOk};
 ghost use Rattle.board_defs.specs.Decided.{is_by};
 ghost use Rattle.board_defs.specs.Passes.{shows, useful_controls};
 ghost use Rattle.net_classes.specs.Kept.{AreClasses};
@@ -13,6 +13,7 @@ use crate::drivers::drivers_of;
 use crate::net_set::NetSet;
 use crate::places::place_of;
 use board_defs::{Board, Ctl, Drive, law};
+use lists::blank;
 use net_classes::{Classes, NetNumbers};
 use std::alloc::{AllocError, Global};
 
@@ -48,17 +49,6 @@ fn steady_nets(alloc: Global, board: &Board, classes: &Classes) -> Result<NetSet
         row.insert_if(net, has_steady(drivers_of(board, classes, net)));
     }
     Ok(row)
-}
-
-/// That many empty lists.
-fn blank_lists(alloc: Global, count: usize) -> Result<Vec<NetNumbers>, AllocError>
-    ensures { IfOk result (λ lists. lists.items ≡ replicate count []) }
-{
-    let mut lists = Vec::new(alloc);
-    for _list in 0..count {
-        lists.push(NetNumbers::new(alloc))?;
-    }
-    Ok(lists)
 }
 
 /// Adds the net to the list of the control of this driver, where it has one.
@@ -113,7 +103,7 @@ fn nets_by_control(
     ensures { IfOk result (λ lists. AreListed board.now (length board.now.nets) lists.items) }
 {
     let _rules = board.raw();
-    let mut lists = blank_lists(alloc, useful.len())?;
+    let mut lists = blank(alloc, useful.len())?;
     for net in 0..board.raw().nets.as_slice().len() {
         let drivers = drivers_of(board, classes, net);
         list_drivers(&mut lists, board, useful, drivers, net as u32)?;

@@ -7,9 +7,10 @@ ghost use Rattle.net_classes.specs.Kept.{AreClasses};
 ghost use Rattle.driver_passes.specs.inner.Drafts.{IsDraft, setting_of};
 ghost use Rattle.driver_passes.specs.inner.Progress.{IsProgress};
 
-use crate::draft::{Draft, is_set, some_taken};
+use crate::draft::{Draft, some_taken};
 use crate::drivers::Progress;
 use board_defs::{Board, Ctl, law};
+use lists::is_set;
 use net_classes::Classes;
 use net_classes::law::nets_are_shared;
 

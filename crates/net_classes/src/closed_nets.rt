@@ -11,8 +11,9 @@ ghost use Rattle.net_classes.specs.inner.ControlSets.{IsSet, has_control};
 use crate::control_sets::ControlSet;
 use crate::facts::PinFacts;
 use crate::known::Known;
-use crate::net_numbers::{NetNumbers, push_if};
+use crate::net_numbers::{NetNumbers, copy_of, push_if};
 use board_defs::{Ctl, Drive};
+use lists::Items;
 use std::alloc::{AllocError, Global};
 
 fn add_drive(set: &mut ControlSet, drive: Option<Drive>) -> Result<(), AllocError>
@@ -169,7 +170,7 @@ fn closed_by_both(
     requires { IsKnown known }
     ensures { IfOk result (λ nets. nets ≡ closed.now ++ flat_map (closed_beside known.entry set.now others.now) others.now.members.items) }
 {
-    let mut nets = NetNumbers::copy_of(alloc, closed)?;
+    let mut nets = copy_of(alloc, closed)?;
     for c in &others.members {
         add_closed_by(&mut nets, set, others, known, *c)?;
     }
@@ -217,7 +218,7 @@ fn all_closed(alloc: Global, set: &ControlSet, known: Known<'_>) -> Result<NetNu
     requires { IsKnown known }
     ensures { IfOk result (λ nets. nets ≡ closed_in known.entry set.now set.now.members.items) }
 {
-    let mut nets = NetNumbers::new(alloc);
+    let mut nets = Items::none(alloc);
     for c in &set.members {
         add_closed(&mut nets, set, known, *c)?;
     }
@@ -258,9 +259,9 @@ impl ClosedNets {
         ensures { IfOk result (λ closed. AreClosedNets known.entry.board.now closed) }
     {
         Ok(ClosedNets {
-            by: NetNumbers::new(alloc),
+            by: Items::none(alloc),
             set: ControlSet::new(alloc, known.shared)?,
-            nets: NetNumbers::new(alloc),
+            nets: Items::none(alloc),
             others: ControlSet::new(alloc, known.shared)?,
         })
     }
@@ -280,7 +281,7 @@ impl ClosedNets {
         ensures nets { IfOk result (λ closed. AreClosed known.entry.board.now nets.now closed) }
     {
         if self.by.as_slice() == nets {
-            return NetNumbers::copy_of(alloc, self.nets.as_slice());
+            return copy_of(alloc, self.nets.as_slice());
         }
         let core = core_of(known, nets);
         self.turn_to(alloc, known, &[core])?;
@@ -305,7 +306,7 @@ impl ClosedNets {
         ensures nets { IfOk result (λ closed. AreClosed known.entry.board.now nets.now closed) }
     {
         self.turn_to(alloc, known, nets)?;
-        NetNumbers::copy_of(alloc, self.nets.as_slice())
+        copy_of(alloc, self.nets.as_slice())
     }
 
     /// Turns to those that are closed by these nets.
@@ -317,7 +318,7 @@ impl ClosedNets {
     {
         if self.by.as_slice() != nets {
             self.nets = closed_nets(alloc, &mut self.set, known, nets)?;
-            self.by = NetNumbers::copy_of(alloc, nets)?;
+            self.by = copy_of(alloc, nets)?;
         }
         Ok(())
     }

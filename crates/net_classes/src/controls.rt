@@ -9,7 +9,6 @@ ghost use Rattle.net_classes.specs.inner.Rows.{added, at_control, block_bits, bl
 
 use crate::classes::{ControlClass, NetClass};
 use crate::facts::{NetFacts, PinFacts};
-use crate::net_numbers::NetNumbers;
 use crate::switching::is_marked;
 use board_defs::{Cell, Control, Ctl, Drive, Items, Part, PartKind, PinAt, RawBoard};
 use port_entries::{BitEntries, driving_entry};
@@ -185,7 +184,7 @@ fn fresh_part(alloc: Global, cells: u32) -> Result<Vec<ControlClass>, AllocError
     let mut row = Vec::new(alloc);
     for _cell in 0..cells {
         let class = ControlClass {
-            nets: NetNumbers::new(alloc),
+            nets: Items::none(alloc),
             safe: true,
             useful: false,
         };

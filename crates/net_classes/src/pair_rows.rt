@@ -20,6 +20,7 @@ use crate::known::{Known, is_by};
 use crate::net_numbers::{NetNumbers, push_if};
 use crate::net_rows::NetRow;
 use board_defs::{Ctl, Drive, law};
+use lists::Items;
 use std::alloc::{AllocError, Global};
 
 /// For each useful control the nets that some safe setting observes with the control on.
@@ -90,7 +91,7 @@ fn failing_nets(
     requires { IsKnown known }
     ensures { IfOk result (λ failing. failing ≡ filter (λ n. not (owns_at known.entry.board.now c n)) closed.now) }
 {
-    let mut failing = NetNumbers::new(alloc);
+    let mut failing = Items::none(alloc);
     for net in closed {
         push_if(&mut failing, *net, !owns(known, c, *net))?;
     }

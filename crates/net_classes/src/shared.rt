@@ -8,6 +8,7 @@ use crate::classes::ControlClass;
 use crate::facts::{NetFacts, PinFacts};
 use crate::net_numbers::{NetNumbers, push_if};
 use board_defs::{Ctl, Drive};
+use lists::Items;
 use std::alloc::{AllocError, Global};
 
 /// The controls of the drivers seen so far.
@@ -95,7 +96,7 @@ fn is_flagged(flags: &[bool], net: u32) -> bool
 fn shared_of(alloc: Global, flags: &[bool], nets: &[u32]) -> Result<NetNumbers, AllocError>
     ensures { IfOk result (λ shared. shared ≡ filter (is_flagged flags.now) nets.now) }
 {
-    let mut shared = NetNumbers::new(alloc);
+    let mut shared = Items::none(alloc);
     for net in nets {
         push_if(&mut shared, *net, is_flagged(flags, *net))?;
     }
