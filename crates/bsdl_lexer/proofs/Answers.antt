@@ -1,6 +1,9 @@
 -- A text has one answer, and going step by step finds it.
 use Rattle.std.proofs.Common.{◌≡◌, ℕ, zero, suc, ◌+◌, ◌-◌, ◌<◌, ◌≤◌, List, [], ◌∷◌, ◌++◌, length, take, drop, Option, Some, None, Result, Ok, Err, ◌⊎◌, inl, inr, refl, sym, ◌∙◌, ap, subst, arith, append_assoc, append-nil, length-append, nat_eq}
+use Rattle.std.specs.Prelude.{IfSome}
 use Rattle.std.proofs.lemmas.Bool.{cases_lt}
+use Rattle.std.proofs.lemmas.Option.{IfSome_then}
+use Rattle.answers.specs.Gives.{Gives}
 use Rattle.std.proofs.lemmas.List.{length-take-le}
 use Rattle.std.proofs.lemmas.List.Sums.{count_by-le-length}
 use Rattle.bsdl_lexer.specs.declared.token.Token.{Token}
@@ -8,7 +11,7 @@ use Rattle.bsdl_lexer.specs.declared.token.LexFault.{LexFault}
 use Rattle.bsdl_lexer.specs.declared.token.LexFault.TheVariants.{Byte, OpenString, TooMany, Memory}
 use Rattle.bsdl_lexer.specs.Forms.{line_feed}
 use Rattle.bsdl_lexer.specs.Tokens.{line_feeds, line_of, Separates, IsToken, Stand, token_limit}
-use Rattle.bsdl_lexer.specs.Answer.{BeginsToken, StopsAt, IsAnswer, AreFirst, UnlessMemory}
+use Rattle.bsdl_lexer.specs.Answer.{BeginsToken, StopsAt, IsAnswer, AreFirst, lex_told}
 use Rattle.bsdl_lexer.specs.inner.Steps.{token_of, step}
 use Rattle.bsdl_lexer.proofs.Places.{some_bytes}
 use Rattle.bsdl_lexer.proofs.Steps.{Found, next, at_end, open_text, no_token, line_behind, begins_found, step_finds, step_to_token, step_to_begin, step_to_end, step_to_open_text, step_to_byte}
@@ -235,15 +238,14 @@ some_answer text = let k = are_first text [] 0 1 (record { walk = (refl, refl); 
 ended : (text : List ℕ) (tokens : List Token) (to line : ℕ) (answer : Result (Unit {0}) LexFault) (r : Result (Option Token) LexFault) → WalksTo text tokens to line → step text to line ≡ r → Ends r tokens answer → IsAnswer text tokens answer
 ended text tokens to line answer r w e ends = lexed_answer text tokens answer (record { to = to; line = line; walk = w.walk; limit = w.limit; ends = subst (λ r. Ends r tokens answer) (sym e) ends })
 
-unless_memory : {P : Type 0} (r : Result (Unit {0}) LexFault) → P → UnlessMemory r P
-unless_memory (Err (Memory error)) p = tt
-unless_memory (Err (Byte line)) p = p
-unless_memory (Err (OpenString line)) p = p
-unless_memory (Err (TooMany line)) p = p
-unless_memory (Ok done) p = p
+if_told : (P : LexFault → Type 0) (fault : LexFault) → P fault → IfSome (lex_told fault) P
+if_told P (Memory error) p = tt
+if_told P (Byte line) p = p
+if_told P (OpenString line) p = p
+if_told P (TooMany line) p = p
 
-pub ends_at_fault : (text : List ℕ) (tokens : List Token) (to line : ℕ) (fault : LexFault) → WalksTo text tokens to line → Err fault ≡ step text to line → UnlessMemory (Err fault) (IsAnswer text tokens (Err fault))
-ends_at_fault text tokens to line fault w e = unless_memory (Err fault) (ended text tokens to line (Err fault) (Err fault) w (sym e) refl)
+pub ends_at_fault : (text : List ℕ) (tokens : List Token) (to line : ℕ) (fault : LexFault) → WalksTo text tokens to line → Err fault ≡ step text to line → IfSome (lex_told fault) (λ f. IsAnswer text tokens (Err f))
+ends_at_fault text tokens to line fault w e = if_told (λ f. IsAnswer text tokens (Err f)) fault (ended text tokens to line (Err fault) (Err fault) w (sym e) refl)
 
 pub ends_full : (text : List ℕ) (tokens : List Token) (to line : ℕ) (token : Token) → WalksTo text tokens to line → Ok (Some token) ≡ step text to line → length tokens ≡ token_limit → IsAnswer text tokens (Err (TooMany token.line))
 ends_full text tokens to line token w e full = ended text tokens to line (Err (TooMany token.line)) (Ok (Some token)) w (sym e) (full, refl)
@@ -252,12 +254,9 @@ pub ends_whole : (text : List ℕ) (tokens : List Token) (to line : ℕ) → Wal
 ends_whole text tokens to line w e = ended text tokens to line (Ok tt) (Ok None) w (sym e) refl
 
 -- for what a function returned
-pub only_answer : (text : List ℕ) (tokens : List Token) (result : Result (Unit {0}) LexFault) → UnlessMemory result (IsAnswer text tokens result)
-    → UnlessMemory result ((others : List Token) (other : Result (Unit {0}) LexFault) → IsAnswer text others other → (others ≡ tokens) × (other ≡ result))
-only_answer text tokens (Err (Memory error)) h = tt
-only_answer text tokens (Err (Byte line)) h = λ others other k. one_answer text others tokens other (Err (Byte line)) k h
-only_answer text tokens (Err (OpenString line)) h = λ others other k. one_answer text others tokens other (Err (OpenString line)) k h
-only_answer text tokens (Err (TooMany line)) h = λ others other k. one_answer text others tokens other (Err (TooMany line)) k h
+pub only_answer : (text : List ℕ) (tokens : List Token) (result : Result (Unit {0}) LexFault) → Gives lex_told (λ done. done) (IsAnswer text tokens) result
+    → Gives lex_told (λ done. done) (λ answer. (others : List Token) (other : Result (Unit {0}) LexFault) → IsAnswer text others other → (others ≡ tokens) × (other ≡ answer)) result
+only_answer text tokens (Err fault) h = IfSome_then (lex_told fault) h (λ f is others other k. one_answer text others tokens other (Err f) k is)
 only_answer text tokens (Ok done) h = λ others other k. one_answer text others tokens other (Ok done) k h
 
 -- no more lines end before a place than there are bytes

@@ -1,5 +1,5 @@
 -- The answer to a text: all its tokens, or those before the first bad place.
-use Rattle.std.specs.Prelude.{◌≡◌, ◌≢◌, ℕ, ◌≤◌, List, [], ◌∷◌, ◌++◌, length, take, drop, false, ◌⊎◌, IsTrue, Result, Ok, Err}
+use Rattle.std.specs.Prelude.{◌≡◌, ◌≢◌, ℕ, ◌≤◌, List, [], ◌∷◌, ◌++◌, length, take, drop, false, ◌⊎◌, IsTrue, Option, Some, None, Result, Ok, Err}
 use Rattle.std.specs.List.{list_all}
 use Rattle.bsdl_lexer.specs.declared.token.Token.{Token}
 use Rattle.bsdl_lexer.specs.declared.token.TokenKind.{TokenKind}
@@ -60,10 +60,7 @@ pub record AreFirst (text : List ℕ) (tokens : List Token) : Type 0 where
   pub more : List Token
   pub whole : IsAnswer text (tokens ++ more) answer
 
--- the fact, where memory was not refused
-abbrev pub UnlessMemory : Result (Unit {0}) LexFault → Type 0 → Type 0
-UnlessMemory (Err (Memory error)) P = Unit {0}
-UnlessMemory (Err (Byte line)) P = P
-UnlessMemory (Err (OpenString line)) P = P
-UnlessMemory (Err (TooMany line)) P = P
-UnlessMemory (Ok done) P = P
+-- what a fault tells
+abbrev pub lex_told : LexFault → Option LexFault
+lex_told (Memory error) = None
+lex_told fault = Some fault

@@ -2,7 +2,8 @@
 ghost use Rattle.std.specs.Prelude.{◌≡◌, ◌≤◌, ◌<◌, ◌^◌, ◌+◌, ◌++◌, ◌∷◌, [], List, Result, length, IsTrue, ◌↔◌, OnOk, OnErr, IfErr, alloc_error};
 ghost use Rattle.bsdl_lexer.specs.declared.token.Token.{Token};
 ghost use Rattle.bsdl_lexer.specs.declared.token.LexFault.{LexFault};
-ghost use Rattle.bsdl_lexer.specs.Answer.{IsAnswer, AreFirst, UnlessMemory};
+ghost use Rattle.answers.specs.Gives.{Gives};
+ghost use Rattle.bsdl_lexer.specs.Answer.{IsAnswer, AreFirst, lex_told};
 ghost use Rattle.bsdl_lexer.specs.inner.Steps.{bad_byte, step_at, step};
 
 use crate::lengths::{gap_at, token_found};
@@ -76,7 +77,7 @@ fn add(out: &mut Vec<Token>, token: Token) -> Result<(), LexFault>
 fn add_tokens(bytes: &[u8], out: &mut Vec<Token>) -> Result<(), LexFault>
     requires short { length bytes.now < 2 ^ 32 }
     requires empty { out.old.items ≡ [] }
-    ensures answer { UnlessMemory result (IsAnswer bytes.now out.new.items result) }
+    ensures answer { Gives lex_told (λ done. done) (IsAnswer bytes.now out.new.items) result }
     ensures first { AreFirst bytes.now out.new.items }
 {
     let mut place = 0usize;
@@ -100,9 +101,9 @@ pub fn lex(bytes: &[u8], out: &mut Vec<Token>) -> Result<(), LexFault>
     requires short { length bytes.now < 2 ^ 32 }
     requires empty { out.old.items ≡ [] }
     // All tokens, or those before the first bad place, with its kind and its line.
-    ensures answer { UnlessMemory result (IsAnswer bytes.now out.new.items result) }
+    ensures answer { Gives lex_told (λ done. done) (IsAnswer bytes.now out.new.items) result }
     // There is no other answer.
-    ensures only { UnlessMemory result ((tokens : List Token) (other : Result (Unit {0}) LexFault) → IsAnswer bytes.now tokens other → (tokens ≡ out.new.items) × (other ≡ result)) }
+    ensures only { Gives lex_told (λ done. done) (λ answer. (tokens : List Token) (other : Result (Unit {0}) LexFault) → IsAnswer bytes.now tokens other → (tokens ≡ out.new.items) × (other ≡ answer)) result }
     ensures first { AreFirst bytes.now out.new.items }
 {
     add_tokens(bytes, out)

@@ -1,6 +1,8 @@
 -- The answer to a text, from what its reader answers.
 use Rattle.std.proofs.Common.{◌≡◌, ℕ, ◌+◌, ◌^◌, ◌<◌, Bool, true, false, List, [], ◌∷◌, ◌++◌, length, inl, inr, Result, Ok, Err, refl, sym, ◌∙◌, ap, subst, arith, append-nil, length-append, ◌&&◌, nat_eq}
 use Rattle.std.proofs.lemmas.Bool.Decides.{nat_tests}
+use Rattle.std.proofs.lemmas.Option.{IfSome_then}
+use Rattle.answers.specs.Gives.{Gives}
 use Rattle.std.specs.Result.{IfOk}
 use Rattle.bsdl_lexer.specs.declared.token.Token.{Token}
 use Rattle.bsdl_lexer.specs.Tokens.{AreTokens}
@@ -12,7 +14,7 @@ use Rattle.grammars.specs.Grammar.{reader_of}
 use Rattle.grammars.specs.inner.Reader.{Outcome, Reader, found, refused}
 use Rattle.bsdl_parser.specs.declared.entity.Entity.{Entity}
 use Rattle.bsdl_parser.specs.Bsdl.{file}
-use Rattle.bsdl_parser.specs.Answer.{Derives, IsStray, StartsPackage, IsUnfinished, last_line, IsFault, IsAnswer, UnlessMemory}
+use Rattle.bsdl_parser.specs.Answer.{Derives, IsStray, StartsPackage, IsUnfinished, last_line, IsFault, IsAnswer, parse_told}
 use Rattle.bsdl_parser.specs.inner.Judged.{is_package, fault_at, judged}
 use Rattle.grammars.proofs.Exact.{RunsOut, Reads, Refuses, IsLocalAt, reads_on}
 use Rattle.bsdl_parser.proofs.Integers.{both_true}
@@ -184,18 +186,14 @@ one_answer text tokens (Err (Package line)) h =
 one_answer text tokens (Err (Memory error)) h = absurd h
 
 -- for what a function returned
-pub answer_holds : (text : List ℕ) (tokens : List Lexeme) (result : Result Entity ParseFault) → UnlessMemory result (result ≡ judged text tokens (reader_of file tokens)) → UnlessMemory result (IsAnswer text tokens result)
-answer_holds text tokens (Ok entity) e = subst (IsAnswer text tokens) (sym e) (is_answer text tokens)
-answer_holds text tokens (Err (Expected line)) e = subst (IsAnswer text tokens) (sym e) (is_answer text tokens)
-answer_holds text tokens (Err (Package line)) e = subst (IsAnswer text tokens) (sym e) (is_answer text tokens)
-answer_holds text tokens (Err (Memory error)) e = tt
+pub answer_holds : (text : List ℕ) (tokens : List Lexeme) (result : Result Entity ParseFault) → Gives parse_told (λ entity. entity) (λ said. judged text tokens (reader_of file tokens) ≡ said) result → Gives parse_told (λ entity. entity) (IsAnswer text tokens) result
+answer_holds text tokens (Ok entity) e = subst (IsAnswer text tokens) e (is_answer text tokens)
+answer_holds text tokens (Err fault) e = IfSome_then (parse_told fault) e (λ f is. subst (IsAnswer text tokens) is (is_answer text tokens))
 
-pub only_answer : (text : List ℕ) (tokens : List Lexeme) (result : Result Entity ParseFault) → UnlessMemory result (result ≡ judged text tokens (reader_of file tokens))
-    → UnlessMemory result ((other : Result Entity ParseFault) → IsAnswer text tokens other → other ≡ result)
-only_answer text tokens (Ok entity) e = λ other h. one_answer text tokens other h ∙ sym e
-only_answer text tokens (Err (Expected line)) e = λ other h. one_answer text tokens other h ∙ sym e
-only_answer text tokens (Err (Package line)) e = λ other h. one_answer text tokens other h ∙ sym e
-only_answer text tokens (Err (Memory error)) e = tt
+pub only_answer : (text : List ℕ) (tokens : List Lexeme) (result : Result Entity ParseFault) → Gives parse_told (λ entity. entity) (λ said. judged text tokens (reader_of file tokens) ≡ said) result
+    → Gives parse_told (λ entity. entity) (λ answer. (other : Result Entity ParseFault) → IsAnswer text tokens other → other ≡ answer) result
+only_answer text tokens (Ok entity) e = λ other h. one_answer text tokens other h ∙ e
+only_answer text tokens (Err fault) e = IfSome_then (parse_told fault) e (λ f is other h. one_answer text tokens other h ∙ is)
 
 -- tokens derive one entity at most
 pub one_entity : (tokens : List Lexeme) (entity other : Entity) → Derives tokens entity → Derives tokens other → entity ≡ other
@@ -204,11 +202,11 @@ one_entity tokens entity other h k =
     cc
 
 -- what the entity that was returned keeps
-pub kinds_hold : (text : List ℕ) (tokens : List Lexeme) (result : Result Entity ParseFault) → UnlessMemory result (result ≡ judged text tokens (reader_of file tokens)) → IfOk result HaveKinds
+pub kinds_hold : (text : List ℕ) (tokens : List Lexeme) (result : Result Entity ParseFault) → Gives parse_told (λ entity. entity) (λ said. judged text tokens (reader_of file tokens) ≡ said) result → IfOk result HaveKinds
 kinds_hold text tokens (Ok entity) e = have_kinds tokens entity (answer_holds text tokens (Ok entity) e)
 kinds_hold text tokens (Err fault) e = tt
 
 pub small_holds : (text : List ℕ) (tokens : List Token) (result : Result Entity ParseFault) → length text < 2 ^ 32 → AreTokens text tokens
-    → UnlessMemory result (result ≡ judged text (lexemes text tokens) (reader_of file (lexemes text tokens))) → IfOk result IsSmall
+    → Gives parse_told (λ entity. entity) (λ said. judged text (lexemes text tokens) (reader_of file (lexemes text tokens)) ≡ said) result → IfOk result IsSmall
 small_holds text tokens (Ok entity) short h e = is_small text tokens entity short h (answer_holds text (lexemes text tokens) (Ok entity) e)
 small_holds text tokens (Err fault) short h e = tt

@@ -1,5 +1,5 @@
 -- The answer to a text: the entity that its tokens derive, or the first fault.
-use Rattle.std.specs.Prelude.{◌≡◌, ℕ, ◌+◌, ◌-◌, List, [], ◌∷◌, ◌++◌, length, take, count_by, ◌==◌, ◌⊎◌, IsTrue, Result, Ok, Err, codes}
+use Rattle.std.specs.Prelude.{◌≡◌, ℕ, ◌+◌, ◌-◌, List, [], ◌∷◌, ◌++◌, length, take, count_by, ◌==◌, ◌⊎◌, IsTrue, Option, Some, None, Result, Ok, Err, codes}
 use Rattle.grammars.specs.Grammar.{production_of}
 use Rattle.bsdl_parser.specs.declared.entity.Entity.{Entity}
 use Rattle.bsdl_parser.specs.declared.fault.ParseFault.{ParseFault}
@@ -55,9 +55,7 @@ abbrev pub IsAnswer : List ℕ → List Lexeme → Result Entity ParseFault → 
 IsAnswer text tokens (Ok entity) = Derives tokens entity
 IsAnswer text tokens (Err fault) = IsFault text tokens fault
 
--- the fact, where memory was not refused
-abbrev pub UnlessMemory : Result Entity ParseFault → Type 0 → Type 0
-UnlessMemory (Err (Memory error)) P = Unit {0}
-UnlessMemory (Err (Expected line)) P = P
-UnlessMemory (Err (Package line)) P = P
-UnlessMemory (Ok entity) P = P
+-- what a fault tells
+abbrev pub parse_told : ParseFault → Option ParseFault
+parse_told (Memory error) = None
+parse_told fault = Some fault

@@ -1,6 +1,7 @@
 //! The entity of a text, or its first fault.
 ghost use Rattle.std.specs.Prelude.{◌≡◌, ◌<◌, ◌^◌, length, count_by, ◌==◌, Result, IfOk};
 ghost use Rattle.bsdl_lexer.specs.Tokens.{AreTokens};
+ghost use Rattle.answers.specs.Gives.{Gives};
 ghost use Rattle.grammars.specs.Grammar.{reader_of};
 ghost use Rattle.bsdl_parser.specs.declared.entity.Entity.{Entity};
 ghost use Rattle.bsdl_parser.specs.declared.fault.ParseFault.{ParseFault};
@@ -8,7 +9,7 @@ ghost use Rattle.bsdl_parser.specs.Lexeme.{lexemes};
 ghost use Rattle.bsdl_parser.specs.Bsdl.{file};
 ghost use Rattle.bsdl_parser.specs.Entity.{HaveKinds, IsSmall};
 ghost use Rattle.bsdl_parser.specs.inner.Judged.{fault_at, judged};
-ghost use Rattle.bsdl_parser.specs.Answer.{IsAnswer, UnlessMemory, last_line};
+ghost use Rattle.bsdl_parser.specs.Answer.{IsAnswer, last_line, parse_told};
 
 use crate::cursor::Cursor;
 use crate::entity::Entity;
@@ -46,7 +47,7 @@ fn fault(starts_package: bool, line: u32) -> ParseFault
 
 fn judge(alloc: Global, text: &[u8], tokens: &[Token]) -> Result<Entity, ParseFault>
     requires { length text.now < 2 ^ 32 }
-    ensures { UnlessMemory result (result ≡ judged text.now (lexemes text.now tokens.now) (reader_of file (lexemes text.now tokens.now))) }
+    ensures { Gives parse_told (λ entity. entity) (λ said. judged text.now (lexemes text.now tokens.now) (reader_of file (lexemes text.now tokens.now)) ≡ said) result }
 {
     let mut cursor = Cursor::new(alloc, text, tokens);
     match cursor.file() {
@@ -73,9 +74,9 @@ pub fn parse(alloc: Global, bytes: &[u8], tokens: &[Token]) -> Result<Entity, Pa
     requires short { length bytes.now < 2 ^ 32 }
     requires tokens { AreTokens bytes.now tokens.now }
     // The entity is the one that the tokens derive, or the fault is that of the first token that cannot stand.
-    ensures answer { UnlessMemory result (IsAnswer bytes.now (lexemes bytes.now tokens.now) result) }
+    ensures answer { Gives parse_told (λ entity. entity) (IsAnswer bytes.now (lexemes bytes.now tokens.now)) result }
     // There is no other answer.
-    ensures only { UnlessMemory result ((other : Result Entity ParseFault) → IsAnswer bytes.now (lexemes bytes.now tokens.now) other → other ≡ result) }
+    ensures only { Gives parse_told (λ entity. entity) (λ answer. (other : Result Entity ParseFault) → IsAnswer bytes.now (lexemes bytes.now tokens.now) other → other ≡ answer) result }
 
     // What the entity keeps.
     ensures kinds { IfOk result HaveKinds }

@@ -1,25 +1,14 @@
 -- Answers found step by step.
 use Rattle.std.proofs.Common.{inl, inr, Result, Ok, Err, refl}
 use Rattle.std.specs.Prelude.{IfSome}
+use Rattle.std.proofs.lemmas.Option.{IfSome_then}
 use Rattle.btest_core.specs.declared.fault.InputFault.{InputFault}
-use Rattle.btest_core.specs.declared.fault.InputFault.TheVariants.{Chain, Nets, Lex, Parse, Board, Device, Link, NoIdent, Memory}
 use Rattle.answers.specs.Gives.{Gives}
 use Rattle.btest_core.specs.Answers.{Follows, input_told}
 
-pub fault_more : (P Q : InputFault → Type 0) (fault : InputFault) → ((f : InputFault) → P f → Q f) → IfSome (input_told fault) P → IfSome (input_told fault) Q
-fault_more P Q (Memory error) more is = tt
-fault_more P Q (Chain fault) more is = more (Chain fault) is
-fault_more P Q (Nets fault) more is = more (Nets fault) is
-fault_more P Q (Lex text fault) more is = more (Lex text fault) is
-fault_more P Q (Parse text fault) more is = more (Parse text fault) is
-fault_more P Q (Board fault) more is = more (Board fault) is
-fault_more P Q (Device text fault) more is = more (Device text fault) is
-fault_more P Q (Link fault) more is = more (Link fault) is
-fault_more P Q (NoIdent line) more is = more (NoIdent line) is
-
 pub gives_more : {U V : Type 0} (view : U → V) (P Q : Result V InputFault → Type 0) (answer : Result U InputFault) → ((a : Result V InputFault) → P a → Q a) → Gives input_told view P answer → Gives input_told view Q answer
 gives_more view P Q (Ok value) more is = more (Ok (view value)) is
-gives_more view P Q (Err fault) more is = fault_more (λ f. P (Err f)) (λ f. Q (Err f)) fault (λ f. more (Err f)) is
+gives_more view P Q (Err fault) more is = IfSome_then (input_told fault) is (λ f. more (Err f))
 
 -- the first step gave a value, and the next gave the answer
 pub goes_on : {W U V : Type 0} (view : U → V) (first : Result W InputFault → Type 0) (next : W → Result V InputFault → Type 0) (value : W) (answer : Result U InputFault) → first (Ok value) → Gives input_told view (next value) answer → Gives input_told view (Follows first next) answer
@@ -27,4 +16,4 @@ goes_on view first next value answer found is = gives_more view (next value) (Fo
 
 -- the first step gave a fault
 pub stops : {W V : Type 0} (first : Result W InputFault → Type 0) (next : W → Result V InputFault → Type 0) (fault : InputFault) → IfSome (input_told fault) (λ f. first (Err f)) → IfSome (input_told fault) (λ f. Follows first next (Err f))
-stops first next fault is = fault_more (λ f. first (Err f)) (λ f. Follows first next (Err f)) fault (λ f found. inr (f, found, refl)) is
+stops first next fault is = IfSome_then (input_told fault) is (λ f found. inr (f, found, refl))

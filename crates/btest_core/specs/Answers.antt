@@ -1,7 +1,7 @@
 -- Answers that are found step by step, the first fault of which counts.
 use Rattle.std.specs.Prelude.{◌≡◌, ◌⊎◌, List, [], ◌∷◌, Option, Some, None, Result, Ok, Err}
 use Rattle.btest_core.specs.declared.fault.InputFault.{InputFault}
-use Rattle.btest_core.specs.declared.fault.InputFault.TheVariants.{Chain, Nets, Lex, Parse, Board, Device, Link, NoIdent, Memory}
+use Rattle.btest_core.specs.declared.fault.InputFault.TheVariants.{Memory}
 
 -- the first step gives a value, for which the next gives the answer, or a fault, which is the answer
 abbrev pub Follows : {A B : Type 0} → (Result A InputFault → Type 0) → (A → Result B InputFault → Type 0) → Result B InputFault → Type 0
@@ -20,11 +20,4 @@ EachOf IsOf (item ∷ items) answer = Follows (IsOf item) (λ value. Follows (Ea
 -- what a fault tells
 abbrev pub input_told : InputFault → Option InputFault
 input_told (Memory error) = None
-input_told (Chain fault) = Some (Chain fault)
-input_told (Nets fault) = Some (Nets fault)
-input_told (Lex text fault) = Some (Lex text fault)
-input_told (Parse text fault) = Some (Parse text fault)
-input_told (Board fault) = Some (Board fault)
-input_told (Device text fault) = Some (Device text fault)
-input_told (Link fault) = Some (Link fault)
-input_told (NoIdent line) = Some (NoIdent line)
+input_told fault = Some fault

@@ -1,7 +1,8 @@
 -- What was found is the answer.
 use Rattle.std.proofs.Common.{◌≡◌, ℕ, ◌+◌, ◌<◌, ◌≤◌, ◌^◌, Bool, true, false, ◌&&◌, not, List, [], ◌∷◌, ◌++◌, length, find, Option, Some, None, Result, Ok, Err, nat_le, inl, inr, refl, sym, ◌∙◌, ap, subst, arith}
 use Rattle.std.proofs.lemmas.Bool.Decides.{nat_tests}
-use Rattle.std.specs.Option.{unwrap_or}
+use Rattle.std.specs.Option.{IfSome, unwrap_or}
+use Rattle.answers.specs.Gives.{Gives}
 use Rattle.board_defs.specs.declared.device.RawDevice.{RawDevice}
 use Rattle.bsdl_parser.specs.declared.entity.Entity.{Entity}
 use Rattle.bsdl_parser.specs.Entity.{IsSmall}
@@ -17,26 +18,26 @@ use Rattle.device_check.specs.Attributes.{number_of, needed_text, pin_map_text, 
 use Rattle.device_check.specs.Needed.{is_within, stands_once, is_as_needed, v1}
 use Rattle.device_check.specs.DeviceStrings.{AreStrings, LeavesFirst, in_order}
 use Rattle.device_check.specs.inner.Reading.{NamesPlace, IsJudged}
-use Rattle.device_check.specs.SoundDevice.{draft_of, IsAnswer, UnlessMemory}
+use Rattle.device_check.specs.SoundDevice.{draft_of, IsAnswer, device_told}
 use Rattle.device_check.proofs.SearchLemmas.{none_at}
 use Rattle.device_check.proofs.StringLemmas.{few_entries}
 use Rattle.device_check.proofs.TextLemmas.{short_needed, short_pin_map}
 
 -- V1 fails
-pub needs_answer : (entity : Entity) (given : Option (List ℕ)) (item : ℕ) → v1 entity given ≡ Some item → UnlessMemory (Err (Rule 1 item)) (IsAnswer entity given (Err (Rule 1 item)))
+pub needs_answer : (entity : Entity) (given : Option (List ℕ)) (item : ℕ) → v1 entity given ≡ Some item → IsAnswer entity given (Err (Rule 1 item))
 needs_answer entity given item e = inl (refl, e)
 
 -- a string fails
-pub text_answer : (entity : Entity) (given : Option (List ℕ)) (fault : DeviceFault) → v1 entity given ≡ None → NamesPlace (LeavesFirst entity given in_order) fault → UnlessMemory (Err fault) (IsAnswer entity given (Err fault))
+pub text_answer : (entity : Entity) (given : Option (List ℕ)) (fault : DeviceFault) → v1 entity given ≡ None → NamesPlace (LeavesFirst entity given in_order) fault → IfSome (device_told fault) (λ f. IsAnswer entity given (Err f))
 text_answer entity given (Rule number item) e h = absurd h
 text_answer entity given (Text attribute entry) e h = record { needed = e; leaves = h }
 text_answer entity given (Memory error) e h = tt
 
 pub judged_answer : (entity : Entity) (given : Option (List ℕ)) (strings : Strings) (draft : Draft) (result : Result RawDevice DeviceFault) → v1 entity given ≡ None → AreStrings entity given strings → draft ≡ draft_of entity given strings
-    → IsJudged draft result → UnlessMemory result (IsAnswer entity given result)
+    → IsJudged draft result → Gives device_told (λ device. device) (IsAnswer entity given) result
 judged_answer entity given strings draft result e read is h = by_result result (subst (λ d. IsJudged d result) is h)
   where
-    by_result : (result : Result RawDevice DeviceFault) → IsJudged (draft_of entity given strings) result → UnlessMemory result (IsAnswer entity given result)
+    by_result : (result : Result RawDevice DeviceFault) → IsJudged (draft_of entity given strings) result → Gives device_told (λ device. device) (IsAnswer entity given) result
     by_result (Ok device) k = record { needed = e; strings = strings; read = read; kept = k.0; device_is = k.1 }
     by_result (Err (Rule number item)) k = inr (record { needed = e; strings = strings; read = read; broken = k })
     by_result (Err (Text attribute entry)) k = absurd k

@@ -1,6 +1,8 @@
 -- There is one answer.
 use Rattle.std.proofs.Common.{◌≡◌, ℕ, List, [], ◌∷◌, length, Option, Some, None, Result, Ok, Err, ◌⊎◌, inl, inr, refl, sym, ◌∙◌, ap, subst}
 use Rattle.std.specs.List.{take_while}
+use Rattle.std.proofs.lemmas.Option.{IfSome_then}
+use Rattle.answers.specs.Gives.{Gives}
 use Rattle.board_defs.specs.declared.device.RawDevice.{RawDevice}
 use Rattle.board_defs.specs.declared.device.Symbol.{Symbol}
 use Rattle.bsdl_parser.specs.declared.entity.Entity.{Entity}
@@ -25,7 +27,7 @@ use Rattle.device_check.specs.declared.strings.Strings.{Strings}
 use Rattle.device_check.specs.Attributes.{needed_text, text_of, pin_map_text}
 use Rattle.device_check.specs.Needed.{v1}
 use Rattle.device_check.specs.DeviceStrings.{MayBe, MayLeave, DeviceString, pin_map, opcodes, capture, idcode, compliance, boundary, attribute_of, IsRead, Leaves, LeavesFirst, in_order, AreStrings}
-use Rattle.device_check.specs.SoundDevice.{draft_of, IsSound, FailsRule, IsFirst, IsAnswer, UnlessMemory}
+use Rattle.device_check.specs.SoundDevice.{draft_of, IsSound, FailsRule, IsFirst, IsAnswer, device_told}
 use Rattle.device_check.proofs.StringLemmas.{one_number}
 
 -- the place at which a pattern leaves its grammar is one
@@ -161,8 +163,7 @@ one_answer entity given (Err (Text a n)) (Err (Text b m)) x y = let same = one_f
 one_answer entity given (Err (Text a n)) (Err (Memory e)) x y = absurd y
 one_answer entity given (Err (Memory e)) y x z = absurd x
 
-pub only_answer : (entity : Entity) (given : Option (List ℕ)) (result : Result RawDevice DeviceFault) → UnlessMemory result (IsAnswer entity given result) → UnlessMemory result ((other : Result RawDevice DeviceFault) → IsAnswer entity given other → other ≡ result)
+pub only_answer : (entity : Entity) (given : Option (List ℕ)) (result : Result RawDevice DeviceFault) → Gives device_told (λ device. device) (IsAnswer entity given) result
+    → Gives device_told (λ device. device) (λ answer. (other : Result RawDevice DeviceFault) → IsAnswer entity given other → other ≡ answer) result
 only_answer entity given (Ok d) h = λ other k. one_answer entity given other (Ok d) k h
-only_answer entity given (Err (Rule a n)) h = λ other k. one_answer entity given other (Err (Rule a n)) k h
-only_answer entity given (Err (Text a n)) h = λ other k. one_answer entity given other (Err (Text a n)) k h
-only_answer entity given (Err (Memory e)) h = tt
+only_answer entity given (Err fault) h = IfSome_then (device_told fault) h (λ f is other k. one_answer entity given other (Err f) k is)

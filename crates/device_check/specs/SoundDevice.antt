@@ -75,9 +75,7 @@ abbrev pub IsAnswer : Entity → Option (List ℕ) → Result RawDevice DeviceFa
 IsAnswer entity given (Ok device) = IsSound entity given device
 IsAnswer entity given (Err fault) = IsFirst entity given fault
 
--- the fact, where memory was not refused
-abbrev pub UnlessMemory : Result RawDevice DeviceFault → Type 0 → Type 0
-UnlessMemory (Ok device) P = P
-UnlessMemory (Err (Rule number item)) P = P
-UnlessMemory (Err (Text attribute entry)) P = P
-UnlessMemory (Err (Memory error)) P = Unit {0}
+-- what a fault tells
+abbrev pub device_told : DeviceFault → Option DeviceFault
+device_told (Memory error) = None
+device_told fault = Some fault

@@ -1,5 +1,6 @@
 //! The device of an entity, or its first fault.
 ghost use Rattle.std.specs.Prelude.{◌≡◌, None, Result, IfOk, option_copied};
+ghost use Rattle.answers.specs.Gives.{Gives};
 ghost use Rattle.board_defs.specs.declared.device.RawDevice.{RawDevice};
 ghost use Rattle.bsdl_parser.specs.Entity.{IsSmall};
 ghost use Rattle.device_rules.specs.Rules.{HasShortLists};
@@ -8,7 +9,7 @@ ghost use Rattle.device_check.specs.declared.fault.DeviceFault.{DeviceFault};
 ghost use Rattle.device_check.specs.Needed.{v1};
 ghost use Rattle.device_check.specs.DeviceStrings.{AreStrings};
 ghost use Rattle.device_check.specs.inner.Reading.{IsJudged};
-ghost use Rattle.device_check.specs.SoundDevice.{draft_of, IsAnswer, UnlessMemory};
+ghost use Rattle.device_check.specs.SoundDevice.{draft_of, IsAnswer, device_told};
 
 use crate::draft::draft_of;
 use crate::fault::DeviceFault;
@@ -37,7 +38,7 @@ fn judge(alloc: Global, draft: &Draft) -> Result<Device, DeviceFault>
 #[tactic(auto, using(crate::proofs::AnswerLemmas::needs_answer, crate::proofs::AnswerLemmas::text_answer, crate::proofs::AnswerLemmas::short_draft, crate::proofs::AnswerLemmas::judged_answer))]
 fn answer(alloc: Global, entity: &Entity, package: Option<&[u8]>) -> Result<Device, DeviceFault>
     requires small { IsSmall entity.now }
-    ensures { UnlessMemory result (IsAnswer entity.now (option_copied «package».entry) result) }
+    ensures { Gives device_told (λ device. device) (IsAnswer entity.now (option_copied «package».entry)) result }
 {
     if let Some(item) = wrong_attribute(entity, package) {
         return Err(DeviceFault::Rule { number: 1, item });
@@ -60,9 +61,9 @@ fn answer(alloc: Global, entity: &Entity, package: Option<&[u8]>) -> Result<Devi
 pub fn device(alloc: Global, entity: &Entity, package: Option<&[u8]>) -> Result<Device, DeviceFault>
     requires small { IsSmall entity.now }
     // The device is the sound one of the entity, or the fault is the first step that fails.
-    ensures answer { UnlessMemory result (IsAnswer entity.now (option_copied «package».entry) result) }
+    ensures answer { Gives device_told (λ device. device) (IsAnswer entity.now (option_copied «package».entry)) result }
     // There is no other answer.
-    ensures only { UnlessMemory result ((other : Result RawDevice DeviceFault) → IsAnswer entity.now (option_copied «package».entry) other → other ≡ result) }
+    ensures only { Gives device_told (λ device. device) (λ answer. (other : Result RawDevice DeviceFault) → IsAnswer entity.now (option_copied «package».entry) other → other ≡ answer) result }
 {
     answer(alloc, entity, package)
 }

@@ -75,5 +75,5 @@ joined_files chain nets = unless (missing_link_pin nets chain) (record { chain =
 
 -- what a fault tells
 abbrev pub link_told : LinkFault → Option LinkFault
-link_told (NoLinkPin spot) = Some (NoLinkPin spot)
 link_told (Memory e) = None
+link_told fault = Some fault

@@ -2,7 +2,8 @@ use Rattle.std.proofs.Common.{rules, Err}
 use Rattle.std.proofs.lemmas.List.Elements.{All-push}
 use Rattle.bsdl_parser.specs.Entity.{HaveKinds, IsSmall}
 use Rattle.btest_core.specs.TextsRead.{AreEntities, IsEntityOf, IsEntityOfText}
-use Rattle.btest_core.proofs.AnswerLemmas.{fault_more}
+use Rattle.std.proofs.lemmas.Option.{IfSome_then}
+use Rattle.btest_core.specs.Answers.{input_told}
 use Rattle.btest_core.proofs.EachLemmas.{completes_all, completes_more, completes_fault, completes_end}
 use Rattle.btest_core.proofs.TextLemmas.{texts_left, no_texts_left, bytes_of}
 use Rattle.btest_core.proofs.texts.entities.Goals as goal
@@ -23,7 +24,7 @@ loop-text-preserved c =
 pub returns-in-Err-clause-read : goal.returns-in-Err-clause-read
 returns-in-Err-clause-read c =
     let left = texts_left c.args.texts.now c.loop-text.text c.loop-text.entities.items c.index-texts-text.result c.deref.result.now c.loop-text-test.true c.index-texts-text.is c.deref.ensures.value c.loop-text.invariant.read in
-    fault_more (λ f. IsEntityOf c.deref.result.now c.loop-text.text (Err f)) (λ f. AreEntities (bytes_of c.args.texts.now) (Err f)) c.in-Err.fault (λ f is. completes_fault IsEntityOfText _ (c.loop-text.text, c.deref.result.now) _ c.loop-text.entities.items f left is) c.in-Err.ensures.read
+    IfSome_then (input_told c.in-Err.fault) {P = λ f. IsEntityOf c.deref.result.now c.loop-text.text (Err f)} {Q = λ f. AreEntities (bytes_of c.args.texts.now) (Err f)} c.in-Err.ensures.read (λ f is. completes_fault IsEntityOfText _ (c.loop-text.text, c.deref.result.now) _ c.loop-text.entities.items f left is)
 
 pub returns-clause-read : goal.returns-clause-read
 returns-clause-read c = completes_end IsEntityOfText _ c.loop-text.entities.items (no_texts_left c.args.texts.now c.loop-text.text c.loop-text.entities.items c.loop-text-test.false c.loop-text.invariant.read)
