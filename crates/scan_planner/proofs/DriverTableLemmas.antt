@@ -4,12 +4,14 @@ use Rattle.std.specs.Prelude.{filter, is_none}
 use Rattle.std.specs.List.{flat_map}
 use Rattle.std.proofs.lemmas.Bool.{cases_eq, cases_lt}
 use Rattle.std.proofs.lemmas.List.{get_or-set_same, get_or-set_other, get_or-replicate, length-replicate, get_or_past}
+use Rattle.lists.specs.Rows.{noted}
+use Rattle.lists.proofs.RowLemmas.{length-noted}
 use Rattle.board_defs.proofs.Members.{Has, has_append, has_left, has_right, has_map, map_has, has_filter, filter_has, has_flat_map, flat_map_has}
 use Rattle.scan_planner.specs.declared.tables.HeldCell.{HeldCell}
 use Rattle.scan_planner.specs.declared.tables.DriverCell.{DriverCell}
 use Rattle.scan_planner.specs.declared.observers.Observer.{Observer}
 use Rattle.scan_planner.specs.Tables.{cells_on}
-use Rattle.scan_planner.specs.inner.Building.{always_on, noted_at, all_noted, table_of}
+use Rattle.scan_planner.specs.inner.Building.{always_on, all_noted, table_of}
 
 -- one of these drivers with this control and this cell
 pub record Noted (observers : List Observer) (control : ℕ) (cell : DriverCell) : Type 0 where
@@ -19,7 +21,7 @@ pub record Noted (observers : List Observer) (control : ℕ) (cell : DriverCell)
   pub cell_is : observer.cell ≡ cell
 
 -- a row after one cell was added
-row_has : (rows : List (List DriverCell)) (q : ℕ) (cell : DriverCell) (p : ℕ) (d : DriverCell) → Has (get_or (noted_at rows (Some q) cell) p []) d → Has (get_or rows p []) d ⊎ ((q ≡ p) × (cell ≡ d))
+row_has : (rows : List (List DriverCell)) (q : ℕ) (cell : DriverCell) (p : ℕ) (d : DriverCell) → Has (get_or (noted rows (Some q) cell) p []) d → Has (get_or rows p []) d ⊎ ((q ≡ p) × (cell ≡ d))
 row_has rows q cell p d h = by_there (cases_lt p (length rows))
   where
     row : List DriverCell
@@ -42,7 +44,7 @@ row_has rows q cell p d h = by_there (cases_lt p (length rows))
         let none : get_or (set rows q row) p [] ≡ [] = get_or_past (set rows q row) p [] (omega (arith, past, length-set rows q row)) in
         absurd (subst (λ (l : List DriverCell). Has l d) none h)
 
-has_row : (rows : List (List DriverCell)) (q : ℕ) (cell : DriverCell) (p : ℕ) (d : DriverCell) → p < length rows → Has (get_or rows p []) d ⊎ ((q ≡ p) × (cell ≡ d)) → Has (get_or (noted_at rows (Some q) cell) p []) d
+has_row : (rows : List (List DriverCell)) (q : ℕ) (cell : DriverCell) (p : ℕ) (d : DriverCell) → p < length rows → Has (get_or rows p []) d ⊎ ((q ≡ p) × (cell ≡ d)) → Has (get_or (noted rows (Some q) cell) p []) d
 has_row rows q cell p d less h = by_place (cases_eq p q) h
   where
     row : List DriverCell
@@ -57,15 +59,11 @@ has_row rows q cell p d less h = by_place (cases_eq p q) h
     by_place (inr ne) (inl k) = subst (λ (l : List DriverCell). Has l d) (sym (get_or-set_other rows q p row [] ne)) k
     by_place (inr ne) (inr k) = absurd (ne (sym k.0))
 
-length-noted : (rows : List (List DriverCell)) (control : Option ℕ) (cell : DriverCell) → length (noted_at rows control cell) ≡ length rows
-length-noted rows None cell = refl
-length-noted rows (Some q) cell = length-set rows q (get_or rows q [] ++ cell ∷ [])
-
 pub noted_has : (observers : List Observer) (rows : List (List DriverCell)) (p : ℕ) (d : DriverCell) → Has (get_or (all_noted rows observers) p []) d → Has (get_or rows p []) d ⊎ Noted observers p d
 noted_has [] rows p d h = inl h
-noted_has (x ∷ observers) rows p d h = by_rest (noted_has observers (noted_at rows x.control x.cell) p d h)
+noted_has (x ∷ observers) rows p d h = by_rest (noted_has observers (noted rows x.control x.cell) p d h)
   where
-    by_first : (o : Option ℕ) → x.control ≡ o → Has (get_or (noted_at rows o x.cell) p []) d → Has (get_or rows p []) d ⊎ Noted (x ∷ observers) p d
+    by_first : (o : Option ℕ) → x.control ≡ o → Has (get_or (noted rows o x.cell) p []) d → Has (get_or rows p []) d ⊎ Noted (x ∷ observers) p d
     by_first None e k = inl k
     by_first (Some q) e k = by_row (row_has rows q x.cell p d k)
       where
@@ -73,26 +71,26 @@ noted_has (x ∷ observers) rows p d h = by_rest (noted_has observers (noted_at 
         by_row (inl k) = inl k
         by_row (inr k) = inr (record { observer = x; is_in = inl refl; control_is = e ∙ ap (λ (n : ℕ). Some n) k.0; cell_is = k.1 })
 
-    by_rest : Has (get_or (noted_at rows x.control x.cell) p []) d ⊎ Noted observers p d → Has (get_or rows p []) d ⊎ Noted (x ∷ observers) p d
+    by_rest : Has (get_or (noted rows x.control x.cell) p []) d ⊎ Noted observers p d → Has (get_or rows p []) d ⊎ Noted (x ∷ observers) p d
     by_rest (inl k) = by_first x.control refl k
     by_rest (inr n) = inr (record { observer = n.observer; is_in = inr n.is_in; control_is = n.control_is; cell_is = n.cell_is })
 
 pub has_noted : (observers : List Observer) (rows : List (List DriverCell)) (p : ℕ) (d : DriverCell) → p < length rows → Has (get_or rows p []) d ⊎ Noted observers p d → Has (get_or (all_noted rows observers) p []) d
 has_noted [] rows p d less (inl h) = h
 has_noted [] rows p d less (inr n) = absurd n.is_in
-has_noted (x ∷ observers) rows p d less h = has_noted observers (noted_at rows x.control x.cell) p d (omega (arith, less, length-noted rows x.control x.cell)) (by_case h)
+has_noted (x ∷ observers) rows p d less h = has_noted observers (noted rows x.control x.cell) p d (omega (arith, less, length-noted rows x.control x.cell)) (by_case h)
   where
-    added : (o : Option ℕ) → Has (get_or rows p []) d ⊎ ((o ≡ Some p) × (x.cell ≡ d)) → Has (get_or (noted_at rows o x.cell) p []) d
+    added : (o : Option ℕ) → Has (get_or rows p []) d ⊎ ((o ≡ Some p) × (x.cell ≡ d)) → Has (get_or (noted rows o x.cell) p []) d
     added None (inl k) = k
     added None (inr k) = let bad : None ≡ Some p = k.0 in cc bad
     added (Some q) (inl k) = has_row rows q x.cell p d less (inl k)
     added (Some q) (inr k) = let two : Some q ≡ Some p = k.0 in let same : q ≡ p = cc two in has_row rows q x.cell p d less (inr (same, k.1))
 
-    by_in : (n : Noted (x ∷ observers) p d) → (x ≡ n.observer) ⊎ Has observers n.observer → Has (get_or (noted_at rows x.control x.cell) p []) d ⊎ Noted observers p d
+    by_in : (n : Noted (x ∷ observers) p d) → (x ≡ n.observer) ⊎ Has observers n.observer → Has (get_or (noted rows x.control x.cell) p []) d ⊎ Noted observers p d
     by_in n (inl same) = inl (added x.control (inr (ap (λ (y : Observer). y.control) same ∙ n.control_is, ap (λ (y : Observer). y.cell) same ∙ n.cell_is)))
     by_in n (inr later) = inr (record { observer = n.observer; is_in = later; control_is = n.control_is; cell_is = n.cell_is })
 
-    by_case : Has (get_or rows p []) d ⊎ Noted (x ∷ observers) p d → Has (get_or (noted_at rows x.control x.cell) p []) d ⊎ Noted observers p d
+    by_case : Has (get_or rows p []) d ⊎ Noted (x ∷ observers) p d → Has (get_or (noted rows x.control x.cell) p []) d ⊎ Noted observers p d
     by_case (inl k) = inl (added x.control (inl k))
     by_case (inr n) = by_in n n.is_in
 

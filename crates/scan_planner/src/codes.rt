@@ -7,9 +7,9 @@ ghost use Rattle.scan_planner.specs.Tables.{AreFirsts};
 ghost use Rattle.scan_planner.specs.inner.Codes.{AreCodes, marked, marked_on, seen_in};
 
 use crate::controls::{DriverTable, controlled};
-use crate::rows::mark;
 use crate::tables::{DriverCell, PassTables};
 use board_defs::{Board, Items, Setting};
+use lists::mark;
 use std::alloc::{AllocError, Global};
 
 /// The codes of nets, net by net, and how many are not 0.

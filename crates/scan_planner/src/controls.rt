@@ -1,53 +1,18 @@
 // The driver cells of each control, so that the cells of a pass are found by its controls.
-ghost use Rattle.std.specs.Prelude.{◌≡◌, ◌<◌, ◌++◌, ◌∷◌, [], Some, length, map, filter, is_none, replicate, slice_index_or, IfOk, OnOk};
+ghost use Rattle.std.specs.Prelude.{◌≡◌, ◌<◌, [], slice_index_or, IfOk, OnOk};
 ghost use Rattle.board_defs.specs.Pins.{device_at, cell_count};
 ghost use Rattle.scan_planner.specs.Tables.{AreFirsts};
-ghost use Rattle.scan_planner.specs.inner.Building.{noted_at, all_noted, always_on, table_of, controlled};
+ghost use Rattle.scan_planner.specs.inner.Building.{all_noted, always_on, table_of, controlled};
 
 use crate::observers::Observer;
 use crate::positions::cell_position;
 use crate::tables::DriverCell;
 use board_defs::{Board, Ctl, Items};
+use lists::{blank, note_where};
 use std::alloc::{AllocError, Global};
-use std::marker::Model;
 
 /// The driver cells of one control.
-#[derive(Debug, Drop)]
-pub struct ControlCells {
-    cells: Vec<DriverCell>,
-}
-
-impl Model for ControlCells {
-    ghost use Rattle.std.specs.Prelude.{List};
-    ghost use Rattle.scan_planner.specs.declared.tables.DriverCell.{DriverCell};
-
-    ghost Value = { List DriverCell };
-
-    ghost view = { λ a. a.cells.items };
-}
-
-impl ControlCells {
-    fn none(alloc: Global) -> ControlCells
-        ensures { result ≡ [] }
-    {
-        ControlCells {
-            cells: Vec::new(alloc),
-        }
-    }
-
-    fn push(&mut self, cell: DriverCell) -> Result<(), AllocError>
-        ensures { OnOk result (self.new ≡ self.old ++ cell ∷ []) }
-    {
-        self.cells.push(cell)?;
-        Ok(())
-    }
-
-    fn as_slice(&self) -> &[DriverCell]
-        ensures { result.now ≡ self.now }
-    {
-        &self.cells
-    }
-}
+pub type ControlCells = Items<DriverCell>;
 
 /// The driver cells by which passes observe nets: those of the drivers that are always on, and those of each control,
 /// at the position of its cell.
@@ -57,41 +22,13 @@ pub struct DriverTable {
     pub rows: Items<ControlCells>,
 }
 
-fn note_at(rows: &mut [ControlCells], control: usize, cell: DriverCell) -> Result<(), AllocError>
-    ensures { OnOk result (rows.new ≡ noted_at rows.old (Some control) cell) }
-{
-    if control < rows.len() {
-        rows[control].push(cell)?;
-    }
-    Ok(())
-}
-
-fn note(rows: &mut [ControlCells], observer: Observer) -> Result<(), AllocError>
-    ensures { OnOk result (rows.new ≡ noted_at rows.old observer.control observer.cell) }
-{
-    match observer.control {
-        None => Ok(()),
-        Some(control) => note_at(rows, control as usize, observer.cell),
-    }
-}
-
 fn note_all(rows: &mut [ControlCells], observers: &[Observer]) -> Result<(), AllocError>
     ensures { OnOk result (rows.new ≡ all_noted rows.old observers.now) }
 {
     for observer in observers {
-        note(rows, *observer)?;
+        note_where(rows, observer.control, observer.cell)?;
     }
     Ok(())
-}
-
-fn blank(alloc: Global, bits: usize) -> Result<Vec<ControlCells>, AllocError>
-    ensures { IfOk result (λ rows. rows.items ≡ replicate bits []) }
-{
-    let mut rows = Vec::new(alloc);
-    for _control in 0..bits {
-        rows.push(ControlCells::none(alloc))?;
-    }
-    Ok(rows)
 }
 
 fn always_on(alloc: Global, observers: &[Observer]) -> Result<Vec<DriverCell>, AllocError>

@@ -8,15 +8,6 @@ use bt_bits::Row;
 use counting_codes::bit;
 use std::alloc::{AllocError, Global};
 
-/// Sets the flag at a place, where there is one.
-pub fn mark(flags: &mut [bool], place: usize)
-    ensures { flags.new ≡ slice_set flags.old place true }
-{
-    if place < flags.len() {
-        flags[place] = true;
-    }
-}
-
 /// A row of these bits.
 pub fn row_of(alloc: Global, bits: &[bool]) -> Result<Row, AllocError>
     requires { length bits.now ≤ 65535 }

@@ -8,10 +8,10 @@ ghost use Rattle.scan_planner.specs.inner.Steady.{marked_held, all_marked, held_
 
 use crate::observers::Observer;
 use crate::passes::held_cells;
-use crate::rows::mark;
 use crate::tables::{DriverCell, HeldCell};
 use board_defs::{Board, Items, Setting};
 use bt_bits::Row;
+use lists::{is_set, mark};
 use std::alloc::{AllocError, Global};
 
 /// For each position, whether some pass holds the cell there, and how many passes from the first on all do.
@@ -100,15 +100,6 @@ pub fn uses_of(
     })
 }
 
-fn is_held(flags: &[bool], position: usize) -> bool
-    ensures { result ≡ slice_index_or flags.now position false }
-{
-    match flags.get(position) {
-        None => false,
-        Some(flag) => *flag,
-    }
-}
-
 fn run_of(runs: &[u32], position: usize) -> u32
     ensures { result ≡ slice_index_or runs.now position 0 }
 {
@@ -131,7 +122,7 @@ fn is_common(uses: &Uses, passes: u32, control: Option<u32>) -> bool
 fn is_steady(uses: &Uses, passes: u32, observer: Observer) -> bool
     ensures { result ≡ is_steady uses.now passes observer }
 {
-    if passes == 0 || is_held(uses.held.as_slice(), observer.cell.position as usize) {
+    if passes == 0 || is_set(uses.held.as_slice(), observer.cell.position as usize) {
         return false;
     }
     is_common(uses, passes, observer.control)

@@ -1,5 +1,6 @@
 -- What serves the proofs alone. How the tables of a plan are made, item by item.
-use Rattle.std.specs.Prelude.{◌≡◌, ℕ, ◌<◌, true, All, List, [], ◌∷◌, ◌++◌, map, filter, fold, Option, Some, None, option_map, is_none, replicate, slice_index_or, slice_set}
+use Rattle.std.specs.Prelude.{◌≡◌, ℕ, ◌<◌, true, All, List, [], ◌∷◌, ◌++◌, map, filter, fold, Option, Some, None, option_map, is_none, replicate, slice_index_or}
+use Rattle.lists.specs.Rows.{noted}
 use Rattle.board_defs.specs.declared.board.Net.{Net}
 use Rattle.board_defs.specs.declared.board.RawBoard.{RawBoard}
 use Rattle.board_defs.specs.declared.board.Ctl.{Ctl}
@@ -40,13 +41,9 @@ observers board nets = gathered (observers_at board) 0 nets
 abbrev pub always_on : List Observer → List DriverCell
 always_on observers = map (λ x. x.cell) (filter (λ x. is_none x.control) observers)
 
--- the rows of controls with one cell more
-abbrev pub noted_at : List (List DriverCell) → Option ℕ → DriverCell → List (List DriverCell)
-noted_at rows None cell = rows
-noted_at rows (Some control) cell = slice_set rows control (slice_index_or rows control [] ++ cell ∷ [])
-
+-- the rows of controls with the cells of these drivers
 abbrev pub all_noted : List (List DriverCell) → List Observer → List (List DriverCell)
-all_noted rows observers = fold (λ done x. noted_at done x.control x.cell) rows observers
+all_noted rows observers = fold (λ done x. noted done x.control x.cell) rows observers
 
 -- the table of these drivers, for a row of so many bits
 abbrev pub table_of : List Observer → ℕ → DriverTable
