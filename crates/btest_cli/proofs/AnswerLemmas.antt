@@ -80,45 +80,45 @@ first_of : (P : Text → List Text → Type 0) (first : Vec ℕ Global) (more re
 first_of P first more rest text same others is =
     subst (λ (l : List (Vec ℕ Global)). P first.items (map (λ t. t.items) l)) others (subst (λ (t : Text). P t (map (λ t. t.items) rest)) same is)
 
-pub chain_told : (names : ChainNames) (all : List (Vec ℕ Global)) (d : Vec ℕ Global) (rest : List (Vec ℕ Global)) (text : Text) (old new : Shown) (result : Result (Unit {0}) Unput) → 1 ≤ length all → text ≡ (slice_index_or all 0 d).items → rest ≡ drop 1 all
+pub chain_answered : (names : ChainNames) (all : List (Vec ℕ Global)) (d : Vec ℕ Global) (rest : List (Vec ℕ Global)) (text : Text) (old new : Shown) (result : Result (Unit {0}) Unput) → 1 ≤ length all → text ≡ (slice_index_or all 0 d).items → rest ≡ drop 1 all
     → Answers (AreChainLengths text (map (λ t. t.items) rest)) chain_text (TestsChain text (map (λ t. t.items) rest) old) old new result → IsAnswered (Chain names) (map (λ t. t.items) all) old new result
-chain_told names [] d rest text old new result some same others answers = absurd (omega (arith, some))
-chain_told names (first ∷ more) d rest text old new result some same others answers =
+chain_answered names [] d rest text old new result some same others answers = absurd (omega (arith, some))
+chain_answered names (first ∷ more) d rest text old new result some same others answers =
     answered (Chain names) (first.items ∷ map (λ t. t.items) more) (AreChainLengths first.items (map (λ t. t.items) more)) chain_text (TestsChain first.items (map (λ t. t.items) more) old) old new result (λ o says. says) (λ worth. worth)
     (first_of (OfTexts AreChainLengths chain_text TestsChain old new result) first more rest text same others answers)
 
 -- the same for `ident`
-pub ident_told : (names : ChainNames) (all : List (Vec ℕ Global)) (d : Vec ℕ Global) (rest : List (Vec ℕ Global)) (text : Text) (old new : Shown) (result : Result (Unit {0}) Unput) → 1 ≤ length all → text ≡ (slice_index_or all 0 d).items → rest ≡ drop 1 all
+pub ident_answered : (names : ChainNames) (all : List (Vec ℕ Global)) (d : Vec ℕ Global) (rest : List (Vec ℕ Global)) (text : Text) (old new : Shown) (result : Result (Unit {0}) Unput) → 1 ≤ length all → text ≡ (slice_index_or all 0 d).items → rest ≡ drop 1 all
     → Answers (AreIdents text (map (λ t. t.items) rest)) ident_text (TestsIdents text (map (λ t. t.items) rest) old) old new result → IsAnswered (Ident names) (map (λ t. t.items) all) old new result
-ident_told names [] d rest text old new result some same others answers = absurd (omega (arith, some))
-ident_told names (first ∷ more) d rest text old new result some same others answers =
+ident_answered names [] d rest text old new result some same others answers = absurd (omega (arith, some))
+ident_answered names (first ∷ more) d rest text old new result some same others answers =
     answered (Ident names) (first.items ∷ map (λ t. t.items) more) (AreIdents first.items (map (λ t. t.items) more)) ident_text (TestsIdents first.items (map (λ t. t.items) more) old) old new result (λ o says. says) (λ worth. worth)
     (first_of (OfTexts AreIdents ident_text TestsIdents old new result) first more rest text same others answers)
 
 -- the answer to the text of `device`, as the only one
-pub device_told : (name : Text) (all : List (Vec ℕ Global)) (d : Vec ℕ Global) (text : Text) (old new : Shown) (result : Result (Unit {0}) Unput) → length all ≡ 1 → text ≡ (slice_index_or all 0 d).items
+pub device_answered : (name : Text) (all : List (Vec ℕ Global)) (d : Vec ℕ Global) (text : Text) (old new : Shown) (result : Result (Unit {0}) Unput) → length all ≡ 1 → text ≡ (slice_index_or all 0 d).items
     → Answers (IsDeviceText text) device_text (ListsDevice text old) old new result → IsAnswered (Device name) (map (λ t. t.items) all) old new result
-device_told name [] d text old new result one same answers = absurd (omega (arith, one))
-device_told name (first ∷ []) d text old new result one same answers =
+device_answered name [] d text old new result one same answers = absurd (omega (arith, one))
+device_answered name (first ∷ []) d text old new result one same answers =
     let found = subst (λ (t : Text). Answers (IsDeviceText t) device_text (ListsDevice t old) old new result) same answers in
     answered (Device name) (first.items ∷ []) (IsDeviceText first.items) device_text (ListsDevice first.items old) old new result (λ o says. says) (λ worth. worth) found
-device_told name (first ∷ other ∷ rest) d text old new result one same answers = absurd (omega (arith, one))
+device_answered name (first ∷ other ∷ rest) d text old new result one same answers = absurd (omega (arith, one))
 
 -- the answer to the texts of `cover`
-pub cover_told : (names : BoardNames) (chain nets : Text) (bsdl : List Text) (old new : Shown) (result : Result (Unit {0}) Unput) → Answers (IsBoardRead chain nets bsdl) cover_text (ListsCover chain nets bsdl old) old new result → IsAnswered (Cover names) (chain ∷ nets ∷ bsdl) old new result
-cover_told names chain nets bsdl old new result answers = answered (Cover names) (chain ∷ nets ∷ bsdl) (IsBoardRead chain nets bsdl) cover_text (ListsCover chain nets bsdl old) old new result (λ o says. says) (λ worth. worth) answers
+pub cover_answered : (names : BoardNames) (chain nets : Text) (bsdl : List Text) (old new : Shown) (result : Result (Unit {0}) Unput) → Answers (IsBoardRead chain nets bsdl) cover_text (ListsCover chain nets bsdl old) old new result → IsAnswered (Cover names) (chain ∷ nets ∷ bsdl) old new result
+cover_answered names chain nets bsdl old new result answers = answered (Cover names) (chain ∷ nets ∷ bsdl) (IsBoardRead chain nets bsdl) cover_text (ListsCover chain nets bsdl old) old new result (λ o says. says) (λ worth. worth) answers
 
 -- the answer to the texts of `svf`
-pub svf_told : (names : BoardNames) (chain nets : Text) (bsdl : List Text) (old new : Shown) (result : Result (Unit {0}) Unput) → Answers (IsBoardRead chain nets bsdl) board_text (TestsBoard chain nets bsdl old) old new result → IsAnswered (Svf names) (chain ∷ nets ∷ bsdl) old new result
-svf_told names chain nets bsdl old new result answers = answered (Svf names) (chain ∷ nets ∷ bsdl) (IsBoardRead chain nets bsdl) board_text (TestsBoard chain nets bsdl old) old new result (λ o says. says) (λ worth. worth) answers
+pub svf_answered : (names : BoardNames) (chain nets : Text) (bsdl : List Text) (old new : Shown) (result : Result (Unit {0}) Unput) → Answers (IsBoardRead chain nets bsdl) board_text (TestsBoard chain nets bsdl old) old new result → IsAnswered (Svf names) (chain ∷ nets ∷ bsdl) old new result
+svf_answered names chain nets bsdl old new result answers = answered (Svf names) (chain ∷ nets ∷ bsdl) (IsBoardRead chain nets bsdl) board_text (TestsBoard chain nets bsdl old) old new result (λ o says. says) (λ worth. worth) answers
 
 -- the answer to the texts of `walk`
-pub walk_told : (names : BoardNames) (chain nets : Text) (bsdl : List Text) (old new : Shown) (result : Result (Unit {0}) Unput) → Answers (IsBoardRead chain nets bsdl) board_walk_text (WalksBoard chain nets bsdl old) old new result → IsAnswered (Walk names) (chain ∷ nets ∷ bsdl) old new result
-walk_told names chain nets bsdl old new result answers = answered (Walk names) (chain ∷ nets ∷ bsdl) (IsBoardRead chain nets bsdl) board_walk_text (WalksBoard chain nets bsdl old) old new result (λ o says. says) (λ worth. worth) answers
+pub walk_answered : (names : BoardNames) (chain nets : Text) (bsdl : List Text) (old new : Shown) (result : Result (Unit {0}) Unput) → Answers (IsBoardRead chain nets bsdl) board_walk_text (WalksBoard chain nets bsdl old) old new result → IsAnswered (Walk names) (chain ∷ nets ∷ bsdl) old new result
+walk_answered names chain nets bsdl old new result answers = answered (Walk names) (chain ∷ nets ∷ bsdl) (IsBoardRead chain nets bsdl) board_walk_text (WalksBoard chain nets bsdl old) old new result (λ o says. says) (λ worth. worth) answers
 
 -- the answer of `make`
-pub make_told : (number : ℕ) (texts : List Text) (old new : Shown) (result : Result (Unit {0}) Unput) → Answers (IsBoardRead (made.chain_text number) (made.net_text number) (bsdl_text ∷ [])) summary_text Nothing old new result → IsAnswered (Make number) texts old new result
-make_told number texts old new result answers = answered (Make number) texts (IsBoardRead (made.chain_text number) (made.net_text number) (bsdl_text ∷ [])) summary_text Nothing old new result (λ o says. says) (λ worth. worth) answers
+pub make_answered : (number : ℕ) (texts : List Text) (old new : Shown) (result : Result (Unit {0}) Unput) → Answers (IsBoardRead (made.chain_text number) (made.net_text number) (bsdl_text ∷ [])) summary_text Nothing old new result → IsAnswered (Make number) texts old new result
+make_answered number texts old new result answers = answered (Make number) texts (IsBoardRead (made.chain_text number) (made.net_text number) (bsdl_text ∷ [])) summary_text Nothing old new result (λ o says. says) (λ worth. worth) answers
 
 -- there is no board: its texts have a first fault, or memory ran out
 pub no_board : (chain nets : Text) (texts : List Text) (fault : InputFault) → IfSome (input_told fault) (λ f. IsBoardRead chain nets texts (Err f)) → NoBoard chain nets texts (unput_of fault)
@@ -192,19 +192,19 @@ log_answered command texts IsFound text_of IsWorth old new (Err unput.Write) giv
 log_answered command texts IsFound text_of IsWorth old new (Err unput.Memory) gives worth same = same
 
 -- the answer to the texts of `diagnose`
-pub diagnose_told : (workers : ℕ) (name : Text) (names : BoardNames) (text chain nets : Text) (bsdl : List Text) (old new : Shown) (result : Result (Unit {0}) Unput)
+pub diagnose_answered : (workers : ℕ) (name : Text) (names : BoardNames) (text chain nets : Text) (bsdl : List Text) (old new : Shown) (result : Result (Unit {0}) Unput)
     → LogAnswers (OnDenoted diagnosing text chain nets bsdl) diagnosis_text (OfDenoted (Diagnoses text) chain nets bsdl old) old new result → IsAnswered (Diagnose workers name names) (text ∷ chain ∷ nets ∷ bsdl) old new result
-diagnose_told workers name names text chain nets bsdl old new result answers =
+diagnose_answered workers name names text chain nets bsdl old new result answers =
     log_answered (Diagnose workers name names) (text ∷ chain ∷ nets ∷ bsdl) (OnDenoted diagnosing text chain nets bsdl) diagnosis_text (OfDenoted (Diagnoses text) chain nets bsdl old) old new result (λ o says. says) (λ worth. worth) answers
 
 -- the answer to the texts of `groups`
-pub groups_told : (name : Text) (names : BoardNames) (text chain nets : Text) (bsdl : List Text) (old new : Shown) (result : Result (Unit {0}) Unput)
+pub groups_answered : (name : Text) (names : BoardNames) (text chain nets : Text) (bsdl : List Text) (old new : Shown) (result : Result (Unit {0}) Unput)
     → LogAnswers (OnDenoted grouping text chain nets bsdl) grouping_text (OfDenoted (FindsGroups text) chain nets bsdl old) old new result → IsAnswered (Groups name names) (text ∷ chain ∷ nets ∷ bsdl) old new result
-groups_told name names text chain nets bsdl old new result answers =
+groups_answered name names text chain nets bsdl old new result answers =
     log_answered (Groups name names) (text ∷ chain ∷ nets ∷ bsdl) (OnDenoted grouping text chain nets bsdl) grouping_text (OfDenoted (FindsGroups text) chain nets bsdl old) old new result (λ o says. says) (λ worth. worth) answers
 
 -- the answer to the texts of `batch`
-pub batch_told : (workers : ℕ) (name : Text) (names : BoardNames) (text chain nets : Text) (bsdl : List Text) (old new : Shown) (result : Result (Unit {0}) Unput)
+pub batch_answered : (workers : ℕ) (name : Text) (names : BoardNames) (text chain nets : Text) (bsdl : List Text) (old new : Shown) (result : Result (Unit {0}) Unput)
     → LogAnswers (OnDenoted judging_each text chain nets bsdl) verdicts_text (OfDenoted (DiagnosesEach text) chain nets bsdl old) old new result → IsAnswered (Batch workers name names) (text ∷ chain ∷ nets ∷ bsdl) old new result
-batch_told workers name names text chain nets bsdl old new result answers =
+batch_answered workers name names text chain nets bsdl old new result answers =
     log_answered (Batch workers name names) (text ∷ chain ∷ nets ∷ bsdl) (OnDenoted judging_each text chain nets bsdl) verdicts_text (OfDenoted (DiagnosesEach text) chain nets bsdl old) old new result (λ o says. says) (λ worth. worth) answers
