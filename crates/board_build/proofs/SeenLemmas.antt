@@ -1,6 +1,6 @@
 -- Rules on words as the code has them, against the rules on marked words.
-use Rattle.std.proofs.Common.{◌≡◌, ℕ, zero, suc, ◌==◌, Bool, false, cond, ◌&&◌, List, [], ◌∷◌, length, map, Some, refl, sym, ap, ◌∙◌, Bor}
-use Rattle.std.specs.Prelude.{slice_get, find, unwrap_or, option_map, is_none}
+use Rattle.std.proofs.Common.{◌≡◌, ℕ, zero, suc, ◌==◌, Bool, false, cond, ◌&&◌, List, [], ◌∷◌, length, map, get_or, Some, refl, sym, ap, ◌∙◌, Bor}
+use Rattle.std.specs.Prelude.{slice_get, find, option_map, is_none}
 use Rattle.std.proofs.lemmas.List.{length-map}
 use Rattle.first_places.specs.Places.{once, first_repeated}
 use Rattle.board_defs.specs.declared.spot.Spot.{Spot}
@@ -37,16 +37,16 @@ find_agree : {A : Type 0} (p q : A → Bool) → ((a : A) → p a ≡ q a) → (
 find_agree p q h [] = refl
 find_agree p q h (x ∷ xs) = ap (λ b. cond b (Some x) (find p xs)) (h x) ∙ ap (cond (q x) (Some x)) (find_agree p q h xs)
 
-kept_at : (board : RawBoard) (nets : List Net) (n : ℕ) → unwrap_or (slice_get (map (λ (net : Net). is_kept board (Some net)) nets) n) false ≡ is_kept board (slice_get nets n)
+kept_at : (board : RawBoard) (nets : List Net) (n : ℕ) → get_or (map (λ (net : Net). is_kept board (Some net)) nets) n false ≡ is_kept board (slice_get nets n)
 kept_at board [] n = refl
 kept_at board (net ∷ nets) zero = refl
 kept_at board (net ∷ nets) (suc n) = kept_at board nets n
 
 pub guarded_seen : (board : RawBoard) (kept : List Bool) (drivers : List MarkedWord) → kept ≡ map (λ (net : Net). is_kept board (Some net)) board.nets →
-    option_map (λ (w : MarkedWord). GuardedDriver w.spot) (find (λ w. unwrap_or (slice_get kept w.net) false) drivers) ≡ marked_guarded board (map seen drivers)
+    option_map (λ (w : MarkedWord). GuardedDriver w.spot) (find (λ w. get_or kept w.net false) drivers) ≡ marked_guarded board (map seen drivers)
 unfolding marked_guarded
 guarded_seen board kept drivers e =
-    ap (option_map (λ (w : MarkedWord). GuardedDriver w.spot)) (find_agree _ _ (λ (w : MarkedWord). ap (λ (v : List Bool). unwrap_or (slice_get v w.net) false) e ∙ kept_at board board.nets w.net) drivers)
+    ap (option_map (λ (w : MarkedWord). GuardedDriver w.spot)) (find_agree _ _ (λ (w : MarkedWord). ap (λ (v : List Bool). get_or v w.net false) e ∙ kept_at board board.nets w.net) drivers)
     ∙ sym (find-map seen (λ (m : Marked). is_kept board (slice_get board.nets (number_of m))) (λ (m : Marked). GuardedDriver (place_of m)) drivers)
 
 abbrev pub by_net : MarkedWord → ℕ × Spot

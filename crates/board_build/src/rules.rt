@@ -1,5 +1,5 @@
 // The rules that a board's files keep, in their order.
-ghost use Rattle.std.specs.Prelude.{◌≡◌, ◌<◌, ◌≤◌, ◌^◌, ◌==◌, ◌&&◌, length, vec_len, map, filter, find, nat_lt, sum_by, slice_get, unwrap_or, IfOk, Option, Some, None, option_map, is_none, true, false, if◌then◌else◌};
+ghost use Rattle.std.specs.Prelude.{◌≡◌, ◌<◌, ◌≤◌, ◌^◌, ◌==◌, ◌&&◌, length, vec_len, map, filter, find, nat_lt, sum_by, slice_index_or, IfOk, Option, Some, None, option_map, is_none, true, false, if◌then◌else◌};
 ghost use Rattle.std.specs.List.{list_any};
 ghost use Rattle.first_places.specs.Places.{first_repeated, once};
 ghost use Rattle.board_defs.specs.Pins.{data_length, is_test_pin};
@@ -15,6 +15,7 @@ use crate::words::PinName;
 use board_defs::{Net, NetPin, Part, RawBoard, Spot};
 use board_files::ChainLine;
 use first_places::{first_repeated, once_by};
+use lists::is_set;
 use std::alloc::{AllocError, Global};
 
 /// The most different pins that the nets of a board may name.
@@ -226,20 +227,11 @@ fn always_on<'a>(
     Ok(drivers)
 }
 
-fn is_flagged(flags: &[bool], number: u32) -> bool
-    ensures { result ≡ unwrap_or (slice_get flags.now number) false }
-{
-    match flags.get(number as usize) {
-        Some(flag) => *flag,
-        None => false,
-    }
-}
-
 fn guarded_driver(kept: &[bool], drivers: &[MarkedWord<'_>]) -> Option<BoardFault>
-    ensures { result ≡ option_map (λ w. GuardedDriver w.spot) (find (λ w. unwrap_or (slice_get kept.now w.net) false) drivers.now) }
+    ensures { result ≡ option_map (λ w. GuardedDriver w.spot) (find (λ w. slice_index_or kept.now w.net false) drivers.now) }
 {
     for word in drivers {
-        if is_flagged(kept, word.net) {
+        if is_set(kept, word.net as usize) {
             return Some(BoardFault::GuardedDriver(word.spot));
         }
     }

@@ -12,8 +12,9 @@ ghost use Rattle.fault_sim.specs.inner.Suspects.{AreFlags, flagged_nets};
 
 use crate::fits::{net_count, shows_on};
 use crate::marks::{are_marked, marks_of};
-use crate::tested::{is_set, push_if};
+use crate::tested::push_if;
 use board_defs::{Board, law};
+use lists::is_set;
 use response_log::Log;
 use scan_planner::Plan;
 use std::alloc::{AllocError, Global};

@@ -1,11 +1,12 @@
 // The nets and the pins that the passes of a plan test.
-ghost use Rattle.std.specs.Prelude.{◌≡◌, ◌≤◌, ◌++◌, ◌∷◌, ◌&&◌, [], cond, length, fold, slice_index_or, slice_set, true, false, IfOk, OnOk};
+ghost use Rattle.std.specs.Prelude.{◌≡◌, ◌≤◌, ◌++◌, ◌∷◌, ◌&&◌, [], cond, length, fold, IfOk, OnOk};
 ghost use Rattle.std.specs.List.{list_all};
 ghost use Rattle.fault_sim.specs.inner.Tested.{coded_nets, observes_in, paired_in, marked_readers, marked_by, marked_in, tested_flags, pin_where, flagged_pins, pin_count, net_pins, all_pins};
 
 use crate::feed::{driver_in, is_read_beside};
 use crate::fits::net_count;
 use board_defs::{Board, PinRef, Setting};
+use lists::{is_set, mark};
 use scan_planner::{NetDriver, Plan, ReaderCell};
 use std::alloc::{AllocError, Global};
 
@@ -56,14 +57,6 @@ pub fn paired_in(plan: &Plan, a: u32, b: u32) -> bool
         }
     }
     false
-}
-
-fn mark(flags: &mut [bool], place: usize)
-    ensures { flags.new ≡ slice_set flags.old place true }
-{
-    if place < flags.len() {
-        flags[place] = true;
-    }
 }
 
 fn mark_readers(flags: &mut [bool], readers: &[ReaderCell])
@@ -125,16 +118,6 @@ fn push_pin(pins: &mut Vec<PinRef>, net: u32, place: u32, is_tested: bool) -> Re
         pins.push(PinRef { net, place })?;
     }
     Ok(())
-}
-
-/// Whether a flag is set; none past the end is.
-pub fn is_set(flags: &[bool], n: usize) -> bool
-    ensures { result ≡ slice_index_or flags.now n false }
-{
-    match flags.get(n) {
-        None => false,
-        Some(flag) => *flag,
-    }
 }
 
 fn push_flagged(net: u32, flags: &[bool], pins: &mut Vec<PinRef>) -> Result<(), AllocError>

@@ -5,8 +5,9 @@ use Rattle.std.specs.List.{flat_map, range_with_len}
 use Rattle.std.proofs.lemmas.Bool.{eq-eqb, ne_eqb}
 use Rattle.board_defs.proofs.Members.{map_has}
 use Rattle.tap_defs.proofs.chain.ListLemmas.{cons_path}
+use Rattle.lists.specs.Rows.{noted}
 use Rattle.walk_test.specs.Groups.{Rise}
-use Rattle.walk_test.specs.inner.Reading.{members, noted, where_several, group_at, groups_by}
+use Rattle.walk_test.specs.inner.Reading.{members, where_several, group_at, groups_by}
 use Rattle.walk_test.proofs.GroupLemmas.{all_from_has}
 use Rattle.walk_test.proofs.LabelLemmas.{members_more, rise_members}
 
@@ -20,7 +21,7 @@ others_kept f a zero l x less = refl
 others_kept f a (suc n) l x less =
     cons_path (sym (ap (λ (b : Bool). f a ++ cond b (x ∷ []) []) (ne_eqb l a (λ e. omega (arith, less, e))) ∙ append-nil (f a))) (others_kept f (a + 1) n l x (omega (arith, less)))
 
-noted_from : (f : ℕ → List ℕ) (a n l x : ℕ) → noted (map f (range_with_len a n)) l x ≡ map (with_item f (a + l) x) (range_with_len a n)
+noted_from : (f : ℕ → List ℕ) (a n l x : ℕ) → noted (map f (range_with_len a n)) (Some l) x ≡ map (with_item f (a + l) x) (range_with_len a n)
 noted_from f a zero l x = refl
 noted_from f a (suc n) zero x =
     let z : a + 0 ≡ a = omega arith in
@@ -36,12 +37,12 @@ same_over f g same (k ∷ ks) = cons_path (same k) (same_over f g same ks)
 
 -- a net more
 pub all_members_more : (nets labels : List ℕ) (count i n l : ℕ) (now new : List (List ℕ)) → slice_get nets i ≡ Some n → slice_get labels i ≡ Some l →
-    now ≡ map (members (take i nets) (take i labels)) (range_with_len 0 count) → new ≡ noted now l n →
+    now ≡ map (members (take i nets) (take i labels)) (range_with_len 0 count) → new ≡ noted now (Some l) n →
     new ≡ map (members (take (i + 1) nets) (take (i + 1) labels)) (range_with_len 0 count)
 all_members_more nets labels count i n l now new e f now_is new_is =
     let z : 0 + l ≡ l = omega arith in
     let before = members (take i nets) (take i labels) in
-    new_is ∙ ap (λ (v : List (List ℕ)). noted v l n) now_is ∙ noted_from before 0 count l n
+    new_is ∙ ap (λ (v : List (List ℕ)). noted v (Some l) n) now_is ∙ noted_from before 0 count l n
     ∙ ap (λ (m : ℕ). map (with_item before m n) (range_with_len 0 count)) z
     ∙ same_over (with_item before l n) (members (take (i + 1) nets) (take (i + 1) labels)) (λ k. sym (members_more nets labels k i n l e f)) (range_with_len 0 count)
 

@@ -1,50 +1,29 @@
 // The groups that explain a log.
-ghost use Rattle.std.specs.Prelude.{◌≡◌, ◌≤◌, ◌<◌, ◌^◌, ◌++◌, ◌∷◌, ◌==◌, [], length, map, replicate, All, option_map, IfOk, OnOk};
+ghost use Rattle.std.specs.Prelude.{◌≡◌, ◌≤◌, ◌<◌, ◌^◌, ◌++◌, ◌∷◌, ◌==◌, [], length, map, All, option_map, IfOk, OnOk};
 ghost use Rattle.std.specs.List.{flat_map, range_with_len};
 ghost use Rattle.board_defs.specs.Pins.{data_bits};
 ghost use Rattle.walk_test.specs.Groups.{Rise, AreFound, AreNamed};
-ghost use Rattle.walk_test.specs.inner.Reading.{members, noted, where_several, groups_by};
+ghost use Rattle.walk_test.specs.inner.Reading.{members, where_several, groups_by};
 ghost use Rattle.walk_test.specs.Tables.{IsWalkOf};
 
 use crate::group::Group;
 use crate::labels::shown_labels;
 use crate::law::walk_safe;
-use crate::members::Members;
 use crate::walk::Walk;
 use board_defs::Board;
+use lists::{Items, blank, note};
 use response_log::Log;
 use std::alloc::{AllocError, Global};
 use tap_defs::board_law::{logs_by_rows, rows_compared, scans_in_turn};
 
-// Adds a net to those with its label.
-fn note(lists: &mut [Members], label: u32, net: u32) -> Result<(), AllocError>
-    ensures { OnOk result (lists.new ≡ noted lists.old label net) }
-{
-    let place = label as usize;
-    if place < lists.len() {
-        lists[place].push(net)?;
-    }
-    Ok(())
-}
-
-fn blank(alloc: Global, count: usize) -> Result<Vec<Members>, AllocError>
-    ensures { IfOk result (λ lists. lists.items ≡ replicate count []) }
-{
-    let mut lists = Vec::new(alloc);
-    for _list in 0..count {
-        lists.push(Members::none(alloc))?;
-    }
-    Ok(lists)
-}
-
 // The nets with each label that is the place of a net, in order.
-fn all_members(alloc: Global, nets: &[u32], labels: &[u32]) -> Result<Vec<Members>, AllocError>
+fn all_members(alloc: Global, nets: &[u32], labels: &[u32]) -> Result<Vec<Items<u32>>, AllocError>
     requires { length labels.now ≡ length nets.now }
     ensures { IfOk result (λ lists. lists.items ≡ map (members nets.now labels.now) (range_with_len 0 (length labels.now))) }
 {
     let mut lists = blank(alloc, labels.len())?;
     for i in 0..nets.len() {
-        note(&mut lists, labels[i], nets[i])?;
+        note(&mut lists, labels[i] as usize, nets[i])?;
     }
     Ok(lists)
 }
@@ -61,13 +40,13 @@ fn push_group(groups: &mut Vec<Group>, nets: Vec<u32>) -> Result<(), AllocError>
 }
 
 // The groups among lists of nets.
-fn groups_among(alloc: Global, lists: Vec<Members>) -> Result<Vec<Group>, AllocError>
+fn groups_among(alloc: Global, lists: Vec<Items<u32>>) -> Result<Vec<Group>, AllocError>
     requires { All Rise lists.items }
     ensures { IfOk result (λ groups. groups.items ≡ flat_map where_several lists.items) }
 {
     let mut groups = Vec::new(alloc);
     for list in lists {
-        push_group(&mut groups, list.into_nets())?;
+        push_group(&mut groups, list.into_vec())?;
     }
     Ok(groups)
 }

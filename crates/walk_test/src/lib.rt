@@ -12,7 +12,6 @@ mod labels;
 pub mod law;
 mod lines;
 mod listing;
-mod members;
 mod nets;
 mod reading;
 mod setting;

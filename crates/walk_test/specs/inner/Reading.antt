@@ -99,10 +99,6 @@ members [] labels k = []
 members (n ∷ nets) [] k = []
 members (n ∷ nets) (label ∷ labels) k = cond (label == k) (n ∷ members nets labels k) (members nets labels k)
 
--- the nets with each label, a net with a label more
-abbrev pub noted : List (List ℕ) → ℕ → ℕ → List (List ℕ)
-noted lists label net = slice_set lists label (slice_index_or lists label [] ++ net ∷ [])
-
 -- nets are a group, where they are two or more
 abbrev pub where_several : List ℕ → List (List ℕ)
 where_several nets = cond (nat_le 2 (length nets)) (nets ∷ []) []

@@ -13,8 +13,8 @@ loop-i-preserved c =
     let labels = c.args.labels.now in
     let i = c.loop-i.i in
     let before = c.loop-i.lists in
-    let after : List (List ℕ) = c.note.new.lists in
-    with_items_is before after (c.note.auto.lists ∙ c.deref_mut.ensures.len)
+    let after : List (List ℕ) = c.note.new.rows in
+    with_items_is before after (c.note.auto.rows ∙ c.deref_mut.ensures.len)
     ∙ all_members_more nets labels (length labels) i (get_or nets i 0) (get_or labels i 0) c.deref_mut.result.now after
     (slice_get-get_or nets i 0 c.loop-i-test.true) (slice_get-get_or labels i 0 (omega (arith, c.loop-i-test.true, c.requires)))
     (c.deref_mut.ensures.value ∙ c.loop-i.invariant) c.in_ok-note.ensures

@@ -14,7 +14,7 @@ push_group-requires c =
     let list : List ℕ = c.in-Some.list in
     let steps : into_iter_items c.loop-list.list-iterator ≡ list ∷ into_iter_items c.next.new.self = c.in-Some.ensures.steps.0 in
     let rise = subst (λ (l : List (List ℕ)). All Rise l) steps c.loop-list.invariant.rise in
-    subst (λ (l : List ℕ). Rise l) (sym c.into_nets.ensures) (All-head Rise list (into_iter_items c.next.new.self) rise)
+    subst (λ (l : List ℕ). Rise l) (sym c.into_vec.ensures) (All-head Rise list (into_iter_items c.next.new.self) rise)
 
 pub loop-list-preserved : goal.loop-list-preserved
 loop-list-preserved c =
@@ -32,8 +32,8 @@ loop-list-preserved c =
       rise = All-tail Rise list (into_iter_items c.next.new.self) rise;
       groups =
           c.in_ok-push_group.ensures
-          ∙ ap (λ (l : List (List ℕ)). l ++ where_several c.into_nets.result.items) at.invariant.groups
-          ∙ ap (λ (l : List ℕ). flat_map where_several at.yielded ++ where_several l) c.into_nets.ensures
+          ∙ ap (λ (l : List (List ℕ)). l ++ where_several c.into_vec.result.items) at.invariant.groups
+          ∙ ap (λ (l : List ℕ). flat_map where_several at.yielded ++ where_several l) c.into_vec.ensures
           ∙ sym (flat_map-append where_several at.yielded (list ∷ []) ∙ ap (λ (l : List (List ℕ)). flat_map where_several at.yielded ++ l) (append-nil (where_several list)));
     }
 
