@@ -11,8 +11,8 @@ use Rattle.board_defs.specs.declared.board.PinAt.{PinAt}
 use Rattle.board_defs.specs.declared.board.NetPin.{NetPin}
 use Rattle.board_defs.specs.declared.board.Net.{Net}
 use Rattle.board_build.specs.declared.marked.MarkedWord.{MarkedWord}
-use Rattle.board_build.specs.NetWords.{NetWord, is_among}
-use Rattle.board_build.specs.LineRules.{Pulled, pull_of_net}
+use Rattle.board_lines.specs.NetWords.{NetWord, is_among}
+use Rattle.board_lines.specs.LineRules.{Pulled, pull_of_net}
 use Rattle.board_build.specs.inner.Marked.{Marked, seen, pin_with, group_of, groups_after, number_of, net_with, nets_with, nets_after, marks_after, net_by, is_free_at}
 
 one_pin : (m : Marked) (b : Bool) → map pin_with (cond b (m ∷ []) []) ≡ cond b (pin_with m ∷ []) []

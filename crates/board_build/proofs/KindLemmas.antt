@@ -1,10 +1,9 @@
 -- Boards of devices and lines that keep their rules.
-use Rattle.std.proofs.Common.{◌≡◌, ℕ, suc, List, [], ◌∷◌, drop, length, map, Option, Some, None, Result, Ok, Err, refl, subst, arith}
-use Rattle.std.specs.Prelude.{slice_get, All}
+use Rattle.std.proofs.Common.{◌≡◌, List, [], ◌∷◌, length, Option, Some, None, Ok, refl, subst}
+use Rattle.std.specs.Prelude.{All}
 use Rattle.std.specs.List.{AllByRecursion, cons_option}
 use Rattle.std.proofs.lemmas.List.Elements.{All-from_recursion}
 use Rattle.board_defs.specs.declared.board.Part.{Part}
-use Rattle.board_defs.specs.declared.board.PartKind.TheVariants.{Described}
 use Rattle.board_defs.specs.declared.board.RawBoard.{RawBoard}
 use Rattle.board_defs.specs.declared.device.RawDevice.{RawDevice}
 use Rattle.board_defs.specs.BoardRules.{IsBoard, IsPart}
@@ -14,11 +13,11 @@ use Rattle.board_files.specs.declared.chain_file.ChainStatement.{ChainStatement}
 use Rattle.board_files.specs.declared.chain_file.ChainStatement.TheVariants.{Device, Bypass, Inert, Supply, Pull, Link}
 use Rattle.board_files.specs.declared.net_file.NetLine.{NetLine}
 use Rattle.board_files.specs.ChainLines.{HasLength}
-use Rattle.board_build.specs.declared.fault.BoardFault.{BoardFault}
-use Rattle.board_build.specs.declared.names.Naming.TheVariants.{Entity as EntityName}
-use Rattle.board_build.specs.Faults.{unless}
-use Rattle.board_build.specs.Names.{named}
-use Rattle.board_build.specs.ChainParts.{IsChain, chain_parts, devices_after, part_of_line}
+use Rattle.board_lines.specs.declared.fault.BoardFault.{BoardFault}
+use Rattle.board_lines.specs.declared.names.Naming.TheVariants.{Entity as EntityName}
+use Rattle.board_lines.specs.Faults.{unless}
+use Rattle.board_lines.specs.Names.{named}
+use Rattle.board_lines.specs.ChainParts.{IsChain, chain_parts, devices_after, part_of_line}
 use Rattle.board_build.specs.BoardNets.{board_with}
 use Rattle.board_build.specs.BoardRules.{board_answer, board_fault, board_of}
 use Rattle.board_build.proofs.PartLemmas.{parts_named}

@@ -10,8 +10,8 @@ use Rattle.board_defs.specs.declared.board.PartKind.{PartKind}
 use Rattle.board_defs.specs.declared.board.PartKind.TheVariants.{Described, Bypass}
 use Rattle.board_defs.specs.declared.board.PinAt.{PinAt}
 use Rattle.board_files.specs.Names.{same_word}
-use Rattle.board_build.specs.NetWords.{Pin, same_pin, is_among}
-use Rattle.board_build.specs.ChainParts.{PinPlace, bit_places, with_place, part_places, places_from, pin_places, place_of_pin, name_in, described_names}
+use Rattle.board_lines.specs.NetWords.{Pin, same_pin, is_among}
+use Rattle.board_lines.specs.ChainParts.{PinPlace, bit_places, with_place, part_places, places_from, pin_places, place_of_pin, name_in, described_names}
 
 some_place : {A : Type 0} (p : A → Bool) (n : ℕ) (xs : List A) → is_some (position_from p n xs) ≡ list_any p xs
 some_place p n [] = refl

@@ -17,19 +17,21 @@ use Rattle.board_defs.specs.declared.board.RawBoard.{RawBoard}
 use Rattle.board_defs.specs.declared.board.Drive.TheVariants.{AlwaysOn}
 use Rattle.board_defs.specs.Pins.{drive, is_test_pin}
 use Rattle.board_defs.specs.BoardRules.{IsBoard, IsPart, IsPlaced, PinsDiffer, AreInertAlike, NoGuardedDriver, OneAlwaysOn}
-use Rattle.board_build.specs.declared.names.Naming.TheVariants.{Part as PartName, Inert}
+use Rattle.board_lines.specs.declared.names.Naming.TheVariants.{Part as PartName, Inert}
 use Rattle.board_files.specs.Names.{same_word}
-use Rattle.board_build.specs.Names.{named, names_of}
-use Rattle.board_build.specs.NetWords.{NetWord, net_of, pin_of, is_among, net_names, standing_words}
-use Rattle.board_build.specs.ChainParts.{IsChain, pin_places, described_names}
+use Rattle.board_lines.specs.Names.{named, names_of}
+use Rattle.board_lines.specs.NetWords.{NetWord, net_of, pin_of, is_among, net_names, standing_words}
+use Rattle.board_lines.specs.ChainParts.{IsChain, pin_places, described_names}
 use Rattle.board_build.specs.BoardNets.{Marks, marks_of, net_pin, board_nets, board_with}
 use Rattle.board_defs.specs.Decided.{is_always_on}
-use Rattle.board_build.specs.BoardRules.{board_fault, drives_always, always_on, is_kept, is_unknown, have_same_pin}
-use Rattle.board_build.proofs.ApartLemmas.{Apart, each_map, apart_pairs, apart_passing, pairs_at, Passing, passing, once_apart}
+use Rattle.board_build.specs.BoardRules.{board_fault, drives_always, always_on, is_kept, is_unknown}
+use Rattle.board_lines.specs.NetWords.{have_same_pin}
+use Rattle.board_lines.proofs.ApartLemmas.{Apart, each_map, apart_pairs, apart_passing, pairs_at, Passing, passing, once_apart}
 use Rattle.first_places.specs.Places.{once}
 use Rattle.board_build.proofs.PartLemmas.{placed}
 use Rattle.board_build.proofs.NetLemmas.{words_on, PinAtWord, pin_at_word, SameWord, one_word, nets_differ, count_nets, pins_fit}
-use Rattle.board_build.proofs.RuleLemmas.{then_none, LimitsKept, limits_kept, PinsKept, pins_kept, not_inert, inert_kept, DriversKept, drivers_kept}
+use Rattle.board_lines.proofs.FaultLemmas.{then_none}
+use Rattle.board_build.proofs.RuleLemmas.{LimitsKept, limits_kept, PinsKept, pins_kept, not_inert, inert_kept, DriversKept, drivers_kept}
 
 -- the board of parts, marks, words and names
 abbrev board_on : List Part → Marks → List NetWord → List (List ℕ) → RawBoard

@@ -1,10 +1,9 @@
 -- Lent and marked words against the words of the definitions.
-use Rattle.std.proofs.Common.{◌≡◌, ℕ, zero, suc, ◌+◌, ◌==◌, Bool, true, false, cond, ◌&&◌, List, [], ◌∷◌, ◌++◌, length, map, Option, Some, None, refl, sym, ap, ◌∙◌, arith}
-use Rattle.std.specs.Prelude.{slice_get, find, filter, is_none, is_some, option_map, option_and_then, nat_lt, if◌then◌else◌}
-use Rattle.std.specs.List.{list_any}
-use Rattle.std.proofs.lemmas.List.{map-append, length-map}
+use Rattle.std.proofs.Common.{◌≡◌, ℕ, zero, suc, ◌+◌, ◌==◌, Bool, true, false, cond, ◌&&◌, List, [], ◌∷◌, length, map, Option, Some, None, refl, sym, ap, ◌∙◌, arith}
+use Rattle.std.specs.Prelude.{slice_get, filter, is_none, is_some, option_map, option_and_then, nat_lt, if◌then◌else◌}
+use Rattle.std.proofs.lemmas.List.{length-map}
 use Rattle.std.proofs.lemmas.List.Elements.{filter_agree}
-use Rattle.first_places.specs.Places.{once_from, once, repeated_from, first_repeated, first_value}
+use Rattle.first_places.specs.Places.{once}
 use Rattle.board_files.specs.declared.chain_file.ChainLine.{ChainLine}
 use Rattle.board_files.specs.declared.net_file.NetLine.{NetLine}
 use Rattle.board_defs.specs.declared.device.Control.{Control}
@@ -18,70 +17,23 @@ use Rattle.board_defs.specs.declared.board.RawBoard.{RawBoard}
 use Rattle.board_defs.specs.declared.board.Drive.TheVariants.{OneSided, By}
 use Rattle.board_defs.specs.DeviceRules.{driving_entry}
 use Rattle.board_defs.specs.Pins.{drive_by, drive_where, entry_at, device_at, lets_switch}
-use Rattle.board_build.proofs.NameLemmas.{any-map}
-use Rattle.board_build.specs.declared.fault.BoardFault.{BoardFault}
-use Rattle.board_build.specs.declared.fault.BoardFault.TheVariants.{Limit, NoPin, PinTwice, GuardedDriver, TwoAlwaysOn}
-use Rattle.board_build.specs.declared.names.Naming.TheVariants.{Inert, Supply}
-use Rattle.board_build.specs.Faults.{◌then◌, unless}
-use Rattle.board_build.specs.Names.{named, names_of}
-use Rattle.board_build.specs.NetWords.{Pin, NetWord, net_of, pin_of, is_among, net_names, standing_words, pins_of_net}
-use Rattle.board_build.specs.ChainParts.{pin_places, place_of_pin, described_names}
-use Rattle.board_build.specs.LineRules.{pulls_of, pull_of_net}
+use Rattle.board_lines.specs.declared.fault.BoardFault.{BoardFault}
+use Rattle.board_lines.specs.declared.fault.BoardFault.TheVariants.{Limit, NoPin, PinTwice, GuardedDriver, TwoAlwaysOn}
+use Rattle.board_lines.specs.declared.names.Naming.TheVariants.{Inert, Supply}
+use Rattle.board_lines.specs.Faults.{◌then◌, unless}
+use Rattle.board_lines.specs.Names.{named, names_of}
+use Rattle.board_lines.specs.NetWords.{Pin, NetWord, net_of, pin_of, is_among, net_names, standing_words, pins_of_net}
+use Rattle.board_lines.specs.ChainParts.{pin_places, place_of_pin, described_names}
+use Rattle.board_lines.specs.LineRules.{pulls_of, pull_of_net}
 use Rattle.board_build.specs.BoardNets.{Marks, marks_of, net_pin, board_net, nets_from, board_nets, board_with}
 use Rattle.board_defs.specs.Decided.{is_always_on}
-use Rattle.board_build.specs.BoardRules.{data_limit, net_limit, pin_limit, have_same_pin, no_pin, pin_twice, drives_always, always_on as drivers_of, is_kept, guarded_driver, two_always_on, limit_fault, pin_fault, line_fault, driver_fault, board_fault, board_answer}
+use Rattle.board_build.specs.BoardRules.{data_limit, net_limit, pin_limit, no_pin, pin_twice, drives_always, always_on as drivers_of, is_kept, guarded_driver, two_always_on, limit_fault, pin_fault, driver_fault, board_fault, board_answer}
+use Rattle.board_lines.specs.NetWords.{have_same_pin}
+use Rattle.board_lines.specs.LineRules.{line_fault}
 use Rattle.board_build.specs.inner.Marked.{Marked, mark, is_free, is_free_bit, is_free_at, pin_with, group_of, number_of, place_of, net_with, nets_with, board_by, same_pins, marked_limit, marked_unknown, marked_twice, marked_pins, marked_guarded, marked_two, marked_drivers, file_fault, always_on, marked_fault, marked_answer}
+use Rattle.board_lines.proofs.MapLemmas.{filter-map, find-map, once-map, repeated-map}
 
 -- a question about each lent item
-pub map_seen : {A B C : Type 0} (f : A → C) (view : A → B) (g : B → C) → ((a : A) → f a ≡ g (view a)) → (xs : List A) → map f xs ≡ map g (map view xs)
-map_seen f view g same [] = refl
-map_seen {A} {B} {C} f view g same (x ∷ xs) = ap (λ (c : C). c ∷ map f xs) (same x) ∙ ap (λ (v : List C). g (view x) ∷ v) (map_seen f view g same xs)
-
-pub find-map : {A B C : Type 0} (f : A → B) (p : B → Bool) (h : B → C) (xs : List A) → option_map h (find p (map f xs)) ≡ option_map (λ x. h (f x)) (find (λ x. p (f x)) xs)
-find-map f p h [] = refl
-find-map f p h (x ∷ xs) = by_test (p (f x)) (find-map f p h xs)
-  where
-    by_test : (b : Bool) → option_map h (find p (map f xs)) ≡ option_map (λ x. h (f x)) (find (λ x. p (f x)) xs) → option_map h (cond b (Some (f x)) (find p (map f xs))) ≡ option_map (λ x. h (f x)) (cond b (Some x) (find (λ x. p (f x)) xs))
-    by_test true e = refl
-    by_test false e = e
-
-pub filter-map : {A B : Type 0} (f : A → B) (p : B → Bool) (xs : List A) → filter p (map f xs) ≡ map f (filter (λ x. p (f x)) xs)
-filter-map f p [] = refl
-filter-map {A} {B} f p (x ∷ xs) = by_test (p (f x)) (filter-map f p xs)
-  where
-    by_test : (b : Bool) → filter p (map f xs) ≡ map f (filter (λ x. p (f x)) xs) → cond b (f x ∷ filter p (map f xs)) (filter p (map f xs)) ≡ map f (cond b (x ∷ filter (λ x. p (f x)) xs) (filter (λ x. p (f x)) xs))
-    by_test true e = ap (λ (v : List B). f x ∷ v) e
-    by_test false e = e
-
-once_from-map : {A B : Type 0} (f : A → B) (eq : B → B → Bool) (seen xs : List A) → map f (once_from (λ a b. eq (f a) (f b)) seen xs) ≡ once_from eq (map f seen) (map f xs)
-once_from-map f eq seen [] = refl
-once_from-map {A} {B} f eq seen (x ∷ xs) =
-    by_test (list_any (λ s. eq (f s) (f x)) seen) (once_from-map f eq (seen ++ x ∷ []) xs ∙ ap (λ (v : List B). once_from eq v (map f xs)) (map-append f seen (x ∷ [])))
-    ∙ ap (λ b. cond b (once_from eq (map f seen ++ f x ∷ []) (map f xs)) (f x ∷ once_from eq (map f seen ++ f x ∷ []) (map f xs))) (any-map f (λ s. eq s (f x)) seen)
-  where
-    by_test : (b : Bool) → map f (once_from (λ a b. eq (f a) (f b)) (seen ++ x ∷ []) xs) ≡ once_from eq (map f seen ++ f x ∷ []) (map f xs) →
-        map f (cond b (once_from (λ a b. eq (f a) (f b)) (seen ++ x ∷ []) xs) (x ∷ once_from (λ a b. eq (f a) (f b)) (seen ++ x ∷ []) xs)) ≡ cond b (once_from eq (map f seen ++ f x ∷ []) (map f xs)) (f x ∷ once_from eq (map f seen ++ f x ∷ []) (map f xs))
-    by_test true e = e
-    by_test false e = ap (λ (v : List B). f x ∷ v) e
-
-pub once-map : {A B : Type 0} (f : A → B) (eq : B → B → Bool) (xs : List A) → map f (once (λ a b. eq (f a) (f b)) xs) ≡ once eq (map f xs)
-once-map f eq xs = once_from-map f eq [] xs
-
-repeated_from-map : {A B C : Type 0} (f : A → B) (eq : B → B → Bool) (h : B → C) (seen xs : List A) → option_map h (repeated_from eq (map f seen) (map f xs)) ≡ option_map (λ x. h (f x)) (repeated_from (λ a b. eq (f a) (f b)) seen xs)
-repeated_from-map f eq h seen [] = refl
-repeated_from-map {A} {B} {C} f eq h seen (x ∷ xs) =
-    ap (λ b. option_map h (cond b (Some (f x)) (repeated_from eq (map f seen ++ f x ∷ []) (map f xs)))) (sym (any-map f (λ s. eq s (f x)) seen))
-    ∙ by_test (list_any (λ s. eq (f s) (f x)) seen) (ap (λ (v : List B). option_map h (repeated_from eq v (map f xs))) (sym (map-append f seen (x ∷ []))) ∙ repeated_from-map f eq h (seen ++ x ∷ []) xs)
-  where
-    by_test : (b : Bool) → option_map h (repeated_from eq (map f seen ++ f x ∷ []) (map f xs)) ≡ option_map (λ x. h (f x)) (repeated_from (λ a b. eq (f a) (f b)) (seen ++ x ∷ []) xs) →
-        option_map h (cond b (Some (f x)) (repeated_from eq (map f seen ++ f x ∷ []) (map f xs))) ≡ option_map (λ x. h (f x)) (cond b (Some x) (repeated_from (λ a b. eq (f a) (f b)) (seen ++ x ∷ []) xs))
-    by_test true e = refl
-    by_test false e = e
-
-pub repeated-map : {A B C : Type 0} (f : A → B) (eq : B → B → Bool) (h : B → C) (xs : List A) → option_map h (first_repeated eq (map f xs)) ≡ option_map (λ x. h (f x)) (first_repeated (λ a b. eq (f a) (f b)) xs)
-repeated-map f eq h xs = repeated_from-map f eq h [] xs
-
--- how a driver drives is known of its entry alone, as far as it is always on
 free_drive : (board : RawBoard) (net : Net) (part : ℕ) (cell : Cell) (o : Option Control) → is_always_on (Some (drive_by board net part cell o)) ≡ is_none o
 free_drive board net part cell None = refl
 free_drive board net part cell (Some control) = by_tests (control.cell == cell.num) (lets_switch board net control.disable)
@@ -210,11 +162,3 @@ unfolding marked_answer board_answer
 answer_same chain nets parts =
     ap (λ fault. unless fault (board_by chain parts (net_names nets) (map (mark parts (pin_places parts) (names_of (named Inert chain))) (standing_words nets)))) (fault_same chain nets parts)
     ∙ ap (unless (board_fault chain nets parts)) (board_same chain parts (net_names nets) (standing_words nets))
-
--- the value of a lent key
-pub value_lent : {A K V : Type 0} (view : A → K) (eq : K → K → Bool) (items : List (A × V)) (q : A) → first_value (λ a b. eq (view a) (view b)) items q ≡ first_value eq (map (λ (i : A × V). (view i.0, i.1)) items) (view q)
-value_lent {A} {K} {V} view eq items q = sym (find-map (λ (i : A × V). let p : K × V = (view i.0, i.1) in p) (λ (p : K × V). eq p.0 (view q)) (λ (p : K × V). p.1) items)
-
-pub map-map : {A B C : Type 0} (f : A → B) (g : B → C) (xs : List A) → map g (map f xs) ≡ map (λ x. g (f x)) xs
-map-map f g [] = refl
-map-map {A} {B} {C} f g (x ∷ xs) = ap (λ (v : List C). g (f x) ∷ v) (map-map f g xs)

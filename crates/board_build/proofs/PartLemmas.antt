@@ -1,12 +1,10 @@
 -- The parts of a chain, and where their pins are.
-use Rattle.std.proofs.Common.{◌≡◌, ◌≢◌, ℕ, suc, ◌+◌, ◌<◌, get_or, append_assoc, Bool, true, false, cond, ◌&&◌, List, [], ◌∷◌, ◌++◌, length, map, drop, Option, Some, None, refl, sym, ap, subst, ◌∙◌, arith, ◌⊎◌, inl, inr}
-use Rattle.std.specs.Prelude.{slice_get, find, is_some, is_none, option_map, All, IfSome}
-use Rattle.std.specs.Option.{option_to_list}
-use Rattle.std.proofs.lemmas.List.{drop_more, append-nil}
+use Rattle.std.proofs.Common.{◌≡◌, ◌≢◌, ℕ, suc, ◌+◌, Bool, true, false, cond, ◌&&◌, List, [], ◌∷◌, length, map, Option, Some, None, refl, sym, ap, subst, ◌∙◌, arith, ◌⊎◌, inl, inr}
+use Rattle.std.specs.Prelude.{slice_get, find, is_some, is_none, option_map}
 use Rattle.std.specs.List.{AllByRecursion, position_from, cons_option}
 use Rattle.std.specs.Cmp.Lexicographic.{same_text, other_text}
 use Rattle.std.proofs.lemmas.Bool.{and_parts}
-use Rattle.std.proofs.lemmas.List.Elements.{All-from_recursion, All-push}
+use Rattle.std.proofs.lemmas.List.Elements.{All-from_recursion}
 use Rattle.board_files.specs.declared.chain_file.ChainLine.{ChainLine}
 use Rattle.board_files.specs.declared.chain_file.ChainStatement.{ChainStatement}
 use Rattle.board_files.specs.declared.chain_file.ChainStatement.TheVariants.{Device, Bypass as BypassLine, Inert as InertLine, Supply as SupplyLine, Pull as PullLine, Link}
@@ -20,11 +18,11 @@ use Rattle.board_defs.specs.declared.board.RawBoard.{RawBoard}
 use Rattle.board_defs.specs.Pins.{described}
 use Rattle.board_defs.specs.BoardRules.{IsPlaced, IsPlacedAt}
 use Rattle.board_defs.proofs.Members.{Has, has_append, find_has}
-use Rattle.board_build.specs.declared.names.Naming.TheVariants.{Part as PartName, Entity as EntityName}
+use Rattle.board_lines.specs.declared.names.Naming.TheVariants.{Part as PartName, Entity as EntityName}
 use Rattle.board_files.specs.Names.{same_word}
-use Rattle.board_build.specs.Names.{named, names_of, with_name, part_of, entity_of}
-use Rattle.board_build.specs.NetWords.{Pin, same_pin, is_among}
-use Rattle.board_build.specs.ChainParts.{PinPlace, chain_parts, part_of_line, devices_after, bit_places, with_place, part_places, places_from, pin_places, place_of_pin, name_in, described_names}
+use Rattle.board_lines.specs.Names.{named, names_of, with_name, part_of, entity_of}
+use Rattle.board_lines.specs.NetWords.{Pin, same_pin, is_among}
+use Rattle.board_lines.specs.ChainParts.{PinPlace, chain_parts, part_of_line, devices_after, bit_places, with_place, part_places, places_from, pin_places, place_of_pin, name_in, described_names}
 use Rattle.board_build.specs.BoardNets.{Marks, net_pin}
 use Rattle.board_build.specs.BoardRules.{is_unknown}
 
@@ -183,23 +181,3 @@ placed_where board marks pin (Some at) same e h = by_found (find (λ i. same_pin
 -- a pin that is not unknown is placed
 pub placed : (board : RawBoard) (marks : Marks) (pin : Pin) → marks.places ≡ pin_places board.chain → is_unknown (described_names board.chain) marks.places pin ≡ false → IsPlaced board (net_pin marks pin) (place_of_pin marks.places pin)
 placed board marks pin same h = placed_where board marks pin (place_of_pin marks.places pin) same refl h
-
-cons_to : {A : Type 0} (o : Option A) (xs : List A) → cons_option o xs ≡ option_to_list o ++ xs
-cons_to None xs = refl
-cons_to (Some x) xs = refl
-
--- the parts so far, one line on
-pub parts_step : (lines : List ChainLine) (i : ℕ) (line : ChainLine) (devices rest : List RawDevice) (o : Option Part) (parts new all : List Part) → i < length lines → get_or lines i line ≡ line →
-    o ≡ part_of_line line.statement devices → rest ≡ devices_after line.statement devices → new ≡ parts ++ option_to_list o → all ≡ parts ++ chain_parts (drop i lines) devices → all ≡ new ++ chain_parts (drop (i + 1) lines) rest
-parts_step lines i line devices rest o parts new all within read eo er en same =
-    let cut : drop i lines ≡ line ∷ drop (i + 1) lines = drop_more lines i line within ∙ ap (λ (v : ChainLine). v ∷ drop (i + 1) lines) read in
-    same ∙ ap (λ (v : List ChainLine). parts ++ chain_parts v devices) cut
-    ∙ ap (λ (v : List Part). parts ++ v) (cons_to (part_of_line line.statement devices) (chain_parts (drop (i + 1) lines) (devices_after line.statement devices)))
-    ∙ sym (append_assoc parts (option_to_list (part_of_line line.statement devices)) (chain_parts (drop (i + 1) lines) (devices_after line.statement devices)))
-    ∙ ap (λ (v : Option Part). (parts ++ option_to_list v) ++ chain_parts (drop (i + 1) lines) (devices_after line.statement devices)) (sym eo)
-    ∙ ap (λ (v : List Part). v ++ chain_parts (drop (i + 1) lines) (devices_after line.statement devices)) (sym en)
-    ∙ ap (λ (v : List RawDevice). new ++ chain_parts (drop (i + 1) lines) v) (sym er)
-
-pub all_option : {A : Type 0} (P : A → Type 0) (xs : List A) (o : Option A) → All P xs → IfSome o P → All P (xs ++ option_to_list o)
-all_option {A} P xs None h k = subst (All P) (sym (append-nil xs)) h
-all_option P xs (Some x) h k = All-push P xs x h k

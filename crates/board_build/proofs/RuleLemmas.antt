@@ -1,5 +1,5 @@
 -- What is known where a rule finds no fault.
-use Rattle.std.proofs.Common.{◌≡◌, ◌≢◌, ℕ, ◌+◌, ◌<◌, ◌≤◌, ◌==◌, Bool, true, false, cond, List, [], ◌∷◌, length, get_or, Option, Some, None, refl, sym, ap, subst, ◌∙◌, arith, ◌⊎◌, inl, inr, nat_lt}
+use Rattle.std.proofs.Common.{◌≡◌, ◌≢◌, ℕ, ◌+◌, ◌<◌, ◌≤◌, ◌==◌, Bool, true, false, cond, List, [], ◌∷◌, length, get_or, Option, Some, None, refl, sym, ap, subst, ◌∙◌, ◌⊎◌, inl, inr}
 use Rattle.std.specs.Prelude.{slice_get, find, sum_by, is_some, position, option_map, option_and_then}
 use Rattle.std.specs.List.{AllByRecursion, position_from}
 use Rattle.std.specs.Cmp.Lexicographic.{same_text}
@@ -15,34 +15,25 @@ use Rattle.board_defs.specs.declared.board.Part.{Part}
 use Rattle.board_defs.specs.declared.board.RawBoard.{RawBoard}
 use Rattle.board_defs.specs.declared.spot.Spot.{Spot}
 use Rattle.board_defs.specs.Pins.{data_length}
-use Rattle.board_build.specs.declared.fault.BoardFault.{BoardFault}
-use Rattle.board_build.specs.declared.fault.BoardFault.TheVariants.{Limit, InertInChain}
-use Rattle.board_build.specs.declared.names.Naming.TheVariants.{Part as PartName, Inert}
-use Rattle.board_build.specs.Faults.{◌then◌}
+use Rattle.board_lines.specs.declared.fault.BoardFault.{BoardFault}
+use Rattle.board_lines.specs.declared.fault.BoardFault.TheVariants.{Limit, InertInChain}
+use Rattle.board_lines.specs.declared.names.Naming.TheVariants.{Part as PartName, Inert}
 use Rattle.board_files.specs.Names.{same_word}
-use Rattle.board_build.specs.Names.{Named, named, names_of}
-use Rattle.board_build.specs.NetWords.{NetWord, net_of, pin_of, is_among}
-use Rattle.board_build.specs.Selection.{spot_at}
-use Rattle.board_build.specs.ChainParts.{pin_places, described_names}
-use Rattle.board_build.specs.LineRules.{places_of, inert_in_chain}
-use Rattle.board_build.specs.BoardRules.{data_limit, net_limit, pin_limit, have_same_pin, is_unknown, no_pin, pin_twice, is_kept, guarded_driver, two_always_on, limit_fault, pin_fault, line_fault, driver_fault}
-use Rattle.board_build.proofs.ApartLemmas.{Apart, unrepeated_apart}
+use Rattle.board_lines.specs.Names.{Named, named, names_of}
+use Rattle.board_lines.specs.NetWords.{NetWord, net_of, pin_of, is_among}
+use Rattle.board_lines.specs.Selection.{spot_at}
+use Rattle.board_lines.specs.ChainParts.{pin_places, described_names}
+use Rattle.board_lines.specs.LineRules.{places_of, inert_in_chain}
+use Rattle.board_build.specs.BoardRules.{data_limit, net_limit, pin_limit, is_unknown, no_pin, pin_twice, is_kept, guarded_driver, two_always_on, limit_fault, pin_fault, driver_fault}
+use Rattle.board_lines.specs.NetWords.{have_same_pin}
+use Rattle.board_lines.specs.LineRules.{line_fault}
+use Rattle.board_lines.proofs.ApartLemmas.{Apart, unrepeated_apart}
 use Rattle.board_build.proofs.PartLemmas.{not_among}
-
-pub then_none : {F : Type 0} (a b : Option F) → (a then b) ≡ None → (a ≡ None) × (b ≡ None)
-then_none None b e = (refl, e)
-then_none (Some f) b e = cc e
+use Rattle.board_lines.proofs.FaultLemmas.{limit_kept, then_none}
 
 map_none : {A B : Type 0} (f : A → B) (o : Option A) → option_map f o ≡ None → o ≡ None
 map_none f None e = refl
 map_none f (Some a) e = cc e
-
-pub limit_kept : (k n : ℕ) (fault : BoardFault) → cond (nat_lt k n) (Some fault) None ≡ None → n ≤ k
-limit_kept k n fault h = by_test (nat_lt k n) refl h
-  where
-    by_test : (b : Bool) → nat_lt k n ≡ b → cond b (Some fault) None ≡ None → n ≤ k
-    by_test true e f = cc f
-    by_test false e f = grind arith
 
 -- the first fault of the limits
 pub record LimitsKept (parts : List Part) (names : List (List ℕ)) (words : List NetWord) : Type 0 where

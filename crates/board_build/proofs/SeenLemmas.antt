@@ -6,19 +6,16 @@ use Rattle.first_places.specs.Places.{once, first_repeated}
 use Rattle.board_defs.specs.declared.spot.Spot.{Spot}
 use Rattle.board_defs.specs.declared.board.Net.{Net}
 use Rattle.board_defs.specs.declared.board.RawBoard.{RawBoard}
-use Rattle.board_build.specs.declared.fault.BoardFault.TheVariants.{NoPin, PinTwice, GuardedDriver, TwoAlwaysOn}
+use Rattle.board_lines.specs.declared.fault.BoardFault.TheVariants.{NoPin, PinTwice, GuardedDriver, TwoAlwaysOn}
 use Rattle.board_build.specs.declared.marked.MarkedWord.{MarkedWord}
-use Rattle.board_build.specs.NetWords.{lent_pin, same_pin}
 use Rattle.board_build.specs.BoardRules.{is_kept}
 use Rattle.board_build.specs.inner.Marked.{Marked, seen, same_pins, place_of, number_of, marked_unknown, marked_twice, marked_guarded, marked_two}
-use Rattle.board_build.proofs.MarkLemmas.{find-map, once-map, repeated-map}
+use Rattle.board_lines.proofs.MapLemmas.{find-map, once-map, repeated-map}
+use Rattle.board_lines.proofs.DifferLemmas.{same_lent}
 
 -- a word by its pin
 abbrev pub by_pin : MarkedWord → (Bor (List ℕ) × Bor (List ℕ)) × Spot
 by_pin w = ((w.part, w.pin), w.spot)
-
-abbrev pub same_lent : (Bor (List ℕ) × Bor (List ℕ)) × Spot → (Bor (List ℕ) × Bor (List ℕ)) × Spot → Bool
-same_lent a b = same_pin (lent_pin a.0) (lent_pin b.0)
 
 pub pins_counted : (words : List MarkedWord) → length (once same_lent (map by_pin words)) ≡ length (once same_pins (map seen words))
 pins_counted words =

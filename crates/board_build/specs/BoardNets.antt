@@ -7,11 +7,11 @@ use Rattle.board_defs.specs.declared.board.Part.{Part}
 use Rattle.board_defs.specs.declared.board.NetPin.{NetPin}
 use Rattle.board_defs.specs.declared.board.Net.{Net}
 use Rattle.board_defs.specs.declared.board.RawBoard.{RawBoard}
-use Rattle.board_build.specs.declared.names.Naming.TheVariants.{Inert, Supply}
-use Rattle.board_build.specs.Names.{named, names_of}
-use Rattle.board_build.specs.NetWords.{Pin, NetWord, is_among, net_names, standing_words, pins_of_net}
-use Rattle.board_build.specs.ChainParts.{PinPlace, chain_parts, pin_places, place_of_pin}
-use Rattle.board_build.specs.LineRules.{Pulled, pulls_of, pull_of_net}
+use Rattle.board_lines.specs.declared.names.Naming.TheVariants.{Inert, Supply}
+use Rattle.board_lines.specs.Names.{named, names_of}
+use Rattle.board_lines.specs.NetWords.{Pin, NetWord, is_among, net_names, standing_words, pins_of_net}
+use Rattle.board_lines.specs.ChainParts.{PinPlace, chain_parts, pin_places, place_of_pin}
+use Rattle.board_lines.specs.LineRules.{Pulled, pulls_of, pull_of_net}
 
 -- what the nets of a board are made from: the places of the described parts' pins, and what the INERT, SUPPLY and PULL lines name
 pub record Marks : Type 0 where

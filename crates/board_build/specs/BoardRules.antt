@@ -10,14 +10,12 @@ use Rattle.board_defs.specs.declared.board.Net.{Net}
 use Rattle.board_defs.specs.declared.board.RawBoard.{RawBoard}
 use Rattle.board_defs.specs.Pins.{data_length, drive, is_test_pin}
 use Rattle.board_defs.specs.Decided.{is_always_on}
-use Rattle.board_build.specs.declared.fault.BoardFault.{BoardFault}
-use Rattle.board_build.specs.declared.fault.BoardFault.TheVariants.{Limit, NoPin, PinTwice, GuardedDriver, TwoAlwaysOn}
-use Rattle.board_build.specs.declared.names.Naming.TheVariants.{Part as PartName, Inert, Supply, Pull}
-use Rattle.board_build.specs.Faults.{◌then◌, unless}
-use Rattle.board_build.specs.Names.{named, names_of}
-use Rattle.board_build.specs.NetWords.{Pin, NetWord, same_pin, net_of, pin_of, spot_of, is_among, net_names, standing_words}
-use Rattle.board_build.specs.ChainParts.{PinPlace, chain_parts, pin_places, place_of_pin, described_names}
-use Rattle.board_build.specs.LineRules.{inert_in_chain, no_supply_net, no_pull_net, pull_twice}
+use Rattle.board_lines.specs.declared.fault.BoardFault.{BoardFault}
+use Rattle.board_lines.specs.declared.fault.BoardFault.TheVariants.{Limit, NoPin, PinTwice, GuardedDriver, TwoAlwaysOn}
+use Rattle.board_lines.specs.Faults.{◌then◌, unless}
+use Rattle.board_lines.specs.NetWords.{Pin, NetWord, net_of, pin_of, spot_of, have_same_pin, is_among, net_names, standing_words}
+use Rattle.board_lines.specs.ChainParts.{PinPlace, chain_parts, pin_places, place_of_pin, described_names}
+use Rattle.board_lines.specs.LineRules.{line_fault}
 use Rattle.board_build.specs.BoardNets.{Marks, marks_of, net_pin, board_with}
 
 -- at most 65,535 bits in a data scan: the boundary cells of the described parts, and one for each other part
@@ -27,10 +25,6 @@ data_limit parts = if nat_lt 65535 (sum_by (λ part. data_length part.kind) part
 -- at most 16,382 nets
 unfoldable pub net_limit : List (List ℕ) → Option BoardFault
 net_limit names = if nat_lt 16382 (length names) then Some (Limit 3) else None
-
--- the pins of two words are the same
-abbrev pub have_same_pin : NetWord → NetWord → Bool
-have_same_pin a b = same_pin (pin_of a) (pin_of b)
 
 -- at most 65,535 different pins in nets
 unfoldable pub pin_limit : List NetWord → Option BoardFault
@@ -77,11 +71,6 @@ limit_fault parts names words = data_limit parts then net_limit names then pin_l
 -- the rules on the pins of the net file
 unfoldable pub pin_fault : List Part → List NetWord → Option BoardFault
 pin_fault parts words = no_pin (described_names parts) (pin_places parts) words then pin_twice words
-
--- the rules on INERT, SUPPLY and PULL lines
-unfoldable pub line_fault : List ChainLine → List (List ℕ) → Option BoardFault
-line_fault chain names =
-    inert_in_chain (named Inert chain) (names_of (named PartName chain)) then no_supply_net (named Supply chain) names then no_pull_net (named Pull chain) names then pull_twice (named Pull chain)
 
 -- the rules on always-on drivers
 unfoldable pub driver_fault : RawBoard → List NetWord → Option BoardFault

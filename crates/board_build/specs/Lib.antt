@@ -1,9 +1,3 @@
-pub mod Faults
-pub mod Names
-pub mod Selection
-pub mod NetWords
-pub mod ChainParts
-pub mod LineRules
 pub mod BoardNets
 pub mod BoardRules
 pub mod inner

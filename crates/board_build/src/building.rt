@@ -4,22 +4,20 @@ ghost use Rattle.std.specs.List.{AllByRecursion};
 ghost use Rattle.board_files.specs.ChainLines.{HasLength};
 ghost use Rattle.board_defs.specs.BoardRules.{IsBoard, IsPart};
 ghost use Rattle.answers.specs.Gives.{Gives};
-ghost use Rattle.board_build.specs.Faults.{board_told};
-ghost use Rattle.board_build.specs.Names.{named, names_of};
-ghost use Rattle.board_build.specs.declared.names.Naming.TheVariants.{Entity, Part as PartName};
-ghost use Rattle.board_build.specs.NetWords.{HasFewPins};
-ghost use Rattle.board_build.specs.ChainParts.{IsChain, chain_parts};
+ghost use Rattle.board_lines.specs.Faults.{board_told};
+ghost use Rattle.board_lines.specs.Names.{named, names_of};
+ghost use Rattle.board_lines.specs.declared.names.Naming.TheVariants.{Entity, Part as PartName};
+ghost use Rattle.board_lines.specs.NetWords.{HasFewPins};
+ghost use Rattle.board_lines.specs.ChainParts.{IsChain, chain_parts};
 ghost use Rattle.board_build.specs.BoardRules.{board_answer, board_of};
 ghost use Rattle.board_build.specs.inner.Marked.{board_by, marked_answer, marked_fault, marked_twice, seen};
 
-use crate::fault::BoardFault;
 use crate::marked::{MarkedWord, marked_words};
 use crate::nets::board_by;
-use crate::parts::chain_parts;
 use crate::rules::{driver_fault, file_fault};
-use crate::words::{net_names, standing_words};
 use board_defs::{Board, Device, Part};
 use board_files::{ChainFile, ChainLine, NetFile, NetLine};
+use board_lines::{BoardFault, chain_parts, net_names, standing_words};
 use std::alloc::{AllocError, Global};
 
 /// The board that the files and the devices denote, with a device for each DEVICE line, in order.
@@ -85,7 +83,7 @@ fn board_of(
     answer(alloc, chain, parts, &net.names, &marked, standing.differ)
 }
 
-#[tactic(auto, using(crate::proofs::FaultLemmas::told_as), unfolding(crate::specs::inner::Marked::marked_answer, crate::specs::inner::Marked::marked_fault))]
+#[tactic(auto, using(board_lines::proofs::FaultLemmas::told_as), unfolding(crate::specs::inner::Marked::marked_answer, crate::specs::inner::Marked::marked_fault))]
 fn answer(
     alloc: Global,
     chain: &[ChainLine],

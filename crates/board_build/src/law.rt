@@ -9,11 +9,11 @@ ghost use Rattle.board_files.specs.ChainLines.{HasLength};
 ghost use Rattle.board_files.specs.declared.net_file.NetLine.{NetLine};
 ghost use Rattle.board_files.specs.declared.chain_file.ChainLine.{ChainLine};
 ghost use Rattle.bsdl_parser.specs.declared.entity.Entity.{Entity};
-ghost use Rattle.board_build.specs.declared.names.Naming.TheVariants.{Entity as EntityName};
+ghost use Rattle.board_lines.specs.declared.names.Naming.TheVariants.{Entity as EntityName};
 ghost use Rattle.board_build.specs.BoardRules.{board_of};
-ghost use Rattle.board_build.specs.ChainParts.{IsChain};
-ghost use Rattle.board_build.specs.Names.{named};
-ghost use Rattle.board_build.specs.Selection.{selection};
+ghost use Rattle.board_lines.specs.ChainParts.{IsChain};
+ghost use Rattle.board_lines.specs.Names.{named};
+ghost use Rattle.board_lines.specs.Selection.{selection};
 
 /// What DEVICE lines select among entities are numbers of these entities.
 pub fn selected_are_entities()

@@ -2,19 +2,19 @@
 ghost use Rattle.std.specs.Prelude.{◌≡◌, ◌<◌, ◌≤◌, ◌^◌, vec_len, length, map, IfOk, OnOk, is_none, is_some, option_copied, slice_get};
 ghost use Rattle.indexmap.specs.IndexMap.{get_by};
 ghost use Rattle.board_files.specs.Names.{same_word};
-ghost use Rattle.board_build.specs.Names.{named, names_of};
-ghost use Rattle.board_build.specs.declared.names.Naming.TheVariants.{Inert};
-ghost use Rattle.board_build.specs.NetWords.{lent_pin, lent_word, same_pin};
-ghost use Rattle.board_build.specs.ChainParts.{pin_places};
+ghost use Rattle.board_lines.specs.Names.{named, names_of};
+ghost use Rattle.board_lines.specs.declared.names.Naming.TheVariants.{Inert};
+ghost use Rattle.board_lines.specs.NetWords.{lent_pin, lent_word, same_pin};
+ghost use Rattle.board_lines.specs.ChainParts.{pin_places};
 ghost use Rattle.board_build.specs.inner.Marked.{is_free_at, mark, mark_by, marks_after, seen};
 
 use crate::drivers::{PartDrivers, drivers_of, is_free_at};
-use crate::line_rules::names_in;
-use crate::names::{Naming, first_places_of, place_of};
-use crate::parts::{described_names, pin_places, places_by_pin};
-use crate::words::{NetWord, PinName};
 use board_defs::{Part, PinAt, Spot};
 use board_files::ChainLine;
+use board_lines::{
+    Naming, NetWord, PinName, described_names, first_places_of, names_in, pin_places, place_of,
+    places_by_pin,
+};
 use indexmap::IndexMap;
 use std::alloc::{AllocError, Global};
 

@@ -3,17 +3,15 @@ ghost use Rattle.std.specs.Prelude.{◌≡◌, ◌<◌, ◌≤◌, ◌^◌, ◌=
 ghost use Rattle.std.specs.List.{list_any};
 ghost use Rattle.first_places.specs.Places.{first_repeated, once};
 ghost use Rattle.board_defs.specs.Pins.{data_length, is_test_pin};
-ghost use Rattle.board_build.specs.declared.fault.BoardFault.TheVariants.{Limit, NoPin, PinTwice, GuardedDriver, TwoAlwaysOn};
-ghost use Rattle.board_build.specs.NetWords.{lent_pin, same_pin};
+ghost use Rattle.board_lines.specs.declared.fault.BoardFault.TheVariants.{Limit, NoPin, PinTwice, GuardedDriver, TwoAlwaysOn};
+ghost use Rattle.board_lines.specs.NetWords.{lent_pin, same_pin};
 ghost use Rattle.board_build.specs.BoardRules.{data_limit, net_limit, is_kept};
 ghost use Rattle.board_build.specs.inner.Marked.{always_on, file_fault, marked_drivers, marked_guarded, marked_limit, marked_pins, marked_twice, marked_two, marked_unknown, seen};
 
-use crate::fault::BoardFault;
-use crate::line_rules::line_fault;
 use crate::marked::MarkedWord;
-use crate::words::PinName;
 use board_defs::{Net, NetPin, Part, RawBoard, Spot};
 use board_files::ChainLine;
+use board_lines::{BoardFault, PinName, line_fault};
 use first_places::{first_repeated, once_by};
 use lists::is_set;
 use std::alloc::{AllocError, Global};

@@ -5,8 +5,8 @@ use Rattle.std.proofs.lemmas.Slice.Zip.{length-zip}
 use Rattle.board_files.specs.declared.chain_file.ChainLine.{ChainLine}
 use Rattle.board_files.specs.declared.chain_file.ChainStatement.{ChainStatement}
 use Rattle.board_files.specs.declared.chain_file.ChainStatement.TheVariants.{Device as DeviceLine, Bypass, Inert, Supply, Pull, Link}
-use Rattle.board_build.specs.Names.{named}
-use Rattle.board_build.specs.declared.names.Naming.TheVariants.{Entity as EntityName}
+use Rattle.board_lines.specs.Names.{named}
+use Rattle.board_lines.specs.declared.names.Naming.TheVariants.{Entity as EntityName}
 use Rattle.std.proofs.Math.Seq.{drop-cons}
 use Rattle.std.proofs.lemmas.List.{drop_all, length-map}
 use Rattle.std.proofs.lemmas.Option.{slice_get-get_or, slice_get-map, none-some}

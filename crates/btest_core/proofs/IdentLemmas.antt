@@ -9,9 +9,9 @@ use Rattle.board_defs.specs.DeviceRules.{IsDevice}
 use Rattle.board_files.specs.declared.chain_file.ChainLine.{ChainLine}
 use Rattle.board_files.specs.declared.chain_file.ChainStatement.{ChainStatement}
 use Rattle.board_files.specs.declared.chain_file.ChainStatement.TheVariants.{Device, Bypass, Inert, Supply, Pull, Link}
-use Rattle.board_build.specs.ChainParts.{IsChain}
-use Rattle.board_build.specs.Names.{named}
-use Rattle.board_build.specs.declared.names.Naming.TheVariants.{Part as PartName, Entity as EntityName}
+use Rattle.board_lines.specs.ChainParts.{IsChain}
+use Rattle.board_lines.specs.Names.{named}
+use Rattle.board_lines.specs.declared.names.Naming.TheVariants.{Part as PartName, Entity as EntityName}
 use Rattle.btest_core.specs.IdentsRead.{Ident, first_bypass}
 
 -- without a BYPASS line, each part of the chain is that of a DEVICE line

@@ -8,10 +8,10 @@ use Rattle.board_files.specs.declared.chain_file.ChainStatement.{ChainStatement}
 use Rattle.board_files.specs.declared.chain_file.ChainStatement.TheVariants.{Device, Bypass, Inert, Supply, Pull, Link}
 use Rattle.board_files.specs.declared.net_file.NetLine.{NetLine}
 use Rattle.board_files.specs.ChainLines.{HasLength}
-use Rattle.board_build.specs.ChainParts.{IsChain}
-use Rattle.board_build.specs.Names.{named}
-use Rattle.board_build.specs.NetWords.{HasFewPins}
-use Rattle.board_build.specs.declared.names.Naming.TheVariants.{Part as PartName, Entity as EntityName}
+use Rattle.board_lines.specs.ChainParts.{IsChain}
+use Rattle.board_lines.specs.Names.{named}
+use Rattle.board_lines.specs.NetWords.{HasFewPins}
+use Rattle.board_lines.specs.declared.names.Naming.TheVariants.{Part as PartName, Entity as EntityName}
 use Rattle.series_parts.specs.declared.joining.Joined.{Joined}
 use Rattle.btest_core.specs.inner.Kept.{Kept}
 use Rattle.series_parts.specs.Nets.{Word}

@@ -9,9 +9,9 @@ use Rattle.board_defs.specs.declared.board.PartKind.TheVariants.{Described, Bypa
 use Rattle.board_defs.specs.BoardRules.{IsPart}
 use Rattle.board_defs.specs.Pins.{instruction_length}
 use Rattle.board_files.specs.declared.chain_file.ChainLine.{ChainLine}
-use Rattle.board_build.specs.ChainParts.{IsChain}
-use Rattle.board_build.specs.Names.{Named, named, names_of}
-use Rattle.board_build.specs.declared.names.Naming.TheVariants.{Part as PartName}
+use Rattle.board_lines.specs.ChainParts.{IsChain}
+use Rattle.board_lines.specs.Names.{Named, named, names_of}
+use Rattle.board_lines.specs.declared.names.Naming.TheVariants.{Part as PartName}
 use Rattle.btest_core.specs.BoardRead.{AreLengths}
 
 abbrev InBounds : ℕ → Type 0

@@ -12,10 +12,10 @@ use Rattle.board_files.specs.declared.net_file.NetLine.{NetLine}
 use Rattle.board_files.specs.ChainLines.{HasLength, chain_lines}
 use Rattle.board_files.specs.NetLines.{net_lines}
 use Rattle.board_build.specs.BoardRules.{board_of}
-use Rattle.board_build.specs.ChainParts.{IsChain}
-use Rattle.board_build.specs.Names.{named}
-use Rattle.board_build.specs.declared.names.Naming.TheVariants.{Entity as EntityName}
-use Rattle.board_build.specs.Selection.{selection}
+use Rattle.board_lines.specs.ChainParts.{IsChain}
+use Rattle.board_lines.specs.Names.{named}
+use Rattle.board_lines.specs.declared.names.Naming.TheVariants.{Entity as EntityName}
+use Rattle.board_lines.specs.Selection.{selection}
 use Rattle.bsdl_parser.specs.declared.entity.Entity.{Entity}
 use Rattle.device_check.specs.SoundDevice.{IsSound}
 use Rattle.series_parts.specs.declared.fault.LinkFault.{LinkFault}

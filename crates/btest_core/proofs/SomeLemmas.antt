@@ -14,8 +14,8 @@ use Rattle.board_defs.specs.declared.device.RawDevice.{RawDevice}
 use Rattle.device_check.specs.declared.fault.DeviceFault.{DeviceFault}
 use Rattle.device_check.specs.SoundDevice as check
 use Rattle.board_files.specs.declared.chain_file.ChainLine.{ChainLine}
-use Rattle.board_build.specs.declared.fault.BoardFault.{BoardFault}
-use Rattle.board_build.specs.Selection.{selection}
+use Rattle.board_lines.specs.declared.fault.BoardFault.{BoardFault}
+use Rattle.board_lines.specs.Selection.{selection}
 use Rattle.btest_core.specs.declared.fault.InputFault.{InputFault}
 use Rattle.btest_core.specs.declared.fault.InputFault.TheVariants.{Lex, Parse, Device}
 use Rattle.btest_core.specs.Answers.{Follows, Is, EachOf}

@@ -8,7 +8,7 @@ use Rattle.board_files.specs.declared.chain_file.ChainLine.{ChainLine}
 use Rattle.board_files.specs.declared.net_file.NetLine.{NetLine}
 use Rattle.board_files.specs.ChainLines.{chain_lines}
 use Rattle.board_files.specs.NetLines.{net_lines}
-use Rattle.board_build.specs.ChainParts.{chain_parts}
+use Rattle.board_lines.specs.ChainParts.{chain_parts}
 use Rattle.board_build.specs.BoardRules.{board_of}
 use Rattle.series_parts.specs.Joining.{joined_files}
 use Rattle.btest_core.specs.declared.fault.InputFault.{InputFault}

@@ -5,7 +5,7 @@ use Rattle.board_defs.specs.declared.device.RawDevice.{RawDevice}
 use Rattle.board_files.specs.declared.chain_file.ChainLine.{ChainLine}
 use Rattle.board_files.specs.declared.chain_file.ChainStatement.{ChainStatement}
 use Rattle.board_files.specs.declared.chain_file.ChainStatement.TheVariants.{Device as DeviceLine, Bypass, Inert, Supply, Pull, Link as LinkLine}
-use Rattle.board_build.specs.Selection.{selection}
+use Rattle.board_lines.specs.Selection.{selection}
 use Rattle.bsdl_parser.specs.declared.entity.Entity.{Entity}
 use Rattle.device_check.specs.SoundDevice.{IsSound, IsFirst}
 use Rattle.btest_core.specs.declared.fault.InputFault.{InputFault}

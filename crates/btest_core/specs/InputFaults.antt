@@ -2,8 +2,8 @@
 use Rattle.std.specs.Prelude.{Result, Ok, Err}
 use Rattle.board_files.specs.declared.fault.LineFault.{LineFault}
 use Rattle.board_files.specs.declared.fault.LineFault.TheVariants as line
-use Rattle.board_build.specs.declared.fault.BoardFault.{BoardFault}
-use Rattle.board_build.specs.declared.fault.BoardFault.TheVariants as board
+use Rattle.board_lines.specs.declared.fault.BoardFault.{BoardFault}
+use Rattle.board_lines.specs.declared.fault.BoardFault.TheVariants as board
 use Rattle.series_parts.specs.declared.fault.LinkFault.{LinkFault}
 use Rattle.series_parts.specs.declared.fault.LinkFault.TheVariants as link
 use Rattle.btest_core.specs.declared.fault.InputFault.{InputFault}

@@ -3,9 +3,9 @@ ghost use Rattle.std.specs.Prelude.{◌≡◌, ◌<◌, ◌≤◌, ◌^◌, All,
 ghost use Rattle.std.specs.List.{AllByRecursion};
 ghost use Rattle.board_defs.specs.Pins.{instruction_length};
 ghost use Rattle.board_files.specs.ChainLines.{chain_lines, HasLength};
-ghost use Rattle.board_build.specs.ChainParts.{chain_parts, IsChain};
-ghost use Rattle.board_build.specs.Names.{named};
-ghost use Rattle.board_build.specs.declared.names.Naming.TheVariants.{Entity as EntityName};
+ghost use Rattle.board_lines.specs.ChainParts.{chain_parts, IsChain};
+ghost use Rattle.board_lines.specs.Names.{named};
+ghost use Rattle.board_lines.specs.declared.names.Naming.TheVariants.{Entity as EntityName};
 ghost use Rattle.btest_core.specs.declared.fault.InputFault.TheVariants.{Chain};
 ghost use Rattle.answers.specs.Gives.{Gives};
 ghost use Rattle.btest_core.specs.Answers.{Is, input_told};

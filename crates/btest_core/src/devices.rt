@@ -1,10 +1,10 @@
 // The devices of a chain.
 ghost use Rattle.std.specs.Prelude.{◌≡◌, ℕ, ◌<◌, ◌^◌, All, Decides, IfOk, IfSome, Some, length, map, vec_len, zip, option_copied, option_map, slice_get};
 ghost use Rattle.std.specs.List.{AllByRecursion, filter_map};
-ghost use Rattle.board_build.specs.ChainParts.{IsChain};
-ghost use Rattle.board_build.specs.Names.{named};
-ghost use Rattle.board_build.specs.declared.names.Naming.TheVariants.{Entity as EntityName};
-ghost use Rattle.board_build.specs.Selection.{selection};
+ghost use Rattle.board_lines.specs.ChainParts.{IsChain};
+ghost use Rattle.board_lines.specs.Names.{named};
+ghost use Rattle.board_lines.specs.declared.names.Naming.TheVariants.{Entity as EntityName};
+ghost use Rattle.board_lines.specs.Selection.{selection};
 ghost use Rattle.bsdl_parser.specs.Entity.{IsSmall};
 ghost use Rattle.answers.specs.Gives.{Gives};
 ghost use Rattle.btest_core.specs.Answers.{EachOf, Is, input_told};

@@ -1,8 +1,8 @@
 // The identification codes of a chain.
 ghost use Rattle.std.specs.Prelude.{◌≡◌, ◌<◌, ◌≤◌, ◌^◌, All, IfOk, IfSome, length, map};
-ghost use Rattle.board_build.specs.ChainParts.{IsChain};
-ghost use Rattle.board_build.specs.Names.{named};
-ghost use Rattle.board_build.specs.declared.names.Naming.TheVariants.{Entity as EntityName};
+ghost use Rattle.board_lines.specs.ChainParts.{IsChain};
+ghost use Rattle.board_lines.specs.Names.{named};
+ghost use Rattle.board_lines.specs.declared.names.Naming.TheVariants.{Entity as EntityName};
 ghost use Rattle.answers.specs.Gives.{Gives};
 ghost use Rattle.btest_core.specs.Answers.{Is, input_told};
 ghost use Rattle.btest_core.specs.IdentsRead.{is_bypass, first_bypass, idents_unless, AreFileIdents, AreIdents};

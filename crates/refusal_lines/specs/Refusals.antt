@@ -4,8 +4,8 @@ use Rattle.line_printer.specs.Prints.{whole}
 use Rattle.board_defs.specs.declared.spot.Spot.{Spot}
 use Rattle.board_files.specs.declared.fault.LineFault.{LineFault}
 use Rattle.board_files.specs.declared.fault.LineFault.TheVariants as line
-use Rattle.board_build.specs.declared.fault.BoardFault.{BoardFault}
-use Rattle.board_build.specs.declared.fault.BoardFault.TheVariants as board
+use Rattle.board_lines.specs.declared.fault.BoardFault.{BoardFault}
+use Rattle.board_lines.specs.declared.fault.BoardFault.TheVariants as board
 use Rattle.bsdl_lexer.specs.declared.token.LexFault.{LexFault}
 use Rattle.bsdl_lexer.specs.declared.token.LexFault.TheVariants as lex
 use Rattle.bsdl_parser.specs.declared.fault.ParseFault.{ParseFault}

@@ -1,6 +1,8 @@
 // The test of a board.
 use btest_cli::Status;
-use run_bench::{Bench, CHAIN, Ending, NETS, Row, RowFault, SCANS, TS, edited, rows_hold};
+use run_bench::{
+    BI, Bench, CHAIN, Ending, NETS, RCV1, Row, RowFault, SCANS, TS, edited, rows_hold,
+};
 use std::alloc::{AllocError, Global};
 use std::thread::Threads;
 
@@ -192,17 +194,100 @@ const INTERNAL: [(&str, &str); 2] = [
     ("control, 1)\"", "control, 1), 2 (BC_1, *, internal, 1)\""),
 ];
 
+// Tries the scans of the test of a part U1 with this text and a part U2.
+fn is_tested_beside(
+    rt: &(impl Threads + Sync),
+    alloc: Global,
+    text: &str,
+    words: &str,
+    chain: &str,
+    scans: &str,
+) -> Result<(), RowFault> {
+    let mut bench = Bench::with_board(alloc, chain, "NET N U1.1 U2.1")?;
+    bench.store.add("u1", text.as_bytes())?;
+    let line = format!(in alloc; "svf c n u1 {words}")?;
+    let status = bench.run(rt, &line)?;
+    bench.expect(0, status, Ending::Scans(scans))
+}
+
 #[test]
 fn a_cell_keeps_its_safe_value(rt: HostRuntime) -> Result<(), RowFault> {
     let alloc = rt.alloc();
-    let chain = "DEVICE U1 TS -\nDEVICE U2 RCV1 -";
-    let text = edited(alloc, TS, &INTERNAL)?;
-    let mut bench = Bench::with_board(alloc, chain, "NET N U1.1 U2.1")?;
-    bench.store.add("ts", text.as_bytes())?;
-    let status = bench.run(&rt, "svf c n ts rcv1")?;
-    let scans = "SIR 4 TDI (A) TDO (5) MASK (F);\nSDR 4 TDI (C);\nSIR 4 TDI (0) TDO (5) MASK (F);\n\
-                 SDR 4 TDI (A);\nSDR 4 TDI (8) TDO (1) MASK (1);\nSDR 4 TDI (C) TDO (0) MASK (1);\n";
-    bench.expect(0, status, Ending::Scans(scans))
+    is_tested_beside(
+        &rt,
+        alloc,
+        edited(alloc, TS, &INTERNAL)?.as_str(),
+        "rcv1",
+        "DEVICE U1 TS -\nDEVICE U2 RCV1 -",
+        "SIR 4 TDI (A) TDO (5) MASK (F);\nSDR 4 TDI (C);\nSIR 4 TDI (0) TDO (5) MASK (F);\n\
+         SDR 4 TDI (A);\nSDR 4 TDI (8) TDO (1) MASK (1);\nSDR 4 TDI (C) TDO (0) MASK (1);\n",
+    )
+}
+
+// The cell of a bidirectional pin reads while another part drives, and not while its own does.
+#[test]
+fn a_driver_does_not_read_itself(rt: HostRuntime) -> Result<(), RowFault> {
+    let alloc = rt.alloc();
+    is_tested_beside(
+        &rt,
+        alloc,
+        BI,
+        "rcv1",
+        "DEVICE U1 BI -\nDEVICE U2 RCV1 -",
+        "SIR 4 TDI (A) TDO (5) MASK (F);\nSDR 3 TDI (4);\nSIR 4 TDI (0) TDO (5) MASK (F);\n\
+         SDR 3 TDI (2);\nSDR 3 TDI (0) TDO (1) MASK (1);\nSDR 3 TDI (4) TDO (0) MASK (1);\n",
+    )?;
+    is_tested_by(
+        &rt,
+        alloc,
+        "bi",
+        "DEVICE U1 BI -\nDEVICE U2 BI -",
+        "NET N U1.1 U2.1",
+        "SIR 4 TDI (A) TDO (5) MASK (F);\nSDR 4 TDI (A);\nSIR 4 TDI (0) TDO (5) MASK (F);\n\
+         SDR 4 TDI (6);\nSDR 4 TDI (2) TDO (1) MASK (1);\nSDR 4 TDI (A) TDO (0) MASK (1);\n\
+         SDR 4 TDI (9);\nSDR 4 TDI (8) TDO (4) MASK (4);\nSDR 4 TDI (A) TDO (0) MASK (4);\n",
+    )
+}
+
+const SELF_READING: [(&str, &str); 2] = [
+    (
+        "entity is 2;\nattribute BOUNDARY_REGISTER",
+        "entity is 3;\nattribute BOUNDARY_REGISTER",
+    ),
+    ("control, 1)\"", "control, 1), 2 (BC_1, Q, input, X)\""),
+];
+
+// A cell of function CLOCK reads the net, one of function OBSERVE_ONLY does not, nor does an INPUT cell of an output.
+#[test]
+fn what_reads_a_net_is_told_by_its_function(rt: HostRuntime) -> Result<(), RowFault> {
+    let alloc = rt.alloc();
+    let chain = "DEVICE U1 RCV1 -\nDEVICE U2 TS -";
+    is_tested_beside(
+        &rt,
+        alloc,
+        edited(alloc, RCV1, &[("D, input, X", "D, clock, X")])?.as_str(),
+        "ts",
+        chain,
+        "SIR 4 TDI (A) TDO (5) MASK (F);\nSDR 3 TDI (2);\nSIR 4 TDI (0) TDO (5) MASK (F);\n\
+         SDR 3 TDI (1);\nSDR 3 TDI (0) TDO (4) MASK (4);\nSDR 3 TDI (2) TDO (0) MASK (4);\n",
+    )?;
+    is_tested_beside(
+        &rt,
+        alloc,
+        edited(alloc, RCV1, &[("D, input, X", "D, observe_only, X")])?.as_str(),
+        "ts",
+        chain,
+        "SIR 4 TDI (A) TDO (5) MASK (F);\nSDR 3 TDI (2);\nSIR 4 TDI (0) TDO (5) MASK (F);\n",
+    )?;
+    is_tested_beside(
+        &rt,
+        alloc,
+        edited(alloc, TS, &SELF_READING)?.as_str(),
+        "rcv1",
+        "DEVICE U1 TS -\nDEVICE U2 RCV1 -",
+        "SIR 4 TDI (A) TDO (5) MASK (F);\nSDR 4 TDI (4);\nSIR 4 TDI (0) TDO (5) MASK (F);\n\
+         SDR 4 TDI (2);\nSDR 4 TDI (0) TDO (1) MASK (1);\nSDR 4 TDI (4) TDO (0) MASK (1);\n",
+    )
 }
 
 /// The BSDL text of a device that has so many internal cells.

@@ -14,16 +14,17 @@ use Rattle.board_defs.specs.Pins.{described}
 use Rattle.board_files.specs.declared.chain_file.ChainLine.{ChainLine}
 use Rattle.board_defs.specs.declared.board.RawBoard.{RawBoard}
 use Rattle.first_places.specs.Places.{once, first_repeated}
-use Rattle.board_build.specs.declared.fault.BoardFault.{BoardFault}
-use Rattle.board_build.specs.declared.fault.BoardFault.TheVariants.{Limit, NoPin, PinTwice, GuardedDriver, TwoAlwaysOn}
-use Rattle.board_build.specs.declared.names.Naming.TheVariants.{Supply}
-use Rattle.board_build.specs.Faults.{◌then◌, unless}
-use Rattle.board_build.specs.Names.{named, names_of}
-use Rattle.board_build.specs.LineRules.{Pulled, pulls_of, pull_of_net}
-use Rattle.board_build.specs.BoardRules.{data_limit, net_limit, line_fault, is_kept}
+use Rattle.board_lines.specs.declared.fault.BoardFault.{BoardFault}
+use Rattle.board_lines.specs.declared.fault.BoardFault.TheVariants.{Limit, NoPin, PinTwice, GuardedDriver, TwoAlwaysOn}
+use Rattle.board_lines.specs.declared.names.Naming.TheVariants.{Supply}
+use Rattle.board_lines.specs.Faults.{◌then◌, unless}
+use Rattle.board_lines.specs.Names.{named, names_of}
+use Rattle.board_lines.specs.LineRules.{Pulled, pulls_of, pull_of_net}
+use Rattle.board_build.specs.BoardRules.{data_limit, net_limit, is_kept}
+use Rattle.board_lines.specs.LineRules.{line_fault}
 use Rattle.board_build.specs.declared.marked.MarkedWord.{MarkedWord}
-use Rattle.board_build.specs.NetWords.{Pin, NetWord, same_pin, net_of, pin_of, spot_of, is_among}
-use Rattle.board_build.specs.ChainParts.{PinPlace, place_of_pin, described_names}
+use Rattle.board_lines.specs.NetWords.{Pin, NetWord, same_pin, net_of, pin_of, spot_of, is_among}
+use Rattle.board_lines.specs.ChainParts.{PinPlace, place_of_pin, described_names}
 
 -- the driving entry is there and has no control
 abbrev pub is_free : Option Cell → Bool

@@ -4,10 +4,10 @@ use Rattle.std.specs.List.{AllByRecursion}
 use Rattle.board_files.specs.declared.chain_file.ChainLine.{ChainLine}
 use Rattle.board_files.specs.declared.net_file.NetLine.{NetLine}
 use Rattle.board_files.specs.ChainLines.{HasLength}
-use Rattle.board_build.specs.ChainParts.{IsChain}
-use Rattle.board_build.specs.Names.{named}
-use Rattle.board_build.specs.NetWords.{HasFewPins}
-use Rattle.board_build.specs.declared.names.Naming.TheVariants.{Entity as EntityName}
+use Rattle.board_lines.specs.ChainParts.{IsChain}
+use Rattle.board_lines.specs.Names.{named}
+use Rattle.board_lines.specs.NetWords.{HasFewPins}
+use Rattle.board_lines.specs.declared.names.Naming.TheVariants.{Entity as EntityName}
 use Rattle.series_parts.specs.declared.joining.Joined.{Joined}
 
 -- what the joined files keep

@@ -1,8 +1,8 @@
 -- The parts have the names of the chain's lines.
 use Rattle.std.proofs.Common.{◌≡◌, length, map, ap, sym, ◌∙◌, arith}
-use Rattle.board_build.specs.declared.names.Naming.TheVariants.{Part as PartName, Entity}
-use Rattle.board_build.specs.Names.{named, names_of}
-use Rattle.board_build.specs.ChainParts.{chain_parts}
+use Rattle.board_lines.specs.declared.names.Naming.TheVariants.{Part as PartName, Entity}
+use Rattle.board_lines.specs.Names.{named, names_of}
+use Rattle.board_lines.specs.ChainParts.{chain_parts}
 use Rattle.board_build.proofs.PartLemmas.{parts_named}
 use Rattle.board_build.proofs.building.board.Goals as goal
 

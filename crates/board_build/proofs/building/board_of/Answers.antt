@@ -1,11 +1,11 @@
 -- The marked words are those of the definitions.
 use Rattle.std.proofs.Common.{◌≡◌, map, ap, subst, ◌∙◌}
-use Rattle.board_build.specs.declared.names.Naming.TheVariants.{Inert}
+use Rattle.board_lines.specs.declared.names.Naming.TheVariants.{Inert}
 use Rattle.answers.specs.Gives.{Gives}
-use Rattle.board_build.specs.Faults.{board_told}
-use Rattle.board_build.specs.Names.{named, names_of}
-use Rattle.board_build.specs.NetWords.{lent_word, standing_words}
-use Rattle.board_build.specs.ChainParts.{pin_places}
+use Rattle.board_lines.specs.Faults.{board_told}
+use Rattle.board_lines.specs.Names.{named, names_of}
+use Rattle.board_lines.specs.NetWords.{lent_word, standing_words}
+use Rattle.board_lines.specs.ChainParts.{pin_places}
 use Rattle.board_build.specs.inner.Marked.{mark, marked_twice, seen}
 use Rattle.board_build.proofs.SoundLemmas.{sound_by, answer_by, twice_none}
 use Rattle.board_build.proofs.building.board_of.Goals as goal

@@ -1,8 +1,8 @@
 -- The parts have the names of the chain's lines.
 use Rattle.std.proofs.Common.{◌≡◌, length, map, ap, ◌∙◌, arith}
-use Rattle.board_build.specs.declared.names.Naming.TheVariants.{Entity}
-use Rattle.board_build.specs.Names.{named}
-use Rattle.board_build.specs.ChainParts.{chain_parts}
+use Rattle.board_lines.specs.declared.names.Naming.TheVariants.{Entity}
+use Rattle.board_lines.specs.Names.{named}
+use Rattle.board_lines.specs.ChainParts.{chain_parts}
 use Rattle.board_build.proofs.PartLemmas.{parts_named}
 use Rattle.board_build.proofs.building.parts_of_chain.Goals as goal
 

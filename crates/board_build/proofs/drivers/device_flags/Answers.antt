@@ -2,7 +2,7 @@
 use Rattle.std.proofs.Common.{ℕ, List, length, ap, ◌∙◌, subst}
 use Rattle.board_defs.specs.declared.device.Cell.{Cell}
 use Rattle.board_build.specs.inner.Marked.{AreFlags}
-use Rattle.board_build.proofs.NameLemmas.{if_ok_map}
+use Rattle.board_lines.proofs.NameLemmas.{if_ok_map}
 use Rattle.board_build.proofs.FlagLemmas.{device_flagged}
 use Rattle.board_build.proofs.drivers.device_flags.Goals as goal
 

@@ -1,5 +1,5 @@
 use Rattle.std.proofs.Common.{Ok}
-use Rattle.board_build.proofs.SelectLemmas.{selected_chain}
+use Rattle.board_lines.proofs.SelectLemmas.{selected_chain}
 use Rattle.board_build.proofs.law.selected_are_chains.Goals as goal
 
 pub returns-clause-chain : goal.returns-clause-chain

@@ -1,4 +1,4 @@
-use Rattle.board_build.proofs.NumberLemmas.{numbers_of_entities}
+use Rattle.board_lines.proofs.NumberLemmas.{numbers_of_entities}
 use Rattle.board_build.proofs.law.selected_are_entities.Goals as goal
 
 pub returns : goal.returns

@@ -2,7 +2,7 @@ use Rattle.std.proofs.Common.{◌≡◌, map, take}
 use Rattle.std.specs.Prelude.{is_some}
 use Rattle.indexmap.specs.IndexMap.{get_by}
 use Rattle.board_files.specs.Names.{same_word}
-use Rattle.board_build.specs.NetWords.{lent_pin, same_pin}
+use Rattle.board_lines.specs.NetWords.{lent_pin, same_pin}
 use Rattle.board_build.specs.inner.Marked.{mark_by}
 use Rattle.board_build.proofs.marked.mark_each.Given as goal
 

@@ -2,14 +2,14 @@
 use Rattle.std.proofs.Common.{map, ap, ◌∙◌}
 use Rattle.std.specs.Prelude.{is_some}
 use Rattle.first_places.specs.Places.{first_place, first_value}
-use Rattle.board_build.specs.declared.names.Naming.TheVariants.{Inert}
+use Rattle.board_lines.specs.declared.names.Naming.TheVariants.{Inert}
 use Rattle.board_files.specs.Names.{same_word}
-use Rattle.board_build.specs.Names.{named, names_of}
-use Rattle.board_build.specs.NetWords.{lent_word, lent_pin, same_pin}
-use Rattle.board_build.specs.ChainParts.{pin_places}
+use Rattle.board_lines.specs.Names.{named, names_of}
+use Rattle.board_lines.specs.NetWords.{lent_word, lent_pin, same_pin}
+use Rattle.board_lines.specs.ChainParts.{pin_places}
 use Rattle.board_build.specs.inner.Marked.{mark, seen}
-use Rattle.board_build.proofs.NameLemmas.{if_ok_map}
-use Rattle.board_build.proofs.MarkLemmas.{map-map, map_seen}
+use Rattle.board_lines.proofs.NameLemmas.{if_ok_map}
+use Rattle.board_lines.proofs.MapLemmas.{map-map, map_seen}
 use Rattle.board_build.proofs.GroupLemmas.{mark_cong}
 use Rattle.board_build.proofs.KnownLemmas.{known_same}
 use Rattle.board_build.proofs.marked.marked_words.Goals as goal

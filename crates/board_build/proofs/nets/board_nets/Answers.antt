@@ -3,12 +3,12 @@ use Rattle.std.proofs.Common.{◌≡◌, ◌+◌, length, map, ap, ◌∙◌, ar
 use Rattle.std.specs.Prelude.{is_some}
 use Rattle.std.proofs.lemmas.List.{length-map}
 use Rattle.first_places.specs.Places.{first_place}
-use Rattle.board_build.specs.declared.names.Naming.TheVariants.{Supply}
+use Rattle.board_lines.specs.declared.names.Naming.TheVariants.{Supply}
 use Rattle.board_files.specs.Names.{same_word}
-use Rattle.board_build.specs.Names.{named, names_of}
-use Rattle.board_build.specs.LineRules.{pulls_of, pull_of_net}
+use Rattle.board_lines.specs.Names.{named, names_of}
+use Rattle.board_lines.specs.LineRules.{pulls_of, pull_of_net}
 use Rattle.board_build.specs.inner.Marked.{group_of, seen}
-use Rattle.board_build.proofs.NameLemmas.{if_ok_map}
+use Rattle.board_lines.proofs.NameLemmas.{if_ok_map}
 use Rattle.board_build.proofs.GroupLemmas.{nets_zip}
 use Rattle.board_build.proofs.nets.board_nets.Goals as goal
 

@@ -1,7 +1,7 @@
 use Rattle.std.proofs.Common.{◌∙◌, ◌&&◌, map, ap, sym, nat_lt}
 use Rattle.board_build.specs.inner.Marked.{seen, number_of}
-use Rattle.board_build.proofs.NameLemmas.{if_ok_map}
-use Rattle.board_build.proofs.MarkLemmas.{filter-map}
+use Rattle.board_lines.proofs.NameLemmas.{if_ok_map}
+use Rattle.board_lines.proofs.MapLemmas.{filter-map}
 use Rattle.board_build.proofs.rules.marked_drivers.Goals as goal
 
 pub returns : goal.returns

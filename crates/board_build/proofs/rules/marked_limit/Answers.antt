@@ -4,10 +4,11 @@ use Rattle.std.specs.Prelude.{nat_lt, false, if◌then◌else◌}
 use Rattle.std.proofs.lemmas.List.{length-map}
 use Rattle.first_places.specs.Places.{once}
 use Rattle.first_places.proofs.OnceLemmas.{once_few}
-use Rattle.board_build.specs.declared.fault.BoardFault.TheVariants.{Limit}
+use Rattle.board_lines.specs.declared.fault.BoardFault.TheVariants.{Limit}
 use Rattle.board_build.specs.inner.Marked.{marked_limit, same_pins, seen}
-use Rattle.board_build.proofs.NameLemmas.{if_ok_map}
-use Rattle.board_build.proofs.SeenLemmas.{same_lent, pins_counted}
+use Rattle.board_lines.proofs.NameLemmas.{if_ok_map}
+use Rattle.board_lines.proofs.DifferLemmas.{same_lent}
+use Rattle.board_build.proofs.SeenLemmas.{pins_counted}
 use Rattle.board_build.proofs.rules.marked_limit.Goals as goal
 
 pub returns-then-words-le-PIN_LIMIT : goal.returns-then-words-le-PIN_LIMIT

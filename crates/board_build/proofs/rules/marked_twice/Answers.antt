@@ -2,9 +2,10 @@
 use Rattle.std.proofs.Common.{◌∙◌, ap}
 use Rattle.std.specs.Prelude.{option_map}
 use Rattle.first_places.specs.Places.{first_repeated}
-use Rattle.board_build.specs.declared.fault.BoardFault.TheVariants.{PinTwice}
-use Rattle.board_build.proofs.NameLemmas.{if_ok_map}
-use Rattle.board_build.proofs.SeenLemmas.{same_lent, twice_seen}
+use Rattle.board_lines.specs.declared.fault.BoardFault.TheVariants.{PinTwice}
+use Rattle.board_lines.proofs.NameLemmas.{if_ok_map}
+use Rattle.board_lines.proofs.DifferLemmas.{same_lent}
+use Rattle.board_build.proofs.SeenLemmas.{twice_seen}
 use Rattle.board_build.proofs.rules.marked_twice.Goals as goal
 
 pub returns : goal.returns

@@ -2,8 +2,8 @@
 use Rattle.std.proofs.Common.{◌∙◌, ◌==◌, ap}
 use Rattle.std.specs.Prelude.{option_map}
 use Rattle.first_places.specs.Places.{first_repeated}
-use Rattle.board_build.specs.declared.fault.BoardFault.TheVariants.{TwoAlwaysOn}
-use Rattle.board_build.proofs.NameLemmas.{if_ok_map}
+use Rattle.board_lines.specs.declared.fault.BoardFault.TheVariants.{TwoAlwaysOn}
+use Rattle.board_lines.proofs.NameLemmas.{if_ok_map}
 use Rattle.board_build.proofs.SeenLemmas.{two_seen}
 use Rattle.board_build.proofs.rules.marked_two.Goals as goal
 

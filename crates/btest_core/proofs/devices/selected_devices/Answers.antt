@@ -1,6 +1,6 @@
 use Rattle.std.proofs.Common.{◌≡◌, ◌∙◌, ℕ, length, ap, subst, arith}
-use Rattle.board_build.specs.Names.{named}
-use Rattle.board_build.specs.declared.names.Naming.TheVariants.{Entity as EntityName}
+use Rattle.board_lines.specs.Names.{named}
+use Rattle.board_lines.specs.declared.names.Naming.TheVariants.{Entity as EntityName}
 use Rattle.std.specs.Prelude.{IfOk, vec_len}
 use Rattle.btest_core.specs.DevicesRead.{chosen}
 use Rattle.btest_core.proofs.ChoiceLemmas.{count_chosen}

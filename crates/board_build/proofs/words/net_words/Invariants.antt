@@ -1,7 +1,0 @@
-use Rattle.std.proofs.Common.{◌≡◌, ◌++◌, map, drop}
-use Rattle.board_build.specs.NetWords.{lent_word, net_names, net_words, words_of}
-use Rattle.board_build.proofs.words.net_words.Given as goal
-
--- the words so far, and then those of the lines that are left
-abbrev pub invariant-loop-i : goal.invariant-loop-i
-invariant-loop-i l = net_words l.lines ≡ map lent_word l.words.items ++ words_of (net_names l.lines) (drop l.i l.lines)

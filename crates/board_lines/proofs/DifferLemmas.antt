@@ -1,0 +1,61 @@
+-- The words of a net file line by line, and words of which no two name the same pin.
+use Rattle.std.proofs.Common.{◌≡◌, ℕ, zero, suc, ◌+◌, ◌<◌, ◌==◌, Bool, true, false, ◌&&◌, List, [], ◌∷◌, ◌++◌, length, map, drop, get_or, append_assoc, arith, Option, Some, None, refl, sym, ap, ◌∙◌, Bor}
+use Rattle.std.specs.Prelude.{is_none, option_map, slice_get, unwrap_or}
+use Rattle.std.proofs.lemmas.List.{drop_more}
+use Rattle.board_files.specs.declared.net_file.NetLine.{NetLine}
+use Rattle.first_places.specs.Places.{once, first_repeated}
+use Rattle.first_places.proofs.OnceLemmas.{unrepeated}
+use Rattle.board_defs.specs.declared.spot.Spot.{Spot}
+use Rattle.board_lines.specs.NetWords.{NetWord, have_same_pin, lent_pin, lent_word, line_words, net_number, net_of, pin_of, words_of, same_pin, same_place}
+use Rattle.board_lines.proofs.MapLemmas.{repeated-map}
+
+abbrev pub same_lent : (Bor (List ℕ) × Bor (List ℕ)) × Spot → (Bor (List ℕ) × Bor (List ℕ)) × Spot → Bool
+same_lent a b = same_pin (lent_pin a.0) (lent_pin b.0)
+
+-- a word as the code lends it
+abbrev pub Lent : Type 0
+Lent = (ℕ × (Bor (List ℕ) × Bor (List ℕ))) × Spot
+
+-- a lent word by its pin
+abbrev pub pin_at : Lent → (Bor (List ℕ) × Bor (List ℕ)) × Spot
+pin_at w = (w.0.1, w.1)
+
+pub none_mapped : {A B : Type 0} (f : A → B) (o : Option A) → is_none (option_map f o) ≡ is_none o
+none_mapped f None = refl
+none_mapped f (Some a) = refl
+
+-- no pin of the lent words is repeated where none of the words is
+pub differ_lent : (words : List Lent) → is_none (first_repeated same_lent (map pin_at words)) ≡ is_none (first_repeated have_same_pin (map lent_word words))
+differ_lent words =
+    sym (none_mapped (λ p. p.1) (first_repeated same_lent (map pin_at words)))
+    ∙ ap is_none (repeated-map pin_at same_lent (λ p. p.1) words ∙ sym (repeated-map lent_word have_same_pin (λ (w : NetWord). w.1) words))
+    ∙ none_mapped (λ (w : NetWord). w.1) (first_repeated have_same_pin (map lent_word words))
+
+number_there : {A : Type 0} (f : A → ℕ) (xs : List A) (i : ℕ) (x : A) → i < length xs → get_or xs i x ≡ x → unwrap_or (slice_get (map f xs) i) 0 ≡ f x
+number_there f [] i x within read = absurd (omega (arith, within))
+number_there f (y ∷ ys) zero x within read = ap f read
+number_there f (y ∷ ys) (suc i) x within read = number_there f ys i x (omega (arith, within)) read
+
+-- the words so far, one line on
+pub words_step : (names : List (List ℕ)) (lines : List NetLine) (i : ℕ) (line : NetLine) (numbers : List ℕ) (done new all : List NetWord) → i < length lines → get_or lines i line ≡ line →
+    numbers ≡ map (λ (l : NetLine). net_number names l.name) lines → new ≡ done ++ line_words (unwrap_or (slice_get numbers i) 0) line.line 3 line.pins → all ≡ done ++ words_of names (drop i lines) →
+    all ≡ new ++ words_of names (drop (i + 1) lines)
+words_step names lines i line numbers done new all within read told pushed same =
+    let cut : drop i lines ≡ line ∷ drop (i + 1) lines = drop_more lines i line within ∙ ap (λ (l : NetLine). l ∷ drop (i + 1) lines) read in
+    let number : unwrap_or (slice_get numbers i) 0 ≡ net_number names line.name = ap (λ (v : List ℕ). unwrap_or (slice_get v i) 0) told ∙ number_there (λ (l : NetLine). net_number names l.name) lines i line within read in
+    same ∙ ap (λ (v : List NetLine). done ++ words_of names v) cut
+    ∙ ap (λ n. done ++ (line_words n line.line 3 line.pins ++ words_of names (drop (i + 1) lines))) (sym number)
+    ∙ sym (append_assoc done (line_words (unwrap_or (slice_get numbers i) 0) line.line 3 line.pins) (words_of names (drop (i + 1) lines)))
+    ∙ ap (λ (v : List NetWord). v ++ words_of names (drop (i + 1) lines)) (sym pushed)
+
+and_false : (a b : Bool) → b ≡ false → (a && b) ≡ false
+and_false true b e = e
+and_false false b e = refl
+
+-- where no pin is repeated, each word stands
+pub all_stand : (words : List NetWord) → first_repeated have_same_pin words ≡ None → once same_place words ≡ words
+all_stand words e = unrepeated have_same_pin same_place (λ a b h. and_false (net_of a == net_of b) (same_pin (pin_of a) (pin_of b)) h) words e
+
+pub none_of : {A : Type 0} (o : Option A) → is_none o ≡ true → o ≡ None
+none_of None e = refl
+none_of (Some a) e = cc e

@@ -1,0 +1,12 @@
+-- The numbers of the lines' names are those of their nets.
+use Rattle.std.proofs.Common.{◌∙◌, map, ap}
+use Rattle.first_places.specs.Places.{number_in, once}
+use Rattle.board_files.specs.Names.{same_word}
+use Rattle.board_lines.specs.NetWords.{net_names, net_number}
+use Rattle.board_lines.proofs.MapLemmas.{map-map}
+use Rattle.board_lines.proofs.words.net_names.Goals as goal
+
+pub returns-clause-numbers : goal.returns-clause-numbers
+returns-clause-numbers c =
+    c.in_ok-different.ensures.numbers ∙ ap (λ v. map (number_in same_word (once same_word v)) v) (ap (map (λ n. n.now)) c.deref.ensures.value ∙ c.in_ok-names.ensures.names)
+    ∙ map-map (λ line. line.name) (net_number (net_names c.args.lines.now)) c.args.lines.now

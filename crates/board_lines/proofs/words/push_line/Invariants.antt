@@ -1,0 +1,10 @@
+use Rattle.std.proofs.Common.{◌≡◌, ◌+◌, ◌++◌, map, drop}
+use Rattle.board_lines.specs.NetWords.{lent_word, line_words}
+use Rattle.board_lines.proofs.words.push_line.Given as goal
+
+-- the words so far, and then those of the pins that are left
+abbrev pub invariant-loop-pin : goal.invariant-loop-pin
+invariant-loop-pin l = record {
+  number : l.word ≡ l.pin-index + 3;
+  words : map lent_word l.fn.words.items ++ line_words l.net l.line 3 l.pins ≡ map lent_word l.words.items ++ line_words l.net l.line l.word (drop l.pin-index l.pins);
+}

@@ -1,0 +1,6 @@
+pub mod Faults
+pub mod Names
+pub mod Selection
+pub mod NetWords
+pub mod ChainParts
+pub mod LineRules

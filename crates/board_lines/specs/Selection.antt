@@ -1,0 +1,56 @@
+-- The parts of a chain, and the entity of each described one.
+use Rattle.std.specs.Prelude.{ℕ, List, length, map, nat_eq, nat_lt, slice_get, Option, Some, None, Result, option_map, option_and_then, is_none, unwrap_or, position, if◌then◌else◌}
+use Rattle.first_places.specs.Places.{first_place, first_repeat}
+use Rattle.board_files.specs.declared.chain_file.ChainLine.{ChainLine}
+use Rattle.bsdl_parser.specs.declared.entity.Entity.{Entity}
+use Rattle.board_defs.specs.declared.spot.Spot.{Spot}
+use Rattle.board_lines.specs.declared.fault.BoardFault.{BoardFault}
+use Rattle.board_lines.specs.declared.fault.BoardFault.TheVariants.{NoChain, PartTwice, NoEntity, EntityTwice, Limit}
+use Rattle.board_lines.specs.declared.names.Naming.TheVariants.{Part, Entity as EntityName}
+use Rattle.board_files.specs.Names.{same_word}
+use Rattle.board_lines.specs.Names.{Named, named, names_of}
+use Rattle.board_lines.specs.Faults.{◌then◌, unless}
+
+-- the line on which the name at the place stands. A chain line is named whole, as its word 1
+abbrev pub spot_at : List Named → ℕ → Option Spot
+spot_at list place = option_map (λ n. record { line = n.0; word = 1 }) (slice_get list place)
+
+-- neither a DEVICE nor a BYPASS line
+unfoldable pub no_chain : List Named → Option BoardFault
+no_chain parts = if nat_eq (length parts) 0 then Some NoChain else None
+
+-- the first part that stands a second time
+unfoldable pub part_twice : List Named → Option BoardFault
+part_twice parts = option_map PartTwice (option_and_then (spot_at parts) (first_repeat same_word (names_of parts)))
+
+-- where the entity of each described part stands among the texts
+abbrev pub entity_places : List Named → List (List ℕ) → List (Option ℕ)
+entity_places devices entities = map (first_place same_word entities) (names_of devices)
+
+-- the first entity that no text has
+unfoldable pub no_entity : List Named → List (Option ℕ) → Option BoardFault
+no_entity devices places = option_map NoEntity (option_and_then (spot_at devices) (position is_none places))
+
+-- the first text whose entity an earlier text has
+unfoldable pub entity_twice : List (List ℕ) → Option BoardFault
+entity_twice entities = option_map EntityTwice (first_repeat same_word entities)
+
+-- at most 255 parts
+unfoldable pub chain_limit : List Named → Option BoardFault
+chain_limit parts = if nat_lt 255 (length parts) then Some (Limit 1) else None
+
+-- the rules in their order
+unfoldable pub first_fault : List Named → List Named → List (Option ℕ) → List (List ℕ) → Option BoardFault
+first_fault parts devices places entities = no_chain parts then part_twice parts then no_entity devices places then entity_twice entities then chain_limit parts
+
+abbrev pub entity_names : List Entity → List (List ℕ)
+entity_names entities = map (λ e. e.name) entities
+
+-- the text of each described part's entity, or the first fault
+unfoldable pub answer : List Named → List Named → List (Option ℕ) → List (List ℕ) → Result (List ℕ) BoardFault
+answer parts devices places entities = unless (first_fault parts devices places entities) (map (λ place. unwrap_or place 0) places)
+
+-- what a chain file and the texts' entities select
+abbrev pub selection : List ChainLine → List Entity → Result (List ℕ) BoardFault
+selection lines entities =
+    answer (named Part lines) (named EntityName lines) (entity_places (named EntityName lines) (entity_names entities)) (entity_names entities)

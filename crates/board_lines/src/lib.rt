@@ -1,0 +1,17 @@
+//! What the lines of a board's files say: the parts of the chain and the entity of each, the names of the nets and the
+//! words that stand in them, and which nets are pulled; with the rules on names, which need no more than the lines.
+#![tactic(auto)]
+
+mod fault;
+mod line_rules;
+mod names;
+mod parts;
+mod selection;
+mod words;
+
+pub use fault::BoardFault;
+pub use line_rules::{line_fault, names_in, pull_of_net, pulls_by_net, pulls_of};
+pub use names::{Naming, first_places_of, place_of};
+pub use parts::{chain_parts, described_names, pin_places, places_by_pin};
+pub use selection::select;
+pub use words::{NetNames, NetWord, PinName, StandingWords, net_names, standing_words};

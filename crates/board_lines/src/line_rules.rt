@@ -1,0 +1,185 @@
+// The rules of the INERT, SUPPLY and PULL lines of a board.
+ghost use Rattle.std.specs.Prelude.{◌≡◌, ◌<◌, ◌≤◌, ◌^◌, map, length, vec_len, IfOk, position, is_some, option_map, Option, List, ℕ};
+ghost use Rattle.std.proofs.Common.{Bor};
+ghost use Rattle.indexmap.specs.IndexMap.{get_by};
+ghost use Rattle.board_files.specs.Names.{same_word};
+ghost use Rattle.board_lines.specs.Names.{named, names_of};
+ghost use Rattle.board_lines.specs.LineRules.{line_fault};
+ghost use Rattle.board_lines.specs.LineRules.{places_of, inert_in_chain, no_supply_net, no_pull_net, pull_twice, pulls_of, pull_of_line, Pulled, pull_of_net};
+
+use crate::fault::BoardFault;
+use crate::names::{Naming, first_repeat_of, named, names_of, places_among};
+use crate::selection::{missing, spot_at};
+use board_files::{ChainLine, ChainStatement};
+use first_places::first_values;
+use indexmap::IndexMap;
+use std::alloc::{AllocError, Global};
+
+/// Where each of these names stands among the others.
+fn places_of(
+    alloc: Global,
+    named: &[(u32, &[u8])],
+    others: &[&[u8]],
+) -> Result<Vec<Option<u32>>, AllocError>
+    requires { length others.now < 2 ^ 32 }
+    ensures { IfOk result (λ places. places.items ≡ places_of (map (λ n. (n.0, n.1.now)) named.now) (map (λ n. n.now) others.now)) }
+{
+    let names = names_of(alloc, named)?;
+    places_among(alloc, &names, others)
+}
+
+fn found(places: &[Option<u32>]) -> Option<usize>
+    ensures { result ≡ position is_some places.now }
+{
+    places.iter().position(|place| place.is_some())
+}
+
+/// The first INERT line whose part is in the chain.
+#[tactic(auto, unfolding(crate::specs::LineRules::inert_in_chain))]
+pub fn inert_in_chain(
+    alloc: Global,
+    inerts: &[(u32, &[u8])],
+    parts: &[&[u8]],
+) -> Result<Option<BoardFault>, AllocError>
+    requires { length parts.now < 2 ^ 32 }
+    ensures { IfOk result (λ fault. fault ≡ inert_in_chain (map (λ n. (n.0, n.1.now)) inerts.now) (map (λ n. n.now) parts.now)) }
+{
+    let places = places_of(alloc, inerts, parts)?;
+    match found(&places) {
+        Some(place) => Ok(spot_at(inerts, place).map(BoardFault::InertInChain)),
+        None => Ok(None),
+    }
+}
+
+/// The first SUPPLY line whose net is not there.
+#[tactic(auto, unfolding(crate::specs::LineRules::no_supply_net))]
+pub fn no_supply_net(
+    alloc: Global,
+    supplies: &[(u32, &[u8])],
+    nets: &[&[u8]],
+) -> Result<Option<BoardFault>, AllocError>
+    requires { length nets.now < 2 ^ 32 }
+    ensures { IfOk result (λ fault. fault ≡ no_supply_net (map (λ n. (n.0, n.1.now)) supplies.now) (map (λ n. n.now) nets.now)) }
+{
+    let places = places_of(alloc, supplies, nets)?;
+    match missing(&places) {
+        Some(place) => Ok(spot_at(supplies, place).map(BoardFault::NoSupplyNet)),
+        None => Ok(None),
+    }
+}
+
+/// The first PULL line whose net is not there.
+#[tactic(auto, unfolding(crate::specs::LineRules::no_pull_net))]
+pub fn no_pull_net(
+    alloc: Global,
+    pulls: &[(u32, &[u8])],
+    nets: &[&[u8]],
+) -> Result<Option<BoardFault>, AllocError>
+    requires { length nets.now < 2 ^ 32 }
+    ensures { IfOk result (λ fault. fault ≡ no_pull_net (map (λ n. (n.0, n.1.now)) pulls.now) (map (λ n. n.now) nets.now)) }
+{
+    let places = places_of(alloc, pulls, nets)?;
+    match missing(&places) {
+        Some(place) => Ok(spot_at(pulls, place).map(BoardFault::NoPullNet)),
+        None => Ok(None),
+    }
+}
+
+/// The first PULL line whose net an earlier PULL line names.
+#[tactic(auto, unfolding(crate::specs::LineRules::pull_twice))]
+pub fn pull_twice(alloc: Global, pulls: &[(u32, &[u8])]) -> Result<Option<BoardFault>, AllocError>
+    requires { length pulls.now < 2 ^ 32 }
+    ensures { IfOk result (λ fault. fault ≡ pull_twice (map (λ n. (n.0, n.1.now)) pulls.now)) }
+{
+    let names = names_of(alloc, pulls)?;
+    match first_repeat_of(alloc, &names)? {
+        Some(place) => Ok(spot_at(pulls, place as usize).map(BoardFault::PullTwice)),
+        None => Ok(None),
+    }
+}
+
+fn pull_of_line(statement: &ChainStatement) -> Option<(&[u8], bool)>
+    ensures { option_map (λ p. (p.0.now, p.1)) result ≡ pull_of_line statement.now }
+{
+    match statement {
+        ChainStatement::Pull { net, value } => Some((net.bytes(), *value)),
+        _ => None,
+    }
+}
+
+/// The PULL lines: each net with the value that it is pulled to.
+pub fn pulls_of<'a>(
+    alloc: Global,
+    lines: &'a [ChainLine],
+) -> Result<Vec<(&'a [u8], bool)>, AllocError>
+    ensures { IfOk result (λ pulls. map (λ p. (p.0.now, p.1)) pulls.items ≡ pulls_of lines.now) }
+{
+    let mut pulls = Vec::new(alloc);
+    for line in lines {
+        if let Some(pull) = pull_of_line(&line.statement) {
+            pulls.push(pull)?;
+        }
+    }
+    Ok(pulls)
+}
+
+/// The value of the first PULL line of each net.
+pub fn pulls_by_net<'a>(
+    alloc: Global,
+    pulls: &[(&'a [u8], bool)],
+) -> Result<IndexMap<&'a [u8], bool>, AllocError>
+    ensures { IfOk result (λ known. (q : Bor (List ℕ)) → get_by (λ n. same_word q.now n.now) known ≡ pull_of_net (map (λ p. (p.0.now, p.1)) pulls.now) q.now) }
+{
+    first_values(alloc, pulls)
+}
+
+/// The value that a net is pulled to.
+pub fn pull_of_net(pulls: &IndexMap<&[u8], bool>, net: &[u8]) -> Option<bool>
+    ensures { result ≡ get_by (λ n. same_word net.now n.now) pulls.now }
+{
+    // A look-up hashes the name, even where nothing can be found.
+    if pulls.is_empty() {
+        return None;
+    }
+    pulls.get(&net).copied()
+}
+
+/// The rules on INERT, SUPPLY and PULL lines, in their order.
+#[tactic(auto, unfolding(crate::specs::LineRules::line_fault))]
+pub fn line_fault(
+    alloc: Global,
+    lines: &[ChainLine],
+    nets: &[&[u8]],
+) -> Result<Option<BoardFault>, AllocError>
+    requires lines { length lines.now < 2 ^ 32 }
+    requires nets { length nets.now < 2 ^ 32 }
+    ensures { IfOk result (λ fault. fault ≡ line_fault lines.now (map (λ n. n.now) nets.now)) }
+{
+    let parts = names_in(alloc, lines, Naming::Part)?;
+    let inerts = named(alloc, lines, Naming::Inert)?;
+    if let Some(fault) = inert_in_chain(alloc, &inerts, &parts)? {
+        return Ok(Some(fault));
+    }
+    let supplies = named(alloc, lines, Naming::Supply)?;
+    if let Some(fault) = no_supply_net(alloc, &supplies, nets)? {
+        return Ok(Some(fault));
+    }
+    let pulls = named(alloc, lines, Naming::Pull)?;
+    if let Some(fault) = no_pull_net(alloc, &pulls, nets)? {
+        return Ok(Some(fault));
+    }
+    pull_twice(alloc, &pulls)
+}
+
+/// The names that the lines have in this role.
+pub fn names_in<'a>(
+    alloc: Global,
+    lines: &'a [ChainLine],
+    naming: Naming,
+) -> Result<Vec<&'a [u8]>, AllocError>
+    ensures names { IfOk result (λ names. map (λ n. n.now) names.items ≡ names_of (named naming lines.now)) }
+    ensures few { IfOk result (λ names. vec_len names ≤ length lines.now) }
+{
+    let list = named(alloc, lines, naming)?;
+    names_of(alloc, &list)
+}

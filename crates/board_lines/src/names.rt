@@ -1,0 +1,140 @@
+// The names on the lines of a chain file.
+ghost use Rattle.std.specs.Prelude.{◌≡◌, ◌<◌, ◌≤◌, ◌^◌, vec_len, List, length, ℕ, map, IfOk, option_map, option_copied, Option};
+ghost use Rattle.std.proofs.Common.{Bor};
+ghost use Rattle.first_places.specs.Places.{first_place, first_repeat, number_in, once};
+ghost use Rattle.indexmap.specs.IndexMap.{get_by};
+ghost use Rattle.board_files.specs.Names.{same_word};
+ghost use Rattle.board_lines.specs.Names.{name_of, named, names_of};
+
+use board_defs::Name;
+use board_files::{ChainLine, ChainStatement};
+use first_places::{first_places, first_repeat, numbered};
+use indexmap::IndexMap;
+use std::alloc::{AllocError, Global};
+
+/// The role in which a name stands on a line.
+#[derive(Clone, Copy)]
+pub enum Naming {
+    Part,
+    Entity,
+    Inert,
+    Supply,
+    Pull,
+}
+
+pub fn name_of(statement: &ChainStatement, naming: Naming) -> Option<&Name>
+    ensures { option_copied result ≡ name_of naming statement.now }
+{
+    match (naming, statement) {
+        (Naming::Part, ChainStatement::Device { part, .. }) => Some(part),
+        (Naming::Part, ChainStatement::Bypass { part, .. }) => Some(part),
+        (Naming::Entity, ChainStatement::Device { entity, .. }) => Some(entity),
+        (Naming::Inert, ChainStatement::Inert { part }) => Some(part),
+        (Naming::Supply, ChainStatement::Supply { net }) => Some(net),
+        (Naming::Pull, ChainStatement::Pull { net, .. }) => Some(net),
+        _ => None,
+    }
+}
+
+/// The names that the lines have in this role, each with its line.
+pub fn named<'a>(
+    alloc: Global,
+    lines: &'a [ChainLine],
+    naming: Naming,
+) -> Result<Vec<(u32, &'a [u8])>, AllocError>
+    ensures named { IfOk result (λ list. map (λ n. (n.0, n.1.now)) list.items ≡ named naming lines.now) }
+    ensures few { IfOk result (λ list. vec_len list ≤ length lines.now) }
+{
+    let mut list = Vec::new(alloc);
+    for line in lines {
+        if let Some(name) = name_of(&line.statement, naming) {
+            list.push((line.line, name.bytes()))?;
+        }
+    }
+    Ok(list)
+}
+
+/// The names without their lines.
+pub fn names_of<'a>(alloc: Global, named: &[(u32, &'a [u8])]) -> Result<Vec<&'a [u8]>, AllocError>
+    ensures names { IfOk result (λ names. map (λ n. n.now) names.items ≡ names_of (map (λ n. (n.0, n.1.now)) named.now)) }
+    ensures count { IfOk result (λ names. vec_len names ≡ length named.now) }
+{
+    let mut names = Vec::new(alloc);
+    for n in named {
+        names.push(n.1)?;
+    }
+    Ok(names)
+}
+
+/// The first name that stands a second time.
+pub fn first_repeat_of(alloc: Global, names: &[&[u8]]) -> Result<Option<u32>, AllocError>
+    requires { length names.now < 2 ^ 32 }
+    ensures { IfOk result (λ place. place ≡ first_repeat same_word (map (λ n. n.now) names.now)) }
+{
+    first_repeat(alloc, names)
+}
+
+/// The first place of each name.
+pub fn first_places_of<'a>(
+    alloc: Global,
+    names: &[&'a [u8]],
+) -> Result<IndexMap<&'a [u8], u32>, AllocError>
+    requires { length names.now < 2 ^ 32 }
+    ensures { IfOk result (λ places. (q : Bor (List ℕ)) → get_by (λ n. same_word q.now n.now) places ≡ first_place same_word (map (λ n. n.now) names.now) q.now) }
+{
+    first_places(alloc, names)
+}
+
+/// Where this name stands.
+pub fn place_of(places: &IndexMap<&[u8], u32>, name: &[u8]) -> Option<u32>
+    ensures { result ≡ get_by (λ n. same_word name.now n.now) places.now }
+{
+    // A look-up hashes the name, even where nothing can be found.
+    if places.is_empty() {
+        return None;
+    }
+    places.get(&name).copied()
+}
+
+fn places_by(
+    alloc: Global,
+    names: &[&[u8]],
+    known: &IndexMap<&[u8], u32>,
+) -> Result<Vec<Option<u32>>, AllocError>
+    ensures { IfOk result (λ places. places.items ≡ map (λ name. get_by (λ n. same_word name.now n.now) known.now) names.now) }
+{
+    names
+        .iter()
+        .map(|name| place_of(known, name))
+        .collect(alloc)
+}
+
+/// The first place of each of these names among the others.
+pub fn places_among(
+    alloc: Global,
+    names: &[&[u8]],
+    others: &[&[u8]],
+) -> Result<Vec<Option<u32>>, AllocError>
+    requires { length others.now < 2 ^ 32 }
+    ensures { IfOk result (λ places. places.items ≡ map (first_place same_word (map (λ n. n.now) others.now)) (map (λ n. n.now) names.now)) }
+{
+    // Where no name is asked for, the others need no map.
+    if names.is_empty() {
+        return Ok(Vec::new(alloc));
+    }
+    let known = first_places_of(alloc, others)?;
+    places_by(alloc, names, &known)
+}
+
+/// The different names, each at its first place, and the number of each name among these.
+pub fn numbered_names<'a>(
+    alloc: Global,
+    names: &[&'a [u8]],
+) -> Result<(Vec<&'a [u8]>, Vec<u32>), AllocError>
+    requires { length names.now < 2 ^ 32 }
+    ensures once { IfOk result (λ r. map (λ n. n.now) r.0.items ≡ once same_word (map (λ n. n.now) names.now)) }
+    ensures few { IfOk result (λ r. vec_len r.0 ≤ length names.now) }
+    ensures numbers { IfOk result (λ r. r.1.items ≡ map (number_in same_word (once same_word (map (λ n. n.now) names.now))) (map (λ n. n.now) names.now)) }
+{
+    numbered(alloc, names)
+}

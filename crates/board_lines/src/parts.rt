@@ -1,0 +1,183 @@
+// The parts of a chain, and the places of their pins.
+ghost use Rattle.std.specs.Prelude.{◌≡◌, ◌<◌, ◌≤◌, ◌^◌, ◌++◌, vec_len, length, map, All, IfOk, IfSome, OnOk, Option, option_map, ℕ, List};
+ghost use Rattle.std.specs.Option.{option_to_list};
+ghost use Rattle.std.specs.Vec.Iter.{into_iter_items};
+ghost use Rattle.std.proofs.Common.{Bor};
+ghost use Rattle.indexmap.specs.IndexMap.{get_by};
+ghost use Rattle.first_places.specs.Places.{first_value};
+ghost use Rattle.board_files.specs.ChainLines.{HasLength};
+ghost use Rattle.board_defs.specs.BoardRules.{IsPart};
+ghost use Rattle.board_defs.specs.declared.board.PartKind.TheVariants.{Described as DescribedPart, Bypass as BypassPart};
+ghost use Rattle.board_lines.specs.NetWords.{lent_pin, same_pin};
+ghost use Rattle.board_lines.specs.ChainParts.{part_of_line, devices_after, chain_parts, bit_places, part_places, pin_places, described_name, described_names};
+
+use crate::words::PinName;
+use board_defs::{Device, Name, Part, PartKind, PinAt, PortBit};
+use board_files::{ChainLine, ChainStatement};
+use first_places::first_values;
+use indexmap::IndexMap;
+use std::alloc::{AllocError, Global};
+use std::vec::IntoIter;
+
+fn described(alloc: Global, name: &Name, device: Device) -> Result<Part, AllocError>
+    ensures part { IfOk result (λ part. part ≡ record { name = name.now; kind = DescribedPart device }) }
+    ensures kind { IfOk result (λ part. IsPart part.kind) }
+{
+    let _ = device.raw();
+    Ok(Part {
+        name: Name::of(alloc, name.bytes())?,
+        kind: PartKind::Described(device),
+    })
+}
+
+fn bypass(alloc: Global, name: &Name, length: u32) -> Result<Part, AllocError>
+    requires { (2 ≤ length) × (length ≤ 255) }
+    ensures part { IfOk result (λ part. part ≡ record { name = name.now; kind = BypassPart length }) }
+    ensures kind { IfOk result (λ part. IsPart part.kind) }
+{
+    Ok(Part {
+        name: Name::of(alloc, name.bytes())?,
+        kind: PartKind::Bypass(length),
+    })
+}
+
+/// The part of a line, if it is one of the chain: a DEVICE line takes the next device.
+fn part_of_line(
+    alloc: Global,
+    statement: &ChainStatement,
+    devices: &mut IntoIter<Device>,
+) -> Result<Option<Part>, AllocError>
+    requires { HasLength statement.now }
+    ensures part { IfOk result (λ part. part ≡ part_of_line statement.now (into_iter_items devices.old)) }
+    ensures kind { IfOk result (λ part. IfSome part (λ part. IsPart part.kind)) }
+    ensures rest { OnOk result (into_iter_items devices.new ≡ devices_after statement.now (into_iter_items devices.old)) }
+{
+    match statement {
+        ChainStatement::Device { part, .. } => match devices.next() {
+            Some(device) => Ok(Some(described(alloc, part, device)?)),
+            None => Ok(None),
+        },
+        ChainStatement::Bypass { part, length } => Ok(Some(bypass(alloc, part, *length)?)),
+        _ => Ok(None),
+    }
+}
+
+fn push_some(parts: &mut Vec<Part>, part: Option<Part>) -> Result<(), AllocError>
+    ensures { OnOk result (parts.new.items ≡ parts.old.items ++ option_to_list part) }
+{
+    if let Some(part) = part {
+        parts.push(part)?;
+    }
+    Ok(())
+}
+
+/// The parts of the DEVICE and BYPASS lines in their order.
+pub fn chain_parts(
+    alloc: Global,
+    lines: &[ChainLine],
+    devices: Vec<Device>,
+) -> Result<Vec<Part>, AllocError>
+    requires { All (λ line. HasLength line.statement) lines.now }
+    ensures parts { IfOk result (λ parts. parts.items ≡ chain_parts lines.now devices.items) }
+    ensures kinds { IfOk result (λ parts. All (λ part. IsPart part.kind) parts.items) }
+{
+    let mut parts = Vec::new(alloc);
+    let mut devices = devices.into_iter();
+    for line in lines {
+        let part = part_of_line(alloc, &line.statement, &mut devices)?;
+        push_some(&mut parts, part)?;
+    }
+    Ok(parts)
+}
+
+/// Adds the pins of a part's port bits.
+fn push_bits<'a>(
+    places: &mut Vec<(PinName<'a>, PinAt)>,
+    part: u32,
+    name: &'a [u8],
+    bits: &'a [PortBit],
+) -> Result<(), AllocError>
+    requires { length bits.now ≤ 65535 }
+    ensures { OnOk result (map (λ p. (lent_pin p.0, p.1)) places.new.items ≡ map (λ p. (lent_pin p.0, p.1)) places.old.items ++ bit_places part name.now 0 bits.now) }
+{
+    for i in 0..bits.len() {
+        if let Some(pin) = &bits[i].pin {
+            places.push((
+                (name, pin.bytes()),
+                PinAt {
+                    part,
+                    bit: i as u32,
+                },
+            ))?;
+        }
+    }
+    Ok(())
+}
+
+fn push_part<'a>(
+    places: &mut Vec<(PinName<'a>, PinAt)>,
+    number: u32,
+    part: &'a Part,
+) -> Result<(), AllocError>
+    ensures { OnOk result (map (λ p. (lent_pin p.0, p.1)) places.new.items ≡ map (λ p. (lent_pin p.0, p.1)) places.old.items ++ part_places number part.now.name part.now.kind) }
+{
+    match &part.kind {
+        PartKind::Described(device) => {
+            push_bits(
+                places,
+                number,
+                part.name.bytes(),
+                device.raw().bits.as_slice(),
+            )
+        }
+        PartKind::Bypass(_) => Ok(()),
+    }
+}
+
+/// The pins of the described parts, each with its place.
+pub fn pin_places<'a>(
+    alloc: Global,
+    parts: &'a [Part],
+) -> Result<Vec<(PinName<'a>, PinAt)>, AllocError>
+    requires { length parts.now < 2 ^ 32 }
+    ensures { IfOk result (λ places. map (λ p. (lent_pin p.0, p.1)) places.items ≡ pin_places parts.now) }
+{
+    let mut places = Vec::new(alloc);
+    for number in 0..parts.len() {
+        push_part(&mut places, number as u32, &parts[number])?;
+    }
+    Ok(places)
+}
+
+/// The first place of each pin.
+pub fn places_by_pin<'a>(
+    alloc: Global,
+    places: &[(PinName<'a>, PinAt)],
+) -> Result<IndexMap<PinName<'a>, PinAt>, AllocError>
+    ensures { IfOk result (λ known. (q : Bor (List ℕ) × Bor (List ℕ)) → get_by (λ p. same_pin (lent_pin q) (lent_pin p)) known ≡ first_value same_pin (map (λ p. (lent_pin p.0, p.1)) places.now) (lent_pin q)) }
+{
+    first_values(alloc, places)
+}
+
+fn described_name(part: &Part) -> Option<&[u8]>
+    ensures { option_map (λ n. n.now) result ≡ described_name part.now }
+{
+    match &part.kind {
+        PartKind::Described(_) => Some(part.name.bytes()),
+        PartKind::Bypass(_) => None,
+    }
+}
+
+/// The names of the described parts.
+pub fn described_names<'a>(alloc: Global, parts: &'a [Part]) -> Result<Vec<&'a [u8]>, AllocError>
+    ensures names { IfOk result (λ names. map (λ n. n.now) names.items ≡ described_names parts.now) }
+    ensures few { IfOk result (λ names. vec_len names ≤ length parts.now) }
+{
+    let mut names = Vec::new(alloc);
+    for part in parts {
+        if let Some(name) = described_name(part) {
+            names.push(name)?;
+        }
+    }
+    Ok(names)
+}
