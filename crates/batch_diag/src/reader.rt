@@ -18,7 +18,7 @@ use std::alloc::Global;
 /// Where some line with words stands before the first title, the answer is `Start` with the first such line. Otherwise, where
 /// some title has not two words or an id that breaks the word rule, it is `Title` with the first such title. Otherwise, where
 /// the lines of some block are no log, it is `Inner` with the first such block. The blocks take no more memory than the ids
-/// and a byte for each digit.
+/// and a byte for each byte of the text.
 pub fn blocks(alloc: Global, bytes: &[u8], rows: u64, len: u32) -> Result<Vec<Block>, BatchFault>
     requires { length bytes.now < 2 ^ 32 }
     ensures read { Gives batch_told (λ blocks. blocks.items) (λ said. batch_of bytes.now rows len ≡ said) result }

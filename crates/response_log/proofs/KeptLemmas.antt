@@ -1,10 +1,9 @@
 -- Rows of bits that are kept as digits, one row after the other.
-use Rattle.std.proofs.Common.{◌≡◌, ℕ, ◌+◌, ◌*◌, ◌/◌, ◌%◌, ◌<◌, ◌≤◌, zero, suc, Bool, false, Some, List, [], ◌∷◌, ◌++◌, length, take, drop, get_or, refl, sym, ap, ◌∙◌, arith, length-drop, length-append, option_and_then, subst}
+use Rattle.std.proofs.Common.{◌≡◌, ℕ, ◌+◌, ◌*◌, ◌/◌, ◌%◌, ◌<◌, ◌≤◌, zero, suc, Bool, false, Some, List, [], ◌∷◌, ◌++◌, length, take, drop, get_or, refl, sym, ap, ◌∙◌, arith, length-drop, length-append, option_and_then, subst, append_assoc}
 use Rattle.std.specs.Prelude.{All, slice_get}
-use Rattle.std.specs.Global.{Vec}
-use Rattle.std.specs.Vec.{with_items}
 use Rattle.std.proofs.Math.Nat.{suc-mul}
-use Rattle.std.proofs.lemmas.List.{take_all, take_at, append-nil, with_items_is, take-append-le, drop-append-le, length-take-le, get_or-take, get_or-drop, nil_from_length, drop-drop}
+use Rattle.std.proofs.lemmas.List.{take_all, take_at, take-append-le, drop-append-le, length-take-le, get_or-take, get_or-drop, nil_from_length, drop-drop}
+use Rattle.std.proofs.lemmas.Slice.{drop-append-drop}
 use Rattle.std.proofs.lemmas.List.Elements.{All-nil, All-cons}
 use Rattle.std.proofs.lemmas.Nat.{mul-le}
 use Rattle.std.proofs.lemmas.Option.{get_or_from_slice_get, slice_get-get_or}
@@ -91,13 +90,21 @@ whole-get len (suc rows) digits (suc row) within whole =
     let there : drop (row * digit_count len) (drop (digit_count len) digits) ≡ drop (suc row * digit_count len) digits = drop-drop (row * digit_count len) (digit_count len) digits ∙ ap (λ n. drop n digits) place in
     subst (λ (ds : List ℕ). take (digit_count len) ds ≡ digits_of (row_bits len (take (digit_count len) ds))) there (whole-get len rows (drop (digit_count len) digits) row (omega arith) whole.1)
 
--- digits that were written over zeros at the end of a vector are appended
-pub row_appended : (longer all : Vec ℕ) (old lent zeros places rest : List ℕ) (first width : ℕ) → all ≡ with_items longer (take first lent ++ (places ++ rest)) → first ≡ length old → lent ≡ take (first + width) old ++ zeros → longer.len ≡ first + width → length places ≡ width → rest ≡ [] → all.items ≡ old ++ places
-row_appended longer all old lent zeros places rest first width is at zeroed long sized none =
-    let kept : take first lent ≡ old = ap (take first) (zeroed ∙ ap (λ ds. ds ++ zeros) (take_all (first + width) old (omega arith))) ∙ take_at old zeros first (sym at) in
-    let written : take first lent ++ (places ++ rest) ≡ old ++ places = ap (λ ds. ds ++ (places ++ rest)) kept ∙ ap (λ ds. old ++ (places ++ ds)) none ∙ ap (λ ds. old ++ ds) (append-nil places) in
-    let whole : length (take first lent ++ (places ++ rest)) ≡ longer.len = ap length written ∙ length-append old places ∙ omega (arith, at, sized, long) in
-    ap (λ v. v.items) is ∙ with_items_is longer (take first lent ++ (places ++ rest)) whole ∙ written
+-- the digits so far, and a row
+put_length : (text row : List ℕ) (at end : ℕ) → end ≡ at + length row → end ≤ length text → length (take at text ++ row) ≡ end
+put_length text row at end ends within =
+    omega (arith, length-append (take at text) row, length-take-le at text (omega arith))
+
+-- a row that is written over a text from a place on, up to an end
+pub put_before : (text row next : List ℕ) (at end : ℕ) → next ≡ take at text ++ (row ++ drop (at + length row) text) → end ≡ at + length row → end ≤ length text → take end next ≡ take at text ++ row
+put_before text row next at end is ends within =
+    ap (take end) (is ∙ sym (append_assoc (take at text) row (drop (at + length row) text)))
+    ∙ take_at (take at text ++ row) (drop (at + length row) text) end (put_length text row at end ends within)
+
+pub put_behind : (text row next : List ℕ) (at end n : ℕ) → next ≡ take at text ++ (row ++ drop (at + length row) text) → end ≡ at + length row → end ≤ length text → end ≤ n → drop n next ≡ drop n text
+put_behind text row next at end n is ends within behind =
+    ap (drop n) (is ∙ sym (append_assoc (take at text) row (drop (at + length row) text)) ∙ ap (λ k. (take at text ++ row) ++ drop k text) (sym ends))
+    ∙ drop-append-drop end text (take at text ++ row) n behind (put_length text row at end ends within)
 
 -- where a row stands
 kept_rows-get : (len rows : ℕ) (digits : List ℕ) (row : ℕ) → row < rows → slice_get (kept_rows len rows digits) row ≡ Some (row_bits len (take (digit_count len) (drop (row * digit_count len) digits)))

@@ -1,13 +1,15 @@
 -- From the lines of a text to the rows of a log.
-use Rattle.std.proofs.Common.{◌≡◌, ℕ, ◌+◌, ◌-◌, ◌<◌, ◌≤◌, zero, suc, Bool, cond, nat_lt, Option, Some, None, Ok, Err, List, [], ◌∷◌, ◌++◌, length, map, take, drop, refl, sym, ap, ◌∙◌, arith, append_assoc}
+use Rattle.std.proofs.Common.{◌≡◌, ℕ, ◌+◌, ◌-◌, ◌<◌, ◌≤◌, zero, suc, Bool, cond, nat_lt, Option, Some, None, Ok, Err, List, [], ◌∷◌, ◌++◌, length, map, take, drop, refl, sym, ap, ◌∙◌, arith, append_assoc, length-drop}
 use Rattle.std.specs.Prelude.{IfSome, filter, filter_map}
 use Rattle.std.specs.List.{slice_split, cons_option}
 use Rattle.std.proofs.lemmas.List.{append-nil, length_push}
 use Rattle.text_lines.specs.Words.{Word, words_of, is_newline, lines_of}
-use Rattle.text_lines.proofs.LineLemmas.{words_of_empty}
+use Rattle.text_lines.proofs.LineLemmas.{words_of_empty, text_left}
 use Rattle.response_log.specs.declared.fault.LogFault.{LogFault}
 use Rattle.response_log.specs.declared.fault.LogFault.TheVariants.{Digit, Length, Missing, Extra, Memory}
 use Rattle.response_log.specs.LogRows.{Answer, NumberedLine, line_of, log_told, numbered, holds_word, has_words, bits_of_line, row_fault, offences, first_or, wanted_rows, rows_of_lines}
+use Rattle.response_log.specs.Kept.{text_at}
+use Rattle.response_log.proofs.KeptLemmas.{put_behind}
 
 -- what is said of so many rows, whose lines do not offend
 abbrev pub counted : ℕ → ℕ → List (List Bool) → Answer
@@ -106,3 +108,27 @@ fails_by (Length n) said is = is
 fails_by (Missing found) said is = is
 fails_by (Extra n) said is = is
 fails_by (Memory e) said is = tt
+
+-- where the next line begins, behind a line of so many bytes of a text
+abbrev pub Follows : ℕ → ℕ → ℕ → ℕ → Type 0
+Follows from line text next = (next ≡ from + line + 1) × (next ≤ text)
+
+-- a place behind what is kept, which no more lines than bytes stand before
+abbrev pub IsBehind : ℕ → ℕ → ℕ → ℕ → Type 0
+IsBehind kept text number from = (kept ≤ from) × (from ≤ text) × (number ≤ 1 + from)
+
+pub next_behind : (following : Option ℕ) (from line text kept number : ℕ) → IfSome following (Follows from line text) → kept ≤ from + line → number ≤ 1 + from → IfSome following (IsBehind kept text (number + 1))
+next_behind None from line text kept number follows before few = tt
+next_behind (Some next) from line text kept number (place, within) before few = (omega arith, within, omega arith)
+
+-- less of the text is left behind a line
+pub less_left : (text later : List ℕ) (left following : Option ℕ) (from line : ℕ) → left ≡ Some from → from ≤ length text → length later ≡ length text → IfSome following (Follows from line (length text)) → text_left (text_at later following) < text_left (text_at text left)
+less_left text later left None from line is within same follows = rw is (omega arith)
+less_left text later left (Some next) from line is within same (place, inside) =
+    rw is (omega (arith, length-drop next later, length-drop from text))
+
+-- what a row was not written over
+pub same_left : (text row later : List ℕ) (at end : ℕ) (following : Option ℕ) (from line : ℕ) → later ≡ take at text ++ (row ++ drop (at + length row) text) → end ≡ at + length row → end ≤ from + line → from + line ≤ length text → IfSome following (Follows from line (length text)) → text_at later following ≡ text_at text following
+same_left text row later at end None from line is ends before within follows = refl
+same_left text row later at end (Some next) from line is ends before within (place, inside) =
+    ap Some (put_behind text row later at end next is ends (omega arith) (omega arith))

@@ -1,5 +1,5 @@
 -- How the rows of a log are kept: the values of the digits of each row, one row after the other.
-use Rattle.std.specs.Prelude.{◌≡◌, ℕ, zero, suc, ◌/◌, ◌%◌, ◌<◌, Bool, false, List, [], ◌∷◌, take, drop, length, slice_index_or}
+use Rattle.std.specs.Prelude.{◌≡◌, ℕ, zero, suc, ◌/◌, ◌%◌, ◌<◌, Bool, false, List, [], ◌∷◌, take, drop, length, slice_index_or, Option, Some, None}
 use Rattle.bt_bits.specs.Digits.{digit_bit, digits_of, row_bits}
 use Rattle.bt_bits.specs.Hex.{digit_count}
 
@@ -18,3 +18,8 @@ pub record AreRowDigits (row : List Bool) (digits : List ℕ) : Type 0 where
   pub values : digits ≡ digits_of row
   pub count : length digits ≡ digit_count (length row)
   pub bits : (at : ℕ) → at < length row → slice_index_or row at false ≡ digit_bit (slice_index_or digits (at / 4) 0) (at % 4)
+
+-- the text from a place on, where there is one
+abbrev pub text_at : List ℕ → Option ℕ → Option (List ℕ)
+text_at text None = None
+text_at text (Some from) = Some (drop from text)

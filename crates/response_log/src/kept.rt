@@ -2,7 +2,7 @@
 ghost use Rattle.std.specs.Prelude.{◌≡◌, ◌+◌, ◌*◌, ◌<◌, ◌≤◌, [], length, take, drop, slice_index_or, All, Some};
 ghost use Rattle.bt_bits.specs.Hex.{digit_count};
 ghost use Rattle.response_log.specs.Kept.{AreRowDigits, AreWhole, kept_rows};
-ghost use Rattle.response_log.specs.LogRows.{log_bit};
+ghost use Rattle.response_log.specs.LogRows.{HasSize, log_bit};
 
 use bt_bits::digit_bit;
 use std::marker::Model;
@@ -51,7 +51,8 @@ impl Log {
     pub(crate) fn of(digits: Vec<u8>, rows: u64, len: u32) -> Log
         requires count { length digits.items ≡ rows * digit_count len }
         requires whole { AreWhole len rows digits.items }
-        ensures { result ≡ kept_rows len rows digits.items }
+        ensures rows { result ≡ kept_rows len rows digits.items }
+        ensures size { HasSize rows len result }
     {
         Log { digits, rows, len }
     }

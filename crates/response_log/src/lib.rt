@@ -12,7 +12,7 @@ mod reader;
 
 pub use fault::LogFault;
 pub use kept::Log;
-pub use reader::log;
+pub use reader::{log, log_of};
 
 #[cfg(test)]
 mod tests;

@@ -1,11 +1,13 @@
 // From a text to the rows of a log.
-ghost use Rattle.std.specs.Prelude.{◌≡◌, ◌*◌, ◌<◌, ◌≤◌, ◌^◌, length, min, IfOk, MatchResult, Some, None};
+ghost use Rattle.std.specs.Prelude.{◌≡◌, ◌+◌, ◌*◌, ◌<◌, ◌≤◌, ◌^◌, ◌∷◌, ◌++◌, length, take, drop, min, IfOk, IfSome, MatchResult, Some, None};
+ghost use Rattle.std.specs.List.{slice_split};
 ghost use Rattle.bt_bits.specs.Digits.{row_bits};
 ghost use Rattle.bt_bits.specs.Hex.{digit_count};
 ghost use Rattle.bt_bits.specs.Rows.{AreDigitsOf};
 ghost use Rattle.answers.specs.Gives.{Gives};
+ghost use Rattle.text_lines.specs.Words.{is_newline, lines_of};
 ghost use Rattle.response_log.specs.LogRows.{HasSize, bits_of_line, line_of, log_rows, log_told, row_fault};
-ghost use Rattle.response_log.specs.Kept.{AreWhole, kept_rows};
+ghost use Rattle.response_log.specs.Kept.{AreWhole, kept_rows, text_at};
 
 use crate::fault::LogFault;
 use crate::kept::{Log, digit_count};
@@ -16,58 +18,87 @@ use text_lines::{first_line, next_word};
 /// Reads a log of `rows` rows with `len` bits each. Any bytes may stand in the text. The first line that offends is
 /// named: with `Length` or else `Digit` where it is to be a row and is none, with `Extra` where it has words behind the
 /// last row that is wanted. Where no line offends and there are fewer rows, the answer is `Missing`. The log takes a byte
-/// for each digit.
+/// for each byte of the text.
 pub fn log(alloc: Global, bytes: &[u8], rows: u64, len: u32) -> Result<Log, LogFault>
     requires { length bytes.now < 2 ^ 32 }
     ensures read { Gives log_told (λ log. log) (λ said. log_rows bytes.now rows len ≡ said) result }
     ensures size { IfOk result (HasSize rows len) }
 {
-    let digits = read_rows(alloc, bytes, rows, len)?;
-    Ok(Log::of(digits, rows, len))
+    log_of(alloc, Vec::from_slice(alloc, bytes)?, rows, len)
 }
 
-// How many digits so many rows have, but no more than the text has bytes: a text with fewer holds no such log.
-fn room(bytes: &[u8], rows: u64, len: u32) -> usize
-    ensures { result ≡ min (rows * digit_count len) (length bytes.now) }
+/// Reads a log as `log` does, from a text that it takes over: it writes the digits over the text. So beside the text it
+/// takes memory for one row, and for none that is longer than the text.
+pub fn log_of(alloc: Global, mut text: Vec<u8>, rows: u64, len: u32) -> Result<Log, LogFault>
+    requires { length text.items < 2 ^ 32 }
+    ensures read { Gives log_told (λ log. log) (λ said. log_rows text.items rows len ≡ said) result }
+    ensures size { IfOk result (HasSize rows len) }
 {
-    let all = (rows as usize).saturating_mul(digit_count(len));
-    all.min(bytes.len())
+    let kept = keep_rows(alloc, &mut text, rows, len)?;
+    text.truncate(kept);
+    Ok(Log::of(text, rows, len))
 }
 
-// The digits of all rows, one row after the other.
-fn read_rows(alloc: Global, bytes: &[u8], rows: u64, len: u32) -> Result<Vec<u8>, LogFault>
-    requires { length bytes.now < 2 ^ 32 }
-    ensures read { Gives log_told (λ digits. kept_rows len rows digits.items) (λ said. log_rows bytes.now rows len ≡ said) result }
-    ensures count { IfOk result (λ digits. length digits.items ≡ rows * digit_count len) }
-    ensures whole { IfOk result (λ digits. AreWhole len rows digits.items) }
+// Writes the digits of all rows, one row after the other, over the text from its start on, and returns how many they
+// are. A row has no more digits than its line has bytes, so they never reach a line that is still to be read. They pass
+// through a row of their own, since a word's last digit is the first of its row.
+fn keep_rows(alloc: Global, text: &mut [u8], rows: u64, len: u32) -> Result<usize, LogFault>
+    requires { length text.old < 2 ^ 32 }
+    ensures read { Gives log_told (λ kept. kept_rows len rows (take kept text.new)) (λ said. log_rows text.old rows len ≡ said) result }
+    ensures count { IfOk result (λ kept. length (take kept text.new) ≡ rows * digit_count len) }
+    ensures whole { IfOk result (λ kept. AreWhole len rows (take kept text.new)) }
 {
     let width = digit_count(len);
-    let mut digits = Vec::with_capacity(alloc, room(bytes, rows, len))?;
+    let mut row = vec![in alloc; 0u8; width.min(text.len())]?;
+    let mut kept = 0usize;
     let mut found = 0u64;
-    let mut rest = Some(bytes);
+    let mut next = Some(0usize);
     let mut number = 1usize;
-    while let Some(text) = rest {
-        let (line, after) = first_line(text);
+    while let Some(from) = next {
+        let (line, following) = line_at(text, from);
+        next = following;
         if let Some((word, behind)) = next_word(line) {
             let line_number = number as u32;
             if found >= rows {
                 return Err(LogFault::Extra(line_number));
             }
-            let first = digits.len();
-            digits.resize(first + width, 0)?;
-            read_row(line_number, word, behind, len, &mut digits[first..])?;
+            read_row(line_number, word, behind, len, &mut row)?;
+            put_row(text, kept, &row);
+            kept += width;
             found += 1;
         }
         number += 1;
-        rest = after;
     }
     if found < rows {
         return Err(LogFault::Missing(found));
     }
-    Ok(digits)
+    Ok(kept)
 }
 
-// Reads a line that is to be a row into places for its digits, by its first word and what stands behind it.
+// The line that begins at a place, and where the next line begins, if one follows.
+fn line_at(text: &[u8], from: usize) -> (&[u8], Option<usize>)
+    requires { from ≤ length text.now }
+    ensures lines { slice_split is_newline (drop from text.now) ≡ result.0.now ∷ lines_of (text_at text.now result.1) }
+    ensures next { IfSome result.1 (λ next. (next ≡ from + length result.0.now + 1) × next ≤ length text.now) }
+    ensures within { from + length result.0.now ≤ length text.now }
+{
+    let (line, after) = first_line(&text[from..]);
+    match after {
+        Some(_) => (line, Some(from + line.len() + 1)),
+        None => (line, None),
+    }
+}
+
+// Writes the digits of a row over a text, from a place on.
+fn put_row(text: &mut [u8], at: usize, row: &[u8])
+    requires { at + length row.now ≤ length text.old }
+    ensures { text.new ≡ take at text.old ++ (row.now ++ drop (at + length row.now) text.old) }
+{
+    text[at..at + row.len()].copy_from_slice(row);
+}
+
+// Reads a line that is to be a row into places for its digits, by its first word and what stands behind it. Where the
+// word has fewer digits than a row, there may be fewer places.
 fn read_row(
     line: u32,
     word: &[u8],
@@ -75,12 +106,14 @@ fn read_row(
     len: u32,
     digits: &mut [u8],
 ) -> Result<(), LogFault>
-    requires { length digits.old ≡ digit_count len }
+    requires most { length digits.old ≤ digit_count len }
+    requires room { min (digit_count len) (length word.now) ≤ length digits.old }
     ensures fault { MatchResult result (λ _. row_fault len (line_of line word.now behind.now) ≡ None) (λ fault. row_fault len (line_of line word.now behind.now) ≡ Some fault) }
     ensures bits { IfOk result (λ _. bits_of_line len (line_of line word.now behind.now) ≡ Some (row_bits len digits.new)) }
     ensures kept { IfOk result (λ _. AreDigitsOf (row_bits len digits.new) len digits.new) }
+    ensures long { IfOk result (λ _. length word.now ≡ digit_count len) }
 {
-    if next_word(behind).is_some() {
+    if next_word(behind).is_some() || word.len() != digit_count(len) {
         return Err(LogFault::Length(line));
     }
     match read_digits(word, len, digits) {

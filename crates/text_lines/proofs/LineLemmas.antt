@@ -1,12 +1,12 @@
 -- Cutting a text into lines, and a line into words.
-use Rattle.std.proofs.Common.{◌≡◌, ℕ, ◌+◌, ◌<◌, ◌≤◌, Bool, true, false, cond, List, [], ◌∷◌, length, Option, Some, None, refl, ap, ◌∙◌, arith, not, map, subst, take, drop, get_or, suc, sym, ◌-◌}
+use Rattle.std.proofs.Common.{◌≡◌, ℕ, ◌+◌, ◌<◌, ◌≤◌, Bool, true, false, cond, List, [], ◌∷◌, length, Option, Some, None, refl, ap, ◌∙◌, arith, not, map, subst, take, drop, get_or, suc, sym, ◌-◌, length-drop}
 use Rattle.std.specs.Prelude.{IfSome, IfNone, option_map, filter, take_while, ◌==◌}
 use Rattle.memchr.specs.Find.{Nowhere, NoneBefore, Passes}
 use Rattle.std.proofs.lemmas.List.Sums.{prefix_len_is, take_while-cons}
 use Rattle.std.specs.List.{slice_split, position_or_len, onto_first, before_first}
 use Rattle.text_lines.specs.Words.{words_of, IsCut, is_blank, is_filled, begins_no_comment, begins_blank, begins_word}
 use Rattle.std.proofs.lemmas.List.Splits.{slice_split-cons_yes, slice_split-cons_no}
-use Rattle.std.proofs.lemmas.List.{take_rest}
+use Rattle.std.proofs.lemmas.List.{take_rest, length-take-le}
 use Rattle.std.proofs.lemmas.Bool.{false≢true}
 
 passes_not : (b : Bool) → ¬ (b ≡ true) → not b ≡ true
@@ -31,6 +31,11 @@ cut_there p xs k (before, passes) =
       sym (ap (λ n. take n xs) place),
       take_rest xs (k + 1) ∙ sym (ap (λ n. drop (n + 1) xs) place),
     )
+
+-- the two parts are no longer than the text
+pub cut_within : (p : ℕ → Bool) (text before behind : List ℕ) → IsCut p text (Some (before, behind)) → length before + length behind ≤ length text
+cut_within p text before behind (place, first, rest) =
+    omega (arith, place, ap length first, ap length rest, length-take-le (position_or_len p text) text (omega arith), length-drop (position_or_len p text + 1) text)
 
 split_behind : (p : ℕ → Bool) (x : ℕ) (xs : List ℕ) (b : Bool) → cond (not b) (1 + position_or_len p xs) 0 ≡ 1 + length xs → (position_or_len p xs ≡ length xs → slice_split p xs ≡ xs ∷ []) → cond b ([] ∷ slice_split p xs) (onto_first x (slice_split p xs)) ≡ (x ∷ xs) ∷ []
 split_behind p x xs true e ih = absurd (omega arith)

@@ -4,7 +4,7 @@
 //! with `#` begins a comment to the end of its line.
 #![tactic(auto)]
 
-ghost use Rattle.std.specs.Prelude.{◌≡◌, ◌==◌, [], ◌∷◌, true, false, MatchOption, map, IfOk, IfSome, IfNone, option_map, option_copied, length, ◌+◌};
+ghost use Rattle.std.specs.Prelude.{◌≡◌, ◌==◌, [], ◌∷◌, true, false, MatchOption, map, IfOk, IfSome, IfNone, option_map, option_copied, length, drop, ◌+◌, ◌≤◌};
 ghost use Rattle.std.specs.List.{slice_split, list_all};
 ghost use Rattle.std.specs.Char.{is_ascii_graphic};
 ghost use Rattle.memchr.specs.Find.{IsFirstByte, is_byte};
@@ -87,6 +87,7 @@ pub fn first_line(text: &[u8]) -> (&[u8], Option<&[u8]>)
     ensures lines { slice_split is_newline text.now ≡ result.0.now ∷ lines_of (option_copied result.1) }
     ensures shorter { IfSome result.1 (λ rest. length result.0.now + length rest.now + 1 ≡ length text.now) }
     ensures whole { IfNone result.1 (length result.0.now ≡ length text.now) }
+    ensures behind { IfSome result.1 (λ rest. rest.now ≡ drop (length result.0.now + 1) text.now) }
 {
     match cut_at(text, b'\n') {
         Some((line, rest)) => (line, Some(rest)),
@@ -98,6 +99,7 @@ pub fn first_line(text: &[u8]) -> (&[u8], Option<&[u8]>)
 fn behind_blanks(line: &[u8]) -> &[u8]
     ensures words { words_of result.now ≡ words_of line.now }
     ensures first { begins_blank result.now ≡ false }
+    ensures within { length result.now ≤ length line.now }
 {
     for (i, b) in line.iter().enumerate() {
         if !is_blank(*b) {
@@ -127,7 +129,8 @@ fn cut_at_blank(text: &[u8]) -> Option<(&[u8], &[u8])>
 fn cut_word(text: &[u8]) -> (&[u8], &[u8])
     requires first { begins_blank text.now ≡ false }
     requires word { begins_word text.now ≡ true }
-    ensures { words_of text.now ≡ result.0.now ∷ words_of result.1.now }
+    ensures words { words_of text.now ≡ result.0.now ∷ words_of result.1.now }
+    ensures within { length result.0.now + length result.1.now ≤ length text.now }
 {
     match cut_at_blank(text) {
         Some(cut) => cut,
@@ -137,7 +140,8 @@ fn cut_word(text: &[u8]) -> (&[u8], &[u8])
 
 /// The first word of a line and the text behind it, or nothing where the line has no word.
 pub fn next_word(line: &[u8]) -> Option<(&[u8], &[u8])>
-    ensures { MatchOption result (words_of line.now ≡ []) (λ cut. words_of line.now ≡ cut.0.now ∷ words_of cut.1.now) }
+    ensures words { MatchOption result (words_of line.now ≡ []) (λ cut. words_of line.now ≡ cut.0.now ∷ words_of cut.1.now) }
+    ensures within { IfSome result (λ cut. length cut.0.now + length cut.1.now ≤ length line.now) }
 {
     let text = behind_blanks(line);
     if begins_word(text) {
