@@ -8,7 +8,7 @@ use Rattle.board_defs.specs.declared.board.Ctl.{Ctl}
 use Rattle.board_defs.specs.declared.board.RawBoard.{RawBoard}
 use Rattle.board_defs.specs.Settings.{inserted, IsInControlOrder}
 use Rattle.board_defs.specs.Passes.{useful_controls}
-use Rattle.net_classes.specs.Kept.{contends_there, shared_nets}
+use Rattle.net_facts.specs.Kept.{contends_there, shared_nets}
 use Rattle.driver_passes.specs.declared.draft.Draft.{Draft}
 use Rattle.driver_passes.specs.inner.Drafts.{chosen, has_number, is_taken, setting_of, IsDraft}
 use Rattle.driver_passes.proofs.ControlLemmas.{any_inserted}

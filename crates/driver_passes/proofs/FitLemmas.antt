@@ -12,7 +12,7 @@ use Rattle.board_defs.specs.Decided.{is_safe_alone, share_net, are_together}
 use Rattle.board_defs.specs.Passes.{useful_controls, fits}
 use Rattle.board_defs.specs.Coverage.{IsUseful}
 use Rattle.board_defs.specs.Laws.{PassesAre, DecidesTerms}
-use Rattle.net_classes.specs.Kept.{shared_nets}
+use Rattle.net_facts.specs.Kept.{shared_nets}
 use Rattle.net_classes.specs.Laws.{HaveCommon, NetsAreShared, SaysShared}
 use Rattle.driver_passes.specs.declared.draft.Draft.{Draft}
 use Rattle.driver_passes.specs.inner.Drafts.{chosen, has_number, is_taken, setting_of, IsDraft}

@@ -20,20 +20,20 @@ use Rattle.board_defs.proofs.PassesKept.{Tested, tested_has}
 use Rattle.board_defs.proofs.Places.{any_at}
 use Rattle.net_classes.specs.declared.closed_nets.ClosedNets.{ClosedNets}
 use Rattle.net_classes.specs.declared.control_sets.ControlSet.{ControlSet}
-use Rattle.net_classes.specs.declared.facts.PinFacts.{PinFacts}
+use Rattle.net_facts.specs.declared.facts.PinFacts.{PinFacts}
 use Rattle.net_classes.specs.declared.known.Known.{Known}
 use Rattle.net_classes.specs.inner.Closed.{AreClosed, AreClosedNets, IsKnown, are_by_some, closed_in, closes, driven_in, drives_some, is_by_one, is_closed_by, nets_of, pins_there}
 use Rattle.net_classes.specs.Pairs.{drivers_at, drivers_there}
 use Rattle.net_classes.specs.inner.ControlSets.{IsSet, has_control}
-use Rattle.net_classes.specs.inner.Facts.{pin_facts_of}
-use Rattle.net_classes.specs.Kept.{drives_there, item_of, table}
+use Rattle.net_facts.specs.Facts.{pin_facts_of}
+use Rattle.net_facts.specs.Cells.{item_of, table, holds_there}
+use Rattle.net_facts.specs.Kept.{drives_there}
 use Rattle.net_classes.specs.inner.Pairs.{IsByCell}
-use Rattle.net_classes.specs.inner.Switching.{holds_there}
 use Rattle.net_classes.proofs.ControlSetLemmas.{same_set}
 use Rattle.net_classes.proofs.Lists.{any_joined}
 use Rattle.net_classes.proofs.Paired.{has_cells}
 use Rattle.net_classes.proofs.SharedLemmas.{driven_has}
-use Rattle.net_classes.proofs.Truth.{and_intro, and_left, and_right, any_map}
+use Rattle.net_facts.proofs.Truth.{and_intro, and_left, and_right, any_map}
 
 -- one net more
 pub pins_drive : (board : RawBoard) (c : Ctl) (net : Option Net) → list_any (λ (pin : PinFacts). is_by c pin.drive) (pins_there board net) ≡ drives_there board c net

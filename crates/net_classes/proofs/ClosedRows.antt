@@ -16,15 +16,15 @@ use Rattle.board_defs.proofs.PassesKept.{tested_can_drive, tested_has}
 use Rattle.board_defs.proofs.Places.{any_at}
 use Rattle.net_classes.specs.inner.Closed.{AreClosed, are_by_some, drives_some, is_by_one, is_closed_by}
 use Rattle.net_classes.specs.Pairs.{drivers_at, drivers_there}
-use Rattle.net_classes.specs.Kept.{drives_there, is_contended, shared_nets}
+use Rattle.net_facts.specs.Kept.{drives_there, is_contended, shared_nets}
 use Rattle.net_classes.specs.NetRows.{AreRowBits, stands_in}
 use Rattle.net_classes.specs.Pairs.{fits_at}
 use Rattle.net_classes.specs.inner.PairRows.{owns_at}
 use Rattle.net_classes.specs.Pairs.{fit}
 use Rattle.net_classes.proofs.ClosedLemmas.{nothing_closed}
-use Rattle.net_classes.proofs.Contended.{has_shares, share_has}
+use Rattle.net_classes.proofs.ContendedLemmas.{has_shares, share_has}
 use Rattle.net_classes.proofs.PairRowLemmas.{covered_bit}
-use Rattle.net_classes.proofs.Truth.{and_intro, and_left, and_right, clash, eqb_refl, eqb_same, same_truth}
+use Rattle.net_facts.proofs.Truth.{and_intro, and_left, and_right, clash, eqb_refl, eqb_same, same_truth}
 use Rattle.net_classes.proofs.WordLemmas.{same_row}
 
 -- another control drives one of the nets that a control shares exactly where the two share a net

@@ -9,13 +9,10 @@ use Rattle.board_defs.specs.Settings.{same_ctl}
 use Rattle.board_defs.proofs.ControlOrder.{same_equal, same_refl}
 use Rattle.board_defs.proofs.Members.{Has, has_contains, contains_has, has_left, has_right}
 use Rattle.net_classes.specs.declared.control_sets.ControlSet.{ControlSet}
-use Rattle.net_classes.specs.inner.Cells.{filled, put}
+use Rattle.net_facts.specs.Cells.{filled, put, item_of, table, at_control, holds_there}
 use Rattle.net_classes.specs.inner.ControlSets.{IsSet, has_control, put_all}
-use Rattle.net_classes.specs.Kept.{item_of, table}
-use Rattle.net_classes.specs.inner.Rows.{at_control}
-use Rattle.net_classes.specs.inner.Switching.{holds_there}
-use Rattle.net_classes.proofs.Notes.{at_same, at_other}
-use Rattle.net_classes.proofs.Truth.{clash}
+use Rattle.net_facts.proofs.Notes.{at_same, at_other}
+use Rattle.net_facts.proofs.Truth.{clash}
 
 -- an item of a table of the same shape
 pub filled_item : {X Y : Type 0} (item : Y) (rows : List (List X)) (c : Ctl) → is_some (item_of rows c) ≡ true → item_of (filled item rows) c ≡ Some item

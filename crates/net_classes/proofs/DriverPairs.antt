@@ -11,7 +11,7 @@ use Rattle.board_defs.proofs.Members.{Has, any_has, find_has, find_none, has_any
 use Rattle.net_classes.specs.Pairs.{drivers_there, fit, fits_some, pair_there, pairs_with}
 use Rattle.net_classes.specs.inner.Pairs.{some_fit}
 use Rattle.net_classes.proofs.Paired.{pairs_are}
-use Rattle.net_classes.proofs.Truth.{clash, not_true}
+use Rattle.net_facts.proofs.Truth.{clash, not_true}
 
 -- two drivers fit where a first pair is found
 pub fit_found : (board : RawBoard) (ds es : List Drive) → some_fit board ds es ≡ is_some (first_pair board ds es)

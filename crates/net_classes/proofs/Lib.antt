@@ -1,16 +1,6 @@
-pub mod Truth
 pub mod Lists
-pub mod RowLemmas
-pub mod FoundLemmas
-pub mod Notes
-pub mod Made
-pub mod Answered
-pub mod FactsLemmas
-pub mod Pulled
-pub mod UsefulLemmas
-pub mod Marks
 pub mod SharedLemmas
-pub mod Contended
+pub mod ContendedLemmas
 pub mod Paired
 pub mod WordLemmas
 pub mod DriverPairs

@@ -14,19 +14,19 @@ use Rattle.board_defs.specs.Decided.{is_by}
 use Rattle.board_defs.proofs.ControlOrder.{same_equal}
 use Rattle.board_defs.proofs.Members.{Has, all_has, contains_has, filter_has, flat_map_has, has_any, has_append, has_contains, has_filter, has_flat_map, has_left, has_right}
 use Rattle.net_classes.specs.declared.control_sets.ControlSet.{ControlSet}
-use Rattle.net_classes.specs.declared.facts.PinFacts.{PinFacts}
+use Rattle.net_facts.specs.declared.facts.PinFacts.{PinFacts}
 use Rattle.net_classes.specs.declared.known.Known.{Known}
-use Rattle.net_classes.specs.Kept.{drives_there}
+use Rattle.net_facts.specs.Kept.{drives_there}
 use Rattle.net_classes.specs.Pairs.{drivers_at, drivers_there}
 use Rattle.net_classes.specs.inner.Closed.{AreClosed, AreOthers, IsKnown, are_by_some, closed_beside, closes_beside, driven_in, drives_some, has_either, is_by_one, is_closed_by, nets_of, pins_there}
 use Rattle.net_classes.specs.inner.ControlSets.{IsSet, has_control}
 use Rattle.net_classes.specs.inner.Pairs.{IsByCell}
-use Rattle.net_classes.specs.inner.Switching.{holds_there}
+use Rattle.net_facts.specs.Cells.{holds_there}
 use Rattle.net_classes.proofs.ClosedLemmas.{all_on, cells_there, pins_drive, tested_in}
 use Rattle.net_classes.proofs.ControlSetLemmas.{same_set}
 use Rattle.net_classes.proofs.Lists.{any_joined}
 use Rattle.net_classes.proofs.SharedLemmas.{driven_has}
-use Rattle.net_classes.proofs.Truth.{and_intro, and_left, and_right, clash}
+use Rattle.net_facts.proofs.Truth.{and_intro, and_left, and_right, clash}
 
 -- a control that the other set has
 same_outside : (set : ControlSet) (c d : Ctl) (t : Bool) → has_control set c ≡ t → (same_ctl c d && not t) ≡ (same_ctl c d && not (has_control set d))

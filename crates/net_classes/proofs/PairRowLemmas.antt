@@ -17,7 +17,7 @@ use Rattle.net_classes.specs.NetRows.{AreRowBits, stands_in}
 use Rattle.net_classes.specs.Pairs.{fits_at}
 use Rattle.net_classes.specs.Pairs.{fit}
 use Rattle.net_classes.proofs.Lists.{any_joined}
-use Rattle.net_classes.proofs.Truth.{and_right, eqb_refl, eqb_same, not_true, same_truth}
+use Rattle.net_facts.proofs.Truth.{and_right, eqb_refl, eqb_same, not_true, same_truth}
 use Rattle.net_classes.proofs.WordLemmas.{same_row}
 
 -- a number more is taken out

@@ -23,7 +23,7 @@ use Rattle.net_classes.specs.inner.PairRows.{drive_word}
 use Rattle.net_classes.specs.Pairs.{AreBitsOf, drivers_there, fits_at, pairs_with}
 use Rattle.net_classes.proofs.DriverPairs.{there_are}
 use Rattle.net_classes.proofs.Lists.{any_joined}
-use Rattle.net_classes.proofs.Marks.{useful_is}
+use Rattle.net_facts.proofs.Marks.{useful_is}
 use Rattle.net_classes.proofs.Paired.{has_cells}
 use Rattle.net_classes.proofs.WordLemmas.{either_word, same_word}
 

@@ -20,7 +20,7 @@ use Rattle.board_defs.proofs.Covered.{tested_below}
 use Rattle.board_defs.proofs.PassesKept.{Tested, tested_has, has_tested, tested_drives}
 use Rattle.net_classes.specs.Pairs.{fit, fits_some}
 use Rattle.net_classes.specs.inner.Pairs.{IsByCell, AreByCells, some_fit}
-use Rattle.net_classes.proofs.Truth.{same_truth, and_left, and_right, and_intro}
+use Rattle.net_facts.proofs.Truth.{same_truth, and_left, and_right, and_intro}
 
 place_cell : (board : RawBoard) (net : Net) (pin : Option NetPin) (c : Ctl) → IsBoard board → drive_in board net pin ≡ Some (By c) → IsCell board c
 place_cell board net None c rules e = cc e

@@ -15,14 +15,12 @@ use Rattle.board_defs.specs.Passes.{all_cells, useful_controls}
 use Rattle.board_defs.proofs.ControlOrder.{same_equal}
 use Rattle.board_defs.proofs.Members.{Has, any_has, filter_has, has_append, has_at}
 use Rattle.net_classes.specs.declared.pair_rows.PairRows.{PairRows}
-use Rattle.net_classes.specs.inner.Cells.{put}
-use Rattle.net_classes.specs.Kept.{item_of, table}
+use Rattle.net_facts.specs.Cells.{put, item_of, table, at_control}
 use Rattle.net_classes.specs.NetRows.{AreRowBits}
 use Rattle.net_classes.specs.inner.PairRows.{AddsRow, HasCovered, IsRowFor, IsRowOf, number_for}
 use Rattle.net_classes.specs.Pairs.{fits_at}
 use Rattle.net_classes.specs.Kept.{number_in, or_none, row_in}
-use Rattle.net_classes.specs.inner.Rows.{at_control}
-use Rattle.net_classes.proofs.Notes.{at_same, at_other}
+use Rattle.net_facts.proofs.Notes.{at_same, at_other}
 
 -- the rows before stay
 row_stays : (before after : PairRows) (k : ℕ) (more : List (List ℕ)) → k < length before.rows.items → after.rows.items ≡ before.rows.items ++ more → row_in after k ≡ row_in before k

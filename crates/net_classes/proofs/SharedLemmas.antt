@@ -10,9 +10,9 @@ use Rattle.board_defs.specs.declared.board.RawBoard.{RawBoard}
 use Rattle.board_defs.specs.Decided.{drives_net, share_net}
 use Rattle.board_defs.proofs.Members.{Has, has_at, has_filter, filter_has, has_range, range_has, has_contains, contains_has}
 use Rattle.board_defs.proofs.Places.{Found, any_place, any_at}
-use Rattle.net_classes.specs.Found.{IsAscending}
-use Rattle.net_classes.specs.Kept.{drives_there, driven_nets}
-use Rattle.net_classes.proofs.Truth.{and_left, and_right, and_intro}
+use Rattle.net_facts.specs.Found.{IsAscending}
+use Rattle.net_facts.specs.Kept.{drives_there, driven_nets}
+use Rattle.net_facts.proofs.Truth.{and_left, and_right, and_intro}
 
 abbrev is_driven : RawBoard → Ctl → ℕ → Bool
 is_driven board c n = drives_there board c (slice_get board.nets n)

@@ -23,7 +23,7 @@ use Rattle.net_classes.specs.Pairs.{AreBitsOf, covered_there, drivers_at, driver
 use Rattle.net_classes.specs.inner.PairRows.{drive_word}
 use Rattle.net_classes.proofs.DriverPairs.{there_are}
 use Rattle.net_classes.proofs.PairWords.{driver_word}
-use Rattle.net_classes.proofs.Truth.{same_truth}
+use Rattle.net_facts.proofs.Truth.{same_truth}
 
 -- a net is covered where it has a tested driver
 covered_fits : (board : RawBoard) (net : Net) → is_covered board net ≡ list_any (fit board AlwaysOn) (tested_drivers board net)

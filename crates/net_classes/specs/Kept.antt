@@ -1,72 +1,17 @@
 -- What the classes of a board keep, each by the tests that decide the terms of all safe settings.
-use Rattle.std.specs.Prelude.{◌≡◌, ℕ, Bool, true, false, not, ◌&&◌, List, [], map, filter, length, Vec, Option, Some, None, slice_get, slice_index_or, is_some, option_and_then}
-use Rattle.std.specs.List.{list_any, range_with_len}
-use Rattle.std.specs.declared.alloc.Global.{Global}
+use Rattle.std.specs.Prelude.{◌≡◌, ℕ, true, List, [], map, Option, Some, None, slice_index_or}
 use Rattle.board_defs.specs.declared.board.Ctl.{Ctl}
-use Rattle.board_defs.specs.declared.board.Net.{Net}
 use Rattle.board_defs.specs.declared.board.RawBoard.{RawBoard}
-use Rattle.board_defs.specs.declared.board.Drive.{Drive}
-use Rattle.board_defs.specs.declared.board.Drive.TheVariants.{AlwaysOn, OneSided, By}
-use Rattle.board_defs.specs.Pins.{drive, receives_of, IsCell}
-use Rattle.board_defs.specs.Settings.{same_ctl}
-use Rattle.board_defs.specs.Decided.{drives_net, is_safe_alone, is_useful, is_tested_driver, is_tested_receiver, place_drive, reason_of}
-use Rattle.board_defs.specs.Passes.{tested_drivers, useful_controls}
-use Rattle.net_classes.specs.declared.classes.PinClass.{PinClass}
-use Rattle.net_classes.specs.declared.classes.NetClass.{NetClass}
-use Rattle.net_classes.specs.declared.classes.ControlClass.{ControlClass}
+use Rattle.board_defs.specs.declared.board.Drive.TheVariants.{AlwaysOn, By}
+use Rattle.board_defs.specs.Pins.{IsCell}
+use Rattle.board_defs.specs.Decided.{is_useful}
+use Rattle.board_defs.specs.Passes.{useful_controls}
+use Rattle.net_facts.specs.Cells.{item_of, table}
+use Rattle.net_facts.specs.Kept.{control_class_of, net_class_of, shared_nets}
 use Rattle.net_classes.specs.declared.classes.Classes.{Classes}
 use Rattle.net_classes.specs.declared.pair_rows.PairRows.{PairRows}
 use Rattle.net_classes.specs.NetRows.{AreRowBits}
 use Rattle.net_classes.specs.Pairs.{fits_at}
-
--- the control controls a driver of the net, where the net is there
-abbrev pub drives_there : RawBoard → Ctl → Option Net → Bool
-drives_there board c None = false
-drives_there board c (Some net) = drives_net board c net
-
--- the numbers of the nets of which the control controls a driver, in net order
-abbrev pub driven_nets : RawBoard → Ctl → List ℕ
-driven_nets board c = filter (λ n. drives_there board c (slice_get board.nets n)) (range_with_len 0 (length board.nets))
-
--- the driver is controlled by another control than c
-abbrev pub is_by_other : Ctl → Option Drive → Bool
-is_by_other c None = false
-is_by_other c (Some AlwaysOn) = false
-is_by_other c (Some OneSided) = false
-is_by_other c (Some (By d)) = not (same_ctl d c)
-
--- the control and another one control drivers of the net
-abbrev pub is_contended : RawBoard → Ctl → Net → Bool
-is_contended board c net = drives_net board c net && list_any (λ p. is_by_other c (drive board net p)) net.pins
-
--- the same of the net of a number, where it is there
-abbrev pub contends_there : RawBoard → Ctl → Option Net → Bool
-contends_there board c None = false
-contends_there board c (Some net) = is_contended board c net
-
--- the numbers of the nets of which the control and another one control drivers, in net order
-abbrev pub shared_nets : RawBoard → Ctl → List ℕ
-shared_nets board c = filter (λ n. contends_there board c (slice_get board.nets n)) (range_with_len 0 (length board.nets))
-
--- what is kept of the pin at this place of a net
-abbrev pub pin_class_of : RawBoard → Net → ℕ → PinClass
-pin_class_of board net place = record { driver_tested = is_tested_driver board net place; receiver_tested = is_tested_receiver board net place; drives = is_some (place_drive board net place); receives = receives_of board (slice_get net.pins place) }
-
--- what is kept of a net
-abbrev pub net_class_of : RawBoard → Net → NetClass
-net_class_of board net = record { reason = reason_of board net; drivers = tested_drivers board net; pins = map (pin_class_of board net) (range_with_len 0 (length net.pins)) }
-
--- what is kept of a control
-abbrev pub control_class_of : RawBoard → Ctl → ControlClass
-control_class_of board c = record { nets = driven_nets board c; safe = is_safe_alone board c; useful = is_useful board c }
-
--- the table as a list for each part of the chain
-abbrev pub table : {X : Type 0} → List (Vec X Global) → List (List X)
-table rows = map (λ row. row.items) rows
-
--- the item of a cell in a table that has one for each cell of each part
-abbrev pub item_of : {X : Type 0} → List (List X) → Ctl → Option X
-item_of rows c = option_and_then (λ row. slice_get row c.cell) (slice_get rows c.part)
 
 abbrev pub or_none : Option ℕ → ℕ
 or_none None = 0

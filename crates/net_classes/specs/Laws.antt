@@ -6,7 +6,7 @@ use Rattle.board_defs.specs.declared.board.RawBoard.{RawBoard}
 use Rattle.board_defs.specs.Decided.{share_net}
 use Rattle.board_defs.specs.Settings.{same_ctl}
 use Rattle.board_defs.specs.Passes.{drivers_by_net, first_pair}
-use Rattle.net_classes.specs.Kept.{driven_nets, shared_nets}
+use Rattle.net_facts.specs.Kept.{driven_nets, shared_nets}
 use Rattle.net_classes.specs.Pairs.{pairs_with}
 
 -- the two lists have a number in common

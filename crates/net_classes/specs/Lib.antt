@@ -1,6 +1,5 @@
 pub mod Kept
 pub mod Laws
-pub mod Found
 pub mod Pairs
 pub mod NetRows
 pub mod inner

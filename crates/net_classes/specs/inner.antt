@@ -1,14 +1,6 @@
 -- Terms that serve proofs and the contracts of private functions. No public contract cites them.
 pub mod Kept
-pub mod Found
-pub mod Facts
-pub mod Switching
-pub mod Shared
-pub mod Tables
-pub mod Rows
-pub mod Answers
 pub mod Pairs
-pub mod Cells
 pub mod ControlSets
 pub mod Closed
 pub mod PairRows

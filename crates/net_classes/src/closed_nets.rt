@@ -9,11 +9,10 @@ ghost use Rattle.net_classes.specs.inner.Closed.{AreClosed, AreClosedNets, AreOt
 ghost use Rattle.net_classes.specs.inner.ControlSets.{IsSet, has_control};
 
 use crate::control_sets::ControlSet;
-use crate::facts::PinFacts;
 use crate::known::Known;
-use crate::net_numbers::{NetNumbers, copy_of, push_if};
 use board_defs::{Ctl, Drive};
 use lists::Items;
+use net_facts::{NetNumbers, PinFacts, copy_of, push_if};
 use std::alloc::{AllocError, Global};
 
 fn add_drive(set: &mut ControlSet, drive: Option<Drive>) -> Result<(), AllocError>

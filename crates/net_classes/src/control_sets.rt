@@ -4,11 +4,11 @@ ghost use Rattle.board_defs.specs.declared.board.Ctl.{Ctl};
 ghost use Rattle.board_defs.specs.declared.board.RawBoard.{RawBoard};
 ghost use Rattle.board_defs.specs.Pins.{IsCell};
 ghost use Rattle.board_defs.specs.Settings.{same_ctl};
-ghost use Rattle.net_classes.specs.Kept.{item_of, table};
+ghost use Rattle.net_facts.specs.Cells.{item_of, table};
 ghost use Rattle.net_classes.specs.inner.ControlSets.{IsSet, has_control, put_all};
 
-use crate::cells::{filled_table, item_at, put_at};
 use board_defs::Ctl;
+use net_facts::{filled_table, item_at, put_at};
 use std::alloc::{AllocError, Global};
 
 /// Controls, as a mark at each of their cells and as a list.

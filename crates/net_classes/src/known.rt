@@ -4,12 +4,10 @@ ghost use Rattle.board_defs.specs.Decided.{is_by};
 ghost use Rattle.board_defs.specs.Pins.{IsCell};
 ghost use Rattle.net_classes.specs.inner.Closed.{IsKnown, driven_in, pins_there};
 ghost use Rattle.net_classes.specs.Pairs.{drivers_at};
-ghost use Rattle.net_classes.specs.Kept.{shared_nets};
+ghost use Rattle.net_facts.specs.Kept.{shared_nets};
 
-use crate::classes::{ControlClass, NetClass};
-use crate::facts::{NetFacts, PinFacts};
-use crate::net_numbers::NetNumbers;
 use board_defs::{Ctl, Drive, RawBoard};
+use net_facts::{ControlClass, NetClass, NetFacts, NetNumbers, PinFacts};
 use std::alloc::{AllocError, Global};
 
 /// A board, what is kept of its nets and controls, the nets that each control shares, and the first

@@ -7,20 +7,19 @@ ghost use Rattle.board_defs.specs.Pins.{IsCell};
 ghost use Rattle.board_defs.specs.Decided.{is_useful};
 ghost use Rattle.board_defs.specs.Passes.{useful_controls};
 ghost use Rattle.net_classes.specs.inner.Closed.{AreClosed, AreClosedNets, IsKnown};
-ghost use Rattle.net_classes.specs.Kept.{shared_nets};
+ghost use Rattle.net_facts.specs.Kept.{shared_nets};
 ghost use Rattle.net_classes.specs.NetRows.{AreRowBits, stands_in};
 ghost use Rattle.net_classes.specs.Pairs.{AreBitsOf};
 ghost use Rattle.net_classes.specs.inner.PairRows.{AddsRow, HasCovered, IsRowFor, drive_word, number_for, owns_at};
 ghost use Rattle.net_classes.specs.Kept.{ArePairRows, number_in, row_in};
 ghost use Rattle.net_classes.specs.Pairs.{fits_at};
 
-use crate::cells::{filled_table, item_at, put_at};
 use crate::closed_nets::ClosedNets;
 use crate::known::{Known, is_by};
-use crate::net_numbers::{NetNumbers, push_if};
 use crate::net_rows::NetRow;
 use board_defs::{Ctl, Drive, law};
 use lists::Items;
+use net_facts::{NetNumbers, filled_table, item_at, push_if, put_at};
 use std::alloc::{AllocError, Global};
 
 /// For each useful control the nets that some safe setting observes with the control on.

@@ -11,13 +11,14 @@ ghost use Rattle.board_defs.specs.Decided.{are_paired, are_together, can_enable,
 ghost use Rattle.board_defs.specs.Passes.{tested_drivers, useful_controls};
 ghost use Rattle.net_classes.specs.Pairs.{AreBitsOf, fit, pairs_with, unpaired_with};
 ghost use Rattle.net_classes.specs.inner.Pairs.{AreByCells, IsByCell};
-ghost use Rattle.net_classes.specs.Kept.{AreClasses, control_class_of, driven_nets, pin_class_of, shared_nets};
+ghost use Rattle.net_classes.specs.Kept.{AreClasses};
+ghost use Rattle.net_facts.specs.Kept.{control_class_of, driven_nets, pin_class_of, shared_nets};
 ghost use Rattle.net_classes.specs.inner.Kept.{OfNet};
 
-use crate::classes::{Classes, ControlClass, PinClass};
-use crate::found::meet;
+use crate::classes::Classes;
 use crate::words::has_bit;
 use board_defs::{Board, Ctl, Drive, PinRef, Reason, law};
+use net_facts::{ControlClass, PinClass, meet};
 
 fn is_same(a: Ctl, b: Ctl) -> bool
     ensures { result ≡ same_ctl a b }

@@ -4,7 +4,7 @@ use Rattle.std.specs.List.{list_any}
 use Rattle.board_defs.specs.declared.board.Ctl.{Ctl}
 use Rattle.board_defs.specs.declared.board.RawBoard.{RawBoard}
 use Rattle.board_defs.specs.Passes.{useful_controls}
-use Rattle.net_classes.specs.Kept.{shared_nets}
+use Rattle.net_facts.specs.Kept.{shared_nets}
 use Rattle.driver_passes.specs.declared.draft.Draft.{Draft}
 
 -- the controls whose flag is set

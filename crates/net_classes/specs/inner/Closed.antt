@@ -10,14 +10,15 @@ use Rattle.board_defs.specs.declared.board.Drive.TheVariants.{AlwaysOn, OneSided
 use Rattle.board_defs.specs.BoardRules.{IsBoard}
 use Rattle.board_defs.specs.Pins.{IsCell}
 use Rattle.board_defs.specs.Decided.{is_by}
-use Rattle.net_classes.specs.declared.classes.ControlClass.{ControlClass}
-use Rattle.net_classes.specs.declared.facts.PinFacts.{PinFacts}
+use Rattle.net_facts.specs.declared.classes.ControlClass.{ControlClass}
+use Rattle.net_facts.specs.declared.facts.PinFacts.{PinFacts}
 use Rattle.net_classes.specs.declared.closed_nets.ClosedNets.{ClosedNets}
 use Rattle.net_classes.specs.declared.known.Known.{Known}
 use Rattle.net_classes.specs.declared.control_sets.ControlSet.{ControlSet}
 use Rattle.net_classes.specs.inner.ControlSets.{IsSet, has_control}
-use Rattle.net_classes.specs.inner.Facts.{net_facts_of, pin_facts_of}
-use Rattle.net_classes.specs.Kept.{control_class_of, drives_there, item_of, net_class_of, shared_nets, table}
+use Rattle.net_facts.specs.Facts.{net_facts_of, pin_facts_of}
+use Rattle.net_facts.specs.Cells.{item_of, table}
+use Rattle.net_facts.specs.Kept.{control_class_of, drives_there, net_class_of, shared_nets}
 use Rattle.net_classes.specs.Pairs.{drivers_at}
 
 -- what is known is of the board

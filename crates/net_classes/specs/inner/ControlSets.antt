@@ -4,10 +4,7 @@ use Rattle.board_defs.specs.declared.board.Ctl.{Ctl}
 use Rattle.board_defs.specs.declared.board.RawBoard.{RawBoard}
 use Rattle.board_defs.specs.Pins.{IsCell}
 use Rattle.net_classes.specs.declared.control_sets.ControlSet.{ControlSet}
-use Rattle.net_classes.specs.inner.Cells.{put}
-use Rattle.net_classes.specs.Kept.{item_of, table}
-use Rattle.net_classes.specs.inner.Rows.{at_control}
-use Rattle.net_classes.specs.inner.Switching.{holds_there}
+use Rattle.net_facts.specs.Cells.{put, item_of, table, at_control, holds_there}
 
 -- the control has a mark
 abbrev pub has_control : ControlSet → Ctl → Bool

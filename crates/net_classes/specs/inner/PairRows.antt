@@ -9,7 +9,8 @@ use Rattle.board_defs.specs.Pins.{IsCell}
 use Rattle.board_defs.specs.Settings.{same_ctl}
 use Rattle.board_defs.specs.Decided.{is_by}
 use Rattle.net_classes.specs.declared.pair_rows.PairRows.{PairRows}
-use Rattle.net_classes.specs.Kept.{item_of, number_in, row_in, table}
+use Rattle.net_classes.specs.Kept.{number_in, row_in}
+use Rattle.net_facts.specs.Cells.{item_of, table}
 use Rattle.net_classes.specs.NetRows.{AreRowBits}
 use Rattle.net_classes.specs.Pairs.{drivers_at, fits_at}
 

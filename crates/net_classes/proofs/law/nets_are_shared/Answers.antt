@@ -1,5 +1,5 @@
 use Rattle.net_classes.proofs.SharedLemmas.{share_decided}
-use Rattle.net_classes.proofs.Contended.{contended_decided}
+use Rattle.net_classes.proofs.ContendedLemmas.{contended_decided}
 use Rattle.net_classes.proofs.law.nets_are_shared.Goals as goal
 
 pub returns : goal.returns

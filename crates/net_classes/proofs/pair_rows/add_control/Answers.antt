@@ -1,6 +1,7 @@
 use Rattle.std.proofs.Common.{ℕ, List, ◌∙◌, subst, sym}
 use Rattle.std.proofs.lemmas.List.{nil_from_length}
-use Rattle.net_classes.specs.Kept.{row_in, shared_nets}
+use Rattle.net_classes.specs.Kept.{row_in}
+use Rattle.net_facts.specs.Kept.{shared_nets}
 use Rattle.net_classes.specs.inner.Closed.{AreClosed}
 use Rattle.net_classes.proofs.ClosedRows.{row_free}
 use Rattle.net_classes.proofs.pair_rows.add_control.Goals as goal

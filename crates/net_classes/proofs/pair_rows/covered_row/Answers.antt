@@ -1,7 +1,7 @@
 use Rattle.std.proofs.Common.{◌≡◌, ◌+◌, ◌/◌, false, ◌&&◌, nat_lt, length, sym, ◌∙◌, ap, subst}
 use Rattle.std.proofs.lemmas.List.{length-map, length-replicate}
 use Rattle.board_defs.specs.declared.board.Drive.TheVariants.{AlwaysOn}
-use Rattle.net_classes.specs.Kept.{net_class_of}
+use Rattle.net_facts.specs.Kept.{net_class_of}
 use Rattle.net_classes.specs.NetRows.{AreRowBits}
 use Rattle.net_classes.specs.Pairs.{fits_at}
 use Rattle.net_classes.proofs.PairRowLemmas.{below_now, below_still, covered_bit, none_below}

@@ -1,6 +1,6 @@
 use Rattle.std.proofs.lemmas.List.{get_or_default}
 use Rattle.net_classes.proofs.PutRows.{each_useful, listed, rows_more}
-use Rattle.net_classes.proofs.UsefulLemmas.{useful_cells}
+use Rattle.net_facts.proofs.UsefulLemmas.{useful_cells}
 use Rattle.net_classes.proofs.pair_rows.pair_rows.Goals as goal
 
 pub add_control-requires-clause-cell : goal.add_control-requires-clause-cell

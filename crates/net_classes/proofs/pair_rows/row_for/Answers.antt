@@ -1,7 +1,7 @@
 use Rattle.std.proofs.Common.{◌∙◌, not}
 use Rattle.std.proofs.lemmas.List.{nil_from_length}
 use Rattle.board_defs.specs.declared.board.Drive.TheVariants.{AlwaysOn}
-use Rattle.net_classes.specs.Kept.{shared_nets}
+use Rattle.net_facts.specs.Kept.{shared_nets}
 use Rattle.net_classes.specs.Pairs.{fits_at}
 use Rattle.net_classes.specs.inner.PairRows.{owns_at}
 use Rattle.net_classes.proofs.ClosedRows.{none_fail, room_for, row_made, useful_safe}

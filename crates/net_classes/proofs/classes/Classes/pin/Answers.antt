@@ -1,4 +1,4 @@
-use Rattle.net_classes.specs.Kept.{pin_class_of}
+use Rattle.net_facts.specs.Kept.{pin_class_of}
 use Rattle.std.proofs.Common.{length}
 use Rattle.net_classes.proofs.Lists.{item_there, numbered_length, numbered_item}
 use Rattle.net_classes.proofs.classes.Classes.pin.Goals as goal

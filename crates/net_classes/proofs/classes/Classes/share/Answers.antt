@@ -1,4 +1,4 @@
-use Rattle.net_classes.proofs.Contended.{ascends, shared_is}
+use Rattle.net_classes.proofs.ContendedLemmas.{ascends, shared_is}
 use Rattle.net_classes.proofs.classes.Classes.share.Goals as goal
 
 pub meet-requires-clause-first : goal.meet-requires-clause-first

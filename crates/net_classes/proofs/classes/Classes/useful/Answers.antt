@@ -1,5 +1,5 @@
 use Rattle.std.proofs.Common.{◌∙◌}
-use Rattle.net_classes.proofs.UsefulLemmas.{useful_cells}
+use Rattle.net_facts.proofs.UsefulLemmas.{useful_cells}
 use Rattle.net_classes.proofs.classes.Classes.useful.Goals as goal
 
 pub returns-clause-cells : goal.returns-clause-cells

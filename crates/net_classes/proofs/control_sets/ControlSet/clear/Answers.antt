@@ -1,7 +1,7 @@
 use Rattle.std.proofs.Common.{◌≡◌, length, false, arith, ◌∙◌, ap}
 use Rattle.std.proofs.lemmas.List.{with_items_is}
 use Rattle.net_classes.specs.inner.ControlSets.{put_all}
-use Rattle.net_classes.specs.Kept.{table}
+use Rattle.net_facts.specs.Cells.{table}
 use Rattle.net_classes.proofs.ControlSetLemmas.{cleared}
 use Rattle.net_classes.proofs.control_sets.ControlSet.clear.Goals as goal
 

@@ -1,8 +1,6 @@
 use Rattle.std.proofs.Common.{◌≡◌, length, true, arith, sym, ◌∙◌, ap}
 use Rattle.std.proofs.lemmas.List.{with_items_is}
-use Rattle.net_classes.specs.inner.Cells.{put}
-use Rattle.net_classes.specs.Kept.{table}
-use Rattle.net_classes.specs.inner.Rows.{at_control}
+use Rattle.net_facts.specs.Cells.{put, table, at_control}
 use Rattle.net_classes.proofs.ControlSetLemmas.{added, had}
 use Rattle.net_classes.proofs.control_sets.ControlSet.insert.Goals as goal
 

@@ -1,5 +1,5 @@
 use Rattle.std.proofs.Common.{false, ◌∙◌, ap}
-use Rattle.net_classes.specs.Kept.{item_of, table}
+use Rattle.net_facts.specs.Cells.{item_of, table}
 use Rattle.net_classes.proofs.ControlSetLemmas.{empty_set, filled_item}
 use Rattle.net_classes.proofs.control_sets.ControlSet.new.Goals as goal
 

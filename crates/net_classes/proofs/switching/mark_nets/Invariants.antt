@@ -1,7 +1,0 @@
-use Rattle.std.proofs.Common.{◌≡◌, take, fold}
-use Rattle.net_classes.specs.Kept.{table}
-use Rattle.net_classes.specs.inner.Switching.{mark_pulled}
-use Rattle.net_classes.proofs.switching.mark_nets.Given as goal
-
-abbrev pub invariant-loop-net : goal.invariant-loop-net
-invariant-loop-net l = table l.rows ≡ fold (mark_pulled l.value) (table l.initial.rows) (take l.net-index l.nets)

@@ -1,0 +1,35 @@
+-- Tables with one item for each cell of each part.
+use Rattle.std.specs.Prelude.{ℕ, zero, suc, Bool, false, List, [], ◌∷◌, map, Vec, Option, Some, None, slice_get, option_and_then}
+use Rattle.std.specs.declared.alloc.Global.{Global}
+use Rattle.board_defs.specs.declared.board.Ctl.{Ctl}
+
+-- the table as a list for each part of the chain
+abbrev pub table : {X : Type 0} → List (Vec X Global) → List (List X)
+table rows = map (λ row. row.items) rows
+
+-- the item of a cell in a table that has one for each cell of each part
+abbrev pub item_of : {X : Type 0} → List (List X) → Ctl → Option X
+item_of rows c = option_and_then (λ row. slice_get row c.cell) (slice_get rows c.part)
+
+-- a mark that is there
+abbrev pub holds_there : Option Bool → Bool
+holds_there None = false
+holds_there (Some b) = b
+
+-- the item at the place, changed; nothing past the end
+abbrev pub update_at : {X : Type 0} → ℕ → (X → X) → List X → List X
+update_at i f [] = []
+update_at zero f (x ∷ xs) = f x ∷ xs
+update_at (suc i) f (x ∷ xs) = x ∷ update_at i f xs
+
+-- the item of the cell, changed
+abbrev pub at_control : {X : Type 0} → Ctl → (X → X) → List (List X) → List (List X)
+at_control c f rows = update_at c.part (update_at c.cell f) rows
+
+-- the item in place of the one before
+abbrev pub put : {X : Type 0} → X → X → X
+put item before = item
+
+-- a table of the same shape, with one item everywhere
+abbrev pub filled : {X Y : Type 0} → Y → List (List X) → List (List Y)
+filled item rows = map (λ row. map (λ before. item) row) rows

@@ -1,0 +1,8 @@
+-- Terms that serve proofs and the contracts of private functions. No public contract cites them.
+pub mod Found
+pub mod Facts
+pub mod Switching
+pub mod Shared
+pub mod Tables
+pub mod Rows
+pub mod Answers

@@ -1,0 +1,48 @@
+-- What is known of nets and pins, made one after the other.
+use Rattle.std.specs.Prelude.{ℕ, ◌==◌, Bool, not, ◌&&◌, ◌||◌, map, Option, Some, None, option_map, if◌then◌else◌}
+use Rattle.std.specs.List.{list_any}
+use Rattle.std.specs.Prelude.{List}
+use Rattle.board_defs.specs.declared.device.Cell.{Cell}
+use Rattle.board_defs.specs.declared.device.Control.{Control}
+use Rattle.board_defs.specs.declared.board.Drive.{Drive}
+use Rattle.board_defs.specs.declared.board.Drive.TheVariants.{AlwaysOn, OneSided, By}
+use Rattle.board_defs.specs.declared.board.PinAt.{PinAt}
+use Rattle.board_defs.specs.declared.board.NetPin.{NetPin}
+use Rattle.board_defs.specs.declared.board.Net.{Net}
+use Rattle.board_defs.specs.declared.board.RawBoard.{RawBoard}
+use Rattle.board_defs.specs.Pins.{entry_at, drive, receives, guarded, is_test_pin, is_dark, is_pulled_to}
+use Rattle.board_defs.specs.Decided.{is_always_on, is_closed}
+use Rattle.net_facts.specs.declared.facts.PinFacts.{PinFacts}
+use Rattle.net_facts.specs.declared.facts.NetFacts.{NetFacts}
+
+-- the drive of a bit, by its cell
+abbrev pub drive_from : Bool → Option Bool → ℕ → Cell → Option Control → Drive
+drive_from guarded pull part cell None = AlwaysOn
+drive_from guarded pull part cell (Some control) =
+    if control.cell == cell.num
+    then (if not guarded && is_pulled_to control.disable pull then By (record { part = part; cell = control.cell }) else OneSided)
+    else By (record { part = part; cell = control.cell })
+
+abbrev pub drive_where_in : RawBoard → Bool → Option Bool → Option PinAt → Option Drive
+drive_where_in board guarded pull None = None
+drive_where_in board guarded pull (Some at) = option_map (λ cell. drive_from guarded pull at.part cell cell.ctl) (entry_at board at)
+
+abbrev pub pin_facts_in : RawBoard → Bool → Option Bool → NetPin → PinFacts
+pin_facts_in board guarded pull pin = record { at = pin.at; drive = drive_where_in board guarded pull pin.at; receives = receives board pin }
+
+abbrev pub guarded_in : RawBoard → Net → Bool
+guarded_in board net = net.supply || list_any (is_test_pin board) net.pins || list_any (is_dark board) net.pins
+
+abbrev pub pins_in : RawBoard → Net → List PinFacts
+pins_in board net = map (pin_facts_in board (guarded_in board net) net.pull) net.pins
+
+abbrev pub net_facts_in : RawBoard → Net → NetFacts
+net_facts_in board net = record {
+  supply = net.supply;
+  pull = net.pull;
+  test_port = list_any (is_test_pin board) net.pins;
+  dark = list_any (is_dark board) net.pins;
+  guarded = guarded_in board net;
+  closed = guarded_in board net || list_any (λ pin. is_always_on pin.drive) (pins_in board net);
+  pins = pins_in board net;
+}

@@ -1,0 +1,21 @@
+-- What serves the proofs alone. Where the items of a list that pass a test stand, and numbers that two lists have in common.
+use Rattle.std.specs.Prelude.{ℕ, zero, suc, ◌==◌, Bool, true, false, not, cond}
+use Rattle.net_facts.specs.declared.found.Found.{Found}
+use Rattle.net_facts.specs.declared.found.Found.TheVariants.{Nowhere, At, Several}
+
+-- one more place
+abbrev pub with_place : Found → ℕ → Found
+with_place Nowhere place = At place
+with_place (At other) place = Several
+with_place Several place = Several
+
+-- one stands at another place
+abbrev pub is_elsewhere_of : Found → ℕ → Bool
+is_elsewhere_of Nowhere place = false
+is_elsewhere_of (At other) place = not (other == place)
+is_elsewhere_of Several place = true
+
+-- where the numbers below k that pass stand
+abbrev pub found_below : (ℕ → Bool) → ℕ → Found
+found_below test zero = Nowhere
+found_below test (suc k) = cond (test k) (with_place (found_below test k) k) (found_below test k)

@@ -1,0 +1,58 @@
+// Tables with one item for each cell of each part.
+ghost use Rattle.std.specs.Prelude.{◌≡◌, map, IfOk};
+ghost use Rattle.net_facts.specs.Cells.{item_of, table, filled, put, at_control, update_at};
+
+use board_defs::Ctl;
+use std::alloc::{AllocError, Global};
+
+/// The item of the cell, where the table has one.
+pub fn item_at<T: Copy>(rows: &[Vec<T>], c: Ctl) -> Option<T>
+    ensures { result ≡ item_of (table rows.now) c }
+{
+    match rows.get(c.part as usize) {
+        None => None,
+        Some(row) => row.get(c.cell as usize).copied(),
+    }
+}
+
+fn put_in<T: Copy>(row: &mut Vec<T>, cell: u32, item: T)
+    ensures { row.new.items ≡ update_at cell (put item) row.old.items }
+{
+    if (cell as usize) < row.len() {
+        row[cell as usize] = item;
+    }
+}
+
+/// Writes the item of the cell, where the table has one.
+pub fn put_at<T: Copy>(rows: &mut [Vec<T>], c: Ctl, item: T)
+    ensures { table rows.new ≡ at_control c (put item) (table rows.old) }
+{
+    if (c.part as usize) < rows.len() {
+        put_in(&mut rows[c.part as usize], c.cell, item);
+    }
+}
+
+fn filled_row<S, T: Copy>(alloc: Global, row: &[S], item: T) -> Result<Vec<T>, AllocError>
+    ensures { IfOk result (λ items. items.items ≡ map (λ before. item) row.now) }
+{
+    let mut items = Vec::new(alloc);
+    for _before in row {
+        items.push(item)?;
+    }
+    Ok(items)
+}
+
+/// A table of the same shape, with one item everywhere.
+pub fn filled_table<S, T: Copy>(
+    alloc: Global,
+    rows: &[Vec<S>],
+    item: T,
+) -> Result<Vec<Vec<T>>, AllocError>
+    ensures { IfOk result (λ made. table made.items ≡ filled item (table rows.now)) }
+{
+    let mut made = Vec::new(alloc);
+    for row in rows {
+        made.push(filled_row(alloc, row, item)?)?;
+    }
+    Ok(made)
+}

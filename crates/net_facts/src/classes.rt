@@ -1,0 +1,133 @@
+// What is known of the nets, the pins and the controls of a board.
+ghost use Rattle.std.specs.Prelude.{◌≡◌, map, IfOk};
+ghost use Rattle.board_defs.specs.BoardRules.{IsBoard};
+ghost use Rattle.port_entries.specs.Entries.{AreEntries};
+ghost use Rattle.net_facts.specs.Facts.{net_facts_of};
+ghost use Rattle.net_facts.specs.Kept.{AreBoardFacts};
+ghost use Rattle.net_facts.specs.inner.Tables.{AreTables};
+
+use crate::controls::{Tables, control_rows, mark_useful};
+use crate::facts::{NetFacts, all_net_facts};
+use crate::net_numbers::NetNumbers;
+use crate::shared::{contended_nets, shared_table};
+use crate::switching::pulled_bits;
+use crate::tested::net_classes;
+use crate::useful::useful_controls;
+use board_defs::{Ctl, Drive, Items, RawBoard, Reason};
+use port_entries::{BitEntries, port_entries};
+use std::alloc::{AllocError, Global};
+
+/// What a pin of a net is, and what some safe setting does with it.
+#[derive(Clone, Copy, Debug, PartialEq, Eq)]
+pub struct PinClass {
+    /// Whether the pin is a tested driver.
+    pub driver_tested: bool,
+    /// Whether the pin is a tested receiver.
+    pub receiver_tested: bool,
+    /// Whether the pin is a driver.
+    pub drives: bool,
+    /// Whether the pin is a receiver.
+    pub receives: bool,
+}
+
+/// What safe settings do with a net.
+#[derive(Debug, Drop)]
+pub struct NetClass {
+    /// Why the net is not covered, where it is not.
+    pub reason: Option<Reason>,
+    /// How the tested drivers are enabled, in pin order.
+    pub drivers: Items<Drive>,
+    /// The pins in their order.
+    pub pins: Items<PinClass>,
+}
+
+/// What is known of a control.
+#[derive(Debug, Drop)]
+pub struct ControlClass {
+    /// The nets with a driver that the control controls, in net order.
+    pub nets: NetNumbers,
+    /// Whether the setting of the control alone is safe.
+    pub safe: bool,
+    /// Whether it is safe alone and controls a tested driver.
+    pub useful: bool,
+}
+
+/// What is known of the nets, the pins and the controls of a board. Tables of controls have a row for
+/// each part of the chain and an item for each of its cells.
+#[derive(Debug, Drop)]
+pub struct BoardFacts {
+    /// The nets before anything is known of settings, in their order.
+    pub facts: Vec<NetFacts>,
+    /// What safe settings do with the nets, in their order.
+    pub nets: Vec<NetClass>,
+    /// The cells of the parts as controls.
+    pub controls: Vec<Vec<ControlClass>>,
+    /// The useful controls, in control order.
+    pub useful: Vec<Ctl>,
+    /// For each control, the nets of which it and another one control drivers, in net order.
+    pub shared: Vec<Vec<NetNumbers>>,
+}
+
+fn facts_of(
+    alloc: Global,
+    board: &RawBoard,
+    entries: &[Items<BitEntries>],
+) -> Result<Vec<NetFacts>, AllocError>
+    requires { AreEntries board.now entries.now }
+    ensures { IfOk result (λ facts. facts.items ≡ map (net_facts_of board.now) board.now.nets) }
+{
+    let facts = all_net_facts(alloc, entries, board)?;
+    Ok(facts)
+}
+
+fn tables_of(
+    alloc: Global,
+    board: &RawBoard,
+    entries: Items<Items<BitEntries>>,
+    facts: &[NetFacts],
+) -> Result<Tables, AllocError>
+    requires entries { AreEntries board.now entries }
+    requires facts { facts.now ≡ map (net_facts_of board.now) board.now.nets }
+    ensures { IfOk result (λ tables. AreTables board.now tables) }
+{
+    let low = pulled_bits(alloc, board.chain.as_slice(), facts, false)?;
+    let high = pulled_bits(alloc, board.chain.as_slice(), facts, true)?;
+    Ok(Tables { entries, low, high })
+}
+
+fn facts_by(
+    alloc: Global,
+    board: &RawBoard,
+    tables: &Tables,
+    facts: Vec<NetFacts>,
+) -> Result<BoardFacts, AllocError>
+    requires rules { IsBoard board.now }
+    requires tables { AreTables board.now tables.now }
+    requires facts { facts.items ≡ map (net_facts_of board.now) board.now.nets }
+    ensures { IfOk result (λ known. AreBoardFacts board.now known) }
+{
+    let mut controls = control_rows(alloc, tables, board, &facts)?;
+    let nets = net_classes(alloc, &controls, &facts)?;
+    mark_useful(&mut controls, &nets);
+    let useful = useful_controls(alloc, &controls, board)?;
+    let flags = contended_nets(alloc, &facts)?;
+    let shared = shared_table(alloc, &flags, &controls)?;
+    Ok(BoardFacts {
+        facts,
+        nets,
+        controls,
+        useful,
+        shared,
+    })
+}
+
+/// What is known of the nets, the pins and the controls of the board.
+pub fn board_facts(alloc: Global, board: &RawBoard) -> Result<BoardFacts, AllocError>
+    requires { IsBoard board.now }
+    ensures { IfOk result (λ known. AreBoardFacts board.now known) }
+{
+    let entries = port_entries(alloc, board)?;
+    let facts = facts_of(alloc, board, entries.as_slice())?;
+    let tables = tables_of(alloc, board, entries, &facts)?;
+    facts_by(alloc, board, &tables, facts)
+}

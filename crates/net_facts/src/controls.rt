@@ -1,0 +1,323 @@
+// The table of the controls: the nets that each drives, and whether it may be on.
+ghost use Rattle.std.specs.Prelude.{◌≡◌, ◌<◌, ◌≤◌, length, fold, option_and_then, OnOk, IfOk};
+ghost use Rattle.board_defs.specs.BoardRules.{IsBoard};
+ghost use Rattle.board_defs.specs.Pins.{cell_count, described};
+ghost use Rattle.board_defs.specs.Decided.{is_switching, own_control, own_where, port_bits};
+ghost use Rattle.net_facts.specs.Cells.{table, at_control, update_at};
+ghost use Rattle.net_facts.specs.inner.Tables.{AreTables};
+ghost use Rattle.net_facts.specs.inner.Rows.{added, block_bits, block_parts, block_where, ends_with, copies, fresh, fresh_rows, made_rows, mark_drive, mark_nets, note_drive, note_nets, note_pins, unsafe_too, useful_too};
+
+use crate::classes::{ControlClass, NetClass};
+use crate::facts::{NetFacts, PinFacts};
+use crate::switching::is_marked;
+use board_defs::{Cell, Control, Ctl, Drive, Items, Part, PartKind, PinAt, RawBoard};
+use port_entries::{BitEntries, driving_entry};
+use std::alloc::{AllocError, Global};
+
+/// The tables by which the controls of one-sided drivers are found.
+#[derive(Debug, Drop)]
+pub struct Tables {
+    pub entries: Items<Items<BitEntries>>,
+    /// The port bits with a pin in an unguarded net that is pulled to 0.
+    pub low: Vec<Vec<bool>>,
+    /// The same of a pull to 1.
+    pub high: Vec<Vec<bool>>,
+}
+
+fn is_last(nets: &[u32], net: u32) -> bool
+    ensures { result ≡ ends_with nets.now net }
+{
+    match nets.last() {
+        Some(last) => *last == net,
+        None => false,
+    }
+}
+
+/// Notes one more driver of the control.
+fn add(row: &mut ControlClass, net: u32, closed: bool) -> Result<(), AllocError>
+    ensures { OnOk result (row.new ≡ added net closed row.old) }
+{
+    if is_last(row.nets.as_slice(), net) {
+        row.safe = false;
+    } else {
+        row.nets.push(net)?;
+        row.safe = row.safe && !closed;
+    }
+    Ok(())
+}
+
+fn add_in_part(
+    row: &mut Vec<ControlClass>,
+    cell: u32,
+    net: u32,
+    closed: bool,
+) -> Result<(), AllocError>
+    ensures { OnOk result (row.new.items ≡ update_at cell (added net closed) row.old.items) }
+{
+    if (cell as usize) < row.len() {
+        add(&mut row[cell as usize], net, closed)
+    } else {
+        Ok(())
+    }
+}
+
+fn add_at(rows: &mut [Vec<ControlClass>], c: Ctl, net: u32, closed: bool) -> Result<(), AllocError>
+    ensures { OnOk result (table rows.new ≡ at_control c (added net closed) (table rows.old)) }
+{
+    if (c.part as usize) < rows.len() {
+        add_in_part(&mut rows[c.part as usize], c.cell, net, closed)
+    } else {
+        Ok(())
+    }
+}
+
+fn note_pin(
+    rows: &mut [Vec<ControlClass>],
+    net: u32,
+    closed: bool,
+    drive: Option<Drive>,
+) -> Result<(), AllocError>
+    ensures { OnOk result (table rows.new ≡ note_drive net closed drive (table rows.old)) }
+{
+    match drive {
+        Some(Drive::By(c)) => add_at(rows, c, net, closed),
+        _ => Ok(()),
+    }
+}
+
+fn note_net(
+    rows: &mut [Vec<ControlClass>],
+    net: u32,
+    closed: bool,
+    pins: &[PinFacts],
+) -> Result<(), AllocError>
+    ensures { OnOk result (table rows.new ≡ note_pins net closed (table rows.old) pins.now) }
+{
+    for pin in pins {
+        note_pin(rows, net, closed, pin.drive)?;
+    }
+    Ok(())
+}
+
+/// Notes of each control the nets that it drives.
+fn note_all(rows: &mut [Vec<ControlClass>], nets: &[NetFacts]) -> Result<(), AllocError>
+    requires { length nets.now ≤ 16382 }
+    ensures { OnOk result (table rows.new ≡ note_nets nets.now (length nets.now) (table rows.old)) }
+{
+    for (n, net) in nets.iter().enumerate() {
+        note_net(rows, n as u32, net.closed, net.pins.as_slice())?;
+    }
+    Ok(())
+}
+
+fn block(row: &mut Vec<ControlClass>, cell: u32)
+    ensures { row.new.items ≡ update_at cell unsafe_too row.old.items }
+{
+    if (cell as usize) < row.len() {
+        row[cell as usize].safe = false;
+    }
+}
+
+fn block_at(rows: &mut [Vec<ControlClass>], c: Ctl)
+    ensures { table rows.new ≡ at_control c unsafe_too (table rows.old) }
+{
+    if (c.part as usize) < rows.len() {
+        block(&mut rows[c.part as usize], c.cell);
+    }
+}
+
+fn mark(row: &mut Vec<ControlClass>, cell: u32)
+    ensures { row.new.items ≡ update_at cell useful_too row.old.items }
+{
+    if (cell as usize) < row.len() {
+        row[cell as usize].useful = true;
+    }
+}
+
+fn mark_at(rows: &mut [Vec<ControlClass>], c: Ctl)
+    ensures { table rows.new ≡ at_control c useful_too (table rows.old) }
+{
+    if (c.part as usize) < rows.len() {
+        mark(&mut rows[c.part as usize], c.cell);
+    }
+}
+
+fn mark_one(rows: &mut [Vec<ControlClass>], drive: Drive)
+    ensures { table rows.new ≡ mark_drive (table rows.old) drive }
+{
+    match drive {
+        Drive::By(c) => mark_at(rows, c),
+        _ => {}
+    }
+}
+
+fn mark_drivers(rows: &mut [Vec<ControlClass>], drivers: &[Drive])
+    ensures { table rows.new ≡ fold mark_drive (table rows.old) drivers.now }
+{
+    for drive in drivers {
+        mark_one(rows, *drive);
+    }
+}
+
+/// Marks the controls of tested drivers.
+pub fn mark_useful(rows: &mut [Vec<ControlClass>], nets: &[NetClass])
+    ensures { table rows.new ≡ mark_nets (table rows.old) nets.now }
+{
+    for net in nets {
+        mark_drivers(rows, net.drivers.as_slice());
+    }
+}
+
+/// The number of cells of a part, each a control.
+pub fn cells_of(kind: &PartKind) -> u32
+    ensures { result ≡ cell_count (described kind.now) }
+{
+    match kind.device() {
+        Some(device) => device.boundary,
+        None => 0,
+    }
+}
+
+fn fresh_part(alloc: Global, cells: u32) -> Result<Vec<ControlClass>, AllocError>
+    ensures { IfOk result (λ row. row.items ≡ copies fresh cells) }
+{
+    let mut row = Vec::new(alloc);
+    for _cell in 0..cells {
+        let class = ControlClass {
+            nets: Items::none(alloc),
+            safe: true,
+            useful: false,
+        };
+        row.push(class)?;
+    }
+    Ok(row)
+}
+
+fn fresh_table(alloc: Global, chain: &[Part]) -> Result<Vec<Vec<ControlClass>>, AllocError>
+    ensures { IfOk result (λ rows. table rows.items ≡ fresh_rows chain.now) }
+{
+    let mut rows = Vec::new(alloc);
+    for part in chain {
+        rows.push(fresh_part(alloc, cells_of(&part.kind))?)?;
+    }
+    Ok(rows)
+}
+
+fn own_of(cell: Cell) -> Option<Control>
+    ensures { result ≡ own_where cell cell.ctl }
+{
+    match cell.ctl {
+        None => None,
+        Some(control) => {
+            if control.cell == cell.num {
+                Some(control)
+            } else {
+                None
+            }
+        }
+    }
+}
+
+fn own_control(entry: Option<Cell>) -> Option<Control>
+    ensures { result ≡ option_and_then (λ cell. own_where cell cell.ctl) entry }
+{
+    match entry {
+        None => None,
+        Some(cell) => own_of(cell),
+    }
+}
+
+fn own_control_at(tables: &Tables, board: &RawBoard, at: PinAt) -> Option<Control>
+    requires { AreTables board.now tables.now }
+    ensures { result ≡ own_control board.now at }
+{
+    own_control(driving_entry(tables.entries.as_slice(), board, at))
+}
+
+/// Whether the pin stands in an unguarded net that is pulled to this value.
+fn is_switching(tables: &Tables, board: &RawBoard, at: PinAt, value: bool) -> bool
+    requires tables { AreTables board.now tables.now }
+    requires bit { at.bit < port_bits board.now at.part }
+    ensures { result ≡ is_switching board.now at value }
+{
+    if value {
+        is_marked(&tables.high, at)
+    } else {
+        is_marked(&tables.low, at)
+    }
+}
+
+/// Notes that the control of a one-sided driver is not safe.
+fn block_pin(rows: &mut [Vec<ControlClass>], tables: &Tables, board: &RawBoard, at: PinAt)
+    requires tables { AreTables board.now tables.now }
+    requires bit { at.bit < port_bits board.now at.part }
+    ensures { table rows.new ≡ block_where board.now at (own_control board.now at) (table rows.old) }
+{
+    match own_control_at(tables, board, at) {
+        None => {}
+        Some(control) => {
+            let ctl = Ctl {
+                part: at.part,
+                cell: control.cell,
+            };
+            if board.is_pinned(at) && !is_switching(tables, board, at, control.disable) {
+                block_at(rows, ctl);
+            }
+        }
+    }
+}
+
+fn bits_of(board: &RawBoard, part: u32) -> usize
+    ensures { result ≡ port_bits board.now part }
+{
+    match board.device(part) {
+        None => 0,
+        Some(device) => device.bits.len(),
+    }
+}
+
+fn block_part(rows: &mut [Vec<ControlClass>], tables: &Tables, board: &RawBoard, part: u32)
+    requires tables { AreTables board.now tables.now }
+    requires few { port_bits board.now part ≤ 65535 }
+    ensures { table rows.new ≡ block_bits board.now part (port_bits board.now part) (table rows.old) }
+{
+    for bit in 0..bits_of(board, part) {
+        block_pin(
+            rows,
+            tables,
+            board,
+            PinAt {
+                part,
+                bit: bit as u32,
+            },
+        );
+    }
+}
+
+fn block_all(rows: &mut [Vec<ControlClass>], tables: &Tables, board: &RawBoard)
+    requires rules { IsBoard board.now }
+    requires tables { AreTables board.now tables.now }
+    ensures { table rows.new ≡ block_parts board.now (length board.now.chain) (table rows.old) }
+{
+    for part in 0..board.chain.len() {
+        block_part(rows, tables, board, part as u32);
+    }
+}
+
+/// The table of the controls.
+pub fn control_rows(
+    alloc: Global,
+    tables: &Tables,
+    board: &RawBoard,
+    nets: &[NetFacts],
+) -> Result<Vec<Vec<ControlClass>>, AllocError>
+    requires rules { IsBoard board.now }
+    requires tables { AreTables board.now tables.now }
+    requires few { length nets.now ≤ 16382 }
+    ensures { IfOk result (λ rows. table rows.items ≡ made_rows board.now nets.now) }
+{
+    let mut rows = fresh_table(alloc, board.chain.as_slice())?;
+    note_all(&mut rows, nets)?;
+    block_all(&mut rows, tables, board);
+    Ok(rows)
+}

@@ -1,0 +1,198 @@
+// What is known of nets and pins before anything is known of settings.
+ghost use Rattle.std.specs.Prelude.{◌≡◌, ◌&&◌, ◌||◌, not, map, IfOk, Some};
+ghost use Rattle.std.specs.List.{list_any};
+ghost use Rattle.board_defs.specs.Pins.{is_pulled_to, is_test_pin};
+ghost use Rattle.board_defs.specs.Decided.{is_always_on};
+ghost use Rattle.port_entries.specs.Entries.{AreEntries};
+ghost use Rattle.net_facts.specs.inner.Facts.{drive_from, drive_where_in, net_facts_in, pin_facts_in};
+
+use board_defs::{Cell, Ctl, Drive, Items, Net, NetPin, PinAt, RawBoard};
+use port_entries::{BitEntries, driving_entry, has_dark_pin, receives};
+use std::alloc::{AllocError, Global};
+
+/// Where a pin is in the chain, how it drives its net, and whether it receives.
+#[derive(Clone, Copy, Debug)]
+pub struct PinFacts {
+    /// Where the pin's port bit is, where the pin is of a part of the chain.
+    pub at: Option<PinAt>,
+    /// How the pin drives its net, where it is a driver.
+    pub drive: Option<Drive>,
+    /// Whether the pin is a receiver.
+    pub receives: bool,
+}
+
+/// What is known of a net before anything is known of settings.
+#[derive(Debug, Drop)]
+pub struct NetFacts {
+    /// Whether the net is a supply.
+    pub supply: bool,
+    /// The value that the net is pulled to, where it is pulled.
+    pub pull: Option<bool>,
+    /// Whether a pin is of the test access port or named in the compliance patterns.
+    pub test_port: bool,
+    /// Whether a pin is dark: something that no setting controls may drive it.
+    pub dark: bool,
+    /// Whether the net is a supply or has a pin of the test access port or a dark one.
+    pub guarded: bool,
+    /// Whether no control may enable a driver of the net.
+    pub closed: bool,
+    /// The pins in their order.
+    pub pins: Items<PinFacts>,
+}
+
+fn has_test_pin(board: &RawBoard, pins: &[NetPin]) -> bool
+    ensures { result ≡ list_any (is_test_pin board.now) pins.now }
+{
+    pins.iter().any(|pin| board.is_test_pin(pin))
+}
+
+pub(crate) fn is_pull(value: bool, pull: Option<bool>) -> bool
+    ensures { result ≡ is_pulled_to value pull }
+{
+    match pull {
+        None => false,
+        Some(b) => value == b,
+    }
+}
+
+fn lets_switch(guarded: bool, pull: Option<bool>, value: bool) -> bool
+    ensures { result ≡ (not guarded && is_pulled_to value pull) }
+{
+    !guarded && is_pull(value, pull)
+}
+
+fn drive_from(guarded: bool, pull: Option<bool>, part: u32, cell: Cell) -> Drive
+    ensures { result ≡ drive_from guarded pull part cell cell.ctl }
+{
+    match cell.ctl {
+        None => Drive::AlwaysOn,
+        Some(control) => {
+            let by = Drive::By(Ctl {
+                part,
+                cell: control.cell,
+            });
+            if control.cell == cell.num {
+                if lets_switch(guarded, pull, control.disable) {
+                    by
+                } else {
+                    Drive::OneSided
+                }
+            } else {
+                by
+            }
+        }
+    }
+}
+
+fn drive(
+    entries: &[Items<BitEntries>],
+    board: &RawBoard,
+    guarded: bool,
+    pull: Option<bool>,
+    at: Option<PinAt>,
+) -> Option<Drive>
+    requires { AreEntries board.now entries.now }
+    ensures { result ≡ drive_where_in board.now guarded pull at }
+{
+    match at {
+        None => None,
+        Some(at) => match driving_entry(entries, board, at) {
+            None => None,
+            Some(cell) => Some(drive_from(guarded, pull, at.part, cell)),
+        },
+    }
+}
+
+fn pin_facts(
+    entries: &[Items<BitEntries>],
+    board: &RawBoard,
+    guarded: bool,
+    pull: Option<bool>,
+    pin: &NetPin,
+) -> PinFacts
+    requires { AreEntries board.now entries.now }
+    ensures { result ≡ pin_facts_in board.now guarded pull pin.now }
+{
+    PinFacts {
+        at: pin.at,
+        drive: drive(entries, board, guarded, pull, pin.at),
+        receives: receives(entries, board, pin.at),
+    }
+}
+
+fn all_pin_facts(
+    alloc: Global,
+    entries: &[Items<BitEntries>],
+    board: &RawBoard,
+    guarded: bool,
+    net: &Net,
+) -> Result<Items<PinFacts>, AllocError>
+    requires { AreEntries board.now entries.now }
+    ensures { IfOk result (λ facts. facts ≡ map (pin_facts_in board.now guarded net.now.pull) net.now.pins) }
+{
+    let mut facts = Vec::new(alloc);
+    for pin in net.pins.as_slice() {
+        facts.push(pin_facts(entries, board, guarded, net.pull, pin))?;
+    }
+    Ok(Items::of(facts))
+}
+
+fn is_always_on(drive: Option<Drive>) -> bool
+    ensures { result ≡ is_always_on drive }
+{
+    matches!(drive, Some(Drive::AlwaysOn))
+}
+
+fn has_always_on(pins: &[PinFacts]) -> bool
+    ensures { result ≡ list_any (λ pin. is_always_on pin.drive) pins.now }
+{
+    pins.iter().any(|pin| is_always_on(pin.drive))
+}
+
+/// Whether the net is guarded or has a driver that is always on.
+fn is_closed(guarded: bool, pins: &[PinFacts]) -> bool
+    ensures { result ≡ (guarded || list_any (λ pin. is_always_on pin.drive) pins.now) }
+{
+    if guarded { true } else { has_always_on(pins) }
+}
+
+fn net_facts(
+    alloc: Global,
+    entries: &[Items<BitEntries>],
+    board: &RawBoard,
+    net: &Net,
+) -> Result<NetFacts, AllocError>
+    requires { AreEntries board.now entries.now }
+    ensures { IfOk result (λ facts. facts ≡ net_facts_in board.now net.now) }
+{
+    let test_port = has_test_pin(board, net.pins.as_slice());
+    let dark = has_dark_pin(entries, board, net.pins.as_slice());
+    let guarded = net.supply || test_port || dark;
+    let pins = all_pin_facts(alloc, entries, board, guarded, net)?;
+    let closed = is_closed(guarded, pins.as_slice());
+    Ok(NetFacts {
+        supply: net.supply,
+        pull: net.pull,
+        test_port,
+        dark,
+        guarded,
+        closed,
+        pins,
+    })
+}
+
+/// The facts of the nets of a board, in their order.
+pub fn all_net_facts(
+    alloc: Global,
+    entries: &[Items<BitEntries>],
+    board: &RawBoard,
+) -> Result<Vec<NetFacts>, AllocError>
+    requires { AreEntries board.now entries.now }
+    ensures { IfOk result (λ facts. facts.items ≡ map (net_facts_in board.now) board.now.nets) }
+{
+    let mut facts = Vec::new(alloc);
+    for net in board.nets.as_slice() {
+        facts.push(net_facts(alloc, entries, board, net)?)?;
+    }
+    Ok(facts)
+}

@@ -1,0 +1,63 @@
+// Where the items of a list that pass a test stand: nowhere, at one place, or at several.
+ghost use Rattle.std.specs.Prelude.{◌≡◌, if◌then◌else◌};
+ghost use Rattle.std.specs.Bool.{Decides};
+ghost use Rattle.net_facts.specs.Found.{IsAscending, Meet};
+ghost use Rattle.net_facts.specs.inner.Found.{is_elsewhere_of, with_place};
+
+#[derive(Clone, Copy, Debug)]
+pub enum Found {
+    Nowhere,
+    At(usize),
+    Several,
+}
+
+impl Found {
+    fn with(self, place: usize) -> Found
+        ensures { result ≡ with_place self place }
+    {
+        match self {
+            Found::Nowhere => Found::At(place),
+            Found::At(_) => Found::Several,
+            Found::Several => Found::Several,
+        }
+    }
+
+    /// With one more place, where it passes.
+    pub fn with_if(self, place: usize, passes: bool) -> Found
+        ensures { result ≡ (if passes then with_place self place else self) }
+    {
+        if passes { self.with(place) } else { self }
+    }
+
+    /// Whether one stands at another place.
+    pub fn is_elsewhere(self, place: usize) -> bool
+        ensures { result ≡ is_elsewhere_of self place }
+    {
+        match self {
+            Found::Nowhere => false,
+            Found::At(other) => other != place,
+            Found::Several => true,
+        }
+    }
+}
+
+/// Whether two ascending lists have a number in common.
+pub fn meet(a: &[u32], b: &[u32]) -> bool
+    requires first { IsAscending a.now }
+    requires second { IsAscending b.now }
+    ensures { Decides result (Meet a.now b.now) }
+{
+    let mut i = 0;
+    let mut j = 0;
+    while i < a.len() && j < b.len() {
+        if a[i] == b[j] {
+            return true;
+        }
+        if a[i] < b[j] {
+            i += 1;
+        } else {
+            j += 1;
+        }
+    }
+    false
+}

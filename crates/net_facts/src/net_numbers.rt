@@ -1,0 +1,27 @@
+// The numbers of nets.
+ghost use Rattle.std.specs.Prelude.{◌≡◌, ◌++◌, ◌∷◌, [], cond, IfOk, OnOk};
+
+use lists::Items;
+use std::alloc::{AllocError, Global};
+
+/// Numbers of nets.
+pub type NetNumbers = Items<u32>;
+
+/// A copy of the numbers.
+pub fn copy_of(alloc: Global, nets: &[u32]) -> Result<NetNumbers, AllocError>
+    ensures { IfOk result (λ numbers. numbers ≡ nets.now) }
+{
+    let mut numbers = Vec::new(alloc);
+    numbers.extend_from_slice(nets)?;
+    Ok(Items::of(numbers))
+}
+
+/// Adds the net, where it passes.
+pub fn push_if(numbers: &mut NetNumbers, net: u32, passes: bool) -> Result<(), AllocError>
+    ensures { OnOk result (numbers.new ≡ numbers.old ++ cond passes (net ∷ []) []) }
+{
+    if passes {
+        numbers.push(net)?;
+    }
+    Ok(())
+}

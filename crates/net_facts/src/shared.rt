@@ -1,0 +1,124 @@
+// The nets of which a control and another one control drivers: only there can two controls clash.
+ghost use Rattle.std.specs.Prelude.{◌≡◌, false, filter, map, slice_index_or, IfOk};
+ghost use Rattle.board_defs.specs.Settings.{same_ctl};
+ghost use Rattle.net_facts.specs.Cells.{table};
+ghost use Rattle.net_facts.specs.inner.Shared.{contended_in, controls_in, flags_of, shared_in, with_control, with_drive};
+
+use crate::classes::ControlClass;
+use crate::facts::{NetFacts, PinFacts};
+use crate::net_numbers::{NetNumbers, push_if};
+use board_defs::{Ctl, Drive};
+use lists::{Items, is_set};
+use std::alloc::{AllocError, Global};
+
+/// The controls of the drivers seen so far.
+#[derive(Clone, Copy, Debug)]
+pub enum Controls {
+    Nobody,
+    One(Ctl),
+    Several,
+}
+
+fn is_one(a: Ctl, b: Ctl) -> bool
+    ensures { result ≡ same_ctl a b }
+{
+    a.part == b.part && a.cell == b.cell
+}
+
+impl Controls {
+    fn with_control(self, c: Ctl) -> Controls
+        ensures { result ≡ with_control self c }
+    {
+        match self {
+            Controls::Nobody => Controls::One(c),
+            Controls::One(d) => {
+                if is_one(d, c) {
+                    Controls::One(d)
+                } else {
+                    Controls::Several
+                }
+            }
+            Controls::Several => Controls::Several,
+        }
+    }
+
+    fn with_drive(self, drive: Option<Drive>) -> Controls
+        ensures { result ≡ with_drive self drive }
+    {
+        match drive {
+            Some(Drive::By(c)) => self.with_control(c),
+            _ => self,
+        }
+    }
+}
+
+fn controls_of(pins: &[PinFacts]) -> Controls
+    ensures { result ≡ controls_in pins.now }
+{
+    let mut controls = Controls::Nobody;
+    for pin in pins {
+        controls = controls.with_drive(pin.drive);
+    }
+    controls
+}
+
+/// Whether two different controls control drivers of the net.
+fn is_contended(pins: &[PinFacts]) -> bool
+    ensures { result ≡ contended_in pins.now }
+{
+    match controls_of(pins) {
+        Controls::Nobody => false,
+        Controls::One(_) => false,
+        Controls::Several => true,
+    }
+}
+
+/// For each net, whether two different controls control drivers of it.
+pub fn contended_nets(alloc: Global, nets: &[NetFacts]) -> Result<Vec<bool>, AllocError>
+    ensures { IfOk result (λ flags. flags.items ≡ flags_of nets.now) }
+{
+    let mut flags = Vec::new(alloc);
+    for net in nets {
+        flags.push(is_contended(net.pins.as_slice()))?;
+    }
+    Ok(flags)
+}
+
+fn shared_of(alloc: Global, flags: &[bool], nets: &[u32]) -> Result<NetNumbers, AllocError>
+    ensures { IfOk result (λ shared. shared ≡ filter (λ n. slice_index_or flags.now n false) nets.now) }
+{
+    let mut shared = Items::none(alloc);
+    for net in nets {
+        push_if(&mut shared, *net, is_set(flags, *net as usize))?;
+    }
+    Ok(shared)
+}
+
+fn shared_row(
+    alloc: Global,
+    flags: &[bool],
+    row: &[ControlClass],
+) -> Result<Vec<NetNumbers>, AllocError>
+    ensures { IfOk result (λ shared. shared.items ≡ map (shared_in flags.now) row.now) }
+{
+    let mut shared = Vec::new(alloc);
+    for class in row {
+        shared.push(shared_of(alloc, flags, class.nets.as_slice())?)?;
+    }
+    Ok(shared)
+}
+
+/// For each control, which of its nets it shares with another one.
+pub fn shared_table(
+    alloc: Global,
+    flags: &[bool],
+    rows: &[Vec<ControlClass>],
+) -> Result<Vec<Vec<NetNumbers>>, AllocError>
+    ensures { IfOk result (λ shared. table shared.items ≡ map (λ row. map (shared_in flags.now) row.items) rows.now) }
+{
+    let mut shared = Vec::new(alloc);
+    for row in rows {
+        shared.push(shared_row(alloc, flags, row)?)?;
+    }
+    Ok(shared)
+}

@@ -1,0 +1,272 @@
+// What safe settings do with the nets, by their facts and the table of the controls.
+ghost use Rattle.std.specs.Prelude.{◌≡◌, ◌++◌, [], length, map, option_copied, is_some, IfOk, OnOk};
+ghost use Rattle.std.specs.List.{cons_option, list_any, range_with_len};
+ghost use Rattle.net_facts.specs.Cells.{item_of, table};
+ghost use Rattle.net_facts.specs.inner.Found.{is_elsewhere_of};
+ghost use Rattle.net_facts.specs.inner.Answers.{class_in, drive_of, drivers_in, enabled_in, enablers_of, enables_at_place, first_reason_in, pin_class_in, reader_tested_in, readers_of, reads_at, reason_in, safe_in, tested_drive_in, tested_in, useful_in};
+
+use crate::classes::{ControlClass, NetClass, PinClass};
+use crate::facts::{NetFacts, PinFacts};
+use crate::found::Found;
+use board_defs::{Ctl, Drive, Items, Reason};
+use std::alloc::{AllocError, Global};
+
+fn row_of(rows: &[Vec<ControlClass>], c: Ctl) -> Option<&ControlClass>
+    ensures { option_copied result ≡ item_of (table rows.now) c }
+{
+    match rows.get(c.part as usize) {
+        None => None,
+        Some(row) => row.get(c.cell as usize),
+    }
+}
+
+/// Whether the control is in the table and safe alone.
+pub fn is_safe(rows: &[Vec<ControlClass>], c: Ctl) -> bool
+    ensures { result ≡ safe_in (table rows.now) c }
+{
+    match row_of(rows, c) {
+        None => false,
+        Some(row) => row.safe,
+    }
+}
+
+/// Whether the control is in the table and marked as useful.
+pub fn is_useful(rows: &[Vec<ControlClass>], c: Ctl) -> bool
+    ensures { result ≡ useful_in (table rows.now) c }
+{
+    match row_of(rows, c) {
+        None => false,
+        Some(row) => row.useful,
+    }
+}
+
+/// Whether some safe setting enables the driver.
+pub fn can_enable(rows: &[Vec<ControlClass>], drive: Option<Drive>) -> bool
+    ensures { result ≡ enabled_in (table rows.now) drive }
+{
+    match drive {
+        None => false,
+        Some(Drive::AlwaysOn) => true,
+        Some(Drive::OneSided) => false,
+        Some(Drive::By(c)) => is_safe(rows, c),
+    }
+}
+
+fn drive_of(pins: &[PinFacts], place: usize) -> Option<Drive>
+    ensures { result ≡ drive_of pins.now place }
+{
+    match pins.get(place) {
+        None => None,
+        Some(pin) => pin.drive,
+    }
+}
+
+fn reads_at(pins: &[PinFacts], place: usize) -> bool
+    ensures { result ≡ reads_at pins.now place }
+{
+    match pins.get(place) {
+        None => false,
+        Some(pin) => pin.receives,
+    }
+}
+
+fn enables_at(rows: &[Vec<ControlClass>], pins: &[PinFacts], place: usize) -> bool
+    ensures { result ≡ enables_at_place (table rows.now) pins.now place }
+{
+    can_enable(rows, drive_of(pins, place))
+}
+
+/// Where the receivers of a net stand.
+fn readers(pins: &[PinFacts]) -> Found
+    ensures { result ≡ readers_of pins.now }
+{
+    let mut found = Found::Nowhere;
+    for place in 0..pins.len() {
+        found = found.with_if(place, reads_at(pins, place));
+    }
+    found
+}
+
+/// Where the drivers of a net stand that some safe setting enables.
+fn enablers(rows: &[Vec<ControlClass>], pins: &[PinFacts]) -> Found
+    ensures { result ≡ enablers_of (table rows.now) pins.now }
+{
+    let mut found = Found::Nowhere;
+    for place in 0..pins.len() {
+        found = found.with_if(place, enables_at(rows, pins, place));
+    }
+    found
+}
+
+fn is_tested(rows: &[Vec<ControlClass>], net: &NetFacts, readers: Found, place: usize) -> bool
+    requires { readers ≡ readers_of net.now.pins }
+    ensures { result ≡ tested_in (table rows.now) net.now place }
+{
+    let enabled = enables_at(rows, net.pins.as_slice(), place);
+    !net.guarded && enabled && readers.is_elsewhere(place)
+}
+
+fn is_reader_tested(
+    rows: &[Vec<ControlClass>],
+    net: &NetFacts,
+    enablers: Found,
+    place: usize,
+) -> bool
+    requires { enablers ≡ enablers_of (table rows.now) net.now.pins }
+    ensures { result ≡ reader_tested_in (table rows.now) net.now place }
+{
+    let reads = reads_at(net.pins.as_slice(), place);
+    !net.guarded && reads && enablers.is_elsewhere(place)
+}
+
+fn pin_class(
+    rows: &[Vec<ControlClass>],
+    net: &NetFacts,
+    readers: Found,
+    enablers: Found,
+    place: usize,
+) -> PinClass
+    requires readers { readers ≡ readers_of net.now.pins }
+    requires enablers { enablers ≡ enablers_of (table rows.now) net.now.pins }
+    ensures { result ≡ pin_class_in (table rows.now) net.now place }
+{
+    PinClass {
+        driver_tested: is_tested(rows, net, readers, place),
+        receiver_tested: is_reader_tested(rows, net, enablers, place),
+        drives: drive_of(net.pins.as_slice(), place).is_some(),
+        receives: reads_at(net.pins.as_slice(), place),
+    }
+}
+
+fn pin_classes(
+    alloc: Global,
+    rows: &[Vec<ControlClass>],
+    net: &NetFacts,
+    readers: Found,
+) -> Result<Vec<PinClass>, AllocError>
+    requires { readers ≡ readers_of net.now.pins }
+    ensures { IfOk result (λ classes. classes.items ≡ map (pin_class_in (table rows.now) net.now) (range_with_len 0 (length net.now.pins))) }
+{
+    let enablers = enablers(rows, net.pins.as_slice());
+    let mut classes = Vec::new(alloc);
+    for place in 0..net.pins.len() {
+        classes.push(pin_class(rows, net, readers, enablers, place))?;
+    }
+    Ok(classes)
+}
+
+fn tested_drive(
+    rows: &[Vec<ControlClass>],
+    net: &NetFacts,
+    readers: Found,
+    place: usize,
+) -> Option<Drive>
+    requires { readers ≡ readers_of net.now.pins }
+    ensures { result ≡ tested_drive_in (table rows.now) net.now place }
+{
+    if is_tested(rows, net, readers, place) {
+        drive_of(net.pins.as_slice(), place)
+    } else {
+        None
+    }
+}
+
+fn push_some(drivers: &mut Vec<Drive>, drive: Option<Drive>) -> Result<(), AllocError>
+    ensures { OnOk result (drivers.new.items ≡ drivers.old.items ++ cons_option drive []) }
+{
+    if let Some(drive) = drive {
+        drivers.push(drive)?;
+    }
+    Ok(())
+}
+
+fn tested_drivers(
+    alloc: Global,
+    rows: &[Vec<ControlClass>],
+    net: &NetFacts,
+    readers: Found,
+) -> Result<Vec<Drive>, AllocError>
+    requires { readers ≡ readers_of net.now.pins }
+    ensures { IfOk result (λ drivers. drivers.items ≡ drivers_in (table rows.now) net.now) }
+{
+    let mut drivers = Vec::new(alloc);
+    for place in 0..net.pins.len() {
+        push_some(&mut drivers, tested_drive(rows, net, readers, place))?;
+    }
+    Ok(drivers)
+}
+
+fn has_driver(pins: &[PinFacts]) -> bool
+    ensures { result ≡ list_any (λ pin. is_some pin.drive) pins.now }
+{
+    pins.iter().any(|pin| pin.drive.is_some())
+}
+
+fn has_enabled(rows: &[Vec<ControlClass>], pins: &[PinFacts]) -> bool
+    ensures { result ≡ list_any (λ pin. enabled_in (table rows.now) pin.drive) pins.now }
+{
+    pins.iter().any(|pin| can_enable(rows, pin.drive))
+}
+
+/// The first reason that holds of a net that is not covered.
+fn first_reason(rows: &[Vec<ControlClass>], net: &NetFacts) -> Reason
+    ensures { result ≡ first_reason_in (table rows.now) net.now }
+{
+    if net.supply {
+        Reason::Supply
+    } else if net.test_port {
+        Reason::TestPort
+    } else if net.dark {
+        Reason::Dark
+    } else if !has_driver(net.pins.as_slice()) {
+        Reason::NoDriver
+    } else if !has_enabled(rows, net.pins.as_slice()) {
+        Reason::Blocked
+    } else {
+        Reason::NoReceiver
+    }
+}
+
+fn reason(rows: &[Vec<ControlClass>], net: &NetFacts, drivers: &[Drive]) -> Option<Reason>
+    requires { drivers.now ≡ drivers_in (table rows.now) net.now }
+    ensures { result ≡ reason_in (table rows.now) net.now }
+{
+    if drivers.len() == 0 {
+        Some(first_reason(rows, net))
+    } else {
+        None
+    }
+}
+
+fn net_class(
+    alloc: Global,
+    rows: &[Vec<ControlClass>],
+    net: &NetFacts,
+) -> Result<NetClass, AllocError>
+    ensures { IfOk result (λ class. class ≡ class_in (table rows.now) net.now) }
+{
+    let readers = readers(net.pins.as_slice());
+    let pins = Items::of(pin_classes(alloc, rows, net, readers)?);
+    let drivers = Items::of(tested_drivers(alloc, rows, net, readers)?);
+    let reason = reason(rows, net, drivers.as_slice());
+    Ok(NetClass {
+        reason,
+        drivers,
+        pins,
+    })
+}
+
+/// The classes of the nets, in their order.
+pub fn net_classes(
+    alloc: Global,
+    rows: &[Vec<ControlClass>],
+    nets: &[NetFacts],
+) -> Result<Vec<NetClass>, AllocError>
+    ensures { IfOk result (λ classes. classes.items ≡ map (class_in (table rows.now)) nets.now) }
+{
+    let mut classes = Vec::new(alloc);
+    for net in nets {
+        classes.push(net_class(alloc, rows, net)?)?;
+    }
+    Ok(classes)
+}
