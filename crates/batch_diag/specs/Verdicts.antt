@@ -2,7 +2,7 @@
 use Rattle.std.specs.Prelude.{◌*◌, List, [], ◌∷◌, length, All}
 use Rattle.board_defs.specs.declared.board.RawBoard.{RawBoard}
 use Rattle.board_defs.specs.Pins.{data_bits}
-use Rattle.scan_planner.specs.declared.tables.PlanTables.{PlanTables}
+use Rattle.plan_tables.specs.declared.tables.PlanTables.{PlanTables}
 use Rattle.response_log.specs.LogRows.{HasSize}
 use Rattle.fault_sim.specs.Diagnosis.{IsDiagnosis}
 use Rattle.batch_diag.specs.declared.block.Block.{Block}

@@ -8,8 +8,9 @@ use Rattle.board_defs.specs.Passes.{passes_of}
 use Rattle.tap_defs.specs.board.BoardScans.{AreTestScans, board_text, pass_text, svf_scans, test_scans}
 use Rattle.tap_defs.specs.board.TestRows.{code_width, observed_count}
 use Rattle.coverage_list.specs.CoverText.{covered}
-use Rattle.scan_planner.specs.declared.tables.PlanTables.{PlanTables}
-use Rattle.scan_planner.specs.Plans.{IsPlanOf, scan_count}
+use Rattle.plan_tables.specs.declared.tables.PlanTables.{PlanTables}
+use Rattle.plan_tables.specs.Plans.{IsPlanOf}
+use Rattle.scan_planner.specs.Plans.{scan_count}
 use Rattle.btest_cli.specs.Summary.{counts_line, summary_text}
 use Rattle.btest_cli.proofs.TestLemmas.{plan_text}
 

@@ -1,7 +1,7 @@
 // The command `batch`.
 ghost use Rattle.std.specs.Prelude.{◌≡◌, ◌<◌, ◌≤◌, ◌^◌, All, length, map};
 ghost use Rattle.board_defs.specs.Passes.{passes_of};
-ghost use Rattle.scan_planner.specs.Plans.{IsPlanOf};
+ghost use Rattle.plan_tables.specs.Plans.{IsPlanOf};
 ghost use Rattle.btest_cli.specs.LogRead.{OnBoard, OnDenoted, judging_each, verdicts_text};
 ghost use Rattle.btest_cli.specs.Worth.{DiagnosesEach, OfDenoted};
 ghost use Rattle.btest_cli.specs.inner.Answers.{LogAnswers};

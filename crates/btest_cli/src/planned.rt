@@ -2,7 +2,7 @@
 ghost use Rattle.std.specs.Prelude.{◌≡◌, ◌<◌, ◌^◌, All, length, map, Some, IfOk, IfErr};
 ghost use Rattle.board_defs.specs.BoardRules.{IsBoard};
 ghost use Rattle.board_defs.specs.Passes.{passes_of};
-ghost use Rattle.scan_planner.specs.Plans.{IsPlanOf};
+ghost use Rattle.plan_tables.specs.Plans.{IsPlanOf};
 ghost use Rattle.btest_core.specs.BoardRead.{Denotes};
 ghost use Rattle.btest_cli.specs.inner.Answers.{NoBoard};
 ghost use Rattle.btest_cli.specs.Worth.{TestMeans};

@@ -22,7 +22,7 @@ use Rattle.tap_defs.proofs.chain.ListLemmas.{cons_path}
 use Rattle.tap_defs.proofs.board.LogLemmas.{length-row_bits}
 use Rattle.tap_defs.proofs.board.SingleLemmas.{single_observable, single_no_open_shorted}
 use Rattle.tap_defs.proofs.board.ResponseLogLemmas.{explained_by_rows, logs_agree, some_log, own_in_turn}
-use Rattle.scan_planner.proofs.FillLemmas.{some_at}
+use Rattle.plan_tables.proofs.ListLemmas.{some_at}
 use Rattle.fault_sim.specs.Diagnosis.{Picks, IsDiagnosis}
 
 -- some test decides the statement

@@ -17,12 +17,12 @@ use Rattle.board_defs.proofs.Members.{has_contains, contains_has, has_filter, fi
 use Rattle.board_defs.proofs.Ordered.{order_pairs, order_filter, order_range}
 use Rattle.board_defs.proofs.Places.{all_from, any_at}
 use Rattle.tap_defs.specs.board.TestRows.{is_observed, observing_driver, code_of_net, code_bit}
-use Rattle.scan_planner.specs.declared.nets.NetDriver.{NetDriver}
-use Rattle.scan_planner.specs.declared.tables.ReaderCell.{ReaderCell}
-use Rattle.scan_planner.specs.declared.tables.PlanTables.{PlanTables}
-use Rattle.scan_planner.specs.Building.{is_read_beside}
-use Rattle.scan_planner.specs.Plans.{IsPlanOf}
-use Rattle.scan_planner.proofs.FillLemmas.{some_at}
+use Rattle.plan_tables.specs.declared.nets.NetDriver.{NetDriver}
+use Rattle.plan_tables.specs.declared.tables.ReaderCell.{ReaderCell}
+use Rattle.plan_tables.specs.declared.tables.PlanTables.{PlanTables}
+use Rattle.plan_tables.specs.Building.{is_read_beside}
+use Rattle.plan_tables.specs.Plans.{IsPlanOf}
+use Rattle.plan_tables.proofs.ListLemmas.{some_at}
 use Rattle.fault_sim.specs.Effects.{driver_in, readers_in, code_in}
 use Rattle.fault_sim.specs.declared.effect.Effect.TheVariants.{Plain}
 use Rattle.fault_sim.specs.Fits.{bit_in, cell_shows, ShowBy, NetShows, ShowsOn, ShowsAll}

@@ -28,9 +28,9 @@ use Rattle.tap_defs.specs.board.Explaining.{CompareRows, HasShape, Explains, IsE
 use Rattle.tap_defs.specs.board.SingleBits.{single_bit}
 use Rattle.tap_defs.specs.board.TestRows.{code_row, code_width, observed_count, is_observed}
 use Rattle.tap_defs.proofs.board.ScanPlaceLemmas.{front_at, rest_at}
-use Rattle.scan_planner.specs.declared.tables.PlanTables.{PlanTables}
-use Rattle.scan_planner.specs.Plans.{IsPlanOf}
-use Rattle.scan_planner.proofs.FillLemmas.{all_has, some_at}
+use Rattle.plan_tables.specs.declared.tables.PlanTables.{PlanTables}
+use Rattle.plan_tables.specs.Plans.{IsPlanOf}
+use Rattle.plan_tables.proofs.ListLemmas.{all_has, some_at}
 use Rattle.fault_sim.specs.declared.effect.Effect.{Effect}
 use Rattle.fault_sim.specs.declared.effect.Effect.TheVariants.{Plain, Constant}
 use Rattle.fault_sim.specs.declared.universe.FaultLists.{FaultLists}

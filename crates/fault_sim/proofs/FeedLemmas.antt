@@ -26,18 +26,18 @@ use Rattle.tap_defs.specs.board.RowDriving.{cell_bit, is_switched_off, entry_fee
 use Rattle.tap_defs.specs.board.SingleBits.{bit_of_feeding, driven_to}
 use Rattle.tap_defs.proofs.board.FeedingLemmas.{PinRules, apart, placed}
 use Rattle.tap_defs.proofs.board.NetRuleLemmas.{board_rules}
-use Rattle.scan_planner.specs.declared.nets.NetDriver.{NetDriver}
-use Rattle.scan_planner.specs.declared.tables.ReaderCell.{ReaderCell}
-use Rattle.scan_planner.specs.declared.tables.PlanTables.{PlanTables}
-use Rattle.scan_planner.specs.Tables.{first_position}
-use Rattle.scan_planner.specs.inner.Laid.{laid, steady}
-use Rattle.scan_planner.specs.Building.{is_on, enabled_in, drivers_of, drivers_of_pins, readers_of, is_read_beside}
-use Rattle.scan_planner.specs.Plans.{IsPlanOf}
-use Rattle.scan_planner.proofs.LaidLemmas.{tdi_laid, laid_at, laid_same}
-use Rattle.scan_planner.proofs.HeldLemmas.{quiet_steady, controls_any}
-use Rattle.scan_planner.proofs.PinLemmas.{Standing, standing, Drives, drives_by, entry_on, driving_cell_is}
-use Rattle.scan_planner.proofs.TableLemmas.{FirstOn, first_on, beside_is}
-use Rattle.scan_planner.proofs.ObserverLemmas.{DriverOn, driver_on}
+use Rattle.plan_tables.specs.declared.nets.NetDriver.{NetDriver}
+use Rattle.plan_tables.specs.declared.tables.ReaderCell.{ReaderCell}
+use Rattle.plan_tables.specs.declared.tables.PlanTables.{PlanTables}
+use Rattle.plan_tables.specs.Tables.{first_position}
+use Rattle.plan_tables.specs.inner.Laid.{laid, steady}
+use Rattle.plan_tables.specs.Building.{is_on, enabled_in, drivers_of, drivers_of_pins, readers_of, is_read_beside}
+use Rattle.plan_tables.specs.Plans.{IsPlanOf}
+use Rattle.plan_tables.proofs.LaidLemmas.{tdi_laid, laid_at, laid_same}
+use Rattle.plan_tables.proofs.HeldLemmas.{quiet_steady, controls_any}
+use Rattle.plan_tables.proofs.PinLemmas.{Standing, standing, Drives, drives_by, entry_on, driving_cell_is}
+use Rattle.plan_tables.proofs.TableLemmas.{FirstOn, first_on, beside_is}
+use Rattle.plan_tables.proofs.ObserverLemmas.{DriverOn, driver_on}
 use Rattle.fault_sim.specs.declared.feed.Source.TheVariants.{Code, Fixed}
 use Rattle.fault_sim.specs.Effects.{source_bit, unless_off, feed_bit, is_own, drivers_in, readers_in, code_in, driver_in, steady_in, source_in, feed_by, pull_in, net_feed}
 

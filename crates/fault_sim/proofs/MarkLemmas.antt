@@ -22,13 +22,14 @@ use Rattle.tap_defs.specs.chain.Scan.{ScanBit, Scan, joined, tdo_bits, mask_bits
 use Rattle.tap_defs.specs.board.TestRows.{code_row, code_bit, net_code_bit, expect_bit}
 use Rattle.tap_defs.specs.board.BoardScans.{row_bits, scan_of_row, row_now, row_before, test_scans, AreTestScans}
 use Rattle.response_log.specs.Kept.{AreRowDigits}
-use Rattle.scan_planner.specs.declared.nets.NetDriver.{NetDriver}
-use Rattle.scan_planner.specs.declared.tables.ReaderCell.{ReaderCell}
-use Rattle.scan_planner.specs.declared.tables.PlanTables.{PlanTables}
-use Rattle.scan_planner.specs.Tables.{first_position}
-use Rattle.scan_planner.specs.Plans.{IsPlanOf, FillsScan, scan_of_pass}
-use Rattle.scan_planner.proofs.LaidLemmas.{laid_at, length-laid, tdo_laid, mask_laid}
-use Rattle.scan_planner.proofs.FillLemmas.{some_at}
+use Rattle.plan_tables.specs.declared.nets.NetDriver.{NetDriver}
+use Rattle.plan_tables.specs.declared.tables.ReaderCell.{ReaderCell}
+use Rattle.plan_tables.specs.declared.tables.PlanTables.{PlanTables}
+use Rattle.plan_tables.specs.Tables.{first_position}
+use Rattle.plan_tables.specs.Plans.{IsPlanOf}
+use Rattle.scan_planner.specs.Plans.{FillsScan, scan_of_pass}
+use Rattle.plan_tables.proofs.LaidLemmas.{laid_at, length-laid, tdo_laid, mask_laid}
+use Rattle.plan_tables.proofs.ListLemmas.{some_at}
 use Rattle.fault_sim.specs.declared.effect.Effect.TheVariants.{Plain}
 use Rattle.fault_sim.specs.Effects.{readers_in, code_in, driver_in}
 use Rattle.fault_sim.specs.Fits.{bit_in, cell_shows, ShowBy, NetShows, ShowsOn}

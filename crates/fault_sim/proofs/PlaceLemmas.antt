@@ -19,7 +19,7 @@ use Rattle.board_defs.specs.Faults.{Numbered, numbered_nets, covered_nets, teste
 use Rattle.board_defs.specs.Passes.{pairs_within}
 use Rattle.board_defs.proofs.Places.{below_place, below_at}
 use Rattle.tap_defs.proofs.board.ScanPlaceLemmas.{front_at, rest_at}
-use Rattle.scan_planner.specs.declared.tables.PlanTables.{PlanTables}
+use Rattle.plan_tables.specs.declared.tables.PlanTables.{PlanTables}
 use Rattle.fault_sim.specs.declared.universe.FaultLists.{FaultLists}
 use Rattle.fault_sim.specs.inner.Tested.{paired_in}
 use Rattle.fault_sim.specs.Laws.{PlacesAre}

@@ -25,16 +25,16 @@ use Rattle.tap_defs.specs.board.Explaining.{CompareRows, IsCompared, ShowsBits, 
 use Rattle.tap_defs.proofs.board.LiveLemmas.{on_is}
 use Rattle.tap_defs.proofs.board.FeedingLemmas.{Observing, observing_at}
 use Rattle.tap_defs.proofs.board.PassingLemmas.{stands_at}
-use Rattle.scan_planner.specs.declared.nets.NetDriver.{NetDriver}
-use Rattle.scan_planner.specs.declared.tables.ReaderCell.{ReaderCell}
-use Rattle.scan_planner.specs.declared.tables.PlanTables.{PlanTables}
-use Rattle.scan_planner.specs.Tables.{first_position, IsReaderCell}
-use Rattle.scan_planner.specs.Building.{is_read_beside, enabled_in, drivers_of_pins}
-use Rattle.scan_planner.specs.Plans.{IsPlanOf}
-use Rattle.scan_planner.proofs.LaidLemmas.{laid_at}
-use Rattle.scan_planner.proofs.PinLemmas.{Standing, standing, on_self, reading_entry_is, Reads, reads_by}
-use Rattle.scan_planner.proofs.FillLemmas.{some_at}
-use Rattle.scan_planner.proofs.TableLemmas.{FirstOn, reader_is, is_reader}
+use Rattle.plan_tables.specs.declared.nets.NetDriver.{NetDriver}
+use Rattle.plan_tables.specs.declared.tables.ReaderCell.{ReaderCell}
+use Rattle.plan_tables.specs.declared.tables.PlanTables.{PlanTables}
+use Rattle.plan_tables.specs.Tables.{first_position, IsReaderCell}
+use Rattle.plan_tables.specs.Building.{is_read_beside, enabled_in, drivers_of_pins}
+use Rattle.plan_tables.specs.Plans.{IsPlanOf}
+use Rattle.plan_tables.proofs.LaidLemmas.{laid_at}
+use Rattle.plan_tables.proofs.PinLemmas.{Standing, standing, on_self, reading_entry_is, Reads, reads_by}
+use Rattle.plan_tables.proofs.ListLemmas.{some_at}
+use Rattle.plan_tables.proofs.TableLemmas.{FirstOn, reader_is, is_reader}
 use Rattle.fault_sim.specs.Effects.{readers_in, code_in, driver_in, effect_in, effect_bit}
 use Rattle.fault_sim.specs.inner.Effects.{fault_bit}
 use Rattle.fault_sim.specs.Fits.{bit_in, cell_shows, ShowBy, NetShows, Shows, ShowsAll}

@@ -6,7 +6,7 @@ use Rattle.std.proofs.lemmas.Bool.{lt-ltb, and_parts, and_from, or_cases, or_lef
 use Rattle.std.proofs.lemmas.List.{length-map, length-replicate, get_or-replicate}
 use Rattle.std.proofs.lemmas.Option.{slice_get_within, get_or_from_slice_get}
 use Rattle.std.proofs.lemmas.List.Sums.{sum_by-cons}
-use Rattle.scan_planner.proofs.PlanLemmas.{pins_most}
+use Rattle.plan_tables.proofs.PlanLemmas.{pins_most}
 use Rattle.fault_sim.proofs.RangeLemmas.{filter_most}
 use Rattle.board_defs.specs.declared.device.PortBit.{PortBit}
 use Rattle.board_defs.specs.declared.device.RawDevice.{RawDevice}
@@ -28,15 +28,15 @@ use Rattle.board_defs.proofs.Places.{any_place, any_at}
 use Rattle.board_defs.proofs.Covered.{tested_driver_true, tested_driver_is, tested_receiver_true, tested_receiver_is, paired_true, paired_is, net_same}
 use Rattle.tap_defs.specs.board.TestRows.{observing_driver, observing_driver_by, first_enabled, is_observed}
 use Rattle.tap_defs.proofs.board.PlanLemmas.{observing_is, observed_by}
-use Rattle.scan_planner.specs.declared.nets.NetDriver.{NetDriver}
-use Rattle.scan_planner.specs.declared.tables.ReaderCell.{ReaderCell}
-use Rattle.scan_planner.specs.declared.tables.PlanTables.{PlanTables}
-use Rattle.scan_planner.specs.Assigned.{assigned}
-use Rattle.scan_planner.specs.Tables.{first_position}
-use Rattle.scan_planner.specs.Building.{enabled_in, drivers_of_pins, is_read_beside}
-use Rattle.scan_planner.specs.Plans.{IsPlanOf}
-use Rattle.scan_planner.proofs.AssignLemmas.{assigned_groups, has_mark, mark_has, length-assigned}
-use Rattle.scan_planner.proofs.TableLemmas.{FirstOn, reader_is, is_reader}
+use Rattle.plan_tables.specs.declared.nets.NetDriver.{NetDriver}
+use Rattle.plan_tables.specs.declared.tables.ReaderCell.{ReaderCell}
+use Rattle.plan_tables.specs.declared.tables.PlanTables.{PlanTables}
+use Rattle.plan_tables.specs.Assigned.{assigned}
+use Rattle.plan_tables.specs.Tables.{first_position}
+use Rattle.plan_tables.specs.Building.{enabled_in, drivers_of_pins, is_read_beside}
+use Rattle.plan_tables.specs.Plans.{IsPlanOf}
+use Rattle.plan_tables.proofs.AssignLemmas.{assigned_groups, has_mark, mark_has, length-assigned}
+use Rattle.plan_tables.proofs.TableLemmas.{FirstOn, reader_is, is_reader}
 use Rattle.fault_sim.specs.Effects.{driver_in, readers_in, code_in}
 use Rattle.fault_sim.specs.inner.Tested.{coded_nets, observes_by, observes_in, paired_in, marked_readers, marked_by, marked_in, tested_flags, flagged_pins, pins_of_net, pin_count, net_pins, all_pins}
 use Rattle.fault_sim.proofs.FeedLemmas.{drivers_are, readers_are, first_is, observing_is as observing_here}

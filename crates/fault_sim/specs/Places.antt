@@ -6,7 +6,7 @@ use Rattle.board_defs.specs.declared.fault.Single.{Single}
 use Rattle.board_defs.specs.Decided.{are_paired}
 use Rattle.board_defs.specs.Faults.{Numbered, covered_nets, tested_pins, stuck_faults, open_faults, short_faults}
 use Rattle.board_defs.specs.Passes.{pairs_within}
-use Rattle.scan_planner.specs.declared.tables.PlanTables.{PlanTables}
+use Rattle.plan_tables.specs.declared.tables.PlanTables.{PlanTables}
 use Rattle.fault_sim.specs.declared.universe.FaultLists.{FaultLists}
 use Rattle.fault_sim.specs.inner.Tested.{paired_in}
 

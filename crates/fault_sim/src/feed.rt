@@ -3,7 +3,7 @@ ghost use Rattle.std.specs.Prelude.{◌≡◌, ◌<◌, ◌==◌, not};
 ghost use Rattle.std.specs.List.{list_any};
 ghost use Rattle.board_defs.specs.Pins.{is_same};
 ghost use Rattle.board_defs.specs.Settings.{holds};
-ghost use Rattle.scan_planner.specs.Building.{is_on, enabled_in};
+ghost use Rattle.plan_tables.specs.Building.{is_on, enabled_in};
 ghost use Rattle.tap_defs.specs.board.TestRows.{code_bit};
 ghost use Rattle.fault_sim.specs.Effects.{source_bit, unless_off, feed_bit, is_own, driver_in, steady_in, source_in, feed_by, feed_in, pull_in, net_feed};
 

@@ -2,7 +2,7 @@
 ghost use Rattle.std.specs.Prelude.{◌≡◌, ◌+◌, ◌*◌, ◌<◌, ◌≤◌, ◌^◌, [], length, slice_index_or, All, Decides, true};
 ghost use Rattle.std.specs.List.{list_all};
 ghost use Rattle.board_defs.specs.Pins.{data_bits};
-ghost use Rattle.scan_planner.specs.Plans.{IsPlanOf};
+ghost use Rattle.plan_tables.specs.Plans.{IsPlanOf};
 ghost use Rattle.tap_defs.specs.board.TestRows.{code_bit};
 ghost use Rattle.fault_sim.specs.Fits.{bit_in, cell_shows, ShowRows, ShowBy, NetShows, Shows, ShowsPair, ShowsBoth, ShowsOn, ShowsIn, ShowsAll};
 

@@ -3,7 +3,7 @@ ghost use Rattle.std.specs.Prelude.{◌≡◌, ℕ, ◌+◌, ◌*◌, ◌<◌, l
 ghost use Rattle.std.specs.Int.Bits.{bit_and, bit_xor};
 ghost use Rattle.board_defs.specs.Pins.{data_bits};
 ghost use Rattle.bt_bits.specs.Hex.{digit_count};
-ghost use Rattle.scan_planner.specs.Plans.{IsPlanOf};
+ghost use Rattle.plan_tables.specs.Plans.{IsPlanOf};
 ghost use Rattle.fault_sim.specs.inner.Marks.{HaveRoom, MarkRow, MarkRows, AreMarks, are_marked};
 
 use board_defs::Board;

@@ -22,8 +22,8 @@ use Rattle.board_defs.proofs.Driving.{by_true}
 use Rattle.tap_defs.specs.board.Quiet.{controls_driver}
 use Rattle.tap_defs.proofs.board.FeedingLemmas.{PinRules, apart, placed}
 use Rattle.tap_defs.proofs.board.NetRuleLemmas.{board_rules}
-use Rattle.scan_planner.specs.Plans.{controls_in, controls_some}
-use Rattle.scan_planner.proofs.PinLemmas.{Drives, drives_by, entry_on}
+use Rattle.plan_tables.specs.Plans.{controls_in, controls_some}
+use Rattle.plan_tables.proofs.PinLemmas.{Drives, drives_by, entry_on}
 
 -- the entry of a driver that a control drives names it
 record Names (part : ℕ) (o : Option Control) (c : Ctl) : Type 0 where

@@ -13,12 +13,12 @@ use Rattle.board_defs.proofs.Members.{Has}
 use Rattle.tap_defs.specs.board.NetBits.{Place, place_of}
 use Rattle.tap_defs.specs.board.TestRows.{TestRow, driving_cell, data_pin, data_place, data_observed, only_if, observing_driver, row_bit, steady_bit}
 use Rattle.tap_defs.proofs.board.PassingLemmas.{stands_at}
-use Rattle.scan_planner.specs.declared.tables.DriverCell.{DriverCell}
-use Rattle.scan_planner.specs.Tables.{first_position, IsDriverCell}
-use Rattle.scan_planner.specs.inner.Laid.{laid, steady}
-use Rattle.scan_planner.specs.Assigned.{assigned}
-use Rattle.scan_planner.proofs.LaidLemmas.{CellOf, Sets, assigned_laid}
-use Rattle.scan_planner.proofs.PinLemmas.{Standing, standing, wired_at, Drives, drives_by, entry_on, driving_cell_is, driving_entry_is}
+use Rattle.plan_tables.specs.declared.tables.DriverCell.{DriverCell}
+use Rattle.plan_tables.specs.Tables.{first_position, IsDriverCell}
+use Rattle.plan_tables.specs.inner.Laid.{laid, steady}
+use Rattle.plan_tables.specs.Assigned.{assigned}
+use Rattle.plan_tables.proofs.LaidLemmas.{CellOf, Sets, assigned_laid}
+use Rattle.plan_tables.proofs.PinLemmas.{Standing, standing, wired_at, Drives, drives_by, entry_on, driving_cell_is, driving_entry_is}
 
 -- the row of a pass
 abbrev pub pass_row : List Ctl → (ℕ → Option Bool) → TestRow

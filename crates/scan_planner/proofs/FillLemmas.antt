@@ -1,52 +1,46 @@
 -- What a plan's tables fill in is the scan.
-use Rattle.std.proofs.Common.{◌≡◌, ℕ, zero, suc, ◌<◌, ◌≤◌, Bool, true, false, cond, List, [], ◌∷◌, ◌++◌, fold, length, map, get_or, set, replicate, Option, Some, None, is_some, unwrap_or, refl, sym, ap, ◌∙◌, subst, arith, length-append}
-use Rattle.std.specs.Prelude.{slice_get, sum_by, All}
+use Rattle.std.proofs.Common.{◌≡◌, ℕ, zero, suc, ◌<◌, ◌≤◌, Bool, true, false, cond, List, [], ◌∷◌, ◌++◌, fold, length, get_or, set, replicate, Option, Some, None, is_some, unwrap_or, refl, sym, ap, ◌∙◌, subst, arith}
+use Rattle.std.specs.Prelude.{slice_get, All}
 use Rattle.std.specs.List.{flat_map, list_any}
 use Rattle.std.proofs.lemmas.List.{length-map, length-replicate}
-use Rattle.std.proofs.lemmas.List.Sums.{sum_by-cons, fold-append}
+use Rattle.std.proofs.lemmas.List.Sums.{fold-append}
 use Rattle.std.proofs.lemmas.Option.{slice_get-get_or, get_or_from_slice_get}
-use Rattle.board_defs.specs.declared.board.PartKind.{PartKind}
-use Rattle.board_defs.specs.declared.board.PartKind.TheVariants.{Described, Bypass}
-use Rattle.board_defs.specs.declared.board.Part.{Part}
-use Rattle.board_defs.specs.declared.board.Net.{Net}
 use Rattle.board_defs.specs.declared.board.RawBoard.{RawBoard}
 use Rattle.board_defs.specs.declared.board.Ctl.{Ctl}
 use Rattle.board_defs.specs.BoardRules.{IsBoard}
-use Rattle.board_defs.specs.Pins.{instruction_length, instruction_bits, device_at, cell_count, data_bits}
+use Rattle.board_defs.specs.Pins.{device_at, cell_count, data_bits}
 use Rattle.board_defs.specs.Settings.{holds}
-use Rattle.board_defs.proofs.BoardLemmas.{chain_length}
-use Rattle.board_defs.proofs.Members.{Has, has_at, has_place, has_left, has_right, has_map, has_flat_map, contains_has, has_contains}
+use Rattle.board_defs.proofs.Members.{Has, has_left, has_right, has_map, has_flat_map, contains_has, has_contains}
 use Rattle.board_defs.proofs.Places.{any_at}
 use Rattle.tap_defs.specs.declared.scan.Shape.{Shape}
-use Rattle.tap_defs.specs.board.OnBoard.{test_logic}
 use Rattle.tap_defs.specs.chain.Scan.{ScanBit, Scan, joined, tdi_bits, tdo_bits, mask_bits, scan_bits}
-use Rattle.tap_defs.specs.chain.Codes.{instructs}
 use Rattle.tap_defs.specs.board.TestRows.{TestRow, quiet_row, code_row, code_of_net, code_bit, net_code_bit, is_observed, observing_driver, row_bit, expect_bit}
-use Rattle.tap_defs.specs.board.BoardScans.{RowScan, row_bits, first_row_scan, test_scans, preload_code, extest_code}
-use Rattle.tap_defs.proofs.chain.InstructLemmas.{length-instructs}
-use Rattle.tap_defs.proofs.board.EntryLemmas.{CodesFit, parts_of, preload_fits, extest_fits, row_scan_some, codes_total}
-use Rattle.scan_planner.specs.declared.tables.FixedRows.{FixedRows}
-use Rattle.scan_planner.specs.declared.tables.HeldCell.{HeldCell}
-use Rattle.scan_planner.specs.declared.tables.DriverCell.{DriverCell}
-use Rattle.scan_planner.specs.declared.tables.ReaderCell.{ReaderCell}
-use Rattle.scan_planner.specs.Tables.{PassCells, AreRowsOf, IsHeldCell, IsDriverCell, IsReaderCell, ArePassCells, common_rows, held_cell, pass_cells_of}
-use Rattle.scan_planner.specs.inner.Building.{controlled, AreDrivers}
-use Rattle.scan_planner.specs.declared.tables.PlanTables.{PlanTables}
-use Rattle.scan_planner.specs.inner.Laid.{laid, steady}
-use Rattle.scan_planner.specs.Assigned.{assigned, driver_bit, set_readers, set_compared}
-use Rattle.scan_planner.specs.declared.instructions.Instruction.{Instruction}
-use Rattle.scan_planner.specs.declared.instructions.Instruction.TheVariants.{Preload, Extest}
-use Rattle.scan_planner.specs.inner.Codes.{code_for}
-use Rattle.scan_planner.specs.Plans.{IsPlanOf, FillsScan}
-use Rattle.scan_planner.proofs.AssignLemmas.{length-assigned, assigned_apart}
-use Rattle.scan_planner.proofs.RowLemmas.{length-set_compared}
-use Rattle.scan_planner.proofs.LaidLemmas.{laid_at, length-laid, laid_same, zeros_laid, tdi_laid, tdo_laid, mask_laid}
-use Rattle.scan_planner.proofs.HeldLemmas.{quiet_steady, control_cells, held_laid}
+use Rattle.tap_defs.specs.board.BoardScans.{RowScan, row_bits, first_row_scan, test_scans}
+use Rattle.tap_defs.proofs.board.EntryLemmas.{row_scan_some}
+use Rattle.plan_tables.specs.declared.tables.FixedRows.{FixedRows}
+use Rattle.plan_tables.specs.declared.tables.HeldCell.{HeldCell}
+use Rattle.plan_tables.specs.declared.tables.DriverCell.{DriverCell}
+use Rattle.plan_tables.specs.declared.tables.ReaderCell.{ReaderCell}
+use Rattle.plan_tables.specs.Tables.{PassCells, AreRowsOf, IsHeldCell, IsDriverCell, ArePassCells, common_rows, held_cell, pass_cells_of, controlled}
+use Rattle.scan_planner.specs.inner.Passes.{AreDrivers}
+use Rattle.plan_tables.specs.declared.tables.PlanTables.{PlanTables}
+use Rattle.plan_tables.specs.inner.Laid.{laid, steady}
+use Rattle.plan_tables.specs.Assigned.{assigned, driver_bit, set_readers, set_compared}
+use Rattle.plan_tables.specs.Plans.{IsPlanOf}
+use Rattle.scan_planner.specs.Plans.{FillsScan}
+use Rattle.plan_tables.proofs.AssignLemmas.{length-assigned, assigned_apart}
+use Rattle.plan_tables.proofs.RowLemmas.{length-set_compared}
+use Rattle.plan_tables.proofs.LaidLemmas.{laid_at, length-laid, laid_same, zeros_laid, tdi_laid, tdo_laid, mask_laid}
+use Rattle.plan_tables.proofs.HeldLemmas.{quiet_steady, control_cells}
+use Rattle.scan_planner.proofs.HeldLemmas.{held_laid}
 use Rattle.scan_planner.proofs.DriverLemmas.{drivers_laid}
-use Rattle.scan_planner.proofs.ReaderLemmas.{ReadersOf, Pair, pairs, quiet_expect, set_compared_is, tdo_compared, mask_compared}
-use Rattle.scan_planner.proofs.PinLemmas.{Standing, standing, read_at, drives_by, entry_on}
-use Rattle.scan_planner.proofs.ObserverLemmas.{holds_has}
-use Rattle.scan_planner.proofs.PassLemmas.{fold_on}
+use Rattle.plan_tables.proofs.ReaderTableLemmas.{ReadersOf, readers_below}
+use Rattle.scan_planner.proofs.ReaderLemmas.{Pair, pairs, quiet_expect, set_compared_is, tdo_compared, mask_compared}
+use Rattle.plan_tables.proofs.PinLemmas.{Standing, standing, drives_by, entry_on}
+use Rattle.plan_tables.proofs.ObserverLemmas.{holds_has}
+use Rattle.plan_tables.proofs.PassLemmas.{fold_on}
+use Rattle.plan_tables.proofs.ListLemmas.{all_has}
+use Rattle.plan_tables.proofs.SizeLemmas.{IsSized}
 
 -- the scan that its rows make
 expected : (expect : Option Bool) → cond (is_some expect) (Some (unwrap_or expect false)) None ≡ expect
@@ -86,41 +80,7 @@ fills board passes width k scan shape tdi tdo mask placed some most is_tdi is_td
       masked = λ i one. ap (λ (l : List Bool). get_or l i false) is_mask ∙ rows_masked scan.bits i (sym (ap (λ (l : List Bool). get_or l i false) is_tdo) ∙ one);
     }
 
--- scans of instructions
-ir_length_is : (kind : PartKind) → (test_logic kind).ir_length ≡ instruction_length kind
-ir_length_is (Described device) = refl
-ir_length_is (Bypass n) = refl
-
-codes_bits : (code : PartKind → List Bool) (parts : List Part) → CodesFit code parts → length (joined (map (λ p. code p.kind) parts)) ≡ sum_by (λ p. instruction_length p.kind) parts
-codes_bits code [] fit = refl
-codes_bits code (p ∷ parts) fit =
-    omega (arith, length-append (joined (map (λ q. code q.kind) parts)) (code p.kind), codes_bits code parts fit.1, fit.0, ir_length_is p.kind, sum_by-cons (λ (q : Part). instruction_length q.kind) p parts)
-
-pub record IsSized (bits : List ScanBit) (size : ℕ) : Type 0 where
-  pub some : 0 < length bits
-  pub most : length bits ≤ 65535
-  pub size_is : length bits ≡ size
-
-code_sized : (board : RawBoard) → IsBoard board → (code : PartKind → List Bool) → CodesFit code board.chain → IsSized ((instructs (map (λ p. code p.kind) board.chain)).bits) (instruction_bits board)
-code_sized board rules code fit =
-    let size : length ((instructs (map (λ p. code p.kind) board.chain)).bits) ≡ instruction_bits board = length-instructs (map (λ p. code p.kind) board.chain) ∙ codes_bits code board.chain fit in
-    record {
-      some = omega (arith, length-instructs (map (λ p. code p.kind) board.chain), codes_total code board.chain fit (parts_of board rules), rules.chain_some);
-      most = omega (arith, size, chain_length board.chain rules.parts, rules.chain_most);
-      size_is = size;
-    }
-
-pub preload_sized : (board : RawBoard) → IsBoard board → IsSized ((instructs (map (λ p. preload_code p.kind) board.chain)).bits) (instruction_bits board)
-preload_sized board rules = code_sized board rules preload_code (preload_fits board.chain (parts_of board rules))
-
-pub extest_sized : (board : RawBoard) → IsBoard board → IsSized ((instructs (map (λ p. extest_code p.kind) board.chain)).bits) (instruction_bits board)
-extest_sized board rules = code_sized board rules extest_code (extest_fits board.chain (parts_of board rules))
-
-pub few_bits : (instruction : Instruction) (board : RawBoard) → IsBoard board → length ((instructs (map (λ part. code_for instruction part.kind) board.chain)).bits) ≤ 65535
-few_bits Preload board rules = (preload_sized board rules).most
-few_bits Extest board rules = (extest_sized board rules).most
-
--- the length of a row of such a scan
+-- the length of a row of a scan of instructions
 pub tdi_length : {bits : List ScanBit} {size : ℕ} {rows : FixedRows} → IsSized bits size → AreRowsOf bits rows → length rows.tdi.bits ≡ size
 tdi_length {bits} {size} {rows} s r = ap (λ (l : List Bool). length l) r.tdi ∙ length-map bits (λ b. b.tdi) ∙ s.size_is
 
@@ -137,15 +97,6 @@ row_sized board rules scan =
     sym (length-map (joined (row_bits board scan)) (λ b. b.tdi)) ∙ ap (λ (l : List Bool). length l) (tdi_laid board scan) ∙ length-laid (λ part device cell. row_bit board scan.now part device cell) board in
     record { some = row_scan_some board rules scan; most = omega (arith, size, rules.data_most); size_is = size }
 
--- what holds of each item of a list
-pub all_has : {X : Type 0} (P : X → Type 0) (xs : List X) → ((x : X) → Has xs x → P x) → All P xs
-all_has P xs each k d less = each (get_or xs k d) (has_at xs k (get_or xs k d) (slice_get-get_or xs k d less))
-
-pub some_at : {X : Type 0} (xs : List X) (k : ℕ) → k < length xs → (x : X) × (slice_get xs k ≡ Some x)
-some_at [] k less = absurd (omega (arith, less))
-some_at (x ∷ xs) zero less = (x, refl)
-some_at (x ∷ xs) (suc k) less = some_at xs k (omega (arith, less))
-
 -- nothing is compared after the quiet row
 pub quiet_tdo : (board : RawBoard) (scan : RowScan) → scan.before ≡ quiet_row → replicate (data_bits board) false ≡ tdo_bits (joined (row_bits board scan))
 quiet_tdo board scan e =
@@ -158,20 +109,6 @@ quiet_mask board scan e =
     zeros_laid board
     ∙ laid_same board (λ part device cell. false) (λ part device cell. is_some (expect_bit board quiet_row part device cell)) (λ part device cell. sym (ap (λ (o : Option Bool). is_some o) (quiet_expect board part device cell)))
     ∙ sym (mask_laid board scan ∙ ap (λ (row : TestRow). laid (λ part device cell. is_some (expect_bit board row part device cell)) board) e)
-
--- the cells that read nets stand in a row of data
-reader_within : (board : RawBoard) → IsBoard board → (net : Net) (r : ReaderCell) → IsReaderCell board net r → r.position < data_bits board
-reader_within board rules net r s =
-    let place = has_place s.device.cells s.entry (contains_has s.device.cells s.entry s.is_entry) in
-    omega (arith, s.position_is, (laid_at (steady board (λ c. false)) board s.at.part s.device s.entry.num s.is_device ((read_at board rules s.at.part s.device s.is_device).num_below place.0 s.entry place.1)).0)
-
-pub readers_below : (board : RawBoard) → IsBoard board → (readers : List (List ReaderCell)) → ReadersOf board readers → length readers ≡ length board.nets →
-    All (λ cells. All (λ r. r.position < data_bits board) cells) readers
-readers_below board rules readers are long k d less =
-    let net = some_at board.nets k (omega (arith, less, long)) in
-    let same : get_or readers k [] ≡ get_or readers k d = get_or_from_slice_get readers k (get_or readers k d) [] (slice_get-get_or readers k d less) in
-    subst (λ (l : List ReaderCell). All (λ r. r.position < data_bits board) l) same
-    (all_has (λ r. r.position < data_bits board) (get_or readers k []) (λ r has. reader_within board rules net.0 r ((are k net.0 net.1).0 r has)))
 
 module _ (board : RawBoard) (rules : IsBoard board) (plan : PlanTables) (p : IsPlanOf board plan) where
   quiet_laid : plan.quiet.bits ≡ laid (steady board (λ c. false)) board

@@ -1,79 +1,21 @@
 -- The quiet row with the controls of a pass at what enables their drivers.
-use Rattle.std.proofs.Common.{◌≡◌, ℕ, ◌+◌, ◌<◌, ◌==◌, Bool, true, false, not, cond, ◌&&◌, List, Option, Some, None, unwrap_or, refl, sym, ap, ◌∙◌, subst, ◌⊎◌, inl, inr}
-use Rattle.std.specs.Prelude.{option_and_then, option_map}
+use Rattle.std.proofs.Common.{◌≡◌, ℕ, ◌+◌, Bool, true, false, not, cond, List, unwrap_or, refl, sym, ap, ◌∙◌, ◌⊎◌, inl, inr}
 use Rattle.std.specs.List.{list_any}
-use Rattle.std.proofs.lemmas.Bool.{and_parts}
-use Rattle.board_defs.specs.declared.device.Cell.{Cell}
 use Rattle.board_defs.specs.declared.device.RawDevice.{RawDevice}
 use Rattle.board_defs.specs.declared.board.RawBoard.{RawBoard}
 use Rattle.board_defs.specs.declared.board.Ctl.{Ctl}
 use Rattle.board_defs.specs.BoardRules.{IsBoard}
-use Rattle.board_defs.specs.DeviceRules.{is_control_of, is_driving, disable_of}
-use Rattle.board_defs.specs.Pins.{device_at, cell_count, is_pinned}
+use Rattle.board_defs.specs.DeviceRules.{disable_of}
 use Rattle.board_defs.specs.Settings.{holds}
 use Rattle.board_defs.proofs.Members.{Has}
-use Rattle.tap_defs.specs.board.NetBits.{Place, place_of}
 use Rattle.tap_defs.specs.board.Quiet.{controls_driver, safe_bit}
-use Rattle.tap_defs.specs.board.TestRows.{quiet_row, driving_cell, data_bit, data_pin, data_place, data_observed, only_if, observing_driver, steady_bit, row_bit}
-use Rattle.tap_defs.proofs.board.ReadingLemmas.{any_is}
-use Rattle.tap_defs.proofs.board.QuietLemmas.{control_is}
-use Rattle.scan_planner.specs.declared.tables.HeldCell.{HeldCell}
-use Rattle.scan_planner.specs.Plans.{controls_in, controls_some}
-use Rattle.scan_planner.specs.Tables.{first_position, IsHeldCell}
-use Rattle.scan_planner.specs.inner.Laid.{laid, steady}
-use Rattle.scan_planner.specs.Assigned.{assigned}
-use Rattle.scan_planner.proofs.LaidLemmas.{CellOf, Sets, assigned_laid}
-use Rattle.scan_planner.proofs.PinLemmas.{wired_at}
-
-no_bit : (t : Bool) → only_if t None ≡ None
-no_bit true = refl
-no_bit false = refl
-
--- no cell carries a net's bit in the quiet row
-quiet_data : (board : RawBoard) (part : ℕ) (device : RawDevice) (cell : ℕ) → data_bit board quiet_row part device cell ≡ None
-quiet_data board part device cell = by_cell (driving_cell device cell)
-  where
-    by_driver : (p : Place) (o : Option ℕ) → data_observed None p.place o ≡ None
-    by_driver p None = refl
-    by_driver p (Some driver) = no_bit (driver == p.place)
-
-    by_place : (o : Option Place) → data_place board quiet_row o ≡ None
-    by_place None = refl
-    by_place (Some p) = by_driver p (observing_driver board (λ c. false) p.net)
-
-    by_bit : (o : Option ℕ) → data_pin board quiet_row part o ≡ None
-    by_bit None = refl
-    by_bit (Some b) = by_place (place_of (record { part = part; bit = b }) 0 board.nets)
-
-    by_cell : (o : Option Cell) → option_and_then (λ e. data_pin board quiet_row part e.bit) o ≡ None
-    by_cell None = refl
-    by_cell (Some e) = by_bit e.bit
-
-pub quiet_steady : (board : RawBoard) (part : ℕ) (device : RawDevice) (cell : ℕ) → row_bit board quiet_row part device cell ≡ steady board (λ c. false) part device cell
-quiet_steady board part device cell =
-    ap (λ (o : Option Bool). unwrap_or o (steady_bit board (λ c. false) part device cell)) (quiet_data board part device cell)
-
--- the cell of a control that controls a driver is one of its device
-pub control_below : (board : RawBoard) → IsBoard board → (c : Ctl) (device : RawDevice) → device_at board c.part ≡ Some device →
-    list_any (controls_driver board c.part c.cell) device.cells ≡ true → c.cell < device.boundary
-control_below board rules c device e any =
-    let x = any_is (controls_driver board c.part c.cell) device.cells any in
-    let driver = and_parts (is_control_of c.cell x.1.ctl && is_driving x.1.role) (unwrap_or (option_map (λ bit. is_pinned board (record { part = c.part; bit = bit })) x.1.bit) false) x.3 in
-    let k = control_is c.cell x.1.ctl (and_parts (is_control_of c.cell x.1.ctl) (is_driving x.1.role) driver.0).0 in
-    subst (λ (n : ℕ). n < device.boundary) k.2 ((wired_at board rules c.part device e).below x.0 x.1 k.0 x.2 k.1)
-
--- a control of a pass controls a driver of its device
-pub controls_any : (board : RawBoard) (c : Ctl) (device : RawDevice) → device_at board c.part ≡ Some device → controls_some board c ≡ true →
-    list_any (controls_driver board c.part c.cell) device.cells ≡ true
-controls_any board c device e controls = sym (ap (λ (o : Option RawDevice). controls_in board c o) e) ∙ controls
-
--- its cell is one of its part
-pub control_cells : (board : RawBoard) → IsBoard board → (c : Ctl) → controls_some board c ≡ true → c.cell < cell_count (device_at board c.part)
-control_cells board rules c controls = by_device (device_at board c.part) refl controls
-  where
-    by_device : (o : Option RawDevice) → device_at board c.part ≡ o → controls_in board c o ≡ true → c.cell < cell_count o
-    by_device None e h = cc h
-    by_device (Some device) e h = control_below board rules c device e h
+use Rattle.plan_tables.specs.declared.tables.HeldCell.{HeldCell}
+use Rattle.plan_tables.specs.Plans.{controls_some}
+use Rattle.plan_tables.specs.Tables.{first_position, IsHeldCell}
+use Rattle.plan_tables.specs.inner.Laid.{laid, steady}
+use Rattle.plan_tables.specs.Assigned.{assigned}
+use Rattle.plan_tables.proofs.LaidLemmas.{CellOf, Sets, assigned_laid}
+use Rattle.plan_tables.proofs.HeldLemmas.{controls_any, control_below}
 
 pub held_laid : (board : RawBoard) → IsBoard board → (pass : List Ctl) → ((c : Ctl) → holds pass c ≡ true → controls_some board c ≡ true) →
     (cells : List HeldCell) → ((h : HeldCell) → Has cells h → IsHeldCell board pass h) → ((h : HeldCell) → IsHeldCell board pass h → Has cells h) →

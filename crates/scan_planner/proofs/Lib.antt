@@ -1,21 +1,5 @@
-pub mod AssignLemmas
-pub mod LaidLemmas
-pub mod PinLemmas
 pub mod HeldLemmas
 pub mod DriverLemmas
 pub mod ReaderLemmas
 pub mod ControlLemmas
-pub mod RowLemmas
 pub mod FillLemmas
-pub mod BuildLemmas
-pub mod QuietLemmas
-pub mod EntryLemmas
-pub mod CodeLemmas
-pub mod TableLemmas
-pub mod DriverTableLemmas
-pub mod ObserverLemmas
-pub mod SeenLemmas
-pub mod PlanLemmas
-pub mod SteadyLemmas
-pub mod PassLemmas
-mod Samples

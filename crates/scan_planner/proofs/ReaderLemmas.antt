@@ -7,51 +7,27 @@ use Rattle.std.proofs.lemmas.Bool.{eq-eqb, and_parts, ne_eqb}
 use Rattle.board_defs.specs.declared.device.Cell.{Cell}
 use Rattle.board_defs.specs.declared.device.RawDevice.{RawDevice}
 use Rattle.board_defs.specs.declared.board.PinAt.{PinAt}
-use Rattle.board_defs.specs.declared.board.Net.{Net}
 use Rattle.board_defs.specs.declared.board.RawBoard.{RawBoard}
 use Rattle.board_defs.specs.declared.board.Ctl.{Ctl}
 use Rattle.board_defs.specs.BoardRules.{IsBoard}
 use Rattle.board_defs.specs.DeviceRules.{is_on, is_receiving, reading_entry}
-use Rattle.board_defs.specs.Pins.{entry_at, receives_where}
-use Rattle.board_defs.specs.Settings.{holds, enables_where, enables_entry}
+use Rattle.board_defs.specs.Pins.{receives_where}
+use Rattle.board_defs.specs.Settings.{holds}
 use Rattle.board_defs.proofs.Members.{Has, has_at, has_place, contains_has, has_contains, has_flat_map, flat_map_has}
 use Rattle.tap_defs.specs.board.NetBits.{Place, place_of}
 use Rattle.tap_defs.specs.board.TestRows.{TestRow, quiet_row, expect_bit, expect_entry, expect_pin, expect_place, expect_observed, only_if, observing_driver}
 use Rattle.tap_defs.proofs.board.LiveLemmas.{on_is}
-use Rattle.tap_defs.proofs.board.FeedingLemmas.{Observing, observing_at}
 use Rattle.tap_defs.proofs.board.PassingLemmas.{stands_at}
-use Rattle.scan_planner.specs.declared.tables.DriverCell.{DriverCell}
-use Rattle.scan_planner.specs.declared.tables.ReaderCell.{ReaderCell}
-use Rattle.scan_planner.specs.Tables.{first_position, IsDriverCell, IsReaderCell}
-use Rattle.scan_planner.specs.inner.Laid.{laid}
-use Rattle.scan_planner.specs.Assigned.{assigned, set_readers, set_compared}
-use Rattle.scan_planner.proofs.LaidLemmas.{CellOf, assigned_laid}
+use Rattle.plan_tables.specs.declared.tables.DriverCell.{DriverCell}
+use Rattle.plan_tables.specs.declared.tables.ReaderCell.{ReaderCell}
+use Rattle.plan_tables.specs.Tables.{first_position, IsDriverCell, IsReaderCell}
+use Rattle.plan_tables.specs.inner.Laid.{laid}
+use Rattle.plan_tables.specs.Assigned.{assigned, set_readers, set_compared}
+use Rattle.plan_tables.proofs.LaidLemmas.{CellOf, assigned_laid}
 use Rattle.scan_planner.proofs.DriverLemmas.{pass_row}
-use Rattle.scan_planner.proofs.PinLemmas.{Standing, standing, on_self, reading_entry_is, Reads, reads_by}
-
--- the cell of the driver by which a net is observed
-pub driver_cell : (board : RawBoard) (pass : List Ctl) (n : ℕ) (net : Net) (place : ℕ) → slice_get board.nets n ≡ Some net → observing_driver board (holds pass) net ≡ Some place →
-    (d : DriverCell) × IsDriverCell board pass d × (d.net ≡ n) × (d.place ≡ place)
-driver_cell board pass n net place is_net observing = by_at o.pin.at refl o.enabled
-  where
-    o : Observing board (holds pass) net place
-    o = observing_at board (holds pass) net place observing
-
-    by_entry : (at : PinAt) → o.pin.at ≡ Some at → (w : Option Cell) → entry_at board at ≡ w → enables_entry (holds pass) at.part w ≡ true →
-        (d : DriverCell) × IsDriverCell board pass d × (d.net ≡ n) × (d.place ≡ place)
-    by_entry at is_at None is_entry on = cc on
-    by_entry at is_at (Some entry) is_entry on =
-        let d : DriverCell = record { net = n; place = place; position = first_position board at.part + entry.num } in (
-          d,
-          record { net = net; is_net = is_net; observing = observing; pin = o.pin; is_pin = o.stands; at = at; is_at = is_at; entry = entry; is_entry = is_entry; position_is = refl },
-          refl,
-          refl,
-        )
-
-    by_at : (w : Option PinAt) → o.pin.at ≡ w → enables_where board (holds pass) w ≡ true →
-        (d : DriverCell) × IsDriverCell board pass d × (d.net ≡ n) × (d.place ≡ place)
-    by_at None is_at on = cc on
-    by_at (Some at) is_at on = by_entry at is_at (entry_at board at) refl on
+use Rattle.plan_tables.proofs.PinLemmas.{Standing, standing, on_self, reading_entry_is, Reads, reads_by}
+use Rattle.plan_tables.proofs.ReaderTableLemmas.{ReadersOf}
+use Rattle.plan_tables.proofs.SeenLemmas.{driver_cell}
 
 -- nothing is compared of the quiet row
 pub quiet_expect : (board : RawBoard) (part : ℕ) (device : RawDevice) (cell : ℕ) → expect_bit board quiet_row part device cell ≡ None
@@ -143,11 +119,6 @@ set_compared_is bit readers (d ∷ drivers) bits =
     set_compared_is bit readers drivers (set_readers d.place (bit d) bits (get_or readers d.net []))
     ∙ ap (λ (b : List Bool). assigned (λ (x : Pair). x.1.position) (λ x. bit x.0) b (pairs readers drivers)) (set_one bit d (get_or readers d.net []) bits)
     ∙ sym (fold-append (λ done (x : Pair). set done x.1.position (bit x.0)) bits (pairs_of d (get_or readers d.net [])) (pairs readers drivers))
-
--- tables of readers
-abbrev pub ReadersOf : RawBoard → List (List ReaderCell) → Type 0
-ReadersOf board readers =
-    (n : ℕ) (net : Net) → slice_get board.nets n ≡ Some net → ((r : ReaderCell) → Has (get_or readers n []) r → IsReaderCell board net r) × ((r : ReaderCell) → IsReaderCell board net r → Has (get_or readers n []) r)
 
 not_same : (a b : ℕ) → (a == b) ≡ false → (b == a) ≡ false
 not_same a b e = ne_eqb b a (λ same. let z : (a == b) ≡ true = eq-eqb a b (sym same) in let bad : true ≡ false = sym z ∙ e in cc bad)

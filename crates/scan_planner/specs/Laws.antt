@@ -6,7 +6,7 @@ use Rattle.board_defs.specs.declared.board.Ctl.{Ctl}
 use Rattle.board_defs.specs.BoardRules.{IsBoard}
 use Rattle.board_defs.specs.Settings.{IsSafe, holds}
 use Rattle.board_defs.specs.Decided.{drives_net, is_useful}
-use Rattle.scan_planner.specs.Plans.{controls_some, ArePlannable}
+use Rattle.plan_tables.specs.Plans.{controls_some, ArePlannable}
 
 -- each pass is safe
 abbrev pub AreSafe : RawBoard → List (List Ctl) → Type 0

@@ -1,6 +1,3 @@
-pub mod Tables
 pub mod Plans
-pub mod Assigned
-pub mod Building
 pub mod Laws
 pub mod inner

@@ -1,7 +1,2 @@
 -- Terms that serve proofs and the contracts of private functions. No public contract cites them.
-pub mod Building
-pub mod Codes
-pub mod Laid
-pub mod QuietBits
-pub mod Entries
-pub mod Steady
+pub mod Passes

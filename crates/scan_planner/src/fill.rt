@@ -4,13 +4,14 @@ ghost use Rattle.std.specs.List.{list_any};
 ghost use Rattle.board_defs.specs.Pins.{data_bits};
 ghost use Rattle.tap_defs.specs.board.BoardScans.{row_bits};
 ghost use Rattle.tap_defs.specs.chain.Scan.{joined, tdi_bits, tdo_bits, mask_bits};
-ghost use Rattle.scan_planner.specs.Tables.{common_rows};
-ghost use Rattle.scan_planner.specs.Plans.{IsPlanOf, IsRoom, FillsScan, scan_count, scan_of_pass};
+ghost use Rattle.plan_tables.specs.Tables.{common_rows};
+ghost use Rattle.plan_tables.specs.Plans.{IsPlanOf};
+ghost use Rattle.scan_planner.specs.Plans.{IsRoom, FillsScan, scan_count, scan_of_pass};
 
 use crate::passes::{compare_controlled, pass_at, set_controlled, set_held};
-use crate::tables::{FixedRows, PlanTables};
 use board_defs::Board;
 use bt_bits::Row;
+use plan_tables::{FixedRows, PlanTables};
 use tap_defs::Shape;
 
 // The kind of a scan of instructions with this mask.

@@ -1,27 +1,12 @@
-//! The scans of a board's test, made one at a time from its passes.
+//! The scans of a board's test, made one at a time from its passes: how the tables of a plan fill the rows of a scan, and what a plan says
+//! of each net and each position. `plan_tables` makes the tables.
 #![tactic(auto)]
 
-mod build;
-mod codes;
-mod common;
-mod controls;
-mod drivers;
-mod entries;
 mod fill;
-mod guards;
-mod instructions;
 pub mod law;
-mod nets;
-mod observers;
 mod passes;
 mod plan;
-mod positions;
 mod questions;
-mod quiet;
-mod rows;
-mod tables;
-mod uses;
 
-pub use nets::NetDriver;
 pub use plan::Plan;
-pub use tables::ReaderCell;
+pub use plan_tables::{NetDriver, ReaderCell};

@@ -1,19 +1,15 @@
 // The cells in which the rows of a pass differ from those that all passes share, found by its controls.
-ghost use Rattle.std.specs.Prelude.{◌≡◌, ◌+◌, ◌<◌, [], true, length, map, fold, slice_index_or, IfOk, All};
+ghost use Rattle.std.specs.Prelude.{◌≡◌, ◌<◌, [], true, length, map, fold, slice_index_or, All};
 ghost use Rattle.board_defs.specs.declared.board.Ctl.{Ctl as ControlRecord};
 ghost use Rattle.board_defs.specs.Pins.{device_at, cell_count, data_bits};
 ghost use Rattle.board_defs.specs.Settings.{holds};
-ghost use Rattle.scan_planner.specs.Assigned.{assigned, driver_bit, set_compared};
-ghost use Rattle.scan_planner.specs.Tables.{AreFirsts, held_cell};
-ghost use Rattle.scan_planner.specs.inner.Building.{controlled, AreDrivers};
+ghost use Rattle.plan_tables.specs.Assigned.{assigned, driver_bit, set_compared};
+ghost use Rattle.plan_tables.specs.Tables.{AreFirsts, held_cell, controlled};
+ghost use Rattle.scan_planner.specs.inner.Passes.{AreDrivers};
 
-use crate::controls::{DriverTable, controlled};
-use crate::positions::cell_position;
-use crate::rows::{compare_nets, set_drivers};
-use crate::tables::{HeldCell, ReaderCell};
-use board_defs::{Board, Ctl, Items, Setting};
+use board_defs::{Board, Items, Setting};
 use bt_bits::Row;
-use std::alloc::{AllocError, Global};
+use plan_tables::{DriverTable, ReaderCell, compare_nets, controlled, held_cell, set_drivers};
 
 /// Pass `x`, counted from 0.
 pub fn pass_at(passes: &[Setting], x: usize) -> &Setting
@@ -21,41 +17,6 @@ pub fn pass_at(passes: &[Setting], x: usize) -> &Setting
     ensures { result.now ≡ slice_index_or passes.now x [] }
 {
     &passes[x]
-}
-
-fn held_cell(board: &Board, firsts: &[u32], quiet: &Row, c: Ctl) -> HeldCell
-    requires firsts { AreFirsts board.now.chain firsts.now }
-    requires quiet { length quiet.now.bits ≡ data_bits board.now }
-    requires cell { c.cell < cell_count (device_at board.now c.part) }
-    ensures value { result ≡ held_cell board.now quiet.now.bits c }
-    ensures within { result.position < data_bits board.now }
-{
-    let _ = board.raw();
-    let position = cell_position(board, firsts, c.part, c.cell);
-    HeldCell {
-        position,
-        bit: !quiet.get(position),
-    }
-}
-
-/// The cells of the controls of a pass.
-pub fn held_cells(
-    alloc: Global,
-    board: &Board,
-    firsts: &[u32],
-    quiet: &Row,
-    pass: &Setting,
-) -> Result<Items<HeldCell>, AllocError>
-    requires firsts { AreFirsts board.now.chain firsts.now }
-    requires quiet { length quiet.now.bits ≡ data_bits board.now }
-    requires cells { (c : ControlRecord) → holds pass.now c ≡ true → c.cell < cell_count (device_at board.now c.part) }
-    ensures { IfOk result (λ cells. cells ≡ map (held_cell board.now quiet.now.bits) pass.now) }
-{
-    let mut cells = Vec::new(alloc);
-    for c in pass.controls() {
-        cells.push(held_cell(board, firsts, quiet, *c))?;
-    }
-    Ok(Items::of(cells))
 }
 
 /// Sets the cells of the controls of a pass.

@@ -3,13 +3,13 @@ ghost use Rattle.std.specs.Prelude.{◌≡◌, ◌+◌, ◌*◌, ◌<◌, ◌≤
 ghost use Rattle.board_defs.specs.Pins.{data_bits};
 ghost use Rattle.tap_defs.specs.board.BoardScans.{row_bits};
 ghost use Rattle.tap_defs.specs.chain.Scan.{joined, mask_bits, tdo_bits};
-ghost use Rattle.scan_planner.specs.Plans.{ArePlannable, IsPlanOf, IsRoom, FillsScan, scan_count, scan_of_pass};
+ghost use Rattle.plan_tables.specs.Plans.{ArePlannable, IsPlanOf};
+ghost use Rattle.scan_planner.specs.Plans.{IsRoom, FillsScan, scan_count, scan_of_pass};
 
-use crate::build::tables_of;
 use crate::fill::{compare_row, fill_scan};
-use crate::tables::PlanTables;
 use board_defs::{Board, Items, Setting};
 use bt_bits::Row;
+use plan_tables::{PlanTables, tables_of};
 use std::alloc::{AllocError, Global};
 use std::marker::Model;
 use tap_defs::Shape;
@@ -23,7 +23,7 @@ pub struct Plan {
 
 impl Model for Plan {
     ghost use Rattle.std.specs.Prelude.{◌<◌, ◌≤◌, ◌^◌, length};
-    ghost use Rattle.scan_planner.specs.declared.tables.PlanTables.{PlanTables};
+    ghost use Rattle.plan_tables.specs.declared.tables.PlanTables.{PlanTables};
 
     ghost Value = { PlanTables };
 

@@ -1,11 +1,10 @@
 // What a plan says of each net and of each position.
 ghost use Rattle.std.specs.Prelude.{◌≡◌, ◌<◌, ◌≤◌, [], false, length, slice_index_or};
 
-use crate::nets::NetDriver;
 use crate::passes::pass_at;
 use crate::plan::Plan;
-use crate::tables::ReaderCell;
 use board_defs::{Items, Setting};
+use plan_tables::{NetDriver, ReaderCell};
 
 fn drivers_at(rows: &[Items<NetDriver>], net: usize) -> &[NetDriver]
     ensures { result.now ≡ slice_index_or rows.now net [] }

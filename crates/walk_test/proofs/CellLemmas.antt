@@ -45,10 +45,10 @@ use Rattle.tap_defs.proofs.board.ResponseLemmas.{plain_is}
 use Rattle.tap_defs.proofs.board.OneResponseLemmas.{holding_chain, held_in_test, all_show}
 use Rattle.tap_defs.proofs.board.DrivingLemmas.{feeding_is}
 use Rattle.tap_defs.proofs.board.CellPlaceLemmas.{captured_cell, captured_laid, laid as laid_parts, part_laid as laid_part}
-use Rattle.scan_planner.specs.declared.tables.ReaderCell.{ReaderCell}
-use Rattle.scan_planner.specs.Tables.{first_position, IsReaderCell}
-use Rattle.scan_planner.specs.inner.Laid.{CellBits, part_laid, parts_laid, laid}
-use Rattle.scan_planner.proofs.PinLemmas.{Standing, standing, reading_entry_is}
+use Rattle.plan_tables.specs.declared.tables.ReaderCell.{ReaderCell}
+use Rattle.plan_tables.specs.Tables.{first_position, IsReaderCell}
+use Rattle.plan_tables.specs.inner.Laid.{CellBits, part_laid, parts_laid, laid}
+use Rattle.plan_tables.proofs.PinLemmas.{Standing, standing, reading_entry_is}
 use Rattle.walk_test.specs.WalkTest.{is_switched_by, switches_some}
 use Rattle.walk_test.specs.Groups.{group_of, or_shorts}
 use Rattle.walk_test.specs.inner.Reading.{is_one_group, are_joined}

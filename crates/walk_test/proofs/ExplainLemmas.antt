@@ -22,10 +22,10 @@ use Rattle.tap_defs.specs.board.Explaining.{compared_scans, CompareRows, HasShap
 use Rattle.tap_defs.proofs.board.CellPlaceLemmas.{agree_at, agree_from, captured_cell}
 use Rattle.tap_defs.proofs.board.LogLemmas.{rows_counted}
 use Rattle.tap_defs.proofs.board.PlanLemmas.{observed_by}
-use Rattle.scan_planner.specs.declared.tables.DriverCell.{DriverCell}
-use Rattle.scan_planner.specs.declared.tables.ReaderCell.{ReaderCell}
-use Rattle.scan_planner.specs.Tables.{IsDriverCell, IsReaderCell}
-use Rattle.scan_planner.proofs.LaidLemmas.{length-laid, mask_laid}
+use Rattle.plan_tables.specs.declared.tables.DriverCell.{DriverCell}
+use Rattle.plan_tables.specs.declared.tables.ReaderCell.{ReaderCell}
+use Rattle.plan_tables.specs.Tables.{IsDriverCell, IsReaderCell}
+use Rattle.plan_tables.proofs.LaidLemmas.{length-laid, mask_laid}
 use Rattle.walk_test.specs.WalkTest.{walk_setting, walk_nets}
 use Rattle.walk_test.specs.Groups.{AreGroups, group_of, or_shorts}
 use Rattle.walk_test.specs.inner.Reading.{are_joined}

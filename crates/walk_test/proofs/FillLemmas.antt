@@ -20,19 +20,20 @@ use Rattle.tap_defs.specs.board.TestRows.{TestRow, quiet_row, code_row, code_of_
 use Rattle.tap_defs.specs.board.BoardScans.{RowScan, row_bits, scan_of_row, board_scans, row_scans, pass_scans, row_now, row_before, test_scans, first_row_scan, is_walked, walk_row, walk_row_scans}
 use Rattle.tap_defs.proofs.board.ScanPlaceLemmas.{scans_placed, front_at, length-pass_scans, pass_scan_at}
 use Rattle.tap_defs.proofs.board.WidthLemmas.{width_is}
-use Rattle.scan_planner.specs.declared.nets.NetDriver.{NetDriver}
-use Rattle.scan_planner.specs.declared.tables.DriverCell.{DriverCell}
-use Rattle.scan_planner.specs.declared.tables.ReaderCell.{ReaderCell}
-use Rattle.scan_planner.specs.declared.tables.PlanTables.{PlanTables}
-use Rattle.scan_planner.specs.Assigned.{assigned}
-use Rattle.scan_planner.specs.Building.{enabled_in, is_read_beside, drivers_of, readers_of}
-use Rattle.scan_planner.specs.Plans.{IsPlanOf, FillsScan, scan_count}
-use Rattle.scan_planner.specs.Tables.{IsDriverCell, IsReaderCell}
+use Rattle.plan_tables.specs.declared.nets.NetDriver.{NetDriver}
+use Rattle.plan_tables.specs.declared.tables.DriverCell.{DriverCell}
+use Rattle.plan_tables.specs.declared.tables.ReaderCell.{ReaderCell}
+use Rattle.plan_tables.specs.declared.tables.PlanTables.{PlanTables}
+use Rattle.plan_tables.specs.Assigned.{assigned}
+use Rattle.plan_tables.specs.Building.{enabled_in, is_read_beside, drivers_of, readers_of}
+use Rattle.plan_tables.specs.Plans.{IsPlanOf}
+use Rattle.scan_planner.specs.Plans.{FillsScan, scan_count}
+use Rattle.plan_tables.specs.Tables.{IsDriverCell, IsReaderCell}
 use Rattle.scan_planner.proofs.FillLemmas.{row_sized, quiet_tdo, quiet_mask}
-use Rattle.scan_planner.proofs.RowLemmas.{none_of_zeros}
-use Rattle.scan_planner.proofs.LaidLemmas.{mask_laid, tdo_laid, tdi_laid, length-laid}
-use Rattle.scan_planner.proofs.AssignLemmas.{assigned_is}
-use Rattle.scan_planner.proofs.TableLemmas.{Observed, DriverAt, observed, reader_is, is_reader}
+use Rattle.plan_tables.proofs.RowLemmas.{none_of_zeros}
+use Rattle.plan_tables.proofs.LaidLemmas.{mask_laid, tdo_laid, tdi_laid, length-laid}
+use Rattle.plan_tables.proofs.AssignLemmas.{assigned_is}
+use Rattle.plan_tables.proofs.TableLemmas.{Observed, DriverAt, observed, reader_is, is_reader}
 use Rattle.walk_test.specs.declared.tables.NetCells.{NetCells}
 use Rattle.walk_test.specs.declared.tables.WalkTables.{WalkTables}
 use Rattle.walk_test.specs.WalkTest.{is_walk_net, walk_setting, walk_nets, scans_by, walk_row_list, walk_scans}
@@ -179,8 +180,8 @@ module _ (board : RawBoard) (rules : IsBoard board) (plan : PlanTables) (p : IsP
           let at : a.at ≡ s.at = cc ats in
           let entries : Some a.entry ≡ Some s.entry = sym a.is_entry ∙ ap (λ (x : Rattle.board_defs.specs.declared.board.PinAt.PinAt). Rattle.board_defs.specs.Pins.entry_at board x) at ∙ s.is_entry in
           let entry : a.entry ≡ s.entry = cc entries in
-          a.position_is ∙ ap (λ (x : Rattle.board_defs.specs.declared.board.PinAt.PinAt). Rattle.scan_planner.specs.Tables.first_position board x.part + a.entry.num) at
-          ∙ ap (λ (x : Rattle.board_defs.specs.declared.device.Cell.Cell). Rattle.scan_planner.specs.Tables.first_position board s.at.part + x.num) entry ∙ sym s.position_is
+          a.position_is ∙ ap (λ (x : Rattle.board_defs.specs.declared.board.PinAt.PinAt). Rattle.plan_tables.specs.Tables.first_position board x.part + a.entry.num) at
+          ∙ ap (λ (x : Rattle.board_defs.specs.declared.device.Cell.Cell). Rattle.plan_tables.specs.Tables.first_position board s.at.part + x.num) entry ∙ sym s.position_is
 
       by_observer : (o : Option NetDriver) → Observed board (holds walk) w.net o → AreNetCells board walk n (cells_by plan n o)
       by_observer None h = let bad : None ≡ Some w.driver = sym h ∙ w.observing in cc bad
@@ -541,7 +542,7 @@ compare_is board rules t w some zero le mask is =
     sym (ap (λ (l : List Bool). list_any (λ bit. bit) l) (is ∙ sym (first_mask board)) ∙ none_of_zeros (data_bits board))
 compare_is board rules t w some (suc j) le mask is =
     let within : j < length t.cells = omega (arith, le, cells_count board rules t w some) in
-    let c = Rattle.scan_planner.proofs.FillLemmas.some_at t.cells j within in
+    let c = Rattle.plan_tables.proofs.ListLemmas.some_at t.cells j within in
     let less : nat_lt 0 (suc j) ≡ true = lt-ltb 0 (suc j) (omega arith) in
     less ∙ sym (ap (λ (l : List Bool). list_any (λ bit. bit) l) is ∙ row_has_one board rules t w some j (omega (arith, le)) c.0 c.1)
 

@@ -108,7 +108,7 @@ module _ (safe : WalkSafe) (by_rows : (board : RawBoard) (faults : FaultSet) (sc
         let r = (c.1.compared p).0 (has_contains c.0.compared p (has_at c.0.compared 0 p (slice_get-get_or c.0.compared 0 0 c.1.some))) in
         let within : place.0 < length log = omega (arith, slice_get_within (walk_nets board) place.0 b place.1, one.1) in
         let at = slice_get-get_or log place.0 [] within in
-        let reader = subst (λ (n : Rattle.board_defs.specs.declared.board.Net.Net). Rattle.scan_planner.specs.Tables.IsReaderCell board n r.0) (same_net a c.0 c.1) r.1 in
+        let reader = subst (λ (n : Rattle.board_defs.specs.declared.board.Net.Net). Rattle.plan_tables.specs.Tables.IsReaderCell board n r.0) (same_net a c.0 c.1) r.1 in
         let left = one.0 place.0 b (get_or log place.0 []) c.1.driver c.1.is_driver r.0 reader r.2 place.1 at in
         let right = two.0 place.0 b (get_or log place.0 []) c.1.driver c.1.is_driver r.0 reader r.2 place.1 at in
         sym (ap (λ (n : ℕ). are_joined groups n b) c.1.of_net) ∙ sym left ∙ right ∙ ap (λ (n : ℕ). are_joined others n b) c.1.of_net

@@ -9,8 +9,8 @@ use Rattle.std.proofs.lemmas.List.Sums.{fold-append}
 use Rattle.std.proofs.lemmas.Option.{slice_get_within, slice_get-get_or, get_or_from_slice_get}
 use Rattle.board_defs.proofs.Members.{Has, has_at, has_place, has_contains, contains_has, all_has, has_flat_map, flat_map_has}
 use Rattle.board_defs.proofs.Places.{all_from}
-use Rattle.scan_planner.specs.Assigned.{assigned}
-use Rattle.scan_planner.proofs.AssignLemmas.{assigned_groups, has_mark, length-assigned, mark_has}
+use Rattle.plan_tables.specs.Assigned.{assigned}
+use Rattle.plan_tables.proofs.AssignLemmas.{assigned_groups, has_mark, length-assigned, mark_has}
 use Rattle.tap_defs.proofs.chain.ListLemmas.{cons_path}
 use Rattle.walk_test.specs.declared.tables.NetCells.{NetCells}
 use Rattle.walk_test.specs.inner.Reading.{bit_in, compared_bits, with_compared, first_one, label_of, first_at, first_in, is_even, below, AreCompared, AreSameRows, StartsGroup, AreStarted, IsRowRight, AreRead, ShowsAll}

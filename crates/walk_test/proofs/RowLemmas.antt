@@ -19,20 +19,22 @@ use Rattle.board_defs.proofs.Members.{Has, has_contains, contains_has, flat_map_
 use Rattle.tap_defs.specs.board.TestRows.{TestRow, quiet_row, code_row, row_bit, expect_bit, observing_driver, reads_beside}
 use Rattle.tap_defs.proofs.board.WrongLemmas.{Compared, expects}
 use Rattle.tap_defs.proofs.board.ReadingLemmas.{beside_observing}
-use Rattle.scan_planner.specs.declared.tables.DriverCell.{DriverCell}
-use Rattle.scan_planner.specs.declared.tables.ReaderCell.{ReaderCell}
-use Rattle.scan_planner.specs.declared.tables.PlanTables.{PlanTables}
-use Rattle.scan_planner.specs.Assigned.{assigned}
-use Rattle.scan_planner.specs.Building.{readers_of as readers_in_order}
-use Rattle.scan_planner.specs.inner.Laid.{laid, steady}
-use Rattle.scan_planner.specs.Plans.{IsPlanOf}
-use Rattle.scan_planner.specs.Tables.{first_position, IsDriverCell, IsReaderCell}
-use Rattle.scan_planner.proofs.AssignLemmas.{assigned_is, mark_has}
+use Rattle.plan_tables.specs.declared.tables.DriverCell.{DriverCell}
+use Rattle.plan_tables.specs.declared.tables.ReaderCell.{ReaderCell}
+use Rattle.plan_tables.specs.declared.tables.PlanTables.{PlanTables}
+use Rattle.plan_tables.specs.Assigned.{assigned}
+use Rattle.plan_tables.specs.Building.{readers_of as readers_in_order}
+use Rattle.plan_tables.specs.inner.Laid.{laid, steady}
+use Rattle.plan_tables.specs.Plans.{IsPlanOf}
+use Rattle.plan_tables.specs.Tables.{first_position, IsDriverCell, IsReaderCell}
+use Rattle.plan_tables.proofs.AssignLemmas.{assigned_is, mark_has}
 use Rattle.scan_planner.proofs.DriverLemmas.{pass_row, row_cells, drivers_laid}
-use Rattle.scan_planner.proofs.LaidLemmas.{laid_at, length-laid, zeros_laid, tdi_laid, tdo_laid, mask_laid}
-use Rattle.scan_planner.proofs.PinLemmas.{Standing, standing, drives_by, entry_on}
-use Rattle.scan_planner.proofs.ReaderLemmas.{ReadersOf, Pair, pairs, pairs_of, pair_has, driver_cell, tdo_compared, mask_compared}
-use Rattle.scan_planner.proofs.TableLemmas.{beside_is, reader_is, is_reader}
+use Rattle.plan_tables.proofs.LaidLemmas.{laid_at, length-laid, zeros_laid, tdi_laid, tdo_laid, mask_laid}
+use Rattle.plan_tables.proofs.PinLemmas.{Standing, standing, drives_by, entry_on}
+use Rattle.plan_tables.proofs.ReaderTableLemmas.{ReadersOf}
+use Rattle.scan_planner.proofs.ReaderLemmas.{Pair, pairs, pairs_of, pair_has, tdo_compared, mask_compared}
+use Rattle.plan_tables.proofs.SeenLemmas.{driver_cell}
+use Rattle.plan_tables.proofs.TableLemmas.{beside_is, reader_is, is_reader}
 use Rattle.walk_test.specs.declared.tables.NetCells.{NetCells}
 use Rattle.walk_test.specs.Tables.{tdi_of, mask_of, still_row, AreNetCells}
 use Rattle.walk_test.specs.inner.Tables.{tdo_of, positions_beside}
@@ -200,7 +202,7 @@ module _ (board : RawBoard) (rules : IsBoard board) (walk : List Ctl) (cells : C
           ap (λ (l : List Bool). get_or l d.position false) (tdi_laid board (record { now = mark_row f; before = quiet_row }))
           ∙ ap (λ (i : ℕ). get_or (laid (row_cells board (mark_row f)) board) i false) s.position_is
           ∙ (laid_at (row_cells board (mark_row f)) board s.at.part t.device s.entry.num t.is_device below).1
-          ∙ ap (λ (o : Option Cell). unwrap_or (Rattle.std.specs.Prelude.option_and_then (λ e. Rattle.tap_defs.specs.board.TestRows.data_pin board (mark_row f) s.at.part e.bit) o) off) (Rattle.scan_planner.proofs.PinLemmas.driving_cell_is t.device t.wired s.at.bit s.entry drives)
+          ∙ ap (λ (o : Option Cell). unwrap_or (Rattle.std.specs.Prelude.option_and_then (λ e. Rattle.tap_defs.specs.board.TestRows.data_pin board (mark_row f) s.at.part e.bit) o) off) (Rattle.plan_tables.proofs.PinLemmas.driving_cell_is t.device t.wired s.at.bit s.entry drives)
           ∙ ap (λ (o : Option ℕ). unwrap_or (Rattle.tap_defs.specs.board.TestRows.data_pin board (mark_row f) s.at.part o) off) drives.bit_is
           ∙ ap (λ (o : Option Rattle.tap_defs.specs.board.NetBits.Place). unwrap_or (Rattle.tap_defs.specs.board.TestRows.data_place board (mark_row f) o) off) t.is_place
           ∙ ap (λ (o : Option ℕ). unwrap_or (Rattle.tap_defs.specs.board.TestRows.data_observed (Some (f d.net)) d.place o) off) s.observing

@@ -20,12 +20,12 @@ use Rattle.tap_defs.specs.board.BoardScans.{RowScan, board_scans, is_walked, wal
 use Rattle.tap_defs.specs.board.Explaining.{is_compared, compared_scans, CompareRows, HasShape, ExplainedBy, AreInTurn, IsCapturedBy}
 use Rattle.tap_defs.specs.board.FaultSet.{FaultSet}
 use Rattle.tap_defs.proofs.board.LogLemmas.{rows_counted}
-use Rattle.scan_planner.specs.declared.tables.DriverCell.{DriverCell}
-use Rattle.scan_planner.specs.declared.tables.ReaderCell.{ReaderCell}
-use Rattle.scan_planner.specs.Building.{readers_of as readers_in_order}
-use Rattle.scan_planner.specs.Tables.{IsDriverCell, IsReaderCell}
-use Rattle.scan_planner.proofs.ReaderLemmas.{driver_cell}
-use Rattle.scan_planner.proofs.TableLemmas.{reader_is, is_reader}
+use Rattle.plan_tables.specs.declared.tables.DriverCell.{DriverCell}
+use Rattle.plan_tables.specs.declared.tables.ReaderCell.{ReaderCell}
+use Rattle.plan_tables.specs.Building.{readers_of as readers_in_order}
+use Rattle.plan_tables.specs.Tables.{IsDriverCell, IsReaderCell}
+use Rattle.plan_tables.proofs.SeenLemmas.{driver_cell}
+use Rattle.plan_tables.proofs.TableLemmas.{reader_is, is_reader}
 use Rattle.walk_test.specs.declared.tables.NetCells.{NetCells}
 use Rattle.walk_test.specs.declared.tables.WalkTables.{WalkTables}
 use Rattle.walk_test.specs.WalkTest.{walk_setting, walk_nets, scans_by}

@@ -1,7 +1,7 @@
 // Fills rows with a scan of the walking test.
 ghost use Rattle.std.specs.Prelude.{◌≡◌, ◌+◌, ◌<◌, ◌≤◌, [], true, suc, length, Some, slice_get, All};
 ghost use Rattle.board_defs.specs.Pins.{data_bits};
-ghost use Rattle.scan_planner.specs.Assigned.{assigned};
+ghost use Rattle.plan_tables.specs.Assigned.{assigned};
 ghost use Rattle.scan_planner.specs.Plans.{IsRoom};
 ghost use Rattle.walk_test.specs.Tables.{IsWalkOf, scan_count, tdi_of, mask_of};
 ghost use Rattle.walk_test.specs.inner.Tables.{tdo_of, now_of, before_of};

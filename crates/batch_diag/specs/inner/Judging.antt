@@ -1,7 +1,7 @@
 -- How the verdicts on the blocks of a batch are found in pieces.
 use Rattle.std.specs.Prelude.{◌≡◌, ℕ, ◌-◌, ◌*◌, ◌/◌, ◌<◌, List, length, take, drop, All}
 use Rattle.board_defs.specs.Passes.{passes_of}
-use Rattle.scan_planner.specs.Plans.{IsPlanOf}
+use Rattle.plan_tables.specs.Plans.{IsPlanOf}
 use Rattle.fault_sim.specs.Places.{IsUniverse}
 use Rattle.diagnoser.specs.Diagnosis.{IsNamed}
 use Rattle.batch_diag.specs.declared.block.Block.{Block}

@@ -4,7 +4,7 @@ use Rattle.board_defs.specs.declared.fault.Single.{Single}
 use Rattle.board_defs.specs.Passes.{passes_of}
 use Rattle.board_defs.specs.Pins.{data_bits}
 use Rattle.tap_defs.specs.board.Explaining.{Explains}
-use Rattle.scan_planner.specs.Plans.{IsPlanOf}
+use Rattle.plan_tables.specs.Plans.{IsPlanOf}
 use Rattle.fault_sim.specs.Places.{IsUniverse, fault_at}
 use Rattle.fault_sim.specs.Suspects.{AreDiffering, AreSuspects}
 use Rattle.diagnoser.specs.declared.search.Search.{Search}

@@ -5,8 +5,8 @@ use Rattle.board_defs.specs.declared.board.RawBoard.{RawBoard}
 use Rattle.board_defs.specs.Pins.{data_bits}
 use Rattle.tap_defs.specs.chain.Scan.{joined, tdo_bits, mask_bits}
 use Rattle.tap_defs.specs.board.BoardScans.{row_bits}
-use Rattle.scan_planner.specs.declared.tables.ReaderCell.{ReaderCell}
-use Rattle.scan_planner.specs.declared.tables.PlanTables.{PlanTables}
+use Rattle.plan_tables.specs.declared.tables.ReaderCell.{ReaderCell}
+use Rattle.plan_tables.specs.declared.tables.PlanTables.{PlanTables}
 use Rattle.scan_planner.specs.Plans.{scan_of_pass}
 use Rattle.fault_sim.specs.declared.marks.ComparedRows.{ComparedRows}
 use Rattle.fault_sim.specs.Fits.{bit_in}

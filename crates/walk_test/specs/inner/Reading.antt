@@ -3,7 +3,7 @@ use Rattle.std.specs.Prelude.{◌≡◌, ℕ, suc, ◌<◌, ◌≤◌, ◌==◌,
 use Rattle.std.specs.List.{list_all, flat_map, range_with_len}
 use Rattle.board_defs.specs.Pins.{is_same}
 use Rattle.tap_defs.specs.board.NetBits.{is_in_short}
-use Rattle.scan_planner.specs.Assigned.{assigned}
+use Rattle.plan_tables.specs.Assigned.{assigned}
 use Rattle.walk_test.specs.declared.tables.NetCells.{NetCells}
 use Rattle.walk_test.specs.Groups.{group_of}
 

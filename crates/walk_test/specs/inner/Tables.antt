@@ -7,11 +7,11 @@ use Rattle.board_defs.specs.Settings.{holds}
 use Rattle.tap_defs.specs.chain.Scan.{joined, tdo_bits}
 use Rattle.tap_defs.specs.board.TestRows.{TestRow, quiet_row, code_row}
 use Rattle.tap_defs.specs.board.BoardScans.{row_bits, walk_row, row_now, row_before}
-use Rattle.scan_planner.specs.declared.nets.NetDriver.{NetDriver}
-use Rattle.scan_planner.specs.declared.tables.ReaderCell.{ReaderCell}
-use Rattle.scan_planner.specs.declared.tables.PlanTables.{PlanTables}
-use Rattle.scan_planner.specs.Assigned.{assigned}
-use Rattle.scan_planner.specs.Building.{enabled_in, is_read_beside}
+use Rattle.plan_tables.specs.declared.nets.NetDriver.{NetDriver}
+use Rattle.plan_tables.specs.declared.tables.ReaderCell.{ReaderCell}
+use Rattle.plan_tables.specs.declared.tables.PlanTables.{PlanTables}
+use Rattle.plan_tables.specs.Assigned.{assigned}
+use Rattle.plan_tables.specs.Building.{enabled_in, is_read_beside}
 use Rattle.walk_test.specs.declared.tables.NetCells.{NetCells}
 use Rattle.walk_test.specs.declared.tables.WalkRows.{WalkRows}
 use Rattle.walk_test.specs.WalkTest.{walk_setting}

@@ -1,6 +1,6 @@
 use Rattle.std.proofs.Common.{◌≡◌, length, ap, sym, ◌∙◌, arith, Some}
 use Rattle.std.specs.Prelude.{slice_get}
-use Rattle.scan_planner.specs.Tables.{common_rows}
+use Rattle.plan_tables.specs.Tables.{common_rows}
 use Rattle.scan_planner.proofs.FillLemmas.{common_there}
 use Rattle.scan_planner.proofs.fill.common_row.Goals as goal
 

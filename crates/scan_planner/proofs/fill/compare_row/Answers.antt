@@ -1,11 +1,11 @@
 use Rattle.std.proofs.Common.{◌≡◌, Bool, List, ℕ, [], suc, fold, length, get_or, ap, ◌∙◌, true, refl, arith}
 use Rattle.board_defs.specs.declared.board.Ctl.{Ctl}
-use Rattle.scan_planner.specs.declared.tables.FixedRows.{FixedRows}
-use Rattle.scan_planner.specs.declared.tables.DriverCell.{DriverCell}
-use Rattle.scan_planner.specs.declared.tables.ReaderCell.{ReaderCell}
-use Rattle.scan_planner.specs.Assigned.{set_compared, driver_bit}
+use Rattle.plan_tables.specs.declared.tables.FixedRows.{FixedRows}
+use Rattle.plan_tables.specs.declared.tables.DriverCell.{DriverCell}
+use Rattle.plan_tables.specs.declared.tables.ReaderCell.{ReaderCell}
+use Rattle.plan_tables.specs.Assigned.{set_compared, driver_bit}
 use Rattle.scan_planner.specs.Plans.{scan_of_pass}
-use Rattle.scan_planner.specs.inner.Building.{controlled}
+use Rattle.plan_tables.specs.Tables.{controlled}
 use Rattle.scan_planner.proofs.FillLemmas.{compared_length, drivers_on_nets, controls_there, readers_within, tdo_is, mask_is}
 use Rattle.scan_planner.proofs.fill.compare_row.Goals as goal
 

@@ -4,7 +4,7 @@ use Rattle.tap_defs.specs.board.BoardScans.{row_bits}
 use Rattle.tap_defs.specs.chain.Scan.{joined, tdo_bits, mask_bits}
 use Rattle.scan_planner.specs.Plans.{scan_of_pass}
 use Rattle.scan_planner.proofs.FillLemmas.{quiet_tdo, quiet_mask}
-use Rattle.scan_planner.proofs.RowLemmas.{none_of_zeros}
+use Rattle.plan_tables.proofs.RowLemmas.{none_of_zeros}
 use Rattle.scan_planner.proofs.fill.fill_before.Goals as goal
 
 pub returns-else-j-gt0-clause-tdo : goal.returns-else-j-gt0-clause-tdo

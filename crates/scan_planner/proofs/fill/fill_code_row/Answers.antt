@@ -1,14 +1,13 @@
 use Rattle.std.proofs.Common.{◌≡◌, Bool, List, ℕ, [], fold, map, length, ap, ◌∙◌, cond, get_or, arith}
 use Rattle.std.proofs.lemmas.Bool.{lt-ltb}
 use Rattle.board_defs.specs.declared.board.Ctl.{Ctl}
-use Rattle.scan_planner.specs.declared.tables.FixedRows.{FixedRows}
-use Rattle.scan_planner.specs.declared.tables.HeldCell.{HeldCell}
-use Rattle.scan_planner.specs.declared.tables.DriverCell.{DriverCell}
+use Rattle.plan_tables.specs.declared.tables.FixedRows.{FixedRows}
+use Rattle.plan_tables.specs.declared.tables.HeldCell.{HeldCell}
+use Rattle.plan_tables.specs.declared.tables.DriverCell.{DriverCell}
 use Rattle.tap_defs.specs.board.TestRows.{quiet_row, code_row}
-use Rattle.scan_planner.specs.Assigned.{assigned, driver_bit}
-use Rattle.scan_planner.specs.Tables.{held_cell}
+use Rattle.plan_tables.specs.Assigned.{assigned, driver_bit}
+use Rattle.plan_tables.specs.Tables.{held_cell, controlled}
 use Rattle.scan_planner.specs.Plans.{scan_of_pass}
-use Rattle.scan_planner.specs.inner.Building.{controlled}
 use Rattle.scan_planner.proofs.FillLemmas.{quiet_length, common_tdi_length, drivers_within, drivers_on_nets, controls_there, code_row_is}
 use Rattle.scan_planner.proofs.fill.fill_code_row.Goals as goal
 

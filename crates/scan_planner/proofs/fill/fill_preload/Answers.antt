@@ -3,7 +3,8 @@ use Rattle.tap_defs.specs.chain.Scan.{Scan}
 use Rattle.tap_defs.specs.chain.Codes.{instructs}
 use Rattle.tap_defs.specs.board.BoardScans.{preload_code}
 use Rattle.tap_defs.proofs.board.ScanPlaceLemmas.{scans_placed}
-use Rattle.scan_planner.proofs.FillLemmas.{fills, preload_sized, tdi_length}
+use Rattle.scan_planner.proofs.FillLemmas.{fills, tdi_length}
+use Rattle.plan_tables.proofs.SizeLemmas.{preload_sized}
 use Rattle.scan_planner.proofs.fill.fill_preload.Goals as goal
 
 pub copy_rows-requires-clause-tdi_room : goal.copy_rows-requires-clause-tdi_room

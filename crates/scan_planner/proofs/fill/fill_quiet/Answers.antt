@@ -4,7 +4,7 @@ use Rattle.tap_defs.specs.chain.Scan.{Scan}
 use Rattle.tap_defs.specs.board.BoardScans.{scan_of_row, first_row_scan}
 use Rattle.tap_defs.proofs.board.ScanPlaceLemmas.{scans_placed}
 use Rattle.scan_planner.proofs.FillLemmas.{fills, row_sized, quiet_length, quiet_tdo, quiet_mask}
-use Rattle.scan_planner.proofs.RowLemmas.{none_of_zeros}
+use Rattle.plan_tables.proofs.RowLemmas.{none_of_zeros}
 use Rattle.scan_planner.proofs.fill.fill_quiet.Goals as goal
 
 pub copy_row-requires : goal.copy_row-requires

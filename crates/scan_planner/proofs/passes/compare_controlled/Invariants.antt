@@ -1,6 +1,6 @@
 use Rattle.std.proofs.Common.{◌≡◌, true, fold, length, take}
-use Rattle.scan_planner.specs.Assigned.{driver_bit, set_compared}
-use Rattle.scan_planner.specs.inner.Building.{controlled}
+use Rattle.plan_tables.specs.Assigned.{driver_bit, set_compared}
+use Rattle.plan_tables.specs.Tables.{controlled}
 use Rattle.scan_planner.proofs.passes.compare_controlled.Given as goal
 
 abbrev pub invariant-loop-c : goal.invariant-loop-c

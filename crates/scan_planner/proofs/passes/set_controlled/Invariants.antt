@@ -1,6 +1,6 @@
 use Rattle.std.proofs.Common.{◌≡◌, fold, length, take}
-use Rattle.scan_planner.specs.Assigned.{assigned, driver_bit}
-use Rattle.scan_planner.specs.inner.Building.{controlled}
+use Rattle.plan_tables.specs.Assigned.{assigned, driver_bit}
+use Rattle.plan_tables.specs.Tables.{controlled}
 use Rattle.scan_planner.proofs.passes.set_controlled.Given as goal
 
 abbrev pub invariant-loop-c : goal.invariant-loop-c

@@ -1,6 +1,6 @@
 use Rattle.std.proofs.Common.{◌≡◌, length, map, take}
-use Rattle.scan_planner.specs.Assigned.{assigned}
-use Rattle.scan_planner.specs.Tables.{held_cell}
+use Rattle.plan_tables.specs.Assigned.{assigned}
+use Rattle.plan_tables.specs.Tables.{held_cell}
 use Rattle.scan_planner.proofs.passes.set_held.Given as goal
 
 abbrev pub invariant-loop-c : goal.invariant-loop-c

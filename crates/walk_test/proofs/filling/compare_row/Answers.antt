@@ -2,7 +2,7 @@ use Rattle.std.proofs.Common.{◌≡◌, ℕ, ◌<◌, Bool, true, false, List, 
 use Rattle.std.specs.Prelude.{slice_get, All}
 use Rattle.std.proofs.lemmas.List.{length-replicate}
 use Rattle.board_defs.specs.Pins.{data_bits}
-use Rattle.scan_planner.specs.Assigned.{assigned}
+use Rattle.plan_tables.specs.Assigned.{assigned}
 use Rattle.walk_test.specs.declared.tables.NetCells.{NetCells}
 use Rattle.walk_test.proofs.FillLemmas.{cells_count, mask_length, positions_below, row_compared, row_masked}
 use Rattle.walk_test.proofs.filling.compare_row.Goals as goal

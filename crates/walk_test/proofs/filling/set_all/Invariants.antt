@@ -1,5 +1,5 @@
 use Rattle.std.proofs.Common.{◌≡◌, true, length, take}
-use Rattle.scan_planner.specs.Assigned.{assigned}
+use Rattle.plan_tables.specs.Assigned.{assigned}
 use Rattle.walk_test.proofs.filling.set_all.Given as goal
 
 abbrev pub invariant-loop-position : goal.invariant-loop-position

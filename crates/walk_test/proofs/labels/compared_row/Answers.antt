@@ -1,6 +1,6 @@
 use Rattle.std.proofs.Common.{◌≡◌, ℕ, List, Bool, true, length, ap, ◌∙◌}
-use Rattle.scan_planner.specs.Assigned.{assigned}
-use Rattle.scan_planner.proofs.AssignLemmas.{length-assigned}
+use Rattle.plan_tables.specs.Assigned.{assigned}
+use Rattle.plan_tables.proofs.AssignLemmas.{length-assigned}
 use Rattle.walk_test.specs.declared.tables.NetCells.{NetCells}
 use Rattle.walk_test.specs.inner.Reading.{with_compared}
 use Rattle.walk_test.proofs.ReadLemmas.{compared_more}

@@ -1,5 +1,5 @@
 use Rattle.std.proofs.Common.{◌≡◌, false, take}
-use Rattle.scan_planner.specs.Assigned.{assigned}
+use Rattle.plan_tables.specs.Assigned.{assigned}
 use Rattle.walk_test.proofs.nets.clear_drivers.Given as goal
 
 abbrev pub invariant-loop-net : goal.invariant-loop-net

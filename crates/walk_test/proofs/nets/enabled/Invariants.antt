@@ -1,6 +1,6 @@
 use Rattle.std.proofs.Common.{◌≡◌, drop}
 use Rattle.board_defs.specs.Settings.{holds}
-use Rattle.scan_planner.specs.Building.{enabled_in}
+use Rattle.plan_tables.specs.Building.{enabled_in}
 use Rattle.walk_test.proofs.nets.enabled.Given as goal
 
 abbrev pub invariant-loop-driver : goal.invariant-loop-driver

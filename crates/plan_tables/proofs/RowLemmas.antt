@@ -1,0 +1,29 @@
+-- Steps of the loops over rows.
+use Rattle.std.proofs.Common.{◌≡◌, ℕ, zero, suc, ◌<◌, ◌==◌, Bool, true, false, cond, List, [], ◌∷◌, length, replicate, get_or, set, refl, sym, ◌∙◌, length-set}
+use Rattle.std.specs.List.{list_any}
+use Rattle.std.proofs.lemmas.Option.{slice_get-get_or, get_or_from_slice_get}
+use Rattle.plan_tables.specs.declared.tables.DriverCell.{DriverCell}
+use Rattle.plan_tables.specs.declared.tables.ReaderCell.{ReaderCell}
+use Rattle.plan_tables.specs.Assigned.{set_readers, set_compared}
+
+-- no bit is looked for in zeros
+pub none_of_zeros : (n : ℕ) → list_any (λ bit. bit) (replicate n false) ≡ false
+none_of_zeros zero = refl
+none_of_zeros (suc n) = none_of_zeros n
+
+pub length-set_readers : (place : ℕ) (bit : Bool) (bits : List Bool) (readers : List ReaderCell) → length (set_readers place bit bits readers) ≡ length bits
+length-set_readers place bit bits [] = refl
+length-set_readers place bit bits (r ∷ readers) = length-set_readers place bit (cond (r.place == place) bits (set bits r.position bit)) readers ∙ by_test (r.place == place)
+  where
+    by_test : (b : Bool) → length (cond b bits (set bits r.position bit)) ≡ length bits
+    by_test true = refl
+    by_test false = length-set bits r.position bit
+
+pub length-set_compared : (bit : DriverCell → Bool) (readers : List (List ReaderCell)) (drivers : List DriverCell) (bits : List Bool) → length (set_compared bit readers bits drivers) ≡ length bits
+length-set_compared bit readers [] bits = refl
+length-set_compared bit readers (d ∷ drivers) bits =
+    length-set_compared bit readers drivers (set_readers d.place (bit d) bits (get_or readers d.net [])) ∙ length-set_readers d.place (bit d) bits (get_or readers d.net [])
+
+-- an item that is there, whatever stands for one that is not
+pub any_default : {X : Type 0} (xs : List X) (i : ℕ) (a b : X) → i < length xs → get_or xs i a ≡ get_or xs i b
+any_default xs i a b less = sym (get_or_from_slice_get xs i (get_or xs i a) b (slice_get-get_or xs i a less))

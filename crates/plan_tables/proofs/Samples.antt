@@ -1,0 +1,85 @@
+-- Rows of a bus with two drivers and a receiver, codes, and the cells of controls, worked by hand.
+use Rattle.std.proofs.Common.{◌≡◌, ℕ, zero, suc, ◌<◌, Bool, true, false, List, [], ◌∷◌, map, take, replicate, Option, Some, None, refl, arith}
+use Rattle.std.specs.Prelude.{cond, count_by, slice_index_or, slice_set}
+use Rattle.std.specs.List.{list_any}
+use Rattle.plan_tables.specs.declared.tables.DriverCell.{DriverCell}
+use Rattle.plan_tables.specs.declared.tables.ReaderCell.{ReaderCell}
+use Rattle.plan_tables.specs.declared.observers.Observer.{Observer}
+use Rattle.plan_tables.specs.declared.uses.Uses.{Uses}
+use Rattle.plan_tables.specs.Assigned.{assigned, driver_bit, set_compared}
+use Rattle.plan_tables.specs.inner.Building.{table_of}
+use Rattle.plan_tables.specs.inner.Codes.{AreCodes}
+use Rattle.plan_tables.specs.inner.Steady.{steady_cells, moving}
+
+-- the quiet row: both drivers of the bus are off at 1
+abbrev quiet : List Bool
+quiet = false ∷ false ∷ true ∷ false ∷ true ∷ []
+
+-- the cell of the driver that a pass enables by 0 at position 4, its own pin's reader, and that of another pin
+abbrev enabled : DriverCell
+enabled = record { net = 0; place = 0; position = 3 }
+
+abbrev readers : List ReaderCell
+readers = record { place = 0; position = 3 } ∷ record { place = 2; position = 0 } ∷ []
+
+-- the enabled driver holds the code
+driven : assigned (λ d. d.position) (driver_bit (1 ∷ []) 0) (slice_set quiet 4 false) (enabled ∷ []) ≡ false ∷ false ∷ true ∷ true ∷ false ∷ []
+driven = refl
+
+-- the pin of the driver is not compared
+abbrev compared : (DriverCell → Bool) → List Bool
+compared bit = set_compared bit (readers ∷ []) (replicate 5 false) (enabled ∷ [])
+
+expected : compared (driver_bit (1 ∷ []) 0) ≡ true ∷ false ∷ false ∷ false ∷ false ∷ []
+expected = refl
+
+mask : compared (λ d. true) ≡ true ∷ false ∷ false ∷ false ∷ false ∷ []
+mask = refl
+
+have_one : map (list_any (λ bit. bit)) (replicate 5 false ∷ compared (λ d. true) ∷ []) ≡ false ∷ true ∷ []
+have_one = refl
+
+-- codes number the nets that are observed
+abbrev seen : List Bool
+seen = true ∷ false ∷ true ∷ true ∷ false ∷ []
+
+codes : AreCodes seen (record { codes = 1 ∷ 0 ∷ 2 ∷ 3 ∷ 0 ∷ []; count = 3 })
+codes = record {
+  count_is = refl;
+  length_is = refl;
+  each = each;
+}
+  where
+    each : (n : ℕ) → n < 5 → slice_index_or (1 ∷ 0 ∷ 2 ∷ 3 ∷ 0 ∷ []) n 0 ≡ cond (slice_index_or seen n false) (suc (count_by (λ b. b) (take n seen))) 0
+    each zero less = refl
+    each (suc zero) less = refl
+    each (suc (suc zero)) less = refl
+    each (suc (suc (suc zero))) less = refl
+    each (suc (suc (suc (suc zero)))) less = refl
+    each (suc (suc (suc (suc (suc n))))) less = absurd (omega (arith, less))
+
+-- the driver of a net, at a position of its own, with this control
+abbrev driver : ℕ → Option ℕ → Observer
+driver net control = record { control = control; cell = record { net = net; place = 0; position = net } }
+
+abbrev cell : ℕ → DriverCell
+cell net = record { net = net; place = 0; position = net }
+
+-- each control has the cells of its drivers
+table : table_of (driver 0 (Some 4) ∷ driver 1 None ∷ driver 2 (Some 5) ∷ driver 3 (Some 4) ∷ []) 6
+    ≡ record { always = cell 1 ∷ []; rows = [] ∷ [] ∷ [] ∷ [] ∷ (cell 0 ∷ cell 3 ∷ []) ∷ (cell 2 ∷ []) ∷ [] }
+table = refl
+
+-- two passes hold position 4, one of them position 5, and one position 1, where a driver has its cell
+abbrev uses : Uses
+uses = record { held = false ∷ true ∷ false ∷ false ∷ true ∷ true ∷ []; runs = 0 ∷ 1 ∷ 0 ∷ 0 ∷ 2 ∷ 0 ∷ [] }
+
+abbrev drivers : List Observer
+drivers = driver 0 (Some 4) ∷ driver 1 (Some 4) ∷ driver 2 (Some 5) ∷ driver 3 None ∷ []
+
+-- what both passes enable is steady, but for that driver
+steady : steady_cells uses 2 drivers ≡ cell 0 ∷ cell 3 ∷ []
+steady = refl
+
+others : moving uses 2 drivers ≡ driver 1 (Some 4) ∷ driver 2 (Some 5) ∷ []
+others = refl

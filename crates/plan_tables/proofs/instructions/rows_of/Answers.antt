@@ -1,0 +1,41 @@
+use Rattle.std.proofs.Common.{◌-◌, ◌≤◌, ◌++◌, List, Bool, false, length, get_or, is_some, unwrap_or, ap, sym, ◌∙◌, subst, arith}
+use Rattle.board_defs.specs.declared.board.Part.{Part}
+use Rattle.board_defs.specs.Pins.{instruction_length}
+use Rattle.plan_tables.specs.inner.Codes.{code_for, captured_bits, compared_bits}
+use Rattle.plan_tables.proofs.CodeLemmas.{few_left, step_tdi, step_tdo, step_mask}
+use Rattle.plan_tables.proofs.instructions.rows_of.Goals as goal
+
+pub row_of-requires : goal.row_of-requires
+row_of-requires c =
+    subst (λ (l : List Bool). length l ≤ 65535) (sym (c.deref.ensures.value ∙ c.loop-i.invariant.tdi))
+    (few_left c.args.instruction c.args.chain.now c.requires.few c.loop-i.i (omega arith) (λ b. b.tdi))
+
+pub row_of-requires-2 : goal.row_of-requires-2
+row_of-requires-2 c =
+    subst (λ (l : List Bool). length l ≤ 65535) (sym (c.deref-2.ensures.value ∙ c.loop-i.invariant.tdo))
+    (few_left c.args.instruction c.args.chain.now c.requires.few c.loop-i.i (omega arith) (λ b. unwrap_or b.expect false))
+
+pub row_of-requires-3 : goal.row_of-requires-3
+row_of-requires-3 c =
+    subst (λ (l : List Bool). length l ≤ 65535) (sym (c.deref-3.ensures.value ∙ c.loop-i.invariant.mask))
+    (few_left c.args.instruction c.args.chain.now c.requires.few c.loop-i.i (omega arith) (λ b. is_some b.expect))
+
+pub loop-i-preserved : goal.loop-i-preserved
+loop-i-preserved c =
+    let chain = c.args.chain.now in
+    let i = c.loop-i.i in
+    let p : Part = c.index-chain-i.result in
+    let q : Part = get_or chain (i - 1) p in
+    record {
+      tdi = c.in_ok-push_code.ensures
+          ∙ ap (λ (l : List Bool). l ++ code_for c.args.instruction q.kind) c.loop-i.invariant.tdi
+          ∙ sym (step_tdi c.args.instruction chain c.requires.coded i p (omega arith) (omega arith));
+      tdo = c.in_ok-push_capture.ensures.tdo
+          ∙ ap (λ n. c.loop-i.tdo.items ++ captured_bits n) c.instruction_length.ensures
+          ∙ ap (λ (l : List Bool). l ++ captured_bits (instruction_length q.kind)) c.loop-i.invariant.tdo
+          ∙ sym (step_tdo c.args.instruction chain c.requires.coded i p (omega arith) (omega arith));
+      mask = c.in_ok-push_capture.ensures.mask
+          ∙ ap (λ n. c.loop-i.mask.items ++ compared_bits n) c.instruction_length.ensures
+          ∙ ap (λ (l : List Bool). l ++ compared_bits (instruction_length q.kind)) c.loop-i.invariant.mask
+          ∙ sym (step_mask c.args.instruction chain c.requires.coded i p (omega arith) (omega arith));
+    }

@@ -1,0 +1,21 @@
+-- Bits that are set one after another.
+use Rattle.std.specs.Prelude.{ℕ, ◌==◌, Bool, cond, List, [], fold, slice_index_or, slice_set}
+use Rattle.tap_defs.specs.board.TestRows.{code_bit}
+use Rattle.plan_tables.specs.declared.tables.DriverCell.{DriverCell}
+use Rattle.plan_tables.specs.declared.tables.ReaderCell.{ReaderCell}
+
+-- the bits after each item has set its own
+abbrev pub assigned : {X : Type 0} → (X → ℕ) → (X → Bool) → List Bool → List X → List Bool
+assigned place bit start xs = fold (λ bits x. slice_set bits (place x) (bit x)) start xs
+
+-- bit j of the code of a driver's net
+abbrev pub driver_bit : List ℕ → ℕ → DriverCell → Bool
+driver_bit codes j d = code_bit (slice_index_or codes d.net 0) j
+
+-- a bit set at the cells of a net that read it at another place than the driver's
+abbrev pub set_readers : ℕ → Bool → List Bool → List ReaderCell → List Bool
+set_readers place bit bits readers = fold (λ done r. cond (r.place == place) done (slice_set done r.position bit)) bits readers
+
+-- the bits of drivers, each set at the cells that read its net
+abbrev pub set_compared : (DriverCell → Bool) → List (List ReaderCell) → List Bool → List DriverCell → List Bool
+set_compared bit readers bits drivers = fold (λ done d. set_readers d.place (bit d) done (slice_index_or readers d.net [])) bits drivers

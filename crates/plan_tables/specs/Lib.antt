@@ -1,0 +1,5 @@
+pub mod Tables
+pub mod Plans
+pub mod Assigned
+pub mod Building
+pub mod inner

@@ -1,0 +1,137 @@
+-- What a plan keeps of a board: rows that every test of it has, rows that all passes share, and the positions at which those of a pass differ.
+use Rattle.std.specs.Prelude.{◌≡◌, ◌≢◌, ◌↔◌, ℕ, suc, ◌+◌, ◌<◌, Bool, true, false, not, List, [], ◌++◌, replicate, length, map, drop, sum_by, Some, slice_get, slice_index_or, unwrap_or, Contains}
+use Rattle.std.specs.List.{flat_map}
+use Rattle.bt_bits.specs.Rows.{BitRow}
+use Rattle.board_defs.specs.declared.device.Cell.{Cell}
+use Rattle.board_defs.specs.declared.device.RawDevice.{RawDevice}
+use Rattle.board_defs.specs.declared.board.Part.{Part}
+use Rattle.board_defs.specs.declared.board.PinAt.{PinAt}
+use Rattle.board_defs.specs.declared.board.NetPin.{NetPin}
+use Rattle.board_defs.specs.declared.board.Net.{Net}
+use Rattle.board_defs.specs.declared.board.RawBoard.{RawBoard}
+use Rattle.board_defs.specs.declared.board.Ctl.{Ctl}
+use Rattle.board_defs.specs.DeviceRules.{reads_bit, disable_of}
+use Rattle.board_defs.specs.Pins.{data_length, device_at, entry_at, receives_where}
+use Rattle.board_defs.specs.Settings.{holds}
+use Rattle.tap_defs.specs.chain.Scan.{ScanBit, joined, tdi_bits, tdo_bits, mask_bits}
+use Rattle.tap_defs.specs.chain.Codes.{instructs}
+use Rattle.tap_defs.specs.board.TestRows.{observing_driver}
+use Rattle.tap_defs.specs.board.BoardScans.{row_bits, first_row_scan, preload_code, extest_code}
+use Rattle.plan_tables.specs.declared.tables.FixedRows.{FixedRows}
+use Rattle.plan_tables.specs.declared.tables.HeldCell.{HeldCell}
+use Rattle.plan_tables.specs.declared.tables.DriverCell.{DriverCell}
+use Rattle.plan_tables.specs.declared.tables.ReaderCell.{ReaderCell}
+use Rattle.plan_tables.specs.declared.controls.DriverTable.{DriverTable}
+use Rattle.plan_tables.specs.declared.tables.PlanTables.{PlanTables}
+use Rattle.plan_tables.specs.Assigned.{assigned, driver_bit, set_compared}
+
+-- the position of a part's first bit in a scan of data: behind those of the parts after it
+abbrev pub first_position : RawBoard → ℕ → ℕ
+first_position board part = sum_by (λ p. data_length p.kind) (drop (suc part) board.chain)
+
+-- the first position of each part of a chain
+pub record AreFirsts (chain : List Part) (firsts : List ℕ) : Type 0 where
+  pub count : length firsts ≡ length chain
+  pub each : (part : ℕ) → part < length chain → slice_index_or firsts part 0 ≡ sum_by (λ p. data_length p.kind) (drop (part + 1) chain)
+
+-- the position of a control's cell
+abbrev pub control_position : RawBoard → Ctl → ℕ
+control_position board c = first_position board c.part + c.cell
+
+-- the rows of a scan with these bits
+pub record AreRowsOf (bits : List ScanBit) (rows : FixedRows) : Type 0 where
+  pub tdi : rows.tdi.bits ≡ tdi_bits bits
+  pub tdo : rows.tdo.bits ≡ tdo_bits bits
+  pub mask : rows.mask.bits ≡ mask_bits bits
+
+-- the cell of a control of the pass, with the opposite of its disable value
+pub record IsHeldCell (board : RawBoard) (pass : List Ctl) (h : HeldCell) : Type 0 where
+  pub control : Ctl
+  pub is_held : holds pass control ≡ true
+  pub device : RawDevice
+  pub is_device : device_at board control.part ≡ Some device
+  pub position_is : h.position ≡ first_position board control.part + control.cell
+  pub bit_is : h.bit ≡ not (unwrap_or (disable_of device control.cell) false)
+
+-- the cell of the driver by which the pass observes a net
+pub record IsDriverCell (board : RawBoard) (pass : List Ctl) (d : DriverCell) : Type 0 where
+  pub net : Net
+  pub is_net : slice_get board.nets d.net ≡ Some net
+  pub observing : observing_driver board (holds pass) net ≡ Some d.place
+  pub pin : NetPin
+  pub is_pin : slice_get net.pins d.place ≡ Some pin
+  pub at : PinAt
+  pub is_at : pin.at ≡ Some at
+  pub entry : Cell
+  pub is_entry : entry_at board at ≡ Some entry
+  pub position_is : d.position ≡ first_position board at.part + entry.num
+
+-- a cell of a receiver on the net that is compared: INPUT, CLOCK or BIDIR
+pub record IsReaderCell (board : RawBoard) (net : Net) (r : ReaderCell) : Type 0 where
+  pub pin : NetPin
+  pub is_pin : slice_get net.pins r.place ≡ Some pin
+  pub at : PinAt
+  pub is_at : pin.at ≡ Some at
+  pub receives : receives_where board (Some at) ≡ true
+  pub device : RawDevice
+  pub is_device : device_at board at.part ≡ Some device
+  pub entry : Cell
+  pub is_entry : Contains device.cells entry
+  pub reads : reads_bit at.bit entry ≡ true
+  pub position_is : r.position ≡ first_position board at.part + entry.num
+
+-- the cells in which the rows of a pass differ from those that all passes share
+pub record PassCells : Type 0 where
+  pub held : List HeldCell
+  pub drivers : List DriverCell
+
+-- the cell of a control, with the opposite of what it holds in the quiet row
+abbrev pub held_cell : RawBoard → List Bool → Ctl → HeldCell
+held_cell board quiet c = record { position = control_position board c; bit = not (slice_index_or quiet (control_position board c) false) }
+
+-- the driver cells of a control
+abbrev pub controlled : RawBoard → List (List DriverCell) → Ctl → List DriverCell
+controlled board rows c = slice_index_or rows (control_position board c) []
+
+-- the driver cells of a pass that holds these
+abbrev pub cells_on : DriverTable → List HeldCell → List DriverCell
+cells_on table held = table.always ++ flat_map (λ h. slice_index_or table.rows h.position []) held
+
+-- the cells of a pass, found by its controls
+abbrev pub pass_cells_of : RawBoard → List Bool → DriverTable → List Ctl → PassCells
+pass_cells_of board quiet table pass = let held : List HeldCell = map (held_cell board quiet) pass in record { held = held; drivers = cells_on table held }
+
+-- the cells of a pass, each in some place: those of its controls, and with the steady cells those of its drivers. No cell of a control is steady
+pub record ArePassCells (board : RawBoard) (steady : List DriverCell) (pass : List Ctl) (cells : PassCells) : Type 0 where
+  pub held : (h : HeldCell) → Contains cells.held h ↔ IsHeldCell board pass h
+  pub drivers : (d : DriverCell) → Contains (steady ++ cells.drivers) d ↔ IsDriverCell board pass d
+  pub apart : (h : HeldCell) (d : DriverCell) → Contains cells.held h → Contains steady d → h.position ≢ d.position
+
+-- a row of these bits, with room for so many
+abbrev pub row_with : ℕ → List Bool → BitRow
+row_with room bits = record { bits = bits; room = room }
+
+-- what all passes have in row j: bit j of the code of each steady driver's net, in its cell over the quiet row and where the net is read
+abbrev pub common_rows : List Bool → List ℕ → List (List ReaderCell) → List DriverCell → ℕ → FixedRows
+common_rows quiet codes readers steady j =
+    let none : List Bool = replicate (length quiet) false in
+    record {
+      tdi = row_with (length quiet) (assigned (λ d. d.position) (driver_bit codes j) quiet steady);
+      tdo = row_with (length quiet) (set_compared (driver_bit codes j) readers none steady);
+      mask = row_with (length quiet) (set_compared (λ d. true) readers none steady);
+    }
+
+-- the compared cells of a net, each in some place
+abbrev pub AreReaders : RawBoard → Net → List ReaderCell → Type 0
+AreReaders board net readers = (r : ReaderCell) → Contains readers r ↔ IsReaderCell board net r
+
+-- the tables of a plan for the board
+pub record ArePlanTables (board : RawBoard) (plan : PlanTables) : Type 0 where
+  pub preload : AreRowsOf ((instructs (map (λ part. preload_code part.kind) board.chain)).bits) plan.preload
+  pub extest : AreRowsOf ((instructs (map (λ part. extest_code part.kind) board.chain)).bits) plan.extest
+  pub quiet : plan.quiet.bits ≡ tdi_bits (joined (row_bits board first_row_scan))
+  pub firsts : AreFirsts board.chain plan.firsts
+  pub cells : (x : ℕ) (pass : List Ctl) → slice_get plan.passes x ≡ Some pass → (cells : PassCells) × (cells ≡ pass_cells_of board plan.quiet.bits plan.by_control pass) × ArePassCells board plan.steady pass cells
+  pub common : (j : ℕ) → j < plan.width → slice_get plan.common j ≡ Some (common_rows plan.quiet.bits plan.codes plan.readers plan.steady j)
+  pub readers : (n : ℕ) (net : Net) → slice_get board.nets n ≡ Some net → (readers : List ReaderCell) × (slice_get plan.readers n ≡ Some readers) × AreReaders board net readers
+  pub readers_length : length plan.readers ≡ length board.nets

@@ -1,0 +1,7 @@
+-- Terms that serve proofs and the contracts of private functions. No public contract cites them.
+pub mod Building
+pub mod Codes
+pub mod Laid
+pub mod QuietBits
+pub mod Entries
+pub mod Steady

@@ -1,0 +1,49 @@
+-- What serves the proofs alone. How the tables of a plan are made, item by item.
+use Rattle.std.specs.Prelude.{◌≡◌, ℕ, ◌<◌, List, [], map, filter, fold, Option, Some, option_map, is_none, replicate}
+use Rattle.lists.specs.Rows.{noted}
+use Rattle.board_defs.specs.declared.board.Net.{Net}
+use Rattle.board_defs.specs.declared.board.RawBoard.{RawBoard}
+use Rattle.board_defs.specs.declared.board.Ctl.{Ctl}
+use Rattle.board_defs.specs.Pins.{device_at, cell_count}
+use Rattle.plan_tables.specs.declared.tables.DriverCell.{DriverCell}
+use Rattle.plan_tables.specs.declared.tables.ReaderCell.{ReaderCell}
+use Rattle.plan_tables.specs.declared.nets.NetDriver.{NetDriver}
+use Rattle.plan_tables.specs.declared.observers.Observer.{Observer}
+use Rattle.plan_tables.specs.declared.controls.DriverTable.{DriverTable}
+use Rattle.plan_tables.specs.Tables.{control_position}
+use Rattle.plan_tables.specs.Building.{gathered, drivers_of, readers_of, is_read_beside}
+
+-- the driver as one of a net
+abbrev pub driver_cell : ℕ → NetDriver → DriverCell
+driver_cell net d = record { net = net; place = d.place; position = d.position }
+
+-- a control's cell is one of its part
+abbrev pub IsControlThere : RawBoard → Option Ctl → Type 0
+IsControlThere board ctl = (c : Ctl) → ctl ≡ Some c → c.cell < cell_count (device_at board c.part)
+
+-- the driver as one by which its net can be observed
+abbrev pub observer : RawBoard → ℕ → NetDriver → Observer
+observer board net d = record { control = option_map (control_position board) d.ctl; cell = driver_cell net d }
+
+-- the drivers by which a net with these drivers and compared cells can be observed
+abbrev pub observers_of : RawBoard → ℕ → List NetDriver → List ReaderCell → List Observer
+observers_of board net drivers readers = map (observer board net) (filter (is_read_beside readers) drivers)
+
+abbrev pub observers_at : RawBoard → ℕ → Net → List Observer
+observers_at board n net = observers_of board n (drivers_of board net) (readers_of board net.pins)
+
+-- those of these nets, in net order
+abbrev pub observers : RawBoard → List Net → List Observer
+observers board nets = gathered (observers_at board) 0 nets
+
+-- the cells of the drivers that are always on
+abbrev pub always_on : List Observer → List DriverCell
+always_on observers = map (λ x. x.cell) (filter (λ x. is_none x.control) observers)
+
+-- the rows of controls with the cells of these drivers
+abbrev pub all_noted : List (List DriverCell) → List Observer → List (List DriverCell)
+all_noted rows observers = fold (λ done x. noted done x.control x.cell) rows observers
+
+-- the table of these drivers, for a row of so many bits
+abbrev pub table_of : List Observer → ℕ → DriverTable
+table_of observers bits = record { always = always_on observers; rows = all_noted (replicate bits []) observers }

@@ -1,0 +1,53 @@
+-- The codes of nets, and the instructions of the scans of instructions.
+use Rattle.std.specs.Prelude.{◌≡◌, ℕ, suc, ◌-◌, ◌<◌, ◌≤◌, Bool, true, false, cond, List, ◌∷◌, All, length, fold, replicate, take, count_by, slice_index_or}
+use Rattle.board_defs.specs.declared.board.PartKind.{PartKind}
+use Rattle.board_defs.specs.declared.board.Part.{Part}
+use Rattle.board_defs.specs.declared.board.RawBoard.{RawBoard}
+use Rattle.board_defs.specs.declared.board.Ctl.{Ctl}
+use Rattle.board_defs.specs.Pins.{instruction_length}
+use Rattle.tap_defs.specs.board.BoardScans.{preload_code, extest_code}
+use Rattle.plan_tables.specs.declared.codes.NetCodes.{NetCodes}
+use Rattle.plan_tables.specs.declared.tables.DriverCell.{DriverCell}
+use Rattle.plan_tables.specs.declared.controls.DriverTable.{DriverTable}
+use Rattle.plan_tables.specs.Assigned.{assigned}
+use Rattle.plan_tables.specs.Tables.{controlled}
+use Rattle.plan_tables.specs.declared.instructions.Instruction.{Instruction}
+use Rattle.plan_tables.specs.declared.instructions.Instruction.TheVariants.{Preload, Extest}
+
+-- the code of a part
+abbrev pub code_for : Instruction → PartKind → List Bool
+code_for Preload kind = preload_code kind
+code_for Extest kind = extest_code kind
+
+-- a code fills the instruction register of each part, which has two bits or more
+pub record IsCoded (instruction : Instruction) (kind : PartKind) : Type 0 where
+  pub least : 2 ≤ instruction_length kind
+  pub length_is : length (code_for instruction kind) ≡ instruction_length kind
+
+abbrev pub AreCoded : Instruction → List Part → Type 0
+AreCoded instruction chain = All (λ part. IsCoded instruction part.kind) chain
+
+-- what an instruction register of this length gives in a scan, where it is compared, and where it is
+abbrev pub captured_bits : ℕ → List Bool
+captured_bits length = true ∷ replicate (length - 1) false
+
+abbrev pub compared_bits : ℕ → List Bool
+compared_bits length = true ∷ true ∷ replicate (length - 2) false
+
+-- the flags of the nets of these cells set
+abbrev pub marked : List Bool → List DriverCell → List Bool
+marked flags cells = assigned (λ d. d.net) (λ d. true) flags cells
+
+-- the flags of the nets of a pass's cells set
+abbrev pub marked_on : RawBoard → DriverTable → List Bool → List Ctl → List Bool
+marked_on board table flags pass = fold (λ done c. marked done (controlled board table.rows c)) (marked flags table.always) pass
+
+-- which of so many nets have a cell among the steady ones or those of some pass
+abbrev pub seen_in : RawBoard → ℕ → List DriverCell → DriverTable → List (List Ctl) → List Bool
+seen_in board nets steady table passes = fold (marked_on board table) (marked (replicate nets false) steady) passes
+
+-- the nets that are observed are numbered from 1, and the others have 0
+pub record AreCodes (seen : List Bool) (codes : NetCodes) : Type 0 where
+  pub count_is : codes.count ≡ count_by (λ b. b) seen
+  pub length_is : length codes.codes ≡ length seen
+  pub each : (n : ℕ) → n < length seen → slice_index_or codes.codes n 0 ≡ cond (slice_index_or seen n false) (suc (count_by (λ b. b) (take n seen))) 0

@@ -1,0 +1,66 @@
+-- Which cells the passes hold, and the driver cells that are the same in all of them.
+use Rattle.std.specs.Prelude.{◌≡◌, ℕ, suc, ◌<◌, ◌==◌, nat_lt, Bool, true, false, not, ◌&&◌, cond, List, [], length, map, filter, fold, replicate, Option, Some, None, slice_get, slice_index_or, slice_set, Contains}
+use Rattle.board_defs.specs.declared.board.RawBoard.{RawBoard}
+use Rattle.board_defs.specs.declared.board.Ctl.{Ctl}
+use Rattle.board_defs.specs.Pins.{data_bits}
+use Rattle.plan_tables.specs.declared.tables.HeldCell.{HeldCell}
+use Rattle.plan_tables.specs.declared.tables.DriverCell.{DriverCell}
+use Rattle.plan_tables.specs.declared.observers.Observer.{Observer}
+use Rattle.plan_tables.specs.declared.uses.Uses.{Uses}
+use Rattle.plan_tables.specs.Assigned.{assigned}
+use Rattle.plan_tables.specs.Tables.{PassCells, held_cell, ArePassCells}
+
+-- the flags of these cells set
+abbrev pub marked_held : List Bool → List HeldCell → List Bool
+marked_held flags held = assigned (λ h. h.position) (λ h. true) flags held
+
+-- pass k holds the position, too: a run of the passes before it goes on
+abbrev pub run_at : ℕ → List ℕ → ℕ → List ℕ
+run_at k runs position = cond (slice_index_or runs position 0 == k) (slice_set runs position (suc k)) runs
+
+abbrev pub all_run : ℕ → List ℕ → List HeldCell → List ℕ
+all_run k runs held = fold (λ done h. run_at k done h.position) runs held
+
+-- some of these cells stands at the position
+abbrev pub HoldsAt : List HeldCell → ℕ → Type 0
+HoldsAt held position = (h : HeldCell) × Contains held h × (h.position ≡ position)
+
+-- the cells that each pass holds
+abbrev pub held_by : RawBoard → List Bool → List (List Ctl) → List (List HeldCell)
+held_by board quiet passes = map (λ pass. map (held_cell board quiet) pass) passes
+
+-- the flags of all of them set
+abbrev pub all_marked : RawBoard → List Bool → List Bool → List (List Ctl) → List Bool
+all_marked board quiet flags passes = fold (λ done pass. marked_held done (map (held_cell board quiet) pass)) flags passes
+
+-- each run is of passes that hold its position
+abbrev pub AreRuns : List (List HeldCell) → List ℕ → Type 0
+AreRuns passes runs = (position x : ℕ) → x < slice_index_or runs position 0 → HoldsAt (slice_index_or passes x []) position
+
+-- what passes hold: each of their cells is flagged, and runs are of passes that hold their positions
+pub record AreUses (board : RawBoard) (quiet : List Bool) (passes : List (List Ctl)) (uses : Uses) : Type 0 where
+  pub flags : uses.held ≡ all_marked board quiet (replicate (length quiet) false) passes
+  pub runs : AreRuns (held_by board quiet passes) uses.runs
+
+-- each of so many passes holds the control, where there is one
+abbrev pub is_common : Uses → ℕ → Option ℕ → Bool
+is_common uses passes None = true
+is_common uses passes (Some control) = slice_index_or uses.runs control 0 == passes
+
+-- each pass enables the driver, and none holds its cell
+abbrev pub is_steady : Uses → ℕ → Observer → Bool
+is_steady uses passes x = nat_lt 0 passes && (not (slice_index_or uses.held x.cell.position false) && is_common uses passes x.control)
+
+abbrev pub steady_cells : Uses → ℕ → List Observer → List DriverCell
+steady_cells uses passes observers = map (λ x. x.cell) (filter (is_steady uses passes) observers)
+
+-- the other drivers
+abbrev pub moving : Uses → ℕ → List Observer → List Observer
+moving uses passes observers = filter (λ x. not (is_steady uses passes x)) observers
+
+-- the cells of passes: those of each pass, and steady cells that stand in the nets and the rows of the board; without a pass no cell is steady
+pub record ArePassTables (board : RawBoard) (passes : List (List Ctl)) (steady : List DriverCell) (cells : List Ctl → PassCells) : Type 0 where
+  pub each : (x : ℕ) (pass : List Ctl) → slice_get passes x ≡ Some pass → ArePassCells board steady pass (cells pass)
+  pub some : (d : DriverCell) → Contains steady d → 0 < length passes
+  pub nets : (d : DriverCell) → Contains steady d → d.net < length board.nets
+  pub within : (d : DriverCell) → Contains steady d → d.position < data_bits board

@@ -1,0 +1,100 @@
+// Makes the tables of a plan.
+ghost use Rattle.std.specs.Prelude.{◌≡◌, ◌<◌, ◌≤◌, ◌^◌, length, IfOk};
+ghost use Rattle.plan_tables.specs.Tables.{AreFirsts, pass_cells_of};
+ghost use Rattle.plan_tables.specs.inner.Building.{observers};
+ghost use Rattle.plan_tables.specs.inner.Laid.{laid, quiet_bits};
+ghost use Rattle.plan_tables.specs.Plans.{ArePlannable, IsPlanOf};
+ghost use Rattle.plan_tables.specs.inner.Steady.{ArePassTables};
+
+use crate::codes::{number_nets, seen_nets};
+use crate::common::common_rows;
+use crate::controls::driver_table;
+use crate::drivers::all_drivers;
+use crate::entries::part_tables;
+use crate::instructions::{Instruction, instruction_rows};
+use crate::observers::{Observer, net_cells};
+use crate::quiet::quiet_row;
+use crate::rows::row_of;
+use crate::tables::{PassTables, PlanTables};
+use crate::uses::{moving, steady_cells, uses_of};
+use board_defs::{Board, Items, Setting};
+use bt_bits::Row;
+use counting_codes::width;
+use std::alloc::{AllocError, Global};
+
+// The cells of the passes.
+fn pass_tables(
+    alloc: Global,
+    board: &Board,
+    firsts: &[u32],
+    quiet: &Row,
+    drivers: &[Observer],
+    passes: &[Setting],
+) -> Result<PassTables, AllocError>
+    requires firsts { AreFirsts board.now.chain firsts.now }
+    requires quiet { quiet.now.bits ≡ laid (quiet_bits board.now) board.now }
+    requires drivers { drivers.now ≡ observers board.now board.now.nets }
+    requires few { length passes.now < 2 ^ 32 }
+    requires plannable { ArePlannable board.now passes.now }
+    ensures { IfOk result (λ tables. ArePassTables board.now passes.now tables.steady (pass_cells_of board.now quiet.now.bits tables.by_control)) }
+{
+    let _ = board.raw();
+    let count = passes.len() as u32;
+    let uses = uses_of(alloc, board, firsts, quiet, passes)?;
+    let steady = steady_cells(alloc, &uses, count, drivers)?;
+    let others = moving(alloc, &uses, count, drivers)?;
+    let by_control = driver_table(alloc, others.as_slice(), board.dr_bits() as usize)?;
+    Ok(PassTables { steady, by_control })
+}
+
+/// The tables of the plan of these passes.
+pub fn tables_of(
+    alloc: Global,
+    board: &Board,
+    passes: Items<Setting>,
+) -> Result<PlanTables, AllocError>
+    requires few { length passes < 2 ^ 32 }
+    requires plannable { ArePlannable board.now passes }
+    ensures plan { IfOk result (λ tables. IsPlanOf board.now tables) }
+    ensures passes { IfOk result (λ tables. tables.passes ≡ passes) }
+    ensures width { IfOk result (λ tables. tables.width ≤ 14) }
+{
+    let _ = board.raw();
+    let parts = part_tables(alloc, board)?;
+    let firsts = parts.firsts.as_slice();
+    let bits = quiet_row(alloc, board)?;
+    let quiet = row_of(alloc, &bits)?;
+    let nets = net_cells(alloc, board, &parts)?;
+    let drivers = all_drivers(alloc, board, &parts)?;
+    let readers = nets.readers.as_slice();
+    let observers = nets.observers.as_slice();
+    let settings = passes.as_slice();
+    let tables = pass_tables(alloc, board, firsts, &quiet, observers, settings)?;
+    let seen = seen_nets(alloc, board, firsts, readers.len(), &tables, settings)?;
+    let codes = number_nets(alloc, &seen)?;
+    let width = width(codes.count);
+    let common = common_rows(
+        alloc,
+        &quiet,
+        tables.steady.as_slice(),
+        readers,
+        codes.codes.as_slice(),
+        width,
+    )?;
+    let preload = instruction_rows(alloc, Instruction::Preload, board)?;
+    let extest = instruction_rows(alloc, Instruction::Extest, board)?;
+    Ok(PlanTables {
+        passes,
+        width,
+        codes: codes.codes,
+        preload,
+        extest,
+        quiet,
+        steady: tables.steady,
+        common,
+        firsts: parts.firsts,
+        by_control: tables.by_control,
+        readers: nets.readers,
+        drivers,
+    })
+}

@@ -1,0 +1,93 @@
+// The codes of nets.
+ghost use Rattle.std.specs.Prelude.{◌≡◌, ◌≤◌, ◌<◌, ℕ, false, true, suc, cond, length, fold, take, count_by, slice_index_or, IfOk, All};
+ghost use Rattle.board_defs.specs.declared.board.Ctl.{Ctl as ControlRecord};
+ghost use Rattle.board_defs.specs.Pins.{device_at, cell_count};
+ghost use Rattle.board_defs.specs.Settings.{holds};
+ghost use Rattle.plan_tables.specs.Tables.{AreFirsts};
+ghost use Rattle.plan_tables.specs.inner.Codes.{AreCodes, marked, marked_on, seen_in};
+
+use crate::controls::{DriverTable, controlled};
+use crate::tables::{DriverCell, PassTables};
+use board_defs::{Board, Items, Setting};
+use lists::mark;
+use std::alloc::{AllocError, Global};
+
+/// The codes of nets, net by net, and how many are not 0.
+#[derive(Debug, Drop)]
+pub struct NetCodes {
+    pub codes: Items<u32>,
+    pub count: u32,
+}
+
+fn mark_all(flags: &mut [bool], cells: &[DriverCell])
+    ensures { flags.new ≡ marked flags.old cells.now }
+{
+    for cell in cells {
+        mark(flags, cell.net as usize);
+    }
+}
+
+fn mark_pass(board: &Board, firsts: &[u32], table: &DriverTable, pass: &Setting, flags: &mut [bool])
+    requires firsts { AreFirsts board.now.chain firsts.now }
+    requires cells { (c : ControlRecord) → holds pass.now c ≡ true → c.cell < cell_count (device_at board.now c.part) }
+    ensures { flags.new ≡ marked_on board.now table.now flags.old pass.now }
+{
+    mark_all(flags, table.always.as_slice());
+    for c in pass.controls() {
+        mark_all(flags, controlled(board, firsts, table.rows.as_slice(), *c));
+    }
+}
+
+fn mark_passes(
+    board: &Board,
+    firsts: &[u32],
+    table: &DriverTable,
+    passes: &[Setting],
+    flags: &mut [bool],
+)
+    requires firsts { AreFirsts board.now.chain firsts.now }
+    requires cells { All (λ pass. (c : ControlRecord) → holds pass c ≡ true → c.cell < cell_count (device_at board.now c.part)) passes.now }
+    ensures { flags.new ≡ fold (marked_on board.now table.now) flags.old passes.now }
+{
+    for pass in passes {
+        mark_pass(board, firsts, table, pass, flags);
+    }
+}
+
+/// Which of so many nets have a driver cell among the steady ones or those of a pass.
+pub fn seen_nets(
+    alloc: Global,
+    board: &Board,
+    firsts: &[u32],
+    nets: usize,
+    tables: &PassTables,
+    passes: &[Setting],
+) -> Result<Vec<bool>, AllocError>
+    requires firsts { AreFirsts board.now.chain firsts.now }
+    requires cells { All (λ pass. (c : ControlRecord) → holds pass c ≡ true → c.cell < cell_count (device_at board.now c.part)) passes.now }
+    ensures { IfOk result (λ seen. seen.items ≡ seen_in board.now nets tables.now.steady tables.now.by_control passes.now) }
+{
+    let mut seen = vec![in alloc; false; nets]?;
+    mark_all(&mut seen, tables.steady.as_slice());
+    mark_passes(board, firsts, &tables.by_control, passes, &mut seen);
+    Ok(seen)
+}
+
+/// Numbers the nets that are observed from 1, in net order.
+pub fn number_nets(alloc: Global, seen: &[bool]) -> Result<NetCodes, AllocError>
+    requires { length seen.now ≤ 16382 }
+    ensures { IfOk result (λ codes. AreCodes seen.now codes) }
+{
+    let mut codes = Vec::new(alloc);
+    let mut count = 0;
+    for is_seen in seen {
+        if *is_seen {
+            count += 1;
+        }
+        codes.push(if *is_seen { count } else { 0 })?;
+    }
+    Ok(NetCodes {
+        codes: Items::of(codes),
+        count,
+    })
+}

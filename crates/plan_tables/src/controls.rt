@@ -1,0 +1,85 @@
+// The driver cells of each control, so that the cells of a pass are found by its controls.
+ghost use Rattle.std.specs.Prelude.{◌≡◌, ◌<◌, [], slice_index_or, IfOk, OnOk};
+ghost use Rattle.board_defs.specs.Pins.{device_at, cell_count};
+ghost use Rattle.plan_tables.specs.Tables.{AreFirsts, controlled};
+ghost use Rattle.plan_tables.specs.inner.Building.{all_noted, always_on, table_of};
+
+use crate::observers::Observer;
+use crate::positions::cell_position;
+use crate::tables::DriverCell;
+use board_defs::{Board, Ctl, Items};
+use lists::{blank, note_where};
+use std::alloc::{AllocError, Global};
+
+/// The driver cells of one control.
+pub type ControlCells = Items<DriverCell>;
+
+/// The driver cells by which passes observe nets: those of the drivers that are always on, and those of each control,
+/// at the position of its cell.
+#[derive(Debug, Drop)]
+pub struct DriverTable {
+    pub always: Items<DriverCell>,
+    pub rows: Items<ControlCells>,
+}
+
+fn note_all(rows: &mut [ControlCells], observers: &[Observer]) -> Result<(), AllocError>
+    ensures { OnOk result (rows.new ≡ all_noted rows.old observers.now) }
+{
+    for observer in observers {
+        note_where(rows, observer.control, observer.cell)?;
+    }
+    Ok(())
+}
+
+fn always_on(alloc: Global, observers: &[Observer]) -> Result<Vec<DriverCell>, AllocError>
+    ensures { IfOk result (λ cells. cells.items ≡ always_on observers.now) }
+{
+    let mut cells = Vec::new(alloc);
+    for observer in observers {
+        if observer.control.is_none() {
+            cells.push(observer.cell)?;
+        }
+    }
+    Ok(cells)
+}
+
+/// The table of these drivers, for a row of so many bits.
+pub fn driver_table(
+    alloc: Global,
+    observers: &[Observer],
+    bits: usize,
+) -> Result<DriverTable, AllocError>
+    ensures { IfOk result (λ table. table ≡ table_of observers.now bits) }
+{
+    let always = always_on(alloc, observers)?;
+    let mut rows = blank(alloc, bits)?;
+    note_all(&mut rows, observers)?;
+    Ok(DriverTable {
+        always: Items::of(always),
+        rows: Items::of(rows),
+    })
+}
+
+/// The driver cells of the control whose cell stands at a position; none where no row has it.
+fn cells_at(rows: &[ControlCells], control: usize) -> &[DriverCell]
+    ensures { result.now ≡ slice_index_or rows.now control [] }
+{
+    match rows.get(control) {
+        None => &[],
+        Some(row) => row.as_slice(),
+    }
+}
+
+/// The driver cells of a control.
+pub fn controlled<'a>(
+    board: &Board,
+    firsts: &[u32],
+    rows: &'a [ControlCells],
+    c: Ctl,
+) -> &'a [DriverCell]
+    requires firsts { AreFirsts board.now.chain firsts.now }
+    requires cell { c.cell < cell_count (device_at board.now c.part) }
+    ensures { result.now ≡ controlled board.now rows.now c }
+{
+    cells_at(rows, cell_position(board, firsts, c.part, c.cell) as usize)
+}

@@ -1,0 +1,48 @@
+// The cells of the controls of a pass.
+ghost use Rattle.std.specs.Prelude.{◌≡◌, ◌<◌, true, length, map, IfOk};
+ghost use Rattle.board_defs.specs.declared.board.Ctl.{Ctl as ControlRecord};
+ghost use Rattle.board_defs.specs.Pins.{device_at, cell_count, data_bits};
+ghost use Rattle.board_defs.specs.Settings.{holds};
+ghost use Rattle.plan_tables.specs.Tables.{AreFirsts, held_cell};
+
+use crate::positions::cell_position;
+use crate::tables::HeldCell;
+use board_defs::{Board, Ctl, Items, Setting};
+use bt_bits::Row;
+use std::alloc::{AllocError, Global};
+
+/// The cell of a control: its position, and the opposite of what it holds in the quiet row.
+pub fn held_cell(board: &Board, firsts: &[u32], quiet: &Row, c: Ctl) -> HeldCell
+    requires firsts { AreFirsts board.now.chain firsts.now }
+    requires quiet { length quiet.now.bits ≡ data_bits board.now }
+    requires cell { c.cell < cell_count (device_at board.now c.part) }
+    ensures value { result ≡ held_cell board.now quiet.now.bits c }
+    ensures within { result.position < data_bits board.now }
+{
+    let _ = board.raw();
+    let position = cell_position(board, firsts, c.part, c.cell);
+    HeldCell {
+        position,
+        bit: !quiet.get(position),
+    }
+}
+
+/// The cells of the controls of a pass.
+pub fn held_cells(
+    alloc: Global,
+    board: &Board,
+    firsts: &[u32],
+    quiet: &Row,
+    pass: &Setting,
+) -> Result<Items<HeldCell>, AllocError>
+    requires firsts { AreFirsts board.now.chain firsts.now }
+    requires quiet { length quiet.now.bits ≡ data_bits board.now }
+    requires cells { (c : ControlRecord) → holds pass.now c ≡ true → c.cell < cell_count (device_at board.now c.part) }
+    ensures { IfOk result (λ cells. cells ≡ map (held_cell board.now quiet.now.bits) pass.now) }
+{
+    let mut cells = Vec::new(alloc);
+    for c in pass.controls() {
+        cells.push(held_cell(board, firsts, quiet, *c))?;
+    }
+    Ok(Items::of(cells))
+}

@@ -1,0 +1,111 @@
+// The rows of the two scans of instructions.
+ghost use Rattle.std.specs.Prelude.{◌≡◌, ◌+◌, ◌<◌, ◌≤◌, ◌++◌, List, Bool, map, length, replicate, drop, IfOk, OnOk};
+ghost use Rattle.board_defs.specs.declared.board.PartKind.TheVariants.{Described};
+ghost use Rattle.board_defs.specs.DeviceRules.{bit_of};
+ghost use Rattle.board_defs.specs.BoardRules.{IsBoard};
+ghost use Rattle.tap_defs.specs.chain.Scan.{tdi_bits, tdo_bits, mask_bits};
+ghost use Rattle.tap_defs.specs.chain.Codes.{code_bits, instructs};
+ghost use Rattle.tap_defs.specs.board.BoardScans.{preload_code, extest_code};
+ghost use Rattle.plan_tables.specs.Tables.{AreRowsOf};
+ghost use Rattle.plan_tables.specs.inner.Codes.{code_for, AreCoded, captured_bits, compared_bits};
+
+use crate::rows::row_of;
+use crate::tables::FixedRows;
+use board_defs::{Board, Device, Part, PartKind, Symbol};
+use std::alloc::{AllocError, Global};
+
+/// The instruction of a scan: the one that preloads the boundary register, or EXTEST.
+#[derive(Clone, Copy, Debug, PartialEq, Eq)]
+pub enum Instruction {
+    Preload,
+    Extest,
+}
+
+fn push_symbols(symbols: &[Symbol], tdi: &mut Vec<bool>) -> Result<(), AllocError>
+    ensures { OnOk result (tdi.new.items ≡ tdi.old.items ++ map bit_of symbols.now) }
+{
+    for symbol in symbols {
+        tdi.push(symbol.bit())?;
+    }
+    Ok(())
+}
+
+fn push_same(count: u32, bit: bool, bits: &mut Vec<bool>) -> Result<(), AllocError>
+    ensures { OnOk result (bits.new.items ≡ bits.old.items ++ replicate count bit) }
+{
+    for _ in 0..count {
+        bits.push(bit)?;
+    }
+    Ok(())
+}
+
+fn push_device(
+    instruction: Instruction,
+    device: &Device,
+    tdi: &mut Vec<bool>,
+) -> Result<(), AllocError>
+    ensures { OnOk result (tdi.new.items ≡ tdi.old.items ++ code_for instruction (Described device.now)) }
+{
+    let raw = device.raw();
+    match instruction {
+        Instruction::Preload => push_symbols(raw.sample.symbols(), tdi),
+        Instruction::Extest => push_symbols(raw.extest.symbols(), tdi),
+    }
+}
+
+// Adds the code of a part.
+fn push_code(
+    instruction: Instruction,
+    kind: &PartKind,
+    tdi: &mut Vec<bool>,
+) -> Result<(), AllocError>
+    ensures { OnOk result (tdi.new.items ≡ tdi.old.items ++ code_for instruction kind.now) }
+{
+    match kind {
+        PartKind::Described(device) => push_device(instruction, device, tdi),
+        PartKind::Bypass(length) => push_same(*length, true, tdi),
+    }
+}
+
+// Adds what is compared of a part: 01 in its two lowest bits.
+fn push_capture(length: u32, tdo: &mut Vec<bool>, mask: &mut Vec<bool>) -> Result<(), AllocError>
+    requires { 2 ≤ length }
+    ensures tdo { OnOk result (tdo.new.items ≡ tdo.old.items ++ captured_bits length) }
+    ensures mask { OnOk result (mask.new.items ≡ mask.old.items ++ compared_bits length) }
+{
+    tdo.push(true)?;
+    push_same(length - 1, false, tdo)?;
+    push_same(2, true, mask)?;
+    push_same(length - 2, false, mask)
+}
+
+fn rows_of(alloc: Global, instruction: Instruction, chain: &[Part]) -> Result<FixedRows, AllocError>
+    requires coded { AreCoded instruction chain.now }
+    requires few { length ((instructs (map (λ part. code_for instruction part.kind) chain.now)).bits) ≤ 65535 }
+    ensures { IfOk result (λ rows. AreRowsOf ((instructs (map (λ part. code_for instruction part.kind) chain.now)).bits) rows) }
+{
+    let mut tdi = Vec::new(alloc);
+    let mut tdo = Vec::new(alloc);
+    let mut mask = Vec::new(alloc);
+    for i in (0..chain.len()).rev() {
+        let kind = &chain[i].kind;
+        push_code(instruction, kind, &mut tdi)?;
+        push_capture(kind.instruction_length(), &mut tdo, &mut mask)?;
+    }
+    Ok(FixedRows {
+        tdi: row_of(alloc, &tdi)?,
+        tdo: row_of(alloc, &tdo)?,
+        mask: row_of(alloc, &mask)?,
+    })
+}
+
+/// The rows of a scan that gives each described part this instruction, and the others BYPASS.
+pub fn instruction_rows(
+    alloc: Global,
+    instruction: Instruction,
+    board: &Board,
+) -> Result<FixedRows, AllocError>
+    ensures { IfOk result (λ rows. AreRowsOf ((instructs (map (λ part. code_for instruction part.kind) board.now.chain)).bits) rows) }
+{
+    rows_of(alloc, instruction, board.raw().chain.as_slice())
+}

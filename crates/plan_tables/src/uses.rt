@@ -1,0 +1,165 @@
+// Which cells the passes hold, and the driver cells that are the same in all of them.
+ghost use Rattle.std.specs.Prelude.{◌≡◌, ◌+◌, ◌<◌, ◌^◌, true, false, length, slice_index_or, IfOk, OnOk, All};
+ghost use Rattle.board_defs.specs.declared.board.Ctl.{Ctl as ControlRecord};
+ghost use Rattle.board_defs.specs.Pins.{device_at, cell_count, data_bits};
+ghost use Rattle.board_defs.specs.Settings.{holds};
+ghost use Rattle.plan_tables.specs.Tables.{AreFirsts};
+ghost use Rattle.plan_tables.specs.inner.Steady.{marked_held, all_marked, held_by, run_at, all_run, AreRuns, AreUses, is_common, is_steady, steady_cells, moving};
+
+use crate::held::held_cells;
+use crate::observers::Observer;
+use crate::tables::{DriverCell, HeldCell};
+use board_defs::{Board, Items, Setting};
+use bt_bits::Row;
+use lists::{is_set, mark};
+use std::alloc::{AllocError, Global};
+
+/// For each position, whether some pass holds the cell there, and how many passes from the first on all do.
+#[derive(Debug, Drop)]
+pub struct Uses {
+    pub held: Items<bool>,
+    pub runs: Items<u32>,
+}
+
+fn mark_held(flags: &mut [bool], held: &[HeldCell])
+    ensures { flags.new ≡ marked_held flags.old held.now }
+{
+    for cell in held {
+        mark(flags, cell.position as usize);
+    }
+}
+
+// Pass `k` holds the cell at the position, too.
+fn run(runs: &mut [u32], k: u32, position: usize)
+    requires { k + 1 < 2 ^ 32 }
+    ensures { runs.new ≡ run_at k runs.old position }
+{
+    if position < runs.len() {
+        if runs[position] == k {
+            runs[position] = k + 1;
+        }
+    }
+}
+
+fn run_all(runs: &mut [u32], k: u32, held: &[HeldCell])
+    requires { k + 1 < 2 ^ 32 }
+    ensures { runs.new ≡ all_run k runs.old held.now }
+{
+    for cell in held {
+        run(runs, k, cell.position as usize);
+    }
+}
+
+// Notes what these passes hold.
+fn note_passes(
+    alloc: Global,
+    board: &Board,
+    firsts: &[u32],
+    quiet: &Row,
+    passes: &[Setting],
+    held: &mut [bool],
+    runs: &mut [u32],
+) -> Result<(), AllocError>
+    requires firsts { AreFirsts board.now.chain firsts.now }
+    requires quiet { length quiet.now.bits ≡ data_bits board.now }
+    requires few { length passes.now < 2 ^ 32 }
+    requires cells { All (λ pass. (c : ControlRecord) → holds pass c ≡ true → c.cell < cell_count (device_at board.now c.part)) passes.now }
+    requires runs { AreRuns (held_by board.now quiet.now.bits passes.now) runs.old }
+    ensures held { OnOk result (held.new ≡ all_marked board.now quiet.now.bits held.old passes.now) }
+    ensures runs { OnOk result (AreRuns (held_by board.now quiet.now.bits passes.now) runs.new) }
+{
+    for k in 0..passes.len() {
+        let cells = held_cells(alloc, board, firsts, quiet, &passes[k])?;
+        mark_held(held, cells.as_slice());
+        run_all(runs, k as u32, cells.as_slice());
+    }
+    Ok(())
+}
+
+/// What these passes hold.
+pub fn uses_of(
+    alloc: Global,
+    board: &Board,
+    firsts: &[u32],
+    quiet: &Row,
+    passes: &[Setting],
+) -> Result<Uses, AllocError>
+    requires firsts { AreFirsts board.now.chain firsts.now }
+    requires quiet { length quiet.now.bits ≡ data_bits board.now }
+    requires few { length passes.now < 2 ^ 32 }
+    requires cells { All (λ pass. (c : ControlRecord) → holds pass c ≡ true → c.cell < cell_count (device_at board.now c.part)) passes.now }
+    ensures { IfOk result (λ uses. AreUses board.now quiet.now.bits passes.now uses) }
+{
+    let bits = quiet.len() as usize;
+    let mut held = vec![in alloc; false; bits]?;
+    let mut runs = vec![in alloc; 0u32; bits]?;
+    note_passes(alloc, board, firsts, quiet, passes, &mut held, &mut runs)?;
+    Ok(Uses {
+        held: Items::of(held),
+        runs: Items::of(runs),
+    })
+}
+
+fn run_of(runs: &[u32], position: usize) -> u32
+    ensures { result ≡ slice_index_or runs.now position 0 }
+{
+    match runs.get(position) {
+        None => 0,
+        Some(run) => *run,
+    }
+}
+
+fn is_common(uses: &Uses, passes: u32, control: Option<u32>) -> bool
+    ensures { result ≡ is_common uses.now passes control }
+{
+    match control {
+        None => true,
+        Some(position) => run_of(uses.runs.as_slice(), position as usize) == passes,
+    }
+}
+
+// Whether each of so many passes enables the driver, and none holds its cell.
+fn is_steady(uses: &Uses, passes: u32, observer: Observer) -> bool
+    ensures { result ≡ is_steady uses.now passes observer }
+{
+    if passes == 0 || is_set(uses.held.as_slice(), observer.cell.position as usize) {
+        return false;
+    }
+    is_common(uses, passes, observer.control)
+}
+
+/// The driver cells that are the same in all of so many passes.
+pub fn steady_cells(
+    alloc: Global,
+    uses: &Uses,
+    passes: u32,
+    observers: &[Observer],
+) -> Result<Items<DriverCell>, AllocError>
+    ensures { IfOk result (λ cells. cells ≡ steady_cells uses.now passes observers.now) }
+{
+    let mut cells = Vec::new(alloc);
+    for observer in observers {
+        if is_steady(uses, passes, *observer) {
+            cells.push(observer.cell)?;
+        }
+    }
+    Ok(Items::of(cells))
+}
+
+/// The other drivers by which nets can be observed.
+pub fn moving(
+    alloc: Global,
+    uses: &Uses,
+    passes: u32,
+    observers: &[Observer],
+) -> Result<Items<Observer>, AllocError>
+    ensures { IfOk result (λ others. others ≡ moving uses.now passes observers.now) }
+{
+    let mut others = Vec::new(alloc);
+    for observer in observers {
+        if !is_steady(uses, passes, *observer) {
+            others.push(*observer)?;
+        }
+    }
+    Ok(Items::of(others))
+}

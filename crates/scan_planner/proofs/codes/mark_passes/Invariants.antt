@@ -1,6 +1,0 @@
-use Rattle.std.proofs.Common.{◌≡◌, take, fold}
-use Rattle.scan_planner.specs.inner.Codes.{marked_on}
-use Rattle.scan_planner.proofs.codes.mark_passes.Given as goal
-
-abbrev pub invariant-loop-pass : goal.invariant-loop-pass
-invariant-loop-pass l = l.flags ≡ fold (marked_on l.board l.table) l.initial.flags (take l.pass-index l.passes)

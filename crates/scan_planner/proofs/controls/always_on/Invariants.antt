@@ -1,6 +1,0 @@
-use Rattle.std.proofs.Common.{◌≡◌, take}
-use Rattle.scan_planner.specs.inner.Building.{always_on}
-use Rattle.scan_planner.proofs.controls.always_on.Given as goal
-
-abbrev pub invariant-loop-observer : goal.invariant-loop-observer
-invariant-loop-observer l = l.cells.items ≡ always_on (take l.observer-index l.observers)

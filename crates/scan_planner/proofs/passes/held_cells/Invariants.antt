@@ -1,6 +1,0 @@
-use Rattle.std.proofs.Common.{◌≡◌, map, take}
-use Rattle.scan_planner.specs.Tables.{held_cell}
-use Rattle.scan_planner.proofs.passes.held_cells.Given as goal
-
-abbrev pub invariant-loop-c : goal.invariant-loop-c
-invariant-loop-c l = l.cells.items ≡ map (held_cell l.board l.quiet.bits) (take l.c-index l.c-items)

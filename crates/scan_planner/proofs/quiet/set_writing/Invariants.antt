@@ -1,7 +1,0 @@
-use Rattle.std.proofs.Common.{◌≡◌, take}
-use Rattle.board_defs.specs.DeviceRules.{is_writing}
-use Rattle.scan_planner.specs.inner.QuietBits.{safe_value_in, set_by}
-use Rattle.scan_planner.proofs.quiet.set_writing.Given as goal
-
-abbrev pub invariant-loop-entry : goal.invariant-loop-entry
-invariant-loop-entry l = l.row ≡ set_by (safe_value_in is_writing) l.initial.row (take l.entry-index l.entries)

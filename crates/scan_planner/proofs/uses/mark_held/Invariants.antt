@@ -1,6 +1,0 @@
-use Rattle.std.proofs.Common.{◌≡◌, take}
-use Rattle.scan_planner.specs.inner.Steady.{marked_held}
-use Rattle.scan_planner.proofs.uses.mark_held.Given as goal
-
-abbrev pub invariant-loop-cell : goal.invariant-loop-cell
-invariant-loop-cell l = l.flags ≡ marked_held l.initial.flags (take l.cell-index l.held)
