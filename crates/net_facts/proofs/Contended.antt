@@ -1,22 +1,19 @@
 -- The nets that a control shares with any other.
-use Rattle.std.proofs.Common.{◌≡◌, ℕ, ◌<◌, slice_index, Bool, true, false, not, ◌&&◌, ◌||◌, List, [], ◌∷◌, map, length, Option, Some, None, refl, sym, ◌∙◌, ap, subst, arith, cond}
+use Rattle.std.proofs.Common.{◌≡◌, ℕ, Bool, true, false, not, ◌&&◌, ◌||◌, List, [], ◌∷◌, map, length, Option, Some, None, refl, sym, ◌∙◌, ap, cond}
 use Rattle.std.specs.Prelude.{slice_get, slice_index_or, option_map, option_and_then, filter}
 use Rattle.std.specs.Option.{unwrap_or}
 use Rattle.std.specs.List.{list_any, range_with_len}
-use Rattle.std.specs.Bool.{Decides}
 use Rattle.std.proofs.lemmas.Option.{slice_get-map, unwrap_or-slice_get}
 use Rattle.board_defs.specs.declared.board.Net.{Net}
-use Rattle.board_defs.specs.declared.board.NetPin.{NetPin}
 use Rattle.board_defs.specs.declared.board.Ctl.{Ctl}
 use Rattle.board_defs.specs.declared.board.RawBoard.{RawBoard}
 use Rattle.board_defs.specs.declared.board.Drive.{Drive}
 use Rattle.board_defs.specs.declared.board.Drive.TheVariants.{AlwaysOn, OneSided, By}
 use Rattle.board_defs.specs.Pins.{drive, IsCell}
 use Rattle.board_defs.specs.Settings.{same_ctl}
-use Rattle.board_defs.specs.Decided.{is_by, drives_net, share_net}
+use Rattle.board_defs.specs.Decided.{is_by, drives_net}
 use Rattle.board_defs.proofs.ControlOrder.{same_equal, same_refl}
 use Rattle.board_defs.proofs.Driving.{by_true}
-use Rattle.board_defs.proofs.Members.{Has, has_place, has_contains, contains_has, has_filter, filter_has, has_range}
 use Rattle.board_defs.proofs.Places.{Found, any_place, any_at}
 use Rattle.net_facts.specs.declared.facts.PinFacts.{PinFacts}
 use Rattle.net_facts.specs.declared.facts.NetFacts.{NetFacts}
@@ -26,7 +23,7 @@ use Rattle.net_facts.specs.Facts.{pin_facts_of, net_facts_of}
 use Rattle.net_facts.specs.Cells.{item_of}
 use Rattle.net_facts.specs.Kept.{drives_there, driven_nets, is_by_other, is_contended, contends_there, shared_nets, control_class_of}
 use Rattle.net_facts.specs.inner.Shared.{with_drive, controls_from, is_several, contended_in, flags_of, shared_in}
-use Rattle.net_facts.proofs.Truth.{same_truth, any_map, and_left, and_right, and_intro, not_true, not_of_false, clash}
+use Rattle.net_facts.proofs.Truth.{any_map, not_true, not_of_false, clash}
 
 abbrev other_pin : Ctl → PinFacts → Bool
 other_pin c pin = is_by_other c pin.drive

@@ -10,8 +10,8 @@ use Rattle.board_defs.specs.declared.board.PinAt.{PinAt}
 use Rattle.board_defs.specs.declared.board.NetPin.{NetPin}
 use Rattle.board_defs.specs.declared.board.Net.{Net}
 use Rattle.board_defs.specs.declared.board.RawBoard.{RawBoard}
-use Rattle.board_defs.specs.Pins.{entry_at, drive, receives, guarded, is_test_pin, is_dark, is_pulled_to}
-use Rattle.board_defs.specs.Decided.{is_always_on, is_closed}
+use Rattle.board_defs.specs.Pins.{entry_at, receives, guarded, is_test_pin, is_dark, is_pulled_to}
+use Rattle.board_defs.specs.Decided.{is_always_on}
 use Rattle.net_facts.specs.declared.facts.PinFacts.{PinFacts}
 use Rattle.net_facts.specs.declared.facts.NetFacts.{NetFacts}
 
