@@ -27,20 +27,21 @@ pub fn batch<R: Threads + Sync, K: Sink, G: Gate>(
     gate: &G,
     out: &mut K,
 ) -> Result<(), Unput>
-    requires log { length texts.log.now < 2 ^ 32 }
+    requires log { length texts.log.items < 2 ^ 32 }
     requires chain { length texts.board.chain.now < 2 ^ 32 }
     requires nets { length texts.board.nets.now < 2 ^ 32 }
     requires each { All (λ text. length text.items < 2 ^ 32) texts.board.bsdl.now }
     requires count { length texts.board.bsdl.now < 2 ^ 32 }
     requires some { 1 ≤ workers }
     requires few { workers ≤ 64 }
-    ensures { LogAnswers (OnDenoted judging_each texts.entry.log.now texts.entry.board.chain.now texts.entry.board.nets.now (map (λ text. text.items) texts.entry.board.bsdl.now)) verdicts_text (OfDenoted (DiagnosesEach texts.entry.log.now) texts.entry.board.chain.now texts.entry.board.nets.now (map (λ text. text.items) texts.entry.board.bsdl.now) (K.shown out.old)) (K.shown out.old) (K.shown out.new) result }
+    ensures { LogAnswers (OnDenoted judging_each texts.entry.log.items texts.entry.board.chain.now texts.entry.board.nets.now (map (λ text. text.items) texts.entry.board.bsdl.now)) verdicts_text (OfDenoted (DiagnosesEach texts.entry.log.items) texts.entry.board.chain.now texts.entry.board.nets.now (map (λ text. text.items) texts.entry.board.bsdl.now) (K.shown out.old)) (K.shown out.old) (K.shown out.new) result }
 {
-    let planned = match planned_board(alloc, texts.board) {
+    let LogTexts { log, board } = texts;
+    let planned = match planned_board(alloc, board) {
         Ok(planned) => planned,
         Err(failure) => return Err(failure),
     };
-    put_batch(rt, alloc, &planned, texts.log, workers, gate, out)
+    put_batch(rt, alloc, &planned, &log, workers, gate, out)
 }
 
 // Puts the diagnoses of a batch of logs of the board's test.

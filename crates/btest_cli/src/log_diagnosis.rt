@@ -15,7 +15,7 @@ use bt_bits::Line;
 use diagnoser::law::{explaining_listed, passing_unexplained};
 use diagnoser::{diagnose_by, write_diagnosis};
 use fault_sim::{differing_nets, none_differs};
-use response_log::log;
+use response_log::log_of;
 use std::alloc::Global;
 use std::thread::Threads;
 
@@ -29,41 +29,42 @@ pub fn diagnosis<R: Threads + Sync, K: Sink, G: Gate>(
     gate: &G,
     out: &mut K,
 ) -> Result<(), Unput>
-    requires log { length texts.log.now < 2 ^ 32 }
+    requires log { length texts.log.items < 2 ^ 32 }
     requires chain { length texts.board.chain.now < 2 ^ 32 }
     requires nets { length texts.board.nets.now < 2 ^ 32 }
     requires each { All (λ text. length text.items < 2 ^ 32) texts.board.bsdl.now }
     requires count { length texts.board.bsdl.now < 2 ^ 32 }
     requires some { 1 ≤ workers }
     requires few { workers ≤ 64 }
-    ensures { LogAnswers (OnDenoted diagnosing texts.entry.log.now texts.entry.board.chain.now texts.entry.board.nets.now (map (λ text. text.items) texts.entry.board.bsdl.now)) diagnosis_text (OfDenoted (Diagnoses texts.entry.log.now) texts.entry.board.chain.now texts.entry.board.nets.now (map (λ text. text.items) texts.entry.board.bsdl.now) (K.shown out.old)) (K.shown out.old) (K.shown out.new) result }
+    ensures { LogAnswers (OnDenoted diagnosing texts.entry.log.items texts.entry.board.chain.now texts.entry.board.nets.now (map (λ text. text.items) texts.entry.board.bsdl.now)) diagnosis_text (OfDenoted (Diagnoses texts.entry.log.items) texts.entry.board.chain.now texts.entry.board.nets.now (map (λ text. text.items) texts.entry.board.bsdl.now) (K.shown out.old)) (K.shown out.old) (K.shown out.new) result }
 {
-    let planned = match planned_board(alloc, texts.board) {
+    let LogTexts { log, board } = texts;
+    let planned = match planned_board(alloc, board) {
         Ok(planned) => planned,
         Err(failure) => return Err(failure),
     };
-    put_diagnosis(rt, alloc, &planned, texts.log, workers, gate, out)
+    put_diagnosis(rt, alloc, &planned, log, workers, gate, out)
 }
 
-// Puts the diagnosis of a log of the board's test.
+// Puts the diagnosis of a log of the board's test, which is read over its text.
 fn put_diagnosis<R: Threads + Sync, K: Sink, G: Gate>(
     rt: &R,
     alloc: Global,
     planned: &Planned,
-    text: &[u8],
+    text: Vec<u8>,
     workers: u32,
     gate: &G,
     out: &mut K,
 ) -> Result<(), Unput>
     requires plan { IsPlanOf planned.now.board planned.now.plan }
     requires passes { planned.now.plan.passes ≡ passes_of planned.now.board }
-    requires text { length text.now < 2 ^ 32 }
+    requires text { length text.items < 2 ^ 32 }
     requires some { 1 ≤ workers }
     requires few { workers ≤ 64 }
-    ensures { LogAnswers (OnBoard diagnosing text.now planned.now.board) (λ found. diagnosis_text (planned.now.board, found)) (Diagnoses text.now planned.now.board (K.shown out.old)) (K.shown out.old) (K.shown out.new) result }
+    ensures { LogAnswers (OnBoard diagnosing text.items planned.now.board) (λ found. diagnosis_text (planned.now.board, found)) (Diagnoses text.items planned.now.board (K.shown out.old)) (K.shown out.old) (K.shown out.new) result }
 {
     let Planned { board, plan } = planned;
-    let log = match log(alloc, text, plan.rows(), board.dr_bits()) {
+    let log = match log_of(alloc, text, plan.rows(), board.dr_bits()) {
         Ok(log) => log,
         Err(fault) => return Err(unput_by_log(plan.rows(), fault)),
     };

@@ -11,25 +11,26 @@ use crate::failure::{Unput, unput_by_log};
 use crate::texts::LogTexts;
 use bt_base::Sink;
 use bt_bits::Line;
-use response_log::log;
+use response_log::log_of;
 use std::alloc::Global;
 use walk_test::law::{groups_respond, one_set};
 use walk_test::{Group, write_groups};
 
 /// Puts the groups of a log of the walking test of the board of these texts. All memory is taken before the first put.
 pub fn groups<K: Sink>(alloc: Global, texts: LogTexts, out: &mut K) -> Result<(), Unput>
-    requires log { length texts.log.now < 2 ^ 32 }
+    requires log { length texts.log.items < 2 ^ 32 }
     requires chain { length texts.board.chain.now < 2 ^ 32 }
     requires nets { length texts.board.nets.now < 2 ^ 32 }
     requires each { All (λ text. length text.items < 2 ^ 32) texts.board.bsdl.now }
     requires count { length texts.board.bsdl.now < 2 ^ 32 }
-    ensures { LogAnswers (OnDenoted grouping texts.entry.log.now texts.entry.board.chain.now texts.entry.board.nets.now (map (λ text. text.items) texts.entry.board.bsdl.now)) grouping_text (OfDenoted (FindsGroups texts.entry.log.now) texts.entry.board.chain.now texts.entry.board.nets.now (map (λ text. text.items) texts.entry.board.bsdl.now) (K.shown out.old)) (K.shown out.old) (K.shown out.new) result }
+    ensures { LogAnswers (OnDenoted grouping texts.entry.log.items texts.entry.board.chain.now texts.entry.board.nets.now (map (λ text. text.items) texts.entry.board.bsdl.now)) grouping_text (OfDenoted (FindsGroups texts.entry.log.items) texts.entry.board.chain.now texts.entry.board.nets.now (map (λ text. text.items) texts.entry.board.bsdl.now) (K.shown out.old)) (K.shown out.old) (K.shown out.new) result }
 {
-    let walked = match walked_board(alloc, texts.board) {
+    let LogTexts { log, board } = texts;
+    let walked = match walked_board(alloc, board) {
         Ok(walked) => walked,
         Err(failure) => return Err(failure),
     };
-    put_groups(alloc, &walked, texts.log, out)
+    put_groups(alloc, &walked, log, out)
 }
 
 // The groups, where there are some.
@@ -42,20 +43,20 @@ fn lent(found: &Option<Vec<Group>>) -> Option<&[Group]>
     }
 }
 
-// Puts the groups of a log of the board's walking test.
+// Puts the groups of a log of the board's walking test, which is read over its text.
 fn put_groups<K: Sink>(
     alloc: Global,
     walked: &Walked,
-    text: &[u8],
+    text: Vec<u8>,
     out: &mut K,
 ) -> Result<(), Unput>
     requires walk { IsWalkOf walked.now.board walked.now.walk }
-    requires text { length text.now < 2 ^ 32 }
-    ensures { LogAnswers (OnBoard grouping text.now walked.now.board) (λ found. grouping_text (walked.now.board, found)) (FindsGroups text.now walked.now.board (K.shown out.old)) (K.shown out.old) (K.shown out.new) result }
+    requires text { length text.items < 2 ^ 32 }
+    ensures { LogAnswers (OnBoard grouping text.items walked.now.board) (λ found. grouping_text (walked.now.board, found)) (FindsGroups text.items walked.now.board (K.shown out.old)) (K.shown out.old) (K.shown out.new) result }
 {
     let Walked { board, walk } = walked;
     let rows = walk.nets().len() as u64;
-    let log = match log(alloc, text, rows, board.dr_bits()) {
+    let log = match log_of(alloc, text, rows, board.dr_bits()) {
         Ok(log) => log,
         Err(fault) => return Err(unput_by_log(rows, fault)),
     };

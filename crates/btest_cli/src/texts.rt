@@ -8,6 +8,7 @@ ghost use Rattle.btest_cli.specs.inner.Failures.{IsUnread, wanted_view};
 use crate::failure::Unread;
 use bt_base::{FetchFault, Store};
 use std::alloc::Global;
+use std::mem;
 
 // The most bytes of a chain file, a net file or a BSDL text.
 const MOST_BYTES: u32 = 4_194_304;
@@ -41,9 +42,8 @@ pub struct BoardTexts<'a> {
 }
 
 /// A text of logs, and those of the board that they are of.
-#[derive(Clone, Copy)]
 pub struct LogTexts<'a> {
-    pub log: &'a [u8],
+    pub log: Vec<u8>,
     pub board: BoardTexts<'a>,
 }
 
@@ -74,13 +74,13 @@ pub fn board_texts<'a>(texts: &'a [Vec<u8>]) -> BoardTexts<'a>
     BoardTexts { chain, nets, bsdl }
 }
 
-/// The same behind a text of logs.
-pub fn log_texts<'a>(texts: &'a [Vec<u8>]) -> LogTexts<'a>
-    requires some { 3 ≤ length texts.now }
-    requires few { length texts.now ≤ 258 }
-    requires short { All (λ text. length text.items < 2 ^ 32) texts.now }
-    ensures texts { map (λ text. text.items) texts.entry.now ≡ result.log.now ∷ result.board.chain.now ∷ result.board.nets.now ∷ map (λ text. text.items) result.board.bsdl.now }
-    ensures log { length result.log.now < 2 ^ 32 }
+/// The same behind a text of logs, which it takes out of the texts.
+pub fn log_texts<'a>(alloc: Global, texts: &'a mut [Vec<u8>]) -> LogTexts<'a>
+    requires some { 3 ≤ length texts.old }
+    requires few { length texts.old ≤ 258 }
+    requires short { All (λ text. length text.items < 2 ^ 32) texts.old }
+    ensures texts { map (λ text. text.items) texts.old ≡ result.log.items ∷ result.board.chain.now ∷ result.board.nets.now ∷ map (λ text. text.items) result.board.bsdl.now }
+    ensures log { length result.log.items < 2 ^ 32 }
     ensures chain { length result.board.chain.now < 2 ^ 32 }
     ensures nets { length result.board.nets.now < 2 ^ 32 }
     ensures each { All (λ text. length text.items < 2 ^ 32) result.board.bsdl.now }
@@ -90,7 +90,7 @@ pub fn log_texts<'a>(texts: &'a [Vec<u8>]) -> LogTexts<'a>
         unreachable!()
     };
     LogTexts {
-        log,
+        log: mem::replace(log, Vec::new(alloc)),
         board: board_texts(board),
     }
 }

@@ -111,14 +111,14 @@ fn run_command<R: Threads + Sync, S: Store, K: Sink, N: Sink, G: Gate>(
         let _ = put_memory(notes);
         return Status::NoMemory;
     };
-    let texts = match fetch_texts(alloc, &wanted, store) {
+    let mut texts = match fetch_texts(alloc, &wanted, store) {
         Ok(texts) => texts,
         Err(failure) => {
             let _ = put_unread(&failure, notes);
             return unread_status(&failure);
         }
     };
-    match answer(rt, alloc, command, &texts, gate, out) {
+    match answer(rt, alloc, command, &mut texts, gate, out) {
         Ok(()) => Status::Done,
         Err(failure) => {
             let _ = put_unput(roles_of(command), &failure, notes);
@@ -206,20 +206,21 @@ fn roles_of<'a>(command: Command<'a>) -> Names<'a>
     }
 }
 
-// Puts what a command gives for its texts, of which there is one for each of its names.
+// Puts what a command gives for its texts, of which there is one for each of its names. A text of logs is taken out of
+// them, so that a log is read over it.
 fn answer<R: Threads + Sync, K: Sink, G: Gate>(
     rt: &R,
     alloc: Global,
     command: Command,
-    texts: &[Vec<u8>],
+    texts: &mut [Vec<u8>],
     gate: &G,
     out: &mut K,
 ) -> Result<(), Unput>
-    requires count { length texts.now ≡ length (names_of (command_view command)) }
-    requires few { length texts.now ≤ 258 }
-    requires short { All (λ text. length text.items < 2 ^ 32) texts.now }
+    requires count { length texts.old ≡ length (names_of (command_view command)) }
+    requires few { length texts.old ≤ 258 }
+    requires short { All (λ text. length text.items < 2 ^ 32) texts.old }
     requires number { HasNumber (command_view command) }
-    ensures { IsAnswered (command_view command.entry) (map (λ text. text.items) texts.now) (K.shown out.old) (K.shown out.new) result }
+    ensures { IsAnswered (command_view command.entry) (map (λ text. text.items) texts.old) (K.shown out.old) (K.shown out.new) result }
 {
     match command {
         Command::Chain(_) => answer_chain(alloc, texts, out),
@@ -230,10 +231,12 @@ fn answer<R: Threads + Sync, K: Sink, G: Gate>(
         Command::Ident(_) => answer_ident(alloc, texts, out),
         Command::Make(number) => summary(alloc, number, out),
         Command::Diagnose { workers, .. } => {
-            diagnosis(rt, alloc, log_texts(texts), workers, gate, out)
+            diagnosis(rt, alloc, log_texts(alloc, texts), workers, gate, out)
         }
-        Command::Groups { .. } => groups(alloc, log_texts(texts), out),
-        Command::Batch { workers, .. } => { batch(rt, alloc, log_texts(texts), workers, gate, out) }
+        Command::Groups { .. } => groups(alloc, log_texts(alloc, texts), out),
+        Command::Batch { workers, .. } => {
+            batch(rt, alloc, log_texts(alloc, texts), workers, gate, out)
+        }
     }
 }
 

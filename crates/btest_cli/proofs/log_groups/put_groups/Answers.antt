@@ -14,21 +14,21 @@ pub returns-in-Err : goal.returns-in-Err
 returns-in-Err g c =
     let board = c.args.walked.now.board in
     let count : length c.nets.result.now ≡ walk_rows board = ap (λ (nets : List ℕ). length nets) (c.nets.ensures ∙ c.requires.walk.nets) in
-    let counted = subst (λ (n : ℕ). IfSome (log_told c.in-Err.fault) (λ f. log_rows c.args.text.now n c.dr_bits.result ≡ Err f)) count c.in-Err.ensures.read in
-    let faulty = subst (λ (n : ℕ). IfSome (log_told c.in-Err.fault) (λ f. log_rows c.args.text.now (walk_rows board) n ≡ Err f)) c.dr_bits.ensures counted in
+    let counted = subst (λ (n : ℕ). IfSome (log_told c.in-Err.fault) (λ f. log_rows c.args.text.items n c.dr_bits.result ≡ Err f)) count c.in-Err.ensures.read in
+    let faulty = subst (λ (n : ℕ). IfSome (log_told c.in-Err.fault) (λ f. log_rows c.args.text.items (walk_rows board) n ≡ Err f)) c.dr_bits.ensures counted in
     rw c.unput_by_log.ensures
-    (log_wrong (OnBoard grouping c.args.text.now board) (λ found. grouping_text (board, found)) (FindsGroups c.args.text.now board (g.K.Sink.shown c.args.out.now)) (g.K.Sink.shown c.args.out.now) (length c.nets.result.now) (walk_log c.args.text.now board) c.in-Err.fault faulty
+    (log_wrong (OnBoard grouping c.args.text.items board) (λ found. grouping_text (board, found)) (FindsGroups c.args.text.items board (g.K.Sink.shown c.args.out.now)) (g.K.Sink.shown c.args.out.now) (length c.nets.result.now) (walk_log c.args.text.items board) c.in-Err.fault faulty
     (λ fault fails. record { cause = fault; fails = fails; is = ap (λ (n : ℕ). Log n fault) count }))
 
 pub returns-in-Ok-write_groups : goal.returns-in-Ok-write_groups
 returns-in-Ok-write_groups g c =
     let board = c.args.walked.now.board in
     let count : length c.nets.result.now ≡ walk_rows board = ap (λ (nets : List ℕ). length nets) (c.nets.ensures ∙ c.requires.walk.nets) in
-    let counted = subst (λ (n : ℕ). log_rows c.args.text.now n c.dr_bits.result ≡ Ok c.in-Ok.log) count c.in-Ok.ensures.read in
-    let read : walk_log c.args.text.now board ≡ Ok c.in-Ok.log = subst (λ (n : ℕ). log_rows c.args.text.now (walk_rows board) n ≡ Ok c.in-Ok.log) c.dr_bits.ensures counted in
+    let counted = subst (λ (n : ℕ). log_rows c.args.text.items n c.dr_bits.result ≡ Ok c.in-Ok.log) count c.in-Ok.ensures.read in
+    let read : walk_log c.args.text.items board ≡ Ok c.in-Ok.log = subst (λ (n : ℕ). log_rows c.args.text.items (walk_rows board) n ≡ Ok c.in-Ok.log) c.dr_bits.ensures counted in
     let found : Option (List (List ℕ)) = option_map (λ groups. groups.items) c.in-Ok-groups.found in
     let puts = subst (λ (o : Option (List (List ℕ))). Puts (g.K.Sink.shown c.args.out.now) (g.K.Sink.shown c.write_groups.new.out) (groups_text board o) c.write_groups.result) c.lent.ensures c.write_groups.ensures in
-    let judged : IsJudged grouping c.args.text.now board found = record { contents = c.in-Ok.log; holds = read; finds = c.in-Ok-groups.ensures.found } in
+    let judged : IsJudged grouping c.args.text.items board found = record { contents = c.in-Ok.log; holds = read; finds = c.in-Ok-groups.ensures.found } in
     let takes = takes_by _ _ _ puts c.in-Ok-write_groups.is in
     record {
       value = found;
@@ -50,9 +50,9 @@ pub returns : goal.returns
 returns g c =
     let board = c.args.walked.now.board in
     let count : length c.nets.result.now ≡ walk_rows board = ap (λ (nets : List ℕ). length nets) (c.nets.ensures ∙ c.requires.walk.nets) in
-    let counted = subst (λ (n : ℕ). log_rows c.args.text.now n c.dr_bits.result ≡ Ok c.in-Ok.log) count c.in-Ok.ensures.read in
-    let read : walk_log c.args.text.now board ≡ Ok c.in-Ok.log = subst (λ (n : ℕ). log_rows c.args.text.now (walk_rows board) n ≡ Ok c.in-Ok.log) c.dr_bits.ensures counted in
+    let counted = subst (λ (n : ℕ). log_rows c.args.text.items n c.dr_bits.result ≡ Ok c.in-Ok.log) count c.in-Ok.ensures.read in
+    let read : walk_log c.args.text.items board ≡ Ok c.in-Ok.log = subst (λ (n : ℕ). log_rows c.args.text.items (walk_rows board) n ≡ Ok c.in-Ok.log) c.dr_bits.ensures counted in
     let found : Option (List (List ℕ)) = option_map (λ groups. groups.items) c.in-Ok-groups.found in
     let puts = subst (λ (o : Option (List (List ℕ))). Puts (g.K.Sink.shown c.args.out.now) (g.K.Sink.shown c.write_groups.new.out) (groups_text board o) c.write_groups.result) c.lent.ensures c.write_groups.ensures in
-    let judged : IsJudged grouping c.args.text.now board found = record { contents = c.in-Ok.log; holds = read; finds = c.in-Ok-groups.ensures.found } in
-    cut_by (OnBoard grouping c.args.text.now board) (λ found. grouping_text (board, found)) _ _ found judged puts c.in-Err-write_groups.is
+    let judged : IsJudged grouping c.args.text.items board found = record { contents = c.in-Ok.log; holds = read; finds = c.in-Ok-groups.ensures.found } in
+    cut_by (OnBoard grouping c.args.text.items board) (λ found. grouping_text (board, found)) _ _ found judged puts c.in-Err-write_groups.is

@@ -12,7 +12,7 @@ use Rattle.btest_cli.proofs.top.run_command.Goals as goal
 
 pub answer-requires-clause-count : goal.answer-requires-clause-count
 answer-requires-clause-count g c = λ κs within.
-    ap length c.deref-2.ensures.value ∙ c.in-Ok-fetch_texts.ensures.number ∙ ap length c.deref.ensures.value ∙ sym (length-map c.in-Ok.wanted.items wanted_view) ∙ ap length c.in-Ok.ensures ∙ wanted_count (command_view c.args.command)
+    ap length c.deref_mut.ensures.value ∙ c.in-Ok-fetch_texts.ensures.number ∙ ap length c.deref.ensures.value ∙ sym (length-map c.in-Ok.wanted.items wanted_view) ∙ ap length c.in-Ok.ensures ∙ wanted_count (command_view c.args.command)
 
 pub returns-in-Err : goal.returns-in-Err
 returns-in-Err g c =
@@ -27,7 +27,7 @@ returns-in-Ok-answer g c =
     let texts = map (λ text. text.items) c.in-Ok-fetch_texts.texts.items in
     let read = subst (λ (wanted : List Wanted). IsRead (g.S.Store.held c.args.store.now) wanted (Read texts)) named c.in-Ok-fetch_texts.ensures.read in
     let asks = subst (λ (wanted : List Wanted). Asks (g.S.Store.asked c.args.store.now) (g.S.Store.asked c.fetch_texts.new.store) (names_in wanted)) named c.in-Ok-fetch_texts.ensures.asked in
-    let answered = subst (λ (all : List (Vec ℕ Global)). IsAnswered (command_view c.args.command) (map (λ text. text.items) all) (g.K.Sink.shown c.args.out.now) (g.K.Sink.shown c.answer.new.out) c.answer.result) c.deref-2.ensures.value c.answer.ensures in
+    let answered = subst (λ (all : List (Vec ℕ Global)). IsAnswered (command_view c.args.command) (map (λ text. text.items) all) (g.K.Sink.shown c.args.out.now) (g.K.Sink.shown c.answer.new.out) c.answer.result) c.deref_mut.ensures.value c.answer.ensures in
     let put = subst (λ (r : Result (Unit {0}) Unput). IsAnswered (command_view c.args.command) texts (g.K.Sink.shown c.args.out.now) (g.K.Sink.shown c.answer.new.out) r) c.in-Ok-answer.is answered in
     run_put (command_view c.args.command) (g.S.Store.held c.args.store.now) (g.S.Store.faults c.args.store.now) (g.S.Store.faults c.fetch_texts.new.store) (g.S.Store.asked c.args.store.now) (g.S.Store.asked c.fetch_texts.new.store) texts (g.K.Sink.shown c.args.out.now) (g.K.Sink.shown c.answer.new.out) (g.N.Sink.shown c.args.notes.now) read asks put
 
@@ -37,7 +37,7 @@ returns g c =
     let texts = map (λ text. text.items) c.in-Ok-fetch_texts.texts.items in
     let read = subst (λ (wanted : List Wanted). IsRead (g.S.Store.held c.args.store.now) wanted (Read texts)) named c.in-Ok-fetch_texts.ensures.read in
     let asks = subst (λ (wanted : List Wanted). Asks (g.S.Store.asked c.args.store.now) (g.S.Store.asked c.fetch_texts.new.store) (names_in wanted)) named c.in-Ok-fetch_texts.ensures.asked in
-    let answered = subst (λ (all : List (Vec ℕ Global)). IsAnswered (command_view c.args.command) (map (λ text. text.items) all) (g.K.Sink.shown c.args.out.now) (g.K.Sink.shown c.answer.new.out) c.answer.result) c.deref-2.ensures.value c.answer.ensures in
+    let answered = subst (λ (all : List (Vec ℕ Global)). IsAnswered (command_view c.args.command) (map (λ text. text.items) all) (g.K.Sink.shown c.args.out.now) (g.K.Sink.shown c.answer.new.out) c.answer.result) c.deref_mut.ensures.value c.answer.ensures in
     let unput = subst (λ (r : Result (Unit {0}) Unput). IsAnswered (command_view c.args.command) texts (g.K.Sink.shown c.args.out.now) (g.K.Sink.shown c.answer.new.out) r) c.in-Err-answer.is answered in
     let put = subst (λ (names : Names). Puts (g.N.Sink.shown c.args.notes.now) (g.N.Sink.shown c.put_unput.new.notes) (unput_line names c.in-Err-answer.failure) c.put_unput.result) c.roles_of.ensures c.put_unput.ensures in
     rw c.unput_status.ensures
