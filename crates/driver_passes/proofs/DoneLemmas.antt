@@ -13,7 +13,7 @@ use Rattle.board_defs.proofs.Members.{any_has, has_any}
 use Rattle.board_defs.proofs.PassesKept.{pair_shows}
 use Rattle.net_classes.specs.Laws.{PairsHaveDrivers}
 use Rattle.net_classes.specs.Pairs.{pairs_with}
-use Rattle.driver_passes.specs.inner.NetSets.{has_net}
+use Rattle.driver_passes.specs.inner.NumberSets.{is_in}
 use Rattle.driver_passes.specs.inner.Pairs.{AreDone, AreLeft, IsDone, IsDoneTo, StaysDone, is_wanted, pairs_from}
 use Rattle.driver_passes.specs.inner.Progress.{EnableTested}
 use Rattle.driver_passes.specs.inner.Shown.{drivers_at}
@@ -99,19 +99,19 @@ skipped_to board useful passes a b c least most done =
 
 -- the nets that are shown together with net a, or not paired with it
 pub unwanted : (board : RawBoard) (passes : List (List Ctl)) (left : List ℕ) (a n : ℕ) → PairsHaveDrivers → AreLeft board passes a left → a ≤ n → n < length board.nets → is_wanted board left a n ≡ false → IsDone board passes a n
-unwanted board passes left a n law are from within e = by_part (and_cases (has_net left n) (pairs_with board a n) e)
+unwanted board passes left a n law are from within e = by_part (and_cases (is_in left n) (pairs_with board a n) e)
   where
     by_found : (found : Option (Drive × Drive)) → is_some found ≡ false → found ≡ None
     by_found None h = refl
     by_found (Some pair) h = cc h
 
-    by_part : (has_net left n ≡ false) ⊎ (pairs_with board a n ≡ false) → IsDone board passes a n
+    by_part : (is_in left n ≡ false) ⊎ (pairs_with board a n ≡ false) → IsDone board passes a n
     by_part (inl shown) = inl (not-false (are_shown passes (drivers_at board a) (drivers_at board n)) (sym (are n from within) ∙ shown))
     by_part (inr apart) = inr (by_found (first_pair board (drivers_at board a) (drivers_at board n)) (sym (law board a n) ∙ apart))
 
 -- the nets that no pass shows together with net a
 pub unshown : (board : RawBoard) (passes : List (List Ctl)) (left : List ℕ) (a n : ℕ) → AreLeft board passes a left → a ≤ n → n < length board.nets → is_wanted board left a n ≡ true → are_shown passes (drivers_at board a) (drivers_at board n) ≡ false
-unshown board passes left a n are from within e = not-true (are_shown passes (drivers_at board a) (drivers_at board n)) (sym (are n from within) ∙ (and_parts (has_net left n) (pairs_with board a n) e).0)
+unshown board passes left a n are from within e = not-true (are_shown passes (drivers_at board a) (drivers_at board n)) (sym (are n from within) ∙ (and_parts (is_in left n) (pairs_with board a n) e).0)
 
 -- past the last net there is nothing to do
 pub none_left : (board : RawBoard) (useful : List Ctl) (passes : List (List Ctl)) (a b : ℕ) → length board.nets ≤ b → fold (add_for_nets board useful) passes (pairs_from board a b) ≡ passes

@@ -1,10 +1,9 @@
 -- A control fits a setting where none of the nets that it shares is taken.
-use Rattle.std.proofs.Common.{◌≡◌, ◌⊎◌, inl, inr, ℕ, zero, suc, ◌<◌, ◌==◌, Bool, true, false, not, ◌&&◌, ◌||◌, List, [], ◌∷◌, length, get_or, set, Some, refl, sym, ◌∙◌, ap, arith, cond}
+use Rattle.std.proofs.Common.{◌≡◌, ◌⊎◌, inl, inr, ℕ, zero, suc, ◌<◌, ◌==◌, Bool, true, false, not, ◌&&◌, ◌||◌, List, [], ◌∷◌, length, get_or, Some, refl, sym, ◌∙◌, ap, arith, cond}
 use Rattle.std.specs.Prelude.{slice_get, Contains}
 use Rattle.std.specs.List.{list_any}
 use Rattle.std.specs.Bool.{Decides, one_answer}
-use Rattle.std.proofs.lemmas.Bool.{both_ways, or_left, or_right, or_cases, eqb-true, eq-eqb}
-use Rattle.std.proofs.lemmas.List.{set-get_or}
+use Rattle.std.proofs.lemmas.Bool.{both_ways, cases_eq, or_left, or_right, or_cases, eqb-true, eq-eqb, ne_eqb}
 use Rattle.board_defs.specs.declared.board.Ctl.{Ctl}
 use Rattle.board_defs.specs.declared.board.RawBoard.{RawBoard}
 use Rattle.board_defs.specs.Settings.{same_ctl, holds, inserted}
@@ -15,7 +14,8 @@ use Rattle.board_defs.specs.Laws.{PassesAre, DecidesTerms}
 use Rattle.net_facts.specs.Kept.{shared_nets}
 use Rattle.net_classes.specs.Laws.{HaveCommon, NetsAreShared, SaysShared}
 use Rattle.driver_passes.specs.declared.draft.Draft.{Draft}
-use Rattle.driver_passes.specs.inner.Drafts.{chosen, has_number, is_taken, setting_of, IsDraft}
+use Rattle.driver_passes.specs.inner.Drafts.{has_number, is_taken, setting_of, IsDraft}
+use Rattle.driver_passes.specs.inner.NumberSets.{is_in}
 use Rattle.driver_passes.proofs.ControlLemmas.{same_equal, same_self}
 use Rattle.driver_passes.proofs.ChosenLemmas.{chosen_set, chosen_holds, chosen_among}
 
@@ -110,25 +110,30 @@ useful_safe : (board : RawBoard) (c : Ctl) → PassesAre board → DecidesTerms 
 useful_safe board c are decides h = let is : IsUseful board c = (are.said.useful c).0 h in (decides.safe c).1 is.0
 
 -- a control that a draft does not hold fits it where none of the nets that it shares is taken
-pub fits_is : (board : RawBoard) (draft : Draft) (place : ℕ) (c : Ctl) (nets : List ℕ) (taken : Bool) → PassesAre board → DecidesTerms board → NetsAreShared → IsDraft board draft → slice_get (useful_controls board) place ≡ Some c → get_or draft.held.items place false ≡ false →
+pub fits_is : (board : RawBoard) (draft : Draft) (place : ℕ) (c : Ctl) (nets : List ℕ) (taken : Bool) → PassesAre board → DecidesTerms board → NetsAreShared → IsDraft board draft → slice_get (useful_controls board) place ≡ Some c → is_in draft.held place ≡ false →
     nets ≡ shared_nets board c → taken ≡ list_any (λ n. get_or draft.taken.items n false) nets → fits board (setting_of board draft) c ≡ not taken
 fits_is board draft place c nets taken are decides shared is stands free e f =
     fits_where board c (setting_of board draft) shared (useful_safe board c are decides (holds_at (useful_controls board) place c stands)) others ∙
     ap not (sym (any_same (λ n. get_or draft.taken.items n false) (is_taken board (setting_of board draft)) is.taken_are (shared_nets board c)) ∙ ap (list_any (λ n. get_or draft.taken.items n false)) (sym e) ∙ sym f)
   where
     out : holds (setting_of board draft) c ≡ false
-    out = chosen_holds (useful_controls board) draft.held.items place c are.said.useful_in_order is.held_length stands ∙ free
+    out = chosen_holds (is_in draft.held) 0 place place (useful_controls board) c are.said.useful_in_order (omega arith) stands ∙ free
 
     others : AreOthers board c (setting_of board draft)
-    others d h = (useful_safe board d are decides (chosen_among (useful_controls board) draft.held.items d h), by_same (same_ctl c d) refl)
+    others d h = (useful_safe board d are decides (chosen_among (is_in draft.held) 0 (useful_controls board) d h), by_same (same_ctl c d) refl)
       where
         by_same : (t : Bool) → same_ctl c d ≡ t → same_ctl c d ≡ false
         by_same false k = k
         by_same true k = absurd (both_ways (holds (setting_of board draft) c) out (ap (holds (setting_of board draft)) (same_equal c d k) ∙ h))
 
 -- one that it holds changes nothing
-pub held_nothing : (board : RawBoard) (draft : Draft) (place : ℕ) (c : Ctl) (t : Bool) → PassesAre board → IsDraft board draft → slice_get (useful_controls board) place ≡ Some c → get_or draft.held.items place false ≡ true →
-    setting_of board draft ≡ cond t (inserted c (setting_of board draft)) (setting_of board draft)
-held_nothing board draft place c true are is stands h =
-    ap (chosen (useful_controls board)) (sym (set-get_or draft.held.items place false) ∙ ap (set draft.held.items place) h) ∙ chosen_set (useful_controls board) draft.held.items place c are.said.useful_in_order is.held_length stands
-held_nothing board draft place c false are is stands h = refl
+pub held_nothing : (board : RawBoard) (draft : Draft) (place : ℕ) (c : Ctl) (t : Bool) → PassesAre board → slice_get (useful_controls board) place ≡ Some c → is_in draft.held place ≡ true → setting_of board draft ≡ cond t (inserted c (setting_of board draft)) (setting_of board draft)
+held_nothing board draft place c true are stands h = chosen_set held held 0 place place (useful_controls board) c are.said.useful_in_order (omega arith) (λ n. same n (cases_eq n place)) stands
+  where
+    held : ℕ → Bool
+    held = is_in draft.held
+
+    same : (n : ℕ) → (n ≡ place) ⊎ (n ≡ place → ⊥) → held n ≡ (n == place || held n)
+    same n (inl one) = ap held one ∙ h ∙ sym (or_left (n == place) (held n) (eq-eqb n place one))
+    same n (inr differ) = sym (ap (λ t. t || held n) (ne_eqb n place differ))
+held_nothing board draft place c false are stands h = refl

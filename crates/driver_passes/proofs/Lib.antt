@@ -3,7 +3,7 @@ pub mod ChosenLemmas
 pub mod DraftLemmas
 pub mod FitLemmas
 pub mod ProgressLemmas
-pub mod NetSetLemmas
+pub mod NumberSetLemmas
 pub mod RowLemmas
 pub mod TestedLemmas
 pub mod AlikeLemmas

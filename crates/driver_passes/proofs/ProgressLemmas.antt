@@ -20,7 +20,9 @@ use Rattle.board_defs.specs.Passes.{drivers_by_net, tested_drivers, tested_drive
 use Rattle.board_defs.specs.Laws.{PassesAre, DecidesTerms, HasTestedDriver}
 use Rattle.driver_passes.specs.inner.Progress.{AreHeld, IsUsefulDriver, is_held}
 use Rattle.driver_passes.specs.inner.Shown.{drivers_at}
-use Rattle.driver_passes.specs.inner.Drafts.{chosen}
+use Rattle.driver_passes.specs.declared.draft.Draft.{Draft}
+use Rattle.driver_passes.specs.inner.Drafts.{setting_of}
+use Rattle.driver_passes.specs.inner.NumberSets.{is_in}
 use Rattle.driver_passes.proofs.ChosenLemmas.{chosen_holds}
 
 or_last : (a b : Bool) → (a || b) ≡ (b || (a || false))
@@ -30,13 +32,12 @@ or_last false true = refl
 or_last false false = refl
 
 -- one pass more
-pub held_more : (board : RawBoard) (passes after : List (List Ctl)) (flags joined held : List Bool) → PassesAre board → AreHeld board passes flags → length held ≡ length (useful_controls board) → length joined ≡ length flags →
-    ((i : ℕ) → get_or joined i false ≡ (get_or held i false || get_or flags i false)) → after ≡ passes ++ chosen (useful_controls board) held ∷ [] → AreHeld board after joined
-held_more board passes after flags joined held are is size len join e = record {
-  flags_length = len ∙ is.flags_length;
-  flags_are = λ i c h.
-      join i ∙ ap (λ v. v || get_or flags i false) (sym (chosen_holds (useful_controls board) held i c are.said.useful_in_order size h)) ∙ ap (λ v. holds (chosen (useful_controls board) held) c || v) (is.flags_are i c h) ∙
-      or_last (holds (chosen (useful_controls board) held) c) (is_held passes c) ∙ sym (ap (λ v. is_held v c) e ∙ list_any-append (λ pass. holds pass c) passes (chosen (useful_controls board) held ∷ []));
+pub held_more : (board : RawBoard) (passes after : List (List Ctl)) (draft : Draft) (held joined : List ℕ) → PassesAre board → AreHeld board passes held → length joined ≡ length held → ((n : ℕ) → is_in joined n ≡ (is_in draft.held n || is_in held n)) → after ≡ passes ++ setting_of board draft ∷ [] → AreHeld board after joined
+held_more board passes after draft held joined are is len join e = record {
+  held_length = len ∙ is.held_length;
+  held_are = λ i c h.
+      join i ∙ ap (λ v. v || is_in held i) (sym (chosen_holds (is_in draft.held) 0 i i (useful_controls board) c are.said.useful_in_order (omega arith) h)) ∙ ap (λ v. holds (setting_of board draft) c || v) (is.held_are i c h) ∙
+      or_last (holds (setting_of board draft) c) (is_held passes c) ∙ sym (ap (λ v. is_held v c) e ∙ list_any-append (λ pass. holds pass c) passes (setting_of board draft ∷ []));
 }
 
 -- a list with an item isn't empty

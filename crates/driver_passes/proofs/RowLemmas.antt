@@ -8,7 +8,7 @@ use Rattle.board_defs.specs.declared.board.RawBoard.{RawBoard}
 use Rattle.board_defs.specs.Passes.{are_shown, shows}
 use Rattle.driver_passes.specs.declared.draft.Draft.{Draft}
 use Rattle.driver_passes.specs.inner.Drafts.{setting_of}
-use Rattle.driver_passes.specs.inner.NetSets.{has_net}
+use Rattle.driver_passes.specs.inner.NumberSets.{is_in}
 use Rattle.driver_passes.specs.inner.Pairs.{AreLeft}
 use Rattle.driver_passes.specs.inner.Shown.{AreRows, AreShownBy, shows_both}
 use Rattle.driver_passes.specs.inner.Shown.{drivers_at}
@@ -69,18 +69,18 @@ all_same p q (x ∷ xs) [] d e size same = absurd (omega (arith, size))
 all_same p q (x ∷ xs) (y ∷ ys) d e size same = ap (λ t. t && list_all p xs) (same 0 (omega arith)) ∙ ap (λ t. q y && t) (all_same p q xs ys d e (omega (arith, size)) (λ i less. same (suc i) (omega (arith, less))))
 
 both_same : (board : RawBoard) (pass : List Ctl) (row : List ℕ) (a b : ℕ) → AreShownBy board pass row → a < length board.nets → b < length board.nets → shows_both a b row ≡ (shows (drivers_at board a) pass && shows (drivers_at board b) pass)
-both_same board pass row a b are first second = ap (λ t. t && has_net row b) (are.row_are a first) ∙ ap (λ t. shows (drivers_at board a) pass && t) (are.row_are b second)
+both_same board pass row a b are first second = ap (λ t. t && is_in row b) (are.row_are a first) ∙ ap (λ t. shows (drivers_at board a) pass && t) (are.row_are b second)
 
 pub any_rows : (board : RawBoard) (passes : List (List Ctl)) (rows : List (List ℕ)) (a b : ℕ) → AreRows board passes rows → a < length board.nets → b < length board.nets → list_any (shows_both a b) rows ≡ are_shown passes (drivers_at board a) (drivers_at board b)
 any_rows board passes rows a b are first second =
     any_same (shows_both a b) (λ pass. shows (drivers_at board a) pass && shows (drivers_at board b) pass) rows passes [] [] are.rows_length (λ x less. both_same board (get_or passes x []) (get_or rows x []) a b (are.rows_are x less) first second)
 
-pub all_rows : (board : RawBoard) (passes : List (List Ctl)) (rows : List (List ℕ)) (a : ℕ) → AreRows board passes rows → a < length board.nets → list_all (λ row. has_net row a) rows ≡ list_all (shows (drivers_at board a)) passes
-all_rows board passes rows a are first = all_same (λ (row : List ℕ). has_net row a) (shows (drivers_at board a)) rows passes [] [] are.rows_length (λ x less. (are.rows_are x less).row_are a first)
+pub all_rows : (board : RawBoard) (passes : List (List Ctl)) (rows : List (List ℕ)) (a : ℕ) → AreRows board passes rows → a < length board.nets → list_all (λ row. is_in row a) rows ≡ list_all (shows (drivers_at board a)) passes
+all_rows board passes rows a are first = all_same (λ (row : List ℕ). is_in row a) (shows (drivers_at board a)) rows passes [] [] are.rows_length (λ x less. (are.rows_are x less).row_are a first)
 
 -- one pass more
 pub left_more : (board : RawBoard) (passes after : List (List Ctl)) (pass : List Ctl) (row left left_after : List ℕ) (a : ℕ) → AreLeft board passes a left → AreShownBy board pass row → a < length board.nets → after ≡ passes ++ pass ∷ [] →
-    ((n : ℕ) → a / 64 ≤ n / 64 → has_net left_after n ≡ (has_net left n && not (shows_both a n row))) → AreLeft board after a left_after
+    ((n : ℕ) → a / 64 ≤ n / 64 → is_in left_after n ≡ (is_in left n && not (shows_both a n row))) → AreLeft board after a left_after
 left_more board passes after pass row left left_after a are shown first e less n from within =
     let p : List Ctl → Bool = λ pass. shows (drivers_at board a) pass && shows (drivers_at board n) pass in
     less n (omega (arith, from)) ∙ ap (λ t. t && not (shows_both a n row)) (are n from within) ∙ ap (λ t. not (list_any p passes) && not t) (both_same board pass row a n shown first within) ∙ not_or (list_any p passes) (p pass) ∙
@@ -96,5 +96,5 @@ left_more board passes after pass row left left_after a are shown first e less n
 
 -- of the nets from the word of net a on, those that no row has together with it
 pub left_whole : (board : RawBoard) (passes : List (List Ctl)) (rows : List (List ℕ)) (left : List ℕ) (a size : ℕ) → AreRows board passes rows → a < length board.nets → size ≡ length board.nets / 64 + 1 →
-    ((n : ℕ) → a / 64 ≤ n / 64 → n / 64 < size → has_net left n ≡ not (list_any (shows_both a n) rows)) → AreLeft board passes a left
+    ((n : ℕ) → a / 64 ≤ n / 64 → n / 64 < size → is_in left n ≡ not (list_any (shows_both a n) rows)) → AreLeft board passes a left
 left_whole board passes rows left a size are first room each n from within = each n (omega (arith, from)) (omega (arith, within, room)) ∙ ap not (any_rows board passes rows a n are first within)

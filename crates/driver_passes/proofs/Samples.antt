@@ -4,7 +4,7 @@ use Rattle.std.specs.Prelude.{slice_index_or}
 use Rattle.std.specs.List.{list_all, list_any, range_with_len}
 use Rattle.std.proofs.lemmas.Bool.{not-true}
 use Rattle.board_defs.proofs.Members.{all_has, has_range}
-use Rattle.driver_passes.specs.inner.NetSets.{has_bit, has_net, IsFirst}
+use Rattle.driver_passes.specs.inner.NumberSets.{has_bit, is_in, IsFirst}
 
 -- one flag is set, and past the last one none is
 abbrev one_flag : List Bool
@@ -25,30 +25,30 @@ one_set = refl
 
 -- the nets of a set of three words
 abbrev nets_of : List ℕ → List ℕ
-nets_of words = filter (has_net words) (range_with_len 0 192)
+nets_of words = filter (is_in words) (range_with_len 0 192)
 
 no_nets : nets_of (0 ∷ 0 ∷ 0 ∷ []) ≡ []
-unfolding has_net
+unfolding is_in
 no_nets = refl
 
 outer_nets : nets_of (1 ∷ 2 ^ 63 ∷ 0 ∷ []) ≡ 0 ∷ 127 ∷ []
-unfolding has_net
+unfolding is_in
 outer_nets = refl
 
 more_nets : nets_of (33 ∷ (2 ^ 63 + 1) ∷ 0 ∷ []) ≡ 0 ∷ 5 ∷ 64 ∷ 127 ∷ []
-unfolding has_net
+unfolding is_in
 more_nets = refl
 
-past_the_words : has_net (1 ∷ 2 ^ 63 ∷ 0 ∷ []) 1000 ≡ false
-unfolding has_net
+past_the_words : is_in (1 ∷ 2 ^ 63 ∷ 0 ∷ []) 1000 ≡ false
+unfolding is_in
 past_the_words = refl
 
 -- where nets 3 and 66 are taken out of all nets from word 1 on, net 66 alone is missing
 abbrev all : ℕ
 all = 2 ^ 64 - 1
 
-taken_out : filter (λ n. not (has_net (all ∷ (all - 4) ∷ all ∷ []) n)) (range_with_len 0 192) ≡ 66 ∷ []
-unfolding has_net
+taken_out : filter (λ n. not (is_in (all ∷ (all - 4) ∷ all ∷ []) n)) (range_with_len 0 192) ≡ 66 ∷ []
+unfolding is_in
 taken_out = refl
 
 -- none of the numbers from this one up to the end passes, by computing
@@ -72,14 +72,14 @@ none_from_4 = none_by (has_bit 9) 4 64 refl
 abbrev late : List ℕ
 late = 0 ∷ 0 ∷ (2 ^ 63 + 9) ∷ []
 
-first_from_129 : IsFirst (has_net late) 129 131
-unfolding has_net
-first_from_129 = first_by (has_net late) 129 131 (omega arith) refl refl
+first_from_129 : IsFirst (is_in late) 129 131
+unfolding is_in
+first_from_129 = first_by (is_in late) 129 131 (omega arith) refl refl
 
-first_from_132 : IsFirst (has_net late) 132 191
-unfolding has_net
-first_from_132 = first_by (has_net late) 132 191 (omega arith) refl refl
+first_from_132 : IsFirst (is_in late) 132 191
+unfolding is_in
+first_from_132 = first_by (is_in late) 132 191 (omega arith) refl refl
 
-none_from_64 : (n : ℕ) → 64 ≤ n → n < 128 → has_net late n ≡ false
-unfolding has_net
-none_from_64 = none_by (has_net late) 64 128 refl
+none_from_64 : (n : ℕ) → 64 ≤ n → n < 128 → is_in late n ≡ false
+unfolding is_in
+none_from_64 = none_by (is_in late) 64 128 refl

@@ -1,5 +1,5 @@
 -- Which nets each useful control tests, and so which nets a pass shows.
-use Rattle.std.proofs.Common.{◌≡◌, ◌≢◌, ◌⊎◌, inl, inr, ℕ, zero, suc, ◌+◌, ◌/◌, ◌<◌, Bool, true, false, ◌&&◌, ◌||◌, List, [], ◌∷◌, ◌++◌, length, get_or, set, take, drop, Some, refl, sym, ◌∙◌, ap, arith, cond, ltb}
+use Rattle.std.proofs.Common.{◌≡◌, ◌≢◌, ◌⊎◌, inl, inr, ℕ, zero, suc, ◌+◌, ◌/◌, ◌≤◌, ◌<◌, Bool, true, false, ◌&&◌, ◌||◌, List, [], ◌∷◌, ◌++◌, length, get_or, set, take, drop, Some, refl, sym, ◌∙◌, ap, arith, ltb}
 use Rattle.std.specs.Prelude.{◌==◌, slice_get, All}
 use Rattle.std.specs.List.{list_any}
 use Rattle.std.proofs.lemmas.Bool.{and_parts, cases_eq, cases_order, eq-eqb, lt-ltb, le-ltb, ltb-true, ne_eqb, or_left, or_parts}
@@ -16,8 +16,9 @@ use Rattle.board_defs.specs.Settings.{holds, precedes, same_ctl, IsInControlOrde
 use Rattle.board_defs.specs.Passes.{is_enabled, shows, useful_controls}
 use Rattle.driver_passes.specs.inner.Drafts.{chosen, has_number}
 use Rattle.driver_passes.specs.inner.Tested.{AreListed, AreNoted, drives}
-use Rattle.driver_passes.specs.inner.NetSets.{has_net}
+use Rattle.driver_passes.specs.inner.NumberSets.{is_in}
 use Rattle.driver_passes.specs.inner.Shown.{drivers_at}
+use Rattle.driver_passes.proofs.ChosenLemmas.{chosen_next, chosen_skip}
 use Rattle.driver_passes.proofs.ControlLemmas.{after_is, same_self}
 use Rattle.driver_passes.proofs.ProgressLemmas.{net_there}
 
@@ -54,30 +55,6 @@ shows_split drivers [] = by_test (shows drivers [])
     by_test true = refl
     by_test false = refl
 shows_split drivers (c ∷ setting) = shows_with c setting drivers ∙ ap (λ t. drives c drivers || t) (shows_split drivers setting) ∙ swap (drives c drivers) (shows drivers []) (list_any (λ e. drives e drivers) setting)
-
--- the controls that are left show what the one at this place shows, where it is held, and the later ones
-pub left_step : (drivers : List Drive) (controls : List Ctl) (flags : List Bool) (place : ℕ) (c : Ctl) (held : Bool) → length flags ≡ length controls → slice_get controls place ≡ Some c → slice_get flags place ≡ Some held →
-    list_any (λ e. drives e drivers) (chosen (drop place controls) (drop place flags)) ≡ ((held && drives c drivers) || list_any (λ e. drives e drivers) (chosen (drop (place + 1) controls) (drop (place + 1) flags)))
-left_step drivers [] flags place c held size at flag = cc at
-left_step drivers (d ∷ controls) [] place c held size at flag = cc flag
-left_step drivers (d ∷ controls) (f ∷ flags) zero c held size at flag =
-    ap (λ e. list_any p (cond f (e ∷ chosen controls flags) (chosen controls flags))) one ∙ ap (λ t. list_any p (cond t (c ∷ chosen controls flags) (chosen controls flags))) two ∙ by_flag held
-  where
-    p : Ctl → Bool
-    p e = drives e drivers
-
-    one : d ≡ c
-    one = cc at
-
-    two : f ≡ held
-    two = cc flag
-
-    by_flag : (t : Bool) → list_any p (cond t (c ∷ chosen controls flags) (chosen controls flags)) ≡ ((t && p c) || list_any p (chosen controls flags))
-    by_flag true = refl
-    by_flag false = refl
-left_step drivers (d ∷ controls) (f ∷ flags) (suc place) c held size at flag =
-    let next : suc place + 1 ≡ suc (place + 1) = omega arith in
-    left_step drivers controls flags place c held (omega (arith, size)) at flag ∙ ap (λ k. (held && drives c drivers) || list_any (λ e. drives e drivers) (chosen (drop k (d ∷ controls)) (drop k (f ∷ flags)))) (sym next)
 
 -- lists of numbers
 
@@ -204,8 +181,13 @@ noted_next board drivers i net start before after less one two place c at n =
 
 -- the nets of one control more in a row
 
-abbrev pub left_from : RawBoard → List Bool → ℕ → ℕ → Bool
-left_from board flags place n = list_any (λ c. drives c (drivers_at board n)) (chosen (drop place (useful_controls board)) (drop place flags))
+-- the held controls from this place on show the net
+abbrev pub left_from : RawBoard → List ℕ → ℕ → ℕ → Bool
+left_from board held place n = list_any (λ c. drives c (drivers_at board n)) (chosen (is_in held) place (drop place (useful_controls board)))
+
+-- places that are not held show nothing
+pub left_skip : (board : RawBoard) (held : List ℕ) (place next n : ℕ) → place ≤ next → ((m : ℕ) → place ≤ m → m < next → is_in held m ≡ false) → left_from board held place n ≡ left_from board held next n
+left_skip board held place next n least none = ap (list_any (λ c. drives c (drivers_at board n))) (chosen_skip (is_in held) (useful_controls board) place next least none)
 
 list_is : (board : RawBoard) (lists : List (List ℕ)) (place : ℕ) (list : List ℕ) → AreListed board (length board.nets) lists → place < length (useful_controls board) → list ≡ get_or lists place [] →
     (c : Ctl) × (slice_get (useful_controls board) place ≡ Some c) × ((n : ℕ) → has_number list n ≡ (ltb n (length board.nets) && drives c (drivers_at board n)))
@@ -220,27 +202,25 @@ list_within board lists place list row are less e room =
     let within : n < length board.nets = ltb-true n (length board.nets) (and_parts (ltb n (length board.nets)) (drives found.0 (drivers_at board n)) (sym (found.2 n) ∙ h)).0 in
     omega (arith, within, room))
 
-pub row_step : (board : RawBoard) (lists : List (List ℕ)) (flags : List Bool) (place : ℕ) (list row after : List ℕ) (whole : ℕ → Bool) → AreListed board (length board.nets) lists → length flags ≡ length (useful_controls board) → place < length flags → list ≡ get_or lists place [] →
-    ((n : ℕ) → has_net after n ≡ ((get_or flags place false && has_number list n) || has_net row n)) → ((n : ℕ) → n < length board.nets → (has_net row n || left_from board flags place n) ≡ whole n) →
-    (n : ℕ) → n < length board.nets → (has_net after n || left_from board flags (place + 1) n) ≡ whole n
-row_step board lists flags place list row after whole are size less e more rest n within =
-    ap (λ t. t || later) (more n ∙ ap (λ t. (held && t) || has_net row n) number) ∙ turn (held && drives found.0 (drivers_at board n)) (has_net row n) later ∙
-    ap (λ t. has_net row n || t) (sym (left_step (drivers_at board n) (useful_controls board) flags place found.0 held size found.1 (there.1 ∙ ap Some (sym (get_or_from_slice_get flags place there.0 false there.1))))) ∙ rest n within
+pub row_step : (board : RawBoard) (lists : List (List ℕ)) (held : List ℕ) (place next : ℕ) (list row after : List ℕ) (whole : ℕ → Bool) → AreListed board (length board.nets) lists → place < length (useful_controls board) → is_in held place ≡ true → place + 1 ≤ next → ((m : ℕ) → place + 1 ≤ m → m < next → is_in held m ≡ false) → list ≡ get_or lists place [] →
+    ((n : ℕ) → is_in after n ≡ (has_number list n || is_in row n)) → ((n : ℕ) → n < length board.nets → (is_in row n || left_from board held place n) ≡ whole n) →
+    (n : ℕ) → n < length board.nets → (is_in after n || left_from board held next n) ≡ whole n
+row_step board lists held place next list row after whole are less here least none e more rest n within =
+    ap (λ t. t || later) (more n ∙ ap (λ t. t || is_in row n) number) ∙ turn (drives found.0 (drivers_at board n)) (is_in row n) later ∙ ap (λ t. is_in row n || t) (sym split) ∙ rest n within
   where
-    held : Bool
-    held = get_or flags place false
-
     later : Bool
-    later = left_from board flags (place + 1) n
-
-    there : (t : Bool) × (slice_get flags place ≡ Some t)
-    there = net_there flags place less
+    later = left_from board held next n
 
     found : (c : Ctl) × (slice_get (useful_controls board) place ≡ Some c) × ((m : ℕ) → has_number list m ≡ (ltb m (length board.nets) && drives c (drivers_at board m)))
-    found = list_is board lists place list are (omega (arith, less, size)) e
+    found = list_is board lists place list are less e
 
     number : has_number list n ≡ drives found.0 (drivers_at board n)
     number = found.2 n ∙ ap (λ t. t && drives found.0 (drivers_at board n)) (lt-ltb n (length board.nets) within)
+
+    split : left_from board held place n ≡ (drives found.0 (drivers_at board n) || later)
+    split =
+        ap (list_any (λ c. drives c (drivers_at board n))) (chosen_next (is_in held) (useful_controls board) place next found.0 less here least none) ∙
+        ap (λ c. drives c (drivers_at board n) || later) (get_or_from_slice_get (useful_controls board) place found.0 found.0 found.1)
 
     turn : (a r x : Bool) → ((a || r) || x) ≡ (r || (a || x))
     turn true true x = refl

@@ -6,8 +6,10 @@ ghost use Rattle.board_defs.specs.Settings.{holds, inserted};
 ghost use Rattle.board_defs.specs.Passes.{useful_controls, with_driver};
 ghost use Rattle.net_classes.specs.Kept.{AreClasses};
 ghost use Rattle.driver_passes.specs.inner.Drafts.{IsDraft, chosen, has_number, setting_of};
+ghost use Rattle.driver_passes.specs.inner.NumberSets.{is_in};
 ghost use Rattle.driver_passes.specs.inner.Progress.{IsUsefulDriver};
 
+use crate::number_set::NumberSet;
 use crate::places::place_of;
 use board_defs::{Board, Ctl, Drive, Setting, law};
 use lists::is_set;
@@ -17,8 +19,8 @@ use std::alloc::{AllocError, Global};
 /// A pass as it is made: a set of useful controls.
 #[derive(Debug, Drop)]
 pub struct Draft {
-    /// For each useful control, whether the pass holds it.
-    pub held: Vec<bool>,
+    /// The places of the useful controls that the pass holds.
+    pub held: NumberSet,
     /// For each net, whether the pass holds a control that shares it with another one.
     pub taken: Vec<bool>,
 }
@@ -60,7 +62,7 @@ impl Draft {
         ensures draft { IfOk result (λ draft. IsDraft board.now draft) }
         ensures empty { IfOk result (λ draft. setting_of board.now draft ≡ []) }
     {
-        let held = blank(alloc, useful.len())?;
+        let held = NumberSet::new(alloc, useful.len())?;
         let taken = blank(alloc, board.raw().nets.as_slice().len())?;
         Ok(Draft { held, taken })
     }
@@ -76,7 +78,7 @@ impl Draft {
     {
         law::passes_kept();
         let _rules = board.raw();
-        self.held[place] = true;
+        self.held.insert_if(place, true);
         take(&mut self.taken, classes.shared_nets(board, c));
     }
 
@@ -122,28 +124,20 @@ impl Draft {
     {
         law::passes_kept();
         let _rules = board.raw();
-        let controls = controls_of(alloc, useful, &self.held)?;
+        let controls = controls_at(alloc, useful, &self.held)?;
         Ok(Setting::of(controls))
     }
 }
 
-fn push_if(controls: &mut Vec<Ctl>, c: Ctl, holds: bool) -> Result<(), AllocError>
-    ensures { OnOk result (controls.new.items ≡ controls.old.items ++ cond holds (c ∷ []) []) }
-{
-    if holds {
-        controls.push(c)?;
-    }
-    Ok(())
-}
-
-/// The controls whose flag is set.
-fn controls_of(alloc: Global, controls: &[Ctl], flags: &[bool]) -> Result<Vec<Ctl>, AllocError>
-    requires { length flags.now ≡ length controls.now }
-    ensures { IfOk result (λ found. found.items ≡ chosen controls.now flags.now) }
+/// The controls whose places are in the set.
+fn controls_at(alloc: Global, controls: &[Ctl], places: &NumberSet) -> Result<Vec<Ctl>, AllocError>
+    ensures { IfOk result (λ found. found.items ≡ chosen (is_in places.now) 0 controls.now) }
 {
     let mut found = Vec::new(alloc);
-    for (place, c) in controls.iter().enumerate() {
-        push_if(&mut found, *c, flags[place])?;
+    let mut place = places.first_from(0, controls.len());
+    while place < controls.len() {
+        found.push(controls[place])?;
+        place = places.first_from(place + 1, controls.len());
     }
     Ok(found)
 }

@@ -10,13 +10,12 @@ ghost use Rattle.driver_passes.specs.inner.Drafts.{IsDraft, setting_of};
 ghost use Rattle.driver_passes.specs.inner.Progress.{EnableTested, IsProgress, IsUsefulDriver, is_held};
 ghost use Rattle.driver_passes.specs.inner.Shown.{drivers_at};
 
-use crate::draft::{Draft, blank};
-use crate::net_set::NetSet;
+use crate::draft::Draft;
+use crate::number_set::NumberSet;
 use crate::places::place_of;
 use crate::tested::TestedNets;
 use crate::walk::{first_walk, second_walk};
 use board_defs::{Board, Ctl, Drive, Setting, law};
-use lists::is_set;
 use net_classes::Classes;
 use std::alloc::{AllocError, Global};
 
@@ -25,22 +24,10 @@ use std::alloc::{AllocError, Global};
 pub struct Progress {
     pub passes: Vec<Setting>,
     /// For each pass, the nets that it shows.
-    pub rows: Vec<NetSet>,
-    /// For each useful control, whether some pass holds it.
-    pub held: Vec<bool>,
+    pub rows: Vec<NumberSet>,
+    /// The places of the useful controls that some pass holds.
+    pub held: NumberSet,
     pub tested_nets: TestedNets,
-}
-
-/// Sets each flag that is set in the other list.
-fn join(flags: &mut [bool], others: &[bool])
-    requires { length others.now ≡ length flags.old }
-    ensures { (i : ℕ) → slice_index_or flags.new i false ≡ (slice_index_or others.now i false || slice_index_or flags.old i false) }
-{
-    for (i, other) in others.iter().enumerate() {
-        if *other {
-            flags[i] = true;
-        }
-    }
 }
 
 /// The pass for a tested driver that no pass so far enables.
@@ -79,7 +66,7 @@ impl Progress {
         ensures progress { IfOk result (λ progress. IsProgress board.now progress) }
         ensures none { IfOk result (λ progress. progress.passes.items ≡ []) }
     {
-        let held = blank(alloc, useful.len())?;
+        let held = NumberSet::new(alloc, useful.len())?;
         let tested_nets = TestedNets::new(alloc, board, classes, useful)?;
         Ok(Progress {
             passes: Vec::new(alloc),
@@ -97,7 +84,7 @@ impl Progress {
         ensures { result ≡ is_held self.now.passes.items c }
     {
         match place_of(board, useful, c) {
-            Some(place) => is_set(&self.held, place),
+            Some(place) => self.held.has(place),
             None => false,
         }
     }
@@ -135,7 +122,7 @@ impl Progress {
         self.passes.push(draft.setting(alloc, board, useful)?)?;
         self.rows
             .push(self.tested_nets.shown_by(alloc, board, draft)?)?;
-        join(&mut self.held, &draft.held);
+        self.held.add_all(&draft.held);
         Ok(())
     }
 

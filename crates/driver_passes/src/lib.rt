@@ -6,7 +6,7 @@ mod alike;
 mod draft;
 mod drivers;
 mod making;
-mod net_set;
+mod number_set;
 mod pairs;
 mod places;
 mod shown;

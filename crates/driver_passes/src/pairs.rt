@@ -6,7 +6,7 @@ ghost use Rattle.net_classes.specs.Kept.{AreClasses};
 ghost use Rattle.net_classes.specs.Pairs.{AreBitsOf, fit};
 ghost use Rattle.net_classes.specs.inner.Pairs.{AreByCells, IsByCell};
 ghost use Rattle.driver_passes.specs.inner.Drafts.{IsDraft, setting_of};
-ghost use Rattle.driver_passes.specs.inner.NetSets.{IsFirst};
+ghost use Rattle.driver_passes.specs.inner.NumberSets.{IsFirst};
 ghost use Rattle.driver_passes.specs.inner.Pairs.{AreDone, AreLeft, ArePairing, IsDone, IsDoneTo, StaysDone, IsUsefulPair, is_wanted, pairs_from};
 ghost use Rattle.driver_passes.specs.inner.Progress.{EnableTested, IsProgress, IsUsefulDriver};
 ghost use Rattle.driver_passes.specs.inner.Shown.{drivers_at};
@@ -15,7 +15,7 @@ ghost use Rattle.driver_passes.specs.Useful.{HoldUseful};
 use crate::alike::likes_of;
 use crate::draft::Draft;
 use crate::drivers::{Progress, drivers_of};
-use crate::net_set::{NetSet, next_in};
+use crate::number_set::{NumberSet, next_in};
 use crate::shown::{all_show, leave_unshown, take_shown};
 use crate::tested::TestedNets;
 use crate::walk::second_walk;
@@ -29,11 +29,11 @@ use std::alloc::{AllocError, Global};
 #[derive(Debug, Drop)]
 pub struct Pairing {
     pub passes: Vec<Setting>,
-    pub rows: Vec<NetSet>,
+    pub rows: Vec<NumberSet>,
     pub tested_nets: TestedNets,
     pub likes: Vec<u32>,
     /// Of the net that is looked at, the later ones which no pass so far shows together with it.
-    pub left: NetSet,
+    pub left: NumberSet,
 }
 
 /// The first of the drivers that one safe setting enables together with `d`.
@@ -99,7 +99,7 @@ fn pair_pass(
 }
 
 /// Of the 64 nets with the word of this net, those of the set that are paired with net `a`.
-fn wanted_word(left: &NetSet, board: &Board, classes: &Classes, a: usize, net: usize) -> u64
+fn wanted_word(left: &NumberSet, board: &Board, classes: &Classes, a: usize, net: usize) -> u64
     requires classes { AreClasses board.now classes.now }
     requires first { a < length board.now.nets }
     requires second { net < length board.now.nets }
@@ -115,7 +115,7 @@ fn wanted_word(left: &NetSet, board: &Board, classes: &Classes, a: usize, net: u
 
 /// The first net of the set, from this net on, that is paired with net `a`.
 fn next_wanted(
-    left: &NetSet,
+    left: &NumberSet,
     board: &Board,
     classes: &Classes,
     a: usize,
@@ -155,7 +155,7 @@ impl Pairing {
         ensures passes { IfOk result (λ pairing. pairing.passes.items ≡ progress.passes.items) }
     {
         let likes = likes_of(alloc, board, classes, useful)?;
-        let left = NetSet::new(alloc, board.raw().nets.as_slice().len())?;
+        let left = NumberSet::new(alloc, board.raw().nets.as_slice().len())?;
         Ok(Pairing {
             passes: progress.passes,
             rows: progress.rows,

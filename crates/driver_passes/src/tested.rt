@@ -4,13 +4,13 @@ ghost use Rattle.board_defs.specs.Decided.{is_by};
 ghost use Rattle.board_defs.specs.Passes.{shows, useful_controls};
 ghost use Rattle.net_classes.specs.Kept.{AreClasses};
 ghost use Rattle.driver_passes.specs.inner.Drafts.{IsDraft, has_number, setting_of};
-ghost use Rattle.driver_passes.specs.inner.NetSets.{has_net};
+ghost use Rattle.driver_passes.specs.inner.NumberSets.{is_in};
 ghost use Rattle.driver_passes.specs.inner.Shown.{AreShownBy};
 ghost use Rattle.driver_passes.specs.inner.Tested.{AreListed, AreNoted, AreTestedNets, drives};
 
 use crate::draft::Draft;
 use crate::drivers::drivers_of;
-use crate::net_set::NetSet;
+use crate::number_set::NumberSet;
 use crate::places::place_of;
 use board_defs::{Board, Ctl, Drive, law};
 use lists::blank;
@@ -21,7 +21,7 @@ use std::alloc::{AllocError, Global};
 #[derive(Debug, Drop)]
 pub struct TestedNets {
     /// The nets with a tested driver that is always on, which each pass shows.
-    pub steady: NetSet,
+    pub steady: NumberSet,
     /// For each useful control, the nets of which it controls a tested driver.
     pub by_control: Vec<NetNumbers>,
 }
@@ -39,12 +39,12 @@ fn has_steady(drivers: &[Drive]) -> bool
 }
 
 /// The nets with a tested driver that is always on.
-fn steady_nets(alloc: Global, board: &Board, classes: &Classes) -> Result<NetSet, AllocError>
+fn steady_nets(alloc: Global, board: &Board, classes: &Classes) -> Result<NumberSet, AllocError>
     requires { AreClasses board.now classes.now }
     ensures { IfOk result (λ row. AreShownBy board.now [] row) }
 {
     let nets = board.raw().nets.as_slice().len();
-    let mut row = NetSet::new(alloc, nets)?;
+    let mut row = NumberSet::new(alloc, nets)?;
     for net in 0..nets {
         row.insert_if(net, has_steady(drivers_of(board, classes, net)));
     }
@@ -111,17 +111,6 @@ fn nets_by_control(
     Ok(lists)
 }
 
-/// Adds these nets, where they are to be in the set.
-fn add_where(row: &mut NetSet, nets: &[u32], holds: bool)
-    requires { All (λ n. n / 64 < length row.old) nets.now }
-    ensures room { length row.new ≡ length row.old }
-    ensures nets { (n : ℕ) → has_net row.new n ≡ ((holds && has_number nets.now n) || has_net row.old n) }
-{
-    if holds {
-        row.insert_all(nets);
-    }
-}
-
 impl TestedNets {
     /// Which nets the useful controls of the board test.
     pub fn new(
@@ -140,14 +129,22 @@ impl TestedNets {
     }
 
     /// The nets that the pass shows.
-    pub fn shown_by(&self, alloc: Global, board: &Board, pass: &Draft) -> Result<NetSet, AllocError>
+    pub fn shown_by(
+        &self,
+        alloc: Global,
+        board: &Board,
+        pass: &Draft,
+    ) -> Result<NumberSet, AllocError>
         requires nets { AreTestedNets board.now self.now }
         requires draft { IsDraft board.now pass.now }
         ensures { IfOk result (λ row. AreShownBy board.now (setting_of board.now pass.now) row) }
     {
         let mut row = self.steady.copy(alloc)?;
-        for (place, held) in pass.held.iter().enumerate() {
-            add_where(&mut row, self.by_control[place].as_slice(), *held);
+        let places = self.by_control.as_slice().len();
+        let mut place = pass.held.first_from(0, places);
+        while place < places {
+            row.insert_all(self.by_control[place].as_slice());
+            place = pass.held.first_from(place + 1, places);
         }
         Ok(row)
     }

@@ -10,7 +10,6 @@ ghost use Rattle.driver_passes.specs.inner.Progress.{IsProgress};
 use crate::draft::{Draft, some_taken};
 use crate::drivers::Progress;
 use board_defs::{Board, Ctl, law};
-use lists::is_set;
 use net_classes::Classes;
 use net_classes::law::nets_are_shared;
 
@@ -28,7 +27,7 @@ fn add_fitting(draft: &mut Draft, board: &Board, classes: &Classes, place: usize
     law::terms_decided();
     nets_are_shared();
     let _rules = board.raw();
-    if is_set(&draft.held, place) {
+    if draft.held.has(place) {
         return;
     }
     if some_taken(&draft.taken, classes.shared_nets(board, c)) {
@@ -54,7 +53,7 @@ fn add_new(
     ensures draft { IsDraft board.now draft.new }
     ensures step { let setting = setting_of board.now draft.old in setting_of board.now draft.new ≡ cond (is_new earlier.now.passes.items c && fits board.now setting c) (inserted c setting) setting }
 {
-    if !is_set(&earlier.held, place) {
+    if !earlier.held.has(place) {
         add_fitting(draft, board, classes, place, c);
     }
 }

@@ -6,7 +6,7 @@ use Rattle.board_defs.specs.declared.board.Drive.{Drive}
 use Rattle.board_defs.specs.Passes.{are_shown, drivers_by_net, first_pair}
 use Rattle.net_classes.specs.Pairs.{pairs_with}
 use Rattle.driver_passes.specs.declared.pairs.Pairing.{Pairing}
-use Rattle.driver_passes.specs.inner.NetSets.{has_net}
+use Rattle.driver_passes.specs.inner.NumberSets.{is_in}
 use Rattle.driver_passes.specs.inner.Progress.{EnableTested, IsUsefulDriver}
 use Rattle.driver_passes.specs.inner.Shown.{drivers_at}
 use Rattle.driver_passes.specs.Useful.{HoldUseful}
@@ -25,11 +25,11 @@ pub record ArePairing (board : RawBoard) (pairing : Pairing) : Type 0 where
 
 -- of the nets from net a on, the set has those that none of the passes shows together with net a
 abbrev pub AreLeft : RawBoard → List (List Ctl) → ℕ → List ℕ → Type 0
-AreLeft board passes a left = (n : ℕ) → a ≤ n → n < length board.nets → has_net left n ≡ not (are_shown passes (drivers_at board a) (drivers_at board n))
+AreLeft board passes a left = (n : ℕ) → a ≤ n → n < length board.nets → is_in left n ≡ not (are_shown passes (drivers_at board a) (drivers_at board n))
 
 -- the net is in the set and paired with net a
 abbrev pub is_wanted : RawBoard → List ℕ → ℕ → ℕ → Bool
-is_wanted board left a n = has_net left n && pairs_with board a n
+is_wanted board left a n = is_in left n && pairs_with board a n
 
 -- no pass is to be added for the two nets: one shows both, or no safe setting enables a driver of each
 abbrev pub IsDone : RawBoard → List (List Ctl) → ℕ → ℕ → Type 0

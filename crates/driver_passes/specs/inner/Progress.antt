@@ -1,5 +1,5 @@
 -- The passes so far.
-use Rattle.std.specs.Prelude.{◌≡◌, ◌<◌, ℕ, Bool, true, false, List, length, Some, slice_get, slice_index_or, Contains}
+use Rattle.std.specs.Prelude.{◌≡◌, ◌<◌, ◌+◌, ◌/◌, ℕ, Bool, true, List, length, Some, slice_get, Contains}
 use Rattle.std.specs.List.{list_any}
 use Rattle.board_defs.specs.declared.board.Ctl.{Ctl}
 use Rattle.board_defs.specs.declared.board.RawBoard.{RawBoard}
@@ -8,6 +8,7 @@ use Rattle.board_defs.specs.declared.board.Drive.TheVariants.{By}
 use Rattle.board_defs.specs.Settings.{holds}
 use Rattle.board_defs.specs.Passes.{is_enabled, useful_controls}
 use Rattle.driver_passes.specs.declared.drivers.Progress.{Progress}
+use Rattle.driver_passes.specs.inner.NumberSets.{is_in}
 use Rattle.driver_passes.specs.Useful.{HoldUseful}
 use Rattle.driver_passes.specs.inner.Shown.{AreRows, drivers_at}
 use Rattle.driver_passes.specs.inner.Tested.{AreTestedNets}
@@ -16,14 +17,14 @@ use Rattle.driver_passes.specs.inner.Tested.{AreTestedNets}
 abbrev pub is_held : List (List Ctl) → Ctl → Bool
 is_held passes c = list_any (λ pass. holds pass c) passes
 
--- the flags say which useful controls the passes hold
-pub record AreHeld (board : RawBoard) (passes : List (List Ctl)) (flags : List Bool) : Type 0 where
-  pub flags_length : length flags ≡ length (useful_controls board)
-  pub flags_are : (i : ℕ) (c : Ctl) → slice_get (useful_controls board) i ≡ Some c → slice_index_or flags i false ≡ is_held passes c
+-- the set has the places of the useful controls that the passes hold
+pub record AreHeld (board : RawBoard) (passes : List (List Ctl)) (held : List ℕ) : Type 0 where
+  pub held_length : length held ≡ length (useful_controls board) / 64 + 1
+  pub held_are : (i : ℕ) (c : Ctl) → slice_get (useful_controls board) i ≡ Some c → is_in held i ≡ is_held passes c
 
--- the flags and the rows are those of the passes so far, which hold useful controls only
+-- the set and the rows are those of the passes so far, which hold useful controls only
 pub record IsProgress (board : RawBoard) (progress : Progress) : Type 0 where
-  pub held : AreHeld board progress.passes.items progress.held.items
+  pub held : AreHeld board progress.passes.items progress.held
   pub useful : HoldUseful board progress.passes.items
   pub rows : AreRows board progress.passes.items progress.rows.items
   pub tested_nets : AreTestedNets board progress.tested_nets

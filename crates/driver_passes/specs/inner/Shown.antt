@@ -4,7 +4,7 @@ use Rattle.board_defs.specs.declared.board.Ctl.{Ctl}
 use Rattle.board_defs.specs.declared.board.RawBoard.{RawBoard}
 use Rattle.board_defs.specs.declared.board.Drive.{Drive}
 use Rattle.board_defs.specs.Passes.{drivers_by_net, shows}
-use Rattle.driver_passes.specs.inner.NetSets.{has_net}
+use Rattle.driver_passes.specs.inner.NumberSets.{is_in}
 
 -- the tested drivers of the net of this number
 abbrev pub drivers_at : RawBoard → ℕ → List Drive
@@ -13,7 +13,7 @@ drivers_at board n = slice_index_or (drivers_by_net board) n []
 -- the row is the set of the nets that the pass shows, with room for each net
 pub record AreShownBy (board : RawBoard) (pass : List Ctl) (row : List ℕ) : Type 0 where
   pub row_length : length row ≡ length board.nets / 64 + 1
-  pub row_are : (n : ℕ) → n < length board.nets → has_net row n ≡ shows (drivers_at board n) pass
+  pub row_are : (n : ℕ) → n < length board.nets → is_in row n ≡ shows (drivers_at board n) pass
 
 -- there is a row for each pass
 pub record AreRows (board : RawBoard) (passes : List (List Ctl)) (rows : List (List ℕ)) : Type 0 where
@@ -22,4 +22,4 @@ pub record AreRows (board : RawBoard) (passes : List (List Ctl)) (rows : List (L
 
 -- the row has both nets
 abbrev pub shows_both : ℕ → ℕ → List ℕ → Bool
-shows_both a b row = has_net row a && has_net row b
+shows_both a b row = is_in row a && is_in row b

@@ -1,6 +1,6 @@
 use Rattle.std.proofs.Common.{◌+◌, ◌*◌, ◌/◌, arith}
 use Rattle.driver_passes.specs.inner.Pairs.{is_wanted}
-use Rattle.driver_passes.proofs.NetSetLemmas.{passed_more}
+use Rattle.driver_passes.proofs.NumberSetLemmas.{passed_more}
 use Rattle.driver_passes.proofs.pairs.next_wanted.Goals as goal
 
 pub loop-net-preserved : goal.loop-net-preserved

@@ -16,7 +16,7 @@ returns-clause-pairing c =
       rows = rows_more board before.passes.items passes before.rows.items c.push-2.new.self.items pass c.in_ok-row.row c.requires.pairing.rows (shown_as board c.args.draft.now pass c.in_ok-row.row c.in_ok-pass.ensures c.in_ok-row.ensures) pushed c.in_ok-push-2.ensures.items;
       alike = c.requires.pairing.alike;
       tested = enabled_more board before.passes.items passes pass c.requires.pairing.tested pushed;
-      useful = useful_more board before.passes.items passes c.args.draft.now.held.items (c.passes_kept.ensures board c.raw-rules.ensures.rules) c.requires.pairing.useful (pushed ∙ ap (λ (v : List Ctl). before.passes.items ++ v ∷ []) c.in_ok-pass.ensures);
+      useful = useful_more board before.passes.items passes c.args.draft.now (c.passes_kept.ensures board c.raw-rules.ensures.rules) c.requires.pairing.useful (pushed ∙ ap (λ (v : List Ctl). before.passes.items ++ v ∷ []) c.in_ok-pass.ensures);
       tested_nets = c.requires.pairing.tested_nets;
       left_length = c.take_shown.ensures.room ∙ c.requires.pairing.left_length;
     }

@@ -1,8 +1,8 @@
-use Rattle.std.proofs.Common.{◌≡◌, ◌<◌, ◌+◌, ◌/◌, ◌||◌, ℕ, drop, length}
+use Rattle.std.proofs.Common.{◌≡◌, ◌<◌, ◌-◌, ◌+◌, ◌/◌, ◌||◌, ℕ, true, drop, length}
 use Rattle.std.specs.List.{list_any}
 use Rattle.board_defs.specs.Passes.{shows, useful_controls}
 use Rattle.driver_passes.specs.inner.Drafts.{chosen, setting_of}
-use Rattle.driver_passes.specs.inner.NetSets.{has_net}
+use Rattle.driver_passes.specs.inner.NumberSets.{is_in}
 use Rattle.driver_passes.specs.inner.Shown.{drivers_at}
 use Rattle.driver_passes.specs.inner.Tested.{drives}
 use Rattle.driver_passes.proofs.tested.TestedNets.shown_by.Given as goal
@@ -11,5 +11,9 @@ use Rattle.driver_passes.proofs.tested.TestedNets.shown_by.Given as goal
 abbrev pub invariant-loop-place : goal.invariant-loop-place
 invariant-loop-place l = record {
   room : length l.row ≡ length l.board.nets / 64 + 1;
-  rest : (n : ℕ) → n < length l.board.nets → (has_net l.row n || list_any (λ c. drives c (drivers_at l.board n)) (chosen (drop l.place (useful_controls l.board)) (drop l.place l.pass.held.items))) ≡ shows (drivers_at l.board n) (setting_of l.board l.pass);
+  held : l.place < l.places → is_in l.pass.held l.place ≡ true;
+  rest : (n : ℕ) → n < length l.board.nets → (is_in l.row n || list_any (λ c. drives c (drivers_at l.board n)) (chosen (is_in l.pass.held) l.place (drop l.place (useful_controls l.board)))) ≡ shows (drivers_at l.board n) (setting_of l.board l.pass);
 }
+
+abbrev pub decreases-loop-place : goal.decreases-loop-place
+decreases-loop-place l = l.places - l.place

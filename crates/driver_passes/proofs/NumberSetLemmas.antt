@@ -1,14 +1,14 @@
--- Sets of nets, bit by bit.
-use Rattle.std.proofs.Common.{◌≡◌, ◌⊎◌, inl, inr, ℕ, zero, suc, ◌+◌, ◌-◌, ◌*◌, ◌/◌, ◌%◌, ◌^◌, ◌<◌, ◌≤◌, Bool, true, false, not, ◌&&◌, ◌||◌, List, length, get_or, set, replicate, refl, sym, ◌∙◌, ap, arith, cond, min, w64}
+-- Sets of numbers, bit by bit.
+use Rattle.std.proofs.Common.{◌≡◌, ◌⊎◌, inl, inr, ℕ, zero, suc, ◌+◌, ◌-◌, ◌*◌, ◌/◌, ◌%◌, ◌^◌, ◌<◌, ◌≤◌, Bool, true, false, not, ◌&&◌, ◌||◌, List, length, get_or, set, replicate, refl, sym, ◌∙◌, ap, arith, cond, max, min, w64}
 use Rattle.std.specs.Prelude.{◌==◌}
 use Rattle.std.specs.Int.{bit_at, bit_not, trailing_zeros}
 use Rattle.std.specs.Int.Bits.{bit_and, bit_or}
 use Rattle.std.proofs.lemmas.Bool.{cases_eq, cases_lt, eq-eqb, ne_eqb, or_left}
 use Rattle.std.proofs.lemmas.Nat.{and_le_l}
-use Rattle.std.proofs.lemmas.Nat.Bits.{bit_at-lt, bit_at-trailing_zeros, bit_at-zero, bit_at_and, bit_at_mask_below, bit_at_mask_inside, bit_at_not, bit_at_ones, bit_at_set_other, bit_at_set_same, ones_shl}
+use Rattle.std.proofs.lemmas.Nat.Bits.{bit_at-lt, bit_at-trailing_zeros, bit_at-zero, bit_at_and, bit_at_or, bit_at_mask_below, bit_at_mask_inside, bit_at_not, bit_at_ones, bit_at_set_other, bit_at_set_same, ones_shl}
 use Rattle.std.proofs.lemmas.List.{get_or_past, get_or-set_same, get_or-set_other}
 use Rattle.net_classes.specs.Pairs.{AreBitsOf}
-use Rattle.driver_passes.specs.inner.NetSets.{IsFirst, has_bit, has_net}
+use Rattle.driver_passes.specs.inner.NumberSets.{IsFirst, has_bit, is_in}
 
 -- a bit is 1 or 0 as a test says
 pub bit_is : (word i : ℕ) (t : Bool) → bit_at word i ≡ cond t 1 0 → has_bit word i ≡ t
@@ -39,9 +39,9 @@ bit_less a b i fits below = ap (λ x. x == 1) (bit_at_and a (bit_not w64 b) i �
     by_bits (suc zero) (suc (suc y)) less few = absurd (omega arith)
     by_bits (suc (suc x)) y less few = absurd (omega arith)
 
--- a word past the end has no net
-pub none_past : (words : List ℕ) (n : ℕ) → length words ≤ n / 64 → has_net words n ≡ false
-unfolding has_net
+-- a word past the end has no number
+pub none_past : (words : List ℕ) (n : ℕ) → length words ≤ n / 64 → is_in words n ≡ false
+unfolding is_in
 none_past words n past = ap (λ w. has_bit w (n % 64)) (get_or_past words (n / 64) 0 past) ∙ no_bit (n % 64)
 
 -- no bit is set
@@ -50,18 +50,18 @@ zeros zero i = refl
 zeros (suc count) zero = refl
 zeros (suc count) (suc i) = zeros count i
 
-pub none_blank : (words : List ℕ) (count n : ℕ) → words ≡ replicate count 0 → has_net words n ≡ false
-unfolding has_net
+pub none_blank : (words : List ℕ) (count n : ℕ) → words ≡ replicate count 0 → is_in words n ≡ false
+unfolding is_in
 none_blank words count n e = ap (λ w. has_bit w (n % 64)) (ap (λ v. get_or v (n / 64) 0) e ∙ zeros count (n / 64)) ∙ no_bit (n % 64)
 
 -- each bit is set
-pub all_ones : (words : List ℕ) (n : ℕ) → get_or words (n / 64) 0 ≡ 2 ^ 64 - 1 → has_net words n ≡ true
-unfolding has_net
+pub all_ones : (words : List ℕ) (n : ℕ) → get_or words (n / 64) 0 ≡ 2 ^ 64 - 1 → is_in words n ≡ true
+unfolding is_in
 all_ones words n e = ap (λ w. has_bit w (n % 64)) e ∙ ap (λ b. b == 1) (bit_at_ones 64 (n % 64) (omega arith))
 
--- the bits of a word are its nets
-pub word_bits : (words : List ℕ) (number word : ℕ) → word ≡ get_or words number 0 → AreBitsOf (has_net words) number word
-unfolding has_net
+-- the bits of a word are its numbers
+pub word_bits : (words : List ℕ) (number word : ℕ) → word ≡ get_or words number 0 → AreBitsOf (is_in words) number word
+unfolding is_in
 word_bits words number word e i below =
     let here : (64 * number + i) / 64 ≡ number = omega (arith, below) in
     let place : (64 * number + i) % 64 ≡ i = omega (arith, below) in
@@ -70,32 +70,54 @@ word_bits words number word e i below =
 
 -- each word from a place on is that of the one list less that of the other
 pub words_less : (before after others : List ℕ) (first n : ℕ) → length others ≡ length before → length after ≡ length before → ((k : ℕ) → k < length others → get_or others k 0 < 2 ^ 64) →
-    ((k : ℕ) → first ≤ k → k < length before → get_or after k 0 ≡ bit_and (get_or before k 0) (bit_not w64 (get_or others k 0))) → first ≤ n / 64 → has_net after n ≡ (has_net before n && not (has_net others n))
-unfolding has_net
+    ((k : ℕ) → first ≤ k → k < length before → get_or after k 0 ≡ bit_and (get_or before k 0) (bit_not w64 (get_or others k 0))) → first ≤ n / 64 → is_in after n ≡ (is_in before n && not (is_in others n))
+unfolding is_in
 words_less before after others first n size same fit each from = by_place (cases_lt (n / 64) (length before))
   where
-    by_place : (n / 64 < length before) ⊎ (length before ≤ n / 64) → has_net after n ≡ (has_net before n && not (has_net others n))
+    by_place : (n / 64 < length before) ⊎ (length before ≤ n / 64) → is_in after n ≡ (is_in before n && not (is_in others n))
     by_place (inl within) = ap (λ w. has_bit w (n % 64)) (each (n / 64) from within) ∙ bit_less (get_or before (n / 64) 0) (get_or others (n / 64) 0) (n % 64) (fit (n / 64) (omega (arith, within, size))) (omega arith)
-    by_place (inr past) = none_past after n (omega (arith, past, same)) ∙ sym (ap (λ t. t && not (has_net others n)) (none_past before n past))
+    by_place (inr past) = none_past after n (omega (arith, past, same)) ∙ sym (ap (λ t. t && not (is_in others n)) (none_past before n past))
 
--- one net more
-pub net_set : (words : List ℕ) (net n : ℕ) (word : ℕ) → net / 64 < length words → word ≡ bit_or (get_or words (net / 64) 0) (1 * 2 ^ (net % 64) % 2 ^ 64) → has_net (set words (net / 64) word) n ≡ (n == net || has_net words n)
-unfolding has_net
-net_set words net n word within e = by_word (cases_eq (n / 64) (net / 64)) (cases_eq (n % 64) (net % 64))
+-- the bits of two words
+bit_more : (a b i : ℕ) → has_bit (bit_or a b) i ≡ (has_bit b i || has_bit a i)
+bit_more a b i = ap (λ x. x == 1) (bit_at_or a b i) ∙ by_bits (bit_at a i) (bit_at b i) (bit_at-lt a i) (bit_at-lt b i)
+  where
+    by_bits : (x y : ℕ) → x < 2 → y < 2 → (max x y == 1) ≡ ((y == 1) || (x == 1))
+    by_bits zero zero less few = refl
+    by_bits zero (suc zero) less few = refl
+    by_bits zero (suc (suc y)) less few = absurd (omega arith)
+    by_bits (suc zero) zero less few = refl
+    by_bits (suc zero) (suc zero) less few = refl
+    by_bits (suc zero) (suc (suc y)) less few = absurd (omega arith)
+    by_bits (suc (suc x)) y less few = absurd (omega arith)
+
+-- each word has the bits of both lists
+pub words_more : (before after others : List ℕ) (n : ℕ) → length others ≡ length before → length after ≡ length before → ((k : ℕ) → k < length before → get_or after k 0 ≡ bit_or (get_or before k 0) (get_or others k 0)) → is_in after n ≡ (is_in others n || is_in before n)
+unfolding is_in
+words_more before after others n size same each = by_place (cases_lt (n / 64) (length before))
+  where
+    by_place : (n / 64 < length before) ⊎ (length before ≤ n / 64) → is_in after n ≡ (is_in others n || is_in before n)
+    by_place (inl within) = ap (λ w. has_bit w (n % 64)) (each (n / 64) within) ∙ bit_more (get_or before (n / 64) 0) (get_or others (n / 64) 0) (n % 64)
+    by_place (inr past) = none_past after n (omega (arith, past, same)) ∙ sym (ap (λ t. t || is_in before n) (none_past others n (omega (arith, past, size))) ∙ none_past before n past)
+
+-- one number more
+pub number_set : (words : List ℕ) (net n : ℕ) (word : ℕ) → net / 64 < length words → word ≡ bit_or (get_or words (net / 64) 0) (1 * 2 ^ (net % 64) % 2 ^ 64) → is_in (set words (net / 64) word) n ≡ (n == net || is_in words n)
+unfolding is_in
+number_set words net n word within e = by_word (cases_eq (n / 64) (net / 64)) (cases_eq (n % 64) (net % 64))
   where
     place : net % 64 < 64
     place = omega arith
 
-    other_net : (n ≡ net → ⊥) → (n == net || has_net words n) ≡ has_net words n
-    other_net differ = ap (λ t. t || has_net words n) (ne_eqb n net differ)
+    other_net : (n ≡ net → ⊥) → (n == net || is_in words n) ≡ is_in words n
+    other_net differ = ap (λ t. t || is_in words n) (ne_eqb n net differ)
 
     here : n / 64 ≡ net / 64 → get_or (set words (net / 64) word) (n / 64) 0 ≡ word
     here same = ap (λ k. get_or (set words (net / 64) word) k 0) same ∙ get_or-set_same words (net / 64) word 0 within
 
-    by_word : (n / 64 ≡ net / 64) ⊎ (n / 64 ≡ net / 64 → ⊥) → (n % 64 ≡ net % 64) ⊎ (n % 64 ≡ net % 64 → ⊥) → has_net (set words (net / 64) word) n ≡ (n == net || has_net words n)
+    by_word : (n / 64 ≡ net / 64) ⊎ (n / 64 ≡ net / 64 → ⊥) → (n % 64 ≡ net % 64) ⊎ (n % 64 ≡ net % 64 → ⊥) → is_in (set words (net / 64) word) n ≡ (n == net || is_in words n)
     by_word (inl same) (inl bit) =
         let one : n ≡ net = omega (arith, same, bit) in
-        ap (λ w. has_bit w (n % 64)) (here same ∙ e) ∙ ap (has_bit (bit_or (get_or words (net / 64) 0) (1 * 2 ^ (net % 64) % 2 ^ 64))) bit ∙ ap (λ b. b == 1) (bit_at_set_same w64 (get_or words (net / 64) 0) (net % 64) place) ∙ sym (or_left (n == net) (has_net words n) (eq-eqb n net one))
+        ap (λ w. has_bit w (n % 64)) (here same ∙ e) ∙ ap (has_bit (bit_or (get_or words (net / 64) 0) (1 * 2 ^ (net % 64) % 2 ^ 64))) bit ∙ ap (λ b. b == 1) (bit_at_set_same w64 (get_or words (net / 64) 0) (net % 64) place) ∙ sym (or_left (n == net) (is_in words n) (eq-eqb n net one))
     by_word (inl same) (inr bit) =
         ap (λ w. has_bit w (n % 64)) (here same ∙ e) ∙ ap (λ b. b == 1) (bit_at_set_other w64 (get_or words (net / 64) 0) (net % 64) place (n % 64) bit) ∙ sym (ap (λ k. has_bit (get_or words k 0) (n % 64)) same) ∙ sym (other_net (λ one. bit (ap (λ k. k % 64) one)))
     by_word (inr word_differs) bit =

@@ -1,7 +1,7 @@
 use Rattle.std.proofs.Common.{◌≡◌, ◌<◌, ◌≤◌, ℕ, get_or, w64}
 use Rattle.std.specs.Int.{bit_not}
 use Rattle.std.specs.Int.Bits.{bit_and}
-use Rattle.driver_passes.proofs.net_set.clear_from.Given as goal
+use Rattle.driver_passes.proofs.number_set.clear_from.Given as goal
 
 abbrev pub invariant-loop-i : goal.invariant-loop-i
 invariant-loop-i l = record {

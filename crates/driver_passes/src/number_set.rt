@@ -1,19 +1,19 @@
-// Sets of nets, as a bit for each net.
+// Sets of numbers, of nets or of places, as a bit for each number.
 ghost use Rattle.std.specs.Prelude.{◌≡◌, ◌≤◌, ◌<◌, ◌+◌, ◌*◌, ◌/◌, ◌==◌, ◌&&◌, ◌||◌, ℕ, Bool, not, false, true, length, replicate, slice_index_or, All, MatchOption, IfOk};
 ghost use Rattle.net_classes.specs.Pairs.{AreBitsOf};
 ghost use Rattle.driver_passes.specs.inner.Drafts.{has_number};
-ghost use Rattle.driver_passes.specs.inner.NetSets.{IsFirst, has_bit, has_net};
+ghost use Rattle.driver_passes.specs.inner.NumberSets.{IsFirst, has_bit, is_in};
 
 use std::alloc::{AllocError, Global};
 use std::marker::Model;
 
-/// A set of nets, seen as its words: net n has bit n % 64 of word n / 64.
+/// A set of numbers, seen as its words: number n has bit n % 64 of word n / 64.
 #[derive(Debug, Drop)]
-pub struct NetSet {
+pub struct NumberSet {
     words: Vec<u64>,
 }
 
-impl Model for NetSet {
+impl Model for NumberSet {
     ghost use Rattle.std.specs.Prelude.{List, ℕ};
 
     ghost Value = { List ℕ };
@@ -41,7 +41,7 @@ fn word_at(words: &[u64], number: usize) -> u64
 
 /// Sets each bit.
 fn set_all(words: &mut [u64])
-    ensures { (n : ℕ) → n / 64 < length words.old → has_net words.new n ≡ true }
+    ensures { (n : ℕ) → n / 64 < length words.old → is_in words.new n ≡ true }
 {
     for word in words.iter_mut() {
         *word = u64::MAX;
@@ -52,92 +52,138 @@ fn set_all(words: &mut [u64])
 fn clear_from(words: &mut [u64], others: &[u64], first: usize)
     requires size { length others.now ≡ length words.old }
     requires first { first ≤ length words.old }
-    ensures { (n : ℕ) → first ≤ n / 64 → has_net words.new n ≡ (has_net words.old n && not (has_net others.now n)) }
+    ensures { (n : ℕ) → first ≤ n / 64 → is_in words.new n ≡ (is_in words.old n && not (is_in others.now n)) }
 {
     for i in first..words.len() {
         words[i] &= !others[i];
     }
 }
 
-/// Sets the bit of the net, where it is to be in the set.
+/// Sets each bit that is set in the other words.
+fn set_from(words: &mut [u64], others: &[u64])
+    requires { length others.now ≡ length words.old }
+    ensures { (n : ℕ) → is_in words.new n ≡ (is_in others.now n || is_in words.old n) }
+{
+    for (i, other) in others.iter().enumerate() {
+        words[i] |= *other;
+    }
+}
+
+/// Sets the bit of the number, where it is to be in the set.
 fn set_if(words: &mut [u64], net: usize, holds: bool)
     requires { net / 64 < length words.old }
-    ensures { (n : ℕ) → has_net words.new n ≡ ((n == net && holds) || has_net words.old n) }
+    ensures { (n : ℕ) → is_in words.new n ≡ ((n == net && holds) || is_in words.old n) }
 {
     if holds {
         words[net / 64] |= 1 << (net % 64);
     }
 }
 
-impl NetSet {
-    /// The empty set, with room for so many nets.
-    pub fn new(alloc: Global, nets: usize) -> Result<NetSet, AllocError>
+impl NumberSet {
+    /// The empty set, with room for so many numbers.
+    pub fn new(alloc: Global, nets: usize) -> Result<NumberSet, AllocError>
         ensures room { IfOk result (λ set. length set ≡ nets / 64 + 1) }
-        ensures none { IfOk result (λ set. (n : ℕ) → has_net set n ≡ false) }
+        ensures none { IfOk result (λ set. (n : ℕ) → is_in set n ≡ false) }
     {
         let words = blank_words(alloc, nets / 64 + 1)?;
-        Ok(NetSet { words })
+        Ok(NumberSet { words })
     }
 
-    /// Whether the net is in the set.
+    /// Whether the number is in the set.
     pub fn has(&self, net: usize) -> bool
-        ensures { result ≡ has_net self.now net }
+        ensures { result ≡ is_in self.now net }
     {
         word_at(&self.words, net / 64) >> (net % 64) & 1 == 1
     }
 
-    /// The bits of the 64 nets from net 64 * number on.
+    /// The bits of the 64 numbers from 64 * number on.
     pub fn word(&self, number: usize) -> u64
-        ensures { AreBitsOf (has_net self.now) number result }
+        ensures { AreBitsOf (is_in self.now) number result }
     {
         word_at(&self.words, number)
     }
 
-    /// Adds the net, where it is to be in the set.
+    /// Adds the number, where it is to be in the set.
     pub fn insert_if(&mut self, net: usize, holds: bool)
         requires { net / 64 < length self.old }
         ensures room { length self.new ≡ length self.old }
-        ensures nets { (n : ℕ) → has_net self.new n ≡ ((n == net && holds) || has_net self.old n) }
+        ensures nets { (n : ℕ) → is_in self.new n ≡ ((n == net && holds) || is_in self.old n) }
     {
         set_if(&mut self.words, net, holds);
     }
 
     /// The same set once more.
-    pub fn copy(&self, alloc: Global) -> Result<NetSet, AllocError>
+    pub fn copy(&self, alloc: Global) -> Result<NumberSet, AllocError>
         ensures { IfOk result (λ set. set ≡ self.now) }
     {
         let words = Vec::from_slice(alloc, &self.words)?;
-        Ok(NetSet { words })
+        Ok(NumberSet { words })
     }
 
-    /// Adds these nets.
+    /// Adds these numbers.
     pub fn insert_all(&mut self, nets: &[u32])
         requires { All (λ n. n / 64 < length self.old) nets.now }
         ensures room { length self.new ≡ length self.old }
-        ensures nets { (n : ℕ) → has_net self.new n ≡ (has_number nets.now n || has_net self.old n) }
+        ensures nets { (n : ℕ) → is_in self.new n ≡ (has_number nets.now n || is_in self.old n) }
     {
         for net in nets {
             self.insert_if(*net as usize, true);
         }
     }
 
-    /// Adds each net that there is room for.
+    /// Adds each number that there is room for.
     pub fn fill(&mut self)
         ensures room { length self.new ≡ length self.old }
-        ensures nets { (n : ℕ) → n / 64 < length self.old → has_net self.new n ≡ true }
+        ensures nets { (n : ℕ) → n / 64 < length self.old → is_in self.new n ≡ true }
     {
         set_all(&mut self.words);
     }
 
-    /// Takes out, from net 64 * first on, the nets of the other set, which has the same room.
-    pub fn take_out(&mut self, others: &NetSet, first: usize)
+    /// Takes out, from 64 * first on, the numbers of the other set, which has the same room.
+    pub fn take_out(&mut self, others: &NumberSet, first: usize)
         requires size { length others.now ≡ length self.old }
         requires first { first ≤ length self.old }
         ensures room { length self.new ≡ length self.old }
-        ensures nets { (n : ℕ) → first ≤ n / 64 → has_net self.new n ≡ (has_net self.old n && not (has_net others.now n)) }
+        ensures nets { (n : ℕ) → first ≤ n / 64 → is_in self.new n ≡ (is_in self.old n && not (is_in others.now n)) }
     {
         clear_from(&mut self.words, &others.words, first);
     }
+
+    /// Adds the numbers of the other set, which has the same room.
+    pub fn add_all(&mut self, others: &NumberSet)
+        requires { length others.now ≡ length self.old }
+        ensures room { length self.new ≡ length self.old }
+        ensures numbers { (n : ℕ) → is_in self.new n ≡ (is_in others.now n || is_in self.old n) }
+    {
+        set_from(&mut self.words, &others.words);
+    }
+
+    /// The first number of the set from this one on, where it is below the end; else a number that
+    /// is not below the end.
+    pub fn first_from(&self, from: usize, end: usize) -> usize
+        ensures passed { (n : ℕ) → from ≤ n → n < result → is_in self.now n ≡ false }
+        ensures found { result < end → is_in self.now result ≡ true }
+        ensures further { from ≤ result }
+    {
+        let mut number = from;
+        while number < end {
+            if let Some(found) = next_in(self.word(number / 64), number) {
+                return found;
+            }
+            number = past_word(number, end);
+        }
+        number
+    }
+}
+
+/// The first number past the word of this one, where it is below the end; else the end.
+fn past_word(number: usize, end: usize) -> usize
+    requires { number < end }
+    ensures further { number < result }
+    ensures within { result ≤ 64 * (number / 64 + 1) }
+{
+    let last = 64 * (number / 64) + 63;
+    if last < end { last + 1 } else { end }
 }
 
 /// The place of the lowest bit of the word, from this place on.
@@ -153,7 +199,7 @@ fn lowest_from(word: u64, place: usize) -> Option<usize>
     }
 }
 
-/// Of the 64 nets whose bits are those of the word, the first from this one on whose bit is set.
+/// Of the 64 numbers whose bits are those of the word, the first from this one on whose bit is set.
 pub fn next_in(word: u64, from: usize) -> Option<usize>
     ensures { (passes : ℕ → Bool) → AreBitsOf passes (from / 64) word → MatchOption result ((n : ℕ) → from ≤ n → n < 64 * (from / 64 + 1) → passes n ≡ false) (λ n. IsFirst passes from n) }
 {

@@ -1,4 +1,4 @@
--- Sets of nets, by words that have a bit for each of 64 nets.
+-- Sets of numbers, by words that have a bit for each of 64 numbers.
 use Rattle.std.specs.Prelude.{◌≡◌, ◌≤◌, ◌<◌, ◌/◌, ◌%◌, ◌==◌, ℕ, Bool, true, false, List, slice_index_or}
 use Rattle.std.specs.Int.{bit_at}
 
@@ -6,9 +6,9 @@ use Rattle.std.specs.Int.{bit_at}
 abbrev pub has_bit : ℕ → ℕ → Bool
 has_bit word place = bit_at word place == 1
 
--- the net of this number is in the set
-unfoldable pub has_net : List ℕ → ℕ → Bool
-has_net words n = has_bit (slice_index_or words (n / 64) 0) (n % 64)
+-- the number is in the set
+unfoldable pub is_in : List ℕ → ℕ → Bool
+is_in words n = has_bit (slice_index_or words (n / 64) 0) (n % 64)
 
 -- of the numbers from this one on, the first that passes
 pub record IsFirst (passes : ℕ → Bool) (from first : ℕ) : Type 0 where

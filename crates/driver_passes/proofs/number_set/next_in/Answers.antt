@@ -1,5 +1,5 @@
-use Rattle.driver_passes.proofs.NetSetLemmas.{none_next, first_next}
-use Rattle.driver_passes.proofs.net_set.next_in.Goals as goal
+use Rattle.driver_passes.proofs.NumberSetLemmas.{none_next, first_next}
+use Rattle.driver_passes.proofs.number_set.next_in.Goals as goal
 
 pub returns-in-None : goal.returns-in-None
 returns-in-None c = λ passes are. none_next passes c.args.from c.args.word are c.in-None.ensures

@@ -1,6 +1,6 @@
 use Rattle.std.proofs.Common.{arith}
-use Rattle.driver_passes.proofs.NetSetLemmas.{words_less}
-use Rattle.driver_passes.proofs.net_set.clear_from.Goals as goal
+use Rattle.driver_passes.proofs.NumberSetLemmas.{words_less}
+use Rattle.driver_passes.proofs.number_set.clear_from.Goals as goal
 
 pub returns : goal.returns
 returns c = λ n from.
