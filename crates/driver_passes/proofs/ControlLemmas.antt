@@ -1,9 +1,10 @@
 -- Lists of controls in control order, and what a setting holds.
-use Rattle.std.proofs.Common.{◌≡◌, ℕ, zero, suc, ◌==◌, Bool, true, false, ◌||◌, List, [], ◌∷◌, refl, ◌∙◌, ap, subst, arith, cond}
-use Rattle.std.specs.Prelude.{All, IsTrue}
-use Rattle.std.specs.List.{list_any}
+use Rattle.std.proofs.Common.{◌≡◌, ◌≢◌, ◌⊎◌, inl, inr, ℕ, zero, suc, ◌<◌, ◌==◌, Bool, true, false, ◌&&◌, ◌||◌, List, [], ◌∷◌, get_or, Some, refl, sym, ◌∙◌, ap, subst, arith, cond}
+use Rattle.std.specs.Prelude.{slice_get, All, IsTrue}
+use Rattle.std.specs.List.{list_all}
 use Rattle.std.proofs.lemmas.Bool.Decides.{nat_tests}
-use Rattle.std.proofs.lemmas.Bool.{eqb-true, eq-eqb, and_parts, and_from}
+use Rattle.std.proofs.lemmas.Bool.{cases_order, eqb-true, eq-eqb, and_parts, and_from}
+use Rattle.std.proofs.lemmas.Option.{slice_get_within, get_or_from_slice_get}
 use Rattle.board_defs.specs.declared.board.Ctl.{Ctl}
 use Rattle.board_defs.specs.Settings.{same_ctl, precedes, holds, inserted, IsInControlOrder}
 
@@ -61,23 +62,39 @@ none_holds c (d ∷ setting) after =
     let r : (precedes d c ≡ false) × (same_ctl c d ≡ false) × (same_ctl d c ≡ false) = after_is c d (after 0 d (omega arith)) in
     ap (λ t. t || holds setting c) r.1 ∙ none_holds c setting (λ k e less. after (suc k) e (omega arith))
 
--- a test of some control of a setting with one more control
-pub any_inserted : (p : Ctl → Bool) (c : Ctl) (setting : List Ctl) → list_any p (inserted c setting) ≡ (p c || list_any p setting)
-any_inserted p c [] = refl
-any_inserted p c (d ∷ setting) = by_order (any_inserted p c setting) (precedes d c) (same_ctl c d) refl
+-- a test of each control of a setting with one more control
+pub all_inserted : (p : Ctl → Bool) (c : Ctl) (setting : List Ctl) → list_all p (inserted c setting) ≡ (p c && list_all p setting)
+all_inserted p c [] = refl
+all_inserted p c (d ∷ setting) = by_order (all_inserted p c setting) (precedes d c) (same_ctl c d) refl
   where
-    swap : (a b r : Bool) → (a || (b || r)) ≡ (b || (a || r))
-    swap true true r = refl
-    swap true false r = refl
-    swap false b r = refl
+    swap : (a b r : Bool) → (a && (b && r)) ≡ (b && (a && r))
+    swap true b r = refl
+    swap false true r = refl
+    swap false false r = refl
 
-    twice : (a b r : Bool) → a ≡ b → (b || r) ≡ (a || (b || r))
-    twice true true r e = refl
-    twice true false r e = cc e
-    twice false b r e = refl
+    twice : (a b r : Bool) → a ≡ b → (b && r) ≡ (a && (b && r))
+    twice true b r e = refl
+    twice false true r e = cc e
+    twice false false r e = refl
 
-    by_order : list_any p (inserted c setting) ≡ (p c || list_any p setting) → (t s : Bool) → same_ctl c d ≡ s →
-        list_any p (cond t (d ∷ inserted c setting) (cond s (d ∷ setting) (c ∷ d ∷ setting))) ≡ (p c || (p d || list_any p setting))
-    by_order rest true s e = ap (λ t. p d || t) rest ∙ swap (p d) (p c) (list_any p setting)
-    by_order rest false true e = twice (p c) (p d) (list_any p setting) (ap p (same_equal c d e))
+    by_order : list_all p (inserted c setting) ≡ (p c && list_all p setting) → (t s : Bool) → same_ctl c d ≡ s →
+        list_all p (cond t (d ∷ inserted c setting) (cond s (d ∷ setting) (c ∷ d ∷ setting))) ≡ (p c && (p d && list_all p setting))
+    by_order rest true s e = ap (λ t. p d && t) rest ∙ swap (p d) (p c) (list_all p setting)
+    by_order rest false true e = twice (p c) (p d) (list_all p setting) (ap p (same_equal c d e))
     by_order rest false false e = refl
+
+-- places of controls in control order
+
+pub other_place : (controls : List Ctl) (p q : ℕ) (c e : Ctl) → IsInControlOrder controls → slice_get controls p ≡ Some c → slice_get controls q ≡ Some e → p ≢ q → same_ctl e c ≡ false
+other_place controls p q c e order at at' differ = by_order (cases_order p q)
+  where
+    first : get_or controls p c ≡ c
+    first = get_or_from_slice_get controls p c c at
+
+    second : get_or controls q c ≡ e
+    second = get_or_from_slice_get controls q e c at'
+
+    by_order : (p ≡ q) ⊎ ((p < q) ⊎ (q < p)) → same_ctl e c ≡ false
+    by_order (inl same) = absurd (differ same)
+    by_order (inr (inl less)) = (after_is c e (sym (ap (λ d. precedes d e) first) ∙ sym (ap (precedes (get_or controls p c)) second) ∙ order p q c less (slice_get_within controls q e at'))).2
+    by_order (inr (inr less)) = (after_is e c (sym (ap (λ d. precedes d c) second) ∙ sym (ap (precedes (get_or controls q c)) first) ∙ order q p c less (slice_get_within controls p c at))).1

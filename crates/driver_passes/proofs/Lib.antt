@@ -6,6 +6,8 @@ pub mod ProgressLemmas
 pub mod NumberSetLemmas
 pub mod RowLemmas
 pub mod TestedLemmas
+pub mod SharerLemmas
+pub mod WalkLemmas
 pub mod AlikeLemmas
 pub mod PairLemmas
 pub mod EnabledLemmas

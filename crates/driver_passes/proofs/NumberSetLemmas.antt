@@ -5,7 +5,7 @@ use Rattle.std.specs.Int.{bit_at, bit_not, trailing_zeros}
 use Rattle.std.specs.Int.Bits.{bit_and, bit_or}
 use Rattle.std.proofs.lemmas.Bool.{cases_eq, cases_lt, eq-eqb, ne_eqb, or_left}
 use Rattle.std.proofs.lemmas.Nat.{and_le_l}
-use Rattle.std.proofs.lemmas.Nat.Bits.{bit_at-lt, bit_at-trailing_zeros, bit_at-zero, bit_at_and, bit_at_or, bit_at_mask_below, bit_at_mask_inside, bit_at_not, bit_at_ones, bit_at_set_other, bit_at_set_same, ones_shl}
+use Rattle.std.proofs.lemmas.Nat.Bits.{bit_at-lt, bit_at-trailing_zeros, bit_at-zero, bit_at_and, bit_at_or, bit_at_mask_below, bit_at_mask_inside, bit_at_not, bit_at_ones, bit_at_clear_other, bit_at_clear_same, bit_at_set_other, bit_at_set_same, ones_shl}
 use Rattle.std.proofs.lemmas.List.{get_or_past, get_or-set_same, get_or-set_other}
 use Rattle.net_classes.specs.Pairs.{AreBitsOf}
 use Rattle.driver_passes.specs.inner.NumberSets.{IsFirst, has_bit, is_in}
@@ -123,6 +123,50 @@ number_set words net n word within e = by_word (cases_eq (n / 64) (net / 64)) (c
     by_word (inr word_differs) bit =
         ap (λ w. has_bit w (n % 64)) (get_or-set_other words (net / 64) (n / 64) word 0 word_differs) ∙ sym (other_net (λ one. word_differs (ap (λ k. k / 64) one)))
 
+-- one number less
+pub number_cleared : (words : List ℕ) (number n : ℕ) (word : ℕ) → number / 64 < length words → word ≡ bit_and (get_or words (number / 64) 0) (bit_not w64 (1 * 2 ^ (number % 64) % 2 ^ 64)) → is_in (set words (number / 64) word) n ≡ (is_in words n && not (n == number))
+unfolding is_in
+number_cleared words number n word within e = by_word (cases_eq (n / 64) (number / 64)) (cases_eq (n % 64) (number % 64))
+  where
+    place : number % 64 < 64
+    place = omega arith
+
+    and_true : (t : Bool) → t ≡ (t && not false)
+    and_true true = refl
+    and_true false = refl
+
+    and_none : (t : Bool) → false ≡ (t && not true)
+    and_none true = refl
+    and_none false = refl
+
+    other : (n ≡ number → ⊥) → is_in words n ≡ (is_in words n && not (n == number))
+    other differ = and_true (is_in words n) ∙ ap (λ t. is_in words n && not t) (sym (ne_eqb n number differ))
+
+    here : n / 64 ≡ number / 64 → get_or (set words (number / 64) word) (n / 64) 0 ≡ word
+    here same = ap (λ k. get_or (set words (number / 64) word) k 0) same ∙ get_or-set_same words (number / 64) word 0 within
+
+    by_word : (n / 64 ≡ number / 64) ⊎ (n / 64 ≡ number / 64 → ⊥) → (n % 64 ≡ number % 64) ⊎ (n % 64 ≡ number % 64 → ⊥) → is_in (set words (number / 64) word) n ≡ (is_in words n && not (n == number))
+    by_word (inl same) (inl bit) =
+        let one : n ≡ number = omega (arith, same, bit) in
+        ap (λ w. has_bit w (n % 64)) (here same ∙ e) ∙ ap (has_bit (bit_and (get_or words (number / 64) 0) (bit_not w64 (1 * 2 ^ (number % 64) % 2 ^ 64)))) bit ∙ ap (λ b. b == 1) (bit_at_clear_same w64 (get_or words (number / 64) 0) (number % 64) place) ∙
+        and_none (is_in words n) ∙ ap (λ t. is_in words n && not t) (sym (eq-eqb n number one))
+    by_word (inl same) (inr bit) =
+        ap (λ w. has_bit w (n % 64)) (here same ∙ e) ∙ ap (λ b. b == 1) (bit_at_clear_other w64 (get_or words (number / 64) 0) (number % 64) place (n % 64) (omega arith) bit) ∙ sym (ap (λ k. has_bit (get_or words k 0) (n % 64)) same) ∙ other (λ one. bit (ap (λ k. k % 64) one))
+    by_word (inr word_differs) bit =
+        ap (λ w. has_bit w (n % 64)) (get_or-set_other words (number / 64) (n / 64) word 0 word_differs) ∙ other (λ one. word_differs (ap (λ k. k / 64) one))
+
+-- a number past the words is not in the set
+pub number_past : (words : List ℕ) (number n : ℕ) → length words ≤ number / 64 → is_in words n ≡ (is_in words n && not (n == number))
+number_past words number n past = by_number (cases_eq n number)
+  where
+    and_true : (t : Bool) → t ≡ (t && not false)
+    and_true true = refl
+    and_true false = refl
+
+    by_number : (n ≡ number) ⊎ (n ≡ number → ⊥) → is_in words n ≡ (is_in words n && not (n == number))
+    by_number (inl same) = let none : is_in words n ≡ false = none_past words n (omega (arith, past, ap (λ k. k / 64) same)) in none ∙ sym (ap (λ t. t && not (n == number)) none)
+    by_number (inr differ) = and_true (is_in words n) ∙ ap (λ t. is_in words n && not t) (sym (ne_eqb n number differ))
+
 -- the bits of a word from a place on
 high_bit : (word place i : ℕ) → place < 64 → place ≤ i → i < 64 → bit_at (bit_and word ((2 ^ 64 - 1) * 2 ^ place % 2 ^ 64)) i ≡ bit_at word i
 high_bit word place i below from within =
@@ -200,6 +244,10 @@ both_bits false false = refl
 pub and_bits : (p q : ℕ → Bool) (number word other : ℕ) → AreBitsOf p number word → AreBitsOf q number other → AreBitsOf (λ n. p n && q n) number (bit_and word other)
 and_bits p q number word other are have i below =
     bit_at_and word other i ∙ ap (λ b. min b (bit_at other i)) (are i below) ∙ ap (min (cond (p (64 * number + i)) 1 0)) (have i below) ∙ both_bits (p (64 * number + i)) (q (64 * number + i))
+
+pub less_bits : (p q : ℕ → Bool) (number word other : ℕ) → other < 2 ^ 64 → AreBitsOf p number word → AreBitsOf q number other → AreBitsOf (λ n. p n && not (q n)) number (bit_and word (bit_not w64 other))
+less_bits p q number word other fits are have i below =
+    is_bit (bit_and word (bit_not w64 other)) i ∙ ap (λ t. cond t 1 0) (bit_less word other i fits below ∙ ap (λ t. t && not (has_bit other i)) (sym (passes_bit p number word i are below)) ∙ ap (λ t. p (64 * number + i) && not t) (sym (passes_bit q number other i have below)))
 
 pub no_bits : (p q : ℕ → Bool) (number word : ℕ) → word ≡ 0 → AreBitsOf p number word → AreBitsOf (λ n. p n && q n) number 0
 no_bits p q number word none are i below =

@@ -1,5 +1,5 @@
 -- Which nets each useful control tests, and so which nets a pass shows.
-use Rattle.std.proofs.Common.{◌≡◌, ◌≢◌, ◌⊎◌, inl, inr, ℕ, zero, suc, ◌+◌, ◌/◌, ◌≤◌, ◌<◌, Bool, true, false, ◌&&◌, ◌||◌, List, [], ◌∷◌, ◌++◌, length, get_or, set, take, drop, Some, refl, sym, ◌∙◌, ap, arith, ltb}
+use Rattle.std.proofs.Common.{◌≡◌, ◌⊎◌, inl, inr, ℕ, zero, suc, ◌+◌, ◌/◌, ◌≤◌, ◌<◌, Bool, true, false, ◌&&◌, ◌||◌, List, [], ◌∷◌, ◌++◌, length, get_or, set, take, drop, Some, refl, sym, ◌∙◌, ap, arith, ltb}
 use Rattle.std.specs.Prelude.{◌==◌, slice_get, All}
 use Rattle.std.specs.List.{list_any}
 use Rattle.std.proofs.lemmas.Bool.{and_parts, cases_eq, cases_order, eq-eqb, lt-ltb, le-ltb, ltb-true, ne_eqb, or_left, or_parts}
@@ -12,14 +12,14 @@ use Rattle.board_defs.specs.declared.board.RawBoard.{RawBoard}
 use Rattle.board_defs.specs.declared.board.Drive.{Drive}
 use Rattle.board_defs.specs.declared.board.Drive.TheVariants.{AlwaysOn, OneSided, By}
 use Rattle.board_defs.specs.Decided.{is_by}
-use Rattle.board_defs.specs.Settings.{holds, precedes, same_ctl, IsInControlOrder}
+use Rattle.board_defs.specs.Settings.{holds, same_ctl, IsInControlOrder}
 use Rattle.board_defs.specs.Passes.{is_enabled, shows, useful_controls}
 use Rattle.driver_passes.specs.inner.Drafts.{chosen, has_number}
 use Rattle.driver_passes.specs.inner.Tested.{AreListed, AreNoted, drives}
 use Rattle.driver_passes.specs.inner.NumberSets.{is_in}
 use Rattle.driver_passes.specs.inner.Shown.{drivers_at}
 use Rattle.driver_passes.proofs.ChosenLemmas.{chosen_next, chosen_skip}
-use Rattle.driver_passes.proofs.ControlLemmas.{after_is, same_self}
+use Rattle.driver_passes.proofs.ControlLemmas.{other_place, same_self}
 use Rattle.driver_passes.proofs.ProgressLemmas.{net_there}
 
 -- what one control more shows
@@ -81,22 +81,6 @@ numbers_all (m ∷ numbers) P each = All-cons P m numbers (each m (or_left (m ==
     by_test : {x : Bool} (t : Bool) → x ≡ true → (t || x) ≡ true
     by_test true h = refl
     by_test false h = h
-
--- places of controls in control order
-
-other_place : (controls : List Ctl) (p q : ℕ) (c e : Ctl) → IsInControlOrder controls → slice_get controls p ≡ Some c → slice_get controls q ≡ Some e → p ≢ q → same_ctl e c ≡ false
-other_place controls p q c e order at at' differ = by_order (cases_order p q)
-  where
-    first : get_or controls p c ≡ c
-    first = get_or_from_slice_get controls p c c at
-
-    second : get_or controls q c ≡ e
-    second = get_or_from_slice_get controls q e c at'
-
-    by_order : (p ≡ q) ⊎ ((p < q) ⊎ (q < p)) → same_ctl e c ≡ false
-    by_order (inl same) = absurd (differ same)
-    by_order (inr (inl less)) = (after_is c e (sym (ap (λ d. precedes d e) first) ∙ sym (ap (precedes (get_or controls p c)) second) ∙ order p q c less (slice_get_within controls q e at'))).2
-    by_order (inr (inr less)) = (after_is e c (sym (ap (λ d. precedes d c) second) ∙ sym (ap (precedes (get_or controls q c)) first) ∙ order q p c less (slice_get_within controls p c at))).1
 
 pub not_held : (controls : List Ctl) (p : ℕ) (c e : Ctl) → holds controls e ≡ false → slice_get controls p ≡ Some c → same_ctl e c ≡ false
 not_held [] p c e none at = cc at

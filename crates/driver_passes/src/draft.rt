@@ -1,6 +1,5 @@
 // A pass as it is made.
-ghost use Rattle.std.specs.Prelude.{◌≡◌, ◌<◌, ◌||◌, ◌++◌, ◌∷◌, ℕ, [], cond, false, true, length, replicate, slice_get, slice_index_or, All, IfOk, OnOk, Some};
-ghost use Rattle.std.specs.List.{list_any};
+ghost use Rattle.std.specs.Prelude.{◌≡◌, ◌<◌, ◌&&◌, ℕ, [], not, true, length, slice_get, All, IfOk, Some};
 ghost use Rattle.board_defs.specs.Pins.{IsCell};
 ghost use Rattle.board_defs.specs.Settings.{holds, inserted};
 ghost use Rattle.board_defs.specs.Passes.{useful_controls, with_driver};
@@ -8,12 +7,14 @@ ghost use Rattle.net_classes.specs.Kept.{AreClasses};
 ghost use Rattle.driver_passes.specs.inner.Drafts.{IsDraft, chosen, has_number, setting_of};
 ghost use Rattle.driver_passes.specs.inner.NumberSets.{is_in};
 ghost use Rattle.driver_passes.specs.inner.Progress.{IsUsefulDriver};
+ghost use Rattle.driver_passes.specs.inner.Sharers.{AreSharers, is_listed};
 
 use crate::number_set::NumberSet;
 use crate::places::place_of;
+use crate::sharers::{Places, places_at};
 use board_defs::{Board, Ctl, Drive, Setting, law};
-use lists::is_set;
 use net_classes::Classes;
+use net_classes::law::nets_are_shared;
 use std::alloc::{AllocError, Global};
 
 /// A pass as it is made: a set of useful controls.
@@ -21,38 +22,35 @@ use std::alloc::{AllocError, Global};
 pub struct Draft {
     /// The places of the useful controls that the pass holds.
     pub held: NumberSet,
-    /// For each net, whether the pass holds a control that shares it with another one.
-    pub taken: Vec<bool>,
+    /// The places of those that it can hold too: they are together with each control that it holds.
+    pub free: NumberSet,
 }
 
-/// That many flags, none of which is set.
-pub fn blank(alloc: Global, count: usize) -> Result<Vec<bool>, AllocError>
-    ensures { IfOk result (λ flags. flags.items ≡ replicate count false) }
+/// The set of all places of these controls.
+fn all_places(alloc: Global, controls: &[Ctl]) -> Result<NumberSet, AllocError>
+    ensures { IfOk result (λ places. (n : ℕ) → n < length controls.now → is_in places n ≡ true) }
 {
-    let flags = vec![in alloc; false; count]?;
-    Ok(flags)
+    let mut places = NumberSet::new(alloc, controls.len())?;
+    places.fill();
+    Ok(places)
 }
 
-/// Sets the flags of these nets.
-fn take(taken: &mut [bool], nets: &[u32])
-    requires { All (λ n. n < length taken.old) nets.now }
-    ensures { (m : ℕ) → slice_index_or taken.new m false ≡ (has_number nets.now m || slice_index_or taken.old m false) }
+/// Takes out these places.
+fn close(free: &mut NumberSet, places: &[usize])
+    ensures { (q : ℕ) → is_in free.new q ≡ (is_in free.old q && not (has_number places.now q)) }
 {
-    for net in nets {
-        taken[*net as usize] = true;
+    for place in places {
+        free.remove(*place);
     }
 }
 
-/// Whether the flag of some of these nets is set.
-pub fn some_taken(taken: &[bool], nets: &[u32]) -> bool
-    ensures { result ≡ list_any (λ n. slice_index_or taken.now n false) nets.now }
+/// Takes out the places that are listed for these nets.
+fn close_sharers(free: &mut NumberSet, sharers: &[Places], nets: &[u32])
+    ensures { (q : ℕ) → is_in free.new q ≡ (is_in free.old q && not (is_listed sharers.now nets.now q)) }
 {
     for net in nets {
-        if is_set(taken, *net as usize) {
-            return true;
-        }
+        close(free, places_at(sharers, *net as usize));
     }
-    false
 }
 
 impl Draft {
@@ -63,13 +61,21 @@ impl Draft {
         ensures empty { IfOk result (λ draft. setting_of board.now draft ≡ []) }
     {
         let held = NumberSet::new(alloc, useful.len())?;
-        let taken = blank(alloc, board.raw().nets.as_slice().len())?;
-        Ok(Draft { held, taken })
+        let free = all_places(alloc, useful)?;
+        Ok(Draft { held, free })
     }
 
     /// Adds the useful control that stands at this place among them.
-    pub fn add(&mut self, board: &Board, classes: &Classes, place: usize, c: Ctl)
+    pub fn add(
+        &mut self,
+        board: &Board,
+        classes: &Classes,
+        sharers: &[Places],
+        place: usize,
+        c: Ctl,
+    )
         requires classes { AreClasses board.now classes.now }
+        requires sharers { AreSharers board.now sharers.now }
         requires draft { IsDraft board.now self.old }
         requires stands { slice_get (useful_controls board.now) place ≡ Some c }
         requires cell { IsCell board.now c }
@@ -77,14 +83,25 @@ impl Draft {
         ensures added { setting_of board.now self.new ≡ inserted c (setting_of board.now self.old) }
     {
         law::passes_kept();
+        law::terms_decided();
+        nets_are_shared();
         let _rules = board.raw();
         self.held.insert_if(place, true);
-        take(&mut self.taken, classes.shared_nets(board, c));
+        self.free.remove(place);
+        close_sharers(&mut self.free, sharers, classes.shared_nets(board, c));
     }
 
     /// Adds the control of the driver, where it has one.
-    pub fn add_driver(&mut self, board: &Board, classes: &Classes, useful: &[Ctl], d: Drive)
+    pub fn add_driver(
+        &mut self,
+        board: &Board,
+        classes: &Classes,
+        sharers: &[Places],
+        useful: &[Ctl],
+        d: Drive,
+    )
         requires classes { AreClasses board.now classes.now }
+        requires sharers { AreSharers board.now sharers.now }
         requires useful { useful.now ≡ useful_controls board.now }
         requires cells { All (IsCell board.now) useful.now }
         requires driver { IsUsefulDriver board.now d }
@@ -93,12 +110,20 @@ impl Draft {
         ensures added { setting_of board.now self.new ≡ with_driver (setting_of board.now self.old) d }
     {
         if let Drive::By(c) = d {
-            self.add_control(board, classes, useful, c);
+            self.add_control(board, classes, sharers, useful, c);
         }
     }
 
-    fn add_control(&mut self, board: &Board, classes: &Classes, useful: &[Ctl], c: Ctl)
+    fn add_control(
+        &mut self,
+        board: &Board,
+        classes: &Classes,
+        sharers: &[Places],
+        useful: &[Ctl],
+        c: Ctl,
+    )
         requires classes { AreClasses board.now classes.now }
+        requires sharers { AreSharers board.now sharers.now }
         requires useful { useful.now ≡ useful_controls board.now }
         requires cells { All (IsCell board.now) useful.now }
         requires held { holds useful.now c ≡ true }
@@ -107,7 +132,7 @@ impl Draft {
         ensures added { setting_of board.now self.new ≡ inserted c (setting_of board.now self.old) }
     {
         if let Some(place) = place_of(board, useful, c) {
-            self.add(board, classes, place, c);
+            self.add(board, classes, sharers, place, c);
         }
     }
 

@@ -13,6 +13,7 @@ ghost use Rattle.driver_passes.specs.inner.Shown.{drivers_at};
 use crate::draft::Draft;
 use crate::number_set::NumberSet;
 use crate::places::place_of;
+use crate::sharers::{Places, sharers_of};
 use crate::tested::TestedNets;
 use crate::walk::{first_walk, second_walk};
 use board_defs::{Board, Ctl, Drive, Setting, law};
@@ -28,6 +29,8 @@ pub struct Progress {
     /// The places of the useful controls that some pass holds.
     pub held: NumberSet,
     pub tested_nets: TestedNets,
+    /// For each net, the places of the useful controls that share it with another control.
+    pub sharers: Vec<Places>,
 }
 
 /// The pass for a tested driver that no pass so far enables.
@@ -48,9 +51,9 @@ fn driver_pass(
     ensures pass { IfOk result (λ draft. setting_of board.now draft ≡ driver_pass board.now useful.now earlier.now.passes.items d) }
 {
     let mut draft = Draft::new(alloc, board, useful)?;
-    draft.add_driver(board, classes, useful, d);
+    draft.add_driver(board, classes, &earlier.sharers, useful, d);
     first_walk(&mut draft, board, classes, useful, earlier);
-    second_walk(&mut draft, board, classes, useful);
+    second_walk(&mut draft, board, classes, &earlier.sharers, useful);
     Ok(draft)
 }
 
@@ -63,16 +66,19 @@ impl Progress {
     ) -> Result<Progress, AllocError>
         requires classes { AreClasses board.now classes.now }
         requires useful { useful.now ≡ useful_controls board.now }
+        requires cells { All (IsCell board.now) useful.now }
         ensures progress { IfOk result (λ progress. IsProgress board.now progress) }
         ensures none { IfOk result (λ progress. progress.passes.items ≡ []) }
     {
         let held = NumberSet::new(alloc, useful.len())?;
         let tested_nets = TestedNets::new(alloc, board, classes, useful)?;
+        let sharers = sharers_of(alloc, board, classes, useful)?;
         Ok(Progress {
             passes: Vec::new(alloc),
             rows: Vec::new(alloc),
             held,
             tested_nets,
+            sharers,
         })
     }
 

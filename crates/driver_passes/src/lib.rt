@@ -9,6 +9,7 @@ mod making;
 mod number_set;
 mod pairs;
 mod places;
+mod sharers;
 mod shown;
 mod tested;
 mod walk;

@@ -59,6 +59,15 @@ fn clear_from(words: &mut [u64], others: &[u64], first: usize)
     }
 }
 
+/// Clears the bit of the number.
+fn clear(words: &mut [u64], number: usize)
+    ensures { (n : ℕ) → is_in words.new n ≡ (is_in words.old n && not (n == number)) }
+{
+    if number / 64 < words.len() {
+        words[number / 64] &= !(1 << (number % 64));
+    }
+}
+
 /// Sets each bit that is set in the other words.
 fn set_from(words: &mut [u64], others: &[u64])
     requires { length others.now ≡ length words.old }
@@ -149,6 +158,13 @@ impl NumberSet {
         clear_from(&mut self.words, &others.words, first);
     }
 
+    /// Takes out the number.
+    pub fn remove(&mut self, number: usize)
+        ensures { (n : ℕ) → is_in self.new n ≡ (is_in self.old n && not (n == number)) }
+    {
+        clear(&mut self.words, number);
+    }
+
     /// Adds the numbers of the other set, which has the same room.
     pub fn add_all(&mut self, others: &NumberSet)
         requires { length others.now ≡ length self.old }
@@ -173,6 +189,29 @@ impl NumberSet {
             number = past_word(number, end);
         }
         number
+    }
+
+    /// The same for the numbers of the set that are not in the other one.
+    pub fn first_outside(&self, others: &NumberSet, from: usize, end: usize) -> usize
+        ensures passed { (n : ℕ) → from ≤ n → n < result → (is_in self.now n && not (is_in others.now n)) ≡ false }
+        ensures found { result < end → (is_in self.now result && not (is_in others.now result)) ≡ true }
+        ensures further { from ≤ result }
+    {
+        let mut number = from;
+        while number < end {
+            if let Some(found) = next_in(self.word_less(others, number / 64), number) {
+                return found;
+            }
+            number = past_word(number, end);
+        }
+        number
+    }
+
+    /// The bits of the 64 numbers from 64 * number on that the other set has not.
+    fn word_less(&self, others: &NumberSet, number: usize) -> u64
+        ensures { AreBitsOf (λ n. is_in self.now n && not (is_in others.now n)) number result }
+    {
+        self.word(number) & !others.word(number)
     }
 }
 

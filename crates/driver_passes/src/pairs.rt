@@ -9,6 +9,7 @@ ghost use Rattle.driver_passes.specs.inner.Drafts.{IsDraft, setting_of};
 ghost use Rattle.driver_passes.specs.inner.NumberSets.{IsFirst};
 ghost use Rattle.driver_passes.specs.inner.Pairs.{AreDone, AreLeft, ArePairing, IsDone, IsDoneTo, StaysDone, IsUsefulPair, is_wanted, pairs_from};
 ghost use Rattle.driver_passes.specs.inner.Progress.{EnableTested, IsProgress, IsUsefulDriver};
+ghost use Rattle.driver_passes.specs.inner.Sharers.{AreSharers};
 ghost use Rattle.driver_passes.specs.inner.Shown.{drivers_at};
 ghost use Rattle.driver_passes.specs.Useful.{HoldUseful};
 
@@ -16,6 +17,7 @@ use crate::alike::likes_of;
 use crate::draft::Draft;
 use crate::drivers::{Progress, drivers_of};
 use crate::number_set::{NumberSet, next_in};
+use crate::sharers::Places;
 use crate::shown::{all_show, leave_unshown, take_shown};
 use crate::tested::TestedNets;
 use crate::walk::second_walk;
@@ -31,6 +33,8 @@ pub struct Pairing {
     pub passes: Vec<Setting>,
     pub rows: Vec<NumberSet>,
     pub tested_nets: TestedNets,
+    /// For each net, the places of the useful controls that share it with another control.
+    pub sharers: Vec<Places>,
     pub likes: Vec<u32>,
     /// Of the net that is looked at, the later ones which no pass so far shows together with it.
     pub left: NumberSet,
@@ -81,10 +85,12 @@ fn pair_pass(
     alloc: Global,
     board: &Board,
     classes: &Classes,
+    sharers: &[Places],
     useful: &[Ctl],
     pair: (Drive, Drive),
 ) -> Result<Draft, AllocError>
     requires classes { AreClasses board.now classes.now }
+    requires sharers { AreSharers board.now sharers.now }
     requires useful { useful.now ≡ useful_controls board.now }
     requires cells { All (IsCell board.now) useful.now }
     requires drivers { IsUsefulPair board.now pair }
@@ -92,9 +98,9 @@ fn pair_pass(
     ensures pass { IfOk result (λ draft. setting_of board.now draft ≡ pair_pass board.now useful.now pair) }
 {
     let mut draft = Draft::new(alloc, board, useful)?;
-    draft.add_driver(board, classes, useful, pair.0);
-    draft.add_driver(board, classes, useful, pair.1);
-    second_walk(&mut draft, board, classes, useful);
+    draft.add_driver(board, classes, sharers, useful, pair.0);
+    draft.add_driver(board, classes, sharers, useful, pair.1);
+    second_walk(&mut draft, board, classes, sharers, useful);
     Ok(draft)
 }
 
@@ -160,6 +166,7 @@ impl Pairing {
             passes: progress.passes,
             rows: progress.rows,
             tested_nets: progress.tested_nets,
+            sharers: progress.sharers,
             likes,
             left,
         })
@@ -220,7 +227,7 @@ impl Pairing {
         let drivers = drivers_of(board, classes, a);
         let others = drivers_of(board, classes, b);
         if let Some(pair) = first_pair(board, classes, drivers, others) {
-            let draft = pair_pass(alloc, board, classes, useful, pair)?;
+            let draft = pair_pass(alloc, board, classes, &self.sharers, useful, pair)?;
             self.push(alloc, board, classes, useful, a, &draft)?;
         }
         Ok(())

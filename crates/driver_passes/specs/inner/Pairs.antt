@@ -12,6 +12,7 @@ use Rattle.driver_passes.specs.inner.Shown.{drivers_at}
 use Rattle.driver_passes.specs.Useful.{HoldUseful}
 use Rattle.driver_passes.specs.inner.Alike.{AreAlike}
 use Rattle.driver_passes.specs.inner.Shown.{AreRows, drivers_at}
+use Rattle.driver_passes.specs.inner.Sharers.{AreSharers}
 use Rattle.driver_passes.specs.inner.Tested.{AreTestedNets}
 
 -- the rows are those of the passes so far, which enable each tested driver and hold useful controls only; the set has room for each net
@@ -21,6 +22,7 @@ pub record ArePairing (board : RawBoard) (pairing : Pairing) : Type 0 where
   pub tested : EnableTested board pairing.passes.items
   pub useful : HoldUseful board pairing.passes.items
   pub tested_nets : AreTestedNets board pairing.tested_nets
+  pub sharers : AreSharers board pairing.sharers.items
   pub left_length : length pairing.left ≡ length board.nets / 64 + 1
 
 -- of the nets from net a on, the set has those that none of the passes shows together with net a

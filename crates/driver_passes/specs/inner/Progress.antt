@@ -11,6 +11,7 @@ use Rattle.driver_passes.specs.declared.drivers.Progress.{Progress}
 use Rattle.driver_passes.specs.inner.NumberSets.{is_in}
 use Rattle.driver_passes.specs.Useful.{HoldUseful}
 use Rattle.driver_passes.specs.inner.Shown.{AreRows, drivers_at}
+use Rattle.driver_passes.specs.inner.Sharers.{AreSharers}
 use Rattle.driver_passes.specs.inner.Tested.{AreTestedNets}
 
 -- some pass holds the control
@@ -28,6 +29,7 @@ pub record IsProgress (board : RawBoard) (progress : Progress) : Type 0 where
   pub useful : HoldUseful board progress.passes.items
   pub rows : AreRows board progress.passes.items progress.rows.items
   pub tested_nets : AreTestedNets board progress.tested_nets
+  pub sharers : AreSharers board progress.sharers.items
 
 -- the driver's control, where it has one, is useful
 abbrev pub IsUsefulDriver : RawBoard → Drive → Type 0

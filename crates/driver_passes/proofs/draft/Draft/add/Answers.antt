@@ -1,29 +1,25 @@
-use Rattle.std.proofs.Common.{◌≡◌, ◌∙◌, ◌||◌, ap, length, get_or, false}
-use Rattle.std.proofs.lemmas.List.{with_items_is}
-use Rattle.driver_passes.specs.inner.Drafts.{has_number}
-use Rattle.std.specs.Vec.{with_items}
+use Rattle.std.proofs.Common.{◌∙◌, ◌&&◌, not, ap, arith}
+use Rattle.std.proofs.lemmas.Option.{slice_get_within}
+use Rattle.board_defs.specs.Passes.{useful_controls}
 use Rattle.driver_passes.specs.declared.draft.Draft.{Draft}
-use Rattle.driver_passes.proofs.DraftLemmas.{shared_within, added_setting, added_draft}
+use Rattle.driver_passes.specs.inner.Sharers.{is_listed}
+use Rattle.driver_passes.proofs.DraftLemmas.{added_setting, added_draft}
 use Rattle.driver_passes.proofs.draft.Draft.add.Goals as goal
 
-pub take-requires : goal.take-requires
-take-requires c = shared_within c.args.board.now c.args.c _ _ c.shared_nets.ensures (ap length c.deref_mut.ensures.value ∙ c.requires.draft.taken_length)
+pub insert_if-requires : goal.insert_if-requires
+insert_if-requires c = omega (arith, slice_get_within (useful_controls c.args.board.now) c.args.place c.args.c c.requires.stands, c.requires.draft.held_length)
 
 pub returns-clause-draft : goal.returns-clause-draft
 returns-clause-draft c =
     let board = c.args.board.now in
-    let order = (c.passes_kept.ensures board c.raw-rules.ensures.rules).said.useful_in_order in
-    let before = c.args.self.now in
-    let after : Draft = record { held = c.insert_if.new.self; taken = with_items before.taken c.take.new.taken } in
-    let size : length c.take.new.taken ≡ before.taken.len = c.take.auto.taken ∙ c.deref_mut.ensures.len in
-    let kept = with_items_is before.taken c.take.new.taken size in
-    let same = c.deref_mut.ensures.value in
-    added_draft board before after c.args.place c.args.c c.shared_nets.result.now order c.requires.draft c.requires.stands c.insert_if.ensures.room c.insert_if.ensures.nets c.shared_nets.ensures (ap length kept ∙ c.take.auto.taken ∙ ap length same)
-    (λ m. ap (λ v. get_or v m false) kept ∙ c.take.ensures m ∙ ap (λ v. has_number c.shared_nets.result.now m || get_or v m false) same)
+    let rules = c.raw-rules.ensures.rules in
+    let after : Draft = record { held = c.insert_if.new.self; free = c.close_sharers.new.free } in
+    added_draft board c.args.self.now after c.args.place c.args.c c.args.sharers.now c.shared_nets.result.now (c.passes_kept.ensures board rules) (c.terms_decided.ensures board rules) c.nets_are_shared.ensures c.requires.sharers c.requires.draft c.requires.stands c.shared_nets.ensures
+    c.insert_if.ensures.room c.insert_if.ensures.nets (λ q. c.close_sharers.ensures q ∙ ap (λ t. t && not (is_listed c.args.sharers.now c.shared_nets.result.now q)) (c.remove.ensures q))
 
 pub returns-clause-added : goal.returns-clause-added
 returns-clause-added c =
     let board = c.args.board.now in
     let order = (c.passes_kept.ensures board c.raw-rules.ensures.rules).said.useful_in_order in
-    let after : Draft = record { held = c.insert_if.new.self; taken = with_items c.args.self.now.taken c.take.new.taken } in
+    let after : Draft = record { held = c.insert_if.new.self; free = c.close_sharers.new.free } in
     added_setting board c.args.self.now after c.args.place c.args.c order c.requires.stands c.insert_if.ensures.nets

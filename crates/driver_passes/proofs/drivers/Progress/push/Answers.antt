@@ -15,6 +15,7 @@ returns-clause-progress c =
     record {
       rows = rows_more board before.passes.items c.push.new.self.items before.rows.items c.push-2.new.self.items c.in_ok-setting.field-0 c.in_ok-shown_by.field-0 c.requires.progress.rows (shown_as board draft c.in_ok-setting.field-0 c.in_ok-shown_by.field-0 c.in_ok-setting.ensures c.in_ok-shown_by.ensures) c.in_ok-push.ensures.items c.in_ok-push-2.ensures.items;
       tested_nets = c.requires.progress.tested_nets;
+      sharers = c.requires.progress.sharers;
       useful = useful_more board before.passes.items c.push.new.self.items draft are c.requires.progress.useful pushed;
       held = held_more board before.passes.items c.push.new.self.items draft before.held c.add_all.new.self are c.requires.progress.held c.add_all.ensures.room c.add_all.ensures.numbers pushed;
     }

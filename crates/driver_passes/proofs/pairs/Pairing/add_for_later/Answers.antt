@@ -18,7 +18,15 @@ loop-b-init c =
     let before = c.args.self.now in
     let size = c.requires.pairing.left_length in
     record {
-      pairing = record { rows = c.requires.pairing.rows; alike = c.requires.pairing.alike; tested = c.requires.pairing.tested; useful = c.requires.pairing.useful; tested_nets = c.requires.pairing.tested_nets; left_length = c.leave_unshown.ensures.room ∙ size };
+      pairing = record {
+        rows = c.requires.pairing.rows;
+        alike = c.requires.pairing.alike;
+        tested = c.requires.pairing.tested;
+        useful = c.requires.pairing.useful;
+        tested_nets = c.requires.pairing.tested_nets;
+        sharers = c.requires.pairing.sharers;
+        left_length = c.leave_unshown.ensures.room ∙ size;
+      };
       left = left_whole board before.passes.items before.rows.items c.leave_unshown.new.left c.args.a (length before.left) c.requires.pairing.rows c.requires.first size (λ n from within.
           c.leave_unshown.ensures.nets n from within ∙ ap (λ v. not (list_any (shows_both c.args.a n) v)) c.deref.ensures.value);
       later = omega arith;

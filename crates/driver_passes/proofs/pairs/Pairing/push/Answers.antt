@@ -18,6 +18,7 @@ returns-clause-pairing c =
       tested = enabled_more board before.passes.items passes pass c.requires.pairing.tested pushed;
       useful = useful_more board before.passes.items passes c.args.draft.now (c.passes_kept.ensures board c.raw-rules.ensures.rules) c.requires.pairing.useful (pushed ∙ ap (λ (v : List Ctl). before.passes.items ++ v ∷ []) c.in_ok-pass.ensures);
       tested_nets = c.requires.pairing.tested_nets;
+      sharers = c.requires.pairing.sharers;
       left_length = c.take_shown.ensures.room ∙ c.requires.pairing.left_length;
     }
 

@@ -1,0 +1,87 @@
+-- Walks that pass over controls which they would not add.
+use Rattle.std.proofs.Common.{◌≡◌, ℕ, zero, suc, ◌+◌, ◌-◌, ◌≤◌, ◌<◌, Bool, true, false, not, ◌&&◌, List, [], ◌∷◌, length, get_or, drop, drop-cons, drop-drop, Some, refl, sym, ◌∙◌, ap, arith, cond}
+use Rattle.std.specs.Prelude.{slice_get}
+use Rattle.std.proofs.lemmas.Bool.{and_parts, and_from}
+use Rattle.std.proofs.lemmas.Option.{slice_get_within, get_or_from_slice_get}
+use Rattle.board_defs.specs.declared.board.Ctl.{Ctl}
+use Rattle.board_defs.specs.declared.board.RawBoard.{RawBoard}
+use Rattle.board_defs.specs.Settings.{inserted}
+use Rattle.board_defs.specs.Passes.{first_walk, fits, is_new, second_walk, useful_controls, walk}
+use Rattle.board_defs.specs.Laws.{PassesAre}
+use Rattle.driver_passes.specs.declared.draft.Draft.{Draft}
+use Rattle.driver_passes.specs.inner.Drafts.{setting_of, IsDraft}
+use Rattle.driver_passes.specs.inner.NumberSets.{is_in}
+use Rattle.driver_passes.specs.inner.Progress.{is_held, AreHeld}
+use Rattle.driver_passes.proofs.FitLemmas.{closed_nothing, free_fits}
+
+-- the setting after the step over one control
+abbrev pub stepped : (List Ctl → Ctl → Bool) → List Ctl → Ctl → List Ctl
+stepped accepts s c = cond (accepts s c) (inserted c s) s
+
+-- the steps over the controls at these places leave the setting as it is
+abbrev pub ArePassed : (List Ctl → Ctl → Bool) → List Ctl → List Ctl → ℕ → ℕ → Type 0
+ArePassed accepts controls s from next = (n : ℕ) (c : Ctl) → from ≤ n → n < next → slice_get controls n ≡ Some c → s ≡ stepped accepts s c
+
+pass_some : (accepts : List Ctl → Ctl → Bool) (controls s : List Ctl) (k : ℕ) → ((n : ℕ) (c : Ctl) → n < k → slice_get controls n ≡ Some c → s ≡ stepped accepts s c) → walk accepts controls s ≡ walk accepts (drop k controls) s
+pass_some accepts controls s zero passed = refl
+pass_some accepts [] s (suc k) passed = refl
+pass_some accepts (c ∷ controls) s (suc k) passed = ap (walk accepts controls) (sym (passed zero c (omega arith) refl)) ∙ pass_some accepts controls s k (λ n d less at. passed (suc n) d (omega (arith, less)) at)
+
+get_drop : (controls : List Ctl) (from n : ℕ) → slice_get (drop from controls) n ≡ slice_get controls (from + n)
+get_drop controls zero n = ap (slice_get controls) (omega arith)
+get_drop [] (suc from) n = let next : suc from + n ≡ suc (from + n) = omega arith in ap (λ k. slice_get [] k) (sym next)
+get_drop (c ∷ controls) (suc from) n = let next : suc from + n ≡ suc (from + n) = omega arith in get_drop controls from n ∙ ap (slice_get (c ∷ controls)) (sym next)
+
+pub walk_passes : (accepts : List Ctl → Ctl → Bool) (controls s : List Ctl) (from next : ℕ) → from ≤ next → ArePassed accepts controls s from next → walk accepts (drop from controls) s ≡ walk accepts (drop next controls) s
+walk_passes accepts controls s from next least passed =
+    let far : from + (next - from) ≡ next = omega (arith, least) in
+    pass_some accepts (drop from controls) s (next - from) (λ n c less at. passed (from + n) c (omega arith) (omega (arith, less)) (sym (get_drop controls from n) ∙ at)) ∙
+    ap (λ v. walk accepts v s) (drop-drop (next - from) from controls ∙ ap (λ m. drop m controls) far)
+
+pub walk_next : (accepts : List Ctl → Ctl → Bool) (controls s : List Ctl) (place : ℕ) (d : Ctl) → place < length controls → walk accepts (drop place controls) s ≡ walk accepts (drop (place + 1) controls) (stepped accepts s (get_or controls place d))
+walk_next accepts controls s place d within =
+    let next : place + 1 ≡ suc place = omega arith in
+    ap (λ v. walk accepts v s) (drop-cons controls place d within) ∙ ap (λ k. walk accepts (drop k controls) (stepped accepts s (get_or controls place d))) (sym next)
+
+-- a control that is accepted is added
+pub walk_adds : (accepts : List Ctl → Ctl → Bool) (controls before after : List Ctl) (place : ℕ) (c : Ctl) → slice_get controls place ≡ Some c → accepts before c ≡ true → after ≡ inserted c before → walk accepts (drop (place + 1) controls) after ≡ walk accepts (drop place controls) before
+walk_adds accepts controls before after place c at fit e =
+    sym (walk_next accepts controls before place c (slice_get_within controls place c at) ∙
+    ap (walk accepts (drop (place + 1) controls)) (ap (stepped accepts before) (get_or_from_slice_get controls place c c at) ∙ ap (λ t. cond t (inserted c before) before) fit ∙ sym e))
+
+-- the second walk passes over controls that are not free
+pub second_passes : (board : RawBoard) (draft : Draft) (useful : List Ctl) (from next : ℕ) → PassesAre board → IsDraft board draft → useful ≡ useful_controls board → from ≤ next → ((n : ℕ) → from ≤ n → n < next → is_in draft.free n ≡ false) →
+    second_walk board (drop from useful) (setting_of board draft) ≡ second_walk board (drop next useful) (setting_of board draft)
+second_passes board draft useful from next are is e least closed =
+    walk_passes (fits board) useful (setting_of board draft) from next least (λ n c low less at. closed_nothing board draft n c (fits board (setting_of board draft) c) are is (sym (ap (λ v. slice_get v n) e) ∙ at) (closed n low less) (λ f. f))
+
+-- and the first walk also over those that earlier passes hold
+pub first_passes : (board : RawBoard) (draft : Draft) (useful : List Ctl) (passes : List (List Ctl)) (held : List ℕ) (from next : ℕ) → PassesAre board → IsDraft board draft → AreHeld board passes held → useful ≡ useful_controls board → from ≤ next →
+    ((n : ℕ) → from ≤ n → n < next → (is_in draft.free n && not (is_in held n)) ≡ false) → first_walk board (drop from useful) passes (setting_of board draft) ≡ first_walk board (drop next useful) passes (setting_of board draft)
+first_passes board draft useful passes held from next are is known e least closed = walk_passes accepts useful s from next least (λ n c low less at. by_test n c (sym (ap (λ v. slice_get v n) e) ∙ at) (closed n low less) (is_in draft.free n) refl)
+  where
+    s : List Ctl
+    s = setting_of board draft
+
+    accepts : List Ctl → Ctl → Bool
+    accepts v c = is_new passes c && fits board v c
+
+    and_none : (t u : Bool) → u ≡ false → (t && u) ≡ false
+    and_none true u f = f
+    and_none false u f = refl
+
+    none_and : (t u : Bool) → not t ≡ false → (not t && u) ≡ false
+    none_and true u f = refl
+    none_and false u f = cc f
+
+    by_test : (n : ℕ) (c : Ctl) → slice_get (useful_controls board) n ≡ Some c → (is_in draft.free n && not (is_in held n)) ≡ false → (t : Bool) → is_in draft.free n ≡ t → s ≡ stepped accepts s c
+    by_test n c at shut false o = closed_nothing board draft n c (accepts s c) are is at o (and_none (is_new passes c) (fits board s c))
+    by_test n c at shut true o =
+        let old : not (is_held passes c) ≡ false = ap not (sym (known.held_are n c at)) ∙ sym (ap (λ t. t && not (is_in held n)) o) ∙ shut in
+        sym (ap (λ t. cond t (inserted c s) s) (none_and (is_held passes c) (fits board s c) old))
+
+-- a control that is free and that no earlier pass holds is accepted
+pub new_fits : (board : RawBoard) (draft : Draft) (passes : List (List Ctl)) (held : List ℕ) (place : ℕ) (c : Ctl) → IsDraft board draft → AreHeld board passes held → slice_get (useful_controls board) place ≡ Some c → (is_in draft.free place && not (is_in held place)) ≡ true → (is_new passes c && fits board (setting_of board draft) c) ≡ true
+new_fits board draft passes held place c is known at h =
+    let both : (is_in draft.free place ≡ true) × (not (is_in held place) ≡ true) = and_parts (is_in draft.free place) (not (is_in held place)) h in
+    and_from (is_new passes c) (fits board (setting_of board draft) c) (ap not (sym (known.held_are place c at)) ∙ both.1) (free_fits board draft place c is at both.0)
