@@ -6,7 +6,7 @@ ghost use Rattle.board_files.specs.Reading.{Reads};
 ghost use Rattle.board_files.specs.ChainLines.{package_of, decimal_from, length_of, is_bit, device_of, bypass_of, inert_of, supply_of, pull_of, link_of, statement_of, chain_line, chain_lines, HasLength};
 
 use crate::fault::LineFault;
-use crate::words::{is_part, is_symbol, one_of, three_of, two_of, upper};
+use crate::words::{is_part, is_symbol, one_of, three_of, two_of};
 use board_defs::Name;
 use std::alloc::{AllocError, Global};
 use std::marker::Model;
@@ -160,7 +160,7 @@ fn package_of(alloc: Global, word: &[u8]) -> Result<Option<Name>, AllocError>
     if word == b"-".as_slice() {
         Ok(None)
     } else {
-        Ok(Some(upper(alloc, word)?))
+        Ok(Some(Name::in_upper_case(alloc, word)?))
     }
 }
 
@@ -177,7 +177,7 @@ fn device(
             if is_part(part) && is_word(entity) && is_word(package) {
                 Ok(ChainStatement::Device {
                     part: Name::of(alloc, part)?,
-                    entity: upper(alloc, entity)?,
+                    entity: Name::in_upper_case(alloc, entity)?,
                     package: package_of(alloc, package)?,
                 })
             } else {
@@ -324,8 +324,8 @@ fn link(
             if is_part(part) && is_symbol(first) && is_symbol(second) {
                 Ok(ChainStatement::Link {
                     part: Name::of(alloc, part)?,
-                    first: upper(alloc, first)?,
-                    second: upper(alloc, second)?,
+                    first: Name::in_upper_case(alloc, first)?,
+                    second: Name::in_upper_case(alloc, second)?,
                 })
             } else {
                 Err(LineFault::Word(line))

@@ -7,7 +7,6 @@ ghost use Rattle.board_files.specs.Names.{line_names};
 ghost use Rattle.board_files.specs.NetLines.{pin_of, pins_of, net_of, net_line, net_lines};
 
 use crate::fault::LineFault;
-use crate::words::upper;
 use board_defs::{Items, Name};
 use std::alloc::{AllocError, Global};
 use std::marker::Model;
@@ -149,7 +148,7 @@ fn pin(alloc: Global, line: u32, word: &[u8]) -> Result<PinWord, LineFault>
     if is_filled(part) && is_filled(pin) {
         Ok(PinWord {
             part: Name::of(alloc, part)?,
-            pin: upper(alloc, pin)?,
+            pin: Name::in_upper_case(alloc, pin)?,
         })
     } else {
         Err(LineFault::Word(line))

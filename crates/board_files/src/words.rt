@@ -1,10 +1,8 @@
 // The rules of the words of these files.
-ghost use Rattle.std.specs.Prelude.{◌≡◌, map, IfOk, option_map, option_copied};
+ghost use Rattle.std.specs.Prelude.{◌≡◌, map, option_map, option_copied};
 ghost use Rattle.std.specs.List.{list_all, list_any};
-ghost use Rattle.board_files.specs.Words.{is_part, is_symbol, is_symbol_byte, is_dot, upper, one_of, two_of, three_of};
+ghost use Rattle.board_files.specs.Words.{is_part, is_symbol, is_symbol_byte, is_dot, one_of, two_of, three_of};
 
-use board_defs::Name;
-use std::alloc::{AllocError, Global};
 use text_lines::is_word;
 
 fn has_dot(word: &[u8]) -> bool
@@ -37,13 +35,6 @@ pub fn is_symbol(word: &[u8]) -> bool
     ensures { result ≡ is_symbol word.now }
 {
     is_word(word) && has_symbol_bytes(word)
-}
-
-pub fn upper(alloc: Global, word: &[u8]) -> Result<Name, AllocError>
-    ensures { IfOk result (λ name. name ≡ upper word.now) }
-{
-    let bytes = word.iter().map(|b| b.to_ascii_uppercase()).collect(alloc)?;
-    Ok(Name::from_vec(bytes))
 }
 
 pub fn one_of<'a>(words: &[&'a [u8]]) -> Option<&'a [u8]>

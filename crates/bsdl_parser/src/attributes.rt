@@ -6,10 +6,11 @@ ghost use Rattle.grammars.specs.Grammar.{turns, reader_of};
 ghost use Rattle.bsdl_parser.specs.inner.Reading.{ReadsTokens};
 ghost use Rattle.bsdl_parser.specs.Bsdl.{used, of_class, plain_value, port_value, clock_value, number_value, text_value, value_of, skipped_token, attribute_name, attribute};
 
-use crate::cursor::{Cursor, upper_name};
+use crate::cursor::Cursor;
 use crate::draft::AttrForm;
 use crate::entity::{Attr, AttrValue};
 use crate::stop::Stop;
+use board_defs::Name;
 use grammars::spells;
 
 /// The number and the form of an attribute that is used.
@@ -87,7 +88,7 @@ impl<'a> Cursor<'a> {
         let port = self.of_class(b"SIGNAL")?;
         self.keyword(b"TRUE")?;
         self.mark(b";")?;
-        Ok(AttrValue::Port(upper_name(self.allocator(), port)?))
+        Ok(AttrValue::Port(Name::in_upper_case(self.allocator(), port)?))
     }
 
     #[tactic(auto, unfolding(crate::specs::Bsdl::clock_value))]
@@ -101,7 +102,7 @@ impl<'a> Cursor<'a> {
         self.either_word(b"BOTH", b"LOW")?;
         self.mark(b")")?;
         self.mark(b";")?;
-        Ok(AttrValue::Port(upper_name(self.allocator(), port)?))
+        Ok(AttrValue::Port(Name::in_upper_case(self.allocator(), port)?))
     }
 
     #[tactic(auto, unfolding(crate::specs::Bsdl::number_value))]

@@ -1,5 +1,5 @@
 //! The tokens that are left, read from the front.
-ghost use Rattle.std.specs.Prelude.{◌≡◌, map, length, IfOk};
+ghost use Rattle.std.specs.Prelude.{◌≡◌, map, length};
 ghost use Rattle.std.specs.Char.{to_ascii_uppercase};
 ghost use Rattle.grammars.specs.Grammar.{reader_of};
 ghost use Rattle.bsdl_parser.specs.Lexeme.{bytes_of, lexeme_of, lexemes};
@@ -10,8 +10,8 @@ use crate::numbers::integer_in;
 use crate::stop::Stop;
 use board_defs::{Mode, Name};
 use bsdl_lexer::{Token, TokenKind};
-use grammars::{spells, upper_bytes};
-use std::alloc::{AllocError, Global};
+use grammars::spells;
+use std::alloc::Global;
 use std::marker::Model;
 
 /// Of the next token, whether it is the word `package`, and its line.
@@ -108,13 +108,6 @@ fn mode_named(bytes: &[u8]) -> Option<Mode>
     } else {
         None
     }
-}
-
-/// The name with these bytes in upper case.
-pub(crate) fn upper_name(alloc: Global, bytes: &[u8]) -> Result<Name, AllocError>
-    ensures { IfOk result (λ name. name ≡ map to_ascii_uppercase bytes.now) }
-{
-    Ok(Name::from_vec(upper_bytes(alloc, bytes)?))
 }
 
 impl<'a> Cursor<'a> {
@@ -287,7 +280,7 @@ impl<'a> Cursor<'a> {
         ensures { ReadsTokens (reader_of places.any_word) self.old self.new result (λ name. name) }
     {
         let bytes = self.word_bytes()?;
-        Ok(upper_name(self.alloc, bytes)?)
+        Ok(Name::in_upper_case(self.alloc, bytes)?)
     }
 
     /// The contents of any text, as they stand in the text.

@@ -12,7 +12,7 @@ ghost use Rattle.bsdl_strings.specs.Places.{is_mark as is_the_mark, is_word as i
 use crate::pieces::{joins_word, next_piece};
 use crate::stop::Stop;
 use board_defs::{Code, Name, Role, Symbol};
-use grammars::{decimal_of, is_short_number, spells, upper_bytes};
+use grammars::{decimal_of, is_short_number, spells};
 use std::alloc::{AllocError, Global};
 
 fn is_mark(piece: &[u8], byte: u8) -> bool
@@ -107,13 +107,6 @@ fn short_code_from(alloc: Global, piece: &[u8]) -> Result<Code, AllocError>
     }
 }
 
-/// The name with these bytes in upper case.
-fn upper_name(alloc: Global, bytes: &[u8]) -> Result<Name, AllocError>
-    ensures { IfOk result (λ name. name ≡ upper bytes.now) }
-{
-    Ok(Name::from_vec(upper_bytes(alloc, bytes)?))
-}
-
 /// The text after this mark.
 pub(crate) fn mark(text: &[u8], byte: u8) -> Result<&[u8], Stop<'_>>
     ensures { ReadsPieces (λ rest. found tt (pieces rest.now)) result (reader_of (the_mark byte) (pieces text.now)) }
@@ -140,7 +133,7 @@ pub(crate) fn word(alloc: Global, text: &[u8]) -> Result<(Name, &[u8]), Stop<'_>
     ensures { ReadsPieces (λ x. found x.0 (pieces x.1.now)) result (reader_of any_word (pieces text.now)) }
 {
     match next_piece(text) {
-        Some((piece, rest)) if is_word(piece) => Ok((upper_name(alloc, piece)?, rest)),
+        Some((piece, rest)) if is_word(piece) => Ok((Name::in_upper_case(alloc, piece)?, rest)),
         _ => Err(Stop::At(text)),
     }
 }
@@ -150,7 +143,7 @@ pub(crate) fn pin(alloc: Global, text: &[u8]) -> Result<(Name, &[u8]), Stop<'_>>
     ensures { ReadsPieces (λ x. found x.0 (pieces x.1.now)) result (reader_of any_pin (pieces text.now)) }
 {
     match next_piece(text) {
-        Some((piece, rest)) if names_pin(piece) => Ok((upper_name(alloc, piece)?, rest)),
+        Some((piece, rest)) if names_pin(piece) => Ok((Name::in_upper_case(alloc, piece)?, rest)),
         _ => Err(Stop::At(text)),
     }
 }
@@ -192,7 +185,10 @@ pub(crate) fn pin_or_group(alloc: Global, text: &[u8]) -> Result<(Option<Name>, 
 {
     match next_piece(text) {
         Some((piece, rest)) if is_mark(piece, b'(') => Ok((None, rest)),
-        Some((piece, rest)) if names_pin(piece) => Ok((Some(upper_name(alloc, piece)?), rest)),
+        Some((piece, rest)) if names_pin(piece) => Ok((
+            Some(Name::in_upper_case(alloc, piece)?),
+            rest,
+        )),
         _ => Err(Stop::At(text)),
     }
 }
@@ -206,7 +202,10 @@ pub(crate) fn word_unless_star(
 {
     match next_piece(text) {
         Some((piece, rest)) if is_mark(piece, b'*') => Ok((None, rest)),
-        Some((piece, rest)) if is_word(piece) => Ok((Some(upper_name(alloc, piece)?), rest)),
+        Some((piece, rest)) if is_word(piece) => Ok((
+            Some(Name::in_upper_case(alloc, piece)?),
+            rest,
+        )),
         _ => Err(Stop::At(text)),
     }
 }

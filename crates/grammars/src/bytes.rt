@@ -1,11 +1,9 @@
 //! What the bytes of one token tell. Letters have no case.
-ghost use Rattle.std.specs.Prelude.{◌≡◌, IsTrue, IfOk, nat_eq, zip};
+ghost use Rattle.std.specs.Prelude.{◌≡◌, IsTrue, nat_eq, zip};
 ghost use Rattle.std.specs.List.{list_all};
 ghost use Rattle.std.specs.Str.{bytes_eq};
 ghost use Rattle.std.specs.Char.{is_ascii_digit, to_ascii_uppercase};
 ghost use Rattle.grammars.specs.Values.{upper, is_integer, digits_value};
-
-use std::alloc::{AllocError, Global};
 
 fn are_digits(bytes: &[u8]) -> bool
     ensures { result ≡ list_all is_ascii_digit bytes.now }
@@ -51,13 +49,4 @@ pub fn spells(bytes: &[u8], name: &[u8]) -> bool
     } else {
         false
     }
-}
-
-/// The bytes in upper case.
-pub fn upper_bytes(alloc: Global, bytes: &[u8]) -> Result<Vec<u8>, AllocError>
-    ensures { IfOk result (λ changed. changed.items ≡ upper bytes.now) }
-{
-    let mut upper = bytes.to_vec(alloc)?;
-    upper.as_mut_slice().make_ascii_uppercase();
-    Ok(upper)
 }

@@ -7,4 +7,4 @@
 
 mod bytes;
 
-pub use bytes::{decimal_of, is_short_number, spells, upper_bytes};
+pub use bytes::{decimal_of, is_short_number, spells};
