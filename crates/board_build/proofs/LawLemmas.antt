@@ -20,12 +20,11 @@ use Rattle.board_defs.specs.BoardRules.{IsBoard, IsPart, IsPlaced, PinsDiffer, A
 use Rattle.board_lines.specs.declared.names.Naming.TheVariants.{Part as PartName, Inert}
 use Rattle.board_files.specs.Names.{same_word}
 use Rattle.board_lines.specs.Names.{named, names_of}
-use Rattle.board_lines.specs.NetWords.{NetWord, net_of, pin_of, is_among, net_names, standing_words}
+use Rattle.board_lines.specs.NetWords.{NetWord, net_of, pin_of, is_among, net_names, standing_words, have_same_pin}
 use Rattle.board_lines.specs.ChainParts.{IsChain, pin_places, described_names}
 use Rattle.board_build.specs.BoardNets.{Marks, marks_of, net_pin, board_nets, board_with}
 use Rattle.board_defs.specs.Decided.{is_always_on}
 use Rattle.board_build.specs.BoardRules.{board_fault, drives_always, always_on, is_kept, is_unknown}
-use Rattle.board_lines.specs.NetWords.{have_same_pin}
 use Rattle.board_lines.proofs.ApartLemmas.{Apart, each_map, apart_pairs, apart_passing, pairs_at, Passing, passing, once_apart}
 use Rattle.first_places.specs.Places.{once}
 use Rattle.board_build.proofs.PartLemmas.{placed}

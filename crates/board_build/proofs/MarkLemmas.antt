@@ -22,14 +22,12 @@ use Rattle.board_lines.specs.declared.fault.BoardFault.TheVariants.{Limit, NoPin
 use Rattle.board_lines.specs.declared.names.Naming.TheVariants.{Inert, Supply}
 use Rattle.board_lines.specs.Faults.{◌then◌, unless}
 use Rattle.board_lines.specs.Names.{named, names_of}
-use Rattle.board_lines.specs.NetWords.{Pin, NetWord, net_of, pin_of, is_among, net_names, standing_words, pins_of_net}
+use Rattle.board_lines.specs.NetWords.{Pin, NetWord, net_of, pin_of, is_among, net_names, standing_words, pins_of_net, have_same_pin}
 use Rattle.board_lines.specs.ChainParts.{pin_places, place_of_pin, described_names}
-use Rattle.board_lines.specs.LineRules.{pulls_of, pull_of_net}
+use Rattle.board_lines.specs.LineRules.{pulls_of, pull_of_net, line_fault}
 use Rattle.board_build.specs.BoardNets.{Marks, marks_of, net_pin, board_net, nets_from, board_nets, board_with}
 use Rattle.board_defs.specs.Decided.{is_always_on}
 use Rattle.board_build.specs.BoardRules.{data_limit, net_limit, pin_limit, no_pin, pin_twice, drives_always, always_on as drivers_of, is_kept, guarded_driver, two_always_on, limit_fault, pin_fault, driver_fault, board_fault, board_answer}
-use Rattle.board_lines.specs.NetWords.{have_same_pin}
-use Rattle.board_lines.specs.LineRules.{line_fault}
 use Rattle.board_build.specs.inner.Marked.{Marked, mark, is_free, is_free_bit, is_free_at, pin_with, group_of, number_of, place_of, net_with, nets_with, board_by, same_pins, marked_limit, marked_unknown, marked_twice, marked_pins, marked_guarded, marked_two, marked_drivers, file_fault, always_on, marked_fault, marked_answer}
 use Rattle.board_lines.proofs.MapLemmas.{filter-map, find-map, once-map, repeated-map}
 

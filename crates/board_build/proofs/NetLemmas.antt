@@ -9,8 +9,7 @@ use Rattle.std.proofs.lemmas.List.Kept.{AllPairs-filter}
 use Rattle.board_defs.specs.declared.board.NetPin.{NetPin}
 use Rattle.board_defs.specs.declared.board.Net.{Net}
 use Rattle.board_files.specs.Names.{same_word}
-use Rattle.board_lines.specs.NetWords.{Pin, NetWord, same_pin, net_of, pin_of, pins_of_net}
-use Rattle.board_lines.specs.NetWords.{have_same_pin}
+use Rattle.board_lines.specs.NetWords.{Pin, NetWord, same_pin, net_of, pin_of, pins_of_net, have_same_pin}
 use Rattle.board_build.specs.BoardNets.{Marks, net_pin, board_net, nets_from, board_nets}
 use Rattle.board_lines.proofs.ApartLemmas.{Apart, apart_pairs, apart_map, apart_weaker, one_place, Passing, passing, mapped}
 

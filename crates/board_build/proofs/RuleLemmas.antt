@@ -20,13 +20,11 @@ use Rattle.board_lines.specs.declared.fault.BoardFault.TheVariants.{Limit, Inert
 use Rattle.board_lines.specs.declared.names.Naming.TheVariants.{Part as PartName, Inert}
 use Rattle.board_files.specs.Names.{same_word}
 use Rattle.board_lines.specs.Names.{Named, named, names_of}
-use Rattle.board_lines.specs.NetWords.{NetWord, net_of, pin_of, is_among}
+use Rattle.board_lines.specs.NetWords.{NetWord, net_of, pin_of, is_among, have_same_pin}
 use Rattle.board_lines.specs.Selection.{spot_at}
 use Rattle.board_lines.specs.ChainParts.{pin_places, described_names}
-use Rattle.board_lines.specs.LineRules.{places_of, inert_in_chain}
+use Rattle.board_lines.specs.LineRules.{places_of, inert_in_chain, line_fault}
 use Rattle.board_build.specs.BoardRules.{data_limit, net_limit, pin_limit, is_unknown, no_pin, pin_twice, is_kept, guarded_driver, two_always_on, limit_fault, pin_fault, driver_fault}
-use Rattle.board_lines.specs.NetWords.{have_same_pin}
-use Rattle.board_lines.specs.LineRules.{line_fault}
 use Rattle.board_lines.proofs.ApartLemmas.{Apart, unrepeated_apart}
 use Rattle.board_build.proofs.PartLemmas.{not_among}
 use Rattle.board_lines.proofs.FaultLemmas.{limit_kept, then_none}

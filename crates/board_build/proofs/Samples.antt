@@ -19,8 +19,7 @@ use Rattle.board_defs.specs.declared.board.PartKind.TheVariants.{Described, Bypa
 use Rattle.board_defs.specs.declared.spot.Spot.{Spot}
 use Rattle.board_lines.specs.declared.fault.BoardFault.TheVariants.{NoPin, PinTwice, InertInChain, NoSupplyNet, NoPullNet, PullTwice, GuardedDriver, TwoAlwaysOn}
 use Rattle.board_build.specs.BoardRules.{board_of, board_answer, board_fault, limit_fault, pin_fault, driver_fault, data_limit, net_limit, pin_limit, no_pin, pin_twice, guarded_driver, two_always_on}
-use Rattle.board_lines.specs.LineRules.{line_fault}
-use Rattle.board_lines.specs.LineRules.{inert_in_chain, no_supply_net, no_pull_net, pull_twice}
+use Rattle.board_lines.specs.LineRules.{line_fault, inert_in_chain, no_supply_net, no_pull_net, pull_twice}
 
 -- port bits of a device: those of the test access port come first
 abbrev bit : ℕ → Option ℕ → Mode → List ℕ → Bool → PortBit

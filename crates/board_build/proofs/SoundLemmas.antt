@@ -8,11 +8,10 @@ use Rattle.board_defs.specs.declared.board.Part.{Part}
 use Rattle.board_defs.specs.BoardRules.{IsBoard, IsPart}
 use Rattle.board_lines.specs.declared.names.Naming.TheVariants.{Part as PartName, Inert}
 use Rattle.board_lines.specs.Names.{named, names_of}
-use Rattle.board_lines.specs.NetWords.{NetWord, net_names, standing_words, spot_of}
+use Rattle.board_lines.specs.NetWords.{NetWord, net_names, standing_words, spot_of, have_same_pin}
 use Rattle.board_lines.specs.ChainParts.{IsChain, pin_places}
 use Rattle.board_lines.specs.declared.fault.BoardFault.TheVariants.{PinTwice}
 use Rattle.board_build.specs.BoardRules.{board_answer, pin_twice}
-use Rattle.board_lines.specs.NetWords.{have_same_pin}
 use Rattle.board_build.specs.inner.Marked.{Marked, mark, board_by, marked_fault, marked_answer, marked_twice}
 use Rattle.board_build.proofs.MarkLemmas.{board_same, fault_same, answer_same, twice_same}
 use Rattle.board_build.proofs.LawLemmas.{is_board}

@@ -102,7 +102,7 @@ fn mark_each<'a>(
 ) -> Result<Vec<MarkedWord<'a>>, AllocError>
     ensures { IfOk result (λ marked. marked.items ≡ map (mark_by parts.now (λ q. is_some (get_by (λ n. same_word q.now n.now) described.now)) (λ q. get_by (λ p. same_pin (lent_pin q) (lent_pin p)) places.now) (λ q. is_some (get_by (λ n. same_word q.now n.now) inerts.now))) words.now) }
 {
-    let mut marked = Vec::new(alloc);
+    let mut marked = Vec::with_capacity(alloc, words.len())?;
     for i in 0..words.len() {
         mark_at(&mut marked, words, i, parts, places, described, inerts)?;
     }

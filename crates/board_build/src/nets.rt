@@ -70,13 +70,37 @@ fn add_at(
     }
 }
 
-fn empty_groups(alloc: Global, count: usize) -> Result<Vec<Vec<NetPin>>, AllocError>
-    ensures count { IfOk result (λ groups. vec_len groups ≡ count) }
+fn count_pin(counts: &mut [usize], net: usize)
+    ensures { length counts.new ≡ length counts.old }
+{
+    if net < counts.len() {
+        counts[net] = counts[net].saturating_add(1);
+    }
+}
+
+/// How many words each net has. Room is taken by these counts, and nothing else rests on them.
+fn pin_counts(
+    alloc: Global,
+    count: usize,
+    words: &[MarkedWord<'_>],
+) -> Result<Vec<usize>, AllocError>
+    ensures { IfOk result (λ counts. length counts.items ≡ count) }
+{
+    let mut counts = vec![in alloc; 0; count]?;
+    for word in words {
+        count_pin(&mut counts, word.net as usize);
+    }
+    Ok(counts)
+}
+
+/// A group without pins for each net, with room for so many.
+fn empty_groups(alloc: Global, counts: &[usize]) -> Result<Vec<Vec<NetPin>>, AllocError>
+    ensures count { IfOk result (λ groups. vec_len groups ≡ length counts.now) }
     ensures empty { IfOk result (λ groups. (n : ℕ) → get_or (map (λ g. g.items) groups.items) n [] ≡ []) }
 {
-    let mut groups = Vec::new(alloc);
-    for _ in 0..count {
-        groups.push(Vec::new(alloc))?;
+    let mut groups = Vec::with_capacity(alloc, counts.len())?;
+    for count in counts {
+        groups.push(Vec::with_capacity(alloc, *count)?)?;
     }
     Ok(groups)
 }
@@ -90,7 +114,8 @@ fn groups(
     ensures count { IfOk result (λ groups. vec_len groups ≡ count) }
     ensures groups { IfOk result (λ groups. (n : ℕ) → n < count → get_or (map (λ g. g.items) groups.items) n [] ≡ group_of (map seen words.now) n) }
 {
-    let mut groups = empty_groups(alloc, count)?;
+    let counts = pin_counts(alloc, count, words)?;
+    let mut groups = empty_groups(alloc, &counts)?;
     for i in 0..words.len() {
         add_at(alloc, &mut groups, words, i)?;
     }
@@ -164,7 +189,7 @@ fn nets_by(
 ) -> Result<Vec<Net>, AllocError>
     ensures { IfOk result (λ nets. nets.items ≡ map (net_by (λ q. is_some (get_by (λ n. same_word q.now n.now) supplies.now)) (λ q. get_by (λ n. same_word q.now n.now) pulls.now)) (zip names.now (map (λ g. g.items) groups.items))) }
 {
-    let mut nets = Vec::new(alloc);
+    let mut nets = Vec::with_capacity(alloc, names.len())?;
     let mut groups = groups.into_iter();
     for i in 0..names.len() {
         let group = next_group(&mut groups);

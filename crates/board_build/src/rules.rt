@@ -61,7 +61,7 @@ fn by_pin<'a>(
 ) -> Result<Vec<(PinName<'a>, Spot)>, AllocError>
     ensures { IfOk result (λ pins. pins.items ≡ map (λ w. ((w.part, w.pin), w.spot)) words.now) }
 {
-    let mut pins = Vec::new(alloc);
+    let mut pins = Vec::with_capacity(alloc, words.len())?;
     for word in words {
         pins.push(((word.part, word.pin), word.spot))?;
     }

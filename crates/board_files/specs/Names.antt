@@ -1,5 +1,5 @@
 -- Names, and the names on the lines of a net file.
-use Rattle.std.specs.Prelude.{ℕ, Bool, List, map, nat_eq}
+use Rattle.std.specs.Prelude.{Bool, List, map, nat_eq}
 use Rattle.std.specs.Cmp.Lexicographic.{pointwise}
 use Rattle.text_lines.specs.Words.{Word}
 use Rattle.board_files.specs.declared.net_file.NetLine.{NetLine}

@@ -61,7 +61,7 @@ pub fn line_names<'a>(alloc: Global, lines: &'a [NetLine]) -> Result<Vec<&'a [u8
     ensures names { IfOk result (λ names. map (λ n. n.now) names.items ≡ line_names lines.now) }
     ensures count { IfOk result (λ names. vec_len names ≡ length lines.now) }
 {
-    let mut names = Vec::new(alloc);
+    let mut names = Vec::with_capacity(alloc, lines.len())?;
     for line in lines {
         names.push(line.name.bytes())?;
     }
@@ -131,7 +131,7 @@ fn net(alloc: Global, line: u32, words: &[&[u8]]) -> Result<NetLine, LineFault>
 fn pins(alloc: Global, line: u32, words: &[&[u8]]) -> Result<Vec<PinWord>, LineFault>
     ensures { Reads (λ pins. pins.items) result (pins_of line (map (λ w. w.now) words.now)) }
 {
-    let mut pins = Vec::new(alloc);
+    let mut pins = Vec::with_capacity(alloc, words.len())?;
     for word in words {
         pins.push(pin(alloc, line, word)?)?;
     }

@@ -129,7 +129,7 @@ pub fn standing_words<'a>(
 fn by_pin<'a>(alloc: Global, words: &[NetWord<'a>]) -> Result<Vec<(PinName<'a>, Spot)>, AllocError>
     ensures { IfOk result (λ pins. pins.items ≡ map (λ w. (w.0.1, w.1)) words.now) }
 {
-    let mut pins = Vec::new(alloc);
+    let mut pins = Vec::with_capacity(alloc, words.len())?;
     for word in words {
         pins.push((word.0.1, word.1))?;
     }

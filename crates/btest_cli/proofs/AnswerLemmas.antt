@@ -9,7 +9,7 @@ use Rattle.coverage_list.specs.CoverText.{cover_text}
 use Rattle.btest_core.specs.Answers.{input_told}
 use Rattle.btest_core.specs.declared.fault.InputFault.{InputFault}
 use Rattle.btest_core.specs.declared.fault.InputFault.TheVariants as input
-use Rattle.btest_core.specs.BoardRead.{AreChainLengths, IsBoardRead}
+use Rattle.btest_core.specs.BoardRead.{AreChainLengths, IsBoardRead, Denotes}
 use Rattle.btest_core.specs.DevicesRead.{IsDeviceText}
 use Rattle.btest_core.specs.IdentsRead.{AreIdents}
 use Rattle.ident_test.specs.Patterns.{ident_text}
@@ -20,7 +20,6 @@ use Rattle.btest_cli.specs.declared.failure.Unput.TheVariants as unput
 use Rattle.response_log.specs.declared.fault.LogFault.{LogFault}
 use Rattle.response_log.specs.declared.fault.LogFault.TheVariants as log
 use Rattle.response_log.specs.LogRows.{Answer as LogAnswer, log_told}
-use Rattle.btest_core.specs.BoardRead.{Denotes}
 use Rattle.batch_diag.specs.declared.fault.BatchFault.{BatchFault}
 use Rattle.batch_diag.specs.declared.fault.BatchFault.TheVariants as batch
 use Rattle.batch_diag.specs.Batch.{Answer as BatchAnswer, batch_told}

@@ -10,7 +10,7 @@ use Rattle.board_defs.specs.declared.board.RawBoard.{RawBoard}
 use Rattle.device_check.specs.DeviceText.{device_text}
 use Rattle.coverage_list.specs.CoverText.{cover_text}
 use Rattle.btest_core.specs.declared.fault.InputFault.{InputFault}
-use Rattle.btest_core.specs.BoardRead.{AreChainLengths, IsBoardRead}
+use Rattle.btest_core.specs.BoardRead.{AreChainLengths, IsBoardRead, Denotes}
 use Rattle.btest_core.specs.DevicesRead.{IsDeviceText}
 use Rattle.ident_test.specs.Patterns.{ident_text}
 use Rattle.board_gen.specs.BoardTexts as made
@@ -30,7 +30,6 @@ use Rattle.board_defs.specs.declared.fault.Single.{Single}
 use Rattle.board_defs.specs.BoardRules.{IsBoard}
 use Rattle.response_log.specs.declared.fault.LogFault.{LogFault}
 use Rattle.fault_sim.specs.Diagnosis.{IsDiagnosis}
-use Rattle.btest_core.specs.BoardRead.{Denotes}
 use Rattle.batch_diag.specs.declared.block.Block.{Block}
 use Rattle.batch_diag.specs.declared.verdict.Verdict.{Verdict}
 use Rattle.batch_diag.specs.Verdicts.{AreVerdicts}

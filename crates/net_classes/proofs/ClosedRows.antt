@@ -15,12 +15,10 @@ use Rattle.board_defs.proofs.Members.{Has, any_has, contains_has, filter_has, ha
 use Rattle.board_defs.proofs.PassesKept.{tested_can_drive, tested_has}
 use Rattle.board_defs.proofs.Places.{any_at}
 use Rattle.net_classes.specs.inner.Closed.{AreClosed, are_by_some, drives_some, is_by_one, is_closed_by}
-use Rattle.net_classes.specs.Pairs.{drivers_at, drivers_there}
+use Rattle.net_classes.specs.Pairs.{drivers_at, drivers_there, fits_at, fit}
 use Rattle.net_facts.specs.Kept.{drives_there, is_contended, shared_nets}
 use Rattle.net_classes.specs.NetRows.{AreRowBits, stands_in}
-use Rattle.net_classes.specs.Pairs.{fits_at}
 use Rattle.net_classes.specs.inner.PairRows.{owns_at}
-use Rattle.net_classes.specs.Pairs.{fit}
 use Rattle.net_classes.proofs.ClosedLemmas.{nothing_closed}
 use Rattle.net_classes.proofs.ContendedLemmas.{has_shares, share_has}
 use Rattle.net_classes.proofs.PairRowLemmas.{covered_bit}

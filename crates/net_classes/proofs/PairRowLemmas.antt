@@ -12,10 +12,8 @@ use Rattle.board_defs.specs.Decided.{can_enable}
 use Rattle.board_defs.specs.Passes.{tested_drivers}
 use Rattle.board_defs.proofs.Members.{Has}
 use Rattle.board_defs.proofs.PassesKept.{tested_can_drive, tested_has}
-use Rattle.net_classes.specs.Pairs.{drivers_at, drivers_there}
+use Rattle.net_classes.specs.Pairs.{drivers_at, drivers_there, fits_at, fit}
 use Rattle.net_classes.specs.NetRows.{AreRowBits, stands_in}
-use Rattle.net_classes.specs.Pairs.{fits_at}
-use Rattle.net_classes.specs.Pairs.{fit}
 use Rattle.net_classes.proofs.Lists.{any_joined}
 use Rattle.net_facts.proofs.Truth.{and_right, eqb_refl, eqb_same, not_true, same_truth}
 use Rattle.net_classes.proofs.WordLemmas.{same_row}

@@ -181,7 +181,7 @@ pub fn cells_of(kind: &PartKind) -> u32
 fn fresh_part(alloc: Global, cells: u32) -> Result<Vec<ControlClass>, AllocError>
     ensures { IfOk result (λ row. row.items ≡ copies fresh cells) }
 {
-    let mut row = Vec::new(alloc);
+    let mut row = Vec::with_capacity(alloc, cells as usize)?;
     for _cell in 0..cells {
         let class = ControlClass {
             nets: Items::none(alloc),

@@ -130,7 +130,7 @@ fn all_pin_facts(
     requires { AreEntries board.now entries.now }
     ensures { IfOk result (λ facts. facts ≡ map (pin_facts_in board.now guarded net.now.pull) net.now.pins) }
 {
-    let mut facts = Vec::new(alloc);
+    let mut facts = Vec::with_capacity(alloc, net.pins.len())?;
     for pin in net.pins.as_slice() {
         facts.push(pin_facts(entries, board, guarded, net.pull, pin))?;
     }
@@ -190,7 +190,7 @@ pub fn all_net_facts(
     requires { AreEntries board.now entries.now }
     ensures { IfOk result (λ facts. facts.items ≡ map (net_facts_in board.now) board.now.nets) }
 {
-    let mut facts = Vec::new(alloc);
+    let mut facts = Vec::with_capacity(alloc, board.nets.len())?;
     for net in board.nets.as_slice() {
         facts.push(net_facts(alloc, entries, board, net)?)?;
     }

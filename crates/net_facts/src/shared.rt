@@ -101,7 +101,7 @@ fn shared_row(
 ) -> Result<Vec<NetNumbers>, AllocError>
     ensures { IfOk result (λ shared. shared.items ≡ map (shared_in flags.now) row.now) }
 {
-    let mut shared = Vec::new(alloc);
+    let mut shared = Vec::with_capacity(alloc, row.len())?;
     for class in row {
         shared.push(shared_of(alloc, flags, class.nets.as_slice())?)?;
     }

@@ -63,7 +63,7 @@ fn bits_of(kind: &PartKind) -> usize
 fn blank_row(alloc: Global, bits: usize) -> Result<Vec<bool>, AllocError>
     ensures { IfOk result (λ row. row.items ≡ copies false bits) }
 {
-    let mut row = Vec::new(alloc);
+    let mut row = Vec::with_capacity(alloc, bits)?;
     for _bit in 0..bits {
         row.push(false)?;
     }

@@ -148,7 +148,7 @@ fn pin_classes(
     ensures { IfOk result (λ classes. classes.items ≡ map (pin_class_in (table rows.now) net.now) (range_with_len 0 (length net.now.pins))) }
 {
     let enablers = enablers(rows, net.pins.as_slice());
-    let mut classes = Vec::new(alloc);
+    let mut classes = Vec::with_capacity(alloc, net.pins.len())?;
     for place in 0..net.pins.len() {
         classes.push(pin_class(rows, net, readers, enablers, place))?;
     }
@@ -264,7 +264,7 @@ pub fn net_classes(
 ) -> Result<Vec<NetClass>, AllocError>
     ensures { IfOk result (λ classes. classes.items ≡ map (class_in (table rows.now)) nets.now) }
 {
-    let mut classes = Vec::new(alloc);
+    let mut classes = Vec::with_capacity(alloc, nets.len())?;
     for net in nets {
         classes.push(net_class(alloc, rows, net)?)?;
     }

@@ -1,6 +1,6 @@
 -- Steps of the loop that makes the rows of a scan of instructions.
 use Rattle.std.proofs.Common.{◌≡◌, ℕ, suc, ◌+◌, ◌-◌, ◌<◌, ◌≤◌, Bool, true, false, List, [], ◌∷◌, ◌++◌, length, map, drop, get_or, replicate, is_some, unwrap_or, refl, ap, ◌∙◌, arith}
-use Rattle.std.proofs.lemmas.List.{map-append, drop_more}
+use Rattle.std.proofs.lemmas.List.{map-append, drop_more, length-map, length-replicate}
 use Rattle.board_defs.specs.declared.board.Part.{Part}
 use Rattle.board_defs.specs.declared.board.RawBoard.{RawBoard}
 use Rattle.board_defs.specs.BoardRules.{IsBoard, IsPart}
@@ -12,7 +12,6 @@ use Rattle.tap_defs.specs.chain.Codes.{sent, code_bits, instructs}
 use Rattle.plan_tables.specs.declared.instructions.Instruction.{Instruction}
 use Rattle.plan_tables.specs.declared.instructions.Instruction.TheVariants.{Preload, Extest}
 use Rattle.plan_tables.specs.inner.Codes.{code_for, IsCoded, AreCoded, captured_bits, compared_bits}
-use Rattle.std.proofs.lemmas.List.{length-map, length-replicate}
 
 sent_tdi : (code : List Bool) → tdi_bits (map sent code) ≡ code
 sent_tdi [] = refl

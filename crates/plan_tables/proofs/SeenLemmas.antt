@@ -9,7 +9,7 @@ use Rattle.std.proofs.lemmas.Option.{slice_get-map, get_or_from_slice_get, slice
 use Rattle.board_defs.specs.declared.board.Net.{Net}
 use Rattle.board_defs.specs.declared.board.RawBoard.{RawBoard}
 use Rattle.board_defs.specs.declared.board.Ctl.{Ctl}
-use Rattle.board_defs.specs.Settings.{holds}
+use Rattle.board_defs.specs.Settings.{holds, enables_where, enables_entry}
 use Rattle.board_defs.proofs.Members.{Has, has_at, has_place, contains_has, has_contains, has_append, has_left, has_right, has_flat_map, flat_map_has}
 use Rattle.board_defs.proofs.Places.{any_place, any_at}
 use Rattle.tap_defs.specs.board.TestRows.{is_observed, observing_driver}
@@ -25,7 +25,6 @@ use Rattle.plan_tables.proofs.ListLemmas.{some_at}
 use Rattle.board_defs.specs.declared.device.Cell.{Cell}
 use Rattle.board_defs.specs.declared.board.PinAt.{PinAt}
 use Rattle.board_defs.specs.Pins.{entry_at}
-use Rattle.board_defs.specs.Settings.{enables_where, enables_entry}
 use Rattle.tap_defs.proofs.board.FeedingLemmas.{Observing, observing_at}
 
 -- the cell of the driver by which a net is observed

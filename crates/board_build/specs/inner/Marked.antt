@@ -19,9 +19,8 @@ use Rattle.board_lines.specs.declared.fault.BoardFault.TheVariants.{Limit, NoPin
 use Rattle.board_lines.specs.declared.names.Naming.TheVariants.{Supply}
 use Rattle.board_lines.specs.Faults.{◌then◌, unless}
 use Rattle.board_lines.specs.Names.{named, names_of}
-use Rattle.board_lines.specs.LineRules.{Pulled, pulls_of, pull_of_net}
+use Rattle.board_lines.specs.LineRules.{Pulled, pulls_of, pull_of_net, line_fault}
 use Rattle.board_build.specs.BoardRules.{data_limit, net_limit, is_kept}
-use Rattle.board_lines.specs.LineRules.{line_fault}
 use Rattle.board_build.specs.declared.marked.MarkedWord.{MarkedWord}
 use Rattle.board_lines.specs.NetWords.{Pin, NetWord, same_pin, net_of, pin_of, spot_of, is_among}
 use Rattle.board_lines.specs.ChainParts.{PinPlace, place_of_pin, described_names}

@@ -1,7 +1,6 @@
 -- What is known of nets and pins, made one after the other.
-use Rattle.std.specs.Prelude.{ℕ, ◌==◌, Bool, not, ◌&&◌, ◌||◌, map, Option, Some, None, option_map, if◌then◌else◌}
+use Rattle.std.specs.Prelude.{ℕ, ◌==◌, Bool, not, ◌&&◌, ◌||◌, map, Option, Some, None, option_map, if◌then◌else◌, List}
 use Rattle.std.specs.List.{list_any}
-use Rattle.std.specs.Prelude.{List}
 use Rattle.board_defs.specs.declared.device.Cell.{Cell}
 use Rattle.board_defs.specs.declared.device.Control.{Control}
 use Rattle.board_defs.specs.declared.board.Drive.{Drive}

@@ -2,8 +2,8 @@ use Rattle.std.proofs.Common.{◌≡◌, ℕ, [], map, get_or, vec_len}
 use Rattle.board_build.proofs.nets.empty_groups.Given as goal
 
 -- the groups so far are empty
-abbrev pub invariant-loop : goal.invariant-loop
-invariant-loop l = record {
-  count : vec_len l.groups ≡ l.counter;
+abbrev pub invariant-loop-count : goal.invariant-loop-count
+invariant-loop-count l = record {
+  count : vec_len l.groups ≡ l.count-index;
   empty : (n : ℕ) → get_or (map (λ g. g.items) l.groups.items) n [] ≡ [];
 }

@@ -3,8 +3,7 @@ use Rattle.std.proofs.Common.{◌∙◌, ap}
 use Rattle.std.specs.Prelude.{is_none}
 use Rattle.first_places.specs.Places.{first_repeated}
 use Rattle.board_lines.proofs.NameLemmas.{if_ok_map}
-use Rattle.board_lines.proofs.DifferLemmas.{same_lent}
-use Rattle.board_lines.proofs.DifferLemmas.{differ_lent}
+use Rattle.board_lines.proofs.DifferLemmas.{same_lent, differ_lent}
 use Rattle.board_lines.proofs.words.pins_differ.Goals as goal
 
 pub returns : goal.returns

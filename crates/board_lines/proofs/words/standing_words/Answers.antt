@@ -2,8 +2,7 @@
 use Rattle.std.proofs.Common.{◌≡◌, ◌∙◌, map, None, ap, sym}
 use Rattle.std.specs.Prelude.{is_none}
 use Rattle.first_places.specs.Places.{first_repeated, once}
-use Rattle.board_lines.specs.NetWords.{lent_word, same_place}
-use Rattle.board_lines.specs.NetWords.{have_same_pin}
+use Rattle.board_lines.specs.NetWords.{lent_word, same_place, have_same_pin}
 use Rattle.board_lines.proofs.DifferLemmas.{all_stand, none_of}
 use Rattle.board_lines.proofs.words.standing_words.Goals as goal
 
