@@ -100,6 +100,28 @@ words_more before after others n size same each = by_place (cases_lt (n / 64) (l
     by_place (inl within) = ap (λ w. has_bit w (n % 64)) (each (n / 64) within) ∙ bit_more (get_or before (n / 64) 0) (get_or others (n / 64) 0) (n % 64)
     by_place (inr past) = none_past after n (omega (arith, past, same)) ∙ sym (ap (λ t. t || is_in before n) (none_past others n (omega (arith, past, size))) ∙ none_past before n past)
 
+-- the bits that two words have
+bit_both : (a b i : ℕ) → has_bit (bit_and a b) i ≡ (has_bit a i && has_bit b i)
+bit_both a b i = ap (λ x. x == 1) (bit_at_and a b i) ∙ by_bits (bit_at a i) (bit_at b i) (bit_at-lt a i) (bit_at-lt b i)
+  where
+    by_bits : (x y : ℕ) → x < 2 → y < 2 → (min x y == 1) ≡ ((x == 1) && (y == 1))
+    by_bits zero zero less few = refl
+    by_bits zero (suc zero) less few = refl
+    by_bits zero (suc (suc y)) less few = absurd (omega arith)
+    by_bits (suc zero) zero less few = refl
+    by_bits (suc zero) (suc zero) less few = refl
+    by_bits (suc zero) (suc (suc y)) less few = absurd (omega arith)
+    by_bits (suc (suc x)) y less few = absurd (omega arith)
+
+-- each word has the bits that both lists have
+pub words_both : (before after others : List ℕ) (n : ℕ) → length after ≡ length before → ((k : ℕ) → k < length before → get_or after k 0 ≡ bit_and (get_or before k 0) (get_or others k 0)) → is_in after n ≡ (is_in before n && is_in others n)
+unfolding is_in
+words_both before after others n same each = by_place (cases_lt (n / 64) (length before))
+  where
+    by_place : (n / 64 < length before) ⊎ (length before ≤ n / 64) → is_in after n ≡ (is_in before n && is_in others n)
+    by_place (inl within) = ap (λ w. has_bit w (n % 64)) (each (n / 64) within) ∙ bit_both (get_or before (n / 64) 0) (get_or others (n / 64) 0) (n % 64)
+    by_place (inr past) = none_past after n (omega (arith, past, same)) ∙ sym (ap (λ t. t && is_in others n) (none_past before n past))
+
 -- one number more
 pub number_set : (words : List ℕ) (net n : ℕ) (word : ℕ) → net / 64 < length words → word ≡ bit_or (get_or words (net / 64) 0) (1 * 2 ^ (net % 64) % 2 ^ 64) → is_in (set words (net / 64) word) n ≡ (n == net || is_in words n)
 unfolding is_in

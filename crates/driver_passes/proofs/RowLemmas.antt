@@ -2,7 +2,7 @@
 use Rattle.std.proofs.Common.{◌≡◌, ◌⊎◌, inl, inr, ℕ, zero, suc, ◌+◌, ◌/◌, ◌<◌, ◌≤◌, Bool, true, false, not, ◌&&◌, ◌||◌, List, [], ◌∷◌, ◌++◌, length, get_or, refl, sym, ◌∙◌, ap, subst, arith}
 use Rattle.std.specs.List.{list_all, list_any}
 use Rattle.std.proofs.lemmas.Bool.{cases_lt}
-use Rattle.std.proofs.lemmas.List.Folds.{list_any-append}
+use Rattle.std.proofs.lemmas.List.Folds.{list_all-append, list_any-append}
 use Rattle.board_defs.specs.declared.board.Ctl.{Ctl}
 use Rattle.board_defs.specs.declared.board.RawBoard.{RawBoard}
 use Rattle.board_defs.specs.Passes.{are_shown, shows}
@@ -10,7 +10,7 @@ use Rattle.driver_passes.specs.declared.draft.Draft.{Draft}
 use Rattle.driver_passes.specs.inner.Drafts.{setting_of}
 use Rattle.driver_passes.specs.inner.NumberSets.{is_in}
 use Rattle.driver_passes.specs.inner.Pairs.{AreLeft}
-use Rattle.driver_passes.specs.inner.Shown.{AreRows, AreShownBy, shows_both}
+use Rattle.driver_passes.specs.inner.Shown.{AreRows, AreShownBy, AreShownByAll, shows_both}
 use Rattle.driver_passes.specs.inner.Shown.{drivers_at}
 use Rattle.driver_passes.proofs.ProgressLemmas.{length_end}
 
@@ -93,6 +93,28 @@ left_more board passes after pass row left left_after a are shown first e less n
     or_false : (t : Bool) → (t || false) ≡ t
     or_false true = refl
     or_false false = refl
+
+-- the nets that each row has are those that each pass shows
+pub always_whole : (board : RawBoard) (passes : List (List Ctl)) (rows : List (List ℕ)) (always : List ℕ) (size : ℕ) → AreRows board passes rows → size ≡ length board.nets / 64 + 1 → length always ≡ size →
+    ((n : ℕ) → n / 64 < size → is_in always n ≡ list_all (λ row. is_in row n) rows) → AreShownByAll board passes always
+always_whole board passes rows always size are room same each = record {
+  always_length = same ∙ room;
+  always_are = λ n within. each n (omega (arith, within, room)) ∙ all_rows board passes rows n are within;
+}
+
+-- those of them that one pass more shows too
+pub always_more : (board : RawBoard) (passes after : List (List Ctl)) (pass : List Ctl) (row always always_after : List ℕ) → AreShownByAll board passes always → AreShownBy board pass row → after ≡ passes ++ pass ∷ [] → length always_after ≡ length always →
+    ((n : ℕ) → is_in always_after n ≡ (is_in always n && is_in row n)) → AreShownByAll board after always_after
+always_more board passes after pass row always always_after are shown e same kept = record {
+  always_length = same ∙ are.always_length;
+  always_are = λ n within.
+      let p : List Ctl → Bool = shows (drivers_at board n) in
+      kept n ∙ ap (λ t. t && is_in row n) (are.always_are n within) ∙ ap (λ t. list_all p passes && t) (shown.row_are n within ∙ and_true (p pass)) ∙ sym (ap (list_all p) e ∙ list_all-append p passes (pass ∷ []));
+}
+  where
+    and_true : (t : Bool) → t ≡ (t && true)
+    and_true true = refl
+    and_true false = refl
 
 -- of the nets from the word of net a on, those that no row has together with it
 pub left_whole : (board : RawBoard) (passes : List (List Ctl)) (rows : List (List ℕ)) (left : List ℕ) (a size : ℕ) → AreRows board passes rows → a < length board.nets → size ≡ length board.nets / 64 + 1 →

@@ -78,6 +78,16 @@ fn set_from(words: &mut [u64], others: &[u64])
     }
 }
 
+/// Clears each bit that is not set in the other words.
+fn clear_others(words: &mut [u64], others: &[u64])
+    requires { length others.now ≡ length words.old }
+    ensures { (n : ℕ) → is_in words.new n ≡ (is_in words.old n && is_in others.now n) }
+{
+    for (i, other) in others.iter().enumerate() {
+        words[i] &= *other;
+    }
+}
+
 /// Sets the bit of the number, where it is to be in the set.
 fn set_if(words: &mut [u64], net: usize, holds: bool)
     requires { net / 64 < length words.old }
@@ -172,6 +182,15 @@ impl NumberSet {
         ensures numbers { (n : ℕ) → is_in self.new n ≡ (is_in others.now n || is_in self.old n) }
     {
         set_from(&mut self.words, &others.words);
+    }
+
+    /// Takes out the numbers that are not in the other set, which has the same room.
+    pub fn keep_only(&mut self, others: &NumberSet)
+        requires { length others.now ≡ length self.old }
+        ensures room { length self.new ≡ length self.old }
+        ensures numbers { (n : ℕ) → is_in self.new n ≡ (is_in self.old n && is_in others.now n) }
+    {
+        clear_others(&mut self.words, &others.words);
     }
 
     /// The first number of the set from this one on, where it is below the end; else a number that

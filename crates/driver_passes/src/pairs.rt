@@ -18,7 +18,7 @@ use crate::draft::Draft;
 use crate::drivers::{Progress, drivers_of};
 use crate::number_set::{NumberSet, next_in};
 use crate::sharers::Places;
-use crate::shown::{all_show, leave_unshown, take_shown};
+use crate::shown::{keep_shown, leave_unshown, take_shown};
 use crate::tested::TestedNets;
 use crate::walk::second_walk;
 use board_defs::{Board, Ctl, Drive, Setting, law};
@@ -38,6 +38,9 @@ pub struct Pairing {
     pub likes: Vec<u32>,
     /// Of the net that is looked at, the later ones which no pass so far shows together with it.
     pub left: NumberSet,
+    /// The nets that each pass so far shows. To ask each row for a net instead would be slow, since
+    /// the rows lie far apart in memory.
+    pub always: NumberSet,
 }
 
 /// The first of the drivers that one safe setting enables together with `d`.
@@ -161,7 +164,10 @@ impl Pairing {
         ensures passes { IfOk result (λ pairing. pairing.passes.items ≡ progress.passes.items) }
     {
         let likes = likes_of(alloc, board, classes, useful)?;
-        let left = NumberSet::new(alloc, board.raw().nets.as_slice().len())?;
+        let nets = board.raw().nets.as_slice().len();
+        let left = NumberSet::new(alloc, nets)?;
+        let mut always = NumberSet::new(alloc, nets)?;
+        keep_shown(&mut always, &progress.rows);
         Ok(Pairing {
             passes: progress.passes,
             rows: progress.rows,
@@ -169,6 +175,7 @@ impl Pairing {
             sharers: progress.sharers,
             likes,
             left,
+            always,
         })
     }
 
@@ -197,6 +204,7 @@ impl Pairing {
         let pass = draft.setting(alloc, board, useful)?;
         let row = self.tested_nets.shown_by(alloc, board, draft)?;
         take_shown(&mut self.left, &row, a);
+        self.always.keep_only(&row);
         self.passes.push(pass)?;
         self.rows.push(row)?;
         Ok(())
@@ -248,7 +256,7 @@ impl Pairing {
         if drivers_of(board, classes, a).is_empty() {
             return true;
         }
-        all_show(&self.rows, a)
+        self.always.has(a)
     }
 
     /// Goes from this net on to the next one that is paired with net `a` and that no pass shows

@@ -6,16 +6,16 @@ ghost use Rattle.driver_passes.specs.inner.Shown.{shows_both};
 
 use crate::number_set::NumberSet;
 
-/// Whether each of these passes shows the net.
-pub fn all_show(rows: &[NumberSet], net: usize) -> bool
-    ensures { result ≡ list_all (λ row. is_in row net) rows.now }
+/// Makes the set that of the nets which each pass shows.
+pub fn keep_shown(always: &mut NumberSet, rows: &[NumberSet])
+    requires sizes { All (λ row. length row ≡ length always.old) rows.now }
+    ensures room { length always.new ≡ length always.old }
+    ensures nets { (n : ℕ) → n / 64 < length always.old → is_in always.new n ≡ list_all (λ row. is_in row n) rows.now }
 {
+    always.fill();
     for row in rows {
-        if !row.has(net) {
-            return false;
-        }
+        always.keep_only(row);
     }
-    true
 }
 
 /// Takes out the nets from word `a / 64` on that the pass of this row shows together with net `a`.

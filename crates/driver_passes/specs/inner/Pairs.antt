@@ -11,11 +11,11 @@ use Rattle.driver_passes.specs.inner.Progress.{EnableTested, IsUsefulDriver}
 use Rattle.driver_passes.specs.inner.Shown.{drivers_at}
 use Rattle.driver_passes.specs.Useful.{HoldUseful}
 use Rattle.driver_passes.specs.inner.Alike.{AreAlike}
-use Rattle.driver_passes.specs.inner.Shown.{AreRows, drivers_at}
+use Rattle.driver_passes.specs.inner.Shown.{AreRows, AreShownByAll, drivers_at}
 use Rattle.driver_passes.specs.inner.Sharers.{AreSharers}
 use Rattle.driver_passes.specs.inner.Tested.{AreTestedNets}
 
--- the rows are those of the passes so far, which enable each tested driver and hold useful controls only; the set has room for each net
+-- the rows are those of the passes so far, which enable each tested driver and hold useful controls only; the one set has room for each net, and the other has the nets that all passes show
 pub record ArePairing (board : RawBoard) (pairing : Pairing) : Type 0 where
   pub rows : AreRows board pairing.passes.items pairing.rows.items
   pub alike : AreAlike board pairing.likes.items
@@ -24,6 +24,7 @@ pub record ArePairing (board : RawBoard) (pairing : Pairing) : Type 0 where
   pub tested_nets : AreTestedNets board pairing.tested_nets
   pub sharers : AreSharers board pairing.sharers.items
   pub left_length : length pairing.left ≡ length board.nets / 64 + 1
+  pub always : AreShownByAll board pairing.passes.items pairing.always
 
 -- of the nets from net a on, the set has those that none of the passes shows together with net a
 abbrev pub AreLeft : RawBoard → List (List Ctl) → ℕ → List ℕ → Type 0

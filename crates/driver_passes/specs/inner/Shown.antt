@@ -1,5 +1,6 @@
 -- Which nets each pass shows.
 use Rattle.std.specs.Prelude.{◌≡◌, ◌<◌, ◌+◌, ◌/◌, ◌&&◌, ℕ, Bool, List, [], length, slice_index_or}
+use Rattle.std.specs.List.{list_all}
 use Rattle.board_defs.specs.declared.board.Ctl.{Ctl}
 use Rattle.board_defs.specs.declared.board.RawBoard.{RawBoard}
 use Rattle.board_defs.specs.declared.board.Drive.{Drive}
@@ -19,6 +20,11 @@ pub record AreShownBy (board : RawBoard) (pass : List Ctl) (row : List ℕ) : Ty
 pub record AreRows (board : RawBoard) (passes : List (List Ctl)) (rows : List (List ℕ)) : Type 0 where
   pub rows_length : length rows ≡ length passes
   pub rows_are : (x : ℕ) → x < length passes → AreShownBy board (slice_index_or passes x []) (slice_index_or rows x [])
+
+-- the set is that of the nets that each of the passes shows, with room for each net
+pub record AreShownByAll (board : RawBoard) (passes : List (List Ctl)) (always : List ℕ) : Type 0 where
+  pub always_length : length always ≡ length board.nets / 64 + 1
+  pub always_are : (n : ℕ) → n < length board.nets → is_in always n ≡ list_all (shows (drivers_at board n)) passes
 
 -- the row has both nets
 abbrev pub shows_both : ℕ → ℕ → List ℕ → Bool

@@ -26,6 +26,7 @@ loop-b-init c =
         tested_nets = c.requires.pairing.tested_nets;
         sharers = c.requires.pairing.sharers;
         left_length = c.leave_unshown.ensures.room ∙ size;
+        always = c.requires.pairing.always;
       };
       left = left_whole board before.passes.items before.rows.items c.leave_unshown.new.left c.args.a (length before.left) c.requires.pairing.rows c.requires.first size (λ n from within.
           c.leave_unshown.ensures.nets n from within ∙ ap (λ v. not (list_any (shows_both c.args.a n) v)) c.deref.ensures.value);

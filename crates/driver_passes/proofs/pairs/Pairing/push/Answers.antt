@@ -1,6 +1,6 @@
 use Rattle.std.proofs.Common.{◌∙◌, ◌++◌, ◌∷◌, [], List, ap}
 use Rattle.board_defs.specs.declared.board.Ctl.{Ctl}
-use Rattle.driver_passes.proofs.RowLemmas.{left_more, rows_more, shown_as}
+use Rattle.driver_passes.proofs.RowLemmas.{always_more, left_more, rows_more, shown_as}
 use Rattle.driver_passes.proofs.UsefulLemmas.{useful_more}
 use Rattle.driver_passes.proofs.EnabledLemmas.{enabled_more}
 use Rattle.driver_passes.proofs.pairs.Pairing.push.Goals as goal
@@ -12,14 +12,16 @@ returns-clause-pairing c =
     let pass : List Ctl = c.in_ok-pass.pass in
     let passes = c.push.new.self.items in
     let pushed = c.in_ok-push.ensures.items in
+    let shown = shown_as board c.args.draft.now pass c.in_ok-row.row c.in_ok-pass.ensures c.in_ok-row.ensures in
     record {
-      rows = rows_more board before.passes.items passes before.rows.items c.push-2.new.self.items pass c.in_ok-row.row c.requires.pairing.rows (shown_as board c.args.draft.now pass c.in_ok-row.row c.in_ok-pass.ensures c.in_ok-row.ensures) pushed c.in_ok-push-2.ensures.items;
+      rows = rows_more board before.passes.items passes before.rows.items c.push-2.new.self.items pass c.in_ok-row.row c.requires.pairing.rows shown pushed c.in_ok-push-2.ensures.items;
       alike = c.requires.pairing.alike;
       tested = enabled_more board before.passes.items passes pass c.requires.pairing.tested pushed;
       useful = useful_more board before.passes.items passes c.args.draft.now (c.passes_kept.ensures board c.raw-rules.ensures.rules) c.requires.pairing.useful (pushed ∙ ap (λ (v : List Ctl). before.passes.items ++ v ∷ []) c.in_ok-pass.ensures);
       tested_nets = c.requires.pairing.tested_nets;
       sharers = c.requires.pairing.sharers;
       left_length = c.take_shown.ensures.room ∙ c.requires.pairing.left_length;
+      always = always_more board before.passes.items passes pass c.in_ok-row.row before.always c.keep_only.new.self c.requires.pairing.always shown pushed c.keep_only.ensures.room c.keep_only.ensures.numbers;
     }
 
 pub returns-clause-left : goal.returns-clause-left
