@@ -3,3 +3,4 @@ pub mod DriverLemmas
 pub mod ReaderLemmas
 pub mod ControlLemmas
 pub mod FillLemmas
+pub mod NextLemmas

@@ -123,8 +123,8 @@ fn rows_at(common: &[FixedRows], j: usize) -> &FixedRows
     &common[j]
 }
 
-// What all passes have in row `j`.
-fn common_row<'a>(board: &Board, tables: &'a PlanTables, j: u32) -> &'a FixedRows
+/// What all passes have in row `j`.
+pub fn common_row<'a>(board: &Board, tables: &'a PlanTables, j: u32) -> &'a FixedRows
     requires plan { IsPlanOf board.now tables.now }
     requires row { j < tables.now.width }
     ensures { result.now ≡ common_rows tables.now.quiet.bits tables.now.codes tables.now.readers tables.now.steady j }
@@ -153,8 +153,8 @@ fn fill_code_row(board: &Board, tables: &PlanTables, pass: usize, j: u32, tdi: &
     set_controlled(board, firsts, &tables.by_control, setting, codes, j, tdi);
 }
 
-// Shifts row `j` of a pass in, or the quiet row after the last.
-fn fill_now(board: &Board, tables: &PlanTables, pass: usize, j: u32, tdi: &mut Row)
+/// Shifts row `j` of a pass in, or the quiet row after the last.
+pub fn fill_now(board: &Board, tables: &PlanTables, pass: usize, j: u32, tdi: &mut Row)
     requires plan { IsPlanOf board.now tables.now }
     requires pass { pass < length tables.now.passes }
     requires few { tables.now.width ≤ 14 }

@@ -4,6 +4,7 @@
 
 mod fill;
 pub mod law;
+mod next;
 mod passes;
 mod plan;
 mod questions;

@@ -7,6 +7,7 @@ ghost use Rattle.plan_tables.specs.Plans.{ArePlannable, IsPlanOf};
 ghost use Rattle.scan_planner.specs.Plans.{IsRoom, FillsScan, scan_count, scan_of_pass};
 
 use crate::fill::{compare_row, fill_scan};
+use crate::next::fill_after;
 use board_defs::{Board, Items, Setting};
 use bt_bits::Row;
 use plan_tables::{PlanTables, tables_of};
@@ -91,6 +92,32 @@ impl Plan {
         ensures mask_kept { mask.new.room ≡ mask.old.room }
     {
         fill_scan(board, &self.tables, k, tdi, tdo, mask)
+    }
+
+    /// Fills the rows with scan `k + 1` of the test, where they hold scan `k`, which has the shape `before`, and tells its kind. What the
+    /// two scans have alike is left as it stands, so the scans of a test, one after another, cost less than by `fill`. The board is that
+    /// of the plan, `k + 1` is below the number of scans, and each row has room for the longer register. No memory is taken.
+    pub fn fill_next(
+        &self,
+        board: &Board,
+        k: u64,
+        before: Shape,
+        tdi: &mut Row,
+        tdo: &mut Row,
+        mask: &mut Row,
+    ) -> Shape
+        requires plan { IsPlanOf board.now self.now }
+        requires next { k + 1 < scan_count self.now }
+        requires before { FillsScan board.now self.now.passes self.now.width k before tdi.old.bits tdo.old.bits mask.old.bits }
+        requires tdi_room { IsRoom board.now tdi.old.room }
+        requires tdo_room { IsRoom board.now tdo.old.room }
+        requires mask_room { IsRoom board.now mask.old.room }
+        ensures filled { FillsScan board.now self.now.passes self.now.width (k + 1) result tdi.new.bits tdo.new.bits mask.new.bits }
+        ensures tdi_kept { tdi.new.room ≡ tdi.old.room }
+        ensures tdo_kept { tdo.new.room ≡ tdo.old.room }
+        ensures mask_kept { mask.new.room ≡ mask.old.room }
+    {
+        fill_after(board, &self.tables, k, before, tdi, tdo, mask)
     }
 
     /// Fills two rows with what the scan after row `row` of a pass compares: the expected bits, and where they are compared. The board
