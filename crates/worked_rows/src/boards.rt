@@ -89,7 +89,7 @@ fn the_first_board_rule_that_fails_is_told(rt: HostRuntime) -> Result<(), RowFau
     are_refused(&rt, rt.alloc(), &CHAINS)
 }
 
-static NET_FILES: [Case; 5] = [
+static NET_FILES: [Case; 6] = [
     (
         CHAIN,
         "NET N1 U1.9",
@@ -100,6 +100,12 @@ static NET_FILES: [Case; 5] = [
         CHAIN,
         "NET N1 U1.1 U2.1\nNET N2 U1.1",
         "drv rcv",
+        "n line 2 word 3: pin in two nets\n",
+    ),
+    (
+        "BYPASS U1 2",
+        "NET N1 P.abcdefghijklmnopqrstuvwxyz\nNET N2 P.ABCDEFGHIJKLMNOPQRSTUVWXYZ",
+        "drv",
         "n line 2 word 3: pin in two nets\n",
     ),
     (CHAIN, "NETS N1 U1.1", "drv rcv", "n line 1: no statement\n"),

@@ -56,6 +56,22 @@ fn a_net_that_is_not_covered_has_its_first_reason(rt: HostRuntime) -> Result<(),
     )
 }
 
+// A name of up to 24 bytes stands in its value, a longer one in memory of its own.
+#[test]
+fn names_may_be_long(rt: HostRuntime) -> Result<(), RowFault> {
+    is_listed(
+        &rt,
+        rt.alloc(),
+        "drv",
+        "BYPASS U1 2\nSUPPLY ABCDEFGHIJKLMNOPQRSTUVWXYZ\nINERT ABCDEFGHIJKLMNOPQRSTUVWXYZ",
+        "NET ABCDEFGHIJKLMNOPQRSTUVWX X.1\nNET ABCDEFGHIJKLMNOPQRSTUVWXY X.2\n\
+         NET ABCDEFGHIJKLMNOPQRSTUVWXYZ X.3\nNET QUIET ABCDEFGHIJKLMNOPQRSTUVWXYZ.1\n\
+         NET ABCDEFGHIJKLMNOPQRSTUVWXY ABCDEFGHIJKLMNOPQRSTUVWXYZ.2",
+        "NETS 4 COVERED 0\nNET ABCDEFGHIJKLMNOPQRSTUVWX DARK\nNET ABCDEFGHIJKLMNOPQRSTUVWXY DARK\n\
+         NET ABCDEFGHIJKLMNOPQRSTUVWXYZ SUPPLY\nNET QUIET NODRIVER\n",
+    )
+}
+
 #[test]
 fn a_part_without_a_description_darkens_its_nets(rt: HostRuntime) -> Result<(), RowFault> {
     let alloc = rt.alloc();
