@@ -4,8 +4,7 @@ use Rattle.std.specs.Prelude.{◌==◌, slice_get, All, Contains, filter_map, su
 use Rattle.std.specs.List.{list_any, flat_map, range_with_len, cons_option}
 use Rattle.std.proofs.lemmas.Bool.{and_parts, ne_eqb}
 use Rattle.std.proofs.lemmas.Option.{slice_get_within, get_or_from_slice_get}
-use Rattle.std.proofs.lemmas.List.{length-append, length-map, take_all}
-use Rattle.std.proofs.lemmas.List.{get_or-map as item-map}
+use Rattle.std.proofs.lemmas.List.{get_or-map as item-map, length-append, length-map, take_all}
 use Rattle.std.proofs.lemmas.List.Folds.{list_any-append}
 use Rattle.std.proofs.lemmas.List.Sums.{sum_by-cons}
 use Rattle.board_defs.specs.declared.board.Net.{Net}

@@ -10,8 +10,7 @@ use Rattle.driver_passes.specs.declared.draft.Draft.{Draft}
 use Rattle.driver_passes.specs.inner.Drafts.{setting_of}
 use Rattle.driver_passes.specs.inner.NumberSets.{is_in}
 use Rattle.driver_passes.specs.inner.Pairs.{AreLeft}
-use Rattle.driver_passes.specs.inner.Shown.{AreRows, AreShownBy, AreShownByAll, shows_both}
-use Rattle.driver_passes.specs.inner.Shown.{drivers_at}
+use Rattle.driver_passes.specs.inner.Shown.{AreRows, AreShownBy, AreShownByAll, drivers_at, shows_both}
 use Rattle.driver_passes.proofs.ProgressLemmas.{length_end}
 
 -- the row of a draft is that of the pass that it makes

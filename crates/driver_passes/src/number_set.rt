@@ -89,30 +89,30 @@ fn clear_others(words: &mut [u64], others: &[u64])
 }
 
 /// Sets the bit of the number, where it is to be in the set.
-fn set_if(words: &mut [u64], net: usize, holds: bool)
-    requires { net / 64 < length words.old }
-    ensures { (n : ℕ) → is_in words.new n ≡ ((n == net && holds) || is_in words.old n) }
+fn set_if(words: &mut [u64], number: usize, holds: bool)
+    requires { number / 64 < length words.old }
+    ensures { (n : ℕ) → is_in words.new n ≡ ((n == number && holds) || is_in words.old n) }
 {
     if holds {
-        words[net / 64] |= 1 << (net % 64);
+        words[number / 64] |= 1 << (number % 64);
     }
 }
 
 impl NumberSet {
     /// The empty set, with room for so many numbers.
-    pub fn new(alloc: Global, nets: usize) -> Result<NumberSet, AllocError>
-        ensures room { IfOk result (λ set. length set ≡ nets / 64 + 1) }
+    pub fn new(alloc: Global, numbers: usize) -> Result<NumberSet, AllocError>
+        ensures room { IfOk result (λ set. length set ≡ numbers / 64 + 1) }
         ensures none { IfOk result (λ set. (n : ℕ) → is_in set n ≡ false) }
     {
-        let words = blank_words(alloc, nets / 64 + 1)?;
+        let words = blank_words(alloc, numbers / 64 + 1)?;
         Ok(NumberSet { words })
     }
 
     /// Whether the number is in the set.
-    pub fn has(&self, net: usize) -> bool
-        ensures { result ≡ is_in self.now net }
+    pub fn has(&self, number: usize) -> bool
+        ensures { result ≡ is_in self.now number }
     {
-        word_at(&self.words, net / 64) >> (net % 64) & 1 == 1
+        word_at(&self.words, number / 64) >> (number % 64) & 1 == 1
     }
 
     /// The bits of the 64 numbers from 64 * number on.
@@ -123,12 +123,12 @@ impl NumberSet {
     }
 
     /// Adds the number, where it is to be in the set.
-    pub fn insert_if(&mut self, net: usize, holds: bool)
-        requires { net / 64 < length self.old }
+    pub fn insert_if(&mut self, number: usize, holds: bool)
+        requires { number / 64 < length self.old }
         ensures room { length self.new ≡ length self.old }
-        ensures nets { (n : ℕ) → is_in self.new n ≡ ((n == net && holds) || is_in self.old n) }
+        ensures numbers { (n : ℕ) → is_in self.new n ≡ ((n == number && holds) || is_in self.old n) }
     {
-        set_if(&mut self.words, net, holds);
+        set_if(&mut self.words, number, holds);
     }
 
     /// The same set once more.
@@ -140,20 +140,20 @@ impl NumberSet {
     }
 
     /// Adds these numbers.
-    pub fn insert_all(&mut self, nets: &[u32])
-        requires { All (λ n. n / 64 < length self.old) nets.now }
+    pub fn insert_all(&mut self, numbers: &[u32])
+        requires { All (λ n. n / 64 < length self.old) numbers.now }
         ensures room { length self.new ≡ length self.old }
-        ensures nets { (n : ℕ) → is_in self.new n ≡ (has_number nets.now n || is_in self.old n) }
+        ensures numbers { (n : ℕ) → is_in self.new n ≡ (has_number numbers.now n || is_in self.old n) }
     {
-        for net in nets {
-            self.insert_if(*net as usize, true);
+        for number in numbers {
+            self.insert_if(*number as usize, true);
         }
     }
 
     /// Adds each number that there is room for.
     pub fn fill(&mut self)
         ensures room { length self.new ≡ length self.old }
-        ensures nets { (n : ℕ) → n / 64 < length self.old → is_in self.new n ≡ true }
+        ensures numbers { (n : ℕ) → n / 64 < length self.old → is_in self.new n ≡ true }
     {
         set_all(&mut self.words);
     }
@@ -163,7 +163,7 @@ impl NumberSet {
         requires size { length others.now ≡ length self.old }
         requires first { first ≤ length self.old }
         ensures room { length self.new ≡ length self.old }
-        ensures nets { (n : ℕ) → first ≤ n / 64 → is_in self.new n ≡ (is_in self.old n && not (is_in others.now n)) }
+        ensures numbers { (n : ℕ) → first ≤ n / 64 → is_in self.new n ≡ (is_in self.old n && not (is_in others.now n)) }
     {
         clear_from(&mut self.words, &others.words, first);
     }

@@ -8,7 +8,6 @@ use Rattle.net_classes.specs.Pairs.{pairs_with}
 use Rattle.driver_passes.specs.declared.pairs.Pairing.{Pairing}
 use Rattle.driver_passes.specs.inner.NumberSets.{is_in}
 use Rattle.driver_passes.specs.inner.Progress.{EnableTested, IsUsefulDriver}
-use Rattle.driver_passes.specs.inner.Shown.{drivers_at}
 use Rattle.driver_passes.specs.Useful.{HoldUseful}
 use Rattle.driver_passes.specs.inner.Alike.{AreAlike}
 use Rattle.driver_passes.specs.inner.Shown.{AreRows, AreShownByAll, drivers_at}

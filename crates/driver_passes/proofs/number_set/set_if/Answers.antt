@@ -9,4 +9,4 @@ and_true true = refl
 and_true false = refl
 
 pub returns-then-holds : goal.returns-then-holds
-returns-then-holds c = λ n. number_set c.args.words.now c.args.net n _ c.requires refl ∙ ap (λ t. t || is_in c.args.words.now n) (and_true (n == c.args.net) ∙ ap (λ t. n == c.args.net && t) (sym c.if-holds.true))
+returns-then-holds c = λ n. number_set c.args.words.now c.args.number n _ c.requires refl ∙ ap (λ t. t || is_in c.args.words.now n) (and_true (n == c.args.number) ∙ ap (λ t. n == c.args.number && t) (sym c.if-holds.true))

@@ -15,11 +15,11 @@ returns-clause-draft c =
     let rules = c.raw-rules.ensures.rules in
     let after : Draft = record { held = c.insert_if.new.self; free = c.close_sharers.new.free } in
     added_draft board c.args.self.now after c.args.place c.args.c c.args.sharers.now c.shared_nets.result.now (c.passes_kept.ensures board rules) (c.terms_decided.ensures board rules) c.nets_are_shared.ensures c.requires.sharers c.requires.draft c.requires.stands c.shared_nets.ensures
-    c.insert_if.ensures.room c.insert_if.ensures.nets (λ q. c.close_sharers.ensures q ∙ ap (λ t. t && not (is_listed c.args.sharers.now c.shared_nets.result.now q)) (c.remove.ensures q))
+    c.insert_if.ensures.room c.insert_if.ensures.numbers (λ q. c.close_sharers.ensures q ∙ ap (λ t. t && not (is_listed c.args.sharers.now c.shared_nets.result.now q)) (c.remove.ensures q))
 
 pub returns-clause-added : goal.returns-clause-added
 returns-clause-added c =
     let board = c.args.board.now in
     let order = (c.passes_kept.ensures board c.raw-rules.ensures.rules).said.useful_in_order in
     let after : Draft = record { held = c.insert_if.new.self; free = c.close_sharers.new.free } in
-    added_setting board c.args.self.now after c.args.place c.args.c order c.requires.stands c.insert_if.ensures.nets
+    added_setting board c.args.self.now after c.args.place c.args.c order c.requires.stands c.insert_if.ensures.numbers

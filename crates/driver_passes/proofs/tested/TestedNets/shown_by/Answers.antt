@@ -42,5 +42,5 @@ loop-place-preserved c =
     record {
       room = c.insert_all.ensures.room ∙ c.loop-place.invariant.room;
       held = c.first_from-place-in-loop-place.ensures.found;
-      rest = row_step board lists c.args.pass.now.held place c.first_from-place-in-loop-place.result c.as_slice.result.now c.loop-place.row c.insert_all.new.self (λ n. shows (drivers_at board n) (setting_of board c.args.pass.now)) are less (c.loop-place.invariant.held c.loop-place-test.true) c.first_from-place-in-loop-place.ensures.further c.first_from-place-in-loop-place.ensures.passed list c.insert_all.ensures.nets c.loop-place.invariant.rest;
+      rest = row_step board lists c.args.pass.now.held place c.first_from-place-in-loop-place.result c.as_slice.result.now c.loop-place.row c.insert_all.new.self (λ n. shows (drivers_at board n) (setting_of board c.args.pass.now)) are less (c.loop-place.invariant.held c.loop-place-test.true) c.first_from-place-in-loop-place.ensures.further c.first_from-place-in-loop-place.ensures.passed list c.insert_all.ensures.numbers c.loop-place.invariant.rest;
     }
