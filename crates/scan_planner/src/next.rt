@@ -67,7 +67,6 @@ fn fill_further(
     ensures tdo_kept { tdo.new.room ≡ tdo.old.room }
 {
     let _ = board.raw();
-    let _ = mask.len();
     fill_now(board, tables, pass, j, tdi);
     expect_row(board, tables, pass, j - 1, tdo);
     Shape {
