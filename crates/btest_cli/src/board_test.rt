@@ -1,5 +1,5 @@
 // The command `svf`.
-ghost use Rattle.std.specs.Prelude.{◌≡◌, ◌<◌, ◌≤◌, ◌^◌, All, IfOk, IfSome, List, Some, length, map, slice_get};
+ghost use Rattle.std.specs.Prelude.{◌≡◌, ◌-◌, ◌<◌, ◌≤◌, ◌^◌, All, IfOk, IfSome, List, Some, length, map, slice_get};
 ghost use Rattle.bt_base.specs.Puts.{Puts};
 ghost use Rattle.board_defs.specs.Passes.{passes_of};
 ghost use Rattle.tap_defs.specs.board.BoardScans.{RowScan, board_scans, board_text, pass_text, test_scans};
@@ -8,7 +8,7 @@ ghost use Rattle.tap_defs.specs.chain.Clocks.{test_clocks};
 ghost use Rattle.tap_defs.specs.chain.Svf.{meaning};
 ghost use Rattle.tap_defs.specs.chain.Text.{scan_text, svf_text};
 ghost use Rattle.plan_tables.specs.Plans.{IsPlanOf};
-ghost use Rattle.scan_planner.specs.Plans.{IsRoom, scan_count};
+ghost use Rattle.scan_planner.specs.Plans.{FillsScan, IsRoom, scan_count};
 ghost use Rattle.btest_core.specs.BoardRead.{IsBoardRead};
 ghost use Rattle.btest_cli.specs.Worth.{RespondOnce, TestsBoard};
 ghost use Rattle.btest_cli.specs.inner.Answers.{Answers};
@@ -23,6 +23,7 @@ use net_classes::classify;
 use scan_planner::Plan;
 use std::alloc::{AllocError, Global};
 use svf_writer::{write_head, write_scan, write_tail};
+use tap_defs::Shape;
 use tap_defs::board_law::{board_texts_test, one_log, scans_in_turn, scans_placed};
 use tap_defs::chain_law::texts_mean;
 
@@ -109,30 +110,63 @@ pub fn write_test<K: Sink>(
 {
     scans_placed();
     write_head(out)?;
+    let mut held = None;
     for k in 0..plan.scans() {
-        write_scan_at(board, plan, k, rows, out)?;
+        write_scan_at(board, plan, k, &mut held, rows, out)?;
     }
     write_tail(out)
 }
 
-// Puts scan `k` of a plan.
+// Puts scan `k` of a plan. The rows hold the scan before it where `held` has the kind of that scan, and then this one.
 fn write_scan_at<K: Sink>(
     board: &Board,
     plan: &Plan,
     k: u64,
+    held: &mut Option<Shape>,
     rows: &mut Rows,
     out: &mut K,
 ) -> Result<(), PutFault>
     requires plan { IsPlanOf board.now plan.now }
     requires scan { k < scan_count plan.now }
+    requires later { IfSome held.old (λ shape. 0 < k) }
+    requires held { IfSome held.old (λ shape. FillsScan board.now plan.now.passes plan.now.width (k - 1) shape rows.old.tdi.bits rows.old.tdo.bits rows.old.mask.bits) }
     requires tdi { IsRoom board.now rows.old.tdi.room }
     requires tdo { IsRoom board.now rows.old.tdo.room }
     requires mask { IsRoom board.now rows.old.mask.room }
     ensures text { IfSome (slice_get (test_scans board.now plan.now.passes plan.now.width) k) (λ scan. Puts (K.shown out.old) (K.shown out.new) (scan_text scan) result) }
+    ensures held { IfSome held.new (λ shape. FillsScan board.now plan.now.passes plan.now.width k shape rows.new.tdi.bits rows.new.tdo.bits rows.new.mask.bits) }
     ensures tdi { rows.new.tdi.room ≡ rows.old.tdi.room }
     ensures tdo { rows.new.tdo.room ≡ rows.old.tdo.room }
     ensures mask { rows.new.mask.room ≡ rows.old.mask.room }
 {
-    let shape = plan.fill(board, k, &mut rows.tdi, &mut rows.tdo, &mut rows.mask);
+    let shape = fill_at(board, plan, k, *held, rows);
+    *held = Some(shape);
     write_scan(shape, &rows.tdi, &rows.tdo, &rows.mask, &mut rows.line, out)
+}
+
+// Fills the rows with scan `k` of a plan, from the scan before it where they hold that.
+fn fill_at(board: &Board, plan: &Plan, k: u64, before: Option<Shape>, rows: &mut Rows) -> Shape
+    requires plan { IsPlanOf board.now plan.now }
+    requires scan { k < scan_count plan.now }
+    requires later { IfSome before (λ shape. 0 < k) }
+    requires held { IfSome before (λ shape. FillsScan board.now plan.now.passes plan.now.width (k - 1) shape rows.old.tdi.bits rows.old.tdo.bits rows.old.mask.bits) }
+    requires tdi { IsRoom board.now rows.old.tdi.room }
+    requires tdo { IsRoom board.now rows.old.tdo.room }
+    requires mask { IsRoom board.now rows.old.mask.room }
+    ensures filled { FillsScan board.now plan.now.passes plan.now.width k result rows.new.tdi.bits rows.new.tdo.bits rows.new.mask.bits }
+    ensures tdi { rows.new.tdi.room ≡ rows.old.tdi.room }
+    ensures tdo { rows.new.tdo.room ≡ rows.old.tdo.room }
+    ensures mask { rows.new.mask.room ≡ rows.old.mask.room }
+{
+    match before {
+        None => plan.fill(board, k, &mut rows.tdi, &mut rows.tdo, &mut rows.mask),
+        Some(shape) => plan.fill_next(
+            board,
+            k - 1,
+            shape,
+            &mut rows.tdi,
+            &mut rows.tdo,
+            &mut rows.mask,
+        ),
+    }
 }
