@@ -89,11 +89,17 @@ fn the_first_board_rule_that_fails_is_told(rt: HostRuntime) -> Result<(), RowFau
     are_refused(&rt, rt.alloc(), &CHAINS)
 }
 
-static NET_FILES: [Case; 6] = [
+static NET_FILES: [Case; 7] = [
     (
         CHAIN,
         "NET N1 U1.9",
         "drv rcv",
+        "n line 1 word 3: no such pin\n",
+    ),
+    (
+        "DEVICE U1 buf2 -\nDEVICE U2 RCV1 -",
+        "NET N U1.b1 U2.1",
+        "buf2 rcv1",
         "n line 1 word 3: no such pin\n",
     ),
     (

@@ -144,13 +144,16 @@ fn a_link_joins_two_nets(rt: HostRuntime) -> Result<(), RowFault> {
 
 #[test]
 fn a_driver_and_a_receiver_are_covered(rt: HostRuntime) -> Result<(), RowFault> {
+    let alloc = rt.alloc();
+    is_listed(&rt, alloc, "drv rcv", CHAIN, NETS, "NETS 2 COVERED 2\n")?;
+    // The letters of entities, packages and pins have no case.
     is_listed(
         &rt,
-        rt.alloc(),
-        "drv rcv",
-        CHAIN,
-        NETS,
-        "NETS 2 COVERED 2\n",
+        alloc,
+        "buf2 rcv1",
+        "DEVICE U1 buf2 fk\nDEVICE U2 RCV1 -",
+        "NET N U1.b1 U2.1",
+        "NETS 1 COVERED 1\n",
     )
 }
 

@@ -6,13 +6,18 @@ const TWO: Ending<'static> = Ending::Puts(
     "DEVICES 2 NETS 72 COVERED 72 PASSES 2 SCANS 19 BYTES 2373\n",
 );
 
-static SUMMARIES: [(&str, Ending<'static>); 5] = [
+static SUMMARIES: [(&str, Ending<'static>); 6] = [
     ("make 2", TWO),
     ("make 002", TWO),
     ("make 00000000000000000002", TWO),
     (
         "make 7",
         Ending::Puts("DEVICES 7 NETS 232 COVERED 232 PASSES 7 SCANS 66 BYTES 26132\n"),
+    ),
+    // More controls than bits in a word.
+    (
+        "make 13",
+        Ending::Puts("DEVICES 13 NETS 424 COVERED 424 PASSES 13 SCANS 133 BYTES 96866\n"),
     ),
     (
         "make 1",

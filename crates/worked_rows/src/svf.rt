@@ -21,7 +21,7 @@ fn is_tested_by(
     bench.expect(0, status, Ending::Scans(scans))
 }
 
-static CODES: [Row; 4] = [
+static CODES: [Row; 5] = [
     Row {
         texts: &[],
         line: "svf c n drv rcv",
@@ -52,6 +52,18 @@ static CODES: [Row; 4] = [
              SDR 5 TDI (01);\nSDR 5 TDI (02) TDO (08) MASK (18);\nSDR 5 TDI (00) TDO (10) MASK (18);\n",
         ),
     },
+    // The pass of the driver that is always on begins without a control, and takes the other driver's.
+    Row {
+        texts: &[
+            ("c", "DEVICE U1 DRV -\nDEVICE U2 TS -\nDEVICE U3 RCV -"),
+            ("n", "NET A U1.1 U3.1\nNET B U2.1 U3.2"),
+        ],
+        line: "svf c n drv ts rcv",
+        ending: Ending::Scans(
+            "SIR 6 TDI (2A) TDO (15) MASK (3F);\nSDR 6 TDI (08);\nSIR 6 TDI (00) TDO (15) MASK (3F);\n\
+             SDR 6 TDI (10);\nSDR 6 TDI (04) TDO (01) MASK (03);\nSDR 6 TDI (08) TDO (02) MASK (03);\n",
+        ),
+    },
 ];
 
 #[test]
@@ -59,18 +71,33 @@ fn the_driver_of_each_net_shifts_its_code(rt: HostRuntime) -> Result<(), RowFaul
     rows_hold(&rt, rt.alloc(), &[], &CODES)
 }
 
+const BUS: &str = "DEVICE U1 TS -\nDEVICE U2 TS -\nDEVICE U3 RCV1 -";
+
+// The drivers of a net have their passes in the order of its pins, which need not be that of the parts.
+static BUSES: [Row; 2] = [
+    Row {
+        texts: &[("c", BUS), ("n", "NET BUS U1.1 U2.1 U3.1")],
+        line: "svf c n ts rcv1",
+        ending: Ending::Scans(
+            "SIR 6 TDI (2A) TDO (15) MASK (3F);\nSDR 5 TDI (14);\nSIR 6 TDI (00) TDO (15) MASK (3F);\n\
+             SDR 5 TDI (0C);\nSDR 5 TDI (04) TDO (01) MASK (01);\nSDR 5 TDI (14) TDO (00) MASK (01);\n\
+             SDR 5 TDI (12);\nSDR 5 TDI (10) TDO (01) MASK (01);\nSDR 5 TDI (14) TDO (00) MASK (01);\n",
+        ),
+    },
+    Row {
+        texts: &[("c", BUS), ("n", "NET BUS U2.1 U1.1 U3.1")],
+        line: "svf c n ts rcv1",
+        ending: Ending::Scans(
+            "SIR 6 TDI (2A) TDO (15) MASK (3F);\nSDR 5 TDI (14);\nSIR 6 TDI (00) TDO (15) MASK (3F);\n\
+             SDR 5 TDI (12);\nSDR 5 TDI (10) TDO (01) MASK (01);\nSDR 5 TDI (14) TDO (00) MASK (01);\n\
+             SDR 5 TDI (0C);\nSDR 5 TDI (04) TDO (01) MASK (01);\nSDR 5 TDI (14) TDO (00) MASK (01);\n",
+        ),
+    },
+];
+
 #[test]
 fn a_bus_has_a_pass_for_each_driver(rt: HostRuntime) -> Result<(), RowFault> {
-    is_tested_by(
-        &rt,
-        rt.alloc(),
-        "ts rcv1",
-        "DEVICE U1 TS -\nDEVICE U2 TS -\nDEVICE U3 RCV1 -",
-        "NET BUS U1.1 U2.1 U3.1",
-        "SIR 6 TDI (2A) TDO (15) MASK (3F);\nSDR 5 TDI (14);\nSIR 6 TDI (00) TDO (15) MASK (3F);\n\
-         SDR 5 TDI (0C);\nSDR 5 TDI (04) TDO (01) MASK (01);\nSDR 5 TDI (14) TDO (00) MASK (01);\n\
-         SDR 5 TDI (12);\nSDR 5 TDI (10) TDO (01) MASK (01);\nSDR 5 TDI (14) TDO (00) MASK (01);\n",
-    )
+    rows_hold(&rt, rt.alloc(), &[], &BUSES)
 }
 
 #[test]
@@ -122,7 +149,67 @@ fn linked_nets_are_tested_as_one(rt: HostRuntime) -> Result<(), RowFault> {
     let alloc = rt.alloc();
     let linked = format!(in alloc; "{CHAIN}LINK R1 1 2")?;
     let nets = "NET N1A U1.1 R1.1\nNET N1B R1.2 U2.1\nNET N2 U1.2 U2.2";
+    is_tested_by(&rt, alloc, "drv rcv", &linked, nets, SCANS)?;
+    // The letters of pin names have no case.
+    let linked = format!(in alloc; "{CHAIN}LINK R1 a B")?;
+    let nets = "NET N1A U1.1 R1.A\nNET N1B R1.b U2.1\nNET N2 U1.2 U2.2";
     is_tested_by(&rt, alloc, "drv rcv", &linked, nets, SCANS)
+}
+
+// Passes that are made for two nets. On the first board those of A with D and of B with C, in this order. On the second one for A
+// with C: the driver of A is together with the first driver of C, so that is taken, though it is with the second one too.
+static TOGETHER: [Row; 2] = [
+    Row {
+        texts: &[
+            (
+                "c",
+                "DEVICE U1 TWO -\nDEVICE U2 RCV -\nDEVICE U3 RCV -\nDEVICE U4 TWO -\nDEVICE U5 RCV -\nDEVICE U6 RCV -",
+            ),
+            (
+                "n",
+                "NET A U1.1 U2.1\nNET X U1.2 U1.3 U2.2\nNET B U1.4 U3.1\nNET C U4.1 U5.1\nNET Y U4.2 U4.3 U5.2\nNET D U4.4 U6.1",
+            ),
+        ],
+        line: "svf c n two rcv",
+        ending: Ending::Scans(
+            "SIR 12 TDI (AAA) TDO (555) MASK (FFF);\nSDR 20 TDI (C0300);\nSIR 12 TDI (000) TDO (555) MASK (FFF);\n\
+             SDR 20 TDI (84220);\nSDR 20 TDI (88200) TDO (01008) MASK (0300C);\nSDR 20 TDI (80230) TDO (02000) MASK (0300C);\n\
+             SDR 20 TDI (C0300) TDO (0000C) MASK (0300C);\nSDR 20 TDI (60140);\nSDR 20 TDI (70180) TDO (00408) MASK (02409);\n\
+             SDR 20 TDI (401C0) TDO (02401) MASK (02409);\nSDR 20 TDI (C0300) TDO (00009) MASK (02409);\nSDR 20 TDI (84140);\n\
+             SDR 20 TDI (88180) TDO (01008) MASK (03009);\nSDR 20 TDI (801C0) TDO (02001) MASK (03009);\n\
+             SDR 20 TDI (C0300) TDO (00009) MASK (03009);\nSDR 20 TDI (60220);\nSDR 20 TDI (70200) TDO (00408) MASK (0240C);\n\
+             SDR 20 TDI (40230) TDO (02400) MASK (0240C);\nSDR 20 TDI (C0300) TDO (0000C) MASK (0240C);\n",
+        ),
+    },
+    Row {
+        texts: &[
+            (
+                "c",
+                "DEVICE U1 TS -\nDEVICE U2 FOUR -\nDEVICE U3 RCV -\nDEVICE U4 RCV -",
+            ),
+            (
+                "n",
+                "NET A U2.5 U3.1\nNET B U1.1 U2.7 U2.1 U3.2\nNET C U2.2 U2.8 U4.1\nNET D U2.3 U2.6 U4.2",
+            ),
+        ],
+        line: "svf c n ts four rcv",
+        ending: Ending::Scans(
+            "SIR 8 TDI (AA) TDO (55) MASK (FF);\nSDR 18 TDI (2F000);\nSIR 8 TDI (00) TDO (55) MASK (FF);\n\
+             SDR 18 TDI (0B100);\nSDR 18 TDI (1B000) TDO (00004) MASK (0000E);\nSDR 18 TDI (0B200) TDO (00008) MASK (0000E);\n\
+             SDR 18 TDI (2F000) TDO (00002) MASK (0000E);\nSDR 18 TDI (25800);\nSDR 18 TDI (25C00) TDO (00001) MASK (0000B);\n\
+             SDR 18 TDI (25040) TDO (00009) MASK (0000B);\nSDR 18 TDI (2F000) TDO (00002) MASK (0000B);\nSDR 18 TDI (2C020);\n\
+             SDR 18 TDI (2C030) TDO (00001) MASK (0000B);\nSDR 18 TDI (2C040) TDO (00009) MASK (0000B);\n\
+             SDR 18 TDI (2F000) TDO (00002) MASK (0000B);\nSDR 18 TDI (2A120);\nSDR 18 TDI (2A030) TDO (00005) MASK (0000F);\n\
+             SDR 18 TDI (2A200) TDO (00009) MASK (0000F);\nSDR 18 TDI (2F000) TDO (00002) MASK (0000F);\n",
+        ),
+    },
+];
+
+#[test]
+fn two_nets_are_observed_by_the_first_drivers_that_are_together(
+    rt: HostRuntime,
+) -> Result<(), RowFault> {
+    rows_hold(&rt, rt.alloc(), &[], &TOGETHER)
 }
 
 // The first board enables the controls of cells 8 and 9, then 10 and 11, then 9 and 10; the second those of cell 4, then 5.
