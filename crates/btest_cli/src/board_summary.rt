@@ -6,6 +6,7 @@ ghost use Rattle.tap_defs.specs.board.BoardScans.{pass_text};
 ghost use Rattle.net_classes.specs.Kept.{AreClasses};
 ghost use Rattle.coverage_list.specs.CoverText.{covered};
 ghost use Rattle.plan_tables.specs.Plans.{IsPlanOf};
+ghost use Rattle.scan_planner.specs.Coded.{AreCoded};
 ghost use Rattle.scan_planner.specs.Plans.{IsRoom, scan_count};
 ghost use Rattle.board_gen.specs.BoardTexts.{chain_text, net_text};
 ghost use Rattle.board_gen.specs.DeviceText.{bsdl_text};
@@ -27,7 +28,7 @@ use coverage_list::covered_nets;
 use itoa::Buffer;
 use line_printer::put_line;
 use net_classes::{Classes, classify};
-use scan_planner::Plan;
+use scan_planner::{CodedCells, Plan};
 use std::alloc::Global;
 use tap_defs::board_law::scans_placed;
 
@@ -61,8 +62,11 @@ pub fn summary<K: Sink>(alloc: Global, number: u32, out: &mut K) -> Result<(), U
     let Ok(mut rows) = Rows::with_room(alloc, longest_scan(&board)) else {
         return Err(Unput::Memory);
     };
+    let Ok(mut cells) = CodedCells::with_room(alloc, board.dr_bits()) else {
+        return Err(Unput::Memory);
+    };
     scans_placed();
-    let counts = counts_of(&board, &classes, &plan, &mut rows);
+    let counts = counts_of(&board, &classes, &plan, &mut cells, &mut rows);
     match put_counts(&counts, &mut rows.line, out) {
         Ok(()) => Ok(()),
         Err(_) => Err(Unput::Write),
@@ -96,24 +100,32 @@ fn net_count(board: &Board) -> u32
 }
 
 // How many bytes the text of the board's test has, which is written to be counted alone.
-fn text_bytes(board: &Board, plan: &Plan, rows: &mut Rows) -> u64
+fn text_bytes(board: &Board, plan: &Plan, cells: &mut CodedCells, rows: &mut Rows) -> u64
     requires plan { IsPlanOf board.now plan.now }
+    requires coded { AreCoded board.now plan.now cells.old }
     requires tdi { IsRoom board.now rows.old.tdi.room }
     requires tdo { IsRoom board.now rows.old.tdo.room }
     requires mask { IsRoom board.now rows.old.mask.room }
     ensures { result ≡ min (length (pass_text board.now plan.now.passes plan.now.width)) last_count }
 {
     let mut counter = CountSink::new();
-    let Ok(()) = write_test(board, plan, rows, &mut counter) else {
+    let Ok(()) = write_test(board, plan, cells, rows, &mut counter) else {
         unreachable!()
     };
     counter.count()
 }
 
 // The counts of a board and of the test that a plan makes.
-fn counts_of(board: &Board, classes: &Classes, plan: &Plan, rows: &mut Rows) -> Counts
+fn counts_of(
+    board: &Board,
+    classes: &Classes,
+    plan: &Plan,
+    cells: &mut CodedCells,
+    rows: &mut Rows,
+) -> Counts
     requires classes { AreClasses board.now classes.now }
     requires plan { IsPlanOf board.now plan.now }
+    requires coded { AreCoded board.now plan.now cells.old }
     requires tdi { IsRoom board.now rows.old.tdi.room }
     requires tdo { IsRoom board.now rows.old.tdo.room }
     requires mask { IsRoom board.now rows.old.mask.room }
@@ -130,7 +142,7 @@ fn counts_of(board: &Board, classes: &Classes, plan: &Plan, rows: &mut Rows) -> 
         covered: covered_nets(board, classes),
         passes: plan.passes().len() as u64,
         scans: plan.scans(),
-        bytes: text_bytes(board, plan, rows),
+        bytes: text_bytes(board, plan, cells, rows),
     }
 }
 

@@ -8,6 +8,7 @@ ghost use Rattle.tap_defs.specs.chain.Clocks.{test_clocks};
 ghost use Rattle.tap_defs.specs.chain.Svf.{meaning};
 ghost use Rattle.tap_defs.specs.chain.Text.{scan_text, svf_text};
 ghost use Rattle.plan_tables.specs.Plans.{IsPlanOf};
+ghost use Rattle.scan_planner.specs.Coded.{AreCoded};
 ghost use Rattle.scan_planner.specs.Plans.{FillsScan, IsRoom, scan_count};
 ghost use Rattle.btest_core.specs.BoardRead.{IsBoardRead};
 ghost use Rattle.btest_cli.specs.Worth.{RespondOnce, TestsBoard};
@@ -20,7 +21,7 @@ use board_defs::Board;
 use bt_base::{PutFault, Sink};
 use btest_core::{plan, read_board};
 use net_classes::classify;
-use scan_planner::Plan;
+use scan_planner::{CodedCells, Plan};
 use std::alloc::{AllocError, Global};
 use svf_writer::{write_head, write_scan, write_tail};
 use tap_defs::Shape;
@@ -46,8 +47,11 @@ pub fn svf<K: Sink>(alloc: Global, texts: BoardTexts, out: &mut K) -> Result<(),
     let Ok(mut rows) = Rows::with_room(alloc, longest_scan(&board)) else {
         return Err(Unput::Memory);
     };
+    let Ok(mut cells) = CodedCells::with_room(alloc, board.dr_bits()) else {
+        return Err(Unput::Memory);
+    };
     tests_board(&board);
-    match write_test(&board, &plan, &mut rows, out) {
+    match write_test(&board, &plan, &mut cells, &mut rows, out) {
         Ok(()) => Ok(()),
         Err(_) => Err(Unput::Write),
     }
@@ -94,15 +98,17 @@ pub fn longest_scan(board: &Board) -> u32
     board.ir_bits().max(board.dr_bits())
 }
 
-/// Puts the test that a plan makes.
+/// Puts the test that a plan makes. The cells serve to make the scans of a pass.
 #[tactic(auto, unfolding(tap_defs::specs::chain::Text::svf_text))]
 pub fn write_test<K: Sink>(
     board: &Board,
     plan: &Plan,
+    cells: &mut CodedCells,
     rows: &mut Rows,
     out: &mut K,
 ) -> Result<(), PutFault>
     requires plan { IsPlanOf board.now plan.now }
+    requires coded { AreCoded board.now plan.now cells.old }
     requires tdi { IsRoom board.now rows.old.tdi.room }
     requires tdo { IsRoom board.now rows.old.tdo.room }
     requires mask { IsRoom board.now rows.old.mask.room }
@@ -112,7 +118,7 @@ pub fn write_test<K: Sink>(
     write_head(out)?;
     let mut held = None;
     for k in 0..plan.scans() {
-        write_scan_at(board, plan, k, &mut held, rows, out)?;
+        write_scan_at(board, plan, k, &mut held, cells, rows, out)?;
     }
     write_tail(out)
 }
@@ -123,6 +129,7 @@ fn write_scan_at<K: Sink>(
     plan: &Plan,
     k: u64,
     held: &mut Option<Shape>,
+    cells: &mut CodedCells,
     rows: &mut Rows,
     out: &mut K,
 ) -> Result<(), PutFault>
@@ -130,30 +137,41 @@ fn write_scan_at<K: Sink>(
     requires scan { k < scan_count plan.now }
     requires later { IfSome held.old (λ shape. 0 < k) }
     requires held { IfSome held.old (λ shape. FillsScan board.now plan.now.passes plan.now.width (k - 1) shape rows.old.tdi.bits rows.old.tdo.bits rows.old.mask.bits) }
+    requires coded { AreCoded board.now plan.now cells.old }
     requires tdi { IsRoom board.now rows.old.tdi.room }
     requires tdo { IsRoom board.now rows.old.tdo.room }
     requires mask { IsRoom board.now rows.old.mask.room }
     ensures text { IfSome (slice_get (test_scans board.now plan.now.passes plan.now.width) k) (λ scan. Puts (K.shown out.old) (K.shown out.new) (scan_text scan) result) }
     ensures held { IfSome held.new (λ shape. FillsScan board.now plan.now.passes plan.now.width k shape rows.new.tdi.bits rows.new.tdo.bits rows.new.mask.bits) }
+    ensures coded { AreCoded board.now plan.now cells.new }
     ensures tdi { rows.new.tdi.room ≡ rows.old.tdi.room }
     ensures tdo { rows.new.tdo.room ≡ rows.old.tdo.room }
     ensures mask { rows.new.mask.room ≡ rows.old.mask.room }
 {
-    let shape = fill_at(board, plan, k, *held, rows);
+    let shape = fill_at(board, plan, k, *held, cells, rows);
     *held = Some(shape);
     write_scan(shape, &rows.tdi, &rows.tdo, &rows.mask, &mut rows.line, out)
 }
 
 // Fills the rows with scan `k` of a plan, from the scan before it where they hold that.
-fn fill_at(board: &Board, plan: &Plan, k: u64, before: Option<Shape>, rows: &mut Rows) -> Shape
+fn fill_at(
+    board: &Board,
+    plan: &Plan,
+    k: u64,
+    before: Option<Shape>,
+    cells: &mut CodedCells,
+    rows: &mut Rows,
+) -> Shape
     requires plan { IsPlanOf board.now plan.now }
     requires scan { k < scan_count plan.now }
     requires later { IfSome before (λ shape. 0 < k) }
     requires held { IfSome before (λ shape. FillsScan board.now plan.now.passes plan.now.width (k - 1) shape rows.old.tdi.bits rows.old.tdo.bits rows.old.mask.bits) }
+    requires coded { AreCoded board.now plan.now cells.old }
     requires tdi { IsRoom board.now rows.old.tdi.room }
     requires tdo { IsRoom board.now rows.old.tdo.room }
     requires mask { IsRoom board.now rows.old.mask.room }
     ensures filled { FillsScan board.now plan.now.passes plan.now.width k result rows.new.tdi.bits rows.new.tdo.bits rows.new.mask.bits }
+    ensures coded { AreCoded board.now plan.now cells.new }
     ensures tdi { rows.new.tdi.room ≡ rows.old.tdi.room }
     ensures tdo { rows.new.tdo.room ≡ rows.old.tdo.room }
     ensures mask { rows.new.mask.room ≡ rows.old.mask.room }
@@ -164,6 +182,7 @@ fn fill_at(board: &Board, plan: &Plan, k: u64, before: Option<Shape>, rows: &mut
             board,
             k - 1,
             shape,
+            cells,
             &mut rows.tdi,
             &mut rows.tdo,
             &mut rows.mask,

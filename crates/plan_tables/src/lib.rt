@@ -27,5 +27,5 @@ pub use build::tables_of;
 pub use controls::{ControlCells, DriverTable, controlled};
 pub use held::held_cell;
 pub use nets::NetDriver;
-pub use rows::{compare_nets, expect_nets, set_drivers};
+pub use rows::{compare_nets, set_drivers};
 pub use tables::{DriverCell, FixedRows, HeldCell, PlanTables, ReaderCell};

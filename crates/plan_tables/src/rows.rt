@@ -81,38 +81,3 @@ pub fn compare_nets(
         );
     }
 }
-
-// Sets what is expected of a net at the cells that read it, but for those at the driver's place.
-fn expect_net(readers: &[ReaderCell], place: u32, bit: bool, tdo: &mut Row)
-    requires within { All (λ r. r.position < length tdo.old.bits) readers.now }
-    ensures bits { tdo.new.bits ≡ set_readers place bit tdo.old.bits readers.now }
-    ensures kept { tdo.new.room ≡ tdo.old.room }
-{
-    for reader in readers {
-        if reader.place != place {
-            tdo.set(reader.position, bit);
-        }
-    }
-}
-
-/// Sets what is expected of the nets of these drivers, bit `j` of their codes, where the mask stands already.
-pub fn expect_nets(
-    drivers: &[DriverCell],
-    readers: &[Items<ReaderCell>],
-    codes: &[u32],
-    j: u32,
-    tdo: &mut Row,
-)
-    requires bit { j < 32 }
-    requires codes { All (λ d. d.net < length codes.now) drivers.now }
-    requires nets { All (λ d. d.net < length readers.now) drivers.now }
-    requires within { All (λ cells. All (λ r. r.position < length tdo.old.bits) cells) readers.now }
-    ensures bits { tdo.new.bits ≡ set_compared (driver_bit codes.now j) readers.now tdo.old.bits drivers.now }
-    ensures same_length { length tdo.new.bits ≡ length tdo.old.bits }
-    ensures kept { tdo.new.room ≡ tdo.old.room }
-{
-    for cell in drivers {
-        let net = cell.net as usize;
-        expect_net(readers[net].as_slice(), cell.place, bit(codes[net], j), tdo);
-    }
-}

@@ -4,3 +4,5 @@ pub mod ReaderLemmas
 pub mod ControlLemmas
 pub mod FillLemmas
 pub mod NextLemmas
+pub mod CodedLemmas
+pub mod Samples

@@ -1,3 +1,4 @@
 pub mod Plans
+pub mod Coded
 pub mod Laws
 pub mod inner

@@ -7,6 +7,7 @@ ghost use Rattle.tap_defs.specs.chain.Scan.{joined, tdi_bits, tdo_bits, mask_bit
 ghost use Rattle.plan_tables.specs.Tables.{common_rows};
 ghost use Rattle.plan_tables.specs.Plans.{IsPlanOf};
 ghost use Rattle.scan_planner.specs.Plans.{IsRoom, FillsScan, scan_count, scan_of_pass};
+ghost use Rattle.scan_planner.specs.inner.Passes.{held_row};
 
 use crate::passes::{compare_controlled, pass_at, set_controlled, set_held};
 use board_defs::Board;
@@ -133,6 +134,23 @@ pub fn common_row<'a>(board: &Board, tables: &'a PlanTables, j: u32) -> &'a Fixe
     rows_at(tables.common.as_slice(), j as usize)
 }
 
+/// Shifts in what all passes have in row `j`, and in the cells of the controls of a pass what these hold.
+pub fn shift_held(board: &Board, tables: &PlanTables, pass: usize, j: u32, tdi: &mut Row)
+    requires plan { IsPlanOf board.now tables.now }
+    requires pass { pass < length tables.now.passes }
+    requires row { j < tables.now.width }
+    requires room { data_bits board.now ≤ tdi.old.room }
+    ensures bits { tdi.new.bits ≡ held_row board.now tables.now pass j }
+    ensures same_length { length tdi.new.bits ≡ data_bits board.now }
+    ensures kept { tdi.new.room ≡ tdi.old.room }
+{
+    let _ = board.raw();
+    let common = common_row(board, tables, j);
+    let setting = pass_at(tables.passes.as_slice(), pass);
+    tdi.copy_row(&common.tdi);
+    set_held(board, tables.firsts.as_slice(), &tables.quiet, setting, tdi);
+}
+
 // Shifts row `j` of a pass in: the cells of the pass over what all passes have.
 fn fill_code_row(board: &Board, tables: &PlanTables, pass: usize, j: u32, tdi: &mut Row)
     requires plan { IsPlanOf board.now tables.now }
@@ -144,12 +162,10 @@ fn fill_code_row(board: &Board, tables: &PlanTables, pass: usize, j: u32, tdi: &
     ensures kept { tdi.new.room ≡ tdi.old.room }
 {
     let _ = board.raw();
-    let common = common_row(board, tables, j);
     let setting = pass_at(tables.passes.as_slice(), pass);
     let firsts = tables.firsts.as_slice();
     let codes = tables.codes.as_slice();
-    tdi.copy_row(&common.tdi);
-    set_held(board, firsts, &tables.quiet, setting, tdi);
+    shift_held(board, tables, pass, j, tdi);
     set_controlled(board, firsts, &tables.by_control, setting, codes, j, tdi);
 }
 
@@ -208,8 +224,8 @@ pub fn compare_row(
     );
 }
 
-// Compares the row before row `j` of a pass, and nothing before the first; tells whether anything is compared.
-fn fill_before(
+/// Compares the row before row `j` of a pass, and nothing before the first; tells whether anything is compared.
+pub fn fill_before(
     board: &Board,
     tables: &PlanTables,
     pass: usize,

@@ -2,6 +2,7 @@
 //! of each net and each position. `plan_tables` makes the tables.
 #![tactic(auto)]
 
+mod coded;
 mod fill;
 pub mod law;
 mod next;
@@ -9,5 +10,6 @@ mod passes;
 mod plan;
 mod questions;
 
+pub use coded::{CodedCell, CodedCells};
 pub use plan::Plan;
 pub use plan_tables::{NetDriver, ReaderCell};

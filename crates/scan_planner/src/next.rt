@@ -1,22 +1,104 @@
-// Fills rows that hold a scan with the next one.
-ghost use Rattle.std.specs.Prelude.{◌≡◌, ◌+◌, ◌*◌, ◌<◌, ◌≤◌, ◌^◌, suc, length};
+// Fills rows that hold a scan with the next one, by the cells of its pass.
+ghost use Rattle.std.specs.Prelude.{◌≡◌, ◌+◌, ◌*◌, ◌<◌, ◌≤◌, ◌^◌, true, suc, length};
+ghost use Rattle.std.specs.List.{list_any};
 ghost use Rattle.board_defs.specs.Pins.{data_bits};
 ghost use Rattle.tap_defs.specs.board.BoardScans.{row_bits};
-ghost use Rattle.tap_defs.specs.chain.Scan.{joined, tdo_bits};
+ghost use Rattle.tap_defs.specs.board.TestRows.{code_bit};
+ghost use Rattle.tap_defs.specs.chain.Scan.{joined, tdi_bits, tdo_bits, mask_bits};
+ghost use Rattle.plan_tables.specs.Assigned.{assigned};
 ghost use Rattle.plan_tables.specs.Plans.{IsPlanOf};
+ghost use Rattle.scan_planner.specs.Coded.{AreCoded, AreCodedFor};
 ghost use Rattle.scan_planner.specs.Plans.{IsRoom, FillsScan, scan_count, scan_of_pass};
 
-use crate::fill::{common_row, fill_now, fill_scan};
-use crate::passes::{expect_controlled, pass_at};
+use crate::coded::{CodedCell, CodedCells};
+use crate::fill::{common_row, fill_before, fill_now, fill_scan, shift_held};
 use board_defs::Board;
 use bt_bits::Row;
+use counting_codes::bit;
 use plan_tables::PlanTables;
 use tap_defs::Shape;
 
-// Sets what is expected of row `j` of a pass.
-fn expect_row(board: &Board, tables: &PlanTables, pass: usize, j: u32, tdo: &mut Row)
+// Sets cells to bit `j` of their codes.
+fn set_codes(cells: &[CodedCell], j: u32, row: &mut Row)
+    requires bit { j < 32 }
+    ensures bits { row.new.bits ≡ assigned (λ c. c.position) (λ c. code_bit c.code j) row.old.bits cells.now }
+    ensures kept { row.new.room ≡ row.old.room }
+{
+    for cell in cells {
+        if cell.position < row.len() {
+            row.set(cell.position, bit(cell.code, j));
+        }
+    }
+}
+
+// Sets cells to 1.
+fn mark_cells(cells: &[CodedCell], row: &mut Row)
+    ensures bits { row.new.bits ≡ assigned (λ c. c.position) (λ c. true) row.old.bits cells.now }
+    ensures kept { row.new.room ≡ row.old.room }
+{
+    for cell in cells {
+        if cell.position < row.len() {
+            row.set(cell.position, true);
+        }
+    }
+}
+
+// Shifts row `j` of a pass in, which has these cells.
+fn shift_row(
+    board: &Board,
+    tables: &PlanTables,
+    pass: usize,
+    j: u32,
+    cells: &CodedCells,
+    tdi: &mut Row,
+)
     requires plan { IsPlanOf board.now tables.now }
-    requires pass { pass < length tables.now.passes }
+    requires cells { AreCodedFor board.now tables.now cells.now pass }
+    requires row { j < tables.now.width }
+    requires few { tables.now.width ≤ 14 }
+    requires room { data_bits board.now ≤ tdi.old.room }
+    ensures bits { tdi.new.bits ≡ tdi_bits (joined (row_bits board.now (scan_of_pass board.now tables.now pass j))) }
+    ensures kept { tdi.new.room ≡ tdi.old.room }
+{
+    let _ = board.raw();
+    shift_held(board, tables, pass, j, tdi);
+    set_codes(&cells.driven, j, tdi);
+}
+
+// Shifts row `j` of a pass in, or the quiet row after the last.
+fn shift_now(
+    board: &Board,
+    tables: &PlanTables,
+    pass: usize,
+    j: u32,
+    cells: &CodedCells,
+    tdi: &mut Row,
+)
+    requires plan { IsPlanOf board.now tables.now }
+    requires cells { AreCodedFor board.now tables.now cells.now pass }
+    requires few { tables.now.width ≤ 14 }
+    requires room { data_bits board.now ≤ tdi.old.room }
+    ensures bits { tdi.new.bits ≡ tdi_bits (joined (row_bits board.now (scan_of_pass board.now tables.now pass j))) }
+    ensures kept { tdi.new.room ≡ tdi.old.room }
+{
+    if j < tables.width {
+        shift_row(board, tables, pass, j, cells, tdi)
+    } else {
+        fill_now(board, tables, pass, j, tdi)
+    }
+}
+
+// Sets what is expected of row `j` of a pass.
+fn expect_row(
+    board: &Board,
+    tables: &PlanTables,
+    pass: usize,
+    j: u32,
+    cells: &CodedCells,
+    tdo: &mut Row,
+)
+    requires plan { IsPlanOf board.now tables.now }
+    requires cells { AreCodedFor board.now tables.now cells.now pass }
     requires row { j < tables.now.width }
     requires few { tables.now.width ≤ 14 }
     requires room { data_bits board.now ≤ tdo.old.room }
@@ -25,62 +107,110 @@ fn expect_row(board: &Board, tables: &PlanTables, pass: usize, j: u32, tdo: &mut
 {
     let _ = board.raw();
     let common = common_row(board, tables, j);
-    let setting = pass_at(tables.passes.as_slice(), pass);
-    let firsts = tables.firsts.as_slice();
-    let readers = tables.readers.as_slice();
-    let codes = tables.codes.as_slice();
     tdo.copy_row(&common.tdo);
-    expect_controlled(
-        board,
-        firsts,
-        &tables.by_control,
-        setting,
-        readers,
-        codes,
-        j,
-        tdo,
-    );
+    set_codes(&cells.compared, j, tdo);
 }
 
-// Scan `j` of a pass, where the rows hold the one before it, which compares a row of the pass too. Where a row is compared does not
-// depend on its number, so the mask stands.
-fn fill_further(
+// Marks where row `j` of a pass is compared.
+fn mark_row(
+    board: &Board,
+    tables: &PlanTables,
+    pass: usize,
+    j: u32,
+    cells: &CodedCells,
+    mask: &mut Row,
+)
+    requires plan { IsPlanOf board.now tables.now }
+    requires cells { AreCodedFor board.now tables.now cells.now pass }
+    requires row { j < tables.now.width }
+    requires room { data_bits board.now ≤ mask.old.room }
+    ensures bits { mask.new.bits ≡ mask_bits (joined (row_bits board.now (scan_of_pass board.now tables.now pass (suc j)))) }
+    ensures kept { mask.new.room ≡ mask.old.room }
+{
+    let _ = board.raw();
+    let common = common_row(board, tables, j);
+    mask.copy_row(&common.mask);
+    mark_cells(&cells.compared, mask);
+}
+
+// Compares the row before row `j` of a pass, and nothing before the first; tells whether anything is compared. Where a row is compared
+// does not depend on its number, so from the second on the mask stands, and what it told.
+fn compare_before(
+    board: &Board,
+    tables: &PlanTables,
+    pass: usize,
+    j: u32,
+    told: bool,
+    cells: &CodedCells,
+    tdo: &mut Row,
+    mask: &mut Row,
+) -> bool
+    requires plan { IsPlanOf board.now tables.now }
+    requires cells { AreCodedFor board.now tables.now cells.now pass }
+    requires row { j ≤ tables.now.width }
+    requires few { tables.now.width ≤ 14 }
+    requires stands { 1 < j → mask.old.bits ≡ mask_bits (joined (row_bits board.now (scan_of_pass board.now tables.now pass j))) }
+    requires told { 1 < j → told ≡ list_any (λ bit. bit) mask.old.bits }
+    requires tdo_room { data_bits board.now ≤ tdo.old.room }
+    requires mask_room { data_bits board.now ≤ mask.old.room }
+    ensures tdo { tdo.new.bits ≡ tdo_bits (joined (row_bits board.now (scan_of_pass board.now tables.now pass j))) }
+    ensures mask { mask.new.bits ≡ mask_bits (joined (row_bits board.now (scan_of_pass board.now tables.now pass j))) }
+    ensures compare { result ≡ list_any (λ bit. bit) mask.new.bits }
+    ensures tdo_kept { tdo.new.room ≡ tdo.old.room }
+    ensures mask_kept { mask.new.room ≡ mask.old.room }
+{
+    if j == 0 {
+        return fill_before(board, tables, pass, j, tdo, mask);
+    }
+    expect_row(board, tables, pass, j - 1, cells, tdo);
+    if j > 1 {
+        return told;
+    }
+    mark_row(board, tables, pass, j - 1, cells, mask);
+    mask.has_one()
+}
+
+// Scan `j` of a pass, which has these cells, where the rows hold the scan before it.
+fn fill_coded(
     board: &Board,
     tables: &PlanTables,
     pass: usize,
     j: u32,
     before: Shape,
+    cells: &CodedCells,
     tdi: &mut Row,
     tdo: &mut Row,
-    mask: &Row,
+    mask: &mut Row,
 ) -> Shape
     requires plan { IsPlanOf board.now tables.now }
-    requires pass { pass < length tables.now.passes }
-    requires later { 1 < j }
+    requires cells { AreCodedFor board.now tables.now cells.now pass }
     requires row { j ≤ tables.now.width }
     requires few { tables.now.width ≤ 14 }
-    requires before { FillsScan board.now tables.now.passes tables.now.width (2 + (pass * suc tables.now.width + j)) before tdi.old.bits tdo.old.bits mask.now.bits }
+    requires before { FillsScan board.now tables.now.passes tables.now.width (2 + (pass * suc tables.now.width + j)) before tdi.old.bits tdo.old.bits mask.old.bits }
     requires tdi_room { data_bits board.now ≤ tdi.old.room }
     requires tdo_room { data_bits board.now ≤ tdo.old.room }
-    ensures filled { FillsScan board.now tables.now.passes tables.now.width (3 + (pass * suc tables.now.width + j)) result tdi.new.bits tdo.new.bits mask.now.bits }
+    requires mask_room { data_bits board.now ≤ mask.old.room }
+    ensures filled { FillsScan board.now tables.now.passes tables.now.width (3 + (pass * suc tables.now.width + j)) result tdi.new.bits tdo.new.bits mask.new.bits }
     ensures tdi_kept { tdi.new.room ≡ tdi.old.room }
     ensures tdo_kept { tdo.new.room ≡ tdo.old.room }
+    ensures mask_kept { mask.new.room ≡ mask.old.room }
 {
     let _ = board.raw();
-    fill_now(board, tables, pass, j, tdi);
-    expect_row(board, tables, pass, j - 1, tdo);
+    shift_now(board, tables, pass, j, cells, tdi);
     Shape {
         ir: false,
-        compare: before.compare,
+        compare: compare_before(board, tables, pass, j, before.compare, cells, tdo, mask),
     }
 }
 
-/// Fills the rows with scan `k + 1`, where they hold scan `k`, which has the shape `before`.
+/// Fills the rows with scan `k + 1`, where they hold scan `k`, which has the shape `before`. The cells become those of its pass; where
+/// memory for them is refused, the scan is made without.
 pub fn fill_after(
     board: &Board,
     tables: &PlanTables,
     k: u64,
     before: Shape,
+    cells: &mut CodedCells,
     tdi: &mut Row,
     tdo: &mut Row,
     mask: &mut Row,
@@ -90,33 +220,25 @@ pub fn fill_after(
     requires counted { k + 1 < 2 ^ 64 }
     requires few { tables.now.width ≤ 14 }
     requires before { FillsScan board.now tables.now.passes tables.now.width k before tdi.old.bits tdo.old.bits mask.old.bits }
+    requires coded { AreCoded board.now tables.now cells.old }
     requires tdi_room { IsRoom board.now tdi.old.room }
     requires tdo_room { IsRoom board.now tdo.old.room }
     requires mask_room { IsRoom board.now mask.old.room }
     ensures filled { FillsScan board.now tables.now.passes tables.now.width (k + 1) result tdi.new.bits tdo.new.bits mask.new.bits }
+    ensures coded { AreCoded board.now tables.now cells.new }
     ensures tdi_kept { tdi.new.room ≡ tdi.old.room }
     ensures tdo_kept { tdo.new.room ≡ tdo.old.room }
     ensures mask_kept { mask.new.room ≡ mask.old.room }
 {
     if k < 2 {
-        fill_scan(board, tables, k + 1, tdi, tdo, mask)
+        return fill_scan(board, tables, k + 1, tdi, tdo, mask);
+    }
+    let scans = u64::from(tables.width) + 1;
+    let pass = ((k - 2) / scans) as usize;
+    let j = ((k - 2) % scans) as u32;
+    if cells.take_pass(board, tables, pass) {
+        fill_coded(board, tables, pass, j, before, cells, tdi, tdo, mask)
     } else {
-        let scans = u64::from(tables.width) + 1;
-        let pass = (k - 2) / scans;
-        let j = (k - 2) % scans;
-        if j < 2 {
-            fill_scan(board, tables, k + 1, tdi, tdo, mask)
-        } else {
-            fill_further(
-                board,
-                tables,
-                pass as usize,
-                j as u32,
-                before,
-                tdi,
-                tdo,
-                mask,
-            )
-        }
+        fill_scan(board, tables, k + 1, tdi, tdo, mask)
     }
 }

@@ -9,9 +9,7 @@ ghost use Rattle.scan_planner.specs.inner.Passes.{AreDrivers};
 
 use board_defs::{Board, Items, Setting};
 use bt_bits::Row;
-use plan_tables::{
-    DriverTable, ReaderCell, compare_nets, controlled, expect_nets, held_cell, set_drivers,
-};
+use plan_tables::{DriverTable, ReaderCell, compare_nets, controlled, held_cell, set_drivers};
 
 /// Pass `x`, counted from 0.
 pub fn pass_at(passes: &[Setting], x: usize) -> &Setting
@@ -90,32 +88,5 @@ pub fn compare_controlled(
     for c in pass.controls() {
         let cells = controlled(board, firsts, table.rows.as_slice(), *c);
         compare_nets(cells, readers, codes, j, tdo, mask);
-    }
-}
-
-/// Sets what is expected of the nets of the drivers that a pass has by its controls: bit `j` of their codes.
-pub fn expect_controlled(
-    board: &Board,
-    firsts: &[u32],
-    table: &DriverTable,
-    pass: &Setting,
-    readers: &[Items<ReaderCell>],
-    codes: &[u32],
-    j: u32,
-    tdo: &mut Row,
-)
-    requires firsts { AreFirsts board.now.chain firsts.now }
-    requires cells { (c : ControlRecord) → holds pass.now c ≡ true → c.cell < cell_count (device_at board.now c.part) }
-    requires bit { j < 32 }
-    requires codes { AreDrivers board.now table.now pass.now (λ d. d.net < length codes.now) }
-    requires nets { AreDrivers board.now table.now pass.now (λ d. d.net < length readers.now) }
-    requires within { All (λ cells. All (λ r. r.position < length tdo.old.bits) cells) readers.now }
-    ensures bits { tdo.new.bits ≡ fold (λ bits c. set_compared (driver_bit codes.now j) readers.now bits (controlled board.now table.now.rows c)) (set_compared (driver_bit codes.now j) readers.now tdo.old.bits table.now.always) pass.now }
-    ensures kept { tdo.new.room ≡ tdo.old.room }
-{
-    expect_nets(table.always.as_slice(), readers, codes, j, tdo);
-    for c in pass.controls() {
-        let cells = controlled(board, firsts, table.rows.as_slice(), *c);
-        expect_nets(cells, readers, codes, j, tdo);
     }
 }
