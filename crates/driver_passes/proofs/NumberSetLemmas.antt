@@ -65,21 +65,11 @@ unfolding is_in
 word_bits words number word e i below =
     let here : (64 * number + i) / 64 ≡ number = omega (arith, below) in
     let place : (64 * number + i) % 64 ≡ i = omega (arith, below) in
-    let net : has_bit (get_or words ((64 * number + i) / 64) 0) ((64 * number + i) % 64) ≡ has_bit word i = ap (λ k. has_bit (get_or words k 0) ((64 * number + i) % 64)) here ∙ ap (has_bit (get_or words number 0)) place ∙ sym (ap (λ w. has_bit w i) e) in
-    is_bit word i ∙ sym (ap (λ t. cond t 1 0) net)
-
--- each word from a place on is that of the one list less that of the other
-pub words_less : (before after others : List ℕ) (first n : ℕ) → length others ≡ length before → length after ≡ length before → ((k : ℕ) → k < length others → get_or others k 0 < 2 ^ 64) →
-    ((k : ℕ) → first ≤ k → k < length before → get_or after k 0 ≡ bit_and (get_or before k 0) (bit_not w64 (get_or others k 0))) → first ≤ n / 64 → is_in after n ≡ (is_in before n && not (is_in others n))
-unfolding is_in
-words_less before after others first n size same fit each from = by_place (cases_lt (n / 64) (length before))
-  where
-    by_place : (n / 64 < length before) ⊎ (length before ≤ n / 64) → is_in after n ≡ (is_in before n && not (is_in others n))
-    by_place (inl within) = ap (λ w. has_bit w (n % 64)) (each (n / 64) from within) ∙ bit_less (get_or before (n / 64) 0) (get_or others (n / 64) 0) (n % 64) (fit (n / 64) (omega (arith, within, size))) (omega arith)
-    by_place (inr past) = none_past after n (omega (arith, past, same)) ∙ sym (ap (λ t. t && not (is_in others n)) (none_past before n past))
+    let place_bit : has_bit (get_or words ((64 * number + i) / 64) 0) ((64 * number + i) % 64) ≡ has_bit word i = ap (λ k. has_bit (get_or words k 0) ((64 * number + i) % 64)) here ∙ ap (has_bit (get_or words number 0)) place ∙ sym (ap (λ w. has_bit w i) e) in
+    is_bit word i ∙ sym (ap (λ t. cond t 1 0) place_bit)
 
 -- the bits of two words
-bit_more : (a b i : ℕ) → has_bit (bit_or a b) i ≡ (has_bit b i || has_bit a i)
+pub bit_more : (a b i : ℕ) → has_bit (bit_or a b) i ≡ (has_bit b i || has_bit a i)
 bit_more a b i = ap (λ x. x == 1) (bit_at_or a b i) ∙ by_bits (bit_at a i) (bit_at b i) (bit_at-lt a i) (bit_at-lt b i)
   where
     by_bits : (x y : ℕ) → x < 2 → y < 2 → (max x y == 1) ≡ ((y == 1) || (x == 1))
@@ -91,17 +81,8 @@ bit_more a b i = ap (λ x. x == 1) (bit_at_or a b i) ∙ by_bits (bit_at a i) (b
     by_bits (suc zero) (suc (suc y)) less few = absurd (omega arith)
     by_bits (suc (suc x)) y less few = absurd (omega arith)
 
--- each word has the bits of both lists
-pub words_more : (before after others : List ℕ) (n : ℕ) → length others ≡ length before → length after ≡ length before → ((k : ℕ) → k < length before → get_or after k 0 ≡ bit_or (get_or before k 0) (get_or others k 0)) → is_in after n ≡ (is_in others n || is_in before n)
-unfolding is_in
-words_more before after others n size same each = by_place (cases_lt (n / 64) (length before))
-  where
-    by_place : (n / 64 < length before) ⊎ (length before ≤ n / 64) → is_in after n ≡ (is_in others n || is_in before n)
-    by_place (inl within) = ap (λ w. has_bit w (n % 64)) (each (n / 64) within) ∙ bit_more (get_or before (n / 64) 0) (get_or others (n / 64) 0) (n % 64)
-    by_place (inr past) = none_past after n (omega (arith, past, same)) ∙ sym (ap (λ t. t || is_in before n) (none_past others n (omega (arith, past, size))) ∙ none_past before n past)
-
 -- the bits that two words have
-bit_both : (a b i : ℕ) → has_bit (bit_and a b) i ≡ (has_bit a i && has_bit b i)
+pub bit_both : (a b i : ℕ) → has_bit (bit_and a b) i ≡ (has_bit a i && has_bit b i)
 bit_both a b i = ap (λ x. x == 1) (bit_at_and a b i) ∙ by_bits (bit_at a i) (bit_at b i) (bit_at-lt a i) (bit_at-lt b i)
   where
     by_bits : (x y : ℕ) → x < 2 → y < 2 → (min x y == 1) ≡ ((x == 1) && (y == 1))
@@ -113,37 +94,41 @@ bit_both a b i = ap (λ x. x == 1) (bit_at_and a b i) ∙ by_bits (bit_at a i) (
     by_bits (suc zero) (suc (suc y)) less few = absurd (omega arith)
     by_bits (suc (suc x)) y less few = absurd (omega arith)
 
--- each word has the bits that both lists have
-pub words_both : (before after others : List ℕ) (n : ℕ) → length after ≡ length before → ((k : ℕ) → k < length before → get_or after k 0 ≡ bit_and (get_or before k 0) (get_or others k 0)) → is_in after n ≡ (is_in before n && is_in others n)
+-- two lists of words are put together word by word, and so number by number
+pub words_by : (t : Bool → Bool → Bool) → t false false ≡ false → (before after others : List ℕ) (n : ℕ) → length others ≡ length before → length after ≡ length before →
+    (n / 64 < length before → has_bit (get_or after (n / 64) 0) (n % 64) ≡ t (has_bit (get_or before (n / 64) 0) (n % 64)) (has_bit (get_or others (n / 64) 0) (n % 64))) →
+    is_in after n ≡ t (is_in before n) (is_in others n)
 unfolding is_in
-words_both before after others n same each = by_place (cases_lt (n / 64) (length before))
+words_by t none before after others n size same each = by_place (cases_lt (n / 64) (length before))
   where
-    by_place : (n / 64 < length before) ⊎ (length before ≤ n / 64) → is_in after n ≡ (is_in before n && is_in others n)
-    by_place (inl within) = ap (λ w. has_bit w (n % 64)) (each (n / 64) within) ∙ bit_both (get_or before (n / 64) 0) (get_or others (n / 64) 0) (n % 64)
-    by_place (inr past) = none_past after n (omega (arith, past, same)) ∙ sym (ap (λ t. t && is_in others n) (none_past before n past))
+    by_place : (n / 64 < length before) ⊎ (length before ≤ n / 64) → is_in after n ≡ t (is_in before n) (is_in others n)
+    by_place (inl within) = each within
+    by_place (inr past) =
+        none_past after n (omega (arith, past, same)) ∙ sym none
+        ∙ sym (ap (λ b. t b (is_in others n)) (none_past before n past) ∙ ap (t false) (none_past others n (omega (arith, past, size))))
 
 -- one number more
-pub number_set : (words : List ℕ) (net n : ℕ) (word : ℕ) → net / 64 < length words → word ≡ bit_or (get_or words (net / 64) 0) (1 * 2 ^ (net % 64) % 2 ^ 64) → is_in (set words (net / 64) word) n ≡ (n == net || is_in words n)
+pub number_set : (words : List ℕ) (number n : ℕ) (word : ℕ) → number / 64 < length words → word ≡ bit_or (get_or words (number / 64) 0) (1 * 2 ^ (number % 64) % 2 ^ 64) → is_in (set words (number / 64) word) n ≡ (n == number || is_in words n)
 unfolding is_in
-number_set words net n word within e = by_word (cases_eq (n / 64) (net / 64)) (cases_eq (n % 64) (net % 64))
+number_set words number n word within e = by_word (cases_eq (n / 64) (number / 64)) (cases_eq (n % 64) (number % 64))
   where
-    place : net % 64 < 64
+    place : number % 64 < 64
     place = omega arith
 
-    other_net : (n ≡ net → ⊥) → (n == net || is_in words n) ≡ is_in words n
-    other_net differ = ap (λ t. t || is_in words n) (ne_eqb n net differ)
+    other_number : (n ≡ number → ⊥) → (n == number || is_in words n) ≡ is_in words n
+    other_number differ = ap (λ t. t || is_in words n) (ne_eqb n number differ)
 
-    here : n / 64 ≡ net / 64 → get_or (set words (net / 64) word) (n / 64) 0 ≡ word
-    here same = ap (λ k. get_or (set words (net / 64) word) k 0) same ∙ get_or-set_same words (net / 64) word 0 within
+    here : n / 64 ≡ number / 64 → get_or (set words (number / 64) word) (n / 64) 0 ≡ word
+    here same = ap (λ k. get_or (set words (number / 64) word) k 0) same ∙ get_or-set_same words (number / 64) word 0 within
 
-    by_word : (n / 64 ≡ net / 64) ⊎ (n / 64 ≡ net / 64 → ⊥) → (n % 64 ≡ net % 64) ⊎ (n % 64 ≡ net % 64 → ⊥) → is_in (set words (net / 64) word) n ≡ (n == net || is_in words n)
+    by_word : (n / 64 ≡ number / 64) ⊎ (n / 64 ≡ number / 64 → ⊥) → (n % 64 ≡ number % 64) ⊎ (n % 64 ≡ number % 64 → ⊥) → is_in (set words (number / 64) word) n ≡ (n == number || is_in words n)
     by_word (inl same) (inl bit) =
-        let one : n ≡ net = omega (arith, same, bit) in
-        ap (λ w. has_bit w (n % 64)) (here same ∙ e) ∙ ap (has_bit (bit_or (get_or words (net / 64) 0) (1 * 2 ^ (net % 64) % 2 ^ 64))) bit ∙ ap (λ b. b == 1) (bit_at_set_same w64 (get_or words (net / 64) 0) (net % 64) place) ∙ sym (or_left (n == net) (is_in words n) (eq-eqb n net one))
+        let one : n ≡ number = omega (arith, same, bit) in
+        ap (λ w. has_bit w (n % 64)) (here same ∙ e) ∙ ap (has_bit (bit_or (get_or words (number / 64) 0) (1 * 2 ^ (number % 64) % 2 ^ 64))) bit ∙ ap (λ b. b == 1) (bit_at_set_same w64 (get_or words (number / 64) 0) (number % 64) place) ∙ sym (or_left (n == number) (is_in words n) (eq-eqb n number one))
     by_word (inl same) (inr bit) =
-        ap (λ w. has_bit w (n % 64)) (here same ∙ e) ∙ ap (λ b. b == 1) (bit_at_set_other w64 (get_or words (net / 64) 0) (net % 64) place (n % 64) bit) ∙ sym (ap (λ k. has_bit (get_or words k 0) (n % 64)) same) ∙ sym (other_net (λ one. bit (ap (λ k. k % 64) one)))
+        ap (λ w. has_bit w (n % 64)) (here same ∙ e) ∙ ap (λ b. b == 1) (bit_at_set_other w64 (get_or words (number / 64) 0) (number % 64) place (n % 64) bit) ∙ sym (ap (λ k. has_bit (get_or words k 0) (n % 64)) same) ∙ sym (other_number (λ one. bit (ap (λ k. k % 64) one)))
     by_word (inr word_differs) bit =
-        ap (λ w. has_bit w (n % 64)) (get_or-set_other words (net / 64) (n / 64) word 0 word_differs) ∙ sym (other_net (λ one. word_differs (ap (λ k. k / 64) one)))
+        ap (λ w. has_bit w (n % 64)) (get_or-set_other words (number / 64) (n / 64) word 0 word_differs) ∙ sym (other_number (λ one. word_differs (ap (λ k. k / 64) one)))
 
 -- one number less
 pub number_cleared : (words : List ℕ) (number n : ℕ) (word : ℕ) → number / 64 < length words → word ≡ bit_and (get_or words (number / 64) 0) (bit_not w64 (1 * 2 ^ (number % 64) % 2 ^ 64)) → is_in (set words (number / 64) word) n ≡ (is_in words n && not (n == number))
@@ -232,20 +217,20 @@ lowest_is word place below fits some = (
     by_order (inl less) = let zero_one : 0 ≡ 1 = sym (low_bit word place low below less) ∙ bits.1 in absurd (omega (arith, zero_one))
     by_order (inr most) = most
 
--- a bit of a word whose bits are the nets that pass
+-- a bit of a word whose bits are the numbers that pass
 passes_bit : (passes : ℕ → Bool) (number word i : ℕ) → AreBitsOf passes number word → i < 64 → passes (64 * number + i) ≡ has_bit word i
 passes_bit passes number word i are below = sym (bit_is word i (passes (64 * number + i)) (are i below))
 
 in_word : (n number : ℕ) → n / 64 ≡ number → 64 * number + n % 64 ≡ n
 in_word n number e = omega (arith, e)
 
-passes_net : (passes : ℕ → Bool) (n number word : ℕ) → AreBitsOf passes number word → n / 64 ≡ number → passes n ≡ has_bit word (n % 64)
-passes_net passes n number word are e = sym (ap passes (in_word n number e)) ∙ passes_bit passes number word (n % 64) are (omega arith)
+passes_number : (passes : ℕ → Bool) (n number word : ℕ) → AreBitsOf passes number word → n / 64 ≡ number → passes n ≡ has_bit word (n % 64)
+passes_number passes n number word are e = sym (ap passes (in_word n number e)) ∙ passes_bit passes number word (n % 64) are (omega arith)
 
 pub none_next : (passes : ℕ → Bool) (from word : ℕ) → AreBitsOf passes (from / 64) word → ((i : ℕ) → from % 64 ≤ i → i < 64 → has_bit word i ≡ false) → (n : ℕ) → from ≤ n → n < 64 * (from / 64 + 1) → passes n ≡ false
 none_next passes from word are none n least less =
     let same : n / 64 ≡ from / 64 = omega (arith, least, less) in
-    passes_net passes n (from / 64) word are same ∙ none (n % 64) (omega (arith, least, same)) (omega arith)
+    passes_number passes n (from / 64) word are same ∙ none (n % 64) (omega (arith, least, same)) (omega arith)
 
 pub first_next : (passes : ℕ → Bool) (from word place : ℕ) → AreBitsOf passes (from / 64) word → IsFirst (has_bit word) (from % 64) place → place < 64 → IsFirst passes from (64 * (from / 64) + place)
 first_next passes from word place are first below = record {
@@ -253,7 +238,7 @@ first_next passes from word place are first below = record {
   found = passes_bit passes (from / 64) word place are below ∙ first.found;
   earlier = λ n least less.
       let same : n / 64 ≡ from / 64 = omega (arith, least, less, below) in
-      passes_net passes n (from / 64) word are same ∙ first.earlier (n % 64) (omega (arith, least, same)) (omega (arith, less, same, below));
+      passes_number passes n (from / 64) word are same ∙ first.earlier (n % 64) (omega (arith, least, same)) (omega (arith, less, same, below));
 }
 
 -- the numbers that pass both tests
@@ -277,9 +262,9 @@ no_bits p q number word none are i below =
     bit_at-zero i ∙ sym (ap (λ t. cond (t && q (64 * number + i)) 1 0) unset)
 
 -- none passes from one place on, and none from a later place on
-pub passed_more : (p : ℕ → Bool) (from net past : ℕ) → ((n : ℕ) → from ≤ n → n < net → p n ≡ false) → ((n : ℕ) → net ≤ n → n < past → p n ≡ false) → (n : ℕ) → from ≤ n → n < past → p n ≡ false
-passed_more p from net past earlier later n least below = by_place (cases_lt n net)
+pub passed_more : (p : ℕ → Bool) (from number past : ℕ) → ((n : ℕ) → from ≤ n → n < number → p n ≡ false) → ((n : ℕ) → number ≤ n → n < past → p n ≡ false) → (n : ℕ) → from ≤ n → n < past → p n ≡ false
+passed_more p from number past earlier later n least below = by_place (cases_lt n number)
   where
-    by_place : (n < net) ⊎ (net ≤ n) → p n ≡ false
+    by_place : (n < number) ⊎ (number ≤ n) → p n ≡ false
     by_place (inl less) = earlier n least less
     by_place (inr most) = later n most below

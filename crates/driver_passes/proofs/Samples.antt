@@ -1,43 +1,25 @@
--- Flags, sets of nets and the first net of a word, worked by hand.
-use Rattle.std.proofs.Common.{◌≡◌, ℕ, ◌+◌, ◌-◌, ◌^◌, ◌<◌, ◌≤◌, Bool, true, false, not, List, [], ◌∷◌, map, filter, replicate, refl, arith}
-use Rattle.std.specs.Prelude.{slice_index_or}
-use Rattle.std.specs.List.{list_all, list_any, range_with_len}
+-- Sets of numbers and the first number of a word, worked by hand.
+use Rattle.std.proofs.Common.{◌≡◌, ℕ, ◌+◌, ◌-◌, ◌^◌, ◌<◌, ◌≤◌, Bool, true, false, not, List, [], ◌∷◌, filter, refl, arith}
+use Rattle.std.specs.List.{list_all, range_with_len}
 use Rattle.std.proofs.lemmas.Bool.{not-true}
 use Rattle.board_defs.proofs.Members.{all_has, has_range}
 use Rattle.driver_passes.specs.inner.NumberSets.{has_bit, is_in, IsFirst}
 
--- one flag is set, and past the last one none is
-abbrev one_flag : List Bool
-one_flag = false ∷ false ∷ true ∷ false ∷ []
+-- the numbers of a set of three words
+abbrev numbers_of : List ℕ → List ℕ
+numbers_of words = filter (is_in words) (range_with_len 0 192)
 
-flags : map (λ n. slice_index_or one_flag n false) (2 ∷ 1 ∷ 4 ∷ []) ≡ true ∷ false ∷ false ∷ []
-flags = refl
-
--- the flag of some of these nets is set
-abbrev some_set : List Bool → List ℕ → Bool
-some_set flags nets = list_any (λ n. slice_index_or flags n false) nets
-
-none_set : some_set (replicate 4 false) (0 ∷ 3 ∷ []) ≡ false
-none_set = refl
-
-one_set : map (some_set one_flag) ((0 ∷ 2 ∷ []) ∷ (0 ∷ 1 ∷ 9 ∷ []) ∷ []) ≡ true ∷ false ∷ []
-one_set = refl
-
--- the nets of a set of three words
-abbrev nets_of : List ℕ → List ℕ
-nets_of words = filter (is_in words) (range_with_len 0 192)
-
-no_nets : nets_of (0 ∷ 0 ∷ 0 ∷ []) ≡ []
+no_numbers : numbers_of (0 ∷ 0 ∷ 0 ∷ []) ≡ []
 unfolding is_in
-no_nets = refl
+no_numbers = refl
 
-outer_nets : nets_of (1 ∷ 2 ^ 63 ∷ 0 ∷ []) ≡ 0 ∷ 127 ∷ []
+outer_numbers : numbers_of (1 ∷ 2 ^ 63 ∷ 0 ∷ []) ≡ 0 ∷ 127 ∷ []
 unfolding is_in
-outer_nets = refl
+outer_numbers = refl
 
-more_nets : nets_of (33 ∷ (2 ^ 63 + 1) ∷ 0 ∷ []) ≡ 0 ∷ 5 ∷ 64 ∷ 127 ∷ []
+more_numbers : numbers_of (33 ∷ (2 ^ 63 + 1) ∷ 0 ∷ []) ≡ 0 ∷ 5 ∷ 64 ∷ 127 ∷ []
 unfolding is_in
-more_nets = refl
+more_numbers = refl
 
 past_the_words : is_in (1 ∷ 2 ^ 63 ∷ 0 ∷ []) 1000 ≡ false
 unfolding is_in

@@ -273,11 +273,14 @@ fn a_name_that_is_not_held_is_told(rt: HostRuntime) -> Result<(), RowFault> {
     bench.expect(0, status, Ending::NotRead("cannot read none\n"))
 }
 
+// A third cell for a device of two.
+const THREE_CELLS: (&str, &str) = (
+    "entity is 2;\nattribute BOUNDARY_REGISTER",
+    "entity is 3;\nattribute BOUNDARY_REGISTER",
+);
+
 const INTERNAL: [(&str, &str); 2] = [
-    (
-        "entity is 2;\nattribute BOUNDARY_REGISTER",
-        "entity is 3;\nattribute BOUNDARY_REGISTER",
-    ),
+    THREE_CELLS,
     ("control, 1)\"", "control, 1), 2 (BC_1, *, internal, 1)\""),
 ];
 
@@ -337,10 +340,7 @@ fn a_driver_does_not_read_itself(rt: HostRuntime) -> Result<(), RowFault> {
 }
 
 const SELF_READING: [(&str, &str); 2] = [
-    (
-        "entity is 2;\nattribute BOUNDARY_REGISTER",
-        "entity is 3;\nattribute BOUNDARY_REGISTER",
-    ),
+    THREE_CELLS,
     ("control, 1)\"", "control, 1), 2 (BC_1, Q, input, X)\""),
 ];
 

@@ -14,7 +14,7 @@ use Rattle.driver_passes.specs.inner.Shown.{AreRows, AreShownByAll, drivers_at}
 use Rattle.driver_passes.specs.inner.Sharers.{AreSharers}
 use Rattle.driver_passes.specs.inner.Tested.{AreTestedNets}
 
--- the rows are those of the passes so far, which enable each tested driver and hold useful controls only; the one set has room for each net, and the other has the nets that all passes show
+-- the rows are those of the passes so far, which enable each tested driver and hold useful controls only, and the last set has the nets that they all show; the nets that are alike, the tested nets and the sharers are the board's; the first set has room for each net
 pub record ArePairing (board : RawBoard) (pairing : Pairing) : Type 0 where
   pub rows : AreRows board pairing.passes.items pairing.rows.items
   pub alike : AreAlike board pairing.likes.items
@@ -33,7 +33,7 @@ AreLeft board passes a left = (n : ℕ) → a ≤ n → n < length board.nets �
 abbrev pub is_wanted : RawBoard → List ℕ → ℕ → ℕ → Bool
 is_wanted board left a n = is_in left n && pairs_with board a n
 
--- no pass is to be added for the two nets: one shows both, or no safe setting enables a driver of each
+-- no pass is to be added for the two nets: one shows both, or no safe setting enables a tested driver of each
 abbrev pub IsDone : RawBoard → List (List Ctl) → ℕ → ℕ → Type 0
 IsDone board passes a b = (are_shown passes (drivers_at board a) (drivers_at board b) ≡ true) ⊎ (first_pair board (drivers_at board a) (drivers_at board b) ≡ None)
 

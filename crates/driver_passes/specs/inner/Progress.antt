@@ -23,7 +23,7 @@ pub record AreHeld (board : RawBoard) (passes : List (List Ctl)) (held : List �
   pub held_length : length held ≡ length (useful_controls board) / 64 + 1
   pub held_are : (i : ℕ) (c : Ctl) → slice_get (useful_controls board) i ≡ Some c → is_in held i ≡ is_held passes c
 
--- the set and the rows are those of the passes so far, which hold useful controls only
+-- the set and the rows are those of the passes so far, which hold useful controls only; the tested nets and the sharers are the board's
 pub record IsProgress (board : RawBoard) (progress : Progress) : Type 0 where
   pub held : AreHeld board progress.passes.items progress.held
   pub useful : HoldUseful board progress.passes.items

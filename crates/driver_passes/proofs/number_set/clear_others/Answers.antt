@@ -1,6 +1,10 @@
-use Rattle.std.proofs.Common.{arith}
-use Rattle.driver_passes.proofs.NumberSetLemmas.{words_both}
+use Rattle.std.proofs.Common.{◌/◌, ◌%◌, ◌&&◌, get_or, refl, ap, ◌∙◌, arith}
+use Rattle.driver_passes.specs.inner.NumberSets.{has_bit}
+use Rattle.driver_passes.proofs.NumberSetLemmas.{bit_both, words_by}
 use Rattle.driver_passes.proofs.number_set.clear_others.Goals as goal
 
 pub returns : goal.returns
-returns c = λ n. words_both c.args.words.now c.loop-i.words c.args.others.now n c.loop-i.auto.words (λ k less. c.loop-i.invariant.done k (omega (arith, less, c.requires, c.loop-i-test.false)))
+returns c = λ n.
+    words_by (λ b o. b && o) refl c.args.words.now c.loop-i.words c.args.others.now n c.requires c.loop-i.auto.words (λ within.
+    ap (λ w. has_bit w (n % 64)) (c.loop-i.invariant.done (n / 64) (omega (arith, within, c.requires, c.loop-i-test.false)))
+    ∙ bit_both (get_or c.args.words.now (n / 64) 0) (get_or c.args.others.now (n / 64) 0) (n % 64))
