@@ -1,19 +1,18 @@
 // Net words with what is known of their pins.
-ghost use Rattle.std.specs.Prelude.{◌≡◌, ◌<◌, ◌≤◌, ◌^◌, vec_len, length, map, IfOk, OnOk, is_none, is_some, option_copied, slice_get};
+ghost use Rattle.std.specs.Prelude.{◌≡◌, ◌≢◌, ◌<◌, ◌≤◌, ◌^◌, AllPairs, vec_len, length, map, IfOk, OnOk, is_none, is_some, option_copied, slice_get};
 ghost use Rattle.indexmap.specs.IndexMap.{get_by};
 ghost use Rattle.board_files.specs.Names.{same_word};
 ghost use Rattle.board_lines.specs.Names.{named, names_of};
 ghost use Rattle.board_lines.specs.declared.names.Naming.TheVariants.{Inert};
-ghost use Rattle.board_lines.specs.NetWords.{lent_pin, lent_word, same_pin};
-ghost use Rattle.board_lines.specs.ChainParts.{pin_places};
+ghost use Rattle.board_lines.specs.NetWords.{lent_pin, lent_word};
+ghost use Rattle.board_lines.specs.ChainParts.{pin_places, place_of_pin};
 ghost use Rattle.board_build.specs.inner.Marked.{is_free_at, mark, mark_by, marks_after, seen};
 
 use crate::drivers::{PartDrivers, drivers_of, is_free_at};
 use board_defs::{Part, PinAt, Spot};
 use board_files::ChainLine;
 use board_lines::{
-    Naming, NetWord, PinName, described_names, first_places_of, names_in, pin_places, place_of,
-    places_by_pin,
+    Naming, NetWord, PinPlaces, described_names, first_places_of, names_in, place_of,
 };
 use indexmap::IndexMap;
 use std::alloc::{AllocError, Global};
@@ -43,22 +42,16 @@ pub fn is_known(names: &IndexMap<&[u8], u32>, name: &[u8]) -> bool
     place_of(names, name).is_some()
 }
 
-fn place_of_pin(places: &IndexMap<PinName<'_>, PinAt>, pin: &PinName<'_>) -> Option<PinAt>
-    ensures { result ≡ get_by (λ p. same_pin (lent_pin pin.now) (lent_pin p)) places.now }
-{
-    places.get(pin).copied()
-}
-
 fn mark<'a>(
     word: &NetWord<'a>,
     parts: &[PartDrivers<'_>],
-    places: &IndexMap<PinName<'_>, PinAt>,
+    places: &PinPlaces<'_>,
     described: &IndexMap<&[u8], u32>,
     inerts: &IndexMap<&[u8], u32>,
 ) -> MarkedWord<'a>
-    ensures { result ≡ mark_by parts.now (λ q. is_some (get_by (λ n. same_word q.now n.now) described.now)) (λ q. get_by (λ p. same_pin (lent_pin q) (lent_pin p)) places.now) (λ q. is_some (get_by (λ n. same_word q.now n.now) inerts.now)) word.now }
+    ensures { result ≡ mark_by parts.now (λ q. is_some (get_by (λ n. same_word q.now n.now) described.now)) (λ q. place_of_pin (pin_places places.now) (lent_pin q)) (λ q. is_some (get_by (λ n. same_word q.now n.now) inerts.now)) word.now }
 {
-    let at = place_of_pin(places, &word.0.1);
+    let at = places.place_of_pin(&word.0.1);
     MarkedWord {
         net: word.0.0,
         part: word.0.1.0,
@@ -77,11 +70,11 @@ fn mark_at<'a>(
     words: &[NetWord<'a>],
     place: usize,
     parts: &[PartDrivers<'_>],
-    places: &IndexMap<PinName<'_>, PinAt>,
+    places: &PinPlaces<'_>,
     described: &IndexMap<&[u8], u32>,
     inerts: &IndexMap<&[u8], u32>,
 ) -> Result<(), AllocError>
-    ensures { OnOk result (marked.new.items ≡ marks_after (mark_by parts.now (λ q. is_some (get_by (λ n. same_word q.now n.now) described.now)) (λ q. get_by (λ p. same_pin (lent_pin q) (lent_pin p)) places.now) (λ q. is_some (get_by (λ n. same_word q.now n.now) inerts.now))) (slice_get words.now place) marked.old.items) }
+    ensures { OnOk result (marked.new.items ≡ marks_after (mark_by parts.now (λ q. is_some (get_by (λ n. same_word q.now n.now) described.now)) (λ q. place_of_pin (pin_places places.now) (lent_pin q)) (λ q. is_some (get_by (λ n. same_word q.now n.now) inerts.now))) (slice_get words.now place) marked.old.items) }
 {
     match words.get(place) {
         Some(word) => {
@@ -96,11 +89,11 @@ fn mark_each<'a>(
     alloc: Global,
     words: &[NetWord<'a>],
     parts: &[PartDrivers<'_>],
-    places: &IndexMap<PinName<'_>, PinAt>,
+    places: &PinPlaces<'_>,
     described: &IndexMap<&[u8], u32>,
     inerts: &IndexMap<&[u8], u32>,
 ) -> Result<Vec<MarkedWord<'a>>, AllocError>
-    ensures { IfOk result (λ marked. marked.items ≡ map (mark_by parts.now (λ q. is_some (get_by (λ n. same_word q.now n.now) described.now)) (λ q. get_by (λ p. same_pin (lent_pin q) (lent_pin p)) places.now) (λ q. is_some (get_by (λ n. same_word q.now n.now) inerts.now))) words.now) }
+    ensures { IfOk result (λ marked. marked.items ≡ map (mark_by parts.now (λ q. is_some (get_by (λ n. same_word q.now n.now) described.now)) (λ q. place_of_pin (pin_places places.now) (lent_pin q)) (λ q. is_some (get_by (λ n. same_word q.now n.now) inerts.now))) words.now) }
 {
     let mut marked = Vec::with_capacity(alloc, words.len())?;
     for i in 0..words.len() {
@@ -113,11 +106,11 @@ fn mark_all<'a>(
     alloc: Global,
     words: &[NetWord<'a>],
     parts: &[Part],
-    places: &IndexMap<PinName<'_>, PinAt>,
+    places: &PinPlaces<'_>,
     described: &IndexMap<&[u8], u32>,
     inerts: &IndexMap<&[u8], u32>,
 ) -> Result<Vec<MarkedWord<'a>>, AllocError>
-    ensures { IfOk result (λ marked. marked.items ≡ map (mark_by parts.now (λ q. is_some (get_by (λ n. same_word q.now n.now) described.now)) (λ q. get_by (λ p. same_pin (lent_pin q) (lent_pin p)) places.now) (λ q. is_some (get_by (λ n. same_word q.now n.now) inerts.now))) words.now) }
+    ensures { IfOk result (λ marked. marked.items ≡ map (mark_by parts.now (λ q. is_some (get_by (λ n. same_word q.now n.now) described.now)) (λ q. place_of_pin (pin_places places.now) (lent_pin q)) (λ q. is_some (get_by (λ n. same_word q.now n.now) inerts.now))) words.now) }
 {
     let drivers = drivers_of(alloc, parts)?;
     mark_each(alloc, words, &drivers, places, described, inerts)
@@ -132,13 +125,13 @@ pub fn marked_words<'a>(
 ) -> Result<Vec<MarkedWord<'a>>, AllocError>
     requires lines { length lines.now < 2 ^ 32 }
     requires parts { length parts.now < 2 ^ 32 }
+    requires differ { AllPairs (λ a b. a ≢ b) (map (λ part. part.name) parts.now) }
     ensures { IfOk result (λ marked. map seen marked.items ≡ map (mark parts.now (pin_places parts.now) (names_of (named Inert lines.now))) (map lent_word words.now)) }
 {
-    let places = pin_places(alloc, parts)?;
-    let by_pin = places_by_pin(alloc, &places)?;
+    let places = PinPlaces::of(alloc, parts)?;
     let names = described_names(alloc, parts)?;
     let by_name = first_places_of(alloc, &names)?;
     let inerts = names_in(alloc, lines, Naming::Inert)?;
     let by_inert = first_places_of(alloc, &inerts)?;
-    mark_all(alloc, words, parts, &by_pin, &by_name, &by_inert)
+    mark_all(alloc, words, parts, &places, &by_name, &by_inert)
 }

@@ -4,5 +4,6 @@ pub mod MapLemmas
 pub mod FaultLemmas
 pub mod ChainLemmas
 pub mod DifferLemmas
+pub mod PinLemmas
 pub mod NumberLemmas
 pub mod SelectLemmas

@@ -3,4 +3,5 @@ pub mod Names
 pub mod Selection
 pub mod NetWords
 pub mod ChainParts
+pub mod PinRows
 pub mod LineRules

@@ -6,12 +6,15 @@ mod fault;
 mod line_rules;
 mod names;
 mod parts;
+mod pin_rows;
+mod places;
 mod selection;
 mod words;
 
 pub use fault::BoardFault;
 pub use line_rules::{line_fault, names_in, pull_of_net, pulls_by_net, pulls_of};
 pub use names::{Naming, first_places_of, place_of};
-pub use parts::{chain_parts, described_names, pin_places, places_by_pin};
+pub use parts::{chain_parts, described_names};
+pub use places::PinPlaces;
 pub use selection::select;
 pub use words::{NetNames, NetWord, PinName, StandingWords, net_names, standing_words};

@@ -1,21 +1,14 @@
-// The parts of a chain, and the places of their pins.
-ghost use Rattle.std.specs.Prelude.{◌≡◌, ◌<◌, ◌≤◌, ◌^◌, ◌++◌, vec_len, length, map, All, IfOk, IfSome, OnOk, Option, option_map, ℕ, List};
+// The parts of a chain.
+ghost use Rattle.std.specs.Prelude.{◌≡◌, ◌≤◌, ◌++◌, vec_len, length, map, All, IfOk, IfSome, OnOk, option_map};
 ghost use Rattle.std.specs.Option.{option_to_list};
 ghost use Rattle.std.specs.Vec.Iter.{into_iter_items};
-ghost use Rattle.std.proofs.Common.{Bor};
-ghost use Rattle.indexmap.specs.IndexMap.{get_by};
-ghost use Rattle.first_places.specs.Places.{first_value};
 ghost use Rattle.board_files.specs.ChainLines.{HasLength};
 ghost use Rattle.board_defs.specs.BoardRules.{IsPart};
 ghost use Rattle.board_defs.specs.declared.board.PartKind.TheVariants.{Described as DescribedPart, Bypass as BypassPart};
-ghost use Rattle.board_lines.specs.NetWords.{lent_pin, same_pin};
-ghost use Rattle.board_lines.specs.ChainParts.{part_of_line, devices_after, chain_parts, bit_places, part_places, pin_places, described_name, described_names};
+ghost use Rattle.board_lines.specs.ChainParts.{part_of_line, devices_after, chain_parts, described_name, described_names};
 
-use crate::words::PinName;
-use board_defs::{Device, Name, Part, PartKind, PinAt, PortBit};
+use board_defs::{Device, Name, Part, PartKind};
 use board_files::{ChainLine, ChainStatement};
-use first_places::first_values;
-use indexmap::IndexMap;
 use std::alloc::{AllocError, Global};
 use std::vec::IntoIter;
 
@@ -88,75 +81,6 @@ pub fn chain_parts(
         push_some(&mut parts, part)?;
     }
     Ok(parts)
-}
-
-/// Adds the pins of a part's port bits.
-fn push_bits<'a>(
-    places: &mut Vec<(PinName<'a>, PinAt)>,
-    part: u32,
-    name: &'a [u8],
-    bits: &'a [PortBit],
-) -> Result<(), AllocError>
-    requires { length bits.now ≤ 65535 }
-    ensures { OnOk result (map (λ p. (lent_pin p.0, p.1)) places.new.items ≡ map (λ p. (lent_pin p.0, p.1)) places.old.items ++ bit_places part name.now 0 bits.now) }
-{
-    for i in 0..bits.len() {
-        if let Some(pin) = &bits[i].pin {
-            places.push((
-                (name, pin.bytes()),
-                PinAt {
-                    part,
-                    bit: i as u32,
-                },
-            ))?;
-        }
-    }
-    Ok(())
-}
-
-fn push_part<'a>(
-    places: &mut Vec<(PinName<'a>, PinAt)>,
-    number: u32,
-    part: &'a Part,
-) -> Result<(), AllocError>
-    ensures { OnOk result (map (λ p. (lent_pin p.0, p.1)) places.new.items ≡ map (λ p. (lent_pin p.0, p.1)) places.old.items ++ part_places number part.now.name part.now.kind) }
-{
-    match &part.kind {
-        PartKind::Described(device) => {
-            push_bits(
-                places,
-                number,
-                part.name.bytes(),
-                device.raw().bits.as_slice(),
-            )
-        }
-        PartKind::Bypass(_) => Ok(()),
-    }
-}
-
-/// The pins of the described parts, each with its place.
-pub fn pin_places<'a>(
-    alloc: Global,
-    parts: &'a [Part],
-) -> Result<Vec<(PinName<'a>, PinAt)>, AllocError>
-    requires { length parts.now < 2 ^ 32 }
-    ensures { IfOk result (λ places. map (λ p. (lent_pin p.0, p.1)) places.items ≡ pin_places parts.now) }
-{
-    let mut places = Vec::new(alloc);
-    for number in 0..parts.len() {
-        push_part(&mut places, number as u32, &parts[number])?;
-    }
-    Ok(places)
-}
-
-/// The first place of each pin.
-pub fn places_by_pin<'a>(
-    alloc: Global,
-    places: &[(PinName<'a>, PinAt)],
-) -> Result<IndexMap<PinName<'a>, PinAt>, AllocError>
-    ensures { IfOk result (λ known. (q : Bor (List ℕ) × Bor (List ℕ)) → get_by (λ p. same_pin (lent_pin q) (lent_pin p)) known ≡ first_value same_pin (map (λ p. (lent_pin p.0, p.1)) places.now) (lent_pin q)) }
-{
-    first_values(alloc, places)
 }
 
 fn described_name(part: &Part) -> Option<&[u8]>

@@ -1,5 +1,6 @@
 -- The marked words are those of the definitions.
-use Rattle.std.proofs.Common.{◌≡◌, map, ap, subst, ◌∙◌}
+use Rattle.std.proofs.Common.{◌≡◌, ◌≢◌, map, ap, sym, subst, ◌∙◌}
+use Rattle.std.specs.Prelude.{AllPairs}
 use Rattle.board_lines.specs.declared.names.Naming.TheVariants.{Inert}
 use Rattle.answers.specs.Gives.{Gives}
 use Rattle.board_lines.specs.Faults.{board_told}
@@ -36,3 +37,7 @@ returns c =
     c.in_ok-marked.ensures ∙ ap (λ v. map (mark v (pin_places v) inerts) (map lent_word c.deref-3.result.now)) c.deref-2.ensures.value
     ∙ ap (λ v. map (mark c.args.parts.items (pin_places c.args.parts.items) inerts) (map lent_word v)) c.deref-3.ensures.value ∙ ap (map (mark c.args.parts.items (pin_places c.args.parts.items) inerts)) words in
     subst (λ answer. Gives board_told (λ board. board) (λ said. answer ≡ said) c.answer.result) (answer_by c.args.chain.now c.args.nets.now c.args.parts.items _ _ (ap (map (λ n. n.now)) c.deref-4.ensures.value ∙ c.in_ok-net.ensures.names) (ap (map seen) c.deref-5.ensures.value ∙ marked)) c.answer.ensures
+
+-- the parts have the names of the chain's lines, which differ
+pub marked_words-requires-clause-differ : goal.marked_words-requires-clause-differ
+marked_words-requires-clause-differ c = subst (AllPairs (λ a b. a ≢ b)) (sym (ap (map (λ part. part.name)) c.deref-2.ensures.value ∙ c.requires.names)) c.requires.selected.differ

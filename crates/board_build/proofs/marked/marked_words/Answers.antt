@@ -1,12 +1,12 @@
 -- The look-ups answer for the words of the definitions.
 use Rattle.std.proofs.Common.{map, ap, ◌∙◌}
 use Rattle.std.specs.Prelude.{is_some}
-use Rattle.first_places.specs.Places.{first_place, first_value}
+use Rattle.first_places.specs.Places.{first_place}
 use Rattle.board_lines.specs.declared.names.Naming.TheVariants.{Inert}
 use Rattle.board_files.specs.Names.{same_word}
 use Rattle.board_lines.specs.Names.{named, names_of}
-use Rattle.board_lines.specs.NetWords.{lent_word, lent_pin, same_pin}
-use Rattle.board_lines.specs.ChainParts.{pin_places}
+use Rattle.board_lines.specs.NetWords.{lent_word, lent_pin}
+use Rattle.board_lines.specs.ChainParts.{pin_places, place_of_pin}
 use Rattle.board_build.specs.inner.Marked.{mark, seen}
 use Rattle.board_lines.proofs.NameLemmas.{if_ok_map}
 use Rattle.board_lines.proofs.MapLemmas.{map-map, map_seen}
@@ -19,10 +19,10 @@ returns c =
     if_ok_map _ _
     (λ marked e. ap (map seen) e ∙ map-map _ seen c.args.words.now ∙ map_seen _ lent_word (mark c.args.parts.now (pin_places c.args.parts.now) (names_of (named Inert c.args.lines.now)))
     (λ w.
-    let place = c.in_ok-by_pin.ensures w.0.1 ∙ ap (λ v. first_value same_pin (map (λ p. (lent_pin p.0, p.1)) v) (lent_pin w.0.1)) c.deref.ensures.value ∙ ap (λ v. first_value same_pin v (lent_pin w.0.1)) c.in_ok-places.ensures in
+    let place = ap (λ v. place_of_pin (pin_places v) (lent_pin w.0.1)) c.in_ok-places.ensures in
     mark_cong c.args.parts.now (lent_word w) _ _ _ _ _ _
-    (known_same c.args.parts.now (lent_pin w.0.1) _ _ (ap is_some (c.in_ok-by_name.ensures w.0.1.0 ∙ ap (λ v. first_place same_word (map (λ n. n.now) v) w.0.1.0.now) c.deref-2.ensures.value ∙ ap (λ v. first_place same_word v w.0.1.0.now) c.in_ok-names.ensures.names)) place)
+    (known_same c.args.parts.now (lent_pin w.0.1) _ _ (ap is_some (c.in_ok-by_name.ensures w.0.1.0 ∙ ap (λ v. first_place same_word (map (λ n. n.now) v) w.0.1.0.now) c.deref.ensures.value ∙ ap (λ v. first_place same_word v w.0.1.0.now) c.in_ok-names.ensures.names)) place)
     place
-    (ap is_some (c.in_ok-by_inert.ensures w.0.1.0 ∙ ap (λ v. first_place same_word (map (λ n. n.now) v) w.0.1.0.now) c.deref-3.ensures.value ∙ ap (λ v. first_place same_word v w.0.1.0.now) c.in_ok-inerts.ensures.names)))
+    (ap is_some (c.in_ok-by_inert.ensures w.0.1.0 ∙ ap (λ v. first_place same_word (map (λ n. n.now) v) w.0.1.0.now) c.deref-2.ensures.value ∙ ap (λ v. first_place same_word v w.0.1.0.now) c.in_ok-inerts.ensures.names)))
     c.args.words.now)
     c.mark_all.result c.mark_all.ensures

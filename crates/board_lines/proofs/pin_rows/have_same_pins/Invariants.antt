@@ -1,0 +1,7 @@
+use Rattle.std.proofs.Common.{◌≡◌, take}
+use Rattle.board_lines.specs.PinRows.{pins_of_bits}
+use Rattle.board_lines.proofs.pin_rows.have_same_pins.Given as goal
+
+-- the pins so far are the same
+abbrev pub invariant-loop-i : goal.invariant-loop-i
+invariant-loop-i l = pins_of_bits (take l.i l.a) ≡ pins_of_bits (take l.i l.b)

@@ -1,0 +1,161 @@
+// The pins of a device, each with its port bit: one row serves all parts with the same pins.
+ghost use Rattle.std.specs.Prelude.{◌≡◌, ◌<◌, ◌≤◌, ◌^◌, cond, length, slice_get, true, IfOk, IfSome, List, OnOk, Option, Some, ℕ};
+ghost use Rattle.std.proofs.Common.{Bor};
+ghost use Rattle.indexmap.specs.IndexMap.{get_by};
+ghost use Rattle.board_files.specs.Names.{same_word};
+ghost use Rattle.board_lines.specs.PinRows.{bit_of_pin, is_pin, pins_of, pins_of_bits};
+
+use board_defs::{Name, PartKind, PortBit};
+use indexmap::IndexMap;
+use std::alloc::{AllocError, Global};
+use std::marker::Model;
+
+/// The number of rows that are looked through for one with the same pins: a board of many
+/// different devices has few rows to share, and is not to pay for each pair of them.
+const ROWS_COMPARED: usize = 16;
+
+/// The port bits of a part; a part in BYPASS has none.
+pub fn bits_of(kind: &PartKind) -> &[PortBit]
+    ensures pins { pins_of_bits result.now ≡ pins_of kind.now }
+    ensures few { length result.now ≤ 65535 }
+{
+    match kind {
+        PartKind::Described(device) => device.raw().bits.as_slice(),
+        PartKind::Bypass(_) => &[],
+    }
+}
+
+/// Puts the bit at the pin's name, where it has a pin.
+fn put_pin<'a>(
+    bits: &mut IndexMap<&'a [u8], u32>,
+    pin: &'a Option<Name>,
+    bit: u32,
+) -> Result<(), AllocError>
+    ensures { OnOk result ((q : Bor (List ℕ)) → get_by (λ n. same_word q.now n.now) bits.new ≡ cond (is_pin q.now pin.now) (Some bit) (get_by (λ n. same_word q.now n.now) bits.old)) }
+{
+    if let Some(name) = pin {
+        bits.insert(name.bytes(), bit)?;
+    }
+    Ok(())
+}
+
+/// The first port bit of each pin.
+fn bits_by_pin<'a>(
+    alloc: Global,
+    bits: &'a [PortBit],
+) -> Result<IndexMap<&'a [u8], u32>, AllocError>
+    requires { length bits.now < 2 ^ 32 }
+    ensures { IfOk result (λ by_pin. (q : Bor (List ℕ)) → get_by (λ n. same_word q.now n.now) by_pin ≡ bit_of_pin (pins_of_bits bits.now) q.now) }
+{
+    let mut by_pin = IndexMap::with_capacity(alloc, bits.len())?;
+    let mut i = bits.len();
+    while 0 < i {
+        i -= 1;
+        put_pin(&mut by_pin, &bits[i].pin, i as u32)?;
+    }
+    Ok(by_pin)
+}
+
+/// Told only of equal pins, or where there is none on either side.
+fn is_same_name(a: &Option<Name>, b: &Option<Name>) -> bool
+    ensures { result ≡ true → a.now ≡ b.now }
+{
+    match (a, b) {
+        (Some(a), Some(b)) => a.bytes() == b.bytes(),
+        (None, None) => true,
+        _ => false,
+    }
+}
+
+/// Told only of port bits with the same pins in the same order.
+fn have_same_pins(a: &[PortBit], b: &[PortBit]) -> bool
+    ensures { result ≡ true → pins_of_bits a.now ≡ pins_of_bits b.now }
+{
+    if a.len() != b.len() {
+        return false;
+    }
+    for i in 0..a.len() {
+        if !is_same_name(&a[i].pin, &b[i].pin) {
+            return false;
+        }
+    }
+    true
+}
+
+/// The pins of the port bits of a part, seen as their list.
+#[derive(Drop)]
+pub struct PinRow<'a> {
+    bits: &'a [PortBit],
+    by_pin: IndexMap<&'a [u8], u32>,
+}
+
+impl<'a> Model for PinRow<'a> {
+    ghost use Rattle.std.specs.Prelude.{◌≡◌, List, Option, ℕ};
+    ghost use Rattle.std.proofs.Common.{Bor};
+    ghost use Rattle.indexmap.specs.IndexMap.{get_by};
+    ghost use Rattle.board_files.specs.Names.{same_word};
+    ghost use Rattle.board_lines.specs.PinRows.{bit_of_pin, pins_of_bits};
+
+    ghost Value = { List (Option (List ℕ)) };
+
+    ghost view = { λ a. pins_of_bits a.bits.now };
+
+    ghost invariant = { λ a. (q : Bor (List ℕ)) → get_by (λ n. same_word q.now n.now) a.by_pin ≡ bit_of_pin (pins_of_bits a.bits.now) q.now };
+}
+
+impl<'a> PinRow<'a> {
+    fn of(alloc: Global, bits: &'a [PortBit]) -> Result<PinRow<'a>, AllocError>
+        requires { length bits.now < 2 ^ 32 }
+        ensures { IfOk result (λ row. row ≡ pins_of_bits bits.now) }
+    {
+        let by_pin = bits_by_pin(alloc, bits)?;
+        Ok(PinRow { bits, by_pin })
+    }
+
+    /// The first port bit with this pin.
+    pub fn bit_of(&self, pin: &[u8]) -> Option<u32>
+        ensures { result ≡ bit_of_pin self.now pin.now }
+    {
+        self.by_pin.get(&pin).copied()
+    }
+
+    /// Told only where the port bits have the pins of this row.
+    fn has_pins(&self, bits: &[PortBit]) -> bool
+        ensures { result ≡ true → self.now ≡ pins_of_bits bits.now }
+    {
+        have_same_pins(self.bits, bits)
+    }
+}
+
+/// The number of a row with these pins, if it is among the first rows.
+fn row_among(rows: &[PinRow<'_>], bits: &[PortBit]) -> Option<usize>
+    ensures { IfSome result (λ number. slice_get rows.now number ≡ Some (pins_of_bits bits.now)) }
+{
+    for (number, row) in rows.iter().enumerate() {
+        if number == ROWS_COMPARED {
+            return None;
+        }
+        if row.has_pins(bits) {
+            return Some(number);
+        }
+    }
+    None
+}
+
+/// The number of a row with these pins, which is added where there is none among the first.
+pub fn row_of<'a>(
+    alloc: Global,
+    rows: &mut Vec<PinRow<'a>>,
+    bits: &'a [PortBit],
+) -> Result<usize, AllocError>
+    requires { length bits.now < 2 ^ 32 }
+    ensures number { IfOk result (λ number. slice_get rows.new.items number ≡ Some (pins_of_bits bits.now)) }
+    ensures kept { OnOk result ((k : ℕ) (row : List (Option (List ℕ))) → slice_get rows.old.items k ≡ Some row → slice_get rows.new.items k ≡ Some row) }
+{
+    if let Some(number) = row_among(rows, bits) {
+        return Ok(number);
+    }
+    let number = rows.len();
+    rows.push(PinRow::of(alloc, bits)?)?;
+    Ok(number)
+}

@@ -1,0 +1,142 @@
+// Where the pins of a chain's parts are, by the part and then by the pin.
+ghost use Rattle.std.specs.Prelude.{◌≡◌, ◌≢◌, ◌<◌, ◌^◌, AllPairs, length, map, option_and_then, slice_get, IfOk, List, Option, Some, ℕ};
+ghost use Rattle.std.proofs.Common.{Bor};
+ghost use Rattle.indexmap.specs.IndexMap.{get_by};
+ghost use Rattle.first_places.specs.Places.{first_place};
+ghost use Rattle.board_files.specs.Names.{same_word};
+ghost use Rattle.board_lines.specs.NetWords.{lent_pin};
+ghost use Rattle.board_lines.specs.ChainParts.{pin_places, place_of_pin};
+ghost use Rattle.board_lines.specs.PinRows.{AreRows, bit_of_pin, place_by_part, row_at};
+
+use crate::names::{first_places_of, place_of};
+use crate::pin_rows::{PinRow, bits_of, row_of};
+use crate::words::PinName;
+use board_defs::{Part, PinAt};
+use indexmap::IndexMap;
+use std::alloc::{AllocError, Global};
+use std::marker::Model;
+
+fn part_names<'a>(alloc: Global, parts: &'a [Part]) -> Result<Vec<&'a [u8]>, AllocError>
+    ensures { IfOk result (λ names. map (λ n. n.now) names.items ≡ map (λ part. part.name) parts.now) }
+{
+    let mut names = Vec::with_capacity(alloc, parts.len())?;
+    for part in parts {
+        names.push(part.name.bytes())?;
+    }
+    Ok(names)
+}
+
+/// The number of each part by its name.
+fn parts_by_name<'a>(
+    alloc: Global,
+    parts: &'a [Part],
+) -> Result<IndexMap<&'a [u8], u32>, AllocError>
+    requires { length parts.now < 2 ^ 32 }
+    ensures { IfOk result (λ numbers. (q : Bor (List ℕ)) → get_by (λ n. same_word q.now n.now) numbers ≡ first_place same_word (map (λ part. part.name) parts.now) q.now) }
+{
+    let names = part_names(alloc, parts)?;
+    first_places_of(alloc, &names)
+}
+
+/// The rows of the parts; parts with the same pins share one.
+#[derive(Drop)]
+struct PartRows<'a> {
+    rows: Vec<PinRow<'a>>,
+    /// For each part the number of its row.
+    numbers: Vec<usize>,
+}
+
+fn rows_of<'a>(alloc: Global, parts: &'a [Part]) -> Result<PartRows<'a>, AllocError>
+    ensures { IfOk result (λ part_rows. AreRows part_rows.rows.items part_rows.numbers.items parts.now) }
+{
+    let mut rows = Vec::new(alloc);
+    let mut numbers = Vec::with_capacity(alloc, parts.len())?;
+    for part in parts {
+        let number = row_of(alloc, &mut rows, bits_of(&part.kind))?;
+        numbers.push(number)?;
+    }
+    Ok(PartRows { rows, numbers })
+}
+
+/// The port bit of this number's part that has the pin.
+fn bit_in(rows: &[PinRow<'_>], numbers: &[usize], part: u32, pin: &[u8]) -> Option<u32>
+    ensures { result ≡ option_and_then (λ row. bit_of_pin row pin.now) (row_at rows.now numbers.now part) }
+{
+    match numbers.get(part as usize) {
+        Some(number) => match rows.get(*number) {
+            Some(row) => row.bit_of(pin),
+            None => None,
+        },
+        None => None,
+    }
+}
+
+/// The place of a pin by the number of its part and the row of that part.
+fn place_in(
+    by_name: &IndexMap<&[u8], u32>,
+    rows: &[PinRow<'_>],
+    numbers: &[usize],
+    pin: &PinName<'_>,
+) -> Option<PinAt>
+    ensures { result ≡ place_by_part rows.now numbers.now (get_by (λ n. same_word pin.now.0.now n.now) by_name.now) pin.now.1.now }
+{
+    match place_of(by_name, pin.0) {
+        None => None,
+        Some(part) => match bit_in(rows, numbers, part, pin.1) {
+            None => None,
+            Some(bit) => Some(PinAt { part, bit }),
+        },
+    }
+}
+
+/// Where the pins of the parts of a chain are, seen as the list of the parts.
+///
+/// Most boards have many equal devices, so that a row of pins for each different device stays
+/// in the processor's cache where one table of all pins does not.
+#[derive(Drop)]
+pub struct PinPlaces<'a> {
+    parts: &'a [Part],
+    by_name: IndexMap<&'a [u8], u32>,
+    part_rows: PartRows<'a>,
+}
+
+impl<'a> Model for PinPlaces<'a> {
+    ghost use Rattle.std.specs.Prelude.{List};
+    ghost use Rattle.board_defs.specs.declared.board.Part.{Part};
+    ghost use Rattle.board_lines.specs.PinRows.{ArePlaces};
+
+    ghost Value = { List Part };
+
+    ghost view = { λ a. a.parts.now };
+
+    ghost invariant = { λ a. ArePlaces a.by_name a.part_rows.rows.items a.part_rows.numbers.items a.parts.now };
+}
+
+impl<'a> PinPlaces<'a> {
+    /// The places of the pins of these parts.
+    pub fn of(alloc: Global, parts: &'a [Part]) -> Result<PinPlaces<'a>, AllocError>
+        requires few { length parts.now < 2 ^ 32 }
+        requires differ { AllPairs (λ a b. a ≢ b) (map (λ part. part.name) parts.now) }
+        ensures { IfOk result (λ places. places ≡ parts.now) }
+    {
+        let by_name = parts_by_name(alloc, parts)?;
+        let part_rows = rows_of(alloc, parts)?;
+        Ok(PinPlaces {
+            parts,
+            by_name,
+            part_rows,
+        })
+    }
+
+    /// Where the pin is in the chain.
+    pub fn place_of_pin(&self, pin: &PinName<'_>) -> Option<PinAt>
+        ensures { result ≡ place_of_pin (pin_places self.now) (lent_pin pin.now) }
+    {
+        place_in(
+            &self.by_name,
+            &self.part_rows.rows,
+            &self.part_rows.numbers,
+            pin,
+        )
+    }
+}
