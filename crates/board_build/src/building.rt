@@ -12,12 +12,13 @@ ghost use Rattle.board_lines.specs.ChainParts.{IsChain, chain_parts};
 ghost use Rattle.board_build.specs.BoardRules.{board_answer, board_of};
 ghost use Rattle.board_build.specs.inner.Marked.{board_by, marked_answer, marked_fault, marked_twice, seen};
 
-use crate::marked::{MarkedWord, marked_words};
+use crate::marked::MarkedWord;
 use crate::nets::board_by;
 use crate::rules::{driver_fault, file_fault};
+use crate::standing::standing_words;
 use board_defs::{Board, Device, Part};
 use board_files::{ChainFile, ChainLine, NetFile, NetLine};
-use board_lines::{BoardFault, chain_parts, net_names, standing_words};
+use board_lines::{BoardFault, chain_parts, net_names};
 use std::alloc::{AllocError, Global};
 
 /// The board that the files and the devices denote, with a device for each DEVICE line, in order.
@@ -78,9 +79,15 @@ fn board_of(
     ensures { Gives board_told (λ board. board) (λ said. board_answer chain.now nets.now parts.items ≡ said) result }
 {
     let net = net_names(alloc, nets)?;
-    let standing = standing_words(alloc, &net.numbers, nets)?;
-    let marked = marked_words(alloc, chain, &parts, &standing.words)?;
-    answer(alloc, chain, parts, &net.names, &marked, standing.differ)
+    let standing = standing_words(alloc, chain, &parts, &net.numbers, nets)?;
+    answer(
+        alloc,
+        chain,
+        parts,
+        &net.names,
+        &standing.words,
+        standing.differ,
+    )
 }
 
 #[tactic(auto, using(board_lines::proofs::FaultLemmas::told_as), unfolding(crate::specs::inner::Marked::marked_answer, crate::specs::inner::Marked::marked_fault))]

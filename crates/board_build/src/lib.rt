@@ -7,6 +7,8 @@ pub mod law;
 mod marked;
 mod nets;
 mod rules;
+mod seen_pins;
+mod standing;
 
 pub use board_defs::Spot;
 pub use board_lines::{BoardFault, select};

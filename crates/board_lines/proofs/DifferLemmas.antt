@@ -7,29 +7,9 @@ use Rattle.first_places.specs.Places.{once, first_repeated}
 use Rattle.first_places.proofs.OnceLemmas.{unrepeated}
 use Rattle.board_defs.specs.declared.spot.Spot.{Spot}
 use Rattle.board_lines.specs.NetWords.{NetWord, have_same_pin, lent_pin, lent_word, line_words, net_number, net_of, pin_of, words_of, same_pin, same_place}
-use Rattle.board_lines.proofs.MapLemmas.{repeated-map}
 
 abbrev pub same_lent : (Bor (List ℕ) × Bor (List ℕ)) × Spot → (Bor (List ℕ) × Bor (List ℕ)) × Spot → Bool
 same_lent a b = same_pin (lent_pin a.0) (lent_pin b.0)
-
--- a word as the code lends it
-abbrev pub Lent : Type 0
-Lent = (ℕ × (Bor (List ℕ) × Bor (List ℕ))) × Spot
-
--- a lent word by its pin
-abbrev pub pin_at : Lent → (Bor (List ℕ) × Bor (List ℕ)) × Spot
-pin_at w = (w.0.1, w.1)
-
-pub none_mapped : {A B : Type 0} (f : A → B) (o : Option A) → is_none (option_map f o) ≡ is_none o
-none_mapped f None = refl
-none_mapped f (Some a) = refl
-
--- no pin of the lent words is repeated where none of the words is
-pub differ_lent : (words : List Lent) → is_none (first_repeated same_lent (map pin_at words)) ≡ is_none (first_repeated have_same_pin (map lent_word words))
-differ_lent words =
-    sym (none_mapped (λ p. p.1) (first_repeated same_lent (map pin_at words)))
-    ∙ ap is_none (repeated-map pin_at same_lent (λ p. p.1) words ∙ sym (repeated-map lent_word have_same_pin (λ (w : NetWord). w.1) words))
-    ∙ none_mapped (λ (w : NetWord). w.1) (first_repeated have_same_pin (map lent_word words))
 
 number_there : {A : Type 0} (f : A → ℕ) (xs : List A) (i : ℕ) (x : A) → i < length xs → get_or xs i x ≡ x → unwrap_or (slice_get (map f xs) i) 0 ≡ f x
 number_there f [] i x within read = absurd (omega (arith, within))

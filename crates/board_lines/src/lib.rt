@@ -15,6 +15,7 @@ pub use fault::BoardFault;
 pub use line_rules::{line_fault, names_in, pull_of_net, pulls_by_net, pulls_of};
 pub use names::{Naming, first_places_of, place_of};
 pub use parts::{chain_parts, described_names};
+pub use pin_rows::bits_of;
 pub use places::PinPlaces;
 pub use selection::select;
-pub use words::{NetNames, NetWord, PinName, StandingWords, net_names, standing_words};
+pub use words::{NetNames, NetWord, PinName, net_names, net_words, once_words};

@@ -1,13 +1,12 @@
 // The words of a net file that name pins.
-ghost use Rattle.std.specs.Prelude.{◌≡◌, ◌<◌, ◌≤◌, ◌-◌, ◌^◌, ◌++◌, All, vec_len, length, map, true, None, is_none, IfOk, OnOk, slice_get, unwrap_or};
-ghost use Rattle.first_places.specs.Places.{first_repeated, once};
-ghost use Rattle.board_lines.specs.NetWords.{lent_pin, lent_word, same_pin, same_place, net_names, net_number, net_words, standing_words, line_words, HasFewPins};
-ghost use Rattle.board_lines.specs.NetWords.{have_same_pin};
+ghost use Rattle.std.specs.Prelude.{◌≡◌, ◌<◌, ◌≤◌, ◌-◌, ◌^◌, ◌++◌, All, vec_len, length, map, IfOk, OnOk, slice_get, unwrap_or};
+ghost use Rattle.first_places.specs.Places.{once};
+ghost use Rattle.board_lines.specs.NetWords.{lent_word, same_place, net_names, net_number, net_words, line_words, HasFewPins};
 
 use crate::names::numbered_names;
 use board_defs::Spot;
 use board_files::{NetLine, PinWord, line_names};
-use first_places::{first_repeated, once_by};
+use first_places::once_by;
 use std::alloc::{AllocError, Global};
 
 /// A pin by its part and its name.
@@ -15,14 +14,6 @@ pub type PinName<'a> = (&'a [u8], &'a [u8]);
 
 /// A pin in the net of a number, and where the word stands that says so.
 pub type NetWord<'a> = ((u32, PinName<'a>), Spot);
-
-/// The words of a net file that count, in their order.
-#[derive(Drop)]
-pub struct StandingWords<'a> {
-    pub words: Vec<NetWord<'a>>,
-    /// Told only where no two of the words name the same pin.
-    pub differ: bool,
-}
 
 /// The nets of a net file by their names.
 #[derive(Drop)]
@@ -80,7 +71,7 @@ fn push_line<'a>(
 }
 
 /// The pins of all lines.
-fn net_words<'a>(
+pub fn net_words<'a>(
     alloc: Global,
     numbers: &[u32],
     lines: &'a [NetLine],
@@ -98,60 +89,8 @@ fn net_words<'a>(
     Ok(words)
 }
 
-/// Each word whose pin does not stand earlier in the same net.
-///
-/// Where no pin stands twice, one set of all pins is enough: each word stands, and the words differ.
-pub fn standing_words<'a>(
-    alloc: Global,
-    numbers: &[u32],
-    lines: &'a [NetLine],
-) -> Result<StandingWords<'a>, AllocError>
-    requires numbers { numbers.now ≡ map (λ line. net_number (net_names lines.now) line.name) lines.now }
-    requires short { All HasFewPins lines.now }
-    ensures words { IfOk result (λ standing. map lent_word standing.words.items ≡ standing_words lines.now) }
-    ensures differ { IfOk result (λ standing. standing.differ ≡ true → first_repeated have_same_pin (map lent_word standing.words.items) ≡ None) }
-{
-    let words = net_words(alloc, numbers, lines)?;
-    if pins_differ(alloc, &words)? {
-        return Ok(StandingWords {
-            words,
-            differ: true,
-        });
-    }
-    let words = once_words(alloc, &words)?;
-    Ok(StandingWords {
-        words,
-        differ: false,
-    })
-}
-
-/// The words by their pins.
-fn by_pin<'a>(alloc: Global, words: &[NetWord<'a>]) -> Result<Vec<(PinName<'a>, Spot)>, AllocError>
-    ensures { IfOk result (λ pins. pins.items ≡ map (λ w. (w.0.1, w.1)) words.now) }
-{
-    let mut pins = Vec::with_capacity(alloc, words.len())?;
-    for word in words {
-        pins.push((word.0.1, word.1))?;
-    }
-    Ok(pins)
-}
-
-fn are_different(alloc: Global, pins: &[(PinName<'_>, Spot)]) -> Result<bool, AllocError>
-    ensures { IfOk result (λ differ. differ ≡ is_none (first_repeated (λ a b. same_pin (lent_pin a.0) (lent_pin b.0)) pins.now)) }
-{
-    let again = first_repeated(alloc, pins)?;
-    Ok(again.is_none())
-}
-
-/// Whether each word names another pin.
-fn pins_differ(alloc: Global, words: &[NetWord<'_>]) -> Result<bool, AllocError>
-    ensures { IfOk result (λ differ. differ ≡ is_none (first_repeated have_same_pin (map lent_word words.now))) }
-{
-    let pins = by_pin(alloc, words)?;
-    are_different(alloc, &pins)
-}
-
-fn once_words<'a>(alloc: Global, words: &[NetWord<'a>]) -> Result<Vec<NetWord<'a>>, AllocError>
+/// The words without those that repeat a pin in the same net.
+pub fn once_words<'a>(alloc: Global, words: &[NetWord<'a>]) -> Result<Vec<NetWord<'a>>, AllocError>
     ensures { IfOk result (λ kept. map lent_word kept.items ≡ once same_place (map lent_word words.now)) }
 {
     once_by(alloc, words)
