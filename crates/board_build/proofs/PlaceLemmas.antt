@@ -1,5 +1,5 @@
 -- Words of which no two have one place or one name name different pins.
-use Rattle.std.proofs.Common.{◌≡◌, ℕ, ◌+◌, ◌≤◌, ◌==◌, Bool, true, false, cond, ◌&&◌, ◌||◌, List, [], ◌∷◌, ◌++◌, length, map, take, drop, get_or, set, Option, Some, None, refl, sym, ap, subst, ◌∙◌, arith, ◌⊎◌, inl, inr}
+use Rattle.std.proofs.Common.{◌≡◌, ℕ, ◌≤◌, ◌==◌, Bool, true, false, cond, ◌&&◌, ◌||◌, List, [], ◌∷◌, ◌++◌, length, map, take, drop, Option, Some, None, refl, sym, ap, ◌∙◌, arith}
 use Rattle.std.specs.Prelude.{option_map}
 use Rattle.std.specs.List.{list_any}
 use Rattle.std.specs.Cmp.Lexicographic.{same_text}
@@ -11,7 +11,7 @@ use Rattle.board_files.specs.declared.net_file.NetLine.{NetLine}
 use Rattle.board_files.specs.Names.{same_word}
 use Rattle.board_defs.specs.declared.board.Part.{Part}
 use Rattle.board_defs.specs.declared.board.PinAt.{PinAt}
-use Rattle.board_lines.specs.NetWords.{Pin, NetWord, have_same_pin, net_words, pin_of, same_pin, standing_words}
+use Rattle.board_lines.specs.NetWords.{Pin, NetWord, have_same_pin, net_words, pin_of, standing_words}
 use Rattle.board_lines.specs.ChainParts.{pin_places, place_of_pin}
 use Rattle.board_lines.specs.Names.{named, names_of}
 use Rattle.board_lines.specs.declared.names.Naming.TheVariants.{Inert}

@@ -1,12 +1,12 @@
 -- The words of a net file line by line, and words of which no two name the same pin.
 use Rattle.std.proofs.Common.{◌≡◌, ℕ, zero, suc, ◌+◌, ◌<◌, ◌==◌, Bool, true, false, ◌&&◌, List, [], ◌∷◌, ◌++◌, length, map, drop, get_or, append_assoc, arith, Option, Some, None, refl, sym, ap, ◌∙◌, Bor}
-use Rattle.std.specs.Prelude.{is_none, option_map, slice_get, unwrap_or}
+use Rattle.std.specs.Prelude.{is_none, slice_get, unwrap_or}
 use Rattle.std.proofs.lemmas.List.{drop_more}
 use Rattle.board_files.specs.declared.net_file.NetLine.{NetLine}
 use Rattle.first_places.specs.Places.{once, first_repeated}
 use Rattle.first_places.proofs.OnceLemmas.{unrepeated}
 use Rattle.board_defs.specs.declared.spot.Spot.{Spot}
-use Rattle.board_lines.specs.NetWords.{NetWord, have_same_pin, lent_pin, lent_word, line_words, net_number, net_of, pin_of, words_of, same_pin, same_place}
+use Rattle.board_lines.specs.NetWords.{NetWord, have_same_pin, lent_pin, line_words, net_number, net_of, pin_of, words_of, same_pin, same_place}
 
 abbrev pub same_lent : (Bor (List ℕ) × Bor (List ℕ)) × Spot → (Bor (List ℕ) × Bor (List ℕ)) × Spot → Bool
 same_lent a b = same_pin (lent_pin a.0) (lent_pin b.0)

@@ -5,7 +5,7 @@ use Rattle.indexmap.specs.IndexSet.{IndexSet, contains}
 use Rattle.board_defs.specs.declared.board.PinAt.{PinAt}
 use Rattle.board_lines.specs.NetWords.{lent_pin, same_pin}
 use Rattle.board_build.specs.declared.marked.MarkedWord.{MarkedWord}
-use Rattle.board_build.specs.inner.Marked.{Marked, same_pins, seen}
+use Rattle.board_build.specs.inner.Marked.{Marked, same_pins}
 
 -- two pins are one: by their places, or by their names where neither has a place
 abbrev pub at_one_place : Option PinAt → Option PinAt → Bool → Bool

@@ -7,7 +7,7 @@ use Rattle.board_lines.specs.Faults.{board_told}
 use Rattle.board_lines.specs.Names.{named, names_of}
 use Rattle.board_lines.specs.NetWords.{standing_words}
 use Rattle.board_lines.specs.ChainParts.{pin_places}
-use Rattle.board_build.specs.inner.Marked.{mark, marked_twice, seen}
+use Rattle.board_build.specs.inner.Marked.{mark, seen}
 use Rattle.board_build.proofs.SoundLemmas.{sound_by, answer_by}
 use Rattle.board_build.proofs.building.board_of.Goals as goal
 
