@@ -1,4 +1,4 @@
--- Terms that serve proofs and the contracts of private functions. No public contract cites them.
+-- Terms that serve proofs and the contracts of private functions. Public contracts, here and in the crates above, cite Kept and Pairs; the others no public contract cites.
 pub mod Kept
 pub mod Pairs
 pub mod ControlSets

@@ -1,8 +1,9 @@
 -- The tables of pulled bits say which pins switch.
-use Rattle.std.proofs.Common.{◌≡◌, ◌<◌, Bool, true, false, not, ◌&&◌, ◌||◌, List, [], ◌∷◌, map, Option, Some, None, refl, sym, ◌∙◌, ap, arith, cond}
+use Rattle.std.proofs.Common.{◌≡◌, ℕ, ◌<◌, Bool, true, false, not, ◌&&◌, ◌||◌, List, [], ◌∷◌, map, replicate, Option, Some, None, refl, sym, ◌∙◌, ap, arith, cond}
 use Rattle.std.specs.Prelude.{slice_get, option_map, option_and_then, fold}
 use Rattle.std.specs.List.{list_any}
-use Rattle.std.proofs.lemmas.Option.{slice_get-map}
+use Rattle.std.proofs.lemmas.List.{get_or-replicate, length-replicate}
+use Rattle.std.proofs.lemmas.Option.{slice_get-get_or, slice_get-map}
 use Rattle.board_defs.specs.declared.board.PinAt.{PinAt}
 use Rattle.board_defs.specs.declared.board.Part.{Part}
 use Rattle.board_defs.specs.declared.board.Ctl.{Ctl}
@@ -15,11 +16,9 @@ use Rattle.net_facts.specs.declared.facts.PinFacts.{PinFacts}
 use Rattle.net_facts.specs.declared.facts.NetFacts.{NetFacts}
 use Rattle.net_facts.specs.Cells.{put, item_of, at_control, holds_there}
 use Rattle.net_facts.specs.Facts.{pin_facts_of, net_facts_of}
-use Rattle.net_facts.specs.inner.Rows.{copies}
 use Rattle.net_facts.specs.inner.Switching.{mark_at, mark_pins, mark_pulled, blank_bits, pulled_bits}
 use Rattle.net_facts.specs.inner.Tables.{SaysPulled}
 use Rattle.net_facts.proofs.Truth.{any_map}
-use Rattle.net_facts.proofs.RowLemmas.{copies_get}
 use Rattle.net_facts.proofs.Notes.{at_same, at_other}
 use Rattle.net_facts.proofs.Answered.{any_same}
 
@@ -78,12 +77,16 @@ nets_row value (net ∷ nets) rows c =
     ap (option_map (λ b. list_any (pulls value c) nets || b)) (net_row value net rows c) ∙
     mark_join (pulls value c net) (list_any (pulls value c) nets) (item_of rows c)
 
+replicate_get : (n k : ℕ) → k < n → slice_get (replicate n false) k ≡ Some false
+replicate_get n k less =
+    slice_get-get_or (replicate n false) k false (omega (arith, less, length-replicate {A = Bool} n false)) ∙ ap Some (get_or-replicate {A = Bool} n k false false less)
+
 blank_at : (board : RawBoard) (at : PinAt) → at.bit < port_bits board at.part → item_of (blank_bits board.chain) (record { part = at.part; cell = at.bit }) ≡ Some false
-blank_at board at h = ap (option_and_then (λ r. slice_get r at.bit)) (slice_get-map (λ (part : Part). copies false (bit_count (described part.kind))) board.chain at.part) ∙ by_part (slice_get board.chain at.part) h
+blank_at board at h = ap (option_and_then (λ r. slice_get r at.bit)) (slice_get-map (λ (part : Part). replicate (bit_count (described part.kind)) false) board.chain at.part) ∙ by_part (slice_get board.chain at.part) h
   where
-    by_part : (part : Option Part) → at.bit < bit_count (option_and_then (λ (p : Part). described p.kind) part) → option_and_then (λ r. slice_get r at.bit) (option_map (λ (p : Part). copies false (bit_count (described p.kind))) part) ≡ Some false
+    by_part : (part : Option Part) → at.bit < bit_count (option_and_then (λ (p : Part). described p.kind) part) → option_and_then (λ r. slice_get r at.bit) (option_map (λ (p : Part). replicate (bit_count (described p.kind)) false) part) ≡ Some false
     by_part None g = absurd (omega arith)
-    by_part (Some part) g = copies_get false (bit_count (described part.kind)) at.bit g
+    by_part (Some part) g = replicate_get (bit_count (described part.kind)) at.bit g
 
 or_nothing : (b : Bool) → (b || false) ≡ b
 or_nothing true = refl

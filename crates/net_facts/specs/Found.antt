@@ -1,4 +1,4 @@
--- Where the items of a list that pass a test stand, and numbers that two lists have in common.
+-- Numbers that two ascending lists have in common.
 use Rattle.std.specs.Prelude.{◌≡◌, ℕ, ◌<◌, List, length, slice_index}
 
 abbrev pub IsAscending : List ℕ → Type 0

@@ -36,9 +36,7 @@ fn filled_row<S, T: Copy>(alloc: Global, row: &[S], item: T) -> Result<Vec<T>, A
     ensures { IfOk result (λ items. items.items ≡ map (λ before. item) row.now) }
 {
     let mut items = Vec::new(alloc);
-    for _before in row {
-        items.push(item)?;
-    }
+    items.resize(row.len(), item)?;
     Ok(items)
 }
 
@@ -50,7 +48,7 @@ pub fn filled_table<S, T: Copy>(
 ) -> Result<Vec<Vec<T>>, AllocError>
     ensures { IfOk result (λ made. table made.items ≡ filled item (table rows.now)) }
 {
-    let mut made = Vec::new(alloc);
+    let mut made = Vec::with_capacity(alloc, rows.len())?;
     for row in rows {
         made.push(filled_row(alloc, row, item)?)?;
     }

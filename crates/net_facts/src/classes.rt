@@ -14,6 +14,7 @@ use crate::switching::pulled_bits;
 use crate::tested::net_classes;
 use crate::useful::useful_controls;
 use board_defs::{Ctl, Drive, Items, RawBoard, Reason};
+use few_items::Few;
 use port_entries::{BitEntries, port_entries};
 use std::alloc::{AllocError, Global};
 
@@ -36,9 +37,9 @@ pub struct NetClass {
     /// Why the net is not covered, where it is not.
     pub reason: Option<Reason>,
     /// How the tested drivers are enabled, in pin order.
-    pub drivers: Items<Drive>,
+    pub drivers: Few<Drive>,
     /// The pins in their order.
-    pub pins: Items<PinClass>,
+    pub pins: Few<PinClass>,
 }
 
 /// What is known of a control.

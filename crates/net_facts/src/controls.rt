@@ -196,7 +196,7 @@ fn fresh_part(alloc: Global, cells: u32) -> Result<Vec<ControlClass>, AllocError
 fn fresh_table(alloc: Global, chain: &[Part]) -> Result<Vec<Vec<ControlClass>>, AllocError>
     ensures { IfOk result (λ rows. table rows.items ≡ fresh_rows chain.now) }
 {
-    let mut rows = Vec::new(alloc);
+    let mut rows = Vec::with_capacity(alloc, chain.len())?;
     for part in chain {
         rows.push(fresh_part(alloc, cells_of(&part.kind))?)?;
     }

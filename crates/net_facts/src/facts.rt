@@ -7,6 +7,7 @@ ghost use Rattle.port_entries.specs.Entries.{AreEntries};
 ghost use Rattle.net_facts.specs.inner.Facts.{drive_from, drive_where_in, net_facts_in, pin_facts_in};
 
 use board_defs::{Cell, Ctl, Drive, Items, Net, NetPin, PinAt, RawBoard};
+use few_items::Few;
 use port_entries::{BitEntries, driving_entry, has_dark_pin, receives};
 use std::alloc::{AllocError, Global};
 
@@ -37,7 +38,7 @@ pub struct NetFacts {
     /// Whether no control may enable a driver of the net.
     pub closed: bool,
     /// The pins in their order.
-    pub pins: Items<PinFacts>,
+    pub pins: Few<PinFacts>,
 }
 
 fn has_test_pin(board: &RawBoard, pins: &[NetPin]) -> bool
@@ -126,15 +127,15 @@ fn all_pin_facts(
     board: &RawBoard,
     guarded: bool,
     net: &Net,
-) -> Result<Items<PinFacts>, AllocError>
+) -> Result<Few<PinFacts>, AllocError>
     requires { AreEntries board.now entries.now }
     ensures { IfOk result (λ facts. facts ≡ map (pin_facts_in board.now guarded net.now.pull) net.now.pins) }
 {
-    let mut facts = Vec::with_capacity(alloc, net.pins.len())?;
+    let mut facts = Few::with_capacity(alloc, net.pins.len())?;
     for pin in net.pins.as_slice() {
-        facts.push(pin_facts(entries, board, guarded, net.pull, pin))?;
+        facts.push(alloc, pin_facts(entries, board, guarded, net.pull, pin))?;
     }
-    Ok(Items::of(facts))
+    Ok(facts)
 }
 
 fn is_always_on(drive: Option<Drive>) -> bool

@@ -11,7 +11,7 @@ pub type NetNumbers = Items<u32>;
 pub fn copy_of(alloc: Global, nets: &[u32]) -> Result<NetNumbers, AllocError>
     ensures { IfOk result (λ numbers. numbers ≡ nets.now) }
 {
-    let mut numbers = Vec::new(alloc);
+    let mut numbers = Vec::with_capacity(alloc, nets.len())?;
     numbers.extend_from_slice(nets)?;
     Ok(Items::of(numbers))
 }

@@ -77,7 +77,7 @@ fn is_contended(pins: &[PinFacts]) -> bool
 pub fn contended_nets(alloc: Global, nets: &[NetFacts]) -> Result<Vec<bool>, AllocError>
     ensures { IfOk result (λ flags. flags.items ≡ flags_of nets.now) }
 {
-    let mut flags = Vec::new(alloc);
+    let mut flags = Vec::with_capacity(alloc, nets.len())?;
     for net in nets {
         flags.push(is_contended(net.pins.as_slice()))?;
     }
@@ -116,7 +116,7 @@ pub fn shared_table(
 ) -> Result<Vec<Vec<NetNumbers>>, AllocError>
     ensures { IfOk result (λ shared. table shared.items ≡ map (λ row. map (shared_in flags.now) row.items) rows.now) }
 {
-    let mut shared = Vec::new(alloc);
+    let mut shared = Vec::with_capacity(alloc, rows.len())?;
     for row in rows {
         shared.push(shared_row(alloc, flags, row)?)?;
     }

@@ -1,9 +1,8 @@
 // The port bits whose pin stands in an unguarded net that is pulled to a value.
-ghost use Rattle.std.specs.Prelude.{◌≡◌, false, fold, IfOk};
+ghost use Rattle.std.specs.Prelude.{◌≡◌, false, fold, replicate, IfOk};
 ghost use Rattle.board_defs.specs.Pins.{described};
 ghost use Rattle.board_defs.specs.Decided.{bit_count};
 ghost use Rattle.net_facts.specs.Cells.{table};
-ghost use Rattle.net_facts.specs.inner.Rows.{copies};
 ghost use Rattle.net_facts.specs.inner.Switching.{blank_bits, is_marked, mark_at, mark_pins, mark_pulled, pulled_bits};
 
 use crate::cells::put_at;
@@ -61,19 +60,16 @@ fn bits_of(kind: &PartKind) -> usize
 }
 
 fn blank_row(alloc: Global, bits: usize) -> Result<Vec<bool>, AllocError>
-    ensures { IfOk result (λ row. row.items ≡ copies false bits) }
+    ensures { IfOk result (λ row. row.items ≡ replicate bits false) }
 {
-    let mut row = Vec::with_capacity(alloc, bits)?;
-    for _bit in 0..bits {
-        row.push(false)?;
-    }
+    let row = vec![in alloc; false; bits]?;
     Ok(row)
 }
 
 fn blank_table(alloc: Global, chain: &[Part]) -> Result<Vec<Vec<bool>>, AllocError>
     ensures { IfOk result (λ rows. table rows.items ≡ blank_bits chain.now) }
 {
-    let mut rows = Vec::new(alloc);
+    let mut rows = Vec::with_capacity(alloc, chain.len())?;
     for part in chain {
         rows.push(blank_row(alloc, bits_of(&part.kind))?)?;
     }

@@ -1,14 +1,15 @@
 // What safe settings do with the nets, by their facts and the table of the controls.
-ghost use Rattle.std.specs.Prelude.{◌≡◌, ◌++◌, [], length, map, option_copied, is_some, IfOk, OnOk};
+ghost use Rattle.std.specs.Prelude.{◌≡◌, ◌++◌, [], None, cond, length, map, option_copied, is_some, IfOk, OnOk};
 ghost use Rattle.std.specs.List.{cons_option, list_any, range_with_len};
 ghost use Rattle.net_facts.specs.Cells.{item_of, table};
 ghost use Rattle.net_facts.specs.inner.Found.{is_elsewhere_of};
-ghost use Rattle.net_facts.specs.inner.Answers.{class_in, drive_of, drivers_in, enabled_in, enablers_of, enables_at_place, first_reason_in, pin_class_in, reader_tested_in, readers_of, reads_at, reason_in, safe_in, tested_drive_in, tested_in, useful_in};
+ghost use Rattle.net_facts.specs.inner.Answers.{class_in, drive_of, drivers_in, enabled_in, enablers_of, enables_at_place, first_reason_in, pin_class_in, reader_tested_in, readers_of, reads_at, reason_in, safe_in, tested_in, useful_in};
 
 use crate::classes::{ControlClass, NetClass, PinClass};
 use crate::facts::{NetFacts, PinFacts};
 use crate::found::Found;
-use board_defs::{Ctl, Drive, Items, Reason};
+use board_defs::{Ctl, Drive, Reason};
+use few_items::Few;
 use std::alloc::{AllocError, Global};
 
 fn row_of(rows: &[Vec<ControlClass>], c: Ctl) -> Option<&ControlClass>
@@ -138,62 +139,51 @@ fn pin_class(
     }
 }
 
-fn pin_classes(
+fn tested_drive(pins: &[PinFacts], place: usize, tested: bool) -> Option<Drive>
+    ensures { result ≡ cond tested (drive_of pins.now place) None }
+{
+    if tested { drive_of(pins, place) } else { None }
+}
+
+fn push_some(
     alloc: Global,
-    rows: &[Vec<ControlClass>],
-    net: &NetFacts,
-    readers: Found,
-) -> Result<Vec<PinClass>, AllocError>
-    requires { readers ≡ readers_of net.now.pins }
-    ensures { IfOk result (λ classes. classes.items ≡ map (pin_class_in (table rows.now) net.now) (range_with_len 0 (length net.now.pins))) }
-{
-    let enablers = enablers(rows, net.pins.as_slice());
-    let mut classes = Vec::with_capacity(alloc, net.pins.len())?;
-    for place in 0..net.pins.len() {
-        classes.push(pin_class(rows, net, readers, enablers, place))?;
-    }
-    Ok(classes)
-}
-
-fn tested_drive(
-    rows: &[Vec<ControlClass>],
-    net: &NetFacts,
-    readers: Found,
-    place: usize,
-) -> Option<Drive>
-    requires { readers ≡ readers_of net.now.pins }
-    ensures { result ≡ tested_drive_in (table rows.now) net.now place }
-{
-    if is_tested(rows, net, readers, place) {
-        drive_of(net.pins.as_slice(), place)
-    } else {
-        None
-    }
-}
-
-fn push_some(drivers: &mut Vec<Drive>, drive: Option<Drive>) -> Result<(), AllocError>
-    ensures { OnOk result (drivers.new.items ≡ drivers.old.items ++ cons_option drive []) }
+    drivers: &mut Few<Drive>,
+    drive: Option<Drive>,
+) -> Result<(), AllocError>
+    ensures { OnOk result (drivers.new ≡ drivers.old ++ cons_option drive []) }
 {
     if let Some(drive) = drive {
-        drivers.push(drive)?;
+        drivers.push(alloc, drive)?;
     }
     Ok(())
 }
 
-fn tested_drivers(
+/// The classes of the pins of a net, and how its tested drivers are enabled.
+struct TestedPins {
+    classes: Few<PinClass>,
+    drivers: Few<Drive>,
+}
+
+fn tested_pins(
     alloc: Global,
     rows: &[Vec<ControlClass>],
     net: &NetFacts,
-    readers: Found,
-) -> Result<Vec<Drive>, AllocError>
-    requires { readers ≡ readers_of net.now.pins }
-    ensures { IfOk result (λ drivers. drivers.items ≡ drivers_in (table rows.now) net.now) }
+) -> Result<TestedPins, AllocError>
+    ensures classes { IfOk result (λ tested. tested.classes ≡ map (pin_class_in (table rows.now) net.now) (range_with_len 0 (length net.now.pins))) }
+    ensures drivers { IfOk result (λ tested. tested.drivers ≡ drivers_in (table rows.now) net.now) }
 {
-    let mut drivers = Vec::new(alloc);
+    let pins = net.pins.as_slice();
+    let readers = readers(pins);
+    let enablers = enablers(rows, pins);
+    let mut classes = Few::with_capacity(alloc, net.pins.len())?;
+    let mut drivers = Few::none();
     for place in 0..net.pins.len() {
-        push_some(&mut drivers, tested_drive(rows, net, readers, place))?;
+        let class = pin_class(rows, net, readers, enablers, place);
+        let drive = tested_drive(pins, place, class.driver_tested);
+        push_some(alloc, &mut drivers, drive)?;
+        classes.push(alloc, class)?;
     }
-    Ok(drivers)
+    Ok(TestedPins { classes, drivers })
 }
 
 fn has_driver(pins: &[PinFacts]) -> bool
@@ -245,14 +235,12 @@ fn net_class(
 ) -> Result<NetClass, AllocError>
     ensures { IfOk result (λ class. class ≡ class_in (table rows.now) net.now) }
 {
-    let readers = readers(net.pins.as_slice());
-    let pins = Items::of(pin_classes(alloc, rows, net, readers)?);
-    let drivers = Items::of(tested_drivers(alloc, rows, net, readers)?);
+    let TestedPins { classes, drivers } = tested_pins(alloc, rows, net)?;
     let reason = reason(rows, net, drivers.as_slice());
     Ok(NetClass {
         reason,
         drivers,
-        pins,
+        pins: classes,
     })
 }
 

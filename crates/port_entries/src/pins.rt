@@ -6,7 +6,8 @@ ghost use Rattle.board_defs.specs.Pins.{bit_at, entry_at, guarded, is_dark, rece
 ghost use Rattle.port_entries.specs.Entries.{AreEntries, entries_at};
 ghost use Rattle.port_entries.specs.inner.Rows.{dark_by, dark_in, guards_in, receives_by};
 
-use crate::table::{BitEntries, entries_at};
+use crate::bit_entries::BitEntries;
+use crate::table::entries_at;
 use board_defs::{Cell, Items, Net, NetPin, PinAt, PortBit, RawBoard};
 
 pub(crate) fn find_driving(entries: &[Cell]) -> Option<Cell>

@@ -5,28 +5,29 @@ ghost use Rattle.board_defs.specs.Pins.{described};
 ghost use Rattle.port_entries.specs.Entries.{AreEntries, entries_at};
 ghost use Rattle.port_entries.specs.inner.Rows.{all_noted, part_rows, entry_rows};
 
+use crate::bit_entries::{BitEntries, blank_row, note_cell};
 use board_defs::{Cell, Items, Part, PartKind, PinAt, RawBoard, RawDevice};
-use lists::{blank, note_where};
 use std::alloc::{AllocError, Global};
 
-/// The entries on a port bit, in their order.
-pub type BitEntries = Items<Cell>;
-
-pub(crate) fn note_cells(rows: &mut [BitEntries], cells: &[Cell]) -> Result<(), AllocError>
-    ensures { OnOk result (rows.new ≡ all_noted rows.old cells.now) }
+pub(crate) fn note_cells(
+    alloc: Global,
+    row: &mut [BitEntries],
+    cells: &[Cell],
+) -> Result<(), AllocError>
+    ensures { OnOk result (row.new ≡ all_noted row.old cells.now) }
 {
     for cell in cells {
-        note_where(rows, cell.bit, *cell)?;
+        note_cell(alloc, row, cell.bit, *cell)?;
     }
     Ok(())
 }
 
-fn device_rows(alloc: Global, device: &RawDevice) -> Result<Items<BitEntries>, AllocError>
-    ensures { IfOk result (λ rows. rows ≡ all_noted (replicate (length device.now.bits) []) device.now.cells) }
+fn device_row(alloc: Global, device: &RawDevice) -> Result<Items<BitEntries>, AllocError>
+    ensures { IfOk result (λ row. row ≡ all_noted (replicate (length device.now.bits) []) device.now.cells) }
 {
-    let mut rows = blank(alloc, device.bits.len())?;
-    note_cells(&mut rows, device.cells.as_slice())?;
-    Ok(Items::of(rows))
+    let mut row = blank_row(alloc, device.bits.len())?;
+    note_cells(alloc, &mut row, device.cells.as_slice())?;
+    Ok(Items::of(row))
 }
 
 fn part_rows(alloc: Global, kind: &PartKind) -> Result<Items<BitEntries>, AllocError>
@@ -34,7 +35,7 @@ fn part_rows(alloc: Global, kind: &PartKind) -> Result<Items<BitEntries>, AllocE
 {
     match kind.device() {
         None => Ok(Items::of(Vec::new(alloc))),
-        Some(device) => device_rows(alloc, device),
+        Some(device) => device_row(alloc, device),
     }
 }
 
@@ -45,7 +46,7 @@ pub(crate) fn entry_rows(
 ) -> Result<Items<Items<BitEntries>>, AllocError>
     ensures { IfOk result (λ rows. rows ≡ entry_rows chain.now) }
 {
-    let mut rows = Vec::new(alloc);
+    let mut rows = Vec::with_capacity(alloc, chain.len())?;
     for part in chain {
         rows.push(part_rows(alloc, &part.kind)?)?;
     }

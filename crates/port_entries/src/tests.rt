@@ -1,9 +1,9 @@
 // The entries of a small part, and what they say of its port bits.
+use crate::bit_entries::blank_row;
 use crate::pins::{find_driving, is_dark_bit, receives_bit};
 use crate::table::note_cells;
 use crate::{BitEntries, entries_at};
 use board_defs::{Cell, Items, Mode, PinAt, PortBit, Role, Symbol};
-use lists::blank;
 use std::test::Fail;
 
 /// That values of the type may go to another thread and be shared between threads.
@@ -46,8 +46,8 @@ fn the_entries_of_each_bit_keep_their_order(rt: HostRuntime) -> Result<(), Fail>
         cell(3, Role::Output3, Some(1)),
         cell(4, Role::Output2, Some(7)),
     ];
-    let mut row = blank(rt.alloc(), 2)?;
-    note_cells(&mut row, &cells)?;
+    let mut row = blank_row(rt.alloc(), 2)?;
+    note_cells(rt.alloc(), &mut row, &cells)?;
     let rows = [Items::of(row)];
     let low = entries_at(&rows, PinAt { part: 0, bit: 0 });
     let high = entries_at(&rows, PinAt { part: 0, bit: 1 });

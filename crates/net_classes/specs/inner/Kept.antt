@@ -1,4 +1,4 @@
--- What serves the proofs alone. Nets by their number.
+-- Nets by their number.
 use Rattle.std.specs.Prelude.{◌≡◌, ℕ, Some, slice_get}
 use Rattle.board_defs.specs.declared.board.Net.{Net}
 use Rattle.board_defs.specs.declared.board.RawBoard.{RawBoard}

@@ -1,4 +1,4 @@
--- What serves the proofs alone. Which drivers of two nets one safe setting enables.
+-- Drivers whose control is a cell of the board, which the contracts on pairs of drivers ask for, and which drivers of two nets one safe setting enables.
 use Rattle.std.specs.Prelude.{◌≡◌, Bool, List, All}
 use Rattle.std.specs.List.{list_any}
 use Rattle.board_defs.specs.declared.board.Ctl.{Ctl}

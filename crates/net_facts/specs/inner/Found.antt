@@ -1,4 +1,4 @@
--- What serves the proofs alone. Where the items of a list that pass a test stand, and numbers that two lists have in common.
+-- Where the items of a list that pass a test stand: nowhere, at one place, or at several.
 use Rattle.std.specs.Prelude.{ℕ, zero, suc, ◌==◌, Bool, true, false, not, cond}
 use Rattle.net_facts.specs.declared.found.Found.{Found}
 use Rattle.net_facts.specs.declared.found.Found.TheVariants.{Nowhere, At, Several}

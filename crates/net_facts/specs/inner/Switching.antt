@@ -1,5 +1,5 @@
 -- The port bits whose pin stands in an unguarded net that is pulled to a value, in one table for each part.
-use Rattle.std.specs.Prelude.{Bool, true, false, not, ◌&&◌, List, map, fold, Option, Some, None, cond}
+use Rattle.std.specs.Prelude.{Bool, true, false, not, ◌&&◌, List, map, fold, replicate, Option, Some, None, cond}
 use Rattle.board_defs.specs.declared.board.Part.{Part}
 use Rattle.board_defs.specs.declared.board.PinAt.{PinAt}
 use Rattle.board_defs.specs.Pins.{described, is_pulled_to}
@@ -7,7 +7,6 @@ use Rattle.board_defs.specs.Decided.{bit_count}
 use Rattle.net_facts.specs.declared.facts.PinFacts.{PinFacts}
 use Rattle.net_facts.specs.declared.facts.NetFacts.{NetFacts}
 use Rattle.net_facts.specs.Cells.{put, item_of, at_control, holds_there}
-use Rattle.net_facts.specs.inner.Rows.{copies}
 
 abbrev pub mark_at : Option PinAt → List (List Bool) → List (List Bool)
 mark_at None rows = rows
@@ -20,7 +19,7 @@ abbrev pub mark_pulled : Bool → List (List Bool) → NetFacts → List (List B
 mark_pulled value rows net = cond (not net.guarded && is_pulled_to value net.pull) (mark_pins rows net.pins) rows
 
 abbrev pub blank_bits : List Part → List (List Bool)
-blank_bits chain = map (λ part. copies false (bit_count (described part.kind))) chain
+blank_bits chain = map (λ part. replicate (bit_count (described part.kind)) false) chain
 
 abbrev pub pulled_bits : List Part → List NetFacts → Bool → List (List Bool)
 pulled_bits chain nets value = fold (mark_pulled value) (blank_bits chain) nets

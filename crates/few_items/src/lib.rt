@@ -1,0 +1,7 @@
+//! Lists that take no memory of their own for up to two items. A board has a list for each of its tens of thousands of port bits and
+//! nets, and most of these lists have one item or two.
+#![tactic(auto)]
+
+mod few;
+
+pub use few::Few;

@@ -1,0 +1,47 @@
+// The entries on one port bit. Most port bits have one, or one that reads and one that drives, and a board has tens of thousands of
+// port bits: so few need no memory of their own.
+ghost use Rattle.std.specs.Prelude.{◌≡◌, [], replicate, Some, IfOk, OnOk};
+ghost use Rattle.lists.specs.Rows.{noted};
+
+use board_defs::Cell;
+use few_items::Few;
+use std::alloc::{AllocError, Global};
+
+/// The entries on a port bit, in their order.
+pub type BitEntries = Few<Cell>;
+
+/// The row of so many port bits with no entries.
+pub(crate) fn blank_row(alloc: Global, count: usize) -> Result<Vec<BitEntries>, AllocError>
+    ensures { IfOk result (λ row. row.items ≡ replicate count []) }
+{
+    let mut row = Vec::with_capacity(alloc, count)?;
+    for _place in 0..count {
+        row.push(Few::none())?;
+    }
+    Ok(row)
+}
+
+/// Adds the entry to those of the port bit at a place, where there is one.
+fn note(alloc: Global, row: &mut [BitEntries], place: usize, cell: Cell) -> Result<(), AllocError>
+    ensures { OnOk result (row.new ≡ noted row.old (Some place) cell) }
+{
+    if place < row.len() {
+        row[place].push(alloc, cell)?;
+    }
+    Ok(())
+}
+
+/// Adds the entry to those of its port bit, where it is on one.
+pub(crate) fn note_cell(
+    alloc: Global,
+    row: &mut [BitEntries],
+    place: Option<u32>,
+    cell: Cell,
+) -> Result<(), AllocError>
+    ensures { OnOk result (row.new ≡ noted row.old place cell) }
+{
+    match place {
+        None => Ok(()),
+        Some(place) => note(alloc, row, place as usize, cell),
+    }
+}
