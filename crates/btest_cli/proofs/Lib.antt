@@ -1,6 +1,3 @@
 pub mod AnswerLemmas
 pub mod ReadingLemmas
 pub mod RunLemmas
-pub mod TestLemmas
-pub mod SummaryLemmas
-pub mod VerdictLemmas

@@ -15,7 +15,7 @@ use Rattle.btest_core.specs.DevicesRead.{IsDeviceText}
 use Rattle.ident_test.specs.Patterns.{ident_text}
 use Rattle.board_gen.specs.BoardTexts as made
 use Rattle.board_gen.specs.DeviceText.{bsdl_text}
-use Rattle.btest_cli.specs.Summary.{summary_text}
+use Rattle.commands.specs.Summary.{summary_text}
 use Rattle.board_defs.specs.declared.device.Symbol.{Symbol}
 use Rattle.btest_core.specs.IdentsRead.{AreIdents}
 use Rattle.command_line.specs.Words.{Text, Command, Chain, Device, Cover, Svf, Walk, Ident, Make, Diagnose, Groups, Batch, board_names, chain_names, names_of}
@@ -23,8 +23,8 @@ use Rattle.btest_cli.specs.declared.status.Status.{Status}
 use Rattle.btest_cli.specs.declared.status.Status.TheVariants as status
 use Rattle.btest_cli.specs.declared.failure.Unread.{Unread}
 use Rattle.btest_cli.specs.declared.failure.Unread.TheVariants as unread
-use Rattle.btest_cli.specs.declared.failure.Unput.{Unput}
-use Rattle.btest_cli.specs.declared.failure.Unput.TheVariants as unput
+use Rattle.commands.specs.declared.unput.Unput.{Unput}
+use Rattle.commands.specs.declared.unput.Unput.TheVariants as unput
 use Rattle.btest_cli.specs.Texts.{Held, Wanted, Reading, Read, TooLong, IsRead, IsReadUpTo, Asks, AsksFor, names_in, text_called, wanted_of, reading_of, read_first, and_text}
 use Rattle.board_defs.specs.declared.fault.Single.{Single}
 use Rattle.board_defs.specs.BoardRules.{IsBoard}
@@ -36,7 +36,7 @@ use Rattle.batch_diag.specs.Verdicts.{AreVerdicts}
 use Rattle.walk_test.specs.Groups.{AreFound, Explain}
 use Rattle.walk_test.specs.Laws.{OneSet}
 use Rattle.walk_test.specs.WalkTest.{board_walk_text}
-use Rattle.btest_cli.specs.LogRead.{IsInputFault, IsJudged, IsWrong, Judging, OnDenoted, TextFault, Input, Log, Batch as OfBatch, diagnosing, diagnosis_text, grouping, grouping_text, judging_each, verdicts_text}
+use Rattle.commands.specs.LogRead.{IsInputFault, IsJudged, IsWrong, Judging, OnDenoted, TextFault, Input, Log, Batch as OfBatch, diagnosing, diagnosis_text, grouping, grouping_text, judging_each, verdicts_text}
 use Rattle.refusal_lines.specs.Refusals.{input_fault_line, log_fault_line, batch_fault_line, long_line, memory_line}
 use Rattle.btest_cli.specs.Refusals.{roles_of, text_fault_line}
 use Rattle.btest_cli.specs.Outcome.{AsksSome, IsComplete, IsGiven, IsOutcome, IsSaid, IsSaidOfBoard, IsSaidOfChain, IsSaidOfLog, IsSaidOfText, Settles, SomeRose, TookOrCut}

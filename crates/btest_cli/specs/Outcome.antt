@@ -19,11 +19,11 @@ use Rattle.btest_cli.specs.declared.status.Status.{Status}
 use Rattle.btest_cli.specs.declared.status.Status.TheVariants.{Done, Refused, NoMemory}
 use Rattle.btest_cli.specs.Texts.{Held, Wanted, Reading, Read, TooLong, reading_of, IsRead, IsReadUpTo, Asks, AsksFor, wanted_of}
 use Rattle.walk_test.specs.WalkTest.{board_walk_text}
-use Rattle.btest_cli.specs.LogRead.{Judging, OnDenoted, diagnosing, diagnosis_text, grouping, grouping_text, judging_each, verdicts_text}
+use Rattle.commands.specs.LogRead.{Judging, OnDenoted, diagnosing, diagnosis_text, grouping, grouping_text, judging_each, verdicts_text}
 use Rattle.refusal_lines.specs.Refusals.{input_fault_line, long_line, read_line}
 use Rattle.btest_cli.specs.Refusals.{roles_of, text_fault_line}
-use Rattle.btest_cli.specs.Summary.{summary_text}
-use Rattle.btest_cli.specs.Worth.{IsWorthFor}
+use Rattle.commands.specs.Summary.{summary_text}
+use Rattle.commands.specs.Worth.{IsWorthFor}
 
 -- what is found in the texts, as the text that is put for it, or the line of their first fault
 abbrev pub IsSaid : {A F : Type 0} → (A → Text) → (F → Text) → (Result A F → Type 0) → Result Text Text → Type 0

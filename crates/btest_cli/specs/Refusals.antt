@@ -2,7 +2,7 @@
 use Rattle.std.specs.Prelude.{[], ◌∷◌, codes}
 use Rattle.command_line.specs.Words.{Text, Command, Chain, Device, Cover, Svf, Walk, Ident, Make, Diagnose, Groups, Batch}
 use Rattle.refusal_lines.specs.Refusals.{Names, input_fault_line, log_fault_line, batch_fault_line}
-use Rattle.btest_cli.specs.LogRead.{TextFault, Input, Log, Batch as OfBatch}
+use Rattle.commands.specs.LogRead.{TextFault, Input, Log, Batch as OfBatch}
 
 -- the first fault of the texts and of the logs
 abbrev pub text_fault_line : Names → TextFault → Text

@@ -1,4 +1,3 @@
 -- Terms that serve proofs and the contracts of private functions. No public contract cites them.
-pub mod Answers
 pub mod Failures
 pub mod RunOf

@@ -1,20 +1,17 @@
-// Why a command put no whole text, its status and its line.
+// The status and the line of texts that were not read, and of a text that was not put whole.
 ghost use Rattle.std.specs.Prelude.{◌≡◌};
 ghost use Rattle.bt_base.specs.Puts.{Puts};
-ghost use Rattle.btest_cli.specs.inner.Answers.{unput_batch, unput_log, unput_of};
 ghost use Rattle.btest_cli.specs.inner.Failures.{unread_status, unread_line, unput_status, unput_line};
 ghost use Rattle.refusal_lines.specs.NamesView.{names_view};
 
 use crate::status::Status;
 use crate::texts::Wanted;
-use batch_diag::BatchFault;
 use bt_base::{PutFault, Sink};
-use btest_core::InputFault;
+use commands::Unput;
 use refusal_lines::{
     Names, put_batch_fault, put_input_fault, put_log_fault, put_memory, put_not_read,
     put_not_written, put_too_long,
 };
-use response_log::LogFault;
 
 /// Why the texts of a command were not all read.
 #[derive(Drop)]
@@ -25,51 +22,6 @@ pub enum Unread<'a> {
     Failed(Wanted<'a>),
     /// There was not enough memory.
     Memory,
-}
-
-/// Why a command put no whole text.
-#[derive(Drop)]
-pub enum Unput {
-    /// The first fault of the texts.
-    Input(InputFault),
-    /// The first fault of a response log, of which so many rows are wanted.
-    Log { rows: u64, fault: LogFault },
-    /// The first fault of a batch of response logs, of which so many rows are wanted each.
-    Batch { rows: u64, fault: BatchFault },
-    /// The defined text was not put whole.
-    Write,
-    /// There was not enough memory.
-    Memory,
-}
-
-/// Why nothing is put where the texts have this fault.
-pub fn unput_by(fault: InputFault) -> Unput
-    ensures { result ≡ unput_of fault }
-{
-    match fault {
-        InputFault::Memory(_) => Unput::Memory,
-        fault => Unput::Input(fault),
-    }
-}
-
-/// Why nothing is put where a log of which so many rows are wanted has this fault.
-pub fn unput_by_log(rows: u64, fault: LogFault) -> Unput
-    ensures { result ≡ unput_log rows fault }
-{
-    match fault {
-        LogFault::Memory(_) => Unput::Memory,
-        fault => Unput::Log { rows, fault },
-    }
-}
-
-/// Why nothing is put where a batch of logs of which so many rows are wanted has this fault.
-pub fn unput_by_batch(rows: u64, fault: BatchFault) -> Unput
-    ensures { result ≡ unput_batch rows fault }
-{
-    match fault {
-        BatchFault::Memory(_) => Unput::Memory,
-        fault => Unput::Batch { rows, fault },
-    }
 }
 
 /// The status of texts that were not read.

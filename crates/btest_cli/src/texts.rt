@@ -8,7 +8,6 @@ ghost use Rattle.btest_cli.specs.inner.Failures.{IsUnread, wanted_view};
 use crate::failure::Unread;
 use bt_base::{FetchFault, Store};
 use std::alloc::Global;
-use std::mem;
 
 // The most bytes of a chain file, a net file or a BSDL text.
 const MOST_BYTES: u32 = 4_194_304;
@@ -33,20 +32,6 @@ pub fn text_called<'a>(name: &'a str) -> Wanted<'a>
     }
 }
 
-/// The texts of a board.
-#[derive(Clone, Copy)]
-pub struct BoardTexts<'a> {
-    pub chain: &'a [u8],
-    pub nets: &'a [u8],
-    pub bsdl: &'a [Vec<u8>],
-}
-
-/// A text of logs, and those of the board that they are of.
-pub struct LogTexts<'a> {
-    pub log: Vec<u8>,
-    pub board: BoardTexts<'a>,
-}
-
 /// A response log of this name, or many of them in one text.
 pub fn log_called<'a>(name: &'a str) -> Wanted<'a>
     ensures { wanted_view result ≡ log_called name.entry.now }
@@ -54,44 +39,6 @@ pub fn log_called<'a>(name: &'a str) -> Wanted<'a>
     Wanted {
         name,
         limit: MOST_LOG_BYTES,
-    }
-}
-
-/// The texts of a board as they stand in a command: a chain file, a net file and BSDL texts.
-pub fn board_texts<'a>(texts: &'a [Vec<u8>]) -> BoardTexts<'a>
-    requires some { 2 ≤ length texts.now }
-    requires few { length texts.now ≤ 258 }
-    requires short { All (λ text. length text.items < 2 ^ 32) texts.now }
-    ensures texts { map (λ text. text.items) texts.entry.now ≡ result.chain.now ∷ result.nets.now ∷ map (λ text. text.items) result.bsdl.now }
-    ensures chain { length result.chain.now < 2 ^ 32 }
-    ensures nets { length result.nets.now < 2 ^ 32 }
-    ensures each { All (λ text. length text.items < 2 ^ 32) result.bsdl.now }
-    ensures count { length result.bsdl.now < 2 ^ 32 }
-{
-    let [chain, nets, bsdl @ ..] = texts else {
-        unreachable!()
-    };
-    BoardTexts { chain, nets, bsdl }
-}
-
-/// The same behind a text of logs, which it takes out of the texts.
-pub fn log_texts<'a>(alloc: Global, texts: &'a mut [Vec<u8>]) -> LogTexts<'a>
-    requires some { 3 ≤ length texts.old }
-    requires few { length texts.old ≤ 258 }
-    requires short { All (λ text. length text.items < 2 ^ 32) texts.old }
-    ensures texts { map (λ text. text.items) texts.old ≡ result.log.items ∷ result.board.chain.now ∷ result.board.nets.now ∷ map (λ text. text.items) result.board.bsdl.now }
-    ensures log { length result.log.items < 2 ^ 32 }
-    ensures chain { length result.board.chain.now < 2 ^ 32 }
-    ensures nets { length result.board.nets.now < 2 ^ 32 }
-    ensures each { All (λ text. length text.items < 2 ^ 32) result.board.bsdl.now }
-    ensures count { length result.board.bsdl.now < 2 ^ 32 }
-{
-    let [log, board @ ..] = texts else {
-        unreachable!()
-    };
-    LogTexts {
-        log: mem::replace(log, Vec::new(alloc)),
-        board: board_texts(board),
     }
 }
 

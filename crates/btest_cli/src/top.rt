@@ -11,22 +11,16 @@ ghost use Rattle.btest_cli.specs.Texts.{text_called, wanted_of};
 ghost use Rattle.btest_cli.specs.Outcome.{AsksSome, ForCommand, IsComplete, IsCutShort, IsDone, IsNotRead, IsRefused, IsWorth, SomeRose, TookOrCut};
 ghost use Rattle.btest_cli.specs.inner.Failures.{IsAnswered, wanted_view};
 
-use crate::board_cover::cover;
-use crate::board_summary::summary;
-use crate::board_test::svf;
-use crate::board_walk::walk;
-use crate::chain_test::chain;
-use crate::device_listing::device;
-use crate::failure::{Unput, put_unput, put_unread, unput_status, unread_status};
-use crate::ident_codes::ident;
-use crate::log_batch::batch;
-use crate::log_diagnosis::diagnosis;
-use crate::log_groups::groups;
+use crate::failure::{put_unput, put_unread, unput_status, unread_status};
 use crate::status::Status;
-use crate::texts::{Wanted, board_texts, fetch_texts, log_called, log_texts, text_called};
+use crate::texts::{Wanted, fetch_texts, log_called, text_called};
 use bt_base::{Gate, Sink, Store};
 use btest_core::law::{inputs_have_one_answer, inputs_keep_rules};
 use command_line::{Command, command_of};
+use commands::{
+    Unput, batch, board_texts, chain, cover, device, diagnosis, groups, ident, log_texts, summary,
+    svf, walk,
+};
 use fault_sim::law::logs_have_one_diagnosis;
 use refusal_lines::{Names, TextNames, put_memory, put_usage};
 use std::alloc::{AllocError, Global};

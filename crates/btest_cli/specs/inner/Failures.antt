@@ -5,8 +5,8 @@ use Rattle.bt_base.specs.Puts.{Shown, Takes}
 use Rattle.command_line.specs.Words.{Text, Command}
 use Rattle.btest_cli.specs.declared.failure.Unread.{Unread}
 use Rattle.btest_cli.specs.declared.failure.Unread.TheVariants as unread
-use Rattle.btest_cli.specs.declared.failure.Unput.{Unput}
-use Rattle.btest_cli.specs.declared.failure.Unput.TheVariants as unput
+use Rattle.commands.specs.declared.unput.Unput.{Unput}
+use Rattle.commands.specs.declared.unput.Unput.TheVariants as unput
 use Rattle.btest_cli.specs.declared.status.Status.{Status}
 use Rattle.btest_cli.specs.declared.status.Status.TheVariants.{Refused, ReadFault, WriteFault, NoMemory}
 use Rattle.btest_cli.specs.declared.texts.Wanted.{Wanted as Lent}
@@ -14,7 +14,7 @@ use Rattle.btest_cli.specs.Texts.{Held, Wanted, TooLong, Asks, IsRead, IsReadUpT
 use Rattle.refusal_lines.specs.Refusals.{Names, input_fault_line, log_fault_line, batch_fault_line, long_line, read_line, write_line, memory_line}
 use Rattle.btest_cli.specs.Refusals.{roles_of}
 use Rattle.btest_cli.specs.Outcome.{IsGiven}
-use Rattle.btest_cli.specs.Worth.{IsWorthFor}
+use Rattle.commands.specs.Worth.{IsWorthFor}
 
 -- a text that is wanted, without where its name lies in memory
 abbrev pub wanted_view : Lent → Wanted

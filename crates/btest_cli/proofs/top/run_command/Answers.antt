@@ -3,7 +3,7 @@ use Rattle.std.specs.Prelude.{Result}
 use Rattle.std.proofs.lemmas.List.{length-map}
 use Rattle.bt_base.specs.Puts.{Puts}
 use Rattle.command_line.specs.CommandView.{command_view}
-use Rattle.btest_cli.specs.declared.failure.Unput.{Unput}
+use Rattle.commands.specs.declared.unput.Unput.{Unput}
 use Rattle.refusal_lines.specs.Refusals.{Names}
 use Rattle.btest_cli.specs.Texts.{Wanted, Asks, IsRead, Read, names_in, wanted_of}
 use Rattle.btest_cli.specs.inner.Failures.{IsAnswered, IsUnread, unput_line, wanted_view}

@@ -1,0 +1,4 @@
+pub mod AnswerLemmas
+pub mod TestLemmas
+pub mod SummaryLemmas
+pub mod VerdictLemmas

@@ -1,0 +1,32 @@
+-- The counts of a board, as its summary.
+use Rattle.std.proofs.Common.{◌≡◌, ℕ, suc, ◌+◌, ◌*◌, List, length, ap, ◌∙◌, sym, subst}
+use Rattle.std.specs.Prelude.{min}
+use Rattle.bt_base.specs.Counts.{last_count}
+use Rattle.board_defs.specs.declared.board.RawBoard.{RawBoard}
+use Rattle.board_defs.specs.declared.board.Ctl.{Ctl}
+use Rattle.board_defs.specs.Passes.{passes_of}
+use Rattle.tap_defs.specs.board.BoardScans.{AreTestScans, board_text, pass_text, svf_scans, test_scans}
+use Rattle.tap_defs.specs.board.TestRows.{code_width, observed_count}
+use Rattle.coverage_list.specs.CoverText.{covered}
+use Rattle.plan_tables.specs.declared.tables.PlanTables.{PlanTables}
+use Rattle.plan_tables.specs.Plans.{IsPlanOf}
+use Rattle.scan_planner.specs.Plans.{scan_count}
+use Rattle.commands.specs.Summary.{counts_line, summary_text}
+use Rattle.commands.proofs.TestLemmas.{plan_text}
+
+same_counts : {a a' b b' c c' d d' e e' f f' : ℕ} → a ≡ a' → b ≡ b' → c ≡ c' → d ≡ d' → e ≡ e' → f ≡ f' → counts_line a b c d e f ≡ counts_line a' b' c' d' e' f'
+same_counts {a} {a'} {b} {b'} {c} {c'} {d} {d'} {e} {e'} {f} {f'} p q r s t u =
+    ap (λ n. counts_line n b c d e f) p ∙ ap (λ n. counts_line a' n c d e f) q ∙ ap (λ n. counts_line a' b' n d e f) r ∙ ap (λ n. counts_line a' b' c' n e f) s ∙ ap (λ n. counts_line a' b' c' d' n f) t ∙ ap (λ n. counts_line a' b' c' d' e' n) u
+
+-- a plan of the board's passes has the scans of its test
+scans_of : (board : RawBoard) (plan : PlanTables) → IsPlanOf board plan → plan.passes ≡ passes_of board → ((b : RawBoard) (passes : List (List Ctl)) (width : ℕ) → AreTestScans b passes width (test_scans b passes width)) → scan_count plan ≡ length (svf_scans board)
+scans_of board plan planned passes placed =
+    sym (placed board plan.passes plan.width).count
+    ∙ ap (λ (w : ℕ). length (test_scans board plan.passes w)) planned.width_is
+    ∙ ap (λ (p : List (List Ctl)). length (test_scans board p (code_width (observed_count board p)))) passes
+
+pub summary_is : {devices nets covers passes scans bytes : ℕ} (board : RawBoard) (plan : PlanTables) → IsPlanOf board plan → plan.passes ≡ passes_of board → ((b : RawBoard) (passes : List (List Ctl)) (width : ℕ) → AreTestScans b passes width (test_scans b passes width))
+    → devices ≡ length board.chain → nets ≡ length board.nets → covers ≡ length (covered board) → passes ≡ length plan.passes → scans ≡ scan_count plan → bytes ≡ min (length (pass_text board plan.passes plan.width)) last_count
+    → counts_line devices nets covers passes scans bytes ≡ summary_text board
+summary_is board plan planned same placed devices nets covers passes scans bytes =
+    same_counts devices nets covers (passes ∙ ap length same) (scans ∙ scans_of board plan planned same placed) (bytes ∙ ap (λ text. min (length text) last_count) (plan_text board plan planned same))

@@ -1,0 +1,5 @@
+pub mod LogRead
+pub mod Worth
+pub mod Summary
+pub mod Answers
+pub mod inner

@@ -1,0 +1,180 @@
+-- What a text is worth that a command puts.
+use Rattle.std.specs.Prelude.{◌≡◌, ◌↔◌, ℕ, Bool, true, List, [], ◌∷◌, Option, Some, Result, Ok, Decides}
+use Rattle.bt_base.specs.Puts.{Shown, Takes}
+use Rattle.tap_defs.specs.chain.ChainTest.{IsChainTest}
+use Rattle.tap_defs.specs.board.BoardTest.{IsBoardTest, IsHarmless}
+use Rattle.board_defs.specs.declared.board.RawBoard.{RawBoard}
+use Rattle.board_defs.specs.declared.device.RawDevice.{RawDevice}
+use Rattle.board_defs.specs.declared.device.Symbol.{Symbol}
+use Rattle.board_defs.specs.DeviceRules.{IsDevice}
+use Rattle.board_defs.specs.BoardRules.{IsBoard}
+use Rattle.device_check.specs.DeviceText.{device_text}
+use Rattle.coverage_list.specs.CoverList.{IsCoverList}
+use Rattle.ident_test.specs.IdentTest.{ArePatterns, IsIdentTest}
+use Rattle.btest_core.specs.DevicesRead.{IsDeviceText}
+use Rattle.btest_core.specs.BoardRead.{AreChainLengths, AreLengths, Denotes}
+use Rattle.btest_core.specs.IdentsRead.{AreIdents}
+use Rattle.board_defs.specs.declared.fault.Single.{Single}
+use Rattle.tap_defs.specs.board.BoardScans.{board_text, svf_row_scans, svf_scans}
+use Rattle.tap_defs.specs.chain.Clocks.{test_clocks}
+use Rattle.tap_defs.specs.chain.Svf.{meaning}
+use Rattle.board_defs.specs.Faults.{IsSingle}
+use Rattle.tap_defs.specs.board.Explaining.{AgreeOn, Explains, IsExpected}
+use Rattle.diagnoser.specs.Laws.{ListsExplaining}
+use Rattle.diagnoser.specs.DiagText.{diag_text}
+use Rattle.batch_diag.specs.declared.block.Block.{Block}
+use Rattle.batch_diag.specs.declared.verdict.Verdict.{Verdict}
+use Rattle.batch_diag.specs.Verdicts.{EachPair}
+use Rattle.batch_diag.specs.BatchText.{batch_text}
+use Rattle.walk_test.specs.Groups.{AreGroups, Explain}
+use Rattle.walk_test.specs.GroupText.{groups_text}
+use Rattle.walk_test.specs.WalkTest.{board_walk_text, walk_row_list, walk_scans}
+use Rattle.commands.specs.LogRead.{test_blocks, test_log, walk_log}
+use Rattle.command_line.specs.Words.{Text, Command, Chain, Device, Cover, Svf, Walk, Ident, Make, Diagnose, Groups, Batch}
+
+-- the sink took a text that tests the length of the chain that these texts describe
+pub record TestsChain (chain : Text) (texts : List Text) (old new : Shown) : Type 0 where
+  pub lengths : List ℕ
+  pub are : AreChainLengths chain texts (Ok lengths)
+  pub bounds : AreLengths lengths
+  pub text : Text
+  pub tests : IsChainTest lengths text
+  pub takes : Takes old new text
+
+-- the sink took the listing of the device that this text describes, which keeps the rules of a device
+pub record ListsDevice (text : Text) (old new : Shown) : Type 0 where
+  pub device : RawDevice
+  pub described : IsDeviceText text (Ok device)
+  pub rules : IsDevice device
+  pub takes : Takes old new (device_text device)
+
+-- the sink took the coverage list of the board that these texts denote, which keeps the rules of a board: of all its nets, pins and pairs
+-- the list says what is true of all safe settings
+pub record ListsCover (chain nets : Text) (texts : List Text) (old new : Shown) : Type 0 where
+  pub board : RawBoard
+  pub denoted : Denotes chain nets texts board
+  pub rules : IsBoard board
+  pub text : Text
+  pub lists : IsCoverList board text
+  pub takes : Takes old new text
+
+-- the sink took a text that tests the board which these texts denote: it has a meaning; it passes where nothing is faulty; after its
+-- reset it is quiet under every fault set; and it fails under every nonempty fault set that is observable
+pub record TestsBoard (chain nets : Text) (texts : List Text) (old new : Shown) : Type 0 where
+  pub board : RawBoard
+  pub denoted : Denotes chain nets texts board
+  pub text : Text
+  pub tests : IsBoardTest board text
+  pub takes : Takes old new text
+
+-- the sink took a text that tests the identification codes of the parts that these texts describe
+pub record TestsIdents (chain : Text) (texts : List Text) (old new : Shown) : Type 0 where
+  pub patterns : List (Option (List Symbol))
+  pub are : AreIdents chain texts (Ok patterns)
+  pub bounds : ArePatterns patterns
+  pub text : Text
+  pub tests : IsIdentTest patterns text
+  pub takes : Takes old new text
+
+-- the sink took a text that may be applied to the board which these texts denote: it has a meaning, it passes where nothing is faulty,
+-- and after its reset it is quiet under every fault set
+pub record WalksBoard (chain nets : Text) (texts : List Text) (old new : Shown) : Type 0 where
+  pub board : RawBoard
+  pub denoted : Denotes chain nets texts board
+  pub text : Text
+  pub harmless : IsHarmless board text
+  pub takes : Takes old new text
+
+-- the board passes by a log of its test exactly where every compared bit is the expected one, and then no single fault explains the log;
+-- and the faults are exactly the single faults that explain the log, each once and in order
+pub record IsRight (board : RawBoard) (rows : List (List Bool)) (pass : Bool) (faults : List Single) : Type 0 where
+  pub passes : Decides pass (IsExpected board (svf_row_scans board) rows)
+  pub lists : ListsExplaining board rows faults
+  pub none : pass ≡ true → faults ≡ []
+
+-- the text of the board's test has a meaning: the clocks of the scans that a log of it, and what explains a log, speak of
+abbrev pub TestMeans : RawBoard → Type 0
+TestMeans board = meaning (board_text board) ≡ Some (test_clocks (svf_scans board))
+
+-- the same of the walking test
+abbrev pub WalkMeans : RawBoard → Type 0
+WalkMeans board = meaning (board_walk_text board) ≡ Some (test_clocks (walk_scans board))
+
+-- each single fault of the board has one response to the board's test: it explains some log, and any two logs that it explains have the
+-- same compared bits
+pub record RespondOnce (board : RawBoard) : Type 0 where
+  pub some : (single : Single) → IsSingle board single → (log : List (List Bool)) × Explains board single log
+  pub one : (single : Single) (log other : List (List Bool)) → Explains board single log → Explains board single other → AgreeOn board (svf_row_scans board) log other
+
+-- the sink took the diagnosis of a log of the test of a board
+pub record Diagnoses (log : Text) (board : RawBoard) (old new : Shown) : Type 0 where
+  pub means : TestMeans board
+  pub respond : RespondOnce board
+  pub rows : List (List Bool)
+  pub read : test_log log board ≡ Ok rows
+  pub pass : Bool
+  pub faults : List Single
+  pub right : IsRight board rows pass faults
+  pub takes : Takes old new (diag_text board pass faults)
+
+-- the sink took, for each block of a batch of such logs, its title and the diagnosis of its log by itself
+pub record DiagnosesEach (log : Text) (board : RawBoard) (old new : Shown) : Type 0 where
+  pub means : TestMeans board
+  pub respond : RespondOnce board
+  pub blocks : List Block
+  pub read : test_blocks log board ≡ Ok blocks
+  pub verdicts : List Verdict
+  pub right : EachPair (λ block verdict. IsRight board block.log verdict.pass verdict.faults) blocks verdicts
+  pub takes : Takes old new (batch_text board blocks verdicts)
+
+-- the sink took the groups of a log of the walking test of a board: exactly the set of groups that explains the log, and none where no
+-- set does. Each set of groups explains some log, and any two such logs have the same compared bits
+pub record FindsGroups (log : Text) (board : RawBoard) (old new : Shown) : Type 0 where
+  pub means : WalkMeans board
+  pub rows : List (List Bool)
+  pub read : walk_log log board ≡ Ok rows
+  pub found : Option (List (List ℕ))
+  pub exactly : (groups : List (List ℕ)) → (found ≡ Some groups) ↔ Explain board rows groups
+  pub respond : (groups : List (List ℕ)) → AreGroups board groups → (other : List (List Bool)) × Explain board other groups
+  pub one : (groups : List (List ℕ)) (one other : List (List Bool)) → Explain board one groups → Explain board other groups → AgreeOn board (walk_row_list board) one other
+  pub takes : Takes old new (groups_text board found)
+
+-- P of the board that these texts denote
+abbrev pub OfDenoted : (RawBoard → Shown → Shown → Type 0) → Text → Text → List Text → Shown → Shown → Type 0
+OfDenoted P chain nets texts old new = (board : RawBoard) × Denotes chain nets texts board × P board old new
+
+-- P of a chain file and BSDL texts
+abbrev pub OfChain : (Text → List Text → Shown → Shown → Type 0) → List Text → Shown → Shown → Type 0
+OfChain P [] old new = ⊥
+OfChain P (chain ∷ texts) old new = P chain texts old new
+
+-- P of a chain file, a net file and BSDL texts
+abbrev pub OfBoard : (Text → Text → List Text → Shown → Shown → Type 0) → List Text → Shown → Shown → Type 0
+OfBoard P [] old new = ⊥
+OfBoard P (chain ∷ []) old new = ⊥
+OfBoard P (chain ∷ nets ∷ texts) old new = P chain nets texts old new
+
+-- P of a log, a chain file, a net file and BSDL texts
+abbrev pub OfLog : (Text → Text → Text → List Text → Shown → Shown → Type 0) → List Text → Shown → Shown → Type 0
+OfLog P [] old new = ⊥
+OfLog P (log ∷ texts) old new = OfBoard (P log) texts old new
+
+-- P of one BSDL text
+abbrev pub OfText : (Text → Shown → Shown → Type 0) → List Text → Shown → Shown → Type 0
+OfText P [] old new = ⊥
+OfText P (text ∷ []) old new = P text old new
+OfText P (text ∷ other ∷ others) old new = ⊥
+
+-- what the text is worth that a command puts for texts: a test, as what it tests, and a list, as what is
+-- true; a summary says no more than what it is
+abbrev pub IsWorthFor : Command → List Text → Shown → Shown → Type 0
+IsWorthFor (Chain names) texts old new = OfChain TestsChain texts old new
+IsWorthFor (Device name) texts old new = OfText ListsDevice texts old new
+IsWorthFor (Cover names) texts old new = OfBoard ListsCover texts old new
+IsWorthFor (Svf names) texts old new = OfBoard TestsBoard texts old new
+IsWorthFor (Walk names) texts old new = OfBoard WalksBoard texts old new
+IsWorthFor (Ident names) texts old new = OfChain TestsIdents texts old new
+IsWorthFor (Make number) texts old new = Unit {0}
+IsWorthFor (Diagnose workers log names) texts old new = OfLog (λ log. OfDenoted (Diagnoses log)) texts old new
+IsWorthFor (Groups log names) texts old new = OfLog (λ log. OfDenoted (FindsGroups log)) texts old new
+IsWorthFor (Batch workers log names) texts old new = OfLog (λ log. OfDenoted (DiagnosesEach log)) texts old new

@@ -1,0 +1,47 @@
+-- Why nothing is put where texts have a fault.
+use Rattle.std.specs.Prelude.{ℕ, List, Err}
+use Rattle.btest_core.specs.declared.fault.InputFault.{InputFault}
+use Rattle.btest_core.specs.declared.fault.InputFault.TheVariants as input
+use Rattle.response_log.specs.declared.fault.LogFault.{LogFault}
+use Rattle.response_log.specs.declared.fault.LogFault.TheVariants as log
+use Rattle.command_line.specs.Words.{Text}
+use Rattle.batch_diag.specs.declared.fault.BatchFault.{BatchFault}
+use Rattle.batch_diag.specs.declared.fault.BatchFault.TheVariants as batch
+use Rattle.btest_core.specs.BoardRead.{IsBoardRead}
+use Rattle.commands.specs.declared.unput.Unput.{Unput}
+use Rattle.commands.specs.declared.unput.Unput.TheVariants as unput
+
+-- why nothing is put where a log of which so many rows are wanted has this fault
+abbrev pub unput_log : ℕ → LogFault → Unput
+unput_log rows (log.Memory e) = unput.Memory
+unput_log rows (log.Digit line) = unput.Log rows (log.Digit line)
+unput_log rows (log.Length line) = unput.Log rows (log.Length line)
+unput_log rows (log.Extra line) = unput.Log rows (log.Extra line)
+unput_log rows (log.Missing found) = unput.Log rows (log.Missing found)
+
+-- why nothing is put where a batch of logs of which so many rows are wanted has this fault
+abbrev pub unput_batch : ℕ → BatchFault → Unput
+unput_batch rows (batch.Memory e) = unput.Memory
+unput_batch rows (batch.Start line) = unput.Batch rows (batch.Start line)
+unput_batch rows (batch.Title line) = unput.Batch rows (batch.Title line)
+unput_batch rows (batch.Inner board fault) = unput.Batch rows (batch.Inner board fault)
+
+-- why there is no board: the first fault of its texts, or want of memory
+abbrev pub NoBoard : Text → Text → List Text → Unput → Type 0
+NoBoard chain nets texts (unput.Input fault) = IsBoardRead chain nets texts (Err fault)
+NoBoard chain nets texts (unput.Log rows fault) = ⊥
+NoBoard chain nets texts (unput.Batch rows fault) = ⊥
+NoBoard chain nets texts unput.Write = ⊥
+NoBoard chain nets texts unput.Memory = Unit {0}
+
+-- why nothing is put where the texts have this fault
+abbrev pub unput_of : InputFault → Unput
+unput_of (input.Memory e) = unput.Memory
+unput_of (input.Chain fault) = unput.Input (input.Chain fault)
+unput_of (input.Nets fault) = unput.Input (input.Nets fault)
+unput_of (input.Lex text fault) = unput.Input (input.Lex text fault)
+unput_of (input.Parse text fault) = unput.Input (input.Parse text fault)
+unput_of (input.Board fault) = unput.Input (input.Board fault)
+unput_of (input.Device text fault) = unput.Input (input.Device text fault)
+unput_of (input.Link fault) = unput.Input (input.Link fault)
+unput_of (input.NoIdent line) = unput.Input (input.NoIdent line)

@@ -1,0 +1,184 @@
+// The command `make`.
+ghost use Rattle.std.specs.Prelude.{◌≡◌, ◌≤◌, [], ◌∷◌, length, min};
+ghost use Rattle.bt_base.specs.Counts.{last_count};
+ghost use Rattle.line_printer.specs.Prints.{Prints};
+ghost use Rattle.tap_defs.specs.board.BoardScans.{pass_text};
+ghost use Rattle.net_classes.specs.Kept.{AreClasses};
+ghost use Rattle.coverage_list.specs.CoverText.{covered};
+ghost use Rattle.plan_tables.specs.Plans.{IsPlanOf};
+ghost use Rattle.scan_planner.specs.Coded.{AreCoded};
+ghost use Rattle.scan_planner.specs.Plans.{IsRoom, scan_count};
+ghost use Rattle.board_gen.specs.BoardTexts.{chain_text, net_text};
+ghost use Rattle.board_gen.specs.DeviceText.{bsdl_text};
+ghost use Rattle.answers.specs.Gives.{Gives};
+ghost use Rattle.btest_core.specs.Answers.{input_told};
+ghost use Rattle.btest_core.specs.BoardRead.{IsBoardRead};
+ghost use Rattle.commands.specs.Summary.{counts_line, summary_text};
+ghost use Rattle.commands.specs.Answers.{Answers, Nothing};
+
+use crate::board_test::{longest_scan, write_test};
+use crate::rows::Rows;
+use crate::unput::{Unput, unput_by};
+use board_defs::Board;
+use board_gen::{Made, make};
+use bt_base::{CountSink, PutFault, Sink};
+use bt_bits::Line;
+use btest_core::{InputFault, plan, read_board};
+use coverage_list::covered_nets;
+use itoa::Buffer;
+use line_printer::put_line;
+use net_classes::{Classes, classify};
+use scan_planner::{CodedCells, Plan};
+use std::alloc::Global;
+use tap_defs::board_law::scans_placed;
+
+/// What is counted of a board and of its test.
+#[derive(Clone, Copy)]
+struct Counts {
+    devices: u32,
+    nets: u32,
+    covered: u32,
+    passes: u64,
+    scans: u64,
+    bytes: u64,
+}
+
+/// Puts the summary of the generated board with this number. All memory is taken before the first put.
+pub fn summary<K: Sink>(alloc: Global, number: u32, out: &mut K) -> Result<(), Unput>
+    requires some { 1 ≤ number }
+    requires few { number ≤ 255 }
+    ensures { Answers (IsBoardRead (chain_text number) (net_text number) (bsdl_text ∷ [])) summary_text Nothing (K.shown out.old) (K.shown out.new) result }
+{
+    let board = match generated_board(alloc, number) {
+        Ok(board) => board,
+        Err(fault) => return Err(unput_by(fault)),
+    };
+    let Ok(classes) = classify(alloc, &board) else {
+        return Err(Unput::Memory);
+    };
+    let Ok(plan) = plan(alloc, &board, &classes) else {
+        return Err(Unput::Memory);
+    };
+    let Ok(mut rows) = Rows::with_room(alloc, longest_scan(&board)) else {
+        return Err(Unput::Memory);
+    };
+    let Ok(mut cells) = CodedCells::with_room(alloc, board.dr_bits()) else {
+        return Err(Unput::Memory);
+    };
+    scans_placed();
+    let counts = counts_of(&board, &classes, &plan, &mut cells, &mut rows);
+    match put_counts(&counts, &mut rows.line, out) {
+        Ok(()) => Ok(()),
+        Err(_) => Err(Unput::Write),
+    }
+}
+
+// The generated board with this number.
+fn generated_board(alloc: Global, number: u32) -> Result<Board, InputFault>
+    requires some { 1 ≤ number }
+    requires few { number ≤ 255 }
+    ensures { Gives input_told (λ board. board) (IsBoardRead (chain_text number) (net_text number) (bsdl_text ∷ [])) result }
+{
+    let Made { chain, nets, bsdl } = make(alloc, number)?;
+    let mut texts = Vec::new(alloc);
+    texts.push(bsdl)?;
+    read_board(alloc, &chain, &nets, &texts)
+}
+
+// How many parts the chain has.
+fn device_count(board: &Board) -> u32
+    ensures { result ≡ length board.now.chain }
+{
+    board.raw().chain.len() as u32
+}
+
+// How many nets the board has.
+fn net_count(board: &Board) -> u32
+    ensures { result ≡ length board.now.nets }
+{
+    board.raw().nets.len() as u32
+}
+
+// How many bytes the text of the board's test has, which is written to be counted alone.
+fn text_bytes(board: &Board, plan: &Plan, cells: &mut CodedCells, rows: &mut Rows) -> u64
+    requires plan { IsPlanOf board.now plan.now }
+    requires coded { AreCoded board.now plan.now cells.old }
+    requires tdi { IsRoom board.now rows.old.tdi.room }
+    requires tdo { IsRoom board.now rows.old.tdo.room }
+    requires mask { IsRoom board.now rows.old.mask.room }
+    ensures { result ≡ min (length (pass_text board.now plan.now.passes plan.now.width)) last_count }
+{
+    let mut counter = CountSink::new();
+    let Ok(()) = write_test(board, plan, cells, rows, &mut counter) else {
+        unreachable!()
+    };
+    counter.count()
+}
+
+// The counts of a board and of the test that a plan makes.
+fn counts_of(
+    board: &Board,
+    classes: &Classes,
+    plan: &Plan,
+    cells: &mut CodedCells,
+    rows: &mut Rows,
+) -> Counts
+    requires classes { AreClasses board.now classes.now }
+    requires plan { IsPlanOf board.now plan.now }
+    requires coded { AreCoded board.now plan.now cells.old }
+    requires tdi { IsRoom board.now rows.old.tdi.room }
+    requires tdo { IsRoom board.now rows.old.tdo.room }
+    requires mask { IsRoom board.now rows.old.mask.room }
+    ensures devices { result.devices ≡ length board.now.chain }
+    ensures nets { result.nets ≡ length board.now.nets }
+    ensures covered { result.covered ≡ length (covered board.now) }
+    ensures passes { result.passes ≡ length plan.now.passes }
+    ensures scans { result.scans ≡ scan_count plan.now }
+    ensures bytes { result.bytes ≡ min (length (pass_text board.now plan.now.passes plan.now.width)) last_count }
+{
+    Counts {
+        devices: device_count(board),
+        nets: net_count(board),
+        covered: covered_nets(board, classes),
+        passes: plan.passes().len() as u64,
+        scans: plan.scans(),
+        bytes: text_bytes(board, plan, cells, rows),
+    }
+}
+
+// Puts the line of counts.
+fn put_counts<K: Sink>(counts: &Counts, line: &mut Line, out: &mut K) -> Result<(), PutFault>
+    ensures { Prints (K.shown out.old) (K.shown out.new) [] []
+        (counts_line counts.now.devices counts.now.nets counts.now.covered counts.now.passes counts.now.scans counts.now.bytes) result }
+{
+    let mut buffer = Buffer::new();
+    let devices = buffer.format(counts.devices).as_bytes();
+    let mut buffer = Buffer::new();
+    let nets = buffer.format(counts.nets).as_bytes();
+    let mut buffer = Buffer::new();
+    let covered = buffer.format(counts.covered).as_bytes();
+    let mut buffer = Buffer::new();
+    let passes = buffer.format(counts.passes).as_bytes();
+    let mut buffer = Buffer::new();
+    let scans = buffer.format(counts.scans).as_bytes();
+    let mut buffer = Buffer::new();
+    let bytes = buffer.format(counts.bytes).as_bytes();
+    put_line(
+        &[
+            b"DEVICES ".as_slice(),
+            devices,
+            b" NETS ",
+            nets,
+            b" COVERED ",
+            covered,
+            b" PASSES ",
+            passes,
+            b" SCANS ",
+            scans,
+            b" BYTES ",
+            bytes,
+        ],
+        line,
+        out,
+    )
+}

@@ -1,0 +1,191 @@
+// The command `svf`.
+ghost use Rattle.std.specs.Prelude.{◌≡◌, ◌-◌, ◌<◌, ◌≤◌, ◌^◌, All, IfOk, IfSome, List, Some, length, map, slice_get};
+ghost use Rattle.bt_base.specs.Puts.{Puts};
+ghost use Rattle.board_defs.specs.Passes.{passes_of};
+ghost use Rattle.tap_defs.specs.board.BoardScans.{RowScan, board_scans, board_text, pass_text, test_scans};
+ghost use Rattle.tap_defs.specs.board.BoardTest.{IsBoardTest};
+ghost use Rattle.tap_defs.specs.chain.Clocks.{test_clocks};
+ghost use Rattle.tap_defs.specs.chain.Svf.{meaning};
+ghost use Rattle.tap_defs.specs.chain.Text.{scan_text, svf_text};
+ghost use Rattle.plan_tables.specs.Plans.{IsPlanOf};
+ghost use Rattle.scan_planner.specs.Coded.{AreCoded};
+ghost use Rattle.scan_planner.specs.Plans.{FillsScan, IsRoom, scan_count};
+ghost use Rattle.btest_core.specs.BoardRead.{IsBoardRead};
+ghost use Rattle.commands.specs.Worth.{RespondOnce, TestsBoard};
+ghost use Rattle.commands.specs.Answers.{Answers};
+
+use crate::rows::Rows;
+use crate::texts::BoardTexts;
+use crate::unput::{Unput, unput_by};
+use board_defs::Board;
+use bt_base::{PutFault, Sink};
+use btest_core::{plan, read_board};
+use net_classes::classify;
+use scan_planner::{CodedCells, Plan};
+use std::alloc::{AllocError, Global};
+use svf_writer::{write_head, write_scan, write_tail};
+use tap_defs::Shape;
+use tap_defs::board_law::{board_texts_test, one_log, scans_in_turn, scans_placed};
+use tap_defs::chain_law::texts_mean;
+
+/// Puts the text that tests the board of these texts. All memory is
+/// taken before the first put.
+pub fn svf<K: Sink>(alloc: Global, texts: BoardTexts, out: &mut K) -> Result<(), Unput>
+    requires chain { length texts.chain.now < 2 ^ 32 }
+    requires nets { length texts.nets.now < 2 ^ 32 }
+    requires each { All (λ text. length text.items < 2 ^ 32) texts.bsdl.now }
+    requires count { length texts.bsdl.now < 2 ^ 32 }
+    ensures { Answers (IsBoardRead texts.entry.chain.now texts.entry.nets.now (map (λ text. text.items) texts.entry.bsdl.now)) board_text (TestsBoard texts.entry.chain.now texts.entry.nets.now (map (λ text. text.items) texts.entry.bsdl.now) (K.shown out.old)) (K.shown out.old) (K.shown out.new) result }
+{
+    let board = match read_board(alloc, texts.chain, texts.nets, texts.bsdl) {
+        Ok(board) => board,
+        Err(fault) => return Err(unput_by(fault)),
+    };
+    let Ok(plan) = board_plan(alloc, &board) else {
+        return Err(Unput::Memory);
+    };
+    let Ok(mut rows) = Rows::with_room(alloc, longest_scan(&board)) else {
+        return Err(Unput::Memory);
+    };
+    let Ok(mut cells) = CodedCells::with_room(alloc, board.dr_bits()) else {
+        return Err(Unput::Memory);
+    };
+    tests_board(&board);
+    match write_test(&board, &plan, &mut cells, &mut rows, out) {
+        Ok(()) => Ok(()),
+        Err(_) => Err(Unput::Write),
+    }
+}
+
+/// The plan of the board's passes.
+pub fn board_plan(alloc: Global, board: &Board) -> Result<Plan, AllocError>
+    ensures plan { IfOk result (λ plan. IsPlanOf board.now plan) }
+    ensures passes { IfOk result (λ plan. plan.passes ≡ passes_of board.now) }
+{
+    let classes = classify(alloc, board)?;
+    plan(alloc, board, &classes)
+}
+
+// What the text of the board's test is worth.
+fn tests_board(board: &Board)
+    ensures { IsBoardTest board.now (board_text board.now) }
+{
+    let _rules = board.raw();
+    board_texts_test();
+}
+
+/// What the text of any scans of data of the board means.
+pub fn test_means(board: &Board)
+    ensures { (scans : List RowScan) → meaning (svf_text (board_scans board.now scans)) ≡ Some (test_clocks (board_scans board.now scans)) }
+{
+    let _rules = board.raw();
+    texts_mean();
+}
+
+/// Each single fault of a board has one response to the board's test.
+pub fn singles_respond(board: &Board)
+    ensures { RespondOnce board.now }
+{
+    let _rules = board.raw();
+    one_log();
+    scans_in_turn();
+}
+
+/// How many bits the longer scan of the board has.
+pub fn longest_scan(board: &Board) -> u32
+    ensures { IsRoom board.now result }
+{
+    board.ir_bits().max(board.dr_bits())
+}
+
+/// Puts the test that a plan makes. The cells serve to make the scans of a pass.
+#[tactic(auto, unfolding(tap_defs::specs::chain::Text::svf_text))]
+pub fn write_test<K: Sink>(
+    board: &Board,
+    plan: &Plan,
+    cells: &mut CodedCells,
+    rows: &mut Rows,
+    out: &mut K,
+) -> Result<(), PutFault>
+    requires plan { IsPlanOf board.now plan.now }
+    requires coded { AreCoded board.now plan.now cells.old }
+    requires tdi { IsRoom board.now rows.old.tdi.room }
+    requires tdo { IsRoom board.now rows.old.tdo.room }
+    requires mask { IsRoom board.now rows.old.mask.room }
+    ensures { Puts (K.shown out.old) (K.shown out.new) (pass_text board.now plan.now.passes plan.now.width) result }
+{
+    scans_placed();
+    write_head(out)?;
+    let mut held = None;
+    for k in 0..plan.scans() {
+        write_scan_at(board, plan, k, &mut held, cells, rows, out)?;
+    }
+    write_tail(out)
+}
+
+// Puts scan `k` of a plan. The rows hold the scan before it where `held` has the kind of that scan, and then this one.
+fn write_scan_at<K: Sink>(
+    board: &Board,
+    plan: &Plan,
+    k: u64,
+    held: &mut Option<Shape>,
+    cells: &mut CodedCells,
+    rows: &mut Rows,
+    out: &mut K,
+) -> Result<(), PutFault>
+    requires plan { IsPlanOf board.now plan.now }
+    requires scan { k < scan_count plan.now }
+    requires later { IfSome held.old (λ shape. 0 < k) }
+    requires held { IfSome held.old (λ shape. FillsScan board.now plan.now.passes plan.now.width (k - 1) shape rows.old.tdi.bits rows.old.tdo.bits rows.old.mask.bits) }
+    requires coded { AreCoded board.now plan.now cells.old }
+    requires tdi { IsRoom board.now rows.old.tdi.room }
+    requires tdo { IsRoom board.now rows.old.tdo.room }
+    requires mask { IsRoom board.now rows.old.mask.room }
+    ensures text { IfSome (slice_get (test_scans board.now plan.now.passes plan.now.width) k) (λ scan. Puts (K.shown out.old) (K.shown out.new) (scan_text scan) result) }
+    ensures held { IfSome held.new (λ shape. FillsScan board.now plan.now.passes plan.now.width k shape rows.new.tdi.bits rows.new.tdo.bits rows.new.mask.bits) }
+    ensures coded { AreCoded board.now plan.now cells.new }
+    ensures tdi { rows.new.tdi.room ≡ rows.old.tdi.room }
+    ensures tdo { rows.new.tdo.room ≡ rows.old.tdo.room }
+    ensures mask { rows.new.mask.room ≡ rows.old.mask.room }
+{
+    let shape = fill_at(board, plan, k, *held, cells, rows);
+    *held = Some(shape);
+    write_scan(shape, &rows.tdi, &rows.tdo, &rows.mask, &mut rows.line, out)
+}
+
+// Fills the rows with scan `k` of a plan, from the scan before it where they hold that.
+fn fill_at(
+    board: &Board,
+    plan: &Plan,
+    k: u64,
+    before: Option<Shape>,
+    cells: &mut CodedCells,
+    rows: &mut Rows,
+) -> Shape
+    requires plan { IsPlanOf board.now plan.now }
+    requires scan { k < scan_count plan.now }
+    requires later { IfSome before (λ shape. 0 < k) }
+    requires held { IfSome before (λ shape. FillsScan board.now plan.now.passes plan.now.width (k - 1) shape rows.old.tdi.bits rows.old.tdo.bits rows.old.mask.bits) }
+    requires coded { AreCoded board.now plan.now cells.old }
+    requires tdi { IsRoom board.now rows.old.tdi.room }
+    requires tdo { IsRoom board.now rows.old.tdo.room }
+    requires mask { IsRoom board.now rows.old.mask.room }
+    ensures filled { FillsScan board.now plan.now.passes plan.now.width k result rows.new.tdi.bits rows.new.tdo.bits rows.new.mask.bits }
+    ensures coded { AreCoded board.now plan.now cells.new }
+    ensures tdi { rows.new.tdi.room ≡ rows.old.tdi.room }
+    ensures tdo { rows.new.tdo.room ≡ rows.old.tdo.room }
+    ensures mask { rows.new.mask.room ≡ rows.old.mask.room }
+{
+    match before {
+        None => plan.fill(board, k, &mut rows.tdi, &mut rows.tdo, &mut rows.mask),
+        Some(shape) => plan.fill_next(
+            board,
+            k - 1,
+            shape,
+            cells,
+            &mut rows.tdi,
+            &mut rows.tdo,
+            &mut rows.mask,
+        ),
+    }
+}

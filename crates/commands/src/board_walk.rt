@@ -1,0 +1,131 @@
+// The command `walk`.
+ghost use Rattle.std.specs.Prelude.{◌≡◌, ◌<◌, ◌^◌, All, length, map, slice_get, IfErr, IfOk, IfSome};
+ghost use Rattle.bt_base.specs.Puts.{Puts};
+ghost use Rattle.tap_defs.specs.board.BoardTest.{IsHarmless};
+ghost use Rattle.tap_defs.specs.chain.Text.{scan_text};
+ghost use Rattle.scan_planner.specs.Plans.{IsRoom};
+ghost use Rattle.walk_test.specs.Tables.{IsWalkOf, scan_count};
+ghost use Rattle.walk_test.specs.WalkTest.{board_walk_text, walk_scans};
+ghost use Rattle.btest_core.specs.BoardRead.{Denotes, IsBoardRead};
+ghost use Rattle.commands.specs.Answers.{Answers};
+ghost use Rattle.commands.specs.inner.Unput.{NoBoard};
+ghost use Rattle.commands.specs.Worth.{WalksBoard};
+
+use crate::board_test::longest_scan;
+use crate::rows::Rows;
+use crate::texts::BoardTexts;
+use crate::unput::{Unput, unput_by};
+use board_defs::Board;
+use bt_base::{PutFault, Sink};
+use btest_core::read_board;
+use driver_passes::passes;
+use net_classes::classify;
+use std::alloc::{AllocError, Global};
+use svf_writer::{write_head, write_scan, write_tail};
+use walk_test::Walk;
+use walk_test::law::{scans_counted, walk_harmless};
+
+/// A board, and its walking test.
+#[derive(Drop)]
+pub struct Walked {
+    pub board: Board,
+    pub walk: Walk,
+}
+
+/// The board of these texts with its walking test, or why there is none.
+pub fn walked_board(alloc: Global, texts: BoardTexts) -> Result<Walked, Unput>
+    requires chain { length texts.chain.now < 2 ^ 32 }
+    requires nets { length texts.nets.now < 2 ^ 32 }
+    requires each { All (λ text. length text.items < 2 ^ 32) texts.bsdl.now }
+    requires count { length texts.bsdl.now < 2 ^ 32 }
+    ensures denoted { IfOk result (λ walked. Denotes texts.entry.chain.now texts.entry.nets.now (map (λ text. text.items) texts.entry.bsdl.now) walked.board) }
+    ensures walk { IfOk result (λ walked. IsWalkOf walked.board walked.walk) }
+    ensures none { IfErr result (NoBoard texts.entry.chain.now texts.entry.nets.now (map (λ text. text.items) texts.entry.bsdl.now)) }
+{
+    let board = match read_board(alloc, texts.chain, texts.nets, texts.bsdl) {
+        Ok(board) => board,
+        Err(fault) => return Err(unput_by(fault)),
+    };
+    match walk_of(alloc, &board) {
+        Ok(walk) => Ok(Walked { board, walk }),
+        Err(_) => Err(Unput::Memory),
+    }
+}
+
+// The walking test of a board.
+fn walk_of(alloc: Global, board: &Board) -> Result<Walk, AllocError>
+    ensures { IfOk result (λ walk. IsWalkOf board.now walk) }
+{
+    let classes = classify(alloc, board)?;
+    let passes = passes(alloc, board, &classes)?;
+    Walk::new(alloc, board, &passes)
+}
+
+/// Puts the walking test of the board of these texts. All memory is taken before the first put.
+pub fn walk<K: Sink>(alloc: Global, texts: BoardTexts, out: &mut K) -> Result<(), Unput>
+    requires chain { length texts.chain.now < 2 ^ 32 }
+    requires nets { length texts.nets.now < 2 ^ 32 }
+    requires each { All (λ text. length text.items < 2 ^ 32) texts.bsdl.now }
+    requires count { length texts.bsdl.now < 2 ^ 32 }
+    ensures { Answers (IsBoardRead texts.entry.chain.now texts.entry.nets.now (map (λ text. text.items) texts.entry.bsdl.now)) board_walk_text (WalksBoard texts.entry.chain.now texts.entry.nets.now (map (λ text. text.items) texts.entry.bsdl.now) (K.shown out.old)) (K.shown out.old) (K.shown out.new) result }
+{
+    let walked = match walked_board(alloc, texts) {
+        Ok(walked) => walked,
+        Err(failure) => return Err(failure),
+    };
+    let Ok(mut rows) = Rows::with_room(alloc, longest_scan(&walked.board)) else {
+        return Err(Unput::Memory);
+    };
+    is_harmless(&walked.board);
+    match write_walk(&walked, &mut rows, out) {
+        Ok(()) => Ok(()),
+        Err(_) => Err(Unput::Write),
+    }
+}
+
+// What the text of the walking test is worth.
+fn is_harmless(board: &Board)
+    ensures { IsHarmless board.now (board_walk_text board.now) }
+{
+    let _rules = board.raw();
+    walk_harmless();
+}
+
+// Puts a walking test.
+#[tactic(auto, unfolding(tap_defs::specs::chain::Text::svf_text))]
+fn write_walk<K: Sink>(walked: &Walked, rows: &mut Rows, out: &mut K) -> Result<(), PutFault>
+    requires walk { IsWalkOf walked.now.board walked.now.walk }
+    requires tdi { IsRoom walked.now.board rows.old.tdi.room }
+    requires tdo { IsRoom walked.now.board rows.old.tdo.room }
+    requires mask { IsRoom walked.now.board rows.old.mask.room }
+    ensures { Puts (K.shown out.old) (K.shown out.new) (board_walk_text walked.now.board) result }
+{
+    scans_counted();
+    write_head(out)?;
+    for k in 0..walked.walk.scans() {
+        write_walk_scan(walked, k, rows, out)?;
+    }
+    write_tail(out)
+}
+
+// Puts scan `k` of a walking test.
+fn write_walk_scan<K: Sink>(
+    walked: &Walked,
+    k: u64,
+    rows: &mut Rows,
+    out: &mut K,
+) -> Result<(), PutFault>
+    requires walk { IsWalkOf walked.now.board walked.now.walk }
+    requires scan { k < scan_count walked.now.walk }
+    requires tdi { IsRoom walked.now.board rows.old.tdi.room }
+    requires tdo { IsRoom walked.now.board rows.old.tdo.room }
+    requires mask { IsRoom walked.now.board rows.old.mask.room }
+    ensures text { IfSome (slice_get (walk_scans walked.now.board) k) (λ scan. Puts (K.shown out.old) (K.shown out.new) (scan_text scan) result) }
+    ensures tdi { rows.new.tdi.room ≡ rows.old.tdi.room }
+    ensures tdo { rows.new.tdo.room ≡ rows.old.tdo.room }
+    ensures mask { rows.new.mask.room ≡ rows.old.mask.room }
+{
+    let Walked { board, walk } = walked;
+    let shape = walk.fill(board, k, &mut rows.tdi, &mut rows.tdo, &mut rows.mask);
+    write_scan(shape, &rows.tdi, &rows.tdo, &rows.mask, &mut rows.line, out)
+}

@@ -1,0 +1,89 @@
+// The command `chain`.
+ghost use Rattle.std.specs.Prelude.{◌≡◌, ◌+◌, ◌<◌, ◌≤◌, ◌^◌, ℕ, All, List, length, map, sum};
+ghost use Rattle.bt_base.specs.Puts.{Puts};
+ghost use Rattle.tap_defs.specs.chain.ChainScans.{chain_text};
+ghost use Rattle.tap_defs.specs.chain.ChainTest.{IsChainTest};
+ghost use Rattle.svf_writer.specs.Rows.{IsRoom};
+ghost use Rattle.btest_core.specs.BoardRead.{AreChainLengths, AreLengths};
+ghost use Rattle.commands.specs.Worth.{TestsChain};
+ghost use Rattle.commands.specs.Answers.{Answers};
+
+use crate::rows::Rows;
+use crate::unput::{Unput, unput_by};
+use bt_base::{PutFault, Sink};
+use btest_core::read_chain;
+use std::alloc::Global;
+use svf_writer::{write_chain, write_head, write_tail};
+use tap_defs::chain_law::chain_tests;
+
+/// Puts the text that tests the length of the chain of a chain file and BSDL texts. All memory is
+/// taken before the first put.
+pub fn chain<K: Sink>(
+    alloc: Global,
+    file: &[u8],
+    bsdl: &[Vec<u8>],
+    out: &mut K,
+) -> Result<(), Unput>
+    requires size { length file.now < 2 ^ 32 }
+    requires each { All (λ text. length text.items < 2 ^ 32) bsdl.now }
+    requires count { length bsdl.now < 2 ^ 32 }
+    ensures { Answers (AreChainLengths file.now (map (λ text. text.items) bsdl.now)) chain_text (TestsChain file.now (map (λ text. text.items) bsdl.now) (K.shown out.old)) (K.shown out.old) (K.shown out.new) result }
+{
+    let lengths = match read_chain(alloc, file, bsdl) {
+        Ok(lengths) => lengths,
+        Err(fault) => return Err(unput_by(fault)),
+    };
+    let Ok(mut rows) = Rows::with_room(alloc, longest_scan(&lengths)) else {
+        return Err(Unput::Memory);
+    };
+    tests_length(&lengths);
+    match write_test(&lengths, &mut rows, out) {
+        Ok(()) => Ok(()),
+        Err(_) => Err(Unput::Write),
+    }
+}
+
+// What the text of the chain test is worth.
+fn tests_length(lengths: &[u32])
+    requires { AreLengths lengths.now }
+    ensures { IsChainTest lengths.now (chain_text lengths.now) }
+{
+    let _ = lengths;
+    chain_tests();
+}
+
+// How many bits the longer scan of the chain test has.
+fn longest_scan(lengths: &[u32]) -> u32
+    requires { AreLengths lengths.now }
+    ensures { IsRoom lengths.now result }
+{
+    instruction_bits(lengths).max(lengths.len() as u32 + 8)
+}
+
+fn instruction_bits(lengths: &[u32]) -> u32
+    requires { sum lengths.now < 2 ^ 32 }
+    ensures { result ≡ sum lengths.now }
+{
+    lengths.iter().sum()
+}
+
+// Puts the chain test.
+#[tactic(auto, unfolding(tap_defs::specs::chain::Text::svf_text))]
+fn write_test<K: Sink>(lengths: &[u32], rows: &mut Rows, out: &mut K) -> Result<(), PutFault>
+    requires lengths { AreLengths lengths.now }
+    requires tdi { IsRoom lengths.now rows.old.tdi.room }
+    requires tdo { IsRoom lengths.now rows.old.tdo.room }
+    requires mask { IsRoom lengths.now rows.old.mask.room }
+    ensures { Puts (K.shown out.old) (K.shown out.new) (chain_text lengths.now) result }
+{
+    write_head(out)?;
+    write_chain(
+        lengths,
+        &mut rows.tdi,
+        &mut rows.tdo,
+        &mut rows.mask,
+        &mut rows.line,
+        out,
+    )?;
+    write_tail(out)
+}

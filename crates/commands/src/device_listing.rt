@@ -1,0 +1,34 @@
+// The command `device`.
+ghost use Rattle.std.specs.Prelude.{◌<◌, ◌^◌, length};
+ghost use Rattle.device_check.specs.DeviceText.{device_text};
+ghost use Rattle.btest_core.specs.DevicesRead.{IsDeviceText};
+ghost use Rattle.commands.specs.Answers.{Answers};
+ghost use Rattle.commands.specs.Worth.{ListsDevice};
+
+use crate::unput::{Unput, unput_by};
+use bt_base::Sink;
+use bt_bits::Line;
+use btest_core::law::inputs_keep_rules;
+use btest_core::read_device;
+use device_check::write_device;
+use std::alloc::Global;
+
+/// Puts the listing of the device that a BSDL text describes in its default package. All memory is
+/// taken before the first put.
+pub fn device<K: Sink>(alloc: Global, text: &[u8], out: &mut K) -> Result<(), Unput>
+    requires { length text.now < 2 ^ 32 }
+    ensures { Answers (IsDeviceText text.now) device_text (ListsDevice text.now (K.shown out.old)) (K.shown out.old) (K.shown out.new) result }
+{
+    let device = match read_device(alloc, text) {
+        Ok(device) => device,
+        Err(fault) => return Err(unput_by(fault)),
+    };
+    let Ok(mut line) = Line::new(alloc) else {
+        return Err(Unput::Memory);
+    };
+    inputs_keep_rules();
+    match write_device(&device, &mut line, out) {
+        Ok(()) => Ok(()),
+        Err(_) => Err(Unput::Write),
+    }
+}

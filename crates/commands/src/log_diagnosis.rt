@@ -1,0 +1,90 @@
+// The command `diagnose`.
+ghost use Rattle.std.specs.Prelude.{◌≡◌, ◌<◌, ◌≤◌, ◌^◌, All, length, map};
+ghost use Rattle.board_defs.specs.Passes.{passes_of};
+ghost use Rattle.plan_tables.specs.Plans.{IsPlanOf};
+ghost use Rattle.commands.specs.LogRead.{OnBoard, OnDenoted, diagnosing, diagnosis_text};
+ghost use Rattle.commands.specs.Worth.{Diagnoses, OfDenoted};
+ghost use Rattle.commands.specs.Answers.{LogAnswers};
+
+use crate::board_test::{singles_respond, test_means};
+use crate::planned::{Planned, planned_board};
+use crate::texts::LogTexts;
+use crate::unput::{Unput, unput_by_log};
+use bt_base::{Gate, Sink};
+use bt_bits::Line;
+use diagnoser::law::{explaining_listed, passing_unexplained};
+use diagnoser::{diagnose_by, write_diagnosis};
+use fault_sim::{differing_nets, none_differs};
+use response_log::log_of;
+use std::alloc::Global;
+use std::thread::Threads;
+
+/// Puts the diagnosis of a log of the test of the board of these texts, which so many workers make, 1 to 64. All
+/// memory is taken before the first put.
+pub fn diagnosis<R: Threads + Sync, K: Sink, G: Gate>(
+    rt: &R,
+    alloc: Global,
+    texts: LogTexts,
+    workers: u32,
+    gate: &G,
+    out: &mut K,
+) -> Result<(), Unput>
+    requires log { length texts.log.items < 2 ^ 32 }
+    requires chain { length texts.board.chain.now < 2 ^ 32 }
+    requires nets { length texts.board.nets.now < 2 ^ 32 }
+    requires each { All (λ text. length text.items < 2 ^ 32) texts.board.bsdl.now }
+    requires count { length texts.board.bsdl.now < 2 ^ 32 }
+    requires some { 1 ≤ workers }
+    requires few { workers ≤ 64 }
+    ensures { LogAnswers (OnDenoted diagnosing texts.entry.log.items texts.entry.board.chain.now texts.entry.board.nets.now (map (λ text. text.items) texts.entry.board.bsdl.now)) diagnosis_text (OfDenoted (Diagnoses texts.entry.log.items) texts.entry.board.chain.now texts.entry.board.nets.now (map (λ text. text.items) texts.entry.board.bsdl.now) (K.shown out.old)) (K.shown out.old) (K.shown out.new) result }
+{
+    let LogTexts { log, board } = texts;
+    let planned = match planned_board(alloc, board) {
+        Ok(planned) => planned,
+        Err(failure) => return Err(failure),
+    };
+    put_diagnosis(rt, alloc, &planned, log, workers, gate, out)
+}
+
+// Puts the diagnosis of a log of the board's test, which is read over its text.
+fn put_diagnosis<R: Threads + Sync, K: Sink, G: Gate>(
+    rt: &R,
+    alloc: Global,
+    planned: &Planned,
+    text: Vec<u8>,
+    workers: u32,
+    gate: &G,
+    out: &mut K,
+) -> Result<(), Unput>
+    requires plan { IsPlanOf planned.now.board planned.now.plan }
+    requires passes { planned.now.plan.passes ≡ passes_of planned.now.board }
+    requires text { length text.items < 2 ^ 32 }
+    requires some { 1 ≤ workers }
+    requires few { workers ≤ 64 }
+    ensures { LogAnswers (OnBoard diagnosing text.items planned.now.board) (λ found. diagnosis_text (planned.now.board, found)) (Diagnoses text.items planned.now.board (K.shown out.old)) (K.shown out.old) (K.shown out.new) result }
+{
+    let Planned { board, plan } = planned;
+    let log = match log_of(alloc, text, plan.rows(), board.dr_bits()) {
+        Ok(log) => log,
+        Err(fault) => return Err(unput_by_log(plan.rows(), fault)),
+    };
+    let Ok(nets) = differing_nets(alloc, board, plan, &log) else {
+        return Err(Unput::Memory);
+    };
+    let pass = none_differs(board, plan, &log, &nets);
+    let Ok(faults) = diagnose_by(rt, alloc, board, plan, &log, &nets, workers, gate) else {
+        return Err(Unput::Memory);
+    };
+    let Ok(mut line) = Line::new(alloc) else {
+        return Err(Unput::Memory);
+    };
+    let _rules = board.raw();
+    test_means(board);
+    singles_respond(board);
+    explaining_listed();
+    passing_unexplained();
+    match write_diagnosis(board, pass, &faults, &mut line, out) {
+        Ok(()) => Ok(()),
+        Err(_) => Err(Unput::Write),
+    }
+}

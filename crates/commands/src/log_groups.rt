@@ -1,0 +1,77 @@
+// The command `groups`.
+ghost use Rattle.std.specs.Prelude.{◌≡◌, ◌<◌, ◌^◌, All, length, map, option_map};
+ghost use Rattle.walk_test.specs.Tables.{IsWalkOf};
+ghost use Rattle.commands.specs.LogRead.{OnBoard, OnDenoted, grouping, grouping_text};
+ghost use Rattle.commands.specs.Worth.{FindsGroups, OfDenoted};
+ghost use Rattle.commands.specs.Answers.{LogAnswers};
+
+use crate::board_test::test_means;
+use crate::board_walk::{Walked, walked_board};
+use crate::texts::LogTexts;
+use crate::unput::{Unput, unput_by_log};
+use bt_base::Sink;
+use bt_bits::Line;
+use response_log::log_of;
+use std::alloc::Global;
+use walk_test::law::{groups_respond, one_set};
+use walk_test::{Group, write_groups};
+
+/// Puts the groups of a log of the walking test of the board of these texts. All memory is taken before the first put.
+pub fn groups<K: Sink>(alloc: Global, texts: LogTexts, out: &mut K) -> Result<(), Unput>
+    requires log { length texts.log.items < 2 ^ 32 }
+    requires chain { length texts.board.chain.now < 2 ^ 32 }
+    requires nets { length texts.board.nets.now < 2 ^ 32 }
+    requires each { All (λ text. length text.items < 2 ^ 32) texts.board.bsdl.now }
+    requires count { length texts.board.bsdl.now < 2 ^ 32 }
+    ensures { LogAnswers (OnDenoted grouping texts.entry.log.items texts.entry.board.chain.now texts.entry.board.nets.now (map (λ text. text.items) texts.entry.board.bsdl.now)) grouping_text (OfDenoted (FindsGroups texts.entry.log.items) texts.entry.board.chain.now texts.entry.board.nets.now (map (λ text. text.items) texts.entry.board.bsdl.now) (K.shown out.old)) (K.shown out.old) (K.shown out.new) result }
+{
+    let LogTexts { log, board } = texts;
+    let walked = match walked_board(alloc, board) {
+        Ok(walked) => walked,
+        Err(failure) => return Err(failure),
+    };
+    put_groups(alloc, &walked, log, out)
+}
+
+// The groups, where there are some.
+fn lent(found: &Option<Vec<Group>>) -> Option<&[Group]>
+    ensures { option_map (λ groups. groups.now) result ≡ option_map (λ groups. groups.items) found.now }
+{
+    match found {
+        None => None,
+        Some(groups) => Some(groups),
+    }
+}
+
+// Puts the groups of a log of the board's walking test, which is read over its text.
+fn put_groups<K: Sink>(
+    alloc: Global,
+    walked: &Walked,
+    text: Vec<u8>,
+    out: &mut K,
+) -> Result<(), Unput>
+    requires walk { IsWalkOf walked.now.board walked.now.walk }
+    requires text { length text.items < 2 ^ 32 }
+    ensures { LogAnswers (OnBoard grouping text.items walked.now.board) (λ found. grouping_text (walked.now.board, found)) (FindsGroups text.items walked.now.board (K.shown out.old)) (K.shown out.old) (K.shown out.new) result }
+{
+    let Walked { board, walk } = walked;
+    let rows = walk.nets().len() as u64;
+    let log = match log_of(alloc, text, rows, board.dr_bits()) {
+        Ok(log) => log,
+        Err(fault) => return Err(unput_by_log(rows, fault)),
+    };
+    let Ok(found) = walk_test::groups(alloc, board, walk, &log) else {
+        return Err(Unput::Memory);
+    };
+    let Ok(mut line) = Line::new(alloc) else {
+        return Err(Unput::Memory);
+    };
+    let _rules = board.raw();
+    test_means(board);
+    groups_respond();
+    one_set();
+    match write_groups(board, lent(&found), &mut line, out) {
+        Ok(()) => Ok(()),
+        Err(_) => Err(Unput::Write),
+    }
+}

@@ -1,0 +1,52 @@
+// Why a command put no whole text.
+ghost use Rattle.std.specs.Prelude.{◌≡◌};
+ghost use Rattle.commands.specs.inner.Unput.{unput_batch, unput_log, unput_of};
+
+use batch_diag::BatchFault;
+use btest_core::InputFault;
+use response_log::LogFault;
+
+/// Why a command put no whole text.
+#[derive(Drop)]
+pub enum Unput {
+    /// The first fault of the texts.
+    Input(InputFault),
+    /// The first fault of a response log, of which so many rows are wanted.
+    Log { rows: u64, fault: LogFault },
+    /// The first fault of a batch of response logs, of which so many rows are wanted each.
+    Batch { rows: u64, fault: BatchFault },
+    /// The defined text was not put whole.
+    Write,
+    /// There was not enough memory.
+    Memory,
+}
+
+/// Why nothing is put where the texts have this fault.
+pub fn unput_by(fault: InputFault) -> Unput
+    ensures { result ≡ unput_of fault }
+{
+    match fault {
+        InputFault::Memory(_) => Unput::Memory,
+        fault => Unput::Input(fault),
+    }
+}
+
+/// Why nothing is put where a log of which so many rows are wanted has this fault.
+pub fn unput_by_log(rows: u64, fault: LogFault) -> Unput
+    ensures { result ≡ unput_log rows fault }
+{
+    match fault {
+        LogFault::Memory(_) => Unput::Memory,
+        fault => Unput::Log { rows, fault },
+    }
+}
+
+/// Why nothing is put where a batch of logs of which so many rows are wanted has this fault.
+pub fn unput_by_batch(rows: u64, fault: BatchFault) -> Unput
+    ensures { result ≡ unput_batch rows fault }
+{
+    match fault {
+        BatchFault::Memory(_) => Unput::Memory,
+        fault => Unput::Batch { rows, fault },
+    }
+}
