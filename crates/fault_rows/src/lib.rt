@@ -2,7 +2,7 @@
 #![tactic(auto)]
 
 #[cfg(test)]
-mod commands;
+mod calls;
 #[cfg(test)]
 mod limits;
 #[cfg(test)]

@@ -1,5 +1,5 @@
 // Texts that are too long.
-use crate::commands::{COMMANDS, Command, bench_of};
+use crate::calls::{COMMANDS, Command, bench_of};
 use run_bench::{Ending, RowFault};
 use std::alloc::Global;
 use std::thread::Threads;

@@ -1,5 +1,5 @@
 // Writes that fail.
-use crate::commands::{COMMANDS, Command, bench_of};
+use crate::calls::{COMMANDS, Command, bench_of};
 use bt_base::MemSink;
 use run_bench::{Ending, RowFault};
 use std::alloc::Global;
