@@ -16,8 +16,7 @@ ghost use Rattle.btest_core.specs.BoardRead.{IsBoardRead};
 ghost use Rattle.commands.specs.Summary.{counts_line, summary_text};
 ghost use Rattle.commands.specs.Answers.{Answers, Nothing};
 
-use crate::board_test::{longest_scan, write_test};
-use crate::rows::Rows;
+use crate::board_test::{TestRows, write_test};
 use crate::unput::{Unput, unput_by};
 use board_defs::Board;
 use board_gen::{Made, make};
@@ -28,7 +27,7 @@ use coverage_list::covered_nets;
 use itoa::Buffer;
 use line_printer::put_line;
 use net_classes::{Classes, classify};
-use scan_planner::{CodedCells, Plan};
+use scan_planner::Plan;
 use std::alloc::Global;
 use tap_defs::board_law::scans_placed;
 
@@ -59,15 +58,12 @@ pub fn summary<K: Sink>(alloc: Global, number: u32, out: &mut K) -> Result<(), U
     let Ok(plan) = plan(alloc, &board, &classes) else {
         return Err(Unput::Memory);
     };
-    let Ok(mut rows) = Rows::with_room(alloc, longest_scan(&board)) else {
-        return Err(Unput::Memory);
-    };
-    let Ok(mut cells) = CodedCells::with_room(alloc, board.dr_bits()) else {
+    let Ok(mut rows) = TestRows::for_plan(alloc, &board, &plan) else {
         return Err(Unput::Memory);
     };
     scans_placed();
-    let counts = counts_of(&board, &classes, &plan, &mut cells, &mut rows);
-    match put_counts(&counts, &mut rows.line, out) {
+    let counts = counts_of(&board, &classes, &plan, &mut rows);
+    match put_counts(&counts, &mut rows.rows.line, out) {
         Ok(()) => Ok(()),
         Err(_) => Err(Unput::Write),
     }
@@ -100,35 +96,29 @@ fn net_count(board: &Board) -> u32
 }
 
 // How many bytes the text of the board's test has, which is written to be counted alone.
-fn text_bytes(board: &Board, plan: &Plan, cells: &mut CodedCells, rows: &mut Rows) -> u64
+fn text_bytes(board: &Board, plan: &Plan, made: &mut TestRows) -> u64
     requires plan { IsPlanOf board.now plan.now }
-    requires coded { AreCoded board.now plan.now cells.old }
-    requires tdi { IsRoom board.now rows.old.tdi.room }
-    requires tdo { IsRoom board.now rows.old.tdo.room }
-    requires mask { IsRoom board.now rows.old.mask.room }
+    requires coded { AreCoded board.now plan.now made.old.cells }
+    requires tdi { IsRoom board.now made.old.rows.tdi.room }
+    requires tdo { IsRoom board.now made.old.rows.tdo.room }
+    requires mask { IsRoom board.now made.old.rows.mask.room }
     ensures { result ≡ min (length (pass_text board.now plan.now.passes plan.now.width)) last_count }
 {
     let mut counter = CountSink::new();
-    let Ok(()) = write_test(board, plan, cells, rows, &mut counter) else {
+    let Ok(()) = write_test(board, plan, made, &mut counter) else {
         unreachable!()
     };
     counter.count()
 }
 
 // The counts of a board and of the test that a plan makes.
-fn counts_of(
-    board: &Board,
-    classes: &Classes,
-    plan: &Plan,
-    cells: &mut CodedCells,
-    rows: &mut Rows,
-) -> Counts
+fn counts_of(board: &Board, classes: &Classes, plan: &Plan, made: &mut TestRows) -> Counts
     requires classes { AreClasses board.now classes.now }
     requires plan { IsPlanOf board.now plan.now }
-    requires coded { AreCoded board.now plan.now cells.old }
-    requires tdi { IsRoom board.now rows.old.tdi.room }
-    requires tdo { IsRoom board.now rows.old.tdo.room }
-    requires mask { IsRoom board.now rows.old.mask.room }
+    requires coded { AreCoded board.now plan.now made.old.cells }
+    requires tdi { IsRoom board.now made.old.rows.tdi.room }
+    requires tdo { IsRoom board.now made.old.rows.tdo.room }
+    requires mask { IsRoom board.now made.old.rows.mask.room }
     ensures devices { result.devices ≡ length board.now.chain }
     ensures nets { result.nets ≡ length board.now.nets }
     ensures covered { result.covered ≡ length (covered board.now) }
@@ -142,7 +132,7 @@ fn counts_of(
         covered: covered_nets(board, classes),
         passes: plan.passes().len() as u64,
         scans: plan.scans(),
-        bytes: text_bytes(board, plan, cells, rows),
+        bytes: text_bytes(board, plan, made),
     }
 }
 

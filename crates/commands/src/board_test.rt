@@ -44,14 +44,11 @@ pub fn svf<K: Sink>(alloc: Global, texts: BoardTexts, out: &mut K) -> Result<(),
     let Ok(plan) = board_plan(alloc, &board) else {
         return Err(Unput::Memory);
     };
-    let Ok(mut rows) = Rows::with_room(alloc, longest_scan(&board)) else {
-        return Err(Unput::Memory);
-    };
-    let Ok(mut cells) = CodedCells::with_room(alloc, board.dr_bits()) else {
+    let Ok(mut rows) = TestRows::for_plan(alloc, &board, &plan) else {
         return Err(Unput::Memory);
     };
     tests_board(&board);
-    match write_test(&board, &plan, &mut cells, &mut rows, out) {
+    match write_test(&board, &plan, &mut rows, out) {
         Ok(()) => Ok(()),
         Err(_) => Err(Unput::Write),
     }
@@ -98,9 +95,49 @@ pub fn longest_scan(board: &Board) -> u32
     board.ir_bits().max(board.dr_bits())
 }
 
-/// Puts the test that a plan makes. The cells serve to make the scans of a pass.
-#[tactic(auto, unfolding(tap_defs::specs::chain::Text::svf_text))]
+/// What the scans of a test are made in: their rows, and the cells of a pass.
+#[derive(Drop)]
+pub struct TestRows {
+    pub rows: Rows,
+    pub cells: CodedCells,
+}
+
+impl TestRows {
+    /// Rows with room for the scans of a board, for this plan.
+    pub fn for_plan(alloc: Global, board: &Board, plan: &Plan) -> Result<TestRows, AllocError>
+        ensures tdi { IfOk result (λ made. IsRoom board.now made.rows.tdi.room) }
+        ensures tdo { IfOk result (λ made. IsRoom board.now made.rows.tdo.room) }
+        ensures mask { IfOk result (λ made. IsRoom board.now made.rows.mask.room) }
+        ensures coded { IfOk result (λ made. AreCoded board.now plan.now made.cells) }
+    {
+        let _ = plan.scans();
+        Ok(TestRows {
+            rows: Rows::with_room(alloc, longest_scan(board))?,
+            cells: CodedCells::with_room(alloc, board.dr_bits())?,
+        })
+    }
+}
+
+/// Puts the test that a plan makes.
 pub fn write_test<K: Sink>(
+    board: &Board,
+    plan: &Plan,
+    made: &mut TestRows,
+    out: &mut K,
+) -> Result<(), PutFault>
+    requires plan { IsPlanOf board.now plan.now }
+    requires coded { AreCoded board.now plan.now made.old.cells }
+    requires tdi { IsRoom board.now made.old.rows.tdi.room }
+    requires tdo { IsRoom board.now made.old.rows.tdo.room }
+    requires mask { IsRoom board.now made.old.rows.mask.room }
+    ensures { Puts (K.shown out.old) (K.shown out.new) (pass_text board.now plan.now.passes plan.now.width) result }
+{
+    write_scans(board, plan, &mut made.cells, &mut made.rows, out)
+}
+
+// The same in these rows and cells.
+#[tactic(auto, unfolding(tap_defs::specs::chain::Text::svf_text))]
+fn write_scans<K: Sink>(
     board: &Board,
     plan: &Plan,
     cells: &mut CodedCells,

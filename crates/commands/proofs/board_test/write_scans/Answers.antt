@@ -6,7 +6,7 @@ use Rattle.bt_base.proofs.Cuts.{puts_err}
 use Rattle.tap_defs.specs.chain.Text.{svf_text, head_text, tail_text}
 use Rattle.tap_defs.specs.board.BoardScans.{test_scans}
 use Rattle.commands.proofs.TestLemmas.{below_count, past_count, puts_scan, cut_scan, puts_tail}
-use Rattle.commands.proofs.board_test.write_test.Goals as goal
+use Rattle.commands.proofs.board_test.write_scans.Goals as goal
 
 last : (k : ℕ) → k ≡ k + 1 - 1
 last k = omega arith

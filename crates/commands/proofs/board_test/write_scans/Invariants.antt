@@ -6,7 +6,7 @@ use Rattle.tap_defs.specs.chain.Text.{head_text, scan_texts}
 use Rattle.tap_defs.specs.board.BoardScans.{test_scans}
 use Rattle.scan_planner.specs.Coded.{AreCoded}
 use Rattle.scan_planner.specs.Plans.{FillsScan, IsRoom}
-use Rattle.commands.proofs.board_test.write_test.Given as goal
+use Rattle.commands.proofs.board_test.write_scans.Given as goal
 
 -- the head and the scans so far were put; the rows hold the last of these, where there is one, and keep their room
 abbrev pub invariant-loop-k : goal.invariant-loop-k
