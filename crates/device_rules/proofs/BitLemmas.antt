@@ -3,13 +3,14 @@ use Rattle.std.proofs.Common.{◌≡◌, ℕ, zero, suc, ◌+◌, ◌<◌, ◌�
 use Rattle.std.specs.Prelude.{if◌then◌else◌, option_map, slice_get, find}
 use Rattle.std.specs.List.{list_any, position_from, position_or_len}
 use Rattle.std.specs.Str.{bytes_eq}
-use Rattle.std.proofs.lemmas.List.Sums.{sum_by-cons, sum_by_more}
+use Rattle.std.proofs.lemmas.List.Sums.{sum_by-cons, sum_by_more, sum_by-take-le}
 use Rattle.std.proofs.lemmas.Slice.Eq.{bytes_eq-Decides}
 use Rattle.std.proofs.lemmas.List.Folds.{list_any-append, find_at}
 use Rattle.std.proofs.lemmas.List.{drop_more, take-append-drop}
 use Rattle.std.proofs.lemmas.Option.{slice_get_past, slice_get-get_or}
 use Rattle.std.proofs.lemmas.Iterator.Adapters.{position_from-zero}
 use Rattle.std.proofs.lemmas.Bool.Decides.{nat_tests}
+use Rattle.board_defs.proofs.Members.{has_at}
 use Rattle.bsdl_parser.specs.declared.entity.Port.{Port}
 use Rattle.first_places.specs.Items.{first_from, or_else}
 use Rattle.device_rules.specs.Ports.{in_order, width, bits_of, port_named, breaks_port, v2, indexes, bits_along, bits_of_port, bits_from, port_bits, has_index, is_bit, is_named, bit_number, Bit}
@@ -17,6 +18,7 @@ use Rattle.bsdl_strings.specs.declared.values.PortWord.TheVariants.{Star}
 use Rattle.device_rules.specs.inner.Index.{place_in}
 use Rattle.device_rules.proofs.RangeLemmas.{place_found, place_within, length_indexes}
 use Rattle.device_rules.proofs.RuleLemmas.{holds}
+use Rattle.device_rules.proofs.IsDeviceLists.{none_has}
 
 -- the first place in two lists
 place_append_by : {A : Type 0} (p : A → Bool) (n : ℕ) (xs ys : List A) (b : Bool) → position_from p (n + 1) (xs ++ ys) ≡ or_else (position_from p (n + 1) xs) (position_from p (n + 1 + length xs) ys)
@@ -209,6 +211,18 @@ pub apart : (ports : List Port) → v2 ports ≡ None → Apart ports
 unfolding v2
 apart ports e = (kept_from [] ports e).1
 
+-- where names differ, a port is the first with its name
+pub is_first : (name : List ℕ) (ports : List Port) (n : ℕ) (port : Port) → Apart ports → slice_get ports n ≡ Some port → bytes_eq port.name name ≡ true → position_from (port_named name) 0 ports ≡ Some n
+is_first name [] n port h at is = cc at
+is_first name (first ∷ ports) zero port h at is = let same : first ≡ port = cc at in ap (λ b. cond b (Some 0) (position_from (port_named name) 1 ports)) (ap (port_named name) same ∙ is)
+is_first name (first ∷ ports) (suc n) port h at is =
+    let sums : n + 1 ≡ suc n = omega arith in
+    ap (λ b. cond b (Some 0) (position_from (port_named name) 1 ports)) (differs (none_has (port_named first.name) ports port h.1 (has_at ports n port at)) is)
+    ∙ place_later (port_named name) 0 ports ∙ ap (option_map (λ k. k + 1)) (is_first name ports n port h.2 at is) ∙ ap Some sums
+  where
+    differs : bytes_eq port.name first.name ≡ false → bytes_eq port.name name ≡ true → bytes_eq first.name name ≡ false
+    differs e f = grind (arith, bytes_eq-Decides)
+
 -- the first place of an item, against the item
 at_by : {A : Type 0} (p : A → Bool) (xs : List A) (n : ℕ) (b : Bool) → nat_lt (position_or_len p xs) (length xs) ≡ b → cond b (Some (position_or_len p xs)) None ≡ Some n → (n < length xs) × (find p xs ≡ slice_get xs n)
 at_by p xs n true e f =
@@ -289,6 +303,15 @@ bit_fits ports name at n k start port kept e is here before =
     let few = bits_few ports n port kept (number_below (port_named name) ports n e) is in
     let within = place_within port.range at k here in
     omega (arith, few, within, before)
+
+-- a bit is among the bits of all ports
+pub bit_within : (ports : List Port) (name : List ℕ) (at : Option ℕ) (n k start : ℕ) (port : Port) → position_from (port_named name) 0 ports ≡ Some n → get_or ports n port ≡ port
+    → place_in port.range at ≡ Some k → start ≡ bits_of (take n ports) → start + k < bits_of ports
+bit_within ports name at n k start port e is here before =
+    let more = bits_more ports n port (number_below (port_named name) ports n e) is in
+    let all = sum_by-take-le (λ port. width port.range) ports (n + 1) in
+    let within = place_within port.range at k here in
+    omega (arith, more, all, within, before)
 
 star_by : (n : ℕ) (bits : List Bit) → position_from (is_named Star) n bits ≡ None
 star_by n [] = refl

@@ -1,11 +1,11 @@
 //! The rule about the pin map.
-ghost use Rattle.std.specs.Prelude.{◌≡◌, ◌<◌, ◌^◌, ◌++◌, ◌||◌, not, List, ℕ, false, length, IfOk};
+ghost use Rattle.std.specs.Prelude.{◌≡◌, ◌<◌, ◌^◌, ◌++◌, ◌||◌, not, List, ℕ, None, false, length, IfOk};
 ghost use Rattle.std.specs.Option.{option_copied};
 ghost use Rattle.std.specs.Str.{bytes_eq};
 ghost use Rattle.std.specs.HashSet.{contains};
 ghost use Rattle.device_rules.specs.inner.Index.{IsIndex};
 ghost use Rattle.device_rules.specs.inner.Seen.{Knows};
-ghost use Rattle.device_rules.specs.Ports.{port_of};
+ghost use Rattle.device_rules.specs.Ports.{v2, port_of};
 ghost use Rattle.device_rules.specs.PinMap.{has_width, some_repeats, v4};
 
 use crate::port_index::{PortIndex, port_at};
@@ -27,10 +27,14 @@ fn has_width(port: Option<&Port>, count: usize) -> bool
 
 /// Whether an entry names a port, and has as many pins as the port has bits.
 fn fits_port(ports: &[Port], index: &PortIndex, entry: &MapEntry) -> bool
-    requires { IsIndex ports.now index.now }
+    requires index { IsIndex ports.now index.now }
+    requires ports { v2 ports.now ≡ None }
     ensures { result ≡ has_width (port_of ports.now entry.now.port) (length entry.now.pins) }
 {
-    has_width(port_at(ports, index, entry.port.bytes()), entry.pins.len())
+    has_width(
+        port_at(ports, index, &mut 0, entry.port.bytes()),
+        entry.pins.len(),
+    )
 }
 
 fn is_broken(known: bool, fits: bool, repeats: bool) -> bool
@@ -64,6 +68,7 @@ pub(crate) fn wrong_map_entry(
     entries: &[MapEntry],
 ) -> Result<Option<u32>, AllocError>
     requires index { IsIndex ports.now index.now }
+    requires ports { v2 ports.now ≡ None }
     requires short { length entries.now < 2 ^ 32 }
     ensures { IfOk result (λ item. item ≡ v4 ports.now entries.now) }
 {

@@ -1,19 +1,18 @@
 //! The rules about the ports on which boundary entries are.
-ghost use Rattle.std.specs.Prelude.{◌≡◌, ◌<◌, ◌^◌, ◌&&◌, not, None, length, IfOk};
+ghost use Rattle.std.specs.Prelude.{◌≡◌, ◌<◌, ◌^◌, ◌&&◌, not, None, length, IfOk, IfSome};
 ghost use Rattle.std.specs.Option.{option_copied};
 ghost use Rattle.board_defs.specs.DeviceRules.{is_driving, is_inner, may_drive};
-ghost use Rattle.device_rules.specs.Ports.{v2, bit_number, named_port};
+ghost use Rattle.device_rules.specs.Ports.{v2, bits_of, bit_number, named_port};
 ghost use Rattle.device_rules.specs.inner.Index.{IsIndex};
 ghost use Rattle.device_rules.specs.Places.{is_star, breaks_place, v9, driven_bit, breaks_driver, v13, breaks_mode, v14};
 
 use crate::draft::TapPorts;
-use crate::port_index::{PortIndex, bit_at, port_at};
+use crate::port_index::{PortIndex, bit_at, port_at, total_bits};
 use crate::taps::is_tap;
 use board_defs::{Mode, Role};
 use bsdl_parser::Port;
 use bsdl_strings::{Entry, PortWord};
 use std::alloc::{AllocError, Global};
-use std::collections::HashSet;
 
 fn is_driver(role: Role) -> bool
     ensures { result ≡ is_driving role }
@@ -39,7 +38,7 @@ fn is_star(word: &PortWord) -> bool
     matches!(word, PortWord::Star)
 }
 
-fn breaks_place(ports: &[Port], index: &PortIndex, entry: &Entry) -> bool
+fn breaks_place(ports: &[Port], index: &PortIndex, near: &mut u32, entry: &Entry) -> bool
     requires index { IsIndex ports.now index.now }
     requires ports { v2 ports.now ≡ None }
     ensures { result ≡ breaks_place ports.now entry.now }
@@ -47,7 +46,7 @@ fn breaks_place(ports: &[Port], index: &PortIndex, entry: &Entry) -> bool
     if is_inner(entry.role) {
         !is_star(&entry.port)
     } else {
-        bit_at(ports, index, &entry.port).is_none()
+        bit_at(ports, index, near, &entry.port).is_none()
     }
 }
 
@@ -60,8 +59,9 @@ pub(crate) fn wrong_place(ports: &[Port], index: &PortIndex, entries: &[Entry]) 
     requires short { length entries.now < 2 ^ 32 }
     ensures { result ≡ v9 ports.now entries.now }
 {
+    let mut near = 0;
     for (i, entry) in entries.iter().enumerate() {
-        if breaks_place(ports, index, entry) {
+        if breaks_place(ports, index, &mut near, entry) {
             return Some(i as u32 + 1);
         }
     }
@@ -69,13 +69,14 @@ pub(crate) fn wrong_place(ports: &[Port], index: &PortIndex, entries: &[Entry]) 
 }
 
 /// The port bit that an entry drives.
-fn driven_bit(ports: &[Port], index: &PortIndex, entry: &Entry) -> Option<u32>
+fn driven_bit(ports: &[Port], index: &PortIndex, near: &mut u32, entry: &Entry) -> Option<u32>
     requires index { IsIndex ports.now index.now }
     requires ports { v2 ports.now ≡ None }
-    ensures { result ≡ driven_bit ports.now entry.now }
+    ensures number { result ≡ driven_bit ports.now entry.now }
+    ensures few { IfSome result (λ bit. bit < bits_of ports.now) }
 {
     if is_driver(entry.role) {
-        bit_at(ports, index, &entry.port)
+        bit_at(ports, index, near, &entry.port)
     } else {
         None
     }
@@ -94,27 +95,34 @@ pub(crate) fn second_driver(
     requires short { length entries.now < 2 ^ 32 }
     ensures { IfOk result (λ item. item ≡ v13 ports.now entries.now) }
 {
-    let mut driven: HashSet<u32> = HashSet::new(alloc);
+    let mut driven = vec![in alloc; false; total_bits(ports, index) as usize]?;
+    let mut near = 0;
     for (i, entry) in entries.iter().enumerate() {
-        if let Some(bit) = driven_bit(ports, index, entry) {
-            if driven.contains(&bit) {
+        if let Some(bit) = driven_bit(ports, index, &mut near, entry) {
+            if driven[bit as usize] {
                 return Ok(Some(i as u32 + 1));
             }
-            driven.insert(bit)?;
+            driven[bit as usize] = true;
         }
     }
     Ok(None)
 }
 
 /// The port that a word names.
-fn named_port<'a>(ports: &'a [Port], index: &PortIndex, word: &PortWord) -> Option<&'a Port>
-    requires { IsIndex ports.now index.now }
+fn named_port<'a>(
+    ports: &'a [Port],
+    index: &PortIndex,
+    near: &mut u32,
+    word: &PortWord,
+) -> Option<&'a Port>
+    requires index { IsIndex ports.now index.now }
+    requires ports { v2 ports.now ≡ None }
     ensures { option_copied result ≡ named_port ports.now word.now }
 {
     match word {
         PortWord::Star => None,
-        PortWord::Plain(name) => port_at(ports, index, name.bytes()),
-        PortWord::Index(name, _) => port_at(ports, index, name.bytes()),
+        PortWord::Plain(name) => port_at(ports, index, near, name.bytes()),
+        PortWord::Index(name, _) => port_at(ports, index, near, name.bytes()),
     }
 }
 
@@ -124,11 +132,18 @@ fn drives_wrongly(role: Role, mode: Mode) -> bool
     is_driver(role) && !can_drive(mode)
 }
 
-fn is_misfit(ports: &[Port], index: &PortIndex, taps: &TapPorts, entry: &Entry) -> bool
-    requires { IsIndex ports.now index.now }
+fn is_misfit(
+    ports: &[Port],
+    index: &PortIndex,
+    near: &mut u32,
+    taps: &TapPorts,
+    entry: &Entry,
+) -> bool
+    requires index { IsIndex ports.now index.now }
+    requires ports { v2 ports.now ≡ None }
     ensures { result ≡ breaks_mode ports.now taps.now entry.now }
 {
-    match named_port(ports, index, &entry.port) {
+    match named_port(ports, index, near, &entry.port) {
         None => false,
         Some(port) => is_tap(taps, port.name.bytes()) || drives_wrongly(entry.role, port.mode),
     }
@@ -143,11 +158,13 @@ pub(crate) fn misfit(
     entries: &[Entry],
 ) -> Option<u32>
     requires index { IsIndex ports.now index.now }
+    requires ports { v2 ports.now ≡ None }
     requires short { length entries.now < 2 ^ 32 }
     ensures { result ≡ v14 ports.now taps.now entries.now }
 {
+    let mut near = 0;
     for (i, entry) in entries.iter().enumerate() {
-        if is_misfit(ports, index, taps, entry) {
+        if is_misfit(ports, index, &mut near, taps, entry) {
             return Some(i as u32 + 1);
         }
     }

@@ -1,5 +1,5 @@
 //! Where ports and their bits stand, by one map over the names.
-ghost use Rattle.std.specs.Prelude.{◌≡◌, ◌<◌, ◌^◌, ℕ, List, None, length, map, take, vec_len, IfOk};
+ghost use Rattle.std.specs.Prelude.{◌≡◌, ◌<◌, ◌^◌, ℕ, List, Some, None, true, length, map, take, vec_len, IfOk, IfSome};
 ghost use Rattle.std.specs.Borrow.{Bor};
 ghost use Rattle.std.specs.Option.{option_copied};
 ghost use Rattle.std.specs.Str.{bytes_eq};
@@ -16,7 +16,7 @@ use first_places::first_places;
 use indexmap::IndexMap;
 use std::alloc::{AllocError, Global};
 
-/// Where each port stands, and how many bits stand before it.
+/// Where each port stands, how many bits stand before it and, at the end, how many there are.
 #[derive(Drop)]
 pub struct PortIndex<'a> {
     places: IndexMap<&'a [u8], u32>,
@@ -52,7 +52,7 @@ fn places_of<'a>(alloc: Global, ports: &'a [Port]) -> Result<IndexMap<&'a [u8], 
     first_places_of(alloc, &names)
 }
 
-/// How many bits stand before each port.
+/// How many bits stand before each port, and how many there are.
 fn starts_of(alloc: Global, ports: &[Port]) -> Result<Vec<u32>, AllocError>
     requires { v2 ports.now ≡ None }
     ensures { IfOk result (λ starts. AreStarts ports.now starts.items) }
@@ -63,6 +63,7 @@ fn starts_of(alloc: Global, ports: &[Port]) -> Result<Vec<u32>, AllocError>
         starts.push(bits as u32)?;
         bits += bit_count(port.range);
     }
+    starts.push(bits as u32)?;
     Ok(starts)
 }
 
@@ -83,20 +84,45 @@ pub(crate) fn place_of(places: &IndexMap<&[u8], u32>, name: &[u8]) -> Option<u32
     places.get(&name).copied()
 }
 
-/// The number of the port with this name.
-pub fn number_of(ports: &[Port], index: &PortIndex, name: &[u8]) -> Option<u32>
-    requires { IsIndex ports.now index.now }
-    ensures { result ≡ port_number ports.now name.now }
+/// Whether the port at this place has this name.
+fn has_name(ports: &[Port], place: u32, name: &[u8]) -> bool
+    requires { v2 ports.now ≡ None }
+    ensures { result ≡ true → port_number ports.now name.now ≡ Some place }
 {
-    place_of(&index.places, name)
+    match ports.get(place as usize) {
+        Some(port) => port.name.bytes() == name,
+        None => false,
+    }
 }
 
-/// The port with this name.
-pub fn port_at<'a>(ports: &'a [Port], index: &PortIndex, name: &[u8]) -> Option<&'a Port>
-    requires { IsIndex ports.now index.now }
+/// The number of the port with this name. Names that follow one another are often of one port, so
+/// the port that was found last, `near`, is tried before the map is asked. Any number may stand in
+/// `near`: the answer is the same.
+pub fn number_of(ports: &[Port], index: &PortIndex, near: &mut u32, name: &[u8]) -> Option<u32>
+    requires index { IsIndex ports.now index.now }
+    requires ports { v2 ports.now ≡ None }
+    ensures { result ≡ port_number ports.now name.now }
+{
+    if has_name(ports, *near, name) {
+        return Some(*near);
+    }
+    let number = place_of(&index.places, name)?;
+    *near = number;
+    Some(number)
+}
+
+/// The port with this name, with `near` as for `number_of`.
+pub fn port_at<'a>(
+    ports: &'a [Port],
+    index: &PortIndex,
+    near: &mut u32,
+    name: &[u8],
+) -> Option<&'a Port>
+    requires index { IsIndex ports.now index.now }
+    requires ports { v2 ports.now ≡ None }
     ensures { option_copied result ≡ port_of ports.now name.now }
 {
-    match number_of(ports, index, name) {
+    match number_of(ports, index, near, name) {
         Some(number) => Some(&ports[number as usize]),
         None => None,
     }
@@ -134,12 +160,27 @@ fn start_of(ports: &[Port], index: &PortIndex, number: u32) -> u32
     index.starts[number as usize]
 }
 
-fn bit_in(ports: &[Port], index: &PortIndex, name: &[u8], number: Option<u32>) -> Option<u32>
+/// How many bits all ports have.
+pub fn total_bits(ports: &[Port], index: &PortIndex) -> u32
+    requires { IsIndex ports.now index.now }
+    ensures { result ≡ bits_of ports.now }
+{
+    index.starts[ports.len()]
+}
+
+fn bit_in(
+    ports: &[Port],
+    index: &PortIndex,
+    near: &mut u32,
+    name: &[u8],
+    number: Option<u32>,
+) -> Option<u32>
     requires index { IsIndex ports.now index.now }
     requires ports { v2 ports.now ≡ None }
-    ensures { result ≡ position_from (is_bit name.now number) 0 (port_bits ports.now) }
+    ensures number { result ≡ position_from (is_bit name.now number) 0 (port_bits ports.now) }
+    ensures few { IfSome result (λ bit. bit < bits_of ports.now) }
 {
-    match number_of(ports, index, name) {
+    match number_of(ports, index, near, name) {
         None => None,
         Some(port) => match place_in(ports[port as usize].range, number) {
             None => None,
@@ -148,15 +189,16 @@ fn bit_in(ports: &[Port], index: &PortIndex, name: &[u8], number: Option<u32>) -
     }
 }
 
-/// The number of the port bit that a word names.
-pub fn bit_at(ports: &[Port], index: &PortIndex, word: &PortWord) -> Option<u32>
+/// The number of the port bit that a word names, with `near` as for `number_of`.
+pub fn bit_at(ports: &[Port], index: &PortIndex, near: &mut u32, word: &PortWord) -> Option<u32>
     requires index { IsIndex ports.now index.now }
     requires ports { v2 ports.now ≡ None }
-    ensures { result ≡ bit_number ports.now word.now }
+    ensures number { result ≡ bit_number ports.now word.now }
+    ensures few { IfSome result (λ bit. bit < bits_of ports.now) }
 {
     match word {
         PortWord::Star => None,
-        PortWord::Plain(name) => bit_in(ports, index, name.bytes(), None),
-        PortWord::Index(name, number) => bit_in(ports, index, name.bytes(), Some(*number)),
+        PortWord::Plain(name) => bit_in(ports, index, near, name.bytes(), None),
+        PortWord::Index(name, number) => bit_in(ports, index, near, name.bytes(), Some(*number)),
     }
 }

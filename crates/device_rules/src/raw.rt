@@ -180,7 +180,7 @@ fn all_bits(alloc: Global, draft: &Draft, ports: &[Port]) -> Result<Vec<PortBit>
     Ok(bits)
 }
 
-fn cell_of(ports: &[Port], index: &PortIndex, entry: &Entry) -> Cell
+fn cell_of(ports: &[Port], index: &PortIndex, near: &mut u32, entry: &Entry) -> Cell
     requires index { IsIndex ports.now index.now }
     requires ports { v2 ports.now ≡ None }
     ensures { result ≡ cell_of ports.now entry.now }
@@ -188,7 +188,7 @@ fn cell_of(ports: &[Port], index: &PortIndex, entry: &Entry) -> Cell
     Cell {
         num: entry.num,
         role: entry.role,
-        bit: bit_at(ports, index, &entry.port),
+        bit: bit_at(ports, index, near, &entry.port),
         safe: entry.safe,
         ctl: entry.ctl,
     }
@@ -201,9 +201,10 @@ fn all_cells(alloc: Global, ports: &[Port], entries: &[Entry]) -> Result<Vec<Cel
     ensures { IfOk result (λ cells. cells.items ≡ raw_cells ports.now entries.now) }
 {
     let index = index_of(alloc, ports)?;
+    let mut near = 0;
     let mut cells = Vec::new(alloc);
     for entry in entries {
-        cells.push(cell_of(ports, &index, entry))?;
+        cells.push(cell_of(ports, &index, &mut near, entry))?;
     }
     Ok(cells)
 }

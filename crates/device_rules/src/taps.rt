@@ -45,21 +45,24 @@ fn is_in(names: &[&[u8]], name: &[u8]) -> bool
 }
 
 fn breaks_inward(ports: &[Port], index: &PortIndex, before: &[&[u8]], name: &[u8]) -> bool
-    requires { IsIndex ports.now index.now }
+    requires index { IsIndex ports.now index.now }
+    requires ports { v2 ports.now ≡ None }
     ensures { result ≡ breaks_tap is_inward ports.now (map (λ n. n.now) before.now) name.now }
 {
-    is_in(before, name) || !is_plain_in(port_at(ports, index, name))
+    is_in(before, name) || !is_plain_in(port_at(ports, index, &mut 0, name))
 }
 
 fn breaks_outward(ports: &[Port], index: &PortIndex, before: &[&[u8]], name: &[u8]) -> bool
-    requires { IsIndex ports.now index.now }
+    requires index { IsIndex ports.now index.now }
+    requires ports { v2 ports.now ≡ None }
     ensures { result ≡ breaks_tap is_outward ports.now (map (λ n. n.now) before.now) name.now }
 {
-    is_in(before, name) || !is_plain_out(port_at(ports, index, name))
+    is_in(before, name) || !is_plain_out(port_at(ports, index, &mut 0, name))
 }
 
 fn breaks_reset(ports: &[Port], index: &PortIndex, before: &[&[u8]], reset: &Option<Name>) -> bool
-    requires { IsIndex ports.now index.now }
+    requires index { IsIndex ports.now index.now }
+    requires ports { v2 ports.now ≡ None }
     ensures { result ≡ reset_breaks ports.now (map (λ n. n.now) before.now) reset.now }
 {
     match reset {
@@ -71,7 +74,8 @@ fn breaks_reset(ports: &[Port], index: &PortIndex, before: &[&[u8]], reset: &Opt
 /// The number of the first TAP attribute that names no port of its own, of type bit and of its
 /// mode.
 fn wrong_tap(ports: &[Port], index: &PortIndex, taps: &TapPorts) -> Option<u32>
-    requires { IsIndex ports.now index.now }
+    requires index { IsIndex ports.now index.now }
+    requires ports { v2 ports.now ≡ None }
     ensures { result ≡ wrong_tap ports.now taps.now }
 {
     let names = [
@@ -120,8 +124,9 @@ fn are_bits(ports: &[Port], index: &PortIndex, words: &[PortWord]) -> bool
     requires ports { v2 ports.now ≡ None }
     ensures { result ≡ list_all (λ word. is_some (bit_number ports.now word)) words.now }
 {
+    let mut near = 0;
     for word in words {
-        if bit_at(ports, index, word).is_none() {
+        if bit_at(ports, index, &mut near, word).is_none() {
             return false;
         }
     }

@@ -1,5 +1,5 @@
 -- Where ports and their bits stand.
-use Rattle.std.specs.Prelude.{◌≡◌, ℕ, ◌+◌, ◌-◌, ◌<◌, List, [], length, take, nat_eq, Bool, false, ◌&&◌, if◌then◌else◌, Option, Some, None, nat_le, slice_index}
+use Rattle.std.specs.Prelude.{◌≡◌, ℕ, ◌+◌, ◌-◌, ◌≤◌, List, [], length, take, nat_eq, Bool, false, ◌&&◌, if◌then◌else◌, Option, Some, None, nat_le, slice_index}
 use Rattle.std.specs.Borrow.{Bor}
 use Rattle.std.specs.Str.{bytes_eq}
 use Rattle.std.specs.List.{list_any}
@@ -13,10 +13,10 @@ use Rattle.bsdl_strings.specs.declared.values.PortWord.{PortWord}
 use Rattle.bsdl_strings.specs.declared.values.PortWord.TheVariants.{Star, Plain, Index}
 use Rattle.device_rules.specs.Ports.{Bit, bits_of, port_number}
 
--- how many bits stand before each port
+-- how many bits stand before each port, and how many there are
 pub record AreStarts (ports : List Port) (starts : List ℕ) : Type 0 where
-  pub size : length starts ≡ length ports
-  pub each : (n : ℕ) → n < length ports → slice_index starts n ≡ bits_of (take n ports)
+  pub size : length starts ≡ length ports + 1
+  pub each : (n : ℕ) → n ≤ length ports → slice_index starts n ≡ bits_of (take n ports)
 
 -- the index of these ports
 pub record IsIndex (ports : List Port) (index : PortIndex) : Type 0 where

@@ -3,5 +3,5 @@ use Rattle.device_rules.specs.Ports.{bit_number}
 use Rattle.device_rules.proofs.BitLemmas.{star_bit}
 use Rattle.device_rules.proofs.port_index.bit_at.Goals as goal
 
-pub returns-in-Star : goal.returns-in-Star
-returns-in-Star c = sym (ap (bit_number c.args.ports.now) c.in-Star.is ∙ star_bit c.args.ports.now)
+pub returns-in-Star-clause-number : goal.returns-in-Star-clause-number
+returns-in-Star-clause-number c = sym (ap (bit_number c.args.ports.now) c.in-Star.is ∙ star_bit c.args.ports.now)
