@@ -3,6 +3,7 @@
 #![tactic(auto)]
 
 mod alike;
+mod column;
 mod draft;
 mod drivers;
 mod making;

@@ -39,6 +39,14 @@ fn word_at(words: &[u64], number: usize) -> u64
     }
 }
 
+/// Whether the bit at this place of the word is set.
+pub fn has_bit(word: u64, place: usize) -> bool
+    requires { place < 64 }
+    ensures { result ≡ has_bit word place }
+{
+    word >> place & 1 == 1
+}
+
 /// Sets each bit.
 fn set_all(words: &mut [u64])
     ensures { (n : ℕ) → n / 64 < length words.old → is_in words.new n ≡ true }
@@ -112,12 +120,13 @@ impl NumberSet {
     pub fn has(&self, number: usize) -> bool
         ensures { result ≡ is_in self.now number }
     {
-        word_at(&self.words, number / 64) >> (number % 64) & 1 == 1
+        has_bit(word_at(&self.words, number / 64), number % 64)
     }
 
     /// The bits of the 64 numbers from 64 * number on.
     pub fn word(&self, number: usize) -> u64
-        ensures { AreBitsOf (is_in self.now) number result }
+        ensures word { result ≡ slice_index_or self.now number 0 }
+        ensures bits { AreBitsOf (is_in self.now) number result }
     {
         word_at(&self.words, number)
     }

@@ -14,6 +14,7 @@ ghost use Rattle.driver_passes.specs.inner.Shown.{drivers_at};
 ghost use Rattle.driver_passes.specs.Useful.{HoldUseful};
 
 use crate::alike::likes_of;
+use crate::column::Column;
 use crate::draft::Draft;
 use crate::drivers::{Progress, drivers_of};
 use crate::number_set::{NumberSet, next_in};
@@ -32,6 +33,8 @@ use std::alloc::{AllocError, Global};
 pub struct Pairing {
     pub passes: Vec<Setting>,
     pub rows: Vec<NumberSet>,
+    /// Of the rows, the words with the net that is looked at.
+    pub column: Column,
     pub tested_nets: TestedNets,
     /// For each net, the places of the useful controls that share it with another control.
     pub sharers: Vec<Places>,
@@ -168,9 +171,11 @@ impl Pairing {
         let left = NumberSet::new(alloc, nets)?;
         let mut always = NumberSet::new(alloc, nets)?;
         keep_shown(&mut always, &progress.rows);
+        let column = Column::new(alloc, &progress.rows)?;
         Ok(Pairing {
             passes: progress.passes,
             rows: progress.rows,
+            column,
             tested_nets: progress.tested_nets,
             sharers: progress.sharers,
             likes,
@@ -203,8 +208,9 @@ impl Pairing {
         let _rules = board.raw();
         let pass = draft.setting(alloc, board, useful)?;
         let row = self.tested_nets.shown_by(alloc, board, draft)?;
-        take_shown(&mut self.left, &row, a);
+        take_shown(&mut self.left, &row, row.word(a / 64), a);
         self.always.keep_only(&row);
+        self.column.add(&row)?;
         self.passes.push(pass)?;
         self.rows.push(row)?;
         Ok(())
@@ -322,7 +328,8 @@ impl Pairing {
         if self.is_done(board, classes, a) {
             return Ok(());
         }
-        leave_unshown(&mut self.left, &self.rows, a);
+        self.column.look_at(alloc, &self.rows, a / 64)?;
+        leave_unshown(&mut self.left, &self.rows, &self.column.words, a);
         let mut b = a + 1;
         while b < board.raw().nets.as_slice().len() {
             b = self.add_for_next(alloc, board, classes, useful, a, b)?;

@@ -10,13 +10,14 @@ use Rattle.driver_passes.specs.inner.NumberSets.{is_in}
 use Rattle.driver_passes.specs.inner.Progress.{EnableTested, IsUsefulDriver}
 use Rattle.driver_passes.specs.Useful.{HoldUseful}
 use Rattle.driver_passes.specs.inner.Alike.{AreAlike}
-use Rattle.driver_passes.specs.inner.Shown.{AreRows, AreShownByAll, drivers_at}
+use Rattle.driver_passes.specs.inner.Shown.{AreRows, AreShownByAll, IsColumn, drivers_at}
 use Rattle.driver_passes.specs.inner.Sharers.{AreSharers}
 use Rattle.driver_passes.specs.inner.Tested.{AreTestedNets}
 
--- the rows are those of the passes so far, which enable each tested driver and hold useful controls only, and the last set has the nets that they all show; the nets that are alike, the tested nets and the sharers are the board's; the first set has room for each net
+-- the rows are those of the passes so far, which enable each tested driver and hold useful controls only, the column is that of the rows, and the last set has the nets that they all show; the nets that are alike, the tested nets and the sharers are the board's; the first set has room for each net
 pub record ArePairing (board : RawBoard) (pairing : Pairing) : Type 0 where
   pub rows : AreRows board pairing.passes.items pairing.rows.items
+  pub column : IsColumn pairing.rows.items pairing.column
   pub alike : AreAlike board pairing.likes.items
   pub tested : EnableTested board pairing.passes.items
   pub useful : HoldUseful board pairing.passes.items

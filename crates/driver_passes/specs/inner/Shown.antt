@@ -1,10 +1,11 @@
 -- Which nets each pass shows.
-use Rattle.std.specs.Prelude.{◌≡◌, ◌<◌, ◌+◌, ◌/◌, ◌&&◌, ℕ, Bool, List, [], length, slice_index_or}
+use Rattle.std.specs.Prelude.{◌≡◌, ◌<◌, ◌+◌, ◌/◌, ◌&&◌, ℕ, Bool, List, [], length, map, slice_index_or}
 use Rattle.std.specs.List.{list_all}
 use Rattle.board_defs.specs.declared.board.Ctl.{Ctl}
 use Rattle.board_defs.specs.declared.board.RawBoard.{RawBoard}
 use Rattle.board_defs.specs.declared.board.Drive.{Drive}
 use Rattle.board_defs.specs.Passes.{drivers_by_net, shows}
+use Rattle.driver_passes.specs.declared.column.Column.{Column}
 use Rattle.driver_passes.specs.inner.NumberSets.{is_in}
 
 -- the tested drivers of the net of this number
@@ -25,6 +26,14 @@ pub record AreRows (board : RawBoard) (passes : List (List Ctl)) (rows : List (L
 pub record AreShownByAll (board : RawBoard) (passes : List (List Ctl)) (always : List ℕ) : Type 0 where
   pub always_length : length always ≡ length board.nets / 64 + 1
   pub always_are : (n : ℕ) → n < length board.nets → is_in always n ≡ list_all (shows (drivers_at board n)) passes
+
+-- the word with this number of each row
+abbrev pub words_at : ℕ → List (List ℕ) → List ℕ
+words_at number rows = map (λ row. slice_index_or row number 0) rows
+
+-- the column has the words with its number
+abbrev pub IsColumn : List (List ℕ) → Column → Type 0
+IsColumn rows column = column.words.items ≡ words_at column.number rows
 
 -- the row has both nets
 abbrev pub shows_both : ℕ → ℕ → List ℕ → Bool

@@ -1,6 +1,6 @@
 use Rattle.std.proofs.Common.{◌≡◌, ◌≤◌, ◌∙◌, not, refl, ap, length, arith}
 use Rattle.std.specs.List.{list_any}
-use Rattle.driver_passes.specs.inner.Shown.{shows_both}
+use Rattle.driver_passes.specs.inner.Shown.{shows_both, words_at}
 use Rattle.driver_passes.proofs.RowLemmas.{left_whole}
 use Rattle.driver_passes.proofs.DoneLemmas.{done_next, none_later}
 use Rattle.driver_passes.proofs.pairs.Pairing.add_for_later.Goals as goal
@@ -20,6 +20,7 @@ loop-b-init c =
     record {
       pairing = record {
         rows = c.requires.pairing.rows;
+        column = c.in_ok-look_at.ensures.column ∙ ap (words_at c.look_at.new.self.number) c.deref.ensures.value;
         alike = c.requires.pairing.alike;
         tested = c.requires.pairing.tested;
         useful = c.requires.pairing.useful;
@@ -29,7 +30,7 @@ loop-b-init c =
         always = c.requires.pairing.always;
       };
       left = left_whole board before.passes.items before.rows.items c.leave_unshown.new.left c.args.a (length before.left) c.requires.pairing.rows c.requires.first size (λ n from within.
-          c.leave_unshown.ensures.nets n from within ∙ ap (λ v. not (list_any (shows_both c.args.a n) v)) c.deref.ensures.value);
+          c.leave_unshown.ensures.nets n from within ∙ ap (λ v. not (list_any (shows_both c.args.a n) v)) c.deref-2.ensures.value);
       later = omega arith;
       within = omega (arith, c.requires.first);
       kept = λ m n done. done;

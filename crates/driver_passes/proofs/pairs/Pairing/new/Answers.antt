@@ -1,6 +1,7 @@
 use Rattle.std.proofs.Common.{ℕ, ◌∙◌, ◌+◌, ◌/◌, ap, length}
 use Rattle.std.specs.List.{list_all}
 use Rattle.driver_passes.specs.inner.NumberSets.{is_in}
+use Rattle.driver_passes.specs.inner.Shown.{words_at}
 use Rattle.driver_passes.proofs.RowLemmas.{always_whole}
 use Rattle.driver_passes.proofs.pairs.Pairing.new.Goals as goal
 
@@ -12,6 +13,7 @@ returns-clause-pairing c =
     let room = c.in_ok-always.ensures.room ∙ same in
     record {
       rows = c.requires.progress.rows;
+      column = c.in_ok-column.ensures ∙ ap (words_at c.in_ok-column.column.number) c.deref-2.ensures.value;
       alike = c.in_ok-likes.ensures;
       tested = c.requires.tested;
       useful = c.requires.progress.useful;

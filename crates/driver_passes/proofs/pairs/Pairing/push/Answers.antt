@@ -1,5 +1,6 @@
-use Rattle.std.proofs.Common.{◌∙◌, ◌++◌, ◌∷◌, [], List, ap}
+use Rattle.std.proofs.Common.{◌∙◌, ◌++◌, ◌∷◌, [], List, ap, sym}
 use Rattle.board_defs.specs.declared.board.Ctl.{Ctl}
+use Rattle.driver_passes.specs.inner.Shown.{words_at}
 use Rattle.driver_passes.proofs.RowLemmas.{always_more, left_more, rows_more, shown_as}
 use Rattle.driver_passes.proofs.UsefulLemmas.{useful_more}
 use Rattle.driver_passes.proofs.EnabledLemmas.{enabled_more}
@@ -15,6 +16,7 @@ returns-clause-pairing c =
     let shown = shown_as board c.args.draft.now pass c.in_ok-row.row c.in_ok-pass.ensures c.in_ok-row.ensures in
     record {
       rows = rows_more board before.passes.items passes before.rows.items c.push-2.new.self.items pass c.in_ok-row.row c.requires.pairing.rows shown pushed c.in_ok-push-2.ensures.items;
+      column = c.in_ok-add.ensures before.rows.items c.requires.pairing.column ∙ ap (words_at c.add.new.self.number) (sym c.in_ok-push-2.ensures.items);
       alike = c.requires.pairing.alike;
       tested = enabled_more board before.passes.items passes pass c.requires.pairing.tested pushed;
       useful = useful_more board before.passes.items passes c.args.draft.now (c.passes_kept.ensures board c.raw-rules.ensures.rules) c.requires.pairing.useful (pushed ∙ ap (λ (v : List Ctl). before.passes.items ++ v ∷ []) c.in_ok-pass.ensures);

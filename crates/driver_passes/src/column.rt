@@ -1,0 +1,61 @@
+// One word of each row: which of 64 nets each pass shows.
+ghost use Rattle.std.specs.Prelude.{◌≡◌, ◌∷◌, ◌++◌, List, ℕ, [], IfOk, OnOk};
+ghost use Rattle.driver_passes.specs.inner.Shown.{IsColumn, words_at};
+
+use crate::number_set::NumberSet;
+use std::alloc::{AllocError, Global};
+
+/// Of the row of each pass, the word with this number. The words lie side by side, so it is quick to
+/// ask each of them for a net; the rows themselves lie far apart in memory.
+#[derive(Debug, Drop)]
+pub struct Column {
+    pub number: usize,
+    pub words: Vec<u64>,
+}
+
+/// The word with this number of each row.
+fn words_of(alloc: Global, rows: &[NumberSet], number: usize) -> Result<Vec<u64>, AllocError>
+    ensures { IfOk result (λ words. words.items ≡ words_at number rows.now) }
+{
+    let mut words = Vec::new(alloc);
+    for row in rows {
+        words.push(row.word(number))?;
+    }
+    Ok(words)
+}
+
+impl Column {
+    /// The first word of each row.
+    pub fn new(alloc: Global, rows: &[NumberSet]) -> Result<Column, AllocError>
+        ensures { IfOk result (IsColumn rows.now) }
+    {
+        let words = words_of(alloc, rows, 0)?;
+        Ok(Column { number: 0, words })
+    }
+
+    /// Takes the words with this number, where the column has others.
+    pub fn look_at(
+        &mut self,
+        alloc: Global,
+        rows: &[NumberSet],
+        number: usize,
+    ) -> Result<(), AllocError>
+        requires { IsColumn rows.now self.old }
+        ensures column { OnOk result (IsColumn rows.now self.new) }
+        ensures number { OnOk result (self.new.number ≡ number) }
+    {
+        if self.number != number {
+            self.words = words_of(alloc, rows, number)?;
+            self.number = number;
+        }
+        Ok(())
+    }
+
+    /// Adds the word of one row more.
+    pub fn add(&mut self, row: &NumberSet) -> Result<(), AllocError>
+        ensures { OnOk result ((rows : List (List ℕ)) → IsColumn rows self.old → IsColumn (rows ++ row.now ∷ []) self.new) }
+    {
+        self.words.push(row.word(self.number))?;
+        Ok(())
+    }
+}
