@@ -2,7 +2,7 @@
 use Rattle.std.proofs.Common.{◌≡◌, ◌⊎◌, inl, inr, ℕ, ◌+◌, ◌/◌, ◌<◌, Bool, true, false, not, ◌&&◌, ◌||◌, List, [], length, get_or, Some, refl, sym, ◌∙◌, ap, arith}
 use Rattle.std.specs.Prelude.{◌==◌, slice_get}
 use Rattle.std.specs.List.{list_any}
-use Rattle.std.proofs.lemmas.Bool.{cases_eq, eq-eqb, ne_eqb, lt-ltb}
+use Rattle.std.proofs.lemmas.Bool.{cases_eq, eq-eqb, ne_eqb}
 use Rattle.std.proofs.lemmas.Option.{slice_get_within}
 use Rattle.board_defs.specs.declared.board.Ctl.{Ctl}
 use Rattle.board_defs.specs.declared.board.RawBoard.{RawBoard}
@@ -13,6 +13,8 @@ use Rattle.board_defs.specs.Laws.{PassesAre, DecidesTerms}
 use Rattle.net_facts.specs.Kept.{shared_nets}
 use Rattle.net_classes.specs.Laws.{NetsAreShared}
 use Rattle.driver_passes.specs.declared.draft.Draft.{Draft}
+use Rattle.driver_passes.specs.declared.blocks.Block.{Block}
+use Rattle.driver_passes.specs.inner.Blocks.{has_place}
 use Rattle.driver_passes.specs.inner.Drafts.{has_number, setting_of, IsDraft}
 use Rattle.driver_passes.specs.inner.NumberSets.{is_in}
 use Rattle.driver_passes.specs.inner.Sharers.{is_listed, AreSharers}
@@ -34,7 +36,7 @@ abbrev pub IsAdded : ℕ → List ℕ → List ℕ → Type 0
 IsAdded place before after = (n : ℕ) → is_in after n ≡ ((n == place && true) || is_in before n)
 
 -- the place is taken out of the set, and so are those that are listed for the nets
-abbrev pub AreClosed : ℕ → List (List ℕ) → List ℕ → List ℕ → List ℕ → Type 0
+abbrev pub AreClosed : ℕ → List (List Block) → List ℕ → List ℕ → List ℕ → Type 0
 AreClosed place sharers nets before after = (q : ℕ) → is_in after q ≡ ((is_in before q && not (q == place)) && not (is_listed sharers nets q))
 
 and_true : (t : Bool) → (t && true) ≡ t
@@ -46,16 +48,13 @@ added_setting board before after place c order stands added =
     chosen_set (is_in before.held) (is_in after.held) 0 place place (useful_controls board) c order (omega arith) (λ n. added n ∙ ap (λ t. t || is_in before.held n) (and_true (n == place))) stands
 
 -- another useful control is listed where it is not together with the one that is added
-listed_apart : (board : RawBoard) (sharers : List (List ℕ)) (nets : List ℕ) (c e : Ctl) (q : ℕ) → PassesAre board → DecidesTerms board → NetsAreShared → AreSharers board sharers → nets ≡ shared_nets board c → slice_get (useful_controls board) q ≡ Some e → is_safe_alone board c ≡ true → same_ctl e c ≡ false →
+listed_apart : (board : RawBoard) (sharers : List (List Block)) (nets : List ℕ) (c e : Ctl) (q : ℕ) → PassesAre board → DecidesTerms board → NetsAreShared → AreSharers board sharers → nets ≡ shared_nets board c → slice_get (useful_controls board) q ≡ Some e → is_safe_alone board c ≡ true → same_ctl e c ≡ false →
     are_together board e c ≡ not (is_listed sharers nets q)
 listed_apart board sharers nets c e q are decides shared listed is at useful other =
     together_is board e c shared (useful_safe board e are decides (holds_at (useful_controls board) q e at)) useful other ∙
-    ap not (common_swap (shared_nets board e) (shared_nets board c) ∙ sym (any_same (λ n. has_number (get_or sharers n []) q) (has_number (shared_nets board e)) each nets ∙ ap (list_any (has_number (shared_nets board e))) is))
-  where
-    each : (n : ℕ) → has_number (get_or sharers n []) q ≡ has_number (shared_nets board e) n
-    each n = listed.sharers_are q e at n ∙ ap (λ t. t && has_number (shared_nets board e) n) (lt-ltb q (length (useful_controls board)) (slice_get_within (useful_controls board) q e at))
+    ap not (common_swap (shared_nets board e) (shared_nets board c) ∙ sym (any_same (λ n. has_place (get_or sharers n []) q) (has_number (shared_nets board e)) (listed q e at) nets ∙ ap (list_any (has_number (shared_nets board e))) is))
 
-pub added_draft : (board : RawBoard) (before after : Draft) (place : ℕ) (c : Ctl) (sharers : List (List ℕ)) (nets : List ℕ) → PassesAre board → DecidesTerms board → NetsAreShared → AreSharers board sharers → IsDraft board before → slice_get (useful_controls board) place ≡ Some c → nets ≡ shared_nets board c →
+pub added_draft : (board : RawBoard) (before after : Draft) (place : ℕ) (c : Ctl) (sharers : List (List Block)) (nets : List ℕ) → PassesAre board → DecidesTerms board → NetsAreShared → AreSharers board sharers → IsDraft board before → slice_get (useful_controls board) place ≡ Some c → nets ≡ shared_nets board c →
     length after.held ≡ length before.held → IsAdded place before.held after.held → AreClosed place sharers nets before.free after.free → IsDraft board after
 added_draft board before after place c sharers nets are decides shared listed is stands f room added closed = record {
   held_length = room ∙ is.held_length;

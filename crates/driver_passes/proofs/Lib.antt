@@ -4,6 +4,7 @@ pub mod DraftLemmas
 pub mod FitLemmas
 pub mod ProgressLemmas
 pub mod NumberSetLemmas
+pub mod BlockLemmas
 pub mod RowLemmas
 pub mod TestedLemmas
 pub mod SharerLemmas

@@ -1,14 +1,15 @@
 -- Sets of numbers, bit by bit.
 use Rattle.std.proofs.Common.{◌≡◌, ◌⊎◌, inl, inr, ℕ, zero, suc, ◌+◌, ◌-◌, ◌*◌, ◌/◌, ◌%◌, ◌^◌, ◌<◌, ◌≤◌, Bool, true, false, not, ◌&&◌, ◌||◌, List, length, get_or, set, replicate, refl, sym, ◌∙◌, ap, arith, cond, max, min, w64}
 use Rattle.std.specs.Prelude.{◌==◌}
+use Rattle.std.proofs.Math.Bool.{and-true, or-false}
 use Rattle.std.specs.Int.{bit_at, bit_not, trailing_zeros}
 use Rattle.std.specs.Int.Bits.{bit_and, bit_or}
-use Rattle.std.proofs.lemmas.Bool.{cases_eq, cases_lt, eq-eqb, ne_eqb, or_left}
+use Rattle.std.proofs.lemmas.Bool.{cases_eq, cases_lt, eq-eqb, ne_eqb}
 use Rattle.std.proofs.lemmas.Nat.{and_le_l}
-use Rattle.std.proofs.lemmas.Nat.Bits.{bit_at-lt, bit_at-trailing_zeros, bit_at-zero, bit_at_and, bit_at_or, bit_at_mask_below, bit_at_mask_inside, bit_at_not, bit_at_ones, bit_at_clear_other, bit_at_clear_same, bit_at_set_other, bit_at_set_same, ones_shl}
+use Rattle.std.proofs.lemmas.Nat.Bits.{bit_at-lt, bit_at-trailing_zeros, bit_at-zero, bit_at_and, bit_at_or, bit_at_mask_below, bit_at_mask_inside, bit_at_not, bit_at_ones, bit_at_set_other, bit_at_set_same, ones_shl}
 use Rattle.std.proofs.lemmas.List.{get_or_past, get_or-set_same, get_or-set_other}
 use Rattle.net_classes.specs.Pairs.{AreBitsOf}
-use Rattle.driver_passes.specs.inner.NumberSets.{IsFirst, has_bit, is_in}
+use Rattle.driver_passes.specs.inner.NumberSets.{IsFirst, has_bit, is_in, is_of_word}
 
 -- a bit is 1 or 0 as a test says
 pub bit_is : (word i : ℕ) (t : Bool) → bit_at word i ≡ cond t 1 0 → has_bit word i ≡ t
@@ -26,18 +27,20 @@ is_bit word i = by_bit (bit_at word i) (bit_at-lt word i)
 pub no_bit : (i : ℕ) → has_bit 0 i ≡ false
 no_bit i = ap (λ b. b == 1) (bit_at-zero i)
 
+-- two bits are put together as a test of both says
+two_bits : (f : ℕ → ℕ → ℕ) (t : Bool → Bool → Bool) → (f 0 0 == 1) ≡ t false false → (f 0 1 == 1) ≡ t false true → (f 1 0 == 1) ≡ t true false → (f 1 1 == 1) ≡ t true true → (x y : ℕ) → x < 2 → y < 2 → (f x y == 1) ≡ t (x == 1) (y == 1)
+two_bits f t none second first both zero zero less few = none
+two_bits f t none second first both zero (suc zero) less few = second
+two_bits f t none second first both (suc zero) zero less few = first
+two_bits f t none second first both (suc zero) (suc zero) less few = both
+two_bits f t none second first both (suc (suc x)) y less few = absurd (omega arith)
+two_bits f t none second first both x (suc (suc y)) less few = absurd (omega arith)
+
 -- the bits of one word less those of another
 pub bit_less : (a b i : ℕ) → b < 2 ^ 64 → i < 64 → has_bit (bit_and a (bit_not w64 b)) i ≡ (has_bit a i && not (has_bit b i))
-bit_less a b i fits below = ap (λ x. x == 1) (bit_at_and a (bit_not w64 b) i ∙ ap (min (bit_at a i)) (bit_at_not w64 b i fits below)) ∙ by_bits (bit_at a i) (bit_at b i) (bit_at-lt a i) (bit_at-lt b i)
-  where
-    by_bits : (x y : ℕ) → x < 2 → y < 2 → (min x (1 - y) == 1) ≡ ((x == 1) && not (y == 1))
-    by_bits zero zero less few = refl
-    by_bits zero (suc zero) less few = refl
-    by_bits zero (suc (suc y)) less few = absurd (omega arith)
-    by_bits (suc zero) zero less few = refl
-    by_bits (suc zero) (suc zero) less few = refl
-    by_bits (suc zero) (suc (suc y)) less few = absurd (omega arith)
-    by_bits (suc (suc x)) y less few = absurd (omega arith)
+bit_less a b i fits below =
+    ap (λ x. x == 1) (bit_at_and a (bit_not w64 b) i ∙ ap (min (bit_at a i)) (bit_at_not w64 b i fits below)) ∙
+    two_bits (λ x y. min x (1 - y)) (λ p q. p && not q) refl refl refl refl (bit_at a i) (bit_at b i) (bit_at-lt a i) (bit_at-lt b i)
 
 -- a word past the end has no number
 pub none_past : (words : List ℕ) (n : ℕ) → length words ≤ n / 64 → is_in words n ≡ false
@@ -70,29 +73,11 @@ word_bits words number word e i below =
 
 -- the bits of two words
 pub bit_more : (a b i : ℕ) → has_bit (bit_or a b) i ≡ (has_bit b i || has_bit a i)
-bit_more a b i = ap (λ x. x == 1) (bit_at_or a b i) ∙ by_bits (bit_at a i) (bit_at b i) (bit_at-lt a i) (bit_at-lt b i)
-  where
-    by_bits : (x y : ℕ) → x < 2 → y < 2 → (max x y == 1) ≡ ((y == 1) || (x == 1))
-    by_bits zero zero less few = refl
-    by_bits zero (suc zero) less few = refl
-    by_bits zero (suc (suc y)) less few = absurd (omega arith)
-    by_bits (suc zero) zero less few = refl
-    by_bits (suc zero) (suc zero) less few = refl
-    by_bits (suc zero) (suc (suc y)) less few = absurd (omega arith)
-    by_bits (suc (suc x)) y less few = absurd (omega arith)
+bit_more a b i = ap (λ x. x == 1) (bit_at_or a b i) ∙ two_bits max (λ p q. q || p) refl refl refl refl (bit_at a i) (bit_at b i) (bit_at-lt a i) (bit_at-lt b i)
 
 -- the bits that two words have
 pub bit_both : (a b i : ℕ) → has_bit (bit_and a b) i ≡ (has_bit a i && has_bit b i)
-bit_both a b i = ap (λ x. x == 1) (bit_at_and a b i) ∙ by_bits (bit_at a i) (bit_at b i) (bit_at-lt a i) (bit_at-lt b i)
-  where
-    by_bits : (x y : ℕ) → x < 2 → y < 2 → (min x y == 1) ≡ ((x == 1) && (y == 1))
-    by_bits zero zero less few = refl
-    by_bits zero (suc zero) less few = refl
-    by_bits zero (suc (suc y)) less few = absurd (omega arith)
-    by_bits (suc zero) zero less few = refl
-    by_bits (suc zero) (suc zero) less few = refl
-    by_bits (suc zero) (suc (suc y)) less few = absurd (omega arith)
-    by_bits (suc (suc x)) y less few = absurd (omega arith)
+bit_both a b i = ap (λ x. x == 1) (bit_at_and a b i) ∙ two_bits min (λ p q. p && q) refl refl refl refl (bit_at a i) (bit_at b i) (bit_at-lt a i) (bit_at-lt b i)
 
 -- two lists of words are put together word by word, and so number by number
 pub words_by : (t : Bool → Bool → Bool) → t false false ≡ false → (before after others : List ℕ) (n : ℕ) → length others ≡ length before → length after ≡ length before →
@@ -107,72 +92,45 @@ words_by t none before after others n size same each = by_place (cases_lt (n / 6
         none_past after n (omega (arith, past, same)) ∙ sym none
         ∙ sym (ap (λ b. t b (is_in others n)) (none_past before n past) ∙ ap (t false) (none_past others n (omega (arith, past, size))))
 
--- one number more
-pub number_set : (words : List ℕ) (number n : ℕ) (word : ℕ) → number / 64 < length words → word ≡ bit_or (get_or words (number / 64) 0) (1 * 2 ^ (number % 64) % 2 ^ 64) → is_in (set words (number / 64) word) n ≡ (n == number || is_in words n)
+-- the bits of one word are put together with others
+pub word_changed : (t : Bool → Bool → Bool) → ((b : Bool) → t b false ≡ b) → (words : List ℕ) (number word bits n : ℕ) → number < length words →
+    has_bit word (n % 64) ≡ t (has_bit (get_or words number 0) (n % 64)) (has_bit bits (n % 64)) → is_in (set words number word) n ≡ t (is_in words n) (is_of_word number bits n)
 unfolding is_in
-number_set words number n word within e = by_word (cases_eq (n / 64) (number / 64)) (cases_eq (n % 64) (number % 64))
+word_changed t same words number word bits n within e = by_word (cases_eq (n / 64) number)
   where
-    place : number % 64 < 64
-    place = omega arith
+    bit : Bool
+    bit = has_bit bits (n % 64)
 
-    other_number : (n ≡ number → ⊥) → (n == number || is_in words n) ≡ is_in words n
-    other_number differ = ap (λ t. t || is_in words n) (ne_eqb n number differ)
+    by_word : (n / 64 ≡ number) ⊎ (n / 64 ≡ number → ⊥) → is_in (set words number word) n ≡ t (is_in words n) (is_of_word number bits n)
+    by_word (inl here) =
+        ap (λ k. has_bit (get_or (set words number word) k 0) (n % 64)) here ∙ ap (λ w. has_bit w (n % 64)) (get_or-set_same words number word 0 within) ∙ e
+        ∙ sym (ap (λ k. t (has_bit (get_or words k 0) (n % 64)) (k == number && bit)) here ∙ ap (λ b. t (has_bit (get_or words number 0) (n % 64)) (b && bit)) (eq-eqb number number refl))
+    by_word (inr differ) =
+        ap (λ w. has_bit w (n % 64)) (get_or-set_other words number (n / 64) word 0 differ) ∙ sym (same (is_in words n)) ∙ sym (ap (λ b. t (is_in words n) (b && bit)) (ne_eqb (n / 64) number differ))
 
-    here : n / 64 ≡ number / 64 → get_or (set words (number / 64) word) (n / 64) 0 ≡ word
-    here same = ap (λ k. get_or (set words (number / 64) word) k 0) same ∙ get_or-set_same words (number / 64) word 0 within
-
-    by_word : (n / 64 ≡ number / 64) ⊎ (n / 64 ≡ number / 64 → ⊥) → (n % 64 ≡ number % 64) ⊎ (n % 64 ≡ number % 64 → ⊥) → is_in (set words (number / 64) word) n ≡ (n == number || is_in words n)
-    by_word (inl same) (inl bit) =
-        let one : n ≡ number = omega (arith, same, bit) in
-        ap (λ w. has_bit w (n % 64)) (here same ∙ e) ∙ ap (has_bit (bit_or (get_or words (number / 64) 0) (1 * 2 ^ (number % 64) % 2 ^ 64))) bit ∙ ap (λ b. b == 1) (bit_at_set_same w64 (get_or words (number / 64) 0) (number % 64) place) ∙ sym (or_left (n == number) (is_in words n) (eq-eqb n number one))
-    by_word (inl same) (inr bit) =
-        ap (λ w. has_bit w (n % 64)) (here same ∙ e) ∙ ap (λ b. b == 1) (bit_at_set_other w64 (get_or words (number / 64) 0) (number % 64) place (n % 64) bit) ∙ sym (ap (λ k. has_bit (get_or words k 0) (n % 64)) same) ∙ sym (other_number (λ one. bit (ap (λ k. k % 64) one)))
-    by_word (inr word_differs) bit =
-        ap (λ w. has_bit w (n % 64)) (get_or-set_other words (number / 64) (n / 64) word 0 word_differs) ∙ sym (other_number (λ one. word_differs (ap (λ k. k / 64) one)))
-
--- one number less
-pub number_cleared : (words : List ℕ) (number n : ℕ) (word : ℕ) → number / 64 < length words → word ≡ bit_and (get_or words (number / 64) 0) (bit_not w64 (1 * 2 ^ (number % 64) % 2 ^ 64)) → is_in (set words (number / 64) word) n ≡ (is_in words n && not (n == number))
-unfolding is_in
-number_cleared words number n word within e = by_word (cases_eq (n / 64) (number / 64)) (cases_eq (n % 64) (number % 64))
+-- a word past the end has none of the numbers
+pub word_past : (words : List ℕ) (number bits n : ℕ) → length words ≤ number → is_in words n ≡ (is_in words n && not (is_of_word number bits n))
+word_past words number bits n past = by_word (cases_eq (n / 64) number)
   where
-    place : number % 64 < 64
-    place = omega arith
+    by_word : (n / 64 ≡ number) ⊎ (n / 64 ≡ number → ⊥) → is_in words n ≡ (is_in words n && not (is_of_word number bits n))
+    by_word (inl here) = let none : is_in words n ≡ false = none_past words n (omega (arith, past, here)) in none ∙ sym (ap (λ t. t && not (is_of_word number bits n)) none)
+    by_word (inr differ) = sym (and-true (is_in words n)) ∙ ap (λ t. is_in words n && not (t && has_bit bits (n % 64))) (sym (ne_eqb (n / 64) number differ))
 
-    and_true : (t : Bool) → t ≡ (t && not false)
-    and_true true = refl
-    and_true false = refl
-
-    and_none : (t : Bool) → false ≡ (t && not true)
-    and_none true = refl
-    and_none false = refl
-
-    other : (n ≡ number → ⊥) → is_in words n ≡ (is_in words n && not (n == number))
-    other differ = and_true (is_in words n) ∙ ap (λ t. is_in words n && not t) (sym (ne_eqb n number differ))
-
-    here : n / 64 ≡ number / 64 → get_or (set words (number / 64) word) (n / 64) 0 ≡ word
-    here same = ap (λ k. get_or (set words (number / 64) word) k 0) same ∙ get_or-set_same words (number / 64) word 0 within
-
-    by_word : (n / 64 ≡ number / 64) ⊎ (n / 64 ≡ number / 64 → ⊥) → (n % 64 ≡ number % 64) ⊎ (n % 64 ≡ number % 64 → ⊥) → is_in (set words (number / 64) word) n ≡ (is_in words n && not (n == number))
-    by_word (inl same) (inl bit) =
-        let one : n ≡ number = omega (arith, same, bit) in
-        ap (λ w. has_bit w (n % 64)) (here same ∙ e) ∙ ap (has_bit (bit_and (get_or words (number / 64) 0) (bit_not w64 (1 * 2 ^ (number % 64) % 2 ^ 64)))) bit ∙ ap (λ b. b == 1) (bit_at_clear_same w64 (get_or words (number / 64) 0) (number % 64) place) ∙
-        and_none (is_in words n) ∙ ap (λ t. is_in words n && not t) (sym (eq-eqb n number one))
-    by_word (inl same) (inr bit) =
-        ap (λ w. has_bit w (n % 64)) (here same ∙ e) ∙ ap (λ b. b == 1) (bit_at_clear_other w64 (get_or words (number / 64) 0) (number % 64) place (n % 64) (omega arith) bit) ∙ sym (ap (λ k. has_bit (get_or words k 0) (n % 64)) same) ∙ other (λ one. bit (ap (λ k. k % 64) one))
-    by_word (inr word_differs) bit =
-        ap (λ w. has_bit w (n % 64)) (get_or-set_other words (number / 64) (n / 64) word 0 word_differs) ∙ other (λ one. word_differs (ap (λ k. k / 64) one))
-
--- a number past the words is not in the set
-pub number_past : (words : List ℕ) (number n : ℕ) → length words ≤ number / 64 → is_in words n ≡ (is_in words n && not (n == number))
-number_past words number n past = by_number (cases_eq n number)
+-- one bit of a word is one number
+one_bit : (place i : ℕ) → place < 64 → has_bit (1 * 2 ^ place % 2 ^ 64) i ≡ (i == place)
+one_bit place i below = sym (bit_more 0 (1 * 2 ^ place % 2 ^ 64) i ∙ ap (λ t. has_bit (1 * 2 ^ place % 2 ^ 64) i || t) (no_bit i) ∙ or-false (has_bit (1 * 2 ^ place % 2 ^ 64) i)) ∙ by_place (cases_eq i place)
   where
-    and_true : (t : Bool) → t ≡ (t && not false)
-    and_true true = refl
-    and_true false = refl
+    by_place : (i ≡ place) ⊎ (i ≡ place → ⊥) → has_bit (bit_or 0 (1 * 2 ^ place % 2 ^ 64)) i ≡ (i == place)
+    by_place (inl same) = ap (has_bit (bit_or 0 (1 * 2 ^ place % 2 ^ 64))) same ∙ ap (λ b. b == 1) (bit_at_set_same w64 0 place below) ∙ sym (eq-eqb i place same)
+    by_place (inr differ) = ap (λ b. b == 1) (bit_at_set_other w64 0 place below i differ) ∙ no_bit i ∙ sym (ne_eqb i place differ)
 
-    by_number : (n ≡ number) ⊎ (n ≡ number → ⊥) → is_in words n ≡ (is_in words n && not (n == number))
-    by_number (inl same) = let none : is_in words n ≡ false = none_past words n (omega (arith, past, ap (λ k. k / 64) same)) in none ∙ sym (ap (λ t. t && not (n == number)) none)
-    by_number (inr differ) = and_true (is_in words n) ∙ ap (λ t. is_in words n && not t) (sym (ne_eqb n number differ))
+pub one_number : (number n : ℕ) → is_of_word (number / 64) (1 * 2 ^ (number % 64) % 2 ^ 64) n ≡ (n == number)
+one_number number n = ap (λ t. n / 64 == number / 64 && t) (one_bit (number % 64) (n % 64) (omega arith)) ∙ by_word (cases_eq (n / 64) (number / 64)) (cases_eq (n % 64) (number % 64))
+  where
+    by_word : (n / 64 ≡ number / 64) ⊎ (n / 64 ≡ number / 64 → ⊥) → (n % 64 ≡ number % 64) ⊎ (n % 64 ≡ number % 64 → ⊥) → (n / 64 == number / 64 && n % 64 == number % 64) ≡ (n == number)
+    by_word (inl word) (inl bit) = ap (λ t. t && n % 64 == number % 64) (eq-eqb (n / 64) (number / 64) word) ∙ eq-eqb (n % 64) (number % 64) bit ∙ sym (eq-eqb n number (omega (arith, word, bit)))
+    by_word (inl word) (inr differ) = ap (λ t. t && n % 64 == number % 64) (eq-eqb (n / 64) (number / 64) word) ∙ ne_eqb (n % 64) (number % 64) differ ∙ sym (ne_eqb n number (λ one. differ (ap (λ k. k % 64) one)))
+    by_word (inr differs) bit = ap (λ t. t && n % 64 == number % 64) (ne_eqb (n / 64) (number / 64) differs) ∙ sym (ne_eqb n number (λ one. differs (ap (λ k. k / 64) one)))
 
 -- the bits of a word from a place on
 high_bit : (word place i : ℕ) → place < 64 → place ≤ i → i < 64 → bit_at (bit_and word ((2 ^ 64 - 1) * 2 ^ place % 2 ^ 64)) i ≡ bit_at word i

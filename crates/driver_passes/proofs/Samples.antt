@@ -1,9 +1,9 @@
--- Sets of numbers and the first number of a word, worked by hand.
+-- Sets of numbers, and the numbers of one word, worked by hand.
 use Rattle.std.proofs.Common.{◌≡◌, ℕ, ◌+◌, ◌-◌, ◌^◌, ◌<◌, ◌≤◌, Bool, true, false, not, List, [], ◌∷◌, filter, refl, arith}
 use Rattle.std.specs.List.{list_all, range_with_len}
 use Rattle.std.proofs.lemmas.Bool.{not-true}
 use Rattle.board_defs.proofs.Members.{all_has, has_range}
-use Rattle.driver_passes.specs.inner.NumberSets.{has_bit, is_in, IsFirst}
+use Rattle.driver_passes.specs.inner.NumberSets.{has_bit, is_in, is_of_word, IsFirst}
 
 -- the numbers of a set of three words
 abbrev numbers_of : List ℕ → List ℕ
@@ -32,6 +32,10 @@ all = 2 ^ 64 - 1
 taken_out : filter (λ n. not (is_in (all ∷ (all - 4) ∷ all ∷ []) n)) (range_with_len 0 192) ≡ 66 ∷ []
 unfolding is_in
 taken_out = refl
+
+-- bits 0 and 2 of word 1
+of_one_word : filter (is_of_word 1 5) (range_with_len 0 192) ≡ 64 ∷ 66 ∷ []
+of_one_word = refl
 
 -- none of the numbers from this one up to the end passes, by computing
 none_by : (passes : ℕ → Bool) (from end : ℕ) → list_all (λ n. not (passes n)) (range_with_len from (end - from)) ≡ true → (n : ℕ) → from ≤ n → n < end → passes n ≡ false

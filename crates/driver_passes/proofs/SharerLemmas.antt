@@ -1,16 +1,19 @@
 -- Which useful controls share each net with another control.
-use Rattle.std.proofs.Common.{◌≡◌, ◌⊎◌, inl, inr, ℕ, zero, suc, ◌+◌, ◌≤◌, ◌<◌, Bool, true, false, ◌&&◌, ◌||◌, List, [], ◌∷◌, length, get_or, replicate, Some, refl, sym, ◌∙◌, ap, subst, arith, cond, ltb}
+use Rattle.std.proofs.Common.{◌≡◌, ◌⊎◌, inl, inr, ℕ, zero, suc, ◌+◌, ◌≤◌, ◌<◌, Bool, true, false, ◌&&◌, ◌||◌, List, [], ◌∷◌, ◌++◌, length, get_or, replicate, Some, refl, sym, ◌∙◌, ap, subst, arith, cond, ltb}
 use Rattle.std.specs.Prelude.{◌==◌, slice_get, All, filter}
 use Rattle.std.specs.List.{range_with_len}
 use Rattle.std.proofs.lemmas.List.Elements.{All-cons, All-nil}
 use Rattle.std.proofs.lemmas.Bool.{cases_order, eq-eqb, lt-ltb, le-ltb, ne_eqb}
 use Rattle.std.proofs.lemmas.List.{length-replicate}
+use Rattle.std.proofs.lemmas.Option.{slice_get_within}
 use Rattle.board_defs.specs.declared.board.Ctl.{Ctl}
 use Rattle.board_defs.specs.declared.board.RawBoard.{RawBoard}
 use Rattle.board_defs.specs.Passes.{useful_controls}
 use Rattle.net_facts.specs.Kept.{contends_there, shared_nets}
 use Rattle.driver_passes.specs.inner.Drafts.{has_number}
-use Rattle.driver_passes.specs.inner.Sharers.{AreSharersBelow}
+use Rattle.driver_passes.specs.declared.blocks.Block.{Block}
+use Rattle.driver_passes.specs.inner.Blocks.{has_place}
+use Rattle.driver_passes.specs.inner.Sharers.{AreSharers, AreSharersBelow}
 
 -- the lists have the place too where the net passes, and else what they had before
 abbrev pub AreMarked : ℕ → List ℕ → List (List ℕ) → List (List ℕ) → Type 0
@@ -62,3 +65,18 @@ sharers_more board k d nets before after are stands is size marked = record {
         ap (λ t. (t && has_number nets n) || (ltb place k && has_number (shared_nets board c) n)) (ne_eqb place k (λ e. omega (arith, e, less))) ∙ ap (λ t. t && has_number (shared_nets board c) n) (lt-ltb place k less ∙ sym (lt-ltb place (k + 1) (omega (arith, less))))
     by_place place c n at (inr (inr more)) =
         ap (λ t. (t && has_number nets n) || (ltb place k && has_number (shared_nets board c) n)) (ne_eqb place k (λ e. omega (arith, e, more))) ∙ ap (λ t. t && has_number (shared_nets board c) n) (le-ltb place k (omega (arith, more)) ∙ sym (le-ltb place (k + 1) (omega (arith, more))))
+
+-- the lists as sets
+
+pub sets_more : (sets : List (List Block)) (lists : List (List ℕ)) (set : List Block) (list : List ℕ) → length sets ≡ length lists → ((n q : ℕ) → has_place (get_or sets n []) q ≡ has_number (get_or lists n []) q) → ((q : ℕ) → has_place set q ≡ has_number list q) →
+    (n q : ℕ) → has_place (get_or (sets ++ set ∷ []) n []) q ≡ has_number (get_or (lists ++ list ∷ []) n []) q
+sets_more [] [] set list size same one zero q = one q
+sets_more [] [] set list size same one (suc n) q = refl
+sets_more [] (l ∷ lists) set list size same one n q = absurd (omega (arith, size))
+sets_more (s ∷ sets) [] set list size same one n q = absurd (omega (arith, size))
+sets_more (s ∷ sets) (l ∷ lists) set list size same one zero q = same 0 q
+sets_more (s ∷ sets) (l ∷ lists) set list size same one (suc n) q = sets_more sets lists set list (omega (arith, size)) (λ k. same (suc k)) one n q
+
+pub sharers_all : (board : RawBoard) (lists : List (List ℕ)) (sharers : List (List Block)) → AreSharersBelow board (length (useful_controls board)) lists →
+    ((n q : ℕ) → has_place (get_or sharers n []) q ≡ has_number (get_or lists n []) q) → AreSharers board sharers
+sharers_all board lists sharers are same place c at n = same n place ∙ are.sharers_are place c at n ∙ ap (λ t. t && has_number (shared_nets board c) n) (lt-ltb place (length (useful_controls board)) (slice_get_within (useful_controls board) place c at))

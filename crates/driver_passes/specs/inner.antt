@@ -1,7 +1,8 @@
 -- Terms that serve proofs and the contracts of private functions. No public contract cites them.
 pub mod Drafts
-pub mod Sharers
 pub mod NumberSets
+pub mod Blocks
+pub mod Sharers
 pub mod Shown
 pub mod Tested
 pub mod Progress

@@ -4,14 +4,16 @@ ghost use Rattle.board_defs.specs.Pins.{IsCell};
 ghost use Rattle.board_defs.specs.Settings.{holds, inserted};
 ghost use Rattle.board_defs.specs.Passes.{useful_controls, with_driver};
 ghost use Rattle.net_classes.specs.Kept.{AreClasses};
-ghost use Rattle.driver_passes.specs.inner.Drafts.{IsDraft, chosen, has_number, setting_of};
+ghost use Rattle.driver_passes.specs.inner.Blocks.{has_place};
+ghost use Rattle.driver_passes.specs.inner.Drafts.{IsDraft, chosen, setting_of};
 ghost use Rattle.driver_passes.specs.inner.NumberSets.{is_in};
 ghost use Rattle.driver_passes.specs.inner.Progress.{IsUsefulDriver};
 ghost use Rattle.driver_passes.specs.inner.Sharers.{AreSharers, is_listed};
 
+use crate::blocks::{Block, Blocks};
 use crate::number_set::NumberSet;
 use crate::places::place_of;
-use crate::sharers::{Places, places_at};
+use crate::sharers::blocks_at;
 use board_defs::{Board, Ctl, Drive, Setting, law};
 use net_classes::Classes;
 use net_classes::law::nets_are_shared;
@@ -35,21 +37,21 @@ fn all_places(alloc: Global, controls: &[Ctl]) -> Result<NumberSet, AllocError>
     Ok(places)
 }
 
-/// Takes out these places.
-fn close(free: &mut NumberSet, places: &[usize])
-    ensures { (q : ℕ) → is_in free.new q ≡ (is_in free.old q && not (has_number places.now q)) }
+/// Takes out the places of these blocks.
+fn close(free: &mut NumberSet, blocks: &[Block])
+    ensures { (q : ℕ) → is_in free.new q ≡ (is_in free.old q && not (has_place blocks.now q)) }
 {
-    for place in places {
-        free.remove(*place);
+    for block in blocks {
+        free.take_out_bits(block.word, block.bits);
     }
 }
 
 /// Takes out the places that are listed for these nets.
-fn close_sharers(free: &mut NumberSet, sharers: &[Places], nets: &[u32])
+fn close_sharers(free: &mut NumberSet, sharers: &[Blocks], nets: &[u32])
     ensures { (q : ℕ) → is_in free.new q ≡ (is_in free.old q && not (is_listed sharers.now nets.now q)) }
 {
     for net in nets {
-        close(free, places_at(sharers, *net as usize));
+        close(free, blocks_at(sharers, *net as usize));
     }
 }
 
@@ -70,7 +72,7 @@ impl Draft {
         &mut self,
         board: &Board,
         classes: &Classes,
-        sharers: &[Places],
+        sharers: &[Blocks],
         place: usize,
         c: Ctl,
     )
@@ -96,7 +98,7 @@ impl Draft {
         &mut self,
         board: &Board,
         classes: &Classes,
-        sharers: &[Places],
+        sharers: &[Blocks],
         useful: &[Ctl],
         d: Drive,
     )
@@ -118,7 +120,7 @@ impl Draft {
         &mut self,
         board: &Board,
         classes: &Classes,
-        sharers: &[Places],
+        sharers: &[Blocks],
         useful: &[Ctl],
         c: Ctl,
     )

@@ -10,10 +10,11 @@ ghost use Rattle.driver_passes.specs.inner.Drafts.{IsDraft, setting_of};
 ghost use Rattle.driver_passes.specs.inner.Progress.{EnableTested, IsProgress, IsUsefulDriver, is_held};
 ghost use Rattle.driver_passes.specs.inner.Shown.{drivers_at};
 
+use crate::blocks::Blocks;
 use crate::draft::Draft;
 use crate::number_set::NumberSet;
 use crate::places::place_of;
-use crate::sharers::{Places, sharers_of};
+use crate::sharers::sharers_of;
 use crate::tested::TestedNets;
 use crate::walk::{first_walk, second_walk};
 use board_defs::{Board, Ctl, Drive, Setting, law};
@@ -30,7 +31,7 @@ pub struct Progress {
     pub held: NumberSet,
     pub tested_nets: TestedNets,
     /// For each net, the places of the useful controls that share it with another control.
-    pub sharers: Vec<Places>,
+    pub sharers: Vec<Blocks>,
 }
 
 /// The pass for a tested driver that no pass so far enables.

@@ -3,6 +3,7 @@
 #![tactic(auto)]
 
 mod alike;
+mod blocks;
 mod column;
 mod draft;
 mod drivers;

@@ -2,7 +2,7 @@
 ghost use Rattle.std.specs.Prelude.{◌≡◌, ◌≤◌, ◌<◌, ◌+◌, ◌*◌, ◌/◌, ◌==◌, ◌&&◌, ◌||◌, ℕ, Bool, not, false, true, length, replicate, slice_index_or, All, MatchOption, IfOk};
 ghost use Rattle.net_classes.specs.Pairs.{AreBitsOf};
 ghost use Rattle.driver_passes.specs.inner.Drafts.{has_number};
-ghost use Rattle.driver_passes.specs.inner.NumberSets.{IsFirst, has_bit, is_in};
+ghost use Rattle.driver_passes.specs.inner.NumberSets.{IsFirst, has_bit, is_in, is_of_word};
 
 use std::alloc::{AllocError, Global};
 use std::marker::Model;
@@ -67,12 +67,12 @@ fn clear_from(words: &mut [u64], others: &[u64], first: usize)
     }
 }
 
-/// Clears the bit of the number.
-fn clear(words: &mut [u64], number: usize)
-    ensures { (n : ℕ) → is_in words.new n ≡ (is_in words.old n && not (n == number)) }
+/// Clears these bits of the word with this number, where there is one.
+fn clear_bits(words: &mut [u64], number: usize, bits: u64)
+    ensures { (n : ℕ) → is_in words.new n ≡ (is_in words.old n && not (is_of_word number bits n)) }
 {
-    if number / 64 < words.len() {
-        words[number / 64] &= !(1 << (number % 64));
+    if number < words.len() {
+        words[number] &= !bits;
     }
 }
 
@@ -177,11 +177,18 @@ impl NumberSet {
         clear_from(&mut self.words, &others.words, first);
     }
 
+    /// Takes out the numbers of this word that have one of these bits.
+    pub fn take_out_bits(&mut self, word: usize, bits: u64)
+        ensures { (n : ℕ) → is_in self.new n ≡ (is_in self.old n && not (is_of_word word bits n)) }
+    {
+        clear_bits(&mut self.words, word, bits);
+    }
+
     /// Takes out the number.
     pub fn remove(&mut self, number: usize)
         ensures { (n : ℕ) → is_in self.new n ≡ (is_in self.old n && not (n == number)) }
     {
-        clear(&mut self.words, number);
+        self.take_out_bits(number / 64, 1 << (number % 64));
     }
 
     /// Adds the numbers of the other set, which has the same room.

@@ -14,11 +14,11 @@ ghost use Rattle.driver_passes.specs.inner.Shown.{drivers_at};
 ghost use Rattle.driver_passes.specs.Useful.{HoldUseful};
 
 use crate::alike::likes_of;
+use crate::blocks::Blocks;
 use crate::column::Column;
 use crate::draft::Draft;
 use crate::drivers::{Progress, drivers_of};
 use crate::number_set::{NumberSet, next_in};
-use crate::sharers::Places;
 use crate::shown::{keep_shown, leave_unshown, take_shown};
 use crate::tested::TestedNets;
 use crate::walk::second_walk;
@@ -37,7 +37,7 @@ pub struct Pairing {
     pub column: Column,
     pub tested_nets: TestedNets,
     /// For each net, the places of the useful controls that share it with another control.
-    pub sharers: Vec<Places>,
+    pub sharers: Vec<Blocks>,
     pub likes: Vec<u32>,
     /// Of the net that is looked at, the later ones which no pass so far shows together with it.
     pub left: NumberSet,
@@ -91,7 +91,7 @@ fn pair_pass(
     alloc: Global,
     board: &Board,
     classes: &Classes,
-    sharers: &[Places],
+    sharers: &[Blocks],
     useful: &[Ctl],
     pair: (Drive, Drive),
 ) -> Result<Draft, AllocError>

@@ -7,9 +7,9 @@ ghost use Rattle.driver_passes.specs.inner.Drafts.{IsDraft, setting_of};
 ghost use Rattle.driver_passes.specs.inner.Progress.{IsProgress};
 ghost use Rattle.driver_passes.specs.inner.Sharers.{AreSharers};
 
+use crate::blocks::Blocks;
 use crate::draft::Draft;
 use crate::drivers::Progress;
-use crate::sharers::Places;
 use board_defs::{Board, Ctl, law};
 use net_classes::Classes;
 
@@ -72,7 +72,7 @@ fn add_next(
     draft: &mut Draft,
     board: &Board,
     classes: &Classes,
-    sharers: &[Places],
+    sharers: &[Blocks],
     useful: &[Ctl],
     from: usize,
 ) -> usize
@@ -102,7 +102,7 @@ pub fn second_walk(
     draft: &mut Draft,
     board: &Board,
     classes: &Classes,
-    sharers: &[Places],
+    sharers: &[Blocks],
     useful: &[Ctl],
 )
     requires classes { AreClasses board.now classes.now }

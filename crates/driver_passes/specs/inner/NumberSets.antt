@@ -1,5 +1,5 @@
 -- Sets of numbers, by words that have a bit for each of 64 numbers.
-use Rattle.std.specs.Prelude.{◌≡◌, ◌≤◌, ◌<◌, ◌/◌, ◌%◌, ◌==◌, ℕ, Bool, true, false, List, slice_index_or}
+use Rattle.std.specs.Prelude.{◌≡◌, ◌≤◌, ◌<◌, ◌/◌, ◌%◌, ◌==◌, ◌&&◌, ℕ, Bool, true, false, List, slice_index_or}
 use Rattle.std.specs.Int.{bit_at}
 
 -- the bit at this place of the word is set
@@ -9,6 +9,10 @@ has_bit word place = bit_at word place == 1
 -- the number is in the set
 unfoldable pub is_in : List ℕ → ℕ → Bool
 is_in words n = has_bit (slice_index_or words (n / 64) 0) (n % 64)
+
+-- the number has this word, and its bit there is one of these
+abbrev pub is_of_word : ℕ → ℕ → ℕ → Bool
+is_of_word word bits n = n / 64 == word && has_bit bits (n % 64)
 
 -- of the numbers from this one on, the first that passes
 pub record IsFirst (passes : ℕ → Bool) (from first : ℕ) : Type 0 where

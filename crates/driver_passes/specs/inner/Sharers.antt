@@ -5,6 +5,8 @@ use Rattle.board_defs.specs.declared.board.Ctl.{Ctl}
 use Rattle.board_defs.specs.declared.board.RawBoard.{RawBoard}
 use Rattle.board_defs.specs.Passes.{useful_controls}
 use Rattle.net_facts.specs.Kept.{shared_nets}
+use Rattle.driver_passes.specs.declared.blocks.Block.{Block}
+use Rattle.driver_passes.specs.inner.Blocks.{has_place}
 use Rattle.driver_passes.specs.inner.Drafts.{has_number}
 
 -- the lists, one for each net, have of the places below this one those of the useful controls that share the net
@@ -12,10 +14,10 @@ pub record AreSharersBelow (board : RawBoard) (most : ℕ) (sharers : List (List
   pub sharers_length : length sharers ≡ length board.nets
   pub sharers_are : (place : ℕ) (c : Ctl) → slice_get (useful_controls board) place ≡ Some c → (n : ℕ) → has_number (slice_index_or sharers n []) place ≡ (ltb place most && has_number (shared_nets board c) n)
 
--- the lists have the places of all useful controls
-abbrev pub AreSharers : RawBoard → List (List ℕ) → Type 0
-AreSharers board sharers = AreSharersBelow board (length (useful_controls board)) sharers
+-- the sets of places, one for each net, have those of all useful controls that share it
+abbrev pub AreSharers : RawBoard → List (List Block) → Type 0
+AreSharers board sharers = (place : ℕ) (c : Ctl) → slice_get (useful_controls board) place ≡ Some c → (n : ℕ) → has_place (slice_index_or sharers n []) place ≡ has_number (shared_nets board c) n
 
--- the place is listed for some of these nets
-abbrev pub is_listed : List (List ℕ) → List ℕ → ℕ → Bool
-is_listed sharers nets place = list_any (λ n. has_number (slice_index_or sharers n []) place) nets
+-- the place is in the set of some of these nets
+abbrev pub is_listed : List (List Block) → List ℕ → ℕ → Bool
+is_listed sharers nets place = list_any (λ n. has_place (slice_index_or sharers n []) place) nets
