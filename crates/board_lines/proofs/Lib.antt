@@ -7,3 +7,4 @@ pub mod DifferLemmas
 pub mod PinLemmas
 pub mod NumberLemmas
 pub mod SelectLemmas
+mod Samples
