@@ -6,7 +6,7 @@ use Rattle.btest_core.specs.Answers.{input_told}
 use Rattle.btest_core.specs.declared.fault.InputFault.{InputFault}
 use Rattle.btest_core.specs.declared.fault.InputFault.TheVariants as input
 use Rattle.btest_core.specs.BoardRead.{IsBoardRead, Denotes}
-use Rattle.command_line.specs.Words.{Text, Chain, Device, Batch}
+use Rattle.command_line.specs.Words.{Text}
 use Rattle.commands.specs.declared.unput.Unput.{Unput}
 use Rattle.commands.specs.declared.unput.Unput.TheVariants as unput
 use Rattle.response_log.specs.declared.fault.LogFault.{LogFault}
@@ -16,10 +16,10 @@ use Rattle.batch_diag.specs.declared.fault.BatchFault.{BatchFault}
 use Rattle.batch_diag.specs.declared.fault.BatchFault.TheVariants as batch
 use Rattle.batch_diag.specs.Batch.{Answer as BatchAnswer, batch_told}
 use Rattle.board_defs.specs.declared.board.RawBoard.{RawBoard}
-use Rattle.commands.specs.LogRead.{Judging, OnBoard, OnDenoted, TextFault, Input, Log, Batch as OfBatch}
+use Rattle.commands.specs.LogRead.{Judging, OnBoard, OnDenoted, TextFault, Log, Batch as OfBatch}
 use Rattle.commands.specs.Worth.{OfDenoted}
 use Rattle.commands.specs.Answers.{Answers, IsCutBy, LogAnswers}
-use Rattle.commands.specs.inner.Unput.{NoBoard, unput_batch, unput_log, unput_of}
+use Rattle.commands.specs.inner.Unput.{IsCutShort, NoBoard, PutsText, unput_batch, unput_log, unput_of}
 
 -- a fault was found
 pub answers_fault : {A : Type 0} (IsFound : Result A InputFault → Type 0) (text_of : A → Text) (IsWorth : Shown → Type 0) (shown : Shown) (fault : InputFault) → IfSome (input_told fault) (λ f. IsFound (Err f)) → Answers IsFound text_of IsWorth shown shown (Err (unput_of fault))
@@ -42,6 +42,21 @@ pub cut_by : {A F T E : Type 0} {e : E} {r : Result T E} (IsFound : Result A F �
 cut_by {A} {F} {T} {E} {e} {r} IsFound text_of old new value found puts err =
     let short = subst (λ (q : Result T E). Puts old new (text_of value) q) err puts in
     record { rose = short.cause; value = value; found = found; bytes = short.cut.0; takes = short.cut.1 }
+
+pub cut_short : {T E : Type 0} {e : E} {r : Result T E} (old new : Shown) (text : Text) → Puts old new text r → r ≡ Err e → IsCutShort text old new
+cut_short {T} {E} {e} {r} old new text puts err =
+    let short = subst (λ (q : Result T E). Puts old new text q) err puts in
+    record { rose = short.cause; bytes = short.cut.0; takes = short.cut.1 }
+
+-- the text of a value that was found was put, or not
+pub text_answers : {A : Type 0} (IsFound : Result A InputFault → Type 0) (text_of : A → Text) (IsWorth : Shown → Type 0) (value : A) → IsFound (Ok value) → (old new : Shown) (result : Result (Unit {0}) Unput) → PutsText (text_of value) old new result
+    → (Takes old new (text_of value) → IsWorth new) → Answers IsFound text_of IsWorth old new result
+text_answers IsFound text_of IsWorth value found old new (Ok done) takes worth = record { value = value; found = found; takes = takes; worth = worth takes }
+text_answers IsFound text_of IsWorth value found old new (Err (unput.Input fault)) none worth = absurd none
+text_answers IsFound text_of IsWorth value found old new (Err (unput.Log rows fault)) none worth = absurd none
+text_answers IsFound text_of IsWorth value found old new (Err (unput.Batch rows fault)) none worth = absurd none
+text_answers IsFound text_of IsWorth value found old new (Err unput.Write) cut worth = record { rose = cut.rose; value = value; found = found; bytes = cut.bytes; takes = cut.takes }
+text_answers IsFound text_of IsWorth value found old new (Err unput.Memory) same worth = same
 
 -- there is no board: its texts have a first fault, or memory ran out
 pub no_board : (chain nets : Text) (texts : List Text) (fault : InputFault) → IfSome (input_told fault) (λ f. IsBoardRead chain nets texts (Err f)) → NoBoard chain nets texts (unput_of fault)

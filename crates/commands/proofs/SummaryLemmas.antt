@@ -1,11 +1,11 @@
 -- The counts of a board, as its summary.
-use Rattle.std.proofs.Common.{◌≡◌, ℕ, suc, ◌+◌, ◌*◌, List, length, ap, ◌∙◌, sym, subst}
+use Rattle.std.proofs.Common.{◌≡◌, ℕ, List, length, ap, ◌∙◌, sym}
 use Rattle.std.specs.Prelude.{min}
 use Rattle.bt_base.specs.Counts.{last_count}
 use Rattle.board_defs.specs.declared.board.RawBoard.{RawBoard}
 use Rattle.board_defs.specs.declared.board.Ctl.{Ctl}
 use Rattle.board_defs.specs.Passes.{passes_of}
-use Rattle.tap_defs.specs.board.BoardScans.{AreTestScans, board_text, pass_text, svf_scans, test_scans}
+use Rattle.tap_defs.specs.board.BoardScans.{AreTestScans, pass_text, svf_scans, test_scans}
 use Rattle.tap_defs.specs.board.TestRows.{code_width, observed_count}
 use Rattle.coverage_list.specs.CoverText.{covered}
 use Rattle.plan_tables.specs.declared.tables.PlanTables.{PlanTables}

@@ -1,5 +1,5 @@
 -- What a text is worth that a command puts.
-use Rattle.std.specs.Prelude.{◌≡◌, ◌↔◌, ℕ, Bool, true, List, [], ◌∷◌, Option, Some, Result, Ok, Decides}
+use Rattle.std.specs.Prelude.{◌≡◌, ◌↔◌, ℕ, Bool, true, List, [], ◌∷◌, Option, Some, Ok, Decides}
 use Rattle.bt_base.specs.Puts.{Shown, Takes}
 use Rattle.tap_defs.specs.chain.ChainTest.{IsChainTest}
 use Rattle.tap_defs.specs.board.BoardTest.{IsBoardTest, IsHarmless}

@@ -1,13 +1,12 @@
 // The command `make`.
-ghost use Rattle.std.specs.Prelude.{◌≡◌, ◌≤◌, [], ◌∷◌, length, min};
+ghost use Rattle.std.specs.Prelude.{◌≡◌, ◌≤◌, [], ◌∷◌, length, min, IfOk};
 ghost use Rattle.bt_base.specs.Counts.{last_count};
 ghost use Rattle.line_printer.specs.Prints.{Prints};
 ghost use Rattle.tap_defs.specs.board.BoardScans.{pass_text};
 ghost use Rattle.net_classes.specs.Kept.{AreClasses};
 ghost use Rattle.coverage_list.specs.CoverText.{covered};
 ghost use Rattle.plan_tables.specs.Plans.{IsPlanOf};
-ghost use Rattle.scan_planner.specs.Coded.{AreCoded};
-ghost use Rattle.scan_planner.specs.Plans.{IsRoom, scan_count};
+ghost use Rattle.scan_planner.specs.Plans.{scan_count};
 ghost use Rattle.board_gen.specs.BoardTexts.{chain_text, net_text};
 ghost use Rattle.board_gen.specs.DeviceText.{bsdl_text};
 ghost use Rattle.answers.specs.Gives.{Gives};
@@ -15,6 +14,7 @@ ghost use Rattle.btest_core.specs.Answers.{input_told};
 ghost use Rattle.btest_core.specs.BoardRead.{IsBoardRead};
 ghost use Rattle.commands.specs.Summary.{counts_line, summary_text};
 ghost use Rattle.commands.specs.Answers.{Answers, Nothing};
+ghost use Rattle.commands.specs.inner.Unput.{PutsText};
 
 use crate::board_test::{TestRows, write_test};
 use crate::unput::{Unput, unput_by};
@@ -28,7 +28,7 @@ use itoa::Buffer;
 use line_printer::put_line;
 use net_classes::{Classes, classify};
 use scan_planner::Plan;
-use std::alloc::Global;
+use std::alloc::{AllocError, Global};
 use tap_defs::board_law::scans_placed;
 
 /// What is counted of a board and of its test.
@@ -52,18 +52,20 @@ pub fn summary<K: Sink>(alloc: Global, number: u32, out: &mut K) -> Result<(), U
         Ok(board) => board,
         Err(fault) => return Err(unput_by(fault)),
     };
-    let Ok(classes) = classify(alloc, &board) else {
+    put_summary(alloc, &board, out)
+}
+
+// Puts the summary of a board.
+fn put_summary<K: Sink>(alloc: Global, board: &Board, out: &mut K) -> Result<(), Unput>
+    ensures { PutsText (summary_text board.now) (K.shown out.old) (K.shown out.new) result }
+{
+    let Ok(counts) = board_counts(alloc, board) else {
         return Err(Unput::Memory);
     };
-    let Ok(plan) = plan(alloc, &board, &classes) else {
+    let Ok(mut line) = Line::new(alloc) else {
         return Err(Unput::Memory);
     };
-    let Ok(mut rows) = TestRows::for_plan(alloc, &board, &plan) else {
-        return Err(Unput::Memory);
-    };
-    scans_placed();
-    let counts = counts_of(&board, &classes, &plan, &mut rows);
-    match put_counts(&counts, &mut rows.rows.line, out) {
+    match put_counts(&counts, &mut line, out) {
         Ok(()) => Ok(()),
         Err(_) => Err(Unput::Write),
     }
@@ -96,35 +98,46 @@ fn net_count(board: &Board) -> u32
 }
 
 // How many bytes the text of the board's test has, which is written to be counted alone.
-fn text_bytes(board: &Board, plan: &Plan, made: &mut TestRows) -> u64
-    requires plan { IsPlanOf board.now plan.now }
-    requires coded { AreCoded board.now plan.now made.old.cells }
-    requires tdi { IsRoom board.now made.old.rows.tdi.room }
-    requires tdo { IsRoom board.now made.old.rows.tdo.room }
-    requires mask { IsRoom board.now made.old.rows.mask.room }
-    ensures { result ≡ min (length (pass_text board.now plan.now.passes plan.now.width)) last_count }
+fn text_bytes(alloc: Global, board: &Board, plan: &Plan) -> Result<u64, AllocError>
+    requires { IsPlanOf board.now plan.now }
+    ensures { IfOk result (λ bytes. bytes ≡ min (length (pass_text board.now plan.now.passes plan.now.width)) last_count) }
 {
+    let mut rows = TestRows::for_board(alloc, board)?;
     let mut counter = CountSink::new();
-    let Ok(()) = write_test(board, plan, made, &mut counter) else {
+    let Ok(()) = write_test(board, plan, &mut rows, &mut counter) else {
         unreachable!()
     };
-    counter.count()
+    Ok(counter.count())
 }
 
-// The counts of a board and of the test that a plan makes.
-fn counts_of(board: &Board, classes: &Classes, plan: &Plan, made: &mut TestRows) -> Counts
-    requires classes { AreClasses board.now classes.now }
-    requires plan { IsPlanOf board.now plan.now }
-    requires coded { AreCoded board.now plan.now made.old.cells }
-    requires tdi { IsRoom board.now made.old.rows.tdi.room }
-    requires tdo { IsRoom board.now made.old.rows.tdo.room }
-    requires mask { IsRoom board.now made.old.rows.mask.room }
+// The counts of a board and of its test.
+fn board_counts(alloc: Global, board: &Board) -> Result<Counts, AllocError>
+    ensures { IfOk result (λ counts. counts_line counts.devices counts.nets counts.covered counts.passes counts.scans counts.bytes ≡ summary_text board.now) }
+{
+    let classes = classify(alloc, board)?;
+    classed_counts(alloc, board, &classes)
+}
+
+// The same by the classes of the board's nets and pins.
+fn classed_counts(alloc: Global, board: &Board, classes: &Classes) -> Result<Counts, AllocError>
+    requires { AreClasses board.now classes.now }
+    ensures { IfOk result (λ counts. counts_line counts.devices counts.nets counts.covered counts.passes counts.scans counts.bytes ≡ summary_text board.now) }
+{
+    let plan = plan(alloc, board, classes)?;
+    let bytes = text_bytes(alloc, board, &plan)?;
+    scans_placed();
+    Ok(counts_of(board, classes, &plan, bytes))
+}
+
+// The counts of a board and of the test that a plan makes, whose text has so many bytes.
+fn counts_of(board: &Board, classes: &Classes, plan: &Plan, bytes: u64) -> Counts
+    requires { AreClasses board.now classes.now }
     ensures devices { result.devices ≡ length board.now.chain }
     ensures nets { result.nets ≡ length board.now.nets }
     ensures covered { result.covered ≡ length (covered board.now) }
     ensures passes { result.passes ≡ length plan.now.passes }
     ensures scans { result.scans ≡ scan_count plan.now }
-    ensures bytes { result.bytes ≡ min (length (pass_text board.now plan.now.passes plan.now.width)) last_count }
+    ensures bytes { result.bytes ≡ bytes }
 {
     Counts {
         devices: device_count(board),
@@ -132,7 +145,7 @@ fn counts_of(board: &Board, classes: &Classes, plan: &Plan, made: &mut TestRows)
         covered: covered_nets(board, classes),
         passes: plan.passes().len() as u64,
         scans: plan.scans(),
-        bytes: text_bytes(board, plan, made),
+        bytes,
     }
 }
 

@@ -7,20 +7,21 @@ ghost use Rattle.tap_defs.specs.board.BoardTest.{IsBoardTest};
 ghost use Rattle.tap_defs.specs.chain.Clocks.{test_clocks};
 ghost use Rattle.tap_defs.specs.chain.Svf.{meaning};
 ghost use Rattle.tap_defs.specs.chain.Text.{scan_text, svf_text};
+ghost use Rattle.plan_tables.specs.declared.tables.PlanTables.{PlanTables as PlanRecord};
 ghost use Rattle.plan_tables.specs.Plans.{IsPlanOf};
 ghost use Rattle.scan_planner.specs.Coded.{AreCoded};
 ghost use Rattle.scan_planner.specs.Plans.{FillsScan, IsRoom, scan_count};
 ghost use Rattle.btest_core.specs.BoardRead.{IsBoardRead};
 ghost use Rattle.commands.specs.Worth.{RespondOnce, TestsBoard};
 ghost use Rattle.commands.specs.Answers.{Answers};
+ghost use Rattle.commands.specs.inner.Unput.{PutsText};
 
+use crate::planned::{Planned, planned_board};
 use crate::rows::Rows;
 use crate::texts::BoardTexts;
-use crate::unput::{Unput, unput_by};
+use crate::unput::Unput;
 use board_defs::Board;
 use bt_base::{PutFault, Sink};
-use btest_core::{plan, read_board};
-use net_classes::classify;
 use scan_planner::{CodedCells, Plan};
 use std::alloc::{AllocError, Global};
 use svf_writer::{write_head, write_scan, write_tail};
@@ -37,30 +38,28 @@ pub fn svf<K: Sink>(alloc: Global, texts: BoardTexts, out: &mut K) -> Result<(),
     requires count { length texts.bsdl.now < 2 ^ 32 }
     ensures { Answers (IsBoardRead texts.entry.chain.now texts.entry.nets.now (map (λ text. text.items) texts.entry.bsdl.now)) board_text (TestsBoard texts.entry.chain.now texts.entry.nets.now (map (λ text. text.items) texts.entry.bsdl.now) (K.shown out.old)) (K.shown out.old) (K.shown out.new) result }
 {
-    let board = match read_board(alloc, texts.chain, texts.nets, texts.bsdl) {
-        Ok(board) => board,
-        Err(fault) => return Err(unput_by(fault)),
+    let planned = match planned_board(alloc, texts) {
+        Ok(planned) => planned,
+        Err(failure) => return Err(failure),
     };
-    let Ok(plan) = board_plan(alloc, &board) else {
+    tests_board(&planned.board);
+    put_test(alloc, &planned, out)
+}
+
+// Puts the test of a board by its plan.
+fn put_test<K: Sink>(alloc: Global, planned: &Planned, out: &mut K) -> Result<(), Unput>
+    requires plan { IsPlanOf planned.now.board planned.now.plan }
+    requires passes { planned.now.plan.passes ≡ passes_of planned.now.board }
+    ensures { PutsText (board_text planned.now.board) (K.shown out.old) (K.shown out.new) result }
+{
+    let Planned { board, plan } = planned;
+    let Ok(mut rows) = TestRows::for_board(alloc, board) else {
         return Err(Unput::Memory);
     };
-    let Ok(mut rows) = TestRows::for_plan(alloc, &board, &plan) else {
-        return Err(Unput::Memory);
-    };
-    tests_board(&board);
-    match write_test(&board, &plan, &mut rows, out) {
+    match write_test(board, plan, &mut rows, out) {
         Ok(()) => Ok(()),
         Err(_) => Err(Unput::Write),
     }
-}
-
-/// The plan of the board's passes.
-pub fn board_plan(alloc: Global, board: &Board) -> Result<Plan, AllocError>
-    ensures plan { IfOk result (λ plan. IsPlanOf board.now plan) }
-    ensures passes { IfOk result (λ plan. plan.passes ≡ passes_of board.now) }
-{
-    let classes = classify(alloc, board)?;
-    plan(alloc, board, &classes)
 }
 
 // What the text of the board's test is worth.
@@ -103,14 +102,13 @@ pub struct TestRows {
 }
 
 impl TestRows {
-    /// Rows with room for the scans of a board, for this plan.
-    pub fn for_plan(alloc: Global, board: &Board, plan: &Plan) -> Result<TestRows, AllocError>
+    /// Rows with room for the scans of a board.
+    pub fn for_board(alloc: Global, board: &Board) -> Result<TestRows, AllocError>
         ensures tdi { IfOk result (λ made. IsRoom board.now made.rows.tdi.room) }
         ensures tdo { IfOk result (λ made. IsRoom board.now made.rows.tdo.room) }
         ensures mask { IfOk result (λ made. IsRoom board.now made.rows.mask.room) }
-        ensures coded { IfOk result (λ made. AreCoded board.now plan.now made.cells) }
+        ensures coded { IfOk result (λ made. (plan : PlanRecord) → AreCoded board.now plan made.cells) }
     {
-        let _ = plan.scans();
         Ok(TestRows {
             rows: Rows::with_room(alloc, longest_scan(board))?,
             cells: CodedCells::with_room(alloc, board.dr_bits())?,

@@ -8,7 +8,7 @@ ghost use Rattle.walk_test.specs.Tables.{IsWalkOf, scan_count};
 ghost use Rattle.walk_test.specs.WalkTest.{board_walk_text, walk_scans};
 ghost use Rattle.btest_core.specs.BoardRead.{Denotes, IsBoardRead};
 ghost use Rattle.commands.specs.Answers.{Answers};
-ghost use Rattle.commands.specs.inner.Unput.{NoBoard};
+ghost use Rattle.commands.specs.inner.Unput.{NoBoard, PutsText};
 ghost use Rattle.commands.specs.Worth.{WalksBoard};
 
 use crate::board_test::longest_scan;
@@ -73,11 +73,19 @@ pub fn walk<K: Sink>(alloc: Global, texts: BoardTexts, out: &mut K) -> Result<()
         Ok(walked) => walked,
         Err(failure) => return Err(failure),
     };
+    is_harmless(&walked.board);
+    put_walk(alloc, &walked, out)
+}
+
+// Puts the walking test of a board.
+fn put_walk<K: Sink>(alloc: Global, walked: &Walked, out: &mut K) -> Result<(), Unput>
+    requires { IsWalkOf walked.now.board walked.now.walk }
+    ensures { PutsText (board_walk_text walked.now.board) (K.shown out.old) (K.shown out.new) result }
+{
     let Ok(mut rows) = Rows::with_room(alloc, longest_scan(&walked.board)) else {
         return Err(Unput::Memory);
     };
-    is_harmless(&walked.board);
-    match write_walk(&walked, &mut rows, out) {
+    match write_walk(walked, &mut rows, out) {
         Ok(()) => Ok(()),
         Err(_) => Err(Unput::Write),
     }

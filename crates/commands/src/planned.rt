@@ -7,13 +7,13 @@ ghost use Rattle.btest_core.specs.BoardRead.{Denotes};
 ghost use Rattle.commands.specs.inner.Unput.{NoBoard};
 ghost use Rattle.commands.specs.Worth.{TestMeans};
 
-use crate::board_test::board_plan;
 use crate::texts::BoardTexts;
 use crate::unput::{Unput, unput_by};
 use board_defs::Board;
-use btest_core::read_board;
+use btest_core::{plan, read_board};
+use net_classes::classify;
 use scan_planner::Plan;
-use std::alloc::Global;
+use std::alloc::{AllocError, Global};
 
 /// A board, and the plan that its passes make of its test.
 #[derive(Drop)]
@@ -41,4 +41,13 @@ pub fn planned_board(alloc: Global, texts: BoardTexts) -> Result<Planned, Unput>
         Ok(plan) => Ok(Planned { board, plan }),
         Err(_) => Err(Unput::Memory),
     }
+}
+
+// The plan of the board's passes.
+fn board_plan(alloc: Global, board: &Board) -> Result<Plan, AllocError>
+    ensures plan { IfOk result (λ plan. IsPlanOf board.now plan) }
+    ensures passes { IfOk result (λ plan. plan.passes ≡ passes_of board.now) }
+{
+    let classes = classify(alloc, board)?;
+    plan(alloc, board, &classes)
 }

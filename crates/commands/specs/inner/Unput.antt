@@ -1,5 +1,7 @@
--- Why nothing is put where texts have a fault.
-use Rattle.std.specs.Prelude.{ℕ, List, Err}
+-- Why nothing is put where texts have a fault, and what the sink took of a text where they have none.
+use Rattle.std.specs.Prelude.{◌≡◌, ℕ, List, take, Result, Ok, Err}
+use Rattle.bt_base.specs.Counts.{Rose}
+use Rattle.bt_base.specs.Puts.{Shown, Takes}
 use Rattle.btest_core.specs.declared.fault.InputFault.{InputFault}
 use Rattle.btest_core.specs.declared.fault.InputFault.TheVariants as input
 use Rattle.response_log.specs.declared.fault.LogFault.{LogFault}
@@ -45,3 +47,18 @@ unput_of (input.Board fault) = unput.Input (input.Board fault)
 unput_of (input.Device text fault) = unput.Input (input.Device text fault)
 unput_of (input.Link fault) = unput.Input (input.Link fault)
 unput_of (input.NoIdent line) = unput.Input (input.NoIdent line)
+
+-- the sink took some first bytes of the text
+pub record IsCutShort (text : Text) (old new : Shown) : Type 0 where
+  pub rose : Rose old.faults new.faults
+  pub bytes : ℕ
+  pub takes : Takes old new (take bytes text)
+
+-- the text was put, or cut short, or memory ran out before the first put
+abbrev pub PutsText : Text → Shown → Shown → Result (Unit {0}) Unput → Type 0
+PutsText text old new (Ok done) = Takes old new text
+PutsText text old new (Err (unput.Input fault)) = ⊥
+PutsText text old new (Err (unput.Log rows fault)) = ⊥
+PutsText text old new (Err (unput.Batch rows fault)) = ⊥
+PutsText text old new (Err unput.Write) = IsCutShort text old new
+PutsText text old new (Err unput.Memory) = new ≡ old

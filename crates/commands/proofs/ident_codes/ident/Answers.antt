@@ -1,10 +1,8 @@
-use Rattle.std.proofs.Common.{Option, List, map, subst}
-use Rattle.bt_base.specs.Puts.{Puts}
-use Rattle.board_defs.specs.declared.device.Symbol.{Symbol}
+use Rattle.std.proofs.Common.{map}
 use Rattle.ident_test.specs.Patterns.{ident_text}
 use Rattle.btest_core.specs.IdentsRead.{AreIdents}
 use Rattle.commands.specs.Worth.{TestsIdents}
-use Rattle.commands.proofs.AnswerLemmas.{answers_fault, takes_by, cut_by}
+use Rattle.commands.proofs.AnswerLemmas.{answers_fault}
 use Rattle.commands.proofs.ident_codes.ident.Goals as goal
 
 pub returns-in-Err : goal.returns-in-Err

@@ -1,9 +1,9 @@
-use Rattle.std.proofs.Common.{◌≡◌, ◌∙◌, ℕ, Bool, List, Option, ap, length, subst}
+use Rattle.std.proofs.Common.{◌≡◌, ◌∙◌, ℕ, List, Option, ap, length, subst}
 use Rattle.std.specs.Prelude.{IfSome, Ok, Err, option_map}
 use Rattle.bt_base.specs.Puts.{Puts}
 use Rattle.response_log.specs.LogRows.{log_rows, log_told}
 use Rattle.walk_test.specs.GroupText.{groups_text}
-use Rattle.walk_test.specs.WalkTest.{walk_nets, walk_row_list}
+use Rattle.walk_test.specs.WalkTest.{walk_row_list}
 use Rattle.commands.specs.LogRead.{IsJudged, Log, OnBoard, grouping, grouping_text, walk_log, walk_rows}
 use Rattle.commands.specs.Worth.{FindsGroups}
 use Rattle.commands.proofs.AnswerLemmas.{log_wrong, takes_by, cut_by}

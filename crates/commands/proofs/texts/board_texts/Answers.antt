@@ -1,4 +1,4 @@
-use Rattle.std.proofs.Common.{◌<◌, ◌-◌, ◌^◌, take, drop, length}
+use Rattle.std.proofs.Common.{◌<◌, ◌-◌, ◌^◌, drop, length}
 use Rattle.std.proofs.lemmas.List.Elements.{All-drop, All-take}
 use Rattle.commands.proofs.texts.board_texts.Goals as goal
 
