@@ -157,18 +157,15 @@ fn ports(alloc: Global, range: Range) -> Result<Vec<Port>, AllocError> {
     Ok(ports)
 }
 
-fn taps(alloc: Global, texts: &Texts) -> Result<TapPorts, AllocError> {
-    let reset = match texts.reset {
-        Some(text) => Some(name(alloc, text)?),
-        None => None,
-    };
-    Ok(TapPorts {
-        scan_in: name(alloc, "TDI")?,
-        scan_out: name(alloc, texts.scan_out)?,
-        mode: name(alloc, "TMS")?,
-        clock: name(alloc, texts.clock)?,
-        reset,
-    })
+fn fill_taps(alloc: Global, texts: &Texts, taps: &mut TapPorts) -> Result<(), AllocError> {
+    taps.scan_in = name(alloc, "TDI")?;
+    taps.scan_out = name(alloc, texts.scan_out)?;
+    taps.mode = name(alloc, "TMS")?;
+    taps.clock = name(alloc, texts.clock)?;
+    if let Some(text) = texts.reset {
+        taps.reset = Some(name(alloc, text)?);
+    }
+    Ok(())
 }
 
 fn opcodes_of(alloc: Global, text: &str) -> Result<Items<Opcode>, CaseFault> {
@@ -194,32 +191,59 @@ fn compliance_of(alloc: Global, text: Option<&str>) -> Result<Option<Compliance>
     }
 }
 
-fn draft(alloc: Global, texts: &Texts) -> Result<Draft, CaseFault> {
-    let opcodes = opcodes_of(alloc, texts.opcodes)?;
-    let capture = code_of(alloc, texts.capture)?;
-    let idcode = Some(code_of(alloc, texts.idcode)?);
-    let compliance = compliance_of(alloc, texts.compliance)?;
-    let map = map_of(alloc, texts.map)?;
-    let entries = entries_of(alloc, texts.entries)?;
-    let ports = Items::of(ports(alloc, texts.range)?);
-    let taps = taps(alloc, texts)?;
-    let entity = name(alloc, "DRV")?;
-    let package = name(alloc, "P")?;
-    Ok(Draft {
-        entity,
-        package,
-        edition: texts.edition,
-        ports,
-        taps,
+fn no_name(alloc: Global) -> Name {
+    Name::from_vec(Vec::new(alloc))
+}
+
+fn no_taps(alloc: Global) -> TapPorts {
+    TapPorts {
+        scan_in: no_name(alloc),
+        scan_out: no_name(alloc),
+        mode: no_name(alloc),
+        clock: no_name(alloc),
+        reset: None,
+    }
+}
+
+/// The draft of a text that says nothing.
+fn empty_draft(alloc: Global) -> Draft {
+    Draft {
+        entity: no_name(alloc),
+        package: no_name(alloc),
+        edition: Edition::Old,
+        ports: Items::of(Vec::new(alloc)),
+        taps: no_taps(alloc),
         ir: 2,
-        opcodes,
-        capture,
-        idcode,
-        compliance,
-        boundary: texts.boundary,
-        map,
-        entries,
-    })
+        opcodes: Items::of(Vec::new(alloc)),
+        capture: Code::from_vec(Vec::new(alloc)),
+        idcode: None,
+        compliance: None,
+        boundary: 0,
+        map: Items::of(Vec::new(alloc)),
+        entries: Items::of(Vec::new(alloc)),
+    }
+}
+
+/// Adds what the strings say.
+fn fill_strings(alloc: Global, texts: &Texts, draft: &mut Draft) -> Result<(), CaseFault> {
+    draft.opcodes = opcodes_of(alloc, texts.opcodes)?;
+    draft.capture = code_of(alloc, texts.capture)?;
+    draft.idcode = Some(code_of(alloc, texts.idcode)?);
+    draft.compliance = compliance_of(alloc, texts.compliance)?;
+    draft.map = map_of(alloc, texts.map)?;
+    draft.entries = entries_of(alloc, texts.entries)?;
+    Ok(())
+}
+
+/// Makes an empty draft that of these texts.
+fn fill(alloc: Global, texts: &Texts, draft: &mut Draft) -> Result<(), CaseFault> {
+    draft.entity = name(alloc, "DRV")?;
+    draft.package = name(alloc, "P")?;
+    draft.edition = texts.edition;
+    draft.boundary = texts.boundary;
+    draft.ports = Items::of(ports(alloc, texts.range)?);
+    fill_taps(alloc, texts, &mut draft.taps)?;
+    fill_strings(alloc, texts, draft)
 }
 
 fn is_short(draft: &Draft) -> bool
@@ -233,29 +257,43 @@ fn is_short(draft: &Draft) -> bool
 
 /// The rule and the item, or zeros where no rule is broken.
 fn broken(alloc: Global, texts: &Texts) -> Result<(u32, u32), CaseFault> {
-    let draft = draft(alloc, texts)?;
-    if !is_short(&draft) {
+    let mut draft = empty_draft(alloc);
+    filled_broken(alloc, texts, &mut draft)
+}
+
+/// Fills an empty draft, and tries the rules.
+fn filled_broken(alloc: Global, texts: &Texts, draft: &mut Draft) -> Result<(u32, u32), CaseFault> {
+    fill(alloc, texts, draft)?;
+    if !is_short(draft) {
         return Err(CaseFault::TooLong);
     }
-    match first_rule(alloc, &draft)? {
+    match first_rule(alloc, draft)? {
         Some(broken) => Ok((broken.rule, broken.item)),
         None => Ok((0, 0)),
     }
 }
 
 fn shown_device(alloc: Global, texts: &Texts) -> Result<String, CaseFault> {
-    let draft = draft(alloc, texts)?;
-    if !is_short(&draft) || !(1 <= draft.boundary && draft.boundary < 1000) {
-        return Err(CaseFault::TooLong);
-    }
-    if draft.ir != 2 || first_rule(alloc, &draft)?.is_some() {
-        return Ok(String::from_str(alloc, "no device")?);
-    }
-    let raw = raw_device(alloc, &draft)?;
-    Ok(shown_raw(alloc, &raw)?)
+    let mut draft = empty_draft(alloc);
+    filled_shown(alloc, texts, &mut draft)
 }
 
-fn shown_raw(alloc: Global, raw: &RawDevice) -> Result<String, AllocError> {
+/// Fills an empty draft, and shows its device.
+fn filled_shown(alloc: Global, texts: &Texts, draft: &mut Draft) -> Result<String, CaseFault> {
+    fill(alloc, texts, draft)?;
+    if !is_short(draft) || !(1 <= draft.boundary && draft.boundary < 1000) {
+        return Err(CaseFault::TooLong);
+    }
+    if draft.ir != 2 || first_rule(alloc, draft)?.is_some() {
+        return Ok(String::from_str(alloc, "no device")?);
+    }
+    match raw_device(alloc, draft) {
+        Ok(raw) => shown_raw(alloc, &raw),
+        Err(error) => Err(CaseFault::Memory(error)),
+    }
+}
+
+fn shown_raw(alloc: Global, raw: &RawDevice) -> Result<String, CaseFault> {
     let mut shown = String::new(alloc);
     for bit in raw.bits.as_slice() {
         add_bit(bit, alloc, &mut shown)?;

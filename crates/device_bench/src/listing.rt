@@ -9,28 +9,42 @@ use bt_bits::Line;
 use device_check::write_device;
 use std::alloc::{AllocError, Global};
 
+/// What is wanted of a listing.
+#[derive(Clone, Copy)]
+enum Wanted<'a> {
+    /// It is this text.
+    Whole(&'a str),
+    /// It ends in this text.
+    End(&'a str),
+    /// It fails where this put fails, with so many bytes taken, which end in this text.
+    Cut(u32, usize, &'a str),
+}
+
+impl Wanted<'_> {
+    fn is_met(&self, has_failed: bool, bytes: &[u8]) -> bool {
+        match *self {
+            Wanted::Whole(text) => !has_failed && bytes == text.as_bytes(),
+            Wanted::End(end) => !has_failed && bytes.ends_with(end.as_bytes()),
+            Wanted::Cut(_, taken, end) => {
+                has_failed && bytes.len() == taken && bytes.ends_with(end.as_bytes())
+            }
+        }
+    }
+}
+
 /// Tries each text: the listing of its device.
 pub fn listings_hold(alloc: Global, cases: &[(Source, &'static str)]) -> Result<(), CaseFault> {
     let mut line = Line::new(alloc)?;
     for (case, (source, wanted)) in cases.iter().enumerate() {
-        let device = described(alloc, case, source)?;
-        let (has_failed, out) = listed(alloc, &device, &mut line, None)?;
-        if has_failed || out.bytes() != wanted.as_bytes() {
-            return Err(ended(alloc, case, &out)?);
-        }
+        try_source(alloc, case, source, Wanted::Whole(wanted), &mut line)?;
     }
     Ok(())
 }
 
 /// Tries a text: the last lines of the listing of its device.
 pub fn listing_ends(alloc: Global, source: Source, end: &str) -> Result<(), CaseFault> {
-    let device = described(alloc, 0, &source)?;
     let mut line = Line::new(alloc)?;
-    let (has_failed, out) = listed(alloc, &device, &mut line, None)?;
-    if has_failed || !out.bytes().ends_with(end.as_bytes()) {
-        return Err(ended(alloc, 0, &out)?);
-    }
-    Ok(())
+    try_source(alloc, 0, &source, Wanted::End(end), &mut line)
 }
 
 /// Tries the listing of a text's device with each of these puts that fails: how many bytes are taken, and their end.
@@ -39,46 +53,76 @@ pub fn cuts_hold(
     source: Source,
     cases: &[(u32, usize, &'static str)],
 ) -> Result<(), CaseFault> {
-    let device = described(alloc, 0, &source)?;
+    match described(alloc, 0, &source) {
+        Ok(device) => try_cuts(alloc, &device, cases),
+        Err(fault) => Err(fault),
+    }
+}
+
+fn try_cuts(
+    alloc: Global,
+    device: &Device,
+    cases: &[(u32, usize, &'static str)],
+) -> Result<(), CaseFault> {
     let mut line = Line::new(alloc)?;
     for (case, (call, taken, end)) in cases.iter().enumerate() {
-        let (has_failed, out) = listed(alloc, &device, &mut line, Some(*call))?;
-        let bytes = out.bytes();
-        if !has_failed || bytes.len() != *taken || !bytes.ends_with(end.as_bytes()) {
-            return Err(ended(alloc, case, &out)?);
-        }
+        let wanted = Wanted::Cut(*call, *taken, end);
+        try_device(alloc, case, device, wanted, &mut line)?;
     }
     Ok(())
+}
+
+fn try_source(
+    alloc: Global,
+    case: usize,
+    source: &Source,
+    wanted: Wanted<'_>,
+    line: &mut Line,
+) -> Result<(), CaseFault> {
+    match described(alloc, case, source) {
+        Ok(device) => try_device(alloc, case, &device, wanted, line),
+        Err(fault) => Err(fault),
+    }
+}
+
+/// Tries the listing of a device. The line may hold what an earlier one left.
+fn try_device(
+    alloc: Global,
+    case: usize,
+    device: &Device,
+    wanted: Wanted<'_>,
+    line: &mut Line,
+) -> Result<(), CaseFault> {
+    let mut out = MemSink::with_room(alloc, 4000)?;
+    if let Wanted::Cut(call, _, _) = wanted {
+        out.fail_at(call, 0)?;
+    }
+    let has_failed = write_device(device, line, &mut out).is_err();
+    if wanted.is_met(has_failed, out.bytes()) {
+        Ok(())
+    } else {
+        Err(ended(case, shown_bytes(alloc, out.bytes())))
+    }
 }
 
 fn described(alloc: Global, case: usize, source: &Source) -> Result<Device, CaseFault> {
     let text = source.bytes(alloc)?;
     match device_of(alloc, &text, None) {
         Ok(device) => Ok(device),
-        Err(fault) => {
-            let found = shown_fault(alloc, &fault)?;
-            Err(CaseFault::Ended { case, found })
-        }
+        Err(fault) => Err(ended(case, shown_fault(alloc, &fault))),
     }
 }
 
-/// Whether the listing fails, and what of it is taken, where this put fails. The line may hold what an earlier one left.
-fn listed(
-    alloc: Global,
-    device: &Device,
-    line: &mut Line,
-    failing: Option<u32>,
-) -> Result<(bool, MemSink), AllocError> {
-    let mut out = MemSink::with_room(alloc, 4000)?;
-    if let Some(call) = failing {
-        out.fail_at(call, 0)?;
+/// The fault of a case that ends so.
+fn ended(case: usize, found: Result<String, AllocError>) -> CaseFault {
+    match found {
+        Ok(found) => CaseFault::Ended { case, found },
+        Err(error) => CaseFault::Memory(error),
     }
-    let has_failed = write_device(device, line, &mut out).is_err();
-    Ok((has_failed, out))
 }
 
-fn ended(alloc: Global, case: usize, out: &MemSink) -> Result<CaseFault, AllocError> {
-    let mut found = String::new(alloc);
-    add_bytes(out.bytes(), &mut found)?;
-    Ok(CaseFault::Ended { case, found })
+fn shown_bytes(alloc: Global, bytes: &[u8]) -> Result<String, AllocError> {
+    let mut shown = String::new(alloc);
+    add_bytes(bytes, &mut shown)?;
+    Ok(shown)
 }
