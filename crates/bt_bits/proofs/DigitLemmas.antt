@@ -244,7 +244,8 @@ pub drop-bits_of-whole : (digits : List ℕ) (len : ℕ) → length digits ≡ d
 drop-bits_of-whole digits len sized whole =
     drop_all len (bits_of digits) (omega (arith, length-bits_of digits))
 
-bit_value-test : (n : ℕ) → n < 2 → bit_value (eqb n 1) ≡ n
+-- a number below 2 is what its test for 1 counts
+pub bit_value-test : (n : ℕ) → n < 2 → bit_value (eqb n 1) ≡ n
 bit_value-test zero small = refl
 bit_value-test (suc zero) small = refl
 bit_value-test (suc (suc n)) small = absurd (omega arith)

@@ -3,12 +3,14 @@ ghost use Rattle.std.specs.List.{list_any};
 ghost use Rattle.bt_bits.specs.Digits.{digits_of, row_bits};
 ghost use Rattle.bt_bits.specs.Hex.{hex_text, digit_count, field_bits};
 ghost use Rattle.bt_bits.specs.Rows.{AreDigitsOf};
+ghost use Rattle.bt_bits.specs.Stacks.{stacked};
 
 use crate::Line;
 use crate::digits::{
     copy_bits, digit_bit, digit_count, fill_field, has_one, make_zeros, push_text, read_field,
     with_bit,
 };
+use crate::stack::{RowStack, copy_digits};
 use std::alloc::{AllocError, Global};
 use std::marker::Model;
 use thiserror::Error;
@@ -91,6 +93,17 @@ impl Row {
         self.digits.clear();
         self.digits.extend_from_slice(&row.digits).unwrap();
         self.len = row.len;
+    }
+
+    /// Makes the row the one with this number of a stack, for which it has room.
+    pub fn copy_stacked(&mut self, rows: &RowStack, number: u32)
+        requires number { number < 16 }
+        requires room { length (stacked rows.now number) ≤ self.old.room }
+        ensures bits { self.new.bits ≡ stacked rows.now number }
+        ensures room { self.new.room ≡ self.old.room }
+    {
+        copy_digits(rows.words(), number, &mut self.digits);
+        self.len = rows.len();
     }
 
     /// The values of the row's hexadecimal digits, of which the first has the first four bits.

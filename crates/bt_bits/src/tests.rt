@@ -1,3 +1,5 @@
+ghost use Rattle.std.specs.Prelude.{◌<◌};
+
 use super::*;
 use std::alloc::{AllocError, Global};
 use std::test::Fail;
@@ -8,6 +10,7 @@ fn is_shared<T: Send + Sync>(_value: &T) {}
 fn values_may_be_shared(rt: HostRuntime) -> Result<(), Fail> {
     let alloc = rt.alloc();
     is_shared(&Row::with_room(alloc, 8)?);
+    is_shared(&RowStack::with_room(alloc, 8)?);
     is_shared(&Line::new(alloc)?);
     is_shared(&HexFault::Length);
     Ok(())
@@ -46,6 +49,59 @@ fn prints_digits(rt: HostRuntime) -> Result<(), Fail> {
     let mut copy = Row::with_room(alloc, 5)?;
     copy.copy_row(&row);
     assert_eq!(rt; copy.digits(), [13, 1].as_slice());
+    Ok(())
+}
+
+// Whether a stack has these digits in one of its rows.
+fn has_row(alloc: Global, stack: &RowStack, number: u32, digits: &[u8]) -> Result<bool, AllocError>
+    requires { number < 16 }
+{
+    let mut row = Row::with_room(alloc, stack.len())?;
+    row.copy_stacked(stack, number);
+    Ok(row.digits() == digits)
+}
+
+#[test]
+fn stacks_rows(rt: HostRuntime) -> Result<(), Fail> {
+    let alloc = rt.alloc();
+    let mut row = Row::with_room(alloc, 6)?;
+    row.copy_from(&[false, true, false, false, true, false]);
+    let mut common = RowStack::with_room(alloc, 8)?;
+    common.fill_with(&row);
+    let mut stack = RowStack::with_room(alloc, 8)?;
+    stack.copy_from(&common);
+    stack.set(0, Column::of(0x8002));
+    stack.set(1, Column::of_bit(false));
+    stack.set(3, Column::of(0x5555_0A50));
+    stack.set(4, Column::of_bit(true));
+    stack.set(5, Column::of(0x9F60));
+    stack.set(6, Column::of_bit(true));
+    let rows: [[u8; 2]; 16] = [
+        [0, 1],
+        [1, 1],
+        [0, 1],
+        [0, 1],
+        [8, 1],
+        [0, 3],
+        [8, 3],
+        [0, 1],
+        [0, 3],
+        [8, 3],
+        [0, 3],
+        [8, 3],
+        [0, 3],
+        [0, 1],
+        [0, 1],
+        [1, 3],
+    ];
+    assert_eq!(rt; stack.len(), 6);
+    for number in 0..16u32 {
+        assert!(rt;
+            has_row(alloc, &stack, number, &rows[number as usize])?,
+            "{number}"
+        );
+        assert!(rt; has_row(alloc, &common, number, &[2, 1])?, "{number}");
+    }
     Ok(())
 }
 
