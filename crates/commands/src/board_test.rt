@@ -9,7 +9,7 @@ ghost use Rattle.tap_defs.specs.chain.Svf.{meaning};
 ghost use Rattle.tap_defs.specs.chain.Text.{scan_text, svf_text};
 ghost use Rattle.plan_tables.specs.declared.tables.PlanTables.{PlanTables as PlanRecord};
 ghost use Rattle.plan_tables.specs.Plans.{IsPlanOf};
-ghost use Rattle.scan_planner.specs.Coded.{AreCoded};
+ghost use Rattle.scan_planner.specs.PassRows.{AreKept};
 ghost use Rattle.scan_planner.specs.Plans.{FillsScan, IsRoom, scan_count};
 ghost use Rattle.btest_core.specs.BoardRead.{IsBoardRead};
 ghost use Rattle.commands.specs.Worth.{RespondOnce, TestsBoard};
@@ -22,7 +22,7 @@ use crate::texts::BoardTexts;
 use crate::unput::Unput;
 use board_defs::Board;
 use bt_base::{PutFault, Sink};
-use scan_planner::{CodedCells, Plan};
+use scan_planner::{PassRows, Plan};
 use std::alloc::{AllocError, Global};
 use svf_writer::{write_head, write_scan, write_tail};
 use tap_defs::Shape;
@@ -94,11 +94,11 @@ pub fn longest_scan(board: &Board) -> u32
     board.ir_bits().max(board.dr_bits())
 }
 
-/// What the scans of a test are made in: their rows, and the cells of a pass.
+/// What the scans of a test are made in: their rows, and the rows of a whole pass.
 #[derive(Drop)]
 pub struct TestRows {
     pub rows: Rows,
-    pub cells: CodedCells,
+    pub kept: PassRows,
 }
 
 impl TestRows {
@@ -107,11 +107,11 @@ impl TestRows {
         ensures tdi { IfOk result (λ made. IsRoom board.now made.rows.tdi.room) }
         ensures tdo { IfOk result (λ made. IsRoom board.now made.rows.tdo.room) }
         ensures mask { IfOk result (λ made. IsRoom board.now made.rows.mask.room) }
-        ensures coded { IfOk result (λ made. (plan : PlanRecord) → AreCoded board.now plan made.cells) }
+        ensures kept { IfOk result (λ made. (plan : PlanRecord) → AreKept board.now plan made.kept) }
     {
         Ok(TestRows {
             rows: Rows::with_room(alloc, longest_scan(board))?,
-            cells: CodedCells::with_room(alloc, board.dr_bits())?,
+            kept: PassRows::with_room(alloc, board.dr_bits())?,
         })
     }
 }
@@ -124,26 +124,26 @@ pub fn write_test<K: Sink>(
     out: &mut K,
 ) -> Result<(), PutFault>
     requires plan { IsPlanOf board.now plan.now }
-    requires coded { AreCoded board.now plan.now made.old.cells }
+    requires kept { AreKept board.now plan.now made.old.kept }
     requires tdi { IsRoom board.now made.old.rows.tdi.room }
     requires tdo { IsRoom board.now made.old.rows.tdo.room }
     requires mask { IsRoom board.now made.old.rows.mask.room }
     ensures { Puts (K.shown out.old) (K.shown out.new) (pass_text board.now plan.now.passes plan.now.width) result }
 {
-    write_scans(board, plan, &mut made.cells, &mut made.rows, out)
+    write_scans(board, plan, &mut made.kept, &mut made.rows, out)
 }
 
-// The same in these rows and cells.
+// The same in these rows.
 #[tactic(auto, unfolding(tap_defs::specs::chain::Text::svf_text))]
 fn write_scans<K: Sink>(
     board: &Board,
     plan: &Plan,
-    cells: &mut CodedCells,
+    kept: &mut PassRows,
     rows: &mut Rows,
     out: &mut K,
 ) -> Result<(), PutFault>
     requires plan { IsPlanOf board.now plan.now }
-    requires coded { AreCoded board.now plan.now cells.old }
+    requires kept { AreKept board.now plan.now kept.old }
     requires tdi { IsRoom board.now rows.old.tdi.room }
     requires tdo { IsRoom board.now rows.old.tdo.room }
     requires mask { IsRoom board.now rows.old.mask.room }
@@ -153,7 +153,7 @@ fn write_scans<K: Sink>(
     write_head(out)?;
     let mut held = None;
     for k in 0..plan.scans() {
-        write_scan_at(board, plan, k, &mut held, cells, rows, out)?;
+        write_scan_at(board, plan, k, &mut held, kept, rows, out)?;
     }
     write_tail(out)
 }
@@ -164,7 +164,7 @@ fn write_scan_at<K: Sink>(
     plan: &Plan,
     k: u64,
     held: &mut Option<Shape>,
-    cells: &mut CodedCells,
+    kept: &mut PassRows,
     rows: &mut Rows,
     out: &mut K,
 ) -> Result<(), PutFault>
@@ -172,18 +172,18 @@ fn write_scan_at<K: Sink>(
     requires scan { k < scan_count plan.now }
     requires later { IfSome held.old (λ shape. 0 < k) }
     requires held { IfSome held.old (λ shape. FillsScan board.now plan.now.passes plan.now.width (k - 1) shape rows.old.tdi.bits rows.old.tdo.bits rows.old.mask.bits) }
-    requires coded { AreCoded board.now plan.now cells.old }
+    requires kept { AreKept board.now plan.now kept.old }
     requires tdi { IsRoom board.now rows.old.tdi.room }
     requires tdo { IsRoom board.now rows.old.tdo.room }
     requires mask { IsRoom board.now rows.old.mask.room }
     ensures text { IfSome (slice_get (test_scans board.now plan.now.passes plan.now.width) k) (λ scan. Puts (K.shown out.old) (K.shown out.new) (scan_text scan) result) }
     ensures held { IfSome held.new (λ shape. FillsScan board.now plan.now.passes plan.now.width k shape rows.new.tdi.bits rows.new.tdo.bits rows.new.mask.bits) }
-    ensures coded { AreCoded board.now plan.now cells.new }
+    ensures kept { AreKept board.now plan.now kept.new }
     ensures tdi { rows.new.tdi.room ≡ rows.old.tdi.room }
     ensures tdo { rows.new.tdo.room ≡ rows.old.tdo.room }
     ensures mask { rows.new.mask.room ≡ rows.old.mask.room }
 {
-    let shape = fill_at(board, plan, k, *held, cells, rows);
+    let shape = fill_at(board, plan, k, *held, kept, rows);
     *held = Some(shape);
     write_scan(shape, &rows.tdi, &rows.tdo, &rows.mask, &mut rows.line, out)
 }
@@ -194,19 +194,19 @@ fn fill_at(
     plan: &Plan,
     k: u64,
     before: Option<Shape>,
-    cells: &mut CodedCells,
+    kept: &mut PassRows,
     rows: &mut Rows,
 ) -> Shape
     requires plan { IsPlanOf board.now plan.now }
     requires scan { k < scan_count plan.now }
     requires later { IfSome before (λ shape. 0 < k) }
     requires held { IfSome before (λ shape. FillsScan board.now plan.now.passes plan.now.width (k - 1) shape rows.old.tdi.bits rows.old.tdo.bits rows.old.mask.bits) }
-    requires coded { AreCoded board.now plan.now cells.old }
+    requires kept { AreKept board.now plan.now kept.old }
     requires tdi { IsRoom board.now rows.old.tdi.room }
     requires tdo { IsRoom board.now rows.old.tdo.room }
     requires mask { IsRoom board.now rows.old.mask.room }
     ensures filled { FillsScan board.now plan.now.passes plan.now.width k result rows.new.tdi.bits rows.new.tdo.bits rows.new.mask.bits }
-    ensures coded { AreCoded board.now plan.now cells.new }
+    ensures kept { AreKept board.now plan.now kept.new }
     ensures tdi { rows.new.tdi.room ≡ rows.old.tdi.room }
     ensures tdo { rows.new.tdo.room ≡ rows.old.tdo.room }
     ensures mask { rows.new.mask.room ≡ rows.old.mask.room }
@@ -217,7 +217,7 @@ fn fill_at(
             board,
             k - 1,
             shape,
-            cells,
+            kept,
             &mut rows.tdi,
             &mut rows.tdo,
             &mut rows.mask,

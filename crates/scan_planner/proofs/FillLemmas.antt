@@ -97,6 +97,16 @@ row_sized board rules scan =
     sym (length-map (joined (row_bits board scan)) (λ b. b.tdi)) ∙ ap (λ (l : List Bool). length l) (tdi_laid board scan) ∙ length-laid (λ part device cell. row_bit board scan.now part device cell) board in
     record { some = row_scan_some board rules scan; most = omega (arith, size, rules.data_most); size_is = size }
 
+-- the lengths of its rows
+pub shifted_size : (board : RawBoard) (scan : RowScan) → length (tdi_bits (joined (row_bits board scan))) ≡ data_bits board
+shifted_size board scan = ap length (tdi_laid board scan) ∙ length-laid (λ part device cell. row_bit board scan.now part device cell) board
+
+pub expected_size : (board : RawBoard) (scan : RowScan) → length (tdo_bits (joined (row_bits board scan))) ≡ data_bits board
+expected_size board scan = ap length (tdo_laid board scan) ∙ length-laid (λ part device cell. unwrap_or (expect_bit board scan.before part device cell) false) board
+
+pub marked_size : (board : RawBoard) (scan : RowScan) → length (mask_bits (joined (row_bits board scan))) ≡ data_bits board
+marked_size board scan = ap length (mask_laid board scan) ∙ length-laid (λ part device cell. is_some (expect_bit board scan.before part device cell)) board
+
 -- nothing is compared after the quiet row
 pub quiet_tdo : (board : RawBoard) (scan : RowScan) → scan.before ≡ quiet_row → replicate (data_bits board) false ≡ tdo_bits (joined (row_bits board scan))
 quiet_tdo board scan e =

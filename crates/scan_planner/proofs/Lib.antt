@@ -4,5 +4,3 @@ pub mod ReaderLemmas
 pub mod ControlLemmas
 pub mod FillLemmas
 pub mod NextLemmas
-pub mod CodedLemmas
-pub mod Samples

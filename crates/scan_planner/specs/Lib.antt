@@ -1,4 +1,4 @@
 pub mod Plans
-pub mod Coded
+pub mod PassRows
 pub mod Laws
 pub mod inner

@@ -124,8 +124,8 @@ fn rows_at(common: &[FixedRows], j: usize) -> &FixedRows
     &common[j]
 }
 
-/// What all passes have in row `j`.
-pub fn common_row<'a>(board: &Board, tables: &'a PlanTables, j: u32) -> &'a FixedRows
+// What all passes have in row `j`.
+fn common_row<'a>(board: &Board, tables: &'a PlanTables, j: u32) -> &'a FixedRows
     requires plan { IsPlanOf board.now tables.now }
     requires row { j < tables.now.width }
     ensures { result.now ≡ common_rows tables.now.quiet.bits tables.now.codes tables.now.readers tables.now.steady j }
@@ -134,8 +134,8 @@ pub fn common_row<'a>(board: &Board, tables: &'a PlanTables, j: u32) -> &'a Fixe
     rows_at(tables.common.as_slice(), j as usize)
 }
 
-/// Shifts in what all passes have in row `j`, and in the cells of the controls of a pass what these hold.
-pub fn shift_held(board: &Board, tables: &PlanTables, pass: usize, j: u32, tdi: &mut Row)
+// Shifts in what all passes have in row `j`, and in the cells of the controls of a pass what these hold.
+fn shift_held(board: &Board, tables: &PlanTables, pass: usize, j: u32, tdi: &mut Row)
     requires plan { IsPlanOf board.now tables.now }
     requires pass { pass < length tables.now.passes }
     requires row { j < tables.now.width }

@@ -2,14 +2,14 @@
 //! of each net and each position. `plan_tables` makes the tables.
 #![tactic(auto)]
 
-mod coded;
 mod fill;
 pub mod law;
 mod next;
+mod pass_rows;
 mod passes;
 mod plan;
 mod questions;
 
-pub use coded::{CodedCell, CodedCells};
+pub use pass_rows::{PassRows, StackedRows};
 pub use plan::Plan;
 pub use plan_tables::{NetDriver, ReaderCell};

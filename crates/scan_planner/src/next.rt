@@ -1,69 +1,19 @@
-// Fills rows that hold a scan with the next one, by the cells of its pass.
-ghost use Rattle.std.specs.Prelude.{◌≡◌, ◌+◌, ◌*◌, ◌<◌, ◌≤◌, ◌^◌, true, suc, length};
+// Fills rows that hold a scan with the next one, by the rows of its pass.
+ghost use Rattle.std.specs.Prelude.{◌≡◌, ◌+◌, ◌*◌, ◌<◌, ◌≤◌, ◌^◌, suc, length};
 ghost use Rattle.std.specs.List.{list_any};
 ghost use Rattle.board_defs.specs.Pins.{data_bits};
 ghost use Rattle.tap_defs.specs.board.BoardScans.{row_bits};
-ghost use Rattle.tap_defs.specs.board.TestRows.{code_bit};
 ghost use Rattle.tap_defs.specs.chain.Scan.{joined, tdi_bits, tdo_bits, mask_bits};
-ghost use Rattle.plan_tables.specs.Assigned.{assigned};
 ghost use Rattle.plan_tables.specs.Plans.{IsPlanOf};
-ghost use Rattle.scan_planner.specs.Coded.{AreCoded, AreCodedFor};
+ghost use Rattle.scan_planner.specs.PassRows.{AreKept, ArePassRows};
 ghost use Rattle.scan_planner.specs.Plans.{IsRoom, FillsScan, scan_count, scan_of_pass};
 
-use crate::coded::{CodedCell, CodedCells};
-use crate::fill::{common_row, fill_before, fill_now, fill_scan, shift_held};
+use crate::fill::{fill_before, fill_now, fill_scan};
+use crate::pass_rows::{PassRows, StackedRows};
 use board_defs::Board;
 use bt_bits::Row;
-use counting_codes::bit;
 use plan_tables::PlanTables;
 use tap_defs::Shape;
-
-// Sets cells to bit `j` of their codes.
-fn set_codes(cells: &[CodedCell], j: u32, row: &mut Row)
-    requires bit { j < 32 }
-    ensures bits { row.new.bits ≡ assigned (λ c. c.position) (λ c. code_bit c.code j) row.old.bits cells.now }
-    ensures kept { row.new.room ≡ row.old.room }
-{
-    for cell in cells {
-        if cell.position < row.len() {
-            row.set(cell.position, bit(cell.code, j));
-        }
-    }
-}
-
-// Sets cells to 1.
-fn mark_cells(cells: &[CodedCell], row: &mut Row)
-    ensures bits { row.new.bits ≡ assigned (λ c. c.position) (λ c. true) row.old.bits cells.now }
-    ensures kept { row.new.room ≡ row.old.room }
-{
-    for cell in cells {
-        if cell.position < row.len() {
-            row.set(cell.position, true);
-        }
-    }
-}
-
-// Shifts row `j` of a pass in, which has these cells.
-fn shift_row(
-    board: &Board,
-    tables: &PlanTables,
-    pass: usize,
-    j: u32,
-    cells: &CodedCells,
-    tdi: &mut Row,
-)
-    requires plan { IsPlanOf board.now tables.now }
-    requires cells { AreCodedFor board.now tables.now cells.now pass }
-    requires row { j < tables.now.width }
-    requires few { tables.now.width ≤ 14 }
-    requires room { data_bits board.now ≤ tdi.old.room }
-    ensures bits { tdi.new.bits ≡ tdi_bits (joined (row_bits board.now (scan_of_pass board.now tables.now pass j))) }
-    ensures kept { tdi.new.room ≡ tdi.old.room }
-{
-    let _ = board.raw();
-    shift_held(board, tables, pass, j, tdi);
-    set_codes(&cells.driven, j, tdi);
-}
 
 // Shifts row `j` of a pass in, or the quiet row after the last.
 fn shift_now(
@@ -71,34 +21,35 @@ fn shift_now(
     tables: &PlanTables,
     pass: usize,
     j: u32,
-    cells: &CodedCells,
+    rows: &StackedRows,
     tdi: &mut Row,
 )
     requires plan { IsPlanOf board.now tables.now }
-    requires cells { AreCodedFor board.now tables.now cells.now pass }
+    requires rows { ArePassRows board.now tables.now pass rows.now }
     requires few { tables.now.width ≤ 14 }
     requires room { data_bits board.now ≤ tdi.old.room }
     ensures bits { tdi.new.bits ≡ tdi_bits (joined (row_bits board.now (scan_of_pass board.now tables.now pass j))) }
     ensures kept { tdi.new.room ≡ tdi.old.room }
 {
+    let _ = board.raw();
     if j < tables.width {
-        shift_row(board, tables, pass, j, cells, tdi)
+        tdi.copy_stacked(&rows.shifted, j)
     } else {
         fill_now(board, tables, pass, j, tdi)
     }
 }
 
-// Sets what is expected of row `j` of a pass.
+// Expects what row `j` of a pass shifted in.
 fn expect_row(
     board: &Board,
     tables: &PlanTables,
     pass: usize,
     j: u32,
-    cells: &CodedCells,
+    rows: &StackedRows,
     tdo: &mut Row,
 )
     requires plan { IsPlanOf board.now tables.now }
-    requires cells { AreCodedFor board.now tables.now cells.now pass }
+    requires rows { ArePassRows board.now tables.now pass rows.now }
     requires row { j < tables.now.width }
     requires few { tables.now.width ≤ 14 }
     requires room { data_bits board.now ≤ tdo.old.room }
@@ -106,31 +57,27 @@ fn expect_row(
     ensures kept { tdo.new.room ≡ tdo.old.room }
 {
     let _ = board.raw();
-    let common = common_row(board, tables, j);
-    tdo.copy_row(&common.tdo);
-    set_codes(&cells.compared, j, tdo);
+    tdo.copy_stacked(&rows.expected, j);
 }
 
-// Marks where row `j` of a pass is compared.
+// Marks where the rows of a pass are compared.
 fn mark_row(
     board: &Board,
     tables: &PlanTables,
     pass: usize,
     j: u32,
-    cells: &CodedCells,
+    rows: &StackedRows,
     mask: &mut Row,
 )
     requires plan { IsPlanOf board.now tables.now }
-    requires cells { AreCodedFor board.now tables.now cells.now pass }
+    requires rows { ArePassRows board.now tables.now pass rows.now }
     requires row { j < tables.now.width }
     requires room { data_bits board.now ≤ mask.old.room }
     ensures bits { mask.new.bits ≡ mask_bits (joined (row_bits board.now (scan_of_pass board.now tables.now pass (suc j)))) }
     ensures kept { mask.new.room ≡ mask.old.room }
 {
     let _ = board.raw();
-    let common = common_row(board, tables, j);
-    mask.copy_row(&common.mask);
-    mark_cells(&cells.compared, mask);
+    mask.copy_row(&rows.mask);
 }
 
 // Compares the row before row `j` of a pass, and nothing before the first; tells whether anything is compared. Where a row is compared
@@ -141,12 +88,12 @@ fn compare_before(
     pass: usize,
     j: u32,
     told: bool,
-    cells: &CodedCells,
+    rows: &StackedRows,
     tdo: &mut Row,
     mask: &mut Row,
 ) -> bool
     requires plan { IsPlanOf board.now tables.now }
-    requires cells { AreCodedFor board.now tables.now cells.now pass }
+    requires rows { ArePassRows board.now tables.now pass rows.now }
     requires row { j ≤ tables.now.width }
     requires few { tables.now.width ≤ 14 }
     requires stands { 1 < j → mask.old.bits ≡ mask_bits (joined (row_bits board.now (scan_of_pass board.now tables.now pass j))) }
@@ -162,28 +109,28 @@ fn compare_before(
     if j == 0 {
         return fill_before(board, tables, pass, j, tdo, mask);
     }
-    expect_row(board, tables, pass, j - 1, cells, tdo);
+    expect_row(board, tables, pass, j - 1, rows, tdo);
     if j > 1 {
         return told;
     }
-    mark_row(board, tables, pass, j - 1, cells, mask);
+    mark_row(board, tables, pass, j - 1, rows, mask);
     mask.has_one()
 }
 
-// Scan `j` of a pass, which has these cells, where the rows hold the scan before it.
-fn fill_coded(
+// Scan `j` of a pass, which has these rows, where `tdi`, `tdo` and `mask` hold the scan before it.
+fn fill_from(
     board: &Board,
     tables: &PlanTables,
     pass: usize,
     j: u32,
     before: Shape,
-    cells: &CodedCells,
+    rows: &StackedRows,
     tdi: &mut Row,
     tdo: &mut Row,
     mask: &mut Row,
 ) -> Shape
     requires plan { IsPlanOf board.now tables.now }
-    requires cells { AreCodedFor board.now tables.now cells.now pass }
+    requires rows { ArePassRows board.now tables.now pass rows.now }
     requires row { j ≤ tables.now.width }
     requires few { tables.now.width ≤ 14 }
     requires before { FillsScan board.now tables.now.passes tables.now.width (2 + (pass * suc tables.now.width + j)) before tdi.old.bits tdo.old.bits mask.old.bits }
@@ -196,21 +143,21 @@ fn fill_coded(
     ensures mask_kept { mask.new.room ≡ mask.old.room }
 {
     let _ = board.raw();
-    shift_now(board, tables, pass, j, cells, tdi);
+    shift_now(board, tables, pass, j, rows, tdi);
     Shape {
         ir: false,
-        compare: compare_before(board, tables, pass, j, before.compare, cells, tdo, mask),
+        compare: compare_before(board, tables, pass, j, before.compare, rows, tdo, mask),
     }
 }
 
-/// Fills the rows with scan `k + 1`, where they hold scan `k`, which has the shape `before`. The cells become those of its pass; where
-/// memory for them is refused, the scan is made without.
+/// Fills `tdi`, `tdo` and `mask` with scan `k + 1`, where they hold scan `k`, which has the shape `before`. The rows that are kept become
+/// those of its pass.
 pub fn fill_after(
     board: &Board,
     tables: &PlanTables,
     k: u64,
     before: Shape,
-    cells: &mut CodedCells,
+    rows: &mut PassRows,
     tdi: &mut Row,
     tdo: &mut Row,
     mask: &mut Row,
@@ -220,12 +167,12 @@ pub fn fill_after(
     requires counted { k + 1 < 2 ^ 64 }
     requires few { tables.now.width ≤ 14 }
     requires before { FillsScan board.now tables.now.passes tables.now.width k before tdi.old.bits tdo.old.bits mask.old.bits }
-    requires coded { AreCoded board.now tables.now cells.old }
+    requires kept { AreKept board.now tables.now rows.old }
     requires tdi_room { IsRoom board.now tdi.old.room }
     requires tdo_room { IsRoom board.now tdo.old.room }
     requires mask_room { IsRoom board.now mask.old.room }
     ensures filled { FillsScan board.now tables.now.passes tables.now.width (k + 1) result tdi.new.bits tdo.new.bits mask.new.bits }
-    ensures coded { AreCoded board.now tables.now cells.new }
+    ensures kept { AreKept board.now tables.now rows.new }
     ensures tdi_kept { tdi.new.room ≡ tdi.old.room }
     ensures tdo_kept { tdo.new.room ≡ tdo.old.room }
     ensures mask_kept { mask.new.room ≡ mask.old.room }
@@ -236,9 +183,6 @@ pub fn fill_after(
     let scans = u64::from(tables.width) + 1;
     let pass = ((k - 2) / scans) as usize;
     let j = ((k - 2) % scans) as u32;
-    if cells.take_pass(board, tables, pass) {
-        fill_coded(board, tables, pass, j, before, cells, tdi, tdo, mask)
-    } else {
-        fill_scan(board, tables, k + 1, tdi, tdo, mask)
-    }
+    rows.take_pass(board, tables, pass);
+    fill_from(board, tables, pass, j, before, &rows.own, tdi, tdo, mask)
 }

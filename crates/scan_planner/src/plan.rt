@@ -4,12 +4,12 @@ ghost use Rattle.board_defs.specs.Pins.{data_bits};
 ghost use Rattle.tap_defs.specs.board.BoardScans.{row_bits};
 ghost use Rattle.tap_defs.specs.chain.Scan.{joined, mask_bits, tdo_bits};
 ghost use Rattle.plan_tables.specs.Plans.{ArePlannable, IsPlanOf};
-ghost use Rattle.scan_planner.specs.Coded.{AreCoded};
+ghost use Rattle.scan_planner.specs.PassRows.{AreKept};
 ghost use Rattle.scan_planner.specs.Plans.{IsRoom, FillsScan, scan_count, scan_of_pass};
 
-use crate::coded::CodedCells;
 use crate::fill::{compare_row, fill_scan};
 use crate::next::fill_after;
+use crate::pass_rows::PassRows;
 use board_defs::{Board, Items, Setting};
 use bt_bits::Row;
 use plan_tables::{PlanTables, tables_of};
@@ -96,17 +96,17 @@ impl Plan {
         fill_scan(board, &self.tables, k, tdi, tdo, mask)
     }
 
-    /// Fills the rows with scan `k + 1` of the test, where they hold scan `k`, which has the shape `before`, and tells its kind. What the
-    /// two scans have alike is left as it stands, and the cells of a pass are looked up once and kept in `cells`, so the scans of a test,
-    /// one after another, cost less than by `fill`. The board is that of the plan, `k + 1` is below the number of scans, and each row has
-    /// room for the longer register. The cells are of no pass yet, or were filled by this call for this plan. They take no memory where
-    /// they have room for a scan of data; where they need more and it is refused, the scan is made without them.
+    /// Fills the rows with scan `k + 1` of the test, where they hold scan `k`, which has the shape `before`, and tells its kind. The rows
+    /// of a pass are made once, side by side, and kept in `rows`, and what two scans have alike is left as it stands, so the scans of a
+    /// test, one after another, cost less than by `fill`. The board is that of the plan, `k + 1` is below the number of scans, and each
+    /// row has room for the longer register. What is kept has room for a scan of data, and is of no pass yet or was filled by this call for
+    /// this plan. No memory is taken.
     pub fn fill_next(
         &self,
         board: &Board,
         k: u64,
         before: Shape,
-        cells: &mut CodedCells,
+        rows: &mut PassRows,
         tdi: &mut Row,
         tdo: &mut Row,
         mask: &mut Row,
@@ -114,17 +114,17 @@ impl Plan {
         requires plan { IsPlanOf board.now self.now }
         requires next { k + 1 < scan_count self.now }
         requires before { FillsScan board.now self.now.passes self.now.width k before tdi.old.bits tdo.old.bits mask.old.bits }
-        requires coded { AreCoded board.now self.now cells.old }
+        requires kept { AreKept board.now self.now rows.old }
         requires tdi_room { IsRoom board.now tdi.old.room }
         requires tdo_room { IsRoom board.now tdo.old.room }
         requires mask_room { IsRoom board.now mask.old.room }
         ensures filled { FillsScan board.now self.now.passes self.now.width (k + 1) result tdi.new.bits tdo.new.bits mask.new.bits }
-        ensures coded { AreCoded board.now self.now cells.new }
+        ensures kept { AreKept board.now self.now rows.new }
         ensures tdi_kept { tdi.new.room ≡ tdi.old.room }
         ensures tdo_kept { tdo.new.room ≡ tdo.old.room }
         ensures mask_kept { mask.new.room ≡ mask.old.room }
     {
-        fill_after(board, &self.tables, k, before, cells, tdi, tdo, mask)
+        fill_after(board, &self.tables, k, before, rows, tdi, tdo, mask)
     }
 
     /// Fills two rows with what the scan after row `row` of a pass compares: the expected bits, and where they are compared. The board

@@ -39,7 +39,7 @@ loop-k-preserved g c = record {
       subst (λ n. IfSome c.write_scan_at.new.held (λ shape.
       FillsScan c.args.board.now c.args.plan.now.passes c.args.plan.now.width n shape c.write_scan_at.new.rows.tdi.bits c.write_scan_at.new.rows.tdo.bits c.write_scan_at.new.rows.mask.bits))
       (last c.loop-k.k) c.write_scan_at.ensures.held;
-  coded = c.write_scan_at.ensures.coded;
+  kept = c.write_scan_at.ensures.kept;
   tdi = subst (IsRoom c.args.board.now) (sym c.write_scan_at.ensures.tdi) c.loop-k.invariant.tdi;
   tdo = subst (IsRoom c.args.board.now) (sym c.write_scan_at.ensures.tdo) c.loop-k.invariant.tdo;
   mask = subst (IsRoom c.args.board.now) (sym c.write_scan_at.ensures.mask) c.loop-k.invariant.mask;

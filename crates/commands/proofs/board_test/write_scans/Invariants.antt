@@ -4,7 +4,7 @@ use Rattle.bt_base.specs.Puts.{Puts}
 use Rattle.bt_base.specs.declared.sink.PutFault.{PutFault}
 use Rattle.tap_defs.specs.chain.Text.{head_text, scan_texts}
 use Rattle.tap_defs.specs.board.BoardScans.{test_scans}
-use Rattle.scan_planner.specs.Coded.{AreCoded}
+use Rattle.scan_planner.specs.PassRows.{AreKept}
 use Rattle.scan_planner.specs.Plans.{FillsScan, IsRoom}
 use Rattle.commands.proofs.board_test.write_scans.Given as goal
 
@@ -14,7 +14,7 @@ invariant-loop-k g l = record {
   put : Puts {T = Unit {0}} {E = PutFault} (g.K.Sink.shown l.fn.out) (g.K.Sink.shown l.out) (head_text ++ scan_texts (take l.k (test_scans l.board l.plan.passes l.plan.width))) (Ok tt);
   later : IfSome l.held (λ shape. 0 < l.k);
   held : IfSome l.held (λ shape. FillsScan l.board l.plan.passes l.plan.width (l.k - 1) shape l.rows.tdi.bits l.rows.tdo.bits l.rows.mask.bits);
-  coded : AreCoded l.board l.plan l.cells;
+  kept : AreKept l.board l.plan l.kept;
   tdi : IsRoom l.board l.rows.tdi.room;
   tdo : IsRoom l.board l.rows.tdo.room;
   mask : IsRoom l.board l.rows.mask.room;

@@ -1,32 +1,16 @@
-use Rattle.std.proofs.Common.{Bool, true, List, length, suc, ap, ◌∙◌, refl, arith}
-use Rattle.std.specs.List.{flat_map}
-use Rattle.plan_tables.specs.declared.tables.FixedRows.{FixedRows}
-use Rattle.plan_tables.specs.declared.tables.DriverCell.{DriverCell}
-use Rattle.scan_planner.specs.declared.coded.CodedCell.{CodedCell}
-use Rattle.scan_planner.specs.Coded.{own_drivers, compared_cells}
+use Rattle.std.proofs.Common.{suc, ◌∙◌, length, ap, arith}
 use Rattle.scan_planner.specs.Plans.{scan_of_pass}
-use Rattle.scan_planner.proofs.CodedLemmas.{by_code, compared_is}
-use Rattle.scan_planner.proofs.FillLemmas.{compared_length, mask_is}
+use Rattle.scan_planner.proofs.FillLemmas.{marked_size}
 use Rattle.scan_planner.proofs.next.mark_row.Goals as goal
 
 pub copy_row-requires : goal.copy_row-requires
 copy_row-requires c =
     omega (
       arith,
-      ap (λ (r : FixedRows). length r.mask.bits) c.common_row-common.ensures,
-      compared_length c.args.board.now c.raw.ensures.rules c.args.tables.now c.requires.plan (λ (d : DriverCell). true),
+      ap length (c.requires.rows.mask c.args.j c.requires.row),
+      marked_size c.args.board.now (scan_of_pass c.args.board.now c.args.tables.now c.args.pass (suc c.args.j)),
       c.requires.room,
     )
 
 pub returns-clause-bits : goal.returns-clause-bits
-returns-clause-bits c =
-    let board = c.args.board.now in
-    let plan = c.args.tables.now in
-    let x = c.args.pass in
-    let cells : List CodedCell = flat_map (compared_cells plan.codes plan.readers) (own_drivers board plan x) in
-    let coded : List Bool → List CodedCell → List Bool = by_code (λ code. true) in
-    c.mark_cells.ensures.bits
-    ∙ ap (coded c.copy_row.new.self.bits) (c.deref.ensures.value ∙ c.requires.cells.compared)
-    ∙ ap (λ (bits : List Bool). coded bits cells) (c.copy_row.ensures.bits ∙ ap (λ (r : FixedRows). r.mask.bits) c.common_row-common.ensures)
-    ∙ compared_is board plan x (λ code. true) _
-    ∙ mask_is board c.raw.ensures.rules plan c.requires.plan x c.requires.cells.within c.args.j (scan_of_pass board plan x (suc c.args.j)) refl
+returns-clause-bits c = c.copy_row.ensures.bits ∙ c.requires.rows.mask c.args.j c.requires.row
