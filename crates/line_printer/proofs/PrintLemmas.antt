@@ -1,11 +1,10 @@
 -- Lemmas on texts that are printed in pieces, whole or cut short.
-use Rattle.std.proofs.Common.{◌≡◌, ◌⊎◌, ℕ, ◌+◌, ◌-◌, ◌≤◌, ◌<◌, min, List, [], ◌∷◌, ◌++◌, length, take, refl, sym, ap, ◌∙◌, append_assoc, append-nil, arith, subst, length-append, Result, Ok, Err, IsErr, true, false, inl, inr, map, drop, Bor, get_or}
+use Rattle.std.proofs.Common.{◌≡◌, ℕ, ◌+◌, ◌-◌, ◌<◌, min, List, [], ◌∷◌, ◌++◌, length, take, refl, sym, ap, ◌∙◌, append_assoc, append-nil, arith, subst, Result, Ok, Err, IsErr, true, false, inl, inr, map, drop, Bor, get_or}
 use Rattle.std.proofs.Math.Seq.{take-add, take-append-add}
 use Rattle.std.proofs.lemmas.Grind.{common_steps}
 use Rattle.std.proofs.lemmas.List.{drop_more, take_more, take-append-drop}
 use Rattle.bt_base.specs.Puts.{Puts, Shown, Takes}
-use Rattle.bt_base.specs.Counts.{Rose}
-use Rattle.bt_base.proofs.Cuts.{puts_ok, puts_err, rose_after, rose_before, takes_twice}
+use Rattle.bt_base.proofs.Cuts.{rose_after, takes_twice}
 use Rattle.line_printer.specs.Prints.{Prints, Moves, whole}
 
 pub prints_same : {T E : Type 0} {old new : Shown} {p l a b : List ℕ} {r : Result T E} → a ≡ b → Prints old new p l a r → Prints old new p l b r

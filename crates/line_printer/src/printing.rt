@@ -20,9 +20,8 @@ fn make_room<K: Sink>(line: &mut Line, out: &mut K) -> Result<(), PutFault>
     Ok(())
 }
 
-/// Prints a text at the end of the line. Each time that the line is full and more is to come, it is put. It fails only
-/// where the sink does, and then a prefix of what the line held and the text was put.
-pub fn print<K: Sink>(text: &[u8], line: &mut Line, out: &mut K) -> Result<(), PutFault>
+// Prints a text at the end of the line, as `print` does, of any length.
+fn print_parts<K: Sink>(text: &[u8], line: &mut Line, out: &mut K) -> Result<(), PutFault>
     ensures { Prints (K.shown out.old) (K.shown out.new) line.old line.new text.now result }
 {
     let mut at = 0;
@@ -33,6 +32,20 @@ pub fn print<K: Sink>(text: &[u8], line: &mut Line, out: &mut K) -> Result<(), P
         at += count;
     }
     Ok(())
+}
+
+/// Prints a text at the end of the line. Each time that the line is full and more is to come, it is put. It fails only
+/// where the sink does, and then a prefix of what the line held and the text was put.
+#[inline]
+pub fn print<K: Sink>(text: &[u8], line: &mut Line, out: &mut K) -> Result<(), PutFault>
+    ensures { Prints (K.shown out.old) (K.shown out.new) line.old line.new text.now result }
+{
+    // Most texts have room as they are.
+    if text.len() <= MAX_LINE - line.len() {
+        line.push(text);
+        return Ok(());
+    }
+    print_parts(text, line, out)
 }
 
 /// Prints pieces in order at the end of the line, as `print` does.

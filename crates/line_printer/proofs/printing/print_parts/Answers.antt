@@ -1,7 +1,7 @@
-use Rattle.std.proofs.Common.{refl, sym, ◌∙◌, drop, append-nil, arith}
+use Rattle.std.proofs.Common.{refl, sym, drop, append-nil, arith}
 use Rattle.std.proofs.lemmas.List.{take-append-drop}
 use Rattle.line_printer.proofs.PrintLemmas.{prints_ok, prints_err, prints_none, prints_same, taken_more}
-use Rattle.line_printer.proofs.printing.print.Goals as goal
+use Rattle.line_printer.proofs.printing.print_parts.Goals as goal
 
 pub loop-at-init : goal.loop-at-init
 loop-at-init g c = record {

@@ -1,7 +1,7 @@
 use Rattle.std.proofs.Common.{◌-◌, ◌≤◌, length, take, Ok}
 use Rattle.bt_base.specs.declared.sink.PutFault.{PutFault}
 use Rattle.line_printer.specs.Prints.{Prints}
-use Rattle.line_printer.proofs.printing.print.Given as goal
+use Rattle.line_printer.proofs.printing.print_parts.Given as goal
 
 -- the text up to a place was printed
 abbrev pub invariant-loop-at : goal.invariant-loop-at
