@@ -7,3 +7,4 @@ pub mod Places
 pub mod OpenTexts
 pub mod Steps
 pub mod Answers
+mod TextEnds

@@ -1,7 +1,0 @@
-use Rattle.std.proofs.Common.{◌≡◌, ◌+◌, drop}
-use Rattle.std.specs.List.{prefix_len}
-use Rattle.bsdl_lexer.specs.Forms.{is_text_byte}
-use Rattle.bsdl_lexer.proofs.lengths.text_len.Given as goal
-
-abbrev pub invariant-loop-i : goal.invariant-loop-i
-invariant-loop-i l = prefix_len is_text_byte l.bytes ≡ l.i + prefix_len is_text_byte (drop l.i l.bytes)
