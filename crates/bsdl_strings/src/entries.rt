@@ -10,7 +10,7 @@ ghost use Rattle.bsdl_strings.specs.Strings.{comma_or_close, pins_of, map_entry 
 
 use crate::places::{
     code, either_mark, index, mark, pin, pin_or_group, result_of_disabling, role, safe, word,
-    word_unless_star,
+    word_as_written, word_unless_star,
 };
 use crate::stop::Stop;
 use crate::values::{Entry, MapEntry, Opcode, PortWord};
@@ -156,12 +156,12 @@ fn control(text: &[u8]) -> Result<(Option<Control>, &[u8]), Stop<'_>>
 
 /// A number and the name of a cell, up to the comma after the name.
 #[tactic(auto, unfolding(crate::specs::Strings::cell))]
-fn cell(alloc: Global, text: &[u8]) -> Result<(u32, &[u8]), Stop<'_>>
+fn cell(text: &[u8]) -> Result<(u32, &[u8]), Stop<'_>>
     ensures { ReadsPieces (λ x. found x.0 (pieces x.1.now)) result (reader_of any_cell (pieces text.now)) }
 {
     let (num, rest) = index(text)?;
     let rest = mark(rest, b'(')?;
-    let (_, rest) = word(alloc, rest)?;
+    let (_, rest) = word_as_written(rest)?;
     let rest = mark(rest, b',')?;
     Ok((num, rest))
 }
@@ -170,7 +170,7 @@ fn cell(alloc: Global, text: &[u8]) -> Result<(u32, &[u8]), Stop<'_>>
 pub(crate) fn entry(alloc: Global, text: &[u8]) -> Result<(Entry, &[u8]), Stop<'_>>
     ensures { ReadsPieces (λ x. found x.0 (pieces x.1.now)) result (reader_of any_entry (pieces text.now)) }
 {
-    let (num, rest) = cell(alloc, text)?;
+    let (num, rest) = cell(text)?;
     let (port, rest) = port_place(alloc, rest)?;
     let (role, rest) = role(rest)?;
     let rest = mark(rest, b',')?;

@@ -64,3 +64,15 @@ pub(crate) fn next_piece(text: &[u8]) -> Option<(&[u8], &[u8])>
         }
     }
 }
+
+/// The text after a mark that stands at the very front. None says nothing: a blank may stand before it.
+#[inline]
+#[tactic(auto, unfolding(crate::specs::Pieces::pieces))]
+pub(crate) fn after_mark(text: &[u8], mark: u8) -> Option<&[u8]>
+    ensures { IfSome result (λ rest. pieces text.now ≡ (mark ∷ []) ∷ pieces rest.now) }
+{
+    match text {
+        [first, rest @ ..] if *first == mark && !is_space(mark) && !joins_word(mark) => Some(rest),
+        _ => None,
+    }
+}

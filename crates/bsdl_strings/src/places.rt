@@ -9,7 +9,7 @@ ghost use Rattle.bsdl_strings.specs.inner.Reading.{ReadsPieces, more_of};
 ghost use Rattle.bsdl_strings.specs.Places.{is_pin, is_code, is_symbol, symbol_of, code_of, role_of, is_result, comma_or_end, word_or_star, pin_or_open, safe_value, result_word, after_bit, the_end};
 ghost use Rattle.bsdl_strings.specs.Places.{is_mark as is_the_mark, is_word as is_any_word, mark as the_mark, either_mark as either_of_marks, word as any_word, pin as any_pin, index as any_index, code as any_code, role as any_role};
 
-use crate::pieces::{joins_word, next_piece};
+use crate::pieces::{after_mark, joins_word, next_piece};
 use crate::stop::Stop;
 use board_defs::{Code, Name, Role, Symbol};
 use grammars::{decimal_of, is_short_number, spells};
@@ -111,6 +111,9 @@ fn short_code_from(alloc: Global, piece: &[u8]) -> Result<Code, AllocError>
 pub(crate) fn mark(text: &[u8], byte: u8) -> Result<&[u8], Stop<'_>>
     ensures { ReadsPieces (λ rest. found tt (pieces rest.now)) result (reader_of (the_mark byte) (pieces text.now)) }
 {
+    if let Some(rest) = after_mark(text, byte) {
+        return Ok(rest);
+    }
     match next_piece(text) {
         Some((piece, rest)) if is_mark(piece, byte) => Ok(rest),
         _ => Err(Stop::At(text)),
@@ -121,6 +124,9 @@ pub(crate) fn mark(text: &[u8], byte: u8) -> Result<&[u8], Stop<'_>>
 pub(crate) fn either_mark(text: &[u8], first: u8, second: u8) -> Result<(bool, &[u8]), Stop<'_>>
     ensures { ReadsPieces (λ x. found x.0 (pieces x.1.now)) result (reader_of (either_of_marks first second) (pieces text.now)) }
 {
+    if let Some(rest) = after_mark(text, first) {
+        return Ok((true, rest));
+    }
     match next_piece(text) {
         Some((piece, rest)) if is_mark(piece, first) => Ok((true, rest)),
         Some((piece, rest)) if is_mark(piece, second) => Ok((false, rest)),
@@ -134,6 +140,16 @@ pub(crate) fn word(alloc: Global, text: &[u8]) -> Result<(Name, &[u8]), Stop<'_>
 {
     match next_piece(text) {
         Some((piece, rest)) if is_word(piece) => Ok((Name::in_upper_case(alloc, piece)?, rest)),
+        _ => Err(Stop::At(text)),
+    }
+}
+
+/// The same with the letters as they stand, so it takes no memory.
+pub(crate) fn word_as_written(text: &[u8]) -> Result<(&[u8], &[u8]), Stop<'_>>
+    ensures { ReadsPieces (λ x. found (upper x.0.now) (pieces x.1.now)) result (reader_of any_word (pieces text.now)) }
+{
+    match next_piece(text) {
+        Some((piece, rest)) if is_word(piece) => Ok((piece, rest)),
         _ => Err(Stop::At(text)),
     }
 }
