@@ -18,3 +18,4 @@ pub mod IsDeviceCodes
 pub mod IsDeviceCells
 pub mod IsDevicePlaces
 pub mod IsDevice
+mod Samples

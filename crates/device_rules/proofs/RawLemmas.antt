@@ -74,14 +74,13 @@ pub map_place_is : (names : List (List ℕ)) (entries : List MapEntry) (q : List
 map_place_is names entries q e = ap (λ ns. first_place bytes_eq ns q) e ∙ sym (place-map (λ entry. entry.port) (λ n. bytes_eq n q) 0 entries)
 
 -- the bit at a place of a port, by its fields
-pub bit_is : (entries : List MapEntry) (taps : TapPorts) (compliance : Option Compliance) (number : ℕ) (port : Port) (place : ℕ) (name : List ℕ) (index : Option ℕ) (pin : Option (List ℕ)) (tap named : Bool) (slice : List MapEntry)
-    → name ≡ port.name → index ≡ index_at port.range place → slice ≡ entries → pin ≡ option_and_then (λ entry. slice_get entry.pins place) (find (maps_port name) slice) → tap ≡ is_among (tap_names taps) name
+pub bit_is : (entries : List MapEntry) (taps : TapPorts) (compliance : Option Compliance) (number : ℕ) (port : Port) (place : ℕ) (name : List ℕ) (index : Option ℕ) (pin : Option (List ℕ)) (tap named : Bool)
+    → name ≡ port.name → index ≡ index_at port.range place → pin ≡ option_and_then (λ entry. slice_get entry.pins place) (find (maps_port port.name) entries) → tap ≡ is_among (tap_names taps) port.name
     → named ≡ list_any (names_bit name index) (words_of compliance)
     → made number port.mode index pin tap named ≡ port_bit entries taps compliance (bit_of_port number port place)
-bit_is entries taps compliance number port place name index pin tap named slice n i s p t c =
+bit_is entries taps compliance number port place name index pin tap named n i p t c =
     ap (λ x. made number port.mode x pin tap named) i
-    ∙ ap (λ x. made number port.mode (index_at port.range place) x tap named)
-    (p ∙ ap (λ m. option_and_then (λ entry. slice_get entry.pins place) (find (maps_port m) slice)) n ∙ ap (λ es. option_and_then (λ entry. slice_get entry.pins place) (find (maps_port port.name) es)) s)
-    ∙ ap (λ x. made number port.mode (index_at port.range place) (pin_of entries (bit_of_port number port place)) x named) (t ∙ ap (is_among (tap_names taps)) n)
+    ∙ ap (λ x. made number port.mode (index_at port.range place) x tap named) p
+    ∙ ap (λ x. made number port.mode (index_at port.range place) (pin_of entries (bit_of_port number port place)) x named) t
     ∙ ap (λ x. made number port.mode (index_at port.range place) (pin_of entries (bit_of_port number port place)) (is_among (tap_names taps) port.name) x)
     (c ∙ ap (λ m. list_any (names_bit m index) (words_of compliance)) n ∙ ap (λ x. list_any (names_bit port.name x) (words_of compliance)) i ∙ in_compliance_is compliance (bit_of_port number port place))

@@ -79,5 +79,8 @@ pub(crate) fn is_named(
     requires { IsNamed compliance.now named.now }
     ensures { result ≡ list_any (names_bit name.now index) (words_of compliance.now) }
 {
-    names(named, name, index)
+    match compliance {
+        None => false,
+        Some(_) => names(named, name, index),
+    }
 }

@@ -8,7 +8,7 @@ ghost use Rattle.device_rules.specs.inner.Seen.{Knows};
 ghost use Rattle.device_rules.specs.Ports.{v2, port_of};
 ghost use Rattle.device_rules.specs.PinMap.{has_width, some_repeats, v4};
 
-use crate::port_index::{PortIndex, port_at};
+use crate::port_index::{Near, PortIndex, port_at};
 use crate::ports::bit_count;
 use board_defs::Name;
 use bsdl_parser::Port;
@@ -32,7 +32,7 @@ fn fits_port(ports: &[Port], index: &PortIndex, entry: &MapEntry) -> bool
     ensures { result ≡ has_width (port_of ports.now entry.now.port) (length entry.now.pins) }
 {
     has_width(
-        port_at(ports, index, &mut 0, entry.port.bytes()),
+        port_at(ports, index, &mut Near::new(), entry.port.bytes()),
         entry.pins.len(),
     )
 }
@@ -49,11 +49,10 @@ fn some_repeats<'a>(seen: &mut HashSet<&'a [u8]>, pins: &'a [Name]) -> Result<bo
     ensures seen { IfOk result (λ repeats. (before : List (List ℕ)) → Knows (contains (λ x y. bytes_eq x.now y.now) seen.old) before → repeats ≡ false → Knows (contains (λ x y. bytes_eq x.now y.now) seen.new) (before ++ pins.now)) }
 {
     for pin in pins {
-        let name = pin.bytes();
-        if seen.contains(name) {
+        let fresh = seen.insert(pin.bytes())?;
+        if !fresh {
             return Ok(true);
         }
-        seen.insert(name)?;
     }
     Ok(false)
 }

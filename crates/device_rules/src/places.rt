@@ -7,7 +7,7 @@ ghost use Rattle.device_rules.specs.inner.Index.{IsIndex};
 ghost use Rattle.device_rules.specs.Places.{is_star, breaks_place, v9, driven_bit, breaks_driver, v13, breaks_mode, v14};
 
 use crate::draft::TapPorts;
-use crate::port_index::{PortIndex, bit_at, port_at, total_bits};
+use crate::port_index::{Near, PortIndex, bit_at, port_at, total_bits};
 use crate::taps::is_tap;
 use board_defs::{Mode, Role};
 use bsdl_parser::Port;
@@ -38,7 +38,7 @@ fn is_star(word: &PortWord) -> bool
     matches!(word, PortWord::Star)
 }
 
-fn breaks_place(ports: &[Port], index: &PortIndex, near: &mut u32, entry: &Entry) -> bool
+fn breaks_place(ports: &[Port], index: &PortIndex, near: &mut Near, entry: &Entry) -> bool
     requires index { IsIndex ports.now index.now }
     requires ports { v2 ports.now ≡ None }
     ensures { result ≡ breaks_place ports.now entry.now }
@@ -59,7 +59,7 @@ pub(crate) fn wrong_place(ports: &[Port], index: &PortIndex, entries: &[Entry]) 
     requires short { length entries.now < 2 ^ 32 }
     ensures { result ≡ v9 ports.now entries.now }
 {
-    let mut near = 0;
+    let mut near = Near::new();
     for (i, entry) in entries.iter().enumerate() {
         if breaks_place(ports, index, &mut near, entry) {
             return Some(i as u32 + 1);
@@ -69,7 +69,7 @@ pub(crate) fn wrong_place(ports: &[Port], index: &PortIndex, entries: &[Entry]) 
 }
 
 /// The port bit that an entry drives.
-fn driven_bit(ports: &[Port], index: &PortIndex, near: &mut u32, entry: &Entry) -> Option<u32>
+fn driven_bit(ports: &[Port], index: &PortIndex, near: &mut Near, entry: &Entry) -> Option<u32>
     requires index { IsIndex ports.now index.now }
     requires ports { v2 ports.now ≡ None }
     ensures number { result ≡ driven_bit ports.now entry.now }
@@ -96,7 +96,7 @@ pub(crate) fn second_driver(
     ensures { IfOk result (λ item. item ≡ v13 ports.now entries.now) }
 {
     let mut driven = vec![in alloc; false; total_bits(ports, index) as usize]?;
-    let mut near = 0;
+    let mut near = Near::new();
     for (i, entry) in entries.iter().enumerate() {
         if let Some(bit) = driven_bit(ports, index, &mut near, entry) {
             if driven[bit as usize] {
@@ -112,7 +112,7 @@ pub(crate) fn second_driver(
 fn named_port<'a>(
     ports: &'a [Port],
     index: &PortIndex,
-    near: &mut u32,
+    near: &mut Near,
     word: &PortWord,
 ) -> Option<&'a Port>
     requires index { IsIndex ports.now index.now }
@@ -135,7 +135,7 @@ fn drives_wrongly(role: Role, mode: Mode) -> bool
 fn is_misfit(
     ports: &[Port],
     index: &PortIndex,
-    near: &mut u32,
+    near: &mut Near,
     taps: &TapPorts,
     entry: &Entry,
 ) -> bool
@@ -162,7 +162,7 @@ pub(crate) fn misfit(
     requires short { length entries.now < 2 ^ 32 }
     ensures { result ≡ v14 ports.now taps.now entries.now }
 {
-    let mut near = 0;
+    let mut near = Near::new();
     for (i, entry) in entries.iter().enumerate() {
         if is_misfit(ports, index, &mut near, taps, entry) {
             return Some(i as u32 + 1);

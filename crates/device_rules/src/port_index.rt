@@ -95,27 +95,45 @@ fn has_name(ports: &[Port], place: u32, name: &[u8]) -> bool
     }
 }
 
-/// The number of the port with this name. Names that follow one another are often of one port, so
-/// the port that was found last, `near`, is tried before the map is asked. Any number may stand in
-/// `near`: the answer is the same.
-pub fn number_of(ports: &[Port], index: &PortIndex, near: &mut u32, name: &[u8]) -> Option<u32>
+/// The numbers of the two ports that the map gave last. Names that follow one another are often of
+/// one port, or of two by turns, so these are tried before the map is asked. Any numbers may stand
+/// in it: the answer is the same.
+#[derive(Clone, Copy, Debug, PartialEq, Eq)]
+pub struct Near {
+    last: u32,
+    before: u32,
+}
+
+impl Near {
+    /// The first port, before there was a question.
+    pub fn new() -> Near {
+        Near { last: 0, before: 0 }
+    }
+}
+
+/// The number of the port with this name.
+pub fn number_of(ports: &[Port], index: &PortIndex, near: &mut Near, name: &[u8]) -> Option<u32>
     requires index { IsIndex ports.now index.now }
     requires ports { v2 ports.now ≡ None }
     ensures { result ≡ port_number ports.now name.now }
 {
-    if has_name(ports, *near, name) {
-        return Some(*near);
+    if has_name(ports, near.last, name) {
+        return Some(near.last);
+    }
+    if has_name(ports, near.before, name) {
+        return Some(near.before);
     }
     let number = place_of(&index.places, name)?;
-    *near = number;
+    near.before = near.last;
+    near.last = number;
     Some(number)
 }
 
-/// The port with this name, with `near` as for `number_of`.
+/// The port with this name.
 pub fn port_at<'a>(
     ports: &'a [Port],
     index: &PortIndex,
-    near: &mut u32,
+    near: &mut Near,
     name: &[u8],
 ) -> Option<&'a Port>
     requires index { IsIndex ports.now index.now }
@@ -171,7 +189,7 @@ pub fn total_bits(ports: &[Port], index: &PortIndex) -> u32
 fn bit_in(
     ports: &[Port],
     index: &PortIndex,
-    near: &mut u32,
+    near: &mut Near,
     name: &[u8],
     number: Option<u32>,
 ) -> Option<u32>
@@ -189,8 +207,8 @@ fn bit_in(
     }
 }
 
-/// The number of the port bit that a word names, with `near` as for `number_of`.
-pub fn bit_at(ports: &[Port], index: &PortIndex, near: &mut u32, word: &PortWord) -> Option<u32>
+/// The number of the port bit that a word names.
+pub fn bit_at(ports: &[Port], index: &PortIndex, near: &mut Near, word: &PortWord) -> Option<u32>
     requires index { IsIndex ports.now index.now }
     requires ports { v2 ports.now ≡ None }
     ensures number { result ≡ bit_number ports.now word.now }

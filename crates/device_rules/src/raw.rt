@@ -5,6 +5,7 @@ ghost use Rattle.std.specs.Option.{option_copied};
 ghost use Rattle.board_defs.specs.DeviceRules.{IsDevice};
 ghost use Rattle.device_rules.specs.Ports.{v2, in_order, width, bits_of_port};
 ghost use Rattle.device_rules.specs.PinMap.{maps_port};
+ghost use Rattle.device_rules.specs.Taps.{is_among, tap_names};
 ghost use Rattle.device_rules.specs.Rules.{HasShortLists, first_rule};
 ghost use Rattle.device_rules.specs.inner.Index.{IsIndex, index_at, bit_of_port};
 ghost use Rattle.device_rules.specs.inner.Named.{IsNamed, ArePlaces};
@@ -12,7 +13,7 @@ ghost use Rattle.device_rules.specs.Raw.{port_bit, cell_of, raw_bits, raw_cells,
 
 use crate::compliance::{Named, is_named, named_bits};
 use crate::draft::Draft;
-use crate::port_index::{PortIndex, bit_at, first_places_of, index_of, place_of};
+use crate::port_index::{Near, PortIndex, bit_at, first_places_of, index_of, place_of};
 use crate::ports::bit_count;
 use crate::taps::is_tap;
 use board_defs::{Cell, Code, Items, Name, PortBit, RawDevice};
@@ -113,32 +114,33 @@ fn index_at(range: Option<Range>, place: u32) -> Option<u32>
     }
 }
 
-/// The bit at a place of a port.
+/// The bit at a place of a port, of which the entry in the pin map is known and whether it is a TAP port.
 fn port_bit(
     alloc: Global,
     draft: &Draft,
-    places: &IndexMap<&[u8], u32>,
+    entry: Option<&MapEntry>,
+    tap: bool,
     named: &Named,
     number: u32,
     port: &Port,
     place: u32,
 ) -> Result<PortBit, AllocError>
-    requires places { ArePlaces draft.now.map places.now }
+    requires mapped { option_copied entry ≡ find (maps_port port.now.name) draft.now.map }
+    requires tap { tap ≡ is_among (tap_names draft.now.taps) port.now.name }
     requires named { IsNamed draft.now.compliance named.now }
     requires ordered { in_order port.now.range ≡ true }
     requires within { place < width port.now.range }
     ensures { IfOk result (λ bit. bit ≡ port_bit draft.now.map draft.now.taps draft.now.compliance (bit_of_port number port.now place)) }
 {
-    let name = port.name.bytes();
     let index = index_at(port.range, place);
-    let pin = pin_of(alloc, mapped(draft.map.as_slice(), places, name), place)?;
+    let pin = pin_of(alloc, entry, place)?;
     Ok(PortBit {
         port: number,
         index,
         mode: port.mode,
         pin,
-        tap: is_tap(&draft.taps, name),
-        compliance: is_named(&draft.compliance, named, name, index),
+        tap,
+        compliance: is_named(&draft.compliance, named, port.name.bytes(), index),
     })
 }
 
@@ -158,8 +160,11 @@ fn push_bits(
     requires few { width port.now.range < 2 ^ 32 }
     ensures { OnOk result (bits.new.items ≡ bits.old.items ++ map (port_bit draft.now.map draft.now.taps draft.now.compliance) (bits_of_port number port.now)) }
 {
+    let name = port.name.bytes();
+    let entry = mapped(draft.map.as_slice(), places, name);
+    let tap = is_tap(&draft.taps, name);
     for place in 0..bit_count(port.range) as u32 {
-        bits.push(port_bit(alloc, draft, places, named, number, port, place)?)?;
+        bits.push(port_bit(alloc, draft, entry, tap, named, number, port, place)?)?;
     }
     Ok(())
 }
@@ -180,7 +185,7 @@ fn all_bits(alloc: Global, draft: &Draft, ports: &[Port]) -> Result<Vec<PortBit>
     Ok(bits)
 }
 
-fn cell_of(ports: &[Port], index: &PortIndex, near: &mut u32, entry: &Entry) -> Cell
+fn cell_of(ports: &[Port], index: &PortIndex, near: &mut Near, entry: &Entry) -> Cell
     requires index { IsIndex ports.now index.now }
     requires ports { v2 ports.now ≡ None }
     ensures { result ≡ cell_of ports.now entry.now }
@@ -201,7 +206,7 @@ fn all_cells(alloc: Global, ports: &[Port], entries: &[Entry]) -> Result<Vec<Cel
     ensures { IfOk result (λ cells. cells.items ≡ raw_cells ports.now entries.now) }
 {
     let index = index_of(alloc, ports)?;
-    let mut near = 0;
+    let mut near = Near::new();
     let mut cells = Vec::new(alloc);
     for entry in entries {
         cells.push(cell_of(ports, &index, &mut near, entry))?;

@@ -8,7 +8,7 @@ ghost use Rattle.device_rules.specs.inner.Index.{IsIndex};
 ghost use Rattle.device_rules.specs.Taps.{is_inward, is_outward, is_plain, breaks_tap, reset_breaks, wrong_tap, complies, v3, listed, tap_names, is_among};
 
 use crate::draft::TapPorts;
-use crate::port_index::{PortIndex, bit_at, port_at};
+use crate::port_index::{Near, PortIndex, bit_at, port_at};
 use board_defs::{Code, Mode, Name};
 use bsdl_parser::Port;
 use bsdl_strings::{Compliance, PortWord};
@@ -49,7 +49,7 @@ fn breaks_inward(ports: &[Port], index: &PortIndex, before: &[&[u8]], name: &[u8
     requires ports { v2 ports.now ≡ None }
     ensures { result ≡ breaks_tap is_inward ports.now (map (λ n. n.now) before.now) name.now }
 {
-    is_in(before, name) || !is_plain_in(port_at(ports, index, &mut 0, name))
+    is_in(before, name) || !is_plain_in(port_at(ports, index, &mut Near::new(), name))
 }
 
 fn breaks_outward(ports: &[Port], index: &PortIndex, before: &[&[u8]], name: &[u8]) -> bool
@@ -57,7 +57,7 @@ fn breaks_outward(ports: &[Port], index: &PortIndex, before: &[&[u8]], name: &[u
     requires ports { v2 ports.now ≡ None }
     ensures { result ≡ breaks_tap is_outward ports.now (map (λ n. n.now) before.now) name.now }
 {
-    is_in(before, name) || !is_plain_out(port_at(ports, index, &mut 0, name))
+    is_in(before, name) || !is_plain_out(port_at(ports, index, &mut Near::new(), name))
 }
 
 fn breaks_reset(ports: &[Port], index: &PortIndex, before: &[&[u8]], reset: &Option<Name>) -> bool
@@ -124,7 +124,7 @@ fn are_bits(ports: &[Port], index: &PortIndex, words: &[PortWord]) -> bool
     requires ports { v2 ports.now ≡ None }
     ensures { result ≡ list_all (λ word. is_some (bit_number ports.now word)) words.now }
 {
-    let mut near = 0;
+    let mut near = Near::new();
     for word in words {
         if bit_at(ports, index, &mut near, word).is_none() {
             return false;

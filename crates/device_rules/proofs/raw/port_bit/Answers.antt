@@ -6,5 +6,5 @@ use Rattle.device_rules.proofs.raw.port_bit.Goals as goal
 pub returns : goal.returns
 returns c =
     let draft = c.args.draft.now in
-    bit_is draft.map draft.taps draft.compliance c.args.number c.args.port.now c.args.place c.bytes-name.result.now c.index_at-index.result c.in_ok-pin.pin c.is_tap.result c.is_named.result c.as_slice.result.now
-    c.bytes-name.ensures c.index_at-index.ensures c.as_slice.ensures (c.in_ok-pin.ensures ∙ ap (option_and_then (λ entry. slice_get entry.pins c.args.place)) c.mapped.ensures) c.is_tap.ensures c.is_named.ensures
+    bit_is draft.map draft.taps draft.compliance c.args.number c.args.port.now c.args.place c.bytes.result.now c.index_at-index.result c.in_ok-pin.pin c.args.tap c.is_named.result
+    c.bytes.ensures c.index_at-index.ensures (c.in_ok-pin.ensures ∙ ap (option_and_then (λ entry. slice_get entry.pins c.args.place)) c.requires.mapped) c.requires.tap c.is_named.ensures

@@ -1,0 +1,71 @@
+-- Where the bits of ports stand, worked by hand.
+use Rattle.std.proofs.Common.{◌≡◌, ℕ, zero, suc, ◌≤◌, true, false, List, [], ◌∷◌, Option, Some, None, map, take, refl, arith}
+use Rattle.std.specs.Prelude.{codes, slice_index}
+use Rattle.board_defs.specs.declared.device.Mode.TheVariants.{Inward}
+use Rattle.bsdl_parser.specs.declared.entity.Port.{Port}
+use Rattle.bsdl_parser.specs.declared.entity.Range.{Range}
+use Rattle.bsdl_strings.specs.declared.values.PortWord.TheVariants.{Star, Plain, Index}
+use Rattle.device_rules.specs.Ports.{bit_number, bits_of}
+use Rattle.device_rules.specs.inner.Index.{AreStarts, place_in}
+
+abbrev port : List ℕ → Option Range → Port
+port name range = record { name = name; mode = Inward; range = range }
+
+-- 7 downto 0, and 2 to 4
+abbrev falling : Option Range
+falling = Some (record { left = 7; right = 0; up = false })
+
+abbrev rising : Option Range
+rising = Some (record { left = 2; right = 4; up = true })
+
+-- 8 bits, 1 bit and 3 bits
+abbrev ports : List Port
+ports = port (codes "D") falling ∷ port (codes "C") None ∷ port (codes "Q") rising ∷ []
+
+-- the first bits of the ports are 0, 8 and 9, and there are 12
+abbrev firsts : List ℕ
+firsts = 0 ∷ 8 ∷ 9 ∷ 12 ∷ []
+
+starts : AreStarts ports firsts
+starts = record {
+  size = refl;
+  each = each;
+}
+  where
+    each : (n : ℕ) → n ≤ 3 → slice_index firsts n ≡ bits_of (take n ports)
+    each zero within = refl
+    each (suc zero) within = refl
+    each (suc (suc zero)) within = refl
+    each (suc (suc (suc zero))) within = refl
+    each (suc (suc (suc (suc n)))) within = absurd (omega (arith, within))
+
+-- the last entry may not be left out
+no_last : AreStarts ports (0 ∷ 8 ∷ 9 ∷ []) → ⊥
+no_last are = absurd (omega (arith, are.size))
+
+-- where there is no port, there is that entry alone
+no_ports : AreStarts [] (0 ∷ [])
+no_ports = record {
+  size = refl;
+  each = each;
+}
+  where
+    each : (n : ℕ) → n ≤ 0 → slice_index (0 ∷ []) n ≡ bits_of (take n [])
+    each zero within = refl
+    each (suc n) within = absurd (omega (arith, within))
+
+-- indexes at both ends of a range, and past them; a plain port has no index, and a vector no bit without one
+places : place_in falling (Some 7) ∷ place_in falling (Some 0) ∷ place_in falling (Some 8) ∷ place_in rising (Some 2) ∷ place_in rising (Some 4) ∷ place_in rising (Some 1) ∷ place_in rising (Some 5) ∷ []
+    ≡ Some 0 ∷ Some 7 ∷ None ∷ Some 0 ∷ Some 2 ∷ None ∷ None ∷ []
+places = refl
+
+plain_places : place_in None None ∷ place_in None (Some 0) ∷ place_in rising None ∷ [] ≡ Some 0 ∷ None ∷ None ∷ []
+plain_places = refl
+
+-- the bit of a word stands so many places behind the first one of its port
+numbers : map (bit_number ports) (Index (codes "D") 7 ∷ Index (codes "D") 0 ∷ Plain (codes "C") ∷ Index (codes "Q") 2 ∷ Index (codes "Q") 4 ∷ [])
+    ≡ Some 0 ∷ Some 7 ∷ Some 8 ∷ Some 9 ∷ Some 11 ∷ []
+numbers = refl
+
+no_numbers : map (bit_number ports) (Star ∷ Plain (codes "D") ∷ Index (codes "C") 0 ∷ Index (codes "Q") 5 ∷ Plain (codes "E") ∷ []) ≡ None ∷ None ∷ None ∷ None ∷ None ∷ []
+no_numbers = refl
