@@ -1,5 +1,5 @@
 -- What was found is the answer.
-use Rattle.std.proofs.Common.{◌≡◌, ℕ, ◌+◌, ◌<◌, ◌≤◌, ◌^◌, Bool, true, false, ◌&&◌, not, List, [], ◌∷◌, ◌++◌, length, find, Option, Some, None, Result, Ok, Err, nat_le, inl, inr, refl, sym, ◌∙◌, ap, subst, arith}
+use Rattle.std.proofs.Common.{◌≡◌, ℕ, ◌≤◌, Bool, true, false, ◌&&◌, not, List, [], ◌∷◌, ◌++◌, find, Option, Some, None, Result, Ok, Err, inl, inr, refl, sym, ◌∙◌, ap, subst, arith}
 use Rattle.std.proofs.lemmas.Bool.Decides.{nat_tests}
 use Rattle.std.specs.Option.{IfSome, unwrap_or}
 use Rattle.answers.specs.Gives.{Gives}
@@ -7,10 +7,9 @@ use Rattle.board_defs.specs.declared.device.RawDevice.{RawDevice}
 use Rattle.bsdl_parser.specs.declared.entity.Entity.{Entity}
 use Rattle.bsdl_parser.specs.Entity.{IsSmall}
 use Rattle.bsdl_strings.proofs.Lists.{can_maps, can_opcodes, can_entries}
-use Rattle.device_rules.specs.declared.broken.Broken.{Broken}
 use Rattle.device_rules.specs.declared.draft.Draft.{Draft}
-use Rattle.device_rules.specs.Rules.{first_rule, HasShortLists}
-use Rattle.device_rules.specs.Raw.{raw_device, HasLengths}
+use Rattle.device_rules.specs.Rules.{HasShortLists}
+use Rattle.device_rules.specs.Raw.{HasLengths}
 use Rattle.device_check.specs.declared.fault.DeviceFault.{DeviceFault}
 use Rattle.device_check.specs.declared.fault.DeviceFault.TheVariants.{Rule, Text, Memory}
 use Rattle.device_check.specs.declared.strings.Strings.{Strings}

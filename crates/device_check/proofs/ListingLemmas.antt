@@ -5,7 +5,7 @@ use Rattle.std.specs.List.{flat_map, prefix_len, range_with_len}
 use Rattle.std.specs.List.Sorted.{IsNonDecreasing}
 use Rattle.std.proofs.lemmas.Bool.{eqb-true, eq-eqb, cases_eq, and_parts}
 use Rattle.std.proofs.lemmas.Grind.{flat_map-append}
-use Rattle.std.proofs.lemmas.List.{drop_more, take_more, take-append-drop, length-map}
+use Rattle.std.proofs.lemmas.List.{drop_more, drop_all, take_more, take-append-drop, length-map}
 use Rattle.std.proofs.lemmas.List.Folds.{flat_map-map}
 use Rattle.std.proofs.lemmas.List.Elements.{filter-append, filter_more}
 use Rattle.line_printer.specs.Prints.{whole, line_of}
@@ -19,7 +19,7 @@ use Rattle.board_defs.specs.declared.device.RawDevice.{RawDevice}
 use Rattle.device_check.specs.declared.listing_table.Entries.{Entries}
 use Rattle.device_check.specs.declared.listing_table.Entries.TheVariants.{Nothing}
 use Rattle.device_check.specs.DeviceText.{symbol_word, code_text, entries_of, port_line, cell_line, cell_lines}
-use Rattle.device_check.specs.inner.ListingForms.{entries_in, Rises}
+use Rattle.device_check.specs.inner.ListingForms.{entries_in, Rises, Climbs}
 
 -- codes
 code_text-append : (a b : List Symbol) → code_text (a ++ b) ≡ code_text b ++ code_text a
@@ -56,7 +56,7 @@ instruction_pieces a b c d e = simp (append_assoc, append-nil)
 pub port_pieces : (a b c d e : List ℕ) → whole (a ∷ b ∷ c ∷ []) ++ (d ++ (e ++ 10 ∷ [])) ≡ line_of (a ∷ b ∷ c ∷ d ∷ e ∷ [])
 port_pieces a b c d e = simp (append_assoc, append-nil)
 
-pub cell_pieces : (a b c d e f g h i : List ℕ) → whole (a ∷ b ∷ c ∷ d ∷ e ∷ []) ++ (f ++ (whole (g ∷ h ∷ []) ++ (i ++ 10 ∷ []))) ≡ line_of (a ∷ b ∷ c ∷ d ∷ e ∷ f ∷ g ∷ h ∷ i ∷ [])
+pub cell_pieces : (a b c d e f g h i : List ℕ) → whole (a ∷ b ∷ (c ++ (d ++ e)) ∷ []) ++ (f ++ ((g ++ h) ++ (i ++ 10 ∷ []))) ≡ line_of (a ∷ b ∷ c ∷ d ∷ e ∷ f ∷ g ∷ h ∷ i ∷ [])
 cell_pieces a b c d e f g h i = simp (append_assoc, append-nil)
 
 pub code_pieces : (a b c d : List ℕ) → (a ++ b) ++ (c ++ d) ≡ whole (a ∷ b ∷ c ∷ d ∷ [])
@@ -281,3 +281,68 @@ one_of roles device num one =
 pub few_entries : (device : RawDevice) → OneOf is_loading device → OneOf is_writing device → (num : ℕ) → length (entries_of num device.cells) ≤ 2
 few_entries device loading writing num =
     omega (arith, two_classes num device.cells, one_of is_loading device num loading, one_of is_writing device num writing)
+
+-- entries that stand in the order of their cells
+flat_none : (g : ℕ → List ℕ) (n a : ℕ) → ((k : ℕ) → a ≤ k → k < a + n → g k ≡ []) → flat_map g (range_with_len a n) ≡ []
+flat_none g zero a none = refl
+flat_none g (suc n) a none =
+    ap (λ t. t ++ flat_map g (range_with_len (a + 1) n)) (none a (omega arith) (omega arith)) ∙ flat_none g n (a + 1) (λ k least less. none k (omega arith) (omega arith))
+
+flat_same : (g h : ℕ → List ℕ) (n a : ℕ) → ((k : ℕ) → a ≤ k → g k ≡ h k) → flat_map g (range_with_len a n) ≡ flat_map h (range_with_len a n)
+flat_same g h zero a same = refl
+flat_same g h (suc n) a same =
+    ap (λ t. t ++ flat_map g (range_with_len (a + 1) n)) (same a (omega arith)) ∙ ap (λ t. h a ++ t) (flat_same g h n (a + 1) (λ k least. same k (omega arith)))
+
+other_entry : (num : ℕ) (x : Cell) (xs : List Cell) → (x.num == num) ≡ false → entries_of num (x ∷ xs) ≡ entries_of num xs
+other_entry num x xs other = ap (λ u. cond u (x ∷ entries_of num xs) (entries_of num xs)) other
+
+first_entry : (x : Cell) (xs : List Cell) → entries_of x.num (x ∷ xs) ≡ x ∷ entries_of x.num xs
+first_entry x xs = ap (λ u. cond u (x ∷ entries_of x.num xs) (entries_of x.num xs)) (eq-eqb x.num x.num refl)
+
+above : (a b : ℕ) (t : Bool) → (a == b) ≡ t → b < a → (a == b) ≡ false
+above a b true same less = let e : a ≡ b = eqb-true a b same in absurd (omega arith)
+above a b false other less = other
+
+no_entry : (num most from : ℕ) (cells : List Cell) → num < from → Climbs from most cells → entries_of num cells ≡ []
+no_entry num most from [] less c = refl
+no_entry num most from (x ∷ xs) less c =
+    let more : num < x.num = omega (arith, c.0) in
+    other_entry num x xs (above x.num num (x.num == num) refl more) ∙ no_entry num most x.num xs more c.1.1
+
+climb_lines : (f : Cell → List ℕ) (most from : ℕ) (cells : List Cell) → Climbs from most cells → flat_map (λ num. flat_map f (entries_of num cells)) (range_with_len from (most - from)) ≡ flat_map f cells
+climb_lines f most from [] c = flat_none (λ num. []) (most - from) from (λ k least less. refl)
+climb_lines f most from (x ∷ xs) c =
+    let m = most - (x.num + 1) in
+    let before = x.num - from in
+    let g : ℕ → List ℕ = λ num. flat_map f (entries_of num (x ∷ xs)) in
+    let h : ℕ → List ℕ = λ num. flat_map f (entries_of num xs) in
+    let all : most - from ≡ before + suc m = omega (arith, c.0, c.1.0) in
+    let left : suc m ≡ most - x.num = omega (arith, c.1.0) in
+    let at : from + before ≡ x.num = omega (arith, c.0) in
+    let climbs : Climbs x.num most (x ∷ xs) = (omega arith, c.1) in
+    let none : flat_map g (range_with_len from before) ≡ [] = flat_none g before from (λ k least less. ap (flat_map f) (no_entry k most x.num (x ∷ xs) (omega (arith, less, at)) climbs)) in
+    let others : flat_map g (range_with_len (x.num + 1) m) ≡ flat_map h (range_with_len (x.num + 1) m) = flat_same g h m (x.num + 1) (λ k least. ap (flat_map f) (other_entry k x xs (differ x.num k (x.num == k) refl (omega arith)))) in
+    ap (λ n. flat_map g (range_with_len from n)) all
+    ∙ ap (flat_map g) (range-split from before (suc m))
+    ∙ flat_map-append g (range_with_len from before) (range_with_len (from + before) (suc m))
+    ∙ ap (λ t. t ++ flat_map g (range_with_len (from + before) (suc m))) none
+    ∙ ap (λ a. flat_map g (range_with_len a (suc m))) at
+    ∙ ap (λ l. flat_map f l ++ flat_map g (range_with_len (x.num + 1) m)) (first_entry x xs)
+    ∙ ap (λ t. (f x ++ h x.num) ++ t) others
+    ∙ append_assoc (f x) (h x.num) (flat_map h (range_with_len (x.num + 1) m))
+    ∙ ap (λ n. f x ++ flat_map h (range_with_len x.num n)) left
+    ∙ ap (λ t. f x ++ t) (climb_lines f most x.num xs c.1.1)
+
+pub ordered_text : (ports ports' : List (List ℕ)) (bits bits' : List PortBit) (cells cells' : List Cell) (most : ℕ) → ports' ≡ ports → bits' ≡ bits → cells' ≡ cells → Climbs 0 most cells'
+    → flat_map (cell_line ports' bits') cells' ≡ cell_lines ports bits cells 0 most
+ordered_text ports ports' bits bits' cells cells' most p b s climbs =
+    let same : most - 0 ≡ most = omega arith in
+    sym (ap (λ n. cell_lines ports' bits' cells' 0 n) (sym same) ∙ climb_lines (cell_line ports' bits') most 0 cells' climbs)
+    ∙ ap (λ l. cell_lines l bits' cells' 0 most) p ∙ ap (λ l. cell_lines ports l cells' 0 most) b ∙ ap (λ l. cell_lines ports bits l 0 most) s
+
+-- the next entry comes no earlier
+pub climb_next : (least most : ℕ) (cells : List Cell) (i : ℕ) (d : Cell) → i < length cells → least ≤ (get_or cells i d).num → (get_or cells i d).num < most → Climbs (get_or cells i d).num most (drop (i + 1) cells) → Climbs least most (drop i cells)
+climb_next least most cells i d within from below rest = subst (Climbs least most) (sym (drop_more cells i d within)) (from, (below, rest))
+
+pub climb_end : (least most : ℕ) (cells : List Cell) (i : ℕ) → length cells ≤ i → Climbs least most (drop i cells)
+climb_end least most cells i past = subst (Climbs least most) (sym (drop_all i cells past)) tt

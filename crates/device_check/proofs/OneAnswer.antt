@@ -1,19 +1,15 @@
 -- There is one answer.
-use Rattle.std.proofs.Common.{◌≡◌, ℕ, List, [], ◌∷◌, length, Option, Some, None, Result, Ok, Err, ◌⊎◌, inl, inr, refl, sym, ◌∙◌, ap, subst}
-use Rattle.std.specs.List.{take_while}
+use Rattle.std.proofs.Common.{◌≡◌, ℕ, List, [], ◌∷◌, Option, Some, None, Result, Ok, Err, inl, inr, refl, sym, ◌∙◌, ap}
 use Rattle.std.proofs.lemmas.Option.{IfSome_then}
 use Rattle.answers.specs.Gives.{Gives}
 use Rattle.board_defs.specs.declared.device.RawDevice.{RawDevice}
 use Rattle.board_defs.specs.declared.device.Symbol.{Symbol}
 use Rattle.bsdl_parser.specs.declared.entity.Entity.{Entity}
 use Rattle.bsdl_strings.specs.declared.values.Compliance.{Compliance}
-use Rattle.grammars.specs.inner.Reader.{Outcome, found, refused}
-use Rattle.grammars.specs.Grammar.{production_of, reader_of}
 use Rattle.grammars.specs.Lists.{list_of}
-use Rattle.grammars.proofs.Grammars.{decides_grammar, EachTurnTakes}
-use Rattle.grammars.proofs.ListReaders.{CanRead, each_takes, one_value}
+use Rattle.grammars.proofs.ListReaders.{each_takes, one_value}
 use Rattle.bsdl_strings.specs.Pieces.{pieces}
-use Rattle.bsdl_strings.specs.Places.{Part, comma_or_end, code_of}
+use Rattle.bsdl_strings.specs.Places.{comma_or_end}
 use Rattle.bsdl_strings.specs.Strings.{map_entry, opcode, entry, IsListOf, IsNoListOf, IsPattern, IsNoPattern, IsCompliance, IsNoCompliance, HasFirstParenthesis}
 use Rattle.bsdl_strings.specs.Strings as strings_of
 use Rattle.bsdl_strings.proofs.Lists.{can_maps, can_opcodes, can_entries}
@@ -26,8 +22,8 @@ use Rattle.device_check.specs.declared.fault.DeviceFault.TheVariants.{Rule, Text
 use Rattle.device_check.specs.declared.strings.Strings.{Strings}
 use Rattle.device_check.specs.Attributes.{needed_text, text_of, pin_map_text}
 use Rattle.device_check.specs.Needed.{v1}
-use Rattle.device_check.specs.DeviceStrings.{MayBe, MayLeave, DeviceString, pin_map, opcodes, capture, idcode, compliance, boundary, attribute_of, IsRead, Leaves, LeavesFirst, in_order, AreStrings}
-use Rattle.device_check.specs.SoundDevice.{draft_of, IsSound, FailsRule, IsFirst, IsAnswer, device_told}
+use Rattle.device_check.specs.DeviceStrings.{MayBe, MayLeave, DeviceString, pin_map, opcodes, capture, idcode, compliance, boundary, IsRead, Leaves, LeavesFirst, in_order, AreStrings}
+use Rattle.device_check.specs.SoundDevice.{draft_of, IsAnswer, device_told}
 use Rattle.device_check.proofs.StringLemmas.{one_number}
 
 -- the place at which a pattern leaves its grammar is one

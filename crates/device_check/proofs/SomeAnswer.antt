@@ -1,12 +1,8 @@
 -- There is an answer.
 use Rattle.std.proofs.Common.{◌≡◌, ℕ, List, [], ◌∷◌, Option, Some, None, Result, Ok, Err, ◌⊎◌, inl, inr, refl, sym, ◌∙◌}
 use Rattle.board_defs.specs.declared.device.RawDevice.{RawDevice}
-use Rattle.board_defs.specs.declared.device.Symbol.{Symbol}
 use Rattle.bsdl_parser.specs.declared.entity.Entity.{Entity}
 use Rattle.bsdl_strings.specs.declared.values.Compliance.{Compliance}
-use Rattle.bsdl_strings.specs.declared.values.Entry.{Entry}
-use Rattle.bsdl_strings.specs.declared.values.MapEntry.{MapEntry}
-use Rattle.bsdl_strings.specs.declared.values.Opcode.{Opcode}
 use Rattle.bsdl_strings.specs.declared.values.PortWord.{PortWord}
 use Rattle.grammars.specs.inner.Reader.{Outcome, found, refused}
 use Rattle.grammars.specs.Grammar.{production_of, reader_of}

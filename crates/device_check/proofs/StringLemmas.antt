@@ -1,5 +1,5 @@
 -- Each string is in its grammar or leaves it at one entry, and never both.
-use Rattle.std.proofs.Common.{◌≡◌, ℕ, zero, suc, ◌+◌, ◌*◌, ◌<◌, ◌≤◌, ◌^◌, Bool, true, false, List, [], ◌∷◌, ◌++◌, length, Option, Some, None, ◌⊎◌, inl, inr, refl, sym, ◌∙◌, ap, subst, arith, length-append}
+use Rattle.std.proofs.Common.{◌≡◌, ℕ, zero, suc, ◌+◌, ◌*◌, ◌<◌, ◌≤◌, ◌^◌, Bool, true, false, List, [], ◌∷◌, ◌++◌, length, ◌⊎◌, inl, inr, refl, subst, arith, length-append}
 use Rattle.std.proofs.Math.Nat.{lt_of_not-le}
 use Rattle.std.specs.List.{take_while}
 use Rattle.board_defs.specs.declared.device.Symbol.{Symbol}
@@ -11,7 +11,7 @@ use Rattle.grammars.proofs.Grammars.{read_grammar, decides_grammar}
 use Rattle.grammars.proofs.ListReaders.{CanRead, Progress, each_takes, begins, found_front, goes_further, ends_with, wrong_at_entry, wrong_after_entry, value_of_list, one_value}
 use Rattle.bsdl_strings.specs.Pieces.{pieces}
 use Rattle.bsdl_strings.specs.Places.{Part, comma_or_end, is_code, code_of, is_symbol}
-use Rattle.bsdl_strings.specs.Strings.{IsListOf, IsNoListOf, IsPattern, IsNoPattern}
+use Rattle.bsdl_strings.specs.Strings.{IsListOf, IsPattern, IsNoPattern}
 use Rattle.bsdl_strings.proofs.PieceLemmas.{length_pieces}
 
 -- a list, whose entries and marks take a token each, or the entry at which it goes wrong

@@ -2,7 +2,6 @@
 use Rattle.std.specs.Prelude.{◌≡◌, ℕ, List, Option, Some, None, ◌⊎◌, Result, Ok, Err}
 use Rattle.board_defs.specs.declared.device.RawDevice.{RawDevice}
 use Rattle.bsdl_parser.specs.declared.entity.Entity.{Entity}
-use Rattle.device_rules.specs.declared.broken.Broken.{Broken}
 use Rattle.device_rules.specs.declared.draft.TapPorts.{TapPorts}
 use Rattle.device_rules.specs.declared.draft.Draft.{Draft}
 use Rattle.device_rules.specs.Rules.{first_rule}

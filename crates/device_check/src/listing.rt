@@ -1,11 +1,11 @@
 // The listing of a device.
-ghost use Rattle.std.specs.Prelude.{◌≡◌, ◌==◌, ◌<◌, ◌≤◌, ◌+◌, ℕ, [], ◌∷◌, ◌++◌, length, filter, is_some, codes, decimal};
+ghost use Rattle.std.specs.Prelude.{◌≡◌, ◌==◌, ◌<◌, ◌≤◌, ◌+◌, ℕ, [], ◌∷◌, ◌++◌, length, filter, is_some, codes, decimal, true};
 ghost use Rattle.std.specs.List.{flat_map, list_any, prefix_len};
 ghost use Rattle.bt_base.specs.Puts.{Puts};
 ghost use Rattle.line_printer.specs.Prints.{Prints, line_of, whole};
 ghost use Rattle.board_defs.specs.DeviceRules.{IsDevice};
 ghost use Rattle.device_check.specs.DeviceText.{mode_word, role_word, symbol_word, bit_word, code_text, instructions_text, pattern_text, instruction_line, pin_text, pins_text, port_line, port_name, port_lines, index_text, bit_text, place_text, control_text, cell_line, entries_of, cell_lines, device_text};
-ghost use Rattle.device_check.specs.inner.ListingForms.{Rises, entries_in};
+ghost use Rattle.device_check.specs.inner.ListingForms.{Rises, Climbs, entries_in};
 
 use crate::listing_table::{Entries, fill_entries};
 use board_defs::{Cell, Control, Device, Edition, Mode, Name, PortBit, RawDevice, Role, Symbol};
@@ -29,19 +29,20 @@ fn mode_word(mode: Mode) -> &'static [u8]
     }
 }
 
-fn role_word(role: Role) -> &'static [u8]
-    ensures { result.now ≡ role_word role }
+// The function of an entry, between two blanks.
+fn spaced_role(role: Role) -> &'static [u8]
+    ensures { result.now ≡ codes " " ++ (role_word role ++ codes " ") }
 {
     match role {
-        Role::Input => b"INPUT",
-        Role::Output2 => b"OUTPUT2",
-        Role::Output3 => b"OUTPUT3",
-        Role::Control => b"CONTROL",
-        Role::ControlR => b"CONTROLR",
-        Role::Internal => b"INTERNAL",
-        Role::Clock => b"CLOCK",
-        Role::Bidir => b"BIDIR",
-        Role::ObserveOnly => b"OBSERVE_ONLY",
+        Role::Input => b" INPUT ",
+        Role::Output2 => b" OUTPUT2 ",
+        Role::Output3 => b" OUTPUT3 ",
+        Role::Control => b" CONTROL ",
+        Role::ControlR => b" CONTROLR ",
+        Role::Internal => b" INTERNAL ",
+        Role::Clock => b" CLOCK ",
+        Role::Bidir => b" BIDIR ",
+        Role::ObserveOnly => b" OBSERVE_ONLY ",
     }
 }
 
@@ -55,10 +56,22 @@ fn symbol_word(symbol: Symbol) -> &'static [u8]
     }
 }
 
-fn bit_word(bit: bool) -> &'static [u8]
-    ensures { result.now ≡ bit_word bit }
+// A symbol behind a blank.
+fn spaced_symbol(symbol: Symbol) -> &'static [u8]
+    ensures { result.now ≡ codes " " ++ symbol_word symbol }
 {
-    if bit { b"1" } else { b"0" }
+    match symbol {
+        Symbol::Zero => b" 0",
+        Symbol::One => b" 1",
+        Symbol::Any => b" X",
+    }
+}
+
+// A bit behind a blank.
+fn spaced_bit(bit: bool) -> &'static [u8]
+    ensures { result.now ≡ codes " " ++ bit_word bit }
+{
+    if bit { b" 1" } else { b" 0" }
 }
 
 // Prints a code, the symbol nearest TDO last.
@@ -343,26 +356,25 @@ fn print_control<K: Sink>(
     };
     let mut cell = Buffer::new();
     let cell = cell.format(control.cell).as_bytes();
-    let disable = bit_word(control.disable);
-    print_all(&[b" ".as_slice(), cell, b" ", disable], line, out)
+    let disable = spaced_bit(control.disable);
+    print_all(&[b" ".as_slice(), cell, disable], line, out)
 }
 
 // Begins the line of an entry with the number of its cell and its function.
 fn begin_cell<K: Sink>(num: u32, role: Role, line: &mut Line, out: &mut K) -> Result<(), PutFault>
     ensures { Prints (K.shown out.old) (K.shown out.new) [] line.new
-        (whole (codes "CELL " ∷ decimal num ∷ codes " " ∷ role_word role ∷ codes " " ∷ [])) result }
+        (whole (codes "CELL " ∷ decimal num ∷ (codes " " ++ (role_word role ++ codes " ")) ∷ [])) result }
 {
     let mut number = Buffer::new();
     let number = number.format(num).as_bytes();
-    let role = role_word(role);
-    begin_line(&[b"CELL ".as_slice(), number, b" ", role, b" "], line, out)
+    begin_line(&[b"CELL ".as_slice(), number, spaced_role(role)], line, out)
 }
 
 // Prints the safe value of an entry.
 fn print_safe<K: Sink>(safe: Symbol, line: &mut Line, out: &mut K) -> Result<(), PutFault>
-    ensures { Prints (K.shown out.old) (K.shown out.new) line.old line.new (whole (codes " " ∷ symbol_word safe ∷ [])) result }
+    ensures { Prints (K.shown out.old) (K.shown out.new) line.old line.new (codes " " ++ symbol_word safe) result }
 {
-    print_all(&[b" ".as_slice(), symbol_word(safe)], line, out)
+    print(spaced_symbol(safe), line, out)
 }
 
 // Puts the line of an entry.
@@ -443,7 +455,7 @@ fn put_block<K: Sink>(
 }
 
 // Puts the lines of all cells, block by block, so that no order of the entries makes it slow.
-fn put_cells<K: Sink>(device: &RawDevice, line: &mut Line, out: &mut K) -> Result<(), PutFault>
+fn put_blocks<K: Sink>(device: &RawDevice, line: &mut Line, out: &mut K) -> Result<(), PutFault>
     requires few { (num : ℕ) → length (entries_of num device.now.cells) ≤ 2 }
     requires most { device.now.boundary ≤ 65535 }
     ensures { Prints (K.shown out.old) (K.shown out.new) [] []
@@ -457,6 +469,57 @@ fn put_cells<K: Sink>(device: &RawDevice, line: &mut Line, out: &mut K) -> Resul
         from += count as u32;
     }
     Ok(())
+}
+
+// Whether the entries stand in the order of their cells, whose numbers are all below one.
+fn are_in_order(cells: &[Cell], most: u32) -> bool
+    ensures { result ≡ true → Climbs 0 most cells.now }
+{
+    let mut least = 0;
+    for cell in cells {
+        if cell.num < least || most <= cell.num {
+            return false;
+        }
+        least = cell.num;
+    }
+    true
+}
+
+// Puts the lines of entries in their order.
+fn put_in_order<K: Sink>(
+    ports: &[Name],
+    bits: &[PortBit],
+    cells: &[Cell],
+    line: &mut Line,
+    out: &mut K,
+) -> Result<(), PutFault>
+    ensures { Prints (K.shown out.old) (K.shown out.new) [] [] (flat_map (cell_line ports.now bits.now) cells.now) result }
+{
+    for cell in cells {
+        put_cell(ports, bits, *cell, line, out)?;
+    }
+    Ok(())
+}
+
+// Puts the lines of all cells. Most texts have the entries in the order of the cells, so one walk puts them.
+fn put_cells<K: Sink>(device: &RawDevice, line: &mut Line, out: &mut K) -> Result<(), PutFault>
+    requires few { (num : ℕ) → length (entries_of num device.now.cells) ≤ 2 }
+    requires most { device.now.boundary ≤ 65535 }
+    ensures { Prints (K.shown out.old) (K.shown out.new) [] []
+        (cell_lines device.now.ports device.now.bits device.now.cells 0 device.now.boundary) result }
+{
+    let cells = device.cells.as_slice();
+    if are_in_order(cells, device.boundary) {
+        put_in_order(
+            device.ports.as_slice(),
+            device.bits.as_slice(),
+            cells,
+            line,
+            out,
+        )
+    } else {
+        put_blocks(device, line, out)
+    }
 }
 
 // Puts the lines of the ports of a device.

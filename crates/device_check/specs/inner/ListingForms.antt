@@ -1,5 +1,5 @@
 -- What the listing of a device goes by.
-use Rattle.std.specs.Prelude.{ℕ, ◌≤◌, List, [], ◌∷◌}
+use Rattle.std.specs.Prelude.{ℕ, ◌<◌, ◌≤◌, List, [], ◌∷◌}
 use Rattle.board_defs.specs.declared.device.Cell.{Cell}
 use Rattle.board_defs.specs.declared.device.PortBit.{PortBit}
 use Rattle.device_check.specs.declared.listing_table.Entries.{Entries}
@@ -15,3 +15,8 @@ entries_in (Two first second) = first ∷ second ∷ []
 abbrev pub Rises : ℕ → List PortBit → Type 0
 Rises port [] = Unit {0}
 Rises port (bit ∷ bits) = (port ≤ bit.port) × Rises bit.port bits
+
+-- the entries stand in the order of their cells, which begin with this one or a later one and are all below another
+abbrev pub Climbs : ℕ → ℕ → List Cell → Type 0
+Climbs least most [] = Unit {0}
+Climbs least most (cell ∷ cells) = (least ≤ cell.num) × ((cell.num < most) × Climbs cell.num most cells)

@@ -4,7 +4,6 @@ use Rattle.board_defs.specs.declared.device.RawDevice.{RawDevice}
 use Rattle.bsdl_parser.specs.declared.entity.Entity.{Entity}
 use Rattle.bsdl_strings.specs.declared.fault.StringFault.{StringFault}
 use Rattle.bsdl_strings.specs.declared.fault.StringFault.TheVariants.{At, Memory}
-use Rattle.device_rules.specs.declared.broken.Broken.{Broken}
 use Rattle.device_rules.specs.declared.draft.Draft.{Draft}
 use Rattle.device_rules.specs.Rules.{first_rule}
 use Rattle.device_rules.specs.Raw.{raw_device}

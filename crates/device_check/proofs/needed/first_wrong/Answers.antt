@@ -1,4 +1,4 @@
-use Rattle.std.proofs.Common.{ℕ, Bool, not, sym, ◌∙◌, ap}
+use Rattle.std.proofs.Common.{not, sym, ◌∙◌, ap}
 use Rattle.device_check.specs.Needed.{is_as_needed}
 use Rattle.device_check.proofs.SearchLemmas.{none_on, found_at}
 use Rattle.device_check.proofs.needed.first_wrong.Goals as goal

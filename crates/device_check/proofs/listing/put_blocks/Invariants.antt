@@ -2,7 +2,7 @@ use Rattle.std.proofs.Common.{◌≡◌, ◌-◌, ◌≤◌, [], length, Ok}
 use Rattle.bt_base.specs.declared.sink.PutFault.{PutFault}
 use Rattle.line_printer.specs.Prints.{Prints}
 use Rattle.device_check.specs.DeviceText.{cell_lines}
-use Rattle.device_check.proofs.listing.put_cells.Given as goal
+use Rattle.device_check.proofs.listing.put_blocks.Given as goal
 
 -- the cells below a number were put
 abbrev pub invariant-loop-from : goal.invariant-loop-from
