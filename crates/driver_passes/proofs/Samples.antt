@@ -1,9 +1,13 @@
--- Sets of numbers, and the numbers of one word, worked by hand.
-use Rattle.std.proofs.Common.{◌≡◌, ℕ, ◌+◌, ◌-◌, ◌^◌, ◌<◌, ◌≤◌, Bool, true, false, not, List, [], ◌∷◌, filter, refl, arith}
+-- Sets of numbers, the numbers of one word and of blocks, and a word of each row, worked by hand.
+use Rattle.std.proofs.Common.{◌≡◌, ◌∙◌, ℕ, ◌+◌, ◌-◌, ◌^◌, ◌<◌, ◌≤◌, Bool, true, false, not, List, [], ◌∷◌, filter, refl, sym, ap, arith}
 use Rattle.std.specs.List.{list_all, range_with_len}
 use Rattle.std.proofs.lemmas.Bool.{not-true}
 use Rattle.board_defs.proofs.Members.{all_has, has_range}
+use Rattle.driver_passes.specs.declared.blocks.Block.{Block}
+use Rattle.driver_passes.specs.declared.column.Column.{Column}
 use Rattle.driver_passes.specs.inner.NumberSets.{has_bit, is_in, is_of_word, IsFirst}
+use Rattle.driver_passes.specs.inner.Blocks.{has_place}
+use Rattle.driver_passes.specs.inner.Shown.{IsColumn, words_at}
 
 -- the numbers of a set of three words
 abbrev numbers_of : List ℕ → List ℕ
@@ -36,6 +40,35 @@ taken_out = refl
 -- bits 0 and 2 of word 1
 of_one_word : filter (is_of_word 1 5) (range_with_len 0 192) ≡ 64 ∷ 66 ∷ []
 of_one_word = refl
+
+-- the first and the last bit of word 0
+ends_of_word : filter (is_of_word 0 (2 ^ 63 + 1)) (range_with_len 0 192) ≡ 0 ∷ 63 ∷ []
+ends_of_word = refl
+
+-- no bit of word 2
+none_of_word : filter (is_of_word 2 0) (range_with_len 0 192) ≡ []
+none_of_word = refl
+
+-- bits 0 and 1 of word 0, a block without a bit, and two blocks of word 2 with its bits 2 and 63
+abbrev some_blocks : List Block
+some_blocks = record { word = 0; bits = 3 } ∷ record { word = 1; bits = 0 } ∷ record { word = 2; bits = 4 } ∷ record { word = 2; bits = 2 ^ 63 } ∷ []
+
+of_blocks : filter (has_place some_blocks) (range_with_len 0 192) ≡ 0 ∷ 1 ∷ 130 ∷ 191 ∷ []
+of_blocks = refl
+
+-- of three rows, the second has word 0 alone, and is 0 past it
+abbrev some_rows : List (List ℕ)
+some_rows = (5 ∷ 6 ∷ []) ∷ (7 ∷ []) ∷ (8 ∷ 9 ∷ 10 ∷ []) ∷ []
+
+first_words : words_at 0 some_rows ≡ 5 ∷ 7 ∷ 8 ∷ []
+first_words = refl
+
+second_words : words_at 1 some_rows ≡ 6 ∷ 0 ∷ 9 ∷ []
+second_words = refl
+
+-- a column has the words with its own number
+of_column : (column : Column) → column.number ≡ 1 → column.words.items ≡ 6 ∷ 0 ∷ 9 ∷ [] → IsColumn some_rows column
+of_column column number words = words ∙ sym (ap (λ n. words_at n some_rows) number)
 
 -- none of the numbers from this one up to the end passes, by computing
 none_by : (passes : ℕ → Bool) (from end : ℕ) → list_all (λ n. not (passes n)) (range_with_len from (end - from)) ≡ true → (n : ℕ) → from ≤ n → n < end → passes n ≡ false
