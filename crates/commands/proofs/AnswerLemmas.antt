@@ -18,8 +18,8 @@ use Rattle.batch_diag.specs.Batch.{Answer as BatchAnswer, batch_told}
 use Rattle.board_defs.specs.declared.board.RawBoard.{RawBoard}
 use Rattle.commands.specs.LogRead.{Judging, OnBoard, OnDenoted, TextFault, Log, Batch as OfBatch}
 use Rattle.commands.specs.Worth.{OfDenoted}
-use Rattle.commands.specs.Answers.{Answers, IsCutBy, LogAnswers}
-use Rattle.commands.specs.inner.Unput.{IsCutShort, NoBoard, PutsText, unput_batch, unput_log, unput_of}
+use Rattle.commands.specs.Answers.{Answers, LogAnswers}
+use Rattle.commands.specs.inner.Unput.{IsPutInPart, NoBoard, PutsText, unput_batch, unput_log, unput_of}
 
 -- a fault was found
 pub answers_fault : {A : Type 0} (IsFound : Result A InputFault → Type 0) (text_of : A → Text) (IsWorth : Shown → Type 0) (shown : Shown) (fault : InputFault) → IfSome (input_told fault) (λ f. IsFound (Err f)) → Answers IsFound text_of IsWorth shown shown (Err (unput_of fault))
@@ -38,25 +38,31 @@ pub takes_by : {T E : Type 0} {x : T} {r : Result T E} (old new : Shown) (text :
 takes_by {T} {E} {x} {r} old new text puts ok = (subst (λ (q : Result T E). Puts old new text q) ok puts).whole
 
 -- its text was cut short
-pub cut_by : {A F T E : Type 0} {e : E} {r : Result T E} (IsFound : Result A F → Type 0) (text_of : A → Text) (old new : Shown) (value : A) → IsFound (Ok value) → Puts old new (text_of value) r → r ≡ Err e → IsCutBy IsFound text_of old new
-cut_by {A} {F} {T} {E} {e} {r} IsFound text_of old new value found puts err =
-    let short = subst (λ (q : Result T E). Puts old new (text_of value) q) err puts in
-    record { rose = short.cause; value = value; found = found; bytes = short.cut.0; takes = short.cut.1 }
-
-pub cut_short : {T E : Type 0} {e : E} {r : Result T E} (old new : Shown) (text : Text) → Puts old new text r → r ≡ Err e → IsCutShort text old new
+pub cut_short : {T E : Type 0} {e : E} {r : Result T E} (old new : Shown) (text : Text) → Puts old new text r → r ≡ Err e → IsPutInPart text old new
 cut_short {T} {E} {e} {r} old new text puts err =
     let short = subst (λ (q : Result T E). Puts old new text q) err puts in
     record { rose = short.cause; bytes = short.cut.0; takes = short.cut.1 }
 
+-- a text was put, or not
+by_put : (P : Result (Unit {0}) Unput → Type 0) (text : Text) (old new : Shown) (result : Result (Unit {0}) Unput) → PutsText text old new result → (Takes old new text → P (Ok tt)) → (IsPutInPart text old new → P (Err unput.Write)) → (new ≡ old → P (Err unput.Memory)) → P result
+by_put P text old new (Ok done) takes whole cut none = whole takes
+by_put P text old new (Err (unput.Input fault)) bad whole cut none = absurd bad
+by_put P text old new (Err (unput.Log rows fault)) bad whole cut none = absurd bad
+by_put P text old new (Err (unput.Batch rows fault)) bad whole cut none = absurd bad
+by_put P text old new (Err unput.Write) short whole cut none = cut short
+by_put P text old new (Err unput.Memory) same whole cut none = none same
+
 -- the text of a value that was found was put, or not
 pub text_answers : {A : Type 0} (IsFound : Result A InputFault → Type 0) (text_of : A → Text) (IsWorth : Shown → Type 0) (value : A) → IsFound (Ok value) → (old new : Shown) (result : Result (Unit {0}) Unput) → PutsText (text_of value) old new result
     → (Takes old new (text_of value) → IsWorth new) → Answers IsFound text_of IsWorth old new result
-text_answers IsFound text_of IsWorth value found old new (Ok done) takes worth = record { value = value; found = found; takes = takes; worth = worth takes }
-text_answers IsFound text_of IsWorth value found old new (Err (unput.Input fault)) none worth = absurd none
-text_answers IsFound text_of IsWorth value found old new (Err (unput.Log rows fault)) none worth = absurd none
-text_answers IsFound text_of IsWorth value found old new (Err (unput.Batch rows fault)) none worth = absurd none
-text_answers IsFound text_of IsWorth value found old new (Err unput.Write) cut worth = record { rose = cut.rose; value = value; found = found; bytes = cut.bytes; takes = cut.takes }
-text_answers IsFound text_of IsWorth value found old new (Err unput.Memory) same worth = same
+text_answers IsFound text_of IsWorth value found old new result put worth =
+    by_put (Answers IsFound text_of IsWorth old new) (text_of value) old new result put (λ takes. record { value = value; found = found; takes = takes; worth = worth takes }) (λ cut. record { rose = cut.rose; value = value; found = found; bytes = cut.bytes; takes = cut.takes }) (λ same. same)
+
+-- the same where one of the texts holds logs
+pub text_judged : {A : Type 0} (IsFound : Result A TextFault → Type 0) (text_of : A → Text) (IsWorth : Shown → Type 0) (value : A) → IsFound (Ok value) → (old new : Shown) (result : Result (Unit {0}) Unput) → PutsText (text_of value) old new result
+    → (Takes old new (text_of value) → IsWorth new) → LogAnswers IsFound text_of IsWorth old new result
+text_judged IsFound text_of IsWorth value found old new result put worth =
+    by_put (LogAnswers IsFound text_of IsWorth old new) (text_of value) old new result put (λ takes. record { value = value; found = found; takes = takes; worth = worth takes }) (λ cut. record { rose = cut.rose; value = value; found = found; bytes = cut.bytes; takes = cut.takes }) (λ same. same)
 
 -- there is no board: its texts have a first fault, or memory ran out
 pub no_board : (chain nets : Text) (texts : List Text) (fault : InputFault) → IfSome (input_told fault) (λ f. IsBoardRead chain nets texts (Err f)) → NoBoard chain nets texts (unput_of fault)

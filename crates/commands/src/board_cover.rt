@@ -6,7 +6,7 @@ ghost use Rattle.commands.specs.Answers.{Answers};
 ghost use Rattle.commands.specs.Worth.{ListsCover};
 
 use crate::texts::BoardTexts;
-use crate::unput::{Unput, unput_by};
+use crate::unput::{Unput, answer_by, unput_by};
 use bt_base::Sink;
 use bt_bits::Line;
 use btest_core::law::inputs_keep_rules;
@@ -37,8 +37,5 @@ pub fn cover<K: Sink>(alloc: Global, texts: BoardTexts, out: &mut K) -> Result<(
     };
     inputs_keep_rules();
     lists_are_true();
-    match write_cover(&board, &classes, &mut line, out) {
-        Ok(()) => Ok(()),
-        Err(_) => Err(Unput::Write),
-    }
+    answer_by(write_cover(&board, &classes, &mut line, out))
 }

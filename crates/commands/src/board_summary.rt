@@ -17,7 +17,7 @@ ghost use Rattle.commands.specs.Answers.{Answers, Nothing};
 ghost use Rattle.commands.specs.inner.Unput.{PutsText};
 
 use crate::board_test::{TestRows, write_test};
-use crate::unput::{Unput, unput_by};
+use crate::unput::{Unput, answer_by, unput_by};
 use board_defs::Board;
 use board_gen::{Made, make};
 use bt_base::{CountSink, PutFault, Sink};
@@ -65,10 +65,7 @@ fn put_summary<K: Sink>(alloc: Global, board: &Board, out: &mut K) -> Result<(),
     let Ok(mut line) = Line::new(alloc) else {
         return Err(Unput::Memory);
     };
-    match put_counts(&counts, &mut line, out) {
-        Ok(()) => Ok(()),
-        Err(_) => Err(Unput::Write),
-    }
+    answer_by(put_counts(&counts, &mut line, out))
 }
 
 // The generated board with this number.

@@ -19,7 +19,7 @@ ghost use Rattle.commands.specs.inner.Unput.{PutsText};
 use crate::planned::{Planned, planned_board};
 use crate::rows::Rows;
 use crate::texts::BoardTexts;
-use crate::unput::Unput;
+use crate::unput::{Unput, answer_by};
 use board_defs::Board;
 use bt_base::{PutFault, Sink};
 use scan_planner::{PassRows, Plan};
@@ -56,10 +56,7 @@ fn put_test<K: Sink>(alloc: Global, planned: &Planned, out: &mut K) -> Result<()
     let Ok(mut rows) = TestRows::for_board(alloc, board) else {
         return Err(Unput::Memory);
     };
-    match write_test(board, plan, &mut rows, out) {
-        Ok(()) => Ok(()),
-        Err(_) => Err(Unput::Write),
-    }
+    answer_by(write_test(board, plan, &mut rows, out))
 }
 
 // What the text of the board's test is worth.

@@ -14,7 +14,7 @@ ghost use Rattle.commands.specs.Worth.{WalksBoard};
 use crate::board_test::longest_scan;
 use crate::rows::Rows;
 use crate::texts::BoardTexts;
-use crate::unput::{Unput, unput_by};
+use crate::unput::{Unput, answer_by, unput_by};
 use board_defs::Board;
 use bt_base::{PutFault, Sink};
 use btest_core::read_board;
@@ -85,10 +85,7 @@ fn put_walk<K: Sink>(alloc: Global, walked: &Walked, out: &mut K) -> Result<(), 
     let Ok(mut rows) = Rows::with_room(alloc, longest_scan(&walked.board)) else {
         return Err(Unput::Memory);
     };
-    match write_walk(walked, &mut rows, out) {
-        Ok(()) => Ok(()),
-        Err(_) => Err(Unput::Write),
-    }
+    answer_by(write_walk(walked, &mut rows, out))
 }
 
 // What the text of the walking test is worth.

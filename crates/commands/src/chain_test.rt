@@ -9,7 +9,7 @@ ghost use Rattle.commands.specs.Worth.{TestsChain};
 ghost use Rattle.commands.specs.Answers.{Answers};
 
 use crate::rows::Rows;
-use crate::unput::{Unput, unput_by};
+use crate::unput::{Unput, answer_by, unput_by};
 use bt_base::{PutFault, Sink};
 use btest_core::read_chain;
 use std::alloc::Global;
@@ -37,10 +37,7 @@ pub fn chain<K: Sink>(
         return Err(Unput::Memory);
     };
     tests_length(&lengths);
-    match write_test(&lengths, &mut rows, out) {
-        Ok(()) => Ok(()),
-        Err(_) => Err(Unput::Write),
-    }
+    answer_by(write_test(&lengths, &mut rows, out))
 }
 
 // What the text of the chain test is worth.

@@ -5,7 +5,7 @@ ghost use Rattle.btest_core.specs.DevicesRead.{IsDeviceText};
 ghost use Rattle.commands.specs.Answers.{Answers};
 ghost use Rattle.commands.specs.Worth.{ListsDevice};
 
-use crate::unput::{Unput, unput_by};
+use crate::unput::{Unput, answer_by, unput_by};
 use bt_base::Sink;
 use bt_bits::Line;
 use btest_core::law::inputs_keep_rules;
@@ -27,8 +27,5 @@ pub fn device<K: Sink>(alloc: Global, text: &[u8], out: &mut K) -> Result<(), Un
         return Err(Unput::Memory);
     };
     inputs_keep_rules();
-    match write_device(&device, &mut line, out) {
-        Ok(()) => Ok(()),
-        Err(_) => Err(Unput::Write),
-    }
+    answer_by(write_device(&device, &mut line, out))
 }

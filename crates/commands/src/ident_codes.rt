@@ -7,7 +7,7 @@ ghost use Rattle.commands.specs.Worth.{TestsIdents};
 ghost use Rattle.commands.specs.Answers.{Answers};
 
 use crate::rows::Rows;
-use crate::unput::{Unput, unput_by};
+use crate::unput::{Unput, answer_by, unput_by};
 use board_defs::Code;
 use bt_base::Sink;
 use btest_core::read_idents;
@@ -39,17 +39,15 @@ pub fn ident<K: Sink>(
         return Err(Unput::Memory);
     };
     tests_codes(&patterns);
-    match write_ident(
+    let put = write_ident(
         &patterns,
         &mut rows.tdi,
         &mut rows.tdo,
         &mut rows.mask,
         &mut rows.line,
         out,
-    ) {
-        Ok(()) => Ok(()),
-        Err(_) => Err(Unput::Write),
-    }
+    );
+    answer_by(put)
 }
 
 // What the text of the identity test is worth, and how many bits its scan has at most.

@@ -9,7 +9,7 @@ ghost use Rattle.commands.specs.Answers.{LogAnswers};
 use crate::board_test::{singles_respond, test_means};
 use crate::planned::{Planned, planned_board};
 use crate::texts::LogTexts;
-use crate::unput::{Unput, unput_by_batch};
+use crate::unput::{Unput, answer_by, unput_by_batch};
 use batch_diag::{blocks, diagnose_all, write_batch};
 use bt_base::{Gate, Sink};
 use bt_bits::Line;
@@ -77,8 +77,5 @@ fn put_batch<R: Threads + Sync, K: Sink, G: Gate>(
     singles_respond(board);
     explaining_listed();
     passing_unexplained();
-    match write_batch(board, &blocks, &verdicts, &mut line, out) {
-        Ok(()) => Ok(()),
-        Err(_) => Err(Unput::Write),
-    }
+    answer_by(write_batch(board, &blocks, &verdicts, &mut line, out))
 }

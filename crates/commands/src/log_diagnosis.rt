@@ -9,7 +9,7 @@ ghost use Rattle.commands.specs.Answers.{LogAnswers};
 use crate::board_test::{singles_respond, test_means};
 use crate::planned::{Planned, planned_board};
 use crate::texts::LogTexts;
-use crate::unput::{Unput, unput_by_log};
+use crate::unput::{Unput, answer_by, unput_by_log};
 use bt_base::{Gate, Sink};
 use bt_bits::Line;
 use diagnoser::law::{explaining_listed, passing_unexplained};
@@ -83,8 +83,5 @@ fn put_diagnosis<R: Threads + Sync, K: Sink, G: Gate>(
     singles_respond(board);
     explaining_listed();
     passing_unexplained();
-    match write_diagnosis(board, pass, &faults, &mut line, out) {
-        Ok(()) => Ok(()),
-        Err(_) => Err(Unput::Write),
-    }
+    answer_by(write_diagnosis(board, pass, &faults, &mut line, out))
 }

@@ -8,7 +8,7 @@ ghost use Rattle.commands.specs.Answers.{LogAnswers};
 use crate::board_test::test_means;
 use crate::board_walk::{Walked, walked_board};
 use crate::texts::LogTexts;
-use crate::unput::{Unput, unput_by_log};
+use crate::unput::{Unput, answer_by, unput_by_log};
 use bt_base::Sink;
 use bt_bits::Line;
 use response_log::log_of;
@@ -70,8 +70,5 @@ fn put_groups<K: Sink>(
     test_means(board);
     groups_respond();
     one_set();
-    match write_groups(board, lent(&found), &mut line, out) {
-        Ok(()) => Ok(()),
-        Err(_) => Err(Unput::Write),
-    }
+    answer_by(write_groups(board, lent(&found), &mut line, out))
 }

@@ -1,8 +1,11 @@
 // Why a command put no whole text.
 ghost use Rattle.std.specs.Prelude.{◌≡◌};
-ghost use Rattle.commands.specs.inner.Unput.{unput_batch, unput_log, unput_of};
+ghost use Rattle.bt_base.specs.Puts.{Puts, Shown};
+ghost use Rattle.command_line.specs.Words.{Text};
+ghost use Rattle.commands.specs.inner.Unput.{PutsText, unput_batch, unput_log, unput_of};
 
 use batch_diag::BatchFault;
+use bt_base::PutFault;
 use btest_core::InputFault;
 use response_log::LogFault;
 
@@ -48,5 +51,15 @@ pub fn unput_by_batch(rows: u64, fault: BatchFault) -> Unput
     match fault {
         BatchFault::Memory(_) => Unput::Memory,
         fault => Unput::Batch { rows, fault },
+    }
+}
+
+/// What a command answers where a text was put, or was cut short.
+pub fn answer_by(put: Result<(), PutFault>) -> Result<(), Unput>
+    ensures { (text : Text) (old new : Shown) → Puts old new text put → PutsText text old new result }
+{
+    match put {
+        Ok(()) => Ok(()),
+        Err(_) => Err(Unput::Write),
     }
 }

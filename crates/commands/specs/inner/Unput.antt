@@ -48,8 +48,8 @@ unput_of (input.Device text fault) = unput.Input (input.Device text fault)
 unput_of (input.Link fault) = unput.Input (input.Link fault)
 unput_of (input.NoIdent line) = unput.Input (input.NoIdent line)
 
--- the sink took some first bytes of the text
-pub record IsCutShort (text : Text) (old new : Shown) : Type 0 where
+-- the sink failed, and took some first bytes of the text
+pub record IsPutInPart (text : Text) (old new : Shown) : Type 0 where
   pub rose : Rose old.faults new.faults
   pub bytes : ℕ
   pub takes : Takes old new (take bytes text)
@@ -60,5 +60,5 @@ PutsText text old new (Ok done) = Takes old new text
 PutsText text old new (Err (unput.Input fault)) = ⊥
 PutsText text old new (Err (unput.Log rows fault)) = ⊥
 PutsText text old new (Err (unput.Batch rows fault)) = ⊥
-PutsText text old new (Err unput.Write) = IsCutShort text old new
+PutsText text old new (Err unput.Write) = IsPutInPart text old new
 PutsText text old new (Err unput.Memory) = new ≡ old

@@ -1,9 +1,9 @@
 use Rattle.std.proofs.Common.{[], ◌∷◌}
-use Rattle.board_gen.specs.BoardTexts.{chain_text, net_text}
 use Rattle.board_gen.specs.DeviceText.{bsdl_text}
+use Rattle.board_gen.specs.BoardTexts.{chain_text, net_text}
 use Rattle.btest_core.specs.BoardRead.{IsBoardRead}
-use Rattle.commands.specs.Summary.{summary_text}
 use Rattle.commands.specs.Answers.{Nothing}
+use Rattle.commands.specs.Summary.{summary_text}
 use Rattle.commands.proofs.AnswerLemmas.{answers_fault, text_answers}
 use Rattle.commands.proofs.board_summary.summary.Goals as goal
 
@@ -13,5 +13,4 @@ returns-in-Err g c =
     (answers_fault (IsBoardRead (chain_text c.args.number) (net_text c.args.number) (bsdl_text ∷ [])) summary_text Nothing (g.K.Sink.shown c.args.out.now) c.in-Err.fault c.in-Err.ensures)
 
 pub returns : goal.returns
-returns g c =
-    text_answers (IsBoardRead (chain_text c.args.number) (net_text c.args.number) (bsdl_text ∷ [])) summary_text Nothing c.in-Ok.board c.in-Ok.ensures (g.K.Sink.shown c.args.out.now) (g.K.Sink.shown c.put_summary.new.out) c.put_summary.result c.put_summary.ensures (λ takes. tt)
+returns g c = text_answers _ _ _ c.in-Ok.board c.in-Ok.ensures _ _ _ c.put_summary.ensures (λ takes. tt)
