@@ -36,7 +36,7 @@ check:
 
 # Figures, with no limit and no verdict.
 bench: build
-	@bash examples/bench.sh $(PROGRAM)
+	@bash scripts/bench.sh $(PROGRAM)
 
 # Hostile use, outside the gate: WITH='broken --seed 7 --runs 1000000' does one part, with other broken texts and more of them.
 stress: build
