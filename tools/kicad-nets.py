@@ -1,8 +1,10 @@
 #!/usr/bin/env python3
-"""Prints the net file of a KiCad netlist (File > Export > Netlist, format KiCad): kicad-nets.py BOARD.net >BOARD.nets
-A byte of a net's name that may not stand in a net file, and a # in front, becomes _, and standard error tells of it."""
+"""Prints the net file of a KiCad netlist (File > Export > Netlist, format KiCad): kicad-nets.py BOARD.net >BOARD.nets"""
 import re
 import sys
+
+sys.dont_write_bytecode = True   # no folder of compiled modules beside the tools
+from net_file import Refused, main   # noqa: E402
 
 
 def tree(text):
@@ -10,10 +12,14 @@ def tree(text):
     for bracket, quoted, plain in re.findall(r'([()])|"((?:[^"\\]|\\.)*)"|([^\s()"]+)', text):
         if bracket == '(':
             stack.append([])
-        elif bracket:
+        elif bracket and len(stack) > 1:
             stack[-2].append(stack.pop())
+        elif bracket:
+            raise Refused('a bracket is closed that was not open')
         else:
             stack[-1].append(re.sub(r'\\(.)', r'\1', quoted) or plain)
+    if len(stack) > 1:
+        raise Refused('a bracket is not closed: is the file whole?')
     return stack[0]
 
 
@@ -21,20 +27,14 @@ def parts(items, name):
     return [item[1:] for item in items if isinstance(item, list) and item[:1] == [name]]
 
 
-names = {}
-with open(sys.argv[1], encoding='latin-1') as file:   # one character for each byte
-    export = sum(parts(tree(file.read()), 'export'), [])
-for net in parts(sum(parts(export, 'nets'), []), 'net'):
-    name = parts(net, 'name')[0][0]
-    word = re.sub(r'[^!-~]|^#', '_', name)
-    if word != name:
-        print(f'net {name!r} is written {word}', file=sys.stderr)
-    if not word or len(word) > 255 or names.setdefault(word, name) != name:
-        sys.exit(f'net {name!r}: rename it: the word {word!r} is empty, longer than 255 bytes, or that of another net')
-    pins = [parts(node, 'ref')[0] + parts(node, 'pin')[0] for node in parts(net, 'node')]
-    for part, pin in pins:
-        if not re.fullmatch(r'(?!#)[!-~]{1,255}', f'{part}.{pin}') or '.' in part or '' in (part, pin):
-            sys.exit(f'net {name!r}: not a pin of a net file: part {part!r}, pin {pin!r}')
-    print('NET', word, *map('.'.join, pins))
-if not names:
-    sys.exit('no nets: is this a KiCad netlist?')
+def word(items, name):
+    return next((str(item[0]) for item in parts(items, name) if item), '')
+
+
+def nets(text):
+    export = sum(parts(tree(text), 'export'), [])
+    for net in parts(sum(parts(export, 'nets'), []), 'net'):
+        yield word(net, 'name'), [(word(node, 'ref'), word(node, 'pin')) for node in parts(net, 'node')]
+
+
+main('a KiCad netlist', nets)
