@@ -2,9 +2,10 @@
 #
 #   openocd -f CABLE.cfg -c {set CHAIN chain.svf; set SVF board.svf; set LOG board.log} -f log.tcl
 #
-# CABLE.cfg has the adapter with its speed; it declares no TAP. The two SVF texts are those of `btest chain` and `btest svf`. A
-# chain that isn't sound is found first, before any pin is driven. In the test OpenOCD goes on where a comparison fails, and
-# prints the bits that came back; where it prints none, the compared bits are the expected ones. Each makes one row of the log.
+# CABLE.cfg has the adapter with its speed; it declares no TAP. The two SVF texts are those of `btest chain` and `btest svf` (or
+# `btest walk`). A log of that name is deleted first, so that none is there where this one isn't written. A chain that isn't sound
+# is found before any pin is driven. In the test OpenOCD goes on where a comparison fails, and prints the bits that came back; where
+# it prints none, the compared bits are the expected ones. Each makes one row of the log.
 
 # The bits of a field as a row of so many bits.
 proc row_of {size field} {
@@ -26,11 +27,27 @@ proc compared {text} {
     return $found
 }
 
+proc content {name} {
+    set file [open $name]
+    set text [read $file]
+    close $file
+    return $text
+}
+
 proc stop {why} {
     echo "$why; there is no log"
     shutdown error
 }
 
+foreach name {CHAIN SVF LOG} {
+    if {![info exists $name]} {
+        stop "$name isn't set: openocd -f CABLE.cfg -c {set CHAIN chain.svf; set SVF board.svf; set LOG board.log} -f log.tcl"
+    }
+}
+if {[file isfile $LOG] && [catch {file delete $LOG}] || [file isdirectory $LOG]} { stop "$LOG can't be written" }
+foreach name [list $CHAIN $SVF] {
+    if {![file isfile $name] || ![file readable $name]} { stop "$name can't be read" }
+}
 proc jtag_init {} {}   ;# the first text tests the chain; nothing else moves it
 init
 if {[catch {svf -quiet $CHAIN}]} { stop "$CHAIN failed, so the scan chain isn't sound" }
@@ -39,20 +56,25 @@ foreach {all line read} [regexp -all -inline {check error at line ([0-9]+)[^=]*R
     set came_back($line) $read
 }
 
-set file [open $SVF]
-set statements [compared [read $file]]
-close $file
-set file [open $LOG w]
+set rows ""
 set failed 0
-foreach statement $statements {
+foreach statement [compared [content $SVF]] {
     lassign $statement kind size row line
     if {[info exists came_back($line)]} {
         incr failed
         if {$kind eq "SIR"} { stop "$SVF line $line failed, so the scan chain isn't sound" }
         set row [row_of $size $came_back($line)]
     }
-    if {$kind eq "SDR"} { puts $file $row }
+    if {$kind eq "SDR"} { append rows $row "\n" }
 }
-close $file
+if {[catch {
+    set file [open $LOG w]
+    puts -nonewline $file $rows
+    flush $file
+    close $file
+}]} {
+    if {[file isfile $LOG]} { file delete $LOG }
+    stop "$LOG can't be written"
+}
 echo "$LOG is written; comparisons that failed: $failed"
 shutdown
