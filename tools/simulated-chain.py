@@ -55,7 +55,7 @@ def serve(number, seconds, port):
         try:
             client, _ = server.accept()
         except socket.timeout:
-            raise BadInput(f'no player came in {seconds} s') from None
+            raise BadInput(f'no player came in {seconds:g} s') from None
     with client:
         client.settimeout(None)
         while True:
@@ -72,15 +72,15 @@ def serve(number, seconds, port):
 
 
 def port_number(word):
-    if not 0 <= int(word) < 65536:
-        raise ValueError
+    if not word.isdecimal() or int(word) > 65535:
+        raise argparse.ArgumentTypeError(f'{word} is no number from 0 to 65535')
     return int(word)
 
 
 def options():
     words = argparse.ArgumentParser(description=__doc__, epilog='It prints a line when it listens. One connection is served. Two drivers '
                                     'on one net are told of on standard error.')
-    words.add_argument('--wait', metavar='SECONDS', type=int, default=60, help='how long it waits for a player (60)')
+    words.add_argument('--wait', metavar='SECONDS', type=float, default=60, help='how long it waits for a player (60)')
     words.add_argument('port', metavar='PORT', type=port_number, help='0 takes a free one')
     words.add_argument('fault', metavar='FAULT', help=f"one of {FAULTS}, or several in one word with blanks between them: "
                        "'and:D0:D1 open:U1.5:0'. The first net of dom is the one that wins")
@@ -100,6 +100,8 @@ def main():
         sys.exit(f'simulated-chain.py: {wrong}')
     except ConnectionError:
         sys.exit('simulated-chain.py: the player broke the connection')
+    except KeyboardInterrupt:
+        sys.exit(130)
 
 
 if __name__ == '__main__':

@@ -1,6 +1,9 @@
 """What the checks share."""
+import contextlib
 import difflib
+import io
 import pathlib
+import runpy
 import subprocess
 import sys
 
@@ -33,6 +36,22 @@ def run(words, folder=None, **how):
 def tool(name, *words, folder=None):
     """Runs a program of tools/."""
     return run([sys.executable, '-B', TOOLS / name, *words], folder)
+
+
+def inside(name, *words):
+    """Runs a program of tools/ in this process, which takes a hundredth of the time."""
+    out, err, before = io.StringIO(), io.StringIO(), sys.argv
+    sys.argv, status = [name, *map(str, words)], 0
+    try:
+        with contextlib.redirect_stdout(out), contextlib.redirect_stderr(err):
+            runpy.run_path(str(TOOLS / name), run_name='__main__')
+    except SystemExit as end:
+        status = end.code if isinstance(end.code, int) else 1
+        if isinstance(end.code, str):
+            print(end.code, file=err)
+    finally:
+        sys.argv = before
+    return subprocess.CompletedProcess([name, *words], status, out.getvalue(), err.getvalue())
 
 
 def btest(program, *words, folder=None):

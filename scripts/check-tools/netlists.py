@@ -1,0 +1,109 @@
+"""The programs that make a net file of a netlist."""
+import tempfile
+
+from cases import EXAMPLES, inside, refused, same, tool
+
+# Each program with the demo board in its form, and with a form of nets: NAME is the name of a net, NODE its nodes.
+FORMS = {
+    'kicad-nets.py': ('controller-kicad.net', '(export (nets {nets}))', '(net (name "{name}") {nodes})', '(node (ref "{part}") (pin "{pin}"))'),
+    'protel-nets.py': ('controller-protel.net', '[\nU1\nF\nV\n]\n{nets}', '(\n{name}\n{nodes}\n)\n', '{part}-{pin}\n'),
+    'pads-nets.py': ('controller-pads.asc', '*PADS-PCB*\n*NET*\n{nets}*END*\n', '*SIGNAL* {name}\n{nodes}\n', '{part}.{pin} '),
+    'telesis-nets.py': ('controller-telesis.net', '$NETS\n{nets}$END\n', "'{name}' ; {nodes}\n", "'{part}'.'{pin}' "),
+}
+
+LONG = 'N' * 256
+# What each form can say: nets with their pins, and what comes of them: the net file with what is told on standard error, or the end
+# of the line of a refusal.
+ALIKE = [
+    ('plain names', [('A', 'U1.1 U2.2'), ('B', 'U1.2')], 'NET A U1.1 U2.2\nNET B U1.2\n', ''),
+    ('signs in names', [('/bus/D[0]+', 'U1.A1'), ('~RESET{n}', 'U-1.2')], 'NET /bus/D[0]+ U1.A1\nNET ~RESET{n} U-1.2\n', ''),
+    ('a # within a name', [('WE#', 'U1.1')], 'NET WE# U1.1\n', ''),
+    ('a # in front', [('#WE', 'U1.1')], 'NET _WE U1.1\n', "net '#WE' is written _WE\n"),
+    ('a blank in a name', [('my net', 'U1.1')], 'NET my_net U1.1\n', "net 'my net' is written my_net\n"),
+    ('a letter that is not in ASCII', [('\xb5C', 'U1.1')], 'NET _C U1.1\n', "net '\xb5C' is written _C\n"),
+    ('a pin that stands twice', [('A', 'U1.1 U2.1 U1.1')], 'NET A U1.1 U2.1\n', ''),
+    ('two names that become one', [('A B', 'U1.1'), ('A_B', 'U1.2')], None, "net 'A_B': rename it"),
+    ('a name of 255 bytes', [(LONG[1:], 'U1.1')], f'NET {LONG[1:]} U1.1\n', ''),
+    ('a name of 256 bytes', [('A', 'U1.1'), (LONG, 'U1.2')], None, 'rename it'),
+    ('a node of 256 bytes', [('A', f'U1.{LONG[4:]}1 U1.{LONG[2:]}')], None, "net 'A': not a pin"),
+    ('a # in front of a part', [('A', 'U1.1'), ('B', '#U1.1')], None, "net 'B': not a pin of a net file: part '#U1', pin '1'"),
+    ('a node without a pin', [('A', 'U1.')], None, "net 'A': not a pin"),
+    ('a node without a part', [('A', '.1')], None, "net 'A': not a pin"),
+    ('a letter in a part that is not in ASCII', [('A', '\xb51.1')], None, "net 'A': not a pin"),
+    ('no net at all', [], None, 'no nets: is this a'),
+]
+
+# What is said in one form alone: the program, what, the text, and what comes of it as above.
+ALONE = [
+    ('kicad-nets.py', 'a part with a dot', '(export (nets (net (name A) (node (ref U.1) (pin 1)))))', None, "part 'U.1'"),
+    ('kicad-nets.py', 'quotes and brackets in a name', r'(export (nets (net (name "A\"(1") (node (ref U1) (pin 1)))))', 'NET A"(1 U1.1\n', ''),
+    ('kicad-nets.py', 'a file that is cut off', '(export (nets (net (name A) (node (ref U1) (pin 1)))', None, 'a bracket is not closed'),
+    ('kicad-nets.py', 'a bracket too many', '(export (nets (net (name A))))) ', None, 'a bracket is closed'),
+    ('kicad-nets.py', 'a net without a name', '(export (nets (net (node (ref U1) (pin 1)))))', None, "net '': rename it"),
+    ('kicad-nets.py', 'a node without a pin', '(export (nets (net (name A) (node (ref U1)))))', None, "part 'U1', pin ''"),
+    ('protel-nets.py', 'two nodes on one line', '(\nA\nU1-1 U2-1\nU3-1\n)\n', 'NET A U1.1 U2.1 U3.1\n', ''),
+    ('protel-nets.py', 'nodes of Protel 2', 'PROTEL NETLIST 2.0\n(\nA\nU1-1 PROC-D0 I/O\nU-2-1 R-1 PASSIVE\n)\n', 'NET A U1.1 U-2.1\n', ''),
+    ('protel-nets.py', 'a bracket that is not at the beginning of its line', '  (\nA\nU1-1\n  )\n(\nB\nU1-2)\n', 'NET A U1.1\nNET B U1.2\n', ''),
+    ('protel-nets.py', 'a block in one line with the next', '(A\nU1-1)(B\nU1-2)\n', 'NET A U1.1\nNET B U1.2\n', ''),
+    ('protel-nets.py', 'brackets in names', '[\nU1\nF(1)\nV[2]\n]\n(\nD(0)\nU1-A(1)\n)\n', 'NET D(0) U1.A(1)\n', ''),
+    ('protel-nets.py', 'a file that is cut off', '(\nA\nU1-1\n)\n(\nB\nU1-2\n', None, 'a bracket has no other'),
+    ('protel-nets.py', 'a part that is cut off', '[\nU1\n(\nA\nU1-1\n)\n', None, 'a bracket has no other'),
+    ('protel-nets.py', 'a word that is no node', '(\nA\nU1-1 and\n)\n', None, "part '', pin 'and'"),
+    ('protel-nets.py', 'lines that end as in Windows', '(\r\nA\r\nU1-1\r\n)\r\n', 'NET A U1.1\n', ''),
+    ('pads-nets.py', 'the head of PowerPCB, widths and a remark', '!PADS-POWERPCB-V9.5-MILS-CP1252! X\r\n*PART*  ITEMS\r\nU1 P@F\r\n*NET*  NETS\r\n'
+     '*REMARK* U9.9\r\n*SIGNAL* A 12 0 0 -2\r\nU1.1\r\n U2.1\r\n*MISC*  PARAMETERS\r\nU3.1\r\n*END*  OF FILE\r\nU4.1\r\n', 'NET A U1.1 U2.1\n', ''),
+    ('pads-nets.py', 'a pin with a dot', '*PADS2000*\n*NET*\n*SIGNAL* A\nU1.A.1\n*END*\n', 'NET A U1.A.1\n', ''),
+    ('pads-nets.py', 'a signal that stands twice', '*NET*\n*SIGNAL* A 1\nU1.1\n*SIGNAL* A 2\nU1.2\n*END*\n', None, "signal 'A' stands twice"),
+    ('pads-nets.py', 'a pin before the first signal', '*NET*\nU1.1\n*SIGNAL* A\n*END*\n', None, 'before the first *SIGNAL*'),
+    ('pads-nets.py', 'a signal without a name', '*NET*\n*SIGNAL*\nU1.1\n*END*\n', None, "net '': rename it"),
+    ('pads-nets.py', 'a file that is cut off', '*PADS-PCB*\n*NET*\n*SIGNAL* A\nU1.1\n', None, 'no *END*'),
+    ('telesis-nets.py', 'a line that goes on', '$PACKAGES\nF ! V ; U1,\nU2\n$NETS\nA;U1.1 U2.1 ,  \r\n  U3.1,\n\tU4.1\n$A_PROPERTIES\nP 1 ; A\n$END\n',
+     'NET A U1.1 U2.1 U3.1 U4.1\n', ''),
+    ('telesis-nets.py', 'commas between pins', '$NETS\nA ; U1.1, U2.1\n$END\n', 'NET A U1.1 U2.1\n', ''),
+    ('telesis-nets.py', 'quotes', "$NETS\n'A;B,!' ; 'U1.1' U2.'A1' 'U3'.1\n'a''b' ; U1.2\nab ; U1.3\n$S-1 ; U1.4\n$END\n",
+     "NET A;B,! U1.1 U2.A1 U3.1\nNET a'b U1.2\nNET ab U1.3\nNET $S-1 U1.4\n", ''),
+    ('telesis-nets.py', 'a dot within the quotes of a part', "$NETS\nA ; 'U.1'.2\n$END\n", None, "part 'U.1'"),
+    ('telesis-nets.py', 'a quote that is not closed', "$NETS\n'A ; U1.1\n$END\n", None, 'not a net'),
+    ('telesis-nets.py', 'a line without a semicolon', '$NETS\nA ; U1.1\nU1.2\n$END\n', None, "not a net: 'U1.2'"),
+    ('telesis-nets.py', 'a file that is cut off', '$NETS\nA ; U1.1\n', None, 'no $END'),
+    ('telesis-nets.py', 'a line that goes on and is cut off', '$NETS\nA ; U1.1,\n$END\n', None, '$END'),
+]
+
+
+def written(program, nets):
+    """Nets in the form of a program."""
+    _, file, net, node = FORMS[program]
+    lines = []
+    for name, pins in nets:
+        pairs = [word.partition('.')[::2] for word in pins.split()]
+        lines.append(net.format(name=name, nodes=''.join(node.format(part=part, pin=pin) for part, pin in pairs)))
+    return file.format(nets=''.join(lines))
+
+
+def compare(program, text, right, told, folder):
+    with open(f'{folder}/netlist', 'w', encoding='latin-1', newline='') as file:
+        file.write(text)
+    answer = inside(program, f'{folder}/netlist')
+    if right is None:
+        refused(answer, told)
+    else:
+        same((answer.returncode, answer.stdout), (0, right), 'what it prints')
+        same(answer.stderr, told, 'what it tells')
+
+
+def compare_demo(program):
+    """The net file of the demo board is that in examples/, but for its comments."""
+    answer = tool(program, EXAMPLES / FORMS[program][0])
+    lines = (EXAMPLES / 'controller.nets').read_text().splitlines(keepends=True)
+    same(answer.stdout, ''.join(line for line in lines if line.startswith('NET ')), 'the net file')
+    same((answer.returncode, answer.stderr), (0, ''), 'the status')
+
+
+def check(_program):
+    with tempfile.TemporaryDirectory() as folder:
+        for program in FORMS:
+            yield f'{program} prints the nets of the demo board', lambda: compare_demo(program)
+            for what, nets, right, told in ALIKE:
+                yield f'{program}: {what}', lambda: compare(program, written(program, nets), right, told, folder)
+        for program, what, text, right, told in ALONE:
+            yield f'{program}: {what}', lambda: compare(program, text, right, told, folder)

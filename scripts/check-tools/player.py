@@ -1,0 +1,153 @@
+"""The simulated chain, tools/simulated-chain.py, played by OpenOCD with tools/log.tcl where it is there, and by a player of its own."""
+import os
+import pathlib
+import shutil
+import socket
+import subprocess
+import sys
+import tempfile
+
+from cases import BOARD, EXAMPLES, SECONDS, TOOLS, Skipped, btest, refused, run, same, tool
+
+import simulated_board
+
+CHAIN = 'simulated-chain.py'
+SETTING = 'adapter driver remote_bitbang\nremote_bitbang host 127.0.0.1\nremote_bitbang port {port}\n'
+LOG = 'set CHAIN chain.svf; set SVF {svf}; set LOG {log}'
+
+
+class Served:
+    """A simulated board that waits for a player, with the port that it said in its first line."""
+
+    def __init__(self, fault, board=None):
+        words = [sys.executable, '-B', TOOLS / CHAIN, '0', fault, *(board or BOARD)]
+        self.process = subprocess.Popen(words, stdout=subprocess.PIPE, stderr=subprocess.PIPE, stdin=subprocess.DEVNULL, encoding='ascii')
+        self.line = self.process.stdout.readline()
+        assert self.line.startswith('listening on port '), f'its first line is {self.line!r}: {self.process.stderr.read()}'
+        self.port = int(self.line.split()[-1])
+
+    def __enter__(self):
+        return self
+
+    def __exit__(self, *_):
+        self.process.kill()
+        self.process.communicate()
+
+    def end(self):
+        """Waits for its end, which has to be well and without a word."""
+        out, err = self.process.communicate(timeout=SECONDS)
+        same((self.process.returncode, out, err), (0, '', ''), 'its end')
+
+
+def signs(svf):
+    """The clocks of an SVF text as remote_bitbang has them, with an R in front of each shift clock. TCK ends low."""
+    def clock(tms, tdi=0, read=''):
+        return f'{tms << 1 | tdi}{read}{4 | tms << 1 | tdi}'
+    for scan in simulated_board.scans(svf):
+        if scan is None:
+            yield from [clock(1)] * 5 + [clock(0)]
+            continue
+        yield from map(clock, (1, 0, 0) if scan.register == 'dr' else (1, 1, 0, 0))
+        yield from (clock(int(place == scan.size - 1), scan.tdi >> place & 1, 'R') for place in range(scan.size))
+        yield from map(clock, (1, 0))
+    yield '0'
+
+
+def receive(port, text):
+    """What a player that sends this text gets."""
+    with socket.create_connection(('127.0.0.1', port), SECONDS) as server:
+        server.sendall(text.encode('ascii'))
+        server.shutdown(socket.SHUT_WR)
+        return ''.join(iter(lambda: server.recv(65536).decode('ascii'), ''))
+
+
+def play_clocks(program, fault):
+    """Clock by clock the board answers as the model does scan by scan."""
+    svf = btest(program, 'svf', *BOARD)
+    with Served(fault) as served:
+        bits = receive(served.port, ''.join(signs(svf)))
+        served.end()
+    rows = []
+    for scan in filter(None, simulated_board.scans(svf)):
+        row, bits = bits[:scan.size], bits[scan.size:]
+        if scan.register == 'dr' and scan.tdo is not None:
+            rows.append(f'{int(row[::-1], 2):0{(scan.size + 3) // 4}X}')
+    board = simulated_board.Board(*map(simulated_board.read, BOARD[:2]), list(map(simulated_board.read, BOARD[2:])))
+    board.set_faults(fault)
+    same(rows, simulated_board.play(board, svf), 'the rows')
+
+
+def take_port():
+    with Served('good') as served:
+        refused(tool(CHAIN, served.port, 'good', *BOARD), f'simulated-chain.py: port {served.port} is taken')
+
+
+def wait_for_none():
+    answer = tool(CHAIN, '--wait', '0.2', 0, 'good', *BOARD)
+    assert answer.stdout.startswith('listening on port ') and answer.stdout.count('\n') == 1, f'it prints {answer.stdout!r}'
+    same((answer.returncode, answer.stderr), (1, 'simulated-chain.py: no player came in 0.2 s\n'), 'its end')
+
+
+class OpenOcd:
+    """A folder with the demo board's tests, in which OpenOCD plays them."""
+
+    def __init__(self, program, folder):
+        if not shutil.which('openocd'):
+            raise Skipped('OpenOCD is not there')
+        self.folder = pathlib.Path(folder)
+        for name, words in (('chain', ('chain', BOARD[0], *BOARD[2:])), ('svf', ('svf', *BOARD)), ('walk', ('walk', *BOARD))):
+            (self.folder / f'{name}.svf').write_text(btest(program, *words))
+
+    def play(self, fault, setting, board=None):
+        """The status of OpenOCD with log.tcl, and what it said."""
+        with Served(fault, board) as served:
+            (self.folder / 'simulated.cfg').write_text(SETTING.format(port=served.port))
+            answer = run(['openocd', '-f', 'simulated.cfg', '-c', setting, '-f', TOOLS / 'log.tcl'], self.folder)
+        return answer.returncode, answer.stdout + answer.stderr
+
+    def write_log(self, fault, svf, name):
+        """The log of a board with a fault is a stored one, in the bits that are compared."""
+        status, said = self.play(fault, LOG.format(svf=svf, log='board.log'))
+        assert status == 0 and 'board.log is written' in said, f'status {status}: {said}'
+        masks = [scan.mask for scan in simulated_board.scans((self.folder / svf).read_text())
+                 if scan and scan.register == 'dr' and scan.tdo is not None]
+        rows = [(self.folder / 'board.log').read_text().split(), (EXAMPLES / name).read_text().split()]
+        same(*[[int(row, 16) & mask for row, mask in zip(log, masks)] + [len(log)] for log in rows], f'the rows of {name}')
+
+    def refuse(self, setting, line, board=None):
+        """A log that can't be written is not there, nor is an old one."""
+        (self.folder / 'board.log').write_text('an old one\n')
+        status, said = self.play('good', setting, board)
+        assert status != 0 and line in said and '; there is no log' in said, f'status {status}: {said}'
+        assert 'set LOG board.log' not in setting or not (self.folder / 'board.log').exists(), 'the old log stands there'
+
+
+def check_openocd(program, folder):
+    """A call for each check with OpenOCD, with the folder made when it is wanted."""
+    def ocd():
+        return OpenOcd(program, folder)
+    chain = [EXAMPLES / 'driver.chain', os.devnull, EXAMPLES / 'driver.bsd']
+    yield 'OpenOCD gets the log of a good board', lambda: ocd().write_log('good', 'svf.svf', 'good.log')
+    yield 'OpenOCD gets the log of a short', lambda: ocd().write_log('and:D0:D1', 'svf.svf', 'shorted.log')
+    yield 'OpenOCD gets the log of a walking test', lambda: ocd().write_log('or:D0:D1:A1', 'walk.svf', 'three-shorted.log')
+    yield 'a chain that is not sound leaves no log', lambda: ocd().refuse(
+        LOG.format(svf='svf.svf', log='board.log'), "chain.svf failed, so the scan chain isn't sound", chain)
+    yield 'an SVF text that is missing leaves no log', lambda: ocd().refuse(
+        LOG.format(svf='missing.svf', log='board.log'), "missing.svf can't be read")
+    yield 'a log that has no name', lambda: ocd().refuse('set CHAIN chain.svf; set SVF svf.svf', "LOG isn't set")
+    yield 'a log in a folder that is missing', lambda: ocd().refuse(
+        LOG.format(svf='svf.svf', log='missing/board.log'), "missing/board.log can't be written")
+    yield 'a log on a full disk', lambda: ocd().refuse(LOG.format(svf='svf.svf', log='/dev/full'), "/dev/full can't be written")
+
+
+def check(program):
+    for fault in ('good', 'and:D0:D1', 'open:U1.5:0 stuck:IRQ:1 dom:D2:D3'):
+        yield f'the board {fault} over a socket', lambda: play_clocks(program, fault)
+    yield 'a port that is taken', take_port
+    yield 'no player comes', wait_for_none
+    for fault, line in (('stuck:D9:0', 'no net D9'), ('and:D0:A1R', 'LINK lines join A1R to A1'), ('xor:D0:D1', 'no such kind')):
+        yield f'the fault {fault} is refused', lambda: refused(tool(CHAIN, 0, fault, *BOARD), line)
+    yield 'a port that is no number', lambda: refused(tool(CHAIN, 99999, 'good', *BOARD), 'no number from 0 to 65535')
+    yield 'a BSDL text that is missing', lambda: refused(tool(CHAIN, 0, 'good', *BOARD[:4]), 'line 4: entity not given')
+    with tempfile.TemporaryDirectory() as folder:
+        yield from check_openocd(program, folder)

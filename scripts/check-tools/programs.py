@@ -1,0 +1,40 @@
+"""What holds of each program of tools/: it tells of itself, and of words and files that are missing."""
+import os
+import stat
+import tempfile
+
+from cases import BOARD, TOOLS, inside, refused, same
+
+
+def helps(name):
+    answer = inside(name, '--help')
+    same((answer.returncode, answer.stderr), (0, ''), 'the status')
+    assert answer.stdout.startswith(f'usage: {name}'), f'it prints {answer.stdout[:80]!r}'
+
+
+def stands_in_table(name):
+    table = [line for line in (TOOLS / 'README.md').read_text(encoding='utf-8').splitlines() if line.startswith('|')]
+    assert any(f'`{name}`' in line for line in table), 'tools/README.md has no row for it'
+
+
+# Words of which the first file isn't there.
+MISSING = [
+    ('kicad-nets.py', 'missing'), ('protel-nets.py', 'missing'), ('pads-nets.py', 'missing'), ('telesis-nets.py', 'missing'),
+    ('simulated-chain.py', '0', 'good', 'missing', *BOARD[1:]), ('simulated-chain.py', '0', 'good', *BOARD[:4], 'missing'),
+]
+
+
+def check(_program):
+    with tempfile.TemporaryDirectory() as folder:
+        for name in sorted(os.listdir(TOOLS)):
+            path = TOOLS / name
+            if not path.is_file() or name == 'README.md':
+                continue
+            yield f'{name} stands in the table', lambda: stands_in_table(name)
+            if name.endswith('.py') and path.stat().st_mode & stat.S_IXUSR:
+                yield f'{name} --help', lambda: helps(name)
+                yield f'{name} without words', lambda: refused(inside(name))
+        for name, *words in MISSING:
+            yield f'{name}: a file is missing', lambda: refused(inside(name, *words), f'{name}: cannot read missing')
+            words = [folder if word == 'missing' else word for word in words]
+            yield f'{name}: a folder in place of a file', lambda: refused(inside(name, *words), f'{name}: cannot read {folder}')
