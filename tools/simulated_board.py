@@ -5,8 +5,8 @@
     rows = play(board, svf)                        # the rows of the response log to the text of `btest svf` or `btest walk`
 
 The files are those of a btest command; what is plainly wrong with them, and a fault that the board can't have, is a BadInput.
-Faults behave as docs/MODEL.md says of the bits of nets. What it leaves open is chosen here: a driver reads what its net reads, a
-cell without a net reads 0, and so does a net that nothing drives or pulls, or that two drivers are on.
+Faults behave as docs/MODEL.md says under "What a net has at one moment". What is free there is chosen here: a pin that drives reads
+its net, a cell without a net reads 0, and so does a net that nothing drives or pulls or that has two drivers.
 """
 import re
 from typing import NamedTuple, Optional
@@ -41,6 +41,12 @@ def statements(file):
         words = re.sub(r'(^|[ \t\r])#.*', '', line).split()
         if words:
             yield number, words
+
+
+def number_of(where, word, allowed):
+    if not re.fullmatch('[0-9]{1,3}', word) or int(word) not in allowed:
+        raise BadInput(f'{where}: number not allowed')
+    return int(word)
 
 
 class Entry(NamedTuple):
@@ -86,6 +92,10 @@ class Part:
             self.instruction = self.codes.get(''.join(map(str, reversed(row))), 'BYPASS')
         elif self.instruction in BOUNDARY:
             self.latches = row
+
+    def drivers(self):
+        """The pins that can drive."""
+        return [self.pins.get(entry.place) for entry in self.entries if entry.function in DRIVING]
 
     def live(self):
         """The pins that drive, each with its bit."""
@@ -175,32 +185,28 @@ class Board:
                 self.nets.setdefault(f'{part}.{pin.upper()}', words[1])
 
     def read_chain(self, file, entities):
-        pulls, order = [], {name: place for place, name in enumerate(self.joined)}
+        named, order = [], {name: place for place, name in enumerate(self.joined)}
         for number, (statement, *words) in statements(file):
             where = f'{file.name} line {number}'
             if len(words) != WORDS.get(statement):
                 raise BadInput(f'{where}: no statement')
             if statement == 'DEVICE':
-                entity = entities.get(words[1].upper())
-                if not entity:
+                if words[1].upper() not in entities:
                     raise BadInput(f'{where}: entity not given')
-                self.parts.append(entity.part(words[0], words[2].upper()))
-            elif statement == 'BYPASS' or statement == 'PULL' and words[1] not in '01':
-                if statement == 'PULL' or not re.fullmatch('[0-9]{1,3}', words[1]) or int(words[1]) < 2:
-                    raise BadInput(f'{where}: number not allowed')
-                self.parts.append(Part(words[0], int(words[1])))
-            elif statement in ('PULL', 'SUPPLY'):
-                pulls.append((where, words))
+                self.parts.append(entities[words[1].upper()].part(words[0], words[2].upper()))
+            elif statement == 'BYPASS':
+                self.parts.append(Part(words[0], number_of(where, words[1], range(2, 256))))
             elif statement == 'LINK':
                 self.link(where, *words, order)
-        for name in self.joined:
-            self.joined[name] = self.root(name)
+            elif statement != 'INERT':
+                named.append((where, *words))
+        self.joined = {name: self.root(name) for name in self.joined}
         self.nets = {pin: self.joined[name] for pin, name in self.nets.items()}
-        for where, (name, *value) in pulls:
+        for where, name, *value in named:   # by the PULL and SUPPLY lines
             if name not in self.joined:
                 raise BadInput(f'{where}: {"pulled" if value else "supply"} net not there')
             if value:
-                self.pulls[self.joined[name]] = int(value[0])
+                self.pulls[self.joined[name]] = number_of(where, *value, range(2))
             else:
                 self.supplies.add(self.joined[name])
 
@@ -275,9 +281,10 @@ class Board:
 
     def add_short(self, fault, kind, text):
         nets = next(iter(self.cuts(text.split(':'))), None) or text.split(':')   # names that aren't there are told of below
+        carried = {self.nets.get(pin) for part in self.parts for pin in part.drivers()} | self.pulls.keys()
         for net in nets:
-            if self.net(fault, net) in self.supplies:
-                raise BadInput(f'fault {fault}: {net} is a supply; a net that is shorted with it is stuck')
+            if self.net(fault, net) in self.supplies or net not in carried:
+                raise BadInput(f'fault {fault}: the files don\'t say what {net} carries; a net that is shorted with it may be stuck')
         if len(set(nets)) < max(2, len(nets)):
             raise BadInput(f'fault {fault}: a short has two nets or more, which differ')
         self.shorts.append((kind, nets))
@@ -322,10 +329,11 @@ class Board:
         return [bit for part in reversed(self.parts) for bit in part.captured(register, self)]
 
     def update(self, register, row):
+        place = 0
         for part in reversed(self.parts):
             size = part.size(register)
-            part.update(register, row[:size])
-            row = row[size:]
+            part.update(register, row[place:place + size])
+            place += size
 
 
 def shorted_bit(kind, nets, fed, held):
@@ -361,7 +369,7 @@ def play_scan(board, scan):
     """Captures, shifts and updates. Returns the bits that came out, as one number."""
     row = board.capture(scan.register)
     held = len(row)
-    row += [scan.tdi >> place & 1 for place in range(scan.size)]
+    row += map(int, reversed(f'{scan.tdi:0{scan.size}b}'))
     board.update(scan.register, row[scan.size:scan.size + held])
     return int(''.join(map(str, reversed(row[:scan.size]))), 2)
 

@@ -1,5 +1,6 @@
 """What holds of each program of tools/: it tells of itself, and of words and files that are missing."""
 import os
+import re
 import stat
 import tempfile
 
@@ -13,8 +14,8 @@ def helps(name):
 
 
 def stands_in_table(name):
-    table = [line for line in (TOOLS / 'README.md').read_text(encoding='utf-8').splitlines() if line.startswith('|')]
-    assert any(f'`{name}`' in line for line in table), 'tools/README.md has no row for it'
+    text = (TOOLS / 'README.md').read_text(encoding='utf-8')
+    assert re.search(rf'^\| `{re.escape(name)}[` ]', text, re.M), 'tools/README.md has no row for it'
 
 
 # Words of which the first file isn't there.
