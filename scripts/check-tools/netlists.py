@@ -25,7 +25,7 @@ ALIKE = [
     ('two names that become one', [('A B', 'U1.1'), ('A_B', 'U1.2')], None, "net 'A_B': rename it"),
     ('a name of 255 bytes', [(LONG[1:], 'U1.1')], f'NET {LONG[1:]} U1.1\n', ''),
     ('a name of 256 bytes', [('A', 'U1.1'), (LONG, 'U1.2')], None, 'rename it'),
-    ('a node of 256 bytes', [('A', f'U1.{LONG[4:]}1 U1.{LONG[2:]}')], None, "net 'A': not a pin"),
+    ('a node of 256 bytes', [('A', f'U1.{LONG[4:]} U1.{LONG[3:]}')], None, f"part 'U1', pin '{LONG[3:]}'"),
     ('a # in front of a part', [('A', 'U1.1'), ('B', '#U1.1')], None, "net 'B': not a pin of a net file: part '#U1', pin '1'"),
     ('a node without a pin', [('A', 'U1.')], None, "net 'A': not a pin"),
     ('a node without a part', [('A', '.1')], None, "net 'A': not a pin"),
