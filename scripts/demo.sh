@@ -1,6 +1,6 @@
 #!/usr/bin/env bash
 # Runs the program on the files of examples/ and shows what it prints. Where the proved program isn't there, it is built and run
-# without its proofs, in about a minute.
+# without its proofs, and a line every ten seconds says how far that is.
 set -eu
 cd "$(dirname "$0")/.."
 source scripts/common.sh
@@ -43,29 +43,82 @@ run_proved() {
     done
 }
 
-# One build, and a run for each command: a case is an empty file, with the words beside it.
-run_unproved() {
-    local data=() file number
-    cases=$(mktemp -d)
-    trap 'rm -rf "$cases"' EXIT
+# A case for each command: an empty file, with the words beside it.
+write_cases() {
+    local number
     for number in "${!commands[@]}"; do
-        : >"$cases/$(printf %02d "$number")"
-        tr ' ' '\n' <<<"${commands[$number]}" >"$cases/$(printf %02d "$number").args"
+        : >"$1/$(printf %02d "$number")"
+        tr ' ' '\n' <<<"${commands[$number]}" >"$1/$(printf %02d "$number").args"
     done
+}
+
+# The names of the processes below one.
+names_below() {
+    local child children
+    # A process may end while it is looked at.
+    children=$(cat /proc/"$1"/task/*/children 2>/dev/null) || true
+    for child in $children; do
+        cat "/proc/$child/comm" 2>/dev/null || true
+        names_below "$child"
+    done
+}
+
+# What the build by that process is at, after what it was at before.
+phase() {
+    case $(names_below "$1"),$2 in
+        *ld.lld*) echo linking ;;
+        *clang*) echo compiling ;;
+        *,checking) echo checking ;;
+        *) echo running ;;
+    esac
+}
+
+show_line() {
+    local command
+    case $1 in
+        "== "*)
+            command=${1#== }
+            echo "\$ btest ${commands[10#$command]}"
+            ;;
+        case=*status=0*) ;;
+        case=*status=*) [[ $1 =~ \ status=([0-9]+) ]] && echo "(exit status ${BASH_REMATCH[1]})" ;;
+        cases=*) ;;
+        *) echo "$1" ;;
+    esac
+}
+
+# One build, and a run for each command.
+run_unproved() {
+    local cases data=() file line='' part begun=$SECONDS build stage=checking is_built=
+    cases=$(mktemp -d)
+    # shellcheck disable=SC2064
+    trap "rm -rf '$cases'" EXIT
+    write_cases "$cases"
     for file in examples/*; do
         [ -f "$file" ] && data+=(--data "${file##*/}=../../$file")
     done
-    cd crates/btest
     # One step of the interpreter, which would run each command a second time: the compiled program checks the same.
-    rt try --steps 1 --cases "$cases" "${data[@]}" 2>&1 | while IFS= read -r line; do
-        case $line in
-            "== "*) echo "\$ btest ${commands[10#${line#== }]}" ;;
-            case=*status=0*) ;;
-            case=*status=*) echo "(exit status $(sed 's/.* status=\([0-9]*\).*/\1/' <<<"$line"))" ;;
-            cases=*) ;;
-            *) echo "$line" ;;
-        esac
+    exec 3< <(cd crates/btest && exec rt try --steps 1 --cases "$cases" "${data[@]}" 2>&1)
+    build=$!
+    while true; do
+        if IFS= read -r -t 10 part <&3; then
+            line=$line$part
+            if [ -z "$is_built" ] && [[ $line = "== "* ]]; then
+                echo "--- built after $((SECONDS - begun)) seconds"
+                is_built=yes
+            fi
+            show_line "$line"
+            line=
+        elif [ $? -gt 128 ]; then
+            # Ten seconds without a whole line.
+            line=$line$part
+            stage=$(phase "$build" "$stage")
+            [ -n "$is_built" ] || printf '%7d s: %s\n' $((SECONDS - begun)) "$stage"
+        else
+            break
+        fi
     done
+    wait "$build"
 }
 
 show_board
@@ -74,7 +127,7 @@ if is_current; then
     run_proved
 else
     need_rt
-    echo '--- building the program without its proofs: about a minute'
+    echo '--- building the program without its proofs: about two and a half minutes, most of them for checking'
     run_unproved
-    echo '--- This run was checked for overflow, bad indices and the like, and not proved. `make build` proves the program.'
+    echo "--- This run was checked for overflow, bad indices and the like, and not proved. 'make build' proves the program."
 fi
