@@ -1,9 +1,10 @@
+# shellcheck shell=bash
 # What the scripts share. They are run at the top of the repository.
 PROGRAM=crates/btest/out/btest
 
 # Whether the proved program is there and no source is newer.
 is_current() {
-    [ -x "$PROGRAM" ] && [ -z "$(find crates crates.txt \( -name '*.rt' -o -name '*.antt' -o -name crates.txt \) -newer "$PROGRAM" -print -quit)" ]
+    [ -x "$PROGRAM" ] && [ -z "$(find crates crates.txt HANDLES \( -name '*.rt' -o -name '*.antt' -o -name crates.txt -o -name HANDLES \) -newer "$PROGRAM" -print -quit)" ]
 }
 
 need_rt() {

@@ -1,6 +1,6 @@
 #!/usr/bin/env python3
 """Prints what the gate costs, crate by crate, in processor seconds: of its proof, of the proof with its tests, and of its
-must-fail edits with their number. Start it beside the gate, which takes no part in it:
+must-fail edits with their number. Start it beside the gate, or beside `make build`, which take no part in it:
 
     scripts/gate-costs.py >costs.md & .ci/run; kill $!
 
@@ -27,7 +27,8 @@ def kind_of(words, folder):
     """Returns what a process of the prover proves for the gate, or None where it isn't the gate's."""
     if os.path.basename(folder).startswith("rt-edit-"):
         return "edits"
-    if not folder.startswith(f"{ROOT}/crates/"):
+    # (the last is the copy that scripts/build.py proves)
+    if not folder.startswith(f"{ROOT}/crates/") and "/btest-build-" not in folder:
         return None
     return "tests" if "--test" in words else "proof"
 
