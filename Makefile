@@ -2,16 +2,21 @@
 PREFIX ?= /usr/local
 PROGRAM := crates/btest/out/btest
 
-.PHONY: help demo build test check bench stress install
+.PHONY: help demo build test check check-tools bench stress install package
 
 help:
-	@echo 'make demo                shows the program at work on the files of examples/: two minutes at most'
-	@echo 'make build               proves the program and leaves it at $(PROGRAM): half an hour to an hour the first time'
-	@echo 'make install PREFIX=DIR  builds the proved program and copies it to DIR/bin'
-	@echo 'make test                the gate, with all tests and edits that must fail: an hour and more the first time'
+	@echo 'make demo                runs the program on an example board and shows what it prints: two and a half minutes'
+	@echo 'make test                proves everything, tries the edits that must fail and runs the tests: about an hour the first time; what passed is kept'
+	@echo 'make build               proves the program alone and leaves it at $(PROGRAM): about half an hour, and nothing is left to prove after make test'
+	@echo 'make install PREFIX=DIR  copies the proved program with its man page, guide, examples and tools to DIR'
+	@echo 'make package             makes a Debian package and a tar.gz of them, in out/'
 	@echo 'make check CRATE=NAME    proves one crate, and those below it where they have changed'
+	@echo 'make check-tools         tries the programs of tools/ and the examples of the documents: seconds'
 	@echo 'make bench               prints times of the proved program on large inputs'
 	@echo 'make stress              puts the proved program to hostile use: ten minutes. docs/RELIABILITY.md says what it tries'
+	@echo
+	@echo 'What the program does (man docs/btest.1, docs/GUIDE.md):'
+	@sed -n 's/^| `\(btest [^`]*\)` | \(.*\) |$$/\1|\2/p' README.md | awk -F'|' '{ printf "%-51s %s\n", $$1, $$2 }'
 
 # Runs the main job on the files of examples/ and shows what it prints, with the proved program where it is there.
 demo:
@@ -21,9 +26,14 @@ demo:
 build:
 	@bash scripts/build.sh
 
+# The program and what goes with it: its man page, the completion of its words, the guide, the examples and the tools.
 install: build
-	@install -D -m 755 $(PROGRAM) $(DESTDIR)$(PREFIX)/bin/btest
-	@echo 'installed: $(DESTDIR)$(PREFIX)/bin/btest'
+	@bash scripts/install.sh $(PROGRAM) $(DESTDIR)$(PREFIX)
+	@echo 'installed: $(DESTDIR)$(PREFIX)/bin/btest, share/man/man1/btest.1.gz and share/btest'
+
+# The same as packages for machines that have no Rattle kit.
+package: build
+	@bash scripts/package.sh $(PROGRAM)
 
 # The gate: proofs, edits that must fail, tests and programs.
 test:
@@ -33,6 +43,10 @@ test:
 check:
 	@test -n '$(CRATE)' || { echo 'make check CRATE=NAME, with a name of crates.txt'; exit 2; }
 	@cd crates/$(CRATE) && rt check
+
+# The programs beside btest and the examples of the documents; those of btest where the proved program is there.
+check-tools:
+	@python3 -B scripts/check-tools $(wildcard $(PROGRAM))
 
 # Figures, with no limit and no verdict.
 bench: build
