@@ -4,6 +4,6 @@ set -eu
 cd "$(dirname "$0")/.."
 source scripts/common.sh
 need_rt
-echo 'The gate: every proof, every edit that must fail, every test and program. From nothing it takes about an hour and a half on four'
-echo 'processors; what passed is kept, and a later run proves what changed since. The last line is N passed, M failed.'
+echo 'The gate: every proof, every edit that must fail, every test and program. From nothing it takes about an hour on four processors;'
+echo 'what passed is kept, and a later run proves what changed since. The last line is N passed, M failed.'
 exec bash .ci/run
