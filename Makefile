@@ -46,7 +46,7 @@ check:
 
 # The programs beside btest and the examples of the documents; those of btest where the proved program is there.
 check-tools:
-	@python3 -B scripts/check-tools $(wildcard $(PROGRAM))
+	@python3 -B scripts/check-tools $(addprefix --btest ,$(wildcard $(PROGRAM)))
 
 # Figures, with no limit and no verdict.
 bench: build
