@@ -104,7 +104,6 @@ class Part:
                 yield self.pins.get(entry.place), self.latches[entry.cell]
 
 
-
 class Entity:
     """What the model takes from a BSDL text."""
 
@@ -122,6 +121,8 @@ class Entity:
     def part(self, name, package):
         try:
             part = Part(name, int(self.value['INSTRUCTION_LENGTH']))
+            if not 1 < part.length < 256 or not 0 < int(self.value['BOUNDARY_LENGTH']) < 65536:
+                self.wrong('length of a register')
             part.latches = [0] * int(self.value['BOUNDARY_LENGTH'])
             part.identity = [int(bit == '1') for bit in reversed(self.value.get('IDCODE_REGISTER', ''))]
             self.read_codes(part)
@@ -149,13 +150,13 @@ class Entity:
         """Each port bit with its pin."""
         if package == '-':
             package = (re.search(r'PHYSICAL_PIN_MAP:STRING:="(\w+)"', self.text) or self.wrong('default package'))[1]
-        found = re.search(rf'CONSTANT{package}:PIN_MAP_STRING:="([^"]*)"', self.text) or self.wrong(f'package {package}')
+        found = re.search(rf'CONSTANT{re.escape(package)}:PIN_MAP_STRING:="([^"]*)"', self.text) or self.wrong(f'package {package}')
         vectors = {}
         for names, left, way, right in re.findall(r'([\w,]+):\w+?BIT_VECTOR\((\d+)(TO|DOWNTO)(\d+)\)', self.text):
             step = 1 if way == 'TO' else -1
             vectors.update(dict.fromkeys(names.split(','), range(int(left), int(right) + step, step)))
         for port, one, several in re.findall(r'(\w+):(?:(\w+)|\(([^)]*)\))', found[1]):
-            places = [f'{port}({bit})' for bit in vectors[port]] if port in vectors else [port]
+            places = (f'{port}({bit})' for bit in vectors[port]) if port in vectors else [port]
             yield from zip(places, (one or several).split(','))
 
 

@@ -148,6 +148,9 @@ FILES = [
     ('bsdl', DRIVER.replace('BOUNDARY_LENGTH', 'LENGTH'), f'bsdl: no BOUNDARY_LENGTH that the model can use{NO}'),
     ('bsdl', DRIVER.replace('BOUNDARY_LENGTH of DRV : entity is 2', 'BOUNDARY_LENGTH of DRV : entity is 1'),
      f'bsdl: no boundary register that the model can use{NO}'),
+    ('bsdl', DRIVER.replace('BOUNDARY_LENGTH of DRV : entity is 2', 'BOUNDARY_LENGTH of DRV : entity is 999999999999'),
+     f'bsdl: no length of a register that the model can use{NO}'),
+    ('chain', 'DEVICE U1 DRV (\n', f'{STORED}/driver.bsd: no package ( that the model can use{NO}'),
     ('bsdl', DRIVER.replace('constant P', 'constant Q'), f'bsdl: no package P that the model can use{NO}'),
 ]
 
