@@ -20,13 +20,12 @@ h1 { font-size: 1.5em; margin: 0 0 .3em; } h2 { font-size: 1.2em; margin: 1.8em 
 h3 { font-size: 1em; margin: 1.4em 0 .3em; } p, ul { margin: .4em 0; } ul { padding-left: 1.3em; }
 .wide { overflow-x: auto; } table { border-collapse: collapse; } h1, h3, td, li, p { overflow-wrap: anywhere; }
 th, td { text-align: left; vertical-align: top; padding: .2em .9em .2em 0; border-bottom: 1px solid #bbb; } th { white-space: nowrap; }
-td.number, th.number { text-align: right; white-space: nowrap; } td { min-width: 3em; }
+td.number, th.number { text-align: right; white-space: nowrap; } td { min-width: 4.5em; } td:first-child { min-width: 7em; } td.number { min-width: 0; }
 .bits td { font-family: monospace; white-space: nowrap; } .bits td.bad { background: #fde3e0; }
 .bits b { color: #b00020; text-decoration: underline; } .quiet { color: #555; }
 .verdict { display: inline-block; font-weight: bold; font-size: 1.3em; padding: .1em .7em; border: 3px solid #111; }
 .fail { border-color: #b00020; color: #b00020; border-style: double; } .pass { border-color: #14632b; color: #14632b; }
-svg { display: block; width: 100%; max-width: 46em; height: auto; } svg text { font: 13px sans-serif; fill: #111; }
-table svg { display: inline-block; width: 6em; margin-right: .6em; }
+svg { width: 9em; height: .9em; vertical-align: middle; margin-right: .4em; }
 @media print { body { max-width: none; padding: 0; font-size: 11px; } h3, tr { break-inside: avoid; } h2, h3 { break-after: avoid; } }
 '''
 # For each reason what it means, and what a designer or the writer of the chain file can do about it.
@@ -76,28 +75,24 @@ def table(heads, rows, kind='', numbers=()):
     def row(cells, tag):
         return ''.join(f'<{tag}{" class=number" if at in numbers else ""}>{cell}</{tag}>' for at, cell in enumerate(cells))
     body = '\n'.join(cells if isinstance(cells, str) else f'<tr>{row(cells, "td")}</tr>' for cells in rows)
-    return f'<div class=wide><table{f" class={kind}" if kind else ""}>\n<tr>{row(heads, "th")}</tr>\n{body}\n</table></div>'
+    head = f'<tr>{row(heads, "th")}</tr>\n' if any(heads) else ''
+    return f'<div class=wide><table{f" class={kind}" if kind else ""}>\n{head}{body}\n</table></div>'
 
 
-def bars(counts, unit=''):
-    """Bars with their names and numbers, so that no colour is needed to read them. `counts` are pairs of a name and a number."""
-    most, lines = max([count for _, count in counts] + [1]), []
-    for at, (name, count) in enumerate(counts):
-        short = name if len(name) < 34 else f'{name[:31]}...'
-        lines.append(f'<text x="0" y="{22 * at + 15}">{escape(short)}</text><rect x="240" y="{22 * at + 3}" height="15" '
-                     f'width="{max(1, round(280 * count / most)) if count else 0}" fill="#567"/>'
-                     f'<text x="{round(280 * count / most) + 248}" y="{22 * at + 15}">{count}{unit}</text>')
-    return f'<svg viewBox="0 0 620 {22 * len(counts) + 4}" role="img">{"".join(lines)}</svg>'
+def bar(part, whole):
+    width = max(1, round(200 * part / whole)) if part else 0
+    return (f'<svg viewBox="0 0 202 14" role="img"><rect x="1" y="1" width="200" height="12" fill="#fff" stroke="#999"/>'
+            f'<rect x="1" y="1" width="{width}" height="12" fill="#456"/></svg>')
+
+
+def bars(counts):
+    """Pairs of a name and a number, with bars. The words are no part of the drawing, so a narrow screen doesn't make them small."""
+    most = max([count for _, count in counts] + [1])
+    return table(['', '', ''], [(escape(name), bar(count, most), f'{count:,}') for name, count in counts], numbers=(2,))
 
 
 def share(tested, all_of_them):
     return f'{tested} of {all_of_them}' if all_of_them else '<span class=quiet>none</span>'
-
-
-def share_bar(tested, all_of_them):
-    width = round(100 * tested / all_of_them) if all_of_them else 0
-    return (f'<svg viewBox="0 0 102 14" role="img"><rect x="1" y="1" width="100" height="12" fill="#fff" stroke="#111"/>'
-            f'<rect x="1" y="1" width="{width}" height="12" fill="#333"/></svg>{width} %' if all_of_them else '')
 
 
 def counted(number, what):
@@ -151,7 +146,8 @@ def parts_table(board, cover):
                 count.update((pin.split('.', 1)[0], role) for pin in some)
     rows = [(escape(part), escape(entity or 'known by its length alone'), pins[part],
              *(share(tested[part, role], able[part, role]) for role in ('driver', 'receiver', 'both')),
-             share_bar(tested[part, 'any'], able[part, 'any'])) for part, entity, _ in board.parts]
+             f'{bar(tested[part, "any"], able[part, "any"])} {100 * tested[part, "any"] // able[part, "any"]} %' if able[part, 'any'] else '')
+            for part, entity, _ in board.parts]
     yield '<h3>Parts of the chain</h3>\n<p>Of the pins in nets that have boundary cells, so many are tested as driver, as receiver, as both.</p>'
     yield table(['part', 'entity', 'pins in nets', 'as driver', 'as receiver', 'as both', 'tested in a role'], rows, numbers=(2,))
 
@@ -195,16 +191,19 @@ def log_section(board, head, faults, found):
     if head == 'PASS':
         yield '<p>Every compared bit is the expected one. Where the player failed, an SIR did: look at the chain first.</p>'
         return
-    yield f'<p>{counted(len(found), "net")} not as expected, explained as a whole by {counted(len(faults), "single fault")}.</p>'
+    yield f'<p>{counted(len(found), "net")} not as expected.</p>'
     lines = list(bench.reading(faults, found)) if len(found) <= bench.MOST else [
         f'More than {bench.MOST} nets differ, and they are not explained one by one. Likely a supply, a contact or a whole part.']
-    yield '<ul>' + ''.join(f'<li>{escape(line.strip())}</li>' for line in lines) + '</ul>'
-    if faults:
-        yield table(['fault', 'pins'], [(escape(fault), '<br>'.join(pins_of(board, fault))) for fault in faults[:SHOWN]])
+    yield f'<p><b>{escape(lines[0])}</b></p>\n<ul>' + ''.join(f'<li>{escape(line.strip())}</li>' for line in lines[1:]) + '</ul>'
+    named = list(dict.fromkeys(faults or [fault for one in found for fault in one.alone + one.pairs]))
+    if named:
+        kind = 'explain the whole log' if faults else 'explain one net, or two'
+        yield f'<h3>Faults that {kind}, and where they may be</h3>'
+        yield table(['fault', 'pins'], [(escape(fault), '<br>'.join(pins_of(board, fault))) for fault in named[:SHOWN]])
     yield ('<h2>Nets that differ</h2>\n<p>Bits stand in the order of the rows of a pass. A bit that is not the expected one is bold and '
            'underlined; - is a pin that is not compared.</p>')
     for one in found:
-        links = f'; joined by {", ".join(one.net.links)}' if one.net.links else ''
+        links = f'; {", ".join(one.net.links)} in series joins {", ".join([one.name, *one.net.joined])}' if one.net.links else ''
         yield f'<h3>{escape(one.name)}: {len(one.wrong)} of {len(one.pins)} receivers differ{escape(links)}</h3>'
         yield bits_table(one)
         yield '<ul>' + ''.join(f'<li>{escape(line)}</li>' for line in bench.facts(one, found)) + '</ul>'
