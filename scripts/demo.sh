@@ -121,10 +121,22 @@ run_unproved() {
     wait "$build"
 }
 
+# What the tool for failing boards makes of two logs. It calls the program, so there has to be one.
+run_tool() {
+    local log
+    command -v python3 >/dev/null || return 0
+    for log in shorted.log two-faults.log; do
+        echo "\$ python3 tools/failing-nets.py $log $board"
+        # shellcheck disable=SC2086
+        python3 -B ../tools/failing-nets.py --btest "../$PROGRAM" "$log" $board
+    done
+}
+
 show_board
 if is_current; then
     echo '--- the proved program on these files'
     run_proved
+    run_tool
 else
     need_rt
     echo '--- building the program without its proofs: about two and a half minutes, most of them for checking'
