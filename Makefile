@@ -2,7 +2,7 @@
 PREFIX ?= /usr/local
 PROGRAM := crates/btest/out/btest
 
-.PHONY: help demo build test check check-tools bench stress install package
+.PHONY: help demo build test check check-tools bench stress figures install package
 
 help:
 	@echo 'make demo                runs the program on an example board and shows what it prints: two and a half minutes'
@@ -14,6 +14,7 @@ help:
 	@echo 'make check-tools         tries the programs of tools/ and the examples of the documents: seconds'
 	@echo 'make bench               prints times of the proved program on large inputs'
 	@echo 'make stress              puts the proved program to hostile use: ten minutes. docs/RELIABILITY.md says what it tries'
+	@echo 'make figures             counts clauses, what stands twice, and lines of proof'
 	@echo
 	@echo 'What the program does (man docs/btest.1, docs/GUIDE.md):'
 	@sed -n 's/^| `\(btest [^`]*\)` | \(.*\) |$$/\1|\2/p' README.md | awk -F'|' '{ printf "%-51s %s\n", $$1, $$2 }'
@@ -55,3 +56,7 @@ bench: build
 # Hostile use, outside the gate: WITH='broken --seed 7 --runs 1000000' does one part, with other broken texts and more of them.
 stress: build
 	@python3 -B scripts/stress $(PROGRAM) $(WITH)
+
+# Figures of the sources, with no limit and no verdict.
+figures:
+	@python3 -B scripts/figures.py
