@@ -1,7 +1,10 @@
 #!/usr/bin/env python3
 """A simulated board behind OpenOCD's remote_bitbang interface, to try a player and its log without hardware."""
 import argparse
+import os
+import select
 import socket
+import stat
 import sys
 
 sys.dont_write_bytecode = True   # no folder of compiled modules beside the tools
@@ -44,20 +47,27 @@ class Port:
             print(f'two drivers on {net}', file=sys.stderr, flush=True)
 
 
+def player(server, seconds):
+    """Waits for a player so long, and where the line goes to a pipe, no longer than someone is there to read it."""
+    poll = select.poll()
+    poll.register(server, select.POLLIN)
+    if sys.stdout and stat.S_ISFIFO(os.fstat(sys.stdout.fileno()).st_mode):
+        poll.register(sys.stdout, 0)   # which tells of its end
+    ready = dict(poll.poll(seconds * 1000))
+    if server.fileno() in ready:
+        return server.accept()[0]
+    raise BadInput('what was to start a player has ended without one' if ready else f'no player came in {seconds:g} s')
+
+
 def serve(number, seconds, port):
     try:
         server = socket.create_server(('127.0.0.1', number))
     except OSError:
         raise BadInput(f'port {number} is taken, or may not be used; is another simulated chain running?') from None
     with server:
-        server.settimeout(seconds)
         print(f'listening on port {server.getsockname()[1]}', flush=True)
-        try:
-            client, _ = server.accept()
-        except socket.timeout:
-            raise BadInput(f'no player came in {seconds:g} s') from None
+        client = player(server, seconds)
     with client:
-        client.settimeout(None)
         while True:
             request = client.recv(65536)
             answer = ''

@@ -62,7 +62,7 @@ def run_block(block, folder, program):
     for command, lines in commands(block):
         if any(name in command for name in OTHERS):
             continue
-        if re.search(r'\bbtest\b|failing-nets|report\.py', command):   # these call it
+        if re.search(r'\b(btest|openocd)\b|failing-nets|report\.py', command):   # they call it, or play what it wrote before
             need(program)
         if re.search(r'\bopenocd\b', command) and not shutil.which('openocd'):
             raise Skipped('OpenOCD is not there')

@@ -1,11 +1,13 @@
 """The simulated chain, tools/simulated-chain.py, played by OpenOCD with tools/log.tcl where it is there, and by a player of its own."""
 import os
 import pathlib
+import shlex
 import shutil
 import socket
 import subprocess
 import sys
 import tempfile
+import time
 
 from cases import BOARD, EXAMPLES, SECONDS, TOOLS, Skipped, btest, refused, run, same, tool
 
@@ -88,6 +90,15 @@ def wait_for_none():
     same((answer.returncode, answer.stderr), (1, 'simulated-chain.py: no player came in 0.2 s\n'), 'its end')
 
 
+def end_with_reader():
+    """Where the command that was to start a player ends without one, the simulated chain ends too."""
+    words = ' '.join(shlex.quote(str(word)) for word in (sys.executable, '-B', TOOLS / CHAIN, 0, 'good', *BOARD))
+    begun = time.monotonic()
+    answer = run(['sh', '-c', f'{words} | {{ read -r line; false; }}'])
+    same((answer.returncode, answer.stderr), (1, f'{CHAIN}: what was to start a player has ended without one\n'), 'its end')
+    assert time.monotonic() - begun < SECONDS / 2, 'it waited'
+
+
 class OpenOcd:
     """A folder with the demo board's tests, in which OpenOCD plays them."""
 
@@ -145,6 +156,7 @@ def check(program):
         yield f'the board {fault} over a socket', lambda: play_clocks(program, fault)
     yield 'a port that is taken', take_port
     yield 'no player comes', wait_for_none
+    yield 'the command that was to start a player fails', end_with_reader
     for fault, line in (('stuck:D9:0', 'no net D9'), ('and:D0:A1R', 'LINK lines join A1R to A1'), ('xor:D0:D1', 'no such kind')):
         yield f'the fault {fault} is refused', lambda: refused(tool(CHAIN, 0, fault, *BOARD), line)
     yield 'a port that is no number', lambda: refused(tool(CHAIN, 99999, 'good', *BOARD), 'no number from 0 to 65535')
