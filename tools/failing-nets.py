@@ -190,7 +190,7 @@ class Failing:
 def differing(board, wrong):
     """The nets of which a compared bit is not the expected one."""
     places = functools.reduce(operator.or_, (bits for _, bits in wrong), 0)
-    return [net for net in board.nets.values() if any(places >> place & 1 for _, place in net.readers)] if places else []
+    return [net for net in board.nets.values() if any(places >> place & 1 for _, place in net.readers)]
 
 
 def failing(board, test, wrong):
@@ -357,11 +357,12 @@ def show(head, faults, found):
         yield from itertools.chain([''], reading(faults, found))
 
 
-def misfits(rows):
-    """Of the rows in which each net that walks reads 1, None where its pins aren't at one: those that no groups in which a 1 wins give."""
-    ones, odd = [set() for _ in rows], {at for at, reads in enumerate(rows) if reads is None}
+def misfits(rows, full):
+    """The rows that no groups give in which a 1 wins. `rows` has those in which each net reads 1, None where its pins aren't at one;
+    `full` are the nets that read 1 in all of them."""
+    ones, odd = [set() for _ in rows], {at for at, reads in enumerate(rows) if reads is None}.union(full)
     for net, reads in enumerate(rows):
-        for at in reads or ():
+        for at in reads or () if net not in full else ():
             ones[at].add(net)
     return sorted(odd | {at for at, nets in enumerate(ones) if at not in nets or any(rows[net] != nets for net in nets)})
 
@@ -370,7 +371,7 @@ def show_walk(board, test, wrong):
     ones = functools.reduce(operator.or_, (row for row, _ in wrong), 0)
     walkers = [net.name for net in board.nets.values() if any(ones >> place & 1 for _, place in net.readers)]
     if len(differing(board, wrong)) > MOST:
-        yield from (f'row {at + 1} ({walkers[at]}): {bin(bits).count("1")} compared bits differ' for at, (_, bits) in enumerate(wrong) if bits)
+        yield from (f'row {at + 1} ({walkers[at]}): {bin(bits).count("1")} bits differ' for at, (_, bits) in enumerate(wrong) if bits)
         return
     found, rows = {one.name: one for one in failing(board, test, wrong)}, [{at} for at in range(len(walkers))]
     yield from ['', 'row   reads 1 in the rows   net']
@@ -382,9 +383,12 @@ def show_walk(board, test, wrong):
         for reads, pins in seen.items() if name in found or len(walkers) <= MOST else ():
             yield f'{at + 1:<5} {spans([row + 1 for row in sorted(reads)]) or "none":21} {name}' + f' at {some(pins)}' * (len(seen) > 1)
     yield f'{len(walkers) - len(found)} of {len(walkers)} nets that walk read 1 in their own row alone.'
-    odd, zeros = misfits(rows), [at for at, reads in enumerate(rows) if reads == set()]
+    zeros, full = ([at for at, reads in enumerate(rows) if reads is not None and len(reads) == size] for size in (0, len(rows)))
+    odd = misfits(rows, full if len(full) < len(rows) else [])
     if odd:
         yield f'\nRows that fit no set of groups in which a 1 wins: {some([f"{at + 1} ({walkers[at]})" for at in odd], MOST)}'
+    if full and odd:
+        yield f'{", ".join(walkers[at] for at in full)}: 1 in every row, as nets that are stuck at 1 or shorted with one that is.'
     if zeros:
         short = 'a short of them in which a 0 wins fits' + (', and with it all rows' if odd == zeros else '')
         yield (f'{", ".join(walkers[at] for at in zeros)}: 0 in every row; ' + (short if len(zeros) > 1 else 'a short with a net that does '

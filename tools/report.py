@@ -20,7 +20,8 @@ h1 { font-size: 1.5em; margin: 0 0 .3em; } h2 { font-size: 1.2em; margin: 1.8em 
 h3 { font-size: 1em; margin: 1.4em 0 .3em; } p, ul { margin: .4em 0; } ul { padding-left: 1.3em; }
 .wide { overflow-x: auto; } table { border-collapse: collapse; } h1, h3, td, li, p { overflow-wrap: anywhere; }
 th, td { text-align: left; vertical-align: top; padding: .2em .9em .2em 0; border-bottom: 1px solid #bbb; } th { white-space: nowrap; }
-td.number, th.number { text-align: right; white-space: nowrap; } td { min-width: 4.5em; } td:first-child { min-width: 7em; } td.number { min-width: 0; }
+td.number, th.number { text-align: right; white-space: nowrap; } td { min-width: 4.5em; }
+td:first-child { min-width: 7em; } td.number { min-width: 0; }
 .bits td { font-family: monospace; white-space: nowrap; } .bits td.bad { background: #fde3e0; }
 .bits b { color: #b00020; text-decoration: underline; } .quiet { color: #555; }
 .verdict { display: inline-block; font-weight: bold; font-size: 1.3em; padding: .1em .7em; border: 3px solid #111; }
@@ -45,7 +46,8 @@ SHOWN = 300   # lines of a list; the program prints all of them
 
 def load(name):
     """A program beside this one, as a module. Its name is no word of Python's."""
-    loader = importlib.machinery.SourceFileLoader(name.replace('-', '_'), os.path.join(os.path.dirname(os.path.abspath(__file__)), f'{name}.py'))
+    folder = os.path.dirname(os.path.abspath(__file__))
+    loader = importlib.machinery.SourceFileLoader(name.replace('-', '_'), os.path.join(folder, f'{name}.py'))
     module = importlib.util.module_from_spec(importlib.util.spec_from_loader(loader.name, loader))
     loader.exec_module(module)
     return module
@@ -85,6 +87,10 @@ def bar(part, whole):
             f'<rect x="1" y="1" width="{width}" height="12" fill="#456"/></svg>')
 
 
+def percent(part, whole):
+    return f'{bar(part, whole)} {100 * part // whole} %' if whole else ''
+
+
 def bars(counts):
     """Pairs of a name and a number, with bars. The words are no part of the drawing, so a narrow screen doesn't make them small."""
     most = max([count for _, count in counts] + [1])
@@ -109,7 +115,8 @@ def listing(items, joint=', '):
 
 def board_section(board, cover):
     counts = collections.Counter(cover.reasons.get(name, 'COVERED') for name in board.nets)
-    yield f'<h2>The board</h2>\n<p>{len(board.parts):,} parts in the chain, {len(board.nets):,} nets, {counts["COVERED"]:,} of them covered.</p>'
+    size = f'{counted(len(board.parts), "part")} in the chain, {counted(len(board.nets), "net")}, {counts["COVERED"]:,} of them covered'
+    yield f'<h2>The board</h2>\n<p>{size}.</p>'
     reasons = [reason for reason in REASONS if counts[reason]]
     yield bars([('covered' if reason == 'COVERED' else reason, counts[reason]) for reason in reasons])
     yield from parts_table(board, cover)
@@ -129,8 +136,8 @@ def board_section(board, cover):
     if cover.pair_count:
         shown = ', '.join(f'{escape(one)} with {escape(other)}' for one, other in cover.pairs)
         more = f' <span class=quiet>and {cover.pair_count - SHOWN:,} more</span>' if cover.pair_count > SHOWN else ''
-        yield (f'<h3>{counted(cover.pair_count, "pair")} of nets</h3>\n<p>They can not be observed at once, so a short between them may stay unseen: '
-               f'control cells that do not share a net would help.</p>\n<p>{shown}{more}</p>')
+        yield (f'<h3>{counted(cover.pair_count, "pair")} of nets</h3>\n<p>They can not be observed at once, so a short between them may '
+               f'stay unseen: control cells that do not share a net would help.</p>\n<p>{shown}{more}</p>')
 
 
 def parts_table(board, cover):
@@ -146,9 +153,9 @@ def parts_table(board, cover):
                 count.update((pin.split('.', 1)[0], role) for pin in some)
     rows = [(escape(part), escape(entity or 'known by its length alone'), pins[part],
              *(share(tested[part, role], able[part, role]) for role in ('driver', 'receiver', 'both')),
-             f'{bar(tested[part, "any"], able[part, "any"])} {100 * tested[part, "any"] // able[part, "any"]} %' if able[part, 'any'] else '')
-            for part, entity, _ in board.parts]
-    yield '<h3>Parts of the chain</h3>\n<p>Of the pins in nets that have boundary cells, so many are tested as driver, as receiver, as both.</p>'
+             percent(tested[part, 'any'], able[part, 'any'])) for part, entity, _ in board.parts]
+    yield ('<h3>Parts of the chain</h3>\n<p>Of the pins in nets that have boundary cells, so many are tested as driver, as receiver, '
+           'as both.</p>')
     yield table(['part', 'entity', 'pins in nets', 'as driver', 'as receiver', 'as both', 'tested in a role'], rows, numbers=(2,))
 
 
@@ -247,16 +254,18 @@ def batch_section(program, board, test, logs, files):
         names = [net.name for net in bench.differing(board, test.wrong(lines))] if head != 'PASS' else []
         nets.update(names)
         candidates.update(faults)
-        rows.append((escape(name), head if head == 'PASS' else f'<b>{head}</b>', len(names), listing(names[:12]) + ' ..' * (len(names) > 12),
-                     listing(faults[:6]) + ' ..' * (len(faults) > 6)))
+        rows.append((escape(name), head if head == 'PASS' else f'<b>{head}</b>', len(names),
+                     listing(names[:12]) + ' ..' * (len(names) > 12), listing(faults[:6]) + ' ..' * (len(faults) > 6)))
     passed = sum(head == 'PASS' for head, *_ in answers)
-    yield f'<h2>The day</h2>\n<p>{len(answers):,} boards, {passed:,} passed' + (f': {100 * passed / len(answers):.1f} %' if answers else '') + '</p>'
+    share_of_all = f': {100 * passed / len(answers):.1f} %' if answers else ''
+    yield f'<h2>The day</h2>\n<p>{counted(len(answers), "board")}, {passed:,} passed{share_of_all}</p>'
     yield bars([('passed', passed), ('failed', len(answers) - passed)])
     for what, counter in (('Nets that differ', nets), ('Faults that explain a whole log', candidates)):
         if counter:
             more = f'<p class=quiet>and {len(counter) - 20:,} more</p>' if len(counter) > 20 else ''
             yield f'<h3>{what}, by the number of boards</h3>\n{bars(counter.most_common(20))}{more}'
-    yield '<h3>Each board</h3>\n' + table(['board', 'answer', 'nets', 'nets that differ', 'faults that explain the log'], rows, numbers=(2,))
+    heads = ['board', 'answer', 'nets', 'nets that differ', 'faults that explain the log']
+    yield '<h3>Each board</h3>\n' + table(heads, rows, numbers=(2,))
 
 
 def page(chosen, files):
@@ -276,7 +285,8 @@ def page(chosen, files):
 
 def main():
     words = argparse.ArgumentParser(description=__doc__.split('\n\n')[0])
-    words.add_argument('--btest', metavar='PROGRAM', default=bench.default_program(), help='else that on the PATH, else the one of make build')
+    words.add_argument('--btest', metavar='PROGRAM', default=bench.default_program(),
+                       help='else that on the PATH, else the one of make build')
     words.add_argument('--title', help='of the page, else the name of the log or of the chain file')
     words.add_argument('--log', help='the log of a board, as of btest diagnose')
     words.add_argument('--walk', metavar='LOG', help='the log of its walking test, as of btest groups')

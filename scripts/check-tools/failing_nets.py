@@ -213,13 +213,15 @@ def three_nets(tool, program):
 def walking(program, folder):
     """What the tool says of the walking test: the groups that btest finds, and where it finds none a short in which a 0 wins."""
     answer = cases.tool('failing-nets.py', '--btest', program, '--walk', LOGS['three-shorted'], *BOARD)
-    assert answer.stdout.startswith('GROUPS 1\nGROUP 3\n') and '\n2     1-2, 5                D1\n' in answer.stdout, answer.stdout + answer.stderr
+    assert answer.stdout.startswith('GROUPS 1\nGROUP 3\n'), answer.stdout + answer.stderr
+    assert '\n2     1-2, 5                D1\n' in answer.stdout, answer.stdout
     model = simulated_board.Board(*map(simulated_board.read, BOARD[:2]), list(map(simulated_board.read, BOARD[2:])))
     model.set_faults('and:D0:D1:A1')
     with open(f'{folder}/walk.log', 'w', encoding='ascii') as file:
         file.write('\n'.join(simulated_board.play(model, btest(program, 'walk', *BOARD))))
     text = cases.tool('failing-nets.py', '--btest', program, '--walk', file.name, *BOARD).stdout
-    assert text.startswith('GROUPS none\n') and 'D0, D1, A1: 0 in every row; a short of them in which a 0 wins fits, and with it all rows' in text, text
+    assert text.startswith('GROUPS none\n'), text
+    assert 'D0, D1, A1: 0 in every row; a short of them in which a 0 wins fits, and with it all rows' in text, text
 
 
 def refusals(program, name):
@@ -297,7 +299,7 @@ def check(program):
     def needing(call, *words):
         cases.need(program)
         call(*words)
-    yield 'two faults on the demo board', lambda: needing(lambda: same(DIFFERS in '\n'.join(tool.show(*tool.look(*demo))), True, 'as shown'))
+    yield 'two faults on the demo board', lambda: needing(lambda: same(DIFFERS in '\n'.join(tool.show(*tool.look(*demo))), True, 'it'))
     with tempfile.TemporaryDirectory() as folder:
         yield 'faults of the demo board', lambda: needing(check_board, tool, program, BOARD, 1, 12)
         yield f'faults of {BOARDS} seeded boards', lambda: needing(all_boards, tool, program, folder)

@@ -56,7 +56,8 @@ class Kind:
         numbered = [f'"{at} {entry}' for at, entry in enumerate(entries)]
         rng.shuffle(numbered)
         return HEAD.format(name=self.name, inputs=self.inputs, outputs=self.outputs, bus=self.bus, length=len(entries),
-                           tap='TDI:T1, TDO:T2, TMS:T3, TCK:T4', map=self.map('P'), other=self.map('Q'), entries=',"&\n'.join(numbered) + '"')
+                           tap='TDI:T1, TDO:T2, TMS:T3, TCK:T4', map=self.map('P'), other=self.map('Q'),
+                           entries=',"&\n'.join(numbered) + '"')
 
 
 def nets_of(rng, parts):
