@@ -11,6 +11,7 @@ import operator
 import os
 import re
 import shutil
+import signal
 import subprocess
 import sys
 import tempfile
@@ -433,7 +434,8 @@ def main():
 
 
 if __name__ == '__main__':
+    signal.signal(signal.SIGPIPE, signal.SIG_DFL)   # a reader that leaves ends it without a word
     try:
         main()
     except OSError as error:
-        sys.exit(f'{error.filename}: {error.strerror}')
+        sys.exit(f'{error.filename or "a temporary file"}: {error.strerror}')

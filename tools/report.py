@@ -9,6 +9,7 @@ import collections
 import importlib.machinery
 import importlib.util
 import os
+import signal
 import sys
 from html import escape
 
@@ -301,7 +302,8 @@ def main():
 
 
 if __name__ == '__main__':
+    signal.signal(signal.SIGPIPE, signal.SIG_DFL)   # a reader that leaves ends it without a word
     try:
         main()
     except OSError as error:
-        sys.exit(f'{error.filename}: {error.strerror}')
+        sys.exit(f'{error.filename or "a temporary file"}: {error.strerror}')
