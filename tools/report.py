@@ -166,7 +166,8 @@ def pins_of(board, fault):
     """The pins that a fault may be at, net by net, each with its part's entity and what it does."""
     entities = {part: entity for part, entity, _ in board.parts}
     kind, *words = fault.split()
-    nets = [board.net_of[words[0]]] if kind == 'open' else [board.nets[name] for name in words if name in board.nets]
+    names = {'open': [], 'stuck': words[:1], 'short': words[1:]}[kind]   # a net may have the name of a kind, or of a value
+    nets = [board.nets[name] for name in names] or [board.net_of[words[0]]]
     for net in nets:
         shown = []
         drivers, readers = {pin for pin, _ in net.drivers}, {pin for pin, _ in net.readers}
