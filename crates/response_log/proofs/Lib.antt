@@ -1,4 +1,5 @@
 pub mod KeptLemmas
 pub mod LineLemmas
 mod LawLemmas
+mod OffenceLemmas
 mod SampleTests

@@ -35,3 +35,13 @@ too_few = refl
 too_many : log_rows (codes "02\n\n0G 02") 1 5 ≡ Err (Extra 3)
 unfolding words_of
 too_many = refl
+
+-- one digit where two are wanted: the length is wrong, whatever the digit is
+short_wrong_digit : log_rows (codes "G") 1 5 ≡ Err (Length 1)
+unfolding words_of
+short_wrong_digit = refl
+
+-- a wrong row comes before a row too many
+wrong_and_too_many : log_rows (codes "#\n0G\n02\n") 1 5 ≡ Err (Digit 2)
+unfolding words_of
+wrong_and_too_many = refl

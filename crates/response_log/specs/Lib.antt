@@ -1,2 +1,3 @@
 pub mod LogRows
 pub mod Kept
+pub mod FirstOffence
