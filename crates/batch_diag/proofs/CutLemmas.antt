@@ -53,7 +53,7 @@ worded_line [] some =
     absurd cc
 worded_line (b ∷ bs) some = omega arith
 
-title_words : (words : List Word) → is_title words ≡ true → holds_word words ≡ true
+pub title_words : (words : List Word) → is_title words ≡ true → holds_word words ≡ true
 title_words [] is = absurd cc
 title_words (word ∷ words) is = refl
 
@@ -150,7 +150,7 @@ front_append : (n : ℕ) (words : List Word) (rows later all : List NumberedLine
 front_append n [] rows later all is = is
 front_append n (word ∷ words) rows later all is = ap (λ (ls : List NumberedLine). record { number = n; words = word ∷ words } ∷ ls) is
 
-rows_append : (n : ℕ) (lines later : List (List ℕ)) → rows_at n (lines ++ later) ≡ rows_at n lines ++ rows_at (n + length lines) later
+pub rows_append : (n : ℕ) (lines later : List (List ℕ)) → rows_at n (lines ++ later) ≡ rows_at n lines ++ rows_at (n + length lines) later
 rows_append n [] later = ap (λ m. rows_at m later) (omega arith)
 rows_append n (line ∷ lines) later =
     let next : n + 1 + length lines ≡ n + suc (length lines) = omega arith in
@@ -169,21 +169,21 @@ blocks_front n [] rows later title below = below
 blocks_front n (word ∷ words) rows later title below =
     ap (λ (b : Bool). cond b (record { id = id_of (word ∷ words); lines = up_to_title (rows ++ later) } ∷ blocks_of (rows ++ later)) (blocks_of (rows ++ later))) title ∙ below
 
-up_to_lines : (n : ℕ) (lines : List (List ℕ)) (later : List NumberedLine) → NoTitles lines → up_to_title (rows_at n lines ++ later) ≡ rows_at n lines ++ up_to_title later
+pub up_to_lines : (n : ℕ) (lines : List (List ℕ)) (later : List NumberedLine) → NoTitles lines → up_to_title (rows_at n lines ++ later) ≡ rows_at n lines ++ up_to_title later
 up_to_lines n [] later none = refl
 up_to_lines n (line ∷ lines) later none = up_to_front n (words_of line) (rows_at (n + 1) lines) later none.0 (up_to_lines (n + 1) lines later none.1)
 
-blocks_behind : (n : ℕ) (lines : List (List ℕ)) (later : List NumberedLine) → NoTitles lines → blocks_of (rows_at n lines ++ later) ≡ blocks_of later
+pub blocks_behind : (n : ℕ) (lines : List (List ℕ)) (later : List NumberedLine) → NoTitles lines → blocks_of (rows_at n lines ++ later) ≡ blocks_of later
 blocks_behind n [] later none = refl
 blocks_behind n (line ∷ lines) later none = blocks_front n (words_of line) (rows_at (n + 1) lines) later none.0 (blocks_behind (n + 1) lines later none.1)
 
-up_to_here : (n : ℕ) (words : List Word) (later : List NumberedLine) → is_title words ≡ true → up_to_title (with_line n words later) ≡ []
+pub up_to_here : (n : ℕ) (words : List Word) (later : List NumberedLine) → is_title words ≡ true → up_to_title (with_line n words later) ≡ []
 up_to_here n [] later title = absurd cc
 up_to_here n (word ∷ words) later title =
     take_while-cons (λ l. not (begins_block l)) (record { number = n; words = word ∷ words }) later
     ∙ ap (λ b. cond (not b) (record { number = n; words = word ∷ words } ∷ up_to_title later) []) title
 
-block_here : (n : ℕ) (words : List Word) (later : List NumberedLine) → is_title words ≡ true → blocks_of (with_line n words later) ≡ record { id = id_of words; lines = up_to_title later } ∷ blocks_of later
+pub block_here : (n : ℕ) (words : List Word) (later : List NumberedLine) → is_title words ≡ true → blocks_of (with_line n words later) ≡ record { id = id_of words; lines = up_to_title later } ∷ blocks_of later
 block_here n [] later title = absurd cc
 block_here n (word ∷ words) later title =
     ap (λ b. cond b (record { id = id_of (word ∷ words); lines = up_to_title later } ∷ blocks_of later) (blocks_of later)) title

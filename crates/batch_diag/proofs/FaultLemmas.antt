@@ -9,6 +9,7 @@ use Rattle.response_log.specs.declared.fault.LogFault.{LogFault}
 use Rattle.response_log.specs.declared.fault.LogFault.TheVariants.{Digit, Length, Missing, Extra, Memory as LogMemory}
 use Rattle.response_log.specs.LogRows.{Answer as LogAnswer, NumberedLine, holds_word, only_word, bits_of_line, word_fault, row_fault, offences, wanted_rows, first_or, rows_of_lines, row_lines, log_rows, log_told}
 use Rattle.batch_diag.specs.Batch.{batch_told}
+use Rattle.batch_diag.specs.OwnTexts.{moved_fault}
 use Rattle.batch_diag.specs.inner.Cutting.{rows_from, in_block, moved_inner, IsUpTo}
 use Rattle.batch_diag.proofs.CutLemmas.{rows_at, with_line, worded_line}
 
@@ -16,14 +17,7 @@ use Rattle.batch_diag.proofs.CutLemmas.{rows_at, with_line, worded_line}
 abbrev moved_line : ℕ → NumberedLine → NumberedLine
 moved_line before line = record { number = before + line.number; words = line.words }
 
-abbrev moved_fault : ℕ → LogFault → LogFault
-moved_fault before (Digit n) = Digit (before + n)
-moved_fault before (Length n) = Length (before + n)
-moved_fault before (Missing found) = Missing found
-moved_fault before (Extra n) = Extra (before + n)
-moved_fault before (LogMemory e) = LogMemory e
-
-abbrev moved : ℕ → LogAnswer → LogAnswer
+abbrev pub moved : ℕ → LogAnswer → LogAnswer
 moved before (Ok log) = Ok log
 moved before (Err fault) = Err (moved_fault before fault)
 

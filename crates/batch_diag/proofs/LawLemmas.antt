@@ -1,5 +1,5 @@
 -- What the blocks of a text are.
-use Rattle.std.proofs.Common.{◌≡◌, ℕ, ◌+◌, Bool, true, false, cond, not, Option, Some, None, Ok, Err, List, [], ◌∷◌, ◌++◌, length, suc, refl, sym, ap, ◌∙◌, subst, arith, append_assoc}
+use Rattle.std.proofs.Common.{◌≡◌, ℕ, ◌+◌, Bool, true, false, cond, not, Option, Some, None, Ok, Err, List, [], ◌∷◌, ◌++◌, length, suc, refl, sym, ap, ◌∙◌, subst, arith, append_assoc, append-nil}
 use Rattle.std.specs.Prelude.{All, codes, ◌&&◌}
 use Rattle.std.proofs.lemmas.List.Elements.{All-nil, All-cons, All-head, All-tail}
 use Rattle.std.proofs.lemmas.List.Sums.{take_while-cons}
@@ -9,7 +9,7 @@ use Rattle.response_log.specs.declared.fault.LogFault.{LogFault}
 use Rattle.response_log.specs.LogRows.{NumberedLine, row_lines, rows_of_lines, Answer as LogAnswer}
 use Rattle.batch_diag.specs.declared.block.Block.{Block}
 use Rattle.batch_diag.specs.declared.fault.BatchFault.{BatchFault}
-use Rattle.batch_diag.specs.declared.fault.BatchFault.TheVariants.{Start, Title, Inner}
+use Rattle.batch_diag.specs.declared.fault.BatchFault.TheVariants.{Start, Title, Inner, Memory}
 use Rattle.batch_diag.specs.Batch.{Answer, BlockLines, is_title, begins_block, id_of, names_board, is_wrong_title, start_fault, title_fault, up_to_title, blocks_of, onto, block_then, logs_from, unless, blocks_of_lines}
 use Rattle.batch_diag.specs.Laws.{IsBlockOf, AreBlocksOf, BlocksAreTheLines, IsFirstFault, FaultIsTheFirst}
 
@@ -17,7 +17,7 @@ abbrev IsRow : NumberedLine → Type 0
 IsRow line = begins_block line ≡ false
 
 -- a title of two words
-title_words : (words : List Word) → is_title words ≡ true → names_board words ≡ true → (words ≡ codes "BOARD" ∷ id_of words ∷ []) × (is_word (id_of words) ≡ true)
+pub title_words : (words : List Word) → is_title words ≡ true → names_board words ≡ true → (words ≡ codes "BOARD" ∷ id_of words ∷ []) × (is_word (id_of words) ≡ true)
 title_words [] title names = absurd cc
 title_words (word ∷ []) title names = absurd cc
 title_words (word ∷ id ∷ []) title names = (ap (λ (w : Word). w ∷ id ∷ []) ((bytes_eq-Decides word (codes "BOARD")).0 title), names)
@@ -176,12 +176,12 @@ module _ (rows len : ℕ) where
       by_lines (line ∷ lines) none = by_line line lines (begins_block line) refl none
 
   -- an answer with blocks comes where there is no fault
-  record NoFault (lines : List NumberedLine) (blocks : List Block) : Type 0 where
-    start : start_fault lines ≡ None
-    titles : title_fault lines ≡ None
-    logs : logs_from rows len 1 (blocks_of lines) ≡ Ok blocks
+  pub record NoFault (lines : List NumberedLine) (blocks : List Block) : Type 0 where
+    pub start : start_fault lines ≡ None
+    pub titles : title_fault lines ≡ None
+    pub logs : logs_from rows len 1 (blocks_of lines) ≡ Ok blocks
 
-  no_fault : (lines : List NumberedLine) (blocks : List Block) (start title : Option BatchFault) → start_fault lines ≡ start → title_fault lines ≡ title → unless start (unless title (logs_from rows len 1 (blocks_of lines))) ≡ Ok blocks → NoFault lines blocks
+  pub no_fault : (lines : List NumberedLine) (blocks : List Block) (start title : Option BatchFault) → start_fault lines ≡ start → title_fault lines ≡ title → unless start (unless title (logs_from rows len 1 (blocks_of lines))) ≡ Ok blocks → NoFault lines blocks
   no_fault lines blocks None None start title is = record { start = start; titles = title; logs = is }
   no_fault lines blocks None (Some fault) start title is = absurd cc
   no_fault lines blocks (Some fault) title start title_is is = absurd cc
@@ -394,5 +394,72 @@ module _ (rows len : ℕ) where
   first_fault lines fault None (Some other) start title is = let same : other ≡ fault = cc in title_first lines fault start (title ∙ ap Some same)
   first_fault lines fault (Some other) title start title_is is = let same : other ≡ fault = cc in start_first lines fault (start ∙ ap Some same)
 
+  -- and back: what is first is told
+  starts : (lines : List NumberedLine) → up_to_title lines ≡ [] → start_fault lines ≡ None
+  starts [] none = refl
+  starts (line ∷ lines) none = by_title (begins_block line) refl
+    where
+      by_title : (title : Bool) → begins_block line ≡ title → start_fault (line ∷ lines) ≡ None
+      by_title true is = ap (λ (b : Bool). cond b None (Some (Start line.number))) is
+      by_title false is = let clash : line ∷ up_to_title lines ≡ [] = sym (up_to_row line lines is) ∙ none in absurd cc
+
+  right_before : (before rest : List NumberedLine) → All IsRight before → title_fault (before ++ rest) ≡ title_fault rest
+  right_before [] rest right = refl
+  right_before (line ∷ before) rest right =
+      ap (λ (b : Bool). cond b (Some (Title line.number)) (title_fault (before ++ rest))) (All-head IsRight line before right) ∙ right_before before rest (All-tail IsRight line before right)
+
+  none_wrong : (lines : List NumberedLine) → All IsRight lines → title_fault lines ≡ None
+  none_wrong lines right = ap title_fault (sym (append-nil lines)) ∙ right_before lines [] right
+
+  -- blocks before lines that begin with a title
+  titles_first : (before : List NumberedLine) (blocks : List Block) (rest : List NumberedLine) → AreBlocksOf rows len before blocks → up_to_title rest ≡ [] → up_to_title (before ++ rest) ≡ []
+  titles_first before [] rest are first = ap (λ (ls : List NumberedLine). up_to_title (ls ++ rest)) are ∙ first
+  titles_first before (block ∷ blocks) rest (title, own, later, is, more, all) first =
+      ap (λ (ls : List NumberedLine). up_to_title (ls ++ rest)) all ∙ up_to_first title ((own ++ later) ++ rest) (block_title rows len title own block is)
+
+  fails_behind : (n : ℕ) (before : List NumberedLine) (blocks : List Block) (rest : List NumberedLine) (fault : BatchFault) → AreBlocksOf rows len before blocks → up_to_title rest ≡ [] →
+      logs_from rows len (length blocks + n) (blocks_of rest) ≡ Err fault → logs_from rows len n (blocks_of (before ++ rest)) ≡ Err fault
+  fails_behind n before [] rest fault are first says =
+      let count : n ≡ 0 + n = omega arith in
+      ap (λ (ls : List NumberedLine). logs_from rows len n (blocks_of (ls ++ rest))) are ∙ ap (λ (m : ℕ). logs_from rows len m (blocks_of rest)) count ∙ says
+  fails_behind n before (block ∷ blocks) rest fault (title, own, later, is, more, all) first says =
+      let count : length blocks + (n + 1) ≡ suc (length blocks) + n = omega arith in
+      let whole : before ++ rest ≡ title ∷ (own ++ (later ++ rest)) = ap (λ (ls : List NumberedLine). ls ++ rest) all ∙ ap (λ (ls : List NumberedLine). title ∷ ls) (append_assoc own later rest) in
+      let front = λ (id : Word) (mine : List NumberedLine) (behind : List BlockLines). block_then id n (rows_of_lines rows len mine) (logs_from rows len (n + 1) behind) in
+      ap (λ (ls : List NumberedLine). logs_from rows len n (blocks_of ls)) whole
+      ∙ ap (λ (b : Bool). logs_from rows len n (cond b (record { id = id_of title.words; lines = up_to_title (own ++ (later ++ rest)) } ∷ blocks_of (own ++ (later ++ rest))) (blocks_of (own ++ (later ++ rest))))) (block_title rows len title own block is)
+      ∙ ap (λ (ls : List NumberedLine). front (id_of title.words) ls (blocks_of (own ++ (later ++ rest)))) (rows_up_to own (later ++ rest) is.inside (titles_first later blocks rest more first))
+      ∙ ap (λ (bs : List BlockLines). front (id_of title.words) own bs) (rows_blocks own (later ++ rest) is.inside)
+      ∙ ap (λ (log : LogAnswer). block_then (id_of title.words) n log (logs_from rows len (n + 1) (blocks_of (later ++ rest)))) is.log
+      ∙ ap (onto (record { id = id_of title.words; log = block.log })) (fails_behind (n + 1) later blocks rest fault more first (ap (λ (m : ℕ). logs_from rows len m (blocks_of rest)) count ∙ says))
+
+  block_fails : (board : ℕ) (title : NumberedLine) (own later : List NumberedLine) (fault : LogFault) → begins_block title ≡ true → All IsRow own → up_to_title later ≡ [] → rows_of_lines rows len own ≡ Err fault →
+      logs_from rows len board (blocks_of (title ∷ (own ++ later))) ≡ Err (Inner board fault)
+  block_fails board title own later fault begins inside none says =
+      ap (λ (b : Bool). logs_from rows len board (cond b (record { id = id_of title.words; lines = up_to_title (own ++ later) } ∷ blocks_of (own ++ later)) (blocks_of (own ++ later)))) begins
+      ∙ ap (λ (ls : List NumberedLine). block_then (id_of title.words) board (rows_of_lines rows len ls) (logs_from rows len (board + 1) (blocks_of (own ++ later)))) (rows_up_to own later inside none)
+      ∙ ap (λ (log : LogAnswer). block_then (id_of title.words) board log (logs_from rows len (board + 1) (blocks_of (own ++ later)))) says
+
+  told : (lines : List NumberedLine) (fault : BatchFault) → IsFirstFault rows len lines fault → blocks_of_lines rows len lines ≡ Err fault
+  told lines (Start n) (line, later, row, number, all) =
+      let start : start_fault lines ≡ Some (Start n) = ap start_fault all ∙ ap (λ (b : Bool). cond b None (Some (Start line.number))) row ∙ ap (λ (m : ℕ). Some (Start m)) number in
+      ap (λ (o : Option BatchFault). unless o (unless (title_fault lines) (logs_from rows len 1 (blocks_of lines)))) start
+  told lines (Title n) (before, line, later, first, right, wrong, number, all) =
+      let title : title_fault lines ≡ Some (Title n) = ap title_fault all ∙ right_before before (line ∷ later) right ∙ ap (λ (b : Bool). cond b (Some (Title line.number)) (title_fault later)) wrong ∙ ap (λ (m : ℕ). Some (Title m)) number in
+      ap (λ (o : Option BatchFault). unless o (unless (title_fault lines) (logs_from rows len 1 (blocks_of lines)))) (starts lines first)
+      ∙ ap (λ (o : Option BatchFault). unless o (logs_from rows len 1 (blocks_of lines))) title
+  told lines (Inner board fault) (blocks, before, title, own, later, right, are, begins, inside, none, says, number, all) =
+      let rest : List NumberedLine = title ∷ (own ++ later) in
+      let first : up_to_title rest ≡ [] = up_to_first title (own ++ later) begins in
+      let start : start_fault lines ≡ None = starts lines (ap up_to_title all ∙ titles_first before blocks rest are first) in
+      let here : logs_from rows len (length blocks + 1) (blocks_of rest) ≡ Err (Inner board fault) = ap (λ (m : ℕ). logs_from rows len m (blocks_of rest)) (sym number) ∙ block_fails board title own later fault begins inside none says in
+      ap (λ (o : Option BatchFault). unless o (unless (title_fault lines) (logs_from rows len 1 (blocks_of lines)))) start
+      ∙ ap (λ (o : Option BatchFault). unless o (logs_from rows len 1 (blocks_of lines))) (none_wrong lines right)
+      ∙ ap (λ (ls : List NumberedLine). logs_from rows len 1 (blocks_of ls)) all ∙ fails_behind 1 before blocks rest (Inner board fault) are first here
+  told lines (Memory e) is = absurd is
+
 pub fault_is_the_first : FaultIsTheFirst
-fault_is_the_first text rows len fault is = first_fault rows len (row_lines text) fault (start_fault (row_lines text)) (title_fault (row_lines text)) refl refl is
+fault_is_the_first text rows len fault = (
+  first_fault rows len (row_lines text) fault (start_fault (row_lines text)) (title_fault (row_lines text)) refl refl,
+  told rows len (row_lines text) fault,
+)

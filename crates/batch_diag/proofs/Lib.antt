@@ -4,4 +4,5 @@ mod ReadLemmas
 mod JudgeLemmas
 mod TextLemmas
 mod LawLemmas
+mod OwnLemmas
 mod SampleTests

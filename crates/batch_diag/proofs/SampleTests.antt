@@ -1,16 +1,16 @@
 -- The answers of small texts, and the text of a small batch, by the definition.
 use Rattle.std.proofs.Common.{◌≡◌, ℕ, true, false, Ok, Err, List, [], ◌∷◌, ◌++◌, map, replicate, None, refl}
-use Rattle.std.specs.Prelude.{codes}
+use Rattle.std.specs.Prelude.{codes, alloc_error}
 use Rattle.std.specs.Fmt.{digits}
 use Rattle.text_lines.specs.Words.{words_of}
-use Rattle.response_log.specs.declared.fault.LogFault.TheVariants.{Digit, Length, Missing, Extra}
+use Rattle.response_log.specs.declared.fault.LogFault.TheVariants.{Digit, Length, Missing, Extra, Memory as LogMemory}
 use Rattle.board_defs.specs.declared.board.Net.{Net}
 use Rattle.board_defs.specs.declared.board.RawBoard.{RawBoard}
 use Rattle.board_defs.specs.declared.fault.Single.TheVariants.{StuckNet}
 use Rattle.diagnoser.specs.DiagText.{diag_text}
 use Rattle.batch_diag.specs.declared.block.Block.{Block}
 use Rattle.batch_diag.specs.declared.fault.BatchFault.TheVariants.{Start, Title, Inner}
-use Rattle.batch_diag.specs.Batch.{Answer, batch_of}
+use Rattle.batch_diag.specs.Batch.{Answer, IsOfLines, batch_of}
 use Rattle.batch_diag.specs.BatchText.{title_line, batch_text}
 
 -- a comment, a title, a row, and a block with the same id and a comment behind its title
@@ -96,3 +96,7 @@ title = refl
 two_verdicts : batch_text two_nets (rowless (codes "A") ∷ rowless (codes "B") ∷ []) (record { pass = true; faults = [] } ∷ record { pass = false; faults = StuckNet 0 false ∷ [] } ∷ []) ≡ codes "BOARD A\nPASS\nBOARD B\nFAIL 1\nstuck A 0\n"
 unfolding diag_text digits
 two_verdicts = refl
+
+-- the fault of a block is never want of memory
+never_memory : IsOfLines (Inner 1 (LogMemory alloc_error)) ≡ ⊥
+never_memory = refl

@@ -43,9 +43,9 @@ IsFirstFault rows len lines (Inner board fault) =
     × (begins_block title ≡ true) × All (λ line. begins_block line ≡ false) own × (up_to_title later ≡ []) × (rows_of_lines rows len own ≡ Err fault) × (board ≡ length blocks + 1) × (lines ≡ before ++ title ∷ (own ++ later))
 IsFirstFault rows len lines (Memory e) = ⊥
 
--- a text that is no batch has the fault that is named
+-- a fault is told of a text exactly where it is the first
 abbrev pub FaultIsTheFirst : Type 0
-FaultIsTheFirst = (text : List ℕ) (rows len : ℕ) (fault : BatchFault) → batch_of text rows len ≡ Err fault → IsFirstFault rows len (row_lines text) fault
+FaultIsTheFirst = (text : List ℕ) (rows len : ℕ) (fault : BatchFault) → (batch_of text rows len ≡ Err fault) ↔ IsFirstFault rows len (row_lines text) fault
 
 -- verdicts make the text of the batch
 abbrev pub VerdictsMakeText : Type 0

@@ -1,5 +1,6 @@
 //! Laws of batches, each the contract of a function that does nothing.
 ghost use Rattle.batch_diag.specs.Laws.{BlocksAreTheLines, FaultIsTheFirst, VerdictsMakeText, OneBatchText};
+ghost use Rattle.batch_diag.specs.OwnTexts.{BlocksByThemselves, DiagnosesByThemselves, FaultByItself};
 
 use diagnoser::law::one_diagnosis;
 
@@ -8,10 +9,19 @@ pub fn blocks_are_the_lines()
     ensures { BlocksAreTheLines }
 {}
 
-/// A text that is no batch has the fault that is named: the first line with words, where it is no title; or else the first title
-/// that is wrong; or else the first block whose lines are no log.
+/// The fault that is told of a text is the first, and the first is told: the first line with words, where it is no title; or else the
+/// first title that is wrong; or else the first block whose lines are no log.
 pub fn fault_is_the_first()
     ensures { FaultIsTheFirst }
+{}
+
+/// Each block is by itself: the lines below its title, as a text of their own, hold its log; where they hold none, the fault that is
+/// told is that of this text, by its line in the whole one; and what is put below its title is the diagnosis of the log that
+/// this text holds.
+pub fn blocks_stand_by_themselves()
+    ensures logs { BlocksByThemselves }
+    ensures fault { FaultByItself }
+    ensures diagnoses { DiagnosesByThemselves }
 {}
 
 /// The text that is written of blocks and their verdicts has for each block in order its title and the diagnosis of its
