@@ -1,5 +1,6 @@
 -- The identity test passes exactly where each code fits its pattern.
-use Rattle.std.proofs.Common.{◌≡◌, ◌≢◌, ℕ, suc, ◌^◌, ◌<◌, Bool, true, false, ◌&&◌, List, [], ◌∷◌, length, map, Option, Some, None, refl, sym, ◌∙◌, ap, subst, arith}
+use Rattle.std.proofs.Common.{◌≡◌, ◌≢◌, ℕ, zero, suc, ◌^◌, ◌<◌, Bool, true, false, ◌&&◌, List, [], ◌∷◌, length, map, Option, Some, None, refl, sym, ◌∙◌, ap, subst, arith}
+use Rattle.std.specs.Prelude.{slice_get}
 use Rattle.std.proofs.Math.Bool.{and-true}
 use Rattle.std.proofs.lemmas.List.{length-map}
 use Rattle.board_defs.specs.declared.device.Symbol.{Symbol}
@@ -11,7 +12,7 @@ use Rattle.tap_defs.specs.chain.TestLogic.{TestLogic, Instruction, Bypass, Idcod
 use Rattle.tap_defs.specs.board.OnBoard.{reset_by, test_logic}
 use Rattle.tap_defs.specs.chain.Part.{FreeBits}
 use Rattle.tap_defs.specs.chain.Chain.{ChainPart, logics, IsChainOf}
-use Rattle.tap_defs.specs.chain.Run.{Wiring, Choices, choices_after, run, tdos, bit_passes, run_passes}
+use Rattle.tap_defs.specs.chain.Run.{Clock, Wiring, Choices, choices_after, run, tdos, bit_passes, run_passes}
 use Rattle.tap_defs.specs.chain.Scan.{ScanBit, Scan, joined}
 use Rattle.tap_defs.specs.chain.Text.{AllSized}
 use Rattle.tap_defs.specs.chain.Clocks.{sdr_clocks, head_clocks, test_clocks}
@@ -23,8 +24,8 @@ use Rattle.tap_defs.proofs.chain.DataLemmas.{data_transport}
 use Rattle.tap_defs.proofs.chain.HeadLemmas.{run_logics, head_idles, scans_decide}
 use Rattle.tap_defs.proofs.chain.MeaningLemmas.{text_means}
 use Rattle.ident_test.specs.Patterns.{wanted, symbol_bit, register_pattern, ident_bits, ident_scan, ident_text}
-use Rattle.ident_test.specs.CodedParts.{IsCoded, AreCoded, fits, code_fits, part_fits, all_fit, coded_by, coded_parts}
-use Rattle.ident_test.specs.IdentTest.{ArePatterns, IsIdentTest}
+use Rattle.ident_test.specs.CodedParts.{IsCoded, AreCoded, fits, code_fits, part_fits, all_fit, coded_by, coded_parts, HasCode}
+use Rattle.ident_test.specs.IdentTest.{ArePatterns, IsIdentTest, EachRunTells}
 use Rattle.ident_test.proofs.LengthLemmas.{AllWhole, whole_by, bits_least, bits_most}
 use Rattle.ident_test.proofs.ResetLemmas.{AllSelected, head_selects}
 
@@ -199,3 +200,39 @@ pub devices_coded : (devices : List RawDevice) (codes : ℕ → List Bool) → (
 devices_coded [] codes sizes = tt
 devices_coded (device ∷ devices) codes sizes =
     (one_coded device.idcode device (codes 0) refl (sizes 0), devices_coded devices (λ k. codes (suc k)) (λ k. sizes (suc k)))
+
+-- each part has its own code
+coded_alone : (pattern : Option (List Symbol)) (device : RawDevice) (code : List Bool) → device.idcode ≡ pattern → HasCode device code (coded_by pattern code (test_logic (Described device)))
+coded_alone (Some pattern) device code is = record {
+  ir_length = refl;
+  boundary_length = refl;
+  extest = refl;
+  preload = refl;
+  code_is = λ other has. refl;
+}
+coded_alone None device code is = record {
+  ir_length = refl;
+  boundary_length = refl;
+  extest = refl;
+  preload = refl;
+  code_is = λ other has. let clash : None ≡ Some other = sym is ∙ has in absurd cc;
+}
+
+pub codes_assigned : (devices : List RawDevice) (codes : ℕ → List Bool) (k : ℕ) (device : RawDevice) → slice_get devices k ≡ Some device →
+    (part : TestLogic) × (slice_get (coded_parts devices codes) k ≡ Some part) × HasCode device (codes k) part
+codes_assigned [] codes k device is = absurd cc
+codes_assigned (first ∷ devices) codes zero device is =
+    let same : first ≡ device = cc in
+    (coded_by first.idcode (codes 0) (test_logic (Described first)), refl, subst (λ (d : RawDevice). HasCode d (codes 0) (coded_by first.idcode (codes 0) (test_logic (Described first)))) same (coded_alone first.idcode first (codes 0) refl))
+codes_assigned (first ∷ devices) codes (suc k) device is = codes_assigned devices (λ n. codes (suc n)) k device is
+
+-- what is said of passing and of failing is said of each run
+pub each_run_tells : (patterns : List (Option (List Symbol))) (text : List ℕ) → IsIdentTest patterns text → EachRunTells patterns text
+each_run_tells patterns text test clocks wiring parts chain choices means coded start = by_fit (all_fit patterns parts) refl
+  where
+    same : test.clocks ≡ clocks
+    same = let both : Some test.clocks ≡ Some clocks = sym test.means ∙ means in cc
+
+    by_fit : (fit : Bool) → all_fit patterns parts ≡ fit → run_passes clocks (tdos wiring clocks choices chain) ≡ fit
+    by_fit true is = subst (λ (cs : List Clock). run_passes cs (tdos wiring cs choices chain) ≡ true) same (test.passes wiring parts coded is chain choices start)
+    by_fit false is = subst (λ (cs : List Clock). run_passes cs (tdos wiring cs choices chain) ≡ false) same (test.fails wiring parts coded is chain choices start)

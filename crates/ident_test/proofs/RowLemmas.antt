@@ -1,9 +1,7 @@
 -- Lemmas on the rows of the identity test.
-use Rattle.std.proofs.Common.{◌≡◌, ℕ, zero, suc, ◌+◌, ◌-◌, ◌<◌, ◌≤◌, Bool, true, false, List, [], ◌∷◌, ◌++◌, length, map, get_or, set, take, drop, replicate, sum_by, Option, Some, refl, sym, ◌∙◌, ap, append_assoc, length-append, length-drop, arith}
+use Rattle.std.proofs.Common.{◌≡◌, ℕ, zero, suc, ◌+◌, ◌-◌, ◌<◌, ◌≤◌, Bool, false, List, [], ◌∷◌, ◌++◌, length, map, get_or, set, take, drop, replicate, sum_by, Option, refl, sym, ◌∙◌, ap, append_assoc, length-append, length-drop, arith}
 use Rattle.std.proofs.lemmas.List.{append-nil, length-map, map-append, set_at, drop_more, length-take-le, replicate-append-replicate, take_more, take-append-drop, take_at, drop_at, drop-drop, drop-replicate}
 use Rattle.std.proofs.lemmas.List.Sums.{sum_by-cons}
-use Rattle.std.specs.Prelude.{slice_get}
-use Rattle.std.specs.List.{list_any}
 use Rattle.board_defs.specs.declared.device.Symbol.{Symbol}
 use Rattle.tap_defs.specs.chain.Scan.{ScanBit, tdi_bits}
 use Rattle.tap_defs.specs.chain.Text.{svf_text, scan_text, head_text, tail_text}

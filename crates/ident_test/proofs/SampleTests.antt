@@ -12,7 +12,7 @@ use Rattle.tap_defs.specs.chain.Text.{svf_text}
 use Rattle.tap_defs.proofs.chain.SampleTexts.{off, on, sample_text}
 use Rattle.tap_defs.proofs.chain.SampleRun.{choices, no_wiring, pausing, shifting}
 use Rattle.ident_test.specs.Patterns.{ident_scan, ident_text}
-use Rattle.ident_test.specs.CodedParts.{all_fit}
+use Rattle.ident_test.specs.CodedParts.{AreCoded, all_fit}
 
 -- XXXX0001001000110100000000000111, the bit nearest TDO first
 abbrev known_part : List Symbol
@@ -97,3 +97,15 @@ all_told : map (λ code. all_fit patterns (coded code ∷ bypassed ∷ []))
     ((on ∷ off ∷ off ∷ []) ∷ (on ∷ on ∷ off ∷ []) ∷ (on ∷ off ∷ on ∷ []) ∷ (off ∷ off ∷ off ∷ []) ∷ [])
     ≡ true ∷ true ∷ false ∷ false ∷ []
 all_told = refl
+
+-- parts with patterns are coded whatever else is so of them: of whatever lengths, with codes of instructions or without, and though the
+-- code doesn't fit
+abbrev zeros : List Bool
+zeros = replicate 32 off
+
+coded_whatever : AreCoded (Some known_part ∷ Some known_part ∷ None ∷ None ∷ [])
+    (coded zeros
+    ∷ record { ir_length = 2; boundary_length = 9; extest = Some (off ∷ off ∷ []); preload = Some (on ∷ off ∷ []); at_reset = Some Idcode; idcode = zeros }
+    ∷ bypassed
+    ∷ record { ir_length = 1; boundary_length = 7; extest = Some (off ∷ []); preload = None; at_reset = Some Bypass; idcode = zeros } ∷ [])
+coded_whatever = ((refl, refl), ((refl, refl), (refl, (refl, tt))))

@@ -49,3 +49,11 @@ coded_by None code part = part
 abbrev pub coded_parts : List RawDevice → (ℕ → List Bool) → List TestLogic
 coded_parts [] codes = []
 coded_parts (device ∷ devices) codes = coded_by device.idcode (codes 0) (test_logic (Described device)) ∷ coded_parts devices (λ k. codes (suc k))
+
+-- a part of a board that has this code, where its device has a pattern, and the registers and the instruction codes that its device says
+pub record HasCode (device : RawDevice) (code : List Bool) (part : TestLogic) : Type 0 where
+  pub ir_length : part.ir_length ≡ (test_logic (Described device)).ir_length
+  pub boundary_length : part.boundary_length ≡ (test_logic (Described device)).boundary_length
+  pub extest : part.extest ≡ (test_logic (Described device)).extest
+  pub preload : part.preload ≡ (test_logic (Described device)).preload
+  pub code_is : (pattern : List Symbol) → device.idcode ≡ Some pattern → part.idcode ≡ code

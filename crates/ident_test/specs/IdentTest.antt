@@ -2,7 +2,8 @@
 use Rattle.std.specs.Prelude.{◌≡◌, ℕ, ◌≤◌, true, false, List, length, Option, Some, All, IfSome}
 use Rattle.board_defs.specs.declared.device.Symbol.{Symbol}
 use Rattle.tap_defs.specs.chain.TestLogic.{TestLogic}
-use Rattle.tap_defs.specs.chain.Run.{Clock, Wiring, PassesOn, FailsOn}
+use Rattle.tap_defs.specs.chain.Chain.{ChainPart, IsChainOf}
+use Rattle.tap_defs.specs.chain.Run.{Clock, Choices, Wiring, PassesOn, FailsOn, tdos, run_passes}
 use Rattle.tap_defs.specs.chain.Svf.{meaning}
 use Rattle.ident_test.specs.CodedParts.{AreCoded, all_fit}
 
@@ -21,3 +22,9 @@ pub record IsIdentTest (patterns : List (Option (List Symbol))) (text : List ℕ
       PassesOn wiring parts clocks
   pub fails : (wiring : Wiring) (parts : List TestLogic) → AreCoded patterns parts → all_fit patterns parts ≡ false →
       FailsOn wiring parts clocks
+
+-- each run of the text, on any chain of parts with these patterns, passes exactly where each code fits its pattern
+abbrev pub EachRunTells : List (Option (List Symbol)) → List ℕ → Type 0
+EachRunTells patterns text =
+    (clocks : List Clock) (wiring : Wiring) (parts : List TestLogic) (chain : List ChainPart) (choices : Choices) → meaning text ≡ Some clocks → AreCoded patterns parts → IsChainOf parts chain →
+    run_passes clocks (tdos wiring clocks choices chain) ≡ all_fit patterns parts

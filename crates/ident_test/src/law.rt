@@ -1,9 +1,10 @@
 //! The laws of the identity test, as contracts of functions that do nothing: a caller knows the law after the call.
-ghost use Rattle.std.specs.Prelude.{◌≡◌, ℕ, Bool, List, Option, length, map};
+ghost use Rattle.std.specs.Prelude.{◌≡◌, ℕ, Bool, List, Option, Some, length, map, slice_get};
 ghost use Rattle.board_defs.specs.declared.device.RawDevice.{RawDevice};
 ghost use Rattle.board_defs.specs.declared.device.Symbol.{Symbol};
-ghost use Rattle.ident_test.specs.CodedParts.{AreCoded, coded_parts};
-ghost use Rattle.ident_test.specs.IdentTest.{ArePatterns, IsIdentTest};
+ghost use Rattle.tap_defs.specs.chain.TestLogic.{TestLogic};
+ghost use Rattle.ident_test.specs.CodedParts.{AreCoded, HasCode, coded_parts};
+ghost use Rattle.ident_test.specs.IdentTest.{ArePatterns, EachRunTells, IsIdentTest};
 ghost use Rattle.ident_test.specs.Patterns.{ident_text};
 
 /// The text of the identity test passes on every chain of parts whose codes fit their patterns, and fails on every one on
@@ -15,4 +16,14 @@ pub fn ident_tests()
 /// Described devices under an assignment of codes of 32 bits are parts with the devices' patterns.
 pub fn parts_coded()
     ensures { (devices : List RawDevice) (codes : ℕ → List Bool) → ((k : ℕ) → length (codes k) ≡ 32) → AreCoded (map (λ device. device.idcode) devices) (coded_parts devices codes) }
+{}
+
+/// A text that is an identity test of such patterns tells in each run whether the codes fit: the run passes exactly where each does.
+pub fn each_run_tells()
+    ensures { (patterns : List (Option (List Symbol))) (text : List ℕ) → IsIdentTest patterns text → EachRunTells patterns text }
+{}
+
+/// Under an assignment of codes each part has its own, and the registers and the instruction codes that its device says.
+pub fn codes_assigned()
+    ensures { (devices : List RawDevice) (codes : ℕ → List Bool) (k : ℕ) (device : RawDevice) → slice_get devices k ≡ Some device → (part : TestLogic) × (slice_get (coded_parts devices codes) k ≡ Some part) × HasCode device (codes k) part }
 {}
