@@ -1,6 +1,7 @@
 -- Texts of small boards, worked by hand.
-use Rattle.std.proofs.Common.{◌≡◌, ◌==◌, ◌+◌, refl}
+use Rattle.std.proofs.Common.{◌≡◌, ◌==◌, ◌+◌, [], ◌∷◌, map, refl}
 use Rattle.std.specs.Prelude.{codes, count_by}
+use Rattle.std.specs.List.{range_with_len}
 use Rattle.std.specs.Fmt.{digits}
 use Rattle.board_gen.specs.BoardTexts.{chain_text, net_text, ring_line, bus_line}
 use Rattle.board_gen.specs.DeviceText.{attributes_text, bsdl_text, cell_line, head_text, map_line, numbers}
@@ -76,6 +77,104 @@ first_bus_cell = refl
 last_cell : cell_line 76 ≡ codes "\"76 (BC_7, B(7), bidir, X, 4, 1, Z)\";\n"
 unfolding digits
 last_cell = refl
+
+-- all cells, in order: five controls, the outputs with a control for each eight of them, the inputs, and the pins of the bus with one
+-- cells 0 to 4
+control_cells : map cell_line (range_with_len 0 5) ≡
+    codes "\"0 (BC_1, *, control, 1),\" &\n"
+    ∷ codes "\"1 (BC_1, *, control, 1),\" &\n"
+    ∷ codes "\"2 (BC_1, *, control, 1),\" &\n"
+    ∷ codes "\"3 (BC_1, *, control, 1),\" &\n"
+    ∷ codes "\"4 (BC_1, *, control, 1),\" &\n" ∷ []
+unfolding digits
+control_cells = refl
+
+-- cells 5 to 36
+output_cells : map cell_line (range_with_len 5 32) ≡
+    codes "\"5 (BC_1, Q(0), output3, X, 0, 1, Z),\" &\n"
+    ∷ codes "\"6 (BC_1, Q(1), output3, X, 0, 1, Z),\" &\n"
+    ∷ codes "\"7 (BC_1, Q(2), output3, X, 0, 1, Z),\" &\n"
+    ∷ codes "\"8 (BC_1, Q(3), output3, X, 0, 1, Z),\" &\n"
+    ∷ codes "\"9 (BC_1, Q(4), output3, X, 0, 1, Z),\" &\n"
+    ∷ codes "\"10 (BC_1, Q(5), output3, X, 0, 1, Z),\" &\n"
+    ∷ codes "\"11 (BC_1, Q(6), output3, X, 0, 1, Z),\" &\n"
+    ∷ codes "\"12 (BC_1, Q(7), output3, X, 0, 1, Z),\" &\n"
+    ∷ codes "\"13 (BC_1, Q(8), output3, X, 1, 1, Z),\" &\n"
+    ∷ codes "\"14 (BC_1, Q(9), output3, X, 1, 1, Z),\" &\n"
+    ∷ codes "\"15 (BC_1, Q(10), output3, X, 1, 1, Z),\" &\n"
+    ∷ codes "\"16 (BC_1, Q(11), output3, X, 1, 1, Z),\" &\n"
+    ∷ codes "\"17 (BC_1, Q(12), output3, X, 1, 1, Z),\" &\n"
+    ∷ codes "\"18 (BC_1, Q(13), output3, X, 1, 1, Z),\" &\n"
+    ∷ codes "\"19 (BC_1, Q(14), output3, X, 1, 1, Z),\" &\n"
+    ∷ codes "\"20 (BC_1, Q(15), output3, X, 1, 1, Z),\" &\n"
+    ∷ codes "\"21 (BC_1, Q(16), output3, X, 2, 1, Z),\" &\n"
+    ∷ codes "\"22 (BC_1, Q(17), output3, X, 2, 1, Z),\" &\n"
+    ∷ codes "\"23 (BC_1, Q(18), output3, X, 2, 1, Z),\" &\n"
+    ∷ codes "\"24 (BC_1, Q(19), output3, X, 2, 1, Z),\" &\n"
+    ∷ codes "\"25 (BC_1, Q(20), output3, X, 2, 1, Z),\" &\n"
+    ∷ codes "\"26 (BC_1, Q(21), output3, X, 2, 1, Z),\" &\n"
+    ∷ codes "\"27 (BC_1, Q(22), output3, X, 2, 1, Z),\" &\n"
+    ∷ codes "\"28 (BC_1, Q(23), output3, X, 2, 1, Z),\" &\n"
+    ∷ codes "\"29 (BC_1, Q(24), output3, X, 3, 1, Z),\" &\n"
+    ∷ codes "\"30 (BC_1, Q(25), output3, X, 3, 1, Z),\" &\n"
+    ∷ codes "\"31 (BC_1, Q(26), output3, X, 3, 1, Z),\" &\n"
+    ∷ codes "\"32 (BC_1, Q(27), output3, X, 3, 1, Z),\" &\n"
+    ∷ codes "\"33 (BC_1, Q(28), output3, X, 3, 1, Z),\" &\n"
+    ∷ codes "\"34 (BC_1, Q(29), output3, X, 3, 1, Z),\" &\n"
+    ∷ codes "\"35 (BC_1, Q(30), output3, X, 3, 1, Z),\" &\n"
+    ∷ codes "\"36 (BC_1, Q(31), output3, X, 3, 1, Z),\" &\n" ∷ []
+unfolding digits
+output_cells = refl
+
+-- cells 37 to 68
+input_cells : map cell_line (range_with_len 37 32) ≡
+    codes "\"37 (BC_1, D(0), input, X),\" &\n"
+    ∷ codes "\"38 (BC_1, D(1), input, X),\" &\n"
+    ∷ codes "\"39 (BC_1, D(2), input, X),\" &\n"
+    ∷ codes "\"40 (BC_1, D(3), input, X),\" &\n"
+    ∷ codes "\"41 (BC_1, D(4), input, X),\" &\n"
+    ∷ codes "\"42 (BC_1, D(5), input, X),\" &\n"
+    ∷ codes "\"43 (BC_1, D(6), input, X),\" &\n"
+    ∷ codes "\"44 (BC_1, D(7), input, X),\" &\n"
+    ∷ codes "\"45 (BC_1, D(8), input, X),\" &\n"
+    ∷ codes "\"46 (BC_1, D(9), input, X),\" &\n"
+    ∷ codes "\"47 (BC_1, D(10), input, X),\" &\n"
+    ∷ codes "\"48 (BC_1, D(11), input, X),\" &\n"
+    ∷ codes "\"49 (BC_1, D(12), input, X),\" &\n"
+    ∷ codes "\"50 (BC_1, D(13), input, X),\" &\n"
+    ∷ codes "\"51 (BC_1, D(14), input, X),\" &\n"
+    ∷ codes "\"52 (BC_1, D(15), input, X),\" &\n"
+    ∷ codes "\"53 (BC_1, D(16), input, X),\" &\n"
+    ∷ codes "\"54 (BC_1, D(17), input, X),\" &\n"
+    ∷ codes "\"55 (BC_1, D(18), input, X),\" &\n"
+    ∷ codes "\"56 (BC_1, D(19), input, X),\" &\n"
+    ∷ codes "\"57 (BC_1, D(20), input, X),\" &\n"
+    ∷ codes "\"58 (BC_1, D(21), input, X),\" &\n"
+    ∷ codes "\"59 (BC_1, D(22), input, X),\" &\n"
+    ∷ codes "\"60 (BC_1, D(23), input, X),\" &\n"
+    ∷ codes "\"61 (BC_1, D(24), input, X),\" &\n"
+    ∷ codes "\"62 (BC_1, D(25), input, X),\" &\n"
+    ∷ codes "\"63 (BC_1, D(26), input, X),\" &\n"
+    ∷ codes "\"64 (BC_1, D(27), input, X),\" &\n"
+    ∷ codes "\"65 (BC_1, D(28), input, X),\" &\n"
+    ∷ codes "\"66 (BC_1, D(29), input, X),\" &\n"
+    ∷ codes "\"67 (BC_1, D(30), input, X),\" &\n"
+    ∷ codes "\"68 (BC_1, D(31), input, X),\" &\n" ∷ []
+unfolding digits
+input_cells = refl
+
+-- cells 69 to 76
+bus_cells : map cell_line (range_with_len 69 8) ≡
+    codes "\"69 (BC_7, B(0), bidir, X, 4, 1, Z),\" &\n"
+    ∷ codes "\"70 (BC_7, B(1), bidir, X, 4, 1, Z),\" &\n"
+    ∷ codes "\"71 (BC_7, B(2), bidir, X, 4, 1, Z),\" &\n"
+    ∷ codes "\"72 (BC_7, B(3), bidir, X, 4, 1, Z),\" &\n"
+    ∷ codes "\"73 (BC_7, B(4), bidir, X, 4, 1, Z),\" &\n"
+    ∷ codes "\"74 (BC_7, B(5), bidir, X, 4, 1, Z),\" &\n"
+    ∷ codes "\"75 (BC_7, B(6), bidir, X, 4, 1, Z),\" &\n"
+    ∷ codes "\"76 (BC_7, B(7), bidir, X, 4, 1, Z)\";\n" ∷ []
+unfolding digits
+bus_cells = refl
 
 -- the pins of a port
 bus_pins : numbers 65 8 ≡ codes "65,66,67,68,69,70,71,72"
