@@ -6,6 +6,8 @@ mod calls;
 #[cfg(test)]
 mod limits;
 #[cfg(test)]
+mod names;
+#[cfg(test)]
 mod reads;
 #[cfg(test)]
 mod writes;

@@ -1,5 +1,6 @@
 // Texts that are too long.
 use crate::calls::{COMMANDS, Command, bench_of};
+use bt_base::Store;
 use run_bench::{Ending, RowFault};
 use std::alloc::Global;
 use std::thread::Threads;
@@ -50,13 +51,50 @@ fn a_text_that_is_too_long_is_refused_by_every_command(rt: HostRuntime) -> Resul
     Ok(())
 }
 
-// Each command that reads a log asks for it in the same way, so one of them is tried.
 #[test]
 fn a_log_that_is_too_long_is_refused(rt: HostRuntime) -> Result<(), RowFault> {
     let alloc = rt.alloc();
     let text = " ".repeat(alloc, 67_108_865)?;
-    let line = "batch 2 b c n drv rcv";
-    is_too_long(&rt, alloc, line, "b", text.as_bytes(), 67_108_864)
+    for command in &COMMANDS {
+        for name in command.names {
+            if is_log(name) {
+                is_too_long(&rt, alloc, command.line, name, text.as_bytes(), 67_108_864)?;
+            }
+        }
+    }
+    Ok(())
+}
+
+// Tries a command whose text of this name has blanks behind it, as many bytes with them as these blanks have.
+fn may_be_as_long(
+    rt: &(impl Threads + Sync),
+    alloc: Global,
+    command: &Command,
+    name: &str,
+    blanks: &[u8],
+) -> Result<(), RowFault> {
+    let mut bench = bench_of(alloc)?;
+    let mut text = Vec::new(alloc);
+    let _ = bench.store.fetch(name, &mut text, 1_000_000);
+    let rest = blanks.get(text.len()..).unwrap_or(b"");
+    text.extend_from_slice(rest)?;
+    bench.store.add(name, &text)?;
+    let status = bench.run(rt, command.line)?;
+    bench.expect(0, status, Ending::Puts(command.text))
+}
+
+#[test]
+fn every_text_may_have_its_limit(rt: HostRuntime) -> Result<(), RowFault> {
+    let alloc = rt.alloc();
+    let blanks = " ".repeat(alloc, 67_108_864)?;
+    let fewer = " ".repeat(alloc, 4_194_304)?;
+    for command in &COMMANDS {
+        for name in command.names {
+            let all = if is_log(name) { &blanks } else { &fewer };
+            may_be_as_long(&rt, alloc, command, name, all.as_bytes())?;
+        }
+    }
+    Ok(())
 }
 
 // A log may be longer than any other text.

@@ -73,6 +73,16 @@ fn a_write_that_fails_may_take_a_part_of_its_line(rt: HostRuntime) -> Result<(),
     Ok(())
 }
 
+// A batch without a block has an empty text, which is put too.
+#[test]
+fn an_empty_text_may_fail(rt: HostRuntime) -> Result<(), RowFault> {
+    let mut bench = bench_of(rt.alloc())?;
+    bench.store.add("b", b"")?;
+    bench.out.fail_at(1, 0)?;
+    let status = bench.run(&rt, "batch 2 b c n drv rcv")?;
+    bench.expect(0, status, Ending::NotPut("", "cannot write\n"))
+}
+
 // The status stays where the notes take only a part of the line.
 #[test]
 fn notes_that_fail_change_no_status(rt: HostRuntime) -> Result<(), RowFault> {

@@ -7,7 +7,7 @@ const TWO_BLOCKS: &str = "BOARD A\n1\n2\nBOARD B\n0\n2\n";
 
 const TWO_VERDICTS: &str = "BOARD A\nPASS\nBOARD B\nFAIL 3\nstuck N1 0\nopen U1.1 0\nopen U2.1 0\n";
 
-static LOGS: [(&str, Ending<'static>); 14] = [
+static LOGS: [(&str, Ending<'static>); 15] = [
     (TWO_BLOCKS, Ending::Puts(TWO_VERDICTS)),
     ("", Ending::Puts("")),
     ("# no board today\r\n\r\n", Ending::Puts("")),
@@ -37,6 +37,10 @@ static LOGS: [(&str, Ending<'static>); 14] = [
     (
         "BOARD A\n1\n2\n2\n",
         Ending::Refused("g line 4: row too many\n"),
+    ),
+    (
+        "BOARD A\n1\nG\n2\n",
+        Ending::Refused("g line 3: digit not allowed\n"),
     ),
     // A word of a title in another place of a row.
     (

@@ -6,7 +6,7 @@ const STUCK: &str = "FAIL 3\nstuck N1 0\nopen U1.1 0\nopen U2.1 0\n";
 
 const LINE: &str = "diagnose 2 g c n drv rcv od rcv1";
 
-static LOGS: [(&str, Ending<'static>); 16] = [
+static LOGS: [(&str, Ending<'static>); 19] = [
     ("1\n2\n", Ending::Puts("PASS\n")),
     (
         "# first board\r\n\r\n1\r\n2 # last\r\n",
@@ -27,6 +27,16 @@ static LOGS: [(&str, Ending<'static>); 16] = [
     ("1\n\nG\n", Ending::Refused("g line 3: digit not allowed\n")),
     ("1\n2\n2\n", Ending::Refused("g line 3: row too many\n")),
     ("1\n2\nz z\n", Ending::Refused("g line 3: row too many\n")),
+    // A wrong row comes before one too many behind it.
+    (
+        "G\n2\n2\n",
+        Ending::Refused("g line 1: digit not allowed\n"),
+    ),
+    (
+        "1\nG\n2\n",
+        Ending::Refused("g line 2: digit not allowed\n"),
+    ),
+    ("1\n22\n2\n", Ending::Refused("g line 2: wrong length\n")),
 ];
 
 #[test]

@@ -28,7 +28,7 @@ pub const LINKED_NETS: &str = "NET N1A U1.1 R1.1\nNET N1B R1.2 U2.1\nNET N2 U1.2
 
 const LINE: &str = "groups g c n drv rcv od rcv1";
 
-static THREE_NETS: [(&str, Ending<'static>); 13] = [
+static THREE_NETS: [(&str, Ending<'static>); 16] = [
     (
         "05\n08\n05\n",
         Ending::Puts("GROUPS 1\nGROUP 2\nNET N1\nNET N3\n"),
@@ -58,6 +58,16 @@ static THREE_NETS: [(&str, Ending<'static>); 13] = [
     (
         "04\n08\n01\n01\n",
         Ending::Refused("g line 4: row too many\n"),
+    ),
+    // The length of a line comes before its digits, and a wrong line before a row too many.
+    ("G\n08\n01\n", Ending::Refused("g line 1: wrong length\n")),
+    (
+        "04\n0G\n01\n01\n",
+        Ending::Refused("g line 2: digit not allowed\n"),
+    ),
+    (
+        "04\n08\nG\n01\n",
+        Ending::Refused("g line 3: wrong length\n"),
     ),
 ];
 

@@ -8,6 +8,8 @@ mod diagnose;
 #[cfg(test)]
 mod gates;
 #[cfg(test)]
+mod generated;
+#[cfg(test)]
 mod groups;
 #[cfg(test)]
 mod walk;

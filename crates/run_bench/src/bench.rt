@@ -2,6 +2,7 @@
 use crate::board::{HEAD, TAIL};
 use crate::devices::DEVICES;
 use crate::row::{Ending, RowFault};
+use board_gen::make;
 use bt_base::{Gate, MemSink, MemStore, OpenGate};
 use btest_cli::{Status, run};
 use std::alloc::{AllocError, Global};
@@ -49,6 +50,17 @@ impl Bench {
         bench.add(&DEVICES)?;
         bench.store.add("c", chain.as_bytes())?;
         bench.store.add("n", nets.as_bytes())?;
+        Ok(bench)
+    }
+
+    /// A store with the texts of a generated board of 60 devices, `c`, `n` and `gen`, and a sink with room for its tests.
+    pub fn with_sixty_devices(alloc: Global) -> Result<Bench, AllocError> {
+        let made = make(alloc, 60)?;
+        let mut bench = Bench::empty(alloc)?;
+        bench.out = MemSink::with_room(alloc, 8_000_000)?;
+        bench.store.add("c", &made.chain)?;
+        bench.store.add("n", &made.nets)?;
+        bench.store.add("gen", &made.bsdl)?;
         Ok(bench)
     }
 
@@ -118,6 +130,10 @@ impl Bench {
             Ending::Scans(scans) => {
                 let text = format!(in self.alloc; "{HEAD}{scans}{TAIL}")?;
                 Ok(status == Status::Done && self.took(&text, ""))
+            }
+            Ending::Long(bytes) => {
+                let lengths = (self.out.bytes().len(), self.notes.bytes().len());
+                Ok(status == Status::Done && lengths == (bytes, 0))
             }
             Ending::Refused(line) => Ok(status == Status::Refused && self.took("", line)),
             Ending::NotRead(line) => Ok(status == Status::ReadFault && self.took("", line)),

@@ -10,4 +10,4 @@ mod row;
 pub use bench::Bench;
 pub use board::{CHAIN, NETS, SCANS};
 pub use devices::{BI, BUF2, BUF2_LISTING, DRV, DRV1, RCV, RCV1, TS, edited};
-pub use row::{Ending, Named, Row, RowFault, lines_hold, logs_hold, rows_hold};
+pub use row::{Ending, Named, Row, RowFault, lines_hold, logs_hold, rows_hold, sixty_devices_hold};

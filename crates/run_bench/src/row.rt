@@ -13,6 +13,8 @@ pub enum Ending<'a> {
     Puts(&'a str),
     /// An SVF text of these scans was put.
     Scans(&'a str),
+    /// A text of so many bytes was put.
+    Long(usize),
     /// The texts are refused with this line.
     Refused(&'a str),
     /// A text was not read, and this is the line.
@@ -99,6 +101,22 @@ pub fn logs_hold(
 ) -> Result<(), RowFault> {
     for (i, (log, ending)) in logs.iter().enumerate() {
         let mut bench = bench_of(alloc, texts)?;
+        bench.store.add("g", log.as_bytes())?;
+        let status = bench.run(rt, line)?;
+        bench.expect(i, status, *ending)?;
+    }
+    Ok(())
+}
+
+/// Tries each line on the texts of a generated board of 60 devices: `c`, `n`, `gen` and, as `g`, this log.
+pub fn sixty_devices_hold(
+    rt: &(impl Threads + Sync),
+    alloc: Global,
+    log: &str,
+    lines: &[(&'static str, Ending<'static>)],
+) -> Result<(), RowFault> {
+    for (i, (line, ending)) in lines.iter().enumerate() {
+        let mut bench = Bench::with_sixty_devices(alloc)?;
         bench.store.add("g", log.as_bytes())?;
         let status = bench.run(rt, line)?;
         bench.expect(i, status, *ending)?;

@@ -1,4 +1,4 @@
-//! The program without words.
+//! The program with a word that is no UTF-8.
 #![tactic(auto)]
 
 use host_start::start;

@@ -16,4 +16,6 @@ mod ident;
 #[cfg(test)]
 mod make;
 #[cfg(test)]
+mod sizes;
+#[cfg(test)]
 mod svf;

@@ -6,7 +6,7 @@ const TWO: Ending<'static> = Ending::Puts(
     "DEVICES 2 NETS 72 COVERED 72 PASSES 2 SCANS 19 BYTES 2373\n",
 );
 
-static SUMMARIES: [(&str, Ending<'static>); 6] = [
+static SUMMARIES: [(&str, Ending<'static>); 7] = [
     ("make 2", TWO),
     ("make 002", TWO),
     ("make 00000000000000000002", TWO),
@@ -18,6 +18,10 @@ static SUMMARIES: [(&str, Ending<'static>); 6] = [
     (
         "make 13",
         Ending::Puts("DEVICES 13 NETS 424 COVERED 424 PASSES 13 SCANS 133 BYTES 96866\n"),
+    ),
+    (
+        "make 60",
+        Ending::Puts("DEVICES 60 NETS 1928 COVERED 1928 PASSES 60 SCANS 723 BYTES 2416564\n"),
     ),
     (
         "make 1",

@@ -1,0 +1,106 @@
+// The fault of each text, told by the name of that text.
+use run_bench::{Ending, Named, Row, RowFault, rows_hold};
+
+// A log of the board's test, one of its walking test, and a batch.
+static LOGS: [Named; 3] = [("g", "1\n2\n"), ("w", "3\n3\n"), ("b", "BOARD A\n1\n2\n")];
+
+// A chain file, a net file and a BSDL text that are none.
+const CHAIN: Named = ("c", "DEVICE U1 DRV\n");
+
+const NETS: Named = ("n", "NETS N1 U1.1\n");
+
+const THIRD: Named = ("third", "x\n");
+
+const IN_CHAIN: Ending<'static> = Ending::Refused("c line 1: no statement\n");
+
+const IN_NETS: Ending<'static> = Ending::Refused("n line 1: no statement\n");
+
+const IN_THIRD: Ending<'static> = Ending::Refused("third line 1: not in the grammar\n");
+
+static ROWS: [Row; 16] = [
+    Row {
+        texts: &[THIRD],
+        line: "chain c drv rcv third",
+        ending: IN_THIRD,
+    },
+    Row {
+        texts: &[THIRD],
+        line: "ident c drv rcv third",
+        ending: IN_THIRD,
+    },
+    Row {
+        texts: &[THIRD],
+        line: "cover c n drv rcv third",
+        ending: IN_THIRD,
+    },
+    Row {
+        texts: &[THIRD],
+        line: "svf c n drv rcv third",
+        ending: IN_THIRD,
+    },
+    Row {
+        texts: &[THIRD],
+        line: "diagnose 2 g c n drv rcv third",
+        ending: IN_THIRD,
+    },
+    Row {
+        texts: &[CHAIN],
+        line: "walk c n drv rcv",
+        ending: IN_CHAIN,
+    },
+    Row {
+        texts: &[NETS],
+        line: "walk c n drv rcv",
+        ending: IN_NETS,
+    },
+    Row {
+        texts: &[THIRD],
+        line: "walk c n drv rcv third",
+        ending: IN_THIRD,
+    },
+    Row {
+        texts: &[CHAIN],
+        line: "groups w c n drv rcv",
+        ending: IN_CHAIN,
+    },
+    Row {
+        texts: &[NETS],
+        line: "groups w c n drv rcv",
+        ending: IN_NETS,
+    },
+    Row {
+        texts: &[THIRD],
+        line: "groups w c n drv rcv third",
+        ending: IN_THIRD,
+    },
+    Row {
+        texts: &[("w", "zz\n")],
+        line: "groups w c n drv rcv",
+        ending: Ending::Refused("w line 1: wrong length\n"),
+    },
+    Row {
+        texts: &[CHAIN],
+        line: "batch 2 b c n drv rcv",
+        ending: IN_CHAIN,
+    },
+    Row {
+        texts: &[NETS],
+        line: "batch 2 b c n drv rcv",
+        ending: IN_NETS,
+    },
+    Row {
+        texts: &[THIRD],
+        line: "batch 2 b c n drv rcv third",
+        ending: IN_THIRD,
+    },
+    Row {
+        texts: &[("b", "zz\n")],
+        line: "batch 2 b c n drv rcv",
+        ending: Ending::Refused("b line 1: no board yet\n"),
+    },
+];
+
+#[test]
+fn a_fault_is_told_with_the_name_of_its_text(rt: HostRuntime) -> Result<(), RowFault> {
+    rows_hold(&rt, rt.alloc(), &LOGS, &ROWS)
+}

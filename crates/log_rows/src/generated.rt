@@ -1,0 +1,102 @@
+// Logs of a generated board of 60 devices, in which some nets read 0 in every row.
+use run_bench::{Ending, RowFault, sixty_devices_hold};
+use std::alloc::{AllocError, Global};
+use std::thread::Threads;
+
+const DEVICES: u32 = 60;
+
+// The rows of a pass: 1,928 codes want 11 bits.
+const WIDTH: u32 = 11;
+
+const DIGITS: [char; 16] = [
+    '0', '1', '2', '3', '4', '5', '6', '7', '8', '9', 'A', 'B', 'C', 'D', 'E', 'F',
+];
+
+// The code of the net that a cell of a device reads, and 0 for a cell that reads none. Cells 37 to 68 read the outputs of the device
+// before, which for the first device is the last; cells 69 to 76 read the bus. The nets of the bus come after all others.
+fn code_at(device: u32, cell: u32) -> u32 {
+    let before = if device == 1 {
+        DEVICES
+    } else {
+        device.saturating_sub(1)
+    };
+    if cell >= 69 {
+        cell.saturating_sub(69).saturating_add(1_921)
+    } else if cell >= 37 {
+        let first = before.saturating_sub(1).saturating_mul(32);
+        first.saturating_add(cell.saturating_sub(36))
+    } else {
+        0
+    }
+}
+
+// What a cell has in a row of a pass, where the nets up to this code read 0.
+fn bit_at(device: u32, cell: u32, row: u32, silent: u32) -> u32 {
+    let code = code_at(device, cell);
+    if code <= silent {
+        0
+    } else {
+        code.checked_shr(row).unwrap_or(0) & 1
+    }
+}
+
+// A row of a pass. The first device is the leftmost, and the last cell of each. The 4,620 cells fill 1,155 digits.
+fn row(alloc: Global, row: u32, silent: u32) -> Result<String, AllocError> {
+    let mut text = String::new(alloc);
+    let mut value = 0u32;
+    let mut bits = 0u32;
+    for device in 1..=DEVICES {
+        for cell in (0..77u32).rev() {
+            value = value
+                .saturating_mul(2)
+                .saturating_add(bit_at(device, cell, row, silent));
+            bits = bits.saturating_add(1);
+            if bits == 4 {
+                text.push(DIGITS.get(value as usize).copied().unwrap_or('0'))?;
+                value = 0;
+                bits = 0;
+            }
+        }
+    }
+    text.push('\n')?;
+    Ok(text)
+}
+
+// The log. Each pass enables all outputs and the bus of one device, whose own cells on the bus are not compared, so the rows of all
+// passes are the same.
+fn log(alloc: Global, silent: u32) -> Result<String, AllocError> {
+    let mut rows = String::new(alloc);
+    for number in 0..WIDTH {
+        rows.push_str(&row(alloc, number, silent)?)?;
+    }
+    rows.repeat(alloc, DEVICES as usize)
+}
+
+// Tries the log in which so many first nets read 0.
+fn is_diagnosed(
+    rt: &(impl Threads + Sync),
+    alloc: Global,
+    silent: u32,
+    text: &'static str,
+) -> Result<(), RowFault> {
+    let log = log(alloc, silent)?;
+    let lines = [("diagnose 4 g c n gen", Ending::Puts(text))];
+    sixty_devices_hold(rt, alloc, &log, &lines)
+}
+
+#[test]
+fn memory_is_there_however_many_nets_differ(rt: HostRuntime) -> Result<(), RowFault> {
+    let alloc = rt.alloc();
+    is_diagnosed(&rt, alloc, 0, "PASS\n")?;
+    is_diagnosed(
+        &rt,
+        alloc,
+        1,
+        "FAIL 3\nstuck R1_0 0\nopen U1.1 0\nopen U2.33 0\n",
+    )?;
+    // Their codes, 1 and 2, have no common 1.
+    is_diagnosed(&rt, alloc, 2, "FAIL 1\nshort AND R1_0 R1_1\n")?;
+    // No single fault changes three nets.
+    is_diagnosed(&rt, alloc, 3, "FAIL 0\n")?;
+    is_diagnosed(&rt, alloc, 1_928, "FAIL 0\n")
+}
