@@ -1,3 +1,4 @@
 pub mod AnswerLemmas
 pub mod ReadingLemmas
 pub mod RunLemmas
+pub mod SampleExits

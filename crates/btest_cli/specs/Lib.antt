@@ -1,4 +1,5 @@
 pub mod Texts
 pub mod Refusals
 pub mod Outcome
+pub mod ExitNumbers
 pub mod inner

@@ -1,18 +1,36 @@
 // How a run ended.
+ghost use Rattle.std.specs.Prelude.{◌≡◌};
+ghost use Rattle.btest_cli.specs.ExitNumbers.{exit_number};
 
-/// How a run ended. The numbers are the program's exit statuses.
+/// How a run ended.
 #[derive(Clone, Copy, Debug, PartialEq, Eq)]
 pub enum Status {
     /// The defined text was put.
-    Done = 0,
+    Done,
     /// The texts have a fault.
-    Refused = 1,
+    Refused,
     /// The words are no command.
-    Usage = 2,
+    Usage,
     /// A text was not read.
-    ReadFault = 3,
+    ReadFault,
     /// A piece of the text was not put.
-    WriteFault = 4,
+    WriteFault,
     /// There was not enough memory. Nothing was put.
-    NoMemory = 5,
+    NoMemory,
+}
+
+impl Status {
+    /// The exit status of the program.
+    pub fn number(self) -> u8
+        ensures { result ≡ exit_number self }
+    {
+        match self {
+            Status::Done => 0,
+            Status::Refused => 1,
+            Status::Usage => 2,
+            Status::ReadFault => 3,
+            Status::WriteFault => 4,
+            Status::NoMemory => 5,
+        }
+    }
 }

@@ -1,0 +1,8 @@
+-- The six exit statuses, as the guide has them: done, refused, the words are no command, a text was not read, standard output failed, out of memory.
+use Rattle.std.proofs.Common.{◌≡◌, ℕ, List, [], ◌∷◌, map, refl}
+use Rattle.btest_cli.specs.declared.status.Status.{Status}
+use Rattle.btest_cli.specs.declared.status.Status.TheVariants.{Done, Refused, Usage, ReadFault, WriteFault, NoMemory}
+use Rattle.btest_cli.specs.ExitNumbers.{exit_number}
+
+pub exit_numbers : map exit_number (Done ∷ Refused ∷ Usage ∷ ReadFault ∷ WriteFault ∷ NoMemory ∷ []) ≡ 0 ∷ 1 ∷ 2 ∷ 3 ∷ 4 ∷ 5 ∷ []
+exit_numbers = refl
