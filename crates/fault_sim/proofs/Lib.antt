@@ -12,5 +12,6 @@ pub mod DifferLemmas
 pub mod OrderLemmas
 pub mod ExplainLemmas
 pub mod DiagnosisLemmas
+mod OneWayLemmas
 mod Samples
 mod SampleEffects

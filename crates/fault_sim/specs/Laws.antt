@@ -1,9 +1,9 @@
 -- The laws of places and suspects.
-use Rattle.std.specs.Prelude.{◌≡◌, ℕ, Bool, true, List, filter, filter_map, length}
+use Rattle.std.specs.Prelude.{◌≡◌, ℕ, ◌<◌, Bool, true, List, filter, filter_map, length, All}
 use Rattle.board_defs.specs.declared.board.RawBoard.{RawBoard}
 use Rattle.board_defs.specs.declared.fault.Single.{Single}
 use Rattle.board_defs.specs.BoardRules.{IsBoard}
-use Rattle.board_defs.specs.Faults.{singles, IsSingle}
+use Rattle.board_defs.specs.Faults.{singles, IsSingle, SinglePrecedes}
 use Rattle.tap_defs.specs.board.Explaining.{Explains}
 use Rattle.plan_tables.specs.declared.tables.PlanTables.{PlanTables}
 use Rattle.fault_sim.specs.declared.universe.FaultLists.{FaultLists}
@@ -24,3 +24,13 @@ SuspectsSuffice =
     (board : RawBoard) (plan : PlanTables) (lists : FaultLists) (log : List (List Bool)) (suspects : List ℕ) → IsBoard board → AreSuspects board plan lists log suspects →
     (test : Single → Bool) → ((single : Single) → IsSingle board single → test single ≡ true → Explains board single log) →
     filter test (singles board) ≡ filter test (filter_map (fault_at board) suspects)
+
+-- each suspect is a place of the board
+abbrev pub SuspectsArePlaces : Type 0
+SuspectsArePlaces =
+    (board : RawBoard) (plan : PlanTables) (lists : FaultLists) (log : List (List Bool)) (suspects : List ℕ) → IsUniverse board lists → AreSuspects board plan lists log suspects →
+    All (λ i. i < length (places_of board)) suspects
+
+-- of two single faults at most one stands before the other, so a list of faults in their order is the only one with these faults
+abbrev pub OneOrder : Type 0
+OneOrder = (one other : Single) → SinglePrecedes one other → SinglePrecedes other one → ⊥

@@ -6,7 +6,7 @@ ghost use Rattle.board_defs.specs.BoardRules.{IsBoard};
 ghost use Rattle.board_defs.specs.Faults.{singles, IsSingle};
 ghost use Rattle.tap_defs.specs.board.Explaining.{Explains};
 ghost use Rattle.fault_sim.specs.Diagnosis.{Picks, IsDiagnosis};
-ghost use Rattle.fault_sim.specs.Laws.{PlacesAre, PlacesCounted, SuspectsSuffice};
+ghost use Rattle.fault_sim.specs.Laws.{OneOrder, PlacesAre, PlacesCounted, SuspectsArePlaces, SuspectsSuffice};
 
 /// The faults at the places of a board are its single faults, in order.
 pub fn places_are_the_singles()
@@ -21,6 +21,16 @@ pub fn places_counted()
 /// The single faults of a board that explain a log are those at the suspects' places that do, in the same order.
 pub fn suspects_suffice()
     ensures { SuspectsSuffice }
+{}
+
+/// Each suspect is a place of the board.
+pub fn suspects_are_places()
+    ensures { SuspectsArePlaces }
+{}
+
+/// Of two single faults at most one stands before the other.
+pub fn singles_have_one_order()
+    ensures { OneOrder }
 {}
 
 /// Each log of a board has a diagnosis, and no second one.

@@ -3,7 +3,8 @@ use Rattle.std.proofs.Common.{◌≡◌, Bool, true, false, List, [], ◌∷◌,
 use Rattle.std.specs.Prelude.{codes, slice_get}
 use Rattle.std.specs.Fmt.{digits}
 use Rattle.board_defs.specs.declared.device.Mode.TheVariants.{Outward}
-use Rattle.board_defs.specs.declared.device.Role.TheVariants.{Output3}
+use Rattle.board_defs.specs.declared.device.Role.TheVariants.{Output2, Output3}
+use Rattle.board_defs.specs.declared.device.Symbol.TheVariants.{Zero}
 use Rattle.board_defs.specs.declared.device.RawDevice.{RawDevice}
 use Rattle.board_defs.specs.declared.board.PartKind.TheVariants.{Described}
 use Rattle.board_defs.specs.declared.board.RawBoard.{RawBoard}
@@ -103,6 +104,67 @@ beside_text : board_walk_text (beside_three_state ts0) ≡ whole (
     ∷ codes "SDR 5 TDI (14);" ∷ codes "SDR 5 TDI (12) TDO (01) MASK (01);" ∷ [])
 unfolding svf_text digits
 beside_text = refl
+
+-- a switching driver of a net that is pulled to 0, whose cell switches it off by 0, is left out as well
+abbrev os : RawDevice
+os = device (one_bit Outward) (record { num = 0; role = Output2; bit = Some 4; safe = Zero; ctl = Some (record { cell = 0; disable = false }) } ∷ []) 1
+
+abbrev pulled_down : RawBoard
+pulled_down = board (Described os ∷ Described rcv1 ∷ Described drv ∷ Described rcv ∷ []) (
+    pulled (Some false) (pin 0 0 ∷ pin 1 0 ∷ []) ∷ net (pin 2 0 ∷ pin 3 0 ∷ []) ∷ net (pin 2 1 ∷ pin 3 1 ∷ []) ∷ [])
+
+down_pass : slice_get (passes_of pulled_down) 0 ≡ Some (record { part = 0; cell = 0 } ∷ [])
+down_pass = refl
+
+down_setting : walk_setting pulled_down ≡ Some []
+down_setting = refl
+
+down_nets : walk_nets pulled_down ≡ 1 ∷ 2 ∷ []
+down_nets = refl
+
+down_text : board_walk_text pulled_down ≡ whole (
+    codes "SIR 8 TDI (AA) TDO (55) MASK (FF);" ∷ codes "SDR 6 TDI (00);" ∷ codes "SIR 8 TDI (00) TDO (55) MASK (FF);"
+    ∷ codes "SDR 6 TDI (04);" ∷ codes "SDR 6 TDI (08) TDO (01) MASK (03);" ∷ codes "SDR 6 TDI (00) TDO (02) MASK (03);" ∷ [])
+unfolding svf_text digits
+down_text = refl
+
+-- one net with a three-state driver, an open drain, each in a pass of its own, and a receiver: where the first pass is that of the
+-- three-state driver, the net walks by it
+abbrev three_state_first : RawBoard
+three_state_first = board (Described ts ∷ Described od ∷ Described rcv1 ∷ []) (pulled (Some true) (pin 0 0 ∷ pin 1 0 ∷ pin 2 0 ∷ []) ∷ [])
+
+three_state_passes : passes_of three_state_first ≡ (record { part = 0; cell = 1 } ∷ []) ∷ (record { part = 1; cell = 0 } ∷ []) ∷ []
+three_state_passes = refl
+
+three_state_setting : walk_setting three_state_first ≡ Some (record { part = 0; cell = 1 } ∷ [])
+three_state_setting = refl
+
+three_state_nets : walk_nets three_state_first ≡ 0 ∷ []
+three_state_nets = refl
+
+three_state_text : board_walk_text three_state_first ≡ whole (
+    codes "SIR 6 TDI (2A) TDO (15) MASK (3F);" ∷ codes "SDR 4 TDI (A);" ∷ codes "SIR 6 TDI (00) TDO (15) MASK (3F);"
+    ∷ codes "SDR 4 TDI (6);" ∷ codes "SDR 4 TDI (A) TDO (1) MASK (1);" ∷ [])
+unfolding svf_text digits
+three_state_text = refl
+
+-- where the first pass has the open drain alone, the net does not walk by the second one
+abbrev open_drain_first : RawBoard
+open_drain_first = board (Described od ∷ Described ts ∷ Described rcv1 ∷ []) (pulled (Some true) (pin 0 0 ∷ pin 1 0 ∷ pin 2 0 ∷ []) ∷ [])
+
+open_drain_passes : passes_of open_drain_first ≡ (record { part = 0; cell = 0 } ∷ []) ∷ (record { part = 1; cell = 1 } ∷ []) ∷ []
+open_drain_passes = refl
+
+open_drain_setting : walk_setting open_drain_first ≡ Some []
+open_drain_setting = refl
+
+open_drain_nets : walk_nets open_drain_first ≡ []
+open_drain_nets = refl
+
+open_drain_text : board_walk_text open_drain_first ≡ whole (
+    codes "SIR 6 TDI (2A) TDO (15) MASK (3F);" ∷ codes "SDR 4 TDI (C);" ∷ codes "SIR 6 TDI (00) TDO (15) MASK (3F);" ∷ codes "SDR 4 TDI (C);" ∷ [])
+unfolding svf_text digits
+open_drain_text = refl
 
 -- two buffers drive one net, so a second pass is for the third net: it does not walk
 abbrev pub two_passes : RawBoard
