@@ -2,3 +2,4 @@ pub mod AnswerLemmas
 pub mod TestLemmas
 pub mod SummaryLemmas
 pub mod VerdictLemmas
+pub mod ShapeLemmas

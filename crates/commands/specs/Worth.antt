@@ -1,5 +1,5 @@
 -- What a text is worth that a command puts.
-use Rattle.std.specs.Prelude.{◌≡◌, ◌↔◌, ℕ, Bool, true, List, [], ◌∷◌, Option, Some, Ok, Decides}
+use Rattle.std.specs.Prelude.{◌≡◌, ◌↔◌, ℕ, Bool, true, List, [], ◌∷◌, Option, Some, Ok, All, Decides}
 use Rattle.bt_base.specs.Puts.{Shown, Takes}
 use Rattle.tap_defs.specs.chain.ChainTest.{IsChainTest}
 use Rattle.tap_defs.specs.board.BoardTest.{IsBoardTest, IsHarmless}
@@ -19,7 +19,7 @@ use Rattle.tap_defs.specs.board.BoardScans.{board_text, svf_row_scans, svf_scans
 use Rattle.tap_defs.specs.chain.Clocks.{test_clocks}
 use Rattle.tap_defs.specs.chain.Svf.{meaning}
 use Rattle.board_defs.specs.Faults.{IsSingle}
-use Rattle.tap_defs.specs.board.Explaining.{AgreeOn, Explains, IsExpected}
+use Rattle.tap_defs.specs.board.Explaining.{AgreeOn, Explains, HasShape, IsExpected}
 use Rattle.diagnoser.specs.Laws.{ListsExplaining}
 use Rattle.diagnoser.specs.DiagText.{diag_text}
 use Rattle.batch_diag.specs.declared.block.Block.{Block}
@@ -106,12 +106,14 @@ pub record RespondOnce (board : RawBoard) : Type 0 where
   pub some : (single : Single) → IsSingle board single → (log : List (List Bool)) × Explains board single log
   pub one : (single : Single) (log other : List (List Bool)) → Explains board single log → Explains board single other → AgreeOn board (svf_row_scans board) log other
 
--- the sink took the diagnosis of a log of the test of a board
+-- the sink took the diagnosis of a log of the test of a board: a row for each compared SDR statement of the test, in their order, and in
+-- each row a bit for each position
 pub record Diagnoses (log : Text) (board : RawBoard) (old new : Shown) : Type 0 where
   pub means : TestMeans board
   pub respond : RespondOnce board
   pub rows : List (List Bool)
   pub read : test_log log board ≡ Ok rows
+  pub shape : HasShape board (svf_row_scans board) rows
   pub pass : Bool
   pub faults : List Single
   pub right : IsRight board rows pass faults
@@ -123,16 +125,19 @@ pub record DiagnosesEach (log : Text) (board : RawBoard) (old new : Shown) : Typ
   pub respond : RespondOnce board
   pub blocks : List Block
   pub read : test_blocks log board ≡ Ok blocks
+  pub shapes : All (λ block. HasShape board (svf_row_scans board) block.log) blocks
   pub verdicts : List Verdict
   pub right : EachPair (λ block verdict. IsRight board block.log verdict.pass verdict.faults) blocks verdicts
   pub takes : Takes old new (batch_text board blocks verdicts)
 
--- the sink took the groups of a log of the walking test of a board: exactly the set of groups that explains the log, and none where no
--- set does. Each set of groups explains some log, and any two such logs have the same compared bits
+-- the sink took the groups of a log of the walking test of a board, which has a row for each of its compared SDR statements: exactly the
+-- set of groups that explains the log, and none where no set does. Each set of groups explains some log, and any two such logs have the
+-- same compared bits
 pub record FindsGroups (log : Text) (board : RawBoard) (old new : Shown) : Type 0 where
   pub means : WalkMeans board
   pub rows : List (List Bool)
   pub read : walk_log log board ≡ Ok rows
+  pub shape : HasShape board (walk_row_list board) rows
   pub found : Option (List (List ℕ))
   pub exactly : (groups : List (List ℕ)) → (found ≡ Some groups) ↔ Explain board rows groups
   pub respond : (groups : List (List ℕ)) → AreGroups board groups → (other : List (List Bool)) × Explain board other groups

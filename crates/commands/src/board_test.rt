@@ -1,9 +1,11 @@
 // The command `svf`.
-ghost use Rattle.std.specs.Prelude.{◌≡◌, ◌-◌, ◌<◌, ◌≤◌, ◌^◌, All, IfOk, IfSome, List, Some, length, map, slice_get};
+ghost use Rattle.std.specs.Prelude.{◌≡◌, ◌-◌, ◌<◌, ◌≤◌, ◌^◌, All, Bool, IfOk, IfSome, List, Some, length, map, slice_get};
 ghost use Rattle.bt_base.specs.Puts.{Puts};
 ghost use Rattle.board_defs.specs.Passes.{passes_of};
-ghost use Rattle.tap_defs.specs.board.BoardScans.{RowScan, board_scans, board_text, pass_text, test_scans};
+ghost use Rattle.board_defs.specs.Pins.{data_bits};
+ghost use Rattle.tap_defs.specs.board.BoardScans.{RowScan, board_scans, board_text, pass_text, svf_row_scans, test_scans};
 ghost use Rattle.tap_defs.specs.board.BoardTest.{IsBoardTest};
+ghost use Rattle.tap_defs.specs.board.Explaining.{HasShape};
 ghost use Rattle.tap_defs.specs.chain.Clocks.{test_clocks};
 ghost use Rattle.tap_defs.specs.chain.Svf.{meaning};
 ghost use Rattle.tap_defs.specs.chain.Text.{scan_text, svf_text};
@@ -12,6 +14,8 @@ ghost use Rattle.plan_tables.specs.Plans.{IsPlanOf};
 ghost use Rattle.scan_planner.specs.PassRows.{AreKept};
 ghost use Rattle.scan_planner.specs.Plans.{FillsScan, IsRoom, scan_count};
 ghost use Rattle.btest_core.specs.BoardRead.{IsBoardRead};
+ghost use Rattle.response_log.specs.LogRows.{HasSize};
+ghost use Rattle.commands.specs.LogRead.{test_rows};
 ghost use Rattle.commands.specs.Worth.{RespondOnce, TestsBoard};
 ghost use Rattle.commands.specs.Answers.{Answers};
 ghost use Rattle.commands.specs.inner.Unput.{PutsText};
@@ -21,12 +25,13 @@ use crate::rows::Rows;
 use crate::texts::BoardTexts;
 use crate::unput::{Unput, answer_by};
 use board_defs::Board;
+use board_defs::law::passes_kept;
 use bt_base::{PutFault, Sink};
 use scan_planner::{PassRows, Plan};
 use std::alloc::{AllocError, Global};
 use svf_writer::{write_head, write_scan, write_tail};
 use tap_defs::Shape;
-use tap_defs::board_law::{board_texts_test, one_log, scans_in_turn, scans_placed};
+use tap_defs::board_law::{board_texts_test, one_log, rows_compared, scans_in_turn, scans_placed};
 use tap_defs::chain_law::texts_mean;
 
 /// Puts the text that tests the board of these texts. All memory is
@@ -73,6 +78,16 @@ pub fn test_means(board: &Board)
 {
     let _rules = board.raw();
     texts_mean();
+}
+
+/// A log with the rows and the bits of the board's test has a row for each compared SDR statement of it, in their order, and
+/// in each row a bit for each position.
+pub fn test_logs_shaped(board: &Board)
+    ensures { (log : List (List Bool)) → HasSize (test_rows board.now) (data_bits board.now) log → HasShape board.now (svf_row_scans board.now) log }
+{
+    let _rules = board.raw();
+    passes_kept();
+    rows_compared();
 }
 
 /// Each single fault of a board has one response to the board's test.

@@ -1,13 +1,17 @@
 // The command `walk`.
-ghost use Rattle.std.specs.Prelude.{◌≡◌, ◌<◌, ◌^◌, All, length, map, slice_get, IfErr, IfOk, IfSome};
+ghost use Rattle.std.specs.Prelude.{◌≡◌, ◌<◌, ◌^◌, All, Bool, List, length, map, slice_get, IfErr, IfOk, IfSome};
 ghost use Rattle.bt_base.specs.Puts.{Puts};
+ghost use Rattle.board_defs.specs.Pins.{data_bits};
 ghost use Rattle.tap_defs.specs.board.BoardTest.{IsHarmless};
+ghost use Rattle.tap_defs.specs.board.Explaining.{HasShape};
 ghost use Rattle.tap_defs.specs.chain.Text.{scan_text};
 ghost use Rattle.scan_planner.specs.Plans.{IsRoom};
 ghost use Rattle.walk_test.specs.Tables.{IsWalkOf, scan_count};
-ghost use Rattle.walk_test.specs.WalkTest.{board_walk_text, walk_scans};
+ghost use Rattle.walk_test.specs.WalkTest.{board_walk_text, walk_row_list, walk_scans};
 ghost use Rattle.btest_core.specs.BoardRead.{Denotes, IsBoardRead};
+ghost use Rattle.response_log.specs.LogRows.{HasSize};
 ghost use Rattle.commands.specs.Answers.{Answers};
+ghost use Rattle.commands.specs.LogRead.{walk_rows};
 ghost use Rattle.commands.specs.inner.Unput.{NoBoard, PutsText};
 ghost use Rattle.commands.specs.Worth.{WalksBoard};
 
@@ -22,6 +26,7 @@ use driver_passes::passes;
 use net_classes::classify;
 use std::alloc::{AllocError, Global};
 use svf_writer::{write_head, write_scan, write_tail};
+use tap_defs::board_law::{rows_compared, statements_compared};
 use walk_test::Walk;
 use walk_test::law::{scans_counted, walk_harmless};
 
@@ -50,6 +55,18 @@ pub fn walked_board(alloc: Global, texts: BoardTexts) -> Result<Walked, Unput>
         Ok(walk) => Ok(Walked { board, walk }),
         Err(_) => Err(Unput::Memory),
     }
+}
+
+/// A log with the rows and the bits of the board's walking test has a row for each compared SDR statement of it, in their
+/// order, and in each row a bit for each position.
+pub fn walk_logs_shaped(walked: &Walked)
+    requires { IsWalkOf walked.now.board walked.now.walk }
+    ensures { (log : List (List Bool)) → HasSize (walk_rows walked.now.board) (data_bits walked.now.board) log → HasShape walked.now.board (walk_row_list walked.now.board) log }
+{
+    let _rules = walked.board.raw();
+    scans_counted();
+    rows_compared();
+    statements_compared();
 }
 
 // The walking test of a board.

@@ -6,7 +6,7 @@ ghost use Rattle.commands.specs.LogRead.{OnBoard, OnDenoted, judging_each, verdi
 ghost use Rattle.commands.specs.Worth.{DiagnosesEach, OfDenoted};
 ghost use Rattle.commands.specs.Answers.{LogAnswers};
 
-use crate::board_test::{singles_respond, test_means};
+use crate::board_test::{singles_respond, test_logs_shaped, test_means};
 use crate::planned::{Planned, planned_board};
 use crate::texts::LogTexts;
 use crate::unput::{Unput, answer_by, unput_by_batch};
@@ -74,6 +74,7 @@ fn put_batch<R: Threads + Sync, K: Sink, G: Gate>(
     };
     let _rules = board.raw();
     test_means(board);
+    test_logs_shaped(board);
     singles_respond(board);
     explaining_listed();
     passing_unexplained();

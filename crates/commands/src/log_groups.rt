@@ -6,7 +6,7 @@ ghost use Rattle.commands.specs.Worth.{FindsGroups, OfDenoted};
 ghost use Rattle.commands.specs.Answers.{LogAnswers};
 
 use crate::board_test::test_means;
-use crate::board_walk::{Walked, walked_board};
+use crate::board_walk::{Walked, walk_logs_shaped, walked_board};
 use crate::texts::LogTexts;
 use crate::unput::{Unput, answer_by, unput_by_log};
 use bt_base::Sink;
@@ -68,6 +68,7 @@ fn put_groups<K: Sink>(
     };
     let _rules = board.raw();
     test_means(board);
+    walk_logs_shaped(walked);
     groups_respond();
     one_set();
     answer_by(write_groups(board, lent(&found), &mut line, out))

@@ -1,7 +1,8 @@
 use Rattle.std.proofs.Common.{◌≡◌, ◌∙◌, ℕ, List, ap, refl, subst}
-use Rattle.std.specs.Prelude.{IfSome, Ok, Err}
+use Rattle.std.specs.Prelude.{All, IfSome, Ok, Err}
 use Rattle.bt_base.specs.Puts.{Puts}
 use Rattle.tap_defs.specs.board.BoardScans.{svf_row_scans}
+use Rattle.response_log.specs.LogRows.{HasSize}
 use Rattle.batch_diag.specs.declared.block.Block.{Block}
 use Rattle.batch_diag.specs.declared.verdict.Verdict.{Verdict}
 use Rattle.batch_diag.specs.Batch.{batch_of, batch_told}
@@ -33,10 +34,12 @@ returns g c =
     let count = c.rows.ensures ∙ rows_are board c.args.planned.now.plan c.requires.plan c.requires.passes in
     let counted = subst (λ (n : ℕ). batch_of c.args.text.now n c.dr_bits.result ≡ Ok blocks) count c.in-Ok.ensures.read in
     let read : test_blocks c.args.text.now board ≡ Ok blocks = subst (λ (n : ℕ). batch_of c.args.text.now (test_rows board) n ≡ Ok blocks) c.dr_bits.ensures counted in
+    let sized = subst (λ (n : ℕ). All (λ (block : Block). HasSize n c.dr_bits.result block.log) blocks) count c.in-Ok.ensures.size in
+    let size = subst (λ (n : ℕ). All (λ (block : Block). HasSize (test_rows board) n block.log) blocks) c.dr_bits.ensures sized in
     let judged : AreVerdicts board blocks verdicts = subst (λ (b : List Block). AreVerdicts board b verdicts) c.deref.ensures.value c.in-Ok-diagnose_all.ensures.verdicts in
     let of_blocks = subst (λ (b : List Block). Puts (g.K.Sink.shown c.args.out.now) (g.K.Sink.shown c.write_batch.new.out) (batch_text board b c.deref-3.result.now) c.write_batch.result) c.deref-2.ensures.value c.write_batch.ensures in
     let puts = subst (λ (v : List Verdict). Puts (g.K.Sink.shown c.args.out.now) (g.K.Sink.shown c.write_batch.new.out) (batch_text board blocks v) c.write_batch.result) c.deref-3.ensures.value of_blocks in
     let right = each_right c.explaining_listed.ensures c.passing_unexplained.ensures board c.raw-rules.ensures.rules blocks verdicts judged in
     text_judged (OnBoard judging_each c.args.text.now board) (λ found. verdicts_text (board, found)) (DiagnosesEach c.args.text.now board (g.K.Sink.shown c.args.out.now)) (blocks, verdicts)
     (record { contents = blocks; holds = read; finds = (refl, judged) }) _ _ _ (c.answer_by.ensures _ _ _ puts)
-    (λ takes. record { means = c.test_means.ensures (svf_row_scans board); respond = c.singles_respond.ensures; blocks = blocks; read = read; verdicts = verdicts; right = right; takes = takes })
+    (λ takes. record { means = c.test_means.ensures (svf_row_scans board); respond = c.singles_respond.ensures; blocks = blocks; read = read; shapes = λ k d less. c.test_logs_shaped.ensures _ (size k d less); verdicts = verdicts; right = right; takes = takes })

@@ -2,7 +2,7 @@ use Rattle.std.proofs.Common.{◌≡◌, ◌∙◌, ℕ, List, ap, subst, sym}
 use Rattle.std.specs.Prelude.{IfSome, Ok, Err}
 use Rattle.bt_base.specs.Puts.{Puts}
 use Rattle.board_defs.specs.declared.fault.Single.{Single}
-use Rattle.response_log.specs.LogRows.{log_rows, log_told}
+use Rattle.response_log.specs.LogRows.{HasSize, log_rows, log_told}
 use Rattle.tap_defs.specs.board.BoardScans.{svf_row_scans}
 use Rattle.diagnoser.specs.DiagText.{diag_text}
 use Rattle.fault_sim.specs.Suspects.{AreDiffering}
@@ -43,8 +43,10 @@ returns g c =
     let count = c.rows.ensures ∙ rows_are board c.args.planned.now.plan c.requires.plan c.requires.passes in
     let counted = subst (λ (n : ℕ). log_rows c.args.text.items n c.dr_bits.result ≡ Ok rows) count c.in-Ok.ensures.read in
     let read : test_log c.args.text.items board ≡ Ok rows = subst (λ (n : ℕ). log_rows c.args.text.items (test_rows board) n ≡ Ok rows) c.dr_bits.ensures counted in
+    let sized = subst (λ (n : ℕ). HasSize n c.dr_bits.result rows) count c.in-Ok.ensures.size in
+    let size = subst (λ (n : ℕ). HasSize (test_rows board) n rows) c.dr_bits.ensures sized in
     let puts = subst (λ (listed : List Single). Puts (g.K.Sink.shown c.args.out.now) (g.K.Sink.shown c.write_diagnosis.new.out) (diag_text board pass listed) c.write_diagnosis.result) c.deref-3.ensures.value c.write_diagnosis.ensures in
     let right = is_right c.explaining_listed.ensures c.passing_unexplained.ensures board c.raw-rules.ensures.rules rows pass faults passes explaining in
     text_judged (OnBoard diagnosing c.args.text.items board) (λ found. diagnosis_text (board, found)) (Diagnoses c.args.text.items board (g.K.Sink.shown c.args.out.now)) (pass, faults)
     (record { contents = rows; holds = read; finds = record { passes = passes; list = explaining } }) _ _ _ (c.answer_by.ensures _ _ _ puts)
-    (λ takes. record { means = c.test_means.ensures (svf_row_scans board); respond = c.singles_respond.ensures; rows = rows; read = read; pass = pass; faults = faults; right = right; takes = takes })
+    (λ takes. record { means = c.test_means.ensures (svf_row_scans board); respond = c.singles_respond.ensures; rows = rows; read = read; shape = c.test_logs_shaped.ensures rows size; pass = pass; faults = faults; right = right; takes = takes })

@@ -1,7 +1,7 @@
 use Rattle.std.proofs.Common.{◌≡◌, ◌∙◌, ℕ, List, Option, ap, length, subst}
 use Rattle.std.specs.Prelude.{IfSome, Ok, Err, option_map}
 use Rattle.bt_base.specs.Puts.{Puts}
-use Rattle.response_log.specs.LogRows.{log_rows, log_told}
+use Rattle.response_log.specs.LogRows.{HasSize, log_rows, log_told}
 use Rattle.walk_test.specs.GroupText.{groups_text}
 use Rattle.walk_test.specs.WalkTest.{walk_row_list}
 use Rattle.commands.specs.LogRead.{Log, OnBoard, grouping, grouping_text, walk_log, walk_rows}
@@ -28,6 +28,8 @@ returns g c =
     let count : length c.nets.result.now ≡ walk_rows board = ap (λ (nets : List ℕ). length nets) (c.nets.ensures ∙ c.requires.walk.nets) in
     let counted = subst (λ (n : ℕ). log_rows c.args.text.items n c.dr_bits.result ≡ Ok rows) count c.in-Ok.ensures.read in
     let read : walk_log c.args.text.items board ≡ Ok rows = subst (λ (n : ℕ). log_rows c.args.text.items (walk_rows board) n ≡ Ok rows) c.dr_bits.ensures counted in
+    let sized = subst (λ (n : ℕ). HasSize n c.dr_bits.result rows) count c.in-Ok.ensures.size in
+    let size = subst (λ (n : ℕ). HasSize (walk_rows board) n rows) c.dr_bits.ensures sized in
     let found : Option (List (List ℕ)) = option_map (λ groups. groups.items) c.in-Ok-groups.found in
     let puts = subst (λ (o : Option (List (List ℕ))). Puts (g.K.Sink.shown c.args.out.now) (g.K.Sink.shown c.write_groups.new.out) (groups_text board o) c.write_groups.result) c.lent.ensures c.write_groups.ensures in
     text_judged (OnBoard grouping c.args.text.items board) (λ found. grouping_text (board, found)) (FindsGroups c.args.text.items board (g.K.Sink.shown c.args.out.now)) found
@@ -36,6 +38,7 @@ returns g c =
       means = c.test_means.ensures (walk_row_list board);
       rows = rows;
       read = read;
+      shape = c.walk_logs_shaped.ensures rows size;
       found = found;
       exactly = exactly_found c.one_set.ensures board rules rows found c.in-Ok-groups.ensures.found;
       respond = λ groups are. c.groups_respond.ensures.some board groups rules are;
