@@ -1,10 +1,17 @@
-//! What a program over the real files and streams does: the words of its command line go to `run`, and the status that comes
-//! back is its exit status. It stands apart from the program, so that several programs can be run with words of their own.
+//! What a program over the real files and streams does: the words of its command line go to `run`, and the number of the status that
+//! comes back is its exit status. It stands apart from the program, so that several programs can be run with words of their own.
 #![tactic(auto)]
 
-use bt_base::{HostSink, HostStore, OpenGate};
+ghost use Rattle.std.specs.Prelude.{◌≡◌, ◌≢◌, IfErr, IfOk, IsErr};
+ghost use Rattle.std.specs.IoError.{error_kind};
+ghost use Rattle.refusal_lines.specs.Refusals.{usage_line};
+ghost use Rattle.btest_cli.specs.Outcome.{TookOrCut};
+ghost use Rattle.host_start.specs.Ending.{IsEndOf};
+
+use bt_base::{HostSink, HostStore, OpenGate, Sink, Store};
 use btest_cli::{Status, put_usage, run};
-use std::io::{Print, Write};
+use std::alloc::Global;
+use std::io::{ErrorKind, Print, Write};
 use std::process::ExitCode;
 use std::rt::{Env, Files};
 use std::thread::Threads;
@@ -19,9 +26,61 @@ fn words(rt: &(impl Env + AllocGlobal)) -> io::Result<Vec<String>> {
     Ok(words)
 }
 
+// Runs these words: their text goes to `out`, and their line of refusal to `notes`.
+fn end_with<R: Threads + Sync, S: Store, K: Sink, N: Sink>(
+    rt: &R,
+    alloc: Global,
+    words: &[String],
+    store: &mut S,
+    out: &mut K,
+    notes: &mut N,
+) -> u8
+    ensures { IsEndOf words.now (S.held store.old) (S.faults store.old) (S.faults store.new) (S.asked store.old) (S.asked store.new)
+        (K.shown out.old) (K.shown out.new) (N.shown notes.old) (N.shown notes.new) result }
+{
+    run(rt, alloc, words, store, out, notes, &OpenGate).number()
+}
+
+// Ends without words. Where memory ran out before there were words, nothing is written.
+fn end_without<N: Sink>(error: &io::Error, notes: &mut N) -> u8
+    ensures no_words { error_kind error.now ≢ ErrorKind.OutOfMemory → (result ≡ 2) × TookOrCut (N.shown notes.old) (N.shown notes.new) usage_line }
+    ensures no_memory { error_kind error.now ≡ ErrorKind.OutOfMemory → (result ≡ 5) × (N.shown notes.new ≡ N.shown notes.old) }
+{
+    if error.kind() == ErrorKind::OutOfMemory {
+        return Status::NoMemory.number();
+    }
+    let _ = put_usage(notes);
+    Status::Usage.number()
+}
+
+// The exit status for the words that the system gave. Words that it can't give, as words that are no UTF-8, are no command.
+fn end_of<R: Threads + Sync, S: Store, K: Sink, N: Sink>(
+    rt: &R,
+    alloc: Global,
+    words: &io::Result<Vec<String>>,
+    store: &mut S,
+    out: &mut K,
+    notes: &mut N,
+) -> u8
+    // It gave words, and they were run.
+    ensures run { IfOk words.now (λ words. IsEndOf words.items (S.held store.old) (S.faults store.old) (S.faults store.new) (S.asked store.old) (S.asked store.new)
+        (K.shown out.old) (K.shown out.new) (N.shown notes.old) (N.shown notes.new) result) }
+
+    // It gave none, and no text was asked for.
+    ensures no_words { IfErr words.now (λ error. error_kind error ≢ ErrorKind.OutOfMemory
+        → (result ≡ 2) × TookOrCut (N.shown notes.old) (N.shown notes.new) usage_line) }
+    ensures no_memory { IfErr words.now (λ error. error_kind error ≡ ErrorKind.OutOfMemory
+        → (result ≡ 5) × (N.shown notes.new ≡ N.shown notes.old)) }
+    ensures nothing_else { IsErr words.now → (store.new ≡ store.old) × (K.shown out.new ≡ K.shown out.old) }
+{
+    match words {
+        Ok(words) => end_with(rt, alloc, words, store, out, notes),
+        Err(error) => end_without(error, notes),
+    }
+}
+
 /// Runs the words of the command line over the files of the system and standard output, with `notes` for the lines of refusal. The
-/// number of the status is the exit status. Words that the system can't give, as words that are no UTF-8, are no command; where
-/// memory ran out before there were words, nothing is written.
+/// number of the status is the exit status.
 pub fn start<R, E>(rt: &R, notes: E) -> ExitCode
 where
     R: AllocGlobal + Env + Files + Print + Sync + Threads,
@@ -29,25 +88,7 @@ where
 {
     let mut out = HostSink::over(io::writer(rt));
     let mut notes = HostSink::over(notes);
-    let words = match words(rt) {
-        Ok(words) => words,
-        Err(error) => {
-            if error.kind() == io::ErrorKind::OutOfMemory {
-                return ExitCode::from(Status::NoMemory as u8);
-            }
-            let _ = put_usage(&mut notes);
-            return ExitCode::from(Status::Usage as u8);
-        }
-    };
     let mut store = HostStore::over(rt);
-    let status = run(
-        rt,
-        rt.alloc(),
-        &words,
-        &mut store,
-        &mut out,
-        &mut notes,
-        &OpenGate,
-    );
-    ExitCode::from(status as u8)
+    let words = words(rt);
+    ExitCode::from(end_of(rt, rt.alloc(), &words, &mut store, &mut out, &mut notes))
 }

@@ -1,0 +1,30 @@
+-- With which number a run ends, and what it leaves.
+use Rattle.std.specs.Prelude.{◌≡◌, ◌≢◌, ◌⊎◌, ℕ, List, None, String, map, string_bytes}
+use Rattle.std.specs.declared.alloc.Global.{Global}
+use Rattle.bt_base.specs.Counts.{Rose}
+use Rattle.bt_base.specs.Puts.{Shown}
+use Rattle.command_line.specs.Words.{Text, command_of, names_of}
+use Rattle.refusal_lines.specs.Refusals.{usage_line, write_line, memory_line}
+use Rattle.btest_cli.specs.declared.status.Status.{Status}
+use Rattle.btest_cli.specs.declared.status.Status.TheVariants.{Done, Refused, Usage, ReadFault, WriteFault, NoMemory}
+use Rattle.btest_cli.specs.ExitNumbers.{exit_number}
+use Rattle.btest_cli.specs.Texts.{Held}
+use Rattle.btest_cli.specs.Outcome.{ForCommand, IsComplete, IsCutShort, IsDone, IsNotRead, IsRefused, SomeRose, TookOrCut}
+
+-- the words were run, over this store, with these sinks for the text and for the line of refusal, and the number is that of the status
+pub record IsEndOf (words : List (String Global)) (held : Held) (before now : Text → ℕ) (asked asked' : List Text) (out out' notes notes' : Shown) (number : ℕ) : Type 0 where
+  pub ended : Status
+  pub exits : number ≡ exit_number ended
+  pub usage : ended ≡ Usage → command_of (map string_bytes words) ≡ None
+  pub no_command : command_of (map string_bytes words) ≡ None → (ended ≡ Usage) ⊎ (ended ≡ NoMemory)
+  pub usage_noted : ended ≡ Usage → TookOrCut notes notes' usage_line
+  pub done : ended ≡ Done → ForCommand words (λ c. IsDone held c asked asked' out out')
+  pub silent : ended ≡ Done → notes' ≡ notes
+  pub refused : ended ≡ Refused → ForCommand words (λ c. IsRefused held c asked asked' notes notes')
+  pub read : ended ≡ ReadFault → ForCommand words (λ c. IsNotRead held c before now asked asked' notes notes')
+  pub write : ended ≡ WriteFault → Rose out.faults out'.faults
+  pub cut : ended ≡ WriteFault → ForCommand words (λ c. IsCutShort held c asked asked' out out')
+  pub write_noted : ended ≡ WriteFault → TookOrCut notes notes' write_line
+  pub memory_noted : ended ≡ NoMemory → TookOrCut notes notes' memory_line
+  pub untouched : ended ≢ Done → ended ≢ WriteFault → out' ≡ out
+  pub complete : ForCommand words (λ c. IsComplete held c (SomeRose before now (names_of c)) (Rose out.faults out'.faults) ended)
