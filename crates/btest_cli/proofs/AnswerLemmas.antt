@@ -13,7 +13,6 @@ use Rattle.ident_test.specs.Patterns.{ident_text}
 use Rattle.command_line.specs.Words.{Text, BoardNames, ChainNames, Command, Chain, Device, Cover, Svf, Walk, Ident, Make, Diagnose, Groups, Batch}
 use Rattle.commands.specs.declared.unput.Unput.{Unput}
 use Rattle.commands.specs.declared.unput.Unput.TheVariants as unput
-use Rattle.batch_diag.specs.declared.fault.BatchFault.TheVariants as batch
 use Rattle.walk_test.specs.WalkTest.{board_walk_text}
 use Rattle.commands.specs.LogRead.{OnDenoted, TextFault, Input, Log, Batch as OfBatch, diagnosing, diagnosis_text, grouping, grouping_text, judging_each, verdicts_text}
 use Rattle.refusal_lines.specs.Refusals.{input_fault_line}

@@ -1,5 +1,5 @@
 -- Runs of a command: what they leave, and that nothing is missing.
-use Rattle.std.proofs.Common.{◌≡◌, ℕ, zero, suc, ◌<◌, Bool, true, false, nat_lt, length, arith, List, [], ◌∷◌, Option, Some, None, Result, Ok, Err, refl, sym, ap, ◌∙◌, subst, inl, inr}
+use Rattle.std.proofs.Common.{◌≡◌, ℕ, zero, suc, Bool, true, false, nat_lt, length, arith, List, [], ◌∷◌, Option, Some, None, Result, Ok, Err, refl, sym, ap, ◌∙◌, subst, inl, inr}
 use Rattle.std.specs.Prelude.{IfSome, map, take, ◌++◌, if◌then◌else◌}
 use Rattle.std.proofs.lemmas.List.{append-nil}
 use Rattle.bt_base.specs.Counts.{Rose}
@@ -16,7 +16,6 @@ use Rattle.ident_test.specs.Patterns.{ident_text}
 use Rattle.board_gen.specs.BoardTexts as made
 use Rattle.board_gen.specs.DeviceText.{bsdl_text}
 use Rattle.commands.specs.Summary.{summary_text}
-use Rattle.board_defs.specs.declared.device.Symbol.{Symbol}
 use Rattle.btest_core.specs.IdentsRead.{AreIdents}
 use Rattle.command_line.specs.Words.{Text, Command, Chain, Device, Cover, Svf, Walk, Ident, Make, Diagnose, Groups, Batch, board_names, chain_names, names_of}
 use Rattle.btest_cli.specs.declared.status.Status.{Status}
@@ -25,15 +24,13 @@ use Rattle.btest_cli.specs.declared.failure.Unread.{Unread}
 use Rattle.btest_cli.specs.declared.failure.Unread.TheVariants as unread
 use Rattle.commands.specs.declared.unput.Unput.{Unput}
 use Rattle.commands.specs.declared.unput.Unput.TheVariants as unput
-use Rattle.btest_cli.specs.Texts.{Held, Wanted, Reading, Read, TooLong, IsRead, IsReadUpTo, Asks, AsksFor, names_in, text_called, wanted_of, reading_of, read_first, and_text}
+use Rattle.btest_cli.specs.Texts.{Held, Wanted, Reading, Read, TooLong, IsRead, IsReadUpTo, Asks, AsksFor, names_in, text_called, wanted_of, known_reading, reading_of, read_first, and_text}
 use Rattle.board_defs.specs.declared.fault.Single.{Single}
 use Rattle.board_defs.specs.BoardRules.{IsBoard}
-use Rattle.response_log.specs.declared.fault.LogFault.{LogFault}
 use Rattle.fault_sim.specs.Diagnosis.{IsDiagnosis}
 use Rattle.batch_diag.specs.declared.block.Block.{Block}
 use Rattle.batch_diag.specs.declared.verdict.Verdict.{Verdict}
 use Rattle.batch_diag.specs.Verdicts.{AreVerdicts}
-use Rattle.walk_test.specs.Groups.{AreFound, Explain}
 use Rattle.walk_test.specs.Laws.{OneSet}
 use Rattle.walk_test.specs.WalkTest.{board_walk_text}
 use Rattle.commands.specs.LogRead.{IsInputFault, IsJudged, IsWrong, Judging, OnDenoted, TextFault, Input, Log, Batch as OfBatch, diagnosing, diagnosis_text, grouping, grouping_text, judging_each, verdicts_text}
@@ -53,7 +50,7 @@ pub names_wanted : (names : List Text) → names_in (map text_called names) ≡ 
 names_wanted [] = refl
 names_wanted (name ∷ names) = ap (λ (l : List Text). name ∷ l) (names_wanted names)
 
-wanted_names : (command : Command) → names_in (wanted_of command) ≡ names_of command
+pub wanted_names : (command : Command) → names_in (wanted_of command) ≡ names_of command
 wanted_names (Chain names) = names_wanted (chain_names names)
 wanted_names (Ident names) = names_wanted (chain_names names)
 wanted_names (Device name) = refl
@@ -65,15 +62,14 @@ wanted_names (Diagnose workers log names) = ap (λ (l : List Text). log ∷ l) (
 wanted_names (Groups log names) = ap (λ (l : List Text). log ∷ l) (names_wanted (board_names names))
 wanted_names (Batch workers log names) = ap (λ (l : List Text). log ∷ l) (names_wanted (board_names names))
 
-all_asked : (command : Command) (asked asked' : List Text) → Asks asked asked' (names_in (wanted_of command)) → Asks asked asked' (names_of command)
+pub all_asked : (command : Command) (asked asked' : List Text) → Asks asked asked' (names_in (wanted_of command)) → Asks asked asked' (names_of command)
 all_asked command asked asked' asks = subst (Asks asked asked') (wanted_names command) asks
 
 -- a run that put its text
 pub run_put : (command : Command) (held : Held) (before now : Text → ℕ) (asked asked' texts : List Text) (out out' notes : Shown) → IsRead held (wanted_of command) (Read texts) → Asks asked asked' (names_in (wanted_of command)) → IsPut command texts out out' → IsRunOf command held before now asked asked' out out' notes notes status.Done
 run_put command held before now asked asked' texts out out' notes read asks put = record {
   no_usage = λ e. cc;
-  done = λ e. record { texts = texts; read = read; asks = all_asked command asked asked' asks; text = put.text; gives = put.gives; takes = put.takes };
-  worth = λ e. record { texts = texts; read = read; worth = put.worth };
+  done = λ e. record { texts = texts; read = read; asks = all_asked command asked asked' asks; text = put.text; gives = put.gives; takes = put.takes; worth = put.worth };
   silent = λ e. refl;
   refused = λ e. absurd cc;
   read = λ e. absurd cc;
@@ -91,7 +87,6 @@ refused_run : (command : Command) (held : Held) (before now : Text → ℕ) (ask
 refused_run command held before now asked asked' reading line out notes notes' read asks gives noted = record {
   no_usage = λ e. cc;
   done = λ e. absurd cc;
-  worth = λ e. absurd cc;
   silent = λ e. absurd cc;
   refused = λ e. record { reading = reading; read = read; asks = asks; line = line; gives = gives; noted = noted };
   read = λ e. absurd cc;
@@ -108,7 +103,6 @@ pub memory_run : (command : Command) (held : Held) (before now : Text → ℕ) (
 memory_run command held before now asked asked' out notes notes' asks noted = record {
   no_usage = λ e. cc;
   done = λ e. absurd cc;
-  worth = λ e. absurd cc;
   silent = λ e. absurd cc;
   refused = λ e. absurd cc;
   read = λ e. absurd cc;
@@ -147,7 +141,6 @@ run_unread command held before now asked asked' (unread.TooLong wanted) out note
 run_unread command held before now asked asked' (unread.Failed wanted) out notes notes' is noted = record {
   no_usage = λ e. cc;
   done = λ e. absurd cc;
-  worth = λ e. absurd cc;
   silent = λ e. absurd cc;
   refused = λ e. absurd cc;
   read = λ e. record { last = wanted_view wanted; asks = is.0; rose = is.1; noted = noted };
@@ -176,7 +169,6 @@ run_unput command held before now asked asked' texts (unput.Batch rows fault) ou
 run_unput command held before now asked asked' texts unput.Write out out' notes notes' read asks is noted = record {
   no_usage = λ e. cc;
   done = λ e. absurd cc;
-  worth = λ e. absurd cc;
   silent = λ e. absurd cc;
   refused = λ e. absurd cc;
   read = λ e. absurd cc;
@@ -205,7 +197,7 @@ OneOutcome = (command : Command) (reading : Reading) (a b : Result Text Text) �
 
 -- texts that were read give some outcome
 abbrev pub SomeOutcome : Type 0
-SomeOutcome = (command : Command) (texts : Text → Option Text) (reading : Reading) → reading_of texts (wanted_of command) ≡ Some reading → (outcome : Result Text Text) × IsOutcome command reading outcome
+SomeOutcome = (command : Command) (held : Held) (reading : Reading) → known_reading held (wanted_of command) ≡ Some reading → (outcome : Result Text Text) × IsOutcome command reading outcome
 
 -- want of memory may come in place of each outcome
 settles_memory : (rose : Type 0) (outcome : Result Text Text) → Settles rose outcome status.NoMemory
@@ -213,22 +205,30 @@ settles_memory rose (Ok text) = λ calm. inr refl
 settles_memory rose (Err line) = inr refl
 
 memory_complete : SomeOutcome → (command : Command) (held : Held) (store_rose out_rose : Type 0) → IsComplete held command store_rose out_rose status.NoMemory
-memory_complete some command held store_rose out_rose = λ texts reading tells reads no_rise.
-    let outcome = some command texts reading reads in
+memory_complete some command held store_rose out_rose = λ reading known no_rise.
+    let outcome = some command held reading known in
     (outcome.0, outcome.1, settles_memory out_rose outcome.0)
 
 pub memory_for : SomeOutcome → (command : Option Command) (held : Held) (before now : Text → ℕ) (out_rose : Type 0) → IfSome command (λ c. IsComplete held c (SomeRose before now (names_of c)) out_rose status.NoMemory)
 memory_for some None held before now out_rose = tt
 memory_for some (Some command) held before now out_rose = memory_complete some command held (SomeRose before now (names_of command)) out_rose
 
--- what was read is one thing
-same_outcome : (held : Held) (command : Command) (texts : Text → Option Text) (reading other : Reading) (a b : Result Text Text) → OneOutcome → held ≡ Some texts → reading_of texts (wanted_of command) ≡ Some reading
-    → IsRead held (wanted_of command) other → IsOutcome command other a → IsOutcome command reading b → a ≡ b
-same_outcome held command texts reading other a b one tells reads is gives_a gives_b =
-    let also : reading_of texts (wanted_of command) ≡ Some other = subst (λ (h : Held). IsRead h (wanted_of command) other) tells is in
-    let same : ◌≡◌ {A = Option Reading} (Some other) (Some reading) = sym also ∙ reads in
-    let equal : other ≡ reading = cc in
-    one command reading a b (subst (λ r. IsOutcome command r a) equal gives_a) gives_b
+-- what was read is one thing, where it is known
+pub one_reading : (held : Held) (wanted : List Wanted) (reading other : Reading) → known_reading held wanted ≡ Some reading → IsRead held wanted other → other ≡ reading
+one_reading None [] reading other known read =
+    let same : ◌≡◌ {A = Option Reading} (Some other) (Some reading) = sym read.1 ∙ known in
+    cc
+one_reading (Some held) [] reading other known read =
+    let same : ◌≡◌ {A = Option Reading} (Some other) (Some reading) = sym read ∙ known in
+    cc
+one_reading None (wanted ∷ others) reading other known read = absurd cc
+one_reading (Some held) (wanted ∷ others) reading other known read =
+    let same : ◌≡◌ {A = Option Reading} (Some other) (Some reading) = sym read ∙ known in
+    cc
+
+same_outcome : (held : Held) (command : Command) (reading other : Reading) (a b : Result Text Text) → OneOutcome → known_reading held (wanted_of command) ≡ Some reading → IsRead held (wanted_of command) other → IsOutcome command other a → IsOutcome command reading b → a ≡ b
+same_outcome held command reading other a b one known is gives_a gives_b =
+    one command reading a b (subst (λ r. IsOutcome command r a) (one_reading held (wanted_of command) reading other known is) gives_a) gives_b
 
 -- a text and a line are not one outcome
 apart : {text line : Text} → ◌≡◌ {A = Result Text Text} (Ok text) (Err line) → ⊥
@@ -237,29 +237,29 @@ apart e = cc e
 -- where no count rose, the outcome of what was read settles the status
 pub run_complete : OneOutcome → SomeOutcome → (command : Command) (held : Held) (before now : Text → ℕ) (asked asked' : List Text) (out out' notes notes' : Shown) (ended : Status) → IsRunOf command held before now asked asked' out out' notes notes' ended
     → IsComplete held command (SomeRose before now (names_of command)) (Rose out.faults out'.faults) ended
-run_complete one some command held before now asked asked' out out' notes notes' ended run = λ texts reading tells reads no_rise.
-    let outcome = some command texts reading reads in
-    (outcome.0, outcome.1, settle outcome.0 ended texts reading tells reads outcome.1 no_rise run)
+run_complete one some command held before now asked asked' out out' notes notes' ended run = λ reading known no_rise.
+    let outcome = some command held reading known in
+    (outcome.0, outcome.1, settle outcome.0 ended reading known outcome.1 no_rise run)
   where
-    settle : (o : Result Text Text) (s : Status) (texts : Text → Option Text) (reading : Reading) → held ≡ Some texts → reading_of texts (wanted_of command) ≡ Some reading → IsOutcome command reading o → (SomeRose before now (names_of command) → ⊥)
+    settle : (o : Result Text Text) (s : Status) (reading : Reading) → known_reading held (wanted_of command) ≡ Some reading → IsOutcome command reading o → (SomeRose before now (names_of command) → ⊥)
         → IsRunOf command held before now asked asked' out out' notes notes' s → Settles (Rose out.faults out'.faults) o s
-    settle (Ok text) status.Done texts reading tells reads gives no_rise run = λ calm. inl refl
-    settle (Ok text) status.Refused texts reading tells reads gives no_rise run = λ calm.
-        let told = run.refused refl in absurd (apart (sym (same_outcome held command texts reading told.reading (Err told.line) (Ok text) one tells reads told.read told.gives gives)))
-    settle (Ok text) status.Usage texts reading tells reads gives no_rise run = λ calm. absurd (run.no_usage refl)
-    settle (Ok text) status.ReadFault texts reading tells reads gives no_rise run = λ calm.
+    settle (Ok text) status.Done reading known gives no_rise run = λ calm. inl refl
+    settle (Ok text) status.Refused reading known gives no_rise run = λ calm.
+        let told = run.refused refl in absurd (apart (sym (same_outcome held command reading told.reading (Err told.line) (Ok text) one known told.read told.gives gives)))
+    settle (Ok text) status.Usage reading known gives no_rise run = λ calm. absurd (run.no_usage refl)
+    settle (Ok text) status.ReadFault reading known gives no_rise run = λ calm.
         let told = run.read refl in absurd (no_rise (rose_among command held before now asked asked' told.last told.asks told.rose))
-    settle (Ok text) status.WriteFault texts reading tells reads gives no_rise run = λ calm. absurd (calm (run.write refl))
-    settle (Ok text) status.NoMemory texts reading tells reads gives no_rise run = λ calm. inr refl
-    settle (Err line) status.Done texts reading tells reads gives no_rise run =
-        let told = run.done refl in absurd (apart (same_outcome held command texts reading (Read told.texts) (Ok told.text) (Err line) one tells reads told.read told.gives gives))
-    settle (Err line) status.Refused texts reading tells reads gives no_rise run = inl refl
-    settle (Err line) status.Usage texts reading tells reads gives no_rise run = absurd (run.no_usage refl)
-    settle (Err line) status.ReadFault texts reading tells reads gives no_rise run =
+    settle (Ok text) status.WriteFault reading known gives no_rise run = λ calm. absurd (calm (run.write refl))
+    settle (Ok text) status.NoMemory reading known gives no_rise run = λ calm. inr refl
+    settle (Err line) status.Done reading known gives no_rise run =
+        let told = run.done refl in absurd (apart (same_outcome held command reading (Read told.texts) (Ok told.text) (Err line) one known told.read told.gives gives))
+    settle (Err line) status.Refused reading known gives no_rise run = inl refl
+    settle (Err line) status.Usage reading known gives no_rise run = absurd (run.no_usage refl)
+    settle (Err line) status.ReadFault reading known gives no_rise run =
         let told = run.read refl in absurd (no_rise (rose_among command held before now asked asked' told.last told.asks told.rose))
-    settle (Err line) status.WriteFault texts reading tells reads gives no_rise run =
-        let told = run.cut refl in absurd (apart (same_outcome held command texts reading (Read told.texts) (Ok told.text) (Err line) one tells reads told.read told.gives gives))
-    settle (Err line) status.NoMemory texts reading tells reads gives no_rise run = inr refl
+    settle (Err line) status.WriteFault reading known gives no_rise run =
+        let told = run.cut refl in absurd (apart (same_outcome held command reading (Read told.texts) (Ok told.text) (Err line) one known told.read told.gives gives))
+    settle (Err line) status.NoMemory reading known gives no_rise run = inr refl
 
 -- what is found in texts, as what is said of it
 abbrev said : {A F : Type 0} → (A → Text) → (F → Text) → Result A F → Result Text Text
@@ -464,6 +464,12 @@ count_read held (first ∷ others) found reads = by_text first (held first.name)
     by_text wanted None rest {n} counts found reads = absurd cc
     by_text wanted (Some text) rest {n} counts found reads = by_length wanted text (nat_lt wanted.limit (length text)) n rest counts found reads
 
+count_known : (held : Held) (wanted : List Wanted) (found : List Text) → known_reading held wanted ≡ Some (Read found) → length found ≡ length wanted
+count_known held [] [] known = refl
+count_known held [] (text ∷ found) known = absurd cc
+count_known None (wanted ∷ others) found known = absurd cc
+count_known (Some held) (wanted ∷ others) found known = count_read held (wanted ∷ others) found known
+
 count_of : (names : List Text) → length (map text_called names) ≡ length names
 count_of [] = refl
 count_of (name ∷ names) = ap suc (count_of names)
@@ -594,6 +600,6 @@ some_given devices chains idents boards logs (Batch workers log names) found cou
 
 -- texts that say something give some outcome
 pub some_outcome : SomeDevice → SomeChain → SomeIdents → SomeBoard → LogsSaySome → SomeOutcome
-some_outcome devices chains idents boards logs command texts (TooLong wanted) reads = (Err (long_line wanted.name wanted.limit), refl)
-some_outcome devices chains idents boards logs command texts (Read found) reads =
-    some_given devices chains idents boards logs command found (count_read texts (wanted_of command) found reads ∙ wanted_count command)
+some_outcome devices chains idents boards logs command held (TooLong wanted) known = (Err (long_line wanted.name wanted.limit), refl)
+some_outcome devices chains idents boards logs command held (Read found) known =
+    some_given devices chains idents boards logs command found (count_known held (wanted_of command) found known ∙ wanted_count command)

@@ -1,11 +1,10 @@
 -- What a command gives for texts, and what a run of it leaves at each status.
-use Rattle.std.specs.Prelude.{◌≡◌, ◌⊎◌, ℕ, List, [], ◌∷◌, ◌++◌, take, Option, Some, Result, Ok, Err, map, String, string_bytes, IfSome}
+use Rattle.std.specs.Prelude.{◌≡◌, ◌⊎◌, ℕ, List, [], ◌∷◌, take, Some, Result, Ok, Err, map, String, string_bytes, IfSome}
 use Rattle.std.specs.declared.alloc.Global.{Global}
 use Rattle.bt_base.specs.Counts.{Rose}
 use Rattle.bt_base.specs.Puts.{Shown, Takes}
 use Rattle.tap_defs.specs.chain.ChainScans.{chain_text}
 use Rattle.tap_defs.specs.board.BoardScans.{board_text}
-use Rattle.board_defs.specs.declared.board.RawBoard.{RawBoard}
 use Rattle.device_check.specs.DeviceText.{device_text}
 use Rattle.coverage_list.specs.CoverText.{cover_text}
 use Rattle.ident_test.specs.Patterns.{ident_text}
@@ -17,9 +16,9 @@ use Rattle.btest_core.specs.IdentsRead.{AreIdents}
 use Rattle.command_line.specs.Words.{Text, Command, Chain, Device, Cover, Svf, Walk, Ident, Make, Diagnose, Groups, Batch, command_of, names_of}
 use Rattle.btest_cli.specs.declared.status.Status.{Status}
 use Rattle.btest_cli.specs.declared.status.Status.TheVariants.{Done, Refused, NoMemory}
-use Rattle.btest_cli.specs.Texts.{Held, Wanted, Reading, Read, TooLong, reading_of, IsRead, IsReadUpTo, Asks, AsksFor, wanted_of}
+use Rattle.btest_cli.specs.Texts.{Held, Wanted, Reading, Read, TooLong, known_reading, IsRead, IsReadUpTo, Asks, AsksFor, wanted_of}
 use Rattle.walk_test.specs.WalkTest.{board_walk_text}
-use Rattle.commands.specs.LogRead.{Judging, OnDenoted, diagnosing, diagnosis_text, grouping, grouping_text, judging_each, verdicts_text}
+use Rattle.commands.specs.LogRead.{OnDenoted, diagnosing, diagnosis_text, grouping, grouping_text, judging_each, verdicts_text}
 use Rattle.refusal_lines.specs.Refusals.{input_fault_line, long_line, read_line}
 use Rattle.btest_cli.specs.Refusals.{roles_of, text_fault_line}
 use Rattle.commands.specs.Summary.{summary_text}
@@ -70,7 +69,7 @@ abbrev pub IsOutcome : Command → Reading → Result Text Text → Type 0
 IsOutcome command (Read texts) outcome = IsGiven command texts outcome
 IsOutcome command (TooLong wanted) outcome = outcome ≡ Err (long_line wanted.name wanted.limit)
 
--- the texts were read, each asked for once and in order, and the sink took the text that they give
+-- the texts were read, each asked for once and in order; the sink took the text that they give; and that is worth what it should be
 pub record IsDone (held : Held) (command : Command) (asked asked' : List Text) (old new : Shown) : Type 0 where
   pub texts : List Text
   pub read : IsRead held (wanted_of command) (Read texts)
@@ -78,11 +77,6 @@ pub record IsDone (held : Held) (command : Command) (asked asked' : List Text) (
   pub text : Text
   pub gives : IsGiven command texts (Ok text)
   pub takes : Takes old new text
-
--- the texts were read, and what was put for them is worth that
-pub record IsWorth (held : Held) (command : Command) (old new : Shown) : Type 0 where
-  pub texts : List Text
-  pub read : IsRead held (wanted_of command) (Read texts)
   pub worth : IsWorthFor command texts old new
 
 -- the texts were read, each asked for once and in order, and the sink took some first bytes of the text that they give
@@ -133,7 +127,8 @@ abbrev pub Settles : Type 0 → Result Text Text → Status → Type 0
 Settles rose (Ok text) status = (rose → ⊥) → (status ≡ Done) ⊎ (status ≡ NoMemory)
 Settles rose (Err line) status = (status ≡ Refused) ⊎ (status ≡ NoMemory)
 
--- where the store tells texts for the names of the command and no count of theirs rose, they have an outcome, and it settles the status
+-- where it is known what reading the texts of the command gives, and no count of theirs rose, they have an outcome, and it settles the
+-- status
 abbrev pub IsComplete : Held → Command → Type 0 → Type 0 → Status → Type 0
 IsComplete held command store_rose out_rose status =
-    (texts : Text → Option Text) (reading : Reading) → held ≡ Some texts → reading_of texts (wanted_of command) ≡ Some reading → (store_rose → ⊥) → (outcome : Result Text Text) × IsOutcome command reading outcome × Settles out_rose outcome status
+    (reading : Reading) → known_reading held (wanted_of command) ≡ Some reading → (store_rose → ⊥) → (outcome : Result Text Text) × IsOutcome command reading outcome × Settles out_rose outcome status

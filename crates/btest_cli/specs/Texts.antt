@@ -65,6 +65,12 @@ abbrev pub IsRead : Held → List Wanted → Reading → Type 0
 IsRead None texts reading = (found : List Text) × (reading_in texts found ≡ Some reading)
 IsRead (Some held) texts reading = reading_of held texts ≡ Some reading
 
+-- what reading these texts gives, where that is known: a store that tells what it holds settles it, and of no texts no store is asked
+abbrev pub known_reading : Held → List Wanted → Option Reading
+known_reading held [] = Some (Read [])
+known_reading None (wanted ∷ others) = None
+known_reading (Some held) (wanted ∷ others) = reading_of held (wanted ∷ others)
+
 -- the store holds this text under the name, where it tells what it holds
 abbrev pub IsText : Held → Text → Text → Type 0
 IsText None name text = Unit {0}

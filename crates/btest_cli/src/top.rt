@@ -8,7 +8,7 @@ ghost use Rattle.refusal_lines.specs.NamesView.{names_view};
 ghost use Rattle.refusal_lines.specs.Refusals.{usage_line, write_line, memory_line};
 ghost use Rattle.btest_cli.specs.Refusals.{roles_of};
 ghost use Rattle.btest_cli.specs.Texts.{text_called, wanted_of};
-ghost use Rattle.btest_cli.specs.Outcome.{AsksSome, ForCommand, IsComplete, IsCutShort, IsDone, IsNotRead, IsRefused, IsWorth, SomeRose, TookOrCut};
+ghost use Rattle.btest_cli.specs.Outcome.{AsksSome, ForCommand, IsComplete, IsCutShort, IsDone, IsNotRead, IsRefused, SomeRose, TookOrCut};
 ghost use Rattle.btest_cli.specs.inner.Failures.{IsAnswered, wanted_view};
 
 use crate::failure::{put_unput, put_unread, unput_status, unread_status};
@@ -46,7 +46,6 @@ pub fn run<R: Threads + Sync, S: Store, K: Sink, N: Sink, G: Gate>(
 
     // Done: each text was asked for once and read, `out` took exactly the text that they give, and that is worth what it should be.
     ensures done { result ≡ Status.Done → ForCommand words.now (λ c. IsDone (S.held store.old) c (S.asked store.old) (S.asked store.new) (K.shown out.old) (K.shown out.new)) }
-    ensures worth { result ≡ Status.Done → ForCommand words.now (λ c. IsWorth (S.held store.old) c (K.shown out.old) (K.shown out.new)) }
     ensures silent { result ≡ Status.Done → N.shown notes.new ≡ N.shown notes.old }
 
     // Refused: what was read has a first fault, and the notes were given its line. No text was asked for behind one that is too long.
@@ -65,7 +64,7 @@ pub fn run<R: Threads + Sync, S: Store, K: Sink, N: Sink, G: Gate>(
     ensures memory_noted { result ≡ Status.NoMemory → TookOrCut (N.shown notes.old) (N.shown notes.new) memory_line }
     ensures memory_asks { result ≡ Status.NoMemory → ForCommand words.now (λ c. AsksSome c (S.asked store.old) (S.asked store.new)) }
 
-    // Where no count rose, the texts settle the status, unless memory ran out.
+    // Where no count rose, the texts settle the status, unless memory ran out. A command that reads no text needs no store that tells.
     ensures complete { ForCommand words.now (λ c. IsComplete (S.held store.old) c
         (SomeRose (S.faults store.old) (S.faults store.new) (names_of c)) (Rose (K.shown out.old).faults (K.shown out.new).faults) result) }
 {

@@ -7,12 +7,11 @@ use Rattle.btest_cli.specs.declared.status.Status.TheVariants.{Done, Refused, Us
 use Rattle.command_line.specs.Words.{Text, Command}
 use Rattle.refusal_lines.specs.Refusals.{write_line, memory_line}
 use Rattle.btest_cli.specs.Texts.{Held}
-use Rattle.btest_cli.specs.Outcome.{AsksSome, IsCutShort, IsDone, IsNotRead, IsRefused, IsWorth, TookOrCut}
+use Rattle.btest_cli.specs.Outcome.{AsksSome, IsCutShort, IsDone, IsNotRead, IsRefused, TookOrCut}
 
 pub record IsRunOf (command : Command) (held : Held) (before now : Text → ℕ) (asked asked' : List Text) (out out' notes notes' : Shown) (status : Status) : Type 0 where
   pub no_usage : status ≢ Usage
   pub done : status ≡ Done → IsDone held command asked asked' out out'
-  pub worth : status ≡ Done → IsWorth held command out out'
   pub silent : status ≡ Done → notes' ≡ notes
   pub refused : status ≡ Refused → IsRefused held command asked asked' notes notes'
   pub read : status ≡ ReadFault → IsNotRead held command before now asked asked' notes notes'

@@ -7,7 +7,7 @@ use Rattle.commands.specs.declared.unput.Unput.{Unput}
 use Rattle.refusal_lines.specs.Refusals.{Names}
 use Rattle.btest_cli.specs.Texts.{Wanted, Asks, IsRead, Read, names_in, wanted_of}
 use Rattle.btest_cli.specs.inner.Failures.{IsAnswered, IsUnread, unput_line, wanted_view}
-use Rattle.btest_cli.proofs.RunLemmas.{memory_run, none_asked, run_put, run_unread, run_unput, took_or_cut, wanted_count}
+use Rattle.btest_cli.proofs.RunLemmas.{run_put, run_unread, run_unput, took_or_cut, wanted_count}
 use Rattle.btest_cli.proofs.top.run_command.Goals as goal
 
 pub answer-requires-clause-count : goal.answer-requires-clause-count
