@@ -9,7 +9,7 @@ use Rattle.btest_cli.specs.declared.status.Status.{Status}
 use Rattle.btest_cli.specs.declared.status.Status.TheVariants.{Done, Refused, Usage, ReadFault, WriteFault, NoMemory}
 use Rattle.btest_cli.specs.ExitNumbers.{exit_number}
 use Rattle.btest_cli.specs.Texts.{Held}
-use Rattle.btest_cli.specs.Outcome.{ForCommand, IsComplete, IsCutShort, IsDone, IsNotRead, IsRefused, SomeRose, TookOrCut}
+use Rattle.btest_cli.specs.Outcome.{AsksSome, ForCommand, IsComplete, IsCutShort, IsDone, IsNotRead, IsRefused, SomeRose, TookOrCut}
 
 -- the words were run, over this store, with these sinks for the text and for the line of refusal, and the number is that of the status
 pub record IsEndOf (words : List (String Global)) (held : Held) (before now : Text → ℕ) (asked asked' : List Text) (out out' notes notes' : Shown) (number : ℕ) : Type 0 where
@@ -17,6 +17,7 @@ pub record IsEndOf (words : List (String Global)) (held : Held) (before now : Te
   pub exits : number ≡ exit_number ended
   pub usage : ended ≡ Usage → command_of (map string_bytes words) ≡ None
   pub no_command : command_of (map string_bytes words) ≡ None → (ended ≡ Usage) ⊎ (ended ≡ NoMemory)
+  pub not_asked : command_of (map string_bytes words) ≡ None → asked' ≡ asked
   pub usage_noted : ended ≡ Usage → TookOrCut notes notes' usage_line
   pub done : ended ≡ Done → ForCommand words (λ c. IsDone held c asked asked' out out')
   pub silent : ended ≡ Done → notes' ≡ notes
@@ -26,5 +27,6 @@ pub record IsEndOf (words : List (String Global)) (held : Held) (before now : Te
   pub cut : ended ≡ WriteFault → ForCommand words (λ c. IsCutShort held c asked asked' out out')
   pub write_noted : ended ≡ WriteFault → TookOrCut notes notes' write_line
   pub memory_noted : ended ≡ NoMemory → TookOrCut notes notes' memory_line
+  pub memory_asks : ended ≡ NoMemory → ForCommand words (λ c. AsksSome c asked asked')
   pub untouched : ended ≢ Done → ended ≢ WriteFault → out' ≡ out
   pub complete : ForCommand words (λ c. IsComplete held c (SomeRose before now (names_of c)) (Rose out.faults out'.faults) ended)
