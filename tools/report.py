@@ -61,11 +61,11 @@ class Cover:
     """The coverage list: the reason of each net that isn't covered, the pins that aren't tested, and the pairs."""
 
     def __init__(self, program, files):
-        text = bench.run(program, 'cover', *files, begin=b'NETS ')
-        first = (text.find(b'\nPAIR ') + 1) or len(text)   # pairs come last, and may be millions
-        self.pair_count = text.count(b'\n', first)
-        self.pairs = [line.split()[1:] for line in text[first:first + 600 * SHOWN].decode('ascii').splitlines()[:SHOWN]]
-        lines = [line.split() for line in text[:first].decode('ascii').splitlines()]
+        text = bench.run(program, 'cover', *files, begin='NETS ')
+        first = (text.find('\nPAIR ') + 1) or len(text)   # pairs come last, and may be millions
+        self.pair_count = text.count('\n', first)
+        self.pairs = [line.split()[1:] for line in text[first:first + 600 * SHOWN].splitlines()[:SHOWN]]
+        lines = [line.split() for line in text[:first].splitlines()]
         self.reasons = {words[1]: words[2] for words in lines if words[0] == 'NET'}
         self.drivers = [words[1] for words in lines if words[0] == 'DRIVER']
         self.receivers = [words[1] for words in lines if words[0] == 'RECEIVER']
@@ -124,7 +124,7 @@ def board_section(board, cover):
     for reason in reasons[1:] if 'COVERED' in reasons else reasons:
         names = [name for name in board.nets if cover.reasons.get(name) == reason]
         yield f'<h3>{reason}, {counted(len(names), "net")}: {REASONS[reason][0]}</h3>\n<p>{REASONS[reason][1]}</p>'
-        rows = [(escape(name), listing(list(board.nets[name].pins)[:12], ' ') +
+        rows = [(escape(name), listing(board.nets[name].pins[:12], ' ') +
                  (f' and {len(board.nets[name].pins) - 12} more' if len(board.nets[name].pins) > 12 else '')) for name in names[:SHOWN]]
         yield table(['net', 'pins'], rows) + (f'<p class=quiet>and {len(names) - SHOWN:,} more</p>' if len(names) > SHOWN else '')
     if cover.drivers or cover.receivers or cover.pair_count:
@@ -154,7 +154,7 @@ def parts_table(board, cover):
                 count.update((pin.split('.', 1)[0], role) for pin in some)
     rows = [(escape(part), escape(entity or 'known by its length alone'), pins[part],
              *(share(tested[part, role], able[part, role]) for role in ('driver', 'receiver', 'both')),
-             percent(tested[part, 'any'], able[part, 'any'])) for part, entity, _ in board.parts]
+             percent(tested[part, 'any'], able[part, 'any'])) for part, entity in board.parts.items()]
     yield ('<h3>Parts of the chain</h3>\n<p>Of the pins in nets that have boundary cells, so many are tested as driver, as receiver, '
            'as both.</p>')
     yield table(['part', 'entity', 'pins in nets', 'as driver', 'as receiver', 'as both', 'tested in a role'], rows, numbers=(2,))
@@ -164,18 +164,17 @@ def parts_table(board, cover):
 
 def pins_of(board, fault):
     """The pins that a fault may be at, net by net, each with its part's entity and what it does."""
-    entities = {part: entity for part, entity, _ in board.parts}
     kind, *words = fault.split()
     names = {'open': [], 'stuck': words[:1], 'short': words[1:]}[kind]   # a net may have the name of a kind, or of a value
     nets = [board.nets[name] for name in names] or [board.net_of[words[0]]]
     for net in nets:
         shown = []
         drivers, readers = {pin for pin, _ in net.drivers}, {pin for pin, _ in net.readers}
-        pins = [words[0]] if kind == 'open' else list(net.pins)
+        pins = [words[0]] if kind == 'open' else net.pins
         for pin in pins:
             part = pin.split('.', 1)[0]
             does = [word for word, some in (('drives', drivers), ('reads', readers)) if pin in some]
-            what = ', '.join(filter(None, [entities.get(part, 'in series' if part in net.links else ''), ' and '.join(does)]))
+            what = ', '.join(filter(None, [board.parts.get(part, 'in series' if part in net.links else ''), ' and '.join(does)]))
             shown.append(pin + (f' ({what})' if what else ''))
         yield f'{"" if kind == "open" else f"<b>{escape(net.name)}</b>: "}{listing(shown)}'
 
@@ -212,7 +211,7 @@ def log_section(board, head, faults, found):
     yield ('<h2>Nets that differ</h2>\n<p>Bits stand in the order of the rows of a pass. A bit that is not the expected one is bold and '
            'underlined; - is a pin that is not compared.</p>')
     for one in found:
-        links = f'; {", ".join(one.net.links)} in series joins {", ".join([one.name, *one.net.joined])}' if one.net.links else ''
+        links = f'; {", ".join(one.net.links)} in series joins {", ".join(one.net.joined)}' if one.net.links else ''
         yield f'<h3>{escape(one.name)}: {len(one.wrong)} of {len(one.pins)} receivers differ{escape(links)}</h3>'
         yield bits_table(one)
         yield '<ul>' + ''.join(f'<li>{escape(line)}</li>' for line in bench.facts(one, found)) + '</ul>'
@@ -250,10 +249,10 @@ def answers_of(lines):
 
 
 def batch_section(program, board, test, logs, files):
-    answers = list(answers_of(bench.lines_of(program, 'batch', '4', logs, *files)))
+    answers = list(answers_of(bench.run(program, 'batch', '4', logs, *files).splitlines()))
     nets, candidates, rows = collections.Counter(), collections.Counter(), []
     for (name, lines), (head, *faults) in zip(blocks_of(logs), answers):
-        names = [net.name for net in bench.differing(board, test.wrong(lines))] if head != 'PASS' else []
+        names = [net.name for net in bench.differing(board, (bits for _, bits in test.wrong(lines)))] if head != 'PASS' else []
         nets.update(names)
         candidates.update(faults)
         rows.append((escape(name), head if head == 'PASS' else f'<b>{head}</b>', len(names),
@@ -272,8 +271,8 @@ def batch_section(program, board, test, logs, files):
 
 def page(chosen, files):
     program = chosen.btest
-    cover, board = Cover(program, files), bench.Board(program, *files)
-    test = bench.Test(program, 'svf', *files) if chosen.log or chosen.batch else None
+    cover, board = Cover(program, files), bench.Board(*files)
+    test = bench.simulated_board.Test(bench.run(program, 'svf', *files)) if chosen.log or chosen.batch else None
     yield f'<h1>{escape(chosen.title or os.path.basename(chosen.log or chosen.batch or chosen.chain))}</h1>'
     yield f'<p class=quiet>{escape(" ".join(map(os.path.basename, files)))}</p>'
     if chosen.log:
@@ -287,7 +286,7 @@ def page(chosen, files):
 
 def main():
     words = argparse.ArgumentParser(description=__doc__.split('\n\n')[0])
-    words.add_argument('--btest', metavar='PROGRAM', default=bench.default_program(),
+    words.add_argument('--btest', metavar='PROGRAM', default=bench.BTEST,
                        help='else that on the PATH, else the one of make build')
     words.add_argument('--title', help='of the page, else the name of the log or of the chain file')
     words.add_argument('--log', help='the log of a board, as of btest diagnose')

@@ -3,12 +3,14 @@
     board = Board(read(CHAIN), read(NETS), [read(name) for name in BSDL])
     board.set_faults('and:D0:D1 open:U1.5:0')      # or 'good'
     rows = play(board, svf)                        # the rows of the response log to the text of `btest svf` or `btest walk`
+    nets = board.wiring()                          # its nets by their names, each with its pins and their places in a row
 
 The files are those of a btest command; what is plainly wrong with them, and a fault that the board can't have, is a BadInput.
 Faults behave as docs/MODEL.md says under "What a net has at one moment". What is free there is chosen here: a pin that drives reads
 its net, a cell without a net reads 0, and so does a net that nothing drives or pulls or that has two drivers.
 """
 import re
+from types import SimpleNamespace
 from typing import NamedTuple, Optional
 
 FAULTS = 'good, stuck:NET:VALUE, open:PART.PIN:VALUE, pull:NET:VALUE, and:NET:NET.., or:NET:NET.. and dom:NET:NET..'
@@ -16,6 +18,8 @@ BOUNDARY = ('EXTEST', 'SAMPLE', 'PRELOAD')
 DRIVING = ('OUTPUT2', 'OUTPUT3', 'BIDIR')
 READING = ('INPUT', 'CLOCK', 'BIDIR', 'OBSERVE_ONLY')
 WORDS = {'DEVICE': 3, 'BYPASS': 2, 'INERT': 1, 'SUPPLY': 1, 'PULL': 2, 'LINK': 3}   # of the statements of a chain file
+SCAN = re.compile(r'\bS(?P<register>[ID])R\s+(?P<size>\d+)\s+TDI\s*\((?P<tdi>[^)]*)\)'
+                  r'(?:\s+TDO\s*\((?P<tdo>[^)]*)\)\s+MASK\s*\((?P<mask>[^)]*)\))?|\bSTATE\s+RESET\b')
 
 
 class BadInput(Exception):
@@ -50,19 +54,30 @@ def number_of(where, word, allowed):
 
 
 class Entry(NamedTuple):
-    """An entry of the boundary register. Without a control cell, `control` is -1."""
+    """An entry of the boundary register. Without a control cell, `control` is -1. `receives` says whether it makes its pin a receiver."""
     cell: int
     place: str
     function: str
     control: int
     disable: int
+    receives: bool
+
+
+class Net:
+    """A net, and all that LINK lines join to it: `joined` has the names, `links` the series parts. `readers` has each cell that reads
+    it, as its pin and its place in a row, `drivers` each pin that drives it and, where there is one, the place and the disable value of
+    its control cell."""
+
+    def __init__(self, name):
+        self.name, self.joined, self.links, self.pins, self.readers, self.drivers = name, [], [], [], [], []
 
 
 class Part:
     """A part of the chain. Without a BSDL text it has an instruction register and a bypass register alone."""
 
-    def __init__(self, name, length):
-        self.name, self.length, self.codes, self.entries, self.identity, self.latches = name, length, {}, [], [], []
+    def __init__(self, name, length, entity=''):
+        self.name, self.length, self.entity = name, length, entity
+        self.codes, self.entries, self.identity, self.latches = {}, [], [], []
         self.pins = {}   # of each port bit its pin, as U1.5
         self.reset()
 
@@ -114,13 +129,15 @@ class Entity:
         self.text = re.sub(r'\s', '', text).replace('"&"', '')
         self.value = dict(re.findall(r'ATTRIBUTE(\w+?)OF\w+:ENTITYIS"?([^";]*)"?;', self.text))
         self.name = name[1] if name else self.wrong('entity')
+        inward = re.findall(r'(?<![\w,])([\w,]+):IN(?:OUT)?BIT', self.text)   # looked for where a list begins, since lists may be long
+        self.inward = set(','.join(inward).split(','))                       # the ports of mode in or inout
 
     def wrong(self, what):
         raise BadInput(f'{self.file}: no {what} that the model can use; `btest device` says what is wrong with a BSDL text')
 
     def part(self, name, package):
         try:
-            part = Part(name, int(self.value['INSTRUCTION_LENGTH']))
+            part = Part(name, int(self.value['INSTRUCTION_LENGTH']), self.name)
             if not 1 < part.length < 256 or not 0 < int(self.value['BOUNDARY_LENGTH']) < 65536:
                 self.wrong('length of a register')
             part.latches = [0] * int(self.value['BOUNDARY_LENGTH'])
@@ -128,7 +145,8 @@ class Entity:
             self.read_codes(part)
             entry = r'(\d+)\(\w+,([^,]*),(\w+),[01X](?:,(\d+),([01]),\w+)?\)'
             for cell, place, function, control, disable in re.findall(entry, self.value['BOUNDARY_REGISTER']):
-                part.entries.append(Entry(int(cell), place, function, int(control or -1), int(disable or 0)))
+                receives = function in READING[:3] and place.partition('(')[0] in self.inward
+                part.entries.append(Entry(int(cell), place, function, int(control or -1), int(disable or 0), receives))
                 if max(int(cell), int(control or 0)) >= len(part.latches):
                     self.wrong('boundary register')
         except KeyError as missing:
@@ -152,7 +170,7 @@ class Entity:
             package = (re.search(r'PHYSICAL_PIN_MAP:STRING:="(\w+)"', self.text) or self.wrong('default package'))[1]
         found = re.search(rf'CONSTANT{re.escape(package)}:PIN_MAP_STRING:="([^"]*)"', self.text) or self.wrong(f'package {package}')
         vectors = {}
-        for names, left, way, right in re.findall(r'([\w,]+):\w+?BIT_VECTOR\((\d+)(TO|DOWNTO)(\d+)\)', self.text):
+        for names, left, way, right in re.findall(r'(?<![\w,])([\w,]+):\w+?BIT_VECTOR\((\d+)(TO|DOWNTO)(\d+)\)', self.text):
             step = 1 if way == 'TO' else -1
             vectors.update(dict.fromkeys(names.split(','), range(int(left), int(right) + step, step)))
         for port, one, several in re.findall(r'(\w+):(?:(\w+)|\(([^)]*)\))', found[1]):
@@ -167,6 +185,7 @@ class Board:
         self.files = {'chain': chain.name, 'nets': nets.name}
         self.nets = {}        # of each pin its net
         self.joined = {}      # of each name of the net file the name of the net that LINK lines make of it
+        self.links = []       # the series parts, each with a pin
         self.pulls, self.supplies, self.parts = {}, set(), []
         self.fights = set()   # the nets that two drivers were seen on
         self.read_nets(nets)
@@ -224,6 +243,27 @@ class Board:
                 raise BadInput(f'{where}: link pin {pin} not in a net')
         first, second = sorted((self.root(self.nets[pin]) for pin in pins), key=order.get)
         self.joined[second] = first
+        self.links.append((part, pins[0]))
+
+    def wiring(self):
+        """The nets by their names, in the order of the net file."""
+        nets, cells, begin = {}, {}, 0
+        for name, first in self.joined.items():
+            nets.setdefault(first, Net(first)).joined.append(name)
+        for part, pin in self.links:
+            nets[self.nets[pin]].links.append(part)
+        for part in reversed(self.parts):   # the part nearest TDO has the first bits of a row
+            for entry in sorted(part.entries):
+                cells.setdefault(part.pins.get(entry.place), []).append((begin, entry))
+            begin += len(part.latches) or 1
+        for pin, net in ((pin, nets[name]) for pin, name in self.nets.items()):
+            net.pins.append(pin)
+            for begin, entry in cells.get(pin, ()):
+                if entry.receives:
+                    net.readers.append((pin, begin + entry.cell))
+                if entry.function in DRIVING:
+                    net.drivers.append((pin, (begin + entry.control, entry.disable) if entry.control >= 0 else None))
+        return nets
 
     # Faults
 
@@ -357,13 +397,43 @@ class Scan(NamedTuple):
 
 def scans(svf):
     """The scans of a text in the form that btest writes, with None for each STATE RESET."""
-    for statement in re.sub(r'(!|//).*', '', svf).split(';'):
-        kind, *words = statement.split(None, 2) or ['']
-        if kind in ('SIR', 'SDR'):
-            field = {name: int(re.sub(r'\s', '', digits), 16) for name, digits in re.findall(r'(\w+)\s*\(([0-9A-Fa-f\s]*)\)', words[1])}
-            yield Scan(kind[1:].lower(), int(words[0]), field['TDI'], field.get('TDO'), field.get('MASK', 0))
-        elif [kind, *words] == ['STATE', 'RESET']:
-            yield None
+    if '!' in svf or '//' in svf:   # comments, which btest doesn't write
+        svf = re.sub(r'(!|//).*', '', svf)
+    for found in SCAN.finditer(svf):
+        tdi, tdo, mask = (int(''.join(digits.split()), 16) if digits else None for digits in found.group('tdi', 'tdo', 'mask'))
+        yield Scan(found['register'].lower() + 'r', int(found['size']), tdi, tdo, mask or 0) if found['register'] else None
+
+
+class Test:
+    """What an SVF text compares: its passes, which are rows that are compared at the same bits. `ever` and `always` are the bits of TDI
+    that are 1 in some and in all rows of a pass."""
+
+    def __init__(self, svf):
+        passes = []
+        for scan in (scan for scan in scans(svf) if scan and scan.register == 'dr'):
+            if scan.tdo is None:
+                passes.append(SimpleNamespace(expected=[], mask=0, ever=0, always=-1))
+            else:
+                one = passes[-1]
+                one.mask, one.ever, one.always = scan.mask, one.ever | shifted, one.always & shifted
+                one.expected.append(scan.tdo)
+            self.size, shifted = scan.size, scan.tdi
+        self.passes = [one for one in passes if one.expected]
+
+    def drivers(self, net):
+        """Of each pass the pins that drive a net."""
+        return [[pin for pin, control in net.drivers if not control or
+                 (one.always if control[1] else one.ever) >> control[0] & 1 != control[1]] for one in self.passes]
+
+    def expected(self, net):
+        """The bits that are wanted at the cells of a net, which are the same in every pass."""
+        one, place = next((one, place) for one in self.passes for _, place in net.readers if one.mask >> place & 1)
+        return ''.join(str(row >> place & 1) for row in one.expected)
+
+    def wrong(self, lines):
+        """For each row of a log what is expected, and which compared bits differ."""
+        rows = (int(words[0], 16) for words in map(bytes.split, lines) if words and not words[0].startswith(b'#'))
+        return [(row, (row ^ got) & one.mask) for one in self.passes for row, got in zip(one.expected, rows)]
 
 
 def play_scan(board, scan):

@@ -44,7 +44,7 @@ class Bench:
 
     def __init__(self, tool, program, files):
         self.tool, self.program, self.files = tool, program, files
-        self.board, self.test = tool.Board(program, *files), tool.Test(program, 'svf', *files)
+        self.board, self.test = tool.Board(*files), simulated_board.Test(tool.run(program, 'svf', *files))
         self.model = simulated_board.Board(*map(simulated_board.read, files[:2]), list(map(simulated_board.read, files[2:])))
         self.svf = btest(program, 'svf', *files)
         self.compared = [scan for scan in simulated_board.scans(self.svf) if scan and scan.register == 'dr' and scan.tdo is not None]
