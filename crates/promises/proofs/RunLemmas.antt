@@ -1,0 +1,113 @@
+-- What a run of a command leaves, from the clauses of `run`.
+use Rattle.std.proofs.Common.{◌≡◌, ◌≢◌, ◌⊎◌, ◌∙◌, List, Option, Some, Result, Ok, Err, sym, ap, subst, inl, inr}
+use Rattle.std.specs.Prelude.{Contains, IfSome}
+use Rattle.bt_base.specs.Counts.{Rose}
+use Rattle.bt_base.specs.Puts.{Shown, Takes}
+use Rattle.command_line.specs.Words.{Text, Command, command_of, names_of}
+use Rattle.commands.specs.Worth.{IsWorthFor}
+use Rattle.btest_cli.specs.declared.status.Status.{Status}
+use Rattle.btest_cli.specs.declared.status.Status.TheVariants.{Done, Refused, WriteFault, NoMemory}
+use Rattle.btest_cli.specs.Texts.{Wanted, Reading, Read, IsRead, known_reading, wanted_of}
+use Rattle.btest_cli.specs.Outcome.{IsComplete, IsCutShort, IsDone, IsGiven, IsOutcome, IsRefused, Settles, SomeRose, TookOrCut}
+use Rattle.btest_cli.proofs.RunLemmas.{one_reading}
+use Rattle.promises.specs.Runs.{Asks, EndsWith, HoldsEach, Notes, Prints, Puts, PutsNothing, Run, files_of}
+use Rattle.promises.specs.Gives.{Gives}
+use Rattle.promises.specs.inner.Facts.{IsRun, SayOne, notes_of, out_of}
+use Rattle.promises.proofs.WordLemmas.{command_is}
+use Rattle.promises.proofs.ReadLemmas.{files_are, reads, some_rose}
+use Rattle.promises.proofs.GiveLemmas.{is_gives, not_both}
+
+same_some : {x y : Text} → ◌≡◌ {A = Option Text} (Some x) (Some y) → x ≡ y
+same_some e = cc
+
+-- the bytes that a sink in memory took
+pub out_taken : (run : Run) (bytes : Text) → Takes (out_of run.old) (out_of run.new) bytes → Puts run bytes
+out_taken run bytes takes = same_some takes.taken
+
+pub noted : (run : Run) (line : Text) → TookOrCut (notes_of run.old) (notes_of run.new) line → Notes run line
+noted run line (inl takes) = inl (same_some takes.taken)
+noted run line (inr (rose, (count, takes))) = inr (rose, (count, same_some takes.taken))
+
+pub nothing_put : (run : Run) → out_of run.new ≡ out_of run.old → PutsNothing run
+nothing_put run same = same_some (ap (λ (shown : Shown). shown.taken) same)
+
+nothing_noted : (run : Run) → notes_of run.new ≡ notes_of run.old → run.new.notes ≡ run.old.notes
+nothing_noted run same = same_some (ap (λ (shown : Shown). shown.taken) same)
+
+-- two statuses are not one
+pub apart : {s : Status} (a b : Status) → s ≡ a → s ≡ b → (a ≡ b → ⊥) → ⊥
+apart a b one other differ = differ (sym one ∙ other)
+
+module _ (run : Run) (is : IsRun run) (command : Command) (asks : Asks run command) where
+  -- what is said of the command of the words
+  pub here : (P : Command → Type 0) → IfSome (command_of run.words) P → P command
+  here P all = subst (λ (c : Option Command). IfSome c P) (command_is run command asks) all
+
+  abbrev Unread : Type 0
+  Unread = (name : Text) → Contains (names_of command) name → Rose (run.old.unread name) (run.new.unread name) → ⊥
+
+  none_rose : Unread → SomeRose run.old.unread run.new.unread (names_of command) → ⊥
+  none_rose calm rose = let one = some_rose run.old.unread run.new.unread (names_of command) rose in calm one.0 one.1 one.2
+
+  -- what was read settles the status
+  pub settled : (reading : Reading) → known_reading run.old.held (wanted_of command) ≡ Some reading → Unread → (outcome : Result Text Text) × IsOutcome command reading outcome × Settles (Rose run.old.unwritten run.new.unwritten) outcome run.status
+  settled reading known calm =
+      here (λ c. IsComplete run.old.held c (SomeRose run.old.unread run.new.unread (names_of c)) (Rose run.old.unwritten run.new.unwritten) run.status) is.complete reading known (none_rose calm)
+
+  pub done_here : run.status ≡ Done → IsDone run.old.held command run.old.asked run.new.asked (out_of run.old) (out_of run.new)
+  done_here e = here (λ c. IsDone run.old.held c run.old.asked run.new.asked (out_of run.old) (out_of run.new)) (is.done e)
+
+  pub refused_here : run.status ≡ Refused → IsRefused run.old.held command run.old.asked run.new.asked (notes_of run.old) (notes_of run.new)
+  refused_here e = here (λ c. IsRefused run.old.held c run.old.asked run.new.asked (notes_of run.old) (notes_of run.new)) (is.refused e)
+
+  pub cut_here : run.status ≡ WriteFault → IsCutShort run.old.held command run.old.asked run.new.asked (out_of run.old) (out_of run.new)
+  cut_here e = here (λ c. IsCutShort run.old.held c run.old.asked run.new.asked (out_of run.old) (out_of run.new)) (is.cut e)
+
+  -- a fault of what was read is refused
+  pub ends_refused : SayOne → (reading : Reading) (line : Text) → known_reading run.old.held (wanted_of command) ≡ Some reading → IsOutcome command reading (Err line) → EndsWith run command Refused
+  ends_refused one reading line known fault calm = let told = settled reading known calm in by_outcome told.0 told.1 told.2
+    where
+      by_outcome : (outcome : Result Text Text) → IsOutcome command reading outcome → Settles (Rose run.old.unwritten run.new.unwritten) outcome run.status → (run.status ≡ Refused) ⊎ (run.status ≡ NoMemory)
+      by_outcome (Ok text) given settles = absurd (not_both (one.outcome command reading (Ok text) (Err line) given fault))
+      by_outcome (Err other) given settles = settles
+
+  -- and the text of none is put
+  pub not_done : SayOne → (reading : Reading) (line : Text) → known_reading run.old.held (wanted_of command) ≡ Some reading → IsOutcome command reading (Err line) → run.status ≢ Done
+  not_done one reading line known fault e =
+      let told = done_here e in
+      let same = one_reading run.old.held (wanted_of command) reading (Read told.texts) known told.read in
+      not_both (one.outcome command reading (Ok told.text) (Err line) (subst (λ (r : Reading). IsOutcome command r (Ok told.text)) same told.gives) fault)
+
+  pub not_cut : SayOne → (reading : Reading) (line : Text) → known_reading run.old.held (wanted_of command) ≡ Some reading → IsOutcome command reading (Err line) → run.status ≢ WriteFault
+  not_cut one reading line known fault e =
+      let told = cut_here e in
+      let same = one_reading run.old.held (wanted_of command) reading (Read told.texts) known told.read in
+      not_both (one.outcome command reading (Ok told.text) (Err line) (subst (λ (r : Reading). IsOutcome command r (Ok told.text)) same told.gives) fault)
+
+  module _ (texts : List Text) (each : HoldsEach run.old.held (files_of command) texts) where
+    pub known : known_reading run.old.held (wanted_of command) ≡ Some (Read texts)
+    known = subst (λ (files : List Wanted). known_reading run.old.held files ≡ Some (Read texts)) (files_are command) (reads run.old.held (files_of command) texts each)
+
+    pub texts_are : (others : List Text) → IsRead run.old.held (wanted_of command) (Read others) → others ≡ texts
+    texts_are others read =
+        let same = one_reading run.old.held (wanted_of command) (Read texts) (Read others) known read in
+        cc
+
+    -- a command that puts a text of which P holds
+    pub prints : (P : Text → Type 0) → ((line : Text) → Gives command texts (Err line) → ⊥) → ((text : Text) → Gives command texts (Ok text) → IsWorthFor command texts (out_of run.old) (out_of run.new) → Puts run text → P text) → Prints run command P
+    prints P sound worth = record {
+      asks = λ e. (done_here e).asks;
+      puts = λ e.
+          let told = done_here e in
+          let same = texts_are told.texts told.read in
+          let gives = is_gives command texts (Ok told.text) (subst (λ (l : List Text). IsGiven command l (Ok told.text)) same told.gives) in
+          let is_worth = subst (λ (l : List Text). IsWorthFor command l (out_of run.old) (out_of run.new)) same told.worth in
+          let puts = out_taken run told.text told.takes in
+          (told.text, puts, worth told.text gives is_worth puts);
+      silent = λ e. nothing_noted run (is.silent e);
+      ends = λ calm unread. let told = settled (Read texts) known unread in by_outcome calm told.0 told.1 told.2;
+    }
+      where
+        by_outcome : (Rose run.old.unwritten run.new.unwritten → ⊥) → (outcome : Result Text Text) → IsOutcome command (Read texts) outcome → Settles (Rose run.old.unwritten run.new.unwritten) outcome run.status → (run.status ≡ Done) ⊎ (run.status ≡ NoMemory)
+        by_outcome calm (Ok text) given settles = settles calm
+        by_outcome calm (Err line) given settles = absurd (sound line (is_gives command texts (Err line) given))

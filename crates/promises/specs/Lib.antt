@@ -1,0 +1,4 @@
+pub mod Runs
+pub mod Gives
+pub mod Promises
+pub mod inner

@@ -1,0 +1,180 @@
+-- What each command promises, in the words of the board and of its model, and what each other status tells.
+use Rattle.std.specs.Prelude.{◌≡◌, ◌≢◌, ◌⊎◌, ◌↔◌, ℕ, ◌<◌, ◌≤◌, Bool, true, false, List, [], ◌∷◌, ◌++◌, length, map, sum, take, Option, Some, None, Ok, Err, AllPairs, Contains, Decides}
+use Rattle.bt_base.specs.Counts.{Rose}
+use Rattle.board_defs.specs.declared.board.RawBoard.{RawBoard}
+use Rattle.board_defs.specs.declared.device.RawDevice.{RawDevice}
+use Rattle.board_defs.specs.declared.device.Symbol.{Symbol}
+use Rattle.board_defs.specs.declared.fault.Single.{Single}
+use Rattle.board_defs.specs.BoardRules.{IsBoard}
+use Rattle.board_defs.specs.DeviceRules.{IsDevice}
+use Rattle.board_defs.specs.Faults.{IsSingle, SinglePrecedes}
+use Rattle.tap_defs.specs.chain.ChainScans.{chain_text}
+use Rattle.tap_defs.specs.chain.ChainTest.{AreIrLengths, ir_lengths}
+use Rattle.tap_defs.specs.chain.Clocks.{test_clocks}
+use Rattle.tap_defs.specs.chain.Run.{Clock, Wiring, PassesOn, FailsOn}
+use Rattle.tap_defs.specs.chain.Svf.{meaning}
+use Rattle.tap_defs.specs.chain.TestLogic.{TestLogic}
+use Rattle.tap_defs.specs.board.BoardScans.{board_text, svf_row_scans, svf_scans}
+use Rattle.tap_defs.specs.board.Explaining.{AgreeOn, Explains, HasShape, IsExpected}
+use Rattle.tap_defs.specs.board.FaultSet.{FaultSet, no_faults, IsObservable, IsNonempty}
+use Rattle.tap_defs.specs.board.OnBoard.{PassOnBoard, FailOnBoard}
+use Rattle.tap_defs.specs.board.Quiet.{IsQuiet}
+use Rattle.device_check.specs.DeviceText.{device_text}
+use Rattle.coverage_list.specs.CoverList.{IsCoverList}
+use Rattle.coverage_list.specs.CoverText.{cover_text}
+use Rattle.ident_test.specs.CodedParts.{AreCoded, all_fit}
+use Rattle.ident_test.specs.IdentTest.{ArePatterns}
+use Rattle.ident_test.specs.Patterns.{ident_text}
+use Rattle.diagnoser.specs.DiagText.{diag_text}
+use Rattle.batch_diag.specs.declared.block.Block.{Block}
+use Rattle.batch_diag.specs.declared.verdict.Verdict.{Verdict}
+use Rattle.batch_diag.specs.Verdicts.{EachPair}
+use Rattle.batch_diag.specs.BatchText.{batch_text}
+use Rattle.walk_test.specs.Groups.{AreGroups, Explain}
+use Rattle.walk_test.specs.GroupText.{groups_text}
+use Rattle.walk_test.specs.WalkTest.{board_walk_text, walk_row_list, walk_scans}
+use Rattle.board_gen.specs.BoardTexts as made
+use Rattle.board_gen.specs.DeviceText.{bsdl_text}
+use Rattle.btest_core.specs.DevicesRead.{IsDeviceText}
+use Rattle.btest_core.specs.BoardRead.{AreChainLengths, AreLengths, Denotes}
+use Rattle.btest_core.specs.IdentsRead.{AreIdents}
+use Rattle.refusal_lines.specs.Refusals.{usage_line, long_line, read_line, write_line, memory_line}
+use Rattle.commands.specs.LogRead.{test_blocks, test_log, walk_log}
+use Rattle.command_line.specs.Words.{Text, ChainNames, BoardNames, Command, Chain, Ident, Device, Cover, Svf, Walk, Make, Diagnose, Groups, Batch, command_of, names_of}
+use Rattle.btest_cli.specs.Texts.{Wanted}
+use Rattle.btest_cli.specs.declared.status.Status.TheVariants.{Done, Refused, Usage, ReadFault, WriteFault, NoMemory}
+use Rattle.promises.specs.Runs.{Run, Asks, RunsOn, Holds, HoldsEach, EndsWith, AsksFor, Puts, PutsNothing, Notes, Prints, files_of}
+use Rattle.promises.specs.Gives.{Gives, summary}
+
+-- `chain`: the text has a meaning. It passes on every chain of parts with the instruction lengths of the files, and fails on every chain
+-- of one or more parts that has another number of parts and no more instruction bits, whatever the pins capture
+abbrev pub TestsChain : Run → Type 0
+TestsChain run =
+    (names : ChainNames) (chain : Text) (bsdl : List Text) (lengths : List ℕ) → RunsOn run (Chain names) (chain ∷ bsdl) → AreChainLengths chain bsdl (Ok lengths) →
+    Prints run (Chain names) (λ text. (text ≡ chain_text lengths) × AreLengths lengths × (clocks : List Clock) × (meaning text ≡ Some clocks)
+    × ((wiring : Wiring) (parts : List TestLogic) → ir_lengths parts ≡ lengths → PassesOn wiring parts clocks)
+    × ((wiring : Wiring) (parts : List TestLogic) → AreIrLengths (ir_lengths parts) → length parts ≢ length lengths → sum (ir_lengths parts) ≤ sum lengths → FailsOn wiring parts clocks))
+
+-- `ident`: the text has a meaning. On every chain of parts with the patterns of the files it passes where each code fits its pattern, and
+-- fails where some code does not, whatever the pins capture
+abbrev pub TestsIdents : Run → Type 0
+TestsIdents run =
+    (names : ChainNames) (chain : Text) (bsdl : List Text) (patterns : List (Option (List Symbol))) → RunsOn run (Ident names) (chain ∷ bsdl) → AreIdents chain bsdl (Ok patterns) →
+    Prints run (Ident names) (λ text. (text ≡ ident_text patterns) × ArePatterns patterns × (clocks : List Clock) × (meaning text ≡ Some clocks)
+    × ((wiring : Wiring) (parts : List TestLogic) → AreCoded patterns parts → all_fit patterns parts ≡ true → PassesOn wiring parts clocks)
+    × ((wiring : Wiring) (parts : List TestLogic) → AreCoded patterns parts → all_fit patterns parts ≡ false → FailsOn wiring parts clocks))
+
+-- `device`: the text is the listing of the device that the file describes, which keeps the rules of a device
+abbrev pub ListsDevice : Run → Type 0
+ListsDevice run =
+    (name text : Text) (device : RawDevice) → RunsOn run (Device name) (text ∷ []) → IsDeviceText text (Ok device) →
+    Prints run (Device name) (λ listing. (listing ≡ device_text device) × IsDevice device)
+
+-- `cover`: the text says of each net, pin and pair of nets of the board what is true of all its safe settings
+abbrev pub ListsCover : Run → Type 0
+ListsCover run =
+    (names : BoardNames) (chain nets : Text) (bsdl : List Text) (board : RawBoard) → RunsOn run (Cover names) (chain ∷ nets ∷ bsdl) → Denotes chain nets bsdl board →
+    Prints run (Cover names) (λ text. (text ≡ cover_text board) × IsBoard board × IsCoverList board text)
+
+-- `svf`: run by its meaning on the board from any state, the text is quiet after its reset whatever is faulty, passes where nothing is
+-- faulty, and fails under every nonempty set of observable faults
+abbrev pub TestsBoard : Run → Type 0
+TestsBoard run =
+    (names : BoardNames) (chain nets : Text) (bsdl : List Text) (board : RawBoard) → RunsOn run (Svf names) (chain ∷ nets ∷ bsdl) → Denotes chain nets bsdl board →
+    Prints run (Svf names) (λ text. (text ≡ board_text board) × (clocks : List Clock) × (meaning text ≡ Some clocks) × IsQuiet board clocks × PassOnBoard board no_faults clocks
+    × ((faults : FaultSet) → IsObservable board faults → IsNonempty faults → FailOnBoard board faults clocks))
+
+-- `walk`: run by its meaning on the board from any state, the text is quiet after its reset whatever is faulty, and passes where nothing is
+abbrev pub WalksBoard : Run → Type 0
+WalksBoard run =
+    (names : BoardNames) (chain nets : Text) (bsdl : List Text) (board : RawBoard) → RunsOn run (Walk names) (chain ∷ nets ∷ bsdl) → Denotes chain nets bsdl board →
+    Prints run (Walk names) (λ text. (text ≡ board_walk_text board) × (clocks : List Clock) × (meaning text ≡ Some clocks) × IsQuiet board clocks × PassOnBoard board no_faults clocks)
+
+-- `make`: the text is the summary of the generated board. No file is read, so it holds of every store
+abbrev pub SumsUp : Run → Type 0
+SumsUp run =
+    (parts : ℕ) (board : RawBoard) → RunsOn run (Make parts) [] → Denotes (made.chain_text parts) (made.net_text parts) (bsdl_text ∷ []) board → Prints run (Make parts) (λ text. text ≡ summary board)
+
+-- the clocks of the board's test are those of its scans, by which a fault explains a log; each single fault explains some log; and all logs
+-- that it explains have the same compared bits
+pub record HasResponses (board : RawBoard) : Type 0 where
+  pub means : meaning (board_text board) ≡ Some (test_clocks (svf_scans board))
+  pub some : (single : Single) → IsSingle board single → (log : List (List Bool)) × Explains board single log
+  pub one : (single : Single) (log other : List (List Bool)) → Explains board single log → Explains board single other → AgreeOn board (svf_row_scans board) log other
+
+-- the log has a row for each SDR statement that compares, with a bit for each position; it passes exactly where each compared bit is the
+-- expected one, and then nothing explains it; and the faults are exactly the single faults that explain it, each once and in order
+pub record IsDiagnosed (board : RawBoard) (log : List (List Bool)) (pass : Bool) (faults : List Single) : Type 0 where
+  pub shape : HasShape board (svf_row_scans board) log
+  pub passes : Decides pass (IsExpected board (svf_row_scans board) log)
+  pub none : pass ≡ true → faults ≡ []
+  pub exactly : (single : Single) → Contains faults single ↔ (IsSingle board single × Explains board single log)
+  pub in_order : AllPairs SinglePrecedes faults
+
+-- `diagnose`: the text says whether the log passes, and lists exactly the single faults that explain it
+abbrev pub DiagnosesLog : Run → Type 0
+DiagnosesLog run =
+    (workers : ℕ) (name : Text) (names : BoardNames) (log chain nets : Text) (bsdl : List Text) (board : RawBoard) (rows : List (List Bool)) →
+    RunsOn run (Diagnose workers name names) (log ∷ chain ∷ nets ∷ bsdl) → Denotes chain nets bsdl board → test_log log board ≡ Ok rows →
+    Prints run (Diagnose workers name names) (λ text. HasResponses board × (pass : Bool) × (faults : List Single) × IsDiagnosed board rows pass faults × (text ≡ diag_text board pass faults))
+
+-- `batch`: the text has, for each block in order, its title and the diagnosis of its log by itself
+abbrev pub DiagnosesBlocks : Run → Type 0
+DiagnosesBlocks run =
+    (workers : ℕ) (name : Text) (names : BoardNames) (logs chain nets : Text) (bsdl : List Text) (board : RawBoard) (blocks : List Block) →
+    RunsOn run (Batch workers name names) (logs ∷ chain ∷ nets ∷ bsdl) → Denotes chain nets bsdl board → test_blocks logs board ≡ Ok blocks →
+    Prints run (Batch workers name names) (λ text. HasResponses board × (verdicts : List Verdict)
+    × EachPair (λ block verdict. IsDiagnosed board block.log verdict.pass verdict.faults) blocks verdicts × (text ≡ batch_text board blocks verdicts))
+
+-- `groups`: the log has a row for each SDR statement of the walking test that compares; the text names the one set of groups of nets that
+-- walk of which, shorted so that a 1 wins, every run gives the log's compared bits, or says that there is none. Each set gives some log, and
+-- all logs that it gives have the same compared bits
+abbrev pub FindsGroups : Run → Type 0
+FindsGroups run =
+    (name : Text) (names : BoardNames) (log chain nets : Text) (bsdl : List Text) (board : RawBoard) (rows : List (List Bool)) →
+    RunsOn run (Groups name names) (log ∷ chain ∷ nets ∷ bsdl) → Denotes chain nets bsdl board → walk_log log board ≡ Ok rows →
+    Prints run (Groups name names) (λ text. HasShape board (walk_row_list board) rows × (meaning (board_walk_text board) ≡ Some (test_clocks (walk_scans board)))
+    × (found : Option (List (List ℕ))) × (text ≡ groups_text board found) × ((groups : List (List ℕ)) → (found ≡ Some groups) ↔ Explain board rows groups)
+    × ((groups : List (List ℕ)) → AreGroups board groups → (other : List (List Bool)) × Explain board other groups)
+    × ((groups : List (List ℕ)) (one other : List (List Bool)) → Explain board one groups → Explain board other groups → AgreeOn board (walk_row_list board) one other))
+
+-- Usage comes exactly where the words are in no command, unless memory ran out. The store is as it was
+abbrev pub TellsUsage : Run → Type 0
+TellsUsage run =
+    (run.status ≡ Usage → (command_of run.words ≡ None) × PutsNothing run × Notes run usage_line)
+    × (command_of run.words ≡ None → ((run.status ≡ Usage) ⊎ (run.status ≡ NoMemory)) × (run.new.asked ≡ run.old.asked) × (run.new.unread ≡ run.old.unread) × (run.new.held ≡ run.old.held))
+
+-- Refused comes exactly where the files have a first fault, unless a read of one failed or memory ran out, and its line is told
+abbrev pub TellsFault : Run → Type 0
+TellsFault run =
+    (run.status ≡ Refused → PutsNothing run)
+    × ((command : Command) (texts : List Text) → RunsOn run command texts →
+    (run.status ≡ Refused → AsksFor run (names_of command) × ((line : Text) × Gives command texts (Err line) × Notes run line))
+    × ((line : Text) → Gives command texts (Err line) → (run.status ≢ Done) × (run.status ≢ WriteFault) × EndsWith run command Refused))
+
+-- so it does where a file is longer than it may be, and no file behind it is asked for
+abbrev pub TellsLong : Run → Type 0
+TellsLong run =
+    (command : Command) (before after : List Wanted) (file : Wanted) (texts : List Text) (text : Text) → Asks run command → files_of command ≡ before ++ file ∷ after →
+    HoldsEach run.old.held before texts → Holds run.old.held file.name text → file.limit < length text →
+    (run.status ≡ Refused → AsksFor run (map (λ f. f.name) before ++ file.name ∷ []) × Notes run (long_line file.name file.limit))
+    × (run.status ≢ Done) × (run.status ≢ WriteFault) × EndsWith run command Refused
+
+-- ReadFault comes only where the files before one were read and a read of that one failed; it is named, and none behind it is asked for
+abbrev pub TellsUnread : Run → Type 0
+TellsUnread run =
+    run.status ≡ ReadFault → PutsNothing run
+    × ((command : Command) (held : Text → Option Text) → Asks run command → run.old.held ≡ Some held →
+    (before after : List Wanted) × (file : Wanted) × (texts : List Text) × (files_of command ≡ before ++ file ∷ after) × HoldsEach run.old.held before texts
+    × Rose (run.old.unread file.name) (run.new.unread file.name) × AsksFor run (map (λ f. f.name) before ++ file.name ∷ []) × Notes run (read_line file.name))
+
+-- WriteFault comes only where a write of the output failed, and the output took some first bytes of the text
+abbrev pub TellsUnwritten : Run → Type 0
+TellsUnwritten run =
+    run.status ≡ WriteFault → Rose run.old.unwritten run.new.unwritten × Notes run write_line
+    × ((command : Command) (texts : List Text) → RunsOn run command texts → AsksFor run (names_of command) × ((text : Text) × Gives command texts (Ok text) × (count : ℕ) × Puts run (take count text)))
+
+-- where memory ran out, nothing was put, and some first files were asked for, each once and in order
+abbrev pub TellsMemory : Run → Type 0
+TellsMemory run =
+    run.status ≡ NoMemory → PutsNothing run × Notes run memory_line × ((command : Command) → Asks run command → (count : ℕ) × AsksFor run (take count (names_of command)))

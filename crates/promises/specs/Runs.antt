@@ -1,0 +1,124 @@
+-- One run of the program: its words, what it finds at its ends, and what it leaves there.
+use Rattle.std.specs.Prelude.{◌≡◌, ◌⊎◌, ℕ, ◌≤◌, true, List, [], ◌∷◌, ◌++◌, length, map, take, codes, Some, None, Contains, String, string_bytes}
+use Rattle.std.specs.List.{list_all}
+use Rattle.std.specs.declared.alloc.Global.{Global}
+use Rattle.bt_base.specs.declared.memory.MemSink.{MemSink}
+use Rattle.bt_base.specs.Counts.{Rose}
+use Rattle.bt_base.specs.Memory.{asked_of, text_of, faults_of as read_faults}
+use Rattle.bt_base.specs.MemSink.{faults_of, taken_of}
+use Rattle.command_line.specs.Words.{Text, ChainNames, BoardNames, Command, Chain, Ident, Device, Cover, Svf, Walk, Make, Diagnose, Groups, Batch, is_plain, number_of, names_of, board_names}
+use Rattle.btest_cli.specs.Texts.{Held, Wanted}
+use Rattle.btest_cli.specs.declared.status.Status.{Status}
+use Rattle.btest_cli.specs.declared.status.Status.TheVariants.{Done, NoMemory}
+use Rattle.promises.specs.declared.desk.Desk.{Desk}
+
+-- what a store tells that it holds under each name, if it does; the names that it was asked for, and how often a read of each failed;
+-- what the output and the notes took, and how often a write to each failed
+pub record Ends : Type 0 where
+  pub held : Held
+  pub asked : List Text
+  pub unread : Text → ℕ
+  pub out : Text
+  pub unwritten : ℕ
+  pub notes : Text
+  pub unnoted : ℕ
+
+-- the words of the command line, the ends before the run and after it, and the status
+pub record Run : Type 0 where
+  pub words : List Text
+  pub old : Ends
+  pub new : Ends
+  pub status : Status
+
+abbrev pub run_of : List (String Global) → Ends → Ends → Status → Run
+run_of words old new status = record { words = map string_bytes words; old = old; new = new; status = status }
+
+-- the ends by what a store tells, with an output and notes in memory
+abbrev pub ends_of : Held → List Text → (Text → ℕ) → MemSink → MemSink → Ends
+ends_of held asked unread out notes = record { held = held; asked = asked; unread = unread; out = taken_of out; unwritten = faults_of out; notes = taken_of notes; unnoted = faults_of notes }
+
+abbrev pub desk_ends : Desk → Ends
+desk_ends desk = ends_of (Some (text_of desk.store)) (asked_of desk.store) (λ name. read_faults desk.store) desk.out desk.notes
+
+abbrev pub desk_run : List (String Global) → Desk → Desk → Status → Run
+desk_run words old new status = run_of words (desk_ends old) (desk_ends new) status
+
+-- these words, then a chain file and at most 255 BSDL files
+abbrev pub ThenChain : List Text → ChainNames → List Text → Type 0
+ThenChain front names words = (words ≡ front ++ names.chain ∷ names.bsdl) × (length names.bsdl ≤ 255)
+
+-- these words, then a chain file, a net file and at most 255 BSDL files
+abbrev pub ThenBoard : List Text → BoardNames → List Text → Type 0
+ThenBoard front names words = (words ≡ front ++ names.chain ∷ names.nets ∷ names.bsdl) × (length names.bsdl ≤ 255)
+
+-- the words of each command. A board that is made has 1 to 255 parts, and there are 1 to 64 workers
+abbrev pub AreWords : Command → List Text → Type 0
+AreWords (Chain names) words = ThenChain (codes "chain" ∷ []) names words
+AreWords (Ident names) words = ThenChain (codes "ident" ∷ []) names words
+AreWords (Device name) words = words ≡ codes "device" ∷ name ∷ []
+AreWords (Cover names) words = ThenBoard (codes "cover" ∷ []) names words
+AreWords (Svf names) words = ThenBoard (codes "svf" ∷ []) names words
+AreWords (Walk names) words = ThenBoard (codes "walk" ∷ []) names words
+AreWords (Make parts) words = (number : Text) × (number_of 255 number ≡ Some parts) × (words ≡ codes "make" ∷ number ∷ [])
+AreWords (Diagnose workers log names) words = (number : Text) × (number_of 64 number ≡ Some workers) × ThenBoard (codes "diagnose" ∷ number ∷ log ∷ []) names words
+AreWords (Groups log names) words = ThenBoard (codes "groups" ∷ log ∷ []) names words
+AreWords (Batch workers log names) words = (number : Text) × (number_of 64 number ≡ Some workers) × ThenBoard (codes "batch" ∷ number ∷ log ∷ []) names words
+
+-- the run has the words of this command, none of which is empty or begins with a dash
+abbrev pub Asks : Run → Command → Type 0
+Asks run command = AreWords command run.words × (list_all is_plain run.words ≡ true)
+
+-- files of these names, of which each may have 4 MiB
+abbrev pub texts_called : List Text → List Wanted
+texts_called names = map (λ name. record { name = name; limit = 4194304 }) names
+
+-- the files of a command in their order. One with logs may have 64 MiB
+abbrev pub files_of : Command → List Wanted
+files_of (Diagnose workers log names) = record { name = log; limit = 67108864 } ∷ texts_called (board_names names)
+files_of (Groups log names) = record { name = log; limit = 67108864 } ∷ texts_called (board_names names)
+files_of (Batch workers log names) = record { name = log; limit = 67108864 } ∷ texts_called (board_names names)
+files_of command = texts_called (names_of command)
+
+-- the store tells that it holds this text under the name
+abbrev pub Holds : Held → Text → Text → Type 0
+Holds None name text = ⊥
+Holds (Some held) name text = held name ≡ Some text
+
+-- so it does for each of these files, and no text is too long
+abbrev pub HoldsEach : Held → List Wanted → List Text → Type 0
+HoldsEach held [] [] = Unit {0}
+HoldsEach held [] (text ∷ texts) = ⊥
+HoldsEach held (file ∷ files) [] = ⊥
+HoldsEach held (file ∷ files) (text ∷ texts) = Holds held file.name text × (length text ≤ file.limit) × HoldsEach held files texts
+
+-- the run is one of the command, for whose files the store holds these texts
+abbrev pub RunsOn : Run → Command → List Text → Type 0
+RunsOn run command texts = Asks run command × HoldsEach run.old.held (files_of command) texts
+
+-- where no read of a file of the command failed, the run ends with this status, or memory ran out
+abbrev pub EndsWith : Run → Command → Status → Type 0
+EndsWith run command status =
+    ((name : Text) → Contains (names_of command) name → Rose (run.old.unread name) (run.new.unread name) → ⊥) → (run.status ≡ status) ⊎ (run.status ≡ NoMemory)
+
+-- the store was asked for these names, one after the other, and for no other
+abbrev pub AsksFor : Run → List Text → Type 0
+AsksFor run names = run.new.asked ≡ run.old.asked ++ names
+
+-- the output took these bytes, or nothing
+abbrev pub Puts : Run → Text → Type 0
+Puts run bytes = run.new.out ≡ run.old.out ++ bytes
+
+abbrev pub PutsNothing : Run → Type 0
+PutsNothing run = run.new.out ≡ run.old.out
+
+-- the notes took this line, or some first bytes of it where a write to them failed
+abbrev pub Notes : Run → Text → Type 0
+Notes run line = (run.new.notes ≡ run.old.notes ++ line) ⊎ (Rose run.old.unnoted run.new.unnoted × ((count : ℕ) × (run.new.notes ≡ run.old.notes ++ take count line)))
+
+-- at Done each file was asked for once and in order, the output took exactly a text of which P holds, and the notes took nothing; and Done
+-- it is, unless a read of a file or a write of the output failed or memory ran out
+pub record Prints (run : Run) (command : Command) (P : Text → Type 0) : Type 0 where
+  pub asks : run.status ≡ Done → AsksFor run (names_of command)
+  pub puts : run.status ≡ Done → (text : Text) × Puts run text × P text
+  pub silent : run.status ≡ Done → run.new.notes ≡ run.old.notes
+  pub ends : (Rose run.old.unwritten run.new.unwritten → ⊥) → EndsWith run command Done

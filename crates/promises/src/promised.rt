@@ -1,0 +1,185 @@
+// What the program promises, in the order of its commands and then of the other statuses.
+ghost use Rattle.promises.specs.Runs.{desk_run, ends_of, run_of};
+ghost use Rattle.promises.specs.Promises.{DiagnosesBlocks, DiagnosesLog, FindsGroups, ListsCover, ListsDevice, SumsUp, TellsFault, TellsLong, TellsMemory, TellsUnread, TellsUnwritten, TellsUsage, TestsBoard, TestsChain, TestsIdents, WalksBoard};
+
+use crate::desk::{Desk, run_on};
+use bt_base::{Gate, MemSink, Store};
+use btest_cli::Status;
+use std::alloc::Global;
+use std::thread::Threads;
+
+impl Desk {
+    /// `chain` tells a chain with the parts of its files from one with another number of them.
+    pub fn chain<R: Threads + Sync, G: Gate>(
+        &mut self,
+        rt: &R,
+        words: &[String],
+        gate: &G,
+    ) -> Status
+        ensures { TestsChain (desk_run words.now self.old self.new result) }
+    {
+        self.run(rt, words, gate)
+    }
+
+    /// `ident` tells whether each part's code fits its pattern.
+    pub fn ident<R: Threads + Sync, G: Gate>(
+        &mut self,
+        rt: &R,
+        words: &[String],
+        gate: &G,
+    ) -> Status
+        ensures { TestsIdents (desk_run words.now self.old self.new result) }
+    {
+        self.run(rt, words, gate)
+    }
+
+    /// `device` lists the device that its file describes.
+    pub fn device<R: Threads + Sync, G: Gate>(
+        &mut self,
+        rt: &R,
+        words: &[String],
+        gate: &G,
+    ) -> Status
+        ensures { ListsDevice (desk_run words.now self.old self.new result) }
+    {
+        self.run(rt, words, gate)
+    }
+
+    /// `cover` says what no safe setting tests.
+    pub fn cover<R: Threads + Sync, G: Gate>(
+        &mut self,
+        rt: &R,
+        words: &[String],
+        gate: &G,
+    ) -> Status
+        ensures { ListsCover (desk_run words.now self.old self.new result) }
+    {
+        self.run(rt, words, gate)
+    }
+
+    /// `svf` tests the board that its files denote.
+    pub fn svf<R: Threads + Sync, G: Gate>(&mut self, rt: &R, words: &[String], gate: &G) -> Status
+        ensures { TestsBoard (desk_run words.now self.old self.new result) }
+    {
+        self.run(rt, words, gate)
+    }
+
+    /// `walk` gives a test that may be applied to the board.
+    pub fn walk<R: Threads + Sync, G: Gate>(&mut self, rt: &R, words: &[String], gate: &G) -> Status
+        ensures { WalksBoard (desk_run words.now self.old self.new result) }
+    {
+        self.run(rt, words, gate)
+    }
+
+    /// `diagnose` lists exactly the single faults that explain a log.
+    pub fn diagnose<R: Threads + Sync, G: Gate>(
+        &mut self,
+        rt: &R,
+        words: &[String],
+        gate: &G,
+    ) -> Status
+        ensures { DiagnosesLog (desk_run words.now self.old self.new result) }
+    {
+        self.run(rt, words, gate)
+    }
+
+    /// `batch` gives for each block its title and the diagnosis of its log by itself.
+    pub fn batch<R: Threads + Sync, G: Gate>(
+        &mut self,
+        rt: &R,
+        words: &[String],
+        gate: &G,
+    ) -> Status
+        ensures { DiagnosesBlocks (desk_run words.now self.old self.new result) }
+    {
+        self.run(rt, words, gate)
+    }
+
+    /// `groups` names the one set of groups that explains a log, or says that there is none.
+    pub fn groups<R: Threads + Sync, G: Gate>(
+        &mut self,
+        rt: &R,
+        words: &[String],
+        gate: &G,
+    ) -> Status
+        ensures { FindsGroups (desk_run words.now self.old self.new result) }
+    {
+        self.run(rt, words, gate)
+    }
+
+    /// Words that are no command, and they alone, are answered by the usage line, and no file is read.
+    pub fn usage<R: Threads + Sync, G: Gate>(
+        &mut self,
+        rt: &R,
+        words: &[String],
+        gate: &G,
+    ) -> Status
+        ensures { TellsUsage (desk_run words.now self.old self.new result) }
+    {
+        self.run(rt, words, gate)
+    }
+
+    /// Files with a first fault, and they alone, are refused, by its line.
+    pub fn refused<R: Threads + Sync, G: Gate>(
+        &mut self,
+        rt: &R,
+        words: &[String],
+        gate: &G,
+    ) -> Status
+        ensures fault { TellsFault (desk_run words.now self.old self.new result) }
+        ensures long { TellsLong (desk_run words.now self.old self.new result) }
+    {
+        self.run(rt, words, gate)
+    }
+
+    /// A file that was not read is named, and a read of it failed.
+    pub fn read_fault<R: Threads + Sync, G: Gate>(
+        &mut self,
+        rt: &R,
+        words: &[String],
+        gate: &G,
+    ) -> Status
+        ensures { TellsUnread (desk_run words.now self.old self.new result) }
+    {
+        self.run(rt, words, gate)
+    }
+
+    /// Where the text was not written whole, a write failed.
+    pub fn write_fault<R: Threads + Sync, G: Gate>(
+        &mut self,
+        rt: &R,
+        words: &[String],
+        gate: &G,
+    ) -> Status
+        ensures { TellsUnwritten (desk_run words.now self.old self.new result) }
+    {
+        self.run(rt, words, gate)
+    }
+
+    /// Where memory ran out, nothing is put.
+    pub fn no_memory<R: Threads + Sync, G: Gate>(
+        &mut self,
+        rt: &R,
+        words: &[String],
+        gate: &G,
+    ) -> Status
+        ensures { TellsMemory (desk_run words.now self.old self.new result) }
+    {
+        self.run(rt, words, gate)
+    }
+}
+
+/// `make` sums up a generated board, whatever the store.
+pub fn make<R: Threads + Sync, S: Store, G: Gate>(
+    rt: &R,
+    alloc: Global,
+    words: &[String],
+    store: &mut S,
+    out: &mut MemSink,
+    notes: &mut MemSink,
+    gate: &G,
+) -> Status
+    ensures { SumsUp (run_of words.now (ends_of (S.held store.old) (S.asked store.old) (S.faults store.old) out.old notes.old) (ends_of (S.held store.new) (S.asked store.new) (S.faults store.new) out.new notes.new) result) }
+{
+    run_on(rt, alloc, words, store, out, notes, gate)
+}
