@@ -5,9 +5,9 @@ PROGRAM := crates/btest/out/btest
 .PHONY: help demo build test check check-tools bench stress figures install package
 
 help:
-	@echo 'make demo                runs the program on an example board and shows what it prints: two and a half minutes'
+	@echo 'make demo                runs the program on an example board and shows what it prints: one to three minutes'
 	@echo 'make test                proves everything, tries the edits that must fail and runs the tests: about an hour the first time; what passed is kept'
-	@echo 'make build               proves the program alone and leaves it at $(PROGRAM): about half an hour, and nothing is left to prove after make test'
+	@echo 'make build               proves the program alone and leaves it at $(PROGRAM): about 25 minutes, and nothing is left to prove after make test'
 	@echo 'make install PREFIX=DIR  copies the proved program with its man page, guide, examples and tools to DIR'
 	@echo 'make package             makes a Debian package and a tar.gz of them, in out/'
 	@echo 'make check CRATE=NAME    proves one crate, and those below it where they have changed'

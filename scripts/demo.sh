@@ -32,13 +32,12 @@ show_board() {
 run_proved() {
     local program command status
     program=$(realpath "$PROGRAM")
-    cd examples
     for command in "${commands[@]}"; do
         echo "\$ btest $command"
         status=0
         # A command is its words.
         # shellcheck disable=SC2086
-        "$program" $command || status=$?
+        (cd examples && "$program" $command) || status=$?
         [ "$status" = 0 ] || echo "(exit status $status)"
     done
 }
@@ -87,23 +86,29 @@ show_line() {
     esac
 }
 
+# Keeps the program that the unproved build made, which is there only while the commands are run: the tool below calls it.
+keep_program() {
+    local made
+    made=$(find "$1/built" -type f -perm -u+x -name program | head -n 1)
+    [ -z "$made" ] || cp "$made" "$1/btest"
+}
+
 # One build, and a run for each command.
 run_unproved() {
-    local cases data=() file line='' part begun=$SECONDS build stage=checking is_built=
-    cases=$(mktemp -d)
-    # shellcheck disable=SC2064
-    trap "rm -rf '$cases'" EXIT
+    local room=$1 cases=$1/cases data=() file line='' part begun=$SECONDS build stage=checking is_built=
+    mkdir "$cases" "$room/built"
     write_cases "$cases"
     for file in examples/*; do
         [ -f "$file" ] && data+=(--data "${file##*/}=../../$file")
     done
     # One step of the interpreter, which would run each command a second time: the compiled program checks the same.
-    exec 3< <(cd crates/btest && exec rt try --steps 1 --cases "$cases" "${data[@]}" 2>&1)
+    exec 3< <(cd crates/btest && TMPDIR=$room/built exec rt try --steps 1 --cases "$cases" "${data[@]}" 2>&1)
     build=$!
     while true; do
         if IFS= read -r -t 10 part <&3; then
             line=$line$part
             if [ -z "$is_built" ] && [[ $line = "== "* ]]; then
+                keep_program "$room"
                 echo "--- built after $((SECONDS - begun)) seconds"
                 is_built=yes
             fi
@@ -121,14 +126,16 @@ run_unproved() {
     wait "$build"
 }
 
-# What the tool for failing boards makes of two logs. It calls the program, so there has to be one.
+# What the tool for failing boards makes of two logs. It calls this program.
 run_tool() {
-    local log
+    local program log
+    program=$(realpath "$1")
     command -v python3 >/dev/null || return 0
+    cd examples
     for log in shorted.log two-faults.log; do
         echo "\$ python3 tools/failing-nets.py $log $board"
         # shellcheck disable=SC2086
-        python3 -B ../tools/failing-nets.py --btest "../$PROGRAM" "$log" $board
+        python3 -B ../tools/failing-nets.py --btest "$program" "$log" $board
     done
 }
 
@@ -136,10 +143,17 @@ show_board
 if is_current; then
     echo '--- the proved program on these files'
     run_proved
-    run_tool
+    run_tool "$PROGRAM"
 else
     need_rt
-    echo '--- building the program without its proofs: about two and a half minutes, most of them for checking'
-    run_unproved
+    echo '--- building the program without its proofs: one to three minutes'
+    room=$(mktemp -d)
+    trap 'rm -rf "$room"' EXIT
+    run_unproved "$room"
+    if [ -f "$room/btest" ]; then
+        run_tool "$room/btest"
+    else
+        echo "--- what the build made is not where it was looked for, so tools/failing-nets.py is not shown: 'make build' and then 'make demo' shows it"
+    fi
     echo "--- This run was checked for overflow, bad indices and the like, and not proved. 'make build' proves the program."
 fi
