@@ -12,7 +12,6 @@ use Rattle.board_defs.specs.BoardRules.{IsBoard}
 use Rattle.board_defs.specs.DeviceRules.{driving_entry}
 use Rattle.board_defs.specs.Pins.{device_at, cell_count, entry_at, data_bits, data_length}
 use Rattle.tap_defs.proofs.board.QuietLemmas.{device_of}
-use Rattle.tap_defs.specs.chain.ShiftRegister.{filled}
 use Rattle.tap_defs.specs.chain.Scan.{joined}
 use Rattle.plan_tables.specs.Tables.{first_position, AreFirsts}
 use Rattle.plan_tables.specs.inner.Laid.{CellBits, part_laid, parts_laid}
@@ -73,14 +72,6 @@ pub gathered-more : {X Y : Type 0} (f : ℕ → X → List Y) (xs : List X) (i :
 gathered-more {X} {Y} f xs i d less =
     ap (λ (l : List X). gathered f 0 l) (Rattle.std.proofs.lemmas.List.take_more xs i d less)
     ∙ gathered-append f 0 (take i xs) (get_or xs i d) i (omega (arith, Rattle.std.proofs.lemmas.List.length-take-le i xs (omega (arith, less))))
-
--- one cell more
-pub filled_more : {A : Type 0} (n : ℕ) (f : ℕ → A) → filled (n + 1) f ≡ filled n f ++ f n ∷ []
-filled_more {A} n f = let e : n + 1 ≡ suc n = omega arith in ap (λ (k : ℕ). filled k f) e ∙ by_length n f
-  where
-    by_length : (n : ℕ) (f : ℕ → A) → filled (suc n) f ≡ filled n f ++ f n ∷ []
-    by_length zero f = refl
-    by_length (suc n) f = ap (λ (l : List A). f 0 ∷ l) (by_length n (λ k. f (suc k)))
 
 -- one part more, from the last on
 pub part_more : (g : CellBits) (chain : List Part) (i : ℕ) (d : Part) → 0 < i → i ≤ length chain →

@@ -19,14 +19,11 @@ use Rattle.tap_defs.specs.board.Quiet.{safe_bit}
 use Rattle.tap_defs.specs.chain.Codes.{instructs}
 use Rattle.tap_defs.specs.board.TestRows.{is_observed, observed_count, code_width, row_bit, quiet_row}
 use Rattle.tap_defs.specs.board.BoardScans.{first_row_scan, preload_code, extest_code}
-use Rattle.tap_defs.specs.chain.ShiftRegister.{filled}
-use Rattle.tap_defs.proofs.chain.ScanLemmas.{filled_at}
 use Rattle.tap_defs.proofs.board.WidthLemmas.{width_is}
 use Rattle.plan_tables.specs.declared.codes.NetCodes.{NetCodes}
-use Rattle.plan_tables.specs.declared.tables.FixedRows.{FixedRows}
 use Rattle.plan_tables.specs.declared.tables.HeldCell.{HeldCell}
 use Rattle.plan_tables.specs.declared.tables.ReaderCell.{ReaderCell}
-use Rattle.plan_tables.specs.Tables.{first_position, AreFirsts, AreRowsOf, IsHeldCell, common_rows, held_cell, pass_cells_of}
+use Rattle.plan_tables.specs.Tables.{first_position, AreFirsts, AreRowsOf, IsHeldCell, held_cell, pass_cells_of}
 use Rattle.plan_tables.specs.declared.tables.PassTables.{PassTables}
 use Rattle.plan_tables.specs.declared.tables.PlanTables.{PlanTables}
 use Rattle.plan_tables.specs.inner.Laid.{laid, quiet_bits}
@@ -147,10 +144,9 @@ pub is_plan : (board : RawBoard) → IsBoard board → (plan : PlanTables) → A
     plan.readers ≡ all_readers board → plan.drivers ≡ all_drivers board → AreFirsts board.chain plan.firsts → ArePassTables board plan.passes plan.steady (pass_cells_of board plan.quiet.bits plan.by_control) →
     (seen : List Bool) → seen ≡ seen_in board (length board.nets) plan.steady plan.by_control plan.passes → (codes : NetCodes) → AreCodes seen codes → plan.codes ≡ codes.codes →
     codes.count + 2 ≤ 2 ^ plan.width → ((less : ℕ) → less < plan.width → 2 ^ less < codes.count + 2) →
-    plan.common ≡ filled plan.width (common_rows plan.quiet.bits plan.codes plan.readers plan.steady) →
     AreRowsOf ((instructs (map (λ part. preload_code part.kind) board.chain)).bits) plan.preload →
     AreRowsOf ((instructs (map (λ part. extest_code part.kind) board.chain)).bits) plan.extest → IsPlanOf board plan
-is_plan board rules plan plannable quiet readers_are drivers_are firsts tables seen seen_is codes are_codes codes_are enough least common preload extest =
+is_plan board rules plan plannable quiet readers_are drivers_are firsts tables seen seen_is codes are_codes codes_are enough least preload extest =
     record {
       plannable = plannable;
       width_is = code_width_is codes.count plan.width enough least ∙ ap code_width (are_codes.count_is ∙ count_is);
@@ -164,7 +160,6 @@ is_plan board rules plan plannable quiet readers_are drivers_are firsts tables s
         quiet = quiet ∙ sym (tdi_laid board first_row_scan ∙ laid_same board (λ part device cell. row_bit board quiet_row part device cell) (quiet_bits board) (quiet_steady board));
         firsts = firsts;
         cells = λ x pass e. (pass_cells_of board plan.quiet.bits plan.by_control pass, refl, tables.each x pass e);
-        common = λ j less. ap (λ (l : List FixedRows). slice_get l j) common ∙ filled_at plan.width (common_rows plan.quiet.bits plan.codes plan.readers plan.steady) j less;
         readers = λ n net e. (
           readers_of board net.pins,
           ap (λ (l : List (List ReaderCell)). slice_get l n) readers_are ∙ readers_at board n net e,

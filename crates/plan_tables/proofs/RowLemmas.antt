@@ -1,7 +1,6 @@
--- Steps of the loops over rows.
-use Rattle.std.proofs.Common.{◌≡◌, ℕ, zero, suc, ◌<◌, ◌==◌, Bool, true, false, cond, List, [], ◌∷◌, length, replicate, get_or, set, refl, sym, ◌∙◌, length-set}
+-- The lengths of rows whose cells are set, and rows of zeros.
+use Rattle.std.proofs.Common.{◌≡◌, ℕ, zero, suc, ◌==◌, Bool, true, false, cond, List, [], ◌∷◌, length, replicate, get_or, set, refl, ◌∙◌, length-set}
 use Rattle.std.specs.List.{list_any}
-use Rattle.std.proofs.lemmas.Option.{slice_get-get_or, get_or_from_slice_get}
 use Rattle.plan_tables.specs.declared.tables.DriverCell.{DriverCell}
 use Rattle.plan_tables.specs.declared.tables.ReaderCell.{ReaderCell}
 use Rattle.plan_tables.specs.Assigned.{set_readers, set_compared}
@@ -23,7 +22,3 @@ pub length-set_compared : (bit : DriverCell → Bool) (readers : List (List Read
 length-set_compared bit readers [] bits = refl
 length-set_compared bit readers (d ∷ drivers) bits =
     length-set_compared bit readers drivers (set_readers d.place (bit d) bits (get_or readers d.net [])) ∙ length-set_readers d.place (bit d) bits (get_or readers d.net [])
-
--- an item that is there, whatever stands for one that is not
-pub any_default : {X : Type 0} (xs : List X) (i : ℕ) (a b : X) → i < length xs → get_or xs i a ≡ get_or xs i b
-any_default xs i a b less = sym (get_or_from_slice_get xs i (get_or xs i a) b (slice_get-get_or xs i a less))

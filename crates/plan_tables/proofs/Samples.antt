@@ -7,7 +7,6 @@ use Rattle.plan_tables.specs.declared.tables.ReaderCell.{ReaderCell}
 use Rattle.plan_tables.specs.declared.observers.Observer.{Observer}
 use Rattle.plan_tables.specs.declared.uses.Uses.{Uses}
 use Rattle.plan_tables.specs.Assigned.{assigned, driver_bit, set_compared}
-use Rattle.plan_tables.specs.Tables.{common_rows, row_with}
 use Rattle.plan_tables.specs.inner.Building.{table_of}
 use Rattle.plan_tables.specs.inner.Codes.{AreCodes}
 use Rattle.plan_tables.specs.inner.Steady.{steady_cells, moving}
@@ -39,26 +38,6 @@ mask = refl
 
 have_one : map (list_any (λ bit. bit)) (replicate 5 false ∷ compared (λ d. true) ∷ []) ≡ false ∷ true ∷ []
 have_one = refl
-
--- where that driver is steady, all passes have its net's code 2 over the quiet row: bit 0 in row 0, and bit 1 in row 1. Both rows are compared at
--- the same cell
-common : map (common_rows quiet (2 ∷ []) (readers ∷ []) (enabled ∷ [])) (0 ∷ 1 ∷ [])
-    ≡ record {
-      tdi = row_with 5 (false ∷ false ∷ true ∷ false ∷ true ∷ []);
-      tdo = row_with 5 (replicate 5 false);
-      mask = row_with 5 (true ∷ false ∷ false ∷ false ∷ false ∷ []);
-    }
-    ∷ record {
-      tdi = row_with 5 (false ∷ false ∷ true ∷ true ∷ true ∷ []);
-      tdo = row_with 5 (true ∷ false ∷ false ∷ false ∷ false ∷ []);
-      mask = row_with 5 (true ∷ false ∷ false ∷ false ∷ false ∷ []);
-    }
-    ∷ []
-common = refl
-
--- without a steady driver they are the quiet row, and compare nothing
-none_common : common_rows quiet (2 ∷ []) (readers ∷ []) [] 0 ≡ record { tdi = row_with 5 quiet; tdo = row_with 5 (replicate 5 false); mask = row_with 5 (replicate 5 false) }
-none_common = refl
 
 -- codes number the nets that are observed
 abbrev seen : List Bool

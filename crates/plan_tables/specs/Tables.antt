@@ -1,7 +1,6 @@
--- What a plan keeps of a board: rows that every test of it has, rows that all passes share, and the positions at which those of a pass differ.
-use Rattle.std.specs.Prelude.{◌≡◌, ◌≢◌, ◌↔◌, ℕ, suc, ◌+◌, ◌<◌, Bool, true, false, not, List, [], ◌++◌, replicate, length, map, drop, sum_by, Some, slice_get, slice_index_or, unwrap_or, Contains}
+-- What a plan keeps of a board: rows that every test of it has, and the positions at which those of a pass differ from the quiet row.
+use Rattle.std.specs.Prelude.{◌≡◌, ◌≢◌, ◌↔◌, ℕ, suc, ◌+◌, ◌<◌, Bool, true, false, not, List, [], ◌++◌, length, map, drop, sum_by, Some, slice_get, slice_index_or, unwrap_or, Contains}
 use Rattle.std.specs.List.{flat_map}
-use Rattle.bt_bits.specs.Rows.{BitRow}
 use Rattle.board_defs.specs.declared.device.Cell.{Cell}
 use Rattle.board_defs.specs.declared.device.RawDevice.{RawDevice}
 use Rattle.board_defs.specs.declared.board.Part.{Part}
@@ -23,7 +22,6 @@ use Rattle.plan_tables.specs.declared.tables.DriverCell.{DriverCell}
 use Rattle.plan_tables.specs.declared.tables.ReaderCell.{ReaderCell}
 use Rattle.plan_tables.specs.declared.controls.DriverTable.{DriverTable}
 use Rattle.plan_tables.specs.declared.tables.PlanTables.{PlanTables}
-use Rattle.plan_tables.specs.Assigned.{assigned, driver_bit, set_compared}
 
 -- the position of a part's first bit in a scan of data: behind those of the parts after it
 abbrev pub first_position : RawBoard → ℕ → ℕ
@@ -107,20 +105,6 @@ pub record ArePassCells (board : RawBoard) (steady : List DriverCell) (pass : Li
   pub drivers : (d : DriverCell) → Contains (steady ++ cells.drivers) d ↔ IsDriverCell board pass d
   pub apart : (h : HeldCell) (d : DriverCell) → Contains cells.held h → Contains steady d → h.position ≢ d.position
 
--- a row of these bits, with room for so many
-abbrev pub row_with : ℕ → List Bool → BitRow
-row_with room bits = record { bits = bits; room = room }
-
--- what all passes have in row j: bit j of the code of each steady driver's net, in its cell over the quiet row and where the net is read
-abbrev pub common_rows : List Bool → List ℕ → List (List ReaderCell) → List DriverCell → ℕ → FixedRows
-common_rows quiet codes readers steady j =
-    let none : List Bool = replicate (length quiet) false in
-    record {
-      tdi = row_with (length quiet) (assigned (λ d. d.position) (driver_bit codes j) quiet steady);
-      tdo = row_with (length quiet) (set_compared (driver_bit codes j) readers none steady);
-      mask = row_with (length quiet) (set_compared (λ d. true) readers none steady);
-    }
-
 -- the compared cells of a net, each in some place
 abbrev pub AreReaders : RawBoard → Net → List ReaderCell → Type 0
 AreReaders board net readers = (r : ReaderCell) → Contains readers r ↔ IsReaderCell board net r
@@ -132,6 +116,5 @@ pub record ArePlanTables (board : RawBoard) (plan : PlanTables) : Type 0 where
   pub quiet : plan.quiet.bits ≡ tdi_bits (joined (row_bits board first_row_scan))
   pub firsts : AreFirsts board.chain plan.firsts
   pub cells : (x : ℕ) (pass : List Ctl) → slice_get plan.passes x ≡ Some pass → (cells : PassCells) × (cells ≡ pass_cells_of board plan.quiet.bits plan.by_control pass) × ArePassCells board plan.steady pass cells
-  pub common : (j : ℕ) → j < plan.width → slice_get plan.common j ≡ Some (common_rows plan.quiet.bits plan.codes plan.readers plan.steady j)
   pub readers : (n : ℕ) (net : Net) → slice_get board.nets n ≡ Some net → (readers : List ReaderCell) × (slice_get plan.readers n ≡ Some readers) × AreReaders board net readers
   pub readers_length : length plan.readers ≡ length board.nets

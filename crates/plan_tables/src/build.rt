@@ -7,7 +7,6 @@ ghost use Rattle.plan_tables.specs.Plans.{ArePlannable, IsPlanOf};
 ghost use Rattle.plan_tables.specs.inner.Steady.{ArePassTables};
 
 use crate::codes::{number_nets, seen_nets};
-use crate::common::common_rows;
 use crate::controls::driver_table;
 use crate::drivers::all_drivers;
 use crate::entries::part_tables;
@@ -73,14 +72,6 @@ pub fn tables_of(
     let seen = seen_nets(alloc, board, firsts, readers.len(), &tables, settings)?;
     let codes = number_nets(alloc, &seen)?;
     let width = width(codes.count);
-    let common = common_rows(
-        alloc,
-        &quiet,
-        tables.steady.as_slice(),
-        readers,
-        codes.codes.as_slice(),
-        width,
-    )?;
     let preload = instruction_rows(alloc, Instruction::Preload, board)?;
     let extest = instruction_rows(alloc, Instruction::Extest, board)?;
     Ok(PlanTables {
@@ -91,7 +82,6 @@ pub fn tables_of(
         extest,
         quiet,
         steady: tables.steady,
-        common,
         firsts: parts.firsts,
         by_control: tables.by_control,
         readers: nets.readers,

@@ -1,14 +1,13 @@
 //! The tables of a plan: what each scan of a board's test is made of.
 //!
 //! For a board and passes, each of which is safe and has only controls of drivers of the board, `tables_of` answers with what no scan
-//! needs to look for again: the rows that many scans share, the positions of the cells in which those of a pass differ, net by net the
-//! drivers and the cells that read it, and its code. The other calls find the cells of a pass in these tables and set their bits in a row;
+//! needs to look for again: the scans of instructions and the quiet row, the positions of the cells in which the rows of data differ from it,
+//! net by net the drivers and the cells that read it, and its code. The other calls find the cells of a pass in these tables;
 //! `scan_planner` fills the scans with them.
 #![tactic(auto)]
 
 mod build;
 mod codes;
-mod common;
 mod controls;
 mod drivers;
 mod entries;
@@ -27,5 +26,4 @@ pub use build::tables_of;
 pub use controls::{ControlCells, DriverTable, controlled};
 pub use held::held_cell;
 pub use nets::NetDriver;
-pub use rows::{compare_nets, set_drivers};
 pub use tables::{DriverCell, FixedRows, HeldCell, PlanTables, ReaderCell};

@@ -4,7 +4,7 @@ use crate::nets::NetDriver;
 use board_defs::{Items, Setting};
 use bt_bits::Row;
 
-/// The rows of a scan that many scans share.
+/// The rows of a scan.
 #[derive(Drop)]
 pub struct FixedRows {
     pub tdi: Row,
@@ -42,9 +42,9 @@ pub struct PassTables {
     pub by_control: DriverTable,
 }
 
-/// The tables of a plan: the driver cells that are the same in all passes, what all passes have in each row with these
-/// cells set, and what finds the cells of a pass by its controls: the position of each part's first bit, and the driver
-/// cells of each control. The codes, the readers and the drivers stand net by net.
+/// The tables of a plan: the scans of instructions and the quiet row, the driver cells that are the same in all passes, and
+/// what finds the other cells of a pass by its controls: the position of each part's first bit, and the driver cells of each
+/// control. The codes, the readers and the drivers stand net by net.
 #[derive(Drop)]
 pub struct PlanTables {
     pub passes: Items<Setting>,
@@ -54,7 +54,6 @@ pub struct PlanTables {
     pub extest: FixedRows,
     pub quiet: Row,
     pub steady: Items<DriverCell>,
-    pub common: Items<FixedRows>,
     pub firsts: Items<u32>,
     pub by_control: DriverTable,
     pub readers: Items<Items<ReaderCell>>,

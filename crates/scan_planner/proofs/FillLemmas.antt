@@ -1,45 +1,47 @@
 -- What a plan's tables fill in is the scan.
-use Rattle.std.proofs.Common.{◌≡◌, ℕ, zero, suc, ◌<◌, ◌≤◌, Bool, true, false, cond, List, [], ◌∷◌, ◌++◌, fold, length, get_or, set, replicate, Option, Some, None, is_some, unwrap_or, refl, sym, ap, ◌∙◌, subst, arith}
+use Rattle.std.proofs.Common.{◌≡◌, ℕ, zero, suc, ◌+◌, ◌*◌, ◌^◌, ◌<◌, ◌≤◌, Bool, true, false, cond, List, [], ◌∷◌, ◌++◌, length, get_or, set, replicate, Option, Some, None, is_some, unwrap_or, refl, sym, ap, ◌∙◌, subst, arith}
 use Rattle.std.specs.Prelude.{slice_get, All}
-use Rattle.std.specs.List.{flat_map, list_any}
+use Rattle.std.specs.List.{list_any}
+use Rattle.std.proofs.lemmas.Bool.{lt-ltb}
 use Rattle.std.proofs.lemmas.List.{length-map, length-replicate}
-use Rattle.std.proofs.lemmas.List.Sums.{fold-append}
+use Rattle.std.proofs.lemmas.List.Sums.{fold-append, count_by-le-length}
 use Rattle.std.proofs.lemmas.Option.{slice_get-get_or, get_or_from_slice_get}
 use Rattle.board_defs.specs.declared.board.RawBoard.{RawBoard}
 use Rattle.board_defs.specs.declared.board.Ctl.{Ctl}
 use Rattle.board_defs.specs.BoardRules.{IsBoard}
 use Rattle.board_defs.specs.Pins.{device_at, cell_count, data_bits}
 use Rattle.board_defs.specs.Settings.{holds}
-use Rattle.board_defs.proofs.Members.{Has, has_left, has_right, has_map, has_flat_map, contains_has, has_contains}
+use Rattle.board_defs.proofs.Members.{Has, contains_has, has_contains}
 use Rattle.board_defs.proofs.Places.{any_at}
 use Rattle.tap_defs.specs.declared.scan.Shape.{Shape}
 use Rattle.tap_defs.specs.chain.Scan.{ScanBit, Scan, joined, tdi_bits, tdo_bits, mask_bits, scan_bits}
-use Rattle.tap_defs.specs.board.TestRows.{TestRow, quiet_row, code_row, code_of_net, code_bit, net_code_bit, is_observed, observing_driver, row_bit, expect_bit}
-use Rattle.tap_defs.specs.board.BoardScans.{RowScan, row_bits, first_row_scan, test_scans}
+use Rattle.tap_defs.specs.board.TestRows.{TestRow, quiet_row, code_row, code_of_net, code_bit, net_code_bit, is_observed, observed_count, observing_driver, row_bit, expect_bit}
+use Rattle.tap_defs.specs.board.BoardScans.{RowScan, row_bits, row_now, scan_of_row, first_row_scan, test_scans}
 use Rattle.tap_defs.proofs.board.EntryLemmas.{row_scan_some}
+use Rattle.tap_defs.proofs.board.ScanPlaceLemmas.{scans_placed}
+use Rattle.tap_defs.proofs.board.WidthLemmas.{width_is}
 use Rattle.plan_tables.specs.declared.tables.FixedRows.{FixedRows}
 use Rattle.plan_tables.specs.declared.tables.HeldCell.{HeldCell}
 use Rattle.plan_tables.specs.declared.tables.DriverCell.{DriverCell}
 use Rattle.plan_tables.specs.declared.tables.ReaderCell.{ReaderCell}
-use Rattle.plan_tables.specs.Tables.{PassCells, AreRowsOf, IsHeldCell, IsDriverCell, ArePassCells, common_rows, held_cell, pass_cells_of, controlled}
-use Rattle.scan_planner.specs.inner.Passes.{AreDrivers}
+use Rattle.plan_tables.specs.Tables.{PassCells, AreRowsOf, IsHeldCell, IsDriverCell, ArePassCells, pass_cells_of}
 use Rattle.plan_tables.specs.declared.tables.PlanTables.{PlanTables}
 use Rattle.plan_tables.specs.inner.Laid.{laid, steady}
 use Rattle.plan_tables.specs.Assigned.{assigned, driver_bit, set_readers, set_compared}
 use Rattle.plan_tables.specs.Plans.{IsPlanOf}
-use Rattle.scan_planner.specs.Plans.{FillsScan}
+use Rattle.scan_planner.specs.PassRows.{steady_compared, steady_shifted}
+use Rattle.scan_planner.specs.Plans.{FillsScan, scan_of_pass}
+use Rattle.scan_planner.specs.inner.Passes.{compared, driven}
 use Rattle.plan_tables.proofs.AssignLemmas.{length-assigned, assigned_apart}
 use Rattle.plan_tables.proofs.RowLemmas.{length-set_compared}
-use Rattle.plan_tables.proofs.LaidLemmas.{laid_at, length-laid, laid_same, zeros_laid, tdi_laid, tdo_laid, mask_laid}
+use Rattle.plan_tables.proofs.LaidLemmas.{length-laid, laid_same, zeros_laid, tdi_laid, tdo_laid, mask_laid}
 use Rattle.plan_tables.proofs.HeldLemmas.{quiet_steady, control_cells}
 use Rattle.scan_planner.proofs.HeldLemmas.{held_laid}
 use Rattle.scan_planner.proofs.DriverLemmas.{drivers_laid}
 use Rattle.plan_tables.proofs.ReaderTableLemmas.{ReadersOf, readers_below}
 use Rattle.scan_planner.proofs.ReaderLemmas.{Pair, pairs, quiet_expect, set_compared_is, tdo_compared, mask_compared}
-use Rattle.plan_tables.proofs.PinLemmas.{Standing, standing, drives_by, entry_on}
-use Rattle.plan_tables.proofs.ObserverLemmas.{holds_has}
 use Rattle.plan_tables.proofs.PassLemmas.{fold_on}
-use Rattle.plan_tables.proofs.ListLemmas.{all_has}
+use Rattle.plan_tables.proofs.PlanLemmas.{width_most}
 use Rattle.plan_tables.proofs.SizeLemmas.{IsSized}
 
 -- the scan that its rows make
@@ -146,15 +148,18 @@ module _ (board : RawBoard) (rules : IsBoard board) (plan : PlanTables) (p : IsP
   pub readers_within : All (λ cells. All (λ r. r.position < data_bits board) cells) plan.readers
   readers_within = readers_below board rules plan.readers readers_of p.tables.readers_length
 
+  -- the codes have at most 14 bits, so a stack has their rows
+  pub few_rows : plan.width ≤ 14
+  few_rows =
+      let count : ℕ = observed_count board plan.passes in
+      width_most count plan.width (omega (arith, count_by-le-length (is_observed board plan.passes) board.nets, rules.nets_most)) (subst (λ (w : ℕ). (less : ℕ) → less < w → 2 ^ less < count + 2) (sym p.width_is) (width_is count).least)
+
   -- the lengths of the rows of all passes
-  pub common_tdi_length : (j : ℕ) → length (common_rows plan.quiet.bits plan.codes plan.readers plan.steady j).tdi.bits ≡ data_bits board
-  common_tdi_length j = length-assigned (λ (d : DriverCell). d.position) (driver_bit plan.codes j) plan.quiet.bits plan.steady ∙ quiet_length
+  pub steady_shifted_length : (j : ℕ) → length (steady_shifted plan j) ≡ data_bits board
+  steady_shifted_length j = length-assigned (λ (d : DriverCell). d.position) (driver_bit plan.codes j) plan.quiet.bits plan.steady ∙ quiet_length
 
-  pub compared_length : (bit : DriverCell → Bool) → length (set_compared bit plan.readers (replicate (length plan.quiet.bits) false) plan.steady) ≡ data_bits board
-  compared_length bit = length-set_compared bit plan.readers plan.steady (replicate (length plan.quiet.bits) false) ∙ length-replicate (length plan.quiet.bits) false ∙ quiet_length
-
-  pub common_there : (j : ℕ) → j < plan.width → j < length plan.common
-  common_there j less = Rattle.std.proofs.lemmas.Option.slice_get_within plan.common j (common_rows plan.quiet.bits plan.codes plan.readers plan.steady j) (p.tables.common j less)
+  pub steady_compared_length : (bit : DriverCell → Bool) → length (steady_compared plan bit) ≡ data_bits board
+  steady_compared_length bit = length-set_compared bit plan.readers plan.steady (replicate (length plan.quiet.bits) false) ∙ length-replicate (length plan.quiet.bits) false ∙ quiet_length
 
   module _ (x : ℕ) (less : x < length plan.passes) where
     abbrev pass : List Ctl
@@ -180,37 +185,8 @@ module _ (board : RawBoard) (rules : IsBoard board) (plan : PlanTables) (p : IsP
     driver_only : (d : DriverCell) → Has all d → IsDriverCell board pass d
     driver_only d has = (are.drivers d).0 (has_contains all d has)
 
-    own_only : (d : DriverCell) → Has cells.drivers d → IsDriverCell board pass d
-    own_only d has = driver_only d (has_right plan.steady cells.drivers d has)
-
     every : (d : DriverCell) → IsDriverCell board pass d → Has all d
     every d is = contains_has all d ((are.drivers d).1 is)
-
-    driver_within : (d : DriverCell) → Has cells.drivers d → d.position < data_bits board
-    driver_within d has =
-        let s = own_only d has in
-        let t : Standing board d.net s.net d.place s.at = standing board rules d.net s.net d.place s.pin s.at s.is_net s.is_pin s.is_at in
-        let drives = drives_by t.device s.at.bit s.entry (sym (entry_on board s.at t.device t.is_device) ∙ s.is_entry) in
-        omega (arith, s.position_is, (laid_at (steady board (λ c. false)) board s.at.part t.device s.entry.num t.is_device (t.wired.num_below drives.index s.entry drives.stands)).0)
-
-    are_drivers : (setting : List Ctl) → setting ≡ pass → (P : DriverCell → Type 0) → ((d : DriverCell) → Has cells.drivers d → P d) → AreDrivers board plan.by_control setting P
-    are_drivers setting is P each =
-        let rows : HeldCell → List DriverCell = λ h. get_or plan.by_control.rows h.position [] in
-        let always = plan.by_control.always in
-        record {
-          always = all_has P always (λ d has. each d (has_left always (flat_map rows cells.held) d has));
-          by_control = λ c on.
-              all_has P (controlled board plan.by_control.rows c) (λ d has.
-              each d (has_right always (flat_map rows cells.held) d
-              (has_flat_map rows cells.held (held_cell board plan.quiet.bits c) d (has_map (held_cell board plan.quiet.bits) pass c (subst (λ (q : List Ctl). Has q c) is (holds_has setting c on))) has)));
-        }
-
-    pub drivers_within : (setting : List Ctl) → setting ≡ pass → (n : ℕ) → n ≡ data_bits board → AreDrivers board plan.by_control setting (λ d. d.position < n)
-    drivers_within setting is n bits = are_drivers setting is (λ d. d.position < n) (λ d has. omega (arith, driver_within d has, bits))
-
-    pub drivers_on_nets : (setting : List Ctl) → setting ≡ pass → (n : ℕ) → n ≡ length board.nets → AreDrivers board plan.by_control setting (λ d. d.net < n)
-    drivers_on_nets setting is n nets =
-        are_drivers setting is (λ d. d.net < n) (λ d has. let s = own_only d has in omega (arith, Rattle.std.proofs.lemmas.Option.slice_get_within board.nets d.net s.net s.is_net, nets))
 
     pub controls_there : (setting : List Ctl) → setting ≡ pass → (c : Ctl) → holds setting c ≡ true → c.cell < cell_count (device_at board c.part)
     controls_there setting is c on = control_cells board rules c (p.plannable.controls x pass c stands (sym (ap (λ (q : List Ctl). holds q c) is) ∙ on))
@@ -227,16 +203,13 @@ module _ (board : RawBoard) (rules : IsBoard board) (plan : PlanTables) (p : IsP
         p.codes_are d.net s.net s.is_net ∙ ap (λ (b : Bool). cond b (code_of_net board plan.passes d.net) 0) observed in
         sym (ap (λ (n : ℕ). Some (code_bit n j)) code)
 
-    -- a row of the pass, over that of all passes
-    pub code_row_is : (j : ℕ) (scan : RowScan) → scan.now ≡ code_row board plan.passes pass j →
-        (let bit : DriverCell → Bool = driver_bit plan.codes j in
-        let held : List Bool = assigned (λ h. h.position) (λ h. h.bit) (common_rows plan.quiet.bits plan.codes plan.readers plan.steady j).tdi.bits cells.held in
-        fold (λ done c. assigned (λ d. d.position) bit done (controlled board plan.by_control.rows c)) (assigned (λ d. d.position) bit held plan.by_control.always) pass)
-        ≡ tdi_bits (joined (row_bits board scan))
-    code_row_is j scan e =
+    -- what a row of the pass shifts in, over what all passes do
+    pub shifted_is : (j : ℕ) → j < plan.width →
+        driven board plan (driver_bit plan.codes j) (assigned (λ h. h.position) (λ h. h.bit) (steady_shifted plan j) cells.held) pass ≡ tdi_bits (joined (row_bits board (scan_of_pass board plan x j)))
+    shifted_is j within =
         let bit : DriverCell → Bool = driver_bit plan.codes j in
-        fold_on board plan.quiet.bits plan.by_control pass (λ bits (d : DriverCell). set bits d.position (bit d))
-        (assigned (λ h. h.position) (λ h. h.bit) (common_rows plan.quiet.bits plan.codes plan.readers plan.steady j).tdi.bits cells.held)
+        let row : row_now (code_row board plan.passes pass) plan.width j ≡ code_row board plan.passes pass j = ap (λ (t : Bool). cond t (code_row board plan.passes pass j) quiet_row) (lt-ltb j plan.width within) in
+        fold_on board plan.quiet.bits plan.by_control pass (λ bits (d : DriverCell). set bits d.position (bit d)) (assigned (λ h. h.position) (λ h. h.bit) (steady_shifted plan j) cells.held)
         ∙ ap (λ (l : List Bool). assigned (λ d. d.position) bit l cells.drivers)
         (assigned_apart (λ (h : HeldCell). h.position) (λ h. h.bit) (λ (d : DriverCell). d.position) bit plan.quiet.bits cells.held plan.steady
         (λ h d in_held in_steady. are.apart h d (has_contains cells.held h in_held) (has_contains plan.steady d in_steady)))
@@ -245,33 +218,34 @@ module _ (board : RawBoard) (rules : IsBoard board) (plan : PlanTables) (p : IsP
         ∙ ap (λ (l : List Bool). assigned (λ d. d.position) bit l all)
         (held_laid board rules pass (λ c has. p.plannable.controls x pass c stands has) cells.held held_only (λ h is. contains_has cells.held h ((are.held h).1 is)))
         ∙ drivers_laid board rules pass (carried j) bit all driver_only every (carries j)
-        ∙ sym (tdi_laid board scan ∙ ap (λ (row : TestRow). laid (λ part device cell. row_bit board row part device cell) board) e)
+        ∙ sym (tdi_laid board (scan_of_pass board plan x j) ∙ ap (λ (row : TestRow). laid (λ part device cell. row_bit board row part device cell) board) row)
 
-    -- what is compared of it, over what is compared of all
-    abbrev compared : (DriverCell → Bool) → List Bool
-    compared bit =
-        let common : List Bool = set_compared bit plan.readers (replicate (length plan.quiet.bits) false) plan.steady in
-        fold (λ done c. set_compared bit plan.readers done (controlled board plan.by_control.rows c)) (set_compared bit plan.readers common plan.by_control.always) pass
-
+    -- what is compared of it, over what is compared in all passes
     compared_is : (bit : DriverCell → Bool) →
-        compared bit ≡ assigned (λ (x : Pair). x.1.position) (λ x. bit x.0) (laid (λ part device cell. false) board) (pairs plan.readers all)
+        compared board plan bit (steady_compared plan bit) pass ≡ assigned (λ (x : Pair). x.1.position) (λ x. bit x.0) (laid (λ part device cell. false) board) (pairs plan.readers all)
     compared_is bit =
-        fold_on board plan.quiet.bits plan.by_control pass (λ done (d : DriverCell). set_readers d.place (bit d) done (get_or plan.readers d.net []))
-        (set_compared bit plan.readers (replicate (length plan.quiet.bits) false) plan.steady)
+        fold_on board plan.quiet.bits plan.by_control pass (λ done (d : DriverCell). set_readers d.place (bit d) done (get_or plan.readers d.net [])) (steady_compared plan bit)
         ∙ sym (fold-append (λ done (d : DriverCell). set_readers d.place (bit d) done (get_or plan.readers d.net [])) (replicate (length plan.quiet.bits) false) plan.steady cells.drivers)
         ∙ ap (λ (l : List Bool). set_compared bit plan.readers l all) (ap (λ n. replicate n false) quiet_length ∙ zeros_laid board)
         ∙ set_compared_is bit plan.readers all (laid (λ part device cell. false) board)
 
-    pub tdo_is : (j : ℕ) (scan : RowScan) → scan.before ≡ code_row board plan.passes pass j →
-        compared (driver_bit plan.codes j) ≡ tdo_bits (joined (row_bits board scan))
-    tdo_is j scan e =
+    pub expected_is : (j : ℕ) → compared board plan (driver_bit plan.codes j) (steady_compared plan (driver_bit plan.codes j)) pass ≡ tdo_bits (joined (row_bits board (scan_of_pass board plan x (suc j))))
+    expected_is j =
         compared_is (driver_bit plan.codes j)
         ∙ tdo_compared board rules pass (carried j) (driver_bit plan.codes j) all driver_only every (carries j) plan.readers readers_of
-        ∙ sym (tdo_laid board scan ∙ ap (λ (row : TestRow). laid (λ part device cell. unwrap_or (expect_bit board row part device cell) false) board) e)
+        ∙ sym (tdo_laid board (scan_of_pass board plan x (suc j)))
 
-    pub mask_is : (j : ℕ) (scan : RowScan) → scan.before ≡ code_row board plan.passes pass j →
-        compared (λ d. true) ≡ mask_bits (joined (row_bits board scan))
-    mask_is j scan e =
+    pub mask_is : (j : ℕ) → compared board plan (λ d. true) (steady_compared plan (λ d. true)) pass ≡ mask_bits (joined (row_bits board (scan_of_pass board plan x (suc j))))
+    mask_is j =
         compared_is (λ d. true)
         ∙ mask_compared board rules pass (carried j) (driver_bit plan.codes j) all driver_only every (carries j) plan.readers readers_of
-        ∙ sym (mask_laid board scan ∙ ap (λ (row : TestRow). laid (λ part device cell. is_some (expect_bit board row part device cell)) board) e)
+        ∙ sym (mask_laid board (scan_of_pass board plan x (suc j)))
+
+    -- rows that are those of its scan j fill that in
+    pub fills_row : (j : ℕ) → j ≤ plan.width → (shape : Shape) (tdi tdo mask : List Bool) → shape.ir ≡ false → tdi ≡ tdi_bits (joined (row_bits board (scan_of_pass board plan x j))) →
+        tdo ≡ tdo_bits (joined (row_bits board (scan_of_pass board plan x j))) → mask ≡ mask_bits (joined (row_bits board (scan_of_pass board plan x j))) → shape.compare ≡ list_any (λ bit. bit) mask →
+        FillsScan board plan.passes plan.width (3 + (x * suc plan.width + j)) shape tdi tdo mask
+    fills_row j within shape tdi tdo mask of_row shifts expects marks compare =
+        let s = row_sized board rules (scan_of_pass board plan x j) in
+        fills board plan.passes plan.width (3 + (x * suc plan.width + j)) (scan_of_row board (scan_of_pass board plan x j)) shape tdi tdo mask
+        ((scans_placed board plan.passes plan.width).rows x pass j stands within) s.some s.most shifts expects marks of_row compare

@@ -4,3 +4,4 @@ pub mod ReaderLemmas
 pub mod ControlLemmas
 pub mod FillLemmas
 pub mod NextLemmas
+mod Samples

@@ -34,8 +34,8 @@ pub mask_stands : (board : RawBoard) → IsBoard board → (plan : PlanTables) �
 mask_stands board rules plan p x j less later within shape tdi tdo mask f =
     sym (rows_mask tdi tdo mask f.tdo_length f.mask_length)
     ∙ ap (λ (o : Option Scan). mask_bits (bits_of o)) (sym f.scan ∙ ap (slice_get scans) place ∙ (scans_placed board plan.passes plan.width).rows x (get_or plan.passes x []) (suc i) (slice_get-get_or plan.passes x [] less) (omega (arith, later, within)))
-    ∙ sym (mask_is board rules plan p x less i (scan_of_pass board plan x (suc i)) refl)
-    ∙ mask_is board rules plan p x less (suc i) (scan_of_pass board plan x (suc (suc i))) refl
+    ∙ sym (mask_is board rules plan p x less i)
+    ∙ mask_is board rules plan p x less (suc i)
     ∙ ap (λ (n : ℕ). mask_bits (joined (row_bits board (scan_of_pass board plan x n)))) two
   where
     i : ℕ

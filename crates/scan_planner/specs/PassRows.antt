@@ -1,12 +1,13 @@
 -- The rows of a pass that are kept side by side.
-use Rattle.std.specs.Prelude.{◌≡◌, ℕ, suc, ◌<◌, ◌≤◌, length, IfSome}
+use Rattle.std.specs.Prelude.{◌≡◌, ℕ, suc, ◌<◌, ◌≤◌, Bool, true, false, List, length, replicate, IfSome}
 use Rattle.bt_bits.specs.Stacks.{stacked}
 use Rattle.board_defs.specs.declared.board.RawBoard.{RawBoard}
 use Rattle.board_defs.specs.Pins.{data_bits}
 use Rattle.tap_defs.specs.chain.Scan.{joined, mask_bits, tdi_bits, tdo_bits}
 use Rattle.tap_defs.specs.board.BoardScans.{row_bits}
 use Rattle.plan_tables.specs.declared.tables.PlanTables.{PlanTables}
-use Rattle.plan_tables.specs.Tables.{common_rows}
+use Rattle.plan_tables.specs.declared.tables.DriverCell.{DriverCell}
+use Rattle.plan_tables.specs.Assigned.{assigned, driver_bit, set_compared}
 use Rattle.scan_planner.specs.declared.pass_rows.PassRows.{PassRows}
 use Rattle.scan_planner.specs.declared.pass_rows.StackedRows.{StackedRows}
 use Rattle.scan_planner.specs.Plans.{scan_of_pass}
@@ -23,11 +24,19 @@ pub record KeepRoom (old new : StackedRows) : Type 0 where
   pub expected : new.expected.room ≡ old.expected.room
   pub mask : new.mask.room ≡ old.mask.room
 
--- the rows are what all passes of the plan have in theirs
+-- what all passes shift in in row j: bit j of the code of each steady driver's net, in its cell over the quiet row
+abbrev pub steady_shifted : PlanTables → ℕ → List Bool
+steady_shifted plan j = assigned (λ d. d.position) (driver_bit plan.codes j) plan.quiet.bits plan.steady
+
+-- what is compared of it in all passes: a bit of each steady driver where its net is read, over zeros
+abbrev pub steady_compared : PlanTables → (DriverCell → Bool) → List Bool
+steady_compared plan bit = set_compared bit plan.readers (replicate (length plan.quiet.bits) false) plan.steady
+
+-- the rows are what all passes of the plan have in theirs: what they shift in, what is expected of it, and where
 pub record AreCommonRows (plan : PlanTables) (rows : StackedRows) : Type 0 where
-  pub shifted : (j : ℕ) → j < 16 → stacked rows.shifted j ≡ (common_rows plan.quiet.bits plan.codes plan.readers plan.steady j).tdi.bits
-  pub expected : (j : ℕ) → j < 16 → stacked rows.expected j ≡ (common_rows plan.quiet.bits plan.codes plan.readers plan.steady j).tdo.bits
-  pub mask : (j : ℕ) → rows.mask.bits ≡ (common_rows plan.quiet.bits plan.codes plan.readers plan.steady j).mask.bits
+  pub shifted : (j : ℕ) → j < 16 → stacked rows.shifted j ≡ steady_shifted plan j
+  pub expected : (j : ℕ) → j < 16 → stacked rows.expected j ≡ steady_compared plan (driver_bit plan.codes j)
+  pub mask : rows.mask.bits ≡ steady_compared plan (λ d. true)
 
 -- the rows are those of pass x: row j is what its scan j shifts in, and what scan j + 1 expects of it and where
 pub record ArePassRows (board : RawBoard) (plan : PlanTables) (x : ℕ) (rows : StackedRows) : Type 0 where
@@ -36,9 +45,7 @@ pub record ArePassRows (board : RawBoard) (plan : PlanTables) (x : ℕ) (rows : 
   pub expected : (j : ℕ) → j < plan.width → stacked rows.expected j ≡ tdo_bits (joined (row_bits board (scan_of_pass board plan x (suc j))))
   pub mask : (j : ℕ) → j < plan.width → rows.mask.bits ≡ mask_bits (joined (row_bits board (scan_of_pass board plan x (suc j))))
 
--- what is kept has room for a scan of data, and where there is a pass, it is of this plan and of that pass
-pub record AreKept (board : RawBoard) (plan : PlanTables) (rows : PassRows) : Type 0 where
-  pub common_room : HaveRoom (data_bits board) rows.common
-  pub own_room : HaveRoom (data_bits board) rows.own
-  pub common : IfSome rows.pass (λ x. AreCommonRows plan rows.common)
-  pub own : IfSome rows.pass (λ x. ArePassRows board plan x rows.own)
+-- what is kept has room for a scan of data, and where there is a pass, it is that pass of this plan
+pub record AreKept (board : RawBoard) (plan : PlanTables) (kept : PassRows) : Type 0 where
+  pub room : HaveRoom (data_bits board) kept.rows
+  pub rows : IfSome kept.pass (λ x. ArePassRows board plan x kept.rows)

@@ -1,15 +1,16 @@
 // Fills rows with a scan.
-ghost use Rattle.std.specs.Prelude.{◌≡◌, ◌+◌, ◌*◌, ◌<◌, ◌≤◌, [], suc, true, length, Some, slice_get, slice_index_or};
+ghost use Rattle.std.specs.Prelude.{◌≡◌, ◌+◌, ◌*◌, ◌<◌, ◌≤◌, suc, true, false, length};
 ghost use Rattle.std.specs.List.{list_any};
 ghost use Rattle.board_defs.specs.Pins.{data_bits};
-ghost use Rattle.tap_defs.specs.board.BoardScans.{row_bits};
+ghost use Rattle.tap_defs.specs.board.TestRows.{quiet_row};
+ghost use Rattle.tap_defs.specs.board.BoardScans.{RowScan, row_bits};
 ghost use Rattle.tap_defs.specs.chain.Scan.{joined, tdi_bits, tdo_bits, mask_bits};
-ghost use Rattle.plan_tables.specs.Tables.{common_rows};
 ghost use Rattle.plan_tables.specs.Plans.{IsPlanOf};
 ghost use Rattle.scan_planner.specs.Plans.{IsRoom, FillsScan, scan_count, scan_of_pass};
-ghost use Rattle.scan_planner.specs.inner.Passes.{held_row};
 
-use crate::passes::{compare_controlled, pass_at, set_controlled, set_held};
+use crate::code_rows::RowAt;
+use crate::pass_cells::{expect_pass, shift_pass};
+use crate::plan::Plan;
 use board_defs::Board;
 use bt_bits::Row;
 use plan_tables::{FixedRows, PlanTables};
@@ -89,6 +90,33 @@ fn fill_extest(
     code_shape(mask)
 }
 
+/// Shifts the quiet row in.
+pub fn shift_quiet(board: &Board, tables: &PlanTables, tdi: &mut Row)
+    requires plan { IsPlanOf board.now tables.now }
+    requires room { data_bits board.now ≤ tdi.old.room }
+    ensures bits { (scan : RowScan) → scan.now ≡ quiet_row → tdi.new.bits ≡ tdi_bits (joined (row_bits board.now scan)) }
+    ensures kept { tdi.new.room ≡ tdi.old.room }
+{
+    let _ = board.raw();
+    tdi.copy_row(&tables.quiet);
+}
+
+/// Compares nothing, as a scan after the quiet row does.
+pub fn compare_nothing(board: &Board, tdo: &mut Row, mask: &mut Row)
+    requires tdo_room { data_bits board.now ≤ tdo.old.room }
+    requires mask_room { data_bits board.now ≤ mask.old.room }
+    ensures tdo { (scan : RowScan) → scan.before ≡ quiet_row → tdo.new.bits ≡ tdo_bits (joined (row_bits board.now scan)) }
+    ensures mask { (scan : RowScan) → scan.before ≡ quiet_row → mask.new.bits ≡ mask_bits (joined (row_bits board.now scan)) }
+    ensures nothing { list_any (λ bit. bit) mask.new.bits ≡ false }
+    ensures tdo_kept { tdo.new.room ≡ tdo.old.room }
+    ensures mask_kept { mask.new.room ≡ mask.old.room }
+{
+    let _ = board.raw();
+    let len = board.dr_bits();
+    tdo.clear(len);
+    mask.clear(len);
+}
+
 // The second scan, which shifts the quiet row in and compares nothing.
 fn fill_quiet(
     board: &Board,
@@ -107,152 +135,95 @@ fn fill_quiet(
     ensures mask_kept { mask.new.room ≡ mask.old.room }
 {
     let _ = board.raw();
-    let len = board.dr_bits();
-    tdi.copy_row(&tables.quiet);
-    tdo.clear(len);
-    mask.clear(len);
+    shift_quiet(board, tables, tdi);
+    compare_nothing(board, tdo, mask);
     Shape {
         ir: false,
         compare: false,
     }
 }
 
-fn rows_at(common: &[FixedRows], j: usize) -> &FixedRows
-    requires { j < length common.now }
-    ensures { slice_get common.now j ≡ Some result.now }
-{
-    &common[j]
-}
-
-// What all passes have in row `j`.
-fn common_row<'a>(board: &Board, tables: &'a PlanTables, j: u32) -> &'a FixedRows
-    requires plan { IsPlanOf board.now tables.now }
-    requires row { j < tables.now.width }
-    ensures { result.now ≡ common_rows tables.now.quiet.bits tables.now.codes tables.now.readers tables.now.steady j }
-{
-    let _ = board.raw();
-    rows_at(tables.common.as_slice(), j as usize)
-}
-
-// Shifts in what all passes have in row `j`, and in the cells of the controls of a pass what these hold.
-fn shift_held(board: &Board, tables: &PlanTables, pass: usize, j: u32, tdi: &mut Row)
-    requires plan { IsPlanOf board.now tables.now }
-    requires pass { pass < length tables.now.passes }
-    requires row { j < tables.now.width }
+/// Shifts row `j` of a pass in.
+pub fn shift_row(board: &Board, plan: &Plan, pass: usize, j: u32, tdi: &mut Row)
+    requires plan { IsPlanOf board.now plan.now }
+    requires pass { pass < length plan.now.passes }
+    requires row { j < plan.now.width }
     requires room { data_bits board.now ≤ tdi.old.room }
-    ensures bits { tdi.new.bits ≡ held_row board.now tables.now pass j }
-    ensures same_length { length tdi.new.bits ≡ data_bits board.now }
+    ensures bits { tdi.new.bits ≡ tdi_bits (joined (row_bits board.now (scan_of_pass board.now plan.now pass j))) }
     ensures kept { tdi.new.room ≡ tdi.old.room }
 {
     let _ = board.raw();
-    let common = common_row(board, tables, j);
-    let setting = pass_at(tables.passes.as_slice(), pass);
-    tdi.copy_row(&common.tdi);
-    set_held(board, tables.firsts.as_slice(), &tables.quiet, setting, tdi);
+    tdi.copy_stacked(&plan.common().shifted, j);
+    let mut row = RowAt {
+        row: tdi,
+        number: j,
+    };
+    shift_pass(board, plan.tables(), pass, &mut row);
 }
 
-// Shifts row `j` of a pass in: the cells of the pass over what all passes have.
-fn fill_code_row(board: &Board, tables: &PlanTables, pass: usize, j: u32, tdi: &mut Row)
-    requires plan { IsPlanOf board.now tables.now }
-    requires pass { pass < length tables.now.passes }
-    requires row { j < tables.now.width }
-    requires few { tables.now.width ≤ 14 }
-    requires room { data_bits board.now ≤ tdi.old.room }
-    ensures bits { tdi.new.bits ≡ tdi_bits (joined (row_bits board.now (scan_of_pass board.now tables.now pass j))) }
-    ensures kept { tdi.new.room ≡ tdi.old.room }
-{
-    let _ = board.raw();
-    let setting = pass_at(tables.passes.as_slice(), pass);
-    let firsts = tables.firsts.as_slice();
-    let codes = tables.codes.as_slice();
-    shift_held(board, tables, pass, j, tdi);
-    set_controlled(board, firsts, &tables.by_control, setting, codes, j, tdi);
-}
-
-/// Shifts row `j` of a pass in, or the quiet row after the last.
-pub fn fill_now(board: &Board, tables: &PlanTables, pass: usize, j: u32, tdi: &mut Row)
-    requires plan { IsPlanOf board.now tables.now }
-    requires pass { pass < length tables.now.passes }
-    requires few { tables.now.width ≤ 14 }
-    requires room { data_bits board.now ≤ tdi.old.room }
-    ensures bits { tdi.new.bits ≡ tdi_bits (joined (row_bits board.now (scan_of_pass board.now tables.now pass j))) }
-    ensures kept { tdi.new.room ≡ tdi.old.room }
-{
-    let _ = board.raw();
-    if j < tables.width {
-        fill_code_row(board, tables, pass, j, tdi)
-    } else {
-        tdi.copy_row(&tables.quiet)
-    }
-}
-
-/// Compares row `j` of a pass: its nets and those that all passes observe.
-pub fn compare_row(
-    board: &Board,
-    tables: &PlanTables,
-    pass: usize,
-    j: u32,
-    tdo: &mut Row,
-    mask: &mut Row,
-)
-    requires plan { IsPlanOf board.now tables.now }
-    requires pass { pass < length tables.now.passes }
-    requires row { j < tables.now.width }
-    requires few { tables.now.width ≤ 14 }
+/// Compares row `j` of a pass.
+pub fn compare_row(board: &Board, plan: &Plan, pass: usize, j: u32, tdo: &mut Row, mask: &mut Row)
+    requires plan { IsPlanOf board.now plan.now }
+    requires pass { pass < length plan.now.passes }
+    requires row { j < plan.now.width }
     requires tdo_room { data_bits board.now ≤ tdo.old.room }
     requires mask_room { data_bits board.now ≤ mask.old.room }
-    ensures tdo { tdo.new.bits ≡ tdo_bits (joined (row_bits board.now (scan_of_pass board.now tables.now pass (suc j)))) }
-    ensures mask { mask.new.bits ≡ mask_bits (joined (row_bits board.now (scan_of_pass board.now tables.now pass (suc j)))) }
+    ensures tdo { tdo.new.bits ≡ tdo_bits (joined (row_bits board.now (scan_of_pass board.now plan.now pass (suc j)))) }
+    ensures mask { mask.new.bits ≡ mask_bits (joined (row_bits board.now (scan_of_pass board.now plan.now pass (suc j)))) }
     ensures tdo_kept { tdo.new.room ≡ tdo.old.room }
     ensures mask_kept { mask.new.room ≡ mask.old.room }
 {
     let _ = board.raw();
-    let common = common_row(board, tables, j);
-    let setting = pass_at(tables.passes.as_slice(), pass);
-    tdo.copy_row(&common.tdo);
+    let common = plan.common();
+    tdo.copy_stacked(&common.expected, j);
     mask.copy_row(&common.mask);
-    compare_controlled(
-        board,
-        tables.firsts.as_slice(),
-        &tables.by_control,
-        setting,
-        tables.readers.as_slice(),
-        tables.codes.as_slice(),
-        j,
-        tdo,
-        mask,
-    );
+    let mut row = RowAt {
+        row: tdo,
+        number: j,
+    };
+    expect_pass(board, plan.tables(), pass, &mut row, mask);
 }
 
-/// Compares the row before row `j` of a pass, and nothing before the first; tells whether anything is compared.
-pub fn fill_before(
+// Shifts row `j` of a pass in, or the quiet row after the last.
+fn shift_now(board: &Board, plan: &Plan, pass: usize, j: u32, tdi: &mut Row)
+    requires plan { IsPlanOf board.now plan.now }
+    requires pass { pass < length plan.now.passes }
+    requires room { data_bits board.now ≤ tdi.old.room }
+    ensures bits { tdi.new.bits ≡ tdi_bits (joined (row_bits board.now (scan_of_pass board.now plan.now pass j))) }
+    ensures kept { tdi.new.room ≡ tdi.old.room }
+{
+    if j < plan.width() {
+        shift_row(board, plan, pass, j, tdi)
+    } else {
+        shift_quiet(board, plan.tables(), tdi)
+    }
+}
+
+// Compares the row before row `j` of a pass, and nothing before the first; tells whether anything is compared.
+fn compare_before(
     board: &Board,
-    tables: &PlanTables,
+    plan: &Plan,
     pass: usize,
     j: u32,
     tdo: &mut Row,
     mask: &mut Row,
 ) -> bool
-    requires plan { IsPlanOf board.now tables.now }
-    requires pass { pass < length tables.now.passes }
-    requires row { j ≤ tables.now.width }
-    requires few { tables.now.width ≤ 14 }
+    requires plan { IsPlanOf board.now plan.now }
+    requires pass { pass < length plan.now.passes }
+    requires row { j ≤ plan.now.width }
     requires tdo_room { data_bits board.now ≤ tdo.old.room }
     requires mask_room { data_bits board.now ≤ mask.old.room }
-    ensures tdo { tdo.new.bits ≡ tdo_bits (joined (row_bits board.now (scan_of_pass board.now tables.now pass j))) }
-    ensures mask { mask.new.bits ≡ mask_bits (joined (row_bits board.now (scan_of_pass board.now tables.now pass j))) }
+    ensures tdo { tdo.new.bits ≡ tdo_bits (joined (row_bits board.now (scan_of_pass board.now plan.now pass j))) }
+    ensures mask { mask.new.bits ≡ mask_bits (joined (row_bits board.now (scan_of_pass board.now plan.now pass j))) }
     ensures compare { result ≡ list_any (λ bit. bit) mask.new.bits }
     ensures tdo_kept { tdo.new.room ≡ tdo.old.room }
     ensures mask_kept { mask.new.room ≡ mask.old.room }
 {
-    let _ = board.raw();
     if j > 0 {
-        compare_row(board, tables, pass, j - 1, tdo, mask);
+        compare_row(board, plan, pass, j - 1, tdo, mask);
         mask.has_one()
     } else {
-        let len = board.dr_bits();
-        tdo.clear(len);
-        mask.clear(len);
+        compare_nothing(board, tdo, mask);
         false
     }
 }
@@ -260,63 +231,61 @@ pub fn fill_before(
 // Scan `j` of a pass.
 fn fill_pass(
     board: &Board,
-    tables: &PlanTables,
+    plan: &Plan,
     pass: usize,
     j: u32,
     tdi: &mut Row,
     tdo: &mut Row,
     mask: &mut Row,
 ) -> Shape
-    requires plan { IsPlanOf board.now tables.now }
-    requires pass { pass < length tables.now.passes }
-    requires row { j ≤ tables.now.width }
-    requires few { tables.now.width ≤ 14 }
+    requires plan { IsPlanOf board.now plan.now }
+    requires pass { pass < length plan.now.passes }
+    requires row { j ≤ plan.now.width }
     requires tdi_room { data_bits board.now ≤ tdi.old.room }
     requires tdo_room { data_bits board.now ≤ tdo.old.room }
     requires mask_room { data_bits board.now ≤ mask.old.room }
-    ensures filled { FillsScan board.now tables.now.passes tables.now.width (3 + (pass * suc tables.now.width + j)) result tdi.new.bits tdo.new.bits mask.new.bits }
+    ensures filled { FillsScan board.now plan.now.passes plan.now.width (3 + (pass * suc plan.now.width + j)) result tdi.new.bits tdo.new.bits mask.new.bits }
     ensures tdi_kept { tdi.new.room ≡ tdi.old.room }
     ensures tdo_kept { tdo.new.room ≡ tdo.old.room }
     ensures mask_kept { mask.new.room ≡ mask.old.room }
 {
     let _ = board.raw();
-    fill_now(board, tables, pass, j, tdi);
+    shift_now(board, plan, pass, j, tdi);
     Shape {
         ir: false,
-        compare: fill_before(board, tables, pass, j, tdo, mask),
+        compare: compare_before(board, plan, pass, j, tdo, mask),
     }
 }
 
 /// Fills the rows with scan `k`.
 pub fn fill_scan(
     board: &Board,
-    tables: &PlanTables,
+    plan: &Plan,
     k: u64,
     tdi: &mut Row,
     tdo: &mut Row,
     mask: &mut Row,
 ) -> Shape
-    requires plan { IsPlanOf board.now tables.now }
-    requires scan { k < scan_count tables.now }
-    requires few { tables.now.width ≤ 14 }
+    requires plan { IsPlanOf board.now plan.now }
+    requires scan { k < scan_count plan.now }
     requires tdi_room { IsRoom board.now tdi.old.room }
     requires tdo_room { IsRoom board.now tdo.old.room }
     requires mask_room { IsRoom board.now mask.old.room }
-    ensures filled { FillsScan board.now tables.now.passes tables.now.width k result tdi.new.bits tdo.new.bits mask.new.bits }
+    ensures filled { FillsScan board.now plan.now.passes plan.now.width k result tdi.new.bits tdo.new.bits mask.new.bits }
     ensures tdi_kept { tdi.new.room ≡ tdi.old.room }
     ensures tdo_kept { tdo.new.room ≡ tdo.old.room }
     ensures mask_kept { mask.new.room ≡ mask.old.room }
 {
     if k == 0 {
-        fill_preload(board, tables, tdi, tdo, mask)
+        fill_preload(board, plan.tables(), tdi, tdo, mask)
     } else if k == 1 {
-        fill_quiet(board, tables, tdi, tdo, mask)
+        fill_quiet(board, plan.tables(), tdi, tdo, mask)
     } else if k == 2 {
-        fill_extest(board, tables, tdi, tdo, mask)
+        fill_extest(board, plan.tables(), tdi, tdo, mask)
     } else {
-        let scans = u64::from(tables.width) + 1;
+        let scans = u64::from(plan.width()) + 1;
         let pass = (k - 3) / scans;
         let j = (k - 3) % scans;
-        fill_pass(board, tables, pass as usize, j as u32, tdi, tdo, mask)
+        fill_pass(board, plan, pass as usize, j as u32, tdi, tdo, mask)
     }
 }

@@ -1,5 +1,5 @@
 // Fills rows that hold a scan with the next one, by the rows of its pass.
-ghost use Rattle.std.specs.Prelude.{◌≡◌, ◌+◌, ◌*◌, ◌<◌, ◌≤◌, ◌^◌, suc, length};
+ghost use Rattle.std.specs.Prelude.{◌≡◌, ◌+◌, ◌*◌, ◌<◌, ◌≤◌, suc};
 ghost use Rattle.std.specs.List.{list_any};
 ghost use Rattle.board_defs.specs.Pins.{data_bits};
 ghost use Rattle.tap_defs.specs.board.BoardScans.{row_bits};
@@ -8,15 +8,16 @@ ghost use Rattle.plan_tables.specs.Plans.{IsPlanOf};
 ghost use Rattle.scan_planner.specs.PassRows.{AreKept, ArePassRows};
 ghost use Rattle.scan_planner.specs.Plans.{IsRoom, FillsScan, scan_count, scan_of_pass};
 
-use crate::fill::{fill_before, fill_now, fill_scan};
+use crate::fill::{compare_nothing, fill_scan, shift_quiet};
 use crate::pass_rows::{PassRows, StackedRows};
+use crate::plan::Plan;
 use board_defs::Board;
 use bt_bits::Row;
 use plan_tables::PlanTables;
 use tap_defs::Shape;
 
 // Shifts row `j` of a pass in, or the quiet row after the last.
-fn shift_now(
+fn shift_kept(
     board: &Board,
     tables: &PlanTables,
     pass: usize,
@@ -26,7 +27,6 @@ fn shift_now(
 )
     requires plan { IsPlanOf board.now tables.now }
     requires rows { ArePassRows board.now tables.now pass rows.now }
-    requires few { tables.now.width ≤ 14 }
     requires room { data_bits board.now ≤ tdi.old.room }
     ensures bits { tdi.new.bits ≡ tdi_bits (joined (row_bits board.now (scan_of_pass board.now tables.now pass j))) }
     ensures kept { tdi.new.room ≡ tdi.old.room }
@@ -35,7 +35,7 @@ fn shift_now(
     if j < tables.width {
         tdi.copy_stacked(&rows.shifted, j)
     } else {
-        fill_now(board, tables, pass, j, tdi)
+        shift_quiet(board, tables, tdi)
     }
 }
 
@@ -51,7 +51,6 @@ fn expect_row(
     requires plan { IsPlanOf board.now tables.now }
     requires rows { ArePassRows board.now tables.now pass rows.now }
     requires row { j < tables.now.width }
-    requires few { tables.now.width ≤ 14 }
     requires room { data_bits board.now ≤ tdo.old.room }
     ensures bits { tdo.new.bits ≡ tdo_bits (joined (row_bits board.now (scan_of_pass board.now tables.now pass (suc j)))) }
     ensures kept { tdo.new.room ≡ tdo.old.room }
@@ -82,7 +81,7 @@ fn mark_row(
 
 // Compares the row before row `j` of a pass, and nothing before the first; tells whether anything is compared. Where a row is compared
 // does not depend on its number, so from the second on the mask stands, and what it told.
-fn compare_before(
+fn compare_kept(
     board: &Board,
     tables: &PlanTables,
     pass: usize,
@@ -95,7 +94,6 @@ fn compare_before(
     requires plan { IsPlanOf board.now tables.now }
     requires rows { ArePassRows board.now tables.now pass rows.now }
     requires row { j ≤ tables.now.width }
-    requires few { tables.now.width ≤ 14 }
     requires stands { 1 < j → mask.old.bits ≡ mask_bits (joined (row_bits board.now (scan_of_pass board.now tables.now pass j))) }
     requires told { 1 < j → told ≡ list_any (λ bit. bit) mask.old.bits }
     requires tdo_room { data_bits board.now ≤ tdo.old.room }
@@ -107,7 +105,8 @@ fn compare_before(
     ensures mask_kept { mask.new.room ≡ mask.old.room }
 {
     if j == 0 {
-        return fill_before(board, tables, pass, j, tdo, mask);
+        compare_nothing(board, tdo, mask);
+        return false;
     }
     expect_row(board, tables, pass, j - 1, rows, tdo);
     if j > 1 {
@@ -132,7 +131,6 @@ fn fill_from(
     requires plan { IsPlanOf board.now tables.now }
     requires rows { ArePassRows board.now tables.now pass rows.now }
     requires row { j ≤ tables.now.width }
-    requires few { tables.now.width ≤ 14 }
     requires before { FillsScan board.now tables.now.passes tables.now.width (2 + (pass * suc tables.now.width + j)) before tdi.old.bits tdo.old.bits mask.old.bits }
     requires tdi_room { data_bits board.now ≤ tdi.old.room }
     requires tdo_room { data_bits board.now ≤ tdo.old.room }
@@ -143,10 +141,10 @@ fn fill_from(
     ensures mask_kept { mask.new.room ≡ mask.old.room }
 {
     let _ = board.raw();
-    shift_now(board, tables, pass, j, rows, tdi);
+    shift_kept(board, tables, pass, j, rows, tdi);
     Shape {
         ir: false,
-        compare: compare_before(board, tables, pass, j, before.compare, rows, tdo, mask),
+        compare: compare_kept(board, tables, pass, j, before.compare, rows, tdo, mask),
     }
 }
 
@@ -154,35 +152,43 @@ fn fill_from(
 /// those of its pass.
 pub fn fill_after(
     board: &Board,
-    tables: &PlanTables,
+    plan: &Plan,
     k: u64,
     before: Shape,
-    rows: &mut PassRows,
+    kept: &mut PassRows,
     tdi: &mut Row,
     tdo: &mut Row,
     mask: &mut Row,
 ) -> Shape
-    requires plan { IsPlanOf board.now tables.now }
-    requires next { k + 1 < scan_count tables.now }
-    requires counted { k + 1 < 2 ^ 64 }
-    requires few { tables.now.width ≤ 14 }
-    requires before { FillsScan board.now tables.now.passes tables.now.width k before tdi.old.bits tdo.old.bits mask.old.bits }
-    requires kept { AreKept board.now tables.now rows.old }
+    requires plan { IsPlanOf board.now plan.now }
+    requires next { k + 1 < scan_count plan.now }
+    requires before { FillsScan board.now plan.now.passes plan.now.width k before tdi.old.bits tdo.old.bits mask.old.bits }
+    requires kept { AreKept board.now plan.now kept.old }
     requires tdi_room { IsRoom board.now tdi.old.room }
     requires tdo_room { IsRoom board.now tdo.old.room }
     requires mask_room { IsRoom board.now mask.old.room }
-    ensures filled { FillsScan board.now tables.now.passes tables.now.width (k + 1) result tdi.new.bits tdo.new.bits mask.new.bits }
-    ensures kept { AreKept board.now tables.now rows.new }
+    ensures filled { FillsScan board.now plan.now.passes plan.now.width (k + 1) result tdi.new.bits tdo.new.bits mask.new.bits }
+    ensures kept { AreKept board.now plan.now kept.new }
     ensures tdi_kept { tdi.new.room ≡ tdi.old.room }
     ensures tdo_kept { tdo.new.room ≡ tdo.old.room }
     ensures mask_kept { mask.new.room ≡ mask.old.room }
 {
     if k < 2 {
-        return fill_scan(board, tables, k + 1, tdi, tdo, mask);
+        return fill_scan(board, plan, k + 1, tdi, tdo, mask);
     }
-    let scans = u64::from(tables.width) + 1;
+    let scans = u64::from(plan.width()) + 1;
     let pass = ((k - 2) / scans) as usize;
     let j = ((k - 2) % scans) as u32;
-    rows.take_pass(board, tables, pass);
-    fill_from(board, tables, pass, j, before, &rows.own, tdi, tdo, mask)
+    kept.take_pass(board, plan, pass);
+    fill_from(
+        board,
+        plan.tables(),
+        pass,
+        j,
+        before,
+        &kept.rows,
+        tdi,
+        tdo,
+        mask,
+    )
 }

@@ -1,15 +1,15 @@
 // A plan, and its counts.
-ghost use Rattle.std.specs.Prelude.{◌≡◌, ◌+◌, ◌*◌, ◌<◌, ◌≤◌, ◌^◌, suc, length, slice_index_or, IfOk};
+ghost use Rattle.std.specs.Prelude.{◌≡◌, ◌+◌, ◌*◌, ◌<◌, ◌≤◌, ◌^◌, suc, length, IfOk};
 ghost use Rattle.board_defs.specs.Pins.{data_bits};
 ghost use Rattle.tap_defs.specs.board.BoardScans.{row_bits};
-ghost use Rattle.tap_defs.specs.chain.Scan.{joined, mask_bits, tdo_bits};
+ghost use Rattle.tap_defs.specs.chain.Scan.{joined, mask_bits, tdi_bits, tdo_bits};
 ghost use Rattle.plan_tables.specs.Plans.{ArePlannable, IsPlanOf};
-ghost use Rattle.scan_planner.specs.PassRows.{AreKept};
+ghost use Rattle.scan_planner.specs.PassRows.{AreCommonRows, AreKept};
 ghost use Rattle.scan_planner.specs.Plans.{IsRoom, FillsScan, scan_count, scan_of_pass};
 
-use crate::fill::{compare_row, fill_scan};
+use crate::fill::{compare_row, fill_scan, shift_row};
 use crate::next::fill_after;
-use crate::pass_rows::PassRows;
+use crate::pass_rows::{PassRows, StackedRows};
 use board_defs::{Board, Items, Setting};
 use bt_bits::Row;
 use plan_tables::{PlanTables, tables_of};
@@ -22,17 +22,20 @@ use tap_defs::Shape;
 #[derive(Drop)]
 pub struct Plan {
     pub(crate) tables: PlanTables,
+    // What all passes have in their rows.
+    common: StackedRows,
 }
 
 impl Model for Plan {
     ghost use Rattle.std.specs.Prelude.{◌<◌, ◌≤◌, ◌^◌, length};
     ghost use Rattle.plan_tables.specs.declared.tables.PlanTables.{PlanTables};
+    ghost use Rattle.scan_planner.specs.PassRows.{AreCommonRows};
 
     ghost Value = { PlanTables };
 
     ghost view = { λ a. a.tables };
 
-    ghost invariant = { λ a. (length a.tables.passes < 2 ^ 32) × (a.tables.width ≤ 14) };
+    ghost invariant = { λ a. (length a.tables.passes < 2 ^ 32) × (a.tables.width ≤ 14) × AreCommonRows a.tables a.common };
 }
 
 impl Plan {
@@ -45,7 +48,22 @@ impl Plan {
         ensures passes { IfOk result (λ plan. plan.passes ≡ passes.items) }
     {
         let tables = tables_of(alloc, board, Items::of(passes))?;
-        Ok(Plan { tables })
+        let common = StackedRows::common(alloc, &tables)?;
+        Ok(Plan { tables, common })
+    }
+
+    // What the scans are made of.
+    pub(crate) fn tables(&self) -> &PlanTables
+        ensures { result.now ≡ self.now }
+    {
+        &self.tables
+    }
+
+    // What all passes have in their rows.
+    pub(crate) fn common(&self) -> &StackedRows
+        ensures { AreCommonRows self.now result.now }
+    {
+        &self.common
     }
 
     /// The number of scans of the test.
@@ -63,23 +81,6 @@ impl Plan {
         self.tables.passes.len() as u64 * u64::from(self.tables.width)
     }
 
-    /// The passes of the test.
-    pub fn passes(&self) -> &[Setting]
-        ensures { result.now ≡ self.now.passes }
-    {
-        self.tables.passes.as_slice()
-    }
-
-    /// The code of a net: its number, from 1, among the nets that some pass observes, and 0 for every other net.
-    pub fn code(&self, net: u32) -> u32
-        ensures { result ≡ slice_index_or self.now.codes net 0 }
-    {
-        match self.tables.codes.as_slice().get(net as usize) {
-            Some(code) => *code,
-            None => 0,
-        }
-    }
-
     /// Fills the rows with scan `k` of the test, counted from 0, and tells its kind. The board is that of the plan,
     /// `k` is below the number of scans, and each row has room for the longer register. No memory is taken.
     pub fn fill(&self, board: &Board, k: u64, tdi: &mut Row, tdo: &mut Row, mask: &mut Row) -> Shape
@@ -93,7 +94,7 @@ impl Plan {
         ensures tdo_kept { tdo.new.room ≡ tdo.old.room }
         ensures mask_kept { mask.new.room ≡ mask.old.room }
     {
-        fill_scan(board, &self.tables, k, tdi, tdo, mask)
+        fill_scan(board, self, k, tdi, tdo, mask)
     }
 
     /// Fills the rows with scan `k + 1` of the test, where they hold scan `k`, which has the shape `before`, and tells its kind. The rows
@@ -124,7 +125,20 @@ impl Plan {
         ensures tdo_kept { tdo.new.room ≡ tdo.old.room }
         ensures mask_kept { mask.new.room ≡ mask.old.room }
     {
-        fill_after(board, &self.tables, k, before, rows, tdi, tdo, mask)
+        fill_after(board, self, k, before, rows, tdi, tdo, mask)
+    }
+
+    /// Fills a row with what row `row` of a pass shifts in. The board is that of the plan, and the row has room for a scan of data. No
+    /// memory is taken.
+    pub fn fill_shifted(&self, board: &Board, pass: u32, row: u32, tdi: &mut Row)
+        requires plan { IsPlanOf board.now self.now }
+        requires pass { pass < length self.now.passes }
+        requires row { row < self.now.width }
+        requires room { data_bits board.now ≤ tdi.old.room }
+        ensures tdi { tdi.new.bits ≡ tdi_bits (joined (row_bits board.now (scan_of_pass board.now self.now pass row))) }
+        ensures kept { tdi.new.room ≡ tdi.old.room }
+    {
+        shift_row(board, self, pass as usize, row, tdi);
     }
 
     /// Fills two rows with what the scan after row `row` of a pass compares: the expected bits, and where they are compared. The board
@@ -140,6 +154,6 @@ impl Plan {
         ensures tdo_kept { tdo.new.room ≡ tdo.old.room }
         ensures mask_kept { mask.new.room ≡ mask.old.room }
     {
-        compare_row(board, &self.tables, pass as usize, row, tdo, mask);
+        compare_row(board, self, pass as usize, row, tdo, mask);
     }
 }

@@ -1,30 +1,55 @@
 // What a plan says of each net and of each position.
 ghost use Rattle.std.specs.Prelude.{◌≡◌, ◌<◌, ◌≤◌, [], false, length, slice_index_or};
+ghost use Rattle.board_defs.specs.declared.board.RawBoard.{RawBoard};
+ghost use Rattle.tap_defs.specs.board.BoardScans.{first_row_scan, row_bits};
+ghost use Rattle.tap_defs.specs.chain.Scan.{joined, tdi_bits};
+ghost use Rattle.plan_tables.specs.Plans.{IsPlanOf};
 
-use crate::passes::pass_at;
+use crate::pass_cells::pass_at;
 use crate::plan::Plan;
 use board_defs::{Items, Setting};
+use bt_bits::Row;
 use plan_tables::{NetDriver, ReaderCell};
 
-fn drivers_at(rows: &[Items<NetDriver>], net: usize) -> &[NetDriver]
-    ensures { result.now ≡ slice_index_or rows.now net [] }
+/// The code of a net; 0 for a number that no net has.
+#[inline]
+pub fn code_at(codes: &[u32], net: u32) -> u32
+    ensures { result ≡ slice_index_or codes.now net 0 }
 {
-    match rows.get(net) {
-        None => &[],
-        Some(row) => row.as_slice(),
+    match codes.get(net as usize) {
+        None => 0,
+        Some(code) => *code,
     }
 }
 
-fn readers_at(rows: &[Items<ReaderCell>], net: usize) -> &[ReaderCell]
-    ensures { result.now ≡ slice_index_or rows.now net [] }
+/// The cells that read a net; none for a number that no net has.
+#[inline]
+pub fn readers_at(readers: &[Items<ReaderCell>], net: u32) -> &[ReaderCell]
+    ensures { result.now ≡ slice_index_or readers.now net [] }
 {
-    match rows.get(net) {
+    match readers.get(net as usize) {
+        None => &[],
+        Some(cells) => cells.as_slice(),
+    }
+}
+
+fn drivers_at(drivers: &[Items<NetDriver>], net: u32) -> &[NetDriver]
+    ensures { result.now ≡ slice_index_or drivers.now net [] }
+{
+    match drivers.get(net as usize) {
         None => &[],
         Some(row) => row.as_slice(),
     }
 }
 
 impl Plan {
+    /// The passes of the test.
+    pub fn passes(&self) -> &[Setting]
+        ensures { result.now ≡ self.now.passes }
+    {
+        self.tables.passes.as_slice()
+    }
+
     /// The number of passes.
     pub fn pass_count(&self) -> u32
         ensures { result ≡ length self.now.passes }
@@ -48,11 +73,18 @@ impl Plan {
         self.tables.width
     }
 
+    /// The code of a net: its number, from 1, among the nets that some pass observes, and 0 for every other net.
+    pub fn code(&self, net: u32) -> u32
+        ensures { result ≡ slice_index_or self.now.codes net 0 }
+    {
+        code_at(self.tables.codes.as_slice(), net)
+    }
+
     /// The drivers of a net that may be enabled, in pin order; none for a number that no net has.
     pub fn drivers(&self, net: u32) -> &[NetDriver]
         ensures { result.now ≡ slice_index_or self.now.drivers net [] }
     {
-        drivers_at(self.tables.drivers.as_slice(), net as usize)
+        drivers_at(self.tables.drivers.as_slice(), net)
     }
 
     /// The cells that read a net, in pin order; none for a number that no net has. While a pass observes the net, those at other
@@ -60,7 +92,7 @@ impl Plan {
     pub fn readers(&self, net: u32) -> &[ReaderCell]
         ensures { result.now ≡ slice_index_or self.now.readers net [] }
     {
-        readers_at(self.tables.readers.as_slice(), net as usize)
+        readers_at(self.tables.readers.as_slice(), net)
     }
 
     /// The bit at a position of the quiet row, and 0 past its end.
@@ -68,5 +100,13 @@ impl Plan {
         ensures { result ≡ slice_index_or self.now.quiet.bits position false }
     {
         position < self.tables.quiet.len() && self.tables.quiet.get(position)
+    }
+
+    /// The quiet row, which the second scan shifts in and each pass ends with.
+    pub fn quiet_row(&self) -> &Row
+        ensures row { result.now ≡ self.now.quiet }
+        ensures shifted { (board : RawBoard) → IsPlanOf board self.now → result.now.bits ≡ tdi_bits (joined (row_bits board first_row_scan)) }
+    {
+        &self.tables.quiet
     }
 }

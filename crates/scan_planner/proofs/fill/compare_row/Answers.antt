@@ -1,100 +1,50 @@
-use Rattle.std.proofs.Common.{◌≡◌, Bool, List, ℕ, [], suc, fold, length, get_or, ap, ◌∙◌, true, refl, arith}
-use Rattle.board_defs.specs.declared.board.Ctl.{Ctl}
-use Rattle.plan_tables.specs.declared.tables.FixedRows.{FixedRows}
-use Rattle.plan_tables.specs.declared.tables.DriverCell.{DriverCell}
-use Rattle.plan_tables.specs.declared.tables.ReaderCell.{ReaderCell}
-use Rattle.plan_tables.specs.Assigned.{set_compared, driver_bit}
+use Rattle.std.proofs.Common.{true, suc, refl, rules, length, ap, sym, ◌∙◌, arith}
+use Rattle.tap_defs.specs.board.BoardScans.{row_bits}
+use Rattle.tap_defs.specs.chain.Scan.{joined, mask_bits, tdo_bits}
+use Rattle.plan_tables.specs.declared.tables.PlanTables.{PlanTables}
+use Rattle.plan_tables.specs.Assigned.{driver_bit}
+use Rattle.scan_planner.specs.PassRows.{steady_compared}
 use Rattle.scan_planner.specs.Plans.{scan_of_pass}
-use Rattle.plan_tables.specs.Tables.{controlled}
-use Rattle.scan_planner.proofs.FillLemmas.{compared_length, drivers_on_nets, controls_there, readers_within, tdo_is, mask_is}
+use Rattle.scan_planner.proofs.FillLemmas.{few_rows, steady_compared_length}
 use Rattle.scan_planner.proofs.fill.compare_row.Goals as goal
+
+pub copy_stacked-requires-clause-number : goal.copy_stacked-requires-clause-number
+copy_stacked-requires-clause-number c = omega (arith, c.requires.row, few_rows c.args.board.now c.raw.ensures.rules c.args.plan.now c.requires.plan)
+
+pub copy_stacked-requires-clause-room : goal.copy_stacked-requires-clause-room
+copy_stacked-requires-clause-room c =
+    let few = few_rows c.args.board.now c.raw.ensures.rules c.args.plan.now c.requires.plan in
+    omega (
+      arith,
+      ap length (c.common-common.ensures.expected c.args.j (omega (arith, c.requires.row, few))),
+      steady_compared_length c.args.board.now c.raw.ensures.rules c.args.plan.now c.requires.plan (driver_bit c.args.plan.now.codes c.args.j),
+      c.requires.tdo_room,
+    )
 
 pub copy_row-requires : goal.copy_row-requires
 copy_row-requires c =
     omega (
       arith,
-      ap (λ (r : FixedRows). length r.tdo.bits) c.common_row-common.ensures,
-      compared_length c.args.board.now c.raw.ensures.rules c.args.tables.now c.requires.plan (driver_bit c.args.tables.now.codes c.args.j),
-      c.requires.tdo_room,
-    )
-
-pub copy_row-requires-2 : goal.copy_row-requires-2
-copy_row-requires-2 c =
-    omega (
-      arith,
-      ap (λ (r : FixedRows). length r.mask.bits) c.common_row-common.ensures,
-      compared_length c.args.board.now c.raw.ensures.rules c.args.tables.now c.requires.plan (λ (d : DriverCell). true),
+      ap length c.common-common.ensures.mask,
+      steady_compared_length c.args.board.now c.raw.ensures.rules c.args.plan.now c.requires.plan (λ d. true),
       c.requires.mask_room,
     )
 
-pub compare_controlled-requires-clause-cells : goal.compare_controlled-requires-clause-cells
-compare_controlled-requires-clause-cells c =
-    controls_there c.args.board.now c.raw.ensures.rules c.args.tables.now c.requires.plan c.args.pass c.requires.pass c.pass_at-setting.result.now
-    (c.pass_at-setting.ensures ∙ ap (λ (l : List (List Ctl)). get_or l c.args.pass []) c.as_slice.ensures)
+pub invariant_of-row : goal.invariant_of-row
+invariant_of-row c = omega (arith, c.requires.row, few_rows c.args.board.now c.raw.ensures.rules c.args.plan.now c.requires.plan)
 
-pub compare_controlled-requires-clause-codes : goal.compare_controlled-requires-clause-codes
-compare_controlled-requires-clause-codes c =
-    drivers_on_nets c.args.board.now c.raw.ensures.rules c.args.tables.now c.requires.plan c.args.pass c.requires.pass c.pass_at-setting.result.now
-    (c.pass_at-setting.ensures ∙ ap (λ (l : List (List Ctl)). get_or l c.args.pass []) c.as_slice.ensures)
-    (length c.as_slice-4.result.now)
-    (ap (λ (l : List ℕ). length l) c.as_slice-4.ensures ∙ c.requires.plan.codes_length)
-
-pub compare_controlled-requires-clause-nets : goal.compare_controlled-requires-clause-nets
-compare_controlled-requires-clause-nets c =
-    drivers_on_nets c.args.board.now c.raw.ensures.rules c.args.tables.now c.requires.plan c.args.pass c.requires.pass c.pass_at-setting.result.now
-    (c.pass_at-setting.ensures ∙ ap (λ (l : List (List Ctl)). get_or l c.args.pass []) c.as_slice.ensures)
-    (length c.as_slice-3.result.now)
-    (ap (λ (l : List (List ReaderCell)). length l) c.as_slice-3.ensures ∙ c.requires.plan.tables.readers_length)
-
-pub compare_controlled-requires-clause-tdo_within : goal.compare_controlled-requires-clause-tdo_within
-compare_controlled-requires-clause-tdo_within c =
-    rw c.as_slice-3.ensures (λ k d less i r within.
-    omega (
-      arith,
-      readers_within c.args.board.now c.raw.ensures.rules c.args.tables.now c.requires.plan k d less i r within,
-      ap (λ l. length l) c.copy_row.ensures.bits,
-      ap (λ (r : FixedRows). length r.tdo.bits) c.common_row-common.ensures,
-      compared_length c.args.board.now c.raw.ensures.rules c.args.tables.now c.requires.plan (driver_bit c.args.tables.now.codes c.args.j),
-    ))
-
-pub compare_controlled-requires-clause-mask_within : goal.compare_controlled-requires-clause-mask_within
-compare_controlled-requires-clause-mask_within c =
-    rw c.as_slice-3.ensures (λ k d less i r within.
-    omega (
-      arith,
-      readers_within c.args.board.now c.raw.ensures.rules c.args.tables.now c.requires.plan k d less i r within,
-      ap (λ l. length l) c.copy_row-2.ensures.bits,
-      ap (λ (r : FixedRows). length r.mask.bits) c.common_row-common.ensures,
-      compared_length c.args.board.now c.raw.ensures.rules c.args.tables.now c.requires.plan (λ (e : DriverCell). true),
-    ))
+pub expect_pass-requires-clause-mask : goal.expect_pass-requires-clause-mask
+expect_pass-requires-clause-mask c = c.copy_row.ensures.bits ∙ c.common-common.ensures.mask ∙ ap (λ (t : PlanTables). steady_compared t (λ d. true)) (sym c.tables.ensures)
 
 pub returns-clause-tdo : goal.returns-clause-tdo
 returns-clause-tdo c =
-    let board = c.args.board.now in
-    let plan = c.args.tables.now in
-    let x = c.args.pass in
-    let j = c.args.j in
-    let pass_is : c.pass_at-setting.result.now ≡ get_or plan.passes x [] = c.pass_at-setting.ensures ∙ ap (λ (l : List (List Ctl)). get_or l x []) c.as_slice.ensures in
-    let row : List ℕ → List (List ReaderCell) → List Ctl → List Bool → List Bool = λ codes readers pass start.
-    fold (λ done k. set_compared (driver_bit codes j) readers done (controlled board plan.by_control.rows k)) (set_compared (driver_bit codes j) readers start plan.by_control.always) pass in
-    c.compare_controlled.ensures.tdo
-    ∙ ap (λ (codes : List ℕ). row codes c.as_slice-3.result.now c.pass_at-setting.result.now c.copy_row.new.self.bits) c.as_slice-4.ensures
-    ∙ ap (λ (readers : List (List ReaderCell)). row plan.codes readers c.pass_at-setting.result.now c.copy_row.new.self.bits) c.as_slice-3.ensures
-    ∙ ap (λ (pass : List Ctl). row plan.codes plan.readers pass c.copy_row.new.self.bits) pass_is
-    ∙ ap (λ (bits : List Bool). row plan.codes plan.readers (get_or plan.passes x []) bits) (c.copy_row.ensures.bits ∙ ap (λ (r : FixedRows). r.tdo.bits) c.common_row-common.ensures)
-    ∙ tdo_is board c.raw.ensures.rules plan c.requires.plan x c.requires.pass j (scan_of_pass board plan x (suc j)) refl
+    let few = few_rows c.args.board.now c.raw.ensures.rules c.args.plan.now c.requires.plan in
+    let expected = c.expect_pass.ensures.bits c.args.j refl
+    (c.copy_stacked.ensures.bits ∙ c.common-common.ensures.expected c.args.j (omega (arith, c.requires.row, few)) ∙ ap (λ (t : PlanTables). steady_compared t (driver_bit t.codes c.args.j)) (sym c.tables.ensures))
+    ∙ ap (λ (t : PlanTables). tdo_bits (joined (row_bits c.args.board.now (scan_of_pass c.args.board.now t c.args.pass (suc c.args.j))))) c.tables.ensures in
+    search rules
 
 pub returns-clause-mask : goal.returns-clause-mask
 returns-clause-mask c =
-    let board = c.args.board.now in
-    let plan = c.args.tables.now in
-    let x = c.args.pass in
-    let j = c.args.j in
-    let pass_is : c.pass_at-setting.result.now ≡ get_or plan.passes x [] = c.pass_at-setting.ensures ∙ ap (λ (l : List (List Ctl)). get_or l x []) c.as_slice.ensures in
-    let row : List (List ReaderCell) → List Ctl → List Bool → List Bool = λ readers pass start.
-    fold (λ done k. set_compared (λ (d : DriverCell). true) readers done (controlled board plan.by_control.rows k)) (set_compared (λ (d : DriverCell). true) readers start plan.by_control.always) pass in
-    c.compare_controlled.ensures.mask
-    ∙ ap (λ (readers : List (List ReaderCell)). row readers c.pass_at-setting.result.now c.copy_row-2.new.self.bits) c.as_slice-3.ensures
-    ∙ ap (λ (pass : List Ctl). row plan.readers pass c.copy_row-2.new.self.bits) pass_is
-    ∙ ap (λ (bits : List Bool). row plan.readers (get_or plan.passes x []) bits) (c.copy_row-2.ensures.bits ∙ ap (λ (r : FixedRows). r.mask.bits) c.common_row-common.ensures)
-    ∙ mask_is board c.raw.ensures.rules plan c.requires.plan x c.requires.pass j (scan_of_pass board plan x (suc j)) refl
+    c.expect_pass.ensures.mask c.args.j
+    ∙ ap (λ (t : PlanTables). mask_bits (joined (row_bits c.args.board.now (scan_of_pass c.args.board.now t c.args.pass (suc c.args.j))))) c.tables.ensures

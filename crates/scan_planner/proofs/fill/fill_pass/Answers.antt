@@ -1,20 +1,8 @@
-use Rattle.std.proofs.Common.{◌+◌, ◌*◌, suc, [], get_or, refl}
-use Rattle.std.proofs.lemmas.Option.{slice_get-get_or}
-use Rattle.tap_defs.specs.chain.Scan.{Scan}
-use Rattle.tap_defs.specs.board.BoardScans.{scan_of_row}
-use Rattle.tap_defs.proofs.board.ScanPlaceLemmas.{scans_placed}
-use Rattle.scan_planner.specs.Plans.{scan_of_pass}
-use Rattle.scan_planner.proofs.FillLemmas.{fills, row_sized}
+use Rattle.std.proofs.Common.{refl}
+use Rattle.scan_planner.proofs.FillLemmas.{fills_row}
 use Rattle.scan_planner.proofs.fill.fill_pass.Goals as goal
 
 pub returns-clause-filled : goal.returns-clause-filled
 returns-clause-filled c =
-    let board = c.args.board.now in
-    let plan = c.args.tables.now in
-    let x = c.args.pass in
-    let j = c.args.j in
-    let s = row_sized board c.raw.ensures.rules (scan_of_pass board plan x j) in
-    let scan : Scan = scan_of_row board (scan_of_pass board plan x j) in
-    fills board plan.passes plan.width (3 + (x * suc plan.width + j)) scan _ _ _ _
-    ((scans_placed board plan.passes plan.width).rows x (get_or plan.passes x []) j (slice_get-get_or plan.passes x [] c.requires.pass) c.requires.row) s.some s.most
-    c.fill_now.ensures.bits c.fill_before.ensures.tdo c.fill_before.ensures.mask refl c.fill_before.ensures.compare
+    fills_row c.args.board.now c.raw.ensures.rules c.args.plan.now c.requires.plan c.args.pass c.requires.pass c.args.j c.requires.row _ _ _ _
+    refl c.shift_now.ensures.bits c.compare_before.ensures.tdo c.compare_before.ensures.mask c.compare_before.ensures.compare

@@ -1,0 +1,55 @@
+-- What all passes have, worked by hand: a bus with two drivers and a receiver, of which the pass's one driver is steady.
+use Rattle.std.proofs.Common.{◌≡◌, Bool, true, false, List, [], ◌∷◌, map, replicate, refl}
+use Rattle.bt_bits.specs.Rows.{BitRow}
+use Rattle.plan_tables.specs.declared.tables.DriverCell.{DriverCell}
+use Rattle.plan_tables.specs.declared.tables.FixedRows.{FixedRows}
+use Rattle.plan_tables.specs.declared.tables.PlanTables.{PlanTables}
+use Rattle.plan_tables.specs.Assigned.{driver_bit}
+use Rattle.scan_planner.specs.PassRows.{steady_compared, steady_shifted}
+
+abbrev row : List Bool → BitRow
+row bits = record { bits = bits; room = 5 }
+
+abbrev no_rows : FixedRows
+no_rows = record { tdi = row []; tdo = row []; mask = row [] }
+
+-- the quiet row, in which both drivers of the bus are off at 1
+abbrev quiet : List Bool
+quiet = false ∷ false ∷ true ∷ false ∷ true ∷ []
+
+-- a plan in which the net has code 2, is driven from position 3 by its first pin, and is read there and, at its third pin, at position 0
+abbrev plan : List DriverCell → PlanTables
+plan steady = record {
+  passes = [] ∷ [];
+  width = 2;
+  codes = 2 ∷ [];
+  preload = no_rows;
+  extest = no_rows;
+  quiet = row quiet;
+  steady = steady;
+  firsts = 0 ∷ [];
+  by_control = record { always = []; rows = [] };
+  readers = (record { place = 0; position = 3 } ∷ record { place = 2; position = 0 } ∷ []) ∷ [];
+  drivers = [] ∷ [];
+}
+
+abbrev enabled : List DriverCell
+enabled = record { net = 0; place = 0; position = 3 } ∷ []
+
+-- bit 0 of the code in row 0, and bit 1 in row 1
+shifted : map (steady_shifted (plan enabled)) (0 ∷ 1 ∷ []) ≡ (false ∷ false ∷ true ∷ false ∷ true ∷ []) ∷ (false ∷ false ∷ true ∷ true ∷ true ∷ []) ∷ []
+shifted = refl
+
+-- which are expected at the other pin, and not at the driver's own
+expected : map (λ j. steady_compared (plan enabled) (driver_bit (2 ∷ []) j)) (0 ∷ 1 ∷ []) ≡ replicate 5 false ∷ (true ∷ false ∷ false ∷ false ∷ false ∷ []) ∷ []
+expected = refl
+
+mask : steady_compared (plan enabled) (λ d. true) ≡ true ∷ false ∷ false ∷ false ∷ false ∷ []
+mask = refl
+
+-- without a steady driver all passes have the quiet row, and compare nothing
+none_shifted : steady_shifted (plan []) 0 ≡ quiet
+none_shifted = refl
+
+none_compared : steady_compared (plan []) (λ d. true) ≡ replicate 5 false
+none_compared = refl

@@ -1,0 +1,118 @@
+// Rows in which the codes of nets are written: all rows of a pass side by side, or one of them.
+ghost use Rattle.std.specs.Prelude.{◌≡◌, ◌<◌, ℕ, Bool, List, length, slice_set};
+ghost use Rattle.std.specs.Borrow.{GName};
+ghost use Rattle.bt_bits.specs.Stacks.{column_bit, stacked};
+ghost use Rattle.tap_defs.specs.board.TestRows.{code_bit};
+
+use bt_bits::{Column, Row, RowStack};
+use counting_codes::bit;
+
+/// Rows of one length of which row `j` has bit `j` of the codes of nets. What they have at one position is written at once.
+pub trait CodeRows {
+    /// What the rows have at one position.
+    type Column: Copy;
+
+    // What stays the same while the rows are written to.
+    ghost Kind: { Type 0 };
+
+    ghost kind: { Self → Kind };
+
+    // Which rows there are, by their numbers.
+    ghost shows: { Kind → ℕ → Type 0 };
+
+    // The bits of a row.
+    ghost bits: { Self → ℕ → List Bool };
+
+    // The bit of a column in a row.
+    ghost bit_in: { Self.Column → ℕ → Bool };
+
+    /// The column that has bit `j` of a code in row `j`, the lowest at 0.
+    fn code(&self, number: u32) -> Self::Column
+        ensures { (j : ℕ) → shows (kind self.now) j → bit_in result j ≡ code_bit number j };
+
+    /// The column that has this bit in each row.
+    fn same(&self, bit: bool) -> Self::Column
+        ensures { (j : ℕ) → shows (kind self.now) j → bit_in result j ≡ bit };
+
+    /// Writes a column at a position. One past the end is passed over.
+    fn put(&mut self, position: u32, column: Self::Column)
+        ensures kind { kind self.new ≡ kind self.old }
+        ensures bits { (j : ℕ) → shows (kind self.old) j → bits self.new j ≡ slice_set (bits self.old j) position (bit_in column j) };
+}
+
+impl CodeRows for RowStack {
+    type Column = Column;
+
+    ghost Kind = { ℕ };
+
+    ghost kind = { λ rows. rows.room };
+
+    ghost shows = { λ _ j. j < 16 };
+
+    ghost bits = { stacked };
+
+    ghost bit_in = { column_bit };
+
+    #[inline]
+    fn code(&self, number: u32) -> Column {
+        Column::of(number)
+    }
+
+    #[inline]
+    fn same(&self, bit: bool) -> Column {
+        Column::of_bit(bit)
+    }
+
+    #[inline]
+    fn put(&mut self, position: u32, column: Column) {
+        self.set(position, column);
+    }
+}
+
+/// Changes one bit of a row. A place past the end is passed over.
+#[inline]
+pub fn set_within(row: &mut Row, position: u32, bit: bool)
+    ensures bits { row.new.bits ≡ slice_set row.old.bits position bit }
+    ensures room { row.new.room ≡ row.old.room }
+{
+    if position < row.len() {
+        row.set(position, bit);
+    }
+}
+
+/// The row with this number, by itself.
+#[derive(Drop)]
+pub struct RowAt<'a> {
+    pub row: &'a mut Row,
+    pub number: u32,
+    ghost few: { number < 32 },
+}
+
+impl CodeRows for RowAt<'_> {
+    type Column = bool;
+
+    ghost Kind = { GName × (ℕ × ℕ) };
+
+    ghost kind = { λ at. (at.row.ghost_name, (at.number, at.row.now.room)) };
+
+    ghost shows = { λ kind j. j ≡ kind.1.0 };
+
+    ghost bits = { λ at _. at.row.now.bits };
+
+    ghost bit_in = { λ bit _. bit };
+
+    #[inline]
+    fn code(&self, number: u32) -> bool {
+        bit(number, self.number)
+    }
+
+    #[inline]
+    fn same(&self, bit: bool) -> bool {
+        bit
+    }
+
+    #[inline]
+    fn put(&mut self, position: u32, column: bool) {
+        set_within(self.row, position, column);
+    }
+}
