@@ -21,7 +21,7 @@ use Rattle.board_defs.proofs.Members.{Has, has_filter, filter_has, any_has, has_
 use Rattle.board_defs.proofs.SingleFaults.{single_is}
 use Rattle.tap_defs.specs.board.Explaining.{Explains}
 use Rattle.plan_tables.specs.declared.tables.PlanTables.{PlanTables}
-use Rattle.fault_sim.specs.declared.universe.FaultLists.{FaultLists}
+use Rattle.fault_sim.specs.declared.fault_lists.FaultLists.{FaultLists}
 use Rattle.fault_sim.specs.Laws.{SuspectsSuffice}
 use Rattle.fault_sim.specs.Places.{fault_at}
 use Rattle.fault_sim.specs.Suspects.{AreSuspects}

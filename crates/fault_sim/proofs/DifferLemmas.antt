@@ -23,7 +23,7 @@ use Rattle.plan_tables.specs.declared.tables.PlanTables.{PlanTables}
 use Rattle.plan_tables.specs.Building.{is_read_beside}
 use Rattle.plan_tables.specs.Plans.{IsPlanOf}
 use Rattle.plan_tables.proofs.ListLemmas.{some_at}
-use Rattle.fault_sim.specs.Effects.{driver_in, readers_in, code_in}
+use Rattle.fault_sim.specs.Effects.{driver_in, place_of_driver, readers_in, code_in}
 use Rattle.fault_sim.specs.declared.effect.Effect.TheVariants.{Plain}
 use Rattle.fault_sim.specs.Fits.{bit_in, cell_shows, ShowBy, NetShows, ShowsOn, ShowsAll}
 use Rattle.fault_sim.specs.inner.Tested.{coded_nets}
@@ -145,7 +145,7 @@ module _ (board : RawBoard) (rules : IsBoard board) (plan : PlanTables) (p : IsP
           by_test false q = absurd (both_ways (is_read_beside readers d) e (any_at (λ (y : ReaderCell). not (y.place == d.place)) readers i r at (ap not q)))
 
       by_driver : (pass : List Ctl) → slice_get plan.passes x ≡ Some pass → (o : Option NetDriver) → driver_in plan pass n ≡ o →
-          ShowBy log (x * plan.width) plan.width (code_in plan n) (readers_in plan n) Plain o
+          ShowBy log (x * plan.width) plan.width (code_in plan n) (readers_in plan n) Plain (place_of_driver o)
       by_driver pass stands None e = tt
       by_driver pass stands (Some d) e = λ j less.
           all_from (cell_shows log (x * plan.width + j) d.place Plain j (code_bit (code_in plan n) j)) (readers_in plan n)

@@ -20,7 +20,7 @@ use Rattle.plan_tables.specs.declared.nets.NetDriver.{NetDriver}
 use Rattle.plan_tables.specs.declared.tables.PlanTables.{PlanTables}
 use Rattle.plan_tables.specs.Plans.{IsPlanOf}
 use Rattle.fault_sim.specs.declared.effect.Effect.TheVariants.{Plain, Constant, AtPin}
-use Rattle.fault_sim.specs.Effects.{feed_bit, driver_in, pull_in, net_feed, open_effect, short_effect, effect_of, effect_in, effect_bit}
+use Rattle.fault_sim.specs.Effects.{feed_bit, driver_in, place_of_driver, pull_in, net_feed, open_effect, short_effect, effect_of, effect_in, effect_bit}
 use Rattle.fault_sim.specs.inner.Effects.{fault_bit}
 use Rattle.fault_sim.proofs.FeedLemmas.{driven_is, first_place}
 
@@ -53,8 +53,8 @@ module _ (board : RawBoard) (rules : IsBoard board) (plan : PlanTables) (p : IsP
 
   opened : (pin : PinRef) (value : Bool) → effect_bit (effect_of board plan pass (OpenPin pin value) n) j place expected ≡ single_bit board (OpenPin pin value) row at expected
   opened pin value =
-      ap (λ (o : Option NetDriver). effect_bit (cond (n == pin.net) (open_effect o pin.place value (pull_in board n)) Plain) j place expected) enabled
-      ∙ ap (λ (o : Option Bool). effect_bit (cond (n == pin.net) (open_effect (Some d) pin.place value o) Plain) j place expected) pull_here
+      ap (λ (o : Option NetDriver). effect_bit (cond (n == pin.net) (open_effect (place_of_driver o) pin.place value (pull_in board n)) Plain) j place expected) enabled
+      ∙ ap (λ (o : Option Bool). effect_bit (cond (n == pin.net) (open_effect (Some d.place) pin.place value o) Plain) j place expected) pull_here
       ∙ by_net (n == pin.net)
       ∙ sym (ap (λ (o : Option ℕ). cond (n == pin.net) (cond (place == pin.place) value (cond (is_place o pin.place) (unwrap_or net.pull value) expected)) expected) first)
     where
@@ -66,7 +66,7 @@ module _ (board : RawBoard) (rules : IsBoard board) (plan : PlanTables) (p : IsP
           sym (ap (λ (b : Bool). cond b value (unwrap_or net.pull value)) differ)
       by_place false e = refl
 
-      by_net : (b : Bool) → effect_bit (cond b (open_effect (Some d) pin.place value net.pull) Plain) j place expected
+      by_net : (b : Bool) → effect_bit (cond b (open_effect (Some d.place) pin.place value net.pull) Plain) j place expected
           ≡ cond b (cond (place == pin.place) value (cond (d.place == pin.place) (unwrap_or net.pull value) expected)) expected
       by_net true = by_place (d.place == pin.place) refl
       by_net false = refl

@@ -33,12 +33,13 @@ use Rattle.plan_tables.specs.Plans.{IsPlanOf}
 use Rattle.plan_tables.proofs.ListLemmas.{all_has, some_at}
 use Rattle.fault_sim.specs.declared.effect.Effect.{Effect}
 use Rattle.fault_sim.specs.declared.effect.Effect.TheVariants.{Plain, Constant}
-use Rattle.fault_sim.specs.declared.universe.FaultLists.{FaultLists}
-use Rattle.fault_sim.specs.Effects.{driver_in, readers_in, code_in, open_effect, short_effect, effect_of, pull_in}
+use Rattle.fault_sim.specs.declared.fault_lists.FaultLists.{FaultLists}
+use Rattle.fault_sim.specs.Effects.{driver_in, place_of_driver, readers_in, code_in, open_effect, short_effect, effect_of, pull_in}
 use Rattle.fault_sim.specs.inner.Effects.{first_net, second_net}
 use Rattle.fault_sim.specs.Fits.{ShowBy, Shows, ShowsOn, ShowsBoth, ShowsAll}
 use Rattle.fault_sim.specs.inner.Tested.{paired_in, coded_nets}
-use Rattle.fault_sim.specs.Places.{placed, AreStarts, number_places, listed_places, place_count, places_of, IsUniverse}
+use Rattle.fault_sim.specs.Places.{placed, number_places, listed_places, place_count, places_of, IsUniverse}
+use Rattle.fault_sim.specs.Starts.{AreStarts}
 use Rattle.fault_sim.specs.Suspects.{suspect_count, AreDiffering, AreSuspects}
 use Rattle.fault_sim.specs.inner.Suspects.{two_from, four_from, first_open, first_short, pair_number, pair_suspects, pin_net, is_net, pin_suspects, net_suspects, covered_place, CanSuspect, suspects_of}
 use Rattle.fault_sim.proofs.PlaceLemmas.{flat_at, length-flat, length-four, stuck_fault, open_fault, short_fault, no_fault, stuck_length, opens_length}
@@ -155,7 +156,7 @@ places_order (z ∷ xs) order (suc a) (suc b) x y ea eb less = places_order xs o
 -- a fault of other nets leaves a net as it is
 plain_effect : (board : RawBoard) (plan : PlanTables) (pass : List Ctl) (single : Single) (n : ℕ) → n ≢ first_net single → n ≢ second_net single → effect_of board plan pass single n ≡ Plain
 plain_effect board plan pass (StuckNet net value) n a b = ap (λ (t : Bool). cond t (Constant value) Plain) (ne_eqb n net a)
-plain_effect board plan pass (OpenPin pin value) n a b = ap (λ (t : Bool). cond t (open_effect (driver_in plan pass n) pin.place value (pull_in board n)) Plain) (ne_eqb n pin.net a)
+plain_effect board plan pass (OpenPin pin value) n a b = ap (λ (t : Bool). cond t (open_effect (place_of_driver (driver_in plan pass n)) pin.place value (pull_in board n)) Plain) (ne_eqb n pin.net a)
 plain_effect board plan pass (Short x y kind) n a b =
     ap (λ (t : Bool). cond (t || (n == y)) (short_effect board plan pass x y kind) Plain) (ne_eqb n x a)
     ∙ ap (λ (t : Bool). cond t (short_effect board plan pass x y kind) Plain) (ne_eqb n y b)
@@ -163,7 +164,7 @@ plain_effect board plan pass (Short x y kind) n a b =
 pub others_show : (board : RawBoard) (plan : PlanTables) (log : List (List Bool)) (single : Single) (n : ℕ) → n < length board.nets → ShowsAll board plan (Some single) log → n ≢ first_net single → n ≢ second_net single →
     ShowsOn board plan None log n
 others_show board plan log single n within show a b x less =
-    subst (λ (effect : Effect). ShowBy log (x * plan.width) plan.width (code_in plan n) (readers_in plan n) effect (driver_in plan (get_or plan.passes x []) n))
+    subst (λ (effect : Effect). ShowBy log (x * plan.width) plan.width (code_in plan n) (readers_in plan n) effect (place_of_driver (driver_in plan (get_or plan.passes x []) n)))
     (plain_effect board plan (get_or plan.passes x []) single n a b) (show x less n within)
 
 -- where the nets that differ are nets of a fault, its effect is shown on all nets exactly where it is on its own
@@ -196,7 +197,7 @@ module _ (board : RawBoard) (plan : PlanTables) (log : List (List Bool)) (single
       shown not_a not_b (inl has) =
           absurd (both_ways ((n == a) || (n == b)) (ap (λ (t : Bool). t || (n == b)) (ne_eqb n a not_a) ∙ ne_eqb n b not_b) (all_holds (λ (m : ℕ). (m == a) || (m == b)) nets n own (contains_has nets n has)))
       shown not_a not_b (inr shows) =
-          subst (λ (effect : Effect). ShowBy log (x * plan.width) plan.width (code_in plan n) (readers_in plan n) effect (driver_in plan (get_or plan.passes x []) n))
+          subst (λ (effect : Effect). ShowBy log (x * plan.width) plan.width (code_in plan n) (readers_in plan n) effect (place_of_driver (driver_in plan (get_or plan.passes x []) n)))
           (sym (plain_effect board plan (get_or plan.passes x []) single n (λ e. not_a (e ∙ sym first)) (λ e. not_b (e ∙ sym second)))) (shows x less)
 
       by_second : n ≢ a → (n ≡ b) ⊎ (n ≡ b → ⊥) → Shows board plan (Some single) log x n

@@ -5,6 +5,7 @@ pub mod MatchLemmas
 pub mod PlaceLemmas
 pub mod RangeLemmas
 pub mod TestedLemmas
+pub mod KeptLemmas
 pub mod UniverseLemmas
 pub mod SuspectLemmas
 pub mod MarkLemmas

@@ -1,5 +1,5 @@
 -- Marks of digits, and the nets that show the expected bits where they have none.
-use Rattle.std.proofs.Common.{◌≡◌, ◌⊎◌, inl, inr, ℕ, zero, suc, ◌+◌, ◌-◌, ◌*◌, ◌/◌, ◌%◌, ◌<◌, ◌≤◌, ◌==◌, Bool, true, false, not, ◌||◌, List, [], ◌∷◌, length, get_or, set, min, max, Option, Some, None, is_some, unwrap_or, refl, sym, ap, ◌∙◌, subst, arith}
+use Rattle.std.proofs.Common.{◌≡◌, ◌⊎◌, inl, inr, ℕ, suc, ◌+◌, ◌*◌, ◌/◌, ◌%◌, ◌<◌, ◌≤◌, ◌==◌, Bool, true, false, not, ◌||◌, List, [], length, get_or, set, min, max, Option, Some, None, is_some, unwrap_or, refl, sym, ap, ◌∙◌, subst, arith}
 use Rattle.std.specs.Prelude.{slice_get}
 use Rattle.std.specs.List.{list_all}
 use Rattle.std.specs.Int.{bit_at}
@@ -7,7 +7,7 @@ use Rattle.std.specs.Int.Bits.{bit_and, bit_or, bit_xor}
 use Rattle.std.proofs.lemmas.Bool.{eqb-true, both_ways, cases_eq}
 use Rattle.std.proofs.lemmas.Nat.{mul-add-lt}
 use Rattle.std.proofs.lemmas.Nat.Bits.{bit_at-zero, bit_at-lt, bit_at_and, bit_at_or, bit_at_xor, same_from_bits}
-use Rattle.std.proofs.lemmas.List.{length-map, get_or-set_same, get_or-set_other}
+use Rattle.std.proofs.lemmas.List.{get_or-set_same, get_or-set_other}
 use Rattle.std.proofs.lemmas.Option.{get_or_from_slice_get}
 use Rattle.bt_bits.specs.Digits.{digit_bit, digits_of}
 use Rattle.bt_bits.proofs.DigitLemmas.{digits_of-get}
@@ -18,22 +18,21 @@ use Rattle.board_defs.specs.BoardRules.{IsBoard}
 use Rattle.board_defs.specs.Pins.{data_bits, is_same}
 use Rattle.board_defs.proofs.Members.{Has, has_at, has_any}
 use Rattle.board_defs.proofs.Places.{all_from}
-use Rattle.tap_defs.specs.chain.Scan.{ScanBit, Scan, joined, tdo_bits, mask_bits, scan_bits}
 use Rattle.tap_defs.specs.board.TestRows.{code_row, code_bit, net_code_bit, expect_bit}
-use Rattle.tap_defs.specs.board.BoardScans.{row_bits, scan_of_row, row_now, row_before, test_scans, AreTestScans}
 use Rattle.response_log.specs.Kept.{AreRowDigits}
 use Rattle.plan_tables.specs.declared.nets.NetDriver.{NetDriver}
 use Rattle.plan_tables.specs.declared.tables.ReaderCell.{ReaderCell}
 use Rattle.plan_tables.specs.declared.tables.PlanTables.{PlanTables}
 use Rattle.plan_tables.specs.Tables.{first_position}
 use Rattle.plan_tables.specs.Plans.{IsPlanOf}
-use Rattle.scan_planner.specs.Plans.{FillsScan, scan_of_pass}
+use Rattle.scan_planner.specs.Plans.{scan_of_pass}
 use Rattle.plan_tables.proofs.LaidLemmas.{laid_at, length-laid, tdo_laid, mask_laid}
 use Rattle.plan_tables.proofs.ListLemmas.{some_at}
 use Rattle.fault_sim.specs.declared.effect.Effect.TheVariants.{Plain}
-use Rattle.fault_sim.specs.Effects.{readers_in, code_in, driver_in}
+use Rattle.fault_sim.specs.Effects.{readers_in, code_in, driver_in, place_of_driver}
 use Rattle.fault_sim.specs.Fits.{bit_in, cell_shows, ShowBy, NetShows, ShowsOn}
-use Rattle.fault_sim.specs.inner.Marks.{HasExpected, MarkRows, AreMarks, are_marked, compared_in, expected_in}
+use Rattle.fault_sim.specs.Kept.{compared_in, expected_in}
+use Rattle.fault_sim.specs.inner.Marks.{HasExpected, MarkRows, AreMarks, are_marked}
 use Rattle.fault_sim.proofs.ShowLemmas.{ComparedCell, compared_cell, bits_same}
 
 -- numbers that agree wherever a third has a 1
@@ -156,7 +155,7 @@ module _ (board : RawBoard) (rules : IsBoard board) (plan : PlanTables) (p : IsP
       (by_driver net.0 net.1 pass.0 pass.1 (driver_in plan pass.0 n) refl)
     where
       by_driver : (net : Net) → slice_get board.nets n ≡ Some net → (pass : List Ctl) → slice_get plan.passes x ≡ Some pass → (o : Option NetDriver) → driver_in plan pass n ≡ o →
-          ShowBy log (x * plan.width) plan.width (code_in plan n) (readers_in plan n) Plain o
+          ShowBy log (x * plan.width) plan.width (code_in plan n) (readers_in plan n) Plain (place_of_driver o)
       by_driver net is_net pass stands None e = tt
       by_driver net is_net pass stands (Some d) e = λ j j_less. cells_expected n unmarked x less net is_net pass stands d e j j_less
 

@@ -14,7 +14,8 @@ use Rattle.board_defs.specs.Passes.{pairs_within}
 use Rattle.board_defs.proofs.Members.{Has, has_place, has_contains, contains_has}
 use Rattle.board_defs.proofs.Ordered.{InOrder}
 use Rattle.board_defs.proofs.SingleFaults.{single_is}
-use Rattle.fault_sim.specs.Places.{placed, pair_places, stuck_places, open_places, short_places, places_of, fault_at, pairs_before}
+use Rattle.fault_sim.specs.Places.{placed, pair_places, stuck_places, open_places, short_places, places_of, fault_at}
+use Rattle.fault_sim.specs.Starts.{pairs_before}
 use Rattle.fault_sim.specs.Laws.{PlacesCounted, SuspectsSuffice}
 use Rattle.fault_sim.proofs.PlaceLemmas.{length-flat, length-pairs, places_are}
 

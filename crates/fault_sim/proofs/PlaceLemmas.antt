@@ -20,10 +20,11 @@ use Rattle.board_defs.specs.Passes.{pairs_within}
 use Rattle.board_defs.proofs.Places.{below_place, below_at}
 use Rattle.tap_defs.proofs.board.ScanPlaceLemmas.{front_at, rest_at}
 use Rattle.plan_tables.specs.declared.tables.PlanTables.{PlanTables}
-use Rattle.fault_sim.specs.declared.universe.FaultLists.{FaultLists}
+use Rattle.fault_sim.specs.declared.fault_lists.FaultLists.{FaultLists}
 use Rattle.fault_sim.specs.inner.Tested.{paired_in}
 use Rattle.fault_sim.specs.Laws.{PlacesAre}
-use Rattle.fault_sim.specs.Places.{placed, pair_places, stuck_places, open_places, short_places, pairs_before, AreStarts, number_places, listed_places}
+use Rattle.fault_sim.specs.Places.{placed, pair_places, stuck_places, open_places, short_places, number_places, listed_places}
+use Rattle.fault_sim.specs.Starts.{pairs_before, AreStarts}
 
 -- what is at the places of some faults
 placed_faults : (faults : List Single) → filter_map (λ place. place) (placed faults) ≡ faults

@@ -1,5 +1,5 @@
 -- What drivers give their nets and what effects make of compared cells, row by row, worked by hand.
-use Rattle.std.proofs.Common.{◌≡◌, Bool, true, false, List, [], ◌∷◌, map, Option, Some, None, refl}
+use Rattle.std.proofs.Common.{◌≡◌, Bool, true, false, [], ◌∷◌, map, Option, Some, None, refl}
 use Rattle.board_defs.specs.declared.fault.Kind.{Kind}
 use Rattle.board_defs.specs.declared.fault.Kind.TheVariants.{And, Or, First, Second}
 use Rattle.fault_sim.specs.declared.feed.Source.TheVariants.{Code, Fixed}

@@ -35,7 +35,7 @@ use Rattle.plan_tables.proofs.LaidLemmas.{laid_at}
 use Rattle.plan_tables.proofs.PinLemmas.{Standing, standing, on_self, reading_entry_is, Reads, reads_by}
 use Rattle.plan_tables.proofs.ListLemmas.{some_at}
 use Rattle.plan_tables.proofs.TableLemmas.{FirstOn, reader_is, is_reader}
-use Rattle.fault_sim.specs.Effects.{readers_in, code_in, driver_in, effect_in, effect_bit}
+use Rattle.fault_sim.specs.Effects.{readers_in, code_in, driver_in, place_of_driver, effect_in, effect_bit}
 use Rattle.fault_sim.specs.inner.Effects.{fault_bit}
 use Rattle.fault_sim.specs.Fits.{bit_in, cell_shows, ShowBy, NetShows, Shows, ShowsAll}
 use Rattle.fault_sim.proofs.FeedLemmas.{drivers_are, readers_are, code_is, first_is, observing_is}
@@ -317,7 +317,7 @@ module _ (board : RawBoard) (rules : IsBoard board) (plan : PlanTables) (p : IsP
           let same : net_code_bit board plan.passes j n ≡ expected = cc two in
           ap (λ (k : ℕ). code_bit k j) (code_is board rules plan p n net is_net x pass r.driver stands r.observing) ∙ same
 
-      by_enabled : (d : Option NetDriver) → driver_in plan pass n ≡ d → ShowBy log (x * plan.width) plan.width (code_in plan n) (readers_in plan n) (effect_in board plan pass fault n) d →
+      by_enabled : (d : Option NetDriver) → driver_in plan pass n ≡ d → ShowBy log (x * plan.width) plan.width (code_in plan n) (readers_in plan n) (effect_in board plan pass fault n) (place_of_driver d) →
           slice_get logged (cell_position board part cell) ≡ Some (fault_bit board fault row place expected)
       by_enabled None e shown =
           let none = first_is board rules plan p n net is_net x pass stands o.unguarded in
@@ -404,6 +404,6 @@ module _ (board : RawBoard) (rules : IsBoard board) (plan : PlanTables) (p : IsP
       (by_driver (pass.0) pass.1 (net.0) net.1 (driver_in plan (pass.0) n) refl)
     where
       by_driver : (pass : List Ctl) → slice_get plan.passes x ≡ Some pass → (net : Net) → slice_get board.nets n ≡ Some net → (o : Option NetDriver) → driver_in plan pass n ≡ o →
-          ShowBy log (x * plan.width) plan.width (code_in plan n) (readers_in plan n) (effect_in board plan pass fault n) o
+          ShowBy log (x * plan.width) plan.width (code_in plan n) (readers_in plan n) (effect_in board plan pass fault n) (place_of_driver o)
       by_driver pass stands v is_v None e = tt
       by_driver pass stands v is_v (Some d) e = λ j less. cells_are_shown x pass stands j less shows n v is_v d e

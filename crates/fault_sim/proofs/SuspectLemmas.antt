@@ -9,8 +9,9 @@ use Rattle.board_defs.specs.declared.board.PinRef.{PinRef}
 use Rattle.board_defs.specs.Passes.{pairs_within}
 use Rattle.board_defs.proofs.Members.{Has, has_left, has_right, has_append, has_flat_map, flat_map_has, has_range, range_has}
 use Rattle.board_defs.proofs.Ordered.{InOrder, order_append, order_flat_map, order_range}
-use Rattle.fault_sim.specs.declared.universe.FaultLists.{FaultLists}
-use Rattle.fault_sim.specs.Places.{pairs_before, AreStarts, place_count}
+use Rattle.fault_sim.specs.declared.fault_lists.FaultLists.{FaultLists}
+use Rattle.fault_sim.specs.Places.{place_count}
+use Rattle.fault_sim.specs.Starts.{pairs_before, AreStarts}
 use Rattle.fault_sim.specs.inner.Suspects.{two_from, four_from, first_open, first_short, pair_number, pair_suspects, pin_net, is_net, pin_suspects, net_suspects}
 use Rattle.fault_sim.proofs.PlaceLemmas.{before_more}
 

@@ -55,6 +55,10 @@ code_in plan n = slice_index_or plan.codes n 0
 abbrev pub driver_in : PlanTables → List Ctl → ℕ → Option NetDriver
 driver_in plan pass n = enabled_in (holds pass) (drivers_in plan n)
 
+-- the place of a driver's pin in its net
+abbrev pub place_of_driver : Option NetDriver → Option ℕ
+place_of_driver driver = option_map (λ d. d.place) driver
+
 -- the bit of a cell that carries no net's bit: that of the quiet row, and the other one where the pass holds the cell as a control
 abbrev pub steady_in : PlanTables → List Ctl → NetDriver → Bool
 steady_in plan pass d = cond (holds pass d.own) (not (slice_index_or plan.quiet.bits d.position false)) (slice_index_or plan.quiet.bits d.position false)
@@ -79,10 +83,10 @@ pull_in board n = pulled_to (slice_get board.nets n)
 abbrev pub net_feed : RawBoard → PlanTables → List Ctl → ℕ → Option Feed
 net_feed board plan pass n = feed_in plan pass n (pull_in board n)
 
--- the effect on the net of an open pin: on all its cells where the pin is the enabled driver, else on those of the pin
-abbrev pub open_effect : Option NetDriver → ℕ → Bool → Option Bool → Effect
+-- the effect on the net of an open pin: on all its cells where the pin is that of the enabled driver, else on those of the pin
+abbrev pub open_effect : Option ℕ → ℕ → Bool → Option Bool → Effect
 open_effect None place value pull = AtPin place value
-open_effect (Some d) place value pull = cond (d.place == place) (Constant (unwrap_or pull value)) (AtPin place value)
+open_effect (Some driver) place value pull = cond (driver == place) (Constant (unwrap_or pull value)) (AtPin place value)
 
 -- the effect on the nets of a short
 abbrev pub short_effect : RawBoard → PlanTables → List Ctl → ℕ → ℕ → Kind → Effect
@@ -91,7 +95,7 @@ short_effect board plan pass a b kind = Shorted kind (net_feed board plan pass a
 -- the effect of a single fault on net n in the rows of a pass
 abbrev pub effect_of : RawBoard → PlanTables → List Ctl → Single → ℕ → Effect
 effect_of board plan pass (StuckNet net value) n = cond (n == net) (Constant value) Plain
-effect_of board plan pass (OpenPin pin value) n = cond (n == pin.net) (open_effect (driver_in plan pass n) pin.place value (pull_in board n)) Plain
+effect_of board plan pass (OpenPin pin value) n = cond (n == pin.net) (open_effect (place_of_driver (driver_in plan pass n)) pin.place value (pull_in board n)) Plain
 effect_of board plan pass (Short a b kind) n = cond ((n == a) || (n == b)) (short_effect board plan pass a b kind) Plain
 
 -- the same where there is a fault

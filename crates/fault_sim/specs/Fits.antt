@@ -6,11 +6,10 @@ use Rattle.board_defs.specs.declared.board.RawBoard.{RawBoard}
 use Rattle.board_defs.specs.declared.fault.Single.{Single}
 use Rattle.board_defs.specs.Pins.{is_same}
 use Rattle.tap_defs.specs.board.TestRows.{code_bit}
-use Rattle.plan_tables.specs.declared.nets.NetDriver.{NetDriver}
 use Rattle.plan_tables.specs.declared.tables.ReaderCell.{ReaderCell}
 use Rattle.plan_tables.specs.declared.tables.PlanTables.{PlanTables}
 use Rattle.fault_sim.specs.declared.effect.Effect.{Effect}
-use Rattle.fault_sim.specs.Effects.{driver_in, readers_in, code_in, effect_in, effect_bit}
+use Rattle.fault_sim.specs.Effects.{driver_in, place_of_driver, readers_in, code_in, effect_in, effect_bit}
 
 -- the bit of a log at a position of a row
 abbrev pub bit_in : List (List Bool) → ℕ → ℕ → Bool
@@ -25,15 +24,15 @@ cell_shows log row driver effect j expected r = (r.place == driver) || is_same (
 abbrev pub ShowRows : List (List Bool) → ℕ → ℕ → ℕ → List ReaderCell → Effect → ℕ → Type 0
 ShowRows log first width code readers effect driver = (j : ℕ) → j < width → list_all (cell_shows log (first + j) driver effect j (code_bit code j)) readers ≡ true
 
--- the same where there is a driver
-abbrev pub ShowBy : List (List Bool) → ℕ → ℕ → ℕ → List ReaderCell → Effect → Option NetDriver → Type 0
+-- the same where there is a driver, the pin of which stands at this place
+abbrev pub ShowBy : List (List Bool) → ℕ → ℕ → ℕ → List ReaderCell → Effect → Option ℕ → Type 0
 ShowBy log first width code readers effect None = Unit {0}
-ShowBy log first width code readers effect (Some d) = ShowRows log first width code readers effect d.place
+ShowBy log first width code readers effect (Some driver) = ShowRows log first width code readers effect driver
 
 -- the log shows the effect on net n in a pass whose rows begin at this one
 abbrev pub NetShows : RawBoard → PlanTables → Option Single → List (List Bool) → ℕ → List Ctl → ℕ → Type 0
 NetShows board plan fault log first pass n =
-    ShowBy log first plan.width (code_in plan n) (readers_in plan n) (effect_in board plan pass fault n) (driver_in plan pass n)
+    ShowBy log first plan.width (code_in plan n) (readers_in plan n) (effect_in board plan pass fault n) (place_of_driver (driver_in plan pass n))
 
 -- the same in pass x
 abbrev pub Shows : RawBoard → PlanTables → Option Single → List (List Bool) → ℕ → ℕ → Type 0

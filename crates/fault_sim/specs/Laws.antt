@@ -6,7 +6,7 @@ use Rattle.board_defs.specs.BoardRules.{IsBoard}
 use Rattle.board_defs.specs.Faults.{singles, IsSingle, SinglePrecedes}
 use Rattle.tap_defs.specs.board.Explaining.{Explains}
 use Rattle.plan_tables.specs.declared.tables.PlanTables.{PlanTables}
-use Rattle.fault_sim.specs.declared.universe.FaultLists.{FaultLists}
+use Rattle.fault_sim.specs.declared.fault_lists.FaultLists.{FaultLists}
 use Rattle.fault_sim.specs.Places.{places_of, fault_at, IsUniverse, place_count}
 use Rattle.fault_sim.specs.Suspects.{AreSuspects}
 

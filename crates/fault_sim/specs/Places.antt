@@ -1,5 +1,5 @@
 -- The places of a board: each has a single fault, or none where two covered nets are not paired.
-use Rattle.std.specs.Prelude.{◌≡◌, ℕ, zero, suc, ◌+◌, ◌*◌, ◌≤◌, List, [], ◌∷◌, ◌++◌, map, cond, length, slice_index_or, slice_get, Option, Some, None, option_and_then}
+use Rattle.std.specs.Prelude.{◌≡◌, ℕ, ◌+◌, ◌*◌, List, [], ◌∷◌, ◌++◌, map, cond, length, slice_get, Option, Some, None, option_and_then}
 use Rattle.std.specs.List.{flat_map}
 use Rattle.board_defs.specs.declared.board.RawBoard.{RawBoard}
 use Rattle.board_defs.specs.declared.fault.Single.{Single}
@@ -7,7 +7,8 @@ use Rattle.board_defs.specs.Decided.{are_paired}
 use Rattle.board_defs.specs.Faults.{Numbered, covered_nets, tested_pins, stuck_faults, open_faults, short_faults}
 use Rattle.board_defs.specs.Passes.{pairs_within}
 use Rattle.plan_tables.specs.declared.tables.PlanTables.{PlanTables}
-use Rattle.fault_sim.specs.declared.universe.FaultLists.{FaultLists}
+use Rattle.fault_sim.specs.declared.fault_lists.FaultLists.{FaultLists}
+use Rattle.fault_sim.specs.Starts.{pairs_before}
 use Rattle.fault_sim.specs.inner.Tested.{paired_in}
 
 -- a place for each of these faults
@@ -35,17 +36,6 @@ places_of board = stuck_places board ++ (open_places board ++ short_places board
 -- the fault at a place, where it has one
 abbrev pub fault_at : RawBoard → ℕ → Option Single
 fault_at board i = option_and_then (λ place. place) (slice_get (places_of board) i)
-
--- how many pairs of so many nets come before the pairs of net a with later ones
-abbrev pub pairs_before : ℕ → ℕ → ℕ
-pairs_before zero a = 0
-pairs_before (suc nets) zero = 0
-pairs_before (suc nets) (suc a) = nets + pairs_before nets a
-
--- where the pairs of each net with later ones begin, and where all end
-pub record AreStarts (nets : ℕ) (starts : List ℕ) : Type 0 where
-  pub count : length starts ≡ suc nets
-  pub each : (a : ℕ) → a ≤ nets → slice_index_or starts a 0 ≡ pairs_before nets a
 
 -- the covered nets and the tested pins of a board
 pub record IsUniverse (board : RawBoard) (lists : FaultLists) : Type 0 where

@@ -4,7 +4,7 @@ use Rattle.board_defs.specs.declared.board.RawBoard.{RawBoard}
 use Rattle.board_defs.specs.declared.fault.Single.{Single}
 use Rattle.tap_defs.specs.board.Explaining.{Explains}
 use Rattle.plan_tables.specs.declared.tables.PlanTables.{PlanTables}
-use Rattle.fault_sim.specs.declared.universe.FaultLists.{FaultLists}
+use Rattle.fault_sim.specs.declared.fault_lists.FaultLists.{FaultLists}
 use Rattle.fault_sim.specs.Fits.{ShowsOn}
 use Rattle.fault_sim.specs.Places.{place_count, places_of}
 

@@ -3,3 +3,4 @@ pub mod Effects
 pub mod Tested
 pub mod Marks
 pub mod Suspects
+pub mod Kept

@@ -7,9 +7,11 @@ ghost use Rattle.tap_defs.specs.board.BoardScans.{svf_row_scans};
 ghost use Rattle.tap_defs.specs.board.Explaining.{IsExpected};
 ghost use Rattle.fault_sim.specs.Suspects.{AreDiffering};
 ghost use Rattle.fault_sim.specs.Fits.{ShowsOn};
+ghost use Rattle.fault_sim.specs.Kept.{IsLogged};
 ghost use Rattle.fault_sim.specs.inner.Marks.{AreMarks};
 ghost use Rattle.fault_sim.specs.inner.Suspects.{AreFlags, flagged_nets};
 
+use crate::board_test::{BoardTest, LoggedTest};
 use crate::fits::{net_count, shows_on};
 use crate::marks::{are_marked, marks_of};
 use crate::tested::push_if;
@@ -21,48 +23,43 @@ use std::alloc::{AllocError, Global};
 use tap_defs::board_law;
 
 // Whether a net shows the expected bits in each pass. Where none of the digits of its cells has a mark, its cells need not be looked at.
-fn shows_expected(board: &Board, plan: &Plan, log: &Log, marks: &[u8], n: u32) -> bool
-    requires plan { IsPlanOf board.now plan.now }
-    requires rows { length log.now ≡ length plan.now.passes * plan.now.width }
-    requires bits { All (λ row. length row ≡ data_bits board.now) log.now }
-    requires net { n < length board.now.nets }
-    requires marks { AreMarks board.now plan.now log.now (length plan.now.passes) marks.now }
-    ensures { Decides result (ShowsOn board.now plan.now None log.now n) }
+fn shows_expected(logged: &LoggedTest<'_>, marks: &[u8], n: u32) -> bool
+    requires logged { IsLogged logged.now }
+    requires net { n < length logged.now.test.board.now.nets }
+    requires marks { AreMarks logged.now.test.board.now logged.now.test.plan.now logged.now.log.now (length logged.now.test.plan.now.passes) marks.now }
+    ensures { Decides result (ShowsOn logged.now.test.board.now logged.now.test.plan.now None logged.now.log.now n) }
 {
-    let _rules = board.raw();
-    if !are_marked(marks, plan.readers(n)) {
+    let _rules = logged.test.board.raw();
+    if !are_marked(marks, logged.test.plan.readers(n)) {
         return true;
     }
-    shows_on(board, plan, None, log, n)
+    shows_on(logged, None, n)
 }
 
 // Flags net `n` where it does not show the expected bits in each pass.
-fn flag_net(flags: &mut [bool], board: &Board, plan: &Plan, log: &Log, marks: &[u8], n: u32)
-    requires plan { IsPlanOf board.now plan.now }
-    requires rows { length log.now ≡ length plan.now.passes * plan.now.width }
-    requires bits { All (λ row. length row ≡ data_bits board.now) log.now }
-    requires net { n < length board.now.nets }
-    requires count { length flags.old ≡ length board.now.nets }
-    requires marks { AreMarks board.now plan.now log.now (length plan.now.passes) marks.now }
-    requires flags { AreFlags board.now plan.now log.now n flags.old }
-    ensures flags { AreFlags board.now plan.now log.now (n + 1) flags.new }
+fn flag_net(flags: &mut [bool], logged: &LoggedTest<'_>, marks: &[u8], n: u32)
+    requires logged { IsLogged logged.now }
+    requires net { n < length logged.now.test.board.now.nets }
+    requires count { length flags.old ≡ length logged.now.test.board.now.nets }
+    requires marks { AreMarks logged.now.test.board.now logged.now.test.plan.now logged.now.log.now (length logged.now.test.plan.now.passes) marks.now }
+    requires flags { AreFlags logged.now.test.board.now logged.now.test.plan.now logged.now.log.now n flags.old }
+    ensures flags { AreFlags logged.now.test.board.now logged.now.test.plan.now logged.now.log.now (n + 1) flags.new }
     ensures count { length flags.new ≡ length flags.old }
 {
-    flags[n as usize] = !shows_expected(board, plan, log, marks, n);
+    flags[n as usize] = !shows_expected(logged, marks, n);
 }
 
 // Flags the nets that differ in a log. Its rows are gone through once, and then the cells of the nets with marks.
-fn flags_of(alloc: Global, board: &Board, plan: &Plan, log: &Log) -> Result<Vec<bool>, AllocError>
-    requires plan { IsPlanOf board.now plan.now }
-    requires rows { length log.now ≡ length plan.now.passes * plan.now.width }
-    requires bits { All (λ row. length row ≡ data_bits board.now) log.now }
-    ensures flags { IfOk result (λ flags. AreFlags board.now plan.now log.now (length board.now.nets) flags.items) }
-    ensures count { IfOk result (λ flags. length flags.items ≡ length board.now.nets) }
+fn flags_of(alloc: Global, logged: &LoggedTest<'_>) -> Result<Vec<bool>, AllocError>
+    requires { IsLogged logged.now }
+    ensures flags { IfOk result (λ flags. AreFlags logged.now.test.board.now logged.now.test.plan.now logged.now.log.now (length logged.now.test.board.now.nets) flags.items) }
+    ensures count { IfOk result (λ flags. length flags.items ≡ length logged.now.test.board.now.nets) }
 {
-    let marks = marks_of(alloc, board, plan, log)?;
-    let mut flags = vec![in alloc; false; net_count(board) as usize]?;
-    for n in 0..net_count(board) {
-        flag_net(&mut flags, board, plan, log, &marks, n);
+    let marks = marks_of(alloc, logged)?;
+    let count = net_count(logged.test.board);
+    let mut flags = vec![in alloc; false; count as usize]?;
+    for n in 0..count {
+        flag_net(&mut flags, logged, &marks, n);
     }
     Ok(flags)
 }
@@ -78,6 +75,18 @@ fn flagged_nets(alloc: Global, flags: &[bool]) -> Result<Vec<u32>, AllocError>
     Ok(nets)
 }
 
+impl<'a> LoggedTest<'a> {
+    /// The nets that differ in the log, as `differing_nets` finds them.
+    pub fn differing(&self, alloc: Global) -> Result<Vec<u32>, AllocError>
+        requires { IsLogged self.now }
+        ensures { IfOk result (λ nets. AreDiffering self.now.test.board.now self.now.test.plan.now self.now.log.now nets.items) }
+    {
+        let _rules = self.test.board.raw();
+        let flags = flags_of(alloc, self)?;
+        flagged_nets(alloc, &flags)
+    }
+}
+
 /// The nets that differ in a log, in net order: some compared cell of them has a bit that is not the expected one. The log has the
 /// plan's rows, each as long as a scan of data. Its rows are gone through once, and then the cells of few nets beside those that differ.
 pub fn differing_nets(
@@ -91,9 +100,12 @@ pub fn differing_nets(
     requires bits { All (λ row. length row ≡ data_bits board.now) log.now }
     ensures { IfOk result (λ nets. AreDiffering board.now plan.now log.now nets.items) }
 {
-    let _rules = board.raw();
-    let flags = flags_of(alloc, board, plan, log)?;
-    flagged_nets(alloc, &flags)
+    let test = BoardTest {
+        board,
+        plan,
+        kept: &[],
+    };
+    LoggedTest { test, log }.differing(alloc)
 }
 
 /// Whether every compared bit of a log is the expected one, where these are the nets that differ in it. The plan is made of the

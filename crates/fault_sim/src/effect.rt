@@ -1,12 +1,13 @@
 // What a single fault makes of the compared cells of a net in the rows of a pass.
-ghost use Rattle.std.specs.Prelude.{◌≡◌, ◌<◌, ◌==◌, ◌||◌, unwrap_or};
+ghost use Rattle.std.specs.Prelude.{◌≡◌, ◌<◌, ◌==◌, ◌||◌, [], length, slice_index_or, unwrap_or};
 ghost use Rattle.tap_defs.specs.board.NetBits.{or_else};
 ghost use Rattle.tap_defs.specs.board.SingleBits.{shorted};
 ghost use Rattle.fault_sim.specs.Effects.{open_effect, short_effect, effect_of, effect_in, effect_bit};
+ghost use Rattle.fault_sim.specs.Kept.{IsBoardTest};
 
-use crate::feed::{Feed, driver_in, feed_bit, net_feed, pull_in};
-use board_defs::{Board, Kind, Setting, Single};
-use scan_planner::{NetDriver, Plan};
+use crate::board_test::BoardTest;
+use crate::feed::{Feed, feed_bit, pull_in};
+use board_defs::{Kind, Single};
 
 /// What is to be seen at the compared cells of a net.
 #[derive(Clone, Copy, Debug, PartialEq, Eq)]
@@ -52,13 +53,13 @@ fn shorted(kind: Kind, first: Option<bool>, second: Option<bool>) -> Option<bool
     }
 }
 
-fn open_effect(driver: Option<NetDriver>, place: u32, value: bool, pull: Option<bool>) -> Effect
+fn open_effect(driver: Option<u32>, place: u32, value: bool, pull: Option<bool>) -> Effect
     ensures { result ≡ open_effect driver place value pull }
 {
     match driver {
         None => Effect::AtPin { place, bit: value },
         Some(driver) => {
-            if driver.place == place {
+            if driver == place {
                 Effect::Constant(pull.unwrap_or(value))
             } else {
                 Effect::AtPin { place, bit: value }
@@ -67,19 +68,23 @@ fn open_effect(driver: Option<NetDriver>, place: u32, value: bool, pull: Option<
     }
 }
 
-fn short_effect(board: &Board, plan: &Plan, pass: &Setting, a: u32, b: u32, kind: Kind) -> Effect
-    ensures { result ≡ short_effect board.now plan.now pass.now a b kind }
+fn short_effect(test: &BoardTest<'_>, x: u32, a: u32, b: u32, kind: Kind) -> Effect
+    requires test { IsBoardTest test.now }
+    requires pass { x < length test.now.plan.now.passes }
+    ensures { result ≡ short_effect test.now.board.now test.now.plan.now (slice_index_or test.now.plan.now.passes x []) a b kind }
 {
     Effect::Shorted {
         kind,
-        first: net_feed(board, plan, pass, a),
-        second: net_feed(board, plan, pass, b),
-        pull: shorted(kind, pull_in(board, a), pull_in(board, b)),
+        first: test.feed(x, a),
+        second: test.feed(x, b),
+        pull: shorted(kind, pull_in(test.board, a), pull_in(test.board, b)),
     }
 }
 
-fn effect_of(board: &Board, plan: &Plan, pass: &Setting, fault: Single, n: u32) -> Effect
-    ensures { result ≡ effect_of board.now plan.now pass.now fault n }
+fn effect_of(test: &BoardTest<'_>, x: u32, fault: Single, n: u32) -> Effect
+    requires test { IsBoardTest test.now }
+    requires pass { x < length test.now.plan.now.passes }
+    ensures { result ≡ effect_of test.now.board.now test.now.plan.now (slice_index_or test.now.plan.now.passes x []) fault n }
 {
     match fault {
         Single::StuckNet { net, value } => {
@@ -91,15 +96,15 @@ fn effect_of(board: &Board, plan: &Plan, pass: &Setting, fault: Single, n: u32) 
         }
         Single::OpenPin { pin, value } => {
             if n == pin.net {
-                let driver = driver_in(plan, pass, n);
-                open_effect(driver, pin.place, value, pull_in(board, n))
+                let driver = test.driver_place(x, n);
+                open_effect(driver, pin.place, value, pull_in(test.board, n))
             } else {
                 Effect::Plain
             }
         }
         Single::Short { a, b, kind } => {
             if n == a || n == b {
-                short_effect(board, plan, pass, a, b, kind)
+                short_effect(test, x, a, b, kind)
             } else {
                 Effect::Plain
             }
@@ -107,19 +112,15 @@ fn effect_of(board: &Board, plan: &Plan, pass: &Setting, fault: Single, n: u32) 
     }
 }
 
-/// The effect of a fault on net `n` in the rows of a pass.
-pub fn effect_in(
-    board: &Board,
-    plan: &Plan,
-    pass: &Setting,
-    fault: Option<Single>,
-    n: u32,
-) -> Effect
-    ensures { result ≡ effect_in board.now plan.now pass.now fault n }
+/// The effect of a fault on net `n` in the rows of pass `x`.
+pub fn effect_in(test: &BoardTest<'_>, x: u32, fault: Option<Single>, n: u32) -> Effect
+    requires test { IsBoardTest test.now }
+    requires pass { x < length test.now.plan.now.passes }
+    ensures { result ≡ effect_in test.now.board.now test.now.plan.now (slice_index_or test.now.plan.now.passes x []) fault n }
 {
     match fault {
         None => Effect::Plain,
-        Some(fault) => effect_of(board, plan, pass, fault, n),
+        Some(fault) => effect_of(test, x, fault, n),
     }
 }
 

@@ -5,7 +5,9 @@ ghost use Rattle.board_defs.specs.Pins.{is_same};
 ghost use Rattle.board_defs.specs.Settings.{holds};
 ghost use Rattle.plan_tables.specs.Building.{is_on, enabled_in};
 ghost use Rattle.tap_defs.specs.board.TestRows.{code_bit};
-ghost use Rattle.fault_sim.specs.Effects.{source_bit, unless_off, feed_bit, is_own, driver_in, steady_in, source_in, feed_by, feed_in, pull_in, net_feed};
+ghost use Rattle.fault_sim.specs.Effects.{source_bit, unless_off, feed_bit, is_own, driver_in, steady_in, source_in, pull_in};
+ghost use Rattle.fault_sim.specs.Kept.{enabled_by, enabled_driver};
+ghost use Rattle.fault_sim.specs.inner.Kept.{feed_of, observes_coded};
 
 use board_defs::{Board, Ctl, Setting};
 use counting_codes::bit;
@@ -18,6 +20,16 @@ pub enum Source {
     Code(u32),
     /// One bit in all rows.
     Fixed(bool),
+}
+
+/// The driver that a pass enables on a net.
+#[derive(Clone, Copy, Debug, PartialEq, Eq)]
+pub struct EnabledDriver {
+    /// The place of its pin in the net.
+    pub place: u32,
+    pub source: Source,
+    /// Whether its own cell controls it.
+    pub own: bool,
 }
 
 /// What the enabled driver of a net gives it in the rows of a pass.
@@ -135,25 +147,46 @@ fn source_in(plan: &Plan, pass: &Setting, net: u32, driver: NetDriver) -> Source
     }
 }
 
-fn feed_by(plan: &Plan, pass: &Setting, net: u32, pull: Option<bool>, driver: NetDriver) -> Feed
-    ensures { result ≡ feed_by plan.now pass.now net pull driver }
+fn enabled_by(plan: &Plan, pass: &Setting, net: u32, driver: NetDriver) -> EnabledDriver
+    ensures { result ≡ enabled_by plan.now pass.now net driver }
 {
-    Feed {
+    EnabledDriver {
+        place: driver.place,
         source: source_in(plan, pass, net, driver),
-        off: if is_own(driver.own, driver.ctl) {
-            pull
-        } else {
-            None
-        },
+        own: is_own(driver.own, driver.ctl),
     }
 }
 
-fn feed_in(plan: &Plan, pass: &Setting, net: u32, pull: Option<bool>) -> Option<Feed>
-    ensures { result ≡ feed_in plan.now pass.now net pull }
+/// The driver that a pass enables on a net, with what its cell has in the rows of the pass.
+pub fn enabled_driver(plan: &Plan, pass: &Setting, net: u32) -> Option<EnabledDriver>
+    ensures { result ≡ enabled_driver plan.now pass.now net }
 {
     match driver_in(plan, pass, net) {
         None => None,
-        Some(driver) => Some(feed_by(plan, pass, net, pull, driver)),
+        Some(driver) => Some(enabled_by(plan, pass, net, driver)),
+    }
+}
+
+/// What an enabled driver gives its net, which has this pull.
+pub fn feed_of(driver: EnabledDriver, pull: Option<bool>) -> Feed
+    ensures { result ≡ feed_of pull driver }
+{
+    Feed {
+        source: driver.source,
+        off: if driver.own { pull } else { None },
+    }
+}
+
+/// Whether a pass observes the net on which it enables this driver: its cell then has the code of the net.
+pub fn observes(driver: Option<EnabledDriver>) -> bool
+    ensures { result ≡ observes_coded driver }
+{
+    match driver {
+        None => false,
+        Some(driver) => match driver.source {
+            Source::Code(_) => true,
+            Source::Fixed(_) => false,
+        },
     }
 }
 
@@ -165,11 +198,4 @@ pub fn pull_in(board: &Board, net: u32) -> Option<bool>
         None => None,
         Some(net) => net.pull,
     }
-}
-
-/// How a pass drives a net.
-pub fn net_feed(board: &Board, plan: &Plan, pass: &Setting, net: u32) -> Option<Feed>
-    ensures { result ≡ net_feed board.now plan.now pass.now net }
-{
-    feed_in(plan, pass, net, pull_in(board, net))
 }

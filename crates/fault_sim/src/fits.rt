@@ -1,16 +1,16 @@
 // Whether a log shows what a fault makes of the compared cells.
 ghost use Rattle.std.specs.Prelude.{◌≡◌, ◌+◌, ◌*◌, ◌<◌, ◌≤◌, ◌^◌, [], length, slice_index_or, All, Decides, true};
 ghost use Rattle.std.specs.List.{list_all};
-ghost use Rattle.board_defs.specs.Pins.{data_bits};
-ghost use Rattle.plan_tables.specs.Plans.{IsPlanOf};
 ghost use Rattle.tap_defs.specs.board.TestRows.{code_bit};
-ghost use Rattle.fault_sim.specs.Fits.{bit_in, cell_shows, ShowRows, ShowBy, NetShows, Shows, ShowsPair, ShowsBoth, ShowsOn, ShowsIn, ShowsAll};
+ghost use Rattle.fault_sim.specs.Fits.{bit_in, cell_shows, ShowRows, ShowBy, Shows, ShowsPair, ShowsBoth, ShowsOn, ShowsIn, ShowsAll};
+ghost use Rattle.fault_sim.specs.Kept.{IsLogged};
 
+use crate::board_test::LoggedTest;
 use crate::effect::{Effect, effect_bit, effect_in};
-use crate::feed::{code_bit, driver_in, is_same};
-use board_defs::{Board, Setting, Single};
+use crate::feed::{code_bit, is_same};
+use board_defs::{Board, Single};
 use response_log::Log;
-use scan_planner::{NetDriver, Plan, ReaderCell};
+use scan_planner::ReaderCell;
 
 // The bit of a log at a position of a row.
 #[inline]
@@ -93,7 +93,7 @@ fn rows_show(
     true
 }
 
-// The same where a pass enables a driver.
+// The same where a pass enables a driver, the pin of which stands at this place.
 fn driven_shows(
     log: &Log,
     first: u64,
@@ -101,7 +101,7 @@ fn driven_shows(
     code: u32,
     readers: &[ReaderCell],
     effect: Effect,
-    driver: Option<NetDriver>,
+    driver: Option<u32>,
 ) -> bool
     requires rows { first + width ≤ length log.now }
     requires fits { first + width < 2 ^ 64 }
@@ -111,113 +111,8 @@ fn driven_shows(
 {
     match driver {
         None => true,
-        Some(driver) => rows_show(log, first, width, code, readers, effect, driver.place),
+        Some(place) => rows_show(log, first, width, code, readers, effect, place),
     }
-}
-
-fn net_shows(
-    board: &Board,
-    plan: &Plan,
-    fault: Option<Single>,
-    log: &Log,
-    first: u64,
-    pass: &Setting,
-    net: u32,
-) -> bool
-    requires plan { IsPlanOf board.now plan.now }
-    requires rows { first + plan.now.width ≤ length log.now }
-    requires fits { first + plan.now.width < 2 ^ 64 }
-    requires bits { All (λ row. length row ≡ data_bits board.now) log.now }
-    requires net { net < length board.now.nets }
-    ensures { Decides result (NetShows board.now plan.now fault log.now first pass.now net) }
-{
-    let _rules = board.raw();
-    let effect = effect_in(board, plan, pass, fault, net);
-    let driver = driver_in(plan, pass, net);
-    driven_shows(
-        log,
-        first,
-        plan.width(),
-        plan.code(net),
-        plan.readers(net),
-        effect,
-        driver,
-    )
-}
-
-// Whether a log shows the effect of a fault on a net in pass `x`.
-fn shows(board: &Board, plan: &Plan, fault: Option<Single>, log: &Log, x: u32, net: u32) -> bool
-    requires plan { IsPlanOf board.now plan.now }
-    requires rows { length log.now ≡ length plan.now.passes * plan.now.width }
-    requires bits { All (λ row. length row ≡ data_bits board.now) log.now }
-    requires pass { x < length plan.now.passes }
-    requires net { net < length board.now.nets }
-    ensures { Decides result (Shows board.now plan.now fault log.now x net) }
-{
-    let first = u64::from(x) * u64::from(plan.width());
-    net_shows(board, plan, fault, log, first, plan.pass(x), net)
-}
-
-// The same on two nets, which may be one.
-fn shows_pair(
-    board: &Board,
-    plan: &Plan,
-    fault: Option<Single>,
-    log: &Log,
-    x: u32,
-    a: u32,
-    b: u32,
-) -> bool
-    requires plan { IsPlanOf board.now plan.now }
-    requires rows { length log.now ≡ length plan.now.passes * plan.now.width }
-    requires bits { All (λ row. length row ≡ data_bits board.now) log.now }
-    requires pass { x < length plan.now.passes }
-    requires first { a < length board.now.nets }
-    requires second { b < length board.now.nets }
-    ensures { Decides result (ShowsPair board.now plan.now fault log.now x a b) }
-{
-    shows(board, plan, fault, log, x, a) && shows(board, plan, fault, log, x, b)
-}
-
-/// Whether a log shows the effect of a fault on two nets, which may be one. Both are looked at pass by pass, since the first pass in which
-/// either tells is mostly an early one.
-pub fn shows_both(
-    board: &Board,
-    plan: &Plan,
-    fault: Option<Single>,
-    log: &Log,
-    a: u32,
-    b: u32,
-) -> bool
-    requires plan { IsPlanOf board.now plan.now }
-    requires rows { length log.now ≡ length plan.now.passes * plan.now.width }
-    requires bits { All (λ row. length row ≡ data_bits board.now) log.now }
-    requires first { a < length board.now.nets }
-    requires second { b < length board.now.nets }
-    ensures { Decides result (ShowsBoth board.now plan.now fault log.now a b) }
-{
-    for x in 0..plan.pass_count() {
-        if !shows_pair(board, plan, fault, log, x, a, b) {
-            return false;
-        }
-    }
-    true
-}
-
-/// Whether a log shows the effect of a fault on a net.
-pub fn shows_on(board: &Board, plan: &Plan, fault: Option<Single>, log: &Log, net: u32) -> bool
-    requires plan { IsPlanOf board.now plan.now }
-    requires rows { length log.now ≡ length plan.now.passes * plan.now.width }
-    requires bits { All (λ row. length row ≡ data_bits board.now) log.now }
-    requires net { net < length board.now.nets }
-    ensures { Decides result (ShowsOn board.now plan.now fault log.now net) }
-{
-    for x in 0..plan.pass_count() {
-        if !shows(board, plan, fault, log, x, net) {
-            return false;
-        }
-    }
-    true
 }
 
 /// The number of nets of a board.
@@ -227,16 +122,86 @@ pub fn net_count(board: &Board) -> u32
     board.raw().nets.len() as u32
 }
 
-// Whether a log shows the effect of a fault in pass `x`.
-fn shows_in(board: &Board, plan: &Plan, fault: Option<Single>, log: &Log, x: u32) -> bool
-    requires plan { IsPlanOf board.now plan.now }
-    requires rows { length log.now ≡ length plan.now.passes * plan.now.width }
-    requires bits { All (λ row. length row ≡ data_bits board.now) log.now }
-    requires pass { x < length plan.now.passes }
-    ensures { Decides result (ShowsIn board.now plan.now fault log.now x) }
+// The number of the first row of pass `x` in a log.
+fn first_row(logged: &LoggedTest<'_>, x: u32) -> u64
+    requires logged { IsLogged logged.now }
+    requires pass { x < length logged.now.test.plan.now.passes }
+    ensures value { result ≡ x * logged.now.test.plan.now.width }
+    ensures within { result + logged.now.test.plan.now.width ≤ length logged.now.log.now }
+    ensures fits { result + logged.now.test.plan.now.width < 2 ^ 64 }
 {
-    for net in 0..net_count(board) {
-        if !shows(board, plan, fault, log, x, net) {
+    u64::from(x) * u64::from(logged.test.plan.width())
+}
+
+// Whether a log shows the effect of a fault on a net in pass `x`.
+fn shows(logged: &LoggedTest<'_>, fault: Option<Single>, x: u32, net: u32) -> bool
+    requires logged { IsLogged logged.now }
+    requires pass { x < length logged.now.test.plan.now.passes }
+    requires net { net < length logged.now.test.board.now.nets }
+    ensures { Decides result (Shows logged.now.test.board.now logged.now.test.plan.now fault logged.now.log.now x net) }
+{
+    let test = &logged.test;
+    let _rules = test.board.raw();
+    driven_shows(
+        logged.log,
+        first_row(logged, x),
+        test.plan.width(),
+        test.plan.code(net),
+        test.plan.readers(net),
+        effect_in(test, x, fault, net),
+        test.driver_place(x, net),
+    )
+}
+
+// The same on two nets, which may be one.
+fn shows_pair(logged: &LoggedTest<'_>, fault: Option<Single>, x: u32, a: u32, b: u32) -> bool
+    requires logged { IsLogged logged.now }
+    requires pass { x < length logged.now.test.plan.now.passes }
+    requires first { a < length logged.now.test.board.now.nets }
+    requires second { b < length logged.now.test.board.now.nets }
+    ensures { Decides result (ShowsPair logged.now.test.board.now logged.now.test.plan.now fault logged.now.log.now x a b) }
+{
+    shows(logged, fault, x, a) && shows(logged, fault, x, b)
+}
+
+/// Whether a log shows the effect of a fault on two nets, which may be one. Both are looked at pass by pass, since the first pass in which
+/// either tells is mostly an early one.
+pub fn shows_both(logged: &LoggedTest<'_>, fault: Option<Single>, a: u32, b: u32) -> bool
+    requires logged { IsLogged logged.now }
+    requires first { a < length logged.now.test.board.now.nets }
+    requires second { b < length logged.now.test.board.now.nets }
+    ensures { Decides result (ShowsBoth logged.now.test.board.now logged.now.test.plan.now fault logged.now.log.now a b) }
+{
+    for x in 0..logged.test.plan.pass_count() {
+        if !shows_pair(logged, fault, x, a, b) {
+            return false;
+        }
+    }
+    true
+}
+
+/// Whether a log shows the effect of a fault on a net.
+pub fn shows_on(logged: &LoggedTest<'_>, fault: Option<Single>, net: u32) -> bool
+    requires logged { IsLogged logged.now }
+    requires net { net < length logged.now.test.board.now.nets }
+    ensures { Decides result (ShowsOn logged.now.test.board.now logged.now.test.plan.now fault logged.now.log.now net) }
+{
+    for x in 0..logged.test.plan.pass_count() {
+        if !shows(logged, fault, x, net) {
+            return false;
+        }
+    }
+    true
+}
+
+// Whether a log shows the effect of a fault in pass `x`.
+fn shows_in(logged: &LoggedTest<'_>, fault: Option<Single>, x: u32) -> bool
+    requires logged { IsLogged logged.now }
+    requires pass { x < length logged.now.test.plan.now.passes }
+    ensures { Decides result (ShowsIn logged.now.test.board.now logged.now.test.plan.now fault logged.now.log.now x) }
+{
+    for net in 0..net_count(logged.test.board) {
+        if !shows(logged, fault, x, net) {
             return false;
         }
     }
@@ -244,14 +209,12 @@ fn shows_in(board: &Board, plan: &Plan, fault: Option<Single>, log: &Log, x: u32
 }
 
 /// Whether a log shows the effect of a fault, or the expected bits where there is none.
-pub fn shows_all(board: &Board, plan: &Plan, fault: Option<Single>, log: &Log) -> bool
-    requires plan { IsPlanOf board.now plan.now }
-    requires rows { length log.now ≡ length plan.now.passes * plan.now.width }
-    requires bits { All (λ row. length row ≡ data_bits board.now) log.now }
-    ensures { Decides result (ShowsAll board.now plan.now fault log.now) }
+pub fn shows_all(logged: &LoggedTest<'_>, fault: Option<Single>) -> bool
+    requires { IsLogged logged.now }
+    ensures { Decides result (ShowsAll logged.now.test.board.now logged.now.test.plan.now fault logged.now.log.now) }
 {
-    for x in 0..plan.pass_count() {
-        if !shows_in(board, plan, fault, log, x) {
+    for x in 0..logged.test.plan.pass_count() {
+        if !shows_in(logged, fault, x) {
             return false;
         }
     }

@@ -4,10 +4,13 @@
 //! differs from the expected one at the cells of the faulty nets alone.
 #![tactic(auto)]
 
+mod board_test;
 mod differing;
 mod effect;
+mod fault_lists;
 mod feed;
 mod fits;
+mod kept;
 pub mod law;
 mod marks;
 mod matching;
@@ -15,7 +18,9 @@ mod suspects;
 mod tested;
 mod universe;
 
+pub use board_test::{BoardTest, LoggedTest};
 pub use differing::{differing_nets, none_differs};
+pub use kept::{ComparedRow, KeptPass, kept_passes};
 pub use matching::{is_pass, matches, matches_by};
 pub use suspects::Suspects;
 pub use universe::Universe;

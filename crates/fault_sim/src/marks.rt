@@ -1,34 +1,15 @@
 // Marks of the digits of a log's rows in which some compared bit is not the expected one.
-ghost use Rattle.std.specs.Prelude.{◌≡◌, ℕ, ◌+◌, ◌*◌, ◌<◌, length, slice_index_or, All, IfOk};
+ghost use Rattle.std.specs.Prelude.{◌≡◌, ℕ, ◌<◌, length, slice_index_or, IfOk};
 ghost use Rattle.std.specs.Int.Bits.{bit_and, bit_xor};
 ghost use Rattle.board_defs.specs.Pins.{data_bits};
 ghost use Rattle.bt_bits.specs.Hex.{digit_count};
-ghost use Rattle.plan_tables.specs.Plans.{IsPlanOf};
+ghost use Rattle.fault_sim.specs.Kept.{IsLogged, IsRow};
 ghost use Rattle.fault_sim.specs.inner.Marks.{HaveRoom, MarkRow, MarkRows, AreMarks, are_marked};
 
-use board_defs::Board;
-use bt_bits::Row;
-use response_log::Log;
-use scan_planner::{Plan, ReaderCell};
+use crate::board_test::LoggedTest;
+use crate::kept::{ComparedRow, empty_row, fill_row};
+use scan_planner::ReaderCell;
 use std::alloc::{AllocError, Global};
-
-/// The expected bits of a row of a log, and where they are compared.
-#[derive(Drop)]
-pub struct ComparedRows {
-    pub tdo: Row,
-    pub mask: Row,
-}
-
-// Rows with room for a scan of data.
-fn compared_rows(alloc: Global, board: &Board) -> Result<ComparedRows, AllocError>
-    ensures { IfOk result (HaveRoom board.now) }
-{
-    let room = board.dr_bits();
-    Ok(ComparedRows {
-        tdo: Row::with_room(alloc, room)?,
-        mask: Row::with_room(alloc, room)?,
-    })
-}
 
 // Marks each digit in which a compared bit is not the expected one.
 fn mark_digits(marks: &mut [u8], log: &[u8], expected: &[u8], compared: &[u8])
@@ -42,71 +23,69 @@ fn mark_digits(marks: &mut [u8], log: &[u8], expected: &[u8], compared: &[u8])
     }
 }
 
-// The same for row `j` of pass `x`.
-fn mark_row(
-    marks: &mut [u8],
-    rows: &mut ComparedRows,
-    board: &Board,
-    plan: &Plan,
-    log: &Log,
-    x: u32,
-    j: u32,
-)
-    requires plan { IsPlanOf board.now plan.now }
-    requires rows { length log.now ≡ length plan.now.passes * plan.now.width }
-    requires bits { All (λ row. length row ≡ data_bits board.now) log.now }
-    requires pass { x < length plan.now.passes }
-    requires row { j < plan.now.width }
-    requires count { length marks.old ≡ digit_count (data_bits board.now) }
-    requires room { HaveRoom board.now rows.old }
-    ensures marks { MarkRow board.now plan.now log.now x j marks.old marks.new }
-    ensures room { HaveRoom board.now rows.new }
+// The same for row `j` of pass `x`, of which the test expects and compares this.
+fn mark_by(marks: &mut [u8], logged: &LoggedTest<'_>, x: u32, j: u32, row: &ComparedRow)
+    requires logged { IsLogged logged.now }
+    requires pass { x < length logged.now.test.plan.now.passes }
+    requires row { j < logged.now.test.plan.now.width }
+    requires count { length marks.old ≡ digit_count (data_bits logged.now.test.board.now) }
+    requires compared { IsRow logged.now.test.board.now logged.now.test.plan.now x j row.now }
+    ensures { MarkRow logged.now.test.board.now logged.now.test.plan.now logged.now.log.now x j marks.old marks.new }
 {
-    plan.fill_compared(board, x, j, &mut rows.tdo, &mut rows.mask);
-    let row = u64::from(x) * u64::from(plan.width()) + u64::from(j);
+    let number = u64::from(x) * u64::from(logged.test.plan.width()) + u64::from(j);
     mark_digits(
         marks,
-        log.digits(row),
-        rows.tdo.digits(),
-        rows.mask.digits(),
+        logged.log.digits(number),
+        row.tdo.digits(),
+        row.mask.digits(),
     );
 }
 
-fn mark_pass(
-    marks: &mut [u8],
-    rows: &mut ComparedRows,
-    board: &Board,
-    plan: &Plan,
-    log: &Log,
-    x: u32,
-)
-    requires plan { IsPlanOf board.now plan.now }
-    requires rows { length log.now ≡ length plan.now.passes * plan.now.width }
-    requires bits { All (λ row. length row ≡ data_bits board.now) log.now }
-    requires pass { x < length plan.now.passes }
-    requires count { length marks.old ≡ digit_count (data_bits board.now) }
-    requires room { HaveRoom board.now rows.old }
-    ensures marks { MarkRows board.now plan.now log.now x plan.now.width marks.old marks.new }
-    ensures room { HaveRoom board.now rows.new }
+// The same where the row is filled in if it is not kept.
+fn mark_row(marks: &mut [u8], spare: &mut ComparedRow, logged: &LoggedTest<'_>, x: u32, j: u32)
+    requires logged { IsLogged logged.now }
+    requires pass { x < length logged.now.test.plan.now.passes }
+    requires row { j < logged.now.test.plan.now.width }
+    requires count { length marks.old ≡ digit_count (data_bits logged.now.test.board.now) }
+    requires room { HaveRoom logged.now.test.board.now spare.old }
+    ensures marks { MarkRow logged.now.test.board.now logged.now.test.plan.now logged.now.log.now x j marks.old marks.new }
+    ensures room { HaveRoom logged.now.test.board.now spare.new }
 {
-    for j in 0..plan.width() {
-        mark_row(marks, rows, board, plan, log, x, j);
+    let test = &logged.test;
+    match test.row(x, j) {
+        Some(row) => mark_by(marks, logged, x, j, row),
+        None => {
+            fill_row(test.board, test.plan, x, j, spare);
+            mark_by(marks, logged, x, j, spare);
+        }
+    }
+}
+
+fn mark_pass(marks: &mut [u8], spare: &mut ComparedRow, logged: &LoggedTest<'_>, x: u32)
+    requires logged { IsLogged logged.now }
+    requires pass { x < length logged.now.test.plan.now.passes }
+    requires count { length marks.old ≡ digit_count (data_bits logged.now.test.board.now) }
+    requires room { HaveRoom logged.now.test.board.now spare.old }
+    ensures marks { MarkRows logged.now.test.board.now logged.now.test.plan.now logged.now.log.now x logged.now.test.plan.now.width marks.old marks.new }
+    ensures room { HaveRoom logged.now.test.board.now spare.new }
+{
+    for j in 0..logged.test.plan.width() {
+        mark_row(marks, spare, logged, x, j);
     }
 }
 
 /// Marks of the digits of a log's rows, which are gone through once: a digit that is 0 here has in each row the expected bits wherever
 /// the row is compared.
-pub fn marks_of(alloc: Global, board: &Board, plan: &Plan, log: &Log) -> Result<Vec<u8>, AllocError>
-    requires plan { IsPlanOf board.now plan.now }
-    requires rows { length log.now ≡ length plan.now.passes * plan.now.width }
-    requires bits { All (λ row. length row ≡ data_bits board.now) log.now }
-    ensures { IfOk result (λ marks. AreMarks board.now plan.now log.now (length plan.now.passes) marks.items) }
+pub fn marks_of(alloc: Global, logged: &LoggedTest<'_>) -> Result<Vec<u8>, AllocError>
+    requires { IsLogged logged.now }
+    ensures { IfOk result (λ marks. AreMarks logged.now.test.board.now logged.now.test.plan.now logged.now.log.now (length logged.now.test.plan.now.passes) marks.items) }
 {
-    let mut rows = compared_rows(alloc, board)?;
-    let count = (board.dr_bits() as usize + 3) / 4;
+    let test = &logged.test;
+    let mut spare = empty_row(alloc, test.board)?;
+    let count = (test.board.dr_bits() as usize + 3) / 4;
     let mut marks = vec![in alloc; 0u8; count]?;
-    for x in 0..plan.pass_count() {
-        mark_pass(&mut marks, &mut rows, board, plan, log, x);
+    for x in 0..test.plan.pass_count() {
+        mark_pass(&mut marks, &mut spare, logged, x);
     }
     Ok(marks)
 }

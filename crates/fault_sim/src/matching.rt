@@ -8,8 +8,10 @@ ghost use Rattle.plan_tables.specs.Plans.{IsPlanOf};
 ghost use Rattle.tap_defs.specs.board.BoardScans.{svf_row_scans};
 ghost use Rattle.tap_defs.specs.board.Explaining.{Explains, IsExpected};
 ghost use Rattle.fault_sim.specs.inner.Effects.{first_net, second_net};
+ghost use Rattle.fault_sim.specs.Kept.{IsLogged};
 ghost use Rattle.fault_sim.specs.Suspects.{AreDiffering};
 
+use crate::board_test::{BoardTest, LoggedTest};
 use crate::fits::{shows_all, shows_both};
 use board_defs::{Board, Single, law};
 use response_log::Log;
@@ -29,7 +31,12 @@ pub fn is_pass(board: &Board, plan: &Plan, log: &Log) -> bool
     law::passes_kept();
     board_law::rows_compared();
     board_law::expected_bits();
-    shows_all(board, plan, None, log)
+    let test = BoardTest {
+        board,
+        plan,
+        kept: &[],
+    };
+    shows_all(&LoggedTest { test, log }, None)
 }
 
 // The nets of a fault; a stuck net and an open pin have one.
@@ -68,17 +75,16 @@ pub fn matches(board: &Board, plan: &Plan, fault: Single, log: &Log) -> bool
     law::passes_kept();
     board_law::rows_compared();
     board_law::singles_respond();
-    if !shows_both(
+    let test = BoardTest {
         board,
         plan,
-        Some(fault),
-        log,
-        first_net(fault),
-        second_net(fault),
-    ) {
+        kept: &[],
+    };
+    let logged = LoggedTest { test, log };
+    if !shows_both(&logged, Some(fault), first_net(fault), second_net(fault)) {
         return false;
     }
-    shows_all(board, plan, Some(fault), log)
+    shows_all(&logged, Some(fault))
 }
 
 // Whether each of these nets is one of two.
@@ -98,14 +104,32 @@ pub fn matches_by(board: &Board, plan: &Plan, fault: Single, log: &Log, nets: &[
     requires differing { AreDiffering board.now plan.now log.now nets.now }
     ensures { Decides result (Explains board.now fault log.now) }
 {
-    let _rules = board.raw();
-    law::passes_kept();
-    board_law::rows_compared();
-    board_law::singles_respond();
-    let first = first_net(fault);
-    let second = second_net(fault);
-    if !are_of(nets, first, second) {
-        return false;
+    let test = BoardTest {
+        board,
+        plan,
+        kept: &[],
+    };
+    LoggedTest { test, log }.matches_by(fault, nets)
+}
+
+impl<'a> LoggedTest<'a> {
+    /// Whether a single fault of the board explains the log, as `matches_by` tells it.
+    pub fn matches_by(&self, fault: Single, nets: &[u32]) -> bool
+        requires logged { IsLogged self.now }
+        requires passes { self.now.test.plan.now.passes ≡ passes_of self.now.test.board.now }
+        requires fault { IsSingle self.now.test.board.now fault }
+        requires differing { AreDiffering self.now.test.board.now self.now.test.plan.now self.now.log.now nets.now }
+        ensures { Decides result (Explains self.now.test.board.now fault self.now.log.now) }
+    {
+        let _rules = self.test.board.raw();
+        law::passes_kept();
+        board_law::rows_compared();
+        board_law::singles_respond();
+        let first = first_net(fault);
+        let second = second_net(fault);
+        if !are_of(nets, first, second) {
+            return false;
+        }
+        shows_both(self, Some(fault), first, second)
     }
-    shows_both(board, plan, Some(fault), log, first, second)
 }

@@ -4,12 +4,13 @@ ghost use Rattle.std.specs.List.{flat_map, range_with_len};
 ghost use Rattle.board_defs.specs.Passes.{passes_of};
 ghost use Rattle.board_defs.specs.Pins.{data_bits};
 ghost use Rattle.plan_tables.specs.Plans.{IsPlanOf};
-ghost use Rattle.fault_sim.specs.Places.{AreStarts, IsUniverse};
+ghost use Rattle.fault_sim.specs.Places.{IsUniverse};
 ghost use Rattle.fault_sim.specs.Suspects.{AreDiffering, AreSuspects};
 ghost use Rattle.fault_sim.specs.inner.Suspects.{two_from, four_from, pair_number, pair_suspects, pin_suspects, net_suspects, covered_place, CanSuspect, suspects_of};
 
 use crate::differing::differing_nets;
-use crate::universe::{FaultLists, Universe, pin_at, start_at};
+use crate::fault_lists::FaultLists;
+use crate::universe::{Universe, pin_at, start_at};
 use board_defs::{Board, law};
 use response_log::Log;
 use scan_planner::Plan;
@@ -55,8 +56,6 @@ fn push_four(places: &mut Vec<u64>, place: u64) -> Result<(), AllocError>
 
 // The number of the pair of covered nets `a` and `b`, by their places in the list.
 fn pair_number(lists: &FaultLists, a: u64, b: u64) -> u64
-    requires few { length lists.now.nets ≤ 16382 }
-    requires starts { AreStarts (length lists.now.nets) lists.now.starts }
     requires order { a < b }
     requires within { b < length lists.now.nets }
     ensures number { result ≡ pair_number lists.now a b }
@@ -66,9 +65,6 @@ fn pair_number(lists: &FaultLists, a: u64, b: u64) -> u64
 }
 
 fn push_pair(places: &mut Vec<u64>, lists: &FaultLists, a: u64, b: u64) -> Result<(), AllocError>
-    requires few { length lists.now.nets ≤ 16382 }
-    requires few_pins { length lists.now.pins ≤ 65535 }
-    requires starts { AreStarts (length lists.now.nets) lists.now.starts }
     requires order { a < b }
     requires within { b < length lists.now.nets }
     ensures { OnOk result (places.new.items ≡ places.old.items ++ pair_suspects lists.now a b) }
@@ -78,9 +74,7 @@ fn push_pair(places: &mut Vec<u64>, lists: &FaultLists, a: u64, b: u64) -> Resul
 }
 
 fn push_pin(places: &mut Vec<u64>, lists: &FaultLists, n: u32, i: usize) -> Result<(), AllocError>
-    requires few { length lists.now.nets ≤ 16382 }
-    requires few_pins { length lists.now.pins ≤ 65535 }
-    requires pin { i < length lists.now.pins }
+    requires { i < length lists.now.pins }
     ensures { OnOk result (places.new.items ≡ places.old.items ++ pin_suspects lists.now n i) }
 {
     if pin_at(lists.pins.as_slice(), i).net == n {
@@ -91,8 +85,6 @@ fn push_pin(places: &mut Vec<u64>, lists: &FaultLists, n: u32, i: usize) -> Resu
 }
 
 fn push_pins(places: &mut Vec<u64>, lists: &FaultLists, n: u32) -> Result<(), AllocError>
-    requires few { length lists.now.nets ≤ 16382 }
-    requires few_pins { length lists.now.pins ≤ 65535 }
     ensures { OnOk result (places.new.items ≡ places.old.items ++ flat_map (pin_suspects lists.now n) (range_with_len 0 (length lists.now.pins))) }
 {
     for i in 0..lists.pins.len() {
@@ -103,10 +95,7 @@ fn push_pins(places: &mut Vec<u64>, lists: &FaultLists, n: u32) -> Result<(), Al
 
 // The shorts of net `k` with earlier covered nets.
 fn push_earlier(places: &mut Vec<u64>, lists: &FaultLists, k: u64) -> Result<(), AllocError>
-    requires few { length lists.now.nets ≤ 16382 }
-    requires few_pins { length lists.now.pins ≤ 65535 }
-    requires starts { AreStarts (length lists.now.nets) lists.now.starts }
-    requires within { k < length lists.now.nets }
+    requires { k < length lists.now.nets }
     ensures { OnOk result (places.new.items ≡ places.old.items ++ flat_map (λ a. pair_suspects lists.now a k) (range_with_len 0 k)) }
 {
     for a in 0..k {
@@ -117,10 +106,7 @@ fn push_earlier(places: &mut Vec<u64>, lists: &FaultLists, k: u64) -> Result<(),
 
 // Those with later ones.
 fn push_later(places: &mut Vec<u64>, lists: &FaultLists, k: u64) -> Result<(), AllocError>
-    requires few { length lists.now.nets ≤ 16382 }
-    requires few_pins { length lists.now.pins ≤ 65535 }
-    requires starts { AreStarts (length lists.now.nets) lists.now.starts }
-    requires within { k < length lists.now.nets }
+    requires { k < length lists.now.nets }
     ensures { OnOk result (places.new.items ≡ places.old.items ++ flat_map (λ b. pair_suspects lists.now k b) (range_with_len (suc k) (length lists.now.nets - suc k))) }
 {
     for b in k + 1..lists.nets.len() as u64 {
@@ -143,10 +129,7 @@ fn net_suspects(
     lists: &FaultLists,
     n: u32,
 ) -> Result<Vec<u64>, AllocError>
-    requires few { length lists.now.nets ≤ 16382 }
-    requires few_pins { length lists.now.pins ≤ 65535 }
-    requires starts { AreStarts (length lists.now.nets) lists.now.starts }
-    requires can { CanSuspect plan.now lists.now (n ∷ []) }
+    requires { CanSuspect plan.now lists.now (n ∷ []) }
     ensures { IfOk result (λ places. places.items ≡ net_suspects lists.now n (covered_place plan.now n)) }
 {
     let k = covered_place(plan, n);
@@ -166,10 +149,7 @@ fn pair_suspects(
     m: u32,
     n: u32,
 ) -> Result<Vec<u64>, AllocError>
-    requires few { length lists.now.nets ≤ 16382 }
-    requires few_pins { length lists.now.pins ≤ 65535 }
-    requires starts { AreStarts (length lists.now.nets) lists.now.starts }
-    requires can { CanSuspect plan.now lists.now (m ∷ n ∷ []) }
+    requires { CanSuspect plan.now lists.now (m ∷ n ∷ []) }
     ensures { IfOk result (λ places. places.items ≡ pair_suspects lists.now (covered_place plan.now m) (covered_place plan.now n)) }
 {
     let mut places = Vec::new(alloc);
@@ -189,10 +169,7 @@ fn suspects_of(
     lists: &FaultLists,
     nets: &[u32],
 ) -> Result<Vec<u64>, AllocError>
-    requires few { length lists.now.nets ≤ 16382 }
-    requires few_pins { length lists.now.pins ≤ 65535 }
-    requires starts { AreStarts (length lists.now.nets) lists.now.starts }
-    requires can { CanSuspect plan.now lists.now nets.now }
+    requires { CanSuspect plan.now lists.now nets.now }
     ensures { IfOk result (λ places. places.items ≡ suspects_of plan.now lists.now nets.now) }
 {
     match nets {

@@ -1,10 +1,13 @@
 // The nets and the pins that the passes of a plan test.
-ghost use Rattle.std.specs.Prelude.{◌≡◌, ◌≤◌, ◌++◌, ◌∷◌, ◌&&◌, [], cond, length, fold, IfOk, OnOk};
+ghost use Rattle.std.specs.Prelude.{◌≡◌, ◌<◌, ◌≤◌, ◌++◌, ◌∷◌, ◌&&◌, [], cond, length, fold, slice_index_or, IfOk, OnOk};
 ghost use Rattle.std.specs.List.{list_all};
+ghost use Rattle.fault_sim.specs.Kept.{KeepDrivers};
 ghost use Rattle.fault_sim.specs.inner.Tested.{coded_nets, observes_in, paired_in, marked_readers, marked_by, marked_in, tested_flags, pin_where, flagged_pins, pin_count, net_pins, all_pins};
 
-use crate::feed::{driver_in, is_read_beside};
+use crate::board_test::driver_at;
+use crate::feed::{driver_in, is_read_beside, observes};
 use crate::fits::net_count;
+use crate::kept::KeptPass;
 use board_defs::{Board, PinRef, Setting};
 use lists::{is_set, mark};
 use scan_planner::{NetDriver, Plan, ReaderCell};
@@ -31,28 +34,30 @@ pub fn coded_nets(alloc: Global, plan: &Plan, count: u32) -> Result<Vec<u32>, Al
     Ok(nets)
 }
 
-/// Whether a pass observes a net.
-fn observes_in(plan: &Plan, pass: &Setting, net: u32) -> bool
-    ensures { result ≡ observes_in plan.now pass.now net }
+// Whether pass `x` observes a net.
+fn observes_in(plan: &Plan, kept: &[KeptPass], x: u32, net: u32) -> bool
+    requires kept { KeepDrivers plan.now kept.now }
+    requires pass { x < length plan.now.passes }
+    ensures { result ≡ observes_in plan.now (slice_index_or plan.now.passes x []) net }
 {
-    match driver_in(plan, pass, net) {
-        None => false,
-        Some(driver) => is_read_beside(plan.readers(net), driver.place),
-    }
+    observes(driver_at(plan, kept, x, net))
 }
 
-fn observes_both(plan: &Plan, pass: &Setting, a: u32, b: u32) -> bool
-    ensures { result ≡ (observes_in plan.now pass.now a && observes_in plan.now pass.now b) }
+fn observes_both(plan: &Plan, kept: &[KeptPass], x: u32, a: u32, b: u32) -> bool
+    requires kept { KeepDrivers plan.now kept.now }
+    requires pass { x < length plan.now.passes }
+    ensures { result ≡ (observes_in plan.now (slice_index_or plan.now.passes x []) a && observes_in plan.now (slice_index_or plan.now.passes x []) b) }
 {
-    observes_in(plan, pass, a) && observes_in(plan, pass, b)
+    observes_in(plan, kept, x, a) && observes_in(plan, kept, x, b)
 }
 
-/// Whether some pass observes both nets.
-pub fn paired_in(plan: &Plan, a: u32, b: u32) -> bool
+/// Whether some pass observes both nets, by what is kept of the passes.
+pub fn paired_in(plan: &Plan, kept: &[KeptPass], a: u32, b: u32) -> bool
+    requires { KeepDrivers plan.now kept.now }
     ensures { result ≡ paired_in plan.now a b }
 {
-    for pass in plan.passes() {
-        if observes_both(plan, pass, a, b) {
+    for x in 0..plan.pass_count() {
+        if observes_both(plan, kept, x, a, b) {
             return true;
         }
     }

@@ -6,24 +6,20 @@ ghost use Rattle.board_defs.specs.BoardRules.{IsBoard};
 ghost use Rattle.board_defs.specs.Faults.{stuck_faults, open_faults, kind_rank};
 ghost use Rattle.board_defs.specs.Passes.{passes_of, pairs_within};
 ghost use Rattle.plan_tables.specs.Plans.{IsPlanOf};
-ghost use Rattle.fault_sim.specs.Places.{AreStarts, IsUniverse, pairs_before, place_count, number_places, listed_places, places_of};
+ghost use Rattle.fault_sim.specs.Kept.{IsBoardTest, KeepDrivers};
+ghost use Rattle.fault_sim.specs.Places.{IsUniverse, place_count, number_places, listed_places, places_of};
+ghost use Rattle.fault_sim.specs.Starts.{AreStarts, pairs_before};
 
+use crate::board_test::BoardTest;
+use crate::fault_lists::FaultLists;
 use crate::fits::net_count;
+use crate::kept::KeptPass;
 use crate::tested::{coded_nets, paired_in, tested_pins};
 use board_defs::{Board, Items, Kind, PinRef, Single, law};
 use scan_planner::Plan;
 use std::alloc::{AllocError, Global};
 use std::marker::Model;
 use tap_defs::board_law::codes_number_covered;
-
-/// The covered nets and the tested pins of a board, and how many pairs of covered nets come before those of each net
-/// with later ones.
-#[derive(Debug, Drop)]
-pub struct FaultLists {
-    pub nets: Items<u32>,
-    pub pins: Items<PinRef>,
-    pub starts: Items<u64>,
-}
 
 /// The places of a board: two for each covered net, two for each tested pin and four for each pair of covered nets, in
 /// the order of the single faults.
@@ -33,15 +29,11 @@ pub struct Universe {
 }
 
 impl Model for Universe {
-    ghost use Rattle.std.specs.Prelude.{◌≤◌, length};
-    ghost use Rattle.fault_sim.specs.declared.universe.FaultLists.{FaultLists};
-    ghost use Rattle.fault_sim.specs.Places.{AreStarts};
+    ghost use Rattle.fault_sim.specs.declared.fault_lists.FaultLists.{FaultLists};
 
     ghost Value = { FaultLists };
 
     ghost view = { λ a. a.lists };
-
-    ghost invariant = { λ a. (length a.lists.nets ≤ 16382) × (length a.lists.pins ≤ 65535) × AreStarts (length a.lists.nets) a.lists.starts };
 }
 
 // Where the pairs of each of so many nets with later ones begin, and where all end.
@@ -83,7 +75,6 @@ fn row_of(starts: &[u64], k: u64) -> usize
 
 // How many pairs of covered nets there are.
 fn pair_count(lists: &FaultLists) -> u64
-    requires { AreStarts (length lists.now.nets) lists.now.starts }
     ensures { result ≡ pairs_before (length lists.now.nets) (length lists.now.nets) }
 {
     start_at(lists.starts.as_slice(), lists.nets.len())
@@ -130,9 +121,7 @@ fn open_at(pins: &[PinRef], i: u64) -> Single
 
 // Pair `k` of covered nets, the lower net first.
 fn pair_at(lists: &FaultLists, k: u64) -> (u32, u32)
-    requires few { length lists.now.nets ≤ 16382 }
-    requires starts { AreStarts (length lists.now.nets) lists.now.starts }
-    requires pair { k < pairs_before (length lists.now.nets) (length lists.now.nets) }
+    requires { k < pairs_before (length lists.now.nets) (length lists.now.nets) }
     ensures { slice_get (pairs_within lists.now.nets) k ≡ Some result }
 {
     let starts = lists.starts.as_slice();
@@ -155,25 +144,22 @@ fn kind_at(k: u64) -> Kind
 }
 
 // Place `k` among those of the pairs of covered nets.
-fn short_at(lists: &FaultLists, plan: &Plan, k: u64) -> Option<Single>
-    requires few { length lists.now.nets ≤ 16382 }
-    requires starts { AreStarts (length lists.now.nets) lists.now.starts }
+fn short_at(lists: &FaultLists, plan: &Plan, kept: &[KeptPass], k: u64) -> Option<Single>
+    requires kept { KeepDrivers plan.now kept.now }
     requires place { k < 4 * pairs_before (length lists.now.nets) (length lists.now.nets) }
     ensures { slice_get (flat_map (number_places plan.now) (pairs_within lists.now.nets)) k ≡ Some result }
 {
     let (a, b) = pair_at(lists, k / 4);
     let kind = kind_at(k % 4);
-    if paired_in(plan, a, b) {
+    if paired_in(plan, kept, a, b) {
         Some(Single::Short { a, b, kind })
     } else {
         None
     }
 }
 
-fn place_at(lists: &FaultLists, plan: &Plan, i: u64) -> Option<Single>
-    requires few { length lists.now.nets ≤ 16382 }
-    requires few_pins { length lists.now.pins ≤ 65535 }
-    requires starts { AreStarts (length lists.now.nets) lists.now.starts }
+fn place_at(lists: &FaultLists, plan: &Plan, kept: &[KeptPass], i: u64) -> Option<Single>
+    requires kept { KeepDrivers plan.now kept.now }
     requires place { i < place_count lists.now }
     ensures { slice_get (listed_places plan.now lists.now) i ≡ Some result }
 {
@@ -184,7 +170,7 @@ fn place_at(lists: &FaultLists, plan: &Plan, i: u64) -> Option<Single>
     } else if i - stuck < open {
         Some(open_at(lists.pins.as_slice(), i - stuck))
     } else {
-        short_at(lists, plan, i - stuck - open)
+        short_at(lists, plan, kept, i - stuck - open)
     }
 }
 
@@ -210,10 +196,7 @@ impl Universe {
 
     /// The covered nets and the tested pins.
     pub(crate) fn lists(&self) -> &FaultLists
-        ensures value { result.now ≡ self.now }
-        ensures few { length self.now.nets ≤ 16382 }
-        ensures few_pins { length self.now.pins ≤ 65535 }
-        ensures starts { AreStarts (length self.now.nets) self.now.starts }
+        ensures { result.now ≡ self.now }
     {
         &self.lists
     }
@@ -234,6 +217,19 @@ impl Universe {
         ensures { (board : RawBoard) → IsBoard board → IsPlanOf board plan.now → plan.now.passes ≡ passes_of board → IsUniverse board self.now → slice_get (places_of board) i ≡ Some result }
     {
         law::passes_kept();
-        place_at(self.lists(), plan, i)
+        place_at(self.lists(), plan, &[], i)
+    }
+
+    /// The same by what is kept of the test, which is that of the universe.
+    pub fn at_in(&self, test: &BoardTest<'_>, i: u64) -> Option<Single>
+        requires test { IsBoardTest test.now }
+        requires passes { test.now.plan.now.passes ≡ passes_of test.now.board.now }
+        requires universe { IsUniverse test.now.board.now self.now }
+        requires place { i < place_count self.now }
+        ensures { slice_get (places_of test.now.board.now) i ≡ Some result }
+    {
+        let _rules = test.board.raw();
+        law::passes_kept();
+        place_at(self.lists(), test.plan, test.kept, i)
     }
 }

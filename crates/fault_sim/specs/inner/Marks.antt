@@ -1,27 +1,18 @@
 -- What serves the proofs alone. Marks of the digits of a log's rows in which some compared bit is not the expected one.
-use Rattle.std.specs.Prelude.{◌≡◌, ℕ, suc, ◌+◌, ◌*◌, ◌/◌, ◌<◌, ◌≤◌, ◌==◌, Bool, true, false, not, List, length, slice_index_or}
+use Rattle.std.specs.Prelude.{◌≡◌, ℕ, ◌+◌, ◌*◌, ◌/◌, ◌<◌, ◌≤◌, ◌==◌, Bool, true, false, not, List, slice_index_or}
 use Rattle.std.specs.List.{list_any}
 use Rattle.board_defs.specs.declared.board.RawBoard.{RawBoard}
 use Rattle.board_defs.specs.Pins.{data_bits}
-use Rattle.tap_defs.specs.chain.Scan.{joined, tdo_bits, mask_bits}
-use Rattle.tap_defs.specs.board.BoardScans.{row_bits}
 use Rattle.plan_tables.specs.declared.tables.ReaderCell.{ReaderCell}
 use Rattle.plan_tables.specs.declared.tables.PlanTables.{PlanTables}
-use Rattle.scan_planner.specs.Plans.{scan_of_pass}
-use Rattle.fault_sim.specs.declared.marks.ComparedRows.{ComparedRows}
+use Rattle.fault_sim.specs.declared.kept.ComparedRow.{ComparedRow}
 use Rattle.fault_sim.specs.Fits.{bit_in}
+use Rattle.fault_sim.specs.Kept.{compared_in, expected_in}
 
--- the rows have room for a scan of data
-pub record HaveRoom (board : RawBoard) (rows : ComparedRows) : Type 0 where
-  pub tdo : data_bits board ≤ rows.tdo.room
-  pub mask : data_bits board ≤ rows.mask.room
-
--- the bits of TDO and MASK in the scan that compares row j of pass x
-abbrev pub expected_in : RawBoard → PlanTables → ℕ → ℕ → List Bool
-expected_in board plan x j = tdo_bits (joined (row_bits board (scan_of_pass board plan x (suc j))))
-
-abbrev pub compared_in : RawBoard → PlanTables → ℕ → ℕ → List Bool
-compared_in board plan x j = mask_bits (joined (row_bits board (scan_of_pass board plan x (suc j))))
+-- the row has room for a scan of data
+pub record HaveRoom (board : RawBoard) (row : ComparedRow) : Type 0 where
+  pub tdo : data_bits board ≤ row.tdo.room
+  pub mask : data_bits board ≤ row.mask.room
 
 -- if row j of pass x is compared at a position, the log has the expected bit there
 abbrev pub HasExpected : RawBoard → PlanTables → List (List Bool) → ℕ → ℕ → ℕ → Type 0

@@ -4,7 +4,7 @@ use Rattle.std.specs.List.{flat_map, range_with_len}
 use Rattle.board_defs.specs.declared.board.PinRef.{PinRef}
 use Rattle.board_defs.specs.declared.board.RawBoard.{RawBoard}
 use Rattle.plan_tables.specs.declared.tables.PlanTables.{PlanTables}
-use Rattle.fault_sim.specs.declared.universe.FaultLists.{FaultLists}
+use Rattle.fault_sim.specs.declared.fault_lists.FaultLists.{FaultLists}
 use Rattle.fault_sim.specs.Effects.{code_in}
 use Rattle.fault_sim.specs.Fits.{ShowsOn}
 

@@ -3,4 +3,4 @@ use Rattle.fault_sim.specs.inner.Suspects.{AreFlags}
 use Rattle.fault_sim.proofs.differing.flags_of.Given as goal
 
 abbrev pub invariant-loop-n : goal.invariant-loop-n
-invariant-loop-n l = (length l.flags.items ≡ length l.board.nets) × AreFlags l.board l.plan l.log l.n l.flags.items
+invariant-loop-n l = (length l.flags.items ≡ length l.logged.test.board.now.nets) × AreFlags l.logged.test.board.now l.logged.test.plan.now l.logged.log.now l.n l.flags.items

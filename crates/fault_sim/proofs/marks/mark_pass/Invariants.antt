@@ -5,6 +5,6 @@ use Rattle.fault_sim.proofs.marks.mark_pass.Given as goal
 abbrev pub invariant-loop-j : goal.invariant-loop-j
 invariant-loop-j l = record {
   long : length l.marks ≡ length l.fn.marks;
-  room : HaveRoom l.board l.rows;
-  marks : MarkRows l.board l.plan l.log l.x l.j l.fn.marks l.marks;
+  room : HaveRoom l.logged.test.board.now l.spare;
+  marks : MarkRows l.logged.test.board.now l.logged.test.plan.now l.logged.log.now l.x l.j l.fn.marks l.marks;
 }

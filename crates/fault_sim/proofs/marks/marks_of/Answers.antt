@@ -8,9 +8,9 @@ use Rattle.fault_sim.proofs.marks.marks_of.Goals as goal
 
 pub loop-x-preserved : goal.loop-x-preserved
 loop-x-preserved c =
-    let board = c.args.board.now in
-    let plan = c.args.plan.now in
-    let log = c.args.log.now in
+    let board = c.args.logged.now.test.board.now in
+    let plan = c.args.logged.now.test.plan.now in
+    let log = c.args.logged.now.log.now in
     let new = c.mark_pass.new.marks in
     let size : length new ≡ c.loop-x.marks.len = grind (arith, c.mark_pass.auto.marks, c.deref_mut.ensures.len, c.deref_mut.ensures.value) in
     let whole = sym (with_items_is c.loop-x.marks new size) in

@@ -6,7 +6,7 @@ use Rattle.fault_sim.proofs.marks.marks_of.Given as goal
 
 abbrev pub invariant-loop-x : goal.invariant-loop-x
 invariant-loop-x l = record {
-  long : length l.marks.items ≡ digit_count (data_bits l.board);
-  room : HaveRoom l.board l.rows;
-  marks : AreMarks l.board l.plan l.log l.x l.marks.items;
+  long : length l.marks.items ≡ digit_count (data_bits l.logged.test.board.now);
+  room : HaveRoom l.logged.test.board.now l.spare;
+  marks : AreMarks l.logged.test.board.now l.logged.test.plan.now l.logged.log.now l.x l.marks.items;
 }

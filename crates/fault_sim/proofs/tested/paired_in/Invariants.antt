@@ -1,7 +1,8 @@
-use Rattle.std.proofs.Common.{◌≡◌, ◌&&◌, false, take}
-use Rattle.std.specs.List.{list_any}
+use Rattle.std.proofs.Common.{◌≡◌, ◌&&◌, ◌<◌, ℕ, [], false}
+use Rattle.std.specs.Prelude.{slice_index_or}
 use Rattle.fault_sim.specs.inner.Tested.{observes_in}
 use Rattle.fault_sim.proofs.tested.paired_in.Given as goal
 
-abbrev pub invariant-loop-pass : goal.invariant-loop-pass
-invariant-loop-pass l = list_any (λ pass. observes_in l.plan pass l.a && observes_in l.plan pass l.b) (take l.pass-index l.plan.passes) ≡ false
+-- no earlier pass observes both
+abbrev pub invariant-loop-x : goal.invariant-loop-x
+invariant-loop-x l = (k : ℕ) → k < l.x → (observes_in l.plan (slice_index_or l.plan.passes k []) l.a && observes_in l.plan (slice_index_or l.plan.passes k []) l.b) ≡ false

@@ -1,6 +1,6 @@
 use Rattle.std.proofs.Common.{◌≡◌, ◌+◌, ◌≤◌, ℕ, length}
 use Rattle.std.specs.Prelude.{slice_index_or}
-use Rattle.fault_sim.specs.Places.{pairs_before}
+use Rattle.fault_sim.specs.Starts.{pairs_before}
 use Rattle.fault_sim.proofs.universe.pair_starts.Given as goal
 
 abbrev pub invariant-loop-a : goal.invariant-loop-a

@@ -3,14 +3,14 @@ use Rattle.board_defs.specs.declared.board.Ctl.{Ctl}
 use Rattle.board_defs.specs.Passes.{ArePasses, passes_of}
 use Rattle.tap_defs.specs.board.Explaining.{set_of}
 use Rattle.tap_defs.specs.board.TestRows.{code_width, observed_count}
-use Rattle.fault_sim.specs.declared.universe.FaultLists.{FaultLists}
+use Rattle.fault_sim.specs.declared.fault_lists.FaultLists.{FaultLists}
 use Rattle.fault_sim.specs.Suspects.{AreSuspects}
 use Rattle.fault_sim.specs.inner.Suspects.{CanSuspect, suspects_of}
 use Rattle.fault_sim.proofs.ExplainLemmas.{can_be, all_suspects}
 use Rattle.fault_sim.proofs.suspects.Suspects.of_nets.Goals as goal
 
-pub suspects_of-requires-clause-can : goal.suspects_of-requires-clause-can
-suspects_of-requires-clause-can c =
+pub suspects_of-requires : goal.suspects_of-requires
+suspects_of-requires c =
     let board = c.args.board.now in
     let plan = c.args.plan.now in
     let log = c.args.log.now in
@@ -24,8 +24,8 @@ suspects_of-requires-clause-can c =
     (c.rows_compared.ensures.shape board (passes_of board) width log rules own) kept (c.codes_number_covered.ensures board rules plan.passes kept) (λ single is. c.singles_respond.ensures.own board single log rules is)
     (c.expected_bits.ensures.bits board _ log)
     (λ single is expected explains. c.expected_logs.ensures.own_unexplained board rules log expected (set_of single) (c.singles_observable.ensures.observable board single is) (c.singles_observable.ensures.nonempty single) explains)
-    lists c.requires.universe c.lists.ensures.starts nets c.requires.differing in
-    subst (λ (l : FaultLists). CanSuspect plan l nets) (sym c.lists.ensures.value) can
+    lists c.requires.universe lists.starts_are nets c.requires.differing in
+    subst (λ (l : FaultLists). CanSuspect plan l nets) (sym c.lists.ensures) can
 
 pub returns : goal.returns
 returns c =
@@ -42,6 +42,6 @@ returns c =
     (c.rows_compared.ensures.shape board (passes_of board) width log rules own) kept (c.codes_number_covered.ensures board rules plan.passes kept) (λ single is. c.singles_respond.ensures.own board single log rules is)
     (c.expected_bits.ensures.bits board _ log)
     (λ single is expected explains. c.expected_logs.ensures.own_unexplained board rules log expected (set_of single) (c.singles_observable.ensures.observable board single is) (c.singles_observable.ensures.nonempty single) explains)
-    lists c.requires.universe c.lists.ensures.starts nets c.requires.differing in
+    lists c.requires.universe lists.starts_are nets c.requires.differing in
     subst (λ (l : List ℕ). AreSuspects board plan lists log l)
-    (sym (c.in_ok-places.ensures ∙ ap (λ (l : FaultLists). suspects_of plan l nets) c.lists.ensures.value)) all
+    (sym (c.in_ok-places.ensures ∙ ap (λ (l : FaultLists). suspects_of plan l nets) c.lists.ensures)) all

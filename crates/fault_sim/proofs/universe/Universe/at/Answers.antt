@@ -3,7 +3,7 @@ use Rattle.std.specs.Prelude.{slice_get}
 use Rattle.board_defs.specs.declared.board.Ctl.{Ctl}
 use Rattle.board_defs.specs.declared.fault.Single.{Single}
 use Rattle.board_defs.specs.Passes.{ArePasses}
-use Rattle.fault_sim.specs.declared.universe.FaultLists.{FaultLists}
+use Rattle.fault_sim.specs.declared.fault_lists.FaultLists.{FaultLists}
 use Rattle.fault_sim.specs.Places.{listed_places}
 use Rattle.fault_sim.proofs.UniverseLemmas.{listed_are}
 use Rattle.fault_sim.proofs.universe.Universe.at.Goals as goal
@@ -12,5 +12,5 @@ pub returns : goal.returns
 returns c board rules plan passes universe =
     let kept = subst (λ (l : List (List Ctl)). ArePasses board l) (sym passes) (c.passes_kept.ensures board rules).kept in
     sym (ap (λ (l : List (Option Single)). slice_get l c.args.i) (listed_are board rules c.args.plan.now plan kept c.args.self.now universe))
-    ∙ ap (λ (l : FaultLists). slice_get (listed_places c.args.plan.now l) c.args.i) (sym c.lists.ensures.value)
+    ∙ ap (λ (l : FaultLists). slice_get (listed_places c.args.plan.now l) c.args.i) (sym c.lists.ensures)
     ∙ c.place_at.ensures

@@ -5,7 +5,7 @@ use Rattle.board_defs.specs.declared.board.PinRef.{PinRef}
 use Rattle.board_defs.specs.Passes.{ArePasses}
 use Rattle.fault_sim.specs.Effects.{code_in}
 use Rattle.fault_sim.specs.inner.Tested.{coded_nets}
-use Rattle.fault_sim.specs.Places.{AreStarts}
+use Rattle.fault_sim.specs.Starts.{AreStarts}
 use Rattle.fault_sim.proofs.RangeLemmas.{filter_most}
 use Rattle.fault_sim.proofs.TestedLemmas.{nets_are, pins_are, tested_few}
 use Rattle.fault_sim.proofs.universe.Universe.new.Goals as goal
@@ -27,11 +27,12 @@ invariant_of-result c =
     let rules = c.raw-rules.ensures.rules in
     let kept = subst (λ (l : List (List Ctl)). ArePasses board l) (sym c.requires.passes) (c.passes_kept.ensures board rules).kept in
     let found = c.of-nets.ensures ∙ c.in_ok-found.ensures in
-    let pins = c.of-pins.ensures ∙ c.in_ok-tested.ensures ∙ pins_are board rules plan c.requires.plan kept in (
-      omega (arith, ap (λ (l : List ℕ). length l) found, filter_most (λ n. nat_lt 0 (code_in plan n)) 0 c.net_count.result, c.net_count.ensures, rules.nets_most),
-      omega (arith, ap (λ (l : List PinRef). length l) pins, tested_few board rules),
-      subst (λ (n : ℕ). AreStarts n c.of-starts.result) c.len.ensures (subst (λ (l : List ℕ). AreStarts c.len.result l) (sym c.of-starts.ensures) c.in_ok-pair_starts.ensures),
-    )
+    let pins = c.of-pins.ensures ∙ c.in_ok-tested.ensures ∙ pins_are board rules plan c.requires.plan kept in
+    record {
+      few = omega (arith, ap (λ (l : List ℕ). length l) found, filter_most (λ n. nat_lt 0 (code_in plan n)) 0 c.net_count.result, c.net_count.ensures, rules.nets_most);
+      few_pins = omega (arith, ap (λ (l : List PinRef). length l) pins, tested_few board rules);
+      starts_are = subst (λ (n : ℕ). AreStarts n c.of-starts.result) c.len.ensures (subst (λ (l : List ℕ). AreStarts c.len.result l) (sym c.of-starts.ensures) c.in_ok-pair_starts.ensures);
+    }
 
 pub returns : goal.returns
 returns c =

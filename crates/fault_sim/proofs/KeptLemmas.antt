@@ -1,0 +1,87 @@
+-- What is kept of the passes of a test, and what is found in it.
+use Rattle.std.proofs.Common.{◌≡◌, ℕ, zero, suc, ◌+◌, ◌<◌, Bool, true, false, ◌&&◌, cond, List, [], ◌∷◌, ◌++◌, length, length-append, get_or, Option, Some, None, refl, subst}
+use Rattle.std.specs.Prelude.{option_and_then, option_map, slice_get}
+use Rattle.std.proofs.lemmas.Bool.{both_ways}
+use Rattle.std.proofs.lemmas.Option.{get_or_from_slice_get, slice_get-get_or, slice_get_within}
+use Rattle.board_defs.specs.declared.board.Ctl.{Ctl}
+use Rattle.board_defs.specs.declared.board.RawBoard.{RawBoard}
+use Rattle.board_defs.proofs.Places.{any_at, any_place}
+use Rattle.plan_tables.specs.declared.nets.NetDriver.{NetDriver}
+use Rattle.plan_tables.specs.declared.tables.PlanTables.{PlanTables}
+use Rattle.plan_tables.specs.Building.{is_read_beside}
+use Rattle.fault_sim.specs.declared.feed.EnabledDriver.{EnabledDriver}
+use Rattle.fault_sim.specs.declared.feed.Source.TheVariants.{Code, Fixed}
+use Rattle.fault_sim.specs.declared.kept.KeptPass.{KeptPass}
+use Rattle.fault_sim.specs.Effects.{code_in, driver_in, feed_by, feed_in, place_of_driver, readers_in, steady_in}
+use Rattle.fault_sim.specs.Kept.{KeepDrivers, KeepRows, enabled_by, enabled_driver}
+use Rattle.fault_sim.specs.inner.Kept.{feed_of, is_code, kept_driver, observes_coded}
+use Rattle.fault_sim.specs.inner.Tested.{observes_by, observes_in, paired_in}
+
+-- a list in which each item is right for its place, with one more
+pub each_more : {A : Type 0} (P : ℕ → A → Type 0) (xs : List A) (y : A) → ((i : ℕ) (x : A) → slice_get xs i ≡ Some x → P i x) → P (length xs) y → (i : ℕ) (x : A) → slice_get (xs ++ y ∷ []) i ≡ Some x → P i x
+each_more P [] y all last zero x at = subst (P 0) (cc at) last
+each_more P [] y all last (suc i) x at = cc at
+each_more P (z ∷ xs) y all last zero x at = all 0 x at
+each_more P (z ∷ xs) y all last (suc i) x at = each_more (λ k v. P (suc k) v) xs y (λ k v e. all (suc k) v e) last i x at
+
+pub length-more : {A : Type 0} (xs : List A) (y : A) → length (xs ++ y ∷ []) ≡ length xs + 1
+length-more xs y = length-append xs (y ∷ [])
+
+-- nothing that is kept is right
+pub no_rows : (board : RawBoard) (plan : PlanTables) → KeepRows board plan []
+no_rows board plan x pass at = cc at
+
+pub no_drivers : (plan : PlanTables) → KeepDrivers plan []
+no_drivers plan x pass at = cc at
+
+-- a driver that is kept is the one that the pass enables
+pub kept_is : (plan : PlanTables) (kept : List KeptPass) → KeepDrivers plan kept → (x n : ℕ) (driver : Option EnabledDriver) → kept_driver kept x n ≡ Some driver → driver ≡ enabled_driver plan (get_or plan.passes x []) n
+kept_is plan kept keep x n driver found = by_pass (slice_get kept x) refl found
+  where
+    by_pass : (o : Option KeptPass) → slice_get kept x ≡ o → option_and_then (λ pass. slice_get pass.drivers n) o ≡ Some driver → driver ≡ enabled_driver plan (get_or plan.passes x []) n
+    by_pass None at e = cc e
+    by_pass (Some pass) at e = keep x pass at n driver e
+
+module _ (plan : PlanTables) (pass : List Ctl) (n : ℕ) where
+  -- the place of its pin, and what it gives its net
+  pub place_is : option_map (λ d. d.place) (enabled_driver plan pass n) ≡ place_of_driver (driver_in plan pass n)
+  place_is = by_driver (driver_in plan pass n)
+    where
+      by_driver : (o : Option NetDriver) → option_map (λ d. d.place) (option_map (enabled_by plan pass n) o) ≡ place_of_driver o
+      by_driver None = refl
+      by_driver (Some d) = refl
+
+  pub feed_is : (pull : Option Bool) → option_map (feed_of pull) (enabled_driver plan pass n) ≡ feed_in plan pass n pull
+  feed_is pull = by_driver (driver_in plan pass n)
+    where
+      by_driver : (o : Option NetDriver) → option_map (feed_of pull) (option_map (enabled_by plan pass n) o) ≡ option_map (feed_by plan pass n pull) o
+      by_driver None = refl
+      by_driver (Some d) = refl
+
+  -- its cell has the code exactly where the pass observes the net
+  pub observes_is : observes_coded (enabled_driver plan pass n) ≡ observes_in plan pass n
+  observes_is = by_driver (driver_in plan pass n)
+    where
+      by_code : (b : Bool) (code : ℕ) (bit : Bool) → is_code (cond b (Code code) (Fixed bit)) ≡ b
+      by_code true code bit = refl
+      by_code false code bit = refl
+
+      by_driver : (o : Option NetDriver) → observes_coded (option_map (enabled_by plan pass n) o) ≡ observes_by o (readers_in plan n)
+      by_driver None = refl
+      by_driver (Some d) = by_code (is_read_beside (readers_in plan n) d) (code_in plan n) (steady_in plan pass d)
+
+-- two nets are paired exactly where some pass observes both
+module _ (plan : PlanTables) (a b : ℕ) where
+  pub paired_at : (x : ℕ) → x < length plan.passes → (observes_in plan (get_or plan.passes x []) a && observes_in plan (get_or plan.passes x []) b) ≡ true → paired_in plan a b ≡ true
+  paired_at x less both = any_at (λ pass. observes_in plan pass a && observes_in plan pass b) plan.passes x (get_or plan.passes x []) (slice_get-get_or plan.passes x [] less) both
+
+  pub never_paired : ((x : ℕ) → x < length plan.passes → (observes_in plan (get_or plan.passes x []) a && observes_in plan (get_or plan.passes x []) b) ≡ false) → paired_in plan a b ≡ false
+  never_paired none = by_test (paired_in plan a b) refl
+    where
+      by_test : (t : Bool) → paired_in plan a b ≡ t → t ≡ false
+      by_test false e = refl
+      by_test true e =
+          let found = any_place (λ pass. observes_in plan pass a && observes_in plan pass b) plan.passes e in
+          let at = get_or_from_slice_get plan.passes found.place found.item [] found.stands in
+          absurd (both_ways (observes_in plan found.item a && observes_in plan found.item b)
+          (subst (λ (p : List Ctl). (observes_in plan p a && observes_in plan p b) ≡ false) at (none found.place (slice_get_within plan.passes found.place found.item found.stands))) found.passes)

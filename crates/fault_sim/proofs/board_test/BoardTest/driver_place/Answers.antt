@@ -1,0 +1,15 @@
+use Rattle.std.proofs.Common.{◌∙◌, [], Option, ap, get_or}
+use Rattle.std.specs.Prelude.{option_map}
+use Rattle.fault_sim.specs.declared.feed.EnabledDriver.{EnabledDriver}
+use Rattle.fault_sim.proofs.KeptLemmas.{place_is}
+use Rattle.fault_sim.proofs.board_test.BoardTest.driver_place.Goals as goal
+
+pub returns-in-None : goal.returns-in-None
+returns-in-None c =
+    let plan = c.args.self.now.plan.now in
+    ap (λ (o : Option EnabledDriver). option_map (λ d. d.place) o) c.in-None.ensures ∙ place_is plan (get_or plan.passes c.args.x []) c.args.net
+
+pub returns-in-Some : goal.returns-in-Some
+returns-in-Some c =
+    let plan = c.args.self.now.plan.now in
+    ap (λ (o : Option EnabledDriver). option_map (λ d. d.place) o) c.in-Some.ensures ∙ place_is plan (get_or plan.passes c.args.x []) c.args.net

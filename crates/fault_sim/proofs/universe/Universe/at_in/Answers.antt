@@ -1,0 +1,19 @@
+use Rattle.std.proofs.Common.{List, Option, ap, sym, ◌∙◌, subst}
+use Rattle.std.specs.Prelude.{slice_get}
+use Rattle.board_defs.specs.declared.board.Ctl.{Ctl}
+use Rattle.board_defs.specs.declared.fault.Single.{Single}
+use Rattle.board_defs.specs.Passes.{ArePasses}
+use Rattle.fault_sim.specs.declared.fault_lists.FaultLists.{FaultLists}
+use Rattle.fault_sim.specs.Places.{listed_places}
+use Rattle.fault_sim.proofs.UniverseLemmas.{listed_are}
+use Rattle.fault_sim.proofs.universe.Universe.at_in.Goals as goal
+
+pub returns : goal.returns
+returns c =
+    let board = c.args.test.now.board.now in
+    let plan = c.args.test.now.plan.now in
+    let rules = c.raw-rules.ensures.rules in
+    let kept = subst (λ (l : List (List Ctl)). ArePasses board l) (sym c.requires.passes) (c.passes_kept.ensures board rules).kept in
+    sym (ap (λ (l : List (Option Single)). slice_get l c.args.i) (listed_are board rules plan c.requires.test.plan kept c.args.self.now c.requires.universe))
+    ∙ ap (λ (l : FaultLists). slice_get (listed_places plan l) c.args.i) (sym c.lists.ensures)
+    ∙ c.place_at.ensures

@@ -1,0 +1,17 @@
+// The lists by which the places of a board are found.
+ghost use Rattle.std.specs.Prelude.{◌≤◌, length};
+ghost use Rattle.fault_sim.specs.Starts.{AreStarts};
+
+use board_defs::{Items, PinRef};
+
+/// The covered nets and the tested pins of a board, and how many pairs of covered nets come before those of each net
+/// with later ones.
+#[derive(Debug, Drop)]
+pub struct FaultLists {
+    pub nets: Items<u32>,
+    pub pins: Items<PinRef>,
+    pub starts: Items<u64>,
+    ghost few: { length nets ≤ 16382 },
+    ghost few_pins: { length pins ≤ 65535 },
+    ghost starts_are: { AreStarts (length nets) starts },
+}
