@@ -1,8 +1,7 @@
 -- Where the candidates are cut, and what is found of two neighbouring ranges.
-use Rattle.std.proofs.Common.{◌≡◌, ℕ, suc, ◌+◌, ◌-◌, ◌*◌, ◌/◌, ◌<◌, ◌≤◌, Bool, true, false, cond, List, [], ◌∷◌, ◌++◌, length, take, drop, Option, Some, None, Result, Ok, Err, refl, sym, ap, ◌∙◌, subst, inl, inr, arith}
+use Rattle.std.proofs.Common.{◌≡◌, ℕ, ◌+◌, ◌-◌, ◌*◌, ◌/◌, ◌<◌, ◌≤◌, Bool, true, false, cond, List, [], ◌∷◌, ◌++◌, length, take, drop, Option, Some, None, Result, Ok, Err, refl, sym, ap, ◌∙◌, subst, inl, inr, arith}
 use Rattle.std.specs.Prelude.{filter_map, slice_get, option_and_then, Decides, IfOk, IsOkAnd}
 use Rattle.std.specs.List.{cons_option}
-use Rattle.std.specs.Option.{option_to_list}
 use Rattle.std.proofs.Math.Nat.{div-mul-le_self, mul-div_left, mul-le-mul_right}
 use Rattle.std.proofs.Math.Seq.{take-add}
 use Rattle.std.proofs.lemmas.Nat.{le-div}
@@ -14,7 +13,7 @@ use Rattle.tap_defs.specs.board.Explaining.{Explains}
 use Rattle.fault_sim.specs.Places.{places_of, fault_at}
 use Rattle.diagnoser.specs.declared.search.Search.{Search}
 use Rattle.fault_sim.specs.Diagnosis.{Picks}
-use Rattle.diagnoser.specs.inner.Search.{faults_between, Found, first_of}
+use Rattle.diagnoser.specs.inner.Search.{faults_between, Found}
 use Rattle.diagnoser.proofs.ThoseLemmas.{those_append}
 
 times_less : (p q m : ℕ) → p ≤ q → p * m ≤ q * m
@@ -42,41 +41,41 @@ parts {X} xs from middle to low high =
 
 pub found_append : (s : Search) (from middle to : ℕ) (a b : List Single) → from ≤ middle → middle ≤ to → Found s from middle a → Found s middle to b → Found s from to (a ++ b)
 found_append s from middle to a b low high first second =
-    let f = fault_at s.board.now in
+    let f = fault_at s.logged.test.board.now in
     let all : faults_between s from middle ++ faults_between s middle to ≡ faults_between s from to =
     sym (ap (λ (l : List ℕ). filter_map f l) (parts s.suspects.now from middle to low high)
     ∙ filter_map-append f (take (middle - from) (drop from s.suspects.now)) (take (to - middle) (drop middle s.suspects.now))) in
-    subst (λ (l : List Single). Picks (λ single. Explains s.board.now single s.log.now) l (a ++ b)) all
-    (those_append (λ single. Explains s.board.now single s.log.now) (faults_between s from middle) (faults_between s middle to) a b first second)
+    subst (λ (l : List Single). Picks (λ single. Explains s.logged.test.board.now single s.logged.log.now) l (a ++ b)) all
+    (those_append (λ single. Explains s.logged.test.board.now single s.logged.log.now) (faults_between s from middle) (faults_between s middle to) a b first second)
 
 pub found_nothing : (s : Search) (i : ℕ) → Found s i i []
 found_nothing s i =
     let none : 0 ≡ i - i = omega arith in
-    subst (λ (n : ℕ). Picks (λ single. Explains s.board.now single s.log.now) (filter_map (fault_at s.board.now) (take n (drop i s.suspects.now))) []) none refl
+    subst (λ (n : ℕ). Picks (λ single. Explains s.logged.test.board.now single s.logged.log.now) (filter_map (fault_at s.logged.test.board.now) (take n (drop i s.suspects.now))) []) none refl
 
 -- one candidate
-one_candidate : (s : Search) (i place : ℕ) → slice_get s.suspects.now i ≡ Some place → faults_between s i (i + 1) ≡ cons_option (fault_at s.board.now place) []
+one_candidate : (s : Search) (i place : ℕ) → slice_get s.suspects.now i ≡ Some place → faults_between s i (i + 1) ≡ cons_option (fault_at s.logged.test.board.now place) []
 one_candidate s i place at =
     let one : i + 1 - i ≡ 1 = omega arith in
     let less : i < length s.suspects.now = slice_get_within s.suspects.now i place at in
-    ap (λ n. filter_map (fault_at s.board.now) (take n (drop i s.suspects.now))) one
-    ∙ ap (λ (l : List ℕ). filter_map (fault_at s.board.now) (take 1 l)) (drop_more s.suspects.now i place less)
-    ∙ ap (λ n. cons_option (fault_at s.board.now n) []) (get_or_from_slice_get s.suspects.now i place place at)
+    ap (λ n. filter_map (fault_at s.logged.test.board.now) (take n (drop i s.suspects.now))) one
+    ∙ ap (λ (l : List ℕ). filter_map (fault_at s.logged.test.board.now) (take 1 l)) (drop_more s.suspects.now i place less)
+    ∙ ap (λ n. cons_option (fault_at s.logged.test.board.now n) []) (get_or_from_slice_get s.suspects.now i place place at)
 
-pub found_none : (s : Search) (i place : ℕ) → slice_get s.suspects.now i ≡ Some place → slice_get (places_of s.board.now) place ≡ Some None → Found s i (i + 1) []
+pub found_none : (s : Search) (i place : ℕ) → slice_get s.suspects.now i ≡ Some place → slice_get (places_of s.logged.test.board.now) place ≡ Some None → Found s i (i + 1) []
 found_none s i place at no_fault =
-    let none : fault_at s.board.now place ≡ None = ap (λ (o : Option (Option Single)). option_and_then (λ p. p) o) no_fault in
+    let none : fault_at s.logged.test.board.now place ≡ None = ap (λ (o : Option (Option Single)). option_and_then (λ p. p) o) no_fault in
     let empty : [] ≡ faults_between s i (i + 1) = sym (one_candidate s i place at ∙ ap (λ (o : Option Single). cons_option o []) none) in
-    subst (λ (l : List Single). Picks (λ q. Explains s.board.now q s.log.now) l []) empty refl
+    subst (λ (l : List Single). Picks (λ q. Explains s.logged.test.board.now q s.logged.log.now) l []) empty refl
 
-pub found_one : (s : Search) (i place : ℕ) (single : Single) (holds : Bool) → slice_get s.suspects.now i ≡ Some place → slice_get (places_of s.board.now) place ≡ Some (Some single) →
-    Decides holds (Explains s.board.now single s.log.now) → Found s i (i + 1) (cond holds (single ∷ []) [])
+pub found_one : (s : Search) (i place : ℕ) (single : Single) (holds : Bool) → slice_get s.suspects.now i ≡ Some place → slice_get (places_of s.logged.test.board.now) place ≡ Some (Some single) →
+    Decides holds (Explains s.logged.test.board.now single s.logged.log.now) → Found s i (i + 1) (cond holds (single ∷ []) [])
 found_one s i place single holds at fault decides =
-    let some : fault_at s.board.now place ≡ Some single = ap (λ (o : Option (Option Single)). option_and_then (λ p. p) o) fault in
+    let some : fault_at s.logged.test.board.now place ≡ Some single = ap (λ (o : Option (Option Single)). option_and_then (λ p. p) o) fault in
     let one : single ∷ [] ≡ faults_between s i (i + 1) = sym (one_candidate s i place at ∙ ap (λ (o : Option Single). cons_option o []) some) in
-    subst (λ (l : List Single). Picks (λ q. Explains s.board.now q s.log.now) l (cond holds (single ∷ []) [])) one (by_test holds decides)
+    subst (λ (l : List Single). Picks (λ q. Explains s.logged.test.board.now q s.logged.log.now) l (cond holds (single ∷ []) [])) one (by_test holds decides)
   where
-    by_test : (b : Bool) → Decides b (Explains s.board.now single s.log.now) → Picks (λ q. Explains s.board.now q s.log.now) (single ∷ []) (cond b (single ∷ []) [])
+    by_test : (b : Bool) → Decides b (Explains s.logged.test.board.now single s.logged.log.now) → Picks (λ q. Explains s.logged.test.board.now q s.logged.log.now) (single ∷ []) (cond b (single ∷ []) [])
     by_test true decides = inl ([], decides.0 refl, refl, refl)
     by_test false decides = inr ((λ explains. let bad : false ≡ true = decides.1 explains in cc bad), refl)
 

@@ -1,20 +1,20 @@
 -- What the definitions of diagnoses say.
-use Rattle.std.proofs.Common.{◌≡◌, ℕ, zero, suc, ◌<◌, Bool, List, [], ◌∷◌, length, refl, sym, ap, ◌∙◌, subst, arith}
+use Rattle.std.proofs.Common.{◌≡◌, ℕ, suc, Bool, List, [], ◌∷◌, sym, ap, ◌∙◌, subst, arith}
 use Rattle.std.specs.Prelude.{AllPairs, Some, slice_get}
 use Rattle.std.specs.Bool.{one_answer}
 use Rattle.std.proofs.lemmas.Option.{slice_get_within, get_or_from_slice_get}
 use Rattle.board_defs.specs.declared.board.RawBoard.{RawBoard}
 use Rattle.board_defs.specs.declared.fault.Single.{Single}
 use Rattle.board_defs.specs.Faults.{singles, IsSingle, SinglePrecedes}
-use Rattle.board_defs.specs.Laws.{ListsSingles, SinglesListed}
+use Rattle.board_defs.specs.Laws.{SinglesListed}
 use Rattle.board_defs.specs.BoardRules.{IsBoard}
-use Rattle.board_defs.proofs.Members.{Has, has_place, has_contains, contains_has}
+use Rattle.board_defs.proofs.Members.{has_place, has_contains, contains_has}
 use Rattle.board_defs.proofs.Ordered.{InOrder, order_pairs}
 use Rattle.tap_defs.specs.board.BoardScans.{svf_row_scans}
-use Rattle.tap_defs.specs.board.Explaining.{set_of, ExplainedBy, Explains, IsExpected}
+use Rattle.tap_defs.specs.board.Explaining.{set_of, ExplainedBy, Explains}
 use Rattle.tap_defs.specs.board.FaultSet.{FaultSet, IsObservable, IsNonempty}
 use Rattle.diagnoser.specs.Diagnosis.{AreExplaining}
-use Rattle.diagnoser.specs.DiagText.{diag_text, IsDiagText}
+use Rattle.diagnoser.specs.DiagText.{diag_text}
 use Rattle.diagnoser.specs.Laws.{ListsExplaining, OneList, OneDiagnosis}
 use Rattle.diagnoser.proofs.ThoseLemmas.{those_hold, hold_those, those_one, those_order, those_none}
 

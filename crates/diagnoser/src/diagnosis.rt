@@ -3,6 +3,7 @@ ghost use Rattle.std.specs.Prelude.{◌≡◌, ◌*◌, ◌≤◌, length, All, 
 ghost use Rattle.board_defs.specs.Passes.{passes_of};
 ghost use Rattle.board_defs.specs.Pins.{data_bits};
 ghost use Rattle.plan_tables.specs.Plans.{IsPlanOf};
+ghost use Rattle.fault_sim.specs.Kept.{IsLogged};
 ghost use Rattle.fault_sim.specs.Places.{IsUniverse};
 ghost use Rattle.fault_sim.specs.Suspects.{AreDiffering};
 ghost use Rattle.diagnoser.specs.Diagnosis.{AreExplaining, IsNamed};
@@ -10,7 +11,7 @@ ghost use Rattle.diagnoser.specs.Diagnosis.{AreExplaining, IsNamed};
 use crate::search::{Search, search_pieces};
 use board_defs::{Board, Single};
 use bt_base::Gate;
-use fault_sim::{Suspects, Universe, differing_nets, law};
+use fault_sim::{BoardTest, LoggedTest, Suspects, Universe, differing_nets, law};
 use response_log::Log;
 use scan_planner::Plan;
 use std::alloc::{AllocError, Global};
@@ -93,13 +94,40 @@ pub fn diagnose_in<R: Threads + Sync, G: Gate>(
     ensures faults { IfOk result (λ faults. AreExplaining board.now log.now faults.items) }
     ensures named { IfOk result (λ faults. All (IsNamed board.now) faults.items) }
 {
-    let _rules = board.raw();
-    law::suspects_suffice();
-    let suspects = Suspects::of_nets(alloc, board, plan, universe, log, nets)?;
-    let search = Search {
+    let test = BoardTest {
         board,
         plan,
-        log,
+        kept: &[],
+    };
+    let logged = LoggedTest { test, log };
+    diagnose_logged(rt, alloc, &logged, universe, nets, workers, gate)
+}
+
+/// The same of a log with its test, by what is kept of that.
+pub fn diagnose_logged<R: Threads + Sync, G: Gate>(
+    rt: &R,
+    alloc: Global,
+    logged: &LoggedTest<'_>,
+    universe: &Universe,
+    nets: &[u32],
+    workers: u32,
+    gate: &G,
+) -> Result<Vec<Single>, AllocError>
+    requires some { 1 ≤ workers }
+    requires few { workers ≤ 64 }
+    requires logged { IsLogged logged.now }
+    requires passes { logged.now.test.plan.now.passes ≡ passes_of logged.now.test.board.now }
+    requires universe { IsUniverse logged.now.test.board.now universe.now }
+    requires differing { AreDiffering logged.now.test.board.now logged.now.test.plan.now logged.now.log.now nets.now }
+    ensures faults { IfOk result (λ faults. AreExplaining logged.now.test.board.now logged.now.log.now faults.items) }
+    ensures named { IfOk result (λ faults. All (IsNamed logged.now.test.board.now) faults.items) }
+{
+    let BoardTest { board, plan, .. } = logged.test;
+    let _rules = board.raw();
+    law::suspects_suffice();
+    let suspects = Suspects::of_nets(alloc, board, plan, universe, logged.log, nets)?;
+    let search = Search {
+        logged: *logged,
         nets,
         universe,
         suspects: &suspects,

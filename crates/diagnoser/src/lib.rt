@@ -10,5 +10,5 @@ mod lines;
 mod listing;
 mod search;
 
-pub use diagnosis::{diagnose, diagnose_by, diagnose_in};
+pub use diagnosis::{diagnose, diagnose_by, diagnose_in, diagnose_logged};
 pub use listing::write_diagnosis;

@@ -4,21 +4,17 @@ ghost use Rattle.std.specs.Option.{option_to_list};
 ghost use Rattle.std.specs.Thread.{IsSync};
 ghost use Rattle.diagnoser.specs.inner.Search.{IsSearch, Found, first_of};
 
-use board_defs::{Board, Single};
+use board_defs::Single;
 use bt_base::Gate;
-use fault_sim::{Suspects, Universe, matches_by};
-use response_log::Log;
-use scan_planner::Plan;
+use fault_sim::{LoggedTest, Suspects, Universe};
 use std::alloc::{AllocError, Global};
 use std::thread::{Threads, join};
 
-/// A log of a board's test, the nets that differ in it, its candidates, which are the places of the faults that may explain it, and the
+/// A log with its test, the nets that differ in it, its candidates, which are the places of the faults that may explain it, and the
 /// number of the pieces that these are cut into.
 #[derive(Clone, Copy)]
 pub struct Search<'a> {
-    pub board: &'a Board,
-    pub plan: &'a Plan,
-    pub log: &'a Log,
+    pub logged: LoggedTest<'a>,
     pub nets: &'a [u32],
     pub universe: &'a Universe,
     pub suspects: &'a Suspects,
@@ -31,11 +27,11 @@ fn try_candidate<G: Gate>(search: Search<'_>, piece: u32, i: u64, gate: &G) -> O
     requires candidate { i < length search.suspects.now }
     ensures { Found search.entry i (i + 1) (option_to_list result) }
 {
-    let _rules = search.board.raw();
+    let _rules = search.logged.test.board.raw();
     let place = search.suspects.place(i);
     gate.enter(piece, place);
-    let fault = search.universe.at(search.plan, place)?;
-    if matches_by(search.board, search.plan, fault, search.log, search.nets) {
+    let fault = search.universe.at_in(&search.logged.test, place)?;
+    if search.logged.matches_by(fault, search.nets) {
         Some(fault)
     } else {
         None

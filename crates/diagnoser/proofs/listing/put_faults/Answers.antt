@@ -1,4 +1,4 @@
-use Rattle.std.proofs.Common.{arith, rules}
+use Rattle.std.proofs.Common.{rules}
 use Rattle.diagnoser.specs.DiagText.{fault_line}
 use Rattle.diagnoser.proofs.PutLemmas.{next_ok, next_err, all_put}
 use Rattle.diagnoser.proofs.listing.put_faults.Goals as goal

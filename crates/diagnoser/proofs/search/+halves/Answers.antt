@@ -1,4 +1,4 @@
-use Rattle.std.proofs.Common.{◌≡◌, ◌+◌, ◌-◌, ◌/◌, ◌≤◌, length, arith}
+use Rattle.std.proofs.Common.{◌+◌, ◌-◌, ◌/◌, ◌≤◌, length, arith}
 use Rattle.diagnoser.specs.inner.Search.{first_of}
 use Rattle.diagnoser.proofs.CutLemmas.{cut_rises, found_both}
 use Rattle.diagnoser.proofs.search.+halves.Goals as goal

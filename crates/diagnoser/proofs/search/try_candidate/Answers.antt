@@ -8,23 +8,23 @@ use Rattle.diagnoser.proofs.search.try_candidate.Goals as goal
 pub returns-in_err-fault : goal.returns-in_err-fault
 returns-in_err-fault g c =
     let s = c.args.search in
-    let at : slice_get (places_of s.board.now) c.place-place.result ≡ Some None = c.in_err-fault.ensures s.board.now c.raw-rules.ensures.rules c.requires.search.plan c.requires.search.passes c.requires.search.universe in
+    let at : slice_get (places_of s.logged.test.board.now) c.place-place.result ≡ Some None = c.in_err-fault.ensures in
     rw c.from_residual.ensures (found_none s c.args.i c.place-place.result c.place-place.ensures at)
 
 pub matches_by-requires-clause-fault : goal.matches_by-requires-clause-fault
 matches_by-requires-clause-fault g c =
     let s = c.args.search in
-    let at : slice_get (places_of s.board.now) c.place-place.result ≡ Some (Some c.in_ok-fault.fault) = c.in_ok-fault.ensures s.board.now c.raw-rules.ensures.rules c.requires.search.plan c.requires.search.passes c.requires.search.universe in
-    place_single s.board.now c.raw-rules.ensures.rules c.place-place.result c.in_ok-fault.fault at
+    let at : slice_get (places_of s.logged.test.board.now) c.place-place.result ≡ Some (Some c.in_ok-fault.fault) = c.in_ok-fault.ensures in
+    place_single s.logged.test.board.now c.raw-rules.ensures.rules c.place-place.result c.in_ok-fault.fault at
 
 pub returns-then-matches_by : goal.returns-then-matches_by
 returns-then-matches_by g c =
     let s = c.args.search in
-    let at : slice_get (places_of s.board.now) c.place-place.result ≡ Some (Some c.in_ok-fault.fault) = c.in_ok-fault.ensures s.board.now c.raw-rules.ensures.rules c.requires.search.plan c.requires.search.passes c.requires.search.universe in
+    let at : slice_get (places_of s.logged.test.board.now) c.place-place.result ≡ Some (Some c.in_ok-fault.fault) = c.in_ok-fault.ensures in
     found_one s c.args.i c.place-place.result c.in_ok-fault.fault true c.place-place.ensures at c.if-matches_by.ensures
 
 pub returns-else-matches_by : goal.returns-else-matches_by
 returns-else-matches_by g c =
     let s = c.args.search in
-    let at : slice_get (places_of s.board.now) c.place-place.result ≡ Some (Some c.in_ok-fault.fault) = c.in_ok-fault.ensures s.board.now c.raw-rules.ensures.rules c.requires.search.plan c.requires.search.passes c.requires.search.universe in
+    let at : slice_get (places_of s.logged.test.board.now) c.place-place.result ≡ Some (Some c.in_ok-fault.fault) = c.in_ok-fault.ensures in
     found_one s c.args.i c.place-place.result c.in_ok-fault.fault false c.place-place.ensures at c.if-matches_by.ensures
