@@ -1,12 +1,11 @@
 // The verdicts on the blocks of a batch, in pieces that run side by side.
-ghost use Rattle.std.specs.Prelude.{◌≡◌, ◌+◌, ◌*◌, ◌<◌, ◌≤◌, ◌++◌, [], ◌∷◌, length, All, IfOk, IsOkAnd};
+ghost use Rattle.std.specs.Prelude.{◌≡◌, ◌+◌, ◌<◌, ◌≤◌, ◌++◌, [], ◌∷◌, length, All, IfOk, IsOkAnd};
 ghost use Rattle.std.specs.Thread.{IsSync};
 ghost use Rattle.board_defs.specs.Passes.{passes_of};
-ghost use Rattle.board_defs.specs.Pins.{data_bits};
 ghost use Rattle.plan_tables.specs.Plans.{IsPlanOf};
-ghost use Rattle.response_log.specs.LogRows.{HasSize};
 ghost use Rattle.diagnoser.specs.Diagnosis.{IsNamed};
 ghost use Rattle.fault_sim.specs.Diagnosis.{IsDiagnosis};
+ghost use Rattle.fault_sim.specs.Kept.{IsBoardTest, IsLogged};
 ghost use Rattle.fault_sim.specs.Places.{IsUniverse};
 ghost use Rattle.batch_diag.specs.Verdicts.{AreLogs, AreVerdicts};
 ghost use Rattle.batch_diag.specs.inner.Judging.{IsBatch, Judged, first_of};
@@ -15,9 +14,8 @@ use crate::block::Block;
 use crate::verdict::Verdict;
 use board_defs::{Board, Items};
 use bt_base::{Gate, OpenGate};
-use diagnoser::diagnose_in;
-use fault_sim::{Universe, differing_nets, none_differs};
-use response_log::Log;
+use diagnoser::diagnose_logged;
+use fault_sim::{BoardTest, LoggedTest, Universe, kept_passes, none_differs};
 use scan_planner::Plan;
 use std::alloc::{AllocError, Global};
 use std::thread::{Threads, join};
@@ -25,8 +23,7 @@ use std::thread::{Threads, join};
 /// Blocks whose logs are of a board's test, with the universe of the board, and the number of the pieces that these are cut into.
 #[derive(Clone, Copy)]
 pub struct Batch<'a> {
-    pub board: &'a Board,
-    pub plan: &'a Plan,
+    pub test: BoardTest<'a>,
     pub universe: &'a Universe,
     pub blocks: &'a [Block],
     pub pieces: u32,
@@ -57,10 +54,36 @@ pub fn diagnose_all<R: Threads + Sync, G: Gate>(
     ensures count { IfOk result (λ verdicts. length verdicts.items ≡ length blocks.now) }
     ensures named { IfOk result (λ verdicts. All (λ verdict. All (IsNamed board.now) verdict.faults) verdicts.items) }
 {
-    let universe = Universe::new(alloc, board, plan)?;
-    let batch = Batch {
+    let kept = kept_passes(alloc, board, plan, blocks.len())?;
+    let test = BoardTest {
         board,
         plan,
+        kept: &kept,
+    };
+    judge_all(rt, alloc, &test, blocks, workers, gate)
+}
+
+// The verdicts on the blocks, by what is kept of the test.
+fn judge_all<R: Threads + Sync, G: Gate>(
+    rt: &R,
+    alloc: Global,
+    test: &BoardTest<'_>,
+    blocks: &[Block],
+    workers: u32,
+    gate: &G,
+) -> Result<Vec<Verdict>, AllocError>
+    requires some { 1 ≤ workers }
+    requires few { workers ≤ 64 }
+    requires test { IsBoardTest test.now }
+    requires passes { test.now.plan.now.passes ≡ passes_of test.now.board.now }
+    requires logs { AreLogs test.now.board.now test.now.plan.now blocks.now }
+    ensures verdicts { IfOk result (λ verdicts. AreVerdicts test.now.board.now blocks.now verdicts.items) }
+    ensures count { IfOk result (λ verdicts. length verdicts.items ≡ length blocks.now) }
+    ensures named { IfOk result (λ verdicts. All (λ verdict. All (IsNamed test.now.board.now) verdict.faults) verdicts.items) }
+{
+    let universe = Universe::new(alloc, test.board, test.plan)?;
+    let batch = Batch {
+        test: *test,
         universe: &universe,
         blocks,
         pieces: workers,
@@ -72,22 +95,20 @@ pub fn diagnose_all<R: Threads + Sync, G: Gate>(
 fn verdict_on<R: Threads + Sync>(
     rt: &R,
     alloc: Global,
-    board: &Board,
-    plan: &Plan,
+    logged: &LoggedTest<'_>,
     universe: &Universe,
-    log: &Log,
 ) -> Result<Verdict, AllocError>
-    requires plan { IsPlanOf board.now plan.now }
-    requires passes { plan.now.passes ≡ passes_of board.now }
-    requires universe { IsUniverse board.now universe.now }
-    requires size { HasSize (length plan.now.passes * plan.now.width) (data_bits board.now) log.now }
-    ensures diagnosis { IfOk result (λ verdict. IsDiagnosis board.now log.now verdict.pass verdict.faults) }
-    ensures named { IfOk result (λ verdict. All (IsNamed board.now) verdict.faults) }
+    requires logged { IsLogged logged.now }
+    requires passes { logged.now.test.plan.now.passes ≡ passes_of logged.now.test.board.now }
+    requires universe { IsUniverse logged.now.test.board.now universe.now }
+    ensures diagnosis { IfOk result (λ verdict. IsDiagnosis logged.now.test.board.now logged.now.log.now verdict.pass verdict.faults) }
+    ensures named { IfOk result (λ verdict. All (IsNamed logged.now.test.board.now) verdict.faults) }
 {
-    let nets = differing_nets(alloc, board, plan, log)?;
-    let faults = diagnose_in(rt, alloc, board, plan, universe, log, &nets, 1, &OpenGate)?;
+    let BoardTest { board, plan, .. } = logged.test;
+    let nets = logged.differing(alloc)?;
+    let faults = diagnose_logged(rt, alloc, logged, universe, &nets, 1, &OpenGate)?;
     Ok(Verdict {
-        pass: none_differs(board, plan, log, &nets),
+        pass: none_differs(board, plan, logged.log, &nets),
         faults: Items::of(faults),
     })
 }
@@ -107,7 +128,11 @@ fn judge<R: Threads + Sync, G: Gate>(
 {
     gate.enter(piece, i as u64);
     let log = &batch.blocks[i].log;
-    verdict_on(rt, alloc, batch.board, batch.plan, batch.universe, log)
+    let logged = LoggedTest {
+        test: batch.test,
+        log,
+    };
+    verdict_on(rt, alloc, &logged, batch.universe)
 }
 
 // The first block of a piece, and the number of blocks for the piece after the last.

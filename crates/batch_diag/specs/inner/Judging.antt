@@ -1,7 +1,7 @@
 -- How the verdicts on the blocks of a batch are found in pieces.
 use Rattle.std.specs.Prelude.{◌≡◌, ℕ, ◌-◌, ◌*◌, ◌/◌, ◌<◌, List, length, take, drop, All}
 use Rattle.board_defs.specs.Passes.{passes_of}
-use Rattle.plan_tables.specs.Plans.{IsPlanOf}
+use Rattle.fault_sim.specs.Kept.{IsBoardTest}
 use Rattle.fault_sim.specs.Places.{IsUniverse}
 use Rattle.diagnoser.specs.Diagnosis.{IsNamed}
 use Rattle.batch_diag.specs.declared.block.Block.{Block}
@@ -11,15 +11,15 @@ use Rattle.batch_diag.specs.Verdicts.{EachPair, IsVerdict, AreLogs}
 
 -- logs of the test that the plan makes of the board's passes
 pub record IsBatch (b : Batch) : Type 0 where
-  pub plan : IsPlanOf b.board.now b.plan.now
-  pub passes : b.plan.now.passes ≡ passes_of b.board.now
-  pub universe : IsUniverse b.board.now b.universe.now
-  pub logs : AreLogs b.board.now b.plan.now b.blocks.now
+  pub test : IsBoardTest b.test
+  pub passes : b.test.plan.now.passes ≡ passes_of b.test.board.now
+  pub universe : IsUniverse b.test.board.now b.universe.now
+  pub logs : AreLogs b.test.board.now b.test.plan.now b.blocks.now
   pub some : 0 < b.pieces
 
 -- the verdict on a block, whose faults name nets and pins of the board
 abbrev pub Judges : Batch → Block → Verdict → Type 0
-Judges b block verdict = IsVerdict b.board.now block verdict × All (IsNamed b.board.now) verdict.faults
+Judges b block verdict = IsVerdict b.test.board.now block verdict × All (IsNamed b.test.board.now) verdict.faults
 
 -- the verdicts on the blocks from one up to but without another
 abbrev pub Judged : Batch → ℕ → ℕ → List Verdict → Type 0
