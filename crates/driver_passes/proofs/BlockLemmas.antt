@@ -9,7 +9,7 @@ use Rattle.driver_passes.specs.inner.Blocks.{block_has, has_place}
 use Rattle.driver_passes.specs.inner.NumberSets.{has_bit, is_of_word}
 use Rattle.driver_passes.proofs.NumberSetLemmas.{bit_more, no_bit, one_number}
 
-same_place : (a b : ℕ) → (a == b) ≡ (b == a)
+pub same_place : (a b : ℕ) → (a == b) ≡ (b == a)
 same_place a b = by_case (cases_eq a b)
   where
     by_case : (a ≡ b) ⊎ (a ≡ b → ⊥) → (a == b) ≡ (b == a)

@@ -3,7 +3,7 @@ use Rattle.std.proofs.Common.{◌≡◌, ◌≢◌, ◌⊎◌, inl, inr, ℕ, ze
 use Rattle.std.specs.Prelude.{slice_get, All, IsTrue}
 use Rattle.std.specs.List.{list_all}
 use Rattle.std.proofs.lemmas.Bool.Decides.{nat_tests}
-use Rattle.std.proofs.lemmas.Bool.{cases_order, eqb-true, eq-eqb, and_parts, and_from}
+use Rattle.std.proofs.lemmas.Bool.{cases_order, eqb-true, eq-eqb, and_parts, and_from, or_cases}
 use Rattle.std.proofs.lemmas.Option.{slice_get_within, get_or_from_slice_get}
 use Rattle.board_defs.specs.declared.board.Ctl.{Ctl}
 use Rattle.board_defs.specs.Settings.{same_ctl, precedes, holds, inserted, IsInControlOrder}
@@ -82,6 +82,15 @@ all_inserted p c (d ∷ setting) = by_order (all_inserted p c setting) (precedes
     by_order rest true s e = ap (λ t. p d && t) rest ∙ swap (p d) (p c) (list_all p setting)
     by_order rest false true e = twice (p c) (p d) (list_all p setting) (ap p (same_equal c d e))
     by_order rest false false e = refl
+
+-- what is so of all controls is so of each that is among them
+pub holds_of : (P : Ctl → Type 0) (controls : List Ctl) (c : Ctl) → All P controls → holds controls c ≡ true → P c
+holds_of P [] c all h = cc h
+holds_of P (d ∷ controls) c all h = by_part (holds_of P controls c (λ k e less. all (suc k) e (omega (arith, less)))) (or_cases (same_ctl c d) (holds controls c) h)
+  where
+    by_part : (holds controls c ≡ true → P c) → (same_ctl c d ≡ true) ⊎ (holds controls c ≡ true) → P c
+    by_part rest (inl same) = subst P (sym (same_equal c d same)) (all 0 d (omega arith))
+    by_part rest (inr later) = rest later
 
 -- places of controls in control order
 

@@ -109,6 +109,9 @@ unwanted board passes left a n law are from within e = by_part (and_cases (is_in
     by_part (inl shown) = inl (not-false (are_shown passes (drivers_at board a) (drivers_at board n)) (sym (are n from within) ∙ shown))
     by_part (inr apart) = inr (by_found (first_pair board (drivers_at board a) (drivers_at board n)) (sym (law board a n) ∙ apart))
 
+pub none_wanted : (board : RawBoard) (passes : List (List Ctl)) (left : List ℕ) (a from b : ℕ) → PairsHaveDrivers → AreLeft board passes a left → a < from → b ≤ length board.nets → ((n : ℕ) → from ≤ n → n < b → is_wanted board left a n ≡ false) → (n : ℕ) → from ≤ n → n < b → IsDone board passes a n
+none_wanted board passes left a from b law are later most none n least below = unwanted board passes left a n law are (omega (arith, least, later)) (omega (arith, below, most)) (none n least below)
+
 -- the nets that no pass shows together with net a
 pub unshown : (board : RawBoard) (passes : List (List Ctl)) (left : List ℕ) (a n : ℕ) → AreLeft board passes a left → a ≤ n → n < length board.nets → is_wanted board left a n ≡ true → are_shown passes (drivers_at board a) (drivers_at board n) ≡ false
 unshown board passes left a n are from within e = not-true (are_shown passes (drivers_at board a) (drivers_at board n)) (sym (are n from within) ∙ (and_parts (is_in left n) (pairs_with board a n) e).0)

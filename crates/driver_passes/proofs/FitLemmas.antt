@@ -13,7 +13,6 @@ use Rattle.board_defs.specs.Coverage.{IsUseful}
 use Rattle.board_defs.specs.Laws.{PassesAre, DecidesTerms}
 use Rattle.net_facts.specs.Kept.{shared_nets}
 use Rattle.net_classes.specs.Laws.{HaveCommon, NetsAreShared, SaysShared}
-use Rattle.driver_passes.specs.declared.draft.Draft.{Draft}
 use Rattle.driver_passes.specs.inner.Drafts.{has_number, setting_of, IsDraft}
 use Rattle.driver_passes.specs.inner.NumberSets.{is_in}
 use Rattle.driver_passes.proofs.ControlLemmas.{same_self}
@@ -74,11 +73,6 @@ pub together_is : (board : RawBoard) (c d : Ctl) → NetsAreShared → is_safe_a
 together_is board c d shared safe also other =
     ap (λ v. v && is_safe_alone board d && (same_ctl c d || not (share_net board c d))) safe ∙ ap (λ v. v && (same_ctl c d || not (share_net board c d))) also ∙ ap (λ v. v || not (share_net board c d)) other ∙ ap not (share_is board c d shared other)
 
--- tests that say the same
-pub any_same : (p q : ℕ → Bool) → ((n : ℕ) → p n ≡ q n) → (xs : List ℕ) → list_any p xs ≡ list_any q xs
-any_same p q h [] = refl
-any_same p q h (x ∷ xs) = ap (λ v. v || list_any p xs) (h x) ∙ ap (λ v. q x || v) (any_same p q h xs)
-
 pub holds_at : (controls : List Ctl) (i : ℕ) (c : Ctl) → slice_get controls i ≡ Some c → holds controls c ≡ true
 holds_at [] i c e = cc e
 holds_at (d ∷ controls) zero c e = let same : d ≡ c = cc e in or_left (same_ctl c d) (holds controls c) (ap (same_ctl c) same ∙ same_self c)
@@ -89,29 +83,26 @@ pub useful_safe : (board : RawBoard) (c : Ctl) → PassesAre board → DecidesTe
 useful_safe board c are decides h = let is : IsUseful board c = (are.said.useful c).0 h in (decides.safe c).1 is.0
 
 -- one that it holds changes nothing
-pub held_nothing : (board : RawBoard) (draft : Draft) (place : ℕ) (c : Ctl) (t : Bool) → PassesAre board → slice_get (useful_controls board) place ≡ Some c → is_in draft.held place ≡ true → setting_of board draft ≡ cond t (inserted c (setting_of board draft)) (setting_of board draft)
-held_nothing board draft place c true are stands h = chosen_set held held 0 place place (useful_controls board) c are.said.useful_in_order (omega arith) (λ n. same n (cases_eq n place)) stands
+pub held_nothing : (board : RawBoard) (held : List ℕ) (place : ℕ) (c : Ctl) (t : Bool) → PassesAre board → slice_get (useful_controls board) place ≡ Some c → is_in held place ≡ true → setting_of board held ≡ cond t (inserted c (setting_of board held)) (setting_of board held)
+held_nothing board held place c true are stands h = chosen_set (is_in held) (is_in held) 0 place place (useful_controls board) c are.said.useful_in_order (omega arith) (λ n. same n (cases_eq n place)) stands
   where
-    held : ℕ → Bool
-    held = is_in draft.held
-
-    same : (n : ℕ) → (n ≡ place) ⊎ (n ≡ place → ⊥) → held n ≡ (n == place || held n)
-    same n (inl one) = ap held one ∙ h ∙ sym (or_left (n == place) (held n) (eq-eqb n place one))
-    same n (inr differ) = sym (ap (λ t. t || held n) (ne_eqb n place differ))
-held_nothing board draft place c false are stands h = refl
+    same : (n : ℕ) → (n ≡ place) ⊎ (n ≡ place → ⊥) → is_in held n ≡ (n == place || is_in held n)
+    same n (inl one) = ap (is_in held) one ∙ h ∙ sym (or_left (n == place) (is_in held n) (eq-eqb n place one))
+    same n (inr differ) = sym (ap (λ t. t || is_in held n) (ne_eqb n place differ))
+held_nothing board held place c false are stands h = refl
 
 -- one that is closed changes nothing, as it is held or does not fit
-pub closed_nothing : (board : RawBoard) (draft : Draft) (place : ℕ) (c : Ctl) (t : Bool) → PassesAre board → IsDraft board draft → slice_get (useful_controls board) place ≡ Some c → is_in draft.free place ≡ false → (fits board (setting_of board draft) c ≡ false → t ≡ false) →
-    setting_of board draft ≡ cond t (inserted c (setting_of board draft)) (setting_of board draft)
-closed_nothing board draft place c t are is stands closed only = by_test (is_in draft.held place) refl
+pub closed_nothing : (board : RawBoard) (held free : List ℕ) (place : ℕ) (c : Ctl) (t : Bool) → PassesAre board → IsDraft board held free → slice_get (useful_controls board) place ≡ Some c → is_in free place ≡ false → (fits board (setting_of board held) c ≡ false → t ≡ false) →
+    setting_of board held ≡ cond t (inserted c (setting_of board held)) (setting_of board held)
+closed_nothing board held free place c t are is stands closed only = by_test (is_in held place) refl
   where
     s : List Ctl
-    s = setting_of board draft
+    s = setting_of board held
 
-    by_test : (h : Bool) → is_in draft.held place ≡ h → s ≡ cond t (inserted c s) s
-    by_test true e = held_nothing board draft place c t are stands e
+    by_test : (h : Bool) → is_in held place ≡ h → s ≡ cond t (inserted c s) s
+    by_test true e = held_nothing board held place c t are stands e
     by_test false e = sym (ap (λ u. cond u (inserted c s) s) (only (ap (λ h. not h && fits board s c) (sym e) ∙ sym (is.free_are place c stands) ∙ closed)))
 
 -- one that is free fits
-pub free_fits : (board : RawBoard) (draft : Draft) (place : ℕ) (c : Ctl) → IsDraft board draft → slice_get (useful_controls board) place ≡ Some c → is_in draft.free place ≡ true → fits board (setting_of board draft) c ≡ true
-free_fits board draft place c is stands can = (and_parts (not (is_in draft.held place)) (fits board (setting_of board draft) c) (sym (is.free_are place c stands) ∙ can)).1
+pub free_fits : (board : RawBoard) (held free : List ℕ) (place : ℕ) (c : Ctl) → IsDraft board held free → slice_get (useful_controls board) place ≡ Some c → is_in free place ≡ true → fits board (setting_of board held) c ≡ true
+free_fits board held free place c is stands can = (and_parts (not (is_in held place)) (fits board (setting_of board held) c) (sym (is.free_are place c stands) ∙ can)).1

@@ -1,7 +1,6 @@
 -- The pairs of nets, and the passes for them.
 use Rattle.std.proofs.Common.{◌≡◌, ℕ, suc, ◌+◌, ◌<◌, ◌≤◌, Bool, true, false, List, [], ◌∷◌, length, map, get_or, drop, fold, Option, Some, None, refl, sym, ◌∙◌, ap, arith, cond}
-use Rattle.std.specs.Prelude.{◌==◌, find, option_map}
-use Rattle.std.proofs.lemmas.Bool.{both_ways}
+use Rattle.std.specs.Prelude.{find, option_map}
 use Rattle.std.specs.Option.{option_or}
 use Rattle.std.proofs.Math.Seq.{drop-cons}
 use Rattle.std.proofs.lemmas.List.{length-map}
@@ -15,7 +14,7 @@ use Rattle.board_defs.specs.Passes.{add_for_nets, are_shown, drivers_by_net, fir
 use Rattle.net_classes.specs.Pairs.{fit}
 use Rattle.driver_passes.specs.inner.Pairs.{pairs_from}
 use Rattle.driver_passes.specs.inner.Shown.{drivers_at}
-use Rattle.driver_passes.proofs.ProgressLemmas.{length_end, some_length}
+use Rattle.driver_passes.proofs.ProgressLemmas.{length_end}
 
 -- the first pair with the first driver, where there is one
 abbrev is_fitting : RawBoard → Drive × Drive → Bool
@@ -77,7 +76,3 @@ one_more board useful passes nets = by_test (are_shown passes nets.0 nets.1) (fi
     by_test true found = omega arith
     by_test false None = omega arith
     by_test false (Some pair) = omega (arith, length_end passes (pair_pass board useful pair))
-
-pub no_drivers : (drivers : List Drive) → true ≡ (length drivers == 0) → drivers ≡ []
-no_drivers [] e = refl
-no_drivers (d ∷ drivers) e = absurd (both_ways (length (d ∷ drivers) == 0) (some_length (length drivers)) (sym e))

@@ -2,6 +2,7 @@
 use Rattle.std.proofs.Common.{◌≡◌, ℕ, zero, suc, ◌+◌, ◌<◌, ◌≤◌, Bool, true, false, not, ◌&&◌, ◌||◌, List, [], ◌∷◌, ◌++◌, length, map, get_or, take, fold, Option, Some, None, refl, sym, ◌∙◌, ap, subst, arith, cond}
 use Rattle.std.specs.Prelude.{◌==◌, slice_get, All, Contains, filter_map, sum_by}
 use Rattle.std.specs.List.{list_any, flat_map, range_with_len, cons_option}
+use Rattle.std.proofs.Math.Bool.{or-false, or_comm}
 use Rattle.std.proofs.lemmas.Bool.{and_parts, ne_eqb}
 use Rattle.std.proofs.lemmas.Option.{slice_get_within, get_or_from_slice_get}
 use Rattle.std.proofs.lemmas.List.{get_or-map as item-map, length-append, length-map, take_all}
@@ -19,24 +20,13 @@ use Rattle.board_defs.specs.Passes.{drivers_by_net, tested_drivers, tested_drive
 use Rattle.board_defs.specs.Laws.{PassesAre, DecidesTerms, HasTestedDriver}
 use Rattle.driver_passes.specs.inner.Progress.{AreHeld, IsUsefulDriver, is_held}
 use Rattle.driver_passes.specs.inner.Shown.{drivers_at}
-use Rattle.driver_passes.specs.declared.draft.Draft.{Draft}
-use Rattle.driver_passes.specs.inner.Drafts.{setting_of}
 use Rattle.driver_passes.specs.inner.NumberSets.{is_in}
-use Rattle.driver_passes.proofs.ChosenLemmas.{chosen_holds}
-
-or_last : (a b : Bool) → (a || b) ≡ (b || (a || false))
-or_last true true = refl
-or_last true false = refl
-or_last false true = refl
-or_last false false = refl
 
 -- one pass more
-pub held_more : (board : RawBoard) (passes after : List (List Ctl)) (draft : Draft) (held joined : List ℕ) → PassesAre board → AreHeld board passes held → length joined ≡ length held → ((n : ℕ) → is_in joined n ≡ (is_in draft.held n || is_in held n)) → after ≡ passes ++ setting_of board draft ∷ [] → AreHeld board after joined
-held_more board passes after draft held joined are is len join e = record {
+pub held_more : (board : RawBoard) (passes after : List (List Ctl)) (pass : List Ctl) (held joined : List ℕ) → AreHeld board passes held → length joined ≡ length held → ((i : ℕ) (c : Ctl) → slice_get (useful_controls board) i ≡ Some c → is_in joined i ≡ (holds pass c || is_in held i)) → after ≡ passes ++ pass ∷ [] → AreHeld board after joined
+held_more board passes after pass held joined is len join e = record {
   held_length = len ∙ is.held_length;
-  held_are = λ i c h.
-      join i ∙ ap (λ v. v || is_in held i) (sym (chosen_holds (is_in draft.held) 0 i i (useful_controls board) c are.said.useful_in_order (omega arith) h)) ∙ ap (λ v. holds (setting_of board draft) c || v) (is.held_are i c h) ∙
-      or_last (holds (setting_of board draft) c) (is_held passes c) ∙ sym (ap (λ v. is_held v c) e ∙ list_any-append (λ pass. holds pass c) passes (setting_of board draft ∷ []));
+  held_are = λ i c h. join i c h ∙ ap (λ v. holds pass c || v) (is.held_are i c h) ∙ or_comm (holds pass c) (is_held passes c) ∙ ap (λ v. is_held passes c || v) (sym (or-false (holds pass c))) ∙ sym (ap (λ v. is_held v c) e ∙ list_any-append (λ pass. holds pass c) passes (pass ∷ []));
 }
 
 -- a list with an item isn't empty

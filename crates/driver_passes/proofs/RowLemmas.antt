@@ -1,34 +1,25 @@
 -- The rows of the passes: the nets that each of them shows.
 use Rattle.std.proofs.Common.{◌≡◌, ◌⊎◌, inl, inr, ℕ, zero, suc, ◌+◌, ◌/◌, ◌<◌, ◌≤◌, Bool, true, false, not, ◌&&◌, ◌||◌, List, [], ◌∷◌, ◌++◌, length, get_or, refl, sym, ◌∙◌, ap, subst, arith}
+use Rattle.std.specs.Prelude.{All}
 use Rattle.std.specs.List.{list_all, list_any}
+use Rattle.std.proofs.Math.Bool.{and-true, or-false}
+use Rattle.std.proofs.Math.Seq.{get_or-append_seam}
 use Rattle.std.proofs.lemmas.Bool.{cases_lt}
+use Rattle.std.proofs.lemmas.List.{get_or_append_left, get_or_default}
 use Rattle.std.proofs.lemmas.List.Folds.{list_all-append, list_any-append}
 use Rattle.board_defs.specs.declared.board.Ctl.{Ctl}
 use Rattle.board_defs.specs.declared.board.RawBoard.{RawBoard}
 use Rattle.board_defs.specs.Passes.{are_shown, shows}
-use Rattle.driver_passes.specs.declared.draft.Draft.{Draft}
-use Rattle.driver_passes.specs.inner.Drafts.{setting_of}
 use Rattle.driver_passes.specs.inner.NumberSets.{is_in}
 use Rattle.driver_passes.specs.inner.Pairs.{AreLeft}
 use Rattle.driver_passes.specs.inner.Shown.{AreRows, AreShownBy, AreShownByAll, drivers_at, shows_both}
 use Rattle.driver_passes.proofs.ProgressLemmas.{length_end}
 
--- the row of a draft is that of the pass that it makes
-pub shown_as : (board : RawBoard) (draft : Draft) (pass : List Ctl) (row : List ℕ) → pass ≡ setting_of board draft → AreShownBy board (setting_of board draft) row → AreShownBy board pass row
-shown_as board draft pass row e are = let P : List Ctl → Type 0 = λ v. AreShownBy board v row in subst P (sym e) are
+-- the row of a pass under another name
+pub shown_as : (board : RawBoard) (made pass : List Ctl) (row : List ℕ) → pass ≡ made → AreShownBy board made row → AreShownBy board pass row
+shown_as board made pass row e are = let P : List Ctl → Type 0 = λ v. AreShownBy board v row in subst P (sym e) are
 
 -- one row more
-
-item_before : {X : Type 0} (xs : List X) (last d : X) (i : ℕ) → i < length xs → get_or (xs ++ last ∷ []) i d ≡ get_or xs i d
-item_before [] last d i less = absurd (omega arith)
-item_before (x ∷ xs) last d zero less = refl
-item_before (x ∷ xs) last d (suc i) less = item_before xs last d i (omega arith)
-
-item_last : {X : Type 0} (xs : List X) (last d : X) (i : ℕ) → i ≡ length xs → get_or (xs ++ last ∷ []) i d ≡ last
-item_last [] last d zero e = refl
-item_last [] last d (suc i) e = absurd (omega (arith, e))
-item_last (x ∷ xs) last d zero e = absurd (omega (arith, e))
-item_last (x ∷ xs) last d (suc i) e = item_last xs last d i (omega (arith, e))
 
 pub rows_more : (board : RawBoard) (passes after : List (List Ctl)) (rows rows_after : List (List ℕ)) (pass : List Ctl) (row : List ℕ) → AreRows board passes rows → AreShownBy board pass row → after ≡ passes ++ pass ∷ [] → rows_after ≡ rows ++ row ∷ [] → AreRows board after rows_after
 rows_more board passes after rows rows_after pass row are shown e f =
@@ -43,15 +34,21 @@ rows_more board passes after rows rows_after pass row are shown e f =
     by_place x less (inl earlier) =
         let P : List Ctl → Type 0 = λ v. AreShownBy board v (get_or (rows ++ row ∷ []) x []) in
         let Q : List ℕ → Type 0 = λ v. AreShownBy board (get_or passes x []) v in
-        subst P (sym (item_before passes pass [] x earlier)) (subst Q (sym (item_before rows row [] x (omega (arith, earlier, are.rows_length)))) (are.rows_are x earlier))
+        subst P (sym (get_or_append_left passes (pass ∷ []) [] x earlier)) (subst Q (sym (get_or_append_left rows (row ∷ []) [] x (omega (arith, earlier, are.rows_length)))) (are.rows_are x earlier))
     by_place x less (inr most) =
         let here : x ≡ length passes = omega (arith, less, most, length_end passes pass) in
         let P : List Ctl → Type 0 = λ v. AreShownBy board v (get_or (rows ++ row ∷ []) x []) in
         let Q : List ℕ → Type 0 = λ v. AreShownBy board pass v in
-        subst P (sym (item_last passes pass [] x here)) (subst Q (sym (item_last rows row [] x (omega (arith, here, are.rows_length)))) shown)
+        subst P (sym (ap (λ i. get_or (passes ++ pass ∷ []) i []) here ∙ get_or-append_seam passes pass [] [])) (subst Q (sym (ap (λ i. get_or (rows ++ row ∷ []) i []) (here ∙ sym are.rows_length) ∙ get_or-append_seam rows row [] [])) shown)
 
     whole : AreRows board (passes ++ pass ∷ []) (rows ++ row ∷ [])
     whole = record { rows_length = size; rows_are = λ x less. by_place x less (cases_lt x (length passes)) }
+
+-- each row has room for each net
+pub rows_sized : (board : RawBoard) (passes : List (List Ctl)) (rows items : List (List ℕ)) (size : ℕ) → AreRows board passes rows → items ≡ rows → size ≡ length board.nets / 64 + 1 → All (λ row. length row ≡ size) items
+rows_sized board passes rows items size are e room =
+    let P : List (List ℕ) → Type 0 = λ v. All (λ (row : List ℕ). length row ≡ size) v in
+    subst P (sym e) (λ k d less. ap length (get_or_default rows k d [] less) ∙ (are.rows_are k (omega (arith, less, are.rows_length))).row_length ∙ sym room)
 
 -- what the rows say of the passes
 
@@ -83,15 +80,11 @@ pub left_more : (board : RawBoard) (passes after : List (List Ctl)) (pass : List
 left_more board passes after pass row left left_after a are shown first e less n from within =
     let p : List Ctl → Bool = λ pass. shows (drivers_at board a) pass && shows (drivers_at board n) pass in
     less n (omega (arith, from)) ∙ ap (λ t. t && not (shows_both a n row)) (are n from within) ∙ ap (λ t. not (list_any p passes) && not t) (both_same board pass row a n shown first within) ∙ not_or (list_any p passes) (p pass) ∙
-    sym (ap (λ v. not (list_any p v)) e ∙ ap not (list_any-append p passes (pass ∷ []) ∙ ap (λ t. list_any p passes || t) (or_false (p pass))))
+    sym (ap (λ v. not (list_any p v)) e ∙ ap not (list_any-append p passes (pass ∷ []) ∙ ap (λ t. list_any p passes || t) (or-false (p pass))))
   where
     not_or : (s t : Bool) → (not s && not t) ≡ not (s || t)
     not_or true t = refl
     not_or false t = refl
-
-    or_false : (t : Bool) → (t || false) ≡ t
-    or_false true = refl
-    or_false false = refl
 
 -- the nets that each row has are those that each pass shows
 pub always_whole : (board : RawBoard) (passes : List (List Ctl)) (rows : List (List ℕ)) (always : List ℕ) (size : ℕ) → AreRows board passes rows → size ≡ length board.nets / 64 + 1 → length always ≡ size →
@@ -108,12 +101,8 @@ always_more board passes after pass row always always_after are shown e same kep
   always_length = same ∙ are.always_length;
   always_are = λ n within.
       let p : List Ctl → Bool = shows (drivers_at board n) in
-      kept n ∙ ap (λ t. t && is_in row n) (are.always_are n within) ∙ ap (λ t. list_all p passes && t) (shown.row_are n within ∙ and_true (p pass)) ∙ sym (ap (list_all p) e ∙ list_all-append p passes (pass ∷ []));
+      kept n ∙ ap (λ t. t && is_in row n) (are.always_are n within) ∙ ap (λ t. list_all p passes && t) (shown.row_are n within ∙ sym (and-true (p pass))) ∙ sym (ap (list_all p) e ∙ list_all-append p passes (pass ∷ []));
 }
-  where
-    and_true : (t : Bool) → t ≡ (t && true)
-    and_true true = refl
-    and_true false = refl
 
 -- of the nets from the word of net a on, those that no row has together with it
 pub left_whole : (board : RawBoard) (passes : List (List Ctl)) (rows : List (List ℕ)) (left : List ℕ) (a size : ℕ) → AreRows board passes rows → a < length board.nets → size ≡ length board.nets / 64 + 1 →

@@ -2,7 +2,9 @@
 use Rattle.std.proofs.Common.{◌≡◌, ◌⊎◌, inl, inr, ℕ, zero, suc, ◌+◌, ◌≤◌, ◌<◌, Bool, true, false, ◌&&◌, ◌||◌, List, [], ◌∷◌, ◌++◌, length, get_or, replicate, Some, refl, sym, ◌∙◌, ap, subst, arith, cond, ltb}
 use Rattle.std.specs.Prelude.{◌==◌, slice_get, All, filter}
 use Rattle.std.specs.List.{range_with_len}
-use Rattle.std.proofs.lemmas.List.Elements.{All-cons, All-nil}
+use Rattle.std.proofs.Math.Bool.{or-false}
+use Rattle.std.proofs.lemmas.List.Elements.{All-filter}
+use Rattle.std.proofs.lemmas.List.FromFn.{get_or-range_with_len, length-range_with_len}
 use Rattle.std.proofs.lemmas.Bool.{cases_order, eq-eqb, lt-ltb, le-ltb, ne_eqb}
 use Rattle.std.proofs.lemmas.List.{length-replicate}
 use Rattle.std.proofs.lemmas.Option.{slice_get_within}
@@ -14,34 +16,26 @@ use Rattle.driver_passes.specs.inner.Drafts.{has_number}
 use Rattle.driver_passes.specs.declared.blocks.Block.{Block}
 use Rattle.driver_passes.specs.inner.Blocks.{has_place}
 use Rattle.driver_passes.specs.inner.Sharers.{AreSharers, AreSharersBelow}
+use Rattle.driver_passes.proofs.NumberSetLemmas.{blank_item}
 
 -- the lists have the place too where the net passes, and else what they had before
 abbrev pub AreMarked : ℕ → List ℕ → List (List ℕ) → List (List ℕ) → Type 0
 AreMarked place nets before after = (n q : ℕ) → has_number (get_or after n []) q ≡ ((q == place && has_number nets n) || has_number (get_or before n []) q)
 
-filter_below : (p : ℕ → Bool) (a n most : ℕ) → a + n ≤ most → All (λ k. k < most) (filter p (range_with_len a n))
-filter_below p a zero most h = All-nil (λ (k : ℕ). k < most)
-filter_below p a (suc n) most h = by_test (p a) (filter_below p (a + 1) n most (omega arith))
-  where
-    by_test : (t : Bool) → All (λ (k : ℕ). k < most) (filter p (range_with_len (a + 1) n)) → All (λ (k : ℕ). k < most) (cond t (a ∷ filter p (range_with_len (a + 1) n)) (filter p (range_with_len (a + 1) n)))
-    by_test true rest = All-cons (λ (k : ℕ). k < most) a (filter p (range_with_len (a + 1) n)) (omega arith) rest
-    by_test false rest = rest
-
 -- the nets that a control shares are nets of the board
 pub shared_within : (board : RawBoard) (c : Ctl) (nets : List ℕ) (most : ℕ) → nets ≡ shared_nets board c → most ≡ length board.nets → All (λ n. n < most) nets
 shared_within board c nets most e f =
-    let P : List ℕ → Type 0 = λ v. All (λ (n : ℕ). n < most) v in
-    subst P (sym e) (filter_below (λ n. contends_there board c (slice_get board.nets n)) 0 (length board.nets) most (omega (arith, f)))
-
-blank_lists : (n k : ℕ) → get_or (replicate {A = List ℕ} n []) k [] ≡ []
-blank_lists zero k = refl
-blank_lists (suc n) zero = refl
-blank_lists (suc n) (suc k) = blank_lists n k
+    let P : ℕ → Type 0 = λ n. n < most in
+    let Q : List ℕ → Type 0 = λ v. All P v in
+    let count : ℕ = length board.nets in
+    subst Q (sym e) (All-filter (λ n. contends_there board c (slice_get board.nets n)) P (range_with_len 0 count) (λ k d less.
+    let within : k < count = omega (arith, less, length-range_with_len 0 count) in
+    omega (arith, get_or-range_with_len 0 count k d within, within, f)))
 
 pub no_sharers : (board : RawBoard) (sharers : List (List ℕ)) → sharers ≡ replicate (length board.nets) [] → AreSharersBelow board 0 sharers
 no_sharers board sharers e = record {
   sharers_length = ap length e ∙ length-replicate (length board.nets) [];
-  sharers_are = λ place c at n. ap (λ v. has_number (get_or v n []) place) e ∙ ap (λ v. has_number v place) (blank_lists (length board.nets) n) ∙ ap (λ t. t && has_number (shared_nets board c) n) (sym (le-ltb place 0 (omega arith)));
+  sharers_are = λ place c at n. ap (λ v. has_number (get_or v n []) place) e ∙ ap (λ v. has_number v place) (blank_item [] (length board.nets) n) ∙ ap (λ t. t && has_number (shared_nets board c) n) (sym (le-ltb place 0 (omega arith)));
 }
 
 -- one control more
@@ -51,16 +45,12 @@ sharers_more board k d nets before after are stands is size marked = record {
   sharers_are = λ place c at n. marked n place ∙ ap (λ t. (place == k && has_number nets n) || t) (are.sharers_are place c at n) ∙ by_place place c n at (cases_order place k);
 }
   where
-    or_false : (t : Bool) → (t || false) ≡ t
-    or_false true = refl
-    or_false false = refl
-
     by_place : (place : ℕ) (c : Ctl) (n : ℕ) → slice_get (useful_controls board) place ≡ Some c → (place ≡ k) ⊎ ((place < k) ⊎ (k < place)) → ((place == k && has_number nets n) || (ltb place k && has_number (shared_nets board c) n)) ≡ (ltb place (k + 1) && has_number (shared_nets board c) n)
     by_place place c n at (inl same) =
         let one : Some d ≡ Some c = sym stands ∙ ap (slice_get (useful_controls board)) (sym same) ∙ at in
         let control : d ≡ c = cc one in
         ap (λ t. (t && has_number nets n) || (ltb place k && has_number (shared_nets board c) n)) (eq-eqb place k same) ∙ ap (λ t. has_number nets n || (t && has_number (shared_nets board c) n)) (le-ltb place k (omega (arith, same))) ∙
-        or_false (has_number nets n) ∙ ap (λ v. has_number v n) (is ∙ ap (shared_nets board) control) ∙ sym (ap (λ t. t && has_number (shared_nets board c) n) (lt-ltb place (k + 1) (omega (arith, same))))
+        or-false (has_number nets n) ∙ ap (λ v. has_number v n) (is ∙ ap (shared_nets board) control) ∙ sym (ap (λ t. t && has_number (shared_nets board c) n) (lt-ltb place (k + 1) (omega (arith, same))))
     by_place place c n at (inr (inl less)) =
         ap (λ t. (t && has_number nets n) || (ltb place k && has_number (shared_nets board c) n)) (ne_eqb place k (λ e. omega (arith, e, less))) ∙ ap (λ t. t && has_number (shared_nets board c) n) (lt-ltb place k less ∙ sym (lt-ltb place (k + 1) (omega (arith, less))))
     by_place place c n at (inr (inr more)) =

@@ -2,6 +2,7 @@
 use Rattle.std.proofs.Common.{◌≡◌, ◌⊎◌, inl, inr, ℕ, zero, suc, ◌+◌, ◌/◌, ◌≤◌, ◌<◌, Bool, true, false, ◌&&◌, ◌||◌, List, [], ◌∷◌, ◌++◌, length, get_or, set, take, drop, Some, refl, sym, ◌∙◌, ap, arith, ltb}
 use Rattle.std.specs.Prelude.{◌==◌, slice_get, All}
 use Rattle.std.specs.List.{list_any}
+use Rattle.std.proofs.Math.Bool.{and-false, and-true, or-false, or_comm}
 use Rattle.std.proofs.lemmas.Bool.{and_parts, cases_eq, cases_order, eq-eqb, lt-ltb, le-ltb, ltb-true, ne_eqb, or_left, or_parts}
 use Rattle.std.proofs.lemmas.List.{get_or-set_same, get_or-set_other, take_more}
 use Rattle.std.proofs.lemmas.Option.{slice_get_within, get_or_from_slice_get}
@@ -18,6 +19,7 @@ use Rattle.driver_passes.specs.inner.Drafts.{chosen, has_number}
 use Rattle.driver_passes.specs.inner.Tested.{AreListed, AreNoted, drives}
 use Rattle.driver_passes.specs.inner.NumberSets.{is_in}
 use Rattle.driver_passes.specs.inner.Shown.{drivers_at}
+use Rattle.driver_passes.proofs.BlockLemmas.{same_place}
 use Rattle.driver_passes.proofs.ChosenLemmas.{chosen_next, chosen_skip}
 use Rattle.driver_passes.proofs.ControlLemmas.{other_place, same_self}
 use Rattle.driver_passes.proofs.ProgressLemmas.{net_there}
@@ -49,30 +51,14 @@ swap false b x = refl
 
 -- a setting shows a net by a driver that is always on, or by one of its controls
 pub shows_split : (drivers : List Drive) (setting : List Ctl) → shows drivers setting ≡ (shows drivers [] || list_any (λ c. drives c drivers) setting)
-shows_split drivers [] = by_test (shows drivers [])
-  where
-    by_test : (t : Bool) → t ≡ (t || false)
-    by_test true = refl
-    by_test false = refl
+shows_split drivers [] = sym (or-false (shows drivers []))
 shows_split drivers (c ∷ setting) = shows_with c setting drivers ∙ ap (λ t. drives c drivers || t) (shows_split drivers setting) ∙ swap (drives c drivers) (shows drivers []) (list_any (λ e. drives e drivers) setting)
 
 -- lists of numbers
 
 number_end : (numbers : List ℕ) (m n : ℕ) → has_number (numbers ++ m ∷ []) n ≡ (n == m || has_number numbers n)
-number_end numbers m n = list_any-append (λ k. k == n) numbers (m ∷ []) ∙ by_test (cases_eq n m)
-  where
-    turn : (a b : Bool) → (a || (b || false)) ≡ (b || a)
-    turn true true = refl
-    turn true false = refl
-    turn false true = refl
-    turn false false = refl
-
-    same : (n ≡ m) ⊎ (n ≡ m → ⊥) → (m == n) ≡ (n == m)
-    same (inl e) = eq-eqb m n (sym e) ∙ sym (eq-eqb n m e)
-    same (inr other) = ne_eqb m n (λ e. other (sym e)) ∙ sym (ne_eqb n m other)
-
-    by_test : (n ≡ m) ⊎ (n ≡ m → ⊥) → (has_number numbers n || ((m == n) || false)) ≡ (n == m || has_number numbers n)
-    by_test either = ap (λ t. has_number numbers n || (t || false)) (same either) ∙ turn (has_number numbers n) (n == m)
+number_end numbers m n =
+    list_any-append (λ k. k == n) numbers (m ∷ []) ∙ ap (λ t. has_number numbers n || t) (or-false (m == n)) ∙ or_comm (has_number numbers n) (m == n) ∙ ap (λ t. t || has_number numbers n) (same_place m n)
 
 pub numbers_all : (numbers : List ℕ) (P : ℕ → Type 0) → ((n : ℕ) → has_number numbers n ≡ true → P n) → All P numbers
 numbers_all [] P each = All-nil P
@@ -90,11 +76,7 @@ not_held (d ∷ controls) (suc p) c e none at = not_held controls p c e (or_part
 -- the lists once a driver of one more net is noted
 
 pub not_noted : (board : RawBoard) (lists : List (List ℕ)) (net : ℕ) (by : Ctl → Bool) → ((place : ℕ) (c : Ctl) → slice_get (useful_controls board) place ≡ Some c → by c ≡ false) → AreNoted board net by lists lists
-not_noted board lists net by none place c at n = ap (λ t. t || has_number (get_or lists place []) n) (by_test (n == net) ∙ ap (λ t. n == net && t) (sym (none place c at)))
-  where
-    by_test : (t : Bool) → false ≡ (t && false)
-    by_test true = refl
-    by_test false = refl
+not_noted board lists net by none place c at n = ap (λ t. t || has_number (get_or lists place []) n) (sym (and-false (n == net)) ∙ ap (λ t. n == net && t) (sym (none place c at)))
 
 pub noted : (board : RawBoard) (lists : List (List ℕ)) (net q : ℕ) (e : Ctl) (list : List ℕ) → IsInControlOrder (useful_controls board) → length lists ≡ length (useful_controls board) → slice_get (useful_controls board) q ≡ Some e → list ≡ get_or lists q [] ++ net ∷ [] →
     AreNoted board net (λ c. is_by c (Some (By e))) lists (set lists q list)
@@ -103,22 +85,14 @@ noted board lists net q e list order size at' is place c at n = by_place (cases_
     within : q < length lists
     within = omega (arith, size, slice_get_within (useful_controls board) q e at')
 
-    and_true : (t : Bool) → t ≡ (t && true)
-    and_true true = refl
-    and_true false = refl
-
-    and_none : (t : Bool) → false ≡ (t && false)
-    and_none true = refl
-    and_none false = refl
-
     by_place : (place ≡ q) ⊎ (place ≡ q → ⊥) → has_number (get_or (set lists q list) place []) n ≡ ((n == net && same_ctl e c) || has_number (get_or lists place []) n)
     by_place (inl same) =
         let one : Some e ≡ Some c = sym at' ∙ sym (ap (slice_get (useful_controls board)) same) ∙ at in
         let control : e ≡ c = cc one in
         ap (λ k. has_number (get_or (set lists q list) k []) n) same ∙ ap (λ v. has_number v n) (get_or-set_same lists q list [] within ∙ is) ∙ number_end (get_or lists q []) net n ∙
-        ap (λ t. t || has_number (get_or lists q []) n) (and_true (n == net) ∙ ap (λ t. n == net && t) (sym (sym (ap (same_ctl e) control) ∙ same_self e))) ∙ ap (λ k. (n == net && same_ctl e c) || has_number (get_or lists k []) n) (sym same)
+        ap (λ t. t || has_number (get_or lists q []) n) (sym (and-true (n == net)) ∙ ap (λ t. n == net && t) (sym (sym (ap (same_ctl e) control) ∙ same_self e))) ∙ ap (λ k. (n == net && same_ctl e c) || has_number (get_or lists k []) n) (sym same)
     by_place (inr differ) =
-        ap (λ v. has_number v n) (get_or-set_other lists q place list [] differ) ∙ ap (λ t. t || has_number (get_or lists place []) n) (and_none (n == net) ∙ ap (λ t. n == net && t) (sym (other_place (useful_controls board) place q c e order at at' differ)))
+        ap (λ v. has_number v n) (get_or-set_other lists q place list [] differ) ∙ ap (λ t. t || has_number (get_or lists place []) n) (sym (and-false (n == net)) ∙ ap (λ t. n == net && t) (sym (other_place (useful_controls board) place q c e order at at' differ)))
 
 pub noted_more : (board : RawBoard) (start before after : List (List ℕ)) (net : ℕ) (by more : Ctl → Bool) → AreNoted board net by start before → AreNoted board net more before after → AreNoted board net (λ c. by c || more c) start after
 noted_more board start before after net by more one two place c at n = two place c at n ∙ ap (λ t. (n == net && more c) || t) (one place c at n) ∙ by_test (n == net) (by c) (more c) (has_number (get_or start place []) n)
@@ -139,11 +113,7 @@ listed_more board net before after drivers are size e noted = record {
     by_net : (c : Ctl) (n : ℕ) → (n ≡ net) ⊎ ((n < net) ⊎ (net < n)) → ((n == net && drives c (drivers_at board net)) || (ltb n net && drives c (drivers_at board n))) ≡ (ltb n (net + 1) && drives c (drivers_at board n))
     by_net c n (inl same) =
         ap (λ t. (t && drives c (drivers_at board net)) || (ltb n net && drives c (drivers_at board n))) (eq-eqb n net same) ∙ ap (λ t. drives c (drivers_at board net) || (t && drives c (drivers_at board n))) (le-ltb n net (omega (arith, same))) ∙
-        or_false (drives c (drivers_at board net)) ∙ ap (λ k. drives c (drivers_at board k)) (sym same) ∙ sym (ap (λ t. t && drives c (drivers_at board n)) (lt-ltb n (net + 1) (omega (arith, same))))
-      where
-        or_false : (t : Bool) → (t || false) ≡ t
-        or_false true = refl
-        or_false false = refl
+        or-false (drives c (drivers_at board net)) ∙ ap (λ k. drives c (drivers_at board k)) (sym same) ∙ sym (ap (λ t. t && drives c (drivers_at board n)) (lt-ltb n (net + 1) (omega (arith, same))))
     by_net c n (inr (inl less)) =
         ap (λ t. (t && drives c (drivers_at board net)) || (ltb n net && drives c (drivers_at board n))) (ne_eqb n net (λ e. omega (arith, e, less))) ∙ ap (λ t. t && drives c (drivers_at board n)) (lt-ltb n net less ∙ sym (lt-ltb n (net + 1) (omega (arith, less))))
     by_net c n (inr (inr more)) =
@@ -155,13 +125,9 @@ pub noted_next : (board : RawBoard) (drivers : List Drive) (i net : ℕ) (start 
 noted_next board drivers i net start before after less one two place c at n =
     noted_more board start before after net (λ d. drives d (take i drivers)) (λ d. is_by d (Some (get_or drivers i AlwaysOn))) one two place c at n ∙ ap (λ t. (n == net && t) || has_number (get_or start place []) n) (sym (both c))
   where
-    or_false : (t : Bool) → (t || false) ≡ t
-    or_false true = refl
-    or_false false = refl
-
     both : (d : Ctl) → drives d (take (i + 1) drivers) ≡ (drives d (take i drivers) || is_by d (Some (get_or drivers i AlwaysOn)))
     both d =
-        ap (drives d) (take_more drivers i AlwaysOn less) ∙ list_any-append (λ e. is_by d (Some e)) (take i drivers) (get_or drivers i AlwaysOn ∷ []) ∙ ap (λ t. drives d (take i drivers) || t) (or_false (is_by d (Some (get_or drivers i AlwaysOn))))
+        ap (drives d) (take_more drivers i AlwaysOn less) ∙ list_any-append (λ e. is_by d (Some e)) (take i drivers) (get_or drivers i AlwaysOn ∷ []) ∙ ap (λ t. drives d (take i drivers) || t) (or-false (is_by d (Some (get_or drivers i AlwaysOn))))
 
 -- the nets of one control more in a row
 

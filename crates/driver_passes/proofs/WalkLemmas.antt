@@ -8,10 +8,10 @@ use Rattle.board_defs.specs.declared.board.RawBoard.{RawBoard}
 use Rattle.board_defs.specs.Settings.{inserted}
 use Rattle.board_defs.specs.Passes.{first_walk, fits, is_new, second_walk, useful_controls, walk}
 use Rattle.board_defs.specs.Laws.{PassesAre}
-use Rattle.driver_passes.specs.declared.draft.Draft.{Draft}
-use Rattle.driver_passes.specs.inner.Drafts.{setting_of, IsDraft}
+use Rattle.driver_passes.specs.inner.Drafts.{Drafted, drafted, setting_of, with_control, IsDraft}
 use Rattle.driver_passes.specs.inner.NumberSets.{is_in}
 use Rattle.driver_passes.specs.inner.Progress.{is_held, AreHeld}
+use Rattle.driver_passes.specs.inner.Walks.{first_walked, second_walked}
 use Rattle.driver_passes.proofs.FitLemmas.{closed_nothing, free_fits}
 
 -- the setting after the step over one control
@@ -50,18 +50,18 @@ walk_adds accepts controls before after place c at fit e =
     ap (walk accepts (drop (place + 1) controls)) (ap (stepped accepts before) (get_or_from_slice_get controls place c c at) ∙ ap (λ t. cond t (inserted c before) before) fit ∙ sym e))
 
 -- the second walk passes over controls that are not free
-pub second_passes : (board : RawBoard) (draft : Draft) (useful : List Ctl) (from next : ℕ) → PassesAre board → IsDraft board draft → useful ≡ useful_controls board → from ≤ next → ((n : ℕ) → from ≤ n → n < next → is_in draft.free n ≡ false) →
-    second_walk board (drop from useful) (setting_of board draft) ≡ second_walk board (drop next useful) (setting_of board draft)
-second_passes board draft useful from next are is e least closed =
-    walk_passes (fits board) useful (setting_of board draft) from next least (λ n c low less at. closed_nothing board draft n c (fits board (setting_of board draft) c) are is (sym (ap (λ v. slice_get v n) e) ∙ at) (closed n low less) (λ f. f))
+pub second_passes : (board : RawBoard) (held free : List ℕ) (from next : ℕ) → PassesAre board → IsDraft board held free → from ≤ next → ((n : ℕ) → from ≤ n → n < next → is_in free n ≡ false) →
+    second_walk board (drop from (useful_controls board)) (setting_of board held) ≡ second_walk board (drop next (useful_controls board)) (setting_of board held)
+second_passes board held free from next are is least closed =
+    walk_passes (fits board) (useful_controls board) (setting_of board held) from next least (λ n c low less at. closed_nothing board held free n c (fits board (setting_of board held) c) are is at (closed n low less) (λ f. f))
 
 -- and the first walk also over those that earlier passes hold
-pub first_passes : (board : RawBoard) (draft : Draft) (useful : List Ctl) (passes : List (List Ctl)) (held : List ℕ) (from next : ℕ) → PassesAre board → IsDraft board draft → AreHeld board passes held → useful ≡ useful_controls board → from ≤ next →
-    ((n : ℕ) → from ≤ n → n < next → (is_in draft.free n && not (is_in held n)) ≡ false) → first_walk board (drop from useful) passes (setting_of board draft) ≡ first_walk board (drop next useful) passes (setting_of board draft)
-first_passes board draft useful passes held from next are is known e least closed = walk_passes accepts useful s from next least (λ n c low less at. by_test n c (sym (ap (λ v. slice_get v n) e) ∙ at) (closed n low less) (is_in draft.free n) refl)
+pub first_passes : (board : RawBoard) (held free : List ℕ) (passes : List (List Ctl)) (earlier : List ℕ) (from next : ℕ) → PassesAre board → IsDraft board held free → AreHeld board passes earlier → from ≤ next →
+    ((n : ℕ) → from ≤ n → n < next → (is_in free n && not (is_in earlier n)) ≡ false) → first_walk board (drop from (useful_controls board)) passes (setting_of board held) ≡ first_walk board (drop next (useful_controls board)) passes (setting_of board held)
+first_passes board held free passes earlier from next are is known least closed = walk_passes accepts (useful_controls board) s from next least (λ n c low less at. by_test n c at (closed n low less) (is_in free n) refl)
   where
     s : List Ctl
-    s = setting_of board draft
+    s = setting_of board held
 
     accepts : List Ctl → Ctl → Bool
     accepts v c = is_new passes c && fits board v c
@@ -74,14 +74,31 @@ first_passes board draft useful passes held from next are is known e least close
     none_and true u f = refl
     none_and false u f = cc f
 
-    by_test : (n : ℕ) (c : Ctl) → slice_get (useful_controls board) n ≡ Some c → (is_in draft.free n && not (is_in held n)) ≡ false → (t : Bool) → is_in draft.free n ≡ t → s ≡ stepped accepts s c
-    by_test n c at shut false o = closed_nothing board draft n c (accepts s c) are is at o (and_none (is_new passes c) (fits board s c))
+    by_test : (n : ℕ) (c : Ctl) → slice_get (useful_controls board) n ≡ Some c → (is_in free n && not (is_in earlier n)) ≡ false → (t : Bool) → is_in free n ≡ t → s ≡ stepped accepts s c
+    by_test n c at shut false o = closed_nothing board held free n c (accepts s c) are is at o (and_none (is_new passes c) (fits board s c))
     by_test n c at shut true o =
-        let old : not (is_held passes c) ≡ false = ap not (sym (known.held_are n c at)) ∙ sym (ap (λ t. t && not (is_in held n)) o) ∙ shut in
+        let old : not (is_held passes c) ≡ false = ap not (sym (known.held_are n c at)) ∙ sym (ap (λ t. t && not (is_in earlier n)) o) ∙ shut in
         sym (ap (λ t. cond t (inserted c s) s) (none_and (is_held passes c) (fits board s c) old))
 
 -- a control that is free and that no earlier pass holds is accepted
-pub new_fits : (board : RawBoard) (draft : Draft) (passes : List (List Ctl)) (held : List ℕ) (place : ℕ) (c : Ctl) → IsDraft board draft → AreHeld board passes held → slice_get (useful_controls board) place ≡ Some c → (is_in draft.free place && not (is_in held place)) ≡ true → (is_new passes c && fits board (setting_of board draft) c) ≡ true
-new_fits board draft passes held place c is known at h =
-    let both : (is_in draft.free place ≡ true) × (not (is_in held place) ≡ true) = and_parts (is_in draft.free place) (not (is_in held place)) h in
-    and_from (is_new passes c) (fits board (setting_of board draft) c) (ap not (sym (known.held_are place c at)) ∙ both.1) (free_fits board draft place c is at both.0)
+pub new_fits : (board : RawBoard) (held free : List ℕ) (passes : List (List Ctl)) (earlier : List ℕ) (place : ℕ) (c : Ctl) → IsDraft board held free → AreHeld board passes earlier → slice_get (useful_controls board) place ≡ Some c → (is_in free place && not (is_in earlier place)) ≡ true → (is_new passes c && fits board (setting_of board held) c) ≡ true
+new_fits board held free passes earlier place c is known at h =
+    let both : (is_in free place ≡ true) × (not (is_in earlier place) ≡ true) = and_parts (is_in free place) (not (is_in earlier place)) h in
+    and_from (is_new passes c) (fits board (setting_of board held) c) (ap not (sym (known.held_are place c at)) ∙ both.1) (free_fits board held free place c is at both.0)
+
+-- so of drafts, which have board and setting together
+
+-- no control between the two places is added, and the one at the second place is
+pub second_adds : (board : RawBoard) (held free : List ℕ) (after : Drafted) (from place : ℕ) (c : Ctl) → PassesAre board → IsDraft board held free → from ≤ place → ((n : ℕ) → from ≤ n → n < place → is_in free n ≡ false) →
+    slice_get (useful_controls board) place ≡ Some c → is_in free place ≡ true → after ≡ with_control (drafted board (setting_of board held)) c → second_walked after (place + 1) ≡ second_walked (drafted board (setting_of board held)) from
+second_adds board held free after from place c are is least closed at can e =
+    let s : List Ctl = setting_of board held in
+    ap (λ d. second_walked d (place + 1)) e ∙
+    ap (drafted board) (walk_adds (fits board) (useful_controls board) s (inserted c s) place c at (free_fits board held free place c is at can) refl ∙ sym (second_passes board held free from place are is least closed))
+
+pub first_adds : (board : RawBoard) (held free : List ℕ) (passes : List (List Ctl)) (earlier : List ℕ) (after : Drafted) (from place : ℕ) (c : Ctl) → PassesAre board → IsDraft board held free → AreHeld board passes earlier → from ≤ place → ((n : ℕ) → from ≤ n → n < place → (is_in free n && not (is_in earlier n)) ≡ false) →
+    slice_get (useful_controls board) place ≡ Some c → (is_in free place && not (is_in earlier place)) ≡ true → after ≡ with_control (drafted board (setting_of board held)) c → first_walked after (place + 1) passes ≡ first_walked (drafted board (setting_of board held)) from passes
+first_adds board held free passes earlier after from place c are is known least closed at can e =
+    let s : List Ctl = setting_of board held in
+    ap (λ d. first_walked d (place + 1) passes) e ∙
+    ap (drafted board) (walk_adds (λ v d. is_new passes d && fits board v d) (useful_controls board) s (inserted c s) place c at (new_fits board held free passes earlier place c is known at can) refl ∙ sym (first_passes board held free passes earlier from place are is known least closed))

@@ -1,5 +1,6 @@
 -- Terms that serve proofs and the contracts of private functions. No public contract cites them.
 pub mod Drafts
+pub mod Walks
 pub mod NumberSets
 pub mod Blocks
 pub mod Sharers

@@ -1,31 +1,38 @@
 // A pass as it is made.
-ghost use Rattle.std.specs.Prelude.{◌≡◌, ◌<◌, ◌&&◌, ℕ, [], not, true, length, slice_get, All, IfOk, Some};
-ghost use Rattle.board_defs.specs.Pins.{IsCell};
-ghost use Rattle.board_defs.specs.Settings.{holds, inserted};
+ghost use Rattle.std.specs.Prelude.{◌≡◌, ◌<◌, ◌+◌, ◌/◌, ◌&&◌, ◌||◌, ℕ, [], not, true, length, slice_get, IfOk, Some};
+ghost use Rattle.board_defs.specs.declared.board.Ctl.{Ctl};
+ghost use Rattle.board_defs.specs.Coverage.{IsUseful};
+ghost use Rattle.board_defs.specs.Settings.{holds};
 ghost use Rattle.board_defs.specs.Passes.{useful_controls, with_driver};
-ghost use Rattle.net_classes.specs.Kept.{AreClasses};
-ghost use Rattle.driver_passes.specs.inner.Blocks.{has_place};
-ghost use Rattle.driver_passes.specs.inner.Drafts.{IsDraft, chosen, setting_of};
+ghost use Rattle.driver_passes.specs.inner.Drafts.{chosen, drafted, with_control};
 ghost use Rattle.driver_passes.specs.inner.NumberSets.{is_in};
 ghost use Rattle.driver_passes.specs.inner.Progress.{IsUsefulDriver};
-ghost use Rattle.driver_passes.specs.inner.Sharers.{AreSharers, is_listed};
+ghost use Rattle.driver_passes.specs.inner.Shown.{AreShownBy};
 
-use crate::blocks::{Block, Blocks};
 use crate::number_set::NumberSet;
-use crate::places::place_of;
-use crate::sharers::blocks_at;
-use board_defs::{Board, Ctl, Drive, Setting, law};
-use net_classes::Classes;
-use net_classes::law::nets_are_shared;
+use crate::tables::BoardTables;
+use board_defs::{Ctl, Drive, Setting};
 use std::alloc::{AllocError, Global};
+use std::marker::Model;
 
-/// A pass as it is made: a set of useful controls.
-#[derive(Debug, Drop)]
-pub struct Draft {
+/// A pass as it is made, seen as its board and the setting so far.
+#[derive(Drop)]
+pub struct Draft<'a, 'b> {
+    pub(crate) board: &'a BoardTables<'b>,
     /// The places of the useful controls that the pass holds.
-    pub held: NumberSet,
+    pub(crate) held: NumberSet,
     /// The places of those that it can hold too: they are together with each control that it holds.
-    pub free: NumberSet,
+    pub(crate) free: NumberSet,
+}
+
+impl<'a, 'b> Model for Draft<'a, 'b> {
+    ghost use Rattle.driver_passes.specs.inner.Drafts.{Drafted, IsDraft, drafted, setting_of};
+
+    ghost Value = { Drafted };
+
+    ghost view = { λ a. drafted a.board.now (setting_of a.board.now a.held) };
+
+    ghost invariant = { λ a. IsDraft a.board.now a.held a.free };
 }
 
 /// The set of all places of these controls.
@@ -37,122 +44,73 @@ fn all_places(alloc: Global, controls: &[Ctl]) -> Result<NumberSet, AllocError>
     Ok(places)
 }
 
-/// Takes out the places of these blocks.
-fn close(free: &mut NumberSet, blocks: &[Block])
-    ensures { (q : ℕ) → is_in free.new q ≡ (is_in free.old q && not (has_place blocks.now q)) }
-{
-    for block in blocks {
-        free.take_out_bits(block.word, block.bits);
-    }
-}
-
-/// Takes out the places that are listed for these nets.
-fn close_sharers(free: &mut NumberSet, sharers: &[Blocks], nets: &[u32])
-    ensures { (q : ℕ) → is_in free.new q ≡ (is_in free.old q && not (is_listed sharers.now nets.now q)) }
-{
-    for net in nets {
-        close(free, blocks_at(sharers, *net as usize));
-    }
-}
-
-impl Draft {
+impl<'a, 'b> Draft<'a, 'b> {
     /// The draft without controls.
-    pub fn new(alloc: Global, board: &Board, useful: &[Ctl]) -> Result<Draft, AllocError>
-        requires { useful.now ≡ useful_controls board.now }
-        ensures draft { IfOk result (λ draft. IsDraft board.now draft) }
-        ensures empty { IfOk result (λ draft. setting_of board.now draft ≡ []) }
+    pub fn new(alloc: Global, board: &'a BoardTables<'b>) -> Result<Draft<'a, 'b>, AllocError>
+        ensures { IfOk result (λ draft. draft ≡ drafted board.now []) }
     {
+        let useful = board.useful();
         let held = NumberSet::new(alloc, useful.len())?;
         let free = all_places(alloc, useful)?;
-        Ok(Draft { held, free })
+        Ok(Draft { board, held, free })
     }
 
     /// Adds the useful control that stands at this place among them.
-    pub fn add(
-        &mut self,
-        board: &Board,
-        classes: &Classes,
-        sharers: &[Blocks],
-        place: usize,
-        c: Ctl,
-    )
-        requires classes { AreClasses board.now classes.now }
-        requires sharers { AreSharers board.now sharers.now }
-        requires draft { IsDraft board.now self.old }
-        requires stands { slice_get (useful_controls board.now) place ≡ Some c }
-        requires cell { IsCell board.now c }
-        ensures draft { IsDraft board.now self.new }
-        ensures added { setting_of board.now self.new ≡ inserted c (setting_of board.now self.old) }
+    pub fn add(&mut self, place: usize, c: Ctl)
+        requires { slice_get (useful_controls self.old.board) place ≡ Some c }
+        ensures { self.new ≡ with_control self.old c }
     {
-        law::passes_kept();
-        law::terms_decided();
-        nets_are_shared();
-        let _rules = board.raw();
+        self.board.laws();
         self.held.insert_if(place, true);
+        self.board.take_out_apart(&mut self.free, c);
         self.free.remove(place);
-        close_sharers(&mut self.free, sharers, classes.shared_nets(board, c));
     }
 
     /// Adds the control of the driver, where it has one.
-    pub fn add_driver(
-        &mut self,
-        board: &Board,
-        classes: &Classes,
-        sharers: &[Blocks],
-        useful: &[Ctl],
-        d: Drive,
-    )
-        requires classes { AreClasses board.now classes.now }
-        requires sharers { AreSharers board.now sharers.now }
-        requires useful { useful.now ≡ useful_controls board.now }
-        requires cells { All (IsCell board.now) useful.now }
-        requires driver { IsUsefulDriver board.now d }
-        requires draft { IsDraft board.now self.old }
-        ensures draft { IsDraft board.now self.new }
-        ensures added { setting_of board.now self.new ≡ with_driver (setting_of board.now self.old) d }
+    pub fn add_driver(&mut self, d: Drive)
+        requires { IsUsefulDriver self.old.board d }
+        ensures { self.new ≡ drafted self.old.board (with_driver self.old.setting d) }
     {
         if let Drive::By(c) = d {
-            self.add_control(board, classes, sharers, useful, c);
+            self.add_control(c);
         }
     }
 
-    fn add_control(
-        &mut self,
-        board: &Board,
-        classes: &Classes,
-        sharers: &[Blocks],
-        useful: &[Ctl],
-        c: Ctl,
-    )
-        requires classes { AreClasses board.now classes.now }
-        requires sharers { AreSharers board.now sharers.now }
-        requires useful { useful.now ≡ useful_controls board.now }
-        requires cells { All (IsCell board.now) useful.now }
-        requires held { holds useful.now c ≡ true }
-        requires draft { IsDraft board.now self.old }
-        ensures draft { IsDraft board.now self.new }
-        ensures added { setting_of board.now self.new ≡ inserted c (setting_of board.now self.old) }
+    fn add_control(&mut self, c: Ctl)
+        requires { holds (useful_controls self.old.board) c ≡ true }
+        ensures { self.new ≡ with_control self.old c }
     {
-        if let Some(place) = place_of(board, useful, c) {
-            self.add(board, classes, sharers, place, c);
+        if let Some(place) = self.board.place_of(c) {
+            self.add(place, c);
         }
     }
 
     /// The setting of the draft.
-    pub fn setting(
-        &self,
-        alloc: Global,
-        board: &Board,
-        useful: &[Ctl],
-    ) -> Result<Setting, AllocError>
-        requires useful { useful.now ≡ useful_controls board.now }
-        requires draft { IsDraft board.now self.now }
-        ensures { IfOk result (λ setting. setting ≡ setting_of board.now self.now) }
+    pub fn setting(&self, alloc: Global) -> Result<Setting, AllocError>
+        ensures value { IfOk result (λ setting. setting ≡ self.now.setting) }
+        ensures useful { IfOk result (λ setting. (c : Ctl) → holds setting c ≡ true → IsUseful self.now.board c) }
     {
-        law::passes_kept();
-        let _rules = board.raw();
-        let controls = controls_at(alloc, useful, &self.held)?;
+        self.board.laws();
+        let controls = controls_at(alloc, self.board.useful(), &self.held)?;
         Ok(Setting::of(controls))
+    }
+
+    /// The nets that the pass shows.
+    pub fn shown(&self, alloc: Global) -> Result<NumberSet, AllocError>
+        ensures { IfOk result (λ row. AreShownBy self.now.board self.now.setting row) }
+    {
+        self.board.shown_by(alloc, &self.held)
+    }
+
+    /// Adds the places of the controls that the pass holds to a set with room for them.
+    pub fn add_places(&self, places: &mut NumberSet)
+        requires { length places.old ≡ length (useful_controls self.now.board) / 64 + 1 }
+        ensures room { length places.new ≡ length places.old }
+        ensures places { (i : ℕ) (c : Ctl) → slice_get (useful_controls self.now.board) i ≡ Some c →
+            is_in places.new i ≡ (holds self.now.setting c || is_in places.old i) }
+    {
+        self.board.laws();
+        places.add_all(&self.held);
     }
 }
 

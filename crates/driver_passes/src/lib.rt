@@ -4,15 +4,18 @@
 
 mod alike;
 mod blocks;
+mod classed;
 mod column;
 mod draft;
 mod drivers;
 mod making;
 mod number_set;
+mod paired;
 mod pairs;
 mod places;
 mod sharers;
 mod shown;
+mod tables;
 mod tested;
 mod walk;
 

@@ -4,11 +4,27 @@ ghost use Rattle.board_defs.specs.Passes.{ArePasses, passes_of};
 ghost use Rattle.net_classes.specs.Kept.{AreClasses};
 ghost use Rattle.driver_passes.specs.Useful.{HoldUseful};
 
+use crate::classed::ClassedBoard;
 use crate::drivers::driver_passes;
 use crate::pairs::pair_passes;
-use board_defs::{Board, Setting, law};
+use crate::tables::BoardTables;
+use board_defs::{Board, Setting};
 use net_classes::Classes;
 use std::alloc::{AllocError, Global};
+
+/// The passes of a board with its tables, which are lent: a function that owned them would drop them
+/// at each of its exits.
+fn passes_by(alloc: Global, board: &BoardTables<'_>) -> Result<Vec<Setting>, AllocError>
+    ensures made { IfOk result (λ passes. passes.items ≡ passes_of board.now) }
+    ensures kept { IfOk result (λ passes. ArePasses board.now passes.items) }
+    ensures useful { IfOk result (λ passes. HoldUseful board.now passes.items) }
+    ensures few { IfOk result (λ passes. length passes.items < 2 ^ 32) }
+{
+    board.laws();
+    let progress = driver_passes(alloc, board)?;
+    let passes = pair_passes(alloc, board, progress)?;
+    Ok(passes)
+}
 
 /// The passes of the board, in their order: first until each tested driver is enabled, then until
 /// each two paired nets are observed by one pass.
@@ -19,10 +35,6 @@ pub fn passes(alloc: Global, board: &Board, classes: &Classes) -> Result<Vec<Set
     ensures useful { IfOk result (λ passes. HoldUseful board.now passes.items) }
     ensures few { IfOk result (λ passes. length passes.items < 2 ^ 32) }
 {
-    law::passes_kept();
-    let _rules = board.raw();
-    let useful = classes.useful(board);
-    let progress = driver_passes(alloc, board, classes, useful)?;
-    let passes = pair_passes(alloc, board, classes, useful, progress)?;
-    Ok(passes)
+    let tables = BoardTables::new(alloc, ClassedBoard::new(board, classes))?;
+    passes_by(alloc, &tables)
 }

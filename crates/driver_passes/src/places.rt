@@ -1,10 +1,9 @@
-// Where a control stands among the useful controls.
+// Where a control stands in a list of controls.
 ghost use Rattle.std.specs.Prelude.{◌≡◌, false, slice_get, MatchOption, Some};
 ghost use Rattle.std.specs.List.{prefix_len};
-ghost use Rattle.board_defs.specs.Passes.{useful_controls};
 ghost use Rattle.board_defs.specs.Settings.{holds, precedes, IsInControlOrder};
 
-use board_defs::{Board, Ctl, law};
+use board_defs::Ctl;
 
 fn comes_before(a: Ctl, b: Ctl) -> bool
     ensures { result ≡ precedes a b }
@@ -27,7 +26,7 @@ fn control_at(controls: &[Ctl], place: usize) -> Option<Ctl>
 }
 
 /// Where the control stands in the list, which is in control order.
-fn place_in(controls: &[Ctl], c: Ctl) -> Option<usize>
+pub fn place_in(controls: &[Ctl], c: Ctl) -> Option<usize>
     requires { IsInControlOrder controls.now }
     ensures { MatchOption result (holds controls.now c ≡ false) (λ i. slice_get controls.now i ≡ Some c) }
 {
@@ -36,14 +35,4 @@ fn place_in(controls: &[Ctl], c: Ctl) -> Option<usize>
         None => None,
         Some(d) => { if c.is_same(d) { Some(place) } else { None } }
     }
-}
-
-/// Where the control stands among the useful controls.
-pub fn place_of(board: &Board, useful: &[Ctl], c: Ctl) -> Option<usize>
-    requires { useful.now ≡ useful_controls board.now }
-    ensures { MatchOption result (holds useful.now c ≡ false) (λ i. slice_get useful.now i ≡ Some c) }
-{
-    law::passes_kept();
-    let _rules = board.raw();
-    place_in(useful, c)
 }

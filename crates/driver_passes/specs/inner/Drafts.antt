@@ -3,9 +3,21 @@ use Rattle.std.specs.Prelude.{◌≡◌, ℕ, suc, ◌+◌, ◌/◌, ◌==◌, �
 use Rattle.std.specs.List.{list_any}
 use Rattle.board_defs.specs.declared.board.Ctl.{Ctl}
 use Rattle.board_defs.specs.declared.board.RawBoard.{RawBoard}
+use Rattle.board_defs.specs.Settings.{inserted}
 use Rattle.board_defs.specs.Passes.{fits, useful_controls}
-use Rattle.driver_passes.specs.declared.draft.Draft.{Draft}
 use Rattle.driver_passes.specs.inner.NumberSets.{is_in}
+
+-- a pass as it is made: its board, and the setting so far
+pub record Drafted : Type 0 where
+  pub board : RawBoard
+  pub setting : List Ctl
+
+abbrev pub drafted : RawBoard → List Ctl → Drafted
+drafted board setting = record { board = board; setting = setting }
+
+-- the pass with the control too
+abbrev pub with_control : Drafted → Ctl → Drafted
+with_control draft c = drafted draft.board (inserted c draft.setting)
 
 -- the controls whose places pass, where the first of them has this place
 abbrev pub chosen : (ℕ → Bool) → ℕ → List Ctl → List Ctl
@@ -16,11 +28,11 @@ chosen passes place (c ∷ controls) = cond (passes place) (c ∷ chosen passes 
 abbrev pub has_number : List ℕ → ℕ → Bool
 has_number numbers n = list_any (λ m. m == n) numbers
 
--- the setting of a draft
-abbrev pub setting_of : RawBoard → Draft → List Ctl
-setting_of board draft = chosen (is_in draft.held) 0 (useful_controls board)
+-- the setting of the useful controls whose places are in the set
+abbrev pub setting_of : RawBoard → List ℕ → List Ctl
+setting_of board held = chosen (is_in held) 0 (useful_controls board)
 
--- the draft has room for each useful control, and says which of them it doesn't hold and are together with all that it holds
-pub record IsDraft (board : RawBoard) (draft : Draft) : Type 0 where
-  pub held_length : length draft.held ≡ length (useful_controls board) / 64 + 1
-  pub free_are : (place : ℕ) (c : Ctl) → slice_get (useful_controls board) place ≡ Some c → is_in draft.free place ≡ (not (is_in draft.held place) && fits board (setting_of board draft) c)
+-- the first set has room for each useful control, and the second has the places of those that are not in the first one and are together with all that are
+pub record IsDraft (board : RawBoard) (held free : List ℕ) : Type 0 where
+  pub held_length : length held ≡ length (useful_controls board) / 64 + 1
+  pub free_are : (place : ℕ) (c : Ctl) → slice_get (useful_controls board) place ≡ Some c → is_in free place ≡ (not (is_in held place) && fits board (setting_of board held) c)

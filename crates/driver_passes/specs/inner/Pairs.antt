@@ -3,32 +3,32 @@ use Rattle.std.specs.Prelude.{◌≡◌, ◌≤◌, ◌<◌, ◌⊎◌, ◌+◌,
 use Rattle.board_defs.specs.declared.board.Ctl.{Ctl}
 use Rattle.board_defs.specs.declared.board.RawBoard.{RawBoard}
 use Rattle.board_defs.specs.declared.board.Drive.{Drive}
-use Rattle.board_defs.specs.Passes.{are_shown, drivers_by_net, first_pair}
+use Rattle.board_defs.specs.Passes.{add_for_nets, are_shown, drivers_by_net, first_pair, useful_controls}
 use Rattle.net_classes.specs.Pairs.{pairs_with}
 use Rattle.driver_passes.specs.declared.pairs.Pairing.{Pairing}
 use Rattle.driver_passes.specs.inner.NumberSets.{is_in}
 use Rattle.driver_passes.specs.inner.Progress.{EnableTested, IsUsefulDriver}
 use Rattle.driver_passes.specs.Useful.{HoldUseful}
-use Rattle.driver_passes.specs.inner.Alike.{AreAlike}
 use Rattle.driver_passes.specs.inner.Shown.{AreRows, AreShownByAll, IsColumn, drivers_at}
-use Rattle.driver_passes.specs.inner.Sharers.{AreSharers}
-use Rattle.driver_passes.specs.inner.Tested.{AreTestedNets}
 
--- the rows are those of the passes so far, which enable each tested driver and hold useful controls only, the column is that of the rows, and the last set has the nets that they all show; the nets that are alike, the tested nets and the sharers are the board's; the first set has room for each net
+-- the rows are those of the passes so far, which enable each tested driver and hold useful controls only, the column is that of the rows, and the last set has the nets that they all show; the first set has room for each net
 pub record ArePairing (board : RawBoard) (pairing : Pairing) : Type 0 where
   pub rows : AreRows board pairing.passes.items pairing.rows.items
   pub column : IsColumn pairing.rows.items pairing.column
-  pub alike : AreAlike board pairing.likes.items
   pub tested : EnableTested board pairing.passes.items
   pub useful : HoldUseful board pairing.passes.items
-  pub tested_nets : AreTestedNets board pairing.tested_nets
-  pub sharers : AreSharers board pairing.sharers.items
   pub left_length : length pairing.left ≡ length board.nets / 64 + 1
   pub always : AreShownByAll board pairing.passes.items pairing.always
 
 -- of the nets from net a on, the set has those that none of the passes shows together with net a
 abbrev pub AreLeft : RawBoard → List (List Ctl) → ℕ → List ℕ → Type 0
 AreLeft board passes a left = (n : ℕ) → a ≤ n → n < length board.nets → is_in left n ≡ not (are_shown passes (drivers_at board a) (drivers_at board n))
+
+-- the pairing looks at net a: its first set is that of the nets which none of the passes shows together with net a
+pub record LooksAt (board : RawBoard) (pairing : Pairing) (a : ℕ) : Type 0 where
+  pub are : ArePairing board pairing
+  pub net : a < length board.nets
+  pub left : AreLeft board pairing.passes.items a pairing.left
 
 -- the net is in the set and paired with net a
 abbrev pub is_wanted : RawBoard → List ℕ → ℕ → ℕ → Bool
@@ -57,3 +57,7 @@ IsUsefulPair board pair = IsUsefulDriver board pair.0 × IsUsefulDriver board pa
 -- the tested drivers of net a and those of another net, for each net from b on in order
 abbrev pub pairs_from : RawBoard → ℕ → ℕ → List (List Drive × List Drive)
 pairs_from board a b = map (λ others. (drivers_at board a, others)) (drop b (drivers_by_net board))
+
+-- the passes, with one more for the two nets where they are paired and none of them shows both
+abbrev pub observing : RawBoard → List (List Ctl) → List Drive × List Drive → List (List Ctl)
+observing board = add_for_nets board (useful_controls board)

@@ -6,13 +6,11 @@ use Rattle.board_defs.specs.declared.board.RawBoard.{RawBoard}
 use Rattle.board_defs.specs.declared.board.Drive.{Drive}
 use Rattle.board_defs.specs.declared.board.Drive.TheVariants.{By}
 use Rattle.board_defs.specs.Settings.{holds}
-use Rattle.board_defs.specs.Passes.{is_enabled, useful_controls}
+use Rattle.board_defs.specs.Passes.{add_for_driver, is_enabled, useful_controls}
 use Rattle.driver_passes.specs.declared.drivers.Progress.{Progress}
 use Rattle.driver_passes.specs.inner.NumberSets.{is_in}
 use Rattle.driver_passes.specs.Useful.{HoldUseful}
 use Rattle.driver_passes.specs.inner.Shown.{AreRows, drivers_at}
-use Rattle.driver_passes.specs.inner.Sharers.{AreSharers}
-use Rattle.driver_passes.specs.inner.Tested.{AreTestedNets}
 
 -- some pass holds the control
 abbrev pub is_held : List (List Ctl) → Ctl → Bool
@@ -23,13 +21,11 @@ pub record AreHeld (board : RawBoard) (passes : List (List Ctl)) (held : List �
   pub held_length : length held ≡ length (useful_controls board) / 64 + 1
   pub held_are : (i : ℕ) (c : Ctl) → slice_get (useful_controls board) i ≡ Some c → is_in held i ≡ is_held passes c
 
--- the set and the rows are those of the passes so far, which hold useful controls only; the tested nets and the sharers are the board's
+-- the set and the rows are those of the passes so far, which hold useful controls only
 pub record IsProgress (board : RawBoard) (progress : Progress) : Type 0 where
   pub held : AreHeld board progress.passes.items progress.held
   pub useful : HoldUseful board progress.passes.items
   pub rows : AreRows board progress.passes.items progress.rows.items
-  pub tested_nets : AreTestedNets board progress.tested_nets
-  pub sharers : AreSharers board progress.sharers.items
 
 -- the driver's control, where it has one, is useful
 abbrev pub IsUsefulDriver : RawBoard → Drive → Type 0
@@ -38,3 +34,7 @@ IsUsefulDriver board d = (c : Ctl) → d ≡ By c → holds (useful_controls boa
 -- each tested driver is enabled by some pass
 abbrev pub EnableTested : RawBoard → List (List Ctl) → Type 0
 EnableTested board passes = (n : ℕ) (d : Drive) → n < length board.nets → Contains (drivers_at board n) d → list_any (λ pass. is_enabled pass d) passes ≡ true
+
+-- the passes, with one more for the driver where none of them enables it
+abbrev pub enabling : RawBoard → List (List Ctl) → Drive → List (List Ctl)
+enabling board = add_for_driver board (useful_controls board)

@@ -1,13 +1,16 @@
 -- Which useful controls share each net with another control.
-use Rattle.std.specs.Prelude.{◌≡◌, ◌&&◌, ℕ, Bool, List, [], length, ltb, Some, slice_get, slice_index_or}
+use Rattle.std.specs.Prelude.{◌≡◌, ◌&&◌, ℕ, Bool, false, List, [], length, ltb, Some, slice_get, slice_index_or}
 use Rattle.std.specs.List.{list_any}
 use Rattle.board_defs.specs.declared.board.Ctl.{Ctl}
 use Rattle.board_defs.specs.declared.board.RawBoard.{RawBoard}
+use Rattle.board_defs.specs.Decided.{are_together}
+use Rattle.board_defs.specs.Settings.{same_ctl}
 use Rattle.board_defs.specs.Passes.{useful_controls}
 use Rattle.net_facts.specs.Kept.{shared_nets}
 use Rattle.driver_passes.specs.declared.blocks.Block.{Block}
 use Rattle.driver_passes.specs.inner.Blocks.{has_place}
 use Rattle.driver_passes.specs.inner.Drafts.{has_number}
+use Rattle.driver_passes.specs.inner.NumberSets.{is_in}
 
 -- the lists, one for each net, have of the places below this one those of the useful controls that share the net
 pub record AreSharersBelow (board : RawBoard) (most : ℕ) (sharers : List (List ℕ)) : Type 0 where
@@ -21,3 +24,7 @@ AreSharers board sharers = (place : ℕ) (c : Ctl) → slice_get (useful_control
 -- the place is in the set of some of these nets
 abbrev pub is_listed : List (List Block) → List ℕ → ℕ → Bool
 is_listed sharers nets place = list_any (λ n. has_place (slice_index_or sharers n []) place) nets
+
+-- of the places of the other useful controls, the set keeps those of controls that are together with c
+abbrev pub LosesApart : RawBoard → Ctl → List ℕ → List ℕ → Type 0
+LosesApart board c before after = (q : ℕ) (e : Ctl) → slice_get (useful_controls board) q ≡ Some e → same_ctl e c ≡ false → is_in after q ≡ (is_in before q && are_together board e c)

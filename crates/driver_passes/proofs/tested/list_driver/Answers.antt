@@ -1,11 +1,9 @@
-use Rattle.std.proofs.Common.{◌≡◌, ◌<◌, ◌∙◌, ◌++◌, ◌∷◌, [], Some, length, ap, sym, subst, arith, false}
+use Rattle.std.proofs.Common.{◌<◌, ◌∙◌, ◌++◌, ◌∷◌, [], Some, length, ap, sym, subst, arith}
 use Rattle.std.specs.Prelude.{slice_set}
-use Rattle.std.specs.Prelude.{slice_get}
 use Rattle.std.proofs.lemmas.List.{get_or_default}
 use Rattle.std.proofs.lemmas.Option.{slice_get_within}
 use Rattle.board_defs.specs.declared.board.Drive.{Drive}
 use Rattle.board_defs.specs.Decided.{is_by}
-use Rattle.board_defs.specs.Settings.{holds}
 use Rattle.board_defs.specs.Passes.{useful_controls}
 use Rattle.driver_passes.specs.inner.Tested.{AreNoted}
 use Rattle.driver_passes.proofs.TestedLemmas.{not_held, not_noted, noted}
@@ -17,14 +15,11 @@ returns-in_ok-push c =
     let lists = c.args.lists.now in
     let q = c.in-Some.place in
     let net = c.args.net in
-    let size : length lists ≡ length (useful_controls board) = c.requires.size ∙ ap length c.requires.useful in
-    let at : slice_get (useful_controls board) q ≡ Some c.in-By.c = ap (λ v. slice_get v q) (sym c.requires.useful) ∙ c.in-Some.ensures in
-    let within : q < length lists = omega (arith, size, slice_get_within (useful_controls board) q c.in-By.c at) in
+    let within : q < length lists = omega (arith, c.requires, slice_get_within (useful_controls board) q c.in-By.c c.in-Some.ensures) in
     let P : Drive → Type 0 = λ v. AreNoted board net (λ e. is_by e (Some v)) lists (slice_set lists q c.push.new.self) in
-    subst P (sym c.in-By.is) (noted board lists net q c.in-By.c c.push.new.self (c.passes_kept.ensures board c.raw-rules.ensures.rules).said.useful_in_order size at (c.in_ok-push.ensures ∙ ap (λ v. v ++ net ∷ []) (get_or_default lists q c.index-lists-place.result [] within)))
+    subst P (sym c.in-By.is) (noted board lists net q c.in-By.c c.push.new.self c.laws.ensures.passes.said.useful_in_order c.requires c.in-Some.ensures (c.in_ok-push.ensures ∙ ap (λ v. v ++ net ∷ []) (get_or_default lists q c.index-lists-place.result [] within)))
 
 pub returns-in_default-place_of : goal.returns-in_default-place_of
 returns-in_default-place_of c =
     let board = c.args.board.now in
-    let none : holds (useful_controls board) c.in-By.c ≡ false = ap (λ v. holds v c.in-By.c) (sym c.requires.useful) ∙ c.in_default-place_of.ensures in
-    not_noted board c.args.lists.now c.args.net (λ e. is_by e (Some c.args.d)) (λ place e at. ap (λ d. is_by e (Some d)) c.in-By.is ∙ not_held (useful_controls board) place e c.in-By.c none at)
+    not_noted board c.args.lists.now c.args.net (λ e. is_by e (Some c.args.d)) (λ place e at. ap (λ d. is_by e (Some d)) c.in-By.is ∙ not_held (useful_controls board) place e c.in-By.c c.in_default-place_of.ensures at)

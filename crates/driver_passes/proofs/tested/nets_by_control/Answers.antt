@@ -9,9 +9,9 @@ loop-net-preserved c =
     let board = c.args.board.now in
     let before = c.loop-net.lists in
     let after : List (List ℕ) = c.list_drivers.new.lists in
-    let drivers = c.drivers_of-drivers.result.now in
+    let drivers = c.tested_drivers.result.now in
     let size : length after ≡ before.len = c.list_drivers.auto.lists ∙ c.deref_mut.ensures.len in
     let kept = with_items_is before c.list_drivers.new.lists size in
     let P : List (List ℕ) → Type 0 = λ v. AreListed board (c.loop-net.net + 1) v in
     let Q : List (List ℕ) → Type 0 = λ v. AreNoted board c.loop-net.net (λ d. drives d drivers) v after in
-    subst P (sym kept) (listed_more board c.loop-net.net before.items after drivers c.loop-net.invariant (c.list_drivers.auto.lists ∙ ap length c.deref_mut.ensures.value) c.drivers_of-drivers.ensures.drivers (subst Q c.deref_mut.ensures.value c.in_ok-list_drivers.ensures))
+    subst P (sym kept) (listed_more board c.loop-net.net before.items after drivers c.loop-net.invariant (c.list_drivers.auto.lists ∙ ap length c.deref_mut.ensures.value) c.tested_drivers.ensures.drivers (subst Q c.deref_mut.ensures.value c.in_ok-list_drivers.ensures))

@@ -1,25 +1,31 @@
-use Rattle.std.proofs.Common.{◌∙◌, ◌&&◌, not, ap, arith}
+use Rattle.std.proofs.Common.{◌∙◌, ap, arith}
+use Rattle.std.specs.Prelude.{slice_get}
 use Rattle.std.proofs.lemmas.Option.{slice_get_within}
 use Rattle.board_defs.specs.Passes.{useful_controls}
-use Rattle.driver_passes.specs.declared.draft.Draft.{Draft}
-use Rattle.driver_passes.specs.inner.Sharers.{is_listed}
-use Rattle.driver_passes.proofs.DraftLemmas.{added_setting, added_draft}
+use Rattle.driver_passes.specs.inner.Drafts.{drafted, with_control}
+use Rattle.driver_passes.proofs.DraftLemmas.{added_draft, added_setting}
+use Rattle.driver_passes.proofs.FitLemmas.{holds_at}
 use Rattle.driver_passes.proofs.draft.Draft.add.Goals as goal
 
 pub insert_if-requires : goal.insert_if-requires
-insert_if-requires c = omega (arith, slice_get_within (useful_controls c.args.board.now) c.args.place c.args.c c.requires.stands, c.requires.draft.held_length)
+insert_if-requires c =
+    let board = c.self.inside.board.now in
+    let stands = ap (λ d. slice_get (useful_controls d.board) c.args.place) c.self.view_is ∙ c.requires in
+    omega (arith, slice_get_within (useful_controls board) c.args.place c.args.c stands, c.self.invariant.held_length)
 
-pub returns-clause-draft : goal.returns-clause-draft
-returns-clause-draft c =
-    let board = c.args.board.now in
-    let rules = c.raw-rules.ensures.rules in
-    let after : Draft = record { held = c.insert_if.new.self; free = c.close_sharers.new.free } in
-    added_draft board c.args.self.now after c.args.place c.args.c c.args.sharers.now c.shared_nets.result.now (c.passes_kept.ensures board rules) (c.terms_decided.ensures board rules) c.nets_are_shared.ensures c.requires.sharers c.requires.draft c.requires.stands c.shared_nets.ensures
-    c.insert_if.ensures.room c.insert_if.ensures.numbers (λ q. c.close_sharers.ensures q ∙ ap (λ t. t && not (is_listed c.args.sharers.now c.shared_nets.result.now q)) (c.remove.ensures q))
+pub take_out_apart-requires : goal.take_out_apart-requires
+take_out_apart-requires c =
+    let stands = ap (λ d. slice_get (useful_controls d.board) c.args.place) c.self.view_is ∙ c.requires in
+    holds_at (useful_controls c.self.inside.board.now) c.args.place c.args.c stands
 
-pub returns-clause-added : goal.returns-clause-added
-returns-clause-added c =
-    let board = c.args.board.now in
-    let order = (c.passes_kept.ensures board c.raw-rules.ensures.rules).said.useful_in_order in
-    let after : Draft = record { held = c.insert_if.new.self; free = c.close_sharers.new.free } in
-    added_setting board c.args.self.now after c.args.place c.args.c order c.requires.stands c.insert_if.ensures.numbers
+pub invariant_of-self : goal.invariant_of-self
+invariant_of-self c =
+    let inside = c.self.inside in
+    let stands = ap (λ d. slice_get (useful_controls d.board) c.args.place) c.self.view_is ∙ c.requires in
+    added_draft inside.board.now inside.held inside.free c.insert_if.new.self c.take_out_apart.new.free c.remove.new.self c.args.place c.args.c c.laws.ensures.passes c.self.invariant stands c.insert_if.ensures.room c.insert_if.ensures.numbers c.take_out_apart.ensures c.remove.ensures
+
+pub returns : goal.returns
+returns c =
+    let inside = c.self.inside in
+    let stands = ap (λ d. slice_get (useful_controls d.board) c.args.place) c.self.view_is ∙ c.requires in
+    ap (drafted inside.board.now) (added_setting inside.board.now inside.held c.insert_if.new.self c.args.place c.args.c c.laws.ensures.passes.said.useful_in_order stands c.insert_if.ensures.numbers) ∙ ap (λ d. with_control d c.args.c) c.self.view_is

@@ -1,16 +1,23 @@
-use Rattle.std.proofs.Common.{◌∙◌, ap, sym, subst, List}
+use Rattle.std.proofs.Common.{◌∙◌, List, ap, sym, subst}
 use Rattle.board_defs.specs.declared.board.Ctl.{Ctl}
-use Rattle.board_defs.specs.Settings.{IsInControlOrder}
+use Rattle.board_defs.specs.Settings.{holds, IsInControlOrder}
+use Rattle.board_defs.specs.Coverage.{IsUseful}
 use Rattle.board_defs.specs.Passes.{useful_controls}
-use Rattle.driver_passes.specs.inner.Drafts.{chosen}
+use Rattle.driver_passes.specs.inner.Drafts.{Drafted, chosen}
 use Rattle.driver_passes.specs.inner.NumberSets.{is_in}
 use Rattle.driver_passes.proofs.ChosenLemmas.{chosen_order}
+use Rattle.driver_passes.proofs.UsefulLemmas.{chosen_useful}
 use Rattle.driver_passes.proofs.draft.Draft.setting.Goals as goal
 
 pub of-requires : goal.of-requires
 of-requires c =
-    let board = c.args.board.now in
-    let held = c.args.self.now.held in
-    let order = (c.passes_kept.ensures board c.raw-rules.ensures.rules).said.useful_in_order in
+    let held = c.self.inside.held in
     let P : List Ctl → Type 0 = λ v. IsInControlOrder v in
-    subst P (sym (c.in_ok-controls.ensures ∙ ap (chosen (is_in held) 0) c.requires.useful)) (chosen_order (is_in held) 0 (useful_controls board) order)
+    subst P (sym (c.in_ok-controls.ensures ∙ ap (chosen (is_in held) 0) c.useful.ensures)) (chosen_order (is_in held) 0 (useful_controls c.self.inside.board.now) c.laws.ensures.passes.said.useful_in_order)
+
+pub returns-clause-useful : goal.returns-clause-useful
+returns-clause-useful c = λ e h.
+    let held = c.self.inside.held in
+    let P : Drafted → Type 0 = λ d. IsUseful d.board e in
+    let made = c.of.ensures ∙ c.in_ok-controls.ensures ∙ ap (chosen (is_in held) 0) c.useful.ensures in
+    subst P c.self.view_is (chosen_useful c.self.inside.board.now held e c.laws.ensures.passes (ap (λ v. holds v e) (sym made) ∙ h))

@@ -1,6 +1,6 @@
 use Rattle.std.proofs.Common.{◌≡◌, ◌+◌, ◌*◌, ◌≤◌, length, fold}
-use Rattle.board_defs.specs.Passes.{add_for_nets, pair_passes, drivers_by_net}
-use Rattle.driver_passes.specs.inner.Pairs.{AreDone, ArePairing}
+use Rattle.board_defs.specs.Passes.{drivers_by_net, pair_passes, useful_controls}
+use Rattle.driver_passes.specs.inner.Pairs.{AreDone, ArePairing, observing}
 use Rattle.driver_passes.proofs.PairLemmas.{later_pairs}
 use Rattle.driver_passes.proofs.pairs.Pairing.add_for_all.Given as goal
 
@@ -9,5 +9,5 @@ invariant-loop-a l = record {
   pairing : ArePairing l.board l.self;
   done : AreDone l.board l.self.passes.items l.a;
   few : length l.self.passes.items ≤ 65535 + 16382 * l.a;
-  rest : fold (add_for_nets l.board l.useful) l.self.passes.items (later_pairs l.board l.a) ≡ pair_passes l.board l.useful l.initial.self.passes.items (drivers_by_net l.board);
+  rest : fold (observing l.board) l.self.passes.items (later_pairs l.board l.a) ≡ pair_passes l.board (useful_controls l.board) l.initial.self.passes.items (drivers_by_net l.board);
 }

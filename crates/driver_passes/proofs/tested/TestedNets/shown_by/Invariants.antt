@@ -11,8 +11,8 @@ use Rattle.driver_passes.proofs.tested.TestedNets.shown_by.Given as goal
 abbrev pub invariant-loop-place : goal.invariant-loop-place
 invariant-loop-place l = record {
   room : length l.row ≡ length l.board.nets / 64 + 1;
-  held : l.place < l.places → is_in l.pass.held l.place ≡ true;
-  rest : (n : ℕ) → n < length l.board.nets → (is_in l.row n || list_any (λ c. drives c (drivers_at l.board n)) (chosen (is_in l.pass.held) l.place (drop l.place (useful_controls l.board)))) ≡ shows (drivers_at l.board n) (setting_of l.board l.pass);
+  held : l.place < l.places → is_in l.held l.place ≡ true;
+  rest : (n : ℕ) → n < length l.board.nets → (is_in l.row n || list_any (λ c. drives c (drivers_at l.board n)) (chosen (is_in l.held) l.place (drop l.place (useful_controls l.board)))) ≡ shows (drivers_at l.board n) (setting_of l.board l.held);
 }
 
 abbrev pub decreases-loop-place : goal.decreases-loop-place

@@ -1,0 +1,11 @@
+use Rattle.std.proofs.Common.{◌≡◌, ◌-◌, length}
+use Rattle.board_defs.specs.Passes.{useful_controls}
+use Rattle.driver_passes.specs.inner.Walks.{second_walked}
+use Rattle.driver_passes.proofs.draft.Draft.second_walk.Given as goal
+
+-- what the walk over the rest makes is what the whole walk makes
+abbrev pub invariant-loop-place : goal.invariant-loop-place
+invariant-loop-place l = (l.self.board ≡ l.initial.self.board) × (second_walked l.self l.place ≡ second_walked l.initial.self 0)
+
+abbrev pub decreases-loop-place : goal.decreases-loop-place
+decreases-loop-place l = length (useful_controls l.initial.self.board) - l.place

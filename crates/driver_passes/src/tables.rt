@@ -1,0 +1,152 @@
+// A board with the tables that its passes are made by.
+ghost use Rattle.std.specs.Prelude.{◌≡◌, ◌<◌, ◌≤◌, ℕ, false, true, length, slice_get, All, IfOk, IfSome, MatchOption, Some};
+ghost use Rattle.board_defs.specs.BoardRules.{IsBoard};
+ghost use Rattle.board_defs.specs.Laws.{PassesAre};
+ghost use Rattle.board_defs.specs.Passes.{first_pair, useful_controls};
+ghost use Rattle.board_defs.specs.Settings.{holds};
+ghost use Rattle.driver_passes.specs.inner.Drafts.{setting_of};
+ghost use Rattle.driver_passes.specs.inner.NumberSets.{IsFirst};
+ghost use Rattle.driver_passes.specs.inner.Pairs.{IsUsefulPair, is_wanted};
+ghost use Rattle.driver_passes.specs.inner.Progress.{IsUsefulDriver};
+ghost use Rattle.driver_passes.specs.inner.Sharers.{LosesApart};
+ghost use Rattle.driver_passes.specs.inner.Shown.{AreShownBy, drivers_at};
+
+use crate::alike::likes_of;
+use crate::blocks::Blocks;
+use crate::classed::ClassedBoard;
+use crate::number_set::NumberSet;
+use crate::sharers::{close_sharers, sharers_of};
+use crate::tested::TestedNets;
+use board_defs::{Ctl, Drive};
+use net_classes::law::nets_are_shared;
+use std::alloc::{AllocError, Global};
+use std::marker::Model;
+
+/// A board with its classes and the tables that its passes are made by, seen as the board.
+#[derive(Drop)]
+pub struct BoardTables<'a> {
+    classed: ClassedBoard<'a>,
+    /// For each net, the places of the useful controls that share it with another control.
+    sharers: Vec<Blocks>,
+    tested_nets: TestedNets,
+    /// For each net, an earlier one with the same tested drivers, or the net itself.
+    likes: Vec<u32>,
+}
+
+impl<'a> Model for BoardTables<'a> {
+    ghost use Rattle.board_defs.specs.declared.board.RawBoard.{RawBoard};
+    ghost use Rattle.driver_passes.specs.inner.Alike.{AreAlike};
+    ghost use Rattle.driver_passes.specs.inner.Sharers.{AreSharers};
+    ghost use Rattle.driver_passes.specs.inner.Tested.{AreTestedNets};
+
+    ghost Value = { RawBoard };
+
+    ghost view = { λ a. a.classed };
+
+    ghost invariant = { λ a. AreSharers a.classed a.sharers.items × AreTestedNets a.classed a.tested_nets × AreAlike a.classed a.likes.items };
+}
+
+impl<'a> BoardTables<'a> {
+    /// The board with its tables.
+    pub fn new(alloc: Global, classed: ClassedBoard<'a>) -> Result<BoardTables<'a>, AllocError>
+        ensures { IfOk result (λ tables. tables ≡ classed.entry) }
+    {
+        let sharers = sharers_of(alloc, &classed)?;
+        let tested_nets = TestedNets::new(alloc, &classed)?;
+        let likes = likes_of(alloc, &classed)?;
+        Ok(BoardTables {
+            classed,
+            sharers,
+            tested_nets,
+            likes,
+        })
+    }
+
+    /// Does nothing: its clauses are what the laws of boards say of this one.
+    pub fn laws(&self)
+        ensures rules { IsBoard self.now }
+        ensures passes { PassesAre self.now }
+    {
+        self.classed.laws();
+    }
+
+    /// How many nets the board has.
+    pub fn nets(&self) -> usize
+        ensures count { result ≡ length self.now.nets }
+        ensures few { result ≤ 16382 }
+    {
+        self.classed.nets()
+    }
+
+    /// The useful controls, in control order.
+    pub fn useful(&self) -> &[Ctl]
+        ensures { result.now ≡ useful_controls self.now }
+    {
+        self.classed.useful()
+    }
+
+    /// Where the control stands among the useful controls.
+    pub fn place_of(&self, c: Ctl) -> Option<usize>
+        ensures { MatchOption result (holds (useful_controls self.now) c ≡ false)
+            (λ i. slice_get (useful_controls self.now) i ≡ Some c) }
+    {
+        self.classed.place_of(c)
+    }
+
+    /// How the tested drivers of the net are enabled, in pin order.
+    pub fn tested_drivers(&self, net: usize) -> &[Drive]
+        requires { net < length self.now.nets }
+        ensures drivers { result.now ≡ drivers_at self.now net }
+        ensures useful { All (IsUsefulDriver self.now) result.now }
+    {
+        self.classed.tested_drivers(net)
+    }
+
+    /// The first tested drivers of two nets that one safe setting enables.
+    pub fn first_pair(&self, a: usize, b: usize) -> Option<(Drive, Drive)>
+        requires first { a < length self.now.nets }
+        requires second { b < length self.now.nets }
+        ensures found { result ≡ first_pair self.now (drivers_at self.now a) (drivers_at self.now b) }
+        ensures useful { IfSome result (λ pair. IsUsefulPair self.now pair) }
+    {
+        self.classed.first_pair(a, b)
+    }
+
+    /// The first net of the set, from this net on, that is paired with net `a`.
+    pub fn next_wanted(&self, left: &NumberSet, a: usize, from: usize) -> Option<usize>
+        requires { a < length self.now.nets }
+        ensures next { MatchOption result
+            ((n : ℕ) → from ≤ n → n < length self.now.nets → is_wanted self.now left.now a n ≡ false)
+            (λ b. IsFirst (is_wanted self.now left.now a) from b) }
+        ensures within { IfSome result (λ b. b < length self.now.nets) }
+    {
+        self.classed.next_wanted(left, a, from)
+    }
+
+    /// An earlier net with the same tested drivers, or the net itself.
+    pub fn like_of(&self, net: usize) -> usize
+        requires { net < length self.now.nets }
+        ensures within { result ≤ net }
+        ensures alike { drivers_at self.now result ≡ drivers_at self.now net }
+    {
+        self.likes[net] as usize
+    }
+
+    /// Takes out the places of the other useful controls that are not together with this one.
+    /// Whether its own place stays is not said.
+    pub fn take_out_apart(&self, free: &mut NumberSet, c: Ctl)
+        requires { holds (useful_controls self.now) c ≡ true }
+        ensures { LosesApart self.now c free.old free.new }
+    {
+        nets_are_shared();
+        self.classed.laws();
+        close_sharers(free, &self.sharers, self.classed.shared_nets(c));
+    }
+
+    /// The nets that the pass shows which holds the useful controls at these places.
+    pub fn shown_by(&self, alloc: Global, held: &NumberSet) -> Result<NumberSet, AllocError>
+        ensures { IfOk result (λ row. AreShownBy self.now (setting_of self.now held.now) row) }
+    {
+        self.tested_nets.shown_by(alloc, &self.classed, held)
+    }
+}
