@@ -1,8 +1,8 @@
 -- Sets of places, as blocks of those that have one word.
-use Rattle.std.proofs.Common.{◌≡◌, ◌⊎◌, inl, inr, ℕ, ◌*◌, ◌/◌, ◌%◌, ◌^◌, Bool, ◌&&◌, ◌||◌, List, [], ◌∷◌, ◌++◌, ap, bit_or, false, sym, ◌∙◌}
+use Rattle.std.proofs.Common.{◌≡◌, ◌⊎◌, inl, inr, ℕ, ◌+◌, ◌*◌, ◌/◌, ◌%◌, ◌^◌, ◌<◌, Bool, ◌&&◌, ◌||◌, List, [], ◌∷◌, ◌++◌, ap, bit_or, false, ltb, sym, ◌∙◌, arith}
 use Rattle.std.specs.Prelude.{◌==◌}
 use Rattle.std.proofs.Math.Bool.{and-false, and-or_distrib_left, or_comm, or-false}
-use Rattle.std.proofs.lemmas.Bool.{cases_eq, eq-eqb, ne_eqb}
+use Rattle.std.proofs.lemmas.Bool.{cases_eq, cases_order, eq-eqb, le-ltb, lt-ltb, ne_eqb}
 use Rattle.std.proofs.lemmas.List.Folds.{list_any-append}
 use Rattle.driver_passes.specs.declared.blocks.Block.{Block}
 use Rattle.driver_passes.specs.inner.Blocks.{block_has, has_place}
@@ -15,6 +15,16 @@ same_place a b = by_case (cases_eq a b)
     by_case : (a ≡ b) ⊎ (a ≡ b → ⊥) → (a == b) ≡ (b == a)
     by_case (inl e) = eq-eqb a b e ∙ sym (eq-eqb b a (sym e))
     by_case (inr differ) = ne_eqb a b differ ∙ sym (ne_eqb b a (λ e. differ (sym e)))
+
+-- the numbers below k with a property, and k where it has it
+pub below_more : (p : ℕ → Bool) (k n : ℕ) → ((n == k && p k) || (ltb n k && p n)) ≡ (ltb n (k + 1) && p n)
+below_more p k n = by_order (cases_order n k)
+  where
+    by_order : (n ≡ k) ⊎ ((n < k) ⊎ (k < n)) → ((n == k && p k) || (ltb n k && p n)) ≡ (ltb n (k + 1) && p n)
+    by_order (inl same) =
+        ap (λ t. (t && p k) || (ltb n k && p n)) (eq-eqb n k same) ∙ ap (λ t. p k || (t && p n)) (le-ltb n k (omega (arith, same))) ∙ or-false (p k) ∙ ap p (sym same) ∙ sym (ap (λ t. t && p n) (lt-ltb n (k + 1) (omega (arith, same))))
+    by_order (inr (inl less)) = ap (λ t. (t && p k) || (ltb n k && p n)) (ne_eqb n k (λ e. omega (arith, e, less))) ∙ ap (λ t. t && p n) (lt-ltb n k less ∙ sym (lt-ltb n (k + 1) (omega (arith, less))))
+    by_order (inr (inr more)) = ap (λ t. (t && p k) || (ltb n k && p n)) (ne_eqb n k (λ e. omega (arith, e, more))) ∙ ap (λ t. t && p n) (le-ltb n k (omega (arith, more)) ∙ sym (le-ltb n (k + 1) (omega (arith, more))))
 
 pub one_place : (place q : ℕ) → is_of_word (place / 64) (1 * 2 ^ (place % 64) % 2 ^ 64) q ≡ (place == q)
 one_place place q = one_number place q ∙ same_place q place

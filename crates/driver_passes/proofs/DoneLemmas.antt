@@ -98,19 +98,16 @@ skipped_to board useful passes a b c least most done =
     sym (ap (λ n. fold (add_for_nets board useful) passes (pairs_from board a n)) all) ∙ skipped board useful passes a b (c - b) (omega (arith, all, most)) (λ n from below. done n from (omega (arith, below, all)))
 
 -- the nets that are shown together with net a, or not paired with it
-pub unwanted : (board : RawBoard) (passes : List (List Ctl)) (left : List ℕ) (a n : ℕ) → PairsHaveDrivers → AreLeft board passes a left → a ≤ n → n < length board.nets → is_wanted board left a n ≡ false → IsDone board passes a n
-unwanted board passes left a n law are from within e = by_part (and_cases (is_in left n) (pairs_with board a n) e)
+pub none_wanted : (board : RawBoard) (passes : List (List Ctl)) (left : List ℕ) (a from b : ℕ) → PairsHaveDrivers → AreLeft board passes a left → a < from → b ≤ length board.nets → ((n : ℕ) → from ≤ n → n < b → is_wanted board left a n ≡ false) → (n : ℕ) → from ≤ n → n < b → IsDone board passes a n
+none_wanted board passes left a from b law are later most none n least below = by_part (and_cases (is_in left n) (pairs_with board a n) (none n least below))
   where
     by_found : (found : Option (Drive × Drive)) → is_some found ≡ false → found ≡ None
     by_found None h = refl
     by_found (Some pair) h = cc h
 
     by_part : (is_in left n ≡ false) ⊎ (pairs_with board a n ≡ false) → IsDone board passes a n
-    by_part (inl shown) = inl (not-false (are_shown passes (drivers_at board a) (drivers_at board n)) (sym (are n from within) ∙ shown))
+    by_part (inl shown) = inl (not-false (are_shown passes (drivers_at board a) (drivers_at board n)) (sym (are n (omega (arith, least, later)) (omega (arith, below, most))) ∙ shown))
     by_part (inr apart) = inr (by_found (first_pair board (drivers_at board a) (drivers_at board n)) (sym (law board a n) ∙ apart))
-
-pub none_wanted : (board : RawBoard) (passes : List (List Ctl)) (left : List ℕ) (a from b : ℕ) → PairsHaveDrivers → AreLeft board passes a left → a < from → b ≤ length board.nets → ((n : ℕ) → from ≤ n → n < b → is_wanted board left a n ≡ false) → (n : ℕ) → from ≤ n → n < b → IsDone board passes a n
-none_wanted board passes left a from b law are later most none n least below = unwanted board passes left a n law are (omega (arith, least, later)) (omega (arith, below, most)) (none n least below)
 
 -- the nets that no pass shows together with net a
 pub unshown : (board : RawBoard) (passes : List (List Ctl)) (left : List ℕ) (a n : ℕ) → AreLeft board passes a left → a ≤ n → n < length board.nets → is_wanted board left a n ≡ true → are_shown passes (drivers_at board a) (drivers_at board n) ≡ false

@@ -12,15 +12,17 @@ use Rattle.board_defs.specs.declared.board.Net.{Net}
 use Rattle.board_defs.specs.declared.board.Ctl.{Ctl}
 use Rattle.board_defs.specs.declared.board.RawBoard.{RawBoard}
 use Rattle.board_defs.specs.declared.board.Drive.{Drive}
-use Rattle.board_defs.specs.Pins.{guarded, receives}
+use Rattle.board_defs.specs.Pins.{IsCell, guarded, receives}
 use Rattle.board_defs.specs.Settings.{holds, just, IsSafe}
 use Rattle.board_defs.specs.Decided.{any_other, can_enable, drive_in, place_drive, is_tested_driver}
 use Rattle.board_defs.specs.Coverage.{IsUseful}
 use Rattle.board_defs.specs.Passes.{drivers_by_net, tested_drivers, tested_drive, useful_controls, add_for_driver, driver_pass, is_enabled}
 use Rattle.board_defs.specs.Laws.{PassesAre, DecidesTerms, HasTestedDriver}
+use Rattle.net_classes.specs.inner.Pairs.{IsByCell}
 use Rattle.driver_passes.specs.inner.Progress.{AreHeld, IsUsefulDriver, is_held}
 use Rattle.driver_passes.specs.inner.Shown.{drivers_at}
 use Rattle.driver_passes.specs.inner.NumberSets.{is_in}
+use Rattle.driver_passes.proofs.ControlLemmas.{holds_of}
 
 -- one pass more
 pub held_more : (board : RawBoard) (passes after : List (List Ctl)) (pass : List Ctl) (held joined : List ℕ) → AreHeld board passes held → length joined ≡ length held → ((i : ℕ) (c : Ctl) → slice_get (useful_controls board) i ≡ Some c → is_in joined i ≡ (holds pass c || is_in held i)) → after ≡ passes ++ pass ∷ [] → AreHeld board after joined
@@ -73,6 +75,9 @@ tested_useful board n net drivers are decides e f k d less c by = (are.said.usef
 
         safe : IsSafe board (just c)
         safe = (decides.safe c).0 (sym (ap (can_enable board) (ap (drive_in board net) has.stands.in_net ∙ has.drives ∙ ap Some by)) ∙ enables)
+
+pub useful_by_cell : (board now : RawBoard) (d : Drive) → board ≡ now → All (IsCell board) (useful_controls board) → IsUsefulDriver now d → IsByCell board d
+useful_by_cell board now d e cells useful c by = holds_of (IsCell board) (useful_controls board) c cells (ap (λ b. holds (useful_controls b) c) e ∙ useful c by)
 
 pub passes_whole : (board : RawBoard) (useful : List Ctl) (passes : List (List Ctl)) (n : ℕ) → length board.nets ≤ n → passes ≡ fold (add_for_driver board useful) [] (flat_map (λ drivers. drivers) (take n (drivers_by_net board))) → passes ≡ fold (add_for_driver board useful) [] (flat_map (λ drivers. drivers) (drivers_by_net board))
 passes_whole board useful passes n most e =

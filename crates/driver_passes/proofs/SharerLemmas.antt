@@ -2,10 +2,9 @@
 use Rattle.std.proofs.Common.{◌≡◌, ◌⊎◌, inl, inr, ℕ, zero, suc, ◌+◌, ◌≤◌, ◌<◌, Bool, true, false, ◌&&◌, ◌||◌, List, [], ◌∷◌, ◌++◌, length, get_or, replicate, Some, refl, sym, ◌∙◌, ap, subst, arith, cond, ltb}
 use Rattle.std.specs.Prelude.{◌==◌, slice_get, All, filter}
 use Rattle.std.specs.List.{range_with_len}
-use Rattle.std.proofs.Math.Bool.{or-false}
 use Rattle.std.proofs.lemmas.List.Elements.{All-filter}
 use Rattle.std.proofs.lemmas.List.FromFn.{get_or-range_with_len, length-range_with_len}
-use Rattle.std.proofs.lemmas.Bool.{cases_order, eq-eqb, lt-ltb, le-ltb, ne_eqb}
+use Rattle.std.proofs.lemmas.Bool.{cases_eq, lt-ltb, le-ltb, ne_eqb}
 use Rattle.std.proofs.lemmas.List.{length-replicate}
 use Rattle.std.proofs.lemmas.Option.{slice_get_within}
 use Rattle.board_defs.specs.declared.board.Ctl.{Ctl}
@@ -16,6 +15,7 @@ use Rattle.driver_passes.specs.inner.Drafts.{has_number}
 use Rattle.driver_passes.specs.declared.blocks.Block.{Block}
 use Rattle.driver_passes.specs.inner.Blocks.{has_place}
 use Rattle.driver_passes.specs.inner.Sharers.{AreSharers, AreSharersBelow}
+use Rattle.driver_passes.proofs.BlockLemmas.{below_more}
 use Rattle.driver_passes.proofs.NumberSetLemmas.{blank_item}
 
 -- the lists have the place too where the net passes, and else what they had before
@@ -42,19 +42,15 @@ no_sharers board sharers e = record {
 pub sharers_more : (board : RawBoard) (k : ℕ) (d : Ctl) (nets : List ℕ) (before after : List (List ℕ)) → AreSharersBelow board k before → slice_get (useful_controls board) k ≡ Some d → nets ≡ shared_nets board d → length after ≡ length before → AreMarked k nets before after → AreSharersBelow board (k + 1) after
 sharers_more board k d nets before after are stands is size marked = record {
   sharers_length = size ∙ are.sharers_length;
-  sharers_are = λ place c at n. marked n place ∙ ap (λ t. (place == k && has_number nets n) || t) (are.sharers_are place c at n) ∙ by_place place c n at (cases_order place k);
+  sharers_are = λ place c at n. marked n place ∙ ap (λ t. (place == k && has_number nets n) || t) (are.sharers_are place c at n) ∙ ap (λ t. t || (ltb place k && has_number (shared_nets board c) n)) (same place c n at (cases_eq place k)) ∙ below_more (λ m. has_number (shared_nets board c) n) k place;
 }
   where
-    by_place : (place : ℕ) (c : Ctl) (n : ℕ) → slice_get (useful_controls board) place ≡ Some c → (place ≡ k) ⊎ ((place < k) ⊎ (k < place)) → ((place == k && has_number nets n) || (ltb place k && has_number (shared_nets board c) n)) ≡ (ltb place (k + 1) && has_number (shared_nets board c) n)
-    by_place place c n at (inl same) =
-        let one : Some d ≡ Some c = sym stands ∙ ap (slice_get (useful_controls board)) (sym same) ∙ at in
-        let control : d ≡ c = cc one in
-        ap (λ t. (t && has_number nets n) || (ltb place k && has_number (shared_nets board c) n)) (eq-eqb place k same) ∙ ap (λ t. has_number nets n || (t && has_number (shared_nets board c) n)) (le-ltb place k (omega (arith, same))) ∙
-        or-false (has_number nets n) ∙ ap (λ v. has_number v n) (is ∙ ap (shared_nets board) control) ∙ sym (ap (λ t. t && has_number (shared_nets board c) n) (lt-ltb place (k + 1) (omega (arith, same))))
-    by_place place c n at (inr (inl less)) =
-        ap (λ t. (t && has_number nets n) || (ltb place k && has_number (shared_nets board c) n)) (ne_eqb place k (λ e. omega (arith, e, less))) ∙ ap (λ t. t && has_number (shared_nets board c) n) (lt-ltb place k less ∙ sym (lt-ltb place (k + 1) (omega (arith, less))))
-    by_place place c n at (inr (inr more)) =
-        ap (λ t. (t && has_number nets n) || (ltb place k && has_number (shared_nets board c) n)) (ne_eqb place k (λ e. omega (arith, e, more))) ∙ ap (λ t. t && has_number (shared_nets board c) n) (le-ltb place k (omega (arith, more)) ∙ sym (le-ltb place (k + 1) (omega (arith, more))))
+    same : (place : ℕ) (c : Ctl) (n : ℕ) → slice_get (useful_controls board) place ≡ Some c → (place ≡ k) ⊎ (place ≡ k → ⊥) → (place == k && has_number nets n) ≡ (place == k && has_number (shared_nets board c) n)
+    same place c n at (inl one) =
+        let found : Some d ≡ Some c = sym stands ∙ ap (slice_get (useful_controls board)) (sym one) ∙ at in
+        let control : d ≡ c = cc found in
+        ap (λ v. place == k && has_number v n) (is ∙ ap (shared_nets board) control)
+    same place c n at (inr other) = ap (λ t. t && has_number nets n) (ne_eqb place k other) ∙ sym (ap (λ t. t && has_number (shared_nets board c) n) (ne_eqb place k other))
 
 -- the lists as sets
 

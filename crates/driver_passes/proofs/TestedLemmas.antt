@@ -19,7 +19,7 @@ use Rattle.driver_passes.specs.inner.Drafts.{chosen, has_number}
 use Rattle.driver_passes.specs.inner.Tested.{AreListed, AreNoted, drives}
 use Rattle.driver_passes.specs.inner.NumberSets.{is_in}
 use Rattle.driver_passes.specs.inner.Shown.{drivers_at}
-use Rattle.driver_passes.proofs.BlockLemmas.{same_place}
+use Rattle.driver_passes.proofs.BlockLemmas.{below_more, same_place}
 use Rattle.driver_passes.proofs.ChosenLemmas.{chosen_next, chosen_skip}
 use Rattle.driver_passes.proofs.ControlLemmas.{other_place, same_self}
 use Rattle.driver_passes.proofs.ProgressLemmas.{net_there}
@@ -107,17 +107,8 @@ noted_more board start before after net by more one two place c at n = two place
 pub listed_more : (board : RawBoard) (net : ℕ) (before after : List (List ℕ)) (drivers : List Drive) → AreListed board net before → length after ≡ length before → drivers ≡ drivers_at board net → AreNoted board net (λ c. drives c drivers) before after → AreListed board (net + 1) after
 listed_more board net before after drivers are size e noted = record {
   lists_length = size ∙ are.lists_length;
-  lists_are = λ place c at n. noted place c at n ∙ ap (λ t. (n == net && drives c drivers) || t) (are.lists_are place c at n) ∙ ap (λ v. (n == net && drives c v) || (ltb n net && drives c (drivers_at board n))) e ∙ by_net c n (cases_order n net);
+  lists_are = λ place c at n. noted place c at n ∙ ap (λ t. (n == net && drives c drivers) || t) (are.lists_are place c at n) ∙ ap (λ v. (n == net && drives c v) || (ltb n net && drives c (drivers_at board n))) e ∙ below_more (λ m. drives c (drivers_at board m)) net n;
 }
-  where
-    by_net : (c : Ctl) (n : ℕ) → (n ≡ net) ⊎ ((n < net) ⊎ (net < n)) → ((n == net && drives c (drivers_at board net)) || (ltb n net && drives c (drivers_at board n))) ≡ (ltb n (net + 1) && drives c (drivers_at board n))
-    by_net c n (inl same) =
-        ap (λ t. (t && drives c (drivers_at board net)) || (ltb n net && drives c (drivers_at board n))) (eq-eqb n net same) ∙ ap (λ t. drives c (drivers_at board net) || (t && drives c (drivers_at board n))) (le-ltb n net (omega (arith, same))) ∙
-        or-false (drives c (drivers_at board net)) ∙ ap (λ k. drives c (drivers_at board k)) (sym same) ∙ sym (ap (λ t. t && drives c (drivers_at board n)) (lt-ltb n (net + 1) (omega (arith, same))))
-    by_net c n (inr (inl less)) =
-        ap (λ t. (t && drives c (drivers_at board net)) || (ltb n net && drives c (drivers_at board n))) (ne_eqb n net (λ e. omega (arith, e, less))) ∙ ap (λ t. t && drives c (drivers_at board n)) (lt-ltb n net less ∙ sym (lt-ltb n (net + 1) (omega (arith, less))))
-    by_net c n (inr (inr more)) =
-        ap (λ t. (t && drives c (drivers_at board net)) || (ltb n net && drives c (drivers_at board n))) (ne_eqb n net (λ e. omega (arith, e, more))) ∙ ap (λ t. t && drives c (drivers_at board n)) (le-ltb n net (omega (arith, more)) ∙ sym (le-ltb n (net + 1) (omega (arith, more))))
 
 -- one driver more
 pub noted_next : (board : RawBoard) (drivers : List Drive) (i net : ℕ) (start before after : List (List ℕ)) → i < length drivers → AreNoted board net (λ c. drives c (take i drivers)) start before → AreNoted board net (λ c. is_by c (Some (get_or drivers i AlwaysOn))) before after →

@@ -1,13 +1,11 @@
 // A board with its classes.
 ghost use Rattle.std.specs.Prelude.{◌≡◌, ◌<◌, ◌≤◌, false, true, length, slice_get, All, MatchOption, Some};
-ghost use Rattle.board_defs.specs.BoardRules.{IsBoard};
-ghost use Rattle.board_defs.specs.Laws.{DecidesTerms, PassesAre};
 ghost use Rattle.board_defs.specs.Passes.{useful_controls};
 ghost use Rattle.board_defs.specs.Settings.{holds};
 ghost use Rattle.net_facts.specs.Kept.{shared_nets};
 ghost use Rattle.net_classes.specs.Kept.{AreClasses};
 ghost use Rattle.net_classes.specs.Pairs.{fit};
-ghost use Rattle.driver_passes.specs.inner.Progress.{IsUsefulDriver};
+ghost use Rattle.driver_passes.specs.inner.Progress.{IsUsefulDriver, KeepsLaws};
 ghost use Rattle.driver_passes.specs.inner.Shown.{drivers_at};
 
 use crate::places::place_in;
@@ -51,11 +49,9 @@ impl<'a> ClassedBoard<'a> {
         }
     }
 
-    /// Does nothing: its clauses are what the laws of boards say of this one.
+    /// Does nothing: its clause is what the laws of boards say of this one.
     pub fn laws(&self)
-        ensures rules { IsBoard self.now }
-        ensures passes { PassesAre self.now }
-        ensures terms { DecidesTerms self.now }
+        ensures { KeepsLaws self.now }
     {
         law::passes_kept();
         law::terms_decided();

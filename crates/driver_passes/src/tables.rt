@@ -1,17 +1,15 @@
 // A board with the tables that its passes are made by.
 ghost use Rattle.std.specs.Prelude.{◌≡◌, ◌<◌, ◌≤◌, ℕ, false, true, length, slice_get, All, IfOk, IfSome, MatchOption, Some};
-ghost use Rattle.board_defs.specs.BoardRules.{IsBoard};
-ghost use Rattle.board_defs.specs.Laws.{PassesAre};
 ghost use Rattle.board_defs.specs.Passes.{first_pair, useful_controls};
 ghost use Rattle.board_defs.specs.Settings.{holds};
 ghost use Rattle.driver_passes.specs.inner.Drafts.{setting_of};
 ghost use Rattle.driver_passes.specs.inner.NumberSets.{IsFirst};
 ghost use Rattle.driver_passes.specs.inner.Pairs.{IsUsefulPair, is_wanted};
-ghost use Rattle.driver_passes.specs.inner.Progress.{IsUsefulDriver};
+ghost use Rattle.driver_passes.specs.inner.Progress.{IsUsefulDriver, KeepsLaws};
 ghost use Rattle.driver_passes.specs.inner.Sharers.{LosesApart};
 ghost use Rattle.driver_passes.specs.inner.Shown.{AreShownBy, drivers_at};
 
-use crate::alike::likes_of;
+use crate::alike::{likes_of, number_at};
 use crate::blocks::Blocks;
 use crate::classed::ClassedBoard;
 use crate::number_set::NumberSet;
@@ -62,10 +60,9 @@ impl<'a> BoardTables<'a> {
         })
     }
 
-    /// Does nothing: its clauses are what the laws of boards say of this one.
+    /// Does nothing: its clause is what the laws of boards say of this one.
     pub fn laws(&self)
-        ensures rules { IsBoard self.now }
-        ensures passes { PassesAre self.now }
+        ensures { KeepsLaws self.now }
     {
         self.classed.laws();
     }
@@ -129,7 +126,7 @@ impl<'a> BoardTables<'a> {
         ensures within { result ≤ net }
         ensures alike { drivers_at self.now result ≡ drivers_at self.now net }
     {
-        self.likes[net] as usize
+        number_at(&self.likes, net) as usize
     }
 
     /// Takes out the places of the other useful controls that are not together with this one.

@@ -1,20 +1,15 @@
-use Rattle.std.proofs.Common.{◌≡◌, ◌∙◌, sym, subst}
-use Rattle.board_defs.specs.declared.board.RawBoard.{RawBoard}
-use Rattle.board_defs.specs.Passes.{tested_drivers}
-use Rattle.net_classes.specs.inner.Kept.{OfNet}
+use Rattle.std.proofs.Common.{◌∙◌, sym}
 use Rattle.driver_passes.proofs.ProgressLemmas.{net_there, drivers_are, tested_useful}
 use Rattle.driver_passes.proofs.classed.ClassedBoard.tested_drivers.Goals as goal
 
 pub returns-clause-drivers : goal.returns-clause-drivers
 returns-clause-drivers c =
     let board = c.args.self.now in
-    let P : RawBoard → Type 0 = λ b. OfNet b c.args.net (λ found. c.tested_drivers.result.now ≡ tested_drivers b found) in
     let net = net_there board.nets c.args.net c.requires in
-    subst P c.self.view_is c.tested_drivers.ensures.drivers net.0 net.1 ∙ sym (drivers_are board c.args.net net.0 net.1)
+    (rw c.self.view_is at c.tested_drivers.ensures.drivers) net.0 net.1 ∙ sym (drivers_are board c.args.net net.0 net.1)
 
 pub returns-clause-useful : goal.returns-clause-useful
 returns-clause-useful c =
     let board = c.args.self.now in
-    let P : RawBoard → Type 0 = λ b. OfNet b c.args.net (λ found. c.tested_drivers.result.now ≡ tested_drivers b found) in
     let net = net_there board.nets c.args.net c.requires in
-    tested_useful board c.args.net net.0 c.tested_drivers.result.now c.laws.ensures.passes c.laws.ensures.terms net.1 (subst P c.self.view_is c.tested_drivers.ensures.drivers net.0 net.1)
+    tested_useful board c.args.net net.0 c.tested_drivers.result.now c.laws.ensures.passes c.laws.ensures.terms net.1 ((rw c.self.view_is at c.tested_drivers.ensures.drivers) net.0 net.1)

@@ -1,6 +1,5 @@
-use Rattle.std.proofs.Common.{◌/◌, subst}
-use Rattle.board_defs.specs.declared.board.RawBoard.{RawBoard}
-use Rattle.net_classes.specs.Pairs.{AreBitsOf, pairs_with}
+use Rattle.std.proofs.Common.{◌/◌, sym}
+use Rattle.net_classes.specs.Pairs.{pairs_with}
 use Rattle.driver_passes.specs.inner.NumberSets.{is_in}
 use Rattle.driver_passes.proofs.NumberSetLemmas.{and_bits, no_bits}
 use Rattle.driver_passes.proofs.classed.ClassedBoard.wanted_word.Goals as goal
@@ -10,6 +9,4 @@ returns-then-word-eq0 c = no_bits (is_in c.args.left.now) (pairs_with c.args.sel
 
 pub returns : goal.returns
 returns c =
-    let number = c.args.net / 64 in
-    let P : RawBoard → Type 0 = λ b. AreBitsOf (pairs_with b c.args.a) number c.paired_word-paired.result in
-    and_bits (is_in c.args.left.now) (pairs_with c.args.self.now c.args.a) number c.word-word.result c.paired_word-paired.result c.word-word.ensures.bits (subst P c.self.view_is c.paired_word-paired.ensures)
+    rw (sym c.self.view_is) (and_bits (is_in c.args.left.now) (pairs_with c.self.inside.board.now c.args.a) (c.args.net / 64) c.word-word.result c.paired_word-paired.result c.word-word.ensures.bits c.paired_word-paired.ensures)

@@ -1,10 +1,8 @@
-use Rattle.std.proofs.Common.{◌≡◌, ◌<◌, ◌+◌, ◌∙◌, ap, get_or, length, sym, subst, arith}
+use Rattle.std.proofs.Common.{◌<◌, ◌∙◌, ap, get_or, length, sym, arith}
 use Rattle.std.specs.Prelude.{slice_get}
 use Rattle.std.proofs.lemmas.Option.{slice_get-get_or}
 use Rattle.board_defs.specs.declared.board.Ctl.{Ctl}
-use Rattle.driver_passes.specs.inner.Drafts.{Drafted, drafted, with_control}
-use Rattle.driver_passes.specs.inner.Progress.{IsProgress}
-use Rattle.driver_passes.specs.inner.Walks.{first_walked}
+use Rattle.driver_passes.specs.inner.Drafts.{drafted}
 use Rattle.driver_passes.proofs.WalkLemmas.{first_adds, first_passes}
 use Rattle.driver_passes.proofs.draft.Draft.add_new.Goals as goal
 
@@ -14,9 +12,8 @@ returns-then-useful-place-clause-step c =
     let board = inside.board.now in
     let earlier = c.args.earlier.now in
     let place = c.first_outside-place.result in
-    let known : IsProgress board earlier = subst (λ (d : Drafted). IsProgress d.board earlier) (sym c.self.view_is) c.requires.earlier in
-    let P : Drafted → Type 0 = λ d. first_walked d place earlier.passes.items ≡ first_walked d c.args.from earlier.passes.items in
-    subst P c.self.view_is (ap (drafted board) (sym (first_passes board inside.held inside.free earlier.passes.items earlier.held c.args.from place c.laws.ensures.passes c.self.invariant known.held c.first_outside-place.ensures.further c.first_outside-place.ensures.passed)))
+    let known = rw (sym c.self.view_is) at c.requires.earlier in
+    rw (sym c.self.view_is) (ap (drafted board) (sym (first_passes board inside.held inside.free earlier.passes.items earlier.held c.args.from place c.laws.ensures.passes c.self.invariant known.held c.first_outside-place.ensures.further c.first_outside-place.ensures.passed)))
 
 pub returns-clause-step : goal.returns-clause-step
 returns-clause-step c =
@@ -24,10 +21,9 @@ returns-clause-step c =
     let board = inside.board.now in
     let earlier = c.args.earlier.now in
     let place = c.first_outside-place.result in
-    let known : IsProgress board earlier = subst (λ (d : Drafted). IsProgress d.board earlier) (sym c.self.view_is) c.requires.earlier in
+    let known = rw (sym c.self.view_is) at c.requires.earlier in
     let within : place < length c.useful-useful.result.now = omega (arith, c.if-useful-place.false) in
     let none : Ctl = record { part = 0; cell = 0 } in
     let added : Ctl = get_or c.useful-useful.result.now place none in
     let at = ap (λ v. slice_get v place) (sym c.useful-useful.ensures) ∙ slice_get-get_or c.useful-useful.result.now place none within in
-    let P : Drafted → Type 0 = λ d. c.add.new.self ≡ with_control d added → first_walked c.add.new.self (place + 1) earlier.passes.items ≡ first_walked d c.args.from earlier.passes.items in
-    subst P c.self.view_is (λ e. first_adds board inside.held inside.free earlier.passes.items earlier.held c.add.new.self c.args.from place added c.laws.ensures.passes c.self.invariant known.held c.first_outside-place.ensures.further c.first_outside-place.ensures.passed at (c.first_outside-place.ensures.found within) e) c.add.ensures
+    rw (sym c.self.view_is) (first_adds board inside.held inside.free earlier.passes.items earlier.held c.add.new.self c.args.from place added c.laws.ensures.passes c.self.invariant known.held c.first_outside-place.ensures.further c.first_outside-place.ensures.passed at (c.first_outside-place.ensures.found within) (rw (sym c.self.view_is) at c.add.ensures))

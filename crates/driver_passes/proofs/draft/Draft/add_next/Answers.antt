@@ -1,9 +1,8 @@
-use Rattle.std.proofs.Common.{◌≡◌, ◌<◌, ◌+◌, ◌∙◌, ap, get_or, length, sym, subst, arith}
+use Rattle.std.proofs.Common.{◌<◌, ◌∙◌, ap, get_or, length, sym, arith}
 use Rattle.std.specs.Prelude.{slice_get}
 use Rattle.std.proofs.lemmas.Option.{slice_get-get_or}
 use Rattle.board_defs.specs.declared.board.Ctl.{Ctl}
-use Rattle.driver_passes.specs.inner.Drafts.{Drafted, drafted, with_control}
-use Rattle.driver_passes.specs.inner.Walks.{second_walked}
+use Rattle.driver_passes.specs.inner.Drafts.{drafted}
 use Rattle.driver_passes.proofs.WalkLemmas.{second_adds, second_passes}
 use Rattle.driver_passes.proofs.draft.Draft.add_next.Goals as goal
 
@@ -12,8 +11,7 @@ returns-then-useful-place-clause-step c =
     let inside = c.self.inside in
     let board = inside.board.now in
     let place = c.first_from-place.result in
-    let P : Drafted → Type 0 = λ d. second_walked d place ≡ second_walked d c.args.from in
-    subst P c.self.view_is (ap (drafted board) (sym (second_passes board inside.held inside.free c.args.from place c.laws.ensures.passes c.self.invariant c.first_from-place.ensures.further c.first_from-place.ensures.passed)))
+    rw (sym c.self.view_is) (ap (drafted board) (sym (second_passes board inside.held inside.free c.args.from place c.laws.ensures.passes c.self.invariant c.first_from-place.ensures.further c.first_from-place.ensures.passed)))
 
 pub returns-clause-step : goal.returns-clause-step
 returns-clause-step c =
@@ -24,5 +22,4 @@ returns-clause-step c =
     let none : Ctl = record { part = 0; cell = 0 } in
     let added : Ctl = get_or c.useful-useful.result.now place none in
     let at = ap (λ v. slice_get v place) (sym c.useful-useful.ensures) ∙ slice_get-get_or c.useful-useful.result.now place none within in
-    let P : Drafted → Type 0 = λ d. c.add.new.self ≡ with_control d added → second_walked c.add.new.self (place + 1) ≡ second_walked d c.args.from in
-    subst P c.self.view_is (λ e. second_adds board inside.held inside.free c.add.new.self c.args.from place added c.laws.ensures.passes c.self.invariant c.first_from-place.ensures.further c.first_from-place.ensures.passed at (c.first_from-place.ensures.found within) e) c.add.ensures
+    rw (sym c.self.view_is) (second_adds board inside.held inside.free c.add.new.self c.args.from place added c.laws.ensures.passes c.self.invariant c.first_from-place.ensures.further c.first_from-place.ensures.passed at (c.first_from-place.ensures.found within) (rw (sym c.self.view_is) at c.add.ensures))

@@ -1,9 +1,8 @@
 use Rattle.std.proofs.Common.{◌∙◌, List, ap, sym, subst}
 use Rattle.board_defs.specs.declared.board.Ctl.{Ctl}
 use Rattle.board_defs.specs.Settings.{holds, IsInControlOrder}
-use Rattle.board_defs.specs.Coverage.{IsUseful}
 use Rattle.board_defs.specs.Passes.{useful_controls}
-use Rattle.driver_passes.specs.inner.Drafts.{Drafted, chosen}
+use Rattle.driver_passes.specs.inner.Drafts.{chosen}
 use Rattle.driver_passes.specs.inner.NumberSets.{is_in}
 use Rattle.driver_passes.proofs.ChosenLemmas.{chosen_order}
 use Rattle.driver_passes.proofs.UsefulLemmas.{chosen_useful}
@@ -18,6 +17,5 @@ of-requires c =
 pub returns-clause-useful : goal.returns-clause-useful
 returns-clause-useful c = λ e h.
     let held = c.self.inside.held in
-    let P : Drafted → Type 0 = λ d. IsUseful d.board e in
     let made = c.of.ensures ∙ c.in_ok-controls.ensures ∙ ap (chosen (is_in held) 0) c.useful.ensures in
-    subst P c.self.view_is (chosen_useful c.self.inside.board.now held e c.laws.ensures.passes (ap (λ v. holds v e) (sym made) ∙ h))
+    rw (sym c.self.view_is) (chosen_useful c.self.inside.board.now held e c.laws.ensures.passes (ap (λ v. holds v e) (sym made) ∙ h))

@@ -1,14 +1,14 @@
-use Rattle.std.proofs.Common.{◌∙◌, ◌&&◌, not, ap, subst}
-use Rattle.board_defs.specs.declared.board.RawBoard.{RawBoard}
+use Rattle.std.proofs.Common.{◌∙◌, ◌&&◌, not, ap, sym}
 use Rattle.board_defs.specs.Passes.{useful_controls}
 use Rattle.board_defs.specs.Settings.{holds}
 use Rattle.driver_passes.specs.inner.NumberSets.{is_in}
-use Rattle.driver_passes.specs.inner.Sharers.{LosesApart, is_listed}
+use Rattle.driver_passes.specs.inner.Sharers.{is_listed}
 use Rattle.driver_passes.proofs.DraftLemmas.{loses_listed}
 use Rattle.driver_passes.proofs.tables.BoardTables.take_out_apart.Goals as goal
 
 pub returns : goal.returns
 returns c =
-    let P : RawBoard → Type 0 = λ b. LosesApart b c.args.c c.args.free.now c.close_sharers.new.free in
-    subst P c.self.view_is (loses_listed c.self.inside.classed c.self.inside.sharers.items c.shared_nets.result.now c.args.c c.args.free.now c.close_sharers.new.free c.laws.ensures.passes c.laws.ensures.terms c.nets_are_shared.ensures c.self.invariant.0 c.shared_nets.ensures
-    (ap (λ b. holds (useful_controls b) c.args.c) c.self.view_is ∙ c.requires) (λ q. c.close_sharers.ensures q ∙ ap (λ v. is_in c.args.free.now q && not (is_listed v c.shared_nets.result.now q)) c.deref.ensures.value))
+    let before = c.args.free.now in
+    let nets = c.shared_nets.result.now in
+    rw (sym c.self.view_is) (loses_listed c.self.inside.classed c.self.inside.sharers.items nets c.args.c before c.close_sharers.new.free c.laws.ensures.passes c.laws.ensures.terms c.nets_are_shared.ensures c.self.invariant.0 c.shared_nets.ensures
+    (ap (λ b. holds (useful_controls b) c.args.c) c.self.view_is ∙ c.requires) (λ q. c.close_sharers.ensures q ∙ ap (λ v. is_in before q && not (is_listed v nets q)) c.deref.ensures.value))
