@@ -9,6 +9,7 @@ use Rattle.std.proofs.lemmas.List.Folds.{list_any-append, find_at}
 use Rattle.std.proofs.lemmas.List.{drop_more, take-append-drop}
 use Rattle.std.proofs.lemmas.Option.{slice_get_past, slice_get-get_or}
 use Rattle.std.proofs.lemmas.Iterator.Adapters.{position_from-zero}
+use Rattle.std.proofs.lemmas.Bool.{or_parts, not-false}
 use Rattle.std.proofs.lemmas.Bool.Decides.{nat_tests}
 use Rattle.board_defs.proofs.Members.{has_at}
 use Rattle.bsdl_parser.specs.declared.entity.Port.{Port}
@@ -43,33 +44,25 @@ some_along name at number port place (i ∷ ixs) n e =
     ap (λ b. cond (b && has_index at i) (Some n) (position_from (is_bit name at) (n + 1) (bits_along number port (place + 1) ixs))) e
     ∙ ap (λ o. cond (has_index at i) (Some n) o) (some_along name at number port (place + 1) ixs (n + 1) e)
 
-pub length_along : (number : ℕ) (port : Port) (place : ℕ) (ixs : List (Option ℕ)) → length (bits_along number port place ixs) ≡ length ixs
+length_along : (number : ℕ) (port : Port) (place : ℕ) (ixs : List (Option ℕ)) → length (bits_along number port place ixs) ≡ length ixs
 length_along number port place [] = refl
 length_along number port place (i ∷ ixs) = ap suc (length_along number port (place + 1) ixs)
-
-left_false : (a b : Bool) → (a || b) ≡ false → a ≡ false
-left_false true b e = cc e
-left_false false b e = refl
-
-right_false : (a b : Bool) → (a || b) ≡ false → b ≡ false
-right_false true b e = cc e
-right_false false b e = e
 
 none_among : (name : List ℕ) (at : Option ℕ) (number n : ℕ) (ports : List Port) → list_any (port_named name) ports ≡ false → position_from (is_bit name at) n (bits_from number ports) ≡ None
 none_among name at number n [] e = refl
 none_among name at number n (port ∷ ports) e =
-    let here : bytes_eq port.name name ≡ false = left_false _ (list_any (port_named name) ports) e in
-    let later : list_any (port_named name) ports ≡ false = right_false (bytes_eq port.name name) _ e in
+    let parts = or_parts (bytes_eq port.name name) (list_any (port_named name) ports) e in
     place_append (is_bit name at) n (bits_of_port number port) (bits_from (number + 1) ports)
-    ∙ ap (λ o. or_else o (position_from (is_bit name at) (n + length (bits_of_port number port)) (bits_from (number + 1) ports))) (none_along name at number port 0 (indexes port.range) n here)
-    ∙ none_among name at (number + 1) (n + length (bits_of_port number port)) ports later
+    ∙ ap (λ o. or_else o (position_from (is_bit name at) (n + length (bits_of_port number port)) (bits_from (number + 1) ports))) (none_along name at number port 0 (indexes port.range) n parts.0)
+    ∙ none_among name at (number + 1) (n + length (bits_of_port number port)) ports parts.1
 
 -- no later port has the name of a port, and the ranges are in order
 abbrev pub Apart : List Port → Type 0
 Apart [] = Unit {0}
 Apart (port ∷ ports) = (in_order port.range ≡ true) × (list_any (port_named port.name) ports ≡ false) × Apart ports
 
-length_bits : (number : ℕ) (port : Port) → in_order port.range ≡ true → length (bits_of_port number port) ≡ width port.range
+-- a port has as many bits as its range is wide
+pub length_bits : (number : ℕ) (port : Port) → in_order port.range ≡ true → length (bits_of_port number port) ≡ width port.range
 length_bits number port e = length_along number port 0 (indexes port.range) ∙ length_indexes port.range e
 
 none_else : {A : Type 0} (o : Option A) → or_else o None ≡ o
@@ -176,8 +169,9 @@ fresh_less before port [] h = (tt, refl)
 fresh_less before port (later ∷ ports) h =
     let rest = fresh_less before port ports h.1 in
     let both : (list_any (port_named later.name) before || (bytes_eq port.name later.name || false)) ≡ false = sym (list_any-append (port_named later.name) before (port ∷ [])) ∙ h.0 in
-    let here : bytes_eq later.name port.name ≡ false = turned port.name later.name (left_false _ _ (right_false (list_any (port_named later.name) before) _ both)) in
-    ((left_false _ (bytes_eq port.name later.name || false) both, rest.0), both_false _ _ here rest.1)
+    let parts = or_parts (list_any (port_named later.name) before) _ both in
+    let here : bytes_eq later.name port.name ≡ false = turned port.name later.name (or_parts (bytes_eq port.name later.name) false parts.1).0 in
+    ((parts.0, rest.0), both_false _ _ here rest.1)
   where
     both_false : (a b : Bool) → a ≡ false → b ≡ false → (a || b) ≡ false
     both_false a b e f = rw e f
@@ -194,13 +188,9 @@ kept_by before port ports true e later h = cc h
 kept_by before port ports false e later h =
     let rest = later h in
     let less = fresh_less before port ports rest.0 in
-    let fresh : list_any (port_named port.name) before ≡ false = left_false _ (not (in_order port.range) || nat_lt 65535 (bits_of before + width port.range)) e in
-    let ordered : not (in_order port.range) ≡ false = left_false _ (nat_lt 65535 (bits_of before + width port.range)) (right_false (list_any (port_named port.name) before) _ e) in
-    ((fresh, less.0), (is_true (in_order port.range) ordered, less.1, rest.1))
-  where
-    is_true : (b : Bool) → not b ≡ false → b ≡ true
-    is_true true e = refl
-    is_true false e = cc e
+    let fresh = or_parts (list_any (port_named port.name) before) _ e in
+    let ordered = or_parts (not (in_order port.range)) _ fresh.1 in
+    ((fresh.0, less.0), (not-false (in_order port.range) ordered.0, less.1, rest.1))
 
 kept_from : (before ports : List Port) → first_from breaks_port before ports ≡ None → KeptFrom before ports
 kept_from before [] e = (tt, tt)
@@ -259,7 +249,7 @@ bits_few ports i port e less is =
     let cut : ports ≡ take i ports ++ port ∷ drop (i + 1) ports =
     sym (take-append-drop i ports) ∙ ap (λ xs. take i ports ++ xs) (drop_more ports i port less ∙ ap (λ x. x ∷ drop (i + 1) ports) is) in
     let fits : breaks_port (take i ports) port ≡ false = holds breaks_port ports e (take i ports) port (drop (i + 1) ports) cut in
-    few (bits_of (take i ports) + width port.range) (right_false (not (in_order port.range)) _ (right_false (list_any (port_named port.name) (take i ports)) _ fits))
+    few (bits_of (take i ports) + width port.range) (or_parts (not (in_order port.range)) _ (or_parts (list_any (port_named port.name) (take i ports)) _ fits).1).1
   where
     few : (n : ℕ) → nat_lt 65535 n ≡ false → n ≤ 65535
     few n e = grind (arith, nat_tests)

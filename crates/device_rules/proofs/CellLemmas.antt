@@ -1,13 +1,16 @@
 -- Cell numbers that are below the length of the register.
-use Rattle.std.proofs.Common.{◌≡◌, ◌≢◌, ℕ, ◌<◌, ◌≤◌, ◌==◌, Bool, true, false, ◌&&◌, cond, List, [], ◌∷◌, Option, Some, None, refl, sym, ◌∙◌, ap, arith, nat_le, find}
-use Rattle.std.specs.Prelude.{option_map, All}
+use Rattle.std.proofs.Common.{◌≡◌, ◌≢◌, ℕ, ◌<◌, ◌≤◌, ◌==◌, Bool, true, false, ◌&&◌, cond, List, [], ◌∷◌, Option, Some, None, refl, sym, ◌∙◌, ap, arith, nat_le, find, ◌⊎◌, inl, inr}
+use Rattle.std.specs.Prelude.{option_map, All, slice_index_or}
+use Rattle.std.proofs.lemmas.List.{get_or_past}
 use Rattle.std.proofs.lemmas.List.Folds.{list_any_none}
 use Rattle.std.proofs.lemmas.List.Elements.{All-weaker, All-nil, All-cons}
+use Rattle.std.proofs.Math.Bool.{and-false}
 use Rattle.std.proofs.lemmas.Bool.Decides.{nat_tests}
 use Rattle.board_defs.specs.declared.device.Role.{Role}
 use Rattle.bsdl_strings.specs.declared.values.Entry.{Entry}
 use Rattle.board_defs.specs.DeviceRules.{is_controlling}
 use Rattle.first_places.specs.Items.{or_else}
+use Rattle.device_rules.specs.inner.Tables.{Marks}
 use Rattle.device_rules.specs.Cells.{is_entry_of, is_control_of, has_control_entry, too_large, v8}
 
 another_cell : (cell boundary : ℕ) (entry : Entry) → boundary ≤ cell → entry.num < boundary → is_control_of cell entry ≡ false
@@ -17,9 +20,19 @@ another_cell cell boundary entry le lt = ap (λ b. b && is_controlling entry.rol
     differs m n lt = grind (arith, nat_tests)
 
 -- a number that is too large has no entry
-pub no_control_there : (cell boundary : ℕ) (entries : List Entry) → boundary ≤ cell → All (λ entry. entry.num < boundary) entries → false ≡ has_control_entry entries cell
+no_control_there : (cell boundary : ℕ) (entries : List Entry) → boundary ≤ cell → All (λ entry. entry.num < boundary) entries → false ≡ has_control_entry entries cell
 no_control_there cell boundary entries le below = sym (list_any_none (is_control_of cell) entries
     (All-weaker (λ entry. entry.num < boundary) (λ entry. is_control_of cell entry ≡ false) (λ entry lt. another_cell cell boundary entry le lt) entries below))
+
+-- flags of the cells below the length say of every cell whether it has a CONTROL or CONTROLR entry
+pub controls_known : (boundary : ℕ) (entries : List Entry) (flags : List Bool) → All (λ entry. entry.num < boundary) entries → Marks is_control_of entries boundary flags → (cell : ℕ) → slice_index_or flags cell false ≡ has_control_entry entries cell
+controls_known boundary entries flags below marks cell = elim (less_or_not cell boundary) [
+  | inl less ↦ marks.each cell less
+  | inr more ↦ get_or_past flags cell false (omega (arith, more, marks.size)) ∙ no_control_there cell boundary entries more below
+]
+  where
+    less_or_not : (m n : ℕ) → (m < n) ⊎ (n ≤ m)
+    less_or_not m n = grind arith
 
 below_step : (boundary : ℕ) (entry : Entry) (entries : List Entry) (b : Bool) → nat_le boundary entry.num ≡ b → (too_large boundary entries ≡ None → All (λ entry. entry.num < boundary) entries)
     → option_map (λ entry. entry.num) (cond b (Some entry) (find (λ entry. nat_le boundary entry.num) entries)) ≡ None → All (λ entry. entry.num < boundary) (entry ∷ entries)
@@ -49,10 +62,6 @@ eqb_refl n = grind (arith, nat_tests)
 apart : (m n : ℕ) → n ≢ m → (m == n) ≡ false
 apart m n h = grind (arith, nat_tests)
 
-both_false : (b : Bool) → (b && false) ≡ false
-both_false true = refl
-both_false false = refl
-
 pub counts_here : (kind : Role → Bool) (entry : Entry) → kind entry.role ≡ true → (is_entry_of entry.num entry && kind entry.role) ≡ true
 counts_here kind entry e = ap (λ b. b && kind entry.role) (eqb_refl entry.num) ∙ e
 
@@ -60,7 +69,7 @@ pub counts_nowhere_else : (kind : Role → Bool) (entry : Entry) (n : ℕ) → n
 counts_nowhere_else kind entry n h = ap (λ b. b && kind entry.role) (apart entry.num n h)
 
 pub counts_nowhere : (kind : Role → Bool) (entry : Entry) (n : ℕ) → kind entry.role ≡ false → (is_entry_of n entry && kind entry.role) ≡ false
-counts_nowhere kind entry n e = ap (λ b. is_entry_of n entry && b) e ∙ both_false (is_entry_of n entry)
+counts_nowhere kind entry n e = ap (λ b. is_entry_of n entry && b) e ∙ and-false (is_entry_of n entry)
 
 pub counts_above : (kind : Role → Bool) (entry : Entry) (bound n : ℕ) → bound ≤ entry.num → n < bound → (is_entry_of n entry && kind entry.role) ≡ false
 counts_above kind entry bound n le lt = counts_nowhere_else kind entry n (λ e. absurd (omega arith))

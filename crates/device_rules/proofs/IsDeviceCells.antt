@@ -8,13 +8,13 @@ use Rattle.board_defs.specs.declared.device.Role.{Role}
 use Rattle.board_defs.specs.declared.device.Role.TheVariants.{Input, Output2, Output3, Control as ControlRole, ControlR, Internal, Clock, Bidir, ObserveOnly}
 use Rattle.board_defs.specs.declared.device.Control.{Control}
 use Rattle.board_defs.specs.declared.device.Cell.{Cell}
-use Rattle.board_defs.specs.DeviceRules.{is_loading, is_writing, is_controlling, is_control_entry, MayHaveControl, ControlsStand, OneDisable, OneOf}
+use Rattle.board_defs.specs.DeviceRules.{is_loading, is_writing, is_controlling, is_driving, is_control_entry, MayHaveControl, ControlsStand, OneDisable, OneOf}
 use Rattle.board_defs.proofs.Members.{Has, has_at, has_place, has_map, has_any, any_has, has_contains}
 use Rattle.bsdl_strings.specs.declared.values.Entry.{Entry}
 use Rattle.device_rules.specs.declared.draft.Draft.{Draft}
 use Rattle.first_places.specs.Items.{or_else}
 use Rattle.instruction_rules.specs.Instructions.{same_bit}
-use Rattle.device_rules.specs.Cells.{is_entry_of, too_large, is_missing, v8, needs_control, may_have_control, is_control_of, has_control_entry, breaks_control_of, breaks_control, v10, is_disabled_by, controls_entry, has_two_values, v11, loads_cell, writes_cell, is_crowded, v12}
+use Rattle.device_rules.specs.Cells.{is_entry_of, too_large, is_missing, v8, needs_control, is_control_of, has_control_entry, breaks_control_of, breaks_control, v10, is_disabled_by, controls_entry, has_two_values, v11, loads_cell, writes_cell, is_crowded, v12}
 use Rattle.device_rules.specs.Raw.{cell_of, raw_cells, raw_device}
 use Rattle.device_rules.proofs.RuleLemmas.{holds, none_below}
 use Rattle.device_rules.proofs.CellLemmas.{all_below, counts_here}
@@ -60,7 +60,7 @@ none_given Clock e = refl
 none_given Bidir e = cc e
 none_given ObserveOnly e = refl
 
-some_given : (role : Role) (control : Control) → may_have_control role ≡ true → MayHaveControl role (Some control)
+some_given : (role : Role) (control : Control) → is_driving role ≡ true → MayHaveControl role (Some control)
 some_given Input control e = cc e
 some_given Output2 control e = tt
 some_given Output3 control e = refl
@@ -72,13 +72,13 @@ some_given Bidir control e = refl
 some_given ObserveOnly control e = cc e
 
 record Stands (entries : List Entry) (entry : Entry) (control : Control) : Type 0 where
-  may : may_have_control entry.role ≡ true
+  may : is_driving entry.role ≡ true
   stands : ((control.cell == entry.num) || has_control_entry entries control.cell) ≡ true
 
 stands_of : (entries : List Entry) (entry : Entry) (control : Control) → breaks_control_of entries entry (Some control) ≡ false → Stands entries entry control
-stands_of entries entry control e = by_test (may_have_control entry.role) refl e
+stands_of entries entry control e = by_test (is_driving entry.role) refl e
   where
-    by_test : (b : Bool) → may_have_control entry.role ≡ b → (if b then not ((control.cell == entry.num) || has_control_entry entries control.cell) else true) ≡ false → Stands entries entry control
+    by_test : (b : Bool) → is_driving entry.role ≡ b → (if b then not ((control.cell == entry.num) || has_control_entry entries control.cell) else true) ≡ false → Stands entries entry control
     by_test true is kept = record { may = is; stands = not-false ((control.cell == entry.num) || has_control_entry entries control.cell) kept }
     by_test false is kept = cc kept
 

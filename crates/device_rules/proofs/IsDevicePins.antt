@@ -18,7 +18,8 @@ use Rattle.device_rules.specs.PinMap.{maps_port, has_width, some_repeats, pins_o
 use Rattle.device_rules.specs.Raw.{pin_of, port_bit}
 use Rattle.device_rules.proofs.RuleLemmas.{holds}
 use Rattle.device_rules.proofs.IsDeviceLists.{same_name, name_same, clash, earlier, holds_at, Once, once_nil, once_cons, made_at, once_item, there}
-use Rattle.device_rules.proofs.IsDevicePorts.{PortsStand, length_indexes, IsBitOf, is_bit_of, spot, spots_once}
+use Rattle.device_rules.proofs.RangeLemmas.{length_indexes}
+use Rattle.device_rules.proofs.IsDevicePorts.{PortsStand, IsBitOf, is_bit_of, spot, spots_once}
 
 -- the port of a name is the one port that has it
 pub port_is : (ports : List Port) → Once (λ port. port.name) ports → (name : List ℕ) (port : Port) → Has ports port → port.name ≡ name → port_of ports name ≡ Some port

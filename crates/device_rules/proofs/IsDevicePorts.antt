@@ -13,6 +13,7 @@ use Rattle.bsdl_parser.specs.declared.entity.Range.{Range}
 use Rattle.first_places.specs.Items.{Holds}
 use Rattle.device_rules.specs.Ports.{in_order, width, bits_of, port_named, breaks_port, v2, Bit, indexes, bits_along, bits_of_port, bits_from, port_bits}
 use Rattle.device_rules.proofs.RuleLemmas.{holds}
+use Rattle.device_rules.proofs.BitLemmas.{length_bits}
 use Rattle.device_rules.proofs.IsDeviceLists.{name_same, clash, earlier, holds_at, none_has, Once, once_nil, once_cons, once_tail, once_head, once_append, once_by_order}
 
 -- what the rule says of the ports
@@ -62,37 +63,18 @@ ports_stand ports e =
       few = few_bits ports h;
     }
 
--- as many indexes as the port has bits
-length_along : (left right : ℕ) (up : Bool) → (if up then nat_le left right else nat_le right left) ≡ true → length (range_indexes left right) ≡ (if up then right - left else left - right) + 1
-length_along left right true e = ap (λ b. length (cond b (range_with_len left (right - left + 1)) (reverse (range_with_len right (left - right + 1))))) e ∙ length-range_with_len left (right - left + 1)
-length_along left right false e = by_test (nat_le left right) refl
-  where
-    by_test : (b : Bool) → nat_le left right ≡ b → length (cond b (range_with_len left (right - left + 1)) (reverse (range_with_len right (left - right + 1)))) ≡ left - right + 1
-    by_test true up =
-        let same : right - left + 1 ≡ left - right + 1 = omega (arith, leb-true left right up, leb-true right left e) in
-        length-range_with_len left (right - left + 1) ∙ same
-    by_test false up = length-reverse (range_with_len right (left - right + 1)) ∙ length-range_with_len right (left - right + 1)
-
-pub length_indexes : (range : Option Range) → in_order range ≡ true → length (indexes range) ≡ width range
-length_indexes None e = refl
-length_indexes (Some range) e = length-map (range_indexes range.left range.right) Some ∙ length_along range.left range.right range.up e
-
-length_bits_along : (number : ℕ) (port : Port) (place : ℕ) (ixs : List (Option ℕ)) → length (bits_along number port place ixs) ≡ length ixs
-length_bits_along number port place [] = refl
-length_bits_along number port place (ix ∷ ixs) = ap suc (length_bits_along number port (place + 1) ixs)
-
-length_bits : (number : ℕ) (ports : List Port) → ((port : Port) → Has ports port → in_order port.range ≡ true) → length (bits_from number ports) ≡ bits_of ports
-length_bits number [] h = refl
-length_bits number (port ∷ ports) h =
-    let here : length (bits_of_port number port) ≡ width port.range = length_bits_along number port 0 (indexes port.range) ∙ length_indexes port.range (h port (inl refl)) in
-    let rest : length (bits_from (number + 1) ports) ≡ bits_of ports = length_bits (number + 1) ports (λ p k. h p (inr k)) in
+length_all : (number : ℕ) (ports : List Port) → ((port : Port) → Has ports port → in_order port.range ≡ true) → length (bits_from number ports) ≡ bits_of ports
+length_all number [] h = refl
+length_all number (port ∷ ports) h =
+    let here : length (bits_of_port number port) ≡ width port.range = length_bits number port (h port (inl refl)) in
+    let rest : length (bits_from (number + 1) ports) ≡ bits_of ports = length_all (number + 1) ports (λ p k. h p (inr k)) in
     let all : length (bits_of_port number port ++ bits_from (number + 1) ports) ≡ length (bits_of_port number port) + length (bits_from (number + 1) ports) = length-append (bits_of_port number port) (bits_from (number + 1) ports) in
     let sum : bits_of (port ∷ ports) ≡ width port.range + bits_of ports = sum_by-cons (λ (p : Port). width p.range) port ports in
     omega (arith, here, rest, all, sum)
 
 -- at most 65,535 bits
 pub bits_few : (ports : List Port) → PortsStand ports → length (port_bits ports) ≤ 65535
-bits_few ports stand = let all : length (port_bits ports) ≡ bits_of ports = length_bits 0 ports stand.ordered in omega (arith, all, stand.few)
+bits_few ports stand = let all : length (port_bits ports) ≡ bits_of ports = length_all 0 ports stand.ordered in omega (arith, all, stand.few)
 
 -- a bit of these ports, which are numbered from the first on
 pub record IsBitOf (ports : List Port) (first : ℕ) (bit : Bit) : Type 0 where

@@ -22,6 +22,15 @@ least_hit is n bound o lt e so_far = sym (found is n (bound - (n + 1)) e) ∙ sy
     found : (is : ℕ → Bool) (n k : ℕ) → is n ≡ true → least_from is n (suc k) ≡ Some n
     found is n k e = rw e refl
 
+same_from : (p q : ℕ → Bool) (n count : ℕ) → ((m : ℕ) → m < n + count → p m ≡ q m) → least_from p n count ≡ least_from q n count
+same_from p q n zero h = refl
+same_from p q n (suc count) h =
+    ap (λ b. if b then Some n else least_from p (suc n) count) (h n (omega arith)) ∙ ap (λ o. if q n then Some n else o) (same_from p q (suc n) count (λ m less. h m (omega arith)))
+
+-- two properties that are the same below the bound
+pub least_same : (p q : ℕ → Bool) (bound : ℕ) → ((n : ℕ) → n < bound → p n ≡ q n) → least_below p bound ≡ least_below q bound
+least_same p q bound h = same_from p q 0 bound (λ m less. h m (omega arith))
+
 none_left : (bound n : ℕ) → bound ≤ n → bound - n ≡ zero
 none_left bound n le = omega arith
 

@@ -8,10 +8,6 @@ use Rattle.first_places.specs.Places.{first_place}
 use Rattle.bsdl_parser.specs.declared.entity.Port.{Port}
 use Rattle.device_rules.specs.Ports.{port_number}
 
-pub any-map : {A B : Type 0} (f : A → B) (p : B → Bool) (xs : List A) → list_any (λ a. p (f a)) xs ≡ list_any p (map f xs)
-any-map f p [] = refl
-any-map f p (x ∷ xs) = ap (λ b. p (f x) || b) (any-map f p xs)
-
 pub place-map : {A B : Type 0} (f : A → B) (p : B → Bool) (n : ℕ) (xs : List A) → position_from (λ a. p (f a)) n xs ≡ position_from p n (map f xs)
 place-map f p n [] = refl
 place-map f p n (x ∷ xs) = ap (cond (p (f x)) (Some n)) (place-map f p (n + 1) xs)

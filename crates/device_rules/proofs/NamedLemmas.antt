@@ -3,6 +3,7 @@ use Rattle.std.proofs.Common.{◌≡◌, ℕ, ◌+◌, ◌<◌, ◌==◌, Bool, 
 use Rattle.std.specs.List.{list_any}
 use Rattle.std.specs.Str.{bytes_eq}
 use Rattle.std.specs.Option.{option_eq}
+use Rattle.std.proofs.Math.Bool.{or-false}
 use Rattle.std.proofs.lemmas.Bool.Decides.{nat_tests}
 use Rattle.std.proofs.lemmas.List.Folds.{list_any_more}
 use Rattle.bsdl_strings.specs.declared.values.Compliance.{Compliance}
@@ -22,15 +23,11 @@ marked_more words i word key name index new old less is same e f =
     ∙ ap (λ k. list_any (names_bit name index) (take i words) || is_key k name index) (sym same)
     ∙ ap (λ x. list_any (names_bit name index) (take i words) || names_bit name index x) (sym is) ∙ sym (list_any_more (names_bit name index) words i word less)
 
-or_false : (b : Bool) → b ≡ (b || false)
-or_false true = refl
-or_false false = refl
-
 -- one word more, which names none
 pub marked_none : (words : List PortWord) (i : ℕ) (word : PortWord) (name : List ℕ) (index : Option ℕ) (old : Bool) → i < length words → get_or words i word ≡ word → key_of word ≡ None
     → old ≡ list_any (names_bit name index) (take i words) → old ≡ list_any (names_bit name index) (take (i + 1) words)
 marked_none words i word name index old less is same f =
-    f ∙ or_false (list_any (names_bit name index) (take i words)) ∙ ap (λ k. list_any (names_bit name index) (take i words) || is_key k name index) (sym same)
+    f ∙ sym (or-false (list_any (names_bit name index) (take i words))) ∙ ap (λ k. list_any (names_bit name index) (take i words) || is_key k name index) (sym same)
     ∙ ap (λ x. list_any (names_bit name index) (take i words) || names_bit name index x) (sym is) ∙ sym (list_any_more (names_bit name index) words i word less)
 
 same_index : (at index : Option ℕ) → has_index at index ≡ option_eq nat_eq at index

@@ -40,18 +40,14 @@ pub pins_more : (entries : List MapEntry) (i : ℕ) (entry : MapEntry) → i < l
 pins_more entries i entry less is =
     flat_map_more (λ entry. entry.pins) [] (take i entries) entry ∙ ap pins_of (ap (λ x. take i entries ++ x ∷ []) (sym is) ∙ sym (take_more entries i entry less))
 
--- an entry breaks the rule in one of three ways
-pub breaks_is : (ports : List Port) (before : List MapEntry) (entry : MapEntry) (known fits repeats : Bool) → list_any (maps_port entry.port) before ≡ known → has_width (port_of ports entry.port) (length entry.pins) ≡ fits
-    → some_repeats (pins_of before) entry.pins ≡ repeats → breaks_map ports before entry ≡ (known || (not fits || repeats))
-breaks_is ports before entry known fits repeats e f g =
-    ap (λ b. b || (not (has_width (port_of ports entry.port) (length entry.pins)) || some_repeats (pins_of before) entry.pins)) e
-    ∙ ap (λ b. known || (not b || some_repeats (pins_of before) entry.pins)) f
-    ∙ ap (λ b. known || (not fits || b)) g
-
-pub third_false : (a b c : Bool) → (a || (b || c)) ≡ false → c ≡ false
-third_false true b c e = cc e
-third_false false true c e = cc e
-third_false false false c e = e
+-- an entry breaks the rule in one of three ways; its name and its pins are lent
+pub breaks_is : (ports : List Port) (before : List MapEntry) (entry : MapEntry) (name : List ℕ) (pins : List (List ℕ)) (known fits repeats breaks : Bool) → name ≡ entry.port → pins ≡ entry.pins
+    → known ≡ list_any (maps_port name) before → fits ≡ has_width (port_of ports entry.port) (length entry.pins) → repeats ≡ some_repeats (pins_of before) pins
+    → breaks ≡ (known || (not fits || repeats)) → breaks_map ports before entry ≡ breaks
+breaks_is ports before entry name pins known fits repeats breaks same lent e f g is = sym (is
+    ∙ ap (λ b. b || (not fits || repeats)) (e ∙ ap (λ n. list_any (maps_port n) before) same)
+    ∙ ap (λ b. list_any (maps_port entry.port) before || (not b || repeats)) f
+    ∙ ap (λ b. list_any (maps_port entry.port) before || (not (has_width (port_of ports entry.port) (length entry.pins)) || b)) (g ∙ ap (some_repeats (pins_of before)) lent))
 
 pub one_more : (b c : Bool) → cond b true c ≡ (c || b)
 one_more true true = refl

@@ -19,7 +19,7 @@ use Rattle.device_rules.specs.PinMap.{maps_port}
 use Rattle.device_rules.specs.inner.Index.{index_at, bit_of_port, names_bit, words_of}
 use Rattle.device_rules.proofs.NameLemmas.{place-map}
 use Rattle.device_rules.proofs.RangeLemmas.{index_found, length_indexes}
-use Rattle.device_rules.proofs.BitLemmas.{Apart, apart, length_along}
+use Rattle.device_rules.proofs.BitLemmas.{Apart, apart, length_bits}
 
 -- a bit of its fields
 abbrev pub made : ℕ → Mode → Option ℕ → Option (List ℕ) → Bool → Bool → PortBit
@@ -46,12 +46,9 @@ pub bits_step : {B : Type 0} (f : Bit → B) (number : ℕ) (port : Port) (k : �
     → (before ++ map f (take k (bits_of_port number port))) ++ f (bit_of_port number port k) ∷ [] ≡ before ++ map f (take (k + 1) (bits_of_port number port))
 bits_step f number port k before e less =
     let bits = bits_of_port number port in
-    let within : k < length bits = omega (arith, less, length_along number port 0 (indexes port.range), length_indexes port.range e) in
+    let within : k < length bits = omega (arith, less, length_bits number port e) in
     let more : take (k + 1) bits ≡ take k bits ++ bit_of_port number port k ∷ [] = take_more bits k (bit_of_port number port k) within ∙ ap (λ b. take k bits ++ b ∷ []) (get_bit number port k (bit_of_port number port k) e less) in
     append_assoc before (map f (take k bits)) (f (bit_of_port number port k) ∷ []) ∙ ap (λ bs. before ++ bs) (sym (map-append f (take k bits) (bit_of_port number port k ∷ [])) ∙ sym (ap (map f) more))
-
-pub bits_all : (number : ℕ) (port : Port) → in_order port.range ≡ true → length (bits_of_port number port) ≡ width port.range
-bits_all number port e = length_along number port 0 (indexes port.range) ∙ length_indexes port.range e
 
 -- the bits of the ports that are left
 pub ports_step : {B : Type 0} (f : Bit → B) (ports : List Port) (i : ℕ) (port : Port) (before all new : List B) → i < length ports → get_or ports i port ≡ port → all ≡ before ++ map f (bits_from i (drop i ports))

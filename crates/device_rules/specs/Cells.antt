@@ -4,7 +4,7 @@ use Rattle.std.specs.List.{list_any}
 use Rattle.board_defs.specs.declared.device.Role.{Role}
 use Rattle.board_defs.specs.declared.device.Role.TheVariants.{Input, Output2, Output3, Control as ControlRole, ControlR, Internal, Clock, Bidir, ObserveOnly}
 use Rattle.board_defs.specs.declared.device.Control.{Control}
-use Rattle.board_defs.specs.DeviceRules.{is_controlling, is_loading, is_writing}
+use Rattle.board_defs.specs.DeviceRules.{is_controlling, is_driving, is_loading, is_writing}
 use Rattle.bsdl_strings.specs.declared.values.Entry.{Entry}
 use Rattle.first_places.specs.Items.{first_break, least_below, or_else}
 use Rattle.instruction_rules.specs.Instructions.{same_bit}
@@ -35,18 +35,6 @@ needs_control Internal = false
 needs_control Clock = false
 needs_control ObserveOnly = false
 
--- OUTPUT2 may have one, and no other may
-abbrev pub may_have_control : Role → Bool
-may_have_control Output2 = true
-may_have_control Output3 = true
-may_have_control Bidir = true
-may_have_control Input = false
-may_have_control ControlRole = false
-may_have_control ControlR = false
-may_have_control Internal = false
-may_have_control Clock = false
-may_have_control ObserveOnly = false
-
 abbrev pub is_control_of : ℕ → Entry → Bool
 is_control_of cell entry = (entry.num == cell) && is_controlling entry.role
 
@@ -54,9 +42,10 @@ is_control_of cell entry = (entry.num == cell) && is_controlling entry.role
 abbrev pub has_control_entry : List Entry → ℕ → Bool
 has_control_entry entries cell = list_any (is_control_of cell) entries
 
+-- OUTPUT2 may have one, too, and none that is not driving may
 abbrev pub breaks_control_of : List Entry → Entry → Option Control → Bool
 breaks_control_of entries entry None = needs_control entry.role
-breaks_control_of entries entry (Some control) = if may_have_control entry.role then not ((control.cell == entry.num) || has_control_entry entries control.cell) else true
+breaks_control_of entries entry (Some control) = if is_driving entry.role then not ((control.cell == entry.num) || has_control_entry entries control.cell) else true
 
 abbrev pub breaks_control : List Entry → Entry → Bool
 breaks_control entries entry = breaks_control_of entries entry entry.ctl

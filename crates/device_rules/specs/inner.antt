@@ -2,4 +2,4 @@
 pub mod Tables
 pub mod Index
 pub mod Seen
-pub mod Named
+pub mod Stages

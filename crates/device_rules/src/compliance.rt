@@ -1,15 +1,12 @@
 //! The port bits that the compliance patterns name.
-ghost use Rattle.std.specs.Prelude.{◌≡◌, ◌&&◌, nat_eq, option_map, IfOk};
+ghost use Rattle.std.specs.Prelude.{◌≡◌, option_map, IfOk};
 ghost use Rattle.std.specs.List.{list_any};
-ghost use Rattle.std.specs.HashSet.{contains};
-ghost use Rattle.std.specs.Str.{bytes_eq};
-ghost use Rattle.device_rules.specs.inner.Named.{IsNamed};
-ghost use Rattle.std.specs.Option.{option_eq};
-ghost use Rattle.device_rules.specs.inner.Index.{key_of, names_bit, words_of, Marked};
+ghost use Rattle.device_rules.specs.inner.Index.{HasBits, has_key, key_of, names_bit, words_of};
 
 use bsdl_strings::{Compliance, PortWord};
 use std::alloc::{AllocError, Global};
 use std::collections::HashSet;
+use std::marker::Model;
 
 /// The name and the index of a bit.
 type Key<'a> = (&'a [u8], Option<u32>);
@@ -34,7 +31,7 @@ fn words_of(compliance: &Option<Compliance>) -> &[PortWord]
 }
 
 fn bits_of<'a>(alloc: Global, words: &'a [PortWord]) -> Result<HashSet<Key<'a>>, AllocError>
-    ensures { IfOk result (λ bits. Marked (contains (λ x y. bytes_eq x.0.now y.0.now && option_eq nat_eq x.1 y.1) bits) words.now) }
+    ensures { IfOk result (λ bits. HasBits bits words.now) }
 {
     let mut bits = HashSet::new(alloc);
     for word in words {
@@ -45,42 +42,50 @@ fn bits_of<'a>(alloc: Global, words: &'a [PortWord]) -> Result<HashSet<Key<'a>>,
     Ok(bits)
 }
 
-/// The bits that the compliance patterns name.
+fn has_key(bits: &HashSet<Key>, name: &[u8], index: Option<u32>) -> bool
+    ensures { result ≡ has_key bits.now (name.entry, index) }
+{
+    bits.contains(&(name, index))
+}
+
+/// The compliance patterns with the bits that they name, seen as the patterns.
 #[derive(Drop)]
 pub struct Named<'a> {
+    compliance: &'a Option<Compliance>,
     bits: HashSet<Key<'a>>,
 }
 
-/// The bits that the compliance patterns name.
-pub(crate) fn named_bits(
-    alloc: Global,
-    compliance: &Option<Compliance>,
-) -> Result<Named, AllocError>
-    ensures { IfOk result (λ named. IsNamed compliance.now named) }
-{
-    let bits = bits_of(alloc, words_of(compliance))?;
-    Ok(Named { bits })
+impl<'a> Model for Named<'a> {
+    ghost use Rattle.std.specs.Prelude.{Option};
+    ghost use Rattle.bsdl_strings.specs.declared.values.Compliance.{Compliance};
+    ghost use Rattle.device_rules.specs.inner.Index.{HasBits, words_of};
+
+    ghost Value = { Option Compliance };
+
+    ghost view = { λ a. a.compliance.now };
+
+    ghost invariant = { λ a. HasBits a.bits (words_of a.compliance.now) };
 }
 
-/// Whether the compliance patterns name the bit of this name and index.
-fn names(named: &Named, name: &[u8], index: Option<u32>) -> bool
-    ensures { result ≡ contains (λ x y. bytes_eq x.0.now y.0.now && option_eq nat_eq x.1 y.1) named.now.bits (name.entry, index) }
-{
-    named.bits.contains(&(name, index))
-}
+impl<'a> Named<'a> {
+    /// The bits that these patterns name.
+    pub fn of(
+        alloc: Global,
+        compliance: &'a Option<Compliance>,
+    ) -> Result<Named<'a>, AllocError>
+        ensures { IfOk result (λ named. named ≡ compliance.now) }
+    {
+        let bits = bits_of(alloc, words_of(compliance))?;
+        Ok(Named { compliance, bits })
+    }
 
-/// Whether the compliance patterns name the bit at this place of a port.
-pub(crate) fn is_named(
-    compliance: &Option<Compliance>,
-    named: &Named,
-    name: &[u8],
-    index: Option<u32>,
-) -> bool
-    requires { IsNamed compliance.now named.now }
-    ensures { result ≡ list_any (names_bit name.now index) (words_of compliance.now) }
-{
-    match compliance {
-        None => false,
-        Some(_) => names(named, name, index),
+    /// Whether the patterns name the bit of this name and index.
+    pub fn has(&self, name: &[u8], index: Option<u32>) -> bool
+        ensures { result ≡ list_any (names_bit name.now index) (words_of self.now) }
+    {
+        match self.compliance {
+            None => false,
+            Some(_) => has_key(&self.bits, name, index),
+        }
     }
 }

@@ -6,8 +6,11 @@
 mod broken;
 mod cells;
 mod compliance;
+mod controls;
 mod draft;
+mod indexed;
 pub mod law;
+mod pin_index;
 mod pin_map;
 mod places;
 mod port_index;

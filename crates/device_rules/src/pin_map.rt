@@ -1,14 +1,11 @@
 //! The rule about the pin map.
-ghost use Rattle.std.specs.Prelude.{◌≡◌, ◌<◌, ◌^◌, ◌++◌, ◌||◌, not, List, ℕ, None, false, length, IfOk};
+ghost use Rattle.std.specs.Prelude.{◌≡◌, ◌<◌, ◌^◌, ◌++◌, ◌||◌, not, List, ℕ, false, length, IfOk};
 ghost use Rattle.std.specs.Option.{option_copied};
-ghost use Rattle.std.specs.Str.{bytes_eq};
-ghost use Rattle.std.specs.HashSet.{contains};
-ghost use Rattle.device_rules.specs.inner.Index.{IsIndex};
-ghost use Rattle.device_rules.specs.inner.Seen.{Knows};
-ghost use Rattle.device_rules.specs.Ports.{v2, port_of};
+ghost use Rattle.device_rules.specs.inner.Seen.{HasNames};
+ghost use Rattle.device_rules.specs.Ports.{port_of};
 ghost use Rattle.device_rules.specs.PinMap.{has_width, some_repeats, v4};
 
-use crate::port_index::{Near, PortIndex, port_at};
+use crate::port_index::{Near, PortIndex};
 use crate::ports::bit_count;
 use board_defs::Name;
 use bsdl_parser::Port;
@@ -26,13 +23,11 @@ fn has_width(port: Option<&Port>, count: usize) -> bool
 }
 
 /// Whether an entry names a port, and has as many pins as the port has bits.
-fn fits_port(ports: &[Port], index: &PortIndex, entry: &MapEntry) -> bool
-    requires index { IsIndex ports.now index.now }
-    requires ports { v2 ports.now ≡ None }
+fn fits_port(ports: &PortIndex, entry: &MapEntry) -> bool
     ensures { result ≡ has_width (port_of ports.now entry.now.port) (length entry.now.pins) }
 {
     has_width(
-        port_at(ports, index, &mut Near::new(), entry.port.bytes()),
+        ports.port_at(&mut Near::new(), entry.port.bytes()),
         entry.pins.len(),
     )
 }
@@ -45,8 +40,10 @@ fn is_broken(known: bool, fits: bool, repeats: bool) -> bool
 
 /// Whether one of the pins was seen, or stands earlier among them. They are seen from then on.
 fn some_repeats<'a>(seen: &mut HashSet<&'a [u8]>, pins: &'a [Name]) -> Result<bool, AllocError>
-    ensures answer { IfOk result (λ repeats. (before : List (List ℕ)) → Knows (contains (λ x y. bytes_eq x.now y.now) seen.old) before → repeats ≡ some_repeats before pins.now) }
-    ensures seen { IfOk result (λ repeats. (before : List (List ℕ)) → Knows (contains (λ x y. bytes_eq x.now y.now) seen.old) before → repeats ≡ false → Knows (contains (λ x y. bytes_eq x.now y.now) seen.new) (before ++ pins.now)) }
+    ensures answer { IfOk result (λ repeats. (before : List (List ℕ)) → HasNames seen.old before
+        → repeats ≡ some_repeats before pins.now) }
+    ensures seen { IfOk result (λ repeats. (before : List (List ℕ)) → HasNames seen.old before
+        → repeats ≡ false → HasNames seen.new (before ++ pins.now)) }
 {
     for pin in pins {
         let fresh = seen.insert(pin.bytes())?;
@@ -62,13 +59,10 @@ fn some_repeats<'a>(seen: &mut HashSet<&'a [u8]>, pins: &'a [Name]) -> Result<bo
 #[tactic(auto, unfolding(crate::specs::PinMap::v4))]
 pub(crate) fn wrong_map_entry(
     alloc: Global,
-    ports: &[Port],
-    index: &PortIndex,
+    ports: &PortIndex,
     entries: &[MapEntry],
 ) -> Result<Option<u32>, AllocError>
-    requires index { IsIndex ports.now index.now }
-    requires ports { v2 ports.now ≡ None }
-    requires short { length entries.now < 2 ^ 32 }
+    requires { length entries.now < 2 ^ 32 }
     ensures { IfOk result (λ item. item ≡ v4 ports.now entries.now) }
 {
     let mut named: HashSet<&[u8]> = HashSet::new(alloc);
@@ -76,7 +70,7 @@ pub(crate) fn wrong_map_entry(
     for (i, entry) in entries.iter().enumerate() {
         let name = entry.port.bytes();
         let known = named.contains(name);
-        let fits = fits_port(ports, index, entry);
+        let fits = fits_port(ports, entry);
         let repeats = some_repeats(&mut pins, entry.pins.as_slice())?;
         if is_broken(known, fits, repeats) {
             return Ok(Some(i as u32 + 1));

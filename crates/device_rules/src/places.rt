@@ -1,36 +1,17 @@
 //! The rules about the ports on which boundary entries are.
-ghost use Rattle.std.specs.Prelude.{◌≡◌, ◌<◌, ◌^◌, ◌&&◌, not, None, length, IfOk, IfSome};
+ghost use Rattle.std.specs.Prelude.{◌≡◌, ◌<◌, ◌^◌, ◌&&◌, not, length, IfOk, IfSome};
 ghost use Rattle.std.specs.Option.{option_copied};
 ghost use Rattle.board_defs.specs.DeviceRules.{is_driving, is_inner, may_drive};
-ghost use Rattle.device_rules.specs.Ports.{v2, bits_of, bit_number, named_port};
-ghost use Rattle.device_rules.specs.inner.Index.{IsIndex};
+ghost use Rattle.device_rules.specs.Ports.{bits_of, bit_number, named_port};
 ghost use Rattle.device_rules.specs.Places.{is_star, breaks_place, v9, driven_bit, breaks_driver, v13, breaks_mode, v14};
 
 use crate::draft::TapPorts;
-use crate::port_index::{Near, PortIndex, bit_at, port_at, total_bits};
+use crate::port_index::{Near, PortIndex};
 use crate::taps::is_tap;
 use board_defs::{Mode, Role};
 use bsdl_parser::Port;
 use bsdl_strings::{Entry, PortWord};
 use std::alloc::{AllocError, Global};
-
-fn is_driver(role: Role) -> bool
-    ensures { result ≡ is_driving role }
-{
-    matches!(role, Role::Output2 | Role::Output3 | Role::Bidir)
-}
-
-fn is_inner(role: Role) -> bool
-    ensures { result ≡ is_inner role }
-{
-    matches!(role, Role::Control | Role::ControlR | Role::Internal)
-}
-
-fn can_drive(mode: Mode) -> bool
-    ensures { result ≡ may_drive mode }
-{
-    matches!(mode, Mode::Outward | Mode::Both | Mode::Buffer)
-}
 
 fn is_star(word: &PortWord) -> bool
     ensures { result ≡ is_star word.now }
@@ -38,30 +19,26 @@ fn is_star(word: &PortWord) -> bool
     matches!(word, PortWord::Star)
 }
 
-fn breaks_place(ports: &[Port], index: &PortIndex, near: &mut Near, entry: &Entry) -> bool
-    requires index { IsIndex ports.now index.now }
-    requires ports { v2 ports.now ≡ None }
+fn breaks_place(ports: &PortIndex, near: &mut Near, entry: &Entry) -> bool
     ensures { result ≡ breaks_place ports.now entry.now }
 {
-    if is_inner(entry.role) {
+    if entry.role.is_inner() {
         !is_star(&entry.port)
     } else {
-        bit_at(ports, index, near, &entry.port).is_none()
+        ports.bit_at(near, &entry.port).is_none()
     }
 }
 
 /// V9: the first entry that is at `*` and is to be on a port bit, or is not at `*` and is to be,
 /// or names no port bit.
 #[tactic(auto, unfolding(crate::specs::Places::v9))]
-pub(crate) fn wrong_place(ports: &[Port], index: &PortIndex, entries: &[Entry]) -> Option<u32>
-    requires index { IsIndex ports.now index.now }
-    requires ports { v2 ports.now ≡ None }
-    requires short { length entries.now < 2 ^ 32 }
+pub(crate) fn wrong_place(ports: &PortIndex, entries: &[Entry]) -> Option<u32>
+    requires { length entries.now < 2 ^ 32 }
     ensures { result ≡ v9 ports.now entries.now }
 {
     let mut near = Near::new();
     for (i, entry) in entries.iter().enumerate() {
-        if breaks_place(ports, index, &mut near, entry) {
+        if breaks_place(ports, &mut near, entry) {
             return Some(i as u32 + 1);
         }
     }
@@ -69,14 +46,12 @@ pub(crate) fn wrong_place(ports: &[Port], index: &PortIndex, entries: &[Entry]) 
 }
 
 /// The port bit that an entry drives.
-fn driven_bit(ports: &[Port], index: &PortIndex, near: &mut Near, entry: &Entry) -> Option<u32>
-    requires index { IsIndex ports.now index.now }
-    requires ports { v2 ports.now ≡ None }
+fn driven_bit(ports: &PortIndex, near: &mut Near, entry: &Entry) -> Option<u32>
     ensures number { result ≡ driven_bit ports.now entry.now }
     ensures few { IfSome result (λ bit. bit < bits_of ports.now) }
 {
-    if is_driver(entry.role) {
-        bit_at(ports, index, near, &entry.port)
+    if entry.role.is_driving() {
+        ports.bit_at(near, &entry.port)
     } else {
         None
     }
@@ -86,19 +61,16 @@ fn driven_bit(ports: &[Port], index: &PortIndex, near: &mut Near, entry: &Entry)
 #[tactic(auto, unfolding(crate::specs::Places::v13))]
 pub(crate) fn second_driver(
     alloc: Global,
-    ports: &[Port],
-    index: &PortIndex,
+    ports: &PortIndex,
     entries: &[Entry],
 ) -> Result<Option<u32>, AllocError>
-    requires index { IsIndex ports.now index.now }
-    requires ports { v2 ports.now ≡ None }
-    requires short { length entries.now < 2 ^ 32 }
+    requires { length entries.now < 2 ^ 32 }
     ensures { IfOk result (λ item. item ≡ v13 ports.now entries.now) }
 {
-    let mut driven = vec![in alloc; false; total_bits(ports, index) as usize]?;
+    let mut driven = vec![in alloc; false; ports.total_bits() as usize]?;
     let mut near = Near::new();
     for (i, entry) in entries.iter().enumerate() {
-        if let Some(bit) = driven_bit(ports, index, &mut near, entry) {
+        if let Some(bit) = driven_bit(ports, &mut near, entry) {
             if driven[bit as usize] {
                 return Ok(Some(i as u32 + 1));
             }
@@ -110,40 +82,34 @@ pub(crate) fn second_driver(
 
 /// The port that a word names.
 fn named_port<'a>(
-    ports: &'a [Port],
-    index: &PortIndex,
+    ports: &'a PortIndex,
     near: &mut Near,
     word: &PortWord,
 ) -> Option<&'a Port>
-    requires index { IsIndex ports.now index.now }
-    requires ports { v2 ports.now ≡ None }
     ensures { option_copied result ≡ named_port ports.now word.now }
 {
     match word {
         PortWord::Star => None,
-        PortWord::Plain(name) => port_at(ports, index, near, name.bytes()),
-        PortWord::Index(name, _) => port_at(ports, index, near, name.bytes()),
+        PortWord::Plain(name) => ports.port_at(near, name.bytes()),
+        PortWord::Index(name, _) => ports.port_at(near, name.bytes()),
     }
 }
 
 fn drives_wrongly(role: Role, mode: Mode) -> bool
     ensures { result ≡ (is_driving role && not (may_drive mode)) }
 {
-    is_driver(role) && !can_drive(mode)
+    role.is_driving() && !mode.may_drive()
 }
 
 fn is_misfit(
-    ports: &[Port],
-    index: &PortIndex,
+    ports: &PortIndex,
     near: &mut Near,
     taps: &TapPorts,
     entry: &Entry,
 ) -> bool
-    requires index { IsIndex ports.now index.now }
-    requires ports { v2 ports.now ≡ None }
     ensures { result ≡ breaks_mode ports.now taps.now entry.now }
 {
-    match named_port(ports, index, near, &entry.port) {
+    match named_port(ports, near, &entry.port) {
         None => false,
         Some(port) => is_tap(taps, port.name.bytes()) || drives_wrongly(entry.role, port.mode),
     }
@@ -152,19 +118,16 @@ fn is_misfit(
 /// V14: the first entry on a TAP port, or that drives a port of mode in or linkage.
 #[tactic(auto, unfolding(crate::specs::Places::v14))]
 pub(crate) fn misfit(
-    ports: &[Port],
-    index: &PortIndex,
+    ports: &PortIndex,
     taps: &TapPorts,
     entries: &[Entry],
 ) -> Option<u32>
-    requires index { IsIndex ports.now index.now }
-    requires ports { v2 ports.now ≡ None }
-    requires short { length entries.now < 2 ^ 32 }
+    requires { length entries.now < 2 ^ 32 }
     ensures { result ≡ v14 ports.now taps.now entries.now }
 {
     let mut near = Near::new();
     for (i, entry) in entries.iter().enumerate() {
-        if is_misfit(ports, index, &mut near, taps, entry) {
+        if is_misfit(ports, &mut near, taps, entry) {
             return Some(i as u32 + 1);
         }
     }

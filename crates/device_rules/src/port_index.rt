@@ -1,13 +1,12 @@
 //! Where ports and their bits stand, by one map over the names.
-ghost use Rattle.std.specs.Prelude.{◌≡◌, ◌<◌, ◌^◌, ℕ, List, Some, None, true, length, map, take, vec_len, IfOk, IfSome};
-ghost use Rattle.std.specs.Borrow.{Bor};
+ghost use Rattle.std.specs.Prelude.{◌≡◌, ◌<◌, ◌^◌, Some, None, true, length, map, take, vec_len, IfOk, IfSome};
 ghost use Rattle.std.specs.Option.{option_copied};
 ghost use Rattle.std.specs.Str.{bytes_eq};
 ghost use Rattle.std.specs.List.{position_from};
 ghost use Rattle.indexmap.specs.IndexMap.{get_by};
 ghost use Rattle.first_places.specs.Places.{first_place};
 ghost use Rattle.device_rules.specs.Ports.{v2, bits_of, port_of, port_number, port_bits, is_bit, bit_number};
-ghost use Rattle.device_rules.specs.inner.Index.{AreStarts, IsIndex, place_in};
+ghost use Rattle.device_rules.specs.inner.Index.{AreLent, AreStarts, Finds, place_in};
 
 use crate::ports::bit_count;
 use bsdl_parser::{Port, Range};
@@ -15,16 +14,10 @@ use bsdl_strings::PortWord;
 use first_places::first_places;
 use indexmap::IndexMap;
 use std::alloc::{AllocError, Global};
-
-/// Where each port stands, how many bits stand before it and, at the end, how many there are.
-#[derive(Drop)]
-pub struct PortIndex<'a> {
-    places: IndexMap<&'a [u8], u32>,
-    starts: Vec<u32>,
-}
+use std::marker::Model;
 
 fn names_of<'a>(alloc: Global, ports: &'a [Port]) -> Result<Vec<&'a [u8]>, AllocError>
-    ensures names { IfOk result (λ names. map (λ n. n.now) names.items ≡ map (λ port. port.name) ports.now) }
+    ensures names { IfOk result (λ names. AreLent names.items (map (λ port. port.name) ports.now)) }
     ensures count { IfOk result (λ names. vec_len names ≡ length ports.now) }
 {
     let mut names = Vec::new(alloc);
@@ -34,19 +27,21 @@ fn names_of<'a>(alloc: Global, ports: &'a [Port]) -> Result<Vec<&'a [u8]>, Alloc
     Ok(names)
 }
 
+/// Where each name stands first.
 pub(crate) fn first_places_of<'a>(
     alloc: Global,
     names: &[&'a [u8]],
 ) -> Result<IndexMap<&'a [u8], u32>, AllocError>
     requires { length names.now < 2 ^ 32 }
-    ensures { IfOk result (λ places. (q : Bor (List ℕ)) → get_by (λ n. bytes_eq q.now n.now) places ≡ first_place bytes_eq (map (λ n. n.now) names.now) q.now) }
+    ensures { IfOk result (λ places. Finds places (first_place bytes_eq (map (λ n. n.now) names.now))) }
 {
     first_places(alloc, names)
 }
 
+/// The number of each port by its name.
 fn places_of<'a>(alloc: Global, ports: &'a [Port]) -> Result<IndexMap<&'a [u8], u32>, AllocError>
     requires { length ports.now < 2 ^ 32 }
-    ensures { IfOk result (λ places. (q : Bor (List ℕ)) → get_by (λ n. bytes_eq q.now n.now) places ≡ port_number ports.now q.now) }
+    ensures { IfOk result (λ places. Finds places (port_number ports.now)) }
 {
     let names = names_of(alloc, ports)?;
     first_places_of(alloc, &names)
@@ -67,83 +62,11 @@ fn starts_of(alloc: Global, ports: &[Port]) -> Result<Vec<u32>, AllocError>
     Ok(starts)
 }
 
-/// The index of these ports.
-pub fn index_of<'a>(alloc: Global, ports: &'a [Port]) -> Result<PortIndex<'a>, AllocError>
-    requires short { length ports.now < 2 ^ 32 }
-    requires ports { v2 ports.now ≡ None }
-    ensures { IfOk result (λ index. IsIndex ports.now index) }
-{
-    let places = places_of(alloc, ports)?;
-    let starts = starts_of(alloc, ports)?;
-    Ok(PortIndex { places, starts })
-}
-
+/// What the map has for a name.
 pub(crate) fn place_of(places: &IndexMap<&[u8], u32>, name: &[u8]) -> Option<u32>
     ensures { result ≡ get_by (λ n. bytes_eq name.now n.now) places.now }
 {
     places.get(&name).copied()
-}
-
-/// Whether the port at this place has this name.
-fn has_name(ports: &[Port], place: u32, name: &[u8]) -> bool
-    requires { v2 ports.now ≡ None }
-    ensures { result ≡ true → port_number ports.now name.now ≡ Some place }
-{
-    match ports.get(place as usize) {
-        Some(port) => port.name.bytes() == name,
-        None => false,
-    }
-}
-
-/// The numbers of the two ports that the map gave last. Names that follow one another are often of
-/// one port, or of two by turns, so these are tried before the map is asked. Any numbers may stand
-/// in it: the answer is the same.
-#[derive(Clone, Copy, Debug, PartialEq, Eq)]
-pub struct Near {
-    last: u32,
-    before: u32,
-}
-
-impl Near {
-    /// The first port, before there was a question.
-    pub fn new() -> Near {
-        Near { last: 0, before: 0 }
-    }
-}
-
-/// The number of the port with this name.
-pub fn number_of(ports: &[Port], index: &PortIndex, near: &mut Near, name: &[u8]) -> Option<u32>
-    requires index { IsIndex ports.now index.now }
-    requires ports { v2 ports.now ≡ None }
-    ensures { result ≡ port_number ports.now name.now }
-{
-    if has_name(ports, near.last, name) {
-        return Some(near.last);
-    }
-    if has_name(ports, near.before, name) {
-        return Some(near.before);
-    }
-    let number = place_of(&index.places, name)?;
-    near.before = near.last;
-    near.last = number;
-    Some(number)
-}
-
-/// The port with this name.
-pub fn port_at<'a>(
-    ports: &'a [Port],
-    index: &PortIndex,
-    near: &mut Near,
-    name: &[u8],
-) -> Option<&'a Port>
-    requires index { IsIndex ports.now index.now }
-    requires ports { v2 ports.now ≡ None }
-    ensures { option_copied result ≡ port_of ports.now name.now }
-{
-    match number_of(ports, index, near, name) {
-        Some(number) => Some(&ports[number as usize]),
-        None => None,
-    }
 }
 
 /// The place of an index within a range, from left to right.
@@ -169,54 +92,151 @@ fn place_in(range: Option<Range>, number: Option<u32>) -> Option<u32>
     }
 }
 
-/// How many bits stand before a port.
-fn start_of(ports: &[Port], index: &PortIndex, number: u32) -> u32
-    requires index { IsIndex ports.now index.now }
-    requires within { number < length ports.now }
-    ensures { result ≡ bits_of (take number ports.now) }
-{
-    index.starts[number as usize]
+/// The numbers of the two ports that the map gave last. Names that follow one another are often of
+/// one port, or of two by turns, so these are tried before the map is asked. Any numbers may stand
+/// in it: the answer is the same.
+#[derive(Clone, Copy, Debug, PartialEq, Eq)]
+pub struct Near {
+    last: u32,
+    before: u32,
 }
 
-/// How many bits all ports have.
-pub fn total_bits(ports: &[Port], index: &PortIndex) -> u32
-    requires { IsIndex ports.now index.now }
-    ensures { result ≡ bits_of ports.now }
-{
-    index.starts[ports.len()]
-}
-
-fn bit_in(
-    ports: &[Port],
-    index: &PortIndex,
-    near: &mut Near,
-    name: &[u8],
-    number: Option<u32>,
-) -> Option<u32>
-    requires index { IsIndex ports.now index.now }
-    requires ports { v2 ports.now ≡ None }
-    ensures number { result ≡ position_from (is_bit name.now number) 0 (port_bits ports.now) }
-    ensures few { IfSome result (λ bit. bit < bits_of ports.now) }
-{
-    match number_of(ports, index, near, name) {
-        None => None,
-        Some(port) => match place_in(ports[port as usize].range, number) {
-            None => None,
-            Some(place) => Some(start_of(ports, index, port) + place),
-        },
+impl Near {
+    /// The first port, before there was a question.
+    pub fn new() -> Near {
+        Near { last: 0, before: 0 }
     }
 }
 
-/// The number of the port bit that a word names.
-pub fn bit_at(ports: &[Port], index: &PortIndex, near: &mut Near, word: &PortWord) -> Option<u32>
-    requires index { IsIndex ports.now index.now }
-    requires ports { v2 ports.now ≡ None }
-    ensures number { result ≡ bit_number ports.now word.now }
-    ensures few { IfSome result (λ bit. bit < bits_of ports.now) }
-{
-    match word {
-        PortWord::Star => None,
-        PortWord::Plain(name) => bit_in(ports, index, near, name.bytes(), None),
-        PortWord::Index(name, number) => bit_in(ports, index, near, name.bytes(), Some(*number)),
+/// The ports of a device that keep rule V2: where each stands, how many bits stand before it and, at
+/// the end, how many there are. Seen as the list of the ports.
+#[derive(Drop)]
+pub struct PortIndex<'a> {
+    ports: &'a [Port],
+    places: IndexMap<&'a [u8], u32>,
+    starts: Vec<u32>,
+}
+
+impl<'a> Model for PortIndex<'a> {
+    ghost use Rattle.std.specs.Prelude.{List};
+    ghost use Rattle.bsdl_parser.specs.declared.entity.Port.{Port};
+    ghost use Rattle.device_rules.specs.inner.Index.{IsIndex};
+
+    ghost Value = { List Port };
+
+    ghost view = { λ a. a.ports.now };
+
+    ghost invariant = { λ a. IsIndex a.ports.now a.places a.starts.items };
+}
+
+impl<'a> PortIndex<'a> {
+    /// The index of these ports.
+    pub fn of(alloc: Global, ports: &'a [Port]) -> Result<PortIndex<'a>, AllocError>
+        requires short { length ports.now < 2 ^ 32 }
+        requires rule { v2 ports.now ≡ None }
+        ensures { IfOk result (λ index. index ≡ ports.now) }
+    {
+        let places = places_of(alloc, ports)?;
+        let starts = starts_of(alloc, ports)?;
+        Ok(PortIndex {
+            ports,
+            places,
+            starts,
+        })
+    }
+
+    /// The ports in order.
+    pub fn as_slice(&self) -> &[Port]
+        ensures ports { result.now ≡ self.now }
+        ensures short { length result.now < 2 ^ 32 }
+        ensures rule { v2 result.now ≡ None }
+    {
+        self.ports
+    }
+
+    /// Whether the port at this place has this name. Names differ, so no other port has it then.
+    fn has_name(&self, place: u32, name: &[u8]) -> bool
+        ensures { result ≡ true → port_number self.now name.now ≡ Some place }
+    {
+        match self.as_slice().get(place as usize) {
+            Some(port) => port.name.bytes() == name,
+            None => false,
+        }
+    }
+
+    /// The number of the port with this name, by the map.
+    fn mapped_number(&self, name: &[u8]) -> Option<u32>
+        ensures { result ≡ port_number self.now name.now }
+    {
+        place_of(&self.places, name)
+    }
+
+    /// The number of the port with this name.
+    fn number_of(&self, near: &mut Near, name: &[u8]) -> Option<u32>
+        ensures { result ≡ port_number self.now name.now }
+    {
+        if self.has_name(near.last, name) {
+            return Some(near.last);
+        }
+        if self.has_name(near.before, name) {
+            return Some(near.before);
+        }
+        let number = self.mapped_number(name)?;
+        near.before = near.last;
+        near.last = number;
+        Some(number)
+    }
+
+    /// The port with this name.
+    pub fn port_at(&self, near: &mut Near, name: &[u8]) -> Option<&Port>
+        ensures { option_copied result ≡ port_of self.now name.now }
+    {
+        let ports = self.as_slice();
+        match self.number_of(near, name) {
+            Some(number) => Some(&ports[number as usize]),
+            None => None,
+        }
+    }
+
+    /// How many bits stand before a port.
+    fn start_of(&self, number: u32) -> u32
+        requires { number < length self.now }
+        ensures { result ≡ bits_of (take number self.now) }
+    {
+        self.starts[number as usize]
+    }
+
+    /// How many bits all ports have.
+    pub fn total_bits(&self) -> u32
+        ensures { result ≡ bits_of self.now }
+    {
+        self.starts[self.ports.len()]
+    }
+
+    /// The number of the bit with this index of the port with this name.
+    fn bit_in(&self, near: &mut Near, name: &[u8], index: Option<u32>) -> Option<u32>
+        ensures number { result ≡ position_from (is_bit name.now index) 0 (port_bits self.now) }
+        ensures few { IfSome result (λ bit. bit < bits_of self.now) }
+    {
+        let ports = self.as_slice();
+        match self.number_of(near, name) {
+            None => None,
+            Some(port) => match place_in(ports[port as usize].range, index) {
+                None => None,
+                Some(place) => Some(self.start_of(port) + place),
+            },
+        }
+    }
+
+    /// The number of the port bit that a word names.
+    pub fn bit_at(&self, near: &mut Near, word: &PortWord) -> Option<u32>
+        ensures number { result ≡ bit_number self.now word.now }
+        ensures few { IfSome result (λ bit. bit < bits_of self.now) }
+    {
+        match word {
+            PortWord::Star => None,
+            PortWord::Plain(name) => self.bit_in(near, name.bytes(), None),
+            PortWord::Index(name, index) => self.bit_in(near, name.bytes(), Some(*index)),
+        }
     }
 }

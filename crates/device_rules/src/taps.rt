@@ -1,14 +1,13 @@
 //! The rule about the test access port and the compliance patterns.
-ghost use Rattle.std.specs.Prelude.{◌≡◌, None, List, ℕ, length, map, ◌==◌, is_some};
+ghost use Rattle.std.specs.Prelude.{◌≡◌, length, map, ◌==◌, is_some};
 ghost use Rattle.std.specs.Option.{option_copied};
 ghost use Rattle.std.specs.List.{list_any, list_all};
 ghost use Rattle.std.specs.Str.{bytes_eq};
-ghost use Rattle.device_rules.specs.Ports.{v2, bit_number, port_of};
-ghost use Rattle.device_rules.specs.inner.Index.{IsIndex};
+ghost use Rattle.device_rules.specs.Ports.{bit_number};
 ghost use Rattle.device_rules.specs.Taps.{is_inward, is_outward, is_plain, breaks_tap, reset_breaks, wrong_tap, complies, v3, listed, tap_names, is_among};
 
 use crate::draft::TapPorts;
-use crate::port_index::{Near, PortIndex, bit_at, port_at};
+use crate::port_index::{Near, PortIndex};
 use board_defs::{Code, Mode, Name};
 use bsdl_parser::Port;
 use bsdl_strings::{Compliance, PortWord};
@@ -44,38 +43,30 @@ fn is_in(names: &[&[u8]], name: &[u8]) -> bool
     is_lent(names, name)
 }
 
-fn breaks_inward(ports: &[Port], index: &PortIndex, before: &[&[u8]], name: &[u8]) -> bool
-    requires index { IsIndex ports.now index.now }
-    requires ports { v2 ports.now ≡ None }
+fn breaks_inward(ports: &PortIndex, before: &[&[u8]], name: &[u8]) -> bool
     ensures { result ≡ breaks_tap is_inward ports.now (map (λ n. n.now) before.now) name.now }
 {
-    is_in(before, name) || !is_plain_in(port_at(ports, index, &mut Near::new(), name))
+    is_in(before, name) || !is_plain_in(ports.port_at(&mut Near::new(), name))
 }
 
-fn breaks_outward(ports: &[Port], index: &PortIndex, before: &[&[u8]], name: &[u8]) -> bool
-    requires index { IsIndex ports.now index.now }
-    requires ports { v2 ports.now ≡ None }
+fn breaks_outward(ports: &PortIndex, before: &[&[u8]], name: &[u8]) -> bool
     ensures { result ≡ breaks_tap is_outward ports.now (map (λ n. n.now) before.now) name.now }
 {
-    is_in(before, name) || !is_plain_out(port_at(ports, index, &mut Near::new(), name))
+    is_in(before, name) || !is_plain_out(ports.port_at(&mut Near::new(), name))
 }
 
-fn breaks_reset(ports: &[Port], index: &PortIndex, before: &[&[u8]], reset: &Option<Name>) -> bool
-    requires index { IsIndex ports.now index.now }
-    requires ports { v2 ports.now ≡ None }
+fn breaks_reset(ports: &PortIndex, before: &[&[u8]], reset: &Option<Name>) -> bool
     ensures { result ≡ reset_breaks ports.now (map (λ n. n.now) before.now) reset.now }
 {
     match reset {
-        Some(name) => breaks_inward(ports, index, before, name.bytes()),
+        Some(name) => breaks_inward(ports, before, name.bytes()),
         None => false,
     }
 }
 
 /// The number of the first TAP attribute that names no port of its own, of type bit and of its
 /// mode.
-fn wrong_tap(ports: &[Port], index: &PortIndex, taps: &TapPorts) -> Option<u32>
-    requires index { IsIndex ports.now index.now }
-    requires ports { v2 ports.now ≡ None }
+fn wrong_tap(ports: &PortIndex, taps: &TapPorts) -> Option<u32>
     ensures { result ≡ wrong_tap ports.now taps.now }
 {
     let names = [
@@ -84,15 +75,15 @@ fn wrong_tap(ports: &[Port], index: &PortIndex, taps: &TapPorts) -> Option<u32>
         taps.mode.bytes(),
         taps.clock.bytes(),
     ];
-    if breaks_inward(ports, index, &names[..0], names[0]) {
+    if breaks_inward(ports, &names[..0], names[0]) {
         Some(2)
-    } else if breaks_outward(ports, index, &names[..1], names[1]) {
+    } else if breaks_outward(ports, &names[..1], names[1]) {
         Some(3)
-    } else if breaks_inward(ports, index, &names[..2], names[2]) {
+    } else if breaks_inward(ports, &names[..2], names[2]) {
         Some(4)
-    } else if breaks_inward(ports, index, &names[..3], names[3]) {
+    } else if breaks_inward(ports, &names[..3], names[3]) {
         Some(5)
-    } else if breaks_reset(ports, index, &names, &taps.reset) {
+    } else if breaks_reset(ports, &names, &taps.reset) {
         Some(11)
     } else {
         None
@@ -119,14 +110,12 @@ fn is_reset(reset: &Option<Name>, name: &[u8]) -> bool
     }
 }
 
-fn are_bits(ports: &[Port], index: &PortIndex, words: &[PortWord]) -> bool
-    requires index { IsIndex ports.now index.now }
-    requires ports { v2 ports.now ≡ None }
+fn are_bits(ports: &PortIndex, words: &[PortWord]) -> bool
     ensures { result ≡ list_all (λ word. is_some (bit_number ports.now word)) words.now }
 {
     let mut near = Near::new();
     for word in words {
-        if bit_at(ports, index, &mut near, word).is_none() {
+        if ports.bit_at(&mut near, word).is_none() {
             return false;
         }
     }
@@ -141,15 +130,13 @@ fn have_length(count: usize, patterns: &[Code]) -> bool
         .all(|pattern| pattern.symbols().len() == count)
 }
 
-fn complies(ports: &[Port], index: &PortIndex, compliance: &Option<Compliance>) -> bool
-    requires index { IsIndex ports.now index.now }
-    requires ports { v2 ports.now ≡ None }
+fn complies(ports: &PortIndex, compliance: &Option<Compliance>) -> bool
     ensures { result ≡ complies ports.now compliance.now }
 {
     match compliance {
         None => true,
         Some(compliance) => {
-            are_bits(ports, index, compliance.ports.as_slice())
+            are_bits(ports, compliance.ports.as_slice())
                 && have_length(compliance.ports.len(), compliance.patterns.as_slice())
         }
     }
@@ -159,19 +146,16 @@ fn complies(ports: &[Port], index: &PortIndex, compliance: &Option<Compliance>) 
 /// COMPLIANCE_PATTERNS.
 #[tactic(auto, unfolding(crate::specs::Taps::v3))]
 pub(crate) fn wrong_attribute(
-    ports: &[Port],
-    index: &PortIndex,
+    ports: &PortIndex,
     taps: &TapPorts,
     compliance: &Option<Compliance>,
 ) -> Option<u32>
-    requires index { IsIndex ports.now index.now }
-    requires ports { v2 ports.now ≡ None }
     ensures { result ≡ v3 ports.now taps.now compliance.now }
 {
-    match wrong_tap(ports, index, taps) {
+    match wrong_tap(ports, taps) {
         Some(number) => Some(number),
         None => {
-            if complies(ports, index, compliance) {
+            if complies(ports, compliance) {
                 None
             } else {
                 Some(13)

@@ -1,27 +1,43 @@
 -- Where ports and their bits stand.
-use Rattle.std.specs.Prelude.{◌≡◌, ℕ, ◌+◌, ◌-◌, ◌≤◌, List, [], length, take, nat_eq, Bool, false, ◌&&◌, if◌then◌else◌, Option, Some, None, nat_le, slice_index}
+use Rattle.std.specs.Prelude.{◌≡◌, ℕ, ◌+◌, ◌-◌, ◌^◌, ◌<◌, ◌≤◌, List, [], length, map, take, nat_eq, Bool, false, ◌&&◌, if◌then◌else◌, Option, Some, None, nat_le, slice_index}
 use Rattle.std.specs.Borrow.{Bor}
 use Rattle.std.specs.Str.{bytes_eq}
-use Rattle.std.specs.List.{list_any}
+use Rattle.std.specs.List.{list_any, position_from}
 use Rattle.std.specs.Option.{option_eq}
-use Rattle.indexmap.specs.IndexMap.{get_by}
+use Rattle.std.specs.HashSet.{HashSet, contains}
+use Rattle.indexmap.specs.IndexMap.{IndexMap, get_by}
 use Rattle.bsdl_parser.specs.declared.entity.Port.{Port}
 use Rattle.bsdl_parser.specs.declared.entity.Range.{Range}
-use Rattle.device_rules.specs.declared.port_index.PortIndex.{PortIndex}
 use Rattle.bsdl_strings.specs.declared.values.Compliance.{Compliance}
+use Rattle.bsdl_strings.specs.declared.values.MapEntry.{MapEntry}
 use Rattle.bsdl_strings.specs.declared.values.PortWord.{PortWord}
 use Rattle.bsdl_strings.specs.declared.values.PortWord.TheVariants.{Star, Plain, Index}
-use Rattle.device_rules.specs.Ports.{Bit, bits_of, port_number}
+use Rattle.device_rules.specs.PinMap.{maps_port}
+use Rattle.device_rules.specs.Ports.{Bit, bits_of, port_number, v2}
+
+-- the names are lent from these
+abbrev pub AreLent : List (Bor (List ℕ)) → List (List ℕ) → Type 0
+AreLent lent names = map (λ n. n.now) lent ≡ names
+
+-- the map tells of each name what this function does
+abbrev pub Finds : {S : Type 0} → IndexMap (Bor (List ℕ)) ℕ S → (List ℕ → Option ℕ) → Type 0
+Finds places place = (q : Bor (List ℕ)) → get_by (λ n. bytes_eq q.now n.now) places ≡ place q.now
 
 -- how many bits stand before each port, and how many there are
 pub record AreStarts (ports : List Port) (starts : List ℕ) : Type 0 where
   pub size : length starts ≡ length ports + 1
   pub each : (n : ℕ) → n ≤ length ports → slice_index starts n ≡ bits_of (take n ports)
 
--- the index of these ports
-pub record IsIndex (ports : List Port) (index : PortIndex) : Type 0 where
-  pub places : (q : Bor (List ℕ)) → get_by (λ n. bytes_eq q.now n.now) index.places ≡ port_number ports q.now
-  pub starts : AreStarts ports index.starts.items
+-- the ports are few and keep rule V2, the map finds them by their names, and this is how many bits stand before each
+pub record IsIndex {S : Type 0} (ports : List Port) (places : IndexMap (Bor (List ℕ)) ℕ S) (starts : List ℕ) : Type 0 where
+  pub short : length ports < 2 ^ 32
+  pub rule : v2 ports ≡ None
+  pub found : Finds places (port_number ports)
+  pub counted : AreStarts ports starts
+
+-- where a pin map names a port
+abbrev pub map_place : List MapEntry → List ℕ → Option ℕ
+map_place entries name = position_from (maps_port name) 0 entries
 
 -- the place of an index within a range, from left to right
 abbrev pub place_in : Option Range → Option ℕ → Option ℕ
@@ -60,6 +76,10 @@ abbrev pub words_of : Option Compliance → List PortWord
 words_of None = []
 words_of (Some compliance) = compliance.ports
 
--- the test passes for the bits that these words name
-abbrev pub Marked : (Bor (List ℕ) × Option ℕ → Bool) → List PortWord → Type 0
-Marked is words = (name : Bor (List ℕ)) (index : Option ℕ) → is (name, index) ≡ list_any (names_bit name.now index) words
+-- the set has this bit, by its name and its index
+abbrev pub has_key : {S : Type 0} → HashSet (Bor (List ℕ) × Option ℕ) S → Bor (List ℕ) × Option ℕ → Bool
+has_key bits key = contains (λ x y. bytes_eq x.0.now y.0.now && option_eq nat_eq x.1 y.1) bits key
+
+-- the set has the bits that these words name
+abbrev pub HasBits : {S : Type 0} → HashSet (Bor (List ℕ) × Option ℕ) S → List PortWord → Type 0
+HasBits bits words = (name : Bor (List ℕ)) (index : Option ℕ) → has_key bits (name, index) ≡ list_any (names_bit name.now index) words

@@ -1,12 +1,9 @@
 -- A word's bit is added where it names one.
-use Rattle.std.proofs.Common.{◌&&◌, nat_eq, sym, ap, subst, ◌∙◌, ◌+◌, take}
+use Rattle.std.proofs.Common.{sym, ap, subst, ◌∙◌, ◌+◌, take}
 use Rattle.std.specs.Prelude.{option_map}
-use Rattle.std.specs.Str.{bytes_eq}
-use Rattle.std.specs.Option.{option_eq}
-use Rattle.std.specs.HashSet.{contains}
 use Rattle.std.specs.List.{list_any}
 use Rattle.std.proofs.lemmas.List.{take_all}
-use Rattle.device_rules.specs.inner.Index.{names_bit, Marked}
+use Rattle.device_rules.specs.inner.Index.{names_bit, HasBits}
 use Rattle.device_rules.proofs.NamedLemmas.{marked_more, marked_none}
 use Rattle.device_rules.proofs.compliance.bits_of.Goals as goal
 use Rattle.device_rules.proofs.compliance.bits_of.Goals.{in-Some+in_ok-insert, in_default}
@@ -16,7 +13,7 @@ loop-word-preserved c =
     let words = c.args.words.now in
     let i = c.loop-word.word-index in
     let word = c.word-item.result in
-    let P = λ (s : _). Marked (contains (λ x y. bytes_eq x.0.now y.0.now && option_eq nat_eq x.1 y.1) s) (take (i + 1) words) in
+    let P = λ (s : _). HasBits s (take (i + 1) words) in
     elim c.match-key_of.branch [
       | in-Some+in_ok-insert w ↦
           subst P (sym w.bits-is) (λ name index.

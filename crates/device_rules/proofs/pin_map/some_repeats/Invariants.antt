@@ -1,13 +1,12 @@
 use Rattle.std.proofs.Common.{◌≡◌, ◌++◌, List, ℕ, take, drop}
 use Rattle.std.specs.Str.{bytes_eq}
-use Rattle.std.specs.HashSet.{contains}
 use Rattle.device_rules.specs.PinMap.{some_repeats}
-use Rattle.device_rules.specs.inner.Seen.{Knows}
+use Rattle.device_rules.specs.inner.Seen.{HasNames}
 use Rattle.device_rules.proofs.pin_map.some_repeats.Given as goal
 
 -- what was seen before is known, and the pins so far, of which none repeats
 abbrev pub invariant-loop-pin : goal.invariant-loop-pin
 invariant-loop-pin l = record {
-  seen : (before : List (List ℕ)) → Knows (contains (λ x y. bytes_eq x.now y.now) l.fn.seen) before → Knows (contains (λ x y. bytes_eq x.now y.now) l.seen) (before ++ take l.pin-index l.pins);
-  rest : (before : List (List ℕ)) → Knows (contains (λ x y. bytes_eq x.now y.now) l.fn.seen) before → some_repeats before l.pins ≡ some_repeats (before ++ take l.pin-index l.pins) (drop l.pin-index l.pins);
+  seen : (before : List (List ℕ)) → HasNames l.fn.seen before → HasNames l.seen (before ++ take l.pin-index l.pins);
+  rest : (before : List (List ℕ)) → HasNames l.fn.seen before → some_repeats before l.pins ≡ some_repeats (before ++ take l.pin-index l.pins) (drop l.pin-index l.pins);
 }

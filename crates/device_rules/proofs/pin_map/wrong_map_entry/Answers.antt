@@ -1,11 +1,9 @@
-use Rattle.std.proofs.Common.{◌≡◌, ◌+◌, true, false, not, sym, ap, subst, ◌∙◌, ◌++◌, take}
-use Rattle.std.specs.Str.{bytes_eq}
-use Rattle.std.specs.List.{list_any}
-use Rattle.std.specs.HashSet.{contains}
-use Rattle.device_rules.specs.PinMap.{maps_port, some_repeats, pins_of, breaks_map, v4}
-use Rattle.device_rules.specs.inner.Seen.{Knows}
+use Rattle.std.proofs.Common.{◌≡◌, ◌+◌, not, sym, ap, subst, ◌∙◌, ◌++◌, take}
+use Rattle.std.proofs.lemmas.Bool.{or_parts}
+use Rattle.device_rules.specs.PinMap.{pins_of, breaks_map, v4}
+use Rattle.device_rules.specs.inner.Seen.{HasNames}
 use Rattle.device_rules.proofs.ItemLemmas.{first_hit, first_step}
-use Rattle.device_rules.proofs.PinLemmas.{pins_more, breaks_is, third_false, known_more}
+use Rattle.device_rules.proofs.PinLemmas.{pins_more, breaks_is, known_more}
 use Rattle.device_rules.proofs.pin_map.wrong_map_entry.Goals as goal
 
 pub returns-then-is_broken : goal.returns-then-is_broken
@@ -14,14 +12,9 @@ returns-then-is_broken c =
     let entries = c.args.entries.now in
     let i = c.loop-i.i in
     let entry = c.index-entries-i.result in
-    let before = take i entries in
-    let known : list_any (maps_port entry.port) before ≡ c.contains-known.result =
-    ap (λ name. list_any (maps_port name) before) (sym c.bytes-name.ensures) ∙ sym (c.loop-i.invariant.named c.bytes-name.result) ∙ sym c.contains-known.ensures in
-    let repeats : some_repeats (pins_of before) entry.pins ≡ c.in_ok-repeats.repeats =
-    ap (some_repeats (pins_of before)) (sym c.as_slice.ensures) ∙ sym (c.in_ok-repeats.ensures.answer (pins_of before) c.loop-i.invariant.pins) in
-    let breaks : breaks_map ports before entry ≡ true =
-    breaks_is ports before entry c.contains-known.result c.fits_port-fits.result c.in_ok-repeats.repeats known (sym c.fits_port-fits.ensures) repeats ∙ sym c.is_broken.ensures ∙ c.if-is_broken.true in
-    first_hit (breaks_map ports) entries i entry (v4 ports entries) c.loop-i-test.true (sym c.index-entries-i.is) breaks c.loop-i.invariant.found
+    let breaks = breaks_is ports (take i entries) entry c.bytes-name.result.now c.as_slice.result.now _ _ _ _ c.bytes-name.ensures c.as_slice.ensures
+        (c.contains-known.ensures ∙ c.loop-i.invariant.named c.bytes-name.result) c.fits_port-fits.ensures (c.in_ok-repeats.ensures.answer (pins_of (take i entries)) c.loop-i.invariant.pins) c.is_broken.ensures in
+    first_hit (breaks_map ports) entries i entry (v4 ports entries) c.loop-i-test.true (sym c.index-entries-i.is) (breaks ∙ c.if-is_broken.true) c.loop-i.invariant.found
 
 pub loop-i-preserved : goal.loop-i-preserved
 loop-i-preserved c =
@@ -29,19 +22,13 @@ loop-i-preserved c =
     let entries = c.args.entries.now in
     let i = c.loop-i.i in
     let entry = c.index-entries-i.result in
-    let before = take i entries in
-    let known : list_any (maps_port entry.port) before ≡ c.contains-known.result =
-    ap (λ name. list_any (maps_port name) before) (sym c.bytes-name.ensures) ∙ sym (c.loop-i.invariant.named c.bytes-name.result) ∙ sym c.contains-known.ensures in
-    let repeats : some_repeats (pins_of before) entry.pins ≡ c.in_ok-repeats.repeats =
-    ap (some_repeats (pins_of before)) (sym c.as_slice.ensures) ∙ sym (c.in_ok-repeats.ensures.answer (pins_of before) c.loop-i.invariant.pins) in
-    let none = sym c.is_broken.ensures ∙ c.if-is_broken.false in
-    let holds : breaks_map ports before entry ≡ false =
-    breaks_is ports before entry c.contains-known.result c.fits_port-fits.result c.in_ok-repeats.repeats known (sym c.fits_port-fits.ensures) repeats ∙ none in
-    let pins : pins_of before ++ c.as_slice.result.now ≡ pins_of (take (i + 1) entries) =
-    ap (λ xs. pins_of before ++ xs) c.as_slice.ensures ∙ pins_more entries i entry c.loop-i-test.true (sym c.index-entries-i.is) in
+    let breaks = breaks_is ports (take i entries) entry c.bytes-name.result.now c.as_slice.result.now _ _ _ _ c.bytes-name.ensures c.as_slice.ensures
+        (c.contains-known.ensures ∙ c.loop-i.invariant.named c.bytes-name.result) c.fits_port-fits.ensures (c.in_ok-repeats.ensures.answer (pins_of (take i entries)) c.loop-i.invariant.pins) c.is_broken.ensures in
+    let fine = or_parts c.contains-known.result _ (sym c.is_broken.ensures ∙ c.if-is_broken.false) in
+    let pins : pins_of (take i entries) ++ c.as_slice.result.now ≡ pins_of (take (i + 1) entries) =
+    ap (λ xs. pins_of (take i entries) ++ xs) c.as_slice.ensures ∙ pins_more entries i entry c.loop-i-test.true (sym c.index-entries-i.is) in
     record {
       named = λ q. known_more entries i entry c.bytes-name.result.now q.now _ _ c.loop-i-test.true (sym c.index-entries-i.is) c.bytes-name.ensures (c.in_ok-insert.ensures.updates.0 q) (c.loop-i.invariant.named q);
-      pins = subst (λ xs. Knows (contains (λ x y. bytes_eq x.now y.now) c.some_repeats.new.seen) xs) pins
-          (c.in_ok-repeats.ensures.seen (pins_of before) c.loop-i.invariant.pins (third_false c.contains-known.result (not c.fits_port-fits.result) c.in_ok-repeats.repeats none));
-      found = first_step (breaks_map ports) entries i entry (v4 ports entries) c.loop-i-test.true (sym c.index-entries-i.is) holds c.loop-i.invariant.found;
+      pins = subst (λ xs. HasNames c.some_repeats.new.seen xs) pins (c.in_ok-repeats.ensures.seen (pins_of (take i entries)) c.loop-i.invariant.pins (or_parts (not c.fits_port-fits.result) _ fine.1).1);
+      found = first_step (breaks_map ports) entries i entry (v4 ports entries) c.loop-i-test.true (sym c.index-entries-i.is) (breaks ∙ c.if-is_broken.false) c.loop-i.invariant.found;
     }

@@ -5,4 +5,4 @@ use Rattle.device_rules.proofs.raw.all_bits.Given as goal
 
 -- the bits so far, and then those of the ports that are left
 abbrev pub invariant-loop-i : goal.invariant-loop-i
-invariant-loop-i l = map (port_bit l.draft.map l.draft.taps l.draft.compliance) (port_bits l.ports) ≡ l.bits.items ++ map (port_bit l.draft.map l.draft.taps l.draft.compliance) (bits_from l.i (drop l.i l.ports))
+invariant-loop-i l = map (port_bit l.pins l.taps l.named) (port_bits l.ports) ≡ l.bits.items ++ map (port_bit l.pins l.taps l.named) (bits_from l.i (drop l.i l.ports))

@@ -1,0 +1,89 @@
+//! The pin map of a package, by the names of the ports.
+ghost use Rattle.std.specs.Prelude.{◌≡◌, ◌<◌, ◌^◌, length, map, vec_len, find, IfOk};
+ghost use Rattle.std.specs.List.{position_from};
+ghost use Rattle.std.specs.Option.{option_copied};
+ghost use Rattle.device_rules.specs.PinMap.{maps_port};
+ghost use Rattle.device_rules.specs.inner.Index.{AreLent, Finds, map_place};
+
+use crate::port_index::{first_places_of, place_of};
+use bsdl_strings::MapEntry;
+use indexmap::IndexMap;
+use std::alloc::{AllocError, Global};
+use std::marker::Model;
+
+fn names_of<'a>(alloc: Global, entries: &'a [MapEntry]) -> Result<Vec<&'a [u8]>, AllocError>
+    ensures names { IfOk result (λ names. AreLent names.items (map (λ entry. entry.port) entries.now)) }
+    ensures count { IfOk result (λ names. vec_len names ≡ length entries.now) }
+{
+    let mut names = Vec::new(alloc);
+    for entry in entries {
+        names.push(entry.port.bytes())?;
+    }
+    Ok(names)
+}
+
+/// Where the pin map names each port.
+fn places_of<'a>(
+    alloc: Global,
+    entries: &'a [MapEntry],
+) -> Result<IndexMap<&'a [u8], u32>, AllocError>
+    requires { length entries.now < 2 ^ 32 }
+    ensures { IfOk result (λ places. Finds places (map_place entries.now)) }
+{
+    let names = names_of(alloc, entries)?;
+    first_places_of(alloc, &names)
+}
+
+/// The pin map of a package, in which each entry is found by its port; seen as the list of the
+/// entries.
+#[derive(Drop)]
+pub struct PinIndex<'a> {
+    entries: &'a [MapEntry],
+    places: IndexMap<&'a [u8], u32>,
+}
+
+impl<'a> Model for PinIndex<'a> {
+    ghost use Rattle.std.specs.Prelude.{List};
+    ghost use Rattle.bsdl_strings.specs.declared.values.MapEntry.{MapEntry};
+    ghost use Rattle.device_rules.specs.inner.Index.{Finds, map_place};
+
+    ghost Value = { List MapEntry };
+
+    ghost view = { λ a. a.entries.now };
+
+    ghost invariant = { λ a. Finds a.places (map_place a.entries.now) };
+}
+
+impl<'a> PinIndex<'a> {
+    /// The index of these entries.
+    pub fn of(alloc: Global, entries: &'a [MapEntry]) -> Result<PinIndex<'a>, AllocError>
+        requires { length entries.now < 2 ^ 32 }
+        ensures { IfOk result (λ index. index ≡ entries.now) }
+    {
+        let places = places_of(alloc, entries)?;
+        Ok(PinIndex { entries, places })
+    }
+
+    fn place_of(&self, name: &[u8]) -> Option<u32>
+        ensures { result ≡ map_place self.now name.now }
+    {
+        place_of(&self.places, name)
+    }
+
+    fn as_slice(&self) -> &[MapEntry]
+        ensures { result.now ≡ self.now }
+    {
+        self.entries
+    }
+
+    /// The entry of a port.
+    pub fn entry_of(&self, name: &[u8]) -> Option<&MapEntry>
+        ensures { option_copied result ≡ find (maps_port name.now) self.now }
+    {
+        let entries = self.as_slice();
+        match self.place_of(name) {
+            Some(place) => Some(&entries[place as usize]),
+            None => None,
+        }
+    }
+}
