@@ -1,15 +1,11 @@
 -- The ports of a text that keeps the rules, and the bits of the device's ports.
-use Rattle.std.proofs.Common.{◌≡◌, ℕ, suc, ◌+◌, ◌-◌, ◌≤◌, Bool, true, false, not, cond, List, [], ◌∷◌, ◌++◌, length, Option, Some, None, refl, sym, ◌∙◌, ap, subst, arith, ◌⊎◌, inl, inr, length-append}
-use Rattle.std.specs.Prelude.{slice_get, nat_le, nat_lt, reverse, if◌then◌else◌}
-use Rattle.std.specs.List.{list_any, range_with_len}
-use Rattle.std.proofs.lemmas.Bool.{or_parts, not-false, ltb-false, leb-true}
-use Rattle.std.proofs.lemmas.List.{length-map, length-reverse}
-use Rattle.std.proofs.lemmas.List.FromFn.{length-range_with_len}
+use Rattle.std.proofs.Common.{◌≡◌, ℕ, suc, ◌+◌, ◌≤◌, true, false, not, List, [], ◌∷◌, ◌++◌, length, Option, Some, None, refl, sym, ◌∙◌, ap, subst, arith, ◌⊎◌, inl, inr, length-append}
+use Rattle.std.specs.Prelude.{slice_get, nat_lt}
+use Rattle.std.specs.List.{list_any}
+use Rattle.std.proofs.lemmas.Bool.{or_parts, not-false, ltb-false}
 use Rattle.std.proofs.lemmas.List.Sums.{sum_by-cons, sum_by_push}
-use Rattle.board_defs.specs.DeviceRules.{range_indexes}
 use Rattle.board_defs.proofs.Members.{Has, has_at, has_place, has_append}
 use Rattle.bsdl_parser.specs.declared.entity.Port.{Port}
-use Rattle.bsdl_parser.specs.declared.entity.Range.{Range}
 use Rattle.first_places.specs.Items.{Holds}
 use Rattle.device_rules.specs.Ports.{in_order, width, bits_of, port_named, breaks_port, v2, Bit, indexes, bits_along, bits_of_port, bits_from, port_bits}
 use Rattle.device_rules.proofs.RuleLemmas.{holds}

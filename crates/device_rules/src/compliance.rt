@@ -69,10 +69,7 @@ impl<'a> Model for Named<'a> {
 
 impl<'a> Named<'a> {
     /// The bits that these patterns name.
-    pub fn of(
-        alloc: Global,
-        compliance: &'a Option<Compliance>,
-    ) -> Result<Named<'a>, AllocError>
+    pub fn of(alloc: Global, compliance: &'a Option<Compliance>) -> Result<Named<'a>, AllocError>
         ensures { IfOk result (λ named. named ≡ compliance.now) }
     {
         let bits = bits_of(alloc, words_of(compliance))?;

@@ -81,11 +81,7 @@ pub(crate) fn second_driver(
 }
 
 /// The port that a word names.
-fn named_port<'a>(
-    ports: &'a PortIndex,
-    near: &mut Near,
-    word: &PortWord,
-) -> Option<&'a Port>
+fn named_port<'a>(ports: &'a PortIndex, near: &mut Near, word: &PortWord) -> Option<&'a Port>
     ensures { option_copied result ≡ named_port ports.now word.now }
 {
     match word {
@@ -101,12 +97,7 @@ fn drives_wrongly(role: Role, mode: Mode) -> bool
     role.is_driving() && !mode.may_drive()
 }
 
-fn is_misfit(
-    ports: &PortIndex,
-    near: &mut Near,
-    taps: &TapPorts,
-    entry: &Entry,
-) -> bool
+fn is_misfit(ports: &PortIndex, near: &mut Near, taps: &TapPorts, entry: &Entry) -> bool
     ensures { result ≡ breaks_mode ports.now taps.now entry.now }
 {
     match named_port(ports, near, &entry.port) {
@@ -117,11 +108,7 @@ fn is_misfit(
 
 /// V14: the first entry on a TAP port, or that drives a port of mode in or linkage.
 #[tactic(auto, unfolding(crate::specs::Places::v14))]
-pub(crate) fn misfit(
-    ports: &PortIndex,
-    taps: &TapPorts,
-    entries: &[Entry],
-) -> Option<u32>
+pub(crate) fn misfit(ports: &PortIndex, taps: &TapPorts, entries: &[Entry]) -> Option<u32>
     requires { length entries.now < 2 ^ 32 }
     ensures { result ≡ v14 ports.now taps.now entries.now }
 {

@@ -1,4 +1,4 @@
-use Rattle.std.proofs.Common.{ℕ, Bool, sym, ap, ◌∙◌}
+use Rattle.std.proofs.Common.{ℕ, Bool, sym, ◌∙◌}
 use Rattle.std.specs.Prelude.{◌&&◌, false, slice_index_or}
 use Rattle.first_places.specs.Items.{least_below}
 use Rattle.device_rules.proofs.LeastLemmas.{least_step}

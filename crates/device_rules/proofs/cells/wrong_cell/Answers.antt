@@ -13,5 +13,5 @@ returns-in_ok-table-in-None c =
     let boundary = c.args.boundary in
     c.least_clear.ensures
     ∙ least_same (λ cell. not (slice_index_or c.deref.result.now cell false)) (is_missing entries) boundary
-        (λ n less. ap not (ap (λ t. slice_index_or t n false) c.deref.ensures.value ∙ c.in_ok-table-in-None.ensures.each n less))
+    (λ n less. ap not (ap (λ t. slice_index_or t n false) c.deref.ensures.value ∙ c.in_ok-table-in-None.ensures.each n less))
     ∙ sym (ap (λ o. or_else o (least_below (is_missing entries) boundary)) (sym c.too_large_cell.ensures ∙ c.in-None.is))

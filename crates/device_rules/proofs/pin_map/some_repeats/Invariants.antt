@@ -1,5 +1,4 @@
 use Rattle.std.proofs.Common.{◌≡◌, ◌++◌, List, ℕ, take, drop}
-use Rattle.std.specs.Str.{bytes_eq}
 use Rattle.device_rules.specs.PinMap.{some_repeats}
 use Rattle.device_rules.specs.inner.Seen.{HasNames}
 use Rattle.device_rules.proofs.pin_map.some_repeats.Given as goal

@@ -13,7 +13,7 @@ returns-then-is_broken c =
     let i = c.loop-i.i in
     let entry = c.index-entries-i.result in
     let breaks = breaks_is ports (take i entries) entry c.bytes-name.result.now c.as_slice.result.now _ _ _ _ c.bytes-name.ensures c.as_slice.ensures
-        (c.contains-known.ensures ∙ c.loop-i.invariant.named c.bytes-name.result) c.fits_port-fits.ensures (c.in_ok-repeats.ensures.answer (pins_of (take i entries)) c.loop-i.invariant.pins) c.is_broken.ensures in
+    (c.contains-known.ensures ∙ c.loop-i.invariant.named c.bytes-name.result) c.fits_port-fits.ensures (c.in_ok-repeats.ensures.answer (pins_of (take i entries)) c.loop-i.invariant.pins) c.is_broken.ensures in
     first_hit (breaks_map ports) entries i entry (v4 ports entries) c.loop-i-test.true (sym c.index-entries-i.is) (breaks ∙ c.if-is_broken.true) c.loop-i.invariant.found
 
 pub loop-i-preserved : goal.loop-i-preserved
@@ -23,7 +23,7 @@ loop-i-preserved c =
     let i = c.loop-i.i in
     let entry = c.index-entries-i.result in
     let breaks = breaks_is ports (take i entries) entry c.bytes-name.result.now c.as_slice.result.now _ _ _ _ c.bytes-name.ensures c.as_slice.ensures
-        (c.contains-known.ensures ∙ c.loop-i.invariant.named c.bytes-name.result) c.fits_port-fits.ensures (c.in_ok-repeats.ensures.answer (pins_of (take i entries)) c.loop-i.invariant.pins) c.is_broken.ensures in
+    (c.contains-known.ensures ∙ c.loop-i.invariant.named c.bytes-name.result) c.fits_port-fits.ensures (c.in_ok-repeats.ensures.answer (pins_of (take i entries)) c.loop-i.invariant.pins) c.is_broken.ensures in
     let fine = or_parts c.contains-known.result _ (sym c.is_broken.ensures ∙ c.if-is_broken.false) in
     let pins : pins_of (take i entries) ++ c.as_slice.result.now ≡ pins_of (take (i + 1) entries) =
     ap (λ xs. pins_of (take i entries) ++ xs) c.as_slice.ensures ∙ pins_more entries i entry c.loop-i-test.true (sym c.index-entries-i.is) in

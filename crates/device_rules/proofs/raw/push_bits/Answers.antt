@@ -1,4 +1,4 @@
-use Rattle.std.proofs.Common.{◌<◌, ◌≤◌, ◌++◌, ◌∷◌, [], length, map, sym, ap, ◌∙◌, arith}
+use Rattle.std.proofs.Common.{◌<◌, ◌≤◌, ◌++◌, ◌∷◌, [], length, map, ap, ◌∙◌, arith}
 use Rattle.std.specs.Prelude.{find, option_and_then, slice_get}
 use Rattle.std.proofs.lemmas.List.{take_all}
 use Rattle.device_rules.specs.Ports.{width, bits_of_port}
@@ -18,8 +18,8 @@ loop-place-preserved c =
     let less : place < width port.range = omega (arith, c.loop-place-test.true, c.bit_count-place-end.ensures.count) in
     let entry = c.entry_of-entry.ensures ∙ ap (λ name. find (maps_port name) c.args.pins.now) c.bytes-name.ensures in
     let bit = bit_is c.args.pins.now c.args.taps.now c.args.named.now c.args.number port place c.bytes-name.result.now c.index_at-index.result c.in_ok-pin.pin c.is_tap-tap.result c.has.result
-        c.bytes-name.ensures c.index_at-index.ensures (c.in_ok-pin.ensures ∙ ap (option_and_then (λ entry. slice_get entry.pins place)) entry)
-        (c.is_tap-tap.ensures ∙ ap (is_among (tap_names c.args.taps.now)) c.bytes-name.ensures) c.has.ensures in
+    c.bytes-name.ensures c.index_at-index.ensures (c.in_ok-pin.ensures ∙ ap (option_and_then (λ entry. slice_get entry.pins place)) entry)
+    (c.is_tap-tap.ensures ∙ ap (is_among (tap_names c.args.taps.now)) c.bytes-name.ensures) c.has.ensures in
     c.in_ok-push.ensures.items ∙ ap (λ b. c.loop-place.bits.items ++ b ∷ []) bit ∙ ap (λ bs. bs ++ F (bit_of_port c.args.number port place) ∷ []) c.loop-place.invariant
     ∙ bits_step F c.args.number port place c.args.bits.now.items c.requires.ordered less
 

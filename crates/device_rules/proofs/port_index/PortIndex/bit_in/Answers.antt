@@ -1,5 +1,5 @@
 -- The port's number gives the bit's, with the bits before the port.
-use Rattle.std.proofs.Common.{◌≡◌, ◌<◌, length, get_or, sym, ap, ◌∙◌, arith}
+use Rattle.std.proofs.Common.{get_or, sym, ap, ◌∙◌, arith}
 use Rattle.device_rules.specs.Ports.{port_named, port_number, v2}
 use Rattle.device_rules.specs.inner.Index.{place_in}
 use Rattle.device_rules.proofs.BitLemmas.{number_below, nowhere_bit, outside_bit, inside_bit, bit_fits, bit_within}

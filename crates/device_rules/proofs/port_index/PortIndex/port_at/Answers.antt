@@ -1,4 +1,4 @@
-use Rattle.std.proofs.Common.{◌≡◌, Some, sym, ap, ◌∙◌}
+use Rattle.std.proofs.Common.{sym, ap, ◌∙◌}
 use Rattle.device_rules.specs.Ports.{port_named, port_number, port_of}
 use Rattle.device_rules.proofs.BitLemmas.{number_below, found_item, nothing_found}
 use Rattle.device_rules.proofs.port_index.PortIndex.port_at.Goals as goal
