@@ -4,7 +4,8 @@ use Rattle.std.specs.Prelude.{is_none, option_map, if◌then◌else◌}
 use Rattle.std.specs.List.{position_from, range_with_len}
 use Rattle.std.proofs.lemmas.Bool.Decides.{nat_tests}
 use Rattle.std.proofs.lemmas.List.FromFn.{length-range_with_len, get_or-range_with_len}
-use Rattle.std.proofs.lemmas.List.{reverse-append, length-reverse}
+use Rattle.std.proofs.Math.Bool.{and-false}
+use Rattle.std.proofs.lemmas.List.{get_or-map, length-map, reverse-append, length-reverse}
 use Rattle.board_defs.specs.DeviceRules.{range_indexes, is_on}
 use Rattle.bsdl_parser.specs.declared.entity.Range.{Range}
 use Rattle.device_rules.specs.Ports.{in_order, width, indexes, has_index}
@@ -103,11 +104,6 @@ none_at : (n : ℕ) (indexes : List ℕ) → position_from is_none n (map Some i
 none_at n [] = refl
 none_at n (i ∷ indexes) = none_at (n + 1) indexes
 
--- how many indexes a range has
-length_map_some : (indexes : List ℕ) → length (map Some indexes) ≡ length indexes
-length_map_some [] = refl
-length_map_some (i ∷ indexes) = ap suc (length_map_some indexes)
-
 is_le : (a b : ℕ) → a ≤ b → nat_le a b ≡ true
 is_le a b le = grind (arith, nat_tests)
 
@@ -131,11 +127,7 @@ under : (low high i : ℕ) → i < low → (nat_le low i && nat_le i high) ≡ f
 under low high i a = ap (λ b. b && nat_le i high) (is_not_le low i a)
 
 over : (low high i : ℕ) → high < i → (nat_le low i && nat_le i high) ≡ false
-over low high i a = ap (λ b. nat_le low i && b) (is_not_le i high a) ∙ and_false (nat_le low i)
-  where
-    and_false : (b : Bool) → (b && false) ≡ false
-    and_false true = refl
-    and_false false = refl
+over low high i a = ap (λ b. nat_le low i && b) (is_not_le i high a) ∙ and-false (nat_le low i)
 
 abbrev Inside : ℕ → ℕ → ℕ → Type 0
 Inside low high i = (low ≤ i) × (i ≤ high)
@@ -220,7 +212,7 @@ length_by left right false e = length_down left right (le_of right left e)
 -- a range has as many indexes as bits
 pub length_indexes : (range : Option Range) → in_order range ≡ true → length (indexes range) ≡ width range
 length_indexes None e = refl
-length_indexes (Some range) e = length_map_some (range_indexes range.left range.right) ∙ length_by range.left range.right range.up e
+length_indexes (Some range) e = length-map (range_indexes range.left range.right) Some ∙ length_by range.left range.right range.up e
 
 -- a place in a range is below its width
 within_by : (left right i : ℕ) (up : Bool) (k : ℕ) → (if up then (if nat_le left i && nat_le i right then Some (i - left) else None) else (if nat_le right i && nat_le i left then Some (left - i) else None)) ≡ Some k
@@ -245,11 +237,6 @@ place_within (Some range) None k e = cc e
 place_within (Some range) (Some i) k e = within_by range.left range.right i range.up k e
 
 -- the index at a place
-get_some : (indexes : List ℕ) (k : ℕ) → k < length indexes → get_or (map Some indexes) k None ≡ Some (get_or indexes k 0)
-get_some [] k less = absurd (omega arith)
-get_some (i ∷ indexes) zero less = refl
-get_some (i ∷ indexes) (suc k) less = get_some indexes k (omega arith)
-
 get_down : (a count k : ℕ) → k < count → get_or (down a count) k 0 ≡ a + count - 1 - k
 get_down a zero k less = absurd (omega arith)
 get_down a (suc count) zero less = omega arith
@@ -268,27 +255,12 @@ index_by : (left right k : ℕ) (up : Bool) → (if up then nat_le left right el
     → get_or (map Some (range_indexes left right)) k None ≡ Some (if up then left + k else left - k)
 index_by left right k true e less =
     let within : k < length (range_indexes left right) = omega (arith, less, length_up left right (le_of left right e)) in
-    get_some (range_indexes left right) k within ∙ ap Some (up_index left right k (le_of left right e) less)
+    get_or-map Some (range_indexes left right) k 0 None within ∙ ap Some (up_index left right k (le_of left right e) less)
 index_by left right k false e less =
     let within : k < length (range_indexes left right) = omega (arith, less, length_down left right (le_of right left e)) in
-    get_some (range_indexes left right) k within ∙ ap Some (down_index left right k (le_of right left e) less)
+    get_or-map Some (range_indexes left right) k 0 None within ∙ ap Some (down_index left right k (le_of right left e) less)
 
 pub index_found : (range : Option Range) (k : ℕ) → in_order range ≡ true → k < width range → get_or (indexes range) k None ≡ index_at range k
 index_found None zero e less = refl
 index_found None (suc k) e less = absurd (omega arith)
 index_found (Some range) k e less = index_by range.left range.right k range.up e less
-
--- an index is between the bounds
-up_by : (left right k : ℕ) (up : Bool) → up ≡ true → (if up then nat_le left right else nat_le right left) ≡ true → k < (if up then right - left else left - right) + 1 → left + k ≤ right
-up_by left right k true is e less = let le = le_of left right e in omega (arith, le, less)
-up_by left right k false is e less = cc is
-
-pub up_fits : (range : Range) (k : ℕ) → range.up ≡ true → in_order (Some range) ≡ true → k < width (Some range) → range.left + k ≤ range.right
-up_fits range k is e less = up_by range.left range.right k range.up is e less
-
-down_by : (left right k : ℕ) (up : Bool) → up ≡ false → (if up then nat_le left right else nat_le right left) ≡ true → k < (if up then right - left else left - right) + 1 → k ≤ left
-down_by left right k true is e less = cc is
-down_by left right k false is e less = let le = le_of right left e in omega (arith, le, less)
-
-pub down_fits : (range : Range) (k : ℕ) → range.up ≡ false → in_order (Some range) ≡ true → k < width (Some range) → k ≤ range.left
-down_fits range k is e less = down_by range.left range.right k range.up is e less

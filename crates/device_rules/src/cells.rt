@@ -34,7 +34,8 @@ fn cells_disabling_by(
     boundary: u32,
     entries: &[Entry],
 ) -> Result<Vec<bool>, AllocError>
-    ensures { IfOk result (λ table. Marks (controls_entry value) entries.now boundary table.items) }
+    ensures { IfOk result (λ table.
+        Marks (controls_entry value) entries.now boundary table.items) }
 {
     let mut table = vec![in alloc; false; boundary as usize]?;
     for entry in entries {
@@ -98,8 +99,8 @@ fn are_set(on: &[bool], off: &[bool], place: usize) -> bool
 
 /// The least cell that has both flags.
 fn least_with_both(boundary: u32, on: &[bool], off: &[bool]) -> Option<u32>
-    ensures { result ≡ least_below
-        (λ cell. slice_index_or on.now cell false && slice_index_or off.now cell false) boundary }
+    ensures { result ≡ least_below (λ cell.
+        slice_index_or on.now cell false && slice_index_or off.now cell false) boundary }
 {
     for cell in 0..boundary {
         if are_set(on, off, cell as usize) {
@@ -123,8 +124,8 @@ pub(crate) fn two_valued_control(
     Ok(least_with_both(boundary, &on, &off))
 }
 
-/// The two parts of a boundary cell: the capture flip-flop, which an entry may give a value, and the
-/// update latch, from which an entry may take one.
+/// The two parts of a boundary cell: the flip-flop that captures a value, and the update latch that
+/// drives one.
 #[derive(Clone, Copy, Debug, PartialEq, Eq)]
 pub enum Stage {
     Capture,
@@ -183,9 +184,8 @@ fn is_several(counts: &[u32], place: usize) -> bool
 
 /// The least cell at which one of the two numbers is more than 1.
 fn least_several(boundary: u32, loaders: &[u32], writers: &[u32]) -> Option<u32>
-    ensures { result ≡ least_below
-        (λ cell. nat_lt 1 (slice_index loaders.now cell) || nat_lt 1 (slice_index writers.now cell))
-        boundary }
+    ensures { result ≡ least_below (λ cell.
+        nat_lt 1 (slice_index loaders.now cell) || nat_lt 1 (slice_index writers.now cell)) boundary }
 {
     for cell in 0..boundary {
         if is_several(loaders, cell as usize) || is_several(writers, cell as usize) {

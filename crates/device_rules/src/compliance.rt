@@ -11,6 +11,7 @@ use std::marker::Model;
 /// The name and the index of a bit.
 type Key<'a> = (&'a [u8], Option<u32>);
 
+/// The bit that a word names; `*` names none.
 fn key_of(word: &PortWord) -> Option<Key>
     ensures { option_map (λ key. (key.0.now, key.1)) result ≡ key_of word.now }
 {
@@ -21,6 +22,7 @@ fn key_of(word: &PortWord) -> Option<Key>
     }
 }
 
+/// The words that name the bits of the patterns.
 fn words_of(compliance: &Option<Compliance>) -> &[PortWord]
     ensures { result.now ≡ words_of compliance.now }
 {
@@ -30,6 +32,7 @@ fn words_of(compliance: &Option<Compliance>) -> &[PortWord]
     }
 }
 
+/// The bits that these words name.
 fn bits_of<'a>(alloc: Global, words: &'a [PortWord]) -> Result<HashSet<Key<'a>>, AllocError>
     ensures { IfOk result (λ bits. HasBits bits words.now) }
 {
@@ -50,12 +53,12 @@ fn has_key(bits: &HashSet<Key>, name: &[u8], index: Option<u32>) -> bool
 
 /// The compliance patterns with the bits that they name, seen as the patterns.
 #[derive(Drop)]
-pub struct Named<'a> {
+pub struct NamedBits<'a> {
     compliance: &'a Option<Compliance>,
     bits: HashSet<Key<'a>>,
 }
 
-impl<'a> Model for Named<'a> {
+impl<'a> Model for NamedBits<'a> {
     ghost use Rattle.std.specs.Prelude.{Option};
     ghost use Rattle.bsdl_strings.specs.declared.values.Compliance.{Compliance};
     ghost use Rattle.device_rules.specs.inner.Index.{HasBits, words_of};
@@ -67,13 +70,16 @@ impl<'a> Model for Named<'a> {
     ghost invariant = { λ a. HasBits a.bits (words_of a.compliance.now) };
 }
 
-impl<'a> Named<'a> {
+impl<'a> NamedBits<'a> {
     /// The bits that these patterns name.
-    pub fn of(alloc: Global, compliance: &'a Option<Compliance>) -> Result<Named<'a>, AllocError>
+    pub fn of(
+        alloc: Global,
+        compliance: &'a Option<Compliance>,
+    ) -> Result<NamedBits<'a>, AllocError>
         ensures { IfOk result (λ named. named ≡ compliance.now) }
     {
         let bits = bits_of(alloc, words_of(compliance))?;
-        Ok(Named { compliance, bits })
+        Ok(NamedBits { compliance, bits })
     }
 
     /// Whether the patterns name the bit of this name and index.

@@ -48,7 +48,8 @@ impl<'a> Model for Controls<'a> {
 
     ghost view = { λ a. a.entries.now };
 
-    ghost invariant = { λ a. (cell : ℕ) → slice_index_or a.flags.items cell false ≡ has_control_entry a.entries.now cell };
+    ghost invariant = { λ a. (cell : ℕ)
+        → slice_index_or a.flags.items cell false ≡ has_control_entry a.entries.now cell };
 }
 
 impl<'a> Controls<'a> {

@@ -12,7 +12,8 @@ use std::alloc::{AllocError, Global};
 use std::marker::Model;
 
 fn names_of<'a>(alloc: Global, entries: &'a [MapEntry]) -> Result<Vec<&'a [u8]>, AllocError>
-    ensures names { IfOk result (λ names. AreLent names.items (map (λ entry. entry.port) entries.now)) }
+    ensures names { IfOk result (λ names.
+        AreLent names.items (map (λ entry. entry.port) entries.now)) }
     ensures count { IfOk result (λ names. vec_len names ≡ length entries.now) }
 {
     let mut names = Vec::new(alloc);

@@ -13,6 +13,7 @@ use bsdl_strings::MapEntry;
 use std::alloc::{AllocError, Global};
 use std::collections::HashSet;
 
+/// Whether there is a port, with so many bits.
 fn has_width(port: Option<&Port>, count: usize) -> bool
     ensures { result ≡ has_width (option_copied port.entry) count }
 {
@@ -32,6 +33,7 @@ fn fits_port(ports: &PortIndex, entry: &MapEntry) -> bool
     )
 }
 
+/// An entry that was named before, does not fit its port, or repeats a pin.
 fn is_broken(known: bool, fits: bool, repeats: bool) -> bool
     ensures { result ≡ (known || (not fits || repeats)) }
 {
@@ -40,10 +42,10 @@ fn is_broken(known: bool, fits: bool, repeats: bool) -> bool
 
 /// Whether one of the pins was seen, or stands earlier among them. They are seen from then on.
 fn some_repeats<'a>(seen: &mut HashSet<&'a [u8]>, pins: &'a [Name]) -> Result<bool, AllocError>
-    ensures answer { IfOk result (λ repeats. (before : List (List ℕ)) → HasNames seen.old before
-        → repeats ≡ some_repeats before pins.now) }
-    ensures seen { IfOk result (λ repeats. (before : List (List ℕ)) → HasNames seen.old before
-        → repeats ≡ false → HasNames seen.new (before ++ pins.now)) }
+    ensures answer { IfOk result (λ repeats. (before : List (List ℕ))
+        → HasNames seen.old before → repeats ≡ some_repeats before pins.now) }
+    ensures seen { IfOk result (λ repeats. (before : List (List ℕ))
+        → HasNames seen.old before → repeats ≡ false → HasNames seen.new (before ++ pins.now)) }
 {
     for pin in pins {
         let fresh = seen.insert(pin.bytes())?;

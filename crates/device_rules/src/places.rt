@@ -19,6 +19,7 @@ fn is_star(word: &PortWord) -> bool
     matches!(word, PortWord::Star)
 }
 
+/// Whether an entry is not at `*` and is to be, or names no port bit and is to.
 fn breaks_place(ports: &PortIndex, near: &mut Near, entry: &Entry) -> bool
     ensures { result ≡ breaks_place ports.now entry.now }
 {
@@ -91,12 +92,14 @@ fn named_port<'a>(ports: &'a PortIndex, near: &mut Near, word: &PortWord) -> Opt
     }
 }
 
+/// Whether an entry of this function drives a port that is not driven.
 fn drives_wrongly(role: Role, mode: Mode) -> bool
     ensures { result ≡ (is_driving role && not (may_drive mode)) }
 {
     role.is_driving() && !mode.may_drive()
 }
 
+/// Whether an entry is on a TAP port, or drives a port of mode in or linkage.
 fn is_misfit(ports: &PortIndex, near: &mut Near, taps: &TapPorts, entry: &Entry) -> bool
     ensures { result ≡ breaks_mode ports.now taps.now entry.now }
 {

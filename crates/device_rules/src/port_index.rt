@@ -17,7 +17,8 @@ use std::alloc::{AllocError, Global};
 use std::marker::Model;
 
 fn names_of<'a>(alloc: Global, ports: &'a [Port]) -> Result<Vec<&'a [u8]>, AllocError>
-    ensures names { IfOk result (λ names. AreLent names.items (map (λ port. port.name) ports.now)) }
+    ensures names { IfOk result (λ names.
+        AreLent names.items (map (λ port. port.name) ports.now)) }
     ensures count { IfOk result (λ names. vec_len names ≡ length ports.now) }
 {
     let mut names = Vec::new(alloc);
@@ -33,7 +34,8 @@ pub(crate) fn first_places_of<'a>(
     names: &[&'a [u8]],
 ) -> Result<IndexMap<&'a [u8], u32>, AllocError>
     requires { length names.now < 2 ^ 32 }
-    ensures { IfOk result (λ places. Finds places (first_place bytes_eq (map (λ n. n.now) names.now))) }
+    ensures { IfOk result (λ places.
+        Finds places (first_place bytes_eq (map (λ n. n.now) names.now))) }
 {
     first_places(alloc, names)
 }
@@ -108,8 +110,8 @@ impl Near {
     }
 }
 
-/// The ports of a device that keep rule V2: where each stands, how many bits stand before it and, at
-/// the end, how many there are. Seen as the list of the ports.
+/// The ports of a device, which are few and keep rule V2: where each stands, how many bits stand
+/// before it and, at the end, how many there are. Seen as the list of the ports.
 #[derive(Drop)]
 pub struct PortIndex<'a> {
     ports: &'a [Port],

@@ -6,7 +6,8 @@ use bsdl_parser::{Port, Range};
 use std::alloc::{AllocError, Global};
 use std::collections::HashSet;
 
-pub(crate) fn is_in_order(range: Option<Range>) -> bool
+/// Whether a `to` range goes up, or a `downto` range down.
+fn is_in_order(range: Option<Range>) -> bool
     ensures { result ≡ in_order range }
 {
     match range {
@@ -21,6 +22,7 @@ pub(crate) fn is_in_order(range: Option<Range>) -> bool
     }
 }
 
+/// How many bits a port with this range has.
 pub(crate) fn bit_count(range: Option<Range>) -> u64
     ensures count { result ≡ width range }
     ensures fits { result < 2 ^ 33 }

@@ -7,7 +7,7 @@ ghost use Rattle.device_rules.specs.Rules.{HasShortLists, first_rule};
 ghost use Rattle.device_rules.specs.inner.Index.{index_at};
 ghost use Rattle.device_rules.specs.Raw.{port_bit, cell_of, raw_bits, raw_cells, raw_device, HasLengths};
 
-use crate::compliance::Named;
+use crate::compliance::NamedBits;
 use crate::draft::{Draft, TapPorts};
 use crate::indexed::IndexedDraft;
 use crate::pin_index::PinIndex;
@@ -20,18 +20,19 @@ use bsdl_strings::{Entry, MapEntry};
 use instruction_rules::{extest, preload};
 use std::alloc::{AllocError, Global};
 
-fn copy(alloc: Global, name: &Name) -> Result<Name, AllocError>
+fn copied_name(alloc: Global, name: &Name) -> Result<Name, AllocError>
     ensures { IfOk result (λ copy. copy ≡ name.now) }
 {
     Name::of(alloc, name.bytes())
 }
 
+/// The names of the ports in order.
 fn port_names(alloc: Global, ports: &[Port]) -> Result<Vec<Name>, AllocError>
     ensures { IfOk result (λ names. names.items ≡ map (λ port. port.name) ports.now) }
 {
     let mut names = Vec::new(alloc);
     for port in ports {
-        names.push(copy(alloc, &port.name)?)?;
+        names.push(copied_name(alloc, &port.name)?)?;
     }
     Ok(names)
 }
@@ -45,7 +46,7 @@ fn pin_of(alloc: Global, entry: Option<&MapEntry>, place: u32) -> Result<Option<
         None => Ok(None),
         Some(entry) => match entry.pins.as_slice().get(place as usize) {
             None => Ok(None),
-            Some(pin) => Ok(Some(copy(alloc, pin)?)),
+            Some(pin) => Ok(Some(copied_name(alloc, pin)?)),
         },
     }
 }
@@ -72,7 +73,7 @@ fn push_bits(
     alloc: Global,
     pins: &PinIndex,
     taps: &TapPorts,
-    named: &Named,
+    named: &NamedBits,
     number: u32,
     port: &Port,
     bits: &mut Vec<PortBit>,
@@ -100,13 +101,14 @@ fn push_bits(
     Ok(())
 }
 
+/// The bits of all ports, port by port.
 #[tactic(auto, unfolding(crate::specs::Raw::raw_bits))]
 fn all_bits(
     alloc: Global,
     ports: &PortIndex,
     pins: &PinIndex,
     taps: &TapPorts,
-    named: &Named,
+    named: &NamedBits,
 ) -> Result<Vec<PortBit>, AllocError>
     ensures { IfOk result (λ bits. bits.items ≡ raw_bits ports.now pins.now taps.now named.now) }
 {
@@ -118,16 +120,18 @@ fn all_bits(
     Ok(bits)
 }
 
+/// The bits of the ports that the text describes.
 fn described_bits(alloc: Global, draft: &IndexedDraft) -> Result<Vec<PortBit>, AllocError>
     ensures { IfOk result (λ bits. bits.items
         ≡ raw_bits draft.now.ports draft.now.map draft.now.taps draft.now.compliance) }
 {
     let text = draft.text();
     let pins = PinIndex::of(alloc, text.map.as_slice())?;
-    let named = Named::of(alloc, &text.compliance)?;
+    let named = NamedBits::of(alloc, &text.compliance)?;
     all_bits(alloc, draft.ports(), &pins, &text.taps, &named)
 }
 
+/// The entry with the number of its port bit.
 fn cell_of(ports: &PortIndex, near: &mut Near, entry: &Entry) -> Cell
     ensures { result ≡ cell_of ports.now entry.now }
 {
@@ -140,6 +144,7 @@ fn cell_of(ports: &PortIndex, near: &mut Near, entry: &Entry) -> Cell
     }
 }
 
+/// The entries in the order of the text, each with the number of its port bit.
 #[tactic(auto, unfolding(crate::specs::Raw::raw_cells))]
 fn all_cells(alloc: Global, ports: &PortIndex, entries: &[Entry]) -> Result<Vec<Cell>, AllocError>
     ensures { IfOk result (λ cells. cells.items ≡ raw_cells ports.now entries.now) }
@@ -153,7 +158,7 @@ fn all_cells(alloc: Global, ports: &PortIndex, entries: &[Entry]) -> Result<Vec<
 }
 
 /// A copy of the IDCODE pattern, where there is one.
-fn copy_of(alloc: Global, code: &Option<Code>) -> Result<Option<Code>, AllocError>
+fn copied_code(alloc: Global, code: &Option<Code>) -> Result<Option<Code>, AllocError>
     ensures { IfOk result (λ copy. copy ≡ code.now) }
 {
     match code {
@@ -168,14 +173,14 @@ fn described(alloc: Global, draft: &IndexedDraft) -> Result<RawDevice, AllocErro
     let text = draft.text();
     let opcodes = text.opcodes.as_slice();
     Ok(RawDevice {
-        entity: copy(alloc, &text.entity)?,
-        package: copy(alloc, &text.package)?,
+        entity: copied_name(alloc, &text.entity)?,
+        package: copied_name(alloc, &text.package)?,
         edition: text.edition,
         ports: Items::of(port_names(alloc, text.ports.as_slice())?),
         ir: text.ir,
         sample: preload(alloc, text.edition, opcodes)?,
         extest: extest(alloc, text.edition, text.ir, opcodes)?,
-        idcode: copy_of(alloc, &text.idcode)?,
+        idcode: copied_code(alloc, &text.idcode)?,
         boundary: text.boundary,
         bits: Items::of(described_bits(alloc, draft)?),
         cells: Items::of(all_cells(alloc, draft.ports(), text.entries.as_slice())?),

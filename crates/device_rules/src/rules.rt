@@ -1,4 +1,4 @@
-// The rules in their order.
+//! The rules in their order.
 ghost use Rattle.std.specs.Prelude.{◌≡◌, ◌<◌, All, IfOk};
 ghost use Rattle.device_rules.specs.Rules.{HasShortLists, from_3, from_5, from_8, from_9, from_11, first_rule};
 
@@ -14,6 +14,7 @@ use crate::taps::wrong_attribute;
 use instruction_rules::{wrong_instruction, wrong_opcode, wrong_pattern};
 use std::alloc::{AllocError, Global};
 
+/// The first of the rules from V11 on that is broken.
 #[tactic(auto, unfolding(crate::specs::Rules::from_11))]
 fn first_from_11(alloc: Global, draft: &IndexedDraft) -> Result<Option<Broken>, AllocError>
     ensures { IfOk result (λ broken. broken ≡ from_11 draft.now) }
@@ -35,6 +36,7 @@ fn first_from_11(alloc: Global, draft: &IndexedDraft) -> Result<Option<Broken>, 
     }
 }
 
+/// The first of the rules from V9 on that is broken.
 #[tactic(auto, unfolding(crate::specs::Rules::from_9))]
 fn first_from_9(alloc: Global, draft: &IndexedDraft) -> Result<Option<Broken>, AllocError>
     requires { All (λ entry. entry.num < draft.now.boundary) draft.now.entries }
@@ -51,6 +53,7 @@ fn first_from_9(alloc: Global, draft: &IndexedDraft) -> Result<Option<Broken>, A
     first_from_11(alloc, draft)
 }
 
+/// The first of the rules from V8 on that is broken.
 #[tactic(auto, unfolding(crate::specs::Rules::from_8))]
 fn first_from_8(alloc: Global, draft: &IndexedDraft) -> Result<Option<Broken>, AllocError>
     ensures { IfOk result (λ broken. broken ≡ from_8 draft.now) }
@@ -62,6 +65,7 @@ fn first_from_8(alloc: Global, draft: &IndexedDraft) -> Result<Option<Broken>, A
     }
 }
 
+/// The first of the rules from V5 on that is broken.
 #[tactic(auto, unfolding(crate::specs::Rules::from_5))]
 fn first_from_5(alloc: Global, draft: &IndexedDraft) -> Result<Option<Broken>, AllocError>
     ensures { IfOk result (λ broken. broken ≡ from_5 draft.now) }
@@ -80,6 +84,7 @@ fn first_from_5(alloc: Global, draft: &IndexedDraft) -> Result<Option<Broken>, A
     first_from_8(alloc, draft)
 }
 
+/// The first of the rules from V3 on that is broken.
 #[tactic(auto, unfolding(crate::specs::Rules::from_3))]
 fn first_from_3(alloc: Global, draft: &IndexedDraft) -> Result<Option<Broken>, AllocError>
     ensures { IfOk result (λ broken. broken ≡ from_3 draft.now) }

@@ -12,7 +12,7 @@ use board_defs::{Code, Mode, Name};
 use bsdl_parser::Port;
 use bsdl_strings::{Compliance, PortWord};
 
-/// Whether a TAP attribute names a port of type bit and of this mode.
+/// Whether there is such a port, of type bit and mode in.
 fn is_plain_in(port: Option<&Port>) -> bool
     ensures { result ≡ is_plain is_inward (option_copied port.entry) }
 {
@@ -22,6 +22,7 @@ fn is_plain_in(port: Option<&Port>) -> bool
     }
 }
 
+/// Whether there is such a port, of type bit and mode out.
 fn is_plain_out(port: Option<&Port>) -> bool
     ensures { result ≡ is_plain is_outward (option_copied port.entry) }
 {
@@ -43,18 +44,21 @@ fn is_in(names: &[&[u8]], name: &[u8]) -> bool
     is_lent(names, name)
 }
 
+/// Whether a TAP attribute names a port that one before it names, or none of type bit and mode in.
 fn breaks_inward(ports: &PortIndex, before: &[&[u8]], name: &[u8]) -> bool
     ensures { result ≡ breaks_tap is_inward ports.now (map (λ n. n.now) before.now) name.now }
 {
     is_in(before, name) || !is_plain_in(ports.port_at(&mut Near::new(), name))
 }
 
+/// The same for mode out.
 fn breaks_outward(ports: &PortIndex, before: &[&[u8]], name: &[u8]) -> bool
     ensures { result ≡ breaks_tap is_outward ports.now (map (λ n. n.now) before.now) name.now }
 {
     is_in(before, name) || !is_plain_out(ports.port_at(&mut Near::new(), name))
 }
 
+/// The same for TRST*, which need not be there.
 fn breaks_reset(ports: &PortIndex, before: &[&[u8]], reset: &Option<Name>) -> bool
     ensures { result ≡ reset_breaks ports.now (map (λ n. n.now) before.now) reset.now }
 {
@@ -110,6 +114,7 @@ fn is_reset(reset: &Option<Name>, name: &[u8]) -> bool
     }
 }
 
+/// Whether each word names a port bit.
 fn are_bits(ports: &PortIndex, words: &[PortWord]) -> bool
     ensures { result ≡ list_all (λ word. is_some (bit_number ports.now word)) words.now }
 {
@@ -122,6 +127,7 @@ fn are_bits(ports: &PortIndex, words: &[PortWord]) -> bool
     true
 }
 
+/// Whether each pattern has so many characters.
 fn have_length(count: usize, patterns: &[Code]) -> bool
     ensures { result ≡ list_all (λ pattern. length pattern == count) patterns.now }
 {
@@ -130,6 +136,7 @@ fn have_length(count: usize, patterns: &[Code]) -> bool
         .all(|pattern| pattern.symbols().len() == count)
 }
 
+/// Whether the compliance patterns name port bits and are as long as their number.
 fn complies(ports: &PortIndex, compliance: &Option<Compliance>) -> bool
     ensures { result ≡ complies ports.now compliance.now }
 {
