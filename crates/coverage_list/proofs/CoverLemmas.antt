@@ -10,8 +10,10 @@ use Rattle.board_defs.specs.declared.board.RawBoard.{RawBoard}
 use Rattle.board_defs.specs.Decided.{is_covered, are_paired}
 use Rattle.board_defs.specs.Passes.{pairs_within}
 use Rattle.coverage_list.specs.declared.lines.PinUse.{PinUse}
+use Rattle.coverage_list.specs.declared.lines.Section.{Section}
+use Rattle.coverage_list.specs.declared.lines.Section.TheVariants.{Reasons, Untested, Pairs}
 use Rattle.coverage_list.specs.CoverText.{is_untested, reason_lines, pin_line, net_pin_lines, pin_lines, pair_line, pair_lines}
-use Rattle.coverage_list.specs.inner.CoverForms.{of_item, texts_from, net_reason, reason_at, place_text, net_pins, pins_at, pair_text, net_pairs, pairs_at}
+use Rattle.coverage_list.specs.inner.CoverForms.{of_item, texts_from, net_reason, reason_at, place_text, net_pins, pins_at, pair_text, net_pairs, pairs_at, section_at, section_lines}
 
 flat_map_same : {X : Type 0} (f g : X → List ℕ) → ((x : X) → f x ≡ g x) → (xs : List X) → flat_map f xs ≡ flat_map g xs
 flat_map_same f g h [] = refl
@@ -62,7 +64,7 @@ all_are : {X : Type 0} (f : X → List ℕ) (xs : List X) → texts_from (λ n. 
 all_are f xs = from_are f xs 0
 
 -- the nets that are not covered
-pub reasons_are : (board : RawBoard) → texts_from (reason_at board) 0 (length board.nets) ≡ reason_lines board
+reasons_are : (board : RawBoard) → texts_from (reason_at board) 0 (length board.nets) ≡ reason_lines board
 reasons_are board = all_are (net_reason board) board.nets
 
 -- the untested pins
@@ -72,7 +74,7 @@ net_pins_are board pin_use net =
     ap (λ t. cond (is_covered board net) t []) (ap (λ k. flat_map (place_text board pin_use net) (range_with_len 0 k)) n
     ∙ texts_where (is_untested board pin_use net) (λ place. pin_line pin_use (slice_get net.pins place)) (range_with_len 0 (length net.pins)))
 
-pub pins_are : (board : RawBoard) (pin_use : PinUse) → texts_from (pins_at board pin_use) 0 (length board.nets) ≡ pin_lines board pin_use
+pins_are : (board : RawBoard) (pin_use : PinUse) → texts_from (pins_at board pin_use) 0 (length board.nets) ≡ pin_lines board pin_use
 pins_are board pin_use =
     all_are (net_pins board pin_use) board.nets
     ∙ flat_map_same (net_pins board pin_use) (λ net. cond (is_covered board net) (net_pin_lines board pin_use net) []) (net_pins_are board pin_use) board.nets
@@ -142,7 +144,7 @@ net_pairs_are board n low =
     let next : n + 1 ≡ suc n = omega arith in
     ap (λ t. cond (is_covered board low) t []) (from_are (pair_text board low) board.nets (n + 1) ∙ ap (λ k. flat_map (pair_text board low) (drop k board.nets)) next)
 
-pub pairs_are : (board : RawBoard) → texts_from (pairs_at board) 0 (length board.nets) ≡ pair_lines board
+pairs_are : (board : RawBoard) → texts_from (pairs_at board) 0 (length board.nets) ≡ pair_lines board
 pairs_are board =
     let nets : List Net = board.nets in
     let n : length nets - 0 ≡ length nets = omega arith in
@@ -150,3 +152,9 @@ pairs_are board =
     ap (λ k. flat_map (pairs_at board) (range_with_len 0 k)) n
     ∙ numbers_are of_one (pairs_at board) 0 nets (λ i low e. let at : 0 + i ≡ i = omega arith in ap (pairs_at board) at ∙ ap (of_item (net_pairs board i)) e ∙ net_pairs_are board i low)
     ∙ all_pairs (is_covered board) (are_paired board) pair_line nets
+
+-- the texts of the nets make the section
+pub section_is : (board : RawBoard) (section : Section) → texts_from (section_at board section) 0 (length board.nets) ≡ section_lines board section
+section_is board Reasons = reasons_are board
+section_is board (Untested pin_use) = pins_are board pin_use
+section_is board Pairs = pairs_are board

@@ -1,5 +1,5 @@
 -- What is said of single nets, pins and pairs.
-use Rattle.std.proofs.Common.{◌≡◌, ℕ, zero, suc, ◌+◌, ◌-◌, ◌*◌, ◌/◌, ◌%◌, ◌^◌, ◌<◌, ◌≤◌, subst, Bool, true, false, not, ◌&&◌, cond, List, [], ◌∷◌, ◌++◌, length, Option, Some, None, refl, sym, ap, ◌∙◌, take, filter, get_or, length-append, arith}
+use Rattle.std.proofs.Common.{◌≡◌, ℕ, zero, suc, ◌+◌, ◌-◌, ◌*◌, ◌/◌, ◌%◌, ◌<◌, ◌≤◌, subst, Bool, true, false, not, ◌&&◌, cond, List, [], ◌∷◌, ◌++◌, length, Option, Some, None, refl, sym, ap, ◌∙◌, take, filter, get_or, length-append, arith}
 use Rattle.std.specs.Prelude.{◌==◌, slice_get, is_none, sum_by}
 use Rattle.std.specs.Int.{bit_at}
 use Rattle.std.proofs.lemmas.Nat.Bits.{bit_at-zero}
@@ -13,7 +13,7 @@ use Rattle.board_defs.specs.declared.board.RawBoard.{RawBoard}
 use Rattle.board_defs.specs.declared.board.NetPin.{NetPin}
 use Rattle.board_defs.specs.declared.coverage.Reason.{Reason}
 use Rattle.board_defs.specs.BoardRules.{IsBoard}
-use Rattle.board_defs.specs.Decided.{is_covered, are_paired, first_reason, reason_of}
+use Rattle.board_defs.specs.Decided.{is_covered, first_reason, reason_of}
 use Rattle.net_classes.specs.Pairs.{AreBitsOf, covered_there, pair_there, unpaired_with}
 use Rattle.coverage_list.specs.declared.lines.PinUse.{PinUse}
 use Rattle.coverage_list.specs.CoverText.{is_untested, reason_line, pin_line, pair_line}
@@ -121,9 +121,9 @@ pub pair_is : (board : RawBoard) (low high other : Net) (n : ℕ) → slice_get 
 pair_is board low high other n at e same =
     ap (λ (x : Net). pair_line x high) same ∙ sym (ap (of_item (pair_text board low)) at ∙ ap (λ t. cond t (pair_line low high) []) e)
 
-pub pairs_is : (board : RawBoard) (n count : ℕ) (net : Net) → slice_get board.nets n ≡ Some net → is_covered board net ≡ true → count ≡ length board.nets → texts_from (pair_at board net) (n + 1) count ≡ pairs_at board n
-pairs_is board n count net at e all =
-    ap (texts_from (pair_at board net) (n + 1)) all ∙ sym (ap (of_item (net_pairs board n)) at ∙ ap (λ t. cond t (texts_from (pair_at board net) (n + 1) (length board.nets)) []) e)
+pub pairs_is : (board : RawBoard) (n : ℕ) (net : Net) → slice_get board.nets n ≡ Some net → is_covered board net ≡ true → texts_from (pair_at board net) (n + 1) (length board.nets) ≡ pairs_at board n
+pairs_is board n net at e =
+    sym (ap (of_item (net_pairs board n)) at ∙ ap (λ t. cond t (texts_from (pair_at board net) (n + 1) (length board.nets)) []) e)
 
 -- no net has more pins than a board may have
 pub few_pins : (board : RawBoard) (n : ℕ) (net : Net) → IsBoard board → slice_get board.nets n ≡ Some net → length net.pins ≤ 65535

@@ -9,7 +9,7 @@ use Rattle.board_defs.specs.Laws.{DecidesTerms}
 use Rattle.coverage_list.specs.declared.lines.PinUse.{PinUse}
 use Rattle.coverage_list.specs.declared.lines.PinUse.TheVariants.{Driver, Receiver}
 use Rattle.coverage_list.specs.CoverText.{cover_text}
-use Rattle.coverage_list.specs.CoverList.{Answers, AreTrue, IsCoverList, IsTestedAs}
+use Rattle.coverage_list.specs.CoverList.{Answers, IsCoverList, IsTestedAs}
 
 abbrev tested_as : RawBoard → PinUse → Net → ℕ → Bool
 tested_as board Driver net place = is_tested_driver board net place

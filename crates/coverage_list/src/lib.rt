@@ -1,6 +1,7 @@
 //! The coverage list of a board: what of it a test can cover, and what it cannot.
 #![tactic(auto)]
 
+mod classified;
 pub mod law;
 mod lines;
 mod listing;

@@ -16,6 +16,17 @@ pub enum PinUse {
     Receiver,
 }
 
+/// A part of the list that goes through the nets.
+#[derive(Clone, Copy, Debug, PartialEq, Eq)]
+pub enum Section {
+    /// The nets that are not covered, each with the reason.
+    Reasons,
+    /// The drivers, or the receivers, of covered nets that are not tested.
+    Untested(PinUse),
+    /// The pairs of covered nets that are not paired.
+    Pairs,
+}
+
 fn reason_word(reason: Reason) -> &'static [u8]
     ensures { result.now ≡ reason_word reason }
 {

@@ -1,46 +1,20 @@
 // The coverage list, net by net.
-ghost use Rattle.std.specs.Prelude.{◌≡◌, ◌<◌, ◌≤◌, ◌+◌, ◌*◌, ◌/◌, ◌==◌, [], length, Some, true, false, slice_get};
+ghost use Rattle.std.specs.Prelude.{◌≡◌, ◌<◌, ◌≤◌, ◌+◌, ◌*◌, ◌/◌, ◌==◌, [], length, Some, slice_get};
 ghost use Rattle.std.specs.Int.{bit_at};
 ghost use Rattle.bt_base.specs.Puts.{Puts};
 ghost use Rattle.line_printer.specs.Prints.{Prints};
-ghost use Rattle.board_defs.specs.Pins.{IsOnBoard};
-ghost use Rattle.board_defs.specs.Decided.{is_covered};
 ghost use Rattle.net_classes.specs.Kept.{AreClasses};
 ghost use Rattle.net_classes.specs.inner.Kept.{OfNet};
 ghost use Rattle.net_classes.specs.Pairs.{AreBitsOf, unpaired_with};
-ghost use Rattle.coverage_list.specs.CoverText.{cover_text, covered, count_line, is_untested};
-ghost use Rattle.coverage_list.specs.inner.CoverForms.{is_unpaired, net_pairs, net_pins, pair_at, pairs_at, pins_at, place_text, reason_at, texts_from};
+ghost use Rattle.coverage_list.specs.CoverText.{cover_text, covered, count_line};
+ghost use Rattle.coverage_list.specs.inner.CoverForms.{is_unpaired, pair_at, pairs_at, pins_at, place_text, reason_at, section_at, section_lines, texts_from};
 
-use crate::lines::{PinUse, put_counts, put_pair, put_pin, put_reason};
+use crate::classified::ClassifiedBoard;
+use crate::lines::{PinUse, Section, put_counts, put_pair, put_pin, put_reason};
 use board_defs::{Board, Net, NetPin, PinRef};
 use bt_base::{PutFault, Sink};
 use bt_bits::Line;
 use net_classes::Classes;
-
-// How many nets the board has.
-fn net_count(board: &Board) -> u32
-    ensures value { result ≡ length board.now.nets }
-    ensures most { result ≤ 16382 }
-{
-    board.raw().nets.len() as u32
-}
-
-// The net of a number.
-fn net_at(board: &Board, n: u32) -> &Net
-    requires { n < length board.now.nets }
-    ensures { slice_get board.now.nets n ≡ Some result.now }
-{
-    &board.raw().nets.as_slice()[n as usize]
-}
-
-// How many pins the net of a number has.
-fn pin_count(board: &Board, net: &Net, n: u32) -> u32
-    requires { slice_get board.now.nets n ≡ Some net.now }
-    ensures { result ≡ length net.now.pins }
-{
-    let _rules = board.raw();
-    net.pins.len() as u32
-}
 
 // The pin at a place of a net.
 fn pin_at(net: &Net, place: u32) -> &NetPin
@@ -50,115 +24,53 @@ fn pin_at(net: &Net, place: u32) -> &NetPin
     &net.pins.as_slice()[place as usize]
 }
 
-// Whether the net is covered.
-fn is_covered(board: &Board, classes: &Classes, n: u32) -> bool
-    requires classes { AreClasses board.now classes.now }
-    requires net { n < length board.now.nets }
-    ensures { OfNet board.now n (λ net. result ≡ is_covered board.now net) }
-{
-    classes.reason(board, n).is_none()
-}
-
-// How many nets are covered.
-fn covered_count(board: &Board, classes: &Classes, count: u32) -> u32
-    requires classes { AreClasses board.now classes.now }
-    requires count { count ≡ length board.now.nets }
-    ensures { result ≡ length (covered board.now) }
-{
-    let mut covered = 0;
-    for n in 0..count {
-        if is_covered(board, classes, n) {
-            covered += 1;
-        }
-    }
-    covered
-}
-
 /// How many nets of the board are covered, at most 16,382. The classes are those of the board.
 pub fn covered_nets(board: &Board, classes: &Classes) -> u32
     requires { AreClasses board.now classes.now }
     ensures { result ≡ length (covered board.now) }
 {
-    covered_count(board, classes, net_count(board))
+    ClassifiedBoard::of(board, classes).covered_count()
 }
 
 // Puts how many nets there are and how many are covered.
 fn put_count<K: Sink>(
-    board: &Board,
-    classes: &Classes,
-    count: u32,
+    board: &ClassifiedBoard<'_>,
     line: &mut Line,
     out: &mut K,
 ) -> Result<(), PutFault>
-    requires classes { AreClasses board.now classes.now }
-    requires count { count ≡ length board.now.nets }
     ensures { Prints (K.shown out.old) (K.shown out.new) [] [] (count_line board.now) result }
 {
-    put_counts(count, covered_count(board, classes, count), line, out)
+    put_counts(board.net_count(), board.covered_count(), line, out)
 }
 
 // Puts why a net is not covered, where it is not.
 fn put_reason_at<K: Sink>(
-    board: &Board,
-    classes: &Classes,
+    board: &ClassifiedBoard<'_>,
     n: u32,
     line: &mut Line,
     out: &mut K,
 ) -> Result<(), PutFault>
-    requires classes { AreClasses board.now classes.now }
-    requires net { n < length board.now.nets }
+    requires { n < length board.now.nets }
     ensures { Prints (K.shown out.old) (K.shown out.new) [] [] (reason_at board.now n) result }
 {
-    let net = net_at(board, n);
-    put_reason(&net.name, classes.reason(board, n), line, out)
-}
-
-// Puts the nets that are not covered.
-fn put_reasons<K: Sink>(
-    board: &Board,
-    classes: &Classes,
-    count: u32,
-    line: &mut Line,
-    out: &mut K,
-) -> Result<(), PutFault>
-    requires classes { AreClasses board.now classes.now }
-    requires count { count ≡ length board.now.nets }
-    ensures { Prints (K.shown out.old) (K.shown out.new) [] [] (texts_from (reason_at board.now) 0 count) result }
-{
-    for n in 0..count {
-        put_reason_at(board, classes, n, line, out)?;
-    }
-    Ok(())
-}
-
-// Whether a pin is a driver, or a receiver, that is not tested as such.
-fn is_untested(board: &Board, classes: &Classes, pin_use: PinUse, pin: PinRef) -> bool
-    requires classes { AreClasses board.now classes.now }
-    requires pin { IsOnBoard board.now pin }
-    ensures { OfNet board.now pin.net (λ net. result ≡ is_untested board.now pin_use net pin.place) }
-{
-    match pin_use {
-        PinUse::Driver => classes.drives(board, pin) && !classes.driver_tested(board, pin),
-        PinUse::Receiver => classes.receives(board, pin) && !classes.receiver_tested(board, pin),
-    }
+    let net = board.net(n);
+    put_reason(&net.name, board.reason(n), line, out)
 }
 
 // Puts the pin at a place of a net, where it is not tested.
 fn put_place<K: Sink>(
-    board: &Board,
-    classes: &Classes,
+    board: &ClassifiedBoard<'_>,
     pin_use: PinUse,
     net: &Net,
     pin: PinRef,
     line: &mut Line,
     out: &mut K,
 ) -> Result<(), PutFault>
-    requires classes { AreClasses board.now classes.now }
     requires net { slice_get board.now.nets pin.net ≡ Some net.now }
     requires place { pin.place < length net.now.pins }
     ensures { Prints (K.shown out.old) (K.shown out.new) [] [] (place_text board.now pin_use net.now pin.place) result }
 {
-    if is_untested(board, classes, pin_use, pin) {
+    if board.is_untested(pin_use, pin) {
         put_pin(pin_use, pin_at(net, pin.place), line, out)
     } else {
         Ok(())
@@ -167,62 +79,39 @@ fn put_place<K: Sink>(
 
 // Puts the pins of a net that are not tested.
 fn put_net_pins<K: Sink>(
-    board: &Board,
-    classes: &Classes,
+    board: &ClassifiedBoard<'_>,
     pin_use: PinUse,
     net: &Net,
     n: u32,
     line: &mut Line,
     out: &mut K,
 ) -> Result<(), PutFault>
-    requires classes { AreClasses board.now classes.now }
-    requires net { slice_get board.now.nets n ≡ Some net.now }
+    requires { slice_get board.now.nets n ≡ Some net.now }
     ensures { Prints (K.shown out.old) (K.shown out.new) [] [] (texts_from (place_text board.now pin_use net.now) 0 (length net.now.pins)) result }
 {
-    for place in 0..pin_count(board, net, n) {
+    for place in 0..board.pin_count(net, n) {
         let pin = PinRef { net: n, place };
-        put_place(board, classes, pin_use, net, pin, line, out)?;
+        put_place(board, pin_use, net, pin, line, out)?;
     }
     Ok(())
 }
 
 // Puts the pins of a net that are not tested, where the net is covered.
 fn put_pins_at<K: Sink>(
-    board: &Board,
-    classes: &Classes,
+    board: &ClassifiedBoard<'_>,
     pin_use: PinUse,
     n: u32,
     line: &mut Line,
     out: &mut K,
 ) -> Result<(), PutFault>
-    requires classes { AreClasses board.now classes.now }
-    requires net { n < length board.now.nets }
+    requires { n < length board.now.nets }
     ensures { Prints (K.shown out.old) (K.shown out.new) [] [] (pins_at board.now pin_use n) result }
 {
-    if is_covered(board, classes, n) {
-        put_net_pins(board, classes, pin_use, net_at(board, n), n, line, out)
+    if board.is_covered(n) {
+        put_net_pins(board, pin_use, board.net(n), n, line, out)
     } else {
         Ok(())
     }
-}
-
-// Puts the drivers, or the receivers, of covered nets that are not tested.
-fn put_pins<K: Sink>(
-    board: &Board,
-    classes: &Classes,
-    pin_use: PinUse,
-    count: u32,
-    line: &mut Line,
-    out: &mut K,
-) -> Result<(), PutFault>
-    requires classes { AreClasses board.now classes.now }
-    requires count { count ≡ length board.now.nets }
-    ensures { Prints (K.shown out.old) (K.shown out.new) [] [] (texts_from (pins_at board.now pin_use) 0 count) result }
-{
-    for n in 0..count {
-        put_pins_at(board, classes, pin_use, n, line, out)?;
-    }
-    Ok(())
 }
 
 // Whether a bit of the word is set.
@@ -234,7 +123,7 @@ fn has_bit(word: u64, place: u32) -> bool
 }
 
 // Whether net `high` is covered and not paired with net `low`, by the word that says which nets are.
-fn is_unpaired(board: &Board, unpaired: u64, low: u32, high: u32) -> bool
+fn is_unpaired(board: &ClassifiedBoard<'_>, unpaired: u64, low: u32, high: u32) -> bool
     requires { AreBitsOf (unpaired_with board.now low) (high / 64) unpaired }
     ensures { OfNet board.now low (λ one. OfNet board.now high (λ two. result ≡ is_unpaired board.now one two)) }
 {
@@ -243,7 +132,7 @@ fn is_unpaired(board: &Board, unpaired: u64, low: u32, high: u32) -> bool
 
 // Puts two nets, where the second is covered and not paired with the first.
 fn put_pair_at<K: Sink>(
-    board: &Board,
+    board: &ClassifiedBoard<'_>,
     unpaired: u64,
     low: u32,
     high: u32,
@@ -256,7 +145,7 @@ fn put_pair_at<K: Sink>(
     ensures { OfNet board.now low (λ net. Prints (K.shown out.old) (K.shown out.new) [] [] (pair_at board.now net high) result) }
 {
     if is_unpaired(board, unpaired, low, high) {
-        put_pair(net_at(board, low), net_at(board, high), line, out)
+        put_pair(board.net(low), board.net(high), line, out)
     } else {
         Ok(())
     }
@@ -264,21 +153,19 @@ fn put_pair_at<K: Sink>(
 
 // Puts the pairs of a net and of those from net `from` to net `end`, whose bits stand in one word.
 fn put_word<K: Sink>(
-    board: &Board,
-    classes: &Classes,
+    board: &ClassifiedBoard<'_>,
     low: u32,
     from: u32,
     end: u32,
     line: &mut Line,
     out: &mut K,
 ) -> Result<(), PutFault>
-    requires classes { AreClasses board.now classes.now }
     requires net { low < length board.now.nets }
     requires within { end ≤ length board.now.nets }
     requires word { end ≤ 64 * (from / 64 + 1) }
     ensures { OfNet board.now low (λ net. Prints (K.shown out.old) (K.shown out.new) [] [] (texts_from (pair_at board.now net) from end) result) }
 {
-    let unpaired = classes.unpaired_word(board, low, from / 64);
+    let unpaired = board.unpaired_word(low, from / 64);
     if unpaired == 0 {
         return Ok(());
     }
@@ -290,94 +177,87 @@ fn put_word<K: Sink>(
 
 // Puts the pairs of a net and a later one that are not paired, where the later one is covered.
 fn put_later<K: Sink>(
-    board: &Board,
-    classes: &Classes,
+    board: &ClassifiedBoard<'_>,
     low: u32,
-    count: u32,
     line: &mut Line,
     out: &mut K,
 ) -> Result<(), PutFault>
-    requires classes { AreClasses board.now classes.now }
-    requires count { count ≡ length board.now.nets }
-    requires net { low < count }
-    ensures { OfNet board.now low (λ net. Prints (K.shown out.old) (K.shown out.new) [] [] (texts_from (pair_at board.now net) (low + 1) count) result) }
+    requires { low < length board.now.nets }
+    ensures { OfNet board.now low (λ net. Prints (K.shown out.old) (K.shown out.new) [] [] (texts_from (pair_at board.now net) (low + 1) (length board.now.nets)) result) }
 {
-    let _rules = board.raw();
+    let count = board.net_count();
     let mut from = low + 1;
     while from < count {
         let end = count.min(64 * (from / 64 + 1));
-        put_word(board, classes, low, from, end, line, out)?;
+        put_word(board, low, from, end, line, out)?;
         from = end;
     }
     Ok(())
 }
 
-// Whether a net is covered and may be unpaired with another covered net.
-fn may_be_unpaired(board: &Board, classes: &Classes, n: u32) -> bool
-    requires classes { AreClasses board.now classes.now }
-    requires net { n < length board.now.nets }
-    ensures free { result ≡ false → OfNet board.now n (λ net. net_pairs board.now n net ≡ []) }
-    ensures covered { result ≡ true → OfNet board.now n (λ net. is_covered board.now net ≡ true) }
-{
-    is_covered(board, classes, n) && !classes.is_paired_with_all(board, n)
-}
-
 // Puts the pairs of a net and a later one that are covered and not paired.
 fn put_pairs_at<K: Sink>(
-    board: &Board,
-    classes: &Classes,
+    board: &ClassifiedBoard<'_>,
     low: u32,
-    count: u32,
     line: &mut Line,
     out: &mut K,
 ) -> Result<(), PutFault>
-    requires classes { AreClasses board.now classes.now }
-    requires count { count ≡ length board.now.nets }
-    requires net { low < count }
+    requires { low < length board.now.nets }
     ensures { Prints (K.shown out.old) (K.shown out.new) [] [] (pairs_at board.now low) result }
 {
-    if may_be_unpaired(board, classes, low) {
-        put_later(board, classes, low, count, line, out)
+    if board.may_be_unpaired(low) {
+        put_later(board, low, line, out)
     } else {
         Ok(())
     }
 }
 
-// Puts the pairs of covered nets that are not paired.
-fn put_pairs<K: Sink>(
-    board: &Board,
-    classes: &Classes,
-    count: u32,
+// Puts what a section lists of a net.
+fn put_at<K: Sink>(
+    board: &ClassifiedBoard<'_>,
+    section: Section,
+    n: u32,
     line: &mut Line,
     out: &mut K,
 ) -> Result<(), PutFault>
-    requires classes { AreClasses board.now classes.now }
-    requires count { count ≡ length board.now.nets }
-    ensures { Prints (K.shown out.old) (K.shown out.new) [] [] (texts_from (pairs_at board.now) 0 count) result }
+    requires { n < length board.now.nets }
+    ensures { Prints (K.shown out.old) (K.shown out.new) [] [] (section_at board.now section n) result }
 {
-    for low in 0..count {
-        put_pairs_at(board, classes, low, count, line, out)?;
+    match section {
+        Section::Reasons => put_reason_at(board, n, line, out),
+        Section::Untested(pin_use) => put_pins_at(board, pin_use, n, line, out),
+        Section::Pairs => put_pairs_at(board, n, line, out),
+    }
+}
+
+// Puts a section, net by net.
+fn put_section<K: Sink>(
+    board: &ClassifiedBoard<'_>,
+    section: Section,
+    line: &mut Line,
+    out: &mut K,
+) -> Result<(), PutFault>
+    ensures { Prints (K.shown out.old) (K.shown out.new) [] [] (section_lines board.now section) result }
+{
+    for n in 0..board.net_count() {
+        put_at(board, section, n, line, out)?;
     }
     Ok(())
 }
 
 // Puts the list.
 fn put_list<K: Sink>(
-    board: &Board,
-    classes: &Classes,
-    count: u32,
+    board: &ClassifiedBoard<'_>,
     line: &mut Line,
     out: &mut K,
 ) -> Result<(), PutFault>
-    requires classes { AreClasses board.now classes.now }
-    requires count { count ≡ length board.now.nets }
     ensures { Prints (K.shown out.old) (K.shown out.new) [] [] (cover_text board.now) result }
 {
-    put_count(board, classes, count, line, out)?;
-    put_reasons(board, classes, count, line, out)?;
-    put_pins(board, classes, PinUse::Driver, count, line, out)?;
-    put_pins(board, classes, PinUse::Receiver, count, line, out)?;
-    put_pairs(board, classes, count, line, out)
+    put_count(board, line, out)?;
+    put_section(board, Section::Reasons, line, out)?;
+    put_section(board, Section::Untested(PinUse::Driver), line, out)?;
+    put_section(board, Section::Untested(PinUse::Receiver), line, out)?;
+    put_section(board, Section::Pairs, line, out)
 }
 
 /// Puts the coverage list of a board: how many nets it has and how many are covered, each net that
@@ -395,5 +275,5 @@ pub fn write_cover<K: Sink>(
     requires { AreClasses board.now classes.now }
     ensures { Puts (K.shown out.old) (K.shown out.new) (cover_text board.now) result }
 {
-    put_list(board, classes, net_count(board), line, out)
+    put_list(&ClassifiedBoard::of(board, classes), line, out)
 }

@@ -5,7 +5,9 @@ use Rattle.board_defs.specs.declared.board.Net.{Net}
 use Rattle.board_defs.specs.declared.board.RawBoard.{RawBoard}
 use Rattle.board_defs.specs.Decided.{is_covered, are_paired, reason_of}
 use Rattle.coverage_list.specs.declared.lines.PinUse.{PinUse}
-use Rattle.coverage_list.specs.CoverText.{is_untested, reason_line, pin_line, pair_line}
+use Rattle.coverage_list.specs.declared.lines.Section.{Section}
+use Rattle.coverage_list.specs.declared.lines.Section.TheVariants.{Reasons, Untested, Pairs}
+use Rattle.coverage_list.specs.CoverText.{is_untested, reason_line, reason_lines, pin_line, pin_lines, pair_line, pair_lines}
 
 -- the texts of the numbers from n on, up to the count
 abbrev pub texts_from : (ℕ → List ℕ) → ℕ → ℕ → List ℕ
@@ -48,3 +50,14 @@ net_pairs board n low = cond (is_covered board low) (texts_from (pair_at board l
 
 abbrev pub pairs_at : RawBoard → ℕ → List ℕ
 pairs_at board n = of_item (net_pairs board n) (slice_get board.nets n)
+
+-- what a section of the list says of the net of a number, and in all
+abbrev pub section_at : RawBoard → Section → ℕ → List ℕ
+section_at board Reasons = reason_at board
+section_at board (Untested pin_use) = pins_at board pin_use
+section_at board Pairs = pairs_at board
+
+abbrev pub section_lines : RawBoard → Section → List ℕ
+section_lines board Reasons = reason_lines board
+section_lines board (Untested pin_use) = pin_lines board pin_use
+section_lines board Pairs = pair_lines board

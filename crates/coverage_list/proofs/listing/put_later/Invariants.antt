@@ -1,4 +1,4 @@
-use Rattle.std.proofs.Common.{◌≡◌, ◌+◌, ◌-◌, Some}
+use Rattle.std.proofs.Common.{length, ◌≡◌, ◌+◌, ◌-◌, Some}
 use Rattle.std.specs.Prelude.{slice_get}
 use Rattle.board_defs.specs.declared.board.Net.{Net}
 use Rattle.coverage_list.specs.inner.CoverForms.{pair_at, texts_from}
@@ -7,7 +7,7 @@ use Rattle.coverage_list.proofs.listing.put_later.Given as goal
 
 -- the pairs with the nets that are left complete the list
 abbrev pub invariant-loop-from : goal.invariant-loop-from
-invariant-loop-from g l = (net : Net) → slice_get l.board.nets l.low ≡ Some net → Completes (g.K.Sink.shown l.fn.out) (g.K.Sink.shown l.out) (texts_from (pair_at l.board net) l.from l.count) (texts_from (pair_at l.board net) (l.low + 1) l.count)
+invariant-loop-from g l = (net : Net) → slice_get l.board.nets l.low ≡ Some net → Completes (g.K.Sink.shown l.fn.out) (g.K.Sink.shown l.out) (texts_from (pair_at l.board net) l.from (length l.board.nets)) (texts_from (pair_at l.board net) (l.low + 1) (length l.board.nets))
 
 abbrev pub decreases-loop-from : goal.decreases-loop-from
 decreases-loop-from g l = l.count - l.from

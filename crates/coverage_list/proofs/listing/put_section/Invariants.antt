@@ -1,0 +1,8 @@
+use Rattle.std.proofs.Common.{length}
+use Rattle.coverage_list.specs.inner.CoverForms.{section_at, section_lines, texts_from}
+use Rattle.coverage_list.proofs.PutLemmas.{Completes}
+use Rattle.coverage_list.proofs.listing.put_section.Given as goal
+
+-- what is said of the nets that are left completes the section
+abbrev pub invariant-loop-n : goal.invariant-loop-n
+invariant-loop-n g l = Completes (g.K.Sink.shown l.fn.out) (g.K.Sink.shown l.out) (texts_from (section_at l.board l.section) l.n (length l.board.nets)) (section_lines l.board l.section)

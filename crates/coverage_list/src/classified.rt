@@ -1,0 +1,126 @@
+// A board with its classes, and what the list asks of the two.
+ghost use Rattle.std.specs.Prelude.{◌≡◌, ◌<◌, ◌≤◌, [], length, Some, true, false, slice_get};
+ghost use Rattle.board_defs.specs.Pins.{IsOnBoard};
+ghost use Rattle.board_defs.specs.Decided.{is_covered, reason_of};
+ghost use Rattle.net_classes.specs.Kept.{AreClasses};
+ghost use Rattle.net_classes.specs.inner.Kept.{OfNet};
+ghost use Rattle.net_classes.specs.Pairs.{AreBitsOf, unpaired_with};
+ghost use Rattle.coverage_list.specs.CoverText.{covered, is_untested};
+ghost use Rattle.coverage_list.specs.inner.CoverForms.{net_pairs};
+
+use crate::lines::PinUse;
+use board_defs::{Board, Net, PinRef, Reason};
+use net_classes::Classes;
+use std::marker::Model;
+
+/// A board with its classes, seen as the board.
+#[derive(Drop)]
+pub struct ClassifiedBoard<'a> {
+    board: &'a Board,
+    classes: &'a Classes,
+}
+
+impl<'a> Model for ClassifiedBoard<'a> {
+    ghost use Rattle.board_defs.specs.declared.board.RawBoard.{RawBoard};
+    ghost use Rattle.net_classes.specs.Kept.{AreClasses};
+
+    ghost Value = { RawBoard };
+
+    ghost view = { λ a. a.board.now };
+
+    ghost invariant = { λ a. AreClasses a.board.now a.classes.now };
+}
+
+impl<'a> ClassifiedBoard<'a> {
+    /// The board with these classes, which are its own.
+    pub fn of(board: &'a Board, classes: &'a Classes) -> ClassifiedBoard<'a>
+        requires { AreClasses board.now classes.now }
+        ensures { result ≡ board.now }
+    {
+        ClassifiedBoard { board, classes }
+    }
+
+    /// How many nets the board has.
+    pub fn net_count(&self) -> u32
+        ensures value { result ≡ length self.now.nets }
+        ensures most { result ≤ 16382 }
+    {
+        self.board.raw().nets.len() as u32
+    }
+
+    /// The net of a number.
+    pub fn net(&self, n: u32) -> &'a Net
+        requires { n < length self.now.nets }
+        ensures { slice_get self.now.nets n ≡ Some result.now }
+    {
+        &self.board.raw().nets.as_slice()[n as usize]
+    }
+
+    /// How many pins the net of a number has.
+    pub fn pin_count(&self, net: &Net, n: u32) -> u32
+        requires { slice_get self.now.nets n ≡ Some net.now }
+        ensures { result ≡ length net.now.pins }
+    {
+        let _rules = self.board.raw();
+        net.pins.len() as u32
+    }
+
+    /// Why a net is not covered, where it is not.
+    pub fn reason(&self, n: u32) -> Option<Reason>
+        requires { n < length self.now.nets }
+        ensures { OfNet self.now n (λ net. result ≡ reason_of self.now net) }
+    {
+        self.classes.reason(self.board, n)
+    }
+
+    /// Whether the net is covered.
+    pub fn is_covered(&self, n: u32) -> bool
+        requires { n < length self.now.nets }
+        ensures { OfNet self.now n (λ net. result ≡ is_covered self.now net) }
+    {
+        self.reason(n).is_none()
+    }
+
+    /// How many nets are covered.
+    pub fn covered_count(&self) -> u32
+        ensures { result ≡ length (covered self.now) }
+    {
+        let mut covered = 0;
+        for n in 0..self.net_count() {
+            if self.is_covered(n) {
+                covered += 1;
+            }
+        }
+        covered
+    }
+
+    /// Whether a pin is a driver, or a receiver, that is not tested as such.
+    pub fn is_untested(&self, pin_use: PinUse, pin: PinRef) -> bool
+        requires { IsOnBoard self.now pin }
+        ensures { OfNet self.now pin.net (λ net. result ≡ is_untested self.now pin_use net pin.place) }
+    {
+        let (board, classes) = (self.board, self.classes);
+        match pin_use {
+            PinUse::Driver => classes.drives(board, pin) && !classes.driver_tested(board, pin),
+            PinUse::Receiver => classes.receives(board, pin)
+                && !classes.receiver_tested(board, pin),
+        }
+    }
+
+    /// Whether a net is covered and may be unpaired with another covered net.
+    pub fn may_be_unpaired(&self, n: u32) -> bool
+        requires { n < length self.now.nets }
+        ensures free { result ≡ false → OfNet self.now n (λ net. net_pairs self.now n net ≡ []) }
+        ensures covered { result ≡ true → OfNet self.now n (λ net. is_covered self.now net ≡ true) }
+    {
+        self.is_covered(n) && !self.classes.is_paired_with_all(self.board, n)
+    }
+
+    /// Of the 64 nets from net 64 * word on, those that are covered and not paired with the net.
+    pub fn unpaired_word(&self, n: u32, word: u32) -> u64
+        requires { n < length self.now.nets }
+        ensures { AreBitsOf (unpaired_with self.now n) word result }
+    {
+        self.classes.unpaired_word(self.board, n, word)
+    }
+}
