@@ -1,5 +1,5 @@
 -- Which rows a walk keeps, and which it fills in.
-use Rattle.std.proofs.Common.{◌≡◌, ◌⊎◌, inl, inr, ℕ, zero, suc, ◌+◌, ◌*◌, ◌<◌, ◌≤◌, ◌==◌, ◌^◌, Bool, true, false, cond, List, [], ◌∷◌, length, take, map, get_or, set, replicate, Option, Some, None, is_some, unwrap_or, refl, sym, ◌∙◌, ap, subst, arith}
+use Rattle.std.proofs.Common.{◌≡◌, ◌⊎◌, inl, inr, ℕ, zero, suc, ◌+◌, ◌<◌, ◌≤◌, ◌==◌, ◌^◌, Bool, true, false, cond, List, [], ◌∷◌, length, take, map, get_or, set, replicate, Option, Some, None, is_some, unwrap_or, refl, sym, ◌∙◌, ap, subst, arith}
 use Rattle.std.specs.Prelude.{slice_get, filter, count_by, nat_lt, option_map, option_and_then, All}
 use Rattle.std.specs.Option.{option_to_list}
 use Rattle.std.specs.List.{list_any, range_with_len}
@@ -15,10 +15,10 @@ use Rattle.board_defs.specs.Settings.{holds}
 use Rattle.board_defs.proofs.Members.{Has, has_at, has_place, contains_has, has_contains}
 use Rattle.board_defs.proofs.Places.{any_at}
 use Rattle.tap_defs.specs.declared.scan.Shape.{Shape}
-use Rattle.tap_defs.specs.chain.Scan.{ScanBit, Scan, joined, tdi_bits, tdo_bits, mask_bits, scan_bits}
+use Rattle.tap_defs.specs.chain.Scan.{ScanBit, joined, tdi_bits, tdo_bits, mask_bits, scan_bits}
 use Rattle.tap_defs.specs.board.TestRows.{TestRow, quiet_row, code_row, code_of_net, code_bit, net_code_bit, observing_driver, observed_count, code_width}
-use Rattle.tap_defs.specs.board.BoardScans.{RowScan, row_bits, scan_of_row, board_scans, row_scans, pass_scans, row_now, row_before, test_scans, first_row_scan, is_walked, walk_row, walk_row_scans}
-use Rattle.tap_defs.proofs.board.ScanPlaceLemmas.{scans_placed, front_at, length-pass_scans, pass_scan_at}
+use Rattle.tap_defs.specs.board.BoardScans.{RowScan, row_bits, scan_of_row, board_scans, row_scans, pass_scans, row_now, row_before, is_walked, walk_row, walk_row_scans}
+use Rattle.tap_defs.proofs.board.ScanPlaceLemmas.{front_at, length-pass_scans, pass_scan_at}
 use Rattle.tap_defs.proofs.board.WidthLemmas.{width_is}
 use Rattle.plan_tables.specs.declared.nets.NetDriver.{NetDriver}
 use Rattle.plan_tables.specs.declared.tables.DriverCell.{DriverCell}
@@ -27,7 +27,7 @@ use Rattle.plan_tables.specs.declared.tables.PlanTables.{PlanTables}
 use Rattle.plan_tables.specs.Assigned.{assigned}
 use Rattle.plan_tables.specs.Building.{enabled_in, is_read_beside, drivers_of, readers_of}
 use Rattle.plan_tables.specs.Plans.{IsPlanOf}
-use Rattle.scan_planner.specs.Plans.{FillsScan, scan_count}
+use Rattle.scan_planner.specs.Plans.{FillsScan, scan_of_pass}
 use Rattle.plan_tables.specs.Tables.{IsDriverCell, IsReaderCell}
 use Rattle.scan_planner.proofs.FillLemmas.{row_sized, quiet_tdo, quiet_mask}
 use Rattle.plan_tables.proofs.RowLemmas.{none_of_zeros}
@@ -44,24 +44,6 @@ use Rattle.walk_test.proofs.CellLemmas.{WalkedBy}
 use Rattle.walk_test.proofs.NetLemmas.{walk_at, place_of_walk, count_is, marked_is, no_nets}
 use Rattle.walk_test.proofs.RowLemmas.{CellsOf, cells_of_plan, one_driver, length-tdi, marked_row, cleared_row, mask_same, ComparedAt, one_at, tdo_here, laid_here, net_cells}
 
--- the rows of a scan
-rows_tdi : (tdi tdo mask : List Bool) → length tdo ≡ length tdi → length mask ≡ length tdi → tdi_bits (scan_bits tdi tdo mask) ≡ tdi
-rows_tdi [] tdo mask d m = refl
-rows_tdi (i ∷ tdi) [] mask d m = absurd (omega (arith, d))
-rows_tdi (i ∷ tdi) (o ∷ tdo) [] d m = absurd (omega (arith, m))
-rows_tdi (i ∷ tdi) (o ∷ tdo) (b ∷ mask) d m = ap (λ (l : List Bool). i ∷ l) (rows_tdi tdi tdo mask (omega (arith, d)) (omega (arith, m)))
-
-rows_mask : (tdi tdo mask : List Bool) → length tdo ≡ length tdi → length mask ≡ length tdi → mask_bits (scan_bits tdi tdo mask) ≡ mask
-rows_mask [] tdo [] d m = refl
-rows_mask [] tdo (b ∷ mask) d m = absurd (omega (arith, m))
-rows_mask (i ∷ tdi) [] mask d m = absurd (omega (arith, d))
-rows_mask (i ∷ tdi) (o ∷ tdo) [] d m = absurd (omega (arith, m))
-rows_mask (i ∷ tdi) (o ∷ tdo) (b ∷ mask) d m = ap (λ (c : Bool). c ∷ mask_bits (scan_bits tdi tdo mask)) (by_bit b) ∙ ap (λ (l : List Bool). b ∷ l) (rows_mask tdi tdo mask (omega (arith, d)) (omega (arith, m)))
-  where
-    by_bit : (c : Bool) → is_some (cond c (Some o) None) ≡ c
-    by_bit true = refl
-    by_bit false = refl
-
 -- a width has a bit
 pub some_width : (board : RawBoard) (plan : PlanTables) → IsPlanOf board plan → 1 ≤ plan.width
 some_width board plan p = by_width plan.width p.width_is
@@ -73,51 +55,15 @@ some_width board plan p = by_width plan.width p.width_is
         absurd (omega (arith, enough, none))
     by_width (suc w) e = omega arith
 
--- the scans of a plan that a walk takes its rows from
-module _ (board : RawBoard) (plan : PlanTables) (p : IsPlanOf board plan) (shape : Shape) (tdi tdo mask : List Bool) where
-  pub quiet_filled : FillsScan board plan.passes plan.width 1 shape tdi tdo mask → tdi ≡ tdi_of board quiet_row
-  quiet_filled f =
-      let scans : Some (scan_of_row board first_row_scan) ≡ Some (record { ir = shape.ir; bits = scan_bits tdi tdo mask }) = f.scan in
-      let one : ◌≡◌ {A = Scan} (scan_of_row board first_row_scan) (record { ir = shape.ir; bits = scan_bits tdi tdo mask }) = cc scans in
-      sym (ap (λ (s : Scan). tdi_bits s.bits) one ∙ rows_tdi tdi tdo mask f.tdo_length f.mask_length)
+-- the rows of a plan that a walk takes its own from
+module _ (board : RawBoard) (plan : PlanTables) (p : IsPlanOf board plan) where
+  pub first_shifted : tdi_bits (joined (row_bits board (scan_of_pass board plan 0 0))) ≡ tdi_of board (code_row board plan.passes (get_or plan.passes 0 []) 0)
+  first_shifted =
+      let row : TestRow = code_row board plan.passes (get_or plan.passes 0 []) 0 in
+      ap (λ (b : Bool). tdi_of board (cond b row quiet_row)) (lt-ltb 0 plan.width (omega (arith, some_width board plan p)))
 
-  module _ (some : 0 < length plan.passes) where
-    abbrev pass : List Ctl
-    pass = get_or plan.passes 0 []
-
-    abbrev rows : ℕ → TestRow
-    rows j = code_row board plan.passes pass j
-
-    scan_at : (j k : ℕ) → j ≤ plan.width → k ≡ 3 + j → slice_get (test_scans board plan.passes plan.width) k ≡ Some (scan_of_row board (record { now = row_now rows plan.width j; before = row_before rows j }))
-    scan_at j k le z =
-        let at : k ≡ 3 + (0 * suc plan.width + j) = grind (arith, z) in
-        ap (λ (i : ℕ). slice_get (test_scans board plan.passes plan.width) i) at
-        ∙ (scans_placed board plan.passes plan.width).rows 0 pass j (slice_get-get_or plan.passes 0 [] some) le
-
-    first_now : row_now rows plan.width 0 ≡ rows 0
-    first_now = ap (λ (b : Bool). cond b (rows 0) quiet_row) (lt-ltb 0 plan.width (omega (arith, some_width board plan p)))
-
-    pub first_filled : FillsScan board plan.passes plan.width 3 shape tdi tdo mask → tdi ≡ tdi_of board (rows 0)
-    first_filled f =
-        let two : Some (scan_of_row board (record { now = row_now rows plan.width 0; before = quiet_row })) ≡ Some (record { ir = shape.ir; bits = scan_bits tdi tdo mask }) = sym (scan_at 0 3 (omega arith) (omega arith)) ∙ f.scan in
-        let one : ◌≡◌ {A = Scan} (scan_of_row board (record { now = row_now rows plan.width 0; before = quiet_row })) (record { ir = shape.ir; bits = scan_bits tdi tdo mask }) = cc two in
-        sym (ap (λ (s : Scan). tdi_bits s.bits) one ∙ rows_tdi tdi tdo mask f.tdo_length f.mask_length) ∙ ap (λ (r : TestRow). tdi_of board r) first_now
-
-    pub mask_filled : FillsScan board plan.passes plan.width 4 shape tdi tdo mask → mask ≡ mask_of board (rows 0)
-    mask_filled f =
-        let scan : RowScan = record { now = row_now rows plan.width 1; before = rows 0 } in
-        let two : Some (scan_of_row board scan) ≡ Some (record { ir = shape.ir; bits = scan_bits tdi tdo mask }) = sym (scan_at 1 4 (some_width board plan p) (omega arith)) ∙ f.scan in
-        let one : ◌≡◌ {A = Scan} (scan_of_row board scan) (record { ir = shape.ir; bits = scan_bits tdi tdo mask }) = cc two in
-        sym (ap (λ (s : Scan). mask_bits s.bits) one ∙ rows_mask tdi tdo mask f.tdo_length f.mask_length)
-        ∙ mask_laid board scan ∙ sym (mask_laid board (record { now = quiet_row; before = rows 0 }))
-
--- a plan with a pass has the scans of its first row and of what is compared of it
-pub scans_there : (board : RawBoard) (plan : PlanTables) → IsPlanOf board plan → 0 < length plan.passes → 4 < scan_count plan
-scans_there board plan p some = by_passes (length plan.passes) some
-  where
-    by_passes : (n : ℕ) → 0 < n → 4 < 3 + n * suc plan.width
-    by_passes zero less = absurd (omega (arith, less))
-    by_passes (suc n) less = let z : suc n * suc plan.width ≡ suc plan.width + n * suc plan.width = grind arith in omega (arith, z, some_width board plan p)
+  pub first_marked : mask_bits (joined (row_bits board (scan_of_pass board plan 0 1))) ≡ mask_of board (code_row board plan.passes (get_or plan.passes 0 []) 0)
+  first_marked = mask_laid board (scan_of_pass board plan 0 1) ∙ sym (mask_laid board (record { now = quiet_row; before = code_row board plan.passes (get_or plan.passes 0 []) 0 }))
 
 -- the nets and the cells of a walk by the tables of its plan
 module _ (board : RawBoard) (rules : IsBoard board) (plan : PlanTables) (p : IsPlanOf board plan) (walk : List Ctl) where
@@ -278,14 +224,12 @@ module _ (board : RawBoard) (rules : IsBoard board) (plan : PlanTables) (p : IsP
         plan = plan_is;
         passes = passes_are;
         nets = nets ∙ ap (λ (l : List (List Ctl)). nets_by plan (slice_get l 0) (length board.nets)) (passes ∙ ap (λ (o : Option (List Ctl)). option_to_list o) e) ∙ sym (no_nets board e);
-        quiet = rows_made.quiet;
         tables = λ walk is. let bad : None ≡ Some walk = sym e ∙ is in cc bad;
       }
       by_setting (Some walk) e = record {
         plan = plan_is;
         passes = passes_are;
         nets = walk_nets_are walk e;
-        quiet = rows_made.quiet;
         tables = λ other f.
             let two : Some walk ≡ Some other = sym e ∙ f in
             let same : walk ≡ other = cc two in
@@ -414,9 +358,6 @@ module _ (board : RawBoard) (rules : IsBoard board) (t : WalkTables) (w : IsWalk
 
     pub length-still : length t.rows.still.bits ≡ data_bits board
     length-still = ap (λ (l : List Bool). length l) tables.still ∙ length-tdi board rules walk cells (still_row walk)
-
-  pub length-quiet : length t.rows.quiet.bits ≡ data_bits board
-  length-quiet = ap (λ (l : List Bool). length l) (w.quiet ∙ tdi_laid board (record { now = quiet_row; before = quiet_row })) ∙ length-laid (λ part device cell. Rattle.tap_defs.specs.board.TestRows.row_bit board quiet_row part device cell) board
 
   -- where the board has a pass, it has a walk setting
   pub setting_there : 0 < length t.plan.passes → (walk : List Ctl) × (walk_setting board ≡ Some walk)

@@ -50,7 +50,6 @@ pub record IsWalkOf (board : RawBoard) (t : WalkTables) : Type 0 where
   pub plan : IsPlanOf board t.plan
   pub passes : t.plan.passes ≡ option_to_list (walk_setting board)
   pub nets : t.nets ≡ walk_nets board
-  pub quiet : t.rows.quiet.bits ≡ tdi_of board quiet_row
   pub tables : (walk : List Ctl) → walk_setting board ≡ Some walk → AreWalkTables board walk t
 
 -- the number of scans: three, and where there is a pass one for each walk net and one for the quiet row

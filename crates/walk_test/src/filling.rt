@@ -47,7 +47,7 @@ fn fill_now(board: &Board, tables: &WalkTables, j: usize, tdi: &mut Row)
     if j < tables.nets.len() {
         fill_walk_row(board, tables, j, tdi)
     } else {
-        tdi.copy_row(&tables.rows.quiet)
+        tdi.copy_row(tables.plan.quiet_row())
     }
 }
 

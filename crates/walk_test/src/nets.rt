@@ -6,8 +6,7 @@ ghost use Rattle.board_defs.specs.Settings.{holds};
 ghost use Rattle.plan_tables.specs.Assigned.{assigned};
 ghost use Rattle.plan_tables.specs.Building.{is_on, enabled_in, is_read_beside};
 ghost use Rattle.plan_tables.specs.Plans.{IsPlanOf};
-ghost use Rattle.scan_planner.specs.Plans.{IsRoom};
-ghost use Rattle.tap_defs.specs.board.TestRows.{quiet_row, code_row};
+ghost use Rattle.tap_defs.specs.board.TestRows.{code_row};
 ghost use Rattle.walk_test.specs.WalkTest.{walk_setting};
 ghost use Rattle.walk_test.specs.Tables.{tdi_of, mask_of, IsWalkOf};
 ghost use Rattle.walk_test.specs.inner.Tables.{observer_in, positions_beside, cells_by, cells_in, nets_in, nets_by, cells_of, AreMade};
@@ -155,51 +154,6 @@ fn all_cells(
     Ok(all)
 }
 
-// A row with room for each scan of the board.
-fn row_for(alloc: Global, board: &Board) -> Result<Row, AllocError>
-    ensures { IfOk result (λ row. IsRoom board.now row.room) }
-{
-    Row::with_room(alloc, board.ir_bits().max(board.dr_bits()))
-}
-
-// The quiet row.
-fn quiet_row(alloc: Global, board: &Board, plan: &Plan) -> Result<Row, AllocError>
-    requires { IsPlanOf board.now plan.now }
-    ensures { IfOk result (λ row. row.bits ≡ tdi_of board.now quiet_row) }
-{
-    let mut tdi = row_for(alloc, board)?;
-    let mut tdo = row_for(alloc, board)?;
-    let mut mask = row_for(alloc, board)?;
-    let _shape = plan.fill(board, 1, &mut tdi, &mut tdo, &mut mask);
-    Ok(tdi)
-}
-
-// The first row of the only pass of a plan, as it is shifted in.
-fn first_row(alloc: Global, board: &Board, plan: &Plan) -> Result<Row, AllocError>
-    requires plan { IsPlanOf board.now plan.now }
-    requires some { 0 < length plan.now.passes }
-    ensures { IfOk result (λ row. row.bits ≡ tdi_of board.now (code_row board.now plan.now.passes (slice_index_or plan.now.passes 0 []) 0)) }
-{
-    let mut tdi = row_for(alloc, board)?;
-    let mut tdo = row_for(alloc, board)?;
-    let mut mask = row_for(alloc, board)?;
-    let _shape = plan.fill(board, 3, &mut tdi, &mut tdo, &mut mask);
-    Ok(tdi)
-}
-
-// Where something is compared of it.
-fn first_mask(alloc: Global, board: &Board, plan: &Plan) -> Result<Row, AllocError>
-    requires plan { IsPlanOf board.now plan.now }
-    requires some { 0 < length plan.now.passes }
-    ensures { IfOk result (λ row. row.bits ≡ mask_of board.now (code_row board.now plan.now.passes (slice_index_or plan.now.passes 0 []) 0)) }
-{
-    let mut tdi = row_for(alloc, board)?;
-    let mut tdo = row_for(alloc, board)?;
-    let mut mask = row_for(alloc, board)?;
-    let _shape = plan.fill(board, 4, &mut tdi, &mut tdo, &mut mask);
-    Ok(mask)
-}
-
 // Sets the cells of the drivers of nets to 0.
 fn clear_drivers(cells: &[NetCells], row: &mut Row)
     ensures { row.new.bits ≡ assigned (λ c. c.driver) (λ c. false) row.old.bits cells.now }
@@ -211,7 +165,7 @@ fn clear_drivers(cells: &[NetCells], row: &mut Row)
     }
 }
 
-// The row in which no walk net carries 1, from the first row of the plan.
+// The row in which no walk net carries 1, from the first row of the only pass of a plan.
 fn still_row(
     alloc: Global,
     board: &Board,
@@ -222,9 +176,22 @@ fn still_row(
     requires some { 0 < length plan.now.passes }
     ensures { IfOk result (λ row. row.bits ≡ assigned (λ c. c.driver) (λ c. false) (tdi_of board.now (code_row board.now plan.now.passes (slice_index_or plan.now.passes 0 []) 0)) cells.now) }
 {
-    let mut still = first_row(alloc, board, plan)?;
+    let mut still = Row::with_room(alloc, board.dr_bits())?;
+    plan.fill_shifted(board, 0, 0, &mut still);
     clear_drivers(cells, &mut still);
     Ok(still)
+}
+
+// Where something is compared of the first row of the only pass of a plan.
+fn first_mask(alloc: Global, board: &Board, plan: &Plan) -> Result<Row, AllocError>
+    requires plan { IsPlanOf board.now plan.now }
+    requires some { 0 < length plan.now.passes }
+    ensures { IfOk result (λ row. row.bits ≡ mask_of board.now (code_row board.now plan.now.passes (slice_index_or plan.now.passes 0 []) 0)) }
+{
+    let mut expected = Row::with_room(alloc, board.dr_bits())?;
+    let mut mask = Row::with_room(alloc, board.dr_bits())?;
+    plan.fill_compared(board, 0, 0, &mut expected, &mut mask);
+    Ok(mask)
 }
 
 // The nets that the first of these settings observes, of so many, where there is a setting.
@@ -277,27 +244,16 @@ fn shared_rows(
     alloc: Global,
     board: &Board,
     plan: &Plan,
-    quiet: Row,
     cells: &[NetCells],
 ) -> Result<WalkRows, AllocError>
     requires plan { IsPlanOf board.now plan.now }
     requires some { 0 < length plan.now.passes }
-    ensures quiet { IfOk result (λ rows. rows.quiet.bits ≡ quiet.bits) }
     ensures still { IfOk result (λ rows. rows.still.bits ≡ assigned (λ c. c.driver) (λ c. false) (tdi_of board.now (code_row board.now plan.now.passes (slice_index_or plan.now.passes 0 []) 0)) cells.now) }
     ensures mask { IfOk result (λ rows. rows.mask.bits ≡ mask_of board.now (code_row board.now plan.now.passes (slice_index_or plan.now.passes 0 []) 0)) }
 {
     let still = still_row(alloc, board, plan, cells)?;
     let mask = first_mask(alloc, board, plan)?;
-    Ok(WalkRows { quiet, still, mask })
-}
-
-// The quiet row, and two that are not needed.
-fn quiet_rows(alloc: Global, quiet: Row) -> Result<WalkRows, AllocError>
-    ensures { IfOk result (λ rows. rows.quiet.bits ≡ quiet.bits) }
-{
-    let still = Row::with_room(alloc, 0)?;
-    let mask = Row::with_room(alloc, 0)?;
-    Ok(WalkRows { quiet, still, mask })
+    Ok(WalkRows { still, mask })
 }
 
 // The rows of a walk, by its plan and the cells of its nets.
@@ -310,11 +266,13 @@ fn walk_rows(
     requires plan { IsPlanOf board.now plan.now }
     ensures { IfOk result (λ rows. AreMade board.now plan.now cells.now rows) }
 {
-    let quiet = quiet_row(alloc, board, plan)?;
     if plan.pass_count() > 0 {
-        shared_rows(alloc, board, plan, quiet, cells)
+        shared_rows(alloc, board, plan, cells)
     } else {
-        quiet_rows(alloc, quiet)
+        Ok(WalkRows {
+            still: Row::with_room(alloc, 0)?,
+            mask: Row::with_room(alloc, 0)?,
+        })
     }
 }
 

@@ -10,11 +10,10 @@ pub struct NetCells {
     pub compared: Items<u32>,
 }
 
-/// The quiet row, and what all rows of a walk share: what is shifted in while no walk net carries 1, and what is compared.
-/// The last two are not needed where there is no pass.
+/// What all rows of a walk share: what is shifted in while no walk net carries 1, and what is compared. Where there is no
+/// pass, neither is needed.
 #[derive(Drop)]
 pub struct WalkRows {
-    pub quiet: Row,
     pub still: Row,
     pub mask: Row,
 }

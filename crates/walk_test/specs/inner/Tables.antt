@@ -53,7 +53,6 @@ cells_of plan (Some walk) nets = map (cells_in plan walk) nets
 
 -- the rows of a walk as they are made from its plan and the cells of its nets
 pub record AreMade (board : RawBoard) (plan : PlanTables) (cells : List NetCells) (rows : WalkRows) : Type 0 where
-  pub quiet : rows.quiet.bits ≡ tdi_of board quiet_row
   pub still : 0 < length plan.passes → rows.still.bits ≡ assigned (λ c. c.driver) (λ c. false) (tdi_of board (code_row board plan.passes (slice_index_or plan.passes 0 []) 0)) cells
   pub mask : 0 < length plan.passes → rows.mask.bits ≡ mask_of board (code_row board plan.passes (slice_index_or plan.passes 0 []) 0)
 

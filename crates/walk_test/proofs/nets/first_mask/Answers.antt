@@ -1,8 +1,9 @@
-use Rattle.walk_test.proofs.FillLemmas.{mask_filled, scans_there}
+use Rattle.std.proofs.Common.{◌∙◌, arith}
+use Rattle.walk_test.proofs.FillLemmas.{first_marked, some_width}
 use Rattle.walk_test.proofs.nets.first_mask.Goals as goal
 
-pub returns : goal.returns
-returns c = mask_filled c.args.board.now c.args.plan.now c.requires.plan _ _ _ _ c.requires.some c.fill-shape.ensures.filled
+pub fill_compared-requires-clause-row : goal.fill_compared-requires-clause-row
+fill_compared-requires-clause-row c = omega (arith, some_width c.args.board.now c.args.plan.now c.requires.plan)
 
-pub fill-shape-requires-clause-scan : goal.fill-shape-requires-clause-scan
-fill-shape-requires-clause-scan c = scans_there c.args.board.now c.args.plan.now c.requires.plan c.requires.some
+pub returns : goal.returns
+returns c = c.fill_compared.ensures.mask ∙ first_marked c.args.board.now c.args.plan.now c.requires.plan
