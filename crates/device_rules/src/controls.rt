@@ -53,7 +53,7 @@ impl<'a> Model for Controls<'a> {
 }
 
 impl<'a> Controls<'a> {
-    /// The controls of a register of this length, which rule V8 was tried on.
+    /// The controls of a register of this length, below which each entry has its number.
     fn of(alloc: Global, boundary: u32, entries: &'a [Entry]) -> Result<Controls<'a>, AllocError>
         requires { All (λ entry. entry.num < boundary) entries.now }
         ensures { IfOk result (λ controls. controls ≡ entries.now) }

@@ -156,7 +156,8 @@ impl<'a> PortIndex<'a> {
         self.ports
     }
 
-    /// Whether the port at this place has this name. Names differ, so no other port has it then.
+    /// Whether the port at this place has this name. Names differ, so no other port has it then. Only a yes is told of: a wrong no costs
+    /// time alone.
     fn has_name(&self, place: u32, name: &[u8]) -> bool
         ensures { result ≡ true → port_number self.now name.now ≡ Some place }
     {

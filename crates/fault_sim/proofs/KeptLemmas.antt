@@ -27,7 +27,7 @@ each_more P (z ∷ xs) y all last (suc i) x at = each_more (λ k v. P (suc k) v)
 pub length-more : {A : Type 0} (xs : List A) (y : A) → length (xs ++ y ∷ []) ≡ length xs + 1
 length-more xs y = length-append xs (y ∷ [])
 
--- nothing that is kept is right
+-- where nothing is kept, what is kept is right
 pub no_rows : (board : RawBoard) (plan : PlanTables) → KeepRows board plan []
 no_rows board plan x pass at = cc at
 

@@ -16,6 +16,6 @@ driver_bit codes j d = code_bit (slice_index_or codes d.net 0) j
 abbrev pub set_readers : ℕ → Bool → List Bool → List ReaderCell → List Bool
 set_readers place bit bits readers = fold (λ done r. cond (r.place == place) done (slice_set done r.position bit)) bits readers
 
--- the bits of drivers, each set at the cells that read its net
+-- the bits of drivers, each set at the cells that read its net at another place than its own
 abbrev pub set_compared : (DriverCell → Bool) → List (List ReaderCell) → List Bool → List DriverCell → List Bool
 set_compared bit readers bits drivers = fold (λ done d. set_readers d.place (bit d) done (slice_index_or readers d.net [])) bits drivers

@@ -28,7 +28,7 @@ pub record KeepRoom (old new : StackedRows) : Type 0 where
 abbrev pub steady_shifted : PlanTables → ℕ → List Bool
 steady_shifted plan j = assigned (λ d. d.position) (driver_bit plan.codes j) plan.quiet.bits plan.steady
 
--- what is compared of it in all passes: a bit of each steady driver where its net is read, over zeros
+-- what is compared of it in all passes: a bit of each steady driver where its net is read at another place, over zeros
 abbrev pub steady_compared : PlanTables → (DriverCell → Bool) → List Bool
 steady_compared plan bit = set_compared bit plan.readers (replicate (length plan.quiet.bits) false) plan.steady
 

@@ -24,7 +24,7 @@ pub record ArePairing (board : RawBoard) (pairing : Pairing) : Type 0 where
 abbrev pub AreLeft : RawBoard → List (List Ctl) → ℕ → List ℕ → Type 0
 AreLeft board passes a left = (n : ℕ) → a ≤ n → n < length board.nets → is_in left n ≡ not (are_shown passes (drivers_at board a) (drivers_at board n))
 
--- the pairing looks at net a: its first set is that of the nets which none of the passes shows together with net a
+-- the pairing looks at net a: of the nets from net a on, its first set has those that none of the passes shows together with net a
 pub record LooksAt (board : RawBoard) (pairing : Pairing) (a : ℕ) : Type 0 where
   pub are : ArePairing board pairing
   pub net : a < length board.nets

@@ -12,7 +12,7 @@ abbrev pub driven : RawBoard → PlanTables → (DriverCell → Bool) → List B
 driven board plan bit bits pass =
     fold (λ done c. assigned (λ d. d.position) bit done (controlled board plan.by_control.rows c)) (assigned (λ d. d.position) bit bits plan.by_control.always) pass
 
--- the bits of these drivers where their nets are read
+-- the bits of these drivers where their nets are read at another place
 abbrev pub compared : RawBoard → PlanTables → (DriverCell → Bool) → List Bool → List Ctl → List Bool
 compared board plan bit bits pass =
     fold (λ done c. set_compared bit plan.readers done (controlled board plan.by_control.rows c)) (set_compared bit plan.readers bits plan.by_control.always) pass
