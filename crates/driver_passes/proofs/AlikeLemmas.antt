@@ -1,14 +1,12 @@
 -- The table of the nets with the same tested drivers.
-use Rattle.std.proofs.Common.{◌≡◌, refl, ℕ, Bool, true, ◌<◌, ◌≤◌, List, length, get_or, ◌∙◌, ap, sym}
+use Rattle.std.proofs.Common.{◌≡◌, refl, Bool, true, List, ◌∙◌, ap, sym}
 use Rattle.std.specs.Bool.{Decides}
 use Rattle.std.specs.Cmp.Lexicographic.{pointwise}
 use Rattle.std.proofs.lemmas.Slice.Eq.{slice_eq-Decides}
-use Rattle.board_defs.specs.declared.board.RawBoard.{RawBoard}
 use Rattle.board_defs.specs.declared.board.Drive.{Drive}
 use Rattle.board_defs.specs.declared.board.Drive.TheVariants.{AlwaysOn, OneSided, By}
 use Rattle.board_defs.specs.contracts.board.DrivePartialEq.TheImpl as drives
 use Rattle.board_defs.specs.Settings.{same_ctl}
-use Rattle.driver_passes.specs.inner.Shown.{drivers_at}
 use Rattle.driver_passes.proofs.ControlLemmas.{same_equal, same_self}
 
 -- equal lists of drivers
@@ -26,9 +24,3 @@ drives_decided (By c) (By d) = (λ h. ap By (same_equal c d h), λ e. let same :
 
 pub drives_same : (drivers others : List Drive) (t : Bool) → t ≡ pointwise drives.eq-value.it drivers others → t ≡ true → drivers ≡ others
 drives_same drivers others t e h = (slice_eq-Decides drives_decided drivers others t e).0 h
-
--- so of the nets below this one
-pub record AreFound (board : RawBoard) (net : ℕ) (likes : List ℕ) : Type 0 where
-  pub size : length likes ≡ net
-  pub within : (n : ℕ) → n < net → get_or likes n 0 ≤ n
-  pub alike : (n : ℕ) → n < net → drivers_at board (get_or likes n 0) ≡ drivers_at board n

@@ -63,10 +63,6 @@ done_now board useful passes after a b first second e = let P : List (List Ctl) 
     by_test false shown None h = inr h
     by_test false shown (Some pair) h = inl (any_last p passes (pair_pass board useful pair) (made pair h))
 
--- a net with the drivers of another one
-pub done_alike : (board : RawBoard) (passes : List (List Ctl)) (a m b : ℕ) → drivers_at board m ≡ drivers_at board a → IsDone board passes m b → IsDone board passes a b
-done_alike board passes a m b e done = let P : List Drive → Type 0 = λ v. (are_shown passes v (drivers_at board b) ≡ true) ⊎ (first_pair board v (drivers_at board b) ≡ None) in subst P e done
-
 -- one net more
 pub done_next : (board : RawBoard) (passes : List (List Ctl)) (a : ℕ) → AreDone board passes a → IsDoneTo board passes a (length board.nets) → AreDone board passes (a + 1)
 done_next board passes a are done m less = by_net (cases_eq m a)

@@ -48,14 +48,14 @@ unfolding is_in
 none_past words n past = ap (λ w. has_bit w (n % 64)) (get_or_past words (n / 64) 0 past) ∙ no_bit (n % 64)
 
 -- no bit is set
-pub blank_item : {X : Type 0} (x : X) (count i : ℕ) → get_or (replicate count x) i x ≡ x
-blank_item x zero i = refl
-blank_item x (suc count) zero = refl
-blank_item x (suc count) (suc i) = blank_item x count i
+zeros : (count i : ℕ) → get_or (replicate {A = ℕ} count 0) i 0 ≡ 0
+zeros zero i = refl
+zeros (suc count) zero = refl
+zeros (suc count) (suc i) = zeros count i
 
 pub none_blank : (words : List ℕ) (count n : ℕ) → words ≡ replicate count 0 → is_in words n ≡ false
 unfolding is_in
-none_blank words count n e = ap (λ w. has_bit w (n % 64)) (ap (λ v. get_or v (n / 64) 0) e ∙ blank_item 0 count (n / 64)) ∙ no_bit (n % 64)
+none_blank words count n e = ap (λ w. has_bit w (n % 64)) (ap (λ v. get_or v (n / 64) 0) e ∙ zeros count (n / 64)) ∙ no_bit (n % 64)
 
 -- each bit is set
 pub all_ones : (words : List ℕ) (n : ℕ) → get_or words (n / 64) 0 ≡ 2 ^ 64 - 1 → is_in words n ≡ true

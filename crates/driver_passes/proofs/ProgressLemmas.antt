@@ -5,7 +5,7 @@ use Rattle.std.specs.List.{list_any, flat_map, range_with_len, cons_option}
 use Rattle.std.proofs.Math.Bool.{or-false, or_comm}
 use Rattle.std.proofs.lemmas.Bool.{and_parts, ne_eqb}
 use Rattle.std.proofs.lemmas.Option.{slice_get_within, get_or_from_slice_get}
-use Rattle.std.proofs.lemmas.List.{get_or-map as item-map, length-append, length-map, take_all}
+use Rattle.std.proofs.lemmas.List.{get_or-map as item-map, get_or_default, length-append, length-map, take_all}
 use Rattle.std.proofs.lemmas.List.Folds.{list_any-append}
 use Rattle.std.proofs.lemmas.List.Sums.{sum_by-cons}
 use Rattle.board_defs.specs.declared.board.Net.{Net}
@@ -57,12 +57,7 @@ tested_useful board n net drivers are decides e f k d less c by = (are.said.usef
     tested = are.said.drivers n net (get_or drivers k d) e
 
     here : Contains (tested_drivers board net) (get_or drivers k d)
-    here = let P : List Drive → Type 0 = λ v. Contains v (get_or drivers k d) in subst P f (k, less, item drivers k d less)
-      where
-        item : (xs : List Drive) (i : ℕ) (x : Drive) → i < length xs → get_or xs i (get_or xs i x) ≡ get_or xs i x
-        item [] i x h = absurd (omega arith)
-        item (y ∷ xs) zero x h = refl
-        item (y ∷ xs) (suc i) x h = item xs i x (omega arith)
+    here = let P : List Drive → Type 0 = λ v. Contains v (get_or drivers k d) in subst P f (k, less, get_or_default drivers k (get_or drivers k d) d less)
 
     useful : HasTestedDriver board n net (get_or drivers k d) → IsUseful board c
     useful has = (safe, n, net, has.place, has.pin, has.stands.on_board, has.stands.in_net, has.drives ∙ ap Some by, has.tested)

@@ -3,9 +3,7 @@ use Rattle.std.proofs.Common.{◌≡◌, ◌⊎◌, inl, inr, ℕ, zero, suc, �
 use Rattle.std.specs.Prelude.{All}
 use Rattle.std.specs.List.{list_all, list_any}
 use Rattle.std.proofs.Math.Bool.{and-true, or-false}
-use Rattle.std.proofs.Math.Seq.{get_or-append_seam}
-use Rattle.std.proofs.lemmas.Bool.{cases_lt}
-use Rattle.std.proofs.lemmas.List.{get_or_append_left, get_or_default}
+use Rattle.std.proofs.lemmas.List.Elements.{All-cons, All-nil}
 use Rattle.std.proofs.lemmas.List.Folds.{list_all-append, list_any-append}
 use Rattle.board_defs.specs.declared.board.Ctl.{Ctl}
 use Rattle.board_defs.specs.declared.board.RawBoard.{RawBoard}
@@ -13,7 +11,6 @@ use Rattle.board_defs.specs.Passes.{are_shown, shows}
 use Rattle.driver_passes.specs.inner.NumberSets.{is_in}
 use Rattle.driver_passes.specs.inner.Pairs.{AreLeft}
 use Rattle.driver_passes.specs.inner.Shown.{AreRows, AreShownBy, AreShownByAll, drivers_at, shows_both}
-use Rattle.driver_passes.proofs.ProgressLemmas.{length_end}
 
 -- the row of a pass under another name
 pub shown_as : (board : RawBoard) (made pass : List Ctl) (row : List ℕ) → pass ≡ made → AreShownBy board made row → AreShownBy board pass row
@@ -21,58 +18,39 @@ shown_as board made pass row e are = let P : List Ctl → Type 0 = λ v. AreShow
 
 -- one row more
 
+rows_push : (board : RawBoard) (passes : List (List Ctl)) (rows : List (List ℕ)) (pass : List Ctl) (row : List ℕ) → AreRows board passes rows → AreShownBy board pass row → AreRows board (passes ++ pass ∷ []) (rows ++ row ∷ [])
+rows_push board [] [] pass row are shown = (shown, tt)
+rows_push board [] (r ∷ rows) pass row are shown = absurd are
+rows_push board (p ∷ passes) [] pass row are shown = absurd are
+rows_push board (p ∷ passes) (r ∷ rows) pass row are shown = (are.0, rows_push board passes rows pass row are.1 shown)
+
 pub rows_more : (board : RawBoard) (passes after : List (List Ctl)) (rows rows_after : List (List ℕ)) (pass : List Ctl) (row : List ℕ) → AreRows board passes rows → AreShownBy board pass row → after ≡ passes ++ pass ∷ [] → rows_after ≡ rows ++ row ∷ [] → AreRows board after rows_after
-rows_more board passes after rows rows_after pass row are shown e f =
-    let P : List (List Ctl) → Type 0 = λ v. AreRows board v rows_after in
-    let Q : List (List ℕ) → Type 0 = λ v. AreRows board (passes ++ pass ∷ []) v in
-    subst P (sym e) (subst Q (sym f) whole)
-  where
-    size : length (rows ++ row ∷ []) ≡ length (passes ++ pass ∷ [])
-    size = omega (arith, length_end rows row, length_end passes pass, are.rows_length)
-
-    by_place : (x : ℕ) → x < length (passes ++ pass ∷ []) → (x < length passes) ⊎ (length passes ≤ x) → AreShownBy board (get_or (passes ++ pass ∷ []) x []) (get_or (rows ++ row ∷ []) x [])
-    by_place x less (inl earlier) =
-        let P : List Ctl → Type 0 = λ v. AreShownBy board v (get_or (rows ++ row ∷ []) x []) in
-        let Q : List ℕ → Type 0 = λ v. AreShownBy board (get_or passes x []) v in
-        subst P (sym (get_or_append_left passes (pass ∷ []) [] x earlier)) (subst Q (sym (get_or_append_left rows (row ∷ []) [] x (omega (arith, earlier, are.rows_length)))) (are.rows_are x earlier))
-    by_place x less (inr most) =
-        let here : x ≡ length passes = omega (arith, less, most, length_end passes pass) in
-        let P : List Ctl → Type 0 = λ v. AreShownBy board v (get_or (rows ++ row ∷ []) x []) in
-        let Q : List ℕ → Type 0 = λ v. AreShownBy board pass v in
-        subst P (sym (ap (λ i. get_or (passes ++ pass ∷ []) i []) here ∙ get_or-append_seam passes pass [] [])) (subst Q (sym (ap (λ i. get_or (rows ++ row ∷ []) i []) (here ∙ sym are.rows_length) ∙ get_or-append_seam rows row [] [])) shown)
-
-    whole : AreRows board (passes ++ pass ∷ []) (rows ++ row ∷ [])
-    whole = record { rows_length = size; rows_are = λ x less. by_place x less (cases_lt x (length passes)) }
-
--- each row has room for each net
-pub rows_sized : (board : RawBoard) (passes : List (List Ctl)) (rows items : List (List ℕ)) (size : ℕ) → AreRows board passes rows → items ≡ rows → size ≡ length board.nets / 64 + 1 → All (λ row. length row ≡ size) items
-rows_sized board passes rows items size are e room =
-    let P : List (List ℕ) → Type 0 = λ v. All (λ (row : List ℕ). length row ≡ size) v in
-    subst P (sym e) (λ k d less. ap length (get_or_default rows k d [] less) ∙ (are.rows_are k (omega (arith, less, are.rows_length))).row_length ∙ sym room)
+rows_more board passes after rows rows_after pass row are shown e f = rw (e, f) (rows_push board passes rows pass row are shown)
 
 -- what the rows say of the passes
 
-any_same : {X Y : Type 0} (p : X → Bool) (q : Y → Bool) (xs : List X) (ys : List Y) (d : X) (e : Y) → length xs ≡ length ys → ((i : ℕ) → i < length ys → p (get_or xs i d) ≡ q (get_or ys i e)) → list_any p xs ≡ list_any q ys
-any_same p q [] [] d e size same = refl
-any_same p q [] (y ∷ ys) d e size same = absurd (omega (arith, size))
-any_same p q (x ∷ xs) [] d e size same = absurd (omega (arith, size))
-any_same p q (x ∷ xs) (y ∷ ys) d e size same = ap (λ t. t || list_any p xs) (same 0 (omega arith)) ∙ ap (λ t. q y || t) (any_same p q xs ys d e (omega (arith, size)) (λ i less. same (suc i) (omega (arith, less))))
-
-all_same : {X Y : Type 0} (p : X → Bool) (q : Y → Bool) (xs : List X) (ys : List Y) (d : X) (e : Y) → length xs ≡ length ys → ((i : ℕ) → i < length ys → p (get_or xs i d) ≡ q (get_or ys i e)) → list_all p xs ≡ list_all q ys
-all_same p q [] [] d e size same = refl
-all_same p q [] (y ∷ ys) d e size same = absurd (omega (arith, size))
-all_same p q (x ∷ xs) [] d e size same = absurd (omega (arith, size))
-all_same p q (x ∷ xs) (y ∷ ys) d e size same = ap (λ t. t && list_all p xs) (same 0 (omega arith)) ∙ ap (λ t. q y && t) (all_same p q xs ys d e (omega (arith, size)) (λ i less. same (suc i) (omega (arith, less))))
+-- each row has room for each net
+pub rows_sized : (board : RawBoard) (passes : List (List Ctl)) (rows : List (List ℕ)) (size : ℕ) → AreRows board passes rows → size ≡ length board.nets / 64 + 1 → All (λ row. length row ≡ size) rows
+rows_sized board [] [] size are room = All-nil (λ (row : List ℕ). length row ≡ size)
+rows_sized board [] (row ∷ rows) size are room = absurd are
+rows_sized board (pass ∷ passes) [] size are room = absurd are
+rows_sized board (pass ∷ passes) (row ∷ rows) size are room = All-cons (λ (v : List ℕ). length v ≡ size) row rows (are.0.row_length ∙ sym room) (rows_sized board passes rows size are.1 room)
 
 both_same : (board : RawBoard) (pass : List Ctl) (row : List ℕ) (a b : ℕ) → AreShownBy board pass row → a < length board.nets → b < length board.nets → shows_both a b row ≡ (shows (drivers_at board a) pass && shows (drivers_at board b) pass)
 both_same board pass row a b are first second = ap (λ t. t && is_in row b) (are.row_are a first) ∙ ap (λ t. shows (drivers_at board a) pass && t) (are.row_are b second)
 
 pub any_rows : (board : RawBoard) (passes : List (List Ctl)) (rows : List (List ℕ)) (a b : ℕ) → AreRows board passes rows → a < length board.nets → b < length board.nets → list_any (shows_both a b) rows ≡ are_shown passes (drivers_at board a) (drivers_at board b)
-any_rows board passes rows a b are first second =
-    any_same (shows_both a b) (λ pass. shows (drivers_at board a) pass && shows (drivers_at board b) pass) rows passes [] [] are.rows_length (λ x less. both_same board (get_or passes x []) (get_or rows x []) a b (are.rows_are x less) first second)
+any_rows board [] [] a b are first second = refl
+any_rows board [] (row ∷ rows) a b are first second = absurd are
+any_rows board (pass ∷ passes) [] a b are first second = absurd are
+any_rows board (pass ∷ passes) (row ∷ rows) a b are first second =
+    ap (λ t. t || list_any (shows_both a b) rows) (both_same board pass row a b are.0 first second) ∙ ap (λ t. (shows (drivers_at board a) pass && shows (drivers_at board b) pass) || t) (any_rows board passes rows a b are.1 first second)
 
 pub all_rows : (board : RawBoard) (passes : List (List Ctl)) (rows : List (List ℕ)) (a : ℕ) → AreRows board passes rows → a < length board.nets → list_all (λ row. is_in row a) rows ≡ list_all (shows (drivers_at board a)) passes
-all_rows board passes rows a are first = all_same (λ (row : List ℕ). is_in row a) (shows (drivers_at board a)) rows passes [] [] are.rows_length (λ x less. (are.rows_are x less).row_are a first)
+all_rows board [] [] a are first = refl
+all_rows board [] (row ∷ rows) a are first = absurd are
+all_rows board (pass ∷ passes) [] a are first = absurd are
+all_rows board (pass ∷ passes) (row ∷ rows) a are first = ap (λ t. t && list_all (λ (v : List ℕ). is_in v a) rows) (are.0.row_are a first) ∙ ap (λ t. shows (drivers_at board a) pass && t) (all_rows board passes rows a are.1 first)
 
 -- one pass more
 pub left_more : (board : RawBoard) (passes after : List (List Ctl)) (pass : List Ctl) (row left left_after : List ℕ) (a : ℕ) → AreLeft board passes a left → AreShownBy board pass row → a < length board.nets → after ≡ passes ++ pass ∷ [] →

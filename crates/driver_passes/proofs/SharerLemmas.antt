@@ -5,7 +5,6 @@ use Rattle.std.specs.List.{range_with_len}
 use Rattle.std.proofs.lemmas.List.Elements.{All-filter}
 use Rattle.std.proofs.lemmas.List.FromFn.{get_or-range_with_len, length-range_with_len}
 use Rattle.std.proofs.lemmas.Bool.{cases_eq, lt-ltb, le-ltb, ne_eqb}
-use Rattle.std.proofs.lemmas.List.{length-replicate}
 use Rattle.std.proofs.lemmas.Option.{slice_get_within}
 use Rattle.board_defs.specs.declared.board.Ctl.{Ctl}
 use Rattle.board_defs.specs.declared.board.RawBoard.{RawBoard}
@@ -16,7 +15,6 @@ use Rattle.driver_passes.specs.declared.blocks.Block.{Block}
 use Rattle.driver_passes.specs.inner.Blocks.{has_place}
 use Rattle.driver_passes.specs.inner.Sharers.{AreSharers, AreSharersBelow}
 use Rattle.driver_passes.proofs.BlockLemmas.{below_more}
-use Rattle.driver_passes.proofs.NumberSetLemmas.{blank_item}
 
 -- the lists have the place too where the net passes, and else what they had before
 abbrev pub AreMarked : ℕ → List ℕ → List (List ℕ) → List (List ℕ) → Type 0
@@ -31,12 +29,6 @@ shared_within board c nets most e f =
     subst Q (sym e) (All-filter (λ n. contends_there board c (slice_get board.nets n)) P (range_with_len 0 count) (λ k d less.
     let within : k < count = omega (arith, less, length-range_with_len 0 count) in
     omega (arith, get_or-range_with_len 0 count k d within, within, f)))
-
-pub no_sharers : (board : RawBoard) (sharers : List (List ℕ)) → sharers ≡ replicate (length board.nets) [] → AreSharersBelow board 0 sharers
-no_sharers board sharers e = record {
-  sharers_length = ap length e ∙ length-replicate (length board.nets) [];
-  sharers_are = λ place c at n. ap (λ v. has_number (get_or v n []) place) e ∙ ap (λ v. has_number v place) (blank_item [] (length board.nets) n) ∙ ap (λ t. t && has_number (shared_nets board c) n) (sym (le-ltb place 0 (omega arith)));
-}
 
 -- one control more
 pub sharers_more : (board : RawBoard) (k : ℕ) (d : Ctl) (nets : List ℕ) (before after : List (List ℕ)) → AreSharersBelow board k before → slice_get (useful_controls board) k ≡ Some d → nets ≡ shared_nets board d → length after ≡ length before → AreMarked k nets before after → AreSharersBelow board (k + 1) after

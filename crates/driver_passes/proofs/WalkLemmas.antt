@@ -1,6 +1,7 @@
 -- Walks that pass over controls which they would not add.
 use Rattle.std.proofs.Common.{◌≡◌, ℕ, zero, suc, ◌+◌, ◌-◌, ◌≤◌, ◌<◌, Bool, true, false, not, ◌&&◌, List, [], ◌∷◌, length, get_or, drop, drop-cons, drop-drop, Some, refl, sym, ◌∙◌, ap, arith, cond}
 use Rattle.std.specs.Prelude.{slice_get}
+use Rattle.std.proofs.Math.Bool.{and-false}
 use Rattle.std.proofs.lemmas.Bool.{and_parts, and_from}
 use Rattle.std.proofs.lemmas.Option.{slice_get_within, get_or_from_slice_get}
 use Rattle.board_defs.specs.declared.board.Ctl.{Ctl}
@@ -66,19 +67,11 @@ first_passes board held free passes earlier from next are is known least closed 
     accepts : List Ctl → Ctl → Bool
     accepts v c = is_new passes c && fits board v c
 
-    and_none : (t u : Bool) → u ≡ false → (t && u) ≡ false
-    and_none true u f = f
-    and_none false u f = refl
-
-    none_and : (t u : Bool) → not t ≡ false → (not t && u) ≡ false
-    none_and true u f = refl
-    none_and false u f = cc f
-
     by_test : (n : ℕ) (c : Ctl) → slice_get (useful_controls board) n ≡ Some c → (is_in free n && not (is_in earlier n)) ≡ false → (t : Bool) → is_in free n ≡ t → s ≡ stepped accepts s c
-    by_test n c at shut false o = closed_nothing board held free n c (accepts s c) are is at o (and_none (is_new passes c) (fits board s c))
+    by_test n c at shut false o = closed_nothing board held free n c (accepts s c) are is at o (λ f. ap (λ t. is_new passes c && t) f ∙ and-false (is_new passes c))
     by_test n c at shut true o =
         let old : not (is_held passes c) ≡ false = ap not (sym (known.held_are n c at)) ∙ sym (ap (λ t. t && not (is_in earlier n)) o) ∙ shut in
-        sym (ap (λ t. cond t (inserted c s) s) (none_and (is_held passes c) (fits board s c) old))
+        sym (ap (λ t. cond t (inserted c s) s) (ap (λ t. t && fits board s c) old))
 
 -- a control that is free and that no earlier pass holds is accepted
 pub new_fits : (board : RawBoard) (held free : List ℕ) (passes : List (List Ctl)) (earlier : List ℕ) (place : ℕ) (c : Ctl) → IsDraft board held free → AreHeld board passes earlier → slice_get (useful_controls board) place ≡ Some c → (is_in free place && not (is_in earlier place)) ≡ true → (is_new passes c && fits board (setting_of board held) c) ≡ true

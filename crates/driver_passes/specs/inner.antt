@@ -1,4 +1,5 @@
 -- Terms that serve proofs and the contracts of private functions. No public contract cites them.
+pub mod Laws
 pub mod Drafts
 pub mod Walks
 pub mod NumberSets

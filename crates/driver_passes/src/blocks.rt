@@ -40,7 +40,8 @@ fn with_place(block: Block, place: usize) -> Block
 
 /// Adds the block, where it has a place.
 fn push_some(blocks: &mut Blocks, block: Block) -> Result<(), AllocError>
-    ensures { OnOk result ((q : ℕ) → has_place blocks.new q ≡ (has_place blocks.old q || block_has block q)) }
+    ensures { OnOk result ((q : ℕ) →
+        has_place blocks.new q ≡ (has_place blocks.old q || block_has block q)) }
 {
     if block.bits != 0 {
         blocks.push(block)?;
@@ -51,7 +52,8 @@ fn push_some(blocks: &mut Blocks, block: Block) -> Result<(), AllocError>
 /// Adds the place to a set whose last block stands beside the others. Gives the last block, which is
 /// a new one where the place has another word.
 fn next_block(blocks: &mut Blocks, last: Block, place: usize) -> Result<Block, AllocError>
-    ensures { IfOk result (λ block. (q : ℕ) → (has_place blocks.new q || block_has block q) ≡ ((has_place blocks.old q || block_has last q) || place == q)) }
+    ensures { IfOk result (λ block. (q : ℕ) → (has_place blocks.new q || block_has block q)
+        ≡ ((has_place blocks.old q || block_has last q) || place == q)) }
 {
     if place / 64 == last.word {
         return Ok(with_place(last, place));

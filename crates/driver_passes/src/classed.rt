@@ -5,7 +5,8 @@ ghost use Rattle.board_defs.specs.Settings.{holds};
 ghost use Rattle.net_facts.specs.Kept.{shared_nets};
 ghost use Rattle.net_classes.specs.Kept.{AreClasses};
 ghost use Rattle.net_classes.specs.Pairs.{fit};
-ghost use Rattle.driver_passes.specs.inner.Progress.{IsUsefulDriver, KeepsLaws};
+ghost use Rattle.driver_passes.specs.inner.Laws.{KeepsLaws};
+ghost use Rattle.driver_passes.specs.inner.Progress.{IsUsefulDriver};
 ghost use Rattle.driver_passes.specs.inner.Shown.{drivers_at};
 
 use crate::places::place_in;
@@ -32,7 +33,9 @@ impl<'a> Model for ClassedBoard<'a> {
 
     ghost view = { λ a. a.board.now };
 
-    ghost invariant = { λ a. AreClasses a.board.now a.classes.now × (a.useful.now ≡ useful_controls a.board.now) × All (IsCell a.board.now) (useful_controls a.board.now) };
+    ghost invariant = { λ a. AreClasses a.board.now a.classes.now
+        × (a.useful.now ≡ useful_controls a.board.now)
+        × All (IsCell a.board.now) (useful_controls a.board.now) };
 }
 
 impl<'a> ClassedBoard<'a> {

@@ -53,7 +53,8 @@ impl Column {
 
     /// Adds the word of one row more.
     pub fn add(&mut self, row: &NumberSet) -> Result<(), AllocError>
-        ensures { OnOk result ((rows : List (List ℕ)) → IsColumn rows self.old → IsColumn (rows ++ row.now ∷ []) self.new) }
+        ensures { OnOk result ((rows : List (List ℕ)) → IsColumn rows self.old →
+            IsColumn (rows ++ row.now ∷ []) self.new) }
     {
         self.words.push(row.word(self.number))?;
         Ok(())

@@ -88,7 +88,8 @@ impl<'a, 'b> Draft<'a, 'b> {
     /// The setting of the draft.
     pub fn setting(&self, alloc: Global) -> Result<Setting, AllocError>
         ensures value { IfOk result (λ setting. setting ≡ self.now.setting) }
-        ensures useful { IfOk result (λ setting. (c : Ctl) → holds setting c ≡ true → IsUseful self.now.board c) }
+        ensures useful { IfOk result (λ setting. (c : Ctl) → holds setting c ≡ true →
+            IsUseful self.now.board c) }
     {
         self.board.laws();
         let controls = controls_at(alloc, self.board.useful(), &self.held)?;

@@ -32,7 +32,8 @@ fn driver_pass<'a, 'b>(
     requires earlier { IsProgress board.now earlier.now }
     requires driver { IsUsefulDriver board.now d }
     ensures { IfOk result (λ draft. draft
-        ≡ drafted board.now (driver_pass board.now (useful_controls board.now) earlier.now.passes.items d)) }
+        ≡ drafted board.now
+        (driver_pass board.now (useful_controls board.now) earlier.now.passes.items d)) }
 {
     let mut draft = Draft::new(alloc, board)?;
     draft.add_driver(d);
@@ -83,7 +84,8 @@ impl Progress {
     fn push(&mut self, alloc: Global, draft: &Draft<'_, '_>) -> Result<(), AllocError>
         requires { IsProgress draft.now.board self.old }
         ensures progress { OnOk result (IsProgress draft.now.board self.new) }
-        ensures pushed { OnOk result (self.new.passes.items ≡ self.old.passes.items ++ draft.now.setting ∷ []) }
+        ensures pushed { OnOk result (self.new.passes.items
+            ≡ self.old.passes.items ++ draft.now.setting ∷ []) }
     {
         self.passes.push(draft.setting(alloc)?)?;
         self.rows.push(draft.shown(alloc)?)?;
@@ -101,7 +103,8 @@ impl Progress {
         requires driver { IsUsefulDriver board.now d }
         requires progress { IsProgress board.now self.old }
         ensures progress { OnOk result (IsProgress board.now self.new) }
-        ensures added { OnOk result (self.new.passes.items ≡ enabling board.now self.old.passes.items d) }
+        ensures added { OnOk result (self.new.passes.items
+            ≡ enabling board.now self.old.passes.items d) }
     {
         if self.enables(board, d) {
             return Ok(());
@@ -135,7 +138,8 @@ impl Progress {
 pub fn driver_passes(alloc: Global, board: &BoardTables<'_>) -> Result<Progress, AllocError>
     ensures progress { IfOk result (λ progress. IsProgress board.now progress) }
     ensures passes { IfOk result (λ progress. progress.passes.items
-        ≡ driver_passes board.now (useful_controls board.now) (flat_map (λ drivers. drivers) (drivers_by_net board.now))) }
+        ≡ driver_passes board.now (useful_controls board.now)
+        (flat_map (λ drivers. drivers) (drivers_by_net board.now))) }
     ensures tested { IfOk result (λ progress. EnableTested board.now progress.passes.items) }
     ensures few { IfOk result (λ progress. length progress.passes.items ≤ 65535) }
 {

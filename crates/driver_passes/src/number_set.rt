@@ -60,7 +60,8 @@ fn set_all(words: &mut [u64])
 fn clear_from(words: &mut [u64], others: &[u64], first: usize)
     requires size { length others.now ≡ length words.old }
     requires first { first ≤ length words.old }
-    ensures { (n : ℕ) → first ≤ n / 64 → is_in words.new n ≡ (is_in words.old n && not (is_in others.now n)) }
+    ensures { (n : ℕ) → first ≤ n / 64 →
+        is_in words.new n ≡ (is_in words.old n && not (is_in others.now n)) }
 {
     for i in first..words.len() {
         words[i] &= !others[i];
@@ -135,7 +136,8 @@ impl NumberSet {
     pub fn insert_if(&mut self, number: usize, holds: bool)
         requires { number / 64 < length self.old }
         ensures room { length self.new ≡ length self.old }
-        ensures numbers { (n : ℕ) → is_in self.new n ≡ ((n == number && holds) || is_in self.old n) }
+        ensures numbers { (n : ℕ) → is_in self.new n
+            ≡ ((n == number && holds) || is_in self.old n) }
     {
         set_if(&mut self.words, number, holds);
     }
@@ -152,7 +154,8 @@ impl NumberSet {
     pub fn insert_all(&mut self, numbers: &[u32])
         requires { All (λ n. n / 64 < length self.old) numbers.now }
         ensures room { length self.new ≡ length self.old }
-        ensures numbers { (n : ℕ) → is_in self.new n ≡ (has_number numbers.now n || is_in self.old n) }
+        ensures numbers { (n : ℕ) → is_in self.new n
+            ≡ (has_number numbers.now n || is_in self.old n) }
     {
         for number in numbers {
             self.insert_if(*number as usize, true);
@@ -172,7 +175,8 @@ impl NumberSet {
         requires size { length others.now ≡ length self.old }
         requires first { first ≤ length self.old }
         ensures room { length self.new ≡ length self.old }
-        ensures numbers { (n : ℕ) → first ≤ n / 64 → is_in self.new n ≡ (is_in self.old n && not (is_in others.now n)) }
+        ensures numbers { (n : ℕ) → first ≤ n / 64 →
+            is_in self.new n ≡ (is_in self.old n && not (is_in others.now n)) }
     {
         clear_from(&mut self.words, &others.words, first);
     }
@@ -228,8 +232,10 @@ impl NumberSet {
 
     /// The same for the numbers of the set that are not in the other one.
     pub fn first_outside(&self, others: &NumberSet, from: usize, end: usize) -> usize
-        ensures passed { (n : ℕ) → from ≤ n → n < result → (is_in self.now n && not (is_in others.now n)) ≡ false }
-        ensures found { result < end → (is_in self.now result && not (is_in others.now result)) ≡ true }
+        ensures passed { (n : ℕ) → from ≤ n → n < result →
+            (is_in self.now n && not (is_in others.now n)) ≡ false }
+        ensures found { result < end →
+            (is_in self.now result && not (is_in others.now result)) ≡ true }
         ensures further { from ≤ result }
     {
         let mut number = from;
@@ -263,7 +269,9 @@ fn past_word(number: usize, end: usize) -> usize
 /// The place of the lowest bit of the word, from this place on.
 fn lowest_from(word: u64, place: usize) -> Option<usize>
     requires { place < 64 }
-    ensures { MatchOption result ((i : ℕ) → place ≤ i → i < 64 → has_bit word i ≡ false) (λ i. IsFirst (has_bit word) place i × (i < 64)) }
+    ensures { MatchOption result
+        ((i : ℕ) → place ≤ i → i < 64 → has_bit word i ≡ false)
+        (λ i. IsFirst (has_bit word) place i × (i < 64)) }
 {
     let rest = word & (u64::MAX << place);
     if rest == 0 {
@@ -275,7 +283,9 @@ fn lowest_from(word: u64, place: usize) -> Option<usize>
 
 /// Of the 64 numbers whose bits are those of the word, the first from this one on whose bit is set.
 pub fn next_in(word: u64, from: usize) -> Option<usize>
-    ensures { (passes : ℕ → Bool) → AreBitsOf passes (from / 64) word → MatchOption result ((n : ℕ) → from ≤ n → n < 64 * (from / 64 + 1) → passes n ≡ false) (λ n. IsFirst passes from n) }
+    ensures { (passes : ℕ → Bool) → AreBitsOf passes (from / 64) word → MatchOption result
+        ((n : ℕ) → from ≤ n → n < 64 * (from / 64 + 1) → passes n ≡ false)
+        (λ n. IsFirst passes from n) }
 {
     match lowest_from(word, from % 64) {
         None => None,

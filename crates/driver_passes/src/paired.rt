@@ -31,7 +31,8 @@ impl<'a> ClassedBoard<'a> {
     pub fn first_pair(&self, a: usize, b: usize) -> Option<(Drive, Drive)>
         requires first { a < length self.now.nets }
         requires second { b < length self.now.nets }
-        ensures found { result ≡ first_pair self.now (drivers_at self.now a) (drivers_at self.now b) }
+        ensures found { result
+            ≡ first_pair self.now (drivers_at self.now a) (drivers_at self.now b) }
         ensures useful { IfSome result (λ pair. IsUsefulPair self.now pair) }
     {
         let drivers = self.tested_drivers(a);
@@ -65,7 +66,8 @@ impl<'a> ClassedBoard<'a> {
     pub fn next_wanted(&self, left: &NumberSet, a: usize, from: usize) -> Option<usize>
         requires { a < length self.now.nets }
         ensures next { MatchOption result
-            ((n : ℕ) → from ≤ n → n < length self.now.nets → is_wanted self.now left.now a n ≡ false)
+            ((n : ℕ) → from ≤ n → n < length self.now.nets →
+            is_wanted self.now left.now a n ≡ false)
             (λ b. IsFirst (is_wanted self.now left.now a) from b) }
         ensures within { IfSome result (λ b. b < length self.now.nets) }
     {

@@ -39,7 +39,8 @@ fn pair_pass<'a, 'b>(
     pair: (Drive, Drive),
 ) -> Result<Draft<'a, 'b>, AllocError>
     requires { IsUsefulPair board.now pair }
-    ensures { IfOk result (λ draft. draft ≡ drafted board.now (pair_pass board.now (useful_controls board.now) pair)) }
+    ensures { IfOk result (λ draft. draft
+        ≡ drafted board.now (pair_pass board.now (useful_controls board.now) pair)) }
 {
     let mut draft = Draft::new(alloc, board)?;
     draft.add_driver(pair.0);
@@ -77,7 +78,8 @@ impl Pairing {
     fn push(&mut self, alloc: Global, a: usize, draft: &Draft<'_, '_>) -> Result<(), AllocError>
         requires { LooksAt draft.now.board self.old a }
         ensures looks { OnOk result (LooksAt draft.now.board self.new a) }
-        ensures pushed { OnOk result (self.new.passes.items ≡ self.old.passes.items ++ draft.now.setting ∷ []) }
+        ensures pushed { OnOk result (self.new.passes.items
+            ≡ self.old.passes.items ++ draft.now.setting ∷ []) }
     {
         let pass = draft.setting(alloc)?;
         let row = draft.shown(alloc)?;
@@ -99,10 +101,12 @@ impl Pairing {
     ) -> Result<(), AllocError>
         requires looks { LooksAt board.now self.old a }
         requires second { b < length board.now.nets }
-        requires unshown { are_shown self.old.passes.items (drivers_at board.now a) (drivers_at board.now b) ≡ false }
+        requires unshown { are_shown self.old.passes.items
+            (drivers_at board.now a) (drivers_at board.now b) ≡ false }
         ensures looks { OnOk result (LooksAt board.now self.new a) }
         ensures added { OnOk result (self.new.passes.items
-            ≡ observing board.now self.old.passes.items (drivers_at board.now a, drivers_at board.now b)) }
+            ≡ observing board.now self.old.passes.items
+            (drivers_at board.now a, drivers_at board.now b)) }
     {
         if let Some(pair) = board.first_pair(a, b) {
             let draft = pair_pass(alloc, board, pair)?;
@@ -117,7 +121,8 @@ impl Pairing {
         requires first { a < length board.now.nets }
         requires pairing { ArePairing board.now self.now }
         requires done { AreDone board.now self.now.passes.items a }
-        ensures { result ≡ true → IsDoneTo board.now self.now.passes.items a (length board.now.nets) }
+        ensures { result ≡ true →
+            IsDoneTo board.now self.now.passes.items a (length board.now.nets) }
     {
         if board.like_of(a) < a {
             return true;
@@ -143,11 +148,15 @@ impl Pairing {
         ensures looks { OnOk result (LooksAt board.now self.new a) }
         ensures further { IfOk result (λ b. from < b) }
         ensures within { IfOk result (λ b. b ≤ length board.now.nets) }
-        ensures added { IfOk result (λ b. fold (observing board.now) self.new.passes.items (pairs_from board.now a b)
+        ensures added { IfOk result (λ b.
+            fold (observing board.now) self.new.passes.items (pairs_from board.now a b)
             ≡ fold (observing board.now) self.old.passes.items (pairs_from board.now a from)) }
-        ensures kept { OnOk result (StaysDone board.now self.old.passes.items self.new.passes.items) }
-        ensures done { IfOk result (λ b. (n : ℕ) → from ≤ n → n < b → IsDone board.now self.new.passes.items a n) }
-        ensures few { IfOk result (λ b. length self.new.passes.items + from ≤ length self.old.passes.items + b) }
+        ensures kept { OnOk result
+            (StaysDone board.now self.old.passes.items self.new.passes.items) }
+        ensures done { IfOk result (λ b. (n : ℕ) → from ≤ n → n < b →
+            IsDone board.now self.new.passes.items a n) }
+        ensures few { IfOk result (λ b.
+            length self.new.passes.items + from ≤ length self.old.passes.items + b) }
     {
         pairs_have_drivers();
         let nets = board.nets();
@@ -196,7 +205,8 @@ impl Pairing {
         requires few { length self.old.passes.items ≤ 65535 }
         ensures pairing { OnOk result (ArePairing board.now self.new) }
         ensures added { OnOk result (self.new.passes.items
-            ≡ pair_passes board.now (useful_controls board.now) self.old.passes.items (drivers_by_net board.now)) }
+            ≡ pair_passes board.now (useful_controls board.now) self.old.passes.items
+            (drivers_by_net board.now)) }
         ensures few { OnOk result (length self.new.passes.items < 2 ^ 32) }
     {
         for a in 0..board.nets() {
@@ -216,7 +226,8 @@ pub fn pair_passes(
     requires tested { EnableTested board.now progress.passes.items }
     requires few { length progress.passes.items ≤ 65535 }
     ensures passes { IfOk result (λ all. all.items
-        ≡ pair_passes board.now (useful_controls board.now) progress.passes.items (drivers_by_net board.now)) }
+        ≡ pair_passes board.now (useful_controls board.now) progress.passes.items
+        (drivers_by_net board.now)) }
     ensures useful { IfOk result (λ all. HoldUseful board.now all.items) }
     ensures few { IfOk result (λ all. length all.items < 2 ^ 32) }
 {

@@ -28,7 +28,8 @@ fn control_at(controls: &[Ctl], place: usize) -> Option<Ctl>
 /// Where the control stands in the list, which is in control order.
 pub fn place_in(controls: &[Ctl], c: Ctl) -> Option<usize>
     requires { IsInControlOrder controls.now }
-    ensures { MatchOption result (holds controls.now c ≡ false) (λ i. slice_get controls.now i ≡ Some c) }
+    ensures { MatchOption result (holds controls.now c ≡ false)
+        (λ i. slice_get controls.now i ≡ Some c) }
 {
     let place = count_before(controls, c);
     match control_at(controls, place) {

@@ -19,7 +19,8 @@ type Places = Items<usize>;
 fn list_place(sharers: &mut [Places], nets: &[u32], place: usize) -> Result<(), AllocError>
     requires { All (λ n. n < length sharers.old) nets.now }
     ensures { OnOk result ((n q : ℕ) → has_number (slice_index_or sharers.new n []) q
-        ≡ ((q == place && has_number nets.now n) || has_number (slice_index_or sharers.old n []) q)) }
+        ≡ ((q == place && has_number nets.now n)
+        || has_number (slice_index_or sharers.old n []) q)) }
 {
     for net in nets {
         note(sharers, *net as usize, place)?;
@@ -29,7 +30,8 @@ fn list_place(sharers: &mut [Places], nets: &[u32], place: usize) -> Result<(), 
 
 /// For each net, the list of the places of the useful controls that share it with another control.
 fn lists_of(alloc: Global, board: &ClassedBoard<'_>) -> Result<Vec<Places>, AllocError>
-    ensures { IfOk result (λ lists. AreSharersBelow board.now (length (useful_controls board.now)) lists.items) }
+    ensures { IfOk result (λ lists.
+        AreSharersBelow board.now (length (useful_controls board.now)) lists.items) }
 {
     let mut sharers = blank(alloc, board.nets())?;
     for (place, c) in board.useful().iter().enumerate() {
@@ -80,7 +82,8 @@ fn close(free: &mut NumberSet, blocks: &[Block])
 
 /// Takes out the places that are listed for these nets.
 pub fn close_sharers(free: &mut NumberSet, sharers: &[Blocks], nets: &[u32])
-    ensures { (q : ℕ) → is_in free.new q ≡ (is_in free.old q && not (is_listed sharers.now nets.now q)) }
+    ensures { (q : ℕ) → is_in free.new q
+        ≡ (is_in free.old q && not (is_listed sharers.now nets.now q)) }
 {
     for net in nets {
         close(free, blocks_at(sharers, *net as usize));

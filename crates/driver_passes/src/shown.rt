@@ -10,7 +10,8 @@ use crate::number_set::{NumberSet, has_bit};
 pub fn keep_shown(always: &mut NumberSet, rows: &[NumberSet])
     requires sizes { All (λ row. length row ≡ length always.old) rows.now }
     ensures room { length always.new ≡ length always.old }
-    ensures nets { (n : ℕ) → n / 64 < length always.old → is_in always.new n ≡ list_all (λ row. is_in row n) rows.now }
+    ensures nets { (n : ℕ) → n / 64 < length always.old →
+        is_in always.new n ≡ list_all (λ row. is_in row n) rows.now }
 {
     always.fill();
     for row in rows {
@@ -25,7 +26,8 @@ pub fn take_shown(left: &mut NumberSet, row: &NumberSet, word: u64, a: usize)
     requires word { word ≡ slice_index_or row.now (a / 64) 0 }
     requires first { a / 64 ≤ length left.old }
     ensures room { length left.new ≡ length left.old }
-    ensures nets { (n : ℕ) → a / 64 ≤ n / 64 → is_in left.new n ≡ (is_in left.old n && not (shows_both a n row.now)) }
+    ensures nets { (n : ℕ) → a / 64 ≤ n / 64 →
+        is_in left.new n ≡ (is_in left.old n && not (shows_both a n row.now)) }
 {
     if has_bit(word, a % 64) {
         left.take_out(row, a / 64);
@@ -39,7 +41,8 @@ pub fn leave_unshown(left: &mut NumberSet, rows: &[NumberSet], words: &[u64], a:
     requires words { words.now ≡ words_at (a / 64) rows.now }
     requires first { a / 64 < length left.old }
     ensures room { length left.new ≡ length left.old }
-    ensures nets { (n : ℕ) → a / 64 ≤ n / 64 → n / 64 < length left.old → is_in left.new n ≡ not (list_any (shows_both a n) rows.now) }
+    ensures nets { (n : ℕ) → a / 64 ≤ n / 64 → n / 64 < length left.old →
+        is_in left.new n ≡ not (list_any (shows_both a n) rows.now) }
 {
     left.fill();
     for (i, row) in rows.iter().enumerate() {

@@ -5,7 +5,8 @@ ghost use Rattle.board_defs.specs.Settings.{holds};
 ghost use Rattle.driver_passes.specs.inner.Drafts.{setting_of};
 ghost use Rattle.driver_passes.specs.inner.NumberSets.{IsFirst};
 ghost use Rattle.driver_passes.specs.inner.Pairs.{IsUsefulPair, is_wanted};
-ghost use Rattle.driver_passes.specs.inner.Progress.{IsUsefulDriver, KeepsLaws};
+ghost use Rattle.driver_passes.specs.inner.Laws.{KeepsLaws};
+ghost use Rattle.driver_passes.specs.inner.Progress.{IsUsefulDriver};
 ghost use Rattle.driver_passes.specs.inner.Sharers.{LosesApart};
 ghost use Rattle.driver_passes.specs.inner.Shown.{AreShownBy, drivers_at};
 
@@ -41,7 +42,9 @@ impl<'a> Model for BoardTables<'a> {
 
     ghost view = { λ a. a.classed };
 
-    ghost invariant = { λ a. AreSharers a.classed a.sharers.items × AreTestedNets a.classed a.tested_nets × AreAlike a.classed a.likes.items };
+    ghost invariant = { λ a. AreSharers a.classed a.sharers.items
+        × AreTestedNets a.classed a.tested_nets
+        × AreAlike a.classed a.likes.items };
 }
 
 impl<'a> BoardTables<'a> {
@@ -103,7 +106,8 @@ impl<'a> BoardTables<'a> {
     pub fn first_pair(&self, a: usize, b: usize) -> Option<(Drive, Drive)>
         requires first { a < length self.now.nets }
         requires second { b < length self.now.nets }
-        ensures found { result ≡ first_pair self.now (drivers_at self.now a) (drivers_at self.now b) }
+        ensures found { result
+            ≡ first_pair self.now (drivers_at self.now a) (drivers_at self.now b) }
         ensures useful { IfSome result (λ pair. IsUsefulPair self.now pair) }
     {
         self.classed.first_pair(a, b)
@@ -113,7 +117,8 @@ impl<'a> BoardTables<'a> {
     pub fn next_wanted(&self, left: &NumberSet, a: usize, from: usize) -> Option<usize>
         requires { a < length self.now.nets }
         ensures next { MatchOption result
-            ((n : ℕ) → from ≤ n → n < length self.now.nets → is_wanted self.now left.now a n ≡ false)
+            ((n : ℕ) → from ≤ n → n < length self.now.nets →
+            is_wanted self.now left.now a n ≡ false)
             (λ b. IsFirst (is_wanted self.now left.now a) from b) }
         ensures within { IfSome result (λ b. b < length self.now.nets) }
     {

@@ -5,20 +5,12 @@ use Rattle.board_defs.specs.declared.board.Ctl.{Ctl}
 use Rattle.board_defs.specs.declared.board.RawBoard.{RawBoard}
 use Rattle.board_defs.specs.declared.board.Drive.{Drive}
 use Rattle.board_defs.specs.declared.board.Drive.TheVariants.{By}
-use Rattle.board_defs.specs.BoardRules.{IsBoard}
-use Rattle.board_defs.specs.Laws.{DecidesTerms, PassesAre}
 use Rattle.board_defs.specs.Settings.{holds}
 use Rattle.board_defs.specs.Passes.{add_for_driver, is_enabled, useful_controls}
 use Rattle.driver_passes.specs.declared.drivers.Progress.{Progress}
 use Rattle.driver_passes.specs.inner.NumberSets.{is_in}
 use Rattle.driver_passes.specs.Useful.{HoldUseful}
 use Rattle.driver_passes.specs.inner.Shown.{AreRows, drivers_at}
-
--- what the laws of boards say of one
-pub record KeepsLaws (board : RawBoard) : Type 0 where
-  pub rules : IsBoard board
-  pub passes : PassesAre board
-  pub terms : DecidesTerms board
 
 -- some pass holds the control
 abbrev pub is_held : List (List Ctl) → Ctl → Bool

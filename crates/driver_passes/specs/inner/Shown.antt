@@ -1,6 +1,6 @@
 -- Which nets each pass shows.
 use Rattle.std.specs.Prelude.{◌≡◌, ◌<◌, ◌+◌, ◌/◌, ◌&&◌, ℕ, Bool, List, [], length, map, slice_index_or}
-use Rattle.std.specs.List.{list_all}
+use Rattle.std.specs.List.{AllZip, list_all}
 use Rattle.board_defs.specs.declared.board.Ctl.{Ctl}
 use Rattle.board_defs.specs.declared.board.RawBoard.{RawBoard}
 use Rattle.board_defs.specs.declared.board.Drive.{Drive}
@@ -17,10 +17,9 @@ pub record AreShownBy (board : RawBoard) (pass : List Ctl) (row : List ℕ) : Ty
   pub row_length : length row ≡ length board.nets / 64 + 1
   pub row_are : (n : ℕ) → n < length board.nets → is_in row n ≡ shows (drivers_at board n) pass
 
--- there is a row for each pass
-pub record AreRows (board : RawBoard) (passes : List (List Ctl)) (rows : List (List ℕ)) : Type 0 where
-  pub rows_length : length rows ≡ length passes
-  pub rows_are : (x : ℕ) → x < length passes → AreShownBy board (slice_index_or passes x []) (slice_index_or rows x [])
+-- the rows are those of the passes, one for each
+abbrev pub AreRows : RawBoard → List (List Ctl) → List (List ℕ) → Type 0
+AreRows board passes rows = AllZip (AreShownBy board) passes rows
 
 -- the set is that of the nets that each of the passes shows, with room for each net
 pub record AreShownByAll (board : RawBoard) (passes : List (List Ctl)) (always : List ℕ) : Type 0 where
