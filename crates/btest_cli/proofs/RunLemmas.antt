@@ -187,7 +187,7 @@ rose_in : (before now : Text → ℕ) (front : List Wanted) (last : Wanted) (aft
 rose_in before now [] last after rose = inl rose
 rose_in before now (wanted ∷ front) last after rose = inr (rose_in before now front last after rose)
 
-rose_among : (command : Command) (held : Held) (before now : Text → ℕ) (asked asked' : List Text) (last : Wanted) → IsReadUpTo held (wanted_of command) last asked asked' → Rose (before last.name) (now last.name) → SomeRose before now (names_of command)
+pub rose_among : (command : Command) (held : Held) (before now : Text → ℕ) (asked asked' : List Text) (last : Wanted) → IsReadUpTo held (wanted_of command) last asked asked' → Rose (before last.name) (now last.name) → SomeRose before now (names_of command)
 rose_among command held before now asked asked' last up_to rose =
     subst (SomeRose before now) (ap names_in (sym up_to.are) ∙ wanted_names command) (rose_in before now up_to.before last up_to.after rose)
 

@@ -1,6 +1,5 @@
 -- The six exit statuses, as the guide has them: done, refused, the words are no command, a text was not read, standard output failed, out of memory.
-use Rattle.std.proofs.Common.{◌≡◌, ℕ, List, [], ◌∷◌, map, refl}
-use Rattle.btest_cli.specs.declared.status.Status.{Status}
+use Rattle.std.proofs.Common.{◌≡◌, [], ◌∷◌, map, refl}
 use Rattle.btest_cli.specs.declared.status.Status.TheVariants.{Done, Refused, Usage, ReadFault, WriteFault, NoMemory}
 use Rattle.btest_cli.specs.ExitNumbers.{exit_number}
 

@@ -69,7 +69,7 @@ abbrev pub IsOutcome : Command → Reading → Result Text Text → Type 0
 IsOutcome command (Read texts) outcome = IsGiven command texts outcome
 IsOutcome command (TooLong wanted) outcome = outcome ≡ Err (long_line wanted.name wanted.limit)
 
--- the texts were read, each asked for once and in order; the sink took the text that they give; and that is worth what it should be
+-- the texts were read, each asked for once and in order; the sink took the text that they give; and that text is worth what it should be
 pub record IsDone (held : Held) (command : Command) (asked asked' : List Text) (old new : Shown) : Type 0 where
   pub texts : List Text
   pub read : IsRead held (wanted_of command) (Read texts)
@@ -77,7 +77,7 @@ pub record IsDone (held : Held) (command : Command) (asked asked' : List Text) (
   pub text : Text
   pub gives : IsGiven command texts (Ok text)
   pub takes : Takes old new text
-  pub worth : IsWorthFor command texts old new
+  pub worth : IsWorthFor command texts text
 
 -- the texts were read, each asked for once and in order, and the sink took some first bytes of the text that they give
 pub record IsCutShort (held : Held) (command : Command) (asked asked' : List Text) (old new : Shown) : Type 0 where

@@ -22,7 +22,7 @@ use Rattle.commands.specs.Answers.{Answers, LogAnswers}
 use Rattle.commands.specs.inner.Unput.{IsPutInPart, NoBoard, PutsText, unput_batch, unput_log, unput_of}
 
 -- a fault was found
-pub answers_fault : {A : Type 0} (IsFound : Result A InputFault → Type 0) (text_of : A → Text) (IsWorth : Shown → Type 0) (shown : Shown) (fault : InputFault) → IfSome (input_told fault) (λ f. IsFound (Err f)) → Answers IsFound text_of IsWorth shown shown (Err (unput_of fault))
+pub answers_fault : {A : Type 0} (IsFound : Result A InputFault → Type 0) (text_of : A → Text) (IsWorth : Text → Type 0) (shown : Shown) (fault : InputFault) → IfSome (input_told fault) (λ f. IsFound (Err f)) → Answers IsFound text_of IsWorth shown shown (Err (unput_of fault))
 answers_fault IsFound text_of IsWorth shown (input.Memory e) is = refl
 answers_fault IsFound text_of IsWorth shown (input.Chain fault) is = (is, refl)
 answers_fault IsFound text_of IsWorth shown (input.Nets fault) is = (is, refl)
@@ -53,16 +53,16 @@ by_put P text old new (Err unput.Write) short whole cut none = cut short
 by_put P text old new (Err unput.Memory) same whole cut none = none same
 
 -- the text of a value that was found was put, or not
-pub text_answers : {A : Type 0} (IsFound : Result A InputFault → Type 0) (text_of : A → Text) (IsWorth : Shown → Type 0) (value : A) → IsFound (Ok value) → (old new : Shown) (result : Result (Unit {0}) Unput) → PutsText (text_of value) old new result
-    → (Takes old new (text_of value) → IsWorth new) → Answers IsFound text_of IsWorth old new result
+pub text_answers : {A : Type 0} (IsFound : Result A InputFault → Type 0) (text_of : A → Text) (IsWorth : Text → Type 0) (value : A) → IsFound (Ok value) → (old new : Shown) (result : Result (Unit {0}) Unput) → PutsText (text_of value) old new result
+    → IsWorth (text_of value) → Answers IsFound text_of IsWorth old new result
 text_answers IsFound text_of IsWorth value found old new result put worth =
-    by_put (Answers IsFound text_of IsWorth old new) (text_of value) old new result put (λ takes. record { value = value; found = found; takes = takes; worth = worth takes }) (λ cut. record { rose = cut.rose; value = value; found = found; bytes = cut.bytes; takes = cut.takes }) (λ same. same)
+    by_put (Answers IsFound text_of IsWorth old new) (text_of value) old new result put (λ takes. record { value = value; found = found; takes = takes; worth = worth }) (λ cut. record { rose = cut.rose; value = value; found = found; bytes = cut.bytes; takes = cut.takes }) (λ same. same)
 
 -- the same where one of the texts holds logs
-pub text_judged : {A : Type 0} (IsFound : Result A TextFault → Type 0) (text_of : A → Text) (IsWorth : Shown → Type 0) (value : A) → IsFound (Ok value) → (old new : Shown) (result : Result (Unit {0}) Unput) → PutsText (text_of value) old new result
-    → (Takes old new (text_of value) → IsWorth new) → LogAnswers IsFound text_of IsWorth old new result
+pub text_judged : {A : Type 0} (IsFound : Result A TextFault → Type 0) (text_of : A → Text) (IsWorth : Text → Type 0) (value : A) → IsFound (Ok value) → (old new : Shown) (result : Result (Unit {0}) Unput) → PutsText (text_of value) old new result
+    → IsWorth (text_of value) → LogAnswers IsFound text_of IsWorth old new result
 text_judged IsFound text_of IsWorth value found old new result put worth =
-    by_put (LogAnswers IsFound text_of IsWorth old new) (text_of value) old new result put (λ takes. record { value = value; found = found; takes = takes; worth = worth takes }) (λ cut. record { rose = cut.rose; value = value; found = found; bytes = cut.bytes; takes = cut.takes }) (λ same. same)
+    by_put (LogAnswers IsFound text_of IsWorth old new) (text_of value) old new result put (λ takes. record { value = value; found = found; takes = takes; worth = worth }) (λ cut. record { rose = cut.rose; value = value; found = found; bytes = cut.bytes; takes = cut.takes }) (λ same. same)
 
 -- there is no board: its texts have a first fault, or memory ran out
 pub no_board : (chain nets : Text) (texts : List Text) (fault : InputFault) → IfSome (input_told fault) (λ f. IsBoardRead chain nets texts (Err f)) → NoBoard chain nets texts (unput_of fault)
@@ -77,7 +77,7 @@ no_board chain nets texts (input.Link fault) is = is
 no_board chain nets texts (input.NoIdent line) is = is
 
 -- then nothing is put
-pub no_board_answers : (chain nets : Text) (texts : List Text) (text_of : RawBoard → Text) (IsWorth : Shown → Type 0) (shown : Shown) (failure : Unput) → NoBoard chain nets texts failure → Answers (IsBoardRead chain nets texts) text_of IsWorth shown shown (Err failure)
+pub no_board_answers : (chain nets : Text) (texts : List Text) (text_of : RawBoard → Text) (IsWorth : Text → Type 0) (shown : Shown) (failure : Unput) → NoBoard chain nets texts failure → Answers (IsBoardRead chain nets texts) text_of IsWorth shown shown (Err failure)
 no_board_answers chain nets texts text_of IsWorth shown (unput.Input fault) is = (is, refl)
 no_board_answers chain nets texts text_of IsWorth shown (unput.Log rows fault) is = absurd is
 no_board_answers chain nets texts text_of IsWorth shown (unput.Batch rows fault) is = absurd is
@@ -85,7 +85,7 @@ no_board_answers chain nets texts text_of IsWorth shown unput.Write is = absurd 
 no_board_answers chain nets texts text_of IsWorth shown unput.Memory is = refl
 
 -- the same beside a text of logs
-pub no_board_judged : {L E A : Type 0} (judging : Judging L E A) (text_of : RawBoard × A → Text) (text chain nets : Text) (texts : List Text) (IsWorth : Shown → Type 0) (shown : Shown) (failure : Unput) → NoBoard chain nets texts failure
+pub no_board_judged : {L E A : Type 0} (judging : Judging L E A) (text_of : RawBoard × A → Text) (text chain nets : Text) (texts : List Text) (IsWorth : Text → Type 0) (shown : Shown) (failure : Unput) → NoBoard chain nets texts failure
     → LogAnswers (OnDenoted judging text chain nets texts) text_of IsWorth shown shown (Err failure)
 no_board_judged judging text_of text chain nets texts IsWorth shown (unput.Input fault) is = (inl is, refl)
 no_board_judged judging text_of text chain nets texts IsWorth shown (unput.Log rows fault) is = absurd is
@@ -94,8 +94,8 @@ no_board_judged judging text_of text chain nets texts IsWorth shown unput.Write 
 no_board_judged judging text_of text chain nets texts IsWorth shown unput.Memory is = refl
 
 -- what a text says of a board, as what it says of the board that others denote
-pub judged_denoted : {L E A : Type 0} (judging : Judging L E A) (text_of : RawBoard × A → Text) (P : RawBoard → Shown → Shown → Type 0) (text chain nets : Text) (texts : List Text) (board : RawBoard) → Denotes chain nets texts board
-    → (old new : Shown) (result : Result (Unit {0}) Unput) → LogAnswers (OnBoard judging text board) (λ found. text_of (board, found)) (P board old) old new result → LogAnswers (OnDenoted judging text chain nets texts) text_of (OfDenoted P chain nets texts old) old new result
+pub judged_denoted : {L E A : Type 0} (judging : Judging L E A) (text_of : RawBoard × A → Text) (P : RawBoard → Text → Type 0) (text chain nets : Text) (texts : List Text) (board : RawBoard) → Denotes chain nets texts board
+    → (old new : Shown) (result : Result (Unit {0}) Unput) → LogAnswers (OnBoard judging text board) (λ found. text_of (board, found)) (P board) old new result → LogAnswers (OnDenoted judging text chain nets texts) text_of (OfDenoted P chain nets texts) old new result
 judged_denoted judging text_of P text chain nets texts board denoted old new (Ok done) put =
     record { value = (board, put.value); found = (denoted, put.found); takes = put.takes; worth = (board, denoted, put.worth) }
 judged_denoted judging text_of P text chain nets texts board denoted old new (Err (unput.Input fault)) is = (inr (board, denoted, is.0), is.1)
@@ -106,7 +106,7 @@ judged_denoted judging text_of P text chain nets texts board denoted old new (Er
 judged_denoted judging text_of P text chain nets texts board denoted old new (Err unput.Memory) same = same
 
 -- a log is wrong
-pub log_wrong : {A : Type 0} (IsFound : Result A TextFault → Type 0) (text_of : A → Text) (IsWorth : Shown → Type 0) (shown : Shown) (rows : ℕ) (said : LogAnswer) (fault : LogFault) → IfSome (log_told fault) (λ f. said ≡ Err f) → ((f : LogFault) → said ≡ Err f → IsFound (Err (Log rows f)))
+pub log_wrong : {A : Type 0} (IsFound : Result A TextFault → Type 0) (text_of : A → Text) (IsWorth : Text → Type 0) (shown : Shown) (rows : ℕ) (said : LogAnswer) (fault : LogFault) → IfSome (log_told fault) (λ f. said ≡ Err f) → ((f : LogFault) → said ≡ Err f → IsFound (Err (Log rows f)))
     → LogAnswers IsFound text_of IsWorth shown shown (Err (unput_log rows fault))
 log_wrong IsFound text_of IsWorth shown rows said (log.Memory e) fails is = refl
 log_wrong IsFound text_of IsWorth shown rows said (log.Digit line) fails is = (is (log.Digit line) fails, refl)
@@ -115,7 +115,7 @@ log_wrong IsFound text_of IsWorth shown rows said (log.Extra line) fails is = (i
 log_wrong IsFound text_of IsWorth shown rows said (log.Missing found) fails is = (is (log.Missing found) fails, refl)
 
 -- a batch of logs is wrong
-pub batch_wrong : {A : Type 0} (IsFound : Result A TextFault → Type 0) (text_of : A → Text) (IsWorth : Shown → Type 0) (shown : Shown) (rows : ℕ) (said : BatchAnswer) (fault : BatchFault) → IfSome (batch_told fault) (λ f. said ≡ Err f) → ((f : BatchFault) → said ≡ Err f → IsFound (Err (OfBatch rows f)))
+pub batch_wrong : {A : Type 0} (IsFound : Result A TextFault → Type 0) (text_of : A → Text) (IsWorth : Text → Type 0) (shown : Shown) (rows : ℕ) (said : BatchAnswer) (fault : BatchFault) → IfSome (batch_told fault) (λ f. said ≡ Err f) → ((f : BatchFault) → said ≡ Err f → IsFound (Err (OfBatch rows f)))
     → LogAnswers IsFound text_of IsWorth shown shown (Err (unput_batch rows fault))
 batch_wrong IsFound text_of IsWorth shown rows said (batch.Memory e) fails is = refl
 batch_wrong IsFound text_of IsWorth shown rows said (batch.Start line) fails is = (is (batch.Start line) fails, refl)

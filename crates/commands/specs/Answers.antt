@@ -1,16 +1,22 @@
 -- What a command does with what it finds in its texts.
-use Rattle.std.specs.Prelude.{◌≡◌, ℕ, take, Result, Ok, Err}
+use Rattle.std.specs.Prelude.{◌≡◌, ℕ, List, map, take, Result, Ok, Err, Vec}
+use Rattle.std.specs.declared.alloc.Global.{Global}
 use Rattle.bt_base.specs.Counts.{Rose}
 use Rattle.bt_base.specs.Puts.{Shown, Takes}
+use Rattle.board_defs.specs.declared.board.RawBoard.{RawBoard}
 use Rattle.btest_core.specs.declared.fault.InputFault.{InputFault}
+use Rattle.btest_core.specs.BoardRead.{IsBoardRead}
 use Rattle.command_line.specs.Words.{Text}
-use Rattle.commands.specs.LogRead.{TextFault, Input, Log, Batch}
+use Rattle.commands.specs.LogRead.{Judging, OnBoard, OnDenoted, TextFault, Input, Log, Batch}
+use Rattle.commands.specs.Worth.{OfDenoted}
+use Rattle.commands.specs.declared.texts.BoardTexts.{BoardTexts}
+use Rattle.commands.specs.declared.texts.LogTexts.{LogTexts}
 use Rattle.commands.specs.declared.unput.Unput.{Unput}
 use Rattle.commands.specs.declared.unput.Unput.TheVariants as unput
 
 -- nothing more is said
-abbrev pub Nothing : Shown → Type 0
-Nothing shown = Unit {0}
+abbrev pub Nothing : Text → Type 0
+Nothing text = Unit {0}
 
 -- a value was found, and the sink took some first bytes of its text
 pub record IsCutBy {A F : Type 0} (IsFound : Result A F → Type 0) (text_of : A → Text) (old new : Shown) : Type 0 where
@@ -20,15 +26,15 @@ pub record IsCutBy {A F : Type 0} (IsFound : Result A F → Type 0) (text_of : A
   pub bytes : ℕ
   pub takes : Takes old new (take bytes (text_of value))
 
--- a value was found, the sink took its text, and that is worth this
-pub record IsPutBy {A F : Type 0} (IsFound : Result A F → Type 0) (text_of : A → Text) (IsWorth : Shown → Type 0) (old new : Shown) : Type 0 where
+-- a value was found, the sink took its text, and that is worth so much
+pub record IsPutBy {A F : Type 0} (IsFound : Result A F → Type 0) (text_of : A → Text) (IsWorth : Text → Type 0) (old new : Shown) : Type 0 where
   pub value : A
   pub found : IsFound (Ok value)
   pub takes : Takes old new (text_of value)
-  pub worth : IsWorth new
+  pub worth : IsWorth (text_of value)
 
 -- what is found in the texts is answered: a value by its text, a fault by itself
-abbrev pub Answers : {A : Type 0} → (Result A InputFault → Type 0) → (A → Text) → (Shown → Type 0) → Shown → Shown → Result (Unit {0}) Unput → Type 0
+abbrev pub Answers : {A : Type 0} → (Result A InputFault → Type 0) → (A → Text) → (Text → Type 0) → Shown → Shown → Result (Unit {0}) Unput → Type 0
 Answers IsFound text_of IsWorth old new (Ok done) = IsPutBy IsFound text_of IsWorth old new
 Answers IsFound text_of IsWorth old new (Err (unput.Input fault)) = IsFound (Err fault) × (new ≡ old)
 Answers IsFound text_of IsWorth old new (Err (unput.Log rows fault)) = ⊥
@@ -37,10 +43,36 @@ Answers IsFound text_of IsWorth old new (Err unput.Write) = IsCutBy IsFound text
 Answers IsFound text_of IsWorth old new (Err unput.Memory) = new ≡ old
 
 -- the same where one of the texts holds logs
-abbrev pub LogAnswers : {A : Type 0} → (Result A TextFault → Type 0) → (A → Text) → (Shown → Type 0) → Shown → Shown → Result (Unit {0}) Unput → Type 0
+abbrev pub LogAnswers : {A : Type 0} → (Result A TextFault → Type 0) → (A → Text) → (Text → Type 0) → Shown → Shown → Result (Unit {0}) Unput → Type 0
 LogAnswers IsFound text_of IsWorth old new (Ok done) = IsPutBy IsFound text_of IsWorth old new
 LogAnswers IsFound text_of IsWorth old new (Err (unput.Input fault)) = IsFound (Err (Input fault)) × (new ≡ old)
 LogAnswers IsFound text_of IsWorth old new (Err (unput.Log rows fault)) = IsFound (Err (Log rows fault)) × (new ≡ old)
 LogAnswers IsFound text_of IsWorth old new (Err (unput.Batch rows fault)) = IsFound (Err (Batch rows fault)) × (new ≡ old)
 LogAnswers IsFound text_of IsWorth old new (Err unput.Write) = IsCutBy IsFound text_of old new
 LogAnswers IsFound text_of IsWorth old new (Err unput.Memory) = new ≡ old
+
+-- texts, by their bytes
+abbrev pub bytes_of : List (Vec ℕ Global) → List Text
+bytes_of texts = map (λ text. text.items) texts
+
+-- what is found in a chain file and BSDL texts is answered
+abbrev pub ChainAnswers : {A : Type 0} → (Text → List Text → Result A InputFault → Type 0) → (A → Text) → (Text → List Text → Text → Type 0) → Text → List (Vec ℕ Global) → Shown → Shown → Result (Unit {0}) Unput → Type 0
+ChainAnswers IsFound text_of IsWorth file bsdl old new result = Answers (IsFound file (bytes_of bsdl)) text_of (IsWorth file (bytes_of bsdl)) old new result
+
+-- what the texts of a board are read as
+abbrev pub IsBoardOf : BoardTexts → Result RawBoard InputFault → Type 0
+IsBoardOf texts found = IsBoardRead texts.chain.now texts.nets.now (bytes_of texts.bsdl.now) found
+
+-- the board of its texts is answered
+abbrev pub BoardAnswers : (RawBoard → Text) → (Text → Text → List Text → Text → Type 0) → BoardTexts → Shown → Shown → Result (Unit {0}) Unput → Type 0
+BoardAnswers text_of IsWorth texts old new result = Answers (IsBoardOf texts) text_of (IsWorth texts.chain.now texts.nets.now (bytes_of texts.bsdl.now)) old new result
+
+-- what is found in logs of a board is answered
+abbrev pub AnswersOn : {L E A : Type 0} → Judging L E A → (RawBoard × A → Text) → (Text → RawBoard → Text → Type 0) → Text → RawBoard → Shown → Shown → Result (Unit {0}) Unput → Type 0
+AnswersOn judging text_of IsWorth text board old new result = LogAnswers (OnBoard judging text board) (λ found. text_of (board, found)) (IsWorth text board) old new result
+
+-- the same where the board is that of its texts
+abbrev pub JudgedAnswers : {L E A : Type 0} → Judging L E A → (RawBoard × A → Text) → (Text → RawBoard → Text → Type 0) → LogTexts → Shown → Shown → Result (Unit {0}) Unput → Type 0
+JudgedAnswers judging text_of IsWorth texts old new result =
+    LogAnswers (OnDenoted judging texts.log.items texts.board.chain.now texts.board.nets.now (bytes_of texts.board.bsdl.now)) text_of
+    (OfDenoted (IsWorth texts.log.items) texts.board.chain.now texts.board.nets.now (bytes_of texts.board.bsdl.now)) old new result

@@ -1,6 +1,5 @@
 -- What a text is worth that a command puts.
 use Rattle.std.specs.Prelude.{◌≡◌, ◌↔◌, ℕ, Bool, true, List, [], ◌∷◌, Option, Some, Ok, All, Decides}
-use Rattle.bt_base.specs.Puts.{Shown, Takes}
 use Rattle.tap_defs.specs.chain.ChainTest.{IsChainTest}
 use Rattle.tap_defs.specs.board.BoardTest.{IsBoardTest, IsHarmless}
 use Rattle.board_defs.specs.declared.board.RawBoard.{RawBoard}
@@ -32,58 +31,48 @@ use Rattle.walk_test.specs.WalkTest.{board_walk_text, walk_row_list, walk_scans}
 use Rattle.commands.specs.LogRead.{test_blocks, test_log, walk_log}
 use Rattle.command_line.specs.Words.{Text, Command, Chain, Device, Cover, Svf, Walk, Ident, Make, Diagnose, Groups, Batch}
 
--- the sink took a text that tests the length of the chain that these texts describe
-pub record TestsChain (chain : Text) (texts : List Text) (old new : Shown) : Type 0 where
+-- the text tests the length of the chain that these texts describe
+pub record TestsChain (chain : Text) (texts : List Text) (text : Text) : Type 0 where
   pub lengths : List ℕ
   pub are : AreChainLengths chain texts (Ok lengths)
   pub bounds : AreLengths lengths
-  pub text : Text
   pub tests : IsChainTest lengths text
-  pub takes : Takes old new text
 
--- the sink took the listing of the device that this text describes, which keeps the rules of a device
-pub record ListsDevice (text : Text) (old new : Shown) : Type 0 where
+-- the listing is that of the device which this text describes, which keeps the rules of a device
+pub record ListsDevice (text listing : Text) : Type 0 where
   pub device : RawDevice
   pub described : IsDeviceText text (Ok device)
   pub rules : IsDevice device
-  pub takes : Takes old new (device_text device)
+  pub is : listing ≡ device_text device
 
--- the sink took the coverage list of the board that these texts denote, which keeps the rules of a board: of all its nets, pins and pairs
--- the list says what is true of all safe settings
-pub record ListsCover (chain nets : Text) (texts : List Text) (old new : Shown) : Type 0 where
+-- the text is a coverage list of the board that these texts denote, which keeps the rules of a board: of all its nets, pins and pairs the
+-- list says what is true of all safe settings
+pub record ListsCover (chain nets : Text) (texts : List Text) (text : Text) : Type 0 where
   pub board : RawBoard
   pub denoted : Denotes chain nets texts board
   pub rules : IsBoard board
-  pub text : Text
   pub lists : IsCoverList board text
-  pub takes : Takes old new text
 
--- the sink took a text that tests the board which these texts denote: it has a meaning; it passes where nothing is faulty; after its
--- reset it is quiet under every fault set; and it fails under every nonempty fault set that is observable
-pub record TestsBoard (chain nets : Text) (texts : List Text) (old new : Shown) : Type 0 where
+-- the text tests the board which these texts denote: it has a meaning; it passes where nothing is faulty; after its reset it is quiet under
+-- every fault set; and it fails under every nonempty fault set that is observable
+pub record TestsBoard (chain nets : Text) (texts : List Text) (text : Text) : Type 0 where
   pub board : RawBoard
   pub denoted : Denotes chain nets texts board
-  pub text : Text
   pub tests : IsBoardTest board text
-  pub takes : Takes old new text
 
--- the sink took a text that tests the identification codes of the parts that these texts describe
-pub record TestsIdents (chain : Text) (texts : List Text) (old new : Shown) : Type 0 where
+-- the text tests the identification codes of the parts that these texts describe
+pub record TestsIdents (chain : Text) (texts : List Text) (text : Text) : Type 0 where
   pub patterns : List (Option (List Symbol))
   pub are : AreIdents chain texts (Ok patterns)
   pub bounds : ArePatterns patterns
-  pub text : Text
   pub tests : IsIdentTest patterns text
-  pub takes : Takes old new text
 
--- the sink took a text that may be applied to the board which these texts denote: it has a meaning, it passes where nothing is faulty,
--- and after its reset it is quiet under every fault set
-pub record WalksBoard (chain nets : Text) (texts : List Text) (old new : Shown) : Type 0 where
+-- the text may be applied to the board which these texts denote: it has a meaning, it passes where nothing is faulty, and after its reset it
+-- is quiet under every fault set
+pub record WalksBoard (chain nets : Text) (texts : List Text) (text : Text) : Type 0 where
   pub board : RawBoard
   pub denoted : Denotes chain nets texts board
-  pub text : Text
   pub harmless : IsHarmless board text
-  pub takes : Takes old new text
 
 -- the board passes by a log of its test exactly where every compared bit is the expected one, and then no single fault explains the log;
 -- and the faults are exactly the single faults that explain the log, each once and in order
@@ -106,9 +95,9 @@ pub record RespondOnce (board : RawBoard) : Type 0 where
   pub some : (single : Single) → IsSingle board single → (log : List (List Bool)) × Explains board single log
   pub one : (single : Single) (log other : List (List Bool)) → Explains board single log → Explains board single other → AgreeOn board (svf_row_scans board) log other
 
--- the sink took the diagnosis of a log of the test of a board: a row for each compared SDR statement of the test, in their order, and in
--- each row a bit for each position
-pub record Diagnoses (log : Text) (board : RawBoard) (old new : Shown) : Type 0 where
+-- the text is the diagnosis of a log of the test of a board: a row for each compared SDR statement of the test, in their order, and in each
+-- row a bit for each position
+pub record Diagnoses (log : Text) (board : RawBoard) (text : Text) : Type 0 where
   pub means : TestMeans board
   pub respond : RespondOnce board
   pub rows : List (List Bool)
@@ -117,10 +106,10 @@ pub record Diagnoses (log : Text) (board : RawBoard) (old new : Shown) : Type 0 
   pub pass : Bool
   pub faults : List Single
   pub right : IsRight board rows pass faults
-  pub takes : Takes old new (diag_text board pass faults)
+  pub is : text ≡ diag_text board pass faults
 
--- the sink took, for each block of a batch of such logs, its title and the diagnosis of its log by itself
-pub record DiagnosesEach (log : Text) (board : RawBoard) (old new : Shown) : Type 0 where
+-- the text has, for each block of a batch of such logs, its title and the diagnosis of its log by itself
+pub record DiagnosesEach (log : Text) (board : RawBoard) (text : Text) : Type 0 where
   pub means : TestMeans board
   pub respond : RespondOnce board
   pub blocks : List Block
@@ -128,12 +117,12 @@ pub record DiagnosesEach (log : Text) (board : RawBoard) (old new : Shown) : Typ
   pub shapes : All (λ block. HasShape board (svf_row_scans board) block.log) blocks
   pub verdicts : List Verdict
   pub right : EachPair (λ block verdict. IsRight board block.log verdict.pass verdict.faults) blocks verdicts
-  pub takes : Takes old new (batch_text board blocks verdicts)
+  pub is : text ≡ batch_text board blocks verdicts
 
--- the sink took the groups of a log of the walking test of a board, which has a row for each of its compared SDR statements: exactly the
+-- the text names the groups of a log of the walking test of a board, which has a row for each of its compared SDR statements: exactly the
 -- set of groups that explains the log, and none where no set does. Each set of groups explains some log, and any two such logs have the
 -- same compared bits
-pub record FindsGroups (log : Text) (board : RawBoard) (old new : Shown) : Type 0 where
+pub record FindsGroups (log : Text) (board : RawBoard) (text : Text) : Type 0 where
   pub means : WalkMeans board
   pub rows : List (List Bool)
   pub read : walk_log log board ≡ Ok rows
@@ -142,44 +131,44 @@ pub record FindsGroups (log : Text) (board : RawBoard) (old new : Shown) : Type 
   pub exactly : (groups : List (List ℕ)) → (found ≡ Some groups) ↔ Explain board rows groups
   pub respond : (groups : List (List ℕ)) → AreGroups board groups → (other : List (List Bool)) × Explain board other groups
   pub one : (groups : List (List ℕ)) (one other : List (List Bool)) → Explain board one groups → Explain board other groups → AgreeOn board (walk_row_list board) one other
-  pub takes : Takes old new (groups_text board found)
+  pub is : text ≡ groups_text board found
 
 -- P of the board that these texts denote
-abbrev pub OfDenoted : (RawBoard → Shown → Shown → Type 0) → Text → Text → List Text → Shown → Shown → Type 0
-OfDenoted P chain nets texts old new = (board : RawBoard) × Denotes chain nets texts board × P board old new
+abbrev pub OfDenoted : (RawBoard → Text → Type 0) → Text → Text → List Text → Text → Type 0
+OfDenoted P chain nets texts text = (board : RawBoard) × Denotes chain nets texts board × P board text
 
 -- P of a chain file and BSDL texts
-abbrev pub OfChain : (Text → List Text → Shown → Shown → Type 0) → List Text → Shown → Shown → Type 0
-OfChain P [] old new = ⊥
-OfChain P (chain ∷ texts) old new = P chain texts old new
+abbrev pub OfChain : (Text → List Text → Text → Type 0) → List Text → Text → Type 0
+OfChain P [] text = ⊥
+OfChain P (chain ∷ texts) text = P chain texts text
 
 -- P of a chain file, a net file and BSDL texts
-abbrev pub OfBoard : (Text → Text → List Text → Shown → Shown → Type 0) → List Text → Shown → Shown → Type 0
-OfBoard P [] old new = ⊥
-OfBoard P (chain ∷ []) old new = ⊥
-OfBoard P (chain ∷ nets ∷ texts) old new = P chain nets texts old new
+abbrev pub OfBoard : (Text → Text → List Text → Text → Type 0) → List Text → Text → Type 0
+OfBoard P [] text = ⊥
+OfBoard P (chain ∷ []) text = ⊥
+OfBoard P (chain ∷ nets ∷ texts) text = P chain nets texts text
 
 -- P of a log, a chain file, a net file and BSDL texts
-abbrev pub OfLog : (Text → Text → Text → List Text → Shown → Shown → Type 0) → List Text → Shown → Shown → Type 0
-OfLog P [] old new = ⊥
-OfLog P (log ∷ texts) old new = OfBoard (P log) texts old new
+abbrev pub OfLog : (Text → Text → Text → List Text → Text → Type 0) → List Text → Text → Type 0
+OfLog P [] text = ⊥
+OfLog P (log ∷ texts) text = OfBoard (P log) texts text
 
 -- P of one BSDL text
-abbrev pub OfText : (Text → Shown → Shown → Type 0) → List Text → Shown → Shown → Type 0
-OfText P [] old new = ⊥
-OfText P (text ∷ []) old new = P text old new
-OfText P (text ∷ other ∷ others) old new = ⊥
+abbrev pub OfText : (Text → Text → Type 0) → List Text → Text → Type 0
+OfText P [] text = ⊥
+OfText P (bsdl ∷ []) text = P bsdl text
+OfText P (bsdl ∷ other ∷ others) text = ⊥
 
--- what the text is worth that a command puts for texts: a test, as what it tests, and a list, as what is
--- true; a summary says no more than what it is
-abbrev pub IsWorthFor : Command → List Text → Shown → Shown → Type 0
-IsWorthFor (Chain names) texts old new = OfChain TestsChain texts old new
-IsWorthFor (Device name) texts old new = OfText ListsDevice texts old new
-IsWorthFor (Cover names) texts old new = OfBoard ListsCover texts old new
-IsWorthFor (Svf names) texts old new = OfBoard TestsBoard texts old new
-IsWorthFor (Walk names) texts old new = OfBoard WalksBoard texts old new
-IsWorthFor (Ident names) texts old new = OfChain TestsIdents texts old new
-IsWorthFor (Make number) texts old new = Unit {0}
-IsWorthFor (Diagnose workers log names) texts old new = OfLog (λ log. OfDenoted (Diagnoses log)) texts old new
-IsWorthFor (Groups log names) texts old new = OfLog (λ log. OfDenoted (FindsGroups log)) texts old new
-IsWorthFor (Batch workers log names) texts old new = OfLog (λ log. OfDenoted (DiagnosesEach log)) texts old new
+-- what the text is worth that a command puts for texts: a test, as what it tests, and a list, as what is true; a summary says no more than
+-- what it is
+abbrev pub IsWorthFor : Command → List Text → Text → Type 0
+IsWorthFor (Chain names) texts text = OfChain TestsChain texts text
+IsWorthFor (Device name) texts text = OfText ListsDevice texts text
+IsWorthFor (Cover names) texts text = OfBoard ListsCover texts text
+IsWorthFor (Svf names) texts text = OfBoard TestsBoard texts text
+IsWorthFor (Walk names) texts text = OfBoard WalksBoard texts text
+IsWorthFor (Ident names) texts text = OfChain TestsIdents texts text
+IsWorthFor (Make number) texts text = Unit {0}
+IsWorthFor (Diagnose workers log names) texts text = OfLog (λ log. OfDenoted (Diagnoses log)) texts text
+IsWorthFor (Groups log names) texts text = OfLog (λ log. OfDenoted (FindsGroups log)) texts text
+IsWorthFor (Batch workers log names) texts text = OfLog (λ log. OfDenoted (DiagnosesEach log)) texts text

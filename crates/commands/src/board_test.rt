@@ -1,5 +1,5 @@
 // The command `svf`.
-ghost use Rattle.std.specs.Prelude.{◌≡◌, ◌-◌, ◌<◌, ◌≤◌, ◌^◌, All, Bool, IfOk, IfSome, List, Some, length, map, slice_get};
+ghost use Rattle.std.specs.Prelude.{◌≡◌, ◌-◌, ◌<◌, Bool, IfOk, IfSome, List, slice_get};
 ghost use Rattle.bt_base.specs.Puts.{Puts};
 ghost use Rattle.board_defs.specs.Passes.{passes_of};
 ghost use Rattle.board_defs.specs.Pins.{data_bits};
@@ -13,11 +13,10 @@ ghost use Rattle.plan_tables.specs.declared.tables.PlanTables.{PlanTables as Pla
 ghost use Rattle.plan_tables.specs.Plans.{IsPlanOf};
 ghost use Rattle.scan_planner.specs.PassRows.{AreKept};
 ghost use Rattle.scan_planner.specs.Plans.{FillsScan, IsRoom, scan_count};
-ghost use Rattle.btest_core.specs.BoardRead.{IsBoardRead};
 ghost use Rattle.response_log.specs.LogRows.{HasSize};
 ghost use Rattle.commands.specs.LogRead.{test_rows};
 ghost use Rattle.commands.specs.Worth.{RespondOnce, TestsBoard};
-ghost use Rattle.commands.specs.Answers.{Answers};
+ghost use Rattle.commands.specs.Answers.{BoardAnswers};
 ghost use Rattle.commands.specs.inner.Unput.{PutsText};
 
 use crate::planned::{Planned, planned_board};
@@ -37,11 +36,7 @@ use tap_defs::chain_law::texts_mean;
 /// Puts the text that tests the board of these texts. All memory is
 /// taken before the first put.
 pub fn svf<K: Sink>(alloc: Global, texts: BoardTexts, out: &mut K) -> Result<(), Unput>
-    requires chain { length texts.chain.now < 2 ^ 32 }
-    requires nets { length texts.nets.now < 2 ^ 32 }
-    requires each { All (λ text. length text.items < 2 ^ 32) texts.bsdl.now }
-    requires count { length texts.bsdl.now < 2 ^ 32 }
-    ensures { Answers (IsBoardRead texts.entry.chain.now texts.entry.nets.now (map (λ text. text.items) texts.entry.bsdl.now)) board_text (TestsBoard texts.entry.chain.now texts.entry.nets.now (map (λ text. text.items) texts.entry.bsdl.now) (K.shown out.old)) (K.shown out.old) (K.shown out.new) result }
+    ensures { BoardAnswers board_text TestsBoard texts.entry (K.shown out.old) (K.shown out.new) result }
 {
     let planned = match planned_board(alloc, texts) {
         Ok(planned) => planned,

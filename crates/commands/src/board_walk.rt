@@ -1,5 +1,5 @@
 // The command `walk`.
-ghost use Rattle.std.specs.Prelude.{◌≡◌, ◌<◌, ◌^◌, All, Bool, List, length, map, slice_get, IfErr, IfOk, IfSome};
+ghost use Rattle.std.specs.Prelude.{◌≡◌, ◌<◌, Bool, List, Ok, slice_get, IfErr, IfOk, IfSome};
 ghost use Rattle.bt_base.specs.Puts.{Puts};
 ghost use Rattle.board_defs.specs.Pins.{data_bits};
 ghost use Rattle.tap_defs.specs.board.BoardTest.{IsHarmless};
@@ -8,20 +8,19 @@ ghost use Rattle.tap_defs.specs.chain.Text.{scan_text};
 ghost use Rattle.scan_planner.specs.Plans.{IsRoom};
 ghost use Rattle.walk_test.specs.Tables.{IsWalkOf, scan_count};
 ghost use Rattle.walk_test.specs.WalkTest.{board_walk_text, walk_row_list, walk_scans};
-ghost use Rattle.btest_core.specs.BoardRead.{Denotes, IsBoardRead};
 ghost use Rattle.response_log.specs.LogRows.{HasSize};
-ghost use Rattle.commands.specs.Answers.{Answers};
+ghost use Rattle.commands.specs.Answers.{BoardAnswers, IsBoardOf};
 ghost use Rattle.commands.specs.LogRead.{walk_rows};
-ghost use Rattle.commands.specs.inner.Unput.{NoBoard, PutsText};
+ghost use Rattle.commands.specs.inner.Unput.{NoBoardOf, PutsText};
 ghost use Rattle.commands.specs.Worth.{WalksBoard};
 
 use crate::board_test::longest_scan;
+use crate::planned::board_of;
 use crate::rows::Rows;
 use crate::texts::BoardTexts;
-use crate::unput::{Unput, answer_by, unput_by};
+use crate::unput::{Unput, answer_by};
 use board_defs::Board;
 use bt_base::{PutFault, Sink};
-use btest_core::read_board;
 use driver_passes::passes;
 use net_classes::classify;
 use std::alloc::{AllocError, Global};
@@ -39,17 +38,13 @@ pub struct Walked {
 
 /// The board of these texts with its walking test, or why there is none.
 pub fn walked_board(alloc: Global, texts: BoardTexts) -> Result<Walked, Unput>
-    requires chain { length texts.chain.now < 2 ^ 32 }
-    requires nets { length texts.nets.now < 2 ^ 32 }
-    requires each { All (λ text. length text.items < 2 ^ 32) texts.bsdl.now }
-    requires count { length texts.bsdl.now < 2 ^ 32 }
-    ensures denoted { IfOk result (λ walked. Denotes texts.entry.chain.now texts.entry.nets.now (map (λ text. text.items) texts.entry.bsdl.now) walked.board) }
+    ensures denoted { IfOk result (λ walked. IsBoardOf texts.entry (Ok walked.board)) }
     ensures walk { IfOk result (λ walked. IsWalkOf walked.board walked.walk) }
-    ensures none { IfErr result (NoBoard texts.entry.chain.now texts.entry.nets.now (map (λ text. text.items) texts.entry.bsdl.now)) }
+    ensures none { IfErr result (NoBoardOf texts.entry) }
 {
-    let board = match read_board(alloc, texts.chain, texts.nets, texts.bsdl) {
+    let board = match board_of(alloc, texts) {
         Ok(board) => board,
-        Err(fault) => return Err(unput_by(fault)),
+        Err(failure) => return Err(failure),
     };
     match walk_of(alloc, &board) {
         Ok(walk) => Ok(Walked { board, walk }),
@@ -59,12 +54,10 @@ pub fn walked_board(alloc: Global, texts: BoardTexts) -> Result<Walked, Unput>
 
 /// A log with the rows and the bits of the board's walking test has a row for each compared SDR statement of it, in their
 /// order, and in each row a bit for each position.
-pub fn walk_logs_shaped(walked: &Walked)
-    requires { IsWalkOf walked.now.board walked.now.walk }
-    ensures { (log : List (List Bool)) → HasSize (walk_rows walked.now.board) (data_bits walked.now.board) log → HasShape walked.now.board (walk_row_list walked.now.board) log }
+pub fn walk_logs_shaped(board: &Board)
+    ensures { (log : List (List Bool)) → HasSize (walk_rows board.now) (data_bits board.now) log → HasShape board.now (walk_row_list board.now) log }
 {
-    let _rules = walked.board.raw();
-    scans_counted();
+    let _rules = board.raw();
     rows_compared();
     statements_compared();
 }
@@ -80,11 +73,7 @@ fn walk_of(alloc: Global, board: &Board) -> Result<Walk, AllocError>
 
 /// Puts the walking test of the board of these texts. All memory is taken before the first put.
 pub fn walk<K: Sink>(alloc: Global, texts: BoardTexts, out: &mut K) -> Result<(), Unput>
-    requires chain { length texts.chain.now < 2 ^ 32 }
-    requires nets { length texts.nets.now < 2 ^ 32 }
-    requires each { All (λ text. length text.items < 2 ^ 32) texts.bsdl.now }
-    requires count { length texts.bsdl.now < 2 ^ 32 }
-    ensures { Answers (IsBoardRead texts.entry.chain.now texts.entry.nets.now (map (λ text. text.items) texts.entry.bsdl.now)) board_walk_text (WalksBoard texts.entry.chain.now texts.entry.nets.now (map (λ text. text.items) texts.entry.bsdl.now) (K.shown out.old)) (K.shown out.old) (K.shown out.new) result }
+    ensures { BoardAnswers board_walk_text WalksBoard texts.entry (K.shown out.old) (K.shown out.new) result }
 {
     let walked = match walked_board(alloc, texts) {
         Ok(walked) => walked,

@@ -6,7 +6,7 @@ ghost use Rattle.tap_defs.specs.chain.ChainTest.{IsChainTest};
 ghost use Rattle.svf_writer.specs.Rows.{IsRoom};
 ghost use Rattle.btest_core.specs.BoardRead.{AreChainLengths, AreLengths};
 ghost use Rattle.commands.specs.Worth.{TestsChain};
-ghost use Rattle.commands.specs.Answers.{Answers};
+ghost use Rattle.commands.specs.Answers.{ChainAnswers};
 
 use crate::rows::Rows;
 use crate::unput::{Unput, answer_by, unput_by};
@@ -27,7 +27,7 @@ pub fn chain<K: Sink>(
     requires size { length file.now < 2 ^ 32 }
     requires each { All (λ text. length text.items < 2 ^ 32) bsdl.now }
     requires count { length bsdl.now < 2 ^ 32 }
-    ensures { Answers (AreChainLengths file.now (map (λ text. text.items) bsdl.now)) chain_text (TestsChain file.now (map (λ text. text.items) bsdl.now) (K.shown out.old)) (K.shown out.old) (K.shown out.new) result }
+    ensures { ChainAnswers AreChainLengths chain_text TestsChain file.now bsdl.now (K.shown out.old) (K.shown out.new) result }
 {
     let lengths = match read_chain(alloc, file, bsdl) {
         Ok(lengths) => lengths,

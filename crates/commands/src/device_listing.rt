@@ -17,7 +17,7 @@ use std::alloc::Global;
 /// taken before the first put.
 pub fn device<K: Sink>(alloc: Global, text: &[u8], out: &mut K) -> Result<(), Unput>
     requires { length text.now < 2 ^ 32 }
-    ensures { Answers (IsDeviceText text.now) device_text (ListsDevice text.now (K.shown out.old)) (K.shown out.old) (K.shown out.new) result }
+    ensures { Answers (IsDeviceText text.now) device_text (ListsDevice text.now) (K.shown out.old) (K.shown out.new) result }
 {
     let device = match read_device(alloc, text) {
         Ok(device) => device,

@@ -4,7 +4,7 @@ ghost use Rattle.ident_test.specs.IdentTest.{ArePatterns, IsIdentTest};
 ghost use Rattle.ident_test.specs.Patterns.{ident_bits, ident_text};
 ghost use Rattle.btest_core.specs.IdentsRead.{AreIdents};
 ghost use Rattle.commands.specs.Worth.{TestsIdents};
-ghost use Rattle.commands.specs.Answers.{Answers};
+ghost use Rattle.commands.specs.Answers.{ChainAnswers};
 
 use crate::rows::Rows;
 use crate::unput::{Unput, answer_by, unput_by};
@@ -29,7 +29,7 @@ pub fn ident<K: Sink>(
     requires size { length file.now < 2 ^ 32 }
     requires each { All (λ text. length text.items < 2 ^ 32) bsdl.now }
     requires count { length bsdl.now < 2 ^ 32 }
-    ensures { Answers (AreIdents file.now (map (λ text. text.items) bsdl.now)) ident_text (TestsIdents file.now (map (λ text. text.items) bsdl.now) (K.shown out.old)) (K.shown out.old) (K.shown out.new) result }
+    ensures { ChainAnswers AreIdents ident_text TestsIdents file.now bsdl.now (K.shown out.old) (K.shown out.new) result }
 {
     let patterns = match read_idents(alloc, file, bsdl) {
         Ok(patterns) => patterns,

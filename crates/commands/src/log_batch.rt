@@ -1,10 +1,10 @@
 // The command `batch`.
-ghost use Rattle.std.specs.Prelude.{◌≡◌, ◌<◌, ◌≤◌, ◌^◌, All, length, map};
+ghost use Rattle.std.specs.Prelude.{◌≡◌, ◌<◌, ◌≤◌, ◌^◌, length};
 ghost use Rattle.board_defs.specs.Passes.{passes_of};
 ghost use Rattle.plan_tables.specs.Plans.{IsPlanOf};
-ghost use Rattle.commands.specs.LogRead.{OnBoard, OnDenoted, judging_each, verdicts_text};
-ghost use Rattle.commands.specs.Worth.{DiagnosesEach, OfDenoted};
-ghost use Rattle.commands.specs.Answers.{LogAnswers};
+ghost use Rattle.commands.specs.LogRead.{judging_each, verdicts_text};
+ghost use Rattle.commands.specs.Worth.{DiagnosesEach};
+ghost use Rattle.commands.specs.Answers.{AnswersOn, JudgedAnswers};
 
 use crate::board_test::{singles_respond, test_logs_shaped, test_means};
 use crate::planned::{Planned, planned_board};
@@ -27,14 +27,9 @@ pub fn batch<R: Threads + Sync, K: Sink, G: Gate>(
     gate: &G,
     out: &mut K,
 ) -> Result<(), Unput>
-    requires log { length texts.log.items < 2 ^ 32 }
-    requires chain { length texts.board.chain.now < 2 ^ 32 }
-    requires nets { length texts.board.nets.now < 2 ^ 32 }
-    requires each { All (λ text. length text.items < 2 ^ 32) texts.board.bsdl.now }
-    requires count { length texts.board.bsdl.now < 2 ^ 32 }
     requires some { 1 ≤ workers }
     requires few { workers ≤ 64 }
-    ensures { LogAnswers (OnDenoted judging_each texts.entry.log.items texts.entry.board.chain.now texts.entry.board.nets.now (map (λ text. text.items) texts.entry.board.bsdl.now)) verdicts_text (OfDenoted (DiagnosesEach texts.entry.log.items) texts.entry.board.chain.now texts.entry.board.nets.now (map (λ text. text.items) texts.entry.board.bsdl.now) (K.shown out.old)) (K.shown out.old) (K.shown out.new) result }
+    ensures { JudgedAnswers judging_each verdicts_text DiagnosesEach texts.entry (K.shown out.old) (K.shown out.new) result }
 {
     let LogTexts { log, board } = texts;
     let planned = match planned_board(alloc, board) {
@@ -59,7 +54,7 @@ fn put_batch<R: Threads + Sync, K: Sink, G: Gate>(
     requires text { length text.now < 2 ^ 32 }
     requires some { 1 ≤ workers }
     requires few { workers ≤ 64 }
-    ensures { LogAnswers (OnBoard judging_each text.now planned.now.board) (λ found. verdicts_text (planned.now.board, found)) (DiagnosesEach text.now planned.now.board (K.shown out.old)) (K.shown out.old) (K.shown out.new) result }
+    ensures { AnswersOn judging_each verdicts_text DiagnosesEach text.now planned.now.board (K.shown out.old) (K.shown out.new) result }
 {
     let Planned { board, plan } = planned;
     let blocks = match blocks(alloc, text, plan.rows(), board.dr_bits()) {

@@ -1,9 +1,9 @@
 // The command `groups`.
-ghost use Rattle.std.specs.Prelude.{◌≡◌, ◌<◌, ◌^◌, All, length, map, option_map};
+ghost use Rattle.std.specs.Prelude.{◌≡◌, ◌<◌, ◌^◌, length, option_map};
 ghost use Rattle.walk_test.specs.Tables.{IsWalkOf};
-ghost use Rattle.commands.specs.LogRead.{OnBoard, OnDenoted, grouping, grouping_text};
-ghost use Rattle.commands.specs.Worth.{FindsGroups, OfDenoted};
-ghost use Rattle.commands.specs.Answers.{LogAnswers};
+ghost use Rattle.commands.specs.LogRead.{grouping, grouping_text};
+ghost use Rattle.commands.specs.Worth.{FindsGroups};
+ghost use Rattle.commands.specs.Answers.{AnswersOn, JudgedAnswers};
 
 use crate::board_test::test_means;
 use crate::board_walk::{Walked, walk_logs_shaped, walked_board};
@@ -18,12 +18,7 @@ use walk_test::{Group, write_groups};
 
 /// Puts the groups of a log of the walking test of the board of these texts. All memory is taken before the first put.
 pub fn groups<K: Sink>(alloc: Global, texts: LogTexts, out: &mut K) -> Result<(), Unput>
-    requires log { length texts.log.items < 2 ^ 32 }
-    requires chain { length texts.board.chain.now < 2 ^ 32 }
-    requires nets { length texts.board.nets.now < 2 ^ 32 }
-    requires each { All (λ text. length text.items < 2 ^ 32) texts.board.bsdl.now }
-    requires count { length texts.board.bsdl.now < 2 ^ 32 }
-    ensures { LogAnswers (OnDenoted grouping texts.entry.log.items texts.entry.board.chain.now texts.entry.board.nets.now (map (λ text. text.items) texts.entry.board.bsdl.now)) grouping_text (OfDenoted (FindsGroups texts.entry.log.items) texts.entry.board.chain.now texts.entry.board.nets.now (map (λ text. text.items) texts.entry.board.bsdl.now) (K.shown out.old)) (K.shown out.old) (K.shown out.new) result }
+    ensures { JudgedAnswers grouping grouping_text FindsGroups texts.entry (K.shown out.old) (K.shown out.new) result }
 {
     let LogTexts { log, board } = texts;
     let walked = match walked_board(alloc, board) {
@@ -52,7 +47,7 @@ fn put_groups<K: Sink>(
 ) -> Result<(), Unput>
     requires walk { IsWalkOf walked.now.board walked.now.walk }
     requires text { length text.items < 2 ^ 32 }
-    ensures { LogAnswers (OnBoard grouping text.items walked.now.board) (λ found. grouping_text (walked.now.board, found)) (FindsGroups text.items walked.now.board (K.shown out.old)) (K.shown out.old) (K.shown out.new) result }
+    ensures { AnswersOn grouping grouping_text FindsGroups text.items walked.now.board (K.shown out.old) (K.shown out.new) result }
 {
     let Walked { board, walk } = walked;
     let rows = walk.nets().len() as u64;
@@ -68,7 +63,7 @@ fn put_groups<K: Sink>(
     };
     let _rules = board.raw();
     test_means(board);
-    walk_logs_shaped(walked);
+    walk_logs_shaped(board);
     groups_respond();
     one_set();
     answer_by(write_groups(board, lent(&found), &mut line, out))

@@ -1,11 +1,9 @@
 // The board that texts denote, with the plan of its test.
-ghost use Rattle.std.specs.Prelude.{◌≡◌, ◌<◌, ◌^◌, All, length, map, Some, IfOk, IfErr};
-ghost use Rattle.board_defs.specs.BoardRules.{IsBoard};
+ghost use Rattle.std.specs.Prelude.{◌≡◌, Ok, IfOk, IfErr};
 ghost use Rattle.board_defs.specs.Passes.{passes_of};
 ghost use Rattle.plan_tables.specs.Plans.{IsPlanOf};
-ghost use Rattle.btest_core.specs.BoardRead.{Denotes};
-ghost use Rattle.commands.specs.inner.Unput.{NoBoard};
-ghost use Rattle.commands.specs.Worth.{TestMeans};
+ghost use Rattle.commands.specs.Answers.{IsBoardOf};
+ghost use Rattle.commands.specs.inner.Unput.{NoBoardOf};
 
 use crate::texts::BoardTexts;
 use crate::unput::{Unput, unput_by};
@@ -22,20 +20,27 @@ pub struct Planned {
     pub plan: Plan,
 }
 
+/// The board of these texts, or why there is none.
+pub fn board_of(alloc: Global, texts: BoardTexts) -> Result<Board, Unput>
+    ensures denoted { IfOk result (λ board. IsBoardOf texts.entry (Ok board)) }
+    ensures none { IfErr result (NoBoardOf texts.entry) }
+{
+    match read_board(alloc, texts.chain, texts.nets, texts.bsdl) {
+        Ok(board) => Ok(board),
+        Err(fault) => Err(unput_by(fault)),
+    }
+}
+
 /// The board of these texts with the plan of its test, or why there is none.
 pub fn planned_board(alloc: Global, texts: BoardTexts) -> Result<Planned, Unput>
-    requires chain { length texts.chain.now < 2 ^ 32 }
-    requires nets { length texts.nets.now < 2 ^ 32 }
-    requires each { All (λ text. length text.items < 2 ^ 32) texts.bsdl.now }
-    requires count { length texts.bsdl.now < 2 ^ 32 }
-    ensures denoted { IfOk result (λ planned. Denotes texts.entry.chain.now texts.entry.nets.now (map (λ text. text.items) texts.entry.bsdl.now) planned.board) }
+    ensures denoted { IfOk result (λ planned. IsBoardOf texts.entry (Ok planned.board)) }
     ensures plan { IfOk result (λ planned. IsPlanOf planned.board planned.plan) }
     ensures passes { IfOk result (λ planned. planned.plan.passes ≡ passes_of planned.board) }
-    ensures none { IfErr result (NoBoard texts.entry.chain.now texts.entry.nets.now (map (λ text. text.items) texts.entry.bsdl.now)) }
+    ensures none { IfErr result (NoBoardOf texts.entry) }
 {
-    let board = match read_board(alloc, texts.chain, texts.nets, texts.bsdl) {
+    let board = match board_of(alloc, texts) {
         Ok(board) => board,
-        Err(fault) => return Err(unput_by(fault)),
+        Err(failure) => return Err(failure),
     };
     match board_plan(alloc, &board) {
         Ok(plan) => Ok(Planned { board, plan }),

@@ -1,8 +1,6 @@
 -- What each command promises, from what its text is worth.
-use Rattle.std.proofs.Common.{◌≡◌, ◌∙◌, ℕ, zero, suc, Bool, List, [], ◌∷◌, Option, Result, Ok, Err, sym, ap, subst, arith, inl, inr}
-use Rattle.std.specs.Prelude.{◌↔◌, All, Some}
-use Rattle.std.proofs.lemmas.List.{append_cancel_left}
-use Rattle.bt_base.specs.Puts.{Takes}
+use Rattle.std.proofs.Common.{◌≡◌, ◌∙◌, ℕ, Bool, List, [], ◌∷◌, Option, Result, Ok, Err, sym, ap, subst, inl, inr}
+use Rattle.std.specs.Prelude.{◌↔◌, Some}
 use Rattle.board_defs.specs.declared.board.RawBoard.{RawBoard}
 use Rattle.board_defs.specs.declared.device.Symbol.{Symbol}
 use Rattle.board_defs.specs.declared.fault.Single.{Single}
@@ -10,40 +8,33 @@ use Rattle.board_defs.specs.BoardRules.{IsBoard}
 use Rattle.board_defs.specs.DeviceRules.{IsDevice}
 use Rattle.tap_defs.specs.chain.ChainScans.{chain_text}
 use Rattle.tap_defs.specs.chain.ChainTest.{IsChainTest}
-use Rattle.tap_defs.specs.board.BoardScans.{board_text, svf_row_scans}
+use Rattle.tap_defs.specs.board.BoardScans.{board_text}
 use Rattle.tap_defs.specs.board.BoardTest.{IsBoardTest, IsHarmless}
-use Rattle.tap_defs.specs.board.Explaining.{HasShape}
 use Rattle.device_check.specs.DeviceText.{device_text}
 use Rattle.coverage_list.specs.CoverList.{IsCoverList}
 use Rattle.coverage_list.specs.CoverText.{cover_text}
 use Rattle.ident_test.specs.IdentTest.{ArePatterns, IsIdentTest}
 use Rattle.ident_test.specs.Patterns.{ident_text}
-use Rattle.diagnoser.specs.DiagText.{diag_text}
 use Rattle.batch_diag.specs.declared.block.Block.{Block}
 use Rattle.batch_diag.specs.declared.verdict.Verdict.{Verdict}
 use Rattle.batch_diag.specs.Verdicts.{EachPair}
 use Rattle.batch_diag.specs.BatchText.{batch_text}
 use Rattle.walk_test.specs.Groups.{Explain}
-use Rattle.walk_test.specs.GroupText.{groups_text}
-use Rattle.walk_test.specs.WalkTest.{board_walk_text, walk_row_list}
+use Rattle.walk_test.specs.WalkTest.{board_walk_text}
 use Rattle.board_gen.specs.BoardTexts as made
 use Rattle.board_gen.specs.DeviceText.{bsdl_text}
 use Rattle.btest_core.specs.BoardRead.{AreLengths, Denotes}
 use Rattle.commands.specs.LogRead.{test_blocks, test_log, walk_log}
 use Rattle.commands.specs.Worth.{Diagnoses, DiagnosesEach, FindsGroups as FindsOne, IsRight, RespondOnce, TestMeans}
 use Rattle.command_line.specs.Words.{Text, Chain, Ident, Device, Cover, Svf, Walk, Make, Diagnose, Groups, Batch}
-use Rattle.promises.specs.Runs.{Puts, Run}
+use Rattle.promises.specs.Runs.{Run}
 use Rattle.promises.specs.Gives.{Gives, summary}
 use Rattle.promises.specs.Promises.{DiagnosesBlocks, DiagnosesLog, FindsGroups, HasResponses, IsDiagnosed, ListsCover, ListsDevice, SumsUp, TestsBoard, TestsChain, TestsIdents, WalksBoard}
-use Rattle.promises.specs.inner.Facts.{IsRun, SayOne, out_of}
+use Rattle.promises.specs.inner.Facts.{IsRun, LinesAreRead, SayOne}
 use Rattle.promises.proofs.GiveLemmas.{not_both, same_ok}
-use Rattle.promises.proofs.RunLemmas.{out_taken, prints}
+use Rattle.promises.proofs.RunLemmas.{prints}
 
 module _ (run : Run) (is : IsRun run) (one : SayOne) where
-  -- the sink took one text
-  same_text : (text other : Text) → Puts run text → Takes (out_of run.old) (out_of run.new) other → other ≡ text
-  same_text text other puts takes = append_cancel_left run.old.out other text (sym (out_taken run other takes) ∙ puts)
-
   -- the files denote one board
   same_board : (chain nets : Text) (bsdl : List Text) (board other : RawBoard) → Denotes chain nets bsdl board → Denotes chain nets bsdl other → other ≡ board
   same_board chain nets bsdl board other denotes also = same_ok (one.board chain nets bsdl (Ok other) (Ok board) also denotes)
@@ -51,52 +42,52 @@ module _ (run : Run) (is : IsRun run) (one : SayOne) where
   pub tests_chain : TestsChain run
   tests_chain names chain bsdl lengths on are =
       prints run is (Chain names) on.0 (chain ∷ bsdl) on.1 _ (λ line gives. not_both (one.chain chain bsdl (Ok lengths) (Err gives.0) are gives.1))
-      (λ text gives worth puts.
+      (λ text gives worth.
       let value : gives.0 ≡ lengths = same_ok (one.chain chain bsdl (Ok gives.0) (Ok lengths) gives.1 are) in
       let same : worth.lengths ≡ lengths = same_ok (one.chain chain bsdl (Ok worth.lengths) (Ok lengths) worth.are are) in
-      let test = subst (λ (l : List ℕ). IsChainTest l text) same (subst (IsChainTest worth.lengths) (same_text text worth.text puts worth.takes) worth.tests) in
+      let test = subst (λ (l : List ℕ). IsChainTest l text) same worth.tests in
       (gives.2 ∙ ap chain_text value, subst AreLengths same worth.bounds, test.clocks, test.means, test.passes, test.fails))
 
   pub tests_idents : TestsIdents run
   tests_idents names chain bsdl patterns on are =
       prints run is (Ident names) on.0 (chain ∷ bsdl) on.1 _ (λ line gives. not_both (one.idents chain bsdl (Ok patterns) (Err gives.0) are gives.1))
-      (λ text gives worth puts.
+      (λ text gives worth.
       let value : gives.0 ≡ patterns = same_ok (one.idents chain bsdl (Ok gives.0) (Ok patterns) gives.1 are) in
       let same : worth.patterns ≡ patterns = same_ok (one.idents chain bsdl (Ok worth.patterns) (Ok patterns) worth.are are) in
-      let test = subst (λ (l : List (Option (List Symbol))). IsIdentTest l text) same (subst (IsIdentTest worth.patterns) (same_text text worth.text puts worth.takes) worth.tests) in
+      let test = subst (λ (l : List (Option (List Symbol))). IsIdentTest l text) same worth.tests in
       (gives.2 ∙ ap ident_text value, subst ArePatterns same worth.bounds, test.clocks, test.means, test.passes, test.fails))
 
   pub lists_device : ListsDevice run
   lists_device name text device on described =
       prints run is (Device name) on.0 (text ∷ []) on.1 _ (λ line gives. not_both (one.device text (Ok device) (Err gives.0) described gives.1))
-      (λ listing gives worth puts.
+      (λ listing gives worth.
       let same : worth.device ≡ device = same_ok (one.device text (Ok worth.device) (Ok device) worth.described described) in
-      (sym (same_text listing (device_text worth.device) puts worth.takes) ∙ ap device_text same, subst IsDevice same worth.rules))
+      (worth.is ∙ ap device_text same, subst IsDevice same worth.rules))
 
   pub lists_cover : ListsCover run
   lists_cover names chain nets bsdl board on denotes =
       prints run is (Cover names) on.0 (chain ∷ nets ∷ bsdl) on.1 _ (λ line gives. not_both (one.board chain nets bsdl (Ok board) (Err gives.0) denotes gives.1))
-      (λ text gives worth puts.
+      (λ text gives worth.
       let same = same_board chain nets bsdl board worth.board denotes worth.denoted in (
         gives.2 ∙ ap cover_text (same_board chain nets bsdl board gives.0 denotes gives.1),
         subst IsBoard same worth.rules,
-        subst (λ (b : RawBoard). IsCoverList b text) same (subst (IsCoverList worth.board) (same_text text worth.text puts worth.takes) worth.lists),
+        subst (λ (b : RawBoard). IsCoverList b text) same worth.lists,
       ))
 
   pub tests_board : TestsBoard run
   tests_board names chain nets bsdl board on denotes =
       prints run is (Svf names) on.0 (chain ∷ nets ∷ bsdl) on.1 _ (λ line gives. not_both (one.board chain nets bsdl (Ok board) (Err gives.0) denotes gives.1))
-      (λ text gives worth puts.
+      (λ text gives worth.
       let same = same_board chain nets bsdl board worth.board denotes worth.denoted in
-      let test = subst (λ (b : RawBoard). IsBoardTest b text) same (subst (IsBoardTest worth.board) (same_text text worth.text puts worth.takes) worth.tests) in
+      let test = subst (λ (b : RawBoard). IsBoardTest b text) same worth.tests in
       (gives.2 ∙ ap board_text (same_board chain nets bsdl board gives.0 denotes gives.1), test.clocks, test.means, test.quiet, test.passes, test.fails))
 
   pub walks_board : WalksBoard run
   walks_board names chain nets bsdl board on denotes =
       prints run is (Walk names) on.0 (chain ∷ nets ∷ bsdl) on.1 _ (λ line gives. not_both (one.board chain nets bsdl (Ok board) (Err gives.0) denotes gives.1))
-      (λ text gives worth puts.
+      (λ text gives worth.
       let same = same_board chain nets bsdl board worth.board denotes worth.denoted in
-      let test = subst (λ (b : RawBoard). IsHarmless b text) same (subst (IsHarmless worth.board) (same_text text worth.text puts worth.takes) worth.harmless) in
+      let test = subst (λ (b : RawBoard). IsHarmless b text) same worth.harmless in
       (gives.2 ∙ ap board_walk_text (same_board chain nets bsdl board gives.0 denotes gives.1), test.clocks, test.means, test.quiet, test.passes))
 
   pub sums_up : SumsUp run
@@ -104,7 +95,7 @@ module _ (run : Run) (is : IsRun run) (one : SayOne) where
       let chain = made.chain_text parts in
       let nets = made.net_text parts in
       prints run is (Make parts) on.0 [] on.1 _ (λ line gives. not_both (one.board chain nets (bsdl_text ∷ []) (Ok board) (Err gives.0) denotes gives.1))
-      (λ text gives worth puts. gives.2 ∙ ap summary (same_board chain nets (bsdl_text ∷ []) board gives.0 denotes gives.1))
+      (λ text gives worth. gives.2 ∙ ap summary (same_board chain nets (bsdl_text ∷ []) board gives.0 denotes gives.1))
 
   -- a log that is read on the board has no fault, nor have the files
   read_well : {L E : Type 0} (read : Text → RawBoard → Result L E) (log chain nets : Text) (bsdl : List Text) (board : RawBoard) (contents : L) → Denotes chain nets bsdl board → read log board ≡ Ok contents
@@ -115,63 +106,69 @@ module _ (run : Run) (is : IsRun run) (one : SayOne) where
   responses : (board : RawBoard) → TestMeans board → RespondOnce board → HasResponses board
   responses board means respond = record { means = means; some = respond.some; one = respond.one }
 
-  diagnosed : (board : RawBoard) (rows : List (List Bool)) (pass : Bool) (faults : List Single) → HasShape board (svf_row_scans board) rows → IsRight board rows pass faults → IsDiagnosed board rows pass faults
-  diagnosed board rows pass faults shape right = record { shape = shape; passes = right.passes; none = right.none; exactly = right.lists.exactly; in_order = right.lists.in_order }
+  diagnosed : (board : RawBoard) (rows : List (List Bool)) (pass : Bool) (faults : List Single) → IsRight board rows pass faults → IsDiagnosed board rows pass faults
+  diagnosed board rows pass faults right = record { passes = right.passes; none = right.none; exactly = right.lists.exactly; in_order = right.lists.in_order }
 
-  pub diagnoses_log : DiagnosesLog run
-  diagnoses_log workers name names log chain nets bsdl board rows on denotes holds =
+  pub diagnoses_log : LinesAreRead → DiagnosesLog run
+  diagnoses_log lines workers name names log chain nets bsdl board rows on denotes holds =
       prints run is (Diagnose workers name names) on.0 (log ∷ chain ∷ nets ∷ bsdl) on.1 _ (λ line gives. sound gives)
-      (λ text gives worth puts.
-      let told = subst (λ (b : RawBoard). Diagnoses log b (out_of run.old) (out_of run.new)) (same_board chain nets bsdl board worth.0 denotes worth.1) worth.2 in
-      let same : told.rows ≡ rows = same_ok (sym told.read ∙ holds) in
-      let shape = subst (λ (l : List (List Bool)). HasShape board (svf_row_scans board) l) same told.shape in
+      (λ text gives worth.
+      let told = subst (λ (b : RawBoard). Diagnoses log b text) (same_board chain nets bsdl board worth.0 denotes worth.1) worth.2 in
+      let same : told.rows ≡ rows = same_ok (sym told.read ∙ read) in
       let right = subst (λ (l : List (List Bool)). IsRight board l told.pass told.faults) same told.right in
-      (responses board told.means told.respond, told.pass, told.faults, diagnosed board rows told.pass told.faults shape right, sym (same_text text (diag_text board told.pass told.faults) puts told.takes)))
+      (responses board told.means told.respond, told.pass, told.faults, diagnosed board rows told.pass told.faults right, told.is))
     where
+      read : test_log log board ≡ Ok rows
+      read = lines.test chain nets bsdl board log rows denotes holds
+
       sound : {line : Text} → Gives (Diagnose workers name names) (log ∷ chain ∷ nets ∷ bsdl) (Err line) → ⊥
       sound (inl (fault, found, e)) = not_both (one.board chain nets bsdl (Ok board) (Err fault) denotes found)
-      sound (inr (other, also, fault, fails, e)) = read_well test_log log chain nets bsdl board rows denotes holds other fault also fails
+      sound (inr (other, also, fault, fails, e)) = read_well test_log log chain nets bsdl board rows denotes read other fault also fails
 
-  diagnosed_each : (board : RawBoard) (blocks : List Block) (verdicts : List Verdict) → All (λ block. HasShape board (svf_row_scans board) block.log) blocks → EachPair (λ block verdict. IsRight board block.log verdict.pass verdict.faults) blocks verdicts
+  diagnosed_each : (board : RawBoard) (blocks : List Block) (verdicts : List Verdict) → EachPair (λ block verdict. IsRight board block.log verdict.pass verdict.faults) blocks verdicts
       → EachPair (λ block verdict. IsDiagnosed board block.log verdict.pass verdict.faults) blocks verdicts
-  diagnosed_each board [] [] shapes right = tt
-  diagnosed_each board [] (verdict ∷ verdicts) shapes right = absurd right
-  diagnosed_each board (block ∷ blocks) [] shapes right = absurd right
-  diagnosed_each board (block ∷ blocks) (verdict ∷ verdicts) shapes right =
-      (diagnosed board block.log verdict.pass verdict.faults (shapes zero block (omega arith)) right.0, diagnosed_each board blocks verdicts (λ k d less. shapes (suc k) d (omega (arith, less))) right.1)
+  diagnosed_each board [] [] right = tt
+  diagnosed_each board [] (verdict ∷ verdicts) right = absurd right
+  diagnosed_each board (block ∷ blocks) [] right = absurd right
+  diagnosed_each board (block ∷ blocks) (verdict ∷ verdicts) right = (diagnosed board block.log verdict.pass verdict.faults right.0, diagnosed_each board blocks verdicts right.1)
 
-  pub diagnoses_blocks : DiagnosesBlocks run
-  diagnoses_blocks workers name names logs chain nets bsdl board blocks on denotes holds =
+  pub diagnoses_blocks : LinesAreRead → DiagnosesBlocks run
+  diagnoses_blocks lines workers name names logs chain nets bsdl board blocks on denotes holds =
       prints run is (Batch workers name names) on.0 (logs ∷ chain ∷ nets ∷ bsdl) on.1 _ (λ line gives. sound gives)
-      (λ text gives worth puts.
-      let told = subst (λ (b : RawBoard). DiagnosesEach logs b (out_of run.old) (out_of run.new)) (same_board chain nets bsdl board worth.0 denotes worth.1) worth.2 in
-      let same : told.blocks ≡ blocks = same_ok (sym told.read ∙ holds) in
-      let each = diagnosed_each board told.blocks told.verdicts told.shapes told.right in (
+      (λ text gives worth.
+      let told = subst (λ (b : RawBoard). DiagnosesEach logs b text) (same_board chain nets bsdl board worth.0 denotes worth.1) worth.2 in
+      let same : told.blocks ≡ blocks = same_ok (sym told.read ∙ read) in
+      let each = diagnosed_each board told.blocks told.verdicts told.right in (
         responses board told.means told.respond,
         told.verdicts,
         subst (λ (l : List Block). EachPair (λ block verdict. IsDiagnosed board block.log verdict.pass verdict.faults) l told.verdicts) same each,
-        sym (same_text text (batch_text board told.blocks told.verdicts) puts told.takes) ∙ ap (λ (l : List Block). batch_text board l told.verdicts) same,
+        told.is ∙ ap (λ (l : List Block). batch_text board l told.verdicts) same,
       ))
     where
+      read : test_blocks logs board ≡ Ok blocks
+      read = lines.blocks chain nets bsdl board logs blocks denotes holds
+
       sound : {line : Text} → Gives (Batch workers name names) (logs ∷ chain ∷ nets ∷ bsdl) (Err line) → ⊥
       sound (inl (fault, found, e)) = not_both (one.board chain nets bsdl (Ok board) (Err fault) denotes found)
-      sound (inr (other, also, fault, fails, e)) = read_well test_blocks logs chain nets bsdl board blocks denotes holds other fault also fails
+      sound (inr (other, also, fault, fails, e)) = read_well test_blocks logs chain nets bsdl board blocks denotes read other fault also fails
 
-  pub finds_groups : FindsGroups run
-  finds_groups name names log chain nets bsdl board rows on denotes holds =
+  pub finds_groups : LinesAreRead → FindsGroups run
+  finds_groups lines name names log chain nets bsdl board rows on denotes holds =
       prints run is (Groups name names) on.0 (log ∷ chain ∷ nets ∷ bsdl) on.1 _ (λ line gives. sound gives)
-      (λ text gives worth puts.
-      let told = subst (λ (b : RawBoard). FindsOne log b (out_of run.old) (out_of run.new)) (same_board chain nets bsdl board worth.0 denotes worth.1) worth.2 in
-      let same : told.rows ≡ rows = same_ok (sym told.read ∙ holds) in (
-        subst (λ (l : List (List Bool)). HasShape board (walk_row_list board) l) same told.shape,
+      (λ text gives worth.
+      let told = subst (λ (b : RawBoard). FindsOne log b text) (same_board chain nets bsdl board worth.0 denotes worth.1) worth.2 in
+      let same : told.rows ≡ rows = same_ok (sym told.read ∙ read) in (
         told.means,
         told.found,
-        sym (same_text text (groups_text board told.found) puts told.takes),
+        told.is,
         subst (λ (l : List (List Bool)). (groups : List (List ℕ)) → (told.found ≡ Some groups) ↔ Explain board l groups) same told.exactly,
         told.respond,
         told.one,
       ))
     where
+      read : walk_log log board ≡ Ok rows
+      read = lines.walk chain nets bsdl board log rows denotes holds
+
       sound : {line : Text} → Gives (Groups name names) (log ∷ chain ∷ nets ∷ bsdl) (Err line) → ⊥
       sound (inl (fault, found, e)) = not_both (one.board chain nets bsdl (Ok board) (Err fault) denotes found)
-      sound (inr (other, also, fault, fails, e)) = read_well walk_log log chain nets bsdl board rows denotes holds other fault also fails
+      sound (inr (other, also, fault, fails, e)) = read_well walk_log log chain nets bsdl board rows denotes read other fault also fails

@@ -6,7 +6,7 @@ use Rattle.bt_base.specs.Counts.{Rose}
 use Rattle.command_line.specs.Words.{Text, Command, Chain, Ident, Device, Cover, Svf, Walk, Make, Diagnose, Groups, Batch}
 use Rattle.btest_cli.specs.Texts.{Held, Wanted, Reading, Read, TooLong, IsRead, and_text, known_reading, read_first, reading_of, wanted_of}
 use Rattle.btest_cli.specs.Outcome.{SomeRose}
-use Rattle.promises.specs.Runs.{Holds, HoldsEach, files_of}
+use Rattle.promises.specs.Runs.{Holds, HoldsEach, IsTooLong, files_of}
 
 pub files_are : (command : Command) → files_of command ≡ wanted_of command
 files_are (Chain names) = refl
@@ -87,6 +87,57 @@ holds_read held (file ∷ files) texts e = by_text (held file.name) refl (readin
     by_text : (o : Option Text) → held file.name ≡ o → (rest : Option Reading) → Later rest → (texts : List Text) → read_first file o rest ≡ Some (Read texts) → HoldsEach (Some held) (file ∷ files) texts
     by_text None is rest later texts e = absurd cc
     by_text (Some text) is rest later texts e = by_length text is (nat_lt file.limit (length text)) refl rest later texts e
+
+-- the store tells its files
+abbrev pub Tells : Held → Type 0
+Tells held = (of_name : Text → Option Text) × (held ≡ Some of_name)
+
+pub read_holds : (held : Held) → Tells held → (files : List Wanted) (texts : List Text) → IsRead held files (Read texts) → HoldsEach held files texts
+read_holds None (of_name, tells) files texts read = absurd cc
+read_holds (Some held) tells files texts read = holds_read held files texts read
+
+-- where a file was too long, it is the first
+after_first : (held : Text → Option Text) (first : Wanted) (text : Text) (files : List Wanted) (file : Wanted) → held first.name ≡ Some text → length text ≤ first.limit → IsTooLong (Some held) files file → IsTooLong (Some held) (first ∷ files) file
+after_first held first text files file is short long = record {
+  before = first ∷ long.before;
+  after = long.after;
+  are = ap (λ (l : List Wanted). first ∷ l) long.are;
+  texts = text ∷ long.texts;
+  each = (is, short, long.each);
+  text = long.text;
+  holds = long.holds;
+  long = long.long;
+}
+
+over : (limit n : ℕ) → nat_lt limit n ≡ true → limit < n
+over limit n test = grind (arith, common_steps)
+
+long_held : (held : Text → Option Text) (files : List Wanted) (file : Wanted) → reading_of held files ≡ Some (TooLong file) → IsTooLong (Some held) files file
+long_held held [] file e = absurd cc
+long_held held (first ∷ files) file e = by_text (held first.name) refl (reading_of held files) (long_held held files file) e
+  where
+    Later : Option Reading → Type 0
+    Later rest = rest ≡ Some (TooLong file) → IsTooLong (Some held) files file
+
+    and_rest : (text : Text) → held first.name ≡ Some text → length text ≤ first.limit → (rest : Option Reading) → Later rest → and_text text rest ≡ Some (TooLong file) → IsTooLong (Some held) (first ∷ files) file
+    and_rest text is short None later e = absurd cc
+    and_rest text is short (Some (Read texts)) later e = absurd cc
+    and_rest text is short (Some (TooLong other)) later e = after_first held first text files file is short (later e)
+
+    by_length : (text : Text) → held first.name ≡ Some text → (long : Bool) → nat_lt first.limit (length text) ≡ long → (rest : Option Reading) → Later rest → (if long then Some (TooLong first) else and_text text rest) ≡ Some (TooLong file) → IsTooLong (Some held) (first ∷ files) file
+    by_length text is true test rest later e =
+        let same : first ≡ file = cc in
+        subst (IsTooLong (Some held) (first ∷ files)) same
+        (record { before = []; after = files; are = refl; texts = []; each = tt; text = text; holds = is; long = over first.limit (length text) test })
+    by_length text is false test rest later e = and_rest text is (is_short first.limit (length text) test) rest later e
+
+    by_text : (o : Option Text) → held first.name ≡ o → (rest : Option Reading) → Later rest → read_first first o rest ≡ Some (TooLong file) → IsTooLong (Some held) (first ∷ files) file
+    by_text None is rest later e = absurd cc
+    by_text (Some text) is rest later e = by_length text is (nat_lt first.limit (length text)) refl rest later e
+
+pub read_long : (held : Held) → Tells held → (files : List Wanted) (file : Wanted) → IsRead held files (TooLong file) → IsTooLong held files file
+read_long None (of_name, tells) files file read = absurd cc
+read_long (Some held) tells files file read = long_held held files file read
 
 -- the first file that is too long stands at one place
 same_cut : (held : Text → Option Text) (before others after behind : List Wanted) (file : Wanted) (texts found : List Text) (text : Text) → held file.name ≡ Some text → file.limit < length text → HoldsEach (Some held) before texts → HoldsEach (Some held) others found

@@ -1,6 +1,6 @@
 -- What a run of a command leaves, from the clauses of `run`.
 use Rattle.std.proofs.Common.{◌≡◌, ◌≢◌, ◌⊎◌, ◌∙◌, List, Option, Some, Result, Ok, Err, sym, ap, subst, inl, inr}
-use Rattle.std.specs.Prelude.{Contains, IfSome}
+use Rattle.std.specs.Prelude.{IfSome}
 use Rattle.bt_base.specs.Counts.{Rose}
 use Rattle.bt_base.specs.Puts.{Shown, Takes}
 use Rattle.command_line.specs.Words.{Text, Command, command_of, names_of}
@@ -10,7 +10,7 @@ use Rattle.btest_cli.specs.declared.status.Status.TheVariants.{Done, Refused, Wr
 use Rattle.btest_cli.specs.Texts.{Wanted, Reading, Read, IsRead, known_reading, wanted_of}
 use Rattle.btest_cli.specs.Outcome.{IsComplete, IsCutShort, IsDone, IsGiven, IsOutcome, IsRefused, Settles, SomeRose, TookOrCut}
 use Rattle.btest_cli.proofs.RunLemmas.{one_reading}
-use Rattle.promises.specs.Runs.{Asks, EndsWith, HoldsEach, Notes, Prints, Puts, PutsNothing, Run, files_of}
+use Rattle.promises.specs.Runs.{Asks, EndsWith, HoldsEach, NoReadFailed, Notes, Prints, Puts, PutsNothing, Run, files_of}
 use Rattle.promises.specs.Gives.{Gives}
 use Rattle.promises.specs.inner.Facts.{IsRun, SayOne, notes_of, out_of}
 use Rattle.promises.proofs.WordLemmas.{command_is}
@@ -43,14 +43,11 @@ module _ (run : Run) (is : IsRun run) (command : Command) (asks : Asks run comma
   pub here : (P : Command → Type 0) → IfSome (command_of run.words) P → P command
   here P all = subst (λ (c : Option Command). IfSome c P) (command_is run command asks) all
 
-  abbrev Unread : Type 0
-  Unread = (name : Text) → Contains (names_of command) name → Rose (run.old.unread name) (run.new.unread name) → ⊥
-
-  none_rose : Unread → SomeRose run.old.unread run.new.unread (names_of command) → ⊥
+  pub none_rose : NoReadFailed run command → SomeRose run.old.unread run.new.unread (names_of command) → ⊥
   none_rose calm rose = let one = some_rose run.old.unread run.new.unread (names_of command) rose in calm one.0 one.1 one.2
 
   -- what was read settles the status
-  pub settled : (reading : Reading) → known_reading run.old.held (wanted_of command) ≡ Some reading → Unread → (outcome : Result Text Text) × IsOutcome command reading outcome × Settles (Rose run.old.unwritten run.new.unwritten) outcome run.status
+  pub settled : (reading : Reading) → known_reading run.old.held (wanted_of command) ≡ Some reading → NoReadFailed run command → (outcome : Result Text Text) × IsOutcome command reading outcome × Settles (Rose run.old.unwritten run.new.unwritten) outcome run.status
   settled reading known calm =
       here (λ c. IsComplete run.old.held c (SomeRose run.old.unread run.new.unread (names_of c)) (Rose run.old.unwritten run.new.unwritten) run.status) is.complete reading known (none_rose calm)
 
@@ -94,16 +91,15 @@ module _ (run : Run) (is : IsRun run) (command : Command) (asks : Asks run comma
         cc
 
     -- a command that puts a text of which P holds
-    pub prints : (P : Text → Type 0) → ((line : Text) → Gives command texts (Err line) → ⊥) → ((text : Text) → Gives command texts (Ok text) → IsWorthFor command texts (out_of run.old) (out_of run.new) → Puts run text → P text) → Prints run command P
+    pub prints : (P : Text → Type 0) → ((line : Text) → Gives command texts (Err line) → ⊥) → ((text : Text) → Gives command texts (Ok text) → IsWorthFor command texts text → P text) → Prints run command P
     prints P sound worth = record {
       asks = λ e. (done_here e).asks;
       puts = λ e.
           let told = done_here e in
           let same = texts_are told.texts told.read in
           let gives = is_gives command texts (Ok told.text) (subst (λ (l : List Text). IsGiven command l (Ok told.text)) same told.gives) in
-          let is_worth = subst (λ (l : List Text). IsWorthFor command l (out_of run.old) (out_of run.new)) same told.worth in
-          let puts = out_taken run told.text told.takes in
-          (told.text, puts, worth told.text gives is_worth puts);
+          let is_worth = subst (λ (l : List Text). IsWorthFor command l told.text) same told.worth in
+          (told.text, out_taken run told.text told.takes, worth told.text gives is_worth);
       silent = λ e. nothing_noted run (is.silent e);
       ends = λ calm unread. let told = settled (Read texts) known unread in by_outcome calm told.0 told.1 told.2;
     }

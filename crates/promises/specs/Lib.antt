@@ -1,4 +1,5 @@
 pub mod Runs
 pub mod Gives
+pub mod Logs
 pub mod Promises
 pub mod inner

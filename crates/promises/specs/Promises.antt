@@ -1,5 +1,5 @@
 -- What each command promises, in the words of the board and of its model, and what each other status tells.
-use Rattle.std.specs.Prelude.{◌≡◌, ◌≢◌, ◌⊎◌, ◌↔◌, ℕ, ◌<◌, ◌≤◌, Bool, true, false, List, [], ◌∷◌, ◌++◌, length, map, sum, take, Option, Some, None, Ok, Err, AllPairs, Contains, Decides}
+use Rattle.std.specs.Prelude.{◌≡◌, ◌≢◌, ◌⊎◌, ◌↔◌, ℕ, ◌≤◌, Bool, true, false, List, [], ◌∷◌, ◌++◌, length, map, sum, take, Option, Some, Result, Ok, Err, AllPairs, Contains, Decides}
 use Rattle.bt_base.specs.Counts.{Rose}
 use Rattle.board_defs.specs.declared.board.RawBoard.{RawBoard}
 use Rattle.board_defs.specs.declared.device.RawDevice.{RawDevice}
@@ -15,7 +15,7 @@ use Rattle.tap_defs.specs.chain.Run.{Clock, Wiring, PassesOn, FailsOn}
 use Rattle.tap_defs.specs.chain.Svf.{meaning}
 use Rattle.tap_defs.specs.chain.TestLogic.{TestLogic}
 use Rattle.tap_defs.specs.board.BoardScans.{board_text, svf_row_scans, svf_scans}
-use Rattle.tap_defs.specs.board.Explaining.{AgreeOn, Explains, HasShape, IsExpected}
+use Rattle.tap_defs.specs.board.Explaining.{AgreeOn, Explains, IsExpected}
 use Rattle.tap_defs.specs.board.FaultSet.{FaultSet, no_faults, IsObservable, IsNonempty}
 use Rattle.tap_defs.specs.board.OnBoard.{PassOnBoard, FailOnBoard}
 use Rattle.tap_defs.specs.board.Quiet.{IsQuiet}
@@ -39,12 +39,12 @@ use Rattle.btest_core.specs.DevicesRead.{IsDeviceText}
 use Rattle.btest_core.specs.BoardRead.{AreChainLengths, AreLengths, Denotes}
 use Rattle.btest_core.specs.IdentsRead.{AreIdents}
 use Rattle.refusal_lines.specs.Refusals.{usage_line, long_line, read_line, write_line, memory_line}
-use Rattle.commands.specs.LogRead.{test_blocks, test_log, walk_log}
-use Rattle.command_line.specs.Words.{Text, ChainNames, BoardNames, Command, Chain, Ident, Device, Cover, Svf, Walk, Make, Diagnose, Groups, Batch, command_of, names_of}
+use Rattle.command_line.specs.Words.{Text, ChainNames, BoardNames, Command, Chain, Ident, Device, Cover, Svf, Walk, Make, Diagnose, Groups, Batch, names_of}
 use Rattle.btest_cli.specs.Texts.{Wanted}
 use Rattle.btest_cli.specs.declared.status.Status.TheVariants.{Done, Refused, Usage, ReadFault, WriteFault, NoMemory}
-use Rattle.promises.specs.Runs.{Run, Asks, RunsOn, Holds, HoldsEach, EndsWith, AsksFor, Puts, PutsNothing, Notes, Prints, files_of}
+use Rattle.promises.specs.Runs.{Run, Asks, AsksNothing, RunsOn, HoldsEach, IsTooLong, NoReadFailed, EndsWith, AsksFor, Puts, PutsNothing, Notes, Prints, files_of}
 use Rattle.promises.specs.Gives.{Gives, summary}
+use Rattle.promises.specs.Logs.{HoldsLog, HoldsBlocks}
 
 -- `chain`: the text has a meaning. It passes on every chain of parts with the instruction lengths of the files, and fails on every chain
 -- of one or more parts that has another number of parts and no more instruction bits, whatever the pins capture
@@ -102,47 +102,48 @@ pub record HasResponses (board : RawBoard) : Type 0 where
   pub some : (single : Single) → IsSingle board single → (log : List (List Bool)) × Explains board single log
   pub one : (single : Single) (log other : List (List Bool)) → Explains board single log → Explains board single other → AgreeOn board (svf_row_scans board) log other
 
--- the log has a row for each SDR statement that compares, with a bit for each position; it passes exactly where each compared bit is the
--- expected one, and then nothing explains it; and the faults are exactly the single faults that explain it, each once and in order
+-- the log passes exactly where each compared bit is the expected one, and then nothing explains it; and the faults are exactly the single
+-- faults that explain it, each once and in order
 pub record IsDiagnosed (board : RawBoard) (log : List (List Bool)) (pass : Bool) (faults : List Single) : Type 0 where
-  pub shape : HasShape board (svf_row_scans board) log
   pub passes : Decides pass (IsExpected board (svf_row_scans board) log)
   pub none : pass ≡ true → faults ≡ []
   pub exactly : (single : Single) → Contains faults single ↔ (IsSingle board single × Explains board single log)
   pub in_order : AllPairs SinglePrecedes faults
 
--- `diagnose`: the text says whether the log passes, and lists exactly the single faults that explain it
+-- `diagnose`: of every text that holds a log of the board's test, the text that is printed says whether the log passes, and lists exactly the
+-- single faults that explain it
 abbrev pub DiagnosesLog : Run → Type 0
 DiagnosesLog run =
     (workers : ℕ) (name : Text) (names : BoardNames) (log chain nets : Text) (bsdl : List Text) (board : RawBoard) (rows : List (List Bool)) →
-    RunsOn run (Diagnose workers name names) (log ∷ chain ∷ nets ∷ bsdl) → Denotes chain nets bsdl board → test_log log board ≡ Ok rows →
+    RunsOn run (Diagnose workers name names) (log ∷ chain ∷ nets ∷ bsdl) → Denotes chain nets bsdl board → HoldsLog board (svf_row_scans board) log rows →
     Prints run (Diagnose workers name names) (λ text. HasResponses board × (pass : Bool) × (faults : List Single) × IsDiagnosed board rows pass faults × (text ≡ diag_text board pass faults))
 
--- `batch`: the text has, for each block in order, its title and the diagnosis of its log by itself
+-- `batch`: of every text that holds blocks with logs of the board's test, the text that is printed has, for each block in order, its title and
+-- the diagnosis of its log by itself
 abbrev pub DiagnosesBlocks : Run → Type 0
 DiagnosesBlocks run =
     (workers : ℕ) (name : Text) (names : BoardNames) (logs chain nets : Text) (bsdl : List Text) (board : RawBoard) (blocks : List Block) →
-    RunsOn run (Batch workers name names) (logs ∷ chain ∷ nets ∷ bsdl) → Denotes chain nets bsdl board → test_blocks logs board ≡ Ok blocks →
+    RunsOn run (Batch workers name names) (logs ∷ chain ∷ nets ∷ bsdl) → Denotes chain nets bsdl board → HoldsBlocks board logs blocks →
     Prints run (Batch workers name names) (λ text. HasResponses board × (verdicts : List Verdict)
     × EachPair (λ block verdict. IsDiagnosed board block.log verdict.pass verdict.faults) blocks verdicts × (text ≡ batch_text board blocks verdicts))
 
--- `groups`: the log has a row for each SDR statement of the walking test that compares; the text names the one set of groups of nets that
--- walk of which, shorted so that a 1 wins, every run gives the log's compared bits, or says that there is none. Each set gives some log, and
--- all logs that it gives have the same compared bits
+-- `groups`: of every text that holds a log of the walking test, the text that is printed names the one set of groups of nets that walk of
+-- which, shorted so that a 1 wins, every run gives the log's compared bits, or says that there is none. Each set gives some log, and all logs
+-- that it gives have the same compared bits
 abbrev pub FindsGroups : Run → Type 0
 FindsGroups run =
     (name : Text) (names : BoardNames) (log chain nets : Text) (bsdl : List Text) (board : RawBoard) (rows : List (List Bool)) →
-    RunsOn run (Groups name names) (log ∷ chain ∷ nets ∷ bsdl) → Denotes chain nets bsdl board → walk_log log board ≡ Ok rows →
-    Prints run (Groups name names) (λ text. HasShape board (walk_row_list board) rows × (meaning (board_walk_text board) ≡ Some (test_clocks (walk_scans board)))
+    RunsOn run (Groups name names) (log ∷ chain ∷ nets ∷ bsdl) → Denotes chain nets bsdl board → HoldsLog board (walk_row_list board) log rows →
+    Prints run (Groups name names) (λ text. (meaning (board_walk_text board) ≡ Some (test_clocks (walk_scans board)))
     × (found : Option (List (List ℕ))) × (text ≡ groups_text board found) × ((groups : List (List ℕ)) → (found ≡ Some groups) ↔ Explain board rows groups)
     × ((groups : List (List ℕ)) → AreGroups board groups → (other : List (List Bool)) × Explain board other groups)
     × ((groups : List (List ℕ)) (one other : List (List Bool)) → Explain board one groups → Explain board other groups → AgreeOn board (walk_row_list board) one other))
 
--- Usage comes exactly where the words are in no command, unless memory ran out. The store is as it was
+-- Usage comes exactly where the words ask for no command, unless memory ran out. The store is as it was
 abbrev pub TellsUsage : Run → Type 0
 TellsUsage run =
-    (run.status ≡ Usage → (command_of run.words ≡ None) × PutsNothing run × Notes run usage_line)
-    × (command_of run.words ≡ None → ((run.status ≡ Usage) ⊎ (run.status ≡ NoMemory)) × (run.new.asked ≡ run.old.asked) × (run.new.unread ≡ run.old.unread) × (run.new.held ≡ run.old.held))
+    (run.status ≡ Usage → AsksNothing run × PutsNothing run × Notes run usage_line)
+    × (AsksNothing run → ((run.status ≡ Usage) ⊎ (run.status ≡ NoMemory)) × (run.new.asked ≡ run.old.asked) × (run.new.unread ≡ run.old.unread) × (run.new.held ≡ run.old.held))
 
 -- Refused comes exactly where the files have a first fault, unless a read of one failed or memory ran out, and its line is told
 abbrev pub TellsFault : Run → Type 0
@@ -155,18 +156,38 @@ TellsFault run =
 -- so it does where a file is longer than it may be, and no file behind it is asked for
 abbrev pub TellsLong : Run → Type 0
 TellsLong run =
-    (command : Command) (before after : List Wanted) (file : Wanted) (texts : List Text) (text : Text) → Asks run command → files_of command ≡ before ++ file ∷ after →
-    HoldsEach run.old.held before texts → Holds run.old.held file.name text → file.limit < length text →
-    (run.status ≡ Refused → AsksFor run (map (λ f. f.name) before ++ file.name ∷ []) × Notes run (long_line file.name file.limit))
+    (command : Command) (file : Wanted) → Asks run command → (long : IsTooLong run.old.held (files_of command) file) →
+    (run.status ≡ Refused → AsksFor run (map (λ f. f.name) long.before ++ file.name ∷ []) × Notes run (long_line file.name file.limit))
     × (run.status ≢ Done) × (run.status ≢ WriteFault) × EndsWith run command Refused
 
--- ReadFault comes only where the files before one were read and a read of that one failed; it is named, and none behind it is asked for
+-- what the files of a command give, where the store holds them: what their texts give, or else the line of the first that is too long
+abbrev pub FilesGive : Run → Command → Result Text Text → Type 0
+FilesGive run command outcome =
+    ((texts : List Text) × HoldsEach run.old.held (files_of command) texts × Gives command texts outcome)
+    ⊎ ((file : Wanted) × IsTooLong run.old.held (files_of command) file × (outcome ≡ Err (long_line file.name file.limit)))
+
+-- Done and WriteFault come only where the words ask for a command whose files give a text, and Refused only where they give a line
+abbrev pub RestsOnFiles : Run → Type 0
+RestsOnFiles run =
+    (run.status ≡ Done → (command : Command) × Asks run command × (text : Text) × FilesGive run command (Ok text) × Puts run text)
+    × (run.status ≡ WriteFault → (command : Command) × Asks run command × (text : Text) × FilesGive run command (Ok text) × (count : ℕ) × Puts run (take count text))
+    × (run.status ≡ Refused → (command : Command) × Asks run command × (line : Text) × FilesGive run command (Err line) × Notes run line)
+
+-- where the words ask for a command and no read of its files failed, its files give a text or a line, unless memory ran out; and texts that
+-- the store holds give one or the other
+abbrev pub FindsOutcome : Run → Type 0
+FindsOutcome run =
+    ((command : Command) → Asks run command → NoReadFailed run command → run.status ≢ NoMemory → (outcome : Result Text Text) × FilesGive run command outcome)
+    × ((command : Command) (texts : List Text) → RunsOn run command texts → NoReadFailed run command → (outcome : Result Text Text) × Gives command texts outcome)
+
+-- ReadFault comes only where a read of a file failed. It is named, those before it were asked for and none behind it, and a store that tells
+-- its files holds those before it
 abbrev pub TellsUnread : Run → Type 0
 TellsUnread run =
     run.status ≡ ReadFault → PutsNothing run
-    × ((command : Command) (held : Text → Option Text) → Asks run command → run.old.held ≡ Some held →
-    (before after : List Wanted) × (file : Wanted) × (texts : List Text) × (files_of command ≡ before ++ file ∷ after) × HoldsEach run.old.held before texts
-    × Rose (run.old.unread file.name) (run.new.unread file.name) × AsksFor run (map (λ f. f.name) before ++ file.name ∷ []) × Notes run (read_line file.name))
+    × ((command : Command) → Asks run command → (before after : List Wanted) × (file : Wanted) × (files_of command ≡ before ++ file ∷ after)
+    × Rose (run.old.unread file.name) (run.new.unread file.name) × AsksFor run (map (λ f. f.name) before ++ file.name ∷ []) × Notes run (read_line file.name)
+    × ((held : Text → Option Text) → run.old.held ≡ Some held → (texts : List Text) × HoldsEach run.old.held before texts))
 
 -- WriteFault comes only where a write of the output failed, and the output took some first bytes of the text
 abbrev pub TellsUnwritten : Run → Type 0

@@ -1,5 +1,5 @@
 -- One run of the program: its words, what it finds at its ends, and what it leaves there.
-use Rattle.std.specs.Prelude.{◌≡◌, ◌⊎◌, ℕ, ◌≤◌, true, List, [], ◌∷◌, ◌++◌, length, map, take, codes, Some, None, Contains, String, string_bytes}
+use Rattle.std.specs.Prelude.{◌≡◌, ◌⊎◌, ℕ, ◌<◌, ◌≤◌, true, List, [], ◌∷◌, ◌++◌, length, map, take, codes, Some, None, Contains, String, string_bytes}
 use Rattle.std.specs.List.{list_all}
 use Rattle.std.specs.declared.alloc.Global.{Global}
 use Rattle.bt_base.specs.declared.memory.MemSink.{MemSink}
@@ -68,6 +68,10 @@ AreWords (Batch workers log names) words = (number : Text) × (number_of 64 numb
 abbrev pub Asks : Run → Command → Type 0
 Asks run command = AreWords command run.words × (list_all is_plain run.words ≡ true)
 
+-- it has the words of none
+abbrev pub AsksNothing : Run → Type 0
+AsksNothing run = (command : Command) → Asks run command → ⊥
+
 -- files of these names, of which each may have 4 MiB
 abbrev pub texts_called : List Text → List Wanted
 texts_called names = map (λ name. record { name = name; limit = 4194304 }) names
@@ -91,14 +95,28 @@ HoldsEach held [] (text ∷ texts) = ⊥
 HoldsEach held (file ∷ files) [] = ⊥
 HoldsEach held (file ∷ files) (text ∷ texts) = Holds held file.name text × (length text ≤ file.limit) × HoldsEach held files texts
 
+-- the file is the first of these that is longer than it may be, and the store holds those before it
+pub record IsTooLong (held : Held) (files : List Wanted) (file : Wanted) : Type 0 where
+  pub before : List Wanted
+  pub after : List Wanted
+  pub are : files ≡ before ++ file ∷ after
+  pub texts : List Text
+  pub each : HoldsEach held before texts
+  pub text : Text
+  pub holds : Holds held file.name text
+  pub long : file.limit < length text
+
 -- the run is one of the command, for whose files the store holds these texts
 abbrev pub RunsOn : Run → Command → List Text → Type 0
 RunsOn run command texts = Asks run command × HoldsEach run.old.held (files_of command) texts
 
--- where no read of a file of the command failed, the run ends with this status, or memory ran out
+-- no read of a file of the command failed
+abbrev pub NoReadFailed : Run → Command → Type 0
+NoReadFailed run command = (name : Text) → Contains (names_of command) name → Rose (run.old.unread name) (run.new.unread name) → ⊥
+
+-- where no read failed, the run ends with this status, or memory ran out
 abbrev pub EndsWith : Run → Command → Status → Type 0
-EndsWith run command status =
-    ((name : Text) → Contains (names_of command) name → Rose (run.old.unread name) (run.new.unread name) → ⊥) → (run.status ≡ status) ⊎ (run.status ≡ NoMemory)
+EndsWith run command status = NoReadFailed run command → (run.status ≡ status) ⊎ (run.status ≡ NoMemory)
 
 -- the store was asked for these names, one after the other, and for no other
 abbrev pub AsksFor : Run → List Text → Type 0

@@ -1,13 +1,17 @@
 // A run on a store, an output and notes in memory.
 ghost use Rattle.promises.specs.Runs.{desk_run, ends_of, run_of};
-ghost use Rattle.promises.specs.inner.Facts.{IsRun, SayOne};
+ghost use Rattle.promises.specs.inner.Facts.{IsRun, LinesAreRead, SayOne};
 
+use batch_diag::law::blocks_stand_by_themselves;
+use board_defs::law::passes_kept;
 use bt_base::{Gate, MemSink, MemStore, Store};
 use btest_cli::{Status, run};
 use btest_core::law::{inputs_have_one_answer, inputs_keep_rules};
 use fault_sim::law::logs_have_one_diagnosis;
+use response_log::law::rows_are_the_lines;
 use std::alloc::Global;
 use std::thread::Threads;
+use tap_defs::board_law::{rows_compared, statements_compared};
 use walk_test::law::logs_have_one_set;
 
 /// What a run is given, and what it leaves.
@@ -58,4 +62,16 @@ pub(crate) fn run_on<R: Threads + Sync, S: Store, G: Gate>(
     logs_have_one_diagnosis();
     logs_have_one_set();
     run(rt, alloc, words, store, out, notes, gate)
+}
+
+/// Logs are read by their lines.
+pub(crate) fn lines_are_read()
+    ensures { LinesAreRead }
+{
+    inputs_keep_rules();
+    passes_kept();
+    rows_compared();
+    statements_compared();
+    rows_are_the_lines();
+    blocks_stand_by_themselves();
 }

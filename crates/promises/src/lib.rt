@@ -6,4 +6,4 @@ mod desk;
 mod promised;
 
 pub use desk::Desk;
-pub use promised::make;
+pub use promised::{make, read_fault};

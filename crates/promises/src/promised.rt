@@ -1,8 +1,8 @@
 // What the program promises, in the order of its commands and then of the other statuses.
 ghost use Rattle.promises.specs.Runs.{desk_run, ends_of, run_of};
-ghost use Rattle.promises.specs.Promises.{DiagnosesBlocks, DiagnosesLog, FindsGroups, ListsCover, ListsDevice, SumsUp, TellsFault, TellsLong, TellsMemory, TellsUnread, TellsUnwritten, TellsUsage, TestsBoard, TestsChain, TestsIdents, WalksBoard};
+ghost use Rattle.promises.specs.Promises.{DiagnosesBlocks, DiagnosesLog, FindsGroups, FindsOutcome, ListsCover, ListsDevice, RestsOnFiles, SumsUp, TellsFault, TellsLong, TellsMemory, TellsUnread, TellsUnwritten, TellsUsage, TestsBoard, TestsChain, TestsIdents, WalksBoard};
 
-use crate::desk::{Desk, run_on};
+use crate::desk::{Desk, lines_are_read, run_on};
 use bt_base::{Gate, MemSink, Store};
 use btest_cli::Status;
 use std::alloc::Global;
@@ -80,6 +80,7 @@ impl Desk {
     ) -> Status
         ensures { DiagnosesLog (desk_run words.now self.old self.new result) }
     {
+        lines_are_read();
         self.run(rt, words, gate)
     }
 
@@ -92,6 +93,7 @@ impl Desk {
     ) -> Status
         ensures { DiagnosesBlocks (desk_run words.now self.old self.new result) }
     {
+        lines_are_read();
         self.run(rt, words, gate)
     }
 
@@ -104,6 +106,7 @@ impl Desk {
     ) -> Status
         ensures { FindsGroups (desk_run words.now self.old self.new result) }
     {
+        lines_are_read();
         self.run(rt, words, gate)
     }
 
@@ -119,6 +122,20 @@ impl Desk {
         self.run(rt, words, gate)
     }
 
+    /// A text is printed only where the words ask for a command whose files give it, and a line told only where they give
+    /// that; and files that were read give one or the other.
+    pub fn outcome<R: Threads + Sync, G: Gate>(
+        &mut self,
+        rt: &R,
+        words: &[String],
+        gate: &G,
+    ) -> Status
+        ensures only { RestsOnFiles (desk_run words.now self.old self.new result) }
+        ensures some { FindsOutcome (desk_run words.now self.old self.new result) }
+    {
+        self.run(rt, words, gate)
+    }
+
     /// Files with a first fault, and they alone, are refused, by its line.
     pub fn refused<R: Threads + Sync, G: Gate>(
         &mut self,
@@ -128,18 +145,6 @@ impl Desk {
     ) -> Status
         ensures fault { TellsFault (desk_run words.now self.old self.new result) }
         ensures long { TellsLong (desk_run words.now self.old self.new result) }
-    {
-        self.run(rt, words, gate)
-    }
-
-    /// A file that was not read is named, and a read of it failed.
-    pub fn read_fault<R: Threads + Sync, G: Gate>(
-        &mut self,
-        rt: &R,
-        words: &[String],
-        gate: &G,
-    ) -> Status
-        ensures { TellsUnread (desk_run words.now self.old self.new result) }
     {
         self.run(rt, words, gate)
     }
@@ -180,6 +185,21 @@ pub fn make<R: Threads + Sync, S: Store, G: Gate>(
     gate: &G,
 ) -> Status
     ensures { SumsUp (run_of words.now (ends_of (S.held store.old) (S.asked store.old) (S.faults store.old) out.old notes.old) (ends_of (S.held store.new) (S.asked store.new) (S.faults store.new) out.new notes.new) result) }
+{
+    run_on(rt, alloc, words, store, out, notes, gate)
+}
+
+/// A file that was not read is named, and a read of it failed, whatever the store.
+pub fn read_fault<R: Threads + Sync, S: Store, G: Gate>(
+    rt: &R,
+    alloc: Global,
+    words: &[String],
+    store: &mut S,
+    out: &mut MemSink,
+    notes: &mut MemSink,
+    gate: &G,
+) -> Status
+    ensures { TellsUnread (run_of words.now (ends_of (S.held store.old) (S.asked store.old) (S.faults store.old) out.old notes.old) (ends_of (S.held store.new) (S.asked store.new) (S.faults store.new) out.new notes.new) result) }
 {
     run_on(rt, alloc, words, store, out, notes, gate)
 }

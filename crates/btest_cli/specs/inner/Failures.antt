@@ -63,7 +63,7 @@ pub record IsPut (command : Command) (texts : List Text) (old new : Shown) : Typ
   pub text : Text
   pub gives : IsGiven command texts (Ok text)
   pub takes : Takes old new text
-  pub worth : IsWorthFor command texts old new
+  pub worth : IsWorthFor command texts text
 
 -- why the text of these texts was not put whole
 abbrev pub IsUnput : Command → List Text → Shown → Shown → Unput → Type 0

@@ -10,6 +10,8 @@ use Rattle.command_line.specs.Words.{Text}
 use Rattle.batch_diag.specs.declared.fault.BatchFault.{BatchFault}
 use Rattle.batch_diag.specs.declared.fault.BatchFault.TheVariants as batch
 use Rattle.btest_core.specs.BoardRead.{IsBoardRead}
+use Rattle.commands.specs.Answers.{bytes_of}
+use Rattle.commands.specs.declared.texts.BoardTexts.{BoardTexts}
 use Rattle.commands.specs.declared.unput.Unput.{Unput}
 use Rattle.commands.specs.declared.unput.Unput.TheVariants as unput
 
@@ -35,6 +37,10 @@ NoBoard chain nets texts (unput.Log rows fault) = ⊥
 NoBoard chain nets texts (unput.Batch rows fault) = ⊥
 NoBoard chain nets texts unput.Write = ⊥
 NoBoard chain nets texts unput.Memory = Unit {0}
+
+-- the same of the texts as code has them
+abbrev pub NoBoardOf : BoardTexts → Unput → Type 0
+NoBoardOf texts failure = NoBoard texts.chain.now texts.nets.now (bytes_of texts.bsdl.now) failure
 
 -- why nothing is put where the texts have this fault
 abbrev pub unput_of : InputFault → Unput

@@ -1,19 +1,24 @@
--- The clauses of `run` as one fact on a run, and the laws that texts give one thing.
-use Rattle.std.specs.Prelude.{◌≡◌, ◌≢◌, ◌⊎◌, ℕ, List, Some, None, Result, IfSome}
+-- The clauses of `run` as one fact on a run, and the laws that texts give one thing and that logs are read by their lines.
+use Rattle.std.specs.Prelude.{◌≡◌, ◌≢◌, ◌⊎◌, ℕ, Bool, List, Some, None, Result, Ok, IfSome}
 use Rattle.bt_base.specs.Counts.{Rose}
 use Rattle.bt_base.specs.Puts.{Shown}
 use Rattle.board_defs.specs.declared.board.RawBoard.{RawBoard}
 use Rattle.board_defs.specs.declared.device.RawDevice.{RawDevice}
+use Rattle.tap_defs.specs.board.BoardScans.{svf_row_scans}
+use Rattle.batch_diag.specs.declared.block.Block.{Block}
+use Rattle.walk_test.specs.WalkTest.{walk_row_list}
 use Rattle.btest_core.specs.declared.fault.InputFault.{InputFault}
 use Rattle.btest_core.specs.DevicesRead.{IsDeviceText}
-use Rattle.btest_core.specs.BoardRead.{AreChainLengths, IsBoardRead}
+use Rattle.btest_core.specs.BoardRead.{AreChainLengths, Denotes, IsBoardRead}
 use Rattle.btest_core.specs.IdentsRead.{Ident, AreIdents}
 use Rattle.refusal_lines.specs.Refusals.{usage_line, write_line, memory_line}
+use Rattle.commands.specs.LogRead.{test_blocks, test_log, walk_log}
 use Rattle.command_line.specs.Words.{Text, Command, command_of, names_of}
 use Rattle.btest_cli.specs.Texts.{Reading}
 use Rattle.btest_cli.specs.Outcome.{AsksSome, IsComplete, IsCutShort, IsDone, IsNotRead, IsOutcome, IsRefused, SomeRose, TookOrCut}
 use Rattle.btest_cli.specs.declared.status.Status.TheVariants.{Done, Refused, Usage, ReadFault, WriteFault, NoMemory}
 use Rattle.promises.specs.Runs.{Ends, Run}
+use Rattle.promises.specs.Logs.{HoldsLog, HoldsBlocks}
 
 -- what the output and the notes show
 abbrev pub out_of : Ends → Shown
@@ -52,3 +57,9 @@ pub record SayOne : Type 0 where
   pub idents : (chain : Text) (texts : List Text) (a b : Result (List Ident) InputFault) → AreIdents chain texts a → AreIdents chain texts b → a ≡ b
   pub board : (chain nets : Text) (texts : List Text) (a b : Result RawBoard InputFault) → IsBoardRead chain nets texts a → IsBoardRead chain nets texts b → a ≡ b
   pub outcome : (command : Command) (reading : Reading) (a b : Result Text Text) → IsOutcome command reading a → IsOutcome command reading b → a ≡ b
+
+-- a text that holds a log of a board's test, one of its walking test or a batch by its lines is read as such
+pub record LinesAreRead : Type 0 where
+  pub test : (chain nets : Text) (texts : List Text) (board : RawBoard) (log : Text) (rows : List (List Bool)) → Denotes chain nets texts board → HoldsLog board (svf_row_scans board) log rows → test_log log board ≡ Ok rows
+  pub walk : (chain nets : Text) (texts : List Text) (board : RawBoard) (log : Text) (rows : List (List Bool)) → Denotes chain nets texts board → HoldsLog board (walk_row_list board) log rows → walk_log log board ≡ Ok rows
+  pub blocks : (chain nets : Text) (texts : List Text) (board : RawBoard) (logs : Text) (blocks : List Block) → Denotes chain nets texts board → HoldsBlocks board logs blocks → test_blocks logs board ≡ Ok blocks

@@ -19,21 +19,21 @@ returns-in-Device g c =
 pub returns-in-Cover : goal.returns-in-Cover
 returns-in-Cover g c =
     let told = cover_answered (board_view c.in-Cover.field-0) _ _ _ _ _ _ c.cover.ensures in
-    let all = subst (λ (texts : List Text). IsAnswered (Cover (board_view c.in-Cover.field-0)) texts (g.K.Sink.shown c.args.out.now) (g.K.Sink.shown c.cover.new.out) c.cover.result) (sym c.board_texts.ensures.texts) told in
+    let all = subst (λ (texts : List Text). IsAnswered (Cover (board_view c.in-Cover.field-0)) texts (g.K.Sink.shown c.args.out.now) (g.K.Sink.shown c.cover.new.out) c.cover.result) (sym c.board_texts.ensures) told in
     subst (λ (command : Command). IsAnswered command (map (λ text. text.items) c.args.texts.now) (g.K.Sink.shown c.args.out.now) (g.K.Sink.shown c.cover.new.out) c.cover.result)
     (sym (ap command_view c.in-Cover.is)) all
 
 pub returns-in-Svf : goal.returns-in-Svf
 returns-in-Svf g c =
     let told = svf_answered (board_view c.in-Svf.field-0) _ _ _ _ _ _ c.svf.ensures in
-    let all = subst (λ (texts : List Text). IsAnswered (Svf (board_view c.in-Svf.field-0)) texts (g.K.Sink.shown c.args.out.now) (g.K.Sink.shown c.svf.new.out) c.svf.result) (sym c.board_texts-in-Svf.ensures.texts) told in
+    let all = subst (λ (texts : List Text). IsAnswered (Svf (board_view c.in-Svf.field-0)) texts (g.K.Sink.shown c.args.out.now) (g.K.Sink.shown c.svf.new.out) c.svf.result) (sym c.board_texts-in-Svf.ensures) told in
     subst (λ (command : Command). IsAnswered command (map (λ text. text.items) c.args.texts.now) (g.K.Sink.shown c.args.out.now) (g.K.Sink.shown c.svf.new.out) c.svf.result)
     (sym (ap command_view c.in-Svf.is)) all
 
 pub returns-in-Walk : goal.returns-in-Walk
 returns-in-Walk g c =
     let told = walk_answered (board_view c.in-Walk.field-0) _ _ _ _ _ _ c.walk.ensures in
-    let all = subst (λ (texts : List Text). IsAnswered (Walk (board_view c.in-Walk.field-0)) texts (g.K.Sink.shown c.args.out.now) (g.K.Sink.shown c.walk.new.out) c.walk.result) (sym c.board_texts-in-Walk.ensures.texts) told in
+    let all = subst (λ (texts : List Text). IsAnswered (Walk (board_view c.in-Walk.field-0)) texts (g.K.Sink.shown c.args.out.now) (g.K.Sink.shown c.walk.new.out) c.walk.result) (sym c.board_texts-in-Walk.ensures) told in
     subst (λ (command : Command). IsAnswered command (map (λ text. text.items) c.args.texts.now) (g.K.Sink.shown c.args.out.now) (g.K.Sink.shown c.walk.new.out) c.walk.result)
     (sym (ap command_view c.in-Walk.is)) all
 
@@ -63,14 +63,14 @@ diagnosis-requires-clause-few g c = λ κs within. (subst (λ (command : Lent). 
 pub returns-in-Diagnose : goal.returns-in-Diagnose
 returns-in-Diagnose g c =
     let told = diagnose_answered c.in-Diagnose.workers c.in-Diagnose.log.now (board_view c.in-Diagnose.board) _ _ _ _ _ _ _ c.diagnosis.ensures in
-    let all = subst (λ (texts : List Text). IsAnswered (Diagnose c.in-Diagnose.workers c.in-Diagnose.log.now (board_view c.in-Diagnose.board)) texts (g.K.Sink.shown c.args.out.now) (g.K.Sink.shown c.diagnosis.new.out) c.diagnosis.result) (sym c.log_texts.ensures.texts) told in
+    let all = subst (λ (texts : List Text). IsAnswered (Diagnose c.in-Diagnose.workers c.in-Diagnose.log.now (board_view c.in-Diagnose.board)) texts (g.K.Sink.shown c.args.out.now) (g.K.Sink.shown c.diagnosis.new.out) c.diagnosis.result) (sym c.log_texts.ensures) told in
     subst (λ (command : Command). IsAnswered command (map (λ text. text.items) c.args.texts.now) (g.K.Sink.shown c.args.out.now) (g.K.Sink.shown c.diagnosis.new.out) c.diagnosis.result)
     (sym (ap command_view c.in-Diagnose.is)) all
 
 pub returns-in-Groups : goal.returns-in-Groups
 returns-in-Groups g c =
     let told = groups_answered c.in-Groups.log.now (board_view c.in-Groups.board) _ _ _ _ _ _ _ c.groups.ensures in
-    let all = subst (λ (texts : List Text). IsAnswered (Groups c.in-Groups.log.now (board_view c.in-Groups.board)) texts (g.K.Sink.shown c.args.out.now) (g.K.Sink.shown c.groups.new.out) c.groups.result) (sym c.log_texts-in-Groups.ensures.texts) told in
+    let all = subst (λ (texts : List Text). IsAnswered (Groups c.in-Groups.log.now (board_view c.in-Groups.board)) texts (g.K.Sink.shown c.args.out.now) (g.K.Sink.shown c.groups.new.out) c.groups.result) (sym c.log_texts-in-Groups.ensures) told in
     subst (λ (command : Command). IsAnswered command (map (λ text. text.items) c.args.texts.now) (g.K.Sink.shown c.args.out.now) (g.K.Sink.shown c.groups.new.out) c.groups.result)
     (sym (ap command_view c.in-Groups.is)) all
 
@@ -83,6 +83,6 @@ batch-requires-clause-few g c = λ κs within. (subst (λ (command : Lent). HasN
 pub returns-in-Batch : goal.returns-in-Batch
 returns-in-Batch g c =
     let told = batch_answered c.in-Batch.workers c.in-Batch.log.now (board_view c.in-Batch.board) _ _ _ _ _ _ _ c.batch.ensures in
-    let all = subst (λ (texts : List Text). IsAnswered (Batch c.in-Batch.workers c.in-Batch.log.now (board_view c.in-Batch.board)) texts (g.K.Sink.shown c.args.out.now) (g.K.Sink.shown c.batch.new.out) c.batch.result) (sym c.log_texts-in-Batch.ensures.texts) told in
+    let all = subst (λ (texts : List Text). IsAnswered (Batch c.in-Batch.workers c.in-Batch.log.now (board_view c.in-Batch.board)) texts (g.K.Sink.shown c.args.out.now) (g.K.Sink.shown c.batch.new.out) c.batch.result) (sym c.log_texts-in-Batch.ensures) told in
     subst (λ (command : Command). IsAnswered command (map (λ text. text.items) c.args.texts.now) (g.K.Sink.shown c.args.out.now) (g.K.Sink.shown c.batch.new.out) c.batch.result)
     (sym (ap command_view c.in-Batch.is)) all

@@ -7,10 +7,10 @@ use Rattle.commands.proofs.board_walk.walk.Goals as goal
 
 pub returns-in-Err : goal.returns-in-Err
 returns-in-Err g c =
-    no_board_answers c.args.texts.chain.now c.args.texts.nets.now (map (λ text. text.items) c.args.texts.bsdl.now) board_walk_text (WalksBoard c.args.texts.chain.now c.args.texts.nets.now (map (λ text. text.items) c.args.texts.bsdl.now) (g.K.Sink.shown c.args.out.now)) (g.K.Sink.shown c.args.out.now) c.in-Err.failure c.in-Err.ensures.none
+    no_board_answers c.args.texts.chain.now c.args.texts.nets.now (map (λ text. text.items) c.args.texts.bsdl.now) board_walk_text (WalksBoard c.args.texts.chain.now c.args.texts.nets.now (map (λ text. text.items) c.args.texts.bsdl.now)) (g.K.Sink.shown c.args.out.now) c.in-Err.failure c.in-Err.ensures.none
 
 pub returns : goal.returns
 returns g c =
     let board = c.in-Ok.walked.board in
-    text_answers (IsBoardRead c.args.texts.chain.now c.args.texts.nets.now (map (λ text. text.items) c.args.texts.bsdl.now)) board_walk_text (WalksBoard c.args.texts.chain.now c.args.texts.nets.now (map (λ text. text.items) c.args.texts.bsdl.now) (g.K.Sink.shown c.args.out.now)) board c.in-Ok.ensures.denoted (g.K.Sink.shown c.args.out.now) (g.K.Sink.shown c.put_walk.new.out) c.put_walk.result c.put_walk.ensures
-    (λ takes. record { board = board; denoted = c.in-Ok.ensures.denoted; text = board_walk_text board; harmless = c.is_harmless.ensures; takes = takes })
+    text_answers (IsBoardRead c.args.texts.chain.now c.args.texts.nets.now (map (λ text. text.items) c.args.texts.bsdl.now)) board_walk_text (WalksBoard c.args.texts.chain.now c.args.texts.nets.now (map (λ text. text.items) c.args.texts.bsdl.now)) board c.in-Ok.ensures.denoted (g.K.Sink.shown c.args.out.now) (g.K.Sink.shown c.put_walk.new.out) c.put_walk.result c.put_walk.ensures
+    (record { board = board; denoted = c.in-Ok.ensures.denoted; harmless = c.is_harmless.ensures })

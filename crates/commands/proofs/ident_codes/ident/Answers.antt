@@ -9,7 +9,7 @@ use Rattle.commands.proofs.AnswerLemmas.{answers_fault, text_answers}
 use Rattle.commands.proofs.ident_codes.ident.Goals as goal
 
 pub returns-in-Err : goal.returns-in-Err
-returns-in-Err g c = rw c.unput_by.ensures (answers_fault (AreIdents c.args.file.now (map (λ text. text.items) c.args.bsdl.now)) ident_text (TestsIdents c.args.file.now (map (λ text. text.items) c.args.bsdl.now) (g.K.Sink.shown c.args.out.now)) (g.K.Sink.shown c.args.out.now) c.in-Err.fault c.in-Err.ensures.read)
+returns-in-Err g c = rw c.unput_by.ensures (answers_fault (AreIdents c.args.file.now (map (λ text. text.items) c.args.bsdl.now)) ident_text (TestsIdents c.args.file.now (map (λ text. text.items) c.args.bsdl.now)) (g.K.Sink.shown c.args.out.now) c.in-Err.fault c.in-Err.ensures.read)
 
 pub returns : goal.returns
 returns g c =
@@ -17,4 +17,4 @@ returns g c =
     let puts = subst (λ (p : List (Option (List Symbol))). Puts (g.K.Sink.shown c.args.out.now) (g.K.Sink.shown c.write_ident-put.new.out) (ident_text p) c.write_ident-put.result) c.deref-2.ensures.value c.write_ident-put.ensures.text in
     let tests = subst (λ (p : List (Option (List Symbol))). IsIdentTest p (ident_text p)) c.deref.ensures.value c.tests_codes.ensures.tests in
     text_answers _ _ _ patterns c.in-Ok.ensures.read _ _ _ (c.answer_by.ensures _ _ _ puts)
-    (λ takes. record { patterns = patterns; are = c.in-Ok.ensures.read; bounds = record { some = c.in-Ok.ensures.count.0; few = c.in-Ok.ensures.count.1; whole = c.in-Ok.ensures.symbols }; text = ident_text patterns; tests = tests; takes = takes })
+    (record { patterns = patterns; are = c.in-Ok.ensures.read; bounds = record { some = c.in-Ok.ensures.count.0; few = c.in-Ok.ensures.count.1; whole = c.in-Ok.ensures.symbols }; tests = tests })

@@ -23,7 +23,7 @@ returns-in-Err g c =
     let faulty = subst (λ (n : ℕ). IfSome (batch_told c.in-Err.fault) (λ f. batch_of c.args.text.now (test_rows board) n ≡ Err f)) c.dr_bits.ensures counted in
     let wanted = c.rows-in-Err.ensures ∙ rows_are board c.args.planned.now.plan c.requires.plan c.requires.passes in
     rw c.unput_by_batch.ensures
-    (batch_wrong (OnBoard judging_each c.args.text.now board) (λ found. verdicts_text (board, found)) (DiagnosesEach c.args.text.now board (g.K.Sink.shown c.args.out.now)) (g.K.Sink.shown c.args.out.now) c.rows-in-Err.result (test_blocks c.args.text.now board) c.in-Err.fault faulty
+    (batch_wrong (OnBoard judging_each c.args.text.now board) (λ found. verdicts_text (board, found)) (DiagnosesEach c.args.text.now board) (g.K.Sink.shown c.args.out.now) c.rows-in-Err.result (test_blocks c.args.text.now board) c.in-Err.fault faulty
     (λ fault fails. record { cause = fault; fails = fails; is = ap (λ (n : ℕ). Batch n fault) wanted }))
 
 pub returns : goal.returns
@@ -40,6 +40,6 @@ returns g c =
     let of_blocks = subst (λ (b : List Block). Puts (g.K.Sink.shown c.args.out.now) (g.K.Sink.shown c.write_batch.new.out) (batch_text board b c.deref-3.result.now) c.write_batch.result) c.deref-2.ensures.value c.write_batch.ensures in
     let puts = subst (λ (v : List Verdict). Puts (g.K.Sink.shown c.args.out.now) (g.K.Sink.shown c.write_batch.new.out) (batch_text board blocks v) c.write_batch.result) c.deref-3.ensures.value of_blocks in
     let right = each_right c.explaining_listed.ensures c.passing_unexplained.ensures board c.raw-rules.ensures.rules blocks verdicts judged in
-    text_judged (OnBoard judging_each c.args.text.now board) (λ found. verdicts_text (board, found)) (DiagnosesEach c.args.text.now board (g.K.Sink.shown c.args.out.now)) (blocks, verdicts)
+    text_judged (OnBoard judging_each c.args.text.now board) (λ found. verdicts_text (board, found)) (DiagnosesEach c.args.text.now board) (blocks, verdicts)
     (record { contents = blocks; holds = read; finds = (refl, judged) }) _ _ _ (c.answer_by.ensures _ _ _ puts)
-    (λ takes. record { means = c.test_means.ensures (svf_row_scans board); respond = c.singles_respond.ensures; blocks = blocks; read = read; shapes = λ k d less. c.test_logs_shaped.ensures _ (size k d less); verdicts = verdicts; right = right; takes = takes })
+    (record { means = c.test_means.ensures (svf_row_scans board); respond = c.singles_respond.ensures; blocks = blocks; read = read; shapes = λ k d less. c.test_logs_shaped.ensures _ (size k d less); verdicts = verdicts; right = right; is = refl })

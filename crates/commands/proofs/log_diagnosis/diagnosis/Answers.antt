@@ -6,7 +6,7 @@ use Rattle.commands.proofs.log_diagnosis.diagnosis.Goals as goal
 
 pub returns-in-Err : goal.returns-in-Err
 returns-in-Err g c =
-    no_board_judged diagnosing diagnosis_text c.args.texts.log.items c.args.texts.board.chain.now c.args.texts.board.nets.now (map (λ text. text.items) c.args.texts.board.bsdl.now) (OfDenoted (Diagnoses c.args.texts.log.items) c.args.texts.board.chain.now c.args.texts.board.nets.now (map (λ text. text.items) c.args.texts.board.bsdl.now) (g.K.Sink.shown c.args.out.now)) (g.K.Sink.shown c.args.out.now) c.in-Err.failure c.in-Err.ensures.none
+    no_board_judged diagnosing diagnosis_text c.args.texts.log.items c.args.texts.board.chain.now c.args.texts.board.nets.now (map (λ text. text.items) c.args.texts.board.bsdl.now) (OfDenoted (Diagnoses c.args.texts.log.items) c.args.texts.board.chain.now c.args.texts.board.nets.now (map (λ text. text.items) c.args.texts.board.bsdl.now)) (g.K.Sink.shown c.args.out.now) c.in-Err.failure c.in-Err.ensures.none
 
 pub returns : goal.returns
 returns g c =

@@ -1,4 +1,4 @@
-use Rattle.std.proofs.Common.{◌≡◌, ◌∙◌, ℕ, List, ap, subst, sym}
+use Rattle.std.proofs.Common.{◌≡◌, ◌∙◌, ℕ, List, ap, refl, subst, sym}
 use Rattle.std.specs.Prelude.{IfSome, Ok, Err}
 use Rattle.bt_base.specs.Puts.{Puts}
 use Rattle.board_defs.specs.declared.fault.Single.{Single}
@@ -29,7 +29,7 @@ returns-in-Err g c =
     let faulty = subst (λ (n : ℕ). IfSome (log_told c.in-Err.fault) (λ f. log_rows c.args.text.items (test_rows board) n ≡ Err f)) c.dr_bits.ensures counted in
     let wanted = c.rows-in-Err.ensures ∙ rows_are board c.args.planned.now.plan c.requires.plan c.requires.passes in
     rw c.unput_by_log.ensures
-    (log_wrong (OnBoard diagnosing c.args.text.items board) (λ found. diagnosis_text (board, found)) (Diagnoses c.args.text.items board (g.K.Sink.shown c.args.out.now)) (g.K.Sink.shown c.args.out.now) c.rows-in-Err.result (test_log c.args.text.items board) c.in-Err.fault faulty
+    (log_wrong (OnBoard diagnosing c.args.text.items board) (λ found. diagnosis_text (board, found)) (Diagnoses c.args.text.items board) (g.K.Sink.shown c.args.out.now) c.rows-in-Err.result (test_log c.args.text.items board) c.in-Err.fault faulty
     (λ fault fails. record { cause = fault; fails = fails; is = ap (λ (n : ℕ). Log n fault) wanted }))
 
 pub returns : goal.returns
@@ -47,6 +47,6 @@ returns g c =
     let size = subst (λ (n : ℕ). HasSize (test_rows board) n rows) c.dr_bits.ensures sized in
     let puts = subst (λ (listed : List Single). Puts (g.K.Sink.shown c.args.out.now) (g.K.Sink.shown c.write_diagnosis.new.out) (diag_text board pass listed) c.write_diagnosis.result) c.deref-3.ensures.value c.write_diagnosis.ensures in
     let right = is_right c.explaining_listed.ensures c.passing_unexplained.ensures board c.raw-rules.ensures.rules rows pass faults passes explaining in
-    text_judged (OnBoard diagnosing c.args.text.items board) (λ found. diagnosis_text (board, found)) (Diagnoses c.args.text.items board (g.K.Sink.shown c.args.out.now)) (pass, faults)
+    text_judged (OnBoard diagnosing c.args.text.items board) (λ found. diagnosis_text (board, found)) (Diagnoses c.args.text.items board) (pass, faults)
     (record { contents = rows; holds = read; finds = record { passes = passes; list = explaining } }) _ _ _ (c.answer_by.ensures _ _ _ puts)
-    (λ takes. record { means = c.test_means.ensures (svf_row_scans board); respond = c.singles_respond.ensures; rows = rows; read = read; shape = c.test_logs_shaped.ensures rows size; pass = pass; faults = faults; right = right; takes = takes })
+    (record { means = c.test_means.ensures (svf_row_scans board); respond = c.singles_respond.ensures; rows = rows; read = read; shape = c.test_logs_shaped.ensures rows size; pass = pass; faults = faults; right = right; is = refl })

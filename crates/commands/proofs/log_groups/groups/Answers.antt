@@ -6,7 +6,7 @@ use Rattle.commands.proofs.log_groups.groups.Goals as goal
 
 pub returns-in-Err : goal.returns-in-Err
 returns-in-Err g c =
-    no_board_judged grouping grouping_text c.args.texts.log.items c.args.texts.board.chain.now c.args.texts.board.nets.now (map (λ text. text.items) c.args.texts.board.bsdl.now) (OfDenoted (FindsGroups c.args.texts.log.items) c.args.texts.board.chain.now c.args.texts.board.nets.now (map (λ text. text.items) c.args.texts.board.bsdl.now) (g.K.Sink.shown c.args.out.now)) (g.K.Sink.shown c.args.out.now) c.in-Err.failure c.in-Err.ensures.none
+    no_board_judged grouping grouping_text c.args.texts.log.items c.args.texts.board.chain.now c.args.texts.board.nets.now (map (λ text. text.items) c.args.texts.board.bsdl.now) (OfDenoted (FindsGroups c.args.texts.log.items) c.args.texts.board.chain.now c.args.texts.board.nets.now (map (λ text. text.items) c.args.texts.board.bsdl.now)) (g.K.Sink.shown c.args.out.now) c.in-Err.failure c.in-Err.ensures.none
 
 pub returns : goal.returns
 returns g c =

@@ -1,4 +1,4 @@
-use Rattle.std.proofs.Common.{◌≡◌, ◌∙◌, ℕ, List, Option, ap, length, subst}
+use Rattle.std.proofs.Common.{◌≡◌, ◌∙◌, ℕ, List, Option, ap, length, refl, subst}
 use Rattle.std.specs.Prelude.{IfSome, Ok, Err, option_map}
 use Rattle.bt_base.specs.Puts.{Puts}
 use Rattle.response_log.specs.LogRows.{HasSize, log_rows, log_told}
@@ -17,7 +17,7 @@ returns-in-Err g c =
     let counted = subst (λ (n : ℕ). IfSome (log_told c.in-Err.fault) (λ f. log_rows c.args.text.items n c.dr_bits.result ≡ Err f)) count c.in-Err.ensures.read in
     let faulty = subst (λ (n : ℕ). IfSome (log_told c.in-Err.fault) (λ f. log_rows c.args.text.items (walk_rows board) n ≡ Err f)) c.dr_bits.ensures counted in
     rw c.unput_by_log.ensures
-    (log_wrong (OnBoard grouping c.args.text.items board) (λ found. grouping_text (board, found)) (FindsGroups c.args.text.items board (g.K.Sink.shown c.args.out.now)) (g.K.Sink.shown c.args.out.now) (length c.nets.result.now) (walk_log c.args.text.items board) c.in-Err.fault faulty
+    (log_wrong (OnBoard grouping c.args.text.items board) (λ found. grouping_text (board, found)) (FindsGroups c.args.text.items board) (g.K.Sink.shown c.args.out.now) (length c.nets.result.now) (walk_log c.args.text.items board) c.in-Err.fault faulty
     (λ fault fails. record { cause = fault; fails = fails; is = ap (λ (n : ℕ). Log n fault) count }))
 
 pub returns : goal.returns
@@ -32,9 +32,9 @@ returns g c =
     let size = subst (λ (n : ℕ). HasSize (walk_rows board) n rows) c.dr_bits.ensures sized in
     let found : Option (List (List ℕ)) = option_map (λ groups. groups.items) c.in-Ok-groups.found in
     let puts = subst (λ (o : Option (List (List ℕ))). Puts (g.K.Sink.shown c.args.out.now) (g.K.Sink.shown c.write_groups.new.out) (groups_text board o) c.write_groups.result) c.lent.ensures c.write_groups.ensures in
-    text_judged (OnBoard grouping c.args.text.items board) (λ found. grouping_text (board, found)) (FindsGroups c.args.text.items board (g.K.Sink.shown c.args.out.now)) found
+    text_judged (OnBoard grouping c.args.text.items board) (λ found. grouping_text (board, found)) (FindsGroups c.args.text.items board) found
     (record { contents = rows; holds = read; finds = c.in-Ok-groups.ensures.found }) _ _ _ (c.answer_by.ensures _ _ _ puts)
-    (λ takes. record {
+    (record {
       means = c.test_means.ensures (walk_row_list board);
       rows = rows;
       read = read;
@@ -43,5 +43,5 @@ returns g c =
       exactly = exactly_found c.one_set.ensures board rules rows found c.in-Ok-groups.ensures.found;
       respond = λ groups are. c.groups_respond.ensures.some board groups rules are;
       one = λ groups one other first second. c.groups_respond.ensures.one board groups one other rules first second;
-      takes = takes;
+      is = refl;
     })

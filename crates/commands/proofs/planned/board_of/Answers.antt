@@ -1,6 +1,6 @@
 use Rattle.std.proofs.Common.{map}
 use Rattle.commands.proofs.AnswerLemmas.{no_board}
-use Rattle.commands.proofs.planned.planned_board.Goals as goal
+use Rattle.commands.proofs.planned.board_of.Goals as goal
 
 pub returns-in-Err-clause-none : goal.returns-in-Err-clause-none
 returns-in-Err-clause-none c =

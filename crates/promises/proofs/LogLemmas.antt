@@ -1,0 +1,57 @@
+-- Logs are read by their lines.
+use Rattle.std.proofs.Common.{◌≡◌, ◌↔◌, ℕ, ◌*◌, Bool, List, [], ◌∷◌, length, Ok}
+use Rattle.std.specs.Prelude.{All, count_by}
+use Rattle.board_defs.specs.declared.board.Ctl.{Ctl}
+use Rattle.board_defs.specs.declared.board.RawBoard.{RawBoard}
+use Rattle.board_defs.specs.BoardRules.{IsBoard}
+use Rattle.board_defs.specs.Passes.{ArePasses, passes_of}
+use Rattle.board_defs.specs.Pins.{data_bits}
+use Rattle.tap_defs.specs.board.TestRows.{code_row, code_width, observed_count}
+use Rattle.tap_defs.specs.board.BoardScans.{RowScan, board_scans, is_walked, row_scans, svf_row_scans, walk_row, walk_row_scans}
+use Rattle.tap_defs.specs.board.Explaining.{CompareRows, HasShape, compared_scans, is_compared}
+use Rattle.response_log.specs.LogRows.{IsLogOf, log_rows}
+use Rattle.batch_diag.specs.declared.block.Block.{Block}
+use Rattle.batch_diag.specs.OwnTexts.{BlockText, BlocksByThemselves, HoldsBlock as HoldsLogRows, own_text}
+use Rattle.batch_diag.specs.Verdicts.{EachPair}
+use Rattle.walk_test.specs.WalkTest.{walk_row_list}
+use Rattle.btest_core.specs.BoardRead.{Denotes}
+use Rattle.commands.specs.LogRead.{test_log, test_rows, walk_log}
+use Rattle.commands.proofs.ShapeLemmas.{walk_sized}
+use Rattle.command_line.specs.Words.{Text}
+use Rattle.promises.specs.Logs.{HoldsBlock, HoldsLog}
+use Rattle.promises.specs.inner.Facts.{LinesAreRead}
+
+module _ (are_lines : (text : List ℕ) (rows len : ℕ) (log : List (List Bool)) → (log_rows text rows len ≡ Ok log) ↔ IsLogOf text rows len log) (by_themselves : BlocksByThemselves)
+    (rules_of : (chain nets : Text) (texts : List Text) (board : RawBoard) → Denotes chain nets texts board → IsBoard board) (kept : (board : RawBoard) → IsBoard board → ArePasses board (passes_of board))
+    (shape : (board : RawBoard) (passes : List (List Ctl)) (width : ℕ) (log : List (List Bool)) → IsBoard board → ArePasses board passes → HasShape board (row_scans (code_row board passes) width passes) log ↔ ((length log ≡ length passes * width) × All (λ row. length row ≡ data_bits board) log))
+    (compare : (board : RawBoard) (walk : List Ctl) → IsBoard board → CompareRows (walk_row board) (count_by (is_walked board walk) board.nets) (walk ∷ []) (compared_scans board (walk_row_scans board walk)))
+    (counted : (board : RawBoard) (scans : List RowScan) → count_by is_compared (board_scans board scans) ≡ length (compared_scans board scans)) where
+  -- of so many rows, which the shape counts
+  is_read : (board : RawBoard) (scans : List RowScan) (count : ℕ) (log : Text) (rows : List (List Bool)) → HoldsLog board scans log rows → length rows ≡ count → log_rows log count (data_bits board) ≡ Ok rows
+  is_read board scans count log rows holds number = (are_lines log count (data_bits board) rows).1 (record { lines = holds.lines; count = number })
+
+  test_count : (board : RawBoard) → IsBoard board → (rows : List (List Bool)) → HasShape board (svf_row_scans board) rows → length rows ≡ test_rows board
+  test_count board rules rows shaped = ((shape board (passes_of board) (code_width (observed_count board (passes_of board))) rows rules (kept board rules)).0 shaped).0
+
+  read_test : (board : RawBoard) → IsBoard board → (log : Text) (rows : List (List Bool)) → HoldsLog board (svf_row_scans board) log rows → test_log log board ≡ Ok rows
+  read_test board rules log rows holds = is_read board (svf_row_scans board) (test_rows board) log rows holds (test_count board rules rows holds.shape)
+
+  read_walk : (board : RawBoard) → IsBoard board → (log : Text) (rows : List (List Bool)) → HoldsLog board (walk_row_list board) log rows → walk_log log board ≡ Ok rows
+  read_walk board rules log rows holds =
+      is_read board (walk_row_list board) _ log rows holds (walk_sized board (λ walk. compare board walk rules) (counted board) rows holds.shape).rows
+
+  read_each : (board : RawBoard) → IsBoard board → (texts : List BlockText) (blocks : List Block) → EachPair (HoldsBlock board) texts blocks → EachPair (HoldsLogRows (test_rows board) (data_bits board)) texts blocks
+  read_each board rules [] [] each = tt
+  read_each board rules [] (block ∷ blocks) each = absurd each
+  read_each board rules (text ∷ texts) [] each = absurd each
+  read_each board rules (text ∷ texts) (block ∷ blocks) (holds, each) =
+      (record { words = holds.title; id = holds.id; log = read_test board rules (own_text text) block.log holds.log }, read_each board rules texts blocks each)
+
+  pub lines_read : LinesAreRead
+  lines_read = record {
+    test = λ chain nets texts board log rows denotes holds. read_test board (rules_of chain nets texts board denotes) log rows holds;
+    walk = λ chain nets texts board log rows denotes holds. read_walk board (rules_of chain nets texts board denotes) log rows holds;
+    blocks = λ chain nets texts board logs blocks denotes holds.
+        (by_themselves logs (test_rows board) (data_bits board) blocks).1
+        (record { front = holds.front; texts = holds.texts; cut = holds.cut; each = read_each board (rules_of chain nets texts board denotes) holds.texts blocks holds.each });
+  }

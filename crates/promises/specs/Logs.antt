@@ -1,0 +1,31 @@
+-- What a text of logs holds, by its lines.
+use Rattle.std.specs.Prelude.{◌≡◌, Bool, true, List, [], ◌∷◌, map, Some, codes}
+use Rattle.board_defs.specs.declared.board.RawBoard.{RawBoard}
+use Rattle.board_defs.specs.Pins.{data_bits}
+use Rattle.tap_defs.specs.board.BoardScans.{RowScan, svf_row_scans}
+use Rattle.tap_defs.specs.board.Explaining.{HasShape}
+use Rattle.text_lines.specs.Words.{is_word, words_of}
+use Rattle.response_log.specs.LogRows.{bits_of_line, row_lines}
+use Rattle.batch_diag.specs.declared.block.Block.{Block}
+use Rattle.batch_diag.specs.OwnTexts.{BlockText, IsCutTo, own_text}
+use Rattle.batch_diag.specs.Verdicts.{EachPair}
+use Rattle.command_line.specs.Words.{Text}
+
+-- the lines with words are these rows, each as one word: the hexadecimal digits of a bit for each position of a scan of data. There is a
+-- row for each SDR statement of these scans that compares, in their order
+pub record HoldsLog (board : RawBoard) (scans : List RowScan) (text : Text) (rows : List (List Bool)) : Type 0 where
+  pub lines : map (bits_of_line (data_bits board)) (row_lines text) ≡ map Some rows
+  pub shape : HasShape board scans rows
+
+-- the title names the board of the block, and the lines below it, as a text by themselves, hold a log of the board's test
+pub record HoldsBlock (board : RawBoard) (text : BlockText) (block : Block) : Type 0 where
+  pub title : words_of text.title ≡ codes "BOARD" ∷ block.id ∷ []
+  pub id : is_word block.id ≡ true
+  pub log : HoldsLog board (svf_row_scans board) (own_text text) block.log
+
+-- the text is lines without words and then these blocks, each from its title up to the next one
+pub record HoldsBlocks (board : RawBoard) (text : Text) (blocks : List Block) : Type 0 where
+  pub front : List Text
+  pub texts : List BlockText
+  pub cut : IsCutTo text front texts
+  pub each : EachPair (HoldsBlock board) texts blocks
