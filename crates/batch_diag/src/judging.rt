@@ -2,7 +2,7 @@
 ghost use Rattle.std.specs.Prelude.{◌≡◌, ◌+◌, ◌<◌, ◌≤◌, ◌++◌, [], ◌∷◌, length, All, IfOk, IsOkAnd};
 ghost use Rattle.std.specs.Thread.{IsSync};
 ghost use Rattle.board_defs.specs.Passes.{passes_of};
-ghost use Rattle.plan_tables.specs.Plans.{IsPlanOf};
+ghost use Rattle.scan_planner.specs.Plans.{IsPlanOf};
 ghost use Rattle.diagnoser.specs.Diagnosis.{IsNamed};
 ghost use Rattle.fault_sim.specs.Diagnosis.{IsDiagnosis};
 ghost use Rattle.fault_sim.specs.Kept.{IsBoardTest, IsLogged};

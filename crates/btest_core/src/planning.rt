@@ -2,7 +2,7 @@
 ghost use Rattle.std.specs.Prelude.{◌≡◌, IfOk};
 ghost use Rattle.board_defs.specs.Passes.{passes_of};
 ghost use Rattle.net_classes.specs.Kept.{AreClasses};
-ghost use Rattle.plan_tables.specs.Plans.{IsPlanOf};
+ghost use Rattle.scan_planner.specs.Plans.{IsPlanOf};
 
 use board_defs::Board;
 use board_defs::law::terms_decided;

@@ -9,8 +9,7 @@ use Rattle.tap_defs.specs.board.BoardScans.{AreTestScans, pass_text, svf_scans, 
 use Rattle.tap_defs.specs.board.TestRows.{code_width, observed_count}
 use Rattle.coverage_list.specs.CoverText.{covered}
 use Rattle.plan_tables.specs.declared.tables.PlanTables.{PlanTables}
-use Rattle.plan_tables.specs.Plans.{IsPlanOf}
-use Rattle.scan_planner.specs.Plans.{scan_count}
+use Rattle.scan_planner.specs.Plans.{IsPlanOf, scan_count}
 use Rattle.commands.specs.Summary.{counts_line, summary_text}
 use Rattle.commands.proofs.TestLemmas.{plan_text}
 

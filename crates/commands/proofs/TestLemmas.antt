@@ -12,7 +12,7 @@ use Rattle.tap_defs.specs.chain.Text.{scan_text, scan_texts}
 use Rattle.tap_defs.specs.board.TestRows.{code_width, observed_count}
 use Rattle.tap_defs.specs.board.BoardScans.{AreTestScans, board_text, pass_text, test_scans}
 use Rattle.plan_tables.specs.declared.tables.PlanTables.{PlanTables}
-use Rattle.plan_tables.specs.Plans.{IsPlanOf}
+use Rattle.scan_planner.specs.Plans.{IsPlanOf}
 use Rattle.command_line.specs.Words.{Text}
 use Rattle.commands.specs.LogRead.{test_rows}
 

@@ -1,7 +1,7 @@
 // The command `batch`.
 ghost use Rattle.std.specs.Prelude.{◌≡◌, ◌<◌, ◌≤◌, ◌^◌, length};
 ghost use Rattle.board_defs.specs.Passes.{passes_of};
-ghost use Rattle.plan_tables.specs.Plans.{IsPlanOf};
+ghost use Rattle.scan_planner.specs.Plans.{IsPlanOf};
 ghost use Rattle.commands.specs.LogRead.{judging_each, verdicts_text};
 ghost use Rattle.commands.specs.Worth.{DiagnosesEach};
 ghost use Rattle.commands.specs.Answers.{AnswersOn, JudgedAnswers};

@@ -1,7 +1,7 @@
 // The command `diagnose`.
 ghost use Rattle.std.specs.Prelude.{◌≡◌, ◌<◌, ◌≤◌, ◌^◌, length};
 ghost use Rattle.board_defs.specs.Passes.{passes_of};
-ghost use Rattle.plan_tables.specs.Plans.{IsPlanOf};
+ghost use Rattle.scan_planner.specs.Plans.{IsPlanOf};
 ghost use Rattle.commands.specs.LogRead.{diagnosing, diagnosis_text};
 ghost use Rattle.commands.specs.Worth.{Diagnoses};
 ghost use Rattle.commands.specs.Answers.{AnswersOn, JudgedAnswers};

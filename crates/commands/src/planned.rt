@@ -1,7 +1,7 @@
 // The board that texts denote, with the plan of its test.
 ghost use Rattle.std.specs.Prelude.{◌≡◌, Ok, IfOk, IfErr};
 ghost use Rattle.board_defs.specs.Passes.{passes_of};
-ghost use Rattle.plan_tables.specs.Plans.{IsPlanOf};
+ghost use Rattle.scan_planner.specs.Plans.{IsPlanOf};
 ghost use Rattle.commands.specs.Answers.{IsBoardOf};
 ghost use Rattle.commands.specs.inner.Unput.{NoBoardOf};
 

@@ -18,7 +18,7 @@ use Rattle.tap_defs.specs.board.TestRows.{TestRow, code_row, first_enabled}
 use Rattle.tap_defs.specs.board.SingleBits.{driven_to, pulled_to, shorted, shorted_nets_bit, is_place, single_bit}
 use Rattle.plan_tables.specs.declared.nets.NetDriver.{NetDriver}
 use Rattle.plan_tables.specs.declared.tables.PlanTables.{PlanTables}
-use Rattle.plan_tables.specs.Plans.{IsPlanOf}
+use Rattle.scan_planner.specs.Plans.{IsPlanOf}
 use Rattle.fault_sim.specs.declared.effect.Effect.TheVariants.{Plain, Constant, AtPin}
 use Rattle.fault_sim.specs.Effects.{feed_bit, driver_in, place_of_driver, pull_in, net_feed, open_effect, short_effect, effect_of, effect_in, effect_bit}
 use Rattle.fault_sim.specs.inner.Effects.{fault_bit}

@@ -29,7 +29,7 @@ use Rattle.tap_defs.specs.board.SingleBits.{single_bit}
 use Rattle.tap_defs.specs.board.TestRows.{code_row, code_width, observed_count, is_observed}
 use Rattle.tap_defs.proofs.board.ScanPlaceLemmas.{front_at, rest_at}
 use Rattle.plan_tables.specs.declared.tables.PlanTables.{PlanTables}
-use Rattle.plan_tables.specs.Plans.{IsPlanOf}
+use Rattle.scan_planner.specs.Plans.{IsPlanOf}
 use Rattle.plan_tables.proofs.ListLemmas.{all_has, some_at}
 use Rattle.fault_sim.specs.declared.effect.Effect.{Effect}
 use Rattle.fault_sim.specs.declared.effect.Effect.TheVariants.{Plain, Constant}

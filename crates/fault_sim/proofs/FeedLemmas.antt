@@ -32,7 +32,7 @@ use Rattle.plan_tables.specs.declared.tables.PlanTables.{PlanTables}
 use Rattle.plan_tables.specs.Tables.{first_position}
 use Rattle.plan_tables.specs.inner.Laid.{laid, steady}
 use Rattle.plan_tables.specs.Building.{is_on, enabled_in, drivers_of, drivers_of_pins, readers_of, is_read_beside}
-use Rattle.plan_tables.specs.Plans.{IsPlanOf}
+use Rattle.scan_planner.specs.Plans.{IsPlanOf}
 use Rattle.plan_tables.proofs.LaidLemmas.{tdi_laid, laid_at, laid_same}
 use Rattle.plan_tables.proofs.HeldLemmas.{quiet_steady, controls_any}
 use Rattle.plan_tables.proofs.PinLemmas.{Standing, standing, Drives, drives_by, entry_on, driving_cell_is}

@@ -15,7 +15,7 @@ use Rattle.tap_defs.specs.board.BoardScans.{RowScan, svf_row_scans}
 use Rattle.tap_defs.specs.board.Explaining.{CompareRows, HasShape, Explains, IsExpected, ShowsBits, compared_scans}
 use Rattle.tap_defs.specs.board.SingleBits.{single_bit}
 use Rattle.plan_tables.specs.declared.tables.PlanTables.{PlanTables}
-use Rattle.plan_tables.specs.Plans.{IsPlanOf}
+use Rattle.scan_planner.specs.Plans.{IsPlanOf}
 use Rattle.fault_sim.specs.inner.Effects.{fault_bit, first_net, second_net}
 use Rattle.fault_sim.specs.Fits.{ShowsAll}
 use Rattle.fault_sim.proofs.EffectLemmas.{IsFault}

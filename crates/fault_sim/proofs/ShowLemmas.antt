@@ -30,7 +30,7 @@ use Rattle.plan_tables.specs.declared.tables.ReaderCell.{ReaderCell}
 use Rattle.plan_tables.specs.declared.tables.PlanTables.{PlanTables}
 use Rattle.plan_tables.specs.Tables.{first_position, IsReaderCell}
 use Rattle.plan_tables.specs.Building.{is_read_beside, enabled_in, drivers_of_pins}
-use Rattle.plan_tables.specs.Plans.{IsPlanOf}
+use Rattle.scan_planner.specs.Plans.{IsPlanOf}
 use Rattle.plan_tables.proofs.LaidLemmas.{laid_at}
 use Rattle.plan_tables.proofs.PinLemmas.{Standing, standing, on_self, reading_entry_is, Reads, reads_by}
 use Rattle.plan_tables.proofs.ListLemmas.{some_at}

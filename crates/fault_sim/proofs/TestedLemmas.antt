@@ -34,7 +34,7 @@ use Rattle.plan_tables.specs.declared.tables.PlanTables.{PlanTables}
 use Rattle.plan_tables.specs.Assigned.{assigned}
 use Rattle.plan_tables.specs.Tables.{first_position}
 use Rattle.plan_tables.specs.Building.{enabled_in, drivers_of_pins, is_read_beside}
-use Rattle.plan_tables.specs.Plans.{IsPlanOf}
+use Rattle.scan_planner.specs.Plans.{IsPlanOf}
 use Rattle.plan_tables.proofs.AssignLemmas.{assigned_groups, has_mark, mark_has, length-assigned}
 use Rattle.plan_tables.proofs.TableLemmas.{FirstOn, reader_is, is_reader}
 use Rattle.fault_sim.specs.Effects.{driver_in, readers_in, code_in}

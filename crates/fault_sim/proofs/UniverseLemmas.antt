@@ -12,7 +12,7 @@ use Rattle.board_defs.specs.Passes.{ArePasses, pairs_within}
 use Rattle.board_defs.proofs.Members.{Has, has_at, has_append, map_has, filter_has, enumerate_has, Apart, pairs_within_has}
 use Rattle.board_defs.proofs.Ordered.{InOrder, order_filter, order_enumerate}
 use Rattle.plan_tables.specs.declared.tables.PlanTables.{PlanTables}
-use Rattle.plan_tables.specs.Plans.{IsPlanOf}
+use Rattle.scan_planner.specs.Plans.{IsPlanOf}
 use Rattle.fault_sim.specs.declared.fault_lists.FaultLists.{FaultLists}
 use Rattle.fault_sim.specs.Places.{placed, pair_places, stuck_places, open_places, places_of, IsUniverse, number_places, listed_places}
 use Rattle.fault_sim.proofs.TestedLemmas.{paired_in_is}

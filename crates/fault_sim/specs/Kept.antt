@@ -7,8 +7,7 @@ use Rattle.tap_defs.specs.chain.Scan.{joined, tdo_bits, mask_bits}
 use Rattle.tap_defs.specs.board.BoardScans.{row_bits}
 use Rattle.plan_tables.specs.declared.nets.NetDriver.{NetDriver}
 use Rattle.plan_tables.specs.declared.tables.PlanTables.{PlanTables}
-use Rattle.plan_tables.specs.Plans.{IsPlanOf}
-use Rattle.scan_planner.specs.Plans.{scan_of_pass}
+use Rattle.scan_planner.specs.Plans.{IsPlanOf, scan_of_pass}
 use Rattle.fault_sim.specs.declared.board_test.BoardTest.{BoardTest}
 use Rattle.fault_sim.specs.declared.board_test.LoggedTest.{LoggedTest}
 use Rattle.fault_sim.specs.declared.feed.EnabledDriver.{EnabledDriver}

@@ -2,7 +2,7 @@
 ghost use Rattle.std.specs.Prelude.{◌≡◌, ◌+◌, ◌*◌, ◌<◌, ◌≤◌, length, All, Decides, IfOk};
 ghost use Rattle.board_defs.specs.Passes.{passes_of};
 ghost use Rattle.board_defs.specs.Pins.{data_bits};
-ghost use Rattle.plan_tables.specs.Plans.{IsPlanOf};
+ghost use Rattle.scan_planner.specs.Plans.{IsPlanOf};
 ghost use Rattle.tap_defs.specs.board.BoardScans.{svf_row_scans};
 ghost use Rattle.tap_defs.specs.board.Explaining.{IsExpected};
 ghost use Rattle.fault_sim.specs.Suspects.{AreDiffering};

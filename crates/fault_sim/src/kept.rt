@@ -1,6 +1,6 @@
 // What is kept of a test, so that many logs of it share it.
 ghost use Rattle.std.specs.Prelude.{◌≡◌, ◌<◌, ◌≤◌, length, IfOk};
-ghost use Rattle.plan_tables.specs.Plans.{IsPlanOf};
+ghost use Rattle.scan_planner.specs.Plans.{IsPlanOf};
 ghost use Rattle.fault_sim.specs.Kept.{IsRow, AreRows, AreDrivers, KeepRows, KeepDrivers};
 ghost use Rattle.fault_sim.specs.inner.Kept.{kept_driver};
 ghost use Rattle.fault_sim.specs.inner.Marks.{HaveRoom};

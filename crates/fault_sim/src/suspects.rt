@@ -3,7 +3,7 @@ ghost use Rattle.std.specs.Prelude.{◌≡◌, ◌+◌, ◌-◌, ◌*◌, ◌<�
 ghost use Rattle.std.specs.List.{flat_map, range_with_len};
 ghost use Rattle.board_defs.specs.Passes.{passes_of};
 ghost use Rattle.board_defs.specs.Pins.{data_bits};
-ghost use Rattle.plan_tables.specs.Plans.{IsPlanOf};
+ghost use Rattle.scan_planner.specs.Plans.{IsPlanOf};
 ghost use Rattle.fault_sim.specs.Places.{IsUniverse};
 ghost use Rattle.fault_sim.specs.Suspects.{AreDiffering, AreSuspects};
 ghost use Rattle.fault_sim.specs.inner.Suspects.{two_from, four_from, pair_number, pair_suspects, pin_suspects, net_suspects, covered_place, CanSuspect, suspects_of};

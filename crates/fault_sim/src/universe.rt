@@ -5,7 +5,7 @@ ghost use Rattle.board_defs.specs.declared.board.RawBoard.{RawBoard};
 ghost use Rattle.board_defs.specs.BoardRules.{IsBoard};
 ghost use Rattle.board_defs.specs.Faults.{stuck_faults, open_faults, kind_rank};
 ghost use Rattle.board_defs.specs.Passes.{passes_of, pairs_within};
-ghost use Rattle.plan_tables.specs.Plans.{IsPlanOf};
+ghost use Rattle.scan_planner.specs.Plans.{IsPlanOf};
 ghost use Rattle.fault_sim.specs.Kept.{IsBoardTest, KeepDrivers};
 ghost use Rattle.fault_sim.specs.Places.{IsUniverse, place_count, number_places, listed_places, places_of};
 ghost use Rattle.fault_sim.specs.Starts.{AreStarts, pairs_before};

@@ -9,8 +9,8 @@ use Rattle.tap_defs.specs.chain.Scan.{scan_bits}
 use Rattle.tap_defs.specs.board.TestRows.{TestRow, code_row}
 use Rattle.tap_defs.specs.board.BoardScans.{RowScan, row_now, row_before, test_scans}
 use Rattle.plan_tables.specs.declared.tables.PlanTables.{PlanTables}
--- a plan for the board, as plan_tables says it
-pub use Rattle.plan_tables.specs.Plans.{IsPlanOf}
+-- passes that a plan can be made of, and a plan for the board
+pub use Rattle.plan_tables.specs.Plans.{ArePlannable, IsPlanOf}
 
 -- the number of scans: three, and then for each pass one for each row and one for the quiet row
 abbrev pub scan_count : PlanTables → ℕ

@@ -26,8 +26,7 @@ use Rattle.plan_tables.specs.declared.tables.ReaderCell.{ReaderCell}
 use Rattle.plan_tables.specs.declared.tables.PlanTables.{PlanTables}
 use Rattle.plan_tables.specs.Assigned.{assigned}
 use Rattle.plan_tables.specs.Building.{enabled_in, is_read_beside, drivers_of, readers_of}
-use Rattle.plan_tables.specs.Plans.{IsPlanOf}
-use Rattle.scan_planner.specs.Plans.{FillsScan, scan_of_pass}
+use Rattle.scan_planner.specs.Plans.{IsPlanOf, FillsScan, scan_of_pass}
 use Rattle.plan_tables.specs.Tables.{IsDriverCell, IsReaderCell}
 use Rattle.scan_planner.proofs.FillLemmas.{row_sized, quiet_tdo, quiet_mask}
 use Rattle.plan_tables.proofs.RowLemmas.{none_of_zeros}

@@ -25,7 +25,7 @@ use Rattle.plan_tables.specs.declared.tables.PlanTables.{PlanTables}
 use Rattle.plan_tables.specs.Assigned.{assigned}
 use Rattle.plan_tables.specs.Building.{readers_of as readers_in_order}
 use Rattle.plan_tables.specs.inner.Laid.{laid, steady}
-use Rattle.plan_tables.specs.Plans.{IsPlanOf}
+use Rattle.scan_planner.specs.Plans.{IsPlanOf}
 use Rattle.plan_tables.specs.Tables.{first_position, IsDriverCell, IsReaderCell}
 use Rattle.plan_tables.proofs.AssignLemmas.{assigned_is, mark_has}
 use Rattle.scan_planner.proofs.DriverLemmas.{pass_row, row_cells, drivers_laid}

@@ -26,7 +26,7 @@ use Rattle.board_defs.proofs.PassSettings.{holds_inserted}
 use Rattle.board_defs.proofs.PassesKept.{Tested, tested_has, tested_can_drive, fold_keeps}
 use Rattle.board_defs.proofs.Places.{below_at, any_place}
 use Rattle.scan_planner.specs.Laws.{PlansUseful}
-use Rattle.plan_tables.specs.Plans.{ArePlannable}
+use Rattle.scan_planner.specs.Plans.{ArePlannable}
 use Rattle.walk_test.specs.WalkTest.{is_switched_by, switches_some, without_switching, walk_setting}
 use Rattle.walk_test.specs.inner.Setting.{own_switch, entry_switch, pin_switch, with_some, with_pins, with_net, all_switching}
 use Rattle.walk_test.proofs.GroupLemmas.{pairs_order}

@@ -5,7 +5,7 @@ ghost use Rattle.std.specs.List.{list_any};
 ghost use Rattle.board_defs.specs.Settings.{holds};
 ghost use Rattle.plan_tables.specs.Assigned.{assigned};
 ghost use Rattle.plan_tables.specs.Building.{is_on, enabled_in, is_read_beside};
-ghost use Rattle.plan_tables.specs.Plans.{IsPlanOf};
+ghost use Rattle.scan_planner.specs.Plans.{IsPlanOf};
 ghost use Rattle.tap_defs.specs.board.TestRows.{code_row};
 ghost use Rattle.walk_test.specs.WalkTest.{walk_setting};
 ghost use Rattle.walk_test.specs.Tables.{tdi_of, mask_of, IsWalkOf};

@@ -4,7 +4,7 @@ ghost use Rattle.std.specs.Option.{option_to_list};
 ghost use Rattle.board_defs.specs.Passes.{passes_of};
 ghost use Rattle.board_defs.specs.Settings.{holds};
 ghost use Rattle.port_entries.specs.Entries.{AreEntries};
-ghost use Rattle.plan_tables.specs.Plans.{ArePlannable};
+ghost use Rattle.scan_planner.specs.Plans.{ArePlannable};
 ghost use Rattle.walk_test.specs.WalkTest.{without_switching, walk_setting};
 ghost use Rattle.walk_test.specs.inner.Setting.{own_switch, entry_switch, pin_switch, with_some, with_pins, with_net, all_switching};
 

@@ -2,7 +2,7 @@ use Rattle.std.proofs.Common.{◌≡◌, [], List, Option, Some, None, refl, ap,
 use Rattle.std.specs.Prelude.{option_map, slice_get}
 use Rattle.std.specs.Option.{option_to_list}
 use Rattle.board_defs.specs.declared.board.Ctl.{Ctl}
-use Rattle.plan_tables.specs.Plans.{ArePlannable}
+use Rattle.scan_planner.specs.Plans.{ArePlannable}
 use Rattle.walk_test.specs.WalkTest.{without_switching, walk_setting}
 use Rattle.walk_test.proofs.SettingLemmas.{setting_plannable, nothing_plannable, only_plannable}
 use Rattle.walk_test.proofs.setting.walk_settings.Goals as goal
