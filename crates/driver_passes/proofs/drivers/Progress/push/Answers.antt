@@ -1,4 +1,4 @@
-use Rattle.std.proofs.Common.{◌∙◌, ◌++◌, ◌∷◌, [], List, ap, subst, sym}
+use Rattle.std.proofs.Common.{◌∙◌, ◌++◌, ◌∷◌, [], List, ap}
 use Rattle.board_defs.specs.declared.board.Ctl.{Ctl}
 use Rattle.driver_passes.proofs.ProgressLemmas.{held_more}
 use Rattle.driver_passes.proofs.RowLemmas.{rows_more, shown_as}

@@ -1,4 +1,4 @@
-use Rattle.std.proofs.Common.{◌≡◌, ◌∙◌, ◌<◌, ap, get_or, length, arith, sym}
+use Rattle.std.proofs.Common.{◌∙◌, ◌<◌, ap, get_or, length, arith, sym}
 use Rattle.driver_passes.specs.inner.Shown.{drivers_at}
 use Rattle.driver_passes.proofs.tables.BoardTables.like_of.Goals as goal
 
