@@ -1,28 +1,32 @@
 -- What the marked words of the files say of their board.
 use Rattle.std.proofs.Common.{◌≡◌, ℕ, List, [], map, None, sym, subst, ◌∙◌, ap}
-use Rattle.std.specs.Prelude.{All, option_map}
+use Rattle.std.specs.Prelude.{option_map}
 use Rattle.first_places.specs.Places.{first_repeated}
 use Rattle.board_files.specs.declared.chain_file.ChainLine.{ChainLine}
 use Rattle.board_files.specs.declared.net_file.NetLine.{NetLine}
 use Rattle.board_defs.specs.declared.board.Part.{Part}
-use Rattle.board_defs.specs.BoardRules.{IsBoard, IsPart}
-use Rattle.board_lines.specs.declared.names.Naming.TheVariants.{Part as PartName, Inert}
+use Rattle.board_defs.specs.BoardRules.{IsBoard}
+use Rattle.board_lines.specs.declared.names.Naming.TheVariants.{Inert}
 use Rattle.board_lines.specs.Names.{named, names_of}
 use Rattle.board_lines.specs.NetWords.{NetWord, net_names, standing_words, spot_of, have_same_pin}
-use Rattle.board_lines.specs.ChainParts.{IsChain, pin_places}
+use Rattle.board_lines.specs.ChainParts.{pin_places}
 use Rattle.board_lines.specs.declared.fault.BoardFault.TheVariants.{PinTwice}
 use Rattle.board_build.specs.BoardRules.{board_answer, pin_twice}
 use Rattle.board_build.specs.inner.Marked.{Marked, mark, board_by, marked_fault, marked_answer, marked_twice}
+use Rattle.board_build.specs.inner.Selected.{ChainWithParts, IsSelected}
 use Rattle.board_build.proofs.MarkLemmas.{board_same, fault_same, answer_same, twice_same}
 use Rattle.board_build.proofs.LawLemmas.{is_board}
 
 -- where no rule finds a fault, the record is a board
-pub sound_by : (chain : List ChainLine) (nets : List NetLine) (parts : List Part) (names : List (List ℕ)) (words : List Marked) → IsChain chain → map (λ part. part.name) parts ≡ names_of (named PartName chain) → All (λ part. IsPart part.kind) parts →
-    names ≡ net_names nets → words ≡ map (mark parts (pin_places parts) (names_of (named Inert chain))) (standing_words nets) → marked_fault chain parts names words ≡ None → IsBoard (board_by chain parts names words)
-sound_by chain nets parts names words selected named_ kinds en ew =
-    let P : List (List ℕ) → Type 0 = λ v. marked_fault chain parts v words ≡ None → IsBoard (board_by chain parts v words) in
-    let Q : List Marked → Type 0 = λ v. marked_fault chain parts (net_names nets) v ≡ None → IsBoard (board_by chain parts (net_names nets) v) in
-    subst P (sym en) (subst Q (sym ew) (λ e. subst IsBoard (sym (board_same chain parts (net_names nets) (standing_words nets))) (is_board chain nets parts selected named_ kinds (sym (fault_same chain nets parts) ∙ e))))
+pub sound_by : (chain : ChainWithParts) (nets : List NetLine) (names : List (List ℕ)) (words : List Marked) → IsSelected chain →
+    names ≡ net_names nets → words ≡ map (mark chain.parts (pin_places chain.parts) (names_of (named Inert chain.lines))) (standing_words nets) →
+    marked_fault chain.lines chain.parts names words ≡ None → IsBoard (board_by chain.lines chain.parts names words)
+sound_by chain nets names words is en ew =
+    let lines : List ChainLine = chain.lines in
+    let parts : List Part = chain.parts in
+    let P : List (List ℕ) → Type 0 = λ v. marked_fault lines parts v words ≡ None → IsBoard (board_by lines parts v words) in
+    let Q : List Marked → Type 0 = λ v. marked_fault lines parts (net_names nets) v ≡ None → IsBoard (board_by lines parts (net_names nets) v) in
+    subst P (sym en) (subst Q (sym ew) (λ e. subst IsBoard (sym (board_same lines parts (net_names nets) (standing_words nets))) (is_board lines nets parts is.selected is.names is.kinds (sym (fault_same lines nets parts) ∙ e))))
 
 pub answer_by : (chain : List ChainLine) (nets : List NetLine) (parts : List Part) (names : List (List ℕ)) (words : List Marked) →
     names ≡ net_names nets → words ≡ map (mark parts (pin_places parts) (names_of (named Inert chain))) (standing_words nets) → marked_answer chain parts names words ≡ board_answer chain nets parts

@@ -10,14 +10,14 @@ ghost use Rattle.board_lines.specs.declared.names.Naming.TheVariants.{Entity, Pa
 ghost use Rattle.board_lines.specs.NetWords.{HasFewPins};
 ghost use Rattle.board_lines.specs.ChainParts.{IsChain, chain_parts};
 ghost use Rattle.board_build.specs.BoardRules.{board_answer, board_of};
-ghost use Rattle.board_build.specs.inner.Marked.{board_by, marked_answer, marked_fault, marked_twice, seen};
+ghost use Rattle.board_build.specs.inner.Marked.{board_by, marked_answer, marked_fault};
 
-use crate::marked::MarkedWord;
 use crate::nets::board_by;
 use crate::rules::{driver_fault, file_fault};
-use crate::standing::standing_words;
+use crate::selected_chain::SelectedChain;
+use crate::standing::{StandingWords, standing_words};
 use board_defs::{Board, Device, Part};
-use board_files::{ChainFile, ChainLine, NetFile, NetLine};
+use board_files::{ChainFile, NetFile, NetLine};
 use board_lines::{BoardFault, chain_parts, net_names};
 use std::alloc::{AllocError, Global};
 
@@ -43,7 +43,7 @@ pub fn board(
 {
     let lines = chain.lines();
     let parts = chain_parts(alloc, lines, devices)?;
-    board_of(alloc, lines, nets.lines(), parts)
+    board_of(alloc, SelectedChain::of(lines, parts), nets.lines())
 }
 
 /// The parts of a chain that was selected, in their order, with a device for each DEVICE line, in order.
@@ -63,53 +63,33 @@ pub fn parts_of_chain(
     Ok(parts)
 }
 
-/// The board of these parts and lines, or the first rule that fails.
-fn board_of(
-    alloc: Global,
-    chain: &[ChainLine],
-    nets: &[NetLine],
-    parts: Vec<Part>,
-) -> Result<Board, BoardFault>
-    requires selected { IsChain chain.now }
-    requires names { map (λ part. part.name) parts.items ≡ names_of (named PartName chain.now) }
-    requires parts { All (λ part. IsPart part.kind) parts.items }
-    requires chain_lines { length chain.now < 2 ^ 32 }
-    requires net_lines { length nets.now < 2 ^ 32 }
-    requires net_words { All HasFewPins nets.now }
-    ensures { Gives board_told (λ board. board) (λ said. board_answer chain.now nets.now parts.items ≡ said) result }
+/// The board of the chain and these lines, or the first rule that fails.
+fn board_of(alloc: Global, chain: SelectedChain<'_>, nets: &[NetLine]) -> Result<Board, BoardFault>
+    requires lines { length nets.now < 2 ^ 32 }
+    requires words { All HasFewPins nets.now }
+    ensures { Gives board_told (λ board. board) (λ said. board_answer chain.entry.lines nets.now chain.entry.parts ≡ said) result }
 {
+    let _rules = chain.parts();
     let net = net_names(alloc, nets)?;
-    let standing = standing_words(alloc, chain, &parts, &net.numbers, nets)?;
-    answer(
-        alloc,
-        chain,
-        parts,
-        &net.names,
-        &standing.words,
-        standing.differ,
-    )
+    let words = standing_words(alloc, &chain, &net.numbers, nets)?;
+    answer(alloc, chain, &net.names, &words)
 }
 
 #[tactic(auto, using(board_lines::proofs::FaultLemmas::told_as), unfolding(crate::specs::inner::Marked::marked_answer, crate::specs::inner::Marked::marked_fault))]
 fn answer(
     alloc: Global,
-    chain: &[ChainLine],
-    parts: Vec<Part>,
+    chain: SelectedChain<'_>,
     names: &[&[u8]],
-    words: &[MarkedWord<'_>],
-    differ: bool,
+    words: &StandingWords<'_>,
 ) -> Result<Board, BoardFault>
-    requires lines { length chain.now < 2 ^ 32 }
-    requires parts { vec_len parts ≤ 255 }
     requires names { length names.now < 2 ^ 32 }
-    requires differ { differ ≡ true → marked_twice (map seen words.now) ≡ None }
-    requires sound { marked_fault chain.now parts.items (map (λ n. n.now) names.now) (map seen words.now) ≡ None → IsBoard (board_by chain.now parts.items (map (λ n. n.now) names.now) (map seen words.now)) }
-    ensures { Gives board_told (λ board. board) (λ said. marked_answer chain.now parts.items (map (λ n. n.now) names.now) (map seen words.now) ≡ said) result }
+    requires sound { marked_fault chain.lines chain.parts (map (λ n. n.now) names.now) words.now ≡ None → IsBoard (board_by chain.lines chain.parts (map (λ n. n.now) names.now) words.now) }
+    ensures { Gives board_told (λ board. board) (λ said. marked_answer chain.entry.lines chain.entry.parts (map (λ n. n.now) names.now) words.now ≡ said) result }
 {
-    if let Some(fault) = file_fault(alloc, chain, &parts, names, words, differ)? {
+    if let Some(fault) = file_fault(alloc, &chain, names, words)? {
         return Err(fault);
     }
-    let raw = board_by(alloc, chain, parts, names, words)?;
+    let raw = board_by(alloc, chain, names, words)?;
     if let Some(fault) = driver_fault(alloc, &raw, words)? {
         return Err(fault);
     }

@@ -1,5 +1,5 @@
 // The port bits that have an always-on driver, in one table for each part, so that no pin goes through the cells.
-ghost use Rattle.std.specs.Prelude.{◌≡◌, ◌∷◌, ℕ, List, length, get_or, false, IfOk};
+ghost use Rattle.std.specs.Prelude.{◌≡◌, ◌∷◌, ℕ, List, length, slice_index_or, false, IfOk};
 ghost use Rattle.board_defs.specs.declared.device.Cell.{Cell};
 ghost use Rattle.board_defs.specs.DeviceRules.{driving_entry};
 ghost use Rattle.board_defs.specs.Pins.{described};
@@ -35,14 +35,14 @@ fn flags_of(alloc: Global, bits: usize, cells: &[Cell]) -> Result<Vec<bool>, All
 }
 
 fn device_flags(alloc: Global, device: &Device) -> Result<Vec<bool>, AllocError>
-    ensures { IfOk result (λ flags. (bit : ℕ) → get_or flags.items bit false ≡ is_free (driving_entry device.now bit)) }
+    ensures { IfOk result (λ flags. (bit : ℕ) → slice_index_or flags.items bit false ≡ is_free (driving_entry device.now bit)) }
 {
     let raw = device.raw();
     flags_of(alloc, raw.bits.len(), raw.cells.as_slice())
 }
 
 fn part_flags(alloc: Global, kind: &PartKind) -> Result<Vec<bool>, AllocError>
-    ensures { IfOk result (λ flags. (bit : ℕ) → get_or flags.items bit false ≡ is_free_bit (described kind.now) bit) }
+    ensures { IfOk result (λ flags. (bit : ℕ) → slice_index_or flags.items bit false ≡ is_free_bit (described kind.now) bit) }
 {
     match kind {
         PartKind::Described(device) => device_flags(alloc, device),
@@ -59,7 +59,7 @@ pub struct PartDrivers<'a> {
 }
 
 impl<'a> Model for PartDrivers<'a> {
-    ghost use Rattle.std.specs.Prelude.{◌≡◌, ℕ, false, get_or};
+    ghost use Rattle.std.specs.Prelude.{◌≡◌, ℕ, false, slice_index_or};
     ghost use Rattle.board_defs.specs.declared.board.Part.{Part};
     ghost use Rattle.board_defs.specs.Pins.{described};
     ghost use Rattle.board_build.specs.inner.Marked.{is_free_bit};
@@ -68,7 +68,7 @@ impl<'a> Model for PartDrivers<'a> {
 
     ghost view = { λ a. a.part.now };
 
-    ghost invariant = { λ a. (bit : ℕ) → get_or a.always_on.items bit false ≡ is_free_bit (described a.part.now.kind) bit };
+    ghost invariant = { λ a. (bit : ℕ) → slice_index_or a.always_on.items bit false ≡ is_free_bit (described a.part.now.kind) bit };
 }
 
 impl<'a> PartDrivers<'a> {

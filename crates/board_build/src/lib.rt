@@ -8,6 +8,7 @@ mod marked;
 mod nets;
 mod rules;
 mod seen_pins;
+mod selected_chain;
 mod standing;
 
 pub use board_defs::Spot;

@@ -1,5 +1,5 @@
 // Net words with what is known of their pins.
-ghost use Rattle.std.specs.Prelude.{◌≡◌, ◌≢◌, ◌<◌, ◌≤◌, ◌^◌, AllPairs, vec_len, length, map, IfOk, OnOk, is_none, is_some, option_copied, slice_get};
+ghost use Rattle.std.specs.Prelude.{◌≡◌, map, IfOk, OnOk, is_none, is_some, option_copied, slice_get};
 ghost use Rattle.indexmap.specs.IndexMap.{get_by};
 ghost use Rattle.board_files.specs.Names.{same_word};
 ghost use Rattle.board_lines.specs.Names.{named, names_of};
@@ -9,8 +9,8 @@ ghost use Rattle.board_lines.specs.ChainParts.{pin_places, place_of_pin};
 ghost use Rattle.board_build.specs.inner.Marked.{is_free_at, mark, mark_by, marks_after, seen};
 
 use crate::drivers::{PartDrivers, drivers_of, is_free_at};
+use crate::selected_chain::SelectedChain;
 use board_defs::{Part, PinAt, Spot};
-use board_files::ChainLine;
 use board_lines::{
     Naming, NetWord, PinPlaces, described_names, first_places_of, names_in, place_of,
 };
@@ -119,15 +119,13 @@ fn mark_all<'a>(
 /// The words, each with what is known of its pin.
 pub fn marked_words<'a>(
     alloc: Global,
-    lines: &[ChainLine],
-    parts: &[Part],
+    chain: &SelectedChain<'_>,
     words: &[NetWord<'a>],
 ) -> Result<Vec<MarkedWord<'a>>, AllocError>
-    requires lines { length lines.now < 2 ^ 32 }
-    requires parts { length parts.now < 2 ^ 32 }
-    requires differ { AllPairs (λ a b. a ≢ b) (map (λ part. part.name) parts.now) }
-    ensures { IfOk result (λ marked. map seen marked.items ≡ map (mark parts.now (pin_places parts.now) (names_of (named Inert lines.now))) (map lent_word words.now)) }
+    ensures { IfOk result (λ marked. map seen marked.items ≡ map (mark chain.now.parts (pin_places chain.now.parts) (names_of (named Inert chain.now.lines))) (map lent_word words.now)) }
 {
+    let lines = chain.lines();
+    let parts = chain.parts();
     let places = PinPlaces::of(alloc, parts)?;
     let names = described_names(alloc, parts)?;
     let by_name = first_places_of(alloc, &names)?;

@@ -1,8 +1,7 @@
 // The nets of a board, from the words that name their pins.
-ghost use Rattle.std.specs.Prelude.{◌≡◌, ◌<◌, ◌^◌, ◌∷◌, [], ◌++◌, ℕ, List, vec_len, length, map, zip, drop, slice_get, nat_lt, IfOk, OnOk, Option, option_map, is_some, if◌then◌else◌};
+ghost use Rattle.std.specs.Prelude.{◌≡◌, ◌<◌, ◌^◌, ◌∷◌, [], ◌++◌, ℕ, List, vec_len, length, map, zip, drop, slice_get, slice_index_or, slice_set, nat_lt, IfOk, OnOk, Option, option_map, is_some, if◌then◌else◌};
 ghost use Rattle.std.specs.Option.{option_to_list};
 ghost use Rattle.std.specs.Vec.Iter.{into_iter_items};
-ghost use Rattle.std.proofs.Common.{get_or, set};
 ghost use Rattle.indexmap.specs.IndexMap.{get_by};
 ghost use Rattle.board_files.specs.Names.{same_word};
 ghost use Rattle.board_lines.specs.Names.{named, names_of};
@@ -11,8 +10,9 @@ ghost use Rattle.board_lines.specs.LineRules.{pulls_of};
 ghost use Rattle.board_build.specs.inner.Marked.{board_by, group_of, groups_after, net_by, nets_after, nets_with, pin_with, seen};
 
 use crate::marked::{MarkedWord, is_known};
-use board_defs::{Items, Name, Net, NetPin, Part, RawBoard};
-use board_files::ChainLine;
+use crate::selected_chain::SelectedChain;
+use crate::standing::StandingWords;
+use board_defs::{Items, Name, Net, NetPin, RawBoard};
 use board_lines::{Naming, first_places_of, names_in, pull_of_net, pulls_by_net, pulls_of};
 use indexmap::IndexMap;
 use std::alloc::{AllocError, Global};
@@ -32,7 +32,7 @@ fn pin_with(alloc: Global, word: &MarkedWord<'_>) -> Result<NetPin, AllocError>
 fn push_pin(groups: &mut Vec<Vec<NetPin>>, number: usize, pin: NetPin) -> Result<(), AllocError>
     requires { number < vec_len groups.old }
     ensures count { OnOk result (vec_len groups.new ≡ vec_len groups.old) }
-    ensures groups { OnOk result (map (λ g. g.items) groups.new.items ≡ set (map (λ g. g.items) groups.old.items) number (get_or (map (λ g. g.items) groups.old.items) number [] ++ pin ∷ [])) }
+    ensures groups { OnOk result (map (λ g. g.items) groups.new.items ≡ slice_set (map (λ g. g.items) groups.old.items) number (slice_index_or (map (λ g. g.items) groups.old.items) number [] ++ pin ∷ [])) }
 {
     groups[number].push(pin)?;
     Ok(())
@@ -45,7 +45,7 @@ fn add_word(
     word: &MarkedWord<'_>,
 ) -> Result<(), AllocError>
     ensures count { OnOk result (vec_len groups.new ≡ vec_len groups.old) }
-    ensures groups { OnOk result (map (λ g. g.items) groups.new.items ≡ (if nat_lt word.now.net (vec_len groups.old) then set (map (λ g. g.items) groups.old.items) word.now.net (get_or (map (λ g. g.items) groups.old.items) word.now.net [] ++ pin_with (seen word.now) ∷ []) else map (λ g. g.items) groups.old.items)) }
+    ensures groups { OnOk result (map (λ g. g.items) groups.new.items ≡ (if nat_lt word.now.net (vec_len groups.old) then slice_set (map (λ g. g.items) groups.old.items) word.now.net (slice_index_or (map (λ g. g.items) groups.old.items) word.now.net [] ++ pin_with (seen word.now) ∷ []) else map (λ g. g.items) groups.old.items)) }
 {
     let number = word.net as usize;
     if number < groups.len() {
@@ -96,7 +96,7 @@ fn pin_counts(
 /// A group without pins for each net, with room for so many.
 fn empty_groups(alloc: Global, counts: &[usize]) -> Result<Vec<Vec<NetPin>>, AllocError>
     ensures count { IfOk result (λ groups. vec_len groups ≡ length counts.now) }
-    ensures empty { IfOk result (λ groups. (n : ℕ) → get_or (map (λ g. g.items) groups.items) n [] ≡ []) }
+    ensures empty { IfOk result (λ groups. (n : ℕ) → slice_index_or (map (λ g. g.items) groups.items) n [] ≡ []) }
 {
     let mut groups = Vec::with_capacity(alloc, counts.len())?;
     for count in counts {
@@ -112,7 +112,7 @@ fn groups(
     words: &[MarkedWord<'_>],
 ) -> Result<Vec<Vec<NetPin>>, AllocError>
     ensures count { IfOk result (λ groups. vec_len groups ≡ count) }
-    ensures groups { IfOk result (λ groups. (n : ℕ) → n < count → get_or (map (λ g. g.items) groups.items) n [] ≡ group_of (map seen words.now) n) }
+    ensures groups { IfOk result (λ groups. (n : ℕ) → n < count → slice_index_or (map (λ g. g.items) groups.items) n [] ≡ group_of (map seen words.now) n) }
 {
     let counts = pin_counts(alloc, count, words)?;
     let mut groups = empty_groups(alloc, &counts)?;
@@ -200,35 +200,33 @@ fn nets_by(
 
 fn board_nets(
     alloc: Global,
-    lines: &[ChainLine],
+    chain: &SelectedChain<'_>,
     names: &[&[u8]],
-    words: &[MarkedWord<'_>],
+    words: &StandingWords<'_>,
 ) -> Result<Vec<Net>, AllocError>
-    requires { length lines.now < 2 ^ 32 }
-    ensures { IfOk result (λ nets. nets.items ≡ nets_with (names_of (named Supply lines.now)) (pulls_of lines.now) (map seen words.now) 0 (map (λ n. n.now) names.now)) }
+    ensures { IfOk result (λ nets. nets.items ≡ nets_with (names_of (named Supply chain.now.lines)) (pulls_of chain.now.lines) words.now 0 (map (λ n. n.now) names.now)) }
 {
+    let lines = chain.lines();
     let supplies = names_in(alloc, lines, Naming::Supply)?;
     let by_supply = first_places_of(alloc, &supplies)?;
     let pulls = pulls_of(alloc, lines)?;
     let by_pull = pulls_by_net(alloc, &pulls)?;
-    let groups = groups(alloc, names.len(), words)?;
+    let groups = groups(alloc, names.len(), words.words())?;
     nets_by(alloc, names, &by_supply, &by_pull, groups)
 }
 
-/// The board of these parts and words.
+/// The board of the chain's parts and these words.
 pub fn board_by(
     alloc: Global,
-    lines: &[ChainLine],
-    parts: Vec<Part>,
+    chain: SelectedChain<'_>,
     names: &[&[u8]],
-    words: &[MarkedWord<'_>],
+    words: &StandingWords<'_>,
 ) -> Result<RawBoard, AllocError>
-    requires { length lines.now < 2 ^ 32 }
-    ensures { IfOk result (λ board. board ≡ board_by lines.now parts.items (map (λ n. n.now) names.now) (map seen words.now)) }
+    ensures { IfOk result (λ board. board ≡ board_by chain.entry.lines chain.entry.parts (map (λ n. n.now) names.now) words.now) }
 {
-    let nets = board_nets(alloc, lines, names, words)?;
+    let nets = board_nets(alloc, &chain, names, words)?;
     Ok(RawBoard {
-        chain: Items::of(parts),
+        chain: Items::of(chain.into_parts()),
         nets: Items::of(nets),
     })
 }

@@ -9,8 +9,9 @@ ghost use Rattle.board_build.specs.BoardRules.{data_limit, net_limit, is_kept};
 ghost use Rattle.board_build.specs.inner.Marked.{always_on, file_fault, marked_drivers, marked_guarded, marked_limit, marked_pins, marked_twice, marked_two, marked_unknown, seen};
 
 use crate::marked::MarkedWord;
+use crate::selected_chain::SelectedChain;
+use crate::standing::StandingWords;
 use board_defs::{Net, NetPin, Part, RawBoard, Spot};
-use board_files::ChainLine;
 use board_lines::{BoardFault, PinName, line_fault};
 use first_places::{first_repeated, once_by};
 use lists::is_set;
@@ -61,11 +62,10 @@ fn by_pin<'a>(
 ) -> Result<Vec<(PinName<'a>, Spot)>, AllocError>
     ensures { IfOk result (λ pins. pins.items ≡ map (λ w. ((w.part, w.pin), w.spot)) words.now) }
 {
-    let mut pins = Vec::with_capacity(alloc, words.len())?;
-    for word in words {
-        pins.push(((word.part, word.pin), word.spot))?;
-    }
-    Ok(pins)
+    words
+        .iter()
+        .map(|word| ((word.part, word.pin), word.spot))
+        .collect(alloc)
 }
 
 fn count_pins(alloc: Global, pins: &[(PinName<'_>, Spot)]) -> Result<usize, AllocError>
@@ -123,66 +123,51 @@ fn marked_unknown(words: &[MarkedWord<'_>]) -> Option<BoardFault>
     unknown_pin(words)
 }
 
-fn marked_twice(
-    alloc: Global,
-    words: &[MarkedWord<'_>],
-    differ: bool,
-) -> Result<Option<BoardFault>, AllocError>
-    requires { differ ≡ true → marked_twice (map seen words.now) ≡ None }
-    ensures { IfOk result (λ fault. fault ≡ marked_twice (map seen words.now)) }
+fn marked_twice(alloc: Global, words: &StandingWords<'_>) -> Result<Option<BoardFault>, AllocError>
+    ensures { IfOk result (λ fault. fault ≡ marked_twice words.now) }
 {
-    if differ {
+    if words.differ() {
         return Ok(None);
     }
-    let pins = by_pin(alloc, words)?;
+    let pins = by_pin(alloc, words.words())?;
     pin_twice(alloc, &pins)
 }
 
 /// The rules on pins, in their order.
 #[tactic(auto, unfolding(crate::specs::inner::Marked::marked_pins))]
-fn pin_fault(
-    alloc: Global,
-    words: &[MarkedWord<'_>],
-    differ: bool,
-) -> Result<Option<BoardFault>, AllocError>
-    requires { differ ≡ true → marked_twice (map seen words.now) ≡ None }
-    ensures { IfOk result (λ fault. fault ≡ marked_pins (map seen words.now)) }
+fn pin_fault(alloc: Global, words: &StandingWords<'_>) -> Result<Option<BoardFault>, AllocError>
+    ensures { IfOk result (λ fault. fault ≡ marked_pins words.now) }
 {
-    if let Some(fault) = marked_limit(alloc, words)? {
+    if let Some(fault) = marked_limit(alloc, words.words())? {
         return Ok(Some(fault));
     }
-    if let Some(fault) = marked_unknown(words) {
+    if let Some(fault) = marked_unknown(words.words()) {
         return Ok(Some(fault));
     }
-    marked_twice(alloc, words, differ)
+    marked_twice(alloc, words)
 }
 
-/// The rules on the files, in their order. Words that differ need no search for a pin that stands twice.
+/// The rules on the files, in their order.
 #[tactic(auto, unfolding(crate::specs::inner::Marked::file_fault))]
 pub fn file_fault(
     alloc: Global,
-    lines: &[ChainLine],
-    parts: &[Part],
+    chain: &SelectedChain<'_>,
     names: &[&[u8]],
-    words: &[MarkedWord<'_>],
-    differ: bool,
+    words: &StandingWords<'_>,
 ) -> Result<Option<BoardFault>, AllocError>
-    requires lines { length lines.now < 2 ^ 32 }
-    requires parts { length parts.now ≤ 255 }
-    requires names { length names.now < 2 ^ 32 }
-    requires differ { differ ≡ true → marked_twice (map seen words.now) ≡ None }
-    ensures { IfOk result (λ fault. fault ≡ file_fault lines.now parts.now (map (λ n. n.now) names.now) (map seen words.now)) }
+    requires { length names.now < 2 ^ 32 }
+    ensures { IfOk result (λ fault. fault ≡ file_fault chain.now.lines chain.now.parts (map (λ n. n.now) names.now) words.now) }
 {
-    if let Some(fault) = data_limit(parts) {
+    if let Some(fault) = data_limit(chain.parts()) {
         return Ok(Some(fault));
     }
     if let Some(fault) = net_limit(names) {
         return Ok(Some(fault));
     }
-    if let Some(fault) = pin_fault(alloc, words, differ)? {
+    if let Some(fault) = pin_fault(alloc, words)? {
         return Ok(Some(fault));
     }
-    line_fault(alloc, lines, names)
+    line_fault(alloc, chain.lines(), names)
 }
 
 fn any_test_pin(board: &RawBoard, pins: &[NetPin]) -> bool
@@ -239,11 +224,10 @@ fn guarded_driver(kept: &[bool], drivers: &[MarkedWord<'_>]) -> Option<BoardFaul
 fn by_net(alloc: Global, words: &[MarkedWord<'_>]) -> Result<Vec<(u32, Spot)>, AllocError>
     ensures { IfOk result (λ nets. nets.items ≡ map (λ w. (w.net, w.spot)) words.now) }
 {
-    let mut nets = Vec::new(alloc);
-    for word in words {
-        nets.push((word.net, word.spot))?;
-    }
-    Ok(nets)
+    words
+        .iter()
+        .map(|word| (word.net, word.spot))
+        .collect(alloc)
 }
 
 fn two_always_on(alloc: Global, drivers: &[(u32, Spot)]) -> Result<Option<BoardFault>, AllocError>
@@ -288,11 +272,11 @@ fn marked_two(alloc: Global, drivers: &[MarkedWord<'_>]) -> Result<Option<BoardF
 pub fn driver_fault(
     alloc: Global,
     board: &RawBoard,
-    words: &[MarkedWord<'_>],
+    words: &StandingWords<'_>,
 ) -> Result<Option<BoardFault>, AllocError>
-    ensures { IfOk result (λ fault. fault ≡ marked_drivers board.now (always_on (length board.now.nets) (map seen words.now))) }
+    ensures { IfOk result (λ fault. fault ≡ marked_drivers board.now (always_on (length board.now.nets) words.now)) }
 {
-    let drivers = marked_drivers(alloc, board.nets.len(), words)?;
+    let drivers = marked_drivers(alloc, board.nets.len(), words.words())?;
     if let Some(fault) = marked_guarded(alloc, board, &drivers)? {
         return Ok(Some(fault));
     }

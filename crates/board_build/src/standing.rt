@@ -1,5 +1,5 @@
 // The words of a net file that count, with what is known of their pins.
-ghost use Rattle.std.specs.Prelude.{◌≡◌, ◌≢◌, ◌<◌, ◌^◌, All, AllPairs, length, map, true, None, IfOk};
+ghost use Rattle.std.specs.Prelude.{◌≡◌, All, map, true, None, IfOk};
 ghost use Rattle.board_lines.specs.Names.{named, names_of};
 ghost use Rattle.board_lines.specs.declared.names.Naming.TheVariants.{Inert};
 ghost use Rattle.board_lines.specs.NetWords.{net_names, net_number, standing_words, HasFewPins};
@@ -8,17 +8,44 @@ ghost use Rattle.board_build.specs.inner.Marked.{mark, marked_twice, seen};
 
 use crate::marked::{MarkedWord, marked_words};
 use crate::seen_pins::pins_differ;
-use board_defs::Part;
-use board_files::{ChainLine, NetLine};
+use crate::selected_chain::SelectedChain;
+use board_files::NetLine;
 use board_lines::{net_words, once_words};
 use std::alloc::{AllocError, Global};
+use std::marker::Model;
 
 /// The words of a net file that count, in their order.
 #[derive(Drop)]
 pub struct StandingWords<'a> {
-    pub words: Vec<MarkedWord<'a>>,
-    /// Told only where no two of the words name the same pin.
-    pub differ: bool,
+    words: Vec<MarkedWord<'a>>,
+    /// Told only where no pin stands twice.
+    differ: bool,
+}
+
+impl<'a> Model for StandingWords<'a> {
+    ghost use Rattle.std.specs.Prelude.{◌≡◌, List, map, true, None};
+    ghost use Rattle.board_build.specs.inner.Marked.{Marked, marked_twice, seen};
+
+    ghost Value = { List Marked };
+
+    ghost view = { λ a. map seen a.words.items };
+
+    ghost invariant = { λ a. a.differ ≡ true → marked_twice (map seen a.words.items) ≡ None };
+}
+
+impl<'a> StandingWords<'a> {
+    pub fn words(&self) -> &[MarkedWord<'a>]
+        ensures { map seen result.now ≡ self.now }
+    {
+        &self.words
+    }
+
+    /// Told only where no pin stands twice: then no word need be compared with another.
+    pub fn differ(&self) -> bool
+        ensures { result ≡ true → marked_twice self.now ≡ None }
+    {
+        self.differ
+    }
 }
 
 /// Each word whose pin does not stand earlier in the same net.
@@ -26,29 +53,24 @@ pub struct StandingWords<'a> {
 /// Where no pin stands twice, as on most boards, each word stands, and no word is compared with another.
 pub fn standing_words<'a>(
     alloc: Global,
-    chain: &[ChainLine],
-    parts: &[Part],
+    chain: &SelectedChain<'_>,
     numbers: &[u32],
     nets: &'a [NetLine],
 ) -> Result<StandingWords<'a>, AllocError>
-    requires lines { length chain.now < 2 ^ 32 }
-    requires parts { length parts.now < 2 ^ 32 }
-    requires names { AllPairs (λ a b. a ≢ b) (map (λ part. part.name) parts.now) }
     requires numbers { numbers.now ≡ map (λ line. net_number (net_names nets.now) line.name) nets.now }
     requires short { All HasFewPins nets.now }
-    ensures words { IfOk result (λ standing. map seen standing.words.items ≡ map (mark parts.now (pin_places parts.now) (names_of (named Inert chain.now))) (standing_words nets.now)) }
-    ensures differ { IfOk result (λ standing. standing.differ ≡ true → marked_twice (map seen standing.words.items) ≡ None) }
+    ensures { IfOk result (λ standing. standing ≡ map (mark chain.now.parts (pin_places chain.now.parts) (names_of (named Inert chain.now.lines))) (standing_words nets.now)) }
 {
     let words = net_words(alloc, numbers, nets)?;
-    let marked = marked_words(alloc, chain, parts, &words)?;
-    if pins_differ(alloc, parts, &marked)? {
+    let marked = marked_words(alloc, chain, &words)?;
+    if pins_differ(alloc, chain.parts(), &marked)? {
         return Ok(StandingWords {
             words: marked,
             differ: true,
         });
     }
     let once = once_words(alloc, &words)?;
-    let marked = marked_words(alloc, chain, parts, &once)?;
+    let marked = marked_words(alloc, chain, &once)?;
     Ok(StandingWords {
         words: marked,
         differ: false,

@@ -1,6 +1,6 @@
 -- Net words with what is known of their pins, as the code keeps them.
-use Rattle.std.specs.Prelude.{◌≡◌, ℕ, ◌+◌, ◌<◌, ◌==◌, Bool, false, ◌&&◌, ◌||◌, List, [], ◌∷◌, ◌++◌, length, map, filter, find, nat_lt, slice_get, Option, Some, None, Result, option_and_then, option_map, is_none, is_some, if◌then◌else◌}
-use Rattle.std.proofs.Common.{Bor, get_or, set}
+use Rattle.std.specs.Prelude.{◌≡◌, ℕ, ◌+◌, ◌<◌, ◌==◌, Bool, false, ◌&&◌, ◌||◌, List, [], ◌∷◌, ◌++◌, length, map, filter, find, nat_lt, slice_get, slice_index_or, slice_set, Option, Some, None, Result, option_and_then, option_map, is_none, is_some, if◌then◌else◌}
+use Rattle.std.proofs.Common.{Bor}
 use Rattle.std.specs.Option.{option_to_list}
 use Rattle.board_defs.specs.declared.device.Cell.{Cell}
 use Rattle.board_defs.specs.declared.device.RawDevice.{RawDevice}
@@ -38,7 +38,7 @@ is_free_bit (Some device) bit = is_free (driving_entry device bit)
 -- of so many port bits each flag says whether the driver that these entries give the bit is always on
 pub record AreFlags (cells : List Cell) (bits : ℕ) (flags : List Bool) : Type 0 where
   pub size : length flags ≡ bits
-  pub each : (bit : ℕ) → bit < bits → get_or flags bit false ≡ is_free (find (drives_bit bit) cells)
+  pub each : (bit : ℕ) → bit < bits → slice_index_or flags bit false ≡ is_free (find (drives_bit bit) cells)
 
 abbrev pub device_of : List Part → ℕ → Option RawDevice
 device_of parts n = option_and_then (λ part. described part.kind) (slice_get parts n)
@@ -109,7 +109,7 @@ group_of words n = map pin_with (filter (λ m. number_of m == n) words)
 -- the groups after a word, if there is one
 abbrev pub groups_after : Option MarkedWord → ℕ → List (List NetPin) → List (List NetPin)
 groups_after None count groups = groups
-groups_after (Some word) count groups = if nat_lt word.net count then set groups word.net (get_or groups word.net [] ++ pin_with (seen word) ∷ []) else groups
+groups_after (Some word) count groups = if nat_lt word.net count then slice_set groups word.net (slice_index_or groups word.net [] ++ pin_with (seen word) ∷ []) else groups
 
 -- the nets after a name and a group, if there are both
 abbrev pub nets_after : {A G N : Type 0} → (A × G → N) → Option A → Option G → List N → List N

@@ -16,13 +16,19 @@ use Rattle.board_build.proofs.marked.marked_words.Goals as goal
 
 pub returns : goal.returns
 returns c =
+    let chain = c.args.chain.now in
+    let lines = c.lines-lines.result.now in
+    let parts = c.parts-parts.result.now in
+    let words = c.args.words.now in
     if_ok_map _ _
-    (λ marked e. ap (map seen) e ∙ map-map _ seen c.args.words.now ∙ map_seen _ lent_word (mark c.args.parts.now (pin_places c.args.parts.now) (names_of (named Inert c.args.lines.now)))
+    (λ marked e. ap (map seen) e ∙ map-map _ seen words ∙ map_seen _ lent_word (mark parts (pin_places parts) (names_of (named Inert lines)))
     (λ w.
     let place = ap (λ v. place_of_pin (pin_places v) (lent_pin w.0.1)) c.in_ok-places.ensures in
-    mark_cong c.args.parts.now (lent_word w) _ _ _ _ _ _
-    (known_same c.args.parts.now (lent_pin w.0.1) _ _ (ap is_some (c.in_ok-by_name.ensures w.0.1.0 ∙ ap (λ v. first_place same_word (map (λ n. n.now) v) w.0.1.0.now) c.deref.ensures.value ∙ ap (λ v. first_place same_word v w.0.1.0.now) c.in_ok-names.ensures.names)) place)
+    mark_cong parts (lent_word w) _ _ _ _ _ _
+    (known_same parts (lent_pin w.0.1) _ _ (ap is_some (c.in_ok-by_name.ensures w.0.1.0 ∙ ap (λ v. first_place same_word (map (λ n. n.now) v) w.0.1.0.now) c.deref.ensures.value ∙ ap (λ v. first_place same_word v w.0.1.0.now) c.in_ok-names.ensures.names)) place)
     place
     (ap is_some (c.in_ok-by_inert.ensures w.0.1.0 ∙ ap (λ v. first_place same_word (map (λ n. n.now) v) w.0.1.0.now) c.deref-2.ensures.value ∙ ap (λ v. first_place same_word v w.0.1.0.now) c.in_ok-inerts.ensures.names)))
-    c.args.words.now)
+    words
+    ∙ ap (λ v. map (mark v (pin_places v) (names_of (named Inert lines))) (map lent_word words)) c.parts-parts.ensures.parts
+    ∙ ap (λ v. map (mark chain.parts (pin_places chain.parts) (names_of (named Inert v))) (map lent_word words)) c.lines-lines.ensures.lines)
     c.mark_all.result c.mark_all.ensures

@@ -1,5 +1,0 @@
-use Rattle.std.proofs.Common.{◌≡◌, map, take}
-use Rattle.board_build.proofs.rules.by_pin.Given as goal
-
-abbrev pub invariant-loop-word : goal.invariant-loop-word
-invariant-loop-word l = l.pins.items ≡ map (λ w. ((w.part, w.pin), w.spot)) (take l.word-index l.words)

@@ -1,0 +1,64 @@
+// A chain that was selected, with its parts.
+ghost use Rattle.std.specs.Prelude.{◌≡◌, ◌≢◌, ◌<◌, ◌≤◌, ◌^◌, All, AllPairs, length, map};
+ghost use Rattle.board_defs.specs.BoardRules.{IsPart};
+ghost use Rattle.board_lines.specs.Names.{named, names_of};
+ghost use Rattle.board_lines.specs.declared.names.Naming.TheVariants.{Part as PartName};
+ghost use Rattle.board_lines.specs.ChainParts.{IsChain};
+ghost use Rattle.board_build.specs.inner.Selected.{IsSelected};
+
+use board_defs::Part;
+use board_files::ChainLine;
+use std::marker::Model;
+
+/// The lines of a chain that was selected, and its parts.
+#[derive(Drop)]
+pub struct SelectedChain<'a> {
+    lines: &'a [ChainLine],
+    parts: Vec<Part>,
+}
+
+impl<'a> Model for SelectedChain<'a> {
+    ghost use Rattle.board_build.specs.inner.Selected.{ChainWithParts, IsSelected};
+
+    ghost Value = { ChainWithParts };
+
+    ghost view = { λ a. record { lines = a.lines.now; parts = a.parts.items } };
+
+    ghost invariant = { λ a. IsSelected (record { lines = a.lines.now; parts = a.parts.items }) };
+}
+
+impl<'a> SelectedChain<'a> {
+    /// The chain of these lines, and its parts in their order.
+    pub fn of(lines: &'a [ChainLine], parts: Vec<Part>) -> SelectedChain<'a>
+        requires few { length lines.now < 2 ^ 32 }
+        requires selected { IsChain lines.now }
+        requires names { map (λ part. part.name) parts.items ≡ names_of (named PartName lines.now) }
+        requires kinds { All (λ part. IsPart part.kind) parts.items }
+        ensures { result ≡ record { lines = lines.now; parts = parts.items } }
+    {
+        SelectedChain { lines, parts }
+    }
+
+    pub fn lines(&self) -> &'a [ChainLine]
+        ensures lines { result.now ≡ self.now.lines }
+        ensures few { length result.now < 2 ^ 32 }
+    {
+        self.lines
+    }
+
+    /// The parts, at most 255 and with different names.
+    pub fn parts(&self) -> &[Part]
+        ensures parts { result.now ≡ self.now.parts }
+        ensures few { length result.now ≤ 255 }
+        ensures differ { AllPairs (λ a b. a ≢ b) (map (λ part. part.name) result.now) }
+        ensures selected { IsSelected self.now }
+    {
+        &self.parts
+    }
+
+    pub fn into_parts(self) -> Vec<Part>
+        ensures { result.items ≡ self.entry.parts }
+    {
+        self.parts
+    }
+}
