@@ -1,5 +1,5 @@
-// Rows in which the codes of nets are written: all rows of a pass side by side, or one of them.
-ghost use Rattle.std.specs.Prelude.{◌≡◌, ◌<◌, ℕ, Bool, List, length, slice_set};
+// Rows in which the codes of nets are written: all rows of a pass side by side, one of them, or none.
+ghost use Rattle.std.specs.Prelude.{◌≡◌, ◌<◌, ℕ, Bool, false, List, [], length, slice_set};
 ghost use Rattle.std.specs.Borrow.{GName};
 ghost use Rattle.bt_bits.specs.Stacks.{column_bit, stacked};
 ghost use Rattle.tap_defs.specs.board.TestRows.{code_bit};
@@ -115,4 +115,31 @@ impl CodeRows for RowAt<'_> {
     fn put(&mut self, position: u32, column: bool) {
         set_within(self.row, position, column);
     }
+}
+
+/// No rows: what is written is passed over.
+#[derive(Drop)]
+pub struct NoRows;
+
+impl CodeRows for NoRows {
+    type Column = ();
+
+    ghost Kind = { Unit {0} };
+
+    ghost kind = { λ _. tt };
+
+    ghost shows = { λ _ _. ⊥ };
+
+    ghost bits = { λ _ _. [] };
+
+    ghost bit_in = { λ _ _. false };
+
+    #[inline]
+    fn code(&self, _number: u32) {}
+
+    #[inline]
+    fn same(&self, _bit: bool) {}
+
+    #[inline]
+    fn put(&mut self, _position: u32, _column: ()) {}
 }

@@ -8,8 +8,8 @@ ghost use Rattle.tap_defs.specs.chain.Scan.{joined, tdi_bits, tdo_bits, mask_bit
 ghost use Rattle.plan_tables.specs.Plans.{IsPlanOf};
 ghost use Rattle.scan_planner.specs.Plans.{IsRoom, FillsScan, scan_count, scan_of_pass};
 
-use crate::code_rows::RowAt;
-use crate::pass_cells::{expect_pass, shift_pass};
+use crate::code_rows::{NoRows, RowAt};
+use crate::pass_cells::walk_pass;
 use crate::plan::Plan;
 use board_defs::Board;
 use bt_bits::Row;
@@ -154,11 +154,18 @@ pub fn shift_row(board: &Board, plan: &Plan, pass: usize, j: u32, tdi: &mut Row)
 {
     let _ = board.raw();
     tdi.copy_stacked(&plan.common().shifted, j);
-    let mut row = RowAt {
+    let mut shifted = RowAt {
         row: tdi,
         number: j,
     };
-    shift_pass(board, plan.tables(), pass, &mut row);
+    walk_pass(
+        board,
+        plan.tables(),
+        pass,
+        &mut shifted,
+        &mut NoRows,
+        &mut NoRows,
+    );
 }
 
 /// Compares row `j` of a pass.
@@ -177,11 +184,22 @@ pub fn compare_row(board: &Board, plan: &Plan, pass: usize, j: u32, tdo: &mut Ro
     let common = plan.common();
     tdo.copy_stacked(&common.expected, j);
     mask.copy_row(&common.mask);
-    let mut row = RowAt {
+    let mut expected = RowAt {
         row: tdo,
         number: j,
     };
-    expect_pass(board, plan.tables(), pass, &mut row, mask);
+    let mut marks = RowAt {
+        row: mask,
+        number: 0,
+    };
+    walk_pass(
+        board,
+        plan.tables(),
+        pass,
+        &mut NoRows,
+        &mut expected,
+        &mut marks,
+    );
 }
 
 // Shifts row `j` of a pass in, or the quiet row after the last.

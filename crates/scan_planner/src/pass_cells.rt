@@ -12,7 +12,7 @@ ghost use Rattle.scan_planner.specs.PassRows.{steady_compared, steady_shifted};
 ghost use Rattle.scan_planner.specs.Plans.{scan_of_pass};
 ghost use Rattle.scan_planner.specs.inner.Passes.{compared, driven};
 
-use crate::code_rows::{CodeRows, set_within};
+use crate::code_rows::CodeRows;
 use crate::questions::{code_at, readers_at};
 use board_defs::{Board, Items, Setting};
 use bt_bits::Row;
@@ -47,108 +47,81 @@ fn hold_cells<S: CodeRows>(
     }
 }
 
-/// Shifts the codes of nets into the cells of their drivers.
-pub fn drive_nets<S: CodeRows>(drivers: &[DriverCell], codes: &[u32], rows: &mut S)
-    ensures kind { S.kind rows.new ≡ S.kind rows.old }
-    ensures bits { (j : ℕ) → S.shows (S.kind rows.old) j → S.bits rows.new j ≡ assigned (λ d. d.position) (driver_bit codes.now j) (S.bits rows.old j) drivers.now }
-{
-    for driver in drivers {
-        let code = rows.code(code_at(codes, driver.net));
-        rows.put(driver.position, code);
-    }
-}
-
 // Expects a code at the cells that read its net, but for those at the driver's place, and marks where.
-fn expect_net<S: CodeRows>(
+fn expect_net<E: CodeRows, M: CodeRows>(
     readers: &[ReaderCell],
     place: u32,
-    code: S::Column,
-    rows: &mut S,
-    mask: &mut Row,
+    code: E::Column,
+    expected: &mut E,
+    mask: &mut M,
 )
-    ensures kind { S.kind rows.new ≡ S.kind rows.old }
-    ensures bits { (j : ℕ) → S.shows (S.kind rows.old) j → S.bits rows.new j ≡ set_readers place (S.bit_in code j) (S.bits rows.old j) readers.now }
-    ensures mask { mask.new.bits ≡ set_readers place true mask.old.bits readers.now }
-    ensures mask_kept { mask.new.room ≡ mask.old.room }
+    ensures expected_kind { E.kind expected.new ≡ E.kind expected.old }
+    ensures mask_kind { M.kind mask.new ≡ M.kind mask.old }
+    ensures expected { (j : ℕ) → E.shows (E.kind expected.old) j → E.bits expected.new j ≡ set_readers place (E.bit_in code j) (E.bits expected.old j) readers.now }
+    ensures mask { (j : ℕ) → M.shows (M.kind mask.old) j → M.bits mask.new j ≡ set_readers place true (M.bits mask.old j) readers.now }
 {
     for cell in readers {
         if cell.place != place {
-            rows.put(cell.position, code);
-            set_within(mask, cell.position, true);
+            let mark = mask.same(true);
+            expected.put(cell.position, code);
+            mask.put(cell.position, mark);
         }
     }
 }
 
-/// Expects the codes of the nets of drivers where the nets are read, and marks where.
-pub fn expect_nets<S: CodeRows>(
+/// Shifts the codes of nets into the cells of their drivers, and expects them where the nets are read.
+pub fn drive_nets<S: CodeRows, E: CodeRows, M: CodeRows>(
     drivers: &[DriverCell],
     readers: &[Items<ReaderCell>],
     codes: &[u32],
-    rows: &mut S,
-    mask: &mut Row,
+    shifted: &mut S,
+    expected: &mut E,
+    mask: &mut M,
 )
-    ensures kind { S.kind rows.new ≡ S.kind rows.old }
-    ensures bits { (j : ℕ) → S.shows (S.kind rows.old) j → S.bits rows.new j ≡ set_compared (driver_bit codes.now j) readers.now (S.bits rows.old j) drivers.now }
-    ensures mask { mask.new.bits ≡ set_compared (λ d. true) readers.now mask.old.bits drivers.now }
-    ensures mask_kept { mask.new.room ≡ mask.old.room }
+    ensures shifted_kind { S.kind shifted.new ≡ S.kind shifted.old }
+    ensures expected_kind { E.kind expected.new ≡ E.kind expected.old }
+    ensures mask_kind { M.kind mask.new ≡ M.kind mask.old }
+    ensures shifted { (j : ℕ) → S.shows (S.kind shifted.old) j → S.bits shifted.new j ≡ assigned (λ d. d.position) (driver_bit codes.now j) (S.bits shifted.old j) drivers.now }
+    ensures expected { (j : ℕ) → E.shows (E.kind expected.old) j → E.bits expected.new j ≡ set_compared (driver_bit codes.now j) readers.now (E.bits expected.old j) drivers.now }
+    ensures mask { (j : ℕ) → M.shows (M.kind mask.old) j → M.bits mask.new j ≡ set_compared (λ d. true) readers.now (M.bits mask.old j) drivers.now }
 {
     for driver in drivers {
-        let code = rows.code(code_at(codes, driver.net));
+        let number = code_at(codes, driver.net);
+        let code = shifted.code(number);
+        shifted.put(driver.position, code);
+        let code = expected.code(number);
         expect_net(
             readers_at(readers, driver.net),
             driver.place,
             code,
-            rows,
+            expected,
             mask,
         );
     }
 }
 
-// Shifts the codes into the cells of the drivers that a setting has beside the steady ones: those that are always on, and
-// those of its controls.
-fn drive_setting<S: CodeRows>(board: &Board, tables: &PlanTables, setting: &Setting, rows: &mut S)
-    requires firsts { AreFirsts board.now.chain tables.now.firsts }
-    requires cells { (c : ControlRecord) → holds setting.now c ≡ true → c.cell < cell_count (device_at board.now c.part) }
-    ensures kind { S.kind rows.new ≡ S.kind rows.old }
-    ensures bits { (j : ℕ) → S.shows (S.kind rows.old) j → S.bits rows.new j ≡ driven board.now tables.now (driver_bit tables.now.codes j) (S.bits rows.old j) setting.now }
-{
-    let codes = tables.codes.as_slice();
-    drive_nets(tables.by_control.always.as_slice(), codes, rows);
-    for c in setting.controls() {
-        let drivers = controlled(
-            board,
-            tables.firsts.as_slice(),
-            tables.by_control.rows.as_slice(),
-            *c,
-        );
-        drive_nets(drivers, codes, rows);
-    }
-}
-
-// Expects the codes of the nets of these drivers.
-fn expect_setting<S: CodeRows>(
+// Drives the nets of the drivers that a setting has beside the steady ones: those that are always on, and those of its controls.
+fn drive_setting<S: CodeRows, E: CodeRows, M: CodeRows>(
     board: &Board,
     tables: &PlanTables,
     setting: &Setting,
-    rows: &mut S,
-    mask: &mut Row,
+    shifted: &mut S,
+    expected: &mut E,
+    mask: &mut M,
 )
     requires firsts { AreFirsts board.now.chain tables.now.firsts }
     requires cells { (c : ControlRecord) → holds setting.now c ≡ true → c.cell < cell_count (device_at board.now c.part) }
-    ensures kind { S.kind rows.new ≡ S.kind rows.old }
-    ensures bits { (j : ℕ) → S.shows (S.kind rows.old) j → S.bits rows.new j ≡ compared board.now tables.now (driver_bit tables.now.codes j) (S.bits rows.old j) setting.now }
-    ensures mask { mask.new.bits ≡ compared board.now tables.now (λ d. true) mask.old.bits setting.now }
-    ensures mask_kept { mask.new.room ≡ mask.old.room }
+    ensures shifted_kind { S.kind shifted.new ≡ S.kind shifted.old }
+    ensures expected_kind { E.kind expected.new ≡ E.kind expected.old }
+    ensures mask_kind { M.kind mask.new ≡ M.kind mask.old }
+    ensures shifted { (j : ℕ) → S.shows (S.kind shifted.old) j → S.bits shifted.new j ≡ driven board.now tables.now (driver_bit tables.now.codes j) (S.bits shifted.old j) setting.now }
+    ensures expected { (j : ℕ) → E.shows (E.kind expected.old) j → E.bits expected.new j ≡ compared board.now tables.now (driver_bit tables.now.codes j) (E.bits expected.old j) setting.now }
+    ensures mask { (j : ℕ) → M.shows (M.kind mask.old) j → M.bits mask.new j ≡ compared board.now tables.now (λ d. true) (M.bits mask.old j) setting.now }
 {
     let readers = tables.readers.as_slice();
     let codes = tables.codes.as_slice();
-    expect_nets(
-        tables.by_control.always.as_slice(),
-        readers,
-        codes,
-        rows,
-        mask,
-    );
+    let always = tables.by_control.always.as_slice();
+    drive_nets(always, readers, codes, shifted, expected, mask);
     for c in setting.controls() {
         let drivers = controlled(
             board,
@@ -156,16 +129,27 @@ fn expect_setting<S: CodeRows>(
             tables.by_control.rows.as_slice(),
             *c,
         );
-        expect_nets(drivers, readers, codes, rows, mask);
+        drive_nets(drivers, readers, codes, shifted, expected, mask);
     }
 }
 
-/// Makes of what all passes shift in what a pass does.
-pub fn shift_pass<S: CodeRows>(board: &Board, tables: &PlanTables, pass: usize, rows: &mut S)
+/// Makes of what all passes have in their rows what a pass has in its own: what it shifts in, what is expected of it, and where.
+pub fn walk_pass<S: CodeRows, E: CodeRows, M: CodeRows>(
+    board: &Board,
+    tables: &PlanTables,
+    pass: usize,
+    shifted: &mut S,
+    expected: &mut E,
+    mask: &mut M,
+)
     requires plan { IsPlanOf board.now tables.now }
     requires pass { pass < length tables.now.passes }
-    ensures kind { S.kind rows.new ≡ S.kind rows.old }
-    ensures bits { (j : ℕ) → S.shows (S.kind rows.old) j → j < tables.now.width → S.bits rows.old j ≡ steady_shifted tables.now j → S.bits rows.new j ≡ tdi_bits (joined (row_bits board.now (scan_of_pass board.now tables.now pass j))) }
+    ensures shifted_kind { S.kind shifted.new ≡ S.kind shifted.old }
+    ensures expected_kind { E.kind expected.new ≡ E.kind expected.old }
+    ensures mask_kind { M.kind mask.new ≡ M.kind mask.old }
+    ensures shifted { (j : ℕ) → S.shows (S.kind shifted.old) j → j < tables.now.width → S.bits shifted.old j ≡ steady_shifted tables.now j → S.bits shifted.new j ≡ tdi_bits (joined (row_bits board.now (scan_of_pass board.now tables.now pass j))) }
+    ensures expected { (j : ℕ) → E.shows (E.kind expected.old) j → E.bits expected.old j ≡ steady_compared tables.now (driver_bit tables.now.codes j) → E.bits expected.new j ≡ tdo_bits (joined (row_bits board.now (scan_of_pass board.now tables.now pass (suc j)))) }
+    ensures mask { (i j : ℕ) → M.shows (M.kind mask.old) i → M.bits mask.old i ≡ steady_compared tables.now (λ d. true) → M.bits mask.new i ≡ mask_bits (joined (row_bits board.now (scan_of_pass board.now tables.now pass (suc j)))) }
 {
     let _ = board.raw();
     let setting = pass_at(tables.passes.as_slice(), pass);
@@ -174,28 +158,7 @@ pub fn shift_pass<S: CodeRows>(board: &Board, tables: &PlanTables, pass: usize, 
         tables.firsts.as_slice(),
         &tables.quiet,
         setting,
-        rows,
+        shifted,
     );
-    drive_setting(board, tables, setting, rows);
-}
-
-/// Makes of what is expected in all passes, and of where, what is expected of the rows of a pass.
-pub fn expect_pass<S: CodeRows>(
-    board: &Board,
-    tables: &PlanTables,
-    pass: usize,
-    rows: &mut S,
-    mask: &mut Row,
-)
-    requires plan { IsPlanOf board.now tables.now }
-    requires pass { pass < length tables.now.passes }
-    requires mask { mask.old.bits ≡ steady_compared tables.now (λ d. true) }
-    ensures kind { S.kind rows.new ≡ S.kind rows.old }
-    ensures bits { (j : ℕ) → S.shows (S.kind rows.old) j → S.bits rows.old j ≡ steady_compared tables.now (driver_bit tables.now.codes j) → S.bits rows.new j ≡ tdo_bits (joined (row_bits board.now (scan_of_pass board.now tables.now pass (suc j)))) }
-    ensures mask { (j : ℕ) → mask.new.bits ≡ mask_bits (joined (row_bits board.now (scan_of_pass board.now tables.now pass (suc j)))) }
-    ensures mask_kept { mask.new.room ≡ mask.old.room }
-{
-    let _ = board.raw();
-    let setting = pass_at(tables.passes.as_slice(), pass);
-    expect_setting(board, tables, setting, rows, mask);
+    drive_setting(board, tables, setting, shifted, expected, mask);
 }

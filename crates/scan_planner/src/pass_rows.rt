@@ -7,7 +7,8 @@ ghost use Rattle.plan_tables.specs.declared.tables.PlanTables.{PlanTables as Pla
 ghost use Rattle.plan_tables.specs.Plans.{IsPlanOf};
 ghost use Rattle.scan_planner.specs.PassRows.{AreCommonRows, AreKept, ArePassRows, HaveRoom, KeepRoom};
 
-use crate::pass_cells::{drive_nets, expect_nets, expect_pass, shift_pass};
+use crate::code_rows::RowAt;
+use crate::pass_cells::{drive_nets, walk_pass};
 use crate::plan::Plan;
 use board_defs::Board;
 use bt_bits::{Row, RowStack};
@@ -51,14 +52,21 @@ impl StackedRows {
         requires { HaveRoom (length tables.now.quiet.bits) self.old }
         ensures { AreCommonRows tables.now self.new }
     {
-        let steady = tables.steady.as_slice();
-        let readers = tables.readers.as_slice();
-        let codes = tables.codes.as_slice();
         self.shifted.fill_with(&tables.quiet);
-        drive_nets(steady, codes, &mut self.shifted);
         self.mask.clear(tables.quiet.len());
         self.expected.fill_with(&self.mask);
-        expect_nets(steady, readers, codes, &mut self.expected, &mut self.mask);
+        let mut marks = RowAt {
+            row: &mut self.mask,
+            number: 0,
+        };
+        drive_nets(
+            tables.steady.as_slice(),
+            tables.readers.as_slice(),
+            tables.codes.as_slice(),
+            &mut self.shifted,
+            &mut self.expected,
+            &mut marks,
+        );
     }
 
     // Makes the rows those of others, for which they have room.
@@ -88,8 +96,18 @@ fn fill_pass_rows(board: &Board, plan: &Plan, pass: usize, rows: &mut StackedRow
     let _ = board.raw();
     let tables = plan.tables();
     rows.copy_from(plan.common());
-    shift_pass(board, tables, pass, &mut rows.shifted);
-    expect_pass(board, tables, pass, &mut rows.expected, &mut rows.mask);
+    let mut marks = RowAt {
+        row: &mut rows.mask,
+        number: 0,
+    };
+    walk_pass(
+        board,
+        tables,
+        pass,
+        &mut rows.shifted,
+        &mut rows.expected,
+        &mut marks,
+    );
 }
 
 /// The rows of the pass that was filled last.

@@ -30,21 +30,20 @@ copy_row-requires c =
       c.requires.mask_room,
     )
 
-pub invariant_of-row : goal.invariant_of-row
-invariant_of-row c = omega (arith, c.requires.row, few_rows c.args.board.now c.raw.ensures.rules c.args.plan.now c.requires.plan)
-
-pub expect_pass-requires-clause-mask : goal.expect_pass-requires-clause-mask
-expect_pass-requires-clause-mask c = c.copy_row.ensures.bits ∙ c.common-common.ensures.mask ∙ ap (λ (t : PlanTables). steady_compared t (λ d. true)) (sym c.tables.ensures)
+pub invariant_of-expected : goal.invariant_of-expected
+invariant_of-expected c = omega (arith, c.requires.row, few_rows c.args.board.now c.raw.ensures.rules c.args.plan.now c.requires.plan)
 
 pub returns-clause-tdo : goal.returns-clause-tdo
 returns-clause-tdo c =
     let few = few_rows c.args.board.now c.raw.ensures.rules c.args.plan.now c.requires.plan in
-    let expected = c.expect_pass.ensures.bits c.args.j refl
+    let expected = c.walk_pass.ensures.expected c.args.j refl
     (c.copy_stacked.ensures.bits ∙ c.common-common.ensures.expected c.args.j (omega (arith, c.requires.row, few)) ∙ ap (λ (t : PlanTables). steady_compared t (driver_bit t.codes c.args.j)) (sym c.tables.ensures))
     ∙ ap (λ (t : PlanTables). tdo_bits (joined (row_bits c.args.board.now (scan_of_pass c.args.board.now t c.args.pass (suc c.args.j))))) c.tables.ensures in
     search rules
 
 pub returns-clause-mask : goal.returns-clause-mask
 returns-clause-mask c =
-    c.expect_pass.ensures.mask c.args.j
-    ∙ ap (λ (t : PlanTables). mask_bits (joined (row_bits c.args.board.now (scan_of_pass c.args.board.now t c.args.pass (suc c.args.j))))) c.tables.ensures
+    let marked = c.walk_pass.ensures.mask 0 c.args.j refl
+    (c.copy_row.ensures.bits ∙ c.common-common.ensures.mask ∙ ap (λ (t : PlanTables). steady_compared t (λ d. true)) (sym c.tables.ensures))
+    ∙ ap (λ (t : PlanTables). mask_bits (joined (row_bits c.args.board.now (scan_of_pass c.args.board.now t c.args.pass (suc c.args.j))))) c.tables.ensures in
+    search rules

@@ -20,14 +20,14 @@ copy_stacked-requires-clause-room c =
       c.requires.room,
     )
 
-pub invariant_of-row : goal.invariant_of-row
-invariant_of-row c = omega (arith, c.requires.row, few_rows c.args.board.now c.raw.ensures.rules c.args.plan.now c.requires.plan)
+pub invariant_of-shifted : goal.invariant_of-shifted
+invariant_of-shifted c = omega (arith, c.requires.row, few_rows c.args.board.now c.raw.ensures.rules c.args.plan.now c.requires.plan)
 
 pub returns-clause-bits : goal.returns-clause-bits
 returns-clause-bits c =
     let few = few_rows c.args.board.now c.raw.ensures.rules c.args.plan.now c.requires.plan in
     let shifted =
-    c.shift_pass.ensures.bits c.args.j refl (subst (λ (t : PlanTables). c.args.j < t.width) (sym c.tables.ensures) c.requires.row)
+    c.walk_pass.ensures.shifted c.args.j refl (subst (λ (t : PlanTables). c.args.j < t.width) (sym c.tables.ensures) c.requires.row)
     (c.copy_stacked.ensures.bits ∙ c.common.ensures.shifted c.args.j (omega (arith, c.requires.row, few)) ∙ ap (λ (t : PlanTables). steady_shifted t c.args.j) (sym c.tables.ensures))
     ∙ ap (λ (t : PlanTables). tdi_bits (joined (row_bits c.args.board.now (scan_of_pass c.args.board.now t c.args.pass c.args.j)))) c.tables.ensures in
     search rules

@@ -1,10 +1,14 @@
-use Rattle.std.proofs.Common.{◌≡◌, ℕ, take}
+use Rattle.std.proofs.Common.{◌≡◌, ℕ, true, take}
 use Rattle.plan_tables.specs.Assigned.{driver_bit}
-use Rattle.scan_planner.specs.inner.Passes.{driven}
+use Rattle.scan_planner.specs.inner.Passes.{compared, driven}
 use Rattle.scan_planner.proofs.pass_cells.drive_setting.Given as goal
 
 abbrev pub invariant-loop-c : goal.invariant-loop-c
 invariant-loop-c g l = record {
-  kind : g.S.CodeRows.kind l.rows ≡ g.S.CodeRows.kind l.fn.rows;
-  bits : (j : ℕ) → g.S.CodeRows.shows (g.S.CodeRows.kind l.fn.rows) j → g.S.CodeRows.bits l.rows j ≡ driven l.board l.tables (driver_bit l.tables.codes j) (g.S.CodeRows.bits l.fn.rows j) (take l.c-index l.c-items);
+  shifted_kind : g.S.CodeRows.kind l.shifted ≡ g.S.CodeRows.kind l.fn.shifted;
+  expected_kind : g.E.CodeRows.kind l.expected ≡ g.E.CodeRows.kind l.fn.expected;
+  mask_kind : g.M.CodeRows.kind l.mask ≡ g.M.CodeRows.kind l.fn.mask;
+  shifted : (j : ℕ) → g.S.CodeRows.shows (g.S.CodeRows.kind l.fn.shifted) j → g.S.CodeRows.bits l.shifted j ≡ driven l.board l.tables (driver_bit l.tables.codes j) (g.S.CodeRows.bits l.fn.shifted j) (take l.c-index l.c-items);
+  expected : (j : ℕ) → g.E.CodeRows.shows (g.E.CodeRows.kind l.fn.expected) j → g.E.CodeRows.bits l.expected j ≡ compared l.board l.tables (driver_bit l.tables.codes j) (g.E.CodeRows.bits l.fn.expected j) (take l.c-index l.c-items);
+  mask : (j : ℕ) → g.M.CodeRows.shows (g.M.CodeRows.kind l.fn.mask) j → g.M.CodeRows.bits l.mask j ≡ compared l.board l.tables (λ d. true) (g.M.CodeRows.bits l.fn.mask j) (take l.c-index l.c-items);
 }

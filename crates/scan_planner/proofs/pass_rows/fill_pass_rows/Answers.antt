@@ -1,8 +1,10 @@
-use Rattle.std.proofs.Common.{◌≡◌, ℕ, ◌<◌, ◌≤◌, true, length, ap, sym, ◌∙◌, subst, arith}
+use Rattle.std.proofs.Common.{◌≡◌, ℕ, ◌<◌, ◌≤◌, suc, true, refl, rules, length, ap, sym, ◌∙◌, subst, arith}
+use Rattle.tap_defs.specs.board.BoardScans.{row_bits}
+use Rattle.tap_defs.specs.chain.Scan.{joined, mask_bits, tdi_bits, tdo_bits}
 use Rattle.plan_tables.specs.declared.tables.PlanTables.{PlanTables}
 use Rattle.plan_tables.specs.Assigned.{driver_bit}
-use Rattle.scan_planner.specs.declared.pass_rows.StackedRows.{StackedRows}
-use Rattle.scan_planner.specs.PassRows.{ArePassRows, steady_compared, steady_shifted}
+use Rattle.scan_planner.specs.PassRows.{steady_compared, steady_shifted}
+use Rattle.scan_planner.specs.Plans.{scan_of_pass}
 use Rattle.scan_planner.proofs.FillLemmas.{few_rows, steady_compared_length, steady_shifted_length}
 use Rattle.scan_planner.proofs.pass_rows.fill_pass_rows.Goals as goal
 
@@ -35,19 +37,23 @@ copy_from-requires-clause-mask c =
 
 pub returns-clause-rows : goal.returns-clause-rows
 returns-clause-rows c =
+    let board = c.args.board.now in
     let plan = c.args.plan.now in
-    let tables = c.tables-tables.result.now in
-    let same : tables ≡ plan = c.tables-tables.ensures in
-    let few : plan.width ≤ 14 = few_rows c.args.board.now c.raw.ensures.rules plan c.requires.plan in
-    let stacked_row : (j : ℕ) → j < tables.width → j < 16 = λ j row. omega (arith, row, few, ap (λ (t : PlanTables). t.width) same) in
-    let rows : StackedRows = record { shifted = c.shift_pass.new.rows; expected = c.expect_pass.new.rows; mask = c.expect_pass.new.mask } in
-    subst (λ (t : PlanTables). ArePassRows c.args.board.now t c.args.pass rows) same (record {
-      within = subst (λ (t : PlanTables). c.args.pass < length t.passes) (sym same) c.requires.pass;
+    let same : c.tables-tables.result.now ≡ plan = c.tables-tables.ensures in
+    let few : plan.width ≤ 14 = few_rows board c.raw.ensures.rules plan c.requires.plan in
+    let stacked_row : (j : ℕ) → j < plan.width → j < 16 = λ j row. omega (arith, row, few) in
+    record {
+      within = c.requires.pass;
       shifted = λ j row.
-          c.shift_pass.ensures.bits j (stacked_row j row) row
-          (c.copy_from.ensures.shifted j (stacked_row j row) ∙ c.common.ensures.shifted j (stacked_row j row) ∙ ap (λ (t : PlanTables). steady_shifted t j) (sym same));
+          c.walk_pass.ensures.shifted j (stacked_row j row) (subst (λ (t : PlanTables). j < t.width) (sym same) row)
+          (c.copy_from.ensures.shifted j (stacked_row j row) ∙ c.common.ensures.shifted j (stacked_row j row) ∙ ap (λ (t : PlanTables). steady_shifted t j) (sym same))
+          ∙ ap (λ (t : PlanTables). tdi_bits (joined (row_bits board (scan_of_pass board t c.args.pass j)))) same;
       expected = λ j row.
-          c.expect_pass.ensures.bits j (stacked_row j row)
-          (c.copy_from.ensures.expected j (stacked_row j row) ∙ c.common.ensures.expected j (stacked_row j row) ∙ ap (λ (t : PlanTables). steady_compared t (driver_bit t.codes j)) (sym same));
-      mask = λ j row. c.expect_pass.ensures.mask j;
-    })
+          c.walk_pass.ensures.expected j (stacked_row j row)
+          (c.copy_from.ensures.expected j (stacked_row j row) ∙ c.common.ensures.expected j (stacked_row j row) ∙ ap (λ (t : PlanTables). steady_compared t (driver_bit t.codes j)) (sym same))
+          ∙ ap (λ (t : PlanTables). tdo_bits (joined (row_bits board (scan_of_pass board t c.args.pass (suc j))))) same;
+      mask = λ j row.
+          let marked = c.walk_pass.ensures.mask 0 j refl (c.copy_from.ensures.mask ∙ c.common.ensures.mask ∙ ap (λ (t : PlanTables). steady_compared t (λ d. true)) (sym same))
+          ∙ ap (λ (t : PlanTables). mask_bits (joined (row_bits board (scan_of_pass board t c.args.pass (suc j))))) same in
+          search rules;
+    }
