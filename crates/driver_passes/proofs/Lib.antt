@@ -13,5 +13,6 @@ pub mod AlikeLemmas
 pub mod PairLemmas
 pub mod EnabledLemmas
 pub mod DoneLemmas
+pub mod FirstLemmas
 pub mod UsefulLemmas
 mod Samples

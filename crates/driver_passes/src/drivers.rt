@@ -1,8 +1,8 @@
 // The passes until each tested driver is enabled.
-ghost use Rattle.std.specs.Prelude.{◌≡◌, ◌<◌, ◌≤◌, ◌||◌, ◌++◌, ◌∷◌, [], false, true, fold, length, All, IfOk, OnOk};
+ghost use Rattle.std.specs.Prelude.{◌≡◌, ◌<◌, ◌≤◌, ◌||◌, ◌++◌, ◌∷◌, [], false, true, fold, length, slice_get, take, All, IfOk, IfSome, OnOk};
 ghost use Rattle.std.specs.List.{flat_map, list_any};
 ghost use Rattle.board_defs.specs.Settings.{holds};
-ghost use Rattle.board_defs.specs.Passes.{driver_pass, driver_passes, drivers_by_net, is_enabled, useful_controls};
+ghost use Rattle.board_defs.specs.Passes.{driver_pass, driver_passes, drivers_by_net, is_enabled, passes_of, useful_controls};
 ghost use Rattle.driver_passes.specs.inner.Drafts.{drafted};
 ghost use Rattle.driver_passes.specs.inner.Progress.{EnableTested, IsProgress, IsUsefulDriver, enabling, is_held};
 
@@ -149,4 +149,44 @@ pub fn driver_passes(alloc: Global, board: &BoardTables<'_>) -> Result<Progress,
         progress.add_for_drivers(alloc, board, board.tested_drivers(net))?;
     }
     Ok(progress)
+}
+
+/// The first tested driver of the first net that has one.
+fn first_driver(board: &BoardTables<'_>) -> Option<Drive>
+    ensures first { result
+        ≡ slice_get (flat_map (λ drivers. drivers) (drivers_by_net board.now)) 0 }
+    ensures useful { IfSome result (IsUsefulDriver board.now) }
+{
+    for net in 0..board.nets() {
+        if let Some(d) = board.tested_drivers(net).first() {
+            return Some(*d);
+        }
+    }
+    None
+}
+
+/// The pass for a tested driver, where there is no pass so far.
+fn first_pass_for(alloc: Global, board: &BoardTables<'_>, d: Drive) -> Result<Setting, AllocError>
+    requires { IsUsefulDriver board.now d }
+    ensures { IfOk result (λ pass. pass
+        ≡ driver_pass board.now (useful_controls board.now) [] d) }
+{
+    let none = Progress::new(alloc, board)?;
+    let draft = driver_pass(alloc, board, &none, d)?;
+    draft.setting(alloc)
+}
+
+/// The first of the board's passes, where it has one. That is the pass for its first tested driver:
+/// a board without tested drivers has no paired nets either.
+pub fn first_pass_by(alloc: Global, board: &BoardTables<'_>) -> Result<Vec<Setting>, AllocError>
+    ensures { IfOk result (λ passes. passes.items ≡ take 1 (passes_of board.now)) }
+{
+    let mut passes = Vec::new(alloc);
+    match first_driver(board) {
+        None => Ok(passes),
+        Some(d) => {
+            passes.push(first_pass_for(alloc, board, d)?)?;
+            Ok(passes)
+        }
+    }
 }

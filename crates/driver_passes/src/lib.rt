@@ -19,4 +19,4 @@ mod tables;
 mod tested;
 mod walk;
 
-pub use making::passes;
+pub use making::{first_pass, passes};

@@ -1,11 +1,11 @@
 // The passes of a board, step after step.
-ghost use Rattle.std.specs.Prelude.{◌≡◌, ◌<◌, ◌^◌, length, IfOk};
+ghost use Rattle.std.specs.Prelude.{◌≡◌, ◌<◌, ◌^◌, length, take, IfOk};
 ghost use Rattle.board_defs.specs.Passes.{ArePasses, passes_of};
 ghost use Rattle.net_classes.specs.Kept.{AreClasses};
 ghost use Rattle.driver_passes.specs.Useful.{HoldUseful};
 
 use crate::classed::ClassedBoard;
-use crate::drivers::driver_passes;
+use crate::drivers::{driver_passes, first_pass_by};
 use crate::pairs::pair_passes;
 use crate::tables::BoardTables;
 use board_defs::{Board, Setting};
@@ -37,4 +37,17 @@ pub fn passes(alloc: Global, board: &Board, classes: &Classes) -> Result<Vec<Set
 {
     let tables = BoardTables::new(alloc, ClassedBoard::new(board, classes))?;
     passes_by(alloc, &tables)
+}
+
+/// The first of the passes of the board, where it has one, made without the others.
+pub fn first_pass(
+    alloc: Global,
+    board: &Board,
+    classes: &Classes,
+) -> Result<Vec<Setting>, AllocError>
+    requires { AreClasses board.now classes.now }
+    ensures { IfOk result (λ passes. passes.items ≡ take 1 (passes_of board.now)) }
+{
+    let tables = BoardTables::new(alloc, ClassedBoard::new(board, classes))?;
+    first_pass_by(alloc, &tables)
 }

@@ -1,12 +1,12 @@
 -- The passes so far.
-use Rattle.std.specs.Prelude.{◌≡◌, ◌<◌, ◌+◌, ◌/◌, ℕ, Bool, true, List, length, Some, slice_get, Contains}
-use Rattle.std.specs.List.{list_any}
+use Rattle.std.specs.Prelude.{◌≡◌, ◌<◌, ◌+◌, ◌/◌, ℕ, Bool, true, List, drop, length, Some, slice_get, Contains}
+use Rattle.std.specs.List.{flat_map, list_any}
 use Rattle.board_defs.specs.declared.board.Ctl.{Ctl}
 use Rattle.board_defs.specs.declared.board.RawBoard.{RawBoard}
 use Rattle.board_defs.specs.declared.board.Drive.{Drive}
 use Rattle.board_defs.specs.declared.board.Drive.TheVariants.{By}
 use Rattle.board_defs.specs.Settings.{holds}
-use Rattle.board_defs.specs.Passes.{add_for_driver, is_enabled, useful_controls}
+use Rattle.board_defs.specs.Passes.{add_for_driver, drivers_by_net, is_enabled, useful_controls}
 use Rattle.driver_passes.specs.declared.drivers.Progress.{Progress}
 use Rattle.driver_passes.specs.inner.NumberSets.{is_in}
 use Rattle.driver_passes.specs.Useful.{HoldUseful}
@@ -38,3 +38,7 @@ EnableTested board passes = (n : ℕ) (d : Drive) → n < length board.nets → 
 -- the passes, with one more for the driver where none of them enables it
 abbrev pub enabling : RawBoard → List (List Ctl) → Drive → List (List Ctl)
 enabling board = add_for_driver board (useful_controls board)
+
+-- the tested drivers of net n and of each later one, net by net
+abbrev pub drivers_from : RawBoard → ℕ → List Drive
+drivers_from board n = flat_map (λ drivers. drivers) (drop n (drivers_by_net board))
