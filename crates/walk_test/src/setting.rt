@@ -1,5 +1,5 @@
 // The walk setting.
-ghost use Rattle.std.specs.Prelude.{◌≡◌, ◌<◌, ◌^◌, ◌++◌, ◌∷◌, [], cond, filter, not, length, Some, IfOk, OnOk};
+ghost use Rattle.std.specs.Prelude.{◌≡◌, ◌<◌, ◌^◌, ◌++◌, ◌∷◌, [], cond, filter, not, length, slice_get, Some, IfOk, OnOk};
 ghost use Rattle.std.specs.Option.{option_to_list};
 ghost use Rattle.board_defs.specs.Passes.{passes_of};
 ghost use Rattle.board_defs.specs.Settings.{holds};
@@ -157,7 +157,7 @@ pub fn walk_settings(
     board: &Board,
     passes: &[Setting],
 ) -> Result<Vec<Setting>, AllocError>
-    requires { passes.now ≡ passes_of board.now }
+    requires { slice_get passes.now 0 ≡ slice_get (passes_of board.now) 0 }
     ensures settings { IfOk result (λ settings. settings.items ≡ option_to_list (walk_setting board.now)) }
     ensures few { IfOk result (λ settings. length settings.items < 2 ^ 32) }
     ensures plannable { IfOk result (λ settings. ArePlannable board.now settings.items) }

@@ -1,5 +1,5 @@
 // A walk, and its scans.
-ghost use Rattle.std.specs.Prelude.{◌≡◌, ◌<◌, IfOk};
+ghost use Rattle.std.specs.Prelude.{◌≡◌, ◌<◌, slice_get, IfOk};
 ghost use Rattle.board_defs.specs.Passes.{passes_of};
 ghost use Rattle.scan_planner.specs.Plans.{IsRoom};
 ghost use Rattle.walk_test.specs.Tables.{IsWalkOf, scan_count};
@@ -37,9 +37,9 @@ impl Model for Walk {
 }
 
 impl Walk {
-    /// The walk of a board with these passes, which are those of the board's test.
+    /// The walk of a board, from the first of the passes of its test, where that has one. Whatever follows it is not looked at.
     pub fn new(alloc: Global, board: &Board, passes: &[Setting]) -> Result<Walk, AllocError>
-        requires { passes.now ≡ passes_of board.now }
+        requires { slice_get passes.now 0 ≡ slice_get (passes_of board.now) 0 }
         ensures { IfOk result (λ walk. IsWalkOf board.now walk) }
     {
         let _rules = board.raw();
