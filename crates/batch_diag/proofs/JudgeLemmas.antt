@@ -46,14 +46,18 @@ cut_rises m w p q some less =
     let more : p * m ≤ q * m = mul-le-mul_right m less in
     le-div (p * m / w) (q * m) w some (omega (arith, div-mul-le_self (p * m) w, more))
 
-cut_start : (m w : ℕ) → 0 * m / w ≡ 0
+pub cut_start : (m w : ℕ) → 0 * m / w ≡ 0
 cut_start m w = grind arith
 
-cut_end : (m w : ℕ) → 0 < w → w * m / w ≡ m
+pub cut_end : (m w : ℕ) → 0 < w → w * m / w ≡ m
 cut_end m w some = grind (arith, mul-div_left)
 
+-- and each piece ends within the blocks
+pub cut_within : (m w p : ℕ) → 0 < w → p ≤ w → p * m / w ≤ m
+cut_within m w p some less = omega (arith, cut_rises m w p w some less, cut_end m w some)
+
 -- two neighbouring ranges are one
-parts : {X : Type 0} (xs : List X) (from middle to : ℕ) → from ≤ middle → middle ≤ to → take (to - from) (drop from xs) ≡ take (middle - from) (drop from xs) ++ take (to - middle) (drop middle xs)
+pub parts : {X : Type 0} (xs : List X) (from middle to : ℕ) → from ≤ middle → middle ≤ to → take (to - from) (drop from xs) ≡ take (middle - from) (drop from xs) ++ take (to - middle) (drop middle xs)
 parts {X} xs from middle to low high =
     let sum : to - from ≡ (middle - from) + (to - middle) = omega arith in
     let start : from + (middle - from) ≡ middle = omega arith in

@@ -1,7 +1,7 @@
 -- Blocks that are read one after the other.
-use Rattle.std.proofs.Common.{◌≡◌, ℕ, ◌+◌, ◌<◌, ◌≤◌, Bool, true, false, cond, Option, Some, None, Result, Ok, Err, List, [], ◌∷◌, ◌++◌, length, refl, sym, ap, ◌∙◌, subst, arith, append_assoc, append-nil}
+use Rattle.std.proofs.Common.{◌≡◌, ℕ, ◌+◌, ◌-◌, ◌<◌, ◌≤◌, Bool, true, false, cond, Option, Some, None, Result, Ok, Err, List, [], ◌∷◌, ◌++◌, length, length-drop, suc, get_or, map, take, drop, refl, sym, ap, ◌∙◌, subst, arith, append_assoc, append-nil}
 use Rattle.std.specs.Prelude.{IfSome}
-use Rattle.std.proofs.lemmas.List.{length_push}
+use Rattle.std.proofs.lemmas.List.{drop_more, length-map, length-take-le, length_push, map-append, take_all}
 use Rattle.std.proofs.lemmas.Option.{IfSome_then}
 use Rattle.answers.specs.Gives.{Gives}
 use Rattle.text_lines.specs.Words.{Word}
@@ -10,13 +10,12 @@ use Rattle.batch_diag.specs.declared.block.Block.{Block}
 use Rattle.batch_diag.specs.declared.fault.BatchFault.{BatchFault}
 use Rattle.batch_diag.specs.declared.fault.BatchFault.TheVariants.{Start, Title as WrongTitle, Inner, Memory}
 use Rattle.batch_diag.specs.declared.lines.Title.{Title}
+use Rattle.batch_diag.specs.declared.lines.UnreadBlock.{UnreadBlock}
+use Rattle.batch_diag.specs.declared.reader.Reading.{Reading}
 use Rattle.batch_diag.specs.Batch.{Answer, BlockLines, begins_block, is_wrong_title, start_fault, title_fault, IsOfLines, block_then, blocks_of, logs_from, onto, unless, up_to_title, batch_told}
 use Rattle.batch_diag.specs.inner.Cutting.{rows_from, blocks_at, in_block}
-
--- blocks that were read, and what is said of those behind them
-abbrev pub after : List Block → Answer → Answer
-after blocks (Ok later) = Ok (blocks ++ later)
-after blocks (Err fault) = Err fault
+use Rattle.batch_diag.specs.inner.Reading.{IsRead, after, first_unread, lines_of_unread, said_between, said_then}
+use Rattle.batch_diag.proofs.JudgeLemmas.{cut_end, cut_start, parts}
 
 after_none : (answer : Answer) → after [] answer ≡ answer
 after_none (Ok blocks) = refl
@@ -31,9 +30,6 @@ abbrev pub titles_left : Option Title → ℕ
 titles_left None = 0
 titles_left (Some title) = 1 + length title.behind.now
 
-pub at_none : (rows len : ℕ) (lines : List BlockLines) (next : Option Title) → lines ≡ blocks_at next → logs_from rows len 1 lines ≡ after [] (logs_from rows len 1 (blocks_at next))
-at_none rows len lines next is = ap (logs_from rows len 1) is ∙ sym (after_none (logs_from rows len 1 (blocks_at next)))
-
 -- the first block of several, by what is said of it alone
 block_holds : (id : Word) (board n : ℕ) (said : LogAnswer) (log : List (List Bool)) (later : Answer) → in_block n said ≡ Ok log → block_then id board said later ≡ onto (record { id = id; log = log }) later
 block_holds id board n (Ok here) log later is = let same : here ≡ log = cc in ap (λ (l : List (List Bool)). onto (record { id = id; log = l }) later) same
@@ -43,34 +39,123 @@ block_fails : (id : Word) (board : ℕ) (said : LogAnswer) (fault : BatchFault) 
 block_fails id board (Ok log) fault later is = absurd cc
 block_fails id board (Err inner) fault later is = cc
 
--- one block, by its title and the text of its lines
-module _ (rows len : ℕ) (said : Answer) (blocks : List Block) (next following : Option Title) (title : Title) (own : List ℕ) (is : next ≡ Some title)
-    (now : said ≡ after blocks (logs_from rows len (length blocks + 1) (blocks_at next)))
-    (lines : up_to_title (rows_from (title.line + 1) title.behind.now) ≡ rows_from (title.line + 1) own)
-    (later : blocks_of (rows_from (title.line + 1) title.behind.now) ≡ blocks_at following) where
-  abbrev rest : Answer
-  rest = logs_from rows len (length blocks + 1 + 1) (blocks_at following)
+-- what is said of blocks is said of the first of them and then of the others
+then_onto : (block : Block) (said later : Answer) → onto block (said_then said later) ≡ said_then (onto block said) later
+then_onto block (Ok blocks) (Ok later) = refl
+then_onto block (Ok blocks) (Err fault) = refl
+then_onto block (Err fault) later = refl
 
-  here : said ≡ after blocks (block_then title.id.now (length blocks + 1) (rows_of_lines rows len (rows_from (title.line + 1) own)) rest)
-  here =
-      now ∙ ap (λ (o : Option Title). after blocks (logs_from rows len (length blocks + 1) (blocks_at o))) is
-      ∙ ap (λ ls. after blocks (block_then title.id.now (length blocks + 1) (rows_of_lines rows len ls) (logs_from rows len (length blocks + 1 + 1) (blocks_of (rows_from (title.line + 1) title.behind.now))))) lines
-      ∙ ap (λ bs. after blocks (block_then title.id.now (length blocks + 1) (rows_of_lines rows len (rows_from (title.line + 1) own)) (logs_from rows len (length blocks + 1 + 1) bs))) later
+then_block : (id : Word) (board : ℕ) (log : LogAnswer) (said later : Answer) → block_then id board log (said_then said later) ≡ said_then (block_then id board log said) later
+then_block id board (Ok log) said later = then_onto (record { id = id; log = log }) said later
+then_block id board (Err fault) said later = refl
 
-  pub next_block : (block : Block) (board : ℕ) → block.id ≡ title.id.now → in_block board (rows_of_lines rows len (rows_from (title.line + 1) own)) ≡ Ok block.log → said ≡ after (blocks ++ block ∷ []) (logs_from rows len (length (blocks ++ block ∷ []) + 1) (blocks_at following))
-  next_block block board id log =
-      let count : length blocks + 1 + 1 ≡ length (blocks ++ block ∷ []) + 1 = omega (arith, length_push blocks block) in
-      here ∙ ap (after blocks) (block_holds title.id.now (length blocks + 1) board (rows_of_lines rows len (rows_from (title.line + 1) own)) block.log rest log)
-      ∙ ap (λ (word : Word). after blocks (onto (record { id = word; log = block.log }) rest)) (sym id)
-      ∙ after_onto blocks block rest ∙ ap (λ n. after (blocks ++ block ∷ []) (logs_from rows len n (blocks_at following))) count
+logs_append : (rows len n : ℕ) (xs ys : List BlockLines) → logs_from rows len n (xs ++ ys) ≡ said_then (logs_from rows len n xs) (logs_from rows len (n + length xs) ys)
+logs_append rows len n [] ys = sym (after_none (logs_from rows len (n + 0) ys) ∙ ap (λ (k : ℕ). logs_from rows len k ys) (omega arith))
+logs_append rows len n (x ∷ xs) ys =
+    let number : n + 1 + length xs ≡ n + suc (length xs) = omega arith in
+    ap (λ (said : Answer). block_then x.id n (rows_of_lines rows len x.lines) said) (logs_append rows len (n + 1) xs ys)
+    ∙ then_block x.id n (rows_of_lines rows len x.lines) (logs_from rows len (n + 1) xs) (logs_from rows len (n + 1 + length xs) ys)
+    ∙ ap (λ (k : ℕ). said_then (block_then x.id n (rows_of_lines rows len x.lines) (logs_from rows len (n + 1) xs)) (logs_from rows len k ys)) number
 
-  pub no_block : (fault : BatchFault) → IfSome (batch_told fault) (λ f. in_block (length blocks + 1) (rows_of_lines rows len (rows_from (title.line + 1) own)) ≡ Err f) → IfSome (batch_told fault) (λ f. said ≡ Err f)
-  no_block fault fails =
-      IfSome_then (batch_told fault) fails (λ f is. here ∙ ap (after blocks) (block_fails title.id.now (length blocks + 1) (rows_of_lines rows len (rows_from (title.line + 1) own)) f rest is))
+-- an answer of code by what is said of blocks and then of those behind them
+module _ {V : Type 0} (view : V → List Block) (rows len : ℕ) (said later : Answer) where
+  pub read_first : (fault : BatchFault) → IfSome (batch_told fault) (λ f. said ≡ Err f) → IfSome (batch_told fault) (λ f. said_then said later ≡ Err f)
+  read_first fault fails = IfSome_then (batch_told fault) fails (λ f is. ap (λ (s : Answer). said_then s later) is)
 
-pub all_blocks : (rows len n : ℕ) (said : Answer) (blocks : List Block) (next : Option Title) → next ≡ None → said ≡ after blocks (logs_from rows len n (blocks_at next)) → said ≡ Ok blocks
-all_blocks rows len n said blocks next is now =
-    now ∙ ap (λ (o : Option Title). after blocks (logs_from rows len n (blocks_at o))) is ∙ ap Ok (append-nil blocks)
+  pub read_later : (blocks : List Block) (fault : BatchFault) → said ≡ Ok blocks → IfSome (batch_told fault) (λ f. later ≡ Err f) → IfSome (batch_told fault) (λ f. said_then said later ≡ Err f)
+  read_later blocks fault is fails = IfSome_then (batch_told fault) fails (λ f bad. ap (λ (s : Answer). said_then s later) is ∙ ap (after blocks) bad)
+
+  pub read_whole : (blocks more all : List Block) → said ≡ Ok blocks → later ≡ Ok more → all ≡ blocks ++ more → said_then said later ≡ Ok all
+  read_whole blocks more all is is_more sum = ap (λ (s : Answer). said_then s later) is ∙ ap (after blocks) is_more ∙ ap Ok (sym sum)
+
+-- ranges of the blocks of a reading
+module _ (r : Reading) where
+  said_number : (from middle to : ℕ) → from ≤ middle → middle ≤ to → to ≤ length r.unread.now → said_between r from to ≡ said_then (said_between r from middle) (said_between r middle to)
+  said_number from middle to low high within =
+      let first = map lines_of_unread (take (middle - from) (drop from r.unread.now)) in
+      let second = map lines_of_unread (take (to - middle) (drop middle r.unread.now)) in
+      let count : length first ≡ middle - from =
+      length-map (take (middle - from) (drop from r.unread.now)) lines_of_unread ∙ length-take-le (middle - from) (drop from r.unread.now) (omega (arith, length-drop from r.unread.now)) in
+      let number : from + 1 + length first ≡ middle + 1 = omega (arith, count) in
+      ap (λ (l : List BlockLines). logs_from r.rows r.len (from + 1) l) (ap (map lines_of_unread) (parts r.unread.now from middle to low high) ∙ map-append lines_of_unread (take (middle - from) (drop from r.unread.now)) (take (to - middle) (drop middle r.unread.now)))
+      ∙ logs_append r.rows r.len (from + 1) first second
+      ∙ ap (λ (n : ℕ). said_then (said_between r from middle) (logs_from r.rows r.len n second)) number
+
+  -- nothing is said of no block
+  said_nothing : (i : ℕ) → said_between r i i ≡ Ok []
+  said_nothing i = let none : i - i ≡ 0 = omega arith in ap (λ (n : ℕ). logs_from r.rows r.len (i + 1) (map lines_of_unread (take n (drop i r.unread.now)))) none
+
+  pub read_start : (from first : ℕ) (none : List Block) → first ≡ from → none ≡ [] → said_between r from first ≡ Ok none
+  read_start from first none same is = ap (λ (n : ℕ). said_between r from n) same ∙ said_nothing from ∙ ap Ok (sym is)
+
+  module _ (i : ℕ) (block : UnreadBlock) (less : i < length r.unread.now) (is : block ≡ get_or r.unread.now i block) where
+    abbrev own : LogAnswer
+    own = rows_of_lines r.rows r.len (rows_from (block.line + 1) block.own.now)
+
+    said_one : said_between r i (i + 1) ≡ block_then block.id.now (i + 1) own (Ok [])
+    said_one =
+        let one : i + 1 - i ≡ 1 = omega arith in
+        let alone : take (i + 1 - i) (drop i r.unread.now) ≡ block ∷ [] = ap (λ n. take n (drop i r.unread.now)) one ∙ ap (take 1) (drop_more r.unread.now i block less) ∙ ap (λ (b : UnreadBlock). b ∷ []) (sym is) in
+        ap (λ (l : List UnreadBlock). logs_from r.rows r.len (i + 1) (map lines_of_unread l)) alone
+
+    -- one block more
+    pub read_more : (from board : ℕ) (found more : List Block) (read : Block) → from ≤ i → said_between r from i ≡ Ok found → read.id ≡ block.id.now → in_block board own ≡ Ok read.log → more ≡ found ++ read ∷ [] → said_between r from (i + 1) ≡ Ok more
+    read_more from board found more read low said id log sum =
+        said_number from i (i + 1) low (omega arith) (omega (arith, less))
+        ∙ read_whole (λ (l : List Block). l) r.rows r.len (said_between r from i) (said_between r i (i + 1)) found (read ∷ []) more said
+        (said_one ∙ block_holds block.id.now (i + 1) board own read.log (Ok []) log ∙ ap (λ (word : Word). Ok (record { id = word; log = read.log } ∷ [])) (sym id)) sum
+
+    -- where one is no log, nothing behind it is told of
+    pub read_none : (from to : ℕ) (found : List Block) (fault : BatchFault) → from ≤ i → i < to → to ≤ length r.unread.now → said_between r from i ≡ Ok found → IfSome (batch_told fault) (λ f. in_block (i + 1) own ≡ Err f) → IfSome (batch_told fault) (λ f. said_between r from to ≡ Err f)
+    read_none from to found fault low high within said fails =
+        IfSome_then (batch_told fault) fails (λ f bad.
+        said_number from i to low (omega (arith, high)) within
+        ∙ ap (λ (s : Answer). said_then s (said_between r i to)) said
+        ∙ ap (after found) (said_number i (i + 1) to (omega arith) (omega (arith, high)) within
+        ∙ ap (λ (s : Answer). said_then s (said_between r (i + 1) to)) (said_one ∙ block_fails block.id.now (i + 1) own f (Ok []) bad)))
+
+  -- what two halves read
+  pub read_both : {V : Type 0} (view : V → List Block) (from middle to : ℕ) (result : Result V BatchFault) → from ≤ middle → middle ≤ to → to ≤ length r.unread.now →
+      IsRead view r.rows r.len (said_then (said_between r from middle) (said_between r middle to)) result → IsRead view r.rows r.len (said_between r from to) result
+  read_both view from middle to result low high within read = subst (λ (said : Answer). IsRead view r.rows r.len said result) (sym (said_number from middle to low high within)) read
+
+  -- all pieces read all blocks
+  pub read_all : 0 < r.pieces → said_between r (first_unread r 0) (first_unread r r.pieces) ≡ logs_from r.rows r.len 1 (map lines_of_unread r.unread.now)
+  read_all some =
+      let blocks = r.unread.now in
+      let start : first_unread r 0 ≡ 0 = cut_start (length blocks) r.pieces in
+      let end : first_unread r r.pieces ≡ length blocks = cut_end (length blocks) r.pieces some in
+      let whole : length blocks - 0 ≡ length blocks = omega arith in
+      ap (λ (n : ℕ). said_between r n (first_unread r r.pieces)) start
+      ∙ ap (λ (n : ℕ). said_between r 0 n) end
+      ∙ ap (λ (n : ℕ). logs_from r.rows r.len 1 (map lines_of_unread (take n blocks))) whole
+      ∙ ap (λ (l : List UnreadBlock). logs_from r.rows r.len 1 (map lines_of_unread l)) (take_all (length blocks) blocks (omega arith))
+
+  pub read_end : (from i end : ℕ) (found : List Block) → i ≡ end → said_between r from i ≡ Ok found → said_between r from end ≡ Ok found
+  read_end from i end found same said = ap (λ (n : ℕ). said_between r from n) (sym same) ∙ said
+
+  -- the pieces read what is said of a text with these blocks
+  pub read_whole_text : {V : Type 0} (view : V → List Block) (said : Answer) (result : Result V BatchFault) → 0 < r.pieces → said ≡ logs_from r.rows r.len 1 (map lines_of_unread r.unread.now) →
+      IsRead view r.rows r.len (said_between r (first_unread r 0) (first_unread r r.pieces)) result → IsRead view r.rows r.len said result
+  read_whole_text view said result some is read = subst (λ (s : Answer). IsRead view r.rows r.len s result) (read_all some ∙ sym is) read
+
+-- blocks that are cut out of a text
+pub cut_more : (lines : List BlockLines) (unread : List UnreadBlock) (next following : Option Title) (title : Title) (own : List ℕ) (block : UnreadBlock) → next ≡ Some title → lines ≡ map lines_of_unread unread ++ blocks_at next →
+    up_to_title (rows_from (title.line + 1) title.behind.now) ≡ rows_from (title.line + 1) own → blocks_of (rows_from (title.line + 1) title.behind.now) ≡ blocks_at following →
+    lines_of_unread block ≡ record { id = title.id.now; lines = rows_from (title.line + 1) own } → lines ≡ map lines_of_unread (unread ++ block ∷ []) ++ blocks_at following
+cut_more lines unread next following title own block is now here later same =
+    now ∙ ap (λ (o : Option Title). map lines_of_unread unread ++ blocks_at o) is
+    ∙ ap (λ (ls : List NumberedLine). map lines_of_unread unread ++ block_and title.id.now ls (blocks_of (rows_from (title.line + 1) title.behind.now))) here
+    ∙ ap (λ (bs : List BlockLines). map lines_of_unread unread ++ block_and title.id.now (rows_from (title.line + 1) own) bs) later
+    ∙ ap (λ (b : BlockLines). map lines_of_unread unread ++ (b ∷ blocks_at following)) (sym same)
+    ∙ sym (append_assoc (map lines_of_unread unread) (lines_of_unread block ∷ []) (blocks_at following))
+    ∙ ap (λ (l : List BlockLines). l ++ blocks_at following) (sym (map-append lines_of_unread unread (block ∷ [])))
+  where
+    block_and : Word → List NumberedLine → List BlockLines → List BlockLines
+    block_and id ls bs = record { id = id; lines = ls } ∷ bs
+
+pub cut_all : (lines : List BlockLines) (unread : List UnreadBlock) (next : Option Title) → next ≡ None → lines ≡ map lines_of_unread unread ++ blocks_at next → lines ≡ map lines_of_unread unread
+cut_all lines unread next is now = now ∙ ap (λ (o : Option Title). map lines_of_unread unread ++ blocks_at o) is ∙ append-nil (map lines_of_unread unread)
 
 -- the faults of lines
 pub start_of_lines : (lines : List NumberedLine) (fault : BatchFault) → start_fault lines ≡ Some fault → IsOfLines fault
@@ -104,8 +189,13 @@ unless_none view result start title said no_start no_title gives =
     let same : unless start (unless title said) ≡ said = ap (λ (o : Option BatchFault). unless o (unless title said)) no_start ∙ ap (λ (o : Option BatchFault). unless o said) no_title in
     subst (λ (s : Answer). Gives batch_told view (λ answer. s ≡ answer) result) (sym same) gives
 
--- the blocks that were read have their titles behind them
-pub next_count : (following : Option Title) (blocks : List Block) (block : Block) (line : ℕ) → length blocks < line → IfSome following (λ title. line + 1 ≤ title.line) → IfSome following (λ title. length (blocks ++ block ∷ []) < title.line)
+-- what a text says by its blocks, where no line and no title is faulty
+pub unread_said : (rows len : ℕ) (start title : Option BatchFault) (lines blocks : List BlockLines) → start ≡ None → title ≡ None → lines ≡ blocks → unless start (unless title (logs_from rows len 1 lines)) ≡ logs_from rows len 1 blocks
+unread_said rows len start title lines blocks no_start no_title same =
+    ap (λ (o : Option BatchFault). unless o (unless title (logs_from rows len 1 lines))) no_start ∙ ap (λ (o : Option BatchFault). unless o (logs_from rows len 1 lines)) no_title ∙ ap (logs_from rows len 1) same
+
+-- the blocks that are cut out have their titles behind them
+pub next_count : (following : Option Title) (blocks : List UnreadBlock) (block : UnreadBlock) (line : ℕ) → length blocks < line → IfSome following (λ title. line + 1 ≤ title.line) → IfSome following (λ title. length (blocks ++ block ∷ []) < title.line)
 next_count None blocks block line less later = tt
 next_count (Some title) blocks block line less later = omega (arith, less, later, length_push blocks block)
 

@@ -17,7 +17,7 @@ pub use block::Block;
 pub use fault::BatchFault;
 pub use judging::diagnose_all;
 pub use listing::write_batch;
-pub use reader::blocks;
+pub use reader::{blocks, blocks_by};
 pub use verdict::Verdict;
 
 #[cfg(test)]

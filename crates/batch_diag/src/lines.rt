@@ -1,11 +1,13 @@
 // The lines of a batch: titles, which begin blocks, and the lines between them.
-ghost use Rattle.std.specs.Prelude.{◌≡◌, ◌+◌, ◌<◌, ◌≤◌, ◌^◌, ◌∷◌, [], ◌&&◌, not, length, IfSome, option_copied};
+ghost use Rattle.std.specs.Prelude.{◌≡◌, ◌+◌, ◌<◌, ◌≤◌, ◌^◌, ◌∷◌, [], ◌&&◌, not, length, map, IfOk, IfSome, option_copied};
 ghost use Rattle.text_lines.specs.Words.{words_of};
 ghost use Rattle.response_log.specs.LogRows.{holds_word, row_lines};
 ghost use Rattle.batch_diag.specs.Batch.{is_title, first_or_none, id_of, is_id, names_board, start_fault, title_fault, up_to_title, blocks_of};
+ghost use Rattle.batch_diag.specs.inner.Reading.{AreShort, lines_of_unread};
 ghost use Rattle.batch_diag.specs.inner.Cutting.{rows_from, begins_row, blocks_at, or_nothing};
 
 use crate::fault::BatchFault;
+use std::alloc::{AllocError, Global};
 use text_lines::{first_line, is_blank, is_word, next_word};
 
 /// A line that begins a block: its number, the id in it, and the text of the lines behind it.
@@ -14,6 +16,14 @@ pub struct Title<'a> {
     pub line: usize,
     pub id: &'a [u8],
     pub behind: &'a [u8],
+}
+
+/// A block whose log is to be read: the number of the line of its title, the id in that, and the text of its lines.
+#[derive(Clone, Copy)]
+pub struct UnreadBlock<'a> {
+    pub line: usize,
+    pub id: &'a [u8],
+    pub own: &'a [u8],
 }
 
 fn has_words(line: &[u8]) -> bool
@@ -171,4 +181,24 @@ pub fn cut_at_title(text: &[u8], number: usize) -> (&[u8], Option<Title<'_>>)
         rest = after;
     }
     (text, None)
+}
+
+/// The blocks of a text, whatever its titles are.
+pub fn list_blocks(alloc: Global, text: &[u8]) -> Result<Vec<UnreadBlock<'_>>, AllocError>
+    requires { length text.now < 2 ^ 32 }
+    ensures blocks { IfOk result (λ unread. blocks_of (row_lines text.now) ≡ map lines_of_unread unread.items) }
+    ensures short { IfOk result (λ unread. AreShort unread.items) }
+{
+    let mut unread = Vec::new(alloc);
+    let mut next = cut_at_title(text, 1).1;
+    while let Some(title) = next {
+        let (own, following) = cut_at_title(title.behind, title.line + 1);
+        unread.push(UnreadBlock {
+            line: title.line,
+            id: title.id,
+            own,
+        })?;
+        next = following;
+    }
+    Ok(unread)
 }
