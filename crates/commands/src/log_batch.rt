@@ -10,7 +10,7 @@ use crate::board_test::{singles_respond, test_logs_shaped, test_means};
 use crate::planned::{Planned, planned_board};
 use crate::texts::LogTexts;
 use crate::unput::{Unput, answer_by, unput_by_batch};
-use batch_diag::{blocks, diagnose_all, write_batch};
+use batch_diag::{blocks_by, diagnose_all, write_batch};
 use bt_base::{Gate, Sink};
 use bt_bits::Line;
 use diagnoser::law::{explaining_listed, passing_unexplained};
@@ -57,7 +57,7 @@ fn put_batch<R: Threads + Sync, K: Sink, G: Gate>(
     ensures { AnswersOn judging_each verdicts_text DiagnosesEach text.now planned.now.board (K.shown out.old) (K.shown out.new) result }
 {
     let Planned { board, plan } = planned;
-    let blocks = match blocks(alloc, text, plan.rows(), board.dr_bits()) {
+    let blocks = match blocks_by(rt, alloc, text, plan.rows(), board.dr_bits(), workers) {
         Ok(blocks) => blocks,
         Err(fault) => return Err(unput_by_batch(plan.rows(), fault)),
     };
