@@ -11,6 +11,7 @@ ghost use Rattle.batch_diag.specs.Verdicts.{AreLogs, AreVerdicts};
 ghost use Rattle.batch_diag.specs.inner.Judging.{IsBatch, Judged, first_of};
 
 use crate::block::Block;
+use crate::pieces::piece_start;
 use crate::verdict::Verdict;
 use board_defs::{Board, Items};
 use bt_base::{Gate, OpenGate};
@@ -142,8 +143,7 @@ fn first_of(batch: Batch<'_>, piece: u32) -> usize
     ensures value { result ≡ first_of batch.entry piece }
     ensures within { result ≤ length batch.entry.blocks.now }
 {
-    let sum = u128::from(piece) * batch.blocks.len() as u128;
-    (sum / u128::from(batch.pieces)) as usize
+    piece_start(piece, batch.pieces, batch.blocks.len())
 }
 
 // The verdicts of a piece.

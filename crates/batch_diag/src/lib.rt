@@ -10,6 +10,7 @@ mod judging;
 pub mod law;
 mod lines;
 mod listing;
+mod pieces;
 mod reader;
 mod verdict;
 

@@ -1,6 +1,5 @@
 // From a text to the logs of boards.
-ghost use Rattle.std.specs.Prelude.{◌≡◌, ℕ, ◌+◌, ◌<◌, ◌≤◌, ◌^◌, length, map, All, IfOk, IfErr, IfSome, MatchResult, Err};
-ghost use Rattle.std.specs.Prelude.{get_or};
+ghost use Rattle.std.specs.Prelude.{◌≡◌, ℕ, ◌+◌, ◌<◌, ◌≤◌, ◌^◌, length, get_or, map, All, IfOk, IfErr, IfSome, MatchResult, Err};
 ghost use Rattle.std.specs.Thread.{IsSync};
 ghost use Rattle.answers.specs.Gives.{Gives};
 ghost use Rattle.response_log.specs.LogRows.{HasSize, rows_of_lines};
@@ -11,6 +10,7 @@ ghost use Rattle.batch_diag.specs.inner.Reading.{AreShort, IsRead, IsReading, fi
 use crate::block::Block;
 use crate::fault::BatchFault;
 use crate::lines::{UnreadBlock, list_blocks, start_fault, title_fault};
+use crate::pieces::piece_start;
 use board_defs::Name;
 use response_log::{Log, LogFault, log};
 use std::alloc::Global;
@@ -104,8 +104,7 @@ fn first_unread(reading: Reading<'_>, piece: u32) -> usize
     ensures value { result ≡ first_unread reading.entry piece }
     ensures within { result ≤ length reading.entry.unread.now }
 {
-    let sum = u128::from(piece) * reading.unread.len() as u128;
-    (sum / u128::from(reading.pieces)) as usize
+    piece_start(piece, reading.pieces, reading.unread.len())
 }
 
 // Block `i`, before its log is read.
