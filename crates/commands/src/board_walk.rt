@@ -21,7 +21,7 @@ use crate::texts::BoardTexts;
 use crate::unput::{Unput, answer_by};
 use board_defs::Board;
 use bt_base::{PutFault, Sink};
-use driver_passes::passes;
+use driver_passes::first_pass;
 use net_classes::classify;
 use std::alloc::{AllocError, Global};
 use svf_writer::{write_head, write_scan, write_tail};
@@ -67,8 +67,8 @@ fn walk_of(alloc: Global, board: &Board) -> Result<Walk, AllocError>
     ensures { IfOk result (λ walk. IsWalkOf board.now walk) }
 {
     let classes = classify(alloc, board)?;
-    let passes = passes(alloc, board, &classes)?;
-    Walk::new(alloc, board, &passes)
+    let first = first_pass(alloc, board, &classes)?;
+    Walk::new(alloc, board, &first)
 }
 
 /// Puts the walking test of the board of these texts. All memory is taken before the first put.
