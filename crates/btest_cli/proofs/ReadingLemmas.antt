@@ -1,15 +1,19 @@
--- Texts that are fetched one after another, as a reading.
-use Rattle.std.proofs.Common.{◌≡◌, ℕ, suc, ◌+◌, ◌<◌, ◌≤◌, Bool, true, false, List, [], ◌∷◌, ◌++◌, length, map, take, drop, nat_lt, slice_index_or, Option, Some, None, refl, ap, sym, ◌∙◌, subst, arith, append_assoc, append-nil, Vec, Global}
-use Rattle.std.specs.Prelude.{if◌then◌else◌, Result, Err}
+-- Texts that are read one after another, as a reading.
+use Rattle.std.proofs.Common.{◌≡◌, ℕ, suc, ◌+◌, ◌<◌, ◌≤◌, Bool, true, false, List, [], ◌∷◌, ◌++◌, length, map, take, drop, nat_lt, slice_index_or, String, string_bytes, Global, Vec, Option, Some, None, refl, ap, sym, ◌∙◌, subst, arith, append_assoc, append-nil}
+use Rattle.std.specs.Prelude.{if◌then◌else◌, Result, Ok, Err, MatchResult}
 use Rattle.std.proofs.lemmas.Grind.{common_steps}
 use Rattle.std.proofs.Math.Seq.{take-suc}
-use Rattle.std.proofs.lemmas.List.{drop_more, map-append, take-append-drop, take-map}
+use Rattle.std.proofs.lemmas.List.{map-append, take-append-drop}
+use Rattle.bt_base.specs.Counts.{Rose}
 use Rattle.bt_base.specs.Texts.{Told}
+use Rattle.bt_base.proofs.Cuts.{rose_after}
 use Rattle.command_line.specs.Words.{Text}
 use Rattle.btest_cli.specs.declared.texts.Wanted.{Wanted as Lent}
 use Rattle.btest_cli.specs.declared.failure.Unread.{Unread}
-use Rattle.btest_cli.specs.Texts.{Held, Wanted, Reading, Read, TooLong, IsRead, IsReadUpTo, IsText, IsLong, Asks, names_in, read_first, reading_of, reading_in, and_text}
+use Rattle.btest_cli.specs.declared.failure.Unread.TheVariants as unread
+use Rattle.btest_cli.specs.Texts.{Held, Wanted, Reading, Read, TooLong, IsRead, IsReadUpTo, IsText, IsLong, Asks, names_in, text_called, read_first, reading_of, reading_in, and_text}
 use Rattle.btest_cli.specs.inner.Failures.{wanted_view}
+use Rattle.btest_cli.specs.inner.Reads.{AreAll, Continues, IsOne, IsReadOf, IsUnread, Reads, behind}
 
 not_long : (limit n : ℕ) (b : Bool) → nat_lt limit n ≡ b → n ≤ limit → b ≡ false
 not_long limit n true test short = grind (arith, common_steps)
@@ -36,11 +40,6 @@ long_told (Some held) wanted front P told cut = by (held wanted.name) refl told
     by None is told = absurd told
     by (Some t) is told = (t, is, told.0)
 
--- a reading, behind texts that were read before
-abbrev pub behind : List Text → Reading → Reading
-behind front (Read texts) = Read (front ++ texts)
-behind front (TooLong wanted) = TooLong wanted
-
 first_read : (wanted : Wanted) (text : Text) (rest : Option Reading) (reading : Reading) → length text ≤ wanted.limit → rest ≡ Some reading → read_first wanted (Some text) rest ≡ Some (behind (text ∷ []) reading)
 first_read wanted text rest reading short is =
     ap (read_first wanted (Some text)) is ∙ by reading
@@ -65,96 +64,183 @@ reads_none : (held : Held) → IsRead held [] (Read [])
 reads_none None = ([], refl)
 reads_none (Some held) = refl
 
--- what reading more texts gives stands behind what was read before them
-abbrev pub Continues : Held → List Wanted → List Text → Type 0
-Continues held before front = (rest : List Wanted) (reading : Reading) → IsRead held rest reading → IsRead held (before ++ rest) (behind front reading)
+behind_both : (front more : List Text) (reading : Reading) → behind front (behind more reading) ≡ behind (front ++ more) reading
+behind_both front more (Read texts) = ap Read (sym (append_assoc front more texts))
+behind_both front more (TooLong wanted) = refl
 
-behind_none : (reading : Reading) → behind [] reading ≡ reading
-behind_none (Read texts) = refl
-behind_none (TooLong wanted) = refl
+continues_both : (held : Held) (first rest : List Wanted) (front more : List Text) → Continues held first front → Continues held rest more → Continues held (first ++ rest) (front ++ more)
+continues_both held first rest front more one other behind_rest reading read =
+    let there = one (rest ++ behind_rest) (behind more reading) (other behind_rest reading read) in
+    let ordered = subst (λ texts. IsRead held texts (behind front (behind more reading))) (sym (append_assoc first rest behind_rest)) there in
+    subst (IsRead held ((first ++ rest) ++ behind_rest)) (behind_both front more reading) ordered
 
-behind_one : (front : List Text) (text : Text) (reading : Reading) → behind front (behind (text ∷ []) reading) ≡ behind (front ++ text ∷ []) reading
-behind_one front text (Read texts) = ap Read (sym (append_assoc front (text ∷ []) texts))
-behind_one front text (TooLong wanted) = refl
+pub continued : (held : Held) (wanted : List Wanted) (front : List Text) → Continues held wanted front → IsRead held wanted (Read front)
+continued held wanted front continues =
+    let whole = subst (λ texts. IsRead held (wanted ++ []) (Read texts)) (append-nil front) (continues [] (Read []) (reads_none held)) in
+    subst (λ texts. IsRead held texts (Read front)) (append-nil wanted) whole
 
-pub continues_all : (held : Held) → Continues held [] []
-continues_all held rest reading read = subst (IsRead held rest) (sym (behind_none reading)) read
+-- the names of texts, and of more
+names_both : (first rest : List Wanted) → names_in (first ++ rest) ≡ names_in first ++ names_in rest
+names_both first rest = map-append (λ (text : Wanted). text.name) first rest
 
-continues_one : (held : Held) (before : List Wanted) (front : List Text) (wanted : Wanted) (text : Text) → Continues held before front → IsText held wanted.name text → length text ≤ wanted.limit → Continues held (before ++ wanted ∷ []) (front ++ text ∷ [])
-continues_one held before front wanted text continues is short rest reading read =
-    let more = continues (wanted ∷ rest) (behind (text ∷ []) reading) (reads_more held wanted text rest reading is short read) in
-    let ordered = subst (λ texts. IsRead held texts (behind front (behind (text ∷ []) reading))) (sym (append_assoc before (wanted ∷ []) rest)) more in
-    subst (IsRead held ((before ++ wanted ∷ []) ++ rest)) (behind_one front text reading) ordered
+asks_both : (old mid new names more : List Text) → Asks old mid names → Asks mid new more → Asks old new (names ++ more)
+asks_both old mid new names more first second = second ∙ ap (λ (l : List Text). l ++ more) first ∙ append_assoc old names more
 
-continued : (held : Held) (before : List Wanted) (front : List Text) → Continues held before front → IsRead held before (Read front)
-continued held before front continues =
-    let whole = subst (λ texts. IsRead held (before ++ []) (Read texts)) (append-nil front) (continues [] (Read []) (reads_none held)) in
-    subst (λ texts. IsRead held texts (Read front)) (append-nil before) whole
+-- a text that is wanted
+module _ (held held' : Held) (before now : Text → ℕ) (asked asked' : List Text) (same : held' ≡ held) (later : (name : Text) → before name ≤ now name) (last : Lent) (asks : Asks asked asked' (last.name.now ∷ [])) where
+  up_to_here : IsReadUpTo held (wanted_view last ∷ []) (wanted_view last) asked asked'
+  up_to_here = record { before = []; after = []; are = refl; found = []; read = reads_none held; asked = asks }
 
--- texts that are wanted, cut at one of them
-split_at : (wanted : List Lent) (k : ℕ) (d : Lent) → k < length wanted → map wanted_view wanted ≡ map wanted_view (take k wanted) ++ wanted_view (slice_index_or wanted k d) ∷ map wanted_view (drop (k + 1) wanted)
-split_at wanted k d within =
-    sym (ap (map wanted_view) (take-append-drop k wanted)) ∙ map-append wanted_view (take k wanted) (drop k wanted) ∙ ap (λ (rest : List Lent). map wanted_view (take k wanted) ++ map wanted_view rest) (drop_more wanted k d within)
+  pub one_read : (text : Text) → IsText held last.name.now text → length text ≤ last.limit → Reads IsOne (wanted_view last ∷ []) held held' before now asked asked' (Ok text)
+  one_read text is short = record {
+    same = same;
+    later = later;
+    told = record { texts = text ∷ []; stands = refl; continues = λ rest reading read. reads_more held (wanted_view last) text rest reading is short read; asks = asks };
+  }
 
-one_more : (wanted : List Lent) (k : ℕ) (d : Lent) → k < length wanted → map wanted_view (take (k + 1) wanted) ≡ map wanted_view (take k wanted) ++ wanted_view (slice_index_or wanted k d) ∷ []
-one_more wanted k d within =
-    let next : k + 1 ≡ suc k = omega arith in
-    ap (λ (n : ℕ). map wanted_view (take n wanted)) next ∙ ap (map wanted_view) (take-suc wanted k d within) ∙ map-append wanted_view (take k wanted) (slice_index_or wanted k d ∷ [])
+  pub one_long : IsLong held (wanted_view last) → Reads IsOne (wanted_view last ∷ []) held held' before now asked asked' (Err (unread.TooLong last))
+  one_long long = record { same = same; later = later; told = (λ rest. reads_long held (wanted_view last) rest long, up_to_here) }
 
-pub continues_more : (held : Held) (wanted : List Lent) (k : ℕ) (d : Lent) (front : List Text) (text : Text) → k < length wanted → Continues held (map wanted_view (take k wanted)) front → IsText held (slice_index_or wanted k d).name.now text → length text ≤ (slice_index_or wanted k d).limit
-    → Continues held (map wanted_view (take (k + 1) wanted)) (front ++ text ∷ [])
-continues_more held wanted k d front text within continues is short =
-    subst (λ texts. Continues held texts (front ++ text ∷ [])) (sym (one_more wanted k d within)) (continues_one held (map wanted_view (take k wanted)) front (wanted_view (slice_index_or wanted k d)) text continues is short)
+  pub one_failed : Rose (before last.name.now) (now last.name.now) → Reads IsOne (wanted_view last ∷ []) held held' before now asked asked' (Err (unread.Failed last))
+  one_failed rose = record { same = same; later = later; told = (up_to_here, rose) }
 
--- the names that were asked for, and one more
-added : (old mid new names : List Text) (name : Text) → Asks old mid names → Asks mid new (name ∷ []) → Asks old new (names ++ name ∷ [])
-added old mid new names name first second = second ∙ ap (λ (l : List Text). l ++ name ∷ []) first ∙ append_assoc old names (name ∷ [])
+  pub no_memory : Reads IsOne (wanted_view last ∷ []) held held' before now asked asked' (Err unread.Memory)
+  no_memory = record { same = same; later = later; told = record { first = last.name.now ∷ []; others = []; are = refl; asks = asks } }
 
-pub asks_more : (wanted : List Lent) (k : ℕ) (d : Lent) (old mid new : List Text) → k < length wanted → Asks old mid (names_in (map wanted_view (take k wanted))) → Asks mid new ((slice_index_or wanted k d).name.now ∷ []) → Asks old new (names_in (map wanted_view (take (k + 1) wanted)))
-asks_more wanted k d old mid new within first second =
-    let names : names_in (map wanted_view (take (k + 1) wanted)) ≡ names_in (map wanted_view (take k wanted)) ++ (slice_index_or wanted k d).name.now ∷ [] =
-    ap names_in (one_more wanted k d within) ∙ map-append (λ (text : Wanted). text.name) (map wanted_view (take k wanted)) (wanted_view (slice_index_or wanted k d) ∷ []) in
-    subst (Asks old new) (sym names) (added old mid new (names_in (map wanted_view (take k wanted))) (slice_index_or wanted k d).name.now first second)
+-- what was read first was not all read
+module _ (first rest : List Wanted) (held : Held) (asked asked' : List Text) where
+  up_to_here_too : (last : Wanted) → IsReadUpTo held first last asked asked' → IsReadUpTo held (first ++ rest) last asked asked'
+  up_to_here_too last there = record {
+    before = there.before;
+    after = there.after ++ rest;
+    are = ap (λ (l : List Wanted). l ++ rest) there.are ∙ append_assoc there.before (last ∷ there.after) rest;
+    found = there.found;
+    read = there.read;
+    asked = there.asked;
+  }
 
--- all names were asked for
-pub asks_all : (wanted : List Lent) (old new : List Text) (taken : List Lent) → taken ≡ wanted → Asks old new (names_in (map wanted_view taken)) → Asks old new (names_in (map wanted_view wanted))
-asks_all wanted old new taken all asks = subst (λ (l : List Lent). Asks old new (names_in (map wanted_view l))) all asks
+  more_unread : (before now : Text → ℕ) (lost : Unread) → IsUnread first held before now asked asked' lost → IsUnread (first ++ rest) held before now asked asked' lost
+  more_unread before now (unread.TooLong last) (long, there) =
+      (λ others. subst (λ (l : List Wanted). IsRead held l (TooLong (wanted_view last))) (sym (append_assoc first rest others)) (long (rest ++ others)), up_to_here_too (wanted_view last) there)
+  more_unread before now (unread.Failed last) (there, rose) = (up_to_here_too (wanted_view last) there, rose)
+  more_unread before now unread.Memory some = record {
+    first = some.first;
+    others = some.others ++ names_in rest;
+    are = names_both first rest ∙ ap (λ (l : List Text). l ++ names_in rest) some.are ∙ append_assoc some.first some.others (names_in rest);
+    asks = some.asks;
+  }
 
--- some first names were asked for
-pub asks_some : (wanted : List Lent) (k : ℕ) (old new : List Text) → Asks old new (names_in (map wanted_view (take k wanted))) → (count : ℕ) × Asks old new (take count (names_in (map wanted_view wanted)))
-asks_some wanted k old new asks =
-    (k, subst (Asks old new) (sym (take-map (λ (text : Wanted). text.name) k (map wanted_view wanted) ∙ ap names_in (take-map wanted_view k wanted))) asks)
+pub lost_first : {A B : Type 0} {Of : A → List Text → Type 0} {first : List Wanted} (rest : List Wanted) {held held' : Held} {before now : Text → ℕ} {asked asked' : List Text} (As : B → List Text → Type 0) {lost : Unread} → Reads Of first held held' before now asked asked' (Err lost)
+    → Reads As (first ++ rest) held held' before now asked asked' (Err lost)
+lost_first {first = first} rest {held = held} {before = before} {now = now} {asked = asked} {asked' = asked'} As {lost = lost} reads =
+    record { same = reads.same; later = reads.later; told = more_unread first rest held asked asked' before now lost reads.told }
 
--- the texts before one were read, and that one was asked for
-pub read_up_to : (held : Held) (wanted : List Lent) (k : ℕ) (d : Lent) (front old mid new : List Text) → k < length wanted → Continues held (map wanted_view (take k wanted)) front → Asks old mid (names_in (map wanted_view (take k wanted))) → Asks mid new ((slice_index_or wanted k d).name.now ∷ [])
-    → IsReadUpTo held (map wanted_view wanted) (wanted_view (slice_index_or wanted k d)) old new
-read_up_to held wanted k d front old mid new within continues first second = record {
-  before = map wanted_view (take k wanted);
-  after = map wanted_view (drop (k + 1) wanted);
-  are = split_at wanted k d within;
-  found = front;
-  read = continued held (map wanted_view (take k wanted)) front continues;
-  asked = added old mid new (names_in (map wanted_view (take k wanted))) (slice_index_or wanted k d).name.now first second;
+-- memory ran out behind what was read first
+lost_between : {A B : Type 0} {Of : A → List Text → Type 0} {first : List Wanted} (rest : List Wanted) {held held' : Held} {before now : Text → ℕ} {asked asked' : List Text} (As : B → List Text → Type 0) {value : A} → Reads Of first held held' before now asked asked' (Ok value)
+    → Reads As (first ++ rest) held held' before now asked asked' (Err unread.Memory)
+lost_between {first = first} rest As reads = record {
+  same = reads.same;
+  later = reads.later;
+  told = record { first = names_in first; others = names_in rest; are = names_both first rest; asks = reads.told.asks };
 }
 
--- a text that is too long is what is read
-pub read_long : (held : Held) (wanted : List Lent) (k : ℕ) (d : Lent) (front : List Text) → k < length wanted → Continues held (map wanted_view (take k wanted)) front → IsLong held (wanted_view (slice_index_or wanted k d)) → IsRead held (map wanted_view wanted) (TooLong (wanted_view (slice_index_or wanted k d)))
-read_long held wanted k d front within continues long =
-    let last = wanted_view (slice_index_or wanted k d) in
-    subst (λ (texts : List Wanted). IsRead held texts (TooLong last)) (sym (split_at wanted k d within))
-    (continues (last ∷ map wanted_view (drop (k + 1) wanted)) (TooLong last) (reads_long held last (map wanted_view (drop (k + 1) wanted)) long))
+-- what was read first was read, and what is read behind it was not
+module _ (first rest : List Wanted) (held : Held) (front asked asked_mid asked' : List Text) (continues : Continues held first front) (asks : Asks asked asked_mid (names_in first)) where
+  up_to_there : (last : Wanted) → IsReadUpTo held rest last asked_mid asked' → IsReadUpTo held (first ++ rest) last asked asked'
+  up_to_there last there = record {
+    before = first ++ there.before;
+    after = there.after;
+    are = ap (λ (l : List Wanted). first ++ l) there.are ∙ sym (append_assoc first there.before (last ∷ there.after));
+    found = front ++ there.found;
+    read = continues there.before (Read there.found) there.read;
+    asked =
+        let names = ap (λ (l : List Text). l ++ last.name ∷ []) (names_both first there.before) ∙ append_assoc (names_in first) (names_in there.before) (last.name ∷ []) in
+        subst (Asks asked asked') (sym names) (asks_both asked asked_mid asked' (names_in first) (names_in there.before ++ last.name ∷ []) asks there.asked);
+  }
 
--- all texts were read
-pub read_all : (held : Held) (wanted taken : List Lent) (front : List Text) → taken ≡ wanted → Continues held (map wanted_view taken) front → IsRead held (map wanted_view wanted) (Read front)
-read_all held wanted taken front all continues = subst (λ (l : List Lent). IsRead held (map wanted_view l) (Read front)) all (continued held (map wanted_view taken) front continues)
+  later_unread : (before between now : Text → ℕ) → ((name : Text) → before name ≤ between name) → (lost : Unread) → IsUnread rest held between now asked_mid asked' lost → IsUnread (first ++ rest) held before now asked asked' lost
+  later_unread before between now later (unread.TooLong last) (long, there) =
+      (λ others. subst (λ (l : List Wanted). IsRead held l (TooLong (wanted_view last))) (sym (append_assoc first rest others)) (continues (rest ++ others) (TooLong (wanted_view last)) (long others)), up_to_there (wanted_view last) there)
+  later_unread before between now later (unread.Failed last) (there, rose) = (up_to_there (wanted_view last) there, rose_after (later last.name.now) rose)
+  later_unread before between now later unread.Memory some = record {
+    first = names_in first ++ some.first;
+    others = some.others;
+    are = names_both first rest ∙ ap (λ (l : List Text). names_in first ++ l) some.are ∙ sym (append_assoc (names_in first) some.first some.others);
+    asks = asks_both asked asked_mid asked' (names_in first) some.first asks some.asks;
+  }
 
--- the texts, and one more
-pub texts_more : (texts : List (Vec ℕ Global)) (text : Vec ℕ Global) → map (λ t. t.items) (texts ++ text ∷ []) ≡ map (λ t. t.items) texts ++ text.items ∷ []
-texts_more [] text = refl
-texts_more (t ∷ texts) text = ap (λ rest. t.items ∷ rest) (texts_more texts text)
+both_later : (before between now : Text → ℕ) → ((name : Text) → before name ≤ between name) → ((name : Text) → between name ≤ now name) → (name : Text) → before name ≤ now name
+both_later before between now one other name = let first = one name in let more = other name in omega (arith, first, more)
 
--- the failure of an answer is this one
-pub unread_is : {A : Type 0} (P : Unread → Type 0) (failure lost : Unread) → P failure → ◌≡◌ {A = Result A Unread} (Err failure) (Err lost) → P lost
-unread_is P failure lost is e =
-    let same : failure ≡ lost = cc in
-    subst P same is
+-- of two reads, one after the other, the second one lost a text
+pub lost_then : {A B C : Type 0} {Of : A → List Text → Type 0} {Then : B → List Text → Type 0} {first rest : List Wanted} {held mid held' : Held} {before between now : Text → ℕ} {asked asked_mid asked' : List Text} {value : A} {lost : Unread} (As : C → List Text → Type 0)
+    → Reads Of first held mid before between asked asked_mid (Ok value) → Reads Then rest mid held' between now asked_mid asked' (Err lost) → Reads As (first ++ rest) held held' before now asked asked' (Err lost)
+lost_then {first = first} {rest = rest} {held = held} {before = before} {between = between} {now = now} {asked = asked} {asked_mid = asked_mid} {asked' = asked'} {lost = lost} As one other = record {
+  same = other.same ∙ one.same;
+  later = both_later before between now one.later other.later;
+  told =
+      later_unread first rest held one.told.texts asked asked_mid asked' one.told.continues one.told.asks before between now one.later lost
+      (subst (λ (h : Held). IsUnread rest h between now asked_mid asked' lost) one.same other.told);
+}
+
+-- both were read
+pub read_then : {A B C : Type 0} {Of : A → List Text → Type 0} {Then : B → List Text → Type 0} {first rest : List Wanted} {held mid held' : Held} {before between now : Text → ℕ} {asked asked_mid asked' : List Text} {value : A} {found : B} (As : C → List Text → Type 0) (made : C)
+    → Reads Of first held mid before between asked asked_mid (Ok value) → Reads Then rest mid held' between now asked_mid asked' (Ok found) → ((texts more : List Text) → Of value texts → Then found more → As made (texts ++ more)) → Reads As (first ++ rest) held held' before now asked asked' (Ok made)
+read_then {Then = Then} {first = first} {rest = rest} {held = held} {before = before} {between = between} {now = now} {asked = asked} {asked_mid = asked_mid} {asked' = asked'} {found = found} As made one other stand =
+    let told = subst (λ (h : Held). IsReadOf Then rest h asked_mid asked' found) one.same other.told in
+    record {
+      same = other.same ∙ one.same;
+      later = both_later before between now one.later other.later;
+      told = record {
+        texts = one.told.texts ++ told.texts;
+        stands = stand one.told.texts told.texts one.told.stands told.stands;
+        continues = continues_both held first rest one.told.texts told.texts one.told.continues told.continues;
+        asks = subst (Asks asked asked') (sym (names_both first rest)) (asks_both asked asked_mid asked' (names_in first) (names_in rest) one.told.asks told.asks);
+      };
+    }
+
+-- of two texts
+pub read_two : {first second : Wanted} {held mid held' : Held} {before between now : Text → ℕ} {asked asked_mid asked' : List Text} {one other : Text} → Reads IsOne (first ∷ []) held mid before between asked asked_mid (Ok one) → Reads IsOne (second ∷ []) mid held' between now asked_mid asked' (Ok other)
+    → Reads AreAll (first ∷ second ∷ []) held held' before now asked asked' (Ok (one ∷ other ∷ []))
+read_two {one = one} {other = other} first second = read_then AreAll (one ∷ other ∷ []) first second (λ texts more is are. ap (λ (l : List Text). l ++ more) is ∙ ap (λ (l : List Text). one ∷ l) are)
+
+-- BSDL texts of these names
+abbrev pub called : List (String Global) → List Wanted
+called names = map text_called (map string_bytes names)
+
+one_more : (names : List (String Global)) (k : ℕ) (d : String Global) (name : Text) → k < length names → name ≡ string_bytes (slice_index_or names k d) → called (take (k + 1) names) ≡ called (take k names) ++ text_called name ∷ []
+one_more names k d name within is =
+    let next : k + 1 ≡ suc k = omega arith in
+    ap (λ (n : ℕ). called (take n names)) next ∙ ap called (take-suc names k d within) ∙ ap (map text_called) (map-append string_bytes (take k names) (slice_index_or names k d ∷ []))
+    ∙ map-append text_called (map string_bytes (take k names)) (string_bytes (slice_index_or names k d) ∷ []) ∙ ap (λ (n : Text). called (take k names) ++ text_called n ∷ []) (sym is)
+
+cut_at : (names : List (String Global)) (k : ℕ) → called names ≡ called (take k names) ++ called (drop k names)
+cut_at names k =
+    sym (ap called (take-append-drop k names)) ∙ ap (map text_called) (map-append string_bytes (take k names) (drop k names)) ∙ map-append text_called (map string_bytes (take k names)) (map string_bytes (drop k names))
+
+module _ (names : List (String Global)) (k : ℕ) {held held' : Held} {before now : Text → ℕ} {asked asked' : List Text} where
+  -- the texts of some first names were not all read
+  lost_of : {lost : Unread} → Reads AreAll (called (take k names)) held held' before now asked asked' (Err lost) → Reads AreAll (called names) held held' before now asked asked' (Err lost)
+  lost_of {lost} reads = subst (λ (wanted : List Wanted). Reads AreAll wanted held held' before now asked asked' (Err lost)) (sym (cut_at names k)) (lost_first (called (drop k names)) AreAll reads)
+
+  -- memory ran out behind them
+  pub memory_of : {found : List Text} → Reads AreAll (called (take k names)) held held' before now asked asked' (Ok found) → Reads AreAll (called names) held held' before now asked asked' (Err unread.Memory)
+  memory_of {found} reads = subst (λ (wanted : List Wanted). Reads AreAll wanted held held' before now asked asked' (Err unread.Memory)) (sym (cut_at names k)) (lost_between (called (drop k names)) AreAll reads)
+
+-- the text of one name more
+module _ (names : List (String Global)) (k : ℕ) (d : String Global) (name : Text) (within : k < length names) (is : name ≡ string_bytes (slice_index_or names k d)) {held mid held' : Held} {before between now : Text → ℕ} {asked asked_mid asked' : List Text} {found : List Text}
+    (so_far : Reads AreAll (called (take k names)) held mid before between asked asked_mid (Ok found)) where
+  pub next_read : {text : Text} → Reads IsOne (text_called name ∷ []) mid held' between now asked_mid asked' (Ok text) → (all : List Text) → all ≡ found ++ text ∷ [] → Reads AreAll (called (take (k + 1) names)) held held' before now asked asked' (Ok all)
+  next_read {text} one all are =
+      subst (λ (wanted : List Wanted). Reads AreAll wanted held held' before now asked asked' (Ok all)) (sym (one_more names k d name within is))
+      (read_then AreAll all so_far one (λ texts more so is_one. ap (λ (l : List Text). l ++ more) so ∙ ap (λ (l : List Text). found ++ l) is_one ∙ sym are))
+
+  pub next_lost : {lost : Unread} → Reads IsOne (text_called name ∷ []) mid held' between now asked_mid asked' (Err lost) → Reads AreAll (called names) held held' before now asked asked' (Err lost)
+  next_lost {lost} one =
+      lost_of names (k + 1)
+      (subst (λ (wanted : List Wanted). Reads AreAll wanted held held' before now asked asked' (Err lost)) (sym (one_more names k d name within is)) (lost_then AreAll so_far one))
+
+-- the bytes of texts, and of one more
+pub items_more : (texts all : List (Vec ℕ Global)) (last : Vec ℕ Global) (text : Text) → all ≡ texts ++ last ∷ [] → last.items ≡ text → map (λ t. t.items) all ≡ map (λ t. t.items) texts ++ text ∷ []
+items_more texts all last text are is =
+    ap (λ (l : List (Vec ℕ Global)). map (λ t. t.items) l) are ∙ map-append (λ (t : Vec ℕ Global). t.items) texts (last ∷ []) ∙ ap (λ (t : Text). map (λ t. t.items) texts ++ t ∷ []) is

@@ -17,7 +17,11 @@ use Rattle.board_gen.specs.BoardTexts as made
 use Rattle.board_gen.specs.DeviceText.{bsdl_text}
 use Rattle.commands.specs.Summary.{summary_text}
 use Rattle.btest_core.specs.IdentsRead.{AreIdents}
-use Rattle.command_line.specs.Words.{Text, Command, Chain, Device, Cover, Svf, Walk, Ident, Make, Diagnose, Groups, Batch, board_names, chain_names, names_of}
+use Rattle.command_line.specs.Words as word
+use Rattle.command_line.specs.Words.{Text, Command, board_names, chain_names, names_of}
+use Rattle.commands.specs.declared.request.Request.{Request}
+use Rattle.commands.specs.declared.request.Request.TheVariants.{Chain, Ident, Device, Cover, Svf, Walk, Make, Diagnose, Groups, Batch}
+use Rattle.commands.specs.Answers.{IsBoardOf, IsJudgedOf}
 use Rattle.btest_cli.specs.declared.status.Status.{Status}
 use Rattle.btest_cli.specs.declared.status.Status.TheVariants as status
 use Rattle.btest_cli.specs.declared.failure.Unread.{Unread}
@@ -34,10 +38,13 @@ use Rattle.batch_diag.specs.Verdicts.{AreVerdicts}
 use Rattle.walk_test.specs.Laws.{OneSet}
 use Rattle.walk_test.specs.WalkTest.{board_walk_text}
 use Rattle.commands.specs.LogRead.{IsInputFault, IsJudged, IsWrong, Judging, OnDenoted, TextFault, Input, Log, Batch as OfBatch, diagnosing, diagnosis_text, grouping, grouping_text, judging_each, verdicts_text}
-use Rattle.refusal_lines.specs.Refusals.{input_fault_line, log_fault_line, batch_fault_line, long_line, memory_line}
+use Rattle.refusal_lines.specs.Refusals.{Names, input_fault_line, log_fault_line, batch_fault_line, long_line, memory_line}
 use Rattle.btest_cli.specs.Refusals.{roles_of, text_fault_line}
-use Rattle.btest_cli.specs.Outcome.{AsksSome, IsComplete, IsGiven, IsOutcome, IsSaid, IsSaidOfBoard, IsSaidOfChain, IsSaidOfLog, IsSaidOfText, Settles, SomeRose, TookOrCut}
-use Rattle.btest_cli.specs.inner.Failures.{IsUnread, IsPut, IsUnput, wanted_view, unread_status, unread_line, unput_status, unput_line}
+use Rattle.btest_cli.specs.Outcome.{AsksSome, IsComplete, IsGiven, IsOutcome, IsReadAs, IsSaid, Settles, SomeRose, TookOrCut}
+use Rattle.btest_cli.proofs.ReadingLemmas.{continued}
+use Rattle.btest_cli.proofs.RequestLemmas.{same_request, some_request}
+use Rattle.btest_cli.specs.inner.Reads.{IsUnread, OfRequest, Reads}
+use Rattle.btest_cli.specs.inner.Failures.{IsPut, IsUnput, wanted_view, unread_status, unread_line, unput_status, unput_line}
 use Rattle.btest_cli.specs.inner.RunOf.{IsRunOf}
 
 -- a line that was put, or not whole
@@ -51,25 +58,37 @@ names_wanted [] = refl
 names_wanted (name ∷ names) = ap (λ (l : List Text). name ∷ l) (names_wanted names)
 
 pub wanted_names : (command : Command) → names_in (wanted_of command) ≡ names_of command
-wanted_names (Chain names) = names_wanted (chain_names names)
-wanted_names (Ident names) = names_wanted (chain_names names)
-wanted_names (Device name) = refl
-wanted_names (Cover names) = names_wanted (board_names names)
-wanted_names (Svf names) = names_wanted (board_names names)
-wanted_names (Walk names) = names_wanted (board_names names)
-wanted_names (Make parts) = refl
-wanted_names (Diagnose workers log names) = ap (λ (l : List Text). log ∷ l) (names_wanted (board_names names))
-wanted_names (Groups log names) = ap (λ (l : List Text). log ∷ l) (names_wanted (board_names names))
-wanted_names (Batch workers log names) = ap (λ (l : List Text). log ∷ l) (names_wanted (board_names names))
+wanted_names (word.Chain names) = names_wanted (chain_names names)
+wanted_names (word.Ident names) = names_wanted (chain_names names)
+wanted_names (word.Device name) = refl
+wanted_names (word.Cover names) = names_wanted (board_names names)
+wanted_names (word.Svf names) = names_wanted (board_names names)
+wanted_names (word.Walk names) = names_wanted (board_names names)
+wanted_names (word.Make parts) = refl
+wanted_names (word.Diagnose workers log names) = ap (λ (l : List Text). log ∷ l) (names_wanted (board_names names))
+wanted_names (word.Groups log names) = ap (λ (l : List Text). log ∷ l) (names_wanted (board_names names))
+wanted_names (word.Batch workers log names) = ap (λ (l : List Text). log ∷ l) (names_wanted (board_names names))
 
 pub all_asked : (command : Command) (asked asked' : List Text) → Asks asked asked' (names_in (wanted_of command)) → Asks asked asked' (names_of command)
 all_asked command asked asked' asks = subst (Asks asked asked') (wanted_names command) asks
 
+all_wanted : (command : Command) (asked asked' : List Text) → Asks asked asked' (names_of command) → Asks asked asked' (names_in (wanted_of command))
+all_wanted command asked asked' asks = subst (Asks asked asked') (sym (wanted_names command)) asks
+
+-- the request that was read
+pub was_read : (command : Command) {held held' : Held} {before now : Text → ℕ} {asked asked' : List Text} {request : Request} → Reads (OfRequest command) (wanted_of command) held held' before now asked asked' (Ok request) → IsReadAs held command asked asked' request
+was_read command {held} {held'} {before} {now} {asked} {asked'} reads = record {
+  texts = reads.told.texts;
+  read = continued held (wanted_of command) reads.told.texts reads.told.continues;
+  made = reads.told.stands;
+  asks = all_asked command asked asked' reads.told.asks;
+}
+
 -- a run that put its text
-pub run_put : (command : Command) (held : Held) (before now : Text → ℕ) (asked asked' texts : List Text) (out out' notes : Shown) → IsRead held (wanted_of command) (Read texts) → Asks asked asked' (names_in (wanted_of command)) → IsPut command texts out out' → IsRunOf command held before now asked asked' out out' notes notes status.Done
-run_put command held before now asked asked' texts out out' notes read asks put = record {
+pub run_put : (command : Command) (held : Held) (before now : Text → ℕ) (asked asked' : List Text) (request : Request) (out out' notes : Shown) → IsReadAs held command asked asked' request → IsPut (roles_of command) request out out' → IsRunOf command held before now asked asked' out out' notes notes status.Done
+run_put command held before now asked asked' request out out' notes read put = record {
   no_usage = λ e. cc;
-  done = λ e. record { texts = texts; read = read; asks = all_asked command asked asked' asks; text = put.text; gives = put.gives; takes = put.takes; worth = put.worth };
+  done = λ e. record { request = request; read = read; text = put.text; gives = put.gives; takes = put.takes; worth = put.worth };
   silent = λ e. refl;
   refused = λ e. absurd cc;
   read = λ e. absurd cc;
@@ -122,22 +141,26 @@ pub none_asked_for : (command : Option Command) (asked : List Text) → IfSome c
 none_asked_for None asked = tt
 none_asked_for (Some command) asked = none_asked command asked
 
-taken_names : (command : Command) (count : ℕ) → take count (names_in (wanted_of command)) ≡ take count (names_of command)
-taken_names command count = ap (take count) (wanted_names command)
+-- the first of all names
+first_of : (first others : List Text) → take (length first) (first ++ others) ≡ first
+first_of [] others = refl
+first_of (name ∷ first) others = ap (λ (l : List Text). name ∷ l) (first_of first others)
 
--- all is the whole of some first names
-all_of : (names : List Text) → take (length names) names ≡ names
-all_of [] = refl
-all_of (name ∷ names) = ap (λ (l : List Text). name ∷ l) (all_of names)
+asked_first : (command : Command) (first others asked asked' : List Text) → names_of command ≡ first ++ others → Asks asked asked' first → AsksSome command asked asked'
+asked_first command first others asked asked' are asks =
+    (length first, subst (Asks asked asked') (sym (ap (take (length first)) are ∙ first_of first others)) asks)
 
-asked_all : (command : Command) (asked asked' : List Text) → Asks asked asked' (names_in (wanted_of command)) → AsksSome command asked asked'
-asked_all command asked asked' asks = (length (names_of command), subst (Asks asked asked') (sym (all_of (names_of command))) (all_asked command asked asked' asks))
+asked_all : (command : Command) (asked asked' : List Text) → Asks asked asked' (names_of command) → AsksSome command asked asked'
+asked_all command asked asked' asks = asked_first command (names_of command) [] asked asked' (sym (append-nil (names_of command))) asks
 
 -- a run whose texts were not all read
-pub run_unread : (command : Command) (held : Held) (before now : Text → ℕ) (asked asked' : List Text) (lost : Unread) (out notes notes' : Shown) → IsUnread held before now asked asked' (wanted_of command) lost → TookOrCut notes notes' (unread_line lost)
+pub run_unread : (command : Command) (held : Held) (before now : Text → ℕ) (asked asked' : List Text) (lost : Unread) (out notes notes' : Shown) → IsUnread (wanted_of command) held before now asked asked' lost → TookOrCut notes notes' (unread_line lost)
     → IsRunOf command held before now asked asked' out out notes notes' (unread_status lost)
 run_unread command held before now asked asked' (unread.TooLong wanted) out notes notes' is noted =
-    refused_run command held before now asked asked' (TooLong (wanted_view wanted)) (long_line wanted.name.now wanted.limit) out notes notes' is.0 is.1 refl noted
+    refused_run command held before now asked asked' (TooLong (wanted_view wanted)) (long_line wanted.name.now wanted.limit) out notes notes' whole is.1 refl noted
+  where
+    whole : IsRead held (wanted_of command) (TooLong (wanted_view wanted))
+    whole = subst (λ (l : List Wanted). IsRead held l (TooLong (wanted_view wanted))) (append-nil (wanted_of command)) (is.0 [])
 run_unread command held before now asked asked' (unread.Failed wanted) out notes notes' is noted = record {
   no_usage = λ e. cc;
   done = λ e. absurd cc;
@@ -152,35 +175,35 @@ run_unread command held before now asked asked' (unread.Failed wanted) out notes
   memory_asks = λ e. absurd cc;
 }
 run_unread command held before now asked asked' unread.Memory out notes notes' is noted =
-    memory_run command held before now asked asked' out notes notes' (is.0, subst (Asks asked asked') (taken_names command is.0) is.1) noted
+    memory_run command held before now asked asked' out notes notes' (asked_first command is.first is.others asked asked' (sym (wanted_names command) ∙ is.are) is.asks) noted
 
 same_out : (command : Command) (held : Held) (before now : Text → ℕ) (asked asked' : List Text) (out out' notes notes' : Shown) (ended : Status) → out' ≡ out → IsRunOf command held before now asked asked' out out notes notes' ended → IsRunOf command held before now asked asked' out out' notes notes' ended
 same_out command held before now asked asked' out out' notes notes' ended same run = subst (λ o. IsRunOf command held before now asked asked' out o notes notes' ended) (sym same) run
 
 -- a run whose text was not put whole
-pub run_unput : (command : Command) (held : Held) (before now : Text → ℕ) (asked asked' texts : List Text) (failure : Unput) (out out' notes notes' : Shown) → IsRead held (wanted_of command) (Read texts) → Asks asked asked' (names_in (wanted_of command)) → IsUnput command texts out out' failure → TookOrCut notes notes' (unput_line (roles_of command) failure)
+pub run_unput : (command : Command) (held : Held) (before now : Text → ℕ) (asked asked' : List Text) (request : Request) (failure : Unput) (out out' notes notes' : Shown) → IsReadAs held command asked asked' request → IsUnput (roles_of command) request out out' failure → TookOrCut notes notes' (unput_line (roles_of command) failure)
     → IsRunOf command held before now asked asked' out out' notes notes' (unput_status failure)
-run_unput command held before now asked asked' texts (unput.Input fault) out out' notes notes' read asks is noted =
-    same_out command held before now asked asked' out out' notes notes' status.Refused is.1 (refused_run command held before now asked asked' (Read texts) (input_fault_line (roles_of command) fault) out notes notes' read asks is.0 noted)
-run_unput command held before now asked asked' texts (unput.Log rows fault) out out' notes notes' read asks is noted =
-    same_out command held before now asked asked' out out' notes notes' status.Refused is.1 (refused_run command held before now asked asked' (Read texts) (log_fault_line (roles_of command).log rows fault) out notes notes' read asks is.0 noted)
-run_unput command held before now asked asked' texts (unput.Batch rows fault) out out' notes notes' read asks is noted =
-    same_out command held before now asked asked' out out' notes notes' status.Refused is.1 (refused_run command held before now asked asked' (Read texts) (batch_fault_line (roles_of command).log rows fault) out notes notes' read asks is.0 noted)
-run_unput command held before now asked asked' texts unput.Write out out' notes notes' read asks is noted = record {
+run_unput command held before now asked asked' request (unput.Input fault) out out' notes notes' read is noted =
+    same_out command held before now asked asked' out out' notes notes' status.Refused is.1 (refused_run command held before now asked asked' (Read read.texts) (input_fault_line (roles_of command) fault) out notes notes' read.read (all_wanted command asked asked' read.asks) (request, read.made, is.0) noted)
+run_unput command held before now asked asked' request (unput.Log rows fault) out out' notes notes' read is noted =
+    same_out command held before now asked asked' out out' notes notes' status.Refused is.1 (refused_run command held before now asked asked' (Read read.texts) (log_fault_line (roles_of command).log rows fault) out notes notes' read.read (all_wanted command asked asked' read.asks) (request, read.made, is.0) noted)
+run_unput command held before now asked asked' request (unput.Batch rows fault) out out' notes notes' read is noted =
+    same_out command held before now asked asked' out out' notes notes' status.Refused is.1 (refused_run command held before now asked asked' (Read read.texts) (batch_fault_line (roles_of command).log rows fault) out notes notes' read.read (all_wanted command asked asked' read.asks) (request, read.made, is.0) noted)
+run_unput command held before now asked asked' request unput.Write out out' notes notes' read is noted = record {
   no_usage = λ e. cc;
   done = λ e. absurd cc;
   silent = λ e. absurd cc;
   refused = λ e. absurd cc;
   read = λ e. absurd cc;
   write = λ e. is.rose;
-  cut = λ e. record { texts = texts; read = read; asks = all_asked command asked asked' asks; text = is.text; gives = is.gives; bytes = is.bytes; takes = is.takes };
+  cut = λ e. record { request = request; read = read; text = is.text; gives = is.gives; bytes = is.bytes; takes = is.takes };
   write_noted = λ e. noted;
   untouched = λ e f. absurd (f refl);
   memory_noted = λ e. absurd cc;
   memory_asks = λ e. absurd cc;
 }
-run_unput command held before now asked asked' texts unput.Memory out out' notes notes' read asks is noted =
-    same_out command held before now asked asked' out out' notes notes' status.NoMemory is (memory_run command held before now asked asked' out notes notes' (asked_all command asked asked' asks) noted)
+run_unput command held before now asked asked' request unput.Memory out out' notes notes' read is noted =
+    same_out command held before now asked asked' out out' notes notes' status.NoMemory is (memory_run command held before now asked asked' out notes notes' (asked_all command asked asked' read.asks) noted)
 
 -- a text whose count rose is one of these
 rose_in : (before now : Text → ℕ) (front : List Wanted) (last : Wanted) (after : List Wanted) → Rose (before last.name) (now last.name) → SomeRose before now (names_in (front ++ last ∷ after))
@@ -252,13 +275,13 @@ run_complete one some command held before now asked asked' out out' notes notes'
     settle (Ok text) status.WriteFault reading known gives no_rise run = λ calm. absurd (calm (run.write refl))
     settle (Ok text) status.NoMemory reading known gives no_rise run = λ calm. inr refl
     settle (Err line) status.Done reading known gives no_rise run =
-        let told = run.done refl in absurd (apart (same_outcome held command reading (Read told.texts) (Ok told.text) (Err line) one known told.read told.gives gives))
+        let told = run.done refl in absurd (apart (same_outcome held command reading (Read told.read.texts) (Ok told.text) (Err line) one known told.read.read (told.request, told.read.made, told.gives) gives))
     settle (Err line) status.Refused reading known gives no_rise run = inl refl
     settle (Err line) status.Usage reading known gives no_rise run = absurd (run.no_usage refl)
     settle (Err line) status.ReadFault reading known gives no_rise run =
         let told = run.read refl in absurd (no_rise (rose_among command held before now asked asked' told.last told.asks told.rose))
     settle (Err line) status.WriteFault reading known gives no_rise run =
-        let told = run.cut refl in absurd (apart (same_outcome held command reading (Read told.texts) (Ok told.text) (Err line) one known told.read told.gives gives))
+        let told = run.cut refl in absurd (apart (same_outcome held command reading (Read told.read.texts) (Ok told.text) (Err line) one known told.read.read (told.request, told.read.made, told.gives) gives))
     settle (Err line) status.NoMemory reading known gives no_rise run = inr refl
 
 -- what is found in texts, as what is said of it
@@ -278,28 +301,6 @@ one_said text_of line_of IsFound a b one says_a says_b =
     let x = found_of text_of line_of IsFound a says_a in
     let y = found_of text_of line_of IsFound b says_b in
     x.2 ∙ ap (said text_of line_of) (one x.0 y.0 x.1 y.1) ∙ sym y.2
-
-one_of_chain : {A F : Type 0} (text_of : A → Text) (line_of : F → Text) (IsFound : Text → List Text → Result A F → Type 0) (texts : List Text) (a b : Result Text Text) → ((chain : Text) (bsdl : List Text) → AtMostOne (IsFound chain bsdl))
-    → IsSaidOfChain text_of line_of IsFound texts a → IsSaidOfChain text_of line_of IsFound texts b → a ≡ b
-one_of_chain text_of line_of IsFound [] a b one is_a is_b = absurd is_a
-one_of_chain text_of line_of IsFound (chain ∷ texts) a b one is_a is_b = one_said text_of line_of (IsFound chain texts) a b (one chain texts) is_a is_b
-
-one_of_board : {A F : Type 0} (text_of : A → Text) (line_of : F → Text) (IsFound : Text → Text → List Text → Result A F → Type 0) (texts : List Text) (a b : Result Text Text) → ((chain nets : Text) (bsdl : List Text) → AtMostOne (IsFound chain nets bsdl))
-    → IsSaidOfBoard text_of line_of IsFound texts a → IsSaidOfBoard text_of line_of IsFound texts b → a ≡ b
-one_of_board text_of line_of IsFound [] a b one is_a is_b = absurd is_a
-one_of_board text_of line_of IsFound (chain ∷ []) a b one is_a is_b = absurd is_a
-one_of_board text_of line_of IsFound (chain ∷ nets ∷ texts) a b one is_a is_b = one_said text_of line_of (IsFound chain nets texts) a b (one chain nets texts) is_a is_b
-
-one_of_text : {A F : Type 0} (text_of : A → Text) (line_of : F → Text) (IsFound : Text → Result A F → Type 0) (texts : List Text) (a b : Result Text Text) → ((text : Text) → AtMostOne (IsFound text))
-    → IsSaidOfText text_of line_of IsFound texts a → IsSaidOfText text_of line_of IsFound texts b → a ≡ b
-one_of_text text_of line_of IsFound [] a b one is_a is_b = absurd is_a
-one_of_text text_of line_of IsFound (text ∷ []) a b one is_a is_b = one_said text_of line_of (IsFound text) a b (one text) is_a is_b
-one_of_text text_of line_of IsFound (text ∷ other ∷ others) a b one is_a is_b = absurd is_a
-
-one_of_log : {A F : Type 0} (text_of : A → Text) (line_of : F → Text) (IsFound : Text → Text → Text → List Text → Result A F → Type 0) (texts : List Text) (a b : Result Text Text) → ((log chain nets : Text) (bsdl : List Text) → AtMostOne (IsFound log chain nets bsdl))
-    → IsSaidOfLog text_of line_of IsFound texts a → IsSaidOfLog text_of line_of IsFound texts b → a ≡ b
-one_of_log text_of line_of IsFound [] a b one is_a is_b = absurd is_a
-one_of_log text_of line_of IsFound (log ∷ texts) a b one is_a is_b = one_of_board text_of line_of (IsFound log) texts a b (one log) is_a is_b
 
 -- what is known of the texts of devices, chains, their codes, and boards
 abbrev OneDevice : Type 0
@@ -429,18 +430,23 @@ logs_say_one boards rules diagnosis set = record {
 }
 
 -- texts that say at most one thing give one outcome
-pub one_outcome : OneDevice → OneChain → OneIdents → OneBoard → LogsSayOne → OneOutcome
-one_outcome devices chains idents boards logs command (TooLong wanted) a b is_a is_b = is_a ∙ sym is_b
-one_outcome devices chains idents boards logs (Chain names) (Read texts) a b is_a is_b = one_of_chain chain_text (input_fault_line (roles_of (Chain names))) AreChainLengths texts a b chains is_a is_b
-one_outcome devices chains idents boards logs (Device name) (Read texts) a b is_a is_b = one_of_text device_text (input_fault_line (roles_of (Device name))) IsDeviceText texts a b devices is_a is_b
-one_outcome devices chains idents boards logs (Cover names) (Read texts) a b is_a is_b = one_of_board cover_text (input_fault_line (roles_of (Cover names))) IsBoardRead texts a b boards is_a is_b
-one_outcome devices chains idents boards logs (Svf names) (Read texts) a b is_a is_b = one_of_board board_text (input_fault_line (roles_of (Svf names))) IsBoardRead texts a b boards is_a is_b
-one_outcome devices chains idents boards logs (Ident names) (Read texts) a b is_a is_b = one_of_chain ident_text (input_fault_line (roles_of (Ident names))) AreIdents texts a b idents is_a is_b
-one_outcome devices chains idents boards logs (Make number) (Read texts) a b is_a is_b = one_said summary_text (input_fault_line (roles_of (Make number))) (IsBoardRead (made.chain_text number) (made.net_text number) (bsdl_text ∷ [])) a b (boards (made.chain_text number) (made.net_text number) (bsdl_text ∷ [])) is_a is_b
-one_outcome devices chains idents boards logs (Walk names) (Read texts) a b is_a is_b = one_of_board board_walk_text (input_fault_line (roles_of (Walk names))) IsBoardRead texts a b boards is_a is_b
-one_outcome devices chains idents boards logs (Diagnose workers log names) (Read texts) a b is_a is_b = one_of_log diagnosis_text (text_fault_line (roles_of (Diagnose workers log names))) (OnDenoted diagnosing) texts a b logs.diagnoses is_a is_b
-one_outcome devices chains idents boards logs (Groups log names) (Read texts) a b is_a is_b = one_of_log grouping_text (text_fault_line (roles_of (Groups log names))) (OnDenoted grouping) texts a b logs.groups is_a is_b
-one_outcome devices chains idents boards logs (Batch workers log names) (Read texts) a b is_a is_b = one_of_log verdicts_text (text_fault_line (roles_of (Batch workers log names))) (OnDenoted judging_each) texts a b logs.each is_a is_b
+module _ (devices : OneDevice) (chains : OneChain) (idents : OneIdents) (boards : OneBoard) (logs : LogsSayOne) where
+  one_given : (names : Names) (request : Request) (a b : Result Text Text) → IsGiven names request a → IsGiven names request b → a ≡ b
+  one_given names (Chain texts) a b is_a is_b = one_said chain_text (input_fault_line names) (AreChainLengths texts.chain texts.bsdl) a b (chains texts.chain texts.bsdl) is_a is_b
+  one_given names (Ident texts) a b is_a is_b = one_said ident_text (input_fault_line names) (AreIdents texts.chain texts.bsdl) a b (idents texts.chain texts.bsdl) is_a is_b
+  one_given names (Device bsdl) a b is_a is_b = one_said device_text (input_fault_line names) (IsDeviceText bsdl) a b (devices bsdl) is_a is_b
+  one_given names (Cover texts) a b is_a is_b = one_said cover_text (input_fault_line names) (IsBoardOf texts) a b (boards texts.chain texts.nets texts.bsdl) is_a is_b
+  one_given names (Svf texts) a b is_a is_b = one_said board_text (input_fault_line names) (IsBoardOf texts) a b (boards texts.chain texts.nets texts.bsdl) is_a is_b
+  one_given names (Walk texts) a b is_a is_b = one_said board_walk_text (input_fault_line names) (IsBoardOf texts) a b (boards texts.chain texts.nets texts.bsdl) is_a is_b
+  one_given names (Make parts) a b is_a is_b = one_said summary_text (input_fault_line names) (IsBoardRead (made.chain_text parts) (made.net_text parts) (bsdl_text ∷ [])) a b (boards (made.chain_text parts) (made.net_text parts) (bsdl_text ∷ [])) is_a is_b
+  one_given names (Diagnose workers texts) a b is_a is_b = one_said diagnosis_text (text_fault_line names) (IsJudgedOf diagnosing texts) a b (logs.diagnoses texts.log texts.board.chain texts.board.nets texts.board.bsdl) is_a is_b
+  one_given names (Groups texts) a b is_a is_b = one_said grouping_text (text_fault_line names) (IsJudgedOf grouping texts) a b (logs.groups texts.log texts.board.chain texts.board.nets texts.board.bsdl) is_a is_b
+  one_given names (Batch workers texts) a b is_a is_b = one_said verdicts_text (text_fault_line names) (IsJudgedOf judging_each texts) a b (logs.each texts.log texts.board.chain texts.board.nets texts.board.bsdl) is_a is_b
+
+  pub one_outcome : OneOutcome
+  one_outcome command (TooLong wanted) a b is_a is_b = is_a ∙ sym is_b
+  one_outcome command (Read texts) a b (request, made_a, is_a) (other, made_b, is_b) =
+      one_given (roles_of command) other a b (subst (λ (r : Request). IsGiven (roles_of command) r a) (same_request (sym made_a ∙ made_b)) is_a) is_b
 
 -- as many texts were read as are wanted
 count_read : (held : Text → Option Text) (wanted : List Wanted) (found : List Text) → reading_of held wanted ≡ Some (Read found) → length found ≡ length wanted
@@ -474,17 +480,17 @@ count_of : (names : List Text) → length (map text_called names) ≡ length nam
 count_of [] = refl
 count_of (name ∷ names) = ap suc (count_of names)
 
-pub wanted_count : (command : Command) → length (wanted_of command) ≡ length (names_of command)
-wanted_count (Chain names) = count_of (chain_names names)
-wanted_count (Ident names) = count_of (chain_names names)
-wanted_count (Device name) = refl
-wanted_count (Cover names) = count_of (board_names names)
-wanted_count (Svf names) = count_of (board_names names)
-wanted_count (Walk names) = count_of (board_names names)
-wanted_count (Make parts) = refl
-wanted_count (Diagnose workers log names) = ap suc (count_of (board_names names))
-wanted_count (Groups log names) = ap suc (count_of (board_names names))
-wanted_count (Batch workers log names) = ap suc (count_of (board_names names))
+wanted_count : (command : Command) → length (wanted_of command) ≡ length (names_of command)
+wanted_count (word.Chain names) = count_of (chain_names names)
+wanted_count (word.Ident names) = count_of (chain_names names)
+wanted_count (word.Device name) = refl
+wanted_count (word.Cover names) = count_of (board_names names)
+wanted_count (word.Svf names) = count_of (board_names names)
+wanted_count (word.Walk names) = count_of (board_names names)
+wanted_count (word.Make parts) = refl
+wanted_count (word.Diagnose workers log names) = ap suc (count_of (board_names names))
+wanted_count (word.Groups log names) = ap suc (count_of (board_names names))
+wanted_count (word.Batch workers log names) = ap suc (count_of (board_names names))
 
 -- some answer is found
 abbrev HasAnswer : {A F : Type 0} → (Result A F → Type 0) → Type 0
@@ -499,27 +505,6 @@ says text_of line_of IsFound (Err fault) found = (Err (line_of fault), inr (faul
 
 some_said : {A F : Type 0} (text_of : A → Text) (line_of : F → Text) (IsFound : Result A F → Type 0) → HasAnswer IsFound → HasOutcome (IsSaid text_of line_of IsFound)
 some_said text_of line_of IsFound some = says text_of line_of IsFound some.0 some.1
-
-some_of_chain : {A F : Type 0} (text_of : A → Text) (line_of : F → Text) (IsFound : Text → List Text → Result A F → Type 0) (n : ℕ) (found : List Text) → length found ≡ suc n → ((chain : Text) (texts : List Text) → HasAnswer (IsFound chain texts))
-    → HasOutcome (IsSaidOfChain text_of line_of IsFound found)
-some_of_chain text_of line_of IsFound n [] count some = absurd (omega (arith, count))
-some_of_chain text_of line_of IsFound n (chain ∷ texts) count some = some_said text_of line_of (IsFound chain texts) (some chain texts)
-
-some_of_board : {A F : Type 0} (text_of : A → Text) (line_of : F → Text) (IsFound : Text → Text → List Text → Result A F → Type 0) (n : ℕ) (found : List Text) → length found ≡ suc (suc n) → ((chain nets : Text) (texts : List Text) → HasAnswer (IsFound chain nets texts))
-    → HasOutcome (IsSaidOfBoard text_of line_of IsFound found)
-some_of_board text_of line_of IsFound n [] count some = absurd (omega (arith, count))
-some_of_board text_of line_of IsFound n (chain ∷ []) count some = absurd (omega (arith, count))
-some_of_board text_of line_of IsFound n (chain ∷ nets ∷ texts) count some = some_said text_of line_of (IsFound chain nets texts) (some chain nets texts)
-
-some_of_log : {A F : Type 0} (text_of : A → Text) (line_of : F → Text) (IsFound : Text → Text → Text → List Text → Result A F → Type 0) (n : ℕ) (found : List Text) → length found ≡ suc (suc (suc n)) → ((log chain nets : Text) (texts : List Text) → HasAnswer (IsFound log chain nets texts))
-    → HasOutcome (IsSaidOfLog text_of line_of IsFound found)
-some_of_log text_of line_of IsFound n [] count some = absurd (omega (arith, count))
-some_of_log text_of line_of IsFound n (log ∷ texts) count some = some_of_board text_of line_of (IsFound log) n texts (omega (arith, count)) (some log)
-
-some_of_text : {A F : Type 0} (text_of : A → Text) (line_of : F → Text) (IsFound : Text → Result A F → Type 0) (found : List Text) → length found ≡ 1 → ((text : Text) → HasAnswer (IsFound text)) → HasOutcome (IsSaidOfText text_of line_of IsFound found)
-some_of_text text_of line_of IsFound [] count some = absurd (omega (arith, count))
-some_of_text text_of line_of IsFound (text ∷ []) count some = some_said text_of line_of (IsFound text) (some text)
-some_of_text text_of line_of IsFound (text ∷ other ∷ others) count some = absurd (omega (arith, count))
 
 -- what is known of the texts of devices, chains, their codes, and boards
 abbrev SomeDevice : Type 0
@@ -586,20 +571,23 @@ logs_say_some boards rules diagnosis groups = record {
   each = some_judged boards rules judging_each (some_each diagnosis);
 }
 
-some_given : SomeDevice → SomeChain → SomeIdents → SomeBoard → LogsSaySome → (command : Command) (found : List Text) → length found ≡ length (names_of command) → HasOutcome (IsGiven command found)
-some_given devices chains idents boards logs (Chain names) found count = some_of_chain chain_text (input_fault_line (roles_of (Chain names))) AreChainLengths (length names.bsdl) found count chains
-some_given devices chains idents boards logs (Device name) found count = some_of_text device_text (input_fault_line (roles_of (Device name))) IsDeviceText found count devices
-some_given devices chains idents boards logs (Cover names) found count = some_of_board cover_text (input_fault_line (roles_of (Cover names))) IsBoardRead (length names.bsdl) found count boards
-some_given devices chains idents boards logs (Svf names) found count = some_of_board board_text (input_fault_line (roles_of (Svf names))) IsBoardRead (length names.bsdl) found count boards
-some_given devices chains idents boards logs (Ident names) found count = some_of_chain ident_text (input_fault_line (roles_of (Ident names))) AreIdents (length names.bsdl) found count idents
-some_given devices chains idents boards logs (Make number) found count = some_said summary_text (input_fault_line (roles_of (Make number))) (IsBoardRead (made.chain_text number) (made.net_text number) (bsdl_text ∷ [])) (boards (made.chain_text number) (made.net_text number) (bsdl_text ∷ []))
-some_given devices chains idents boards logs (Walk names) found count = some_of_board board_walk_text (input_fault_line (roles_of (Walk names))) IsBoardRead (length names.bsdl) found count boards
-some_given devices chains idents boards logs (Diagnose workers log names) found count = some_of_log diagnosis_text (text_fault_line (roles_of (Diagnose workers log names))) (OnDenoted diagnosing) (length names.bsdl) found count logs.diagnoses
-some_given devices chains idents boards logs (Groups log names) found count = some_of_log grouping_text (text_fault_line (roles_of (Groups log names))) (OnDenoted grouping) (length names.bsdl) found count logs.groups
-some_given devices chains idents boards logs (Batch workers log names) found count = some_of_log verdicts_text (text_fault_line (roles_of (Batch workers log names))) (OnDenoted judging_each) (length names.bsdl) found count logs.each
-
 -- texts that say something give some outcome
-pub some_outcome : SomeDevice → SomeChain → SomeIdents → SomeBoard → LogsSaySome → SomeOutcome
-some_outcome devices chains idents boards logs command held (TooLong wanted) known = (Err (long_line wanted.name wanted.limit), refl)
-some_outcome devices chains idents boards logs command held (Read found) known =
-    some_given devices chains idents boards logs command found (count_known held (wanted_of command) found known ∙ wanted_count command)
+module _ (devices : SomeDevice) (chains : SomeChain) (idents : SomeIdents) (boards : SomeBoard) (logs : LogsSaySome) where
+  some_given : (names : Names) (request : Request) → HasOutcome (IsGiven names request)
+  some_given names (Chain texts) = some_said chain_text (input_fault_line names) (AreChainLengths texts.chain texts.bsdl) (chains texts.chain texts.bsdl)
+  some_given names (Ident texts) = some_said ident_text (input_fault_line names) (AreIdents texts.chain texts.bsdl) (idents texts.chain texts.bsdl)
+  some_given names (Device bsdl) = some_said device_text (input_fault_line names) (IsDeviceText bsdl) (devices bsdl)
+  some_given names (Cover texts) = some_said cover_text (input_fault_line names) (IsBoardOf texts) (boards texts.chain texts.nets texts.bsdl)
+  some_given names (Svf texts) = some_said board_text (input_fault_line names) (IsBoardOf texts) (boards texts.chain texts.nets texts.bsdl)
+  some_given names (Walk texts) = some_said board_walk_text (input_fault_line names) (IsBoardOf texts) (boards texts.chain texts.nets texts.bsdl)
+  some_given names (Make parts) = some_said summary_text (input_fault_line names) (IsBoardRead (made.chain_text parts) (made.net_text parts) (bsdl_text ∷ [])) (boards (made.chain_text parts) (made.net_text parts) (bsdl_text ∷ []))
+  some_given names (Diagnose workers texts) = some_said diagnosis_text (text_fault_line names) (IsJudgedOf diagnosing texts) (logs.diagnoses texts.log texts.board.chain texts.board.nets texts.board.bsdl)
+  some_given names (Groups texts) = some_said grouping_text (text_fault_line names) (IsJudgedOf grouping texts) (logs.groups texts.log texts.board.chain texts.board.nets texts.board.bsdl)
+  some_given names (Batch workers texts) = some_said verdicts_text (text_fault_line names) (IsJudgedOf judging_each texts) (logs.each texts.log texts.board.chain texts.board.nets texts.board.bsdl)
+
+  pub some_outcome : SomeOutcome
+  some_outcome command held (TooLong wanted) known = (Err (long_line wanted.name wanted.limit), refl)
+  some_outcome command held (Read found) known =
+      let request = some_request command found (count_known held (wanted_of command) found known ∙ wanted_count command) in
+      let given = some_given (roles_of command) request.0 in
+      (given.0, (request.0, request.1, given.1))

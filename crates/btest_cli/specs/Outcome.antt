@@ -13,13 +13,17 @@ use Rattle.board_gen.specs.DeviceText.{bsdl_text}
 use Rattle.btest_core.specs.DevicesRead.{IsDeviceText}
 use Rattle.btest_core.specs.BoardRead.{AreChainLengths, IsBoardRead}
 use Rattle.btest_core.specs.IdentsRead.{AreIdents}
-use Rattle.command_line.specs.Words.{Text, Command, Chain, Device, Cover, Svf, Walk, Ident, Make, Diagnose, Groups, Batch, command_of, names_of}
+use Rattle.command_line.specs.Words.{Text, Command, command_of, names_of}
 use Rattle.btest_cli.specs.declared.status.Status.{Status}
 use Rattle.btest_cli.specs.declared.status.Status.TheVariants.{Done, Refused, NoMemory}
 use Rattle.btest_cli.specs.Texts.{Held, Wanted, Reading, Read, TooLong, known_reading, IsRead, IsReadUpTo, Asks, AsksFor, wanted_of}
 use Rattle.walk_test.specs.WalkTest.{board_walk_text}
-use Rattle.commands.specs.LogRead.{OnDenoted, diagnosing, diagnosis_text, grouping, grouping_text, judging_each, verdicts_text}
-use Rattle.refusal_lines.specs.Refusals.{input_fault_line, long_line, read_line}
+use Rattle.commands.specs.Answers.{IsBoardOf, IsJudgedOf}
+use Rattle.commands.specs.declared.request.Request.{Request}
+use Rattle.commands.specs.declared.request.Request.TheVariants.{Chain, Ident, Device, Cover, Svf, Walk, Make, Diagnose, Groups, Batch}
+use Rattle.commands.specs.LogRead.{diagnosing, diagnosis_text, grouping, grouping_text, judging_each, verdicts_text}
+use Rattle.commands.specs.Requests.{request_of}
+use Rattle.refusal_lines.specs.Refusals.{Names, input_fault_line, long_line, read_line}
 use Rattle.btest_cli.specs.Refusals.{roles_of, text_fault_line}
 use Rattle.commands.specs.Summary.{summary_text}
 use Rattle.commands.specs.Worth.{IsWorthFor}
@@ -29,63 +33,46 @@ abbrev pub IsSaid : {A F : Type 0} → (A → Text) → (F → Text) → (Result
 IsSaid {A} {F} text_of line_of IsFound outcome =
     ((value : A) × IsFound (Ok value) × (outcome ≡ Ok (text_of value))) ⊎ ((fault : F) × IsFound (Err fault) × (outcome ≡ Err (line_of fault)))
 
--- of a chain file and BSDL texts
-abbrev pub IsSaidOfChain : {A F : Type 0} → (A → Text) → (F → Text) → (Text → List Text → Result A F → Type 0) → List Text → Result Text Text → Type 0
-IsSaidOfChain text_of line_of IsFound [] outcome = ⊥
-IsSaidOfChain text_of line_of IsFound (chain ∷ texts) outcome = IsSaid text_of line_of (IsFound chain texts) outcome
+-- what a request gives, whose texts have these names: the text that is put, or the line of the first fault
+abbrev pub IsGiven : Names → Request → Result Text Text → Type 0
+IsGiven names (Chain texts) outcome = IsSaid chain_text (input_fault_line names) (AreChainLengths texts.chain texts.bsdl) outcome
+IsGiven names (Ident texts) outcome = IsSaid ident_text (input_fault_line names) (AreIdents texts.chain texts.bsdl) outcome
+IsGiven names (Device bsdl) outcome = IsSaid device_text (input_fault_line names) (IsDeviceText bsdl) outcome
+IsGiven names (Cover texts) outcome = IsSaid cover_text (input_fault_line names) (IsBoardOf texts) outcome
+IsGiven names (Svf texts) outcome = IsSaid board_text (input_fault_line names) (IsBoardOf texts) outcome
+IsGiven names (Walk texts) outcome = IsSaid board_walk_text (input_fault_line names) (IsBoardOf texts) outcome
+IsGiven names (Make parts) outcome = IsSaid summary_text (input_fault_line names) (IsBoardRead (made.chain_text parts) (made.net_text parts) (bsdl_text ∷ [])) outcome
+IsGiven names (Diagnose workers texts) outcome = IsSaid diagnosis_text (text_fault_line names) (IsJudgedOf diagnosing texts) outcome
+IsGiven names (Groups texts) outcome = IsSaid grouping_text (text_fault_line names) (IsJudgedOf grouping texts) outcome
+IsGiven names (Batch workers texts) outcome = IsSaid verdicts_text (text_fault_line names) (IsJudgedOf judging_each texts) outcome
 
--- of a chain file, a net file and BSDL texts
-abbrev pub IsSaidOfBoard : {A F : Type 0} → (A → Text) → (F → Text) → (Text → Text → List Text → Result A F → Type 0) → List Text → Result Text Text → Type 0
-IsSaidOfBoard text_of line_of IsFound [] outcome = ⊥
-IsSaidOfBoard text_of line_of IsFound (chain ∷ []) outcome = ⊥
-IsSaidOfBoard text_of line_of IsFound (chain ∷ nets ∷ texts) outcome = IsSaid text_of line_of (IsFound chain nets texts) outcome
-
--- of a log, a chain file, a net file and BSDL texts
-abbrev pub IsSaidOfLog : {A F : Type 0} → (A → Text) → (F → Text) → (Text → Text → Text → List Text → Result A F → Type 0) → List Text → Result Text Text → Type 0
-IsSaidOfLog text_of line_of IsFound [] outcome = ⊥
-IsSaidOfLog text_of line_of IsFound (log ∷ texts) outcome = IsSaidOfBoard text_of line_of (IsFound log) texts outcome
-
--- of one BSDL text
-abbrev pub IsSaidOfText : {A F : Type 0} → (A → Text) → (F → Text) → (Text → Result A F → Type 0) → List Text → Result Text Text → Type 0
-IsSaidOfText text_of line_of IsFound [] outcome = ⊥
-IsSaidOfText text_of line_of IsFound (text ∷ []) outcome = IsSaid text_of line_of (IsFound text) outcome
-IsSaidOfText text_of line_of IsFound (text ∷ other ∷ others) outcome = ⊥
-
--- what a command gives for texts, of which it has one for each of its names: the text that it puts, or the line of the first fault
-abbrev pub IsGiven : Command → List Text → Result Text Text → Type 0
-IsGiven (Chain names) texts outcome = IsSaidOfChain chain_text (input_fault_line (roles_of (Chain names))) AreChainLengths texts outcome
-IsGiven (Device name) texts outcome = IsSaidOfText device_text (input_fault_line (roles_of (Device name))) IsDeviceText texts outcome
-IsGiven (Cover names) texts outcome = IsSaidOfBoard cover_text (input_fault_line (roles_of (Cover names))) IsBoardRead texts outcome
-IsGiven (Svf names) texts outcome = IsSaidOfBoard board_text (input_fault_line (roles_of (Svf names))) IsBoardRead texts outcome
-IsGiven (Walk names) texts outcome = IsSaidOfBoard board_walk_text (input_fault_line (roles_of (Walk names))) IsBoardRead texts outcome
-IsGiven (Ident names) texts outcome = IsSaidOfChain ident_text (input_fault_line (roles_of (Ident names))) AreIdents texts outcome
-IsGiven (Make number) texts outcome = IsSaid summary_text (input_fault_line (roles_of (Make number))) (IsBoardRead (made.chain_text number) (made.net_text number) (bsdl_text ∷ [])) outcome
-IsGiven (Diagnose workers log names) texts outcome = IsSaidOfLog diagnosis_text (text_fault_line (roles_of (Diagnose workers log names))) (OnDenoted diagnosing) texts outcome
-IsGiven (Groups log names) texts outcome = IsSaidOfLog grouping_text (text_fault_line (roles_of (Groups log names))) (OnDenoted grouping) texts outcome
-IsGiven (Batch workers log names) texts outcome = IsSaidOfLog verdicts_text (text_fault_line (roles_of (Batch workers log names))) (OnDenoted judging_each) texts outcome
-
--- the same for what was read: a text that is too long is the first fault
+-- what a command gives for what was read: a text that is too long is the first fault
 abbrev pub IsOutcome : Command → Reading → Result Text Text → Type 0
-IsOutcome command (Read texts) outcome = IsGiven command texts outcome
+IsOutcome command (Read texts) outcome = (request : Request) × (request_of command texts ≡ Some request) × IsGiven (roles_of command) request outcome
 IsOutcome command (TooLong wanted) outcome = outcome ≡ Err (long_line wanted.name wanted.limit)
 
--- the texts were read, each asked for once and in order; the sink took the text that they give; and that text is worth what it should be
-pub record IsDone (held : Held) (command : Command) (asked asked' : List Text) (old new : Shown) : Type 0 where
+-- the texts of a command were read, each asked for once and in order, and this is the command with them
+pub record IsReadAs (held : Held) (command : Command) (asked asked' : List Text) (request : Request) : Type 0 where
   pub texts : List Text
   pub read : IsRead held (wanted_of command) (Read texts)
+  pub made : request_of command texts ≡ Some request
   pub asks : Asks asked asked' (names_of command)
-  pub text : Text
-  pub gives : IsGiven command texts (Ok text)
-  pub takes : Takes old new text
-  pub worth : IsWorthFor command texts text
 
--- the texts were read, each asked for once and in order, and the sink took some first bytes of the text that they give
-pub record IsCutShort (held : Held) (command : Command) (asked asked' : List Text) (old new : Shown) : Type 0 where
-  pub texts : List Text
-  pub read : IsRead held (wanted_of command) (Read texts)
-  pub asks : Asks asked asked' (names_of command)
+-- the texts were read, the sink took the text that they give, and that is worth what it should be
+pub record IsDone (held : Held) (command : Command) (asked asked' : List Text) (old new : Shown) : Type 0 where
+  pub request : Request
+  pub read : IsReadAs held command asked asked' request
   pub text : Text
-  pub gives : IsGiven command texts (Ok text)
+  pub gives : IsGiven (roles_of command) request (Ok text)
+  pub takes : Takes old new text
+  pub worth : IsWorthFor request text
+
+-- the texts were read, and the sink took some first bytes of the text that they give
+pub record IsCutShort (held : Held) (command : Command) (asked asked' : List Text) (old new : Shown) : Type 0 where
+  pub request : Request
+  pub read : IsReadAs held command asked asked' request
+  pub text : Text
+  pub gives : IsGiven (roles_of command) request (Ok text)
   pub bytes : ℕ
   pub takes : Takes old new (take bytes text)
 

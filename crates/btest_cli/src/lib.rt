@@ -2,6 +2,7 @@
 #![tactic(auto)]
 
 mod failure;
+mod requests;
 mod status;
 mod texts;
 mod top;

@@ -1,12 +1,12 @@
-// The texts that a command reads.
-ghost use Rattle.std.specs.Prelude.{◌≡◌, ℕ, ◌<◌, ◌≤◌, ◌^◌, [], ◌∷◌, ◌++◌, All, List, length, map, IfOk, IsErrOf, Err};
-ghost use Rattle.bt_base.specs.Counts.{Rose};
-ghost use Rattle.btest_cli.specs.declared.failure.Unread.{Unread as Lost};
-ghost use Rattle.btest_cli.specs.Texts.{IsRead, IsText, IsLong, Asks, Read, log_called, names_in, text_called};
-ghost use Rattle.btest_cli.specs.inner.Failures.{IsUnread, wanted_view};
+// Reading texts.
+ghost use Rattle.std.specs.Prelude.{◌≡◌, ◌<◌, ◌^◌, [], ◌∷◌, length, map, string_bytes};
+ghost use Rattle.btest_cli.specs.Texts.{log_called, text_called};
+ghost use Rattle.btest_cli.specs.inner.Failures.{wanted_view};
+ghost use Rattle.btest_cli.specs.inner.Reads.{AreAll, IsOne, Reads};
 
 use crate::failure::Unread;
 use bt_base::{FetchFault, Store};
+use commands::{ShortText, ShortTexts};
 use std::alloc::Global;
 
 // The most bytes of a chain file, a net file or a BSDL text.
@@ -22,8 +22,8 @@ pub struct Wanted<'a> {
     pub limit: u32,
 }
 
-/// A chain file, a net file or a BSDL text of this name.
-pub fn text_called<'a>(name: &'a str) -> Wanted<'a>
+// A chain file, a net file or a BSDL text of this name.
+fn text_called<'a>(name: &'a str) -> Wanted<'a>
     ensures { wanted_view result ≡ text_called name.entry.now }
 {
     Wanted {
@@ -32,8 +32,8 @@ pub fn text_called<'a>(name: &'a str) -> Wanted<'a>
     }
 }
 
-/// A response log of this name, or many of them in one text.
-pub fn log_called<'a>(name: &'a str) -> Wanted<'a>
+// A response log of this name, or many of them in one text.
+fn log_called<'a>(name: &'a str) -> Wanted<'a>
     ensures { wanted_view result ≡ log_called name.entry.now }
 {
     Wanted {
@@ -42,50 +42,63 @@ pub fn log_called<'a>(name: &'a str) -> Wanted<'a>
     }
 }
 
-// Fetches a text.
-fn fetch_text<S: Store>(alloc: Global, wanted: Wanted, store: &mut S) -> Result<Vec<u8>, FetchFault>
-    ensures held { S.held store.new ≡ S.held store.old }
-    ensures later { (n : List ℕ) → S.faults store.old n ≤ S.faults store.new n }
-    ensures asked { Asks (S.asked store.old) (S.asked store.new) (wanted.entry.name.now ∷ []) }
-    ensures text { IfOk result (λ text. IsText (S.held store.old) wanted.entry.name.now text.items) }
-    ensures short { IfOk result (λ text. length text.items ≤ wanted.entry.limit) }
-    ensures small { IfOk result (λ text. length text.items < 2 ^ 32) }
-    ensures too_long { IsErrOf result FetchFault.TooLong → IsLong (S.held store.old) (wanted_view wanted.entry) }
-    ensures failed { IsErrOf result FetchFault.Failed → Rose (S.faults store.old wanted.entry.name.now) (S.faults store.new wanted.entry.name.now) }
+// Reads a text.
+fn read_wanted<'a, S: Store>(
+    alloc: Global,
+    wanted: Wanted<'a>,
+    store: &mut S,
+) -> Result<ShortText, Unread<'a>>
+    ensures { Reads IsOne (wanted_view wanted.entry ∷ []) (S.held store.old) (S.held store.new) (S.faults store.old) (S.faults store.new) (S.asked store.old) (S.asked store.new) result }
 {
     let mut text = Vec::new(alloc);
     match store.fetch(wanted.name, &mut text, wanted.limit) {
-        Ok(()) => Ok(text),
-        Err(FetchFault::Failed) => Err(FetchFault::Failed),
-        Err(FetchFault::TooLong) => Err(FetchFault::TooLong),
-        Err(FetchFault::Memory(e)) => Err(FetchFault::Memory(e)),
+        Ok(()) => Ok(ShortText::of(text)),
+        Err(FetchFault::Failed) => Err(Unread::Failed(wanted)),
+        Err(FetchFault::TooLong) => Err(Unread::TooLong(wanted)),
+        Err(FetchFault::Memory(_)) => Err(Unread::Memory),
     }
 }
 
-/// Fetches texts in their order, up to the first that fails or is too long.
-pub fn fetch_texts<'a, S: Store>(
+/// Reads a chain file, a net file or a BSDL text.
+pub fn read_text<'a, S: Store>(
     alloc: Global,
-    wanted: &[Wanted<'a>],
+    name: &'a str,
     store: &mut S,
-) -> Result<Vec<Vec<u8>>, Unread<'a>>
-    ensures held { S.held store.new ≡ S.held store.old }
-    ensures read { IfOk result (λ texts. IsRead (S.held store.old) (map wanted_view wanted.now) (Read (map (λ text. text.items) texts.items))) }
-    ensures asked { IfOk result (λ texts. Asks (S.asked store.old) (S.asked store.new) (names_in (map wanted_view wanted.now))) }
-    ensures short { IfOk result (λ texts. All (λ text. length text.items < 2 ^ 32) texts.items) }
-    ensures number { IfOk result (λ texts. length texts.items ≡ length wanted.now) }
-    ensures unread { (lost : Lost) → result ≡ Err lost → IsUnread (S.held store.old) (S.faults store.old) (S.faults store.new) (S.asked store.old) (S.asked store.new) (map wanted_view wanted.now) lost }
+) -> Result<ShortText, Unread<'a>>
+    ensures { Reads IsOne (text_called name.entry.now ∷ []) (S.held store.old) (S.held store.new) (S.faults store.old) (S.faults store.new) (S.asked store.old) (S.asked store.new) result }
+{
+    read_wanted(alloc, text_called(name), store)
+}
+
+/// Reads a response log, or many of them in one text.
+pub fn read_log<'a, S: Store>(
+    alloc: Global,
+    name: &'a str,
+    store: &mut S,
+) -> Result<ShortText, Unread<'a>>
+    ensures { Reads IsOne (log_called name.entry.now ∷ []) (S.held store.old) (S.held store.new) (S.faults store.old) (S.faults store.new) (S.asked store.old) (S.asked store.new) result }
+{
+    read_wanted(alloc, log_called(name), store)
+}
+
+/// Reads BSDL texts in their order, up to the first that fails or is too long.
+pub fn read_texts<'a, S: Store>(
+    alloc: Global,
+    names: &'a [String],
+    store: &mut S,
+) -> Result<ShortTexts, Unread<'a>>
+    requires { length names.now < 2 ^ 32 }
+    ensures { Reads AreAll (map text_called (map string_bytes names.entry.now)) (S.held store.old) (S.held store.new) (S.faults store.old) (S.faults store.new) (S.asked store.old) (S.asked store.new) result }
 {
     let mut texts = Vec::new(alloc);
-    for one in wanted {
-        let text = match fetch_text(alloc, *one, store) {
+    for name in names {
+        let text = match read_text(alloc, name.as_str(), store) {
             Ok(text) => text,
-            Err(FetchFault::Failed) => return Err(Unread::Failed(*one)),
-            Err(FetchFault::TooLong) => return Err(Unread::TooLong(*one)),
-            Err(FetchFault::Memory(_)) => return Err(Unread::Memory),
+            Err(failure) => return Err(failure),
         };
-        let Ok(()) = texts.push(text) else {
+        let Ok(()) = texts.push(text.into_bytes()) else {
             return Err(Unread::Memory);
         };
     }
-    Ok(texts)
+    Ok(ShortTexts::of(texts))
 }

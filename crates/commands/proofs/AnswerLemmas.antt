@@ -5,7 +5,6 @@ use Rattle.bt_base.specs.Puts.{Puts, Shown, Takes}
 use Rattle.btest_core.specs.Answers.{input_told}
 use Rattle.btest_core.specs.declared.fault.InputFault.{InputFault}
 use Rattle.btest_core.specs.declared.fault.InputFault.TheVariants as input
-use Rattle.btest_core.specs.BoardRead.{IsBoardRead, Denotes}
 use Rattle.command_line.specs.Words.{Text}
 use Rattle.commands.specs.declared.unput.Unput.{Unput}
 use Rattle.commands.specs.declared.unput.Unput.TheVariants as unput
@@ -16,9 +15,10 @@ use Rattle.batch_diag.specs.declared.fault.BatchFault.{BatchFault}
 use Rattle.batch_diag.specs.declared.fault.BatchFault.TheVariants as batch
 use Rattle.batch_diag.specs.Batch.{Answer as BatchAnswer, batch_told}
 use Rattle.board_defs.specs.declared.board.RawBoard.{RawBoard}
-use Rattle.commands.specs.LogRead.{Judging, OnBoard, OnDenoted, TextFault, Log, Batch as OfBatch}
-use Rattle.commands.specs.Worth.{OfDenoted}
-use Rattle.commands.specs.Answers.{Answers, LogAnswers}
+use Rattle.commands.specs.LogRead.{Judging, TextFault, Log, Batch as OfBatch}
+use Rattle.commands.specs.Answers.{Answers, AnswersOn, IsBoardOf, IsJudgedOf, JudgedAnswers, LogAnswers}
+use Rattle.commands.specs.declared.texts.BoardTexts.{BoardTexts}
+use Rattle.commands.specs.declared.texts.LogTexts.{LogTexts}
 use Rattle.commands.specs.inner.Unput.{IsPutInPart, NoBoard, PutsText, unput_batch, unput_log, unput_of}
 
 -- a fault was found
@@ -65,45 +65,52 @@ text_judged IsFound text_of IsWorth value found old new result put worth =
     by_put (LogAnswers IsFound text_of IsWorth old new) (text_of value) old new result put (λ takes. record { value = value; found = found; takes = takes; worth = worth }) (λ cut. record { rose = cut.rose; value = value; found = found; bytes = cut.bytes; takes = cut.takes }) (λ same. same)
 
 -- there is no board: its texts have a first fault, or memory ran out
-pub no_board : (chain nets : Text) (texts : List Text) (fault : InputFault) → IfSome (input_told fault) (λ f. IsBoardRead chain nets texts (Err f)) → NoBoard chain nets texts (unput_of fault)
-no_board chain nets texts (input.Memory e) is = tt
-no_board chain nets texts (input.Chain fault) is = is
-no_board chain nets texts (input.Nets fault) is = is
-no_board chain nets texts (input.Lex number fault) is = is
-no_board chain nets texts (input.Parse number fault) is = is
-no_board chain nets texts (input.Board fault) is = is
-no_board chain nets texts (input.Device number fault) is = is
-no_board chain nets texts (input.Link fault) is = is
-no_board chain nets texts (input.NoIdent line) is = is
+pub no_board : (texts : BoardTexts) (fault : InputFault) → IfSome (input_told fault) (λ f. IsBoardOf texts (Err f)) → NoBoard texts (unput_of fault)
+no_board texts (input.Memory e) is = tt
+no_board texts (input.Chain fault) is = is
+no_board texts (input.Nets fault) is = is
+no_board texts (input.Lex number fault) is = is
+no_board texts (input.Parse number fault) is = is
+no_board texts (input.Board fault) is = is
+no_board texts (input.Device number fault) is = is
+no_board texts (input.Link fault) is = is
+no_board texts (input.NoIdent line) is = is
 
 -- then nothing is put
-pub no_board_answers : (chain nets : Text) (texts : List Text) (text_of : RawBoard → Text) (IsWorth : Text → Type 0) (shown : Shown) (failure : Unput) → NoBoard chain nets texts failure → Answers (IsBoardRead chain nets texts) text_of IsWorth shown shown (Err failure)
-no_board_answers chain nets texts text_of IsWorth shown (unput.Input fault) is = (is, refl)
-no_board_answers chain nets texts text_of IsWorth shown (unput.Log rows fault) is = absurd is
-no_board_answers chain nets texts text_of IsWorth shown (unput.Batch rows fault) is = absurd is
-no_board_answers chain nets texts text_of IsWorth shown unput.Write is = absurd is
-no_board_answers chain nets texts text_of IsWorth shown unput.Memory is = refl
+pub no_board_answers : (texts : BoardTexts) (text_of : RawBoard → Text) (IsWorth : Text → Type 0) (shown : Shown) (failure : Unput) → NoBoard texts failure → Answers (IsBoardOf texts) text_of IsWorth shown shown (Err failure)
+no_board_answers texts text_of IsWorth shown (unput.Input fault) is = (is, refl)
+no_board_answers texts text_of IsWorth shown (unput.Log rows fault) is = absurd is
+no_board_answers texts text_of IsWorth shown (unput.Batch rows fault) is = absurd is
+no_board_answers texts text_of IsWorth shown unput.Write is = absurd is
+no_board_answers texts text_of IsWorth shown unput.Memory is = refl
 
 -- the same beside a text of logs
-pub no_board_judged : {L E A : Type 0} (judging : Judging L E A) (text_of : RawBoard × A → Text) (text chain nets : Text) (texts : List Text) (IsWorth : Text → Type 0) (shown : Shown) (failure : Unput) → NoBoard chain nets texts failure
-    → LogAnswers (OnDenoted judging text chain nets texts) text_of IsWorth shown shown (Err failure)
-no_board_judged judging text_of text chain nets texts IsWorth shown (unput.Input fault) is = (inl is, refl)
-no_board_judged judging text_of text chain nets texts IsWorth shown (unput.Log rows fault) is = absurd is
-no_board_judged judging text_of text chain nets texts IsWorth shown (unput.Batch rows fault) is = absurd is
-no_board_judged judging text_of text chain nets texts IsWorth shown unput.Write is = absurd is
-no_board_judged judging text_of text chain nets texts IsWorth shown unput.Memory is = refl
+pub no_board_judged : {L E A : Type 0} (judging : Judging L E A) (text_of : RawBoard × A → Text) (texts : LogTexts) (IsWorth : Text → Type 0) (shown : Shown) (failure : Unput) → NoBoard texts.board failure
+    → LogAnswers (IsJudgedOf judging texts) text_of IsWorth shown shown (Err failure)
+no_board_judged judging text_of texts IsWorth shown (unput.Input fault) is = (inl is, refl)
+no_board_judged judging text_of texts IsWorth shown (unput.Log rows fault) is = absurd is
+no_board_judged judging text_of texts IsWorth shown (unput.Batch rows fault) is = absurd is
+no_board_judged judging text_of texts IsWorth shown unput.Write is = absurd is
+no_board_judged judging text_of texts IsWorth shown unput.Memory is = refl
 
 -- what a text says of a board, as what it says of the board that others denote
-pub judged_denoted : {L E A : Type 0} (judging : Judging L E A) (text_of : RawBoard × A → Text) (P : RawBoard → Text → Type 0) (text chain nets : Text) (texts : List Text) (board : RawBoard) → Denotes chain nets texts board
-    → (old new : Shown) (result : Result (Unit {0}) Unput) → LogAnswers (OnBoard judging text board) (λ found. text_of (board, found)) (P board) old new result → LogAnswers (OnDenoted judging text chain nets texts) text_of (OfDenoted P chain nets texts) old new result
-judged_denoted judging text_of P text chain nets texts board denoted old new (Ok done) put =
+pub judged_denoted : {L E A : Type 0} (judging : Judging L E A) (text_of : RawBoard × A → Text) (P : Text → RawBoard → Text → Type 0) (texts : LogTexts) (board : RawBoard) → IsBoardOf texts.board (Ok board)
+    → (old new : Shown) (result : Result (Unit {0}) Unput) → AnswersOn judging text_of P texts.log board old new result → JudgedAnswers judging text_of P texts old new result
+judged_denoted judging text_of P texts board denoted old new (Ok done) put =
     record { value = (board, put.value); found = (denoted, put.found); takes = put.takes; worth = (board, denoted, put.worth) }
-judged_denoted judging text_of P text chain nets texts board denoted old new (Err (unput.Input fault)) is = (inr (board, denoted, is.0), is.1)
-judged_denoted judging text_of P text chain nets texts board denoted old new (Err (unput.Log rows fault)) is = (inr (board, denoted, is.0), is.1)
-judged_denoted judging text_of P text chain nets texts board denoted old new (Err (unput.Batch rows fault)) is = (inr (board, denoted, is.0), is.1)
-judged_denoted judging text_of P text chain nets texts board denoted old new (Err unput.Write) cut =
+judged_denoted judging text_of P texts board denoted old new (Err (unput.Input fault)) is = (inr (board, denoted, is.0), is.1)
+judged_denoted judging text_of P texts board denoted old new (Err (unput.Log rows fault)) is = (inr (board, denoted, is.0), is.1)
+judged_denoted judging text_of P texts board denoted old new (Err (unput.Batch rows fault)) is = (inr (board, denoted, is.0), is.1)
+judged_denoted judging text_of P texts board denoted old new (Err unput.Write) cut =
     record { rose = cut.rose; value = (board, cut.value); found = (denoted, cut.found); bytes = cut.bytes; takes = cut.takes }
-judged_denoted judging text_of P text chain nets texts board denoted old new (Err unput.Memory) same = same
+judged_denoted judging text_of P texts board denoted old new (Err unput.Memory) same = same
+
+-- what is said of the bytes of texts is said of the texts
+pub of_two : (P : Text → List Text → Type 0) {a b : Text} {l m : List Text} → a ≡ b → l ≡ m → P a l → P b m
+of_two P {a} {b} {l} {m} first others is = subst (λ (t : Text). P t m) first (subst (P a) others is)
+
+pub of_three : (P : Text → Text → List Text → Type 0) {a b c d : Text} {l m : List Text} → a ≡ b → c ≡ d → l ≡ m → P a c l → P b d m
+of_three P {a} {b} {c} {d} {l} {m} first second others is = subst (λ (t : Text). P t d m) first (of_two (P a) second others is)
 
 -- a log is wrong
 pub log_wrong : {A : Type 0} (IsFound : Result A TextFault → Type 0) (text_of : A → Text) (IsWorth : Text → Type 0) (shown : Shown) (rows : ℕ) (said : LogAnswer) (fault : LogFault) → IfSome (log_told fault) (λ f. said ≡ Err f) → ((f : LogFault) → said ≡ Err f → IsFound (Err (Log rows f)))

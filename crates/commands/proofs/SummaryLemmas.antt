@@ -1,7 +1,8 @@
 -- The counts of a board, as its summary.
-use Rattle.std.proofs.Common.{◌≡◌, ℕ, List, length, ap, ◌∙◌, sym}
+use Rattle.std.proofs.Common.{◌≡◌, ℕ, ◌+◌, List, Option, Some, None, Result, Ok, Err, length, ap, ◌∙◌, sym, inl, inr, arith}
 use Rattle.std.specs.Prelude.{min}
-use Rattle.bt_base.specs.Counts.{last_count}
+use Rattle.bt_base.specs.Counts.{Rose, last_count}
+use Rattle.bt_base.specs.Puts.{Puts, Shown, Takes}
 use Rattle.board_defs.specs.declared.board.RawBoard.{RawBoard}
 use Rattle.board_defs.specs.declared.board.Ctl.{Ctl}
 use Rattle.board_defs.specs.Passes.{passes_of}
@@ -12,6 +13,28 @@ use Rattle.plan_tables.specs.declared.tables.PlanTables.{PlanTables}
 use Rattle.scan_planner.specs.Plans.{IsPlanOf, scan_count}
 use Rattle.commands.specs.Summary.{counts_line, summary_text}
 use Rattle.commands.proofs.TestLemmas.{plan_text}
+
+-- a sink whose count of faults does not rise takes the whole text
+takes_all : {T E : Type 0} {old new : Shown} {text : List ℕ} (result : Result T E) → Puts old new text result → (Rose old.faults new.faults → ⊥) → Takes old new text
+takes_all (Ok x) puts calm = puts.whole
+takes_all (Err e) puts calm = absurd (calm puts.cause)
+
+none_rose : Rose 0 0 → ⊥
+none_rose (inl rose) = omega (arith, rose)
+none_rose (inr last) = omega (arith, last)
+
+same_amount : {a b : ℕ} → ◌≡◌ {A = Option ℕ} (Some a) (Some b) → a ≡ b
+same_amount e = cc
+
+-- a counter, which has none, counts it
+abbrev counter : ℕ → Shown
+counter count = record { taken = None; amount = Some count; faults = 0 }
+
+pub counts_all : {T E : Type 0} {old new : ℕ} {text : List ℕ} (result : Result T E) → Puts (counter old) (counter new) text result → old ≡ 0 → new ≡ min (length text) last_count
+counts_all {old = old} {text = text} result puts none =
+    let counted = same_amount (takes_all result puts none_rose).amount in
+    let whole : old + length text ≡ length text = omega (arith, none) in
+    counted ∙ ap (λ (n : ℕ). min n last_count) whole
 
 same_counts : {a a' b b' c c' d d' e e' f f' : ℕ} → a ≡ a' → b ≡ b' → c ≡ c' → d ≡ d' → e ≡ e' → f ≡ f' → counts_line a b c d e f ≡ counts_line a' b' c' d' e' f'
 same_counts {a} {a'} {b} {b'} {c} {c'} {d} {d'} {e} {e'} {f} {f'} p q r s t u =

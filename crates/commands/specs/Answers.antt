@@ -1,6 +1,5 @@
 -- What a command does with what it finds in its texts.
-use Rattle.std.specs.Prelude.{◌≡◌, ℕ, List, map, take, Result, Ok, Err, Vec}
-use Rattle.std.specs.declared.alloc.Global.{Global}
+use Rattle.std.specs.Prelude.{◌≡◌, ℕ, List, take, Result, Ok, Err}
 use Rattle.bt_base.specs.Counts.{Rose}
 use Rattle.bt_base.specs.Puts.{Shown, Takes}
 use Rattle.board_defs.specs.declared.board.RawBoard.{RawBoard}
@@ -10,6 +9,7 @@ use Rattle.command_line.specs.Words.{Text}
 use Rattle.commands.specs.LogRead.{Judging, OnBoard, OnDenoted, TextFault, Input, Log, Batch}
 use Rattle.commands.specs.Worth.{OfDenoted}
 use Rattle.commands.specs.declared.texts.BoardTexts.{BoardTexts}
+use Rattle.commands.specs.declared.texts.ChainTexts.{ChainTexts}
 use Rattle.commands.specs.declared.texts.LogTexts.{LogTexts}
 use Rattle.commands.specs.declared.unput.Unput.{Unput}
 use Rattle.commands.specs.declared.unput.Unput.TheVariants as unput
@@ -51,28 +51,26 @@ LogAnswers IsFound text_of IsWorth old new (Err (unput.Batch rows fault)) = IsFo
 LogAnswers IsFound text_of IsWorth old new (Err unput.Write) = IsCutBy IsFound text_of old new
 LogAnswers IsFound text_of IsWorth old new (Err unput.Memory) = new ≡ old
 
--- texts, by their bytes
-abbrev pub bytes_of : List (Vec ℕ Global) → List Text
-bytes_of texts = map (λ text. text.items) texts
-
 -- what is found in a chain file and BSDL texts is answered
-abbrev pub ChainAnswers : {A : Type 0} → (Text → List Text → Result A InputFault → Type 0) → (A → Text) → (Text → List Text → Text → Type 0) → Text → List (Vec ℕ Global) → Shown → Shown → Result (Unit {0}) Unput → Type 0
-ChainAnswers IsFound text_of IsWorth file bsdl old new result = Answers (IsFound file (bytes_of bsdl)) text_of (IsWorth file (bytes_of bsdl)) old new result
+abbrev pub ChainAnswers : {A : Type 0} → (Text → List Text → Result A InputFault → Type 0) → (A → Text) → (ChainTexts → Text → Type 0) → ChainTexts → Shown → Shown → Result (Unit {0}) Unput → Type 0
+ChainAnswers IsFound text_of IsWorth texts old new result = Answers (IsFound texts.chain texts.bsdl) text_of (IsWorth texts) old new result
 
 -- what the texts of a board are read as
 abbrev pub IsBoardOf : BoardTexts → Result RawBoard InputFault → Type 0
-IsBoardOf texts found = IsBoardRead texts.chain.now texts.nets.now (bytes_of texts.bsdl.now) found
+IsBoardOf texts found = IsBoardRead texts.chain texts.nets texts.bsdl found
 
 -- the board of its texts is answered
-abbrev pub BoardAnswers : (RawBoard → Text) → (Text → Text → List Text → Text → Type 0) → BoardTexts → Shown → Shown → Result (Unit {0}) Unput → Type 0
-BoardAnswers text_of IsWorth texts old new result = Answers (IsBoardOf texts) text_of (IsWorth texts.chain.now texts.nets.now (bytes_of texts.bsdl.now)) old new result
+abbrev pub BoardAnswers : (RawBoard → Text) → (BoardTexts → Text → Type 0) → BoardTexts → Shown → Shown → Result (Unit {0}) Unput → Type 0
+BoardAnswers text_of IsWorth texts old new result = Answers (IsBoardOf texts) text_of (IsWorth texts) old new result
 
 -- what is found in logs of a board is answered
 abbrev pub AnswersOn : {L E A : Type 0} → Judging L E A → (RawBoard × A → Text) → (Text → RawBoard → Text → Type 0) → Text → RawBoard → Shown → Shown → Result (Unit {0}) Unput → Type 0
 AnswersOn judging text_of IsWorth text board old new result = LogAnswers (OnBoard judging text board) (λ found. text_of (board, found)) (IsWorth text board) old new result
 
--- the same where the board is that of its texts
+-- what logs say of the board of their texts
+abbrev pub IsJudgedOf : {L E A : Type 0} → Judging L E A → LogTexts → Result (RawBoard × A) TextFault → Type 0
+IsJudgedOf judging texts found = OnDenoted judging texts.log texts.board.chain texts.board.nets texts.board.bsdl found
+
+-- it is answered
 abbrev pub JudgedAnswers : {L E A : Type 0} → Judging L E A → (RawBoard × A → Text) → (Text → RawBoard → Text → Type 0) → LogTexts → Shown → Shown → Result (Unit {0}) Unput → Type 0
-JudgedAnswers judging text_of IsWorth texts old new result =
-    LogAnswers (OnDenoted judging texts.log.items texts.board.chain.now texts.board.nets.now (bytes_of texts.board.bsdl.now)) text_of
-    (OfDenoted (IsWorth texts.log.items) texts.board.chain.now texts.board.nets.now (bytes_of texts.board.bsdl.now)) old new result
+JudgedAnswers judging text_of IsWorth texts old new result = LogAnswers (IsJudgedOf judging texts) text_of (OfDenoted (IsWorth texts.log) texts.board) old new result

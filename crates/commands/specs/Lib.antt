@@ -1,4 +1,5 @@
 pub mod LogRead
+pub mod Requests
 pub mod Worth
 pub mod Summary
 pub mod Answers

@@ -1,5 +1,5 @@
 -- What a text is worth that a command puts.
-use Rattle.std.specs.Prelude.{◌≡◌, ◌↔◌, ℕ, Bool, true, List, [], ◌∷◌, Option, Some, Ok, All, Decides}
+use Rattle.std.specs.Prelude.{◌≡◌, ◌↔◌, ℕ, Bool, true, List, [], Option, Some, Ok, All, Decides}
 use Rattle.tap_defs.specs.chain.ChainTest.{IsChainTest}
 use Rattle.tap_defs.specs.board.BoardTest.{IsBoardTest, IsHarmless}
 use Rattle.board_defs.specs.declared.board.RawBoard.{RawBoard}
@@ -29,12 +29,16 @@ use Rattle.walk_test.specs.Groups.{AreGroups, Explain}
 use Rattle.walk_test.specs.GroupText.{groups_text}
 use Rattle.walk_test.specs.WalkTest.{board_walk_text, walk_row_list, walk_scans}
 use Rattle.commands.specs.LogRead.{test_blocks, test_log, walk_log}
-use Rattle.command_line.specs.Words.{Text, Command, Chain, Device, Cover, Svf, Walk, Ident, Make, Diagnose, Groups, Batch}
+use Rattle.command_line.specs.Words.{Text}
+use Rattle.commands.specs.declared.request.Request.{Request}
+use Rattle.commands.specs.declared.request.Request.TheVariants.{Chain, Ident, Device, Cover, Svf, Walk, Make, Diagnose, Groups, Batch}
+use Rattle.commands.specs.declared.texts.BoardTexts.{BoardTexts}
+use Rattle.commands.specs.declared.texts.ChainTexts.{ChainTexts}
 
 -- the text tests the length of the chain that these texts describe
-pub record TestsChain (chain : Text) (texts : List Text) (text : Text) : Type 0 where
+pub record TestsChain (texts : ChainTexts) (text : Text) : Type 0 where
   pub lengths : List ℕ
-  pub are : AreChainLengths chain texts (Ok lengths)
+  pub are : AreChainLengths texts.chain texts.bsdl (Ok lengths)
   pub bounds : AreLengths lengths
   pub tests : IsChainTest lengths text
 
@@ -47,31 +51,31 @@ pub record ListsDevice (text listing : Text) : Type 0 where
 
 -- the text is a coverage list of the board that these texts denote, which keeps the rules of a board: of all its nets, pins and pairs the
 -- list says what is true of all safe settings
-pub record ListsCover (chain nets : Text) (texts : List Text) (text : Text) : Type 0 where
+pub record ListsCover (texts : BoardTexts) (text : Text) : Type 0 where
   pub board : RawBoard
-  pub denoted : Denotes chain nets texts board
+  pub denoted : Denotes texts.chain texts.nets texts.bsdl board
   pub rules : IsBoard board
   pub lists : IsCoverList board text
 
 -- the text tests the board which these texts denote: it has a meaning; it passes where nothing is faulty; after its reset it is quiet under
 -- every fault set; and it fails under every nonempty fault set that is observable
-pub record TestsBoard (chain nets : Text) (texts : List Text) (text : Text) : Type 0 where
+pub record TestsBoard (texts : BoardTexts) (text : Text) : Type 0 where
   pub board : RawBoard
-  pub denoted : Denotes chain nets texts board
+  pub denoted : Denotes texts.chain texts.nets texts.bsdl board
   pub tests : IsBoardTest board text
 
 -- the text tests the identification codes of the parts that these texts describe
-pub record TestsIdents (chain : Text) (texts : List Text) (text : Text) : Type 0 where
+pub record TestsIdents (texts : ChainTexts) (text : Text) : Type 0 where
   pub patterns : List (Option (List Symbol))
-  pub are : AreIdents chain texts (Ok patterns)
+  pub are : AreIdents texts.chain texts.bsdl (Ok patterns)
   pub bounds : ArePatterns patterns
   pub tests : IsIdentTest patterns text
 
 -- the text may be applied to the board which these texts denote: it has a meaning, it passes where nothing is faulty, and after its reset it
 -- is quiet under every fault set
-pub record WalksBoard (chain nets : Text) (texts : List Text) (text : Text) : Type 0 where
+pub record WalksBoard (texts : BoardTexts) (text : Text) : Type 0 where
   pub board : RawBoard
-  pub denoted : Denotes chain nets texts board
+  pub denoted : Denotes texts.chain texts.nets texts.bsdl board
   pub harmless : IsHarmless board text
 
 -- the board passes by a log of its test exactly where every compared bit is the expected one, and then no single fault explains the log;
@@ -134,41 +138,19 @@ pub record FindsGroups (log : Text) (board : RawBoard) (text : Text) : Type 0 wh
   pub is : text ≡ groups_text board found
 
 -- P of the board that these texts denote
-abbrev pub OfDenoted : (RawBoard → Text → Type 0) → Text → Text → List Text → Text → Type 0
-OfDenoted P chain nets texts text = (board : RawBoard) × Denotes chain nets texts board × P board text
+abbrev pub OfDenoted : (RawBoard → Text → Type 0) → BoardTexts → Text → Type 0
+OfDenoted P texts text = (board : RawBoard) × Denotes texts.chain texts.nets texts.bsdl board × P board text
 
--- P of a chain file and BSDL texts
-abbrev pub OfChain : (Text → List Text → Text → Type 0) → List Text → Text → Type 0
-OfChain P [] text = ⊥
-OfChain P (chain ∷ texts) text = P chain texts text
-
--- P of a chain file, a net file and BSDL texts
-abbrev pub OfBoard : (Text → Text → List Text → Text → Type 0) → List Text → Text → Type 0
-OfBoard P [] text = ⊥
-OfBoard P (chain ∷ []) text = ⊥
-OfBoard P (chain ∷ nets ∷ texts) text = P chain nets texts text
-
--- P of a log, a chain file, a net file and BSDL texts
-abbrev pub OfLog : (Text → Text → Text → List Text → Text → Type 0) → List Text → Text → Type 0
-OfLog P [] text = ⊥
-OfLog P (log ∷ texts) text = OfBoard (P log) texts text
-
--- P of one BSDL text
-abbrev pub OfText : (Text → Text → Type 0) → List Text → Text → Type 0
-OfText P [] text = ⊥
-OfText P (bsdl ∷ []) text = P bsdl text
-OfText P (bsdl ∷ other ∷ others) text = ⊥
-
--- what the text is worth that a command puts for texts: a test, as what it tests, and a list, as what is true; a summary says no more than
--- what it is
-abbrev pub IsWorthFor : Command → List Text → Text → Type 0
-IsWorthFor (Chain names) texts text = OfChain TestsChain texts text
-IsWorthFor (Device name) texts text = OfText ListsDevice texts text
-IsWorthFor (Cover names) texts text = OfBoard ListsCover texts text
-IsWorthFor (Svf names) texts text = OfBoard TestsBoard texts text
-IsWorthFor (Walk names) texts text = OfBoard WalksBoard texts text
-IsWorthFor (Ident names) texts text = OfChain TestsIdents texts text
-IsWorthFor (Make number) texts text = Unit {0}
-IsWorthFor (Diagnose workers log names) texts text = OfLog (λ log. OfDenoted (Diagnoses log)) texts text
-IsWorthFor (Groups log names) texts text = OfLog (λ log. OfDenoted (FindsGroups log)) texts text
-IsWorthFor (Batch workers log names) texts text = OfLog (λ log. OfDenoted (DiagnosesEach log)) texts text
+-- what the text is worth that is put for a request: a test, as what it tests, and a list, as what is true; a summary says no more than what
+-- it is
+abbrev pub IsWorthFor : Request → Text → Type 0
+IsWorthFor (Chain texts) text = TestsChain texts text
+IsWorthFor (Ident texts) text = TestsIdents texts text
+IsWorthFor (Device bsdl) text = ListsDevice bsdl text
+IsWorthFor (Cover texts) text = ListsCover texts text
+IsWorthFor (Svf texts) text = TestsBoard texts text
+IsWorthFor (Walk texts) text = WalksBoard texts text
+IsWorthFor (Make parts) text = Unit {0}
+IsWorthFor (Diagnose workers texts) text = OfDenoted (Diagnoses texts.log) texts.board text
+IsWorthFor (Groups texts) text = OfDenoted (FindsGroups texts.log) texts.board text
+IsWorthFor (Batch workers texts) text = OfDenoted (DiagnosesEach texts.log) texts.board text

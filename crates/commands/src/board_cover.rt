@@ -16,8 +16,8 @@ use std::alloc::Global;
 
 /// Puts the coverage list of the board of these texts. All memory is
 /// taken before the first put.
-pub fn cover<K: Sink>(alloc: Global, texts: BoardTexts, out: &mut K) -> Result<(), Unput>
-    ensures { BoardAnswers cover_text ListsCover texts.entry (K.shown out.old) (K.shown out.new) result }
+pub fn cover<K: Sink>(alloc: Global, texts: &BoardTexts, out: &mut K) -> Result<(), Unput>
+    ensures { BoardAnswers cover_text ListsCover texts.now (K.shown out.old) (K.shown out.new) result }
 {
     let board = match board_of(alloc, texts) {
         Ok(board) => board,

@@ -100,9 +100,8 @@ fn text_bytes(alloc: Global, board: &Board, plan: &Plan) -> Result<u64, AllocErr
 {
     let mut rows = TestRows::for_board(alloc, board)?;
     let mut counter = CountSink::new();
-    let Ok(()) = write_test(board, plan, &mut rows, &mut counter) else {
-        unreachable!()
-    };
+    // A counter takes each piece that it is given.
+    let _ = write_test(board, plan, &mut rows, &mut counter);
     Ok(counter.count())
 }
 

@@ -34,8 +34,8 @@ use tap_defs::chain_law::texts_mean;
 
 /// Puts the text that tests the board of these texts. All memory is
 /// taken before the first put.
-pub fn svf<K: Sink>(alloc: Global, texts: BoardTexts, out: &mut K) -> Result<(), Unput>
-    ensures { BoardAnswers board_text TestsBoard texts.entry (K.shown out.old) (K.shown out.new) result }
+pub fn svf<K: Sink>(alloc: Global, texts: &BoardTexts, out: &mut K) -> Result<(), Unput>
+    ensures { BoardAnswers board_text TestsBoard texts.now (K.shown out.old) (K.shown out.new) result }
 {
     let planned = match planned_board(alloc, texts) {
         Ok(planned) => planned,

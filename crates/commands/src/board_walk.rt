@@ -11,7 +11,7 @@ ghost use Rattle.walk_test.specs.WalkTest.{board_walk_text, walk_row_list, walk_
 ghost use Rattle.response_log.specs.LogRows.{HasSize};
 ghost use Rattle.commands.specs.Answers.{BoardAnswers, IsBoardOf};
 ghost use Rattle.commands.specs.LogRead.{walk_rows};
-ghost use Rattle.commands.specs.inner.Unput.{NoBoardOf, PutsText};
+ghost use Rattle.commands.specs.inner.Unput.{NoBoard, PutsText};
 ghost use Rattle.commands.specs.Worth.{WalksBoard};
 
 use crate::board_test::longest_scan;
@@ -37,10 +37,10 @@ pub struct Walked {
 }
 
 /// The board of these texts with its walking test, or why there is none.
-pub fn walked_board(alloc: Global, texts: BoardTexts) -> Result<Walked, Unput>
-    ensures denoted { IfOk result (λ walked. IsBoardOf texts.entry (Ok walked.board)) }
+pub fn walked_board(alloc: Global, texts: &BoardTexts) -> Result<Walked, Unput>
+    ensures denoted { IfOk result (λ walked. IsBoardOf texts.now (Ok walked.board)) }
     ensures walk { IfOk result (λ walked. IsWalkOf walked.board walked.walk) }
-    ensures none { IfErr result (NoBoardOf texts.entry) }
+    ensures none { IfErr result (NoBoard texts.now) }
 {
     let board = match board_of(alloc, texts) {
         Ok(board) => board,
@@ -72,8 +72,8 @@ fn walk_of(alloc: Global, board: &Board) -> Result<Walk, AllocError>
 }
 
 /// Puts the walking test of the board of these texts. All memory is taken before the first put.
-pub fn walk<K: Sink>(alloc: Global, texts: BoardTexts, out: &mut K) -> Result<(), Unput>
-    ensures { BoardAnswers board_walk_text WalksBoard texts.entry (K.shown out.old) (K.shown out.new) result }
+pub fn walk<K: Sink>(alloc: Global, texts: &BoardTexts, out: &mut K) -> Result<(), Unput>
+    ensures { BoardAnswers board_walk_text WalksBoard texts.now (K.shown out.old) (K.shown out.new) result }
 {
     let walked = match walked_board(alloc, texts) {
         Ok(walked) => walked,

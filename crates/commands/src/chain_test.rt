@@ -9,6 +9,7 @@ ghost use Rattle.commands.specs.Worth.{TestsChain};
 ghost use Rattle.commands.specs.Answers.{ChainAnswers};
 
 use crate::rows::Rows;
+use crate::texts::ChainTexts;
 use crate::unput::{Unput, answer_by, unput_by};
 use bt_base::{PutFault, Sink};
 use btest_core::read_chain;
@@ -18,18 +19,10 @@ use tap_defs::chain_law::chain_tests;
 
 /// Puts the text that tests the length of the chain of a chain file and BSDL texts. All memory is
 /// taken before the first put.
-pub fn chain<K: Sink>(
-    alloc: Global,
-    file: &[u8],
-    bsdl: &[Vec<u8>],
-    out: &mut K,
-) -> Result<(), Unput>
-    requires size { length file.now < 2 ^ 32 }
-    requires each { All (λ text. length text.items < 2 ^ 32) bsdl.now }
-    requires count { length bsdl.now < 2 ^ 32 }
-    ensures { ChainAnswers AreChainLengths chain_text TestsChain file.now bsdl.now (K.shown out.old) (K.shown out.new) result }
+pub fn chain<K: Sink>(alloc: Global, texts: &ChainTexts, out: &mut K) -> Result<(), Unput>
+    ensures { ChainAnswers AreChainLengths chain_text TestsChain texts.now (K.shown out.old) (K.shown out.new) result }
 {
-    let lengths = match read_chain(alloc, file, bsdl) {
+    let lengths = match read_chain(alloc, texts.chain.as_bytes(), texts.bsdl.as_slice()) {
         Ok(lengths) => lengths,
         Err(fault) => return Err(unput_by(fault)),
     };

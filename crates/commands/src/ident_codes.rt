@@ -7,6 +7,7 @@ ghost use Rattle.commands.specs.Worth.{TestsIdents};
 ghost use Rattle.commands.specs.Answers.{ChainAnswers};
 
 use crate::rows::Rows;
+use crate::texts::ChainTexts;
 use crate::unput::{Unput, answer_by, unput_by};
 use board_defs::Code;
 use bt_base::Sink;
@@ -20,18 +21,10 @@ const MOST_BITS: u32 = 8160;
 
 /// Puts the text that tests the identification codes of the parts of a chain file and BSDL texts. All
 /// memory is taken before the first put.
-pub fn ident<K: Sink>(
-    alloc: Global,
-    file: &[u8],
-    bsdl: &[Vec<u8>],
-    out: &mut K,
-) -> Result<(), Unput>
-    requires size { length file.now < 2 ^ 32 }
-    requires each { All (λ text. length text.items < 2 ^ 32) bsdl.now }
-    requires count { length bsdl.now < 2 ^ 32 }
-    ensures { ChainAnswers AreIdents ident_text TestsIdents file.now bsdl.now (K.shown out.old) (K.shown out.new) result }
+pub fn ident<K: Sink>(alloc: Global, texts: &ChainTexts, out: &mut K) -> Result<(), Unput>
+    ensures { ChainAnswers AreIdents ident_text TestsIdents texts.now (K.shown out.old) (K.shown out.new) result }
 {
-    let patterns = match read_idents(alloc, file, bsdl) {
+    let patterns = match read_idents(alloc, texts.chain.as_bytes(), texts.bsdl.as_slice()) {
         Ok(patterns) => patterns,
         Err(fault) => return Err(unput_by(fault)),
     };

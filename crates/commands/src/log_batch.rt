@@ -8,7 +8,7 @@ ghost use Rattle.commands.specs.Answers.{AnswersOn, JudgedAnswers};
 
 use crate::board_test::{singles_respond, test_logs_shaped, test_means};
 use crate::planned::{Planned, planned_board};
-use crate::texts::LogTexts;
+use crate::texts::{LogTexts, ShortText};
 use crate::unput::{Unput, answer_by, unput_by_batch};
 use batch_diag::{blocks_by, diagnose_all, write_batch};
 use bt_base::{Gate, Sink};
@@ -29,10 +29,10 @@ pub fn batch<R: Threads + Sync, K: Sink, G: Gate>(
 ) -> Result<(), Unput>
     requires some { 1 ≤ workers }
     requires few { workers ≤ 64 }
-    ensures { JudgedAnswers judging_each verdicts_text DiagnosesEach texts.entry (K.shown out.old) (K.shown out.new) result }
+    ensures { JudgedAnswers judging_each verdicts_text DiagnosesEach texts (K.shown out.old) (K.shown out.new) result }
 {
     let LogTexts { log, board } = texts;
-    let planned = match planned_board(alloc, board) {
+    let planned = match planned_board(alloc, &board) {
         Ok(planned) => planned,
         Err(failure) => return Err(failure),
     };
@@ -44,20 +44,26 @@ fn put_batch<R: Threads + Sync, K: Sink, G: Gate>(
     rt: &R,
     alloc: Global,
     planned: &Planned,
-    text: &[u8],
+    text: &ShortText,
     workers: u32,
     gate: &G,
     out: &mut K,
 ) -> Result<(), Unput>
     requires plan { IsPlanOf planned.now.board planned.now.plan }
     requires passes { planned.now.plan.passes ≡ passes_of planned.now.board }
-    requires text { length text.now < 2 ^ 32 }
     requires some { 1 ≤ workers }
     requires few { workers ≤ 64 }
     ensures { AnswersOn judging_each verdicts_text DiagnosesEach text.now planned.now.board (K.shown out.old) (K.shown out.new) result }
 {
     let Planned { board, plan } = planned;
-    let blocks = match blocks_by(rt, alloc, text, plan.rows(), board.dr_bits(), workers) {
+    let blocks = match blocks_by(
+        rt,
+        alloc,
+        text.as_bytes(),
+        plan.rows(),
+        board.dr_bits(),
+        workers,
+    ) {
         Ok(blocks) => blocks,
         Err(fault) => return Err(unput_by_batch(plan.rows(), fault)),
     };

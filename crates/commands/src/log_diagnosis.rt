@@ -8,7 +8,7 @@ ghost use Rattle.commands.specs.Answers.{AnswersOn, JudgedAnswers};
 
 use crate::board_test::{singles_respond, test_logs_shaped, test_means};
 use crate::planned::{Planned, planned_board};
-use crate::texts::LogTexts;
+use crate::texts::{LogTexts, ShortText};
 use crate::unput::{Unput, answer_by, unput_by_log};
 use bt_base::{Gate, Sink};
 use bt_bits::Line;
@@ -31,10 +31,10 @@ pub fn diagnosis<R: Threads + Sync, K: Sink, G: Gate>(
 ) -> Result<(), Unput>
     requires some { 1 ≤ workers }
     requires few { workers ≤ 64 }
-    ensures { JudgedAnswers diagnosing diagnosis_text Diagnoses texts.entry (K.shown out.old) (K.shown out.new) result }
+    ensures { JudgedAnswers diagnosing diagnosis_text Diagnoses texts (K.shown out.old) (K.shown out.new) result }
 {
     let LogTexts { log, board } = texts;
-    let planned = match planned_board(alloc, board) {
+    let planned = match planned_board(alloc, &board) {
         Ok(planned) => planned,
         Err(failure) => return Err(failure),
     };
@@ -46,20 +46,19 @@ fn put_diagnosis<R: Threads + Sync, K: Sink, G: Gate>(
     rt: &R,
     alloc: Global,
     planned: &Planned,
-    text: Vec<u8>,
+    text: ShortText,
     workers: u32,
     gate: &G,
     out: &mut K,
 ) -> Result<(), Unput>
     requires plan { IsPlanOf planned.now.board planned.now.plan }
     requires passes { planned.now.plan.passes ≡ passes_of planned.now.board }
-    requires text { length text.items < 2 ^ 32 }
     requires some { 1 ≤ workers }
     requires few { workers ≤ 64 }
-    ensures { AnswersOn diagnosing diagnosis_text Diagnoses text.items planned.now.board (K.shown out.old) (K.shown out.new) result }
+    ensures { AnswersOn diagnosing diagnosis_text Diagnoses text planned.now.board (K.shown out.old) (K.shown out.new) result }
 {
     let Planned { board, plan } = planned;
-    let log = match log_of(alloc, text, plan.rows(), board.dr_bits()) {
+    let log = match log_of(alloc, text.into_bytes(), plan.rows(), board.dr_bits()) {
         Ok(log) => log,
         Err(fault) => return Err(unput_by_log(plan.rows(), fault)),
     };

@@ -7,7 +7,7 @@ ghost use Rattle.commands.specs.Answers.{AnswersOn, JudgedAnswers};
 
 use crate::board_test::test_means;
 use crate::board_walk::{Walked, walk_logs_shaped, walked_board};
-use crate::texts::LogTexts;
+use crate::texts::{LogTexts, ShortText};
 use crate::unput::{Unput, answer_by, unput_by_log};
 use bt_base::Sink;
 use bt_bits::Line;
@@ -18,10 +18,10 @@ use walk_test::{Group, write_groups};
 
 /// Puts the groups of a log of the walking test of the board of these texts. All memory is taken before the first put.
 pub fn groups<K: Sink>(alloc: Global, texts: LogTexts, out: &mut K) -> Result<(), Unput>
-    ensures { JudgedAnswers grouping grouping_text FindsGroups texts.entry (K.shown out.old) (K.shown out.new) result }
+    ensures { JudgedAnswers grouping grouping_text FindsGroups texts (K.shown out.old) (K.shown out.new) result }
 {
     let LogTexts { log, board } = texts;
-    let walked = match walked_board(alloc, board) {
+    let walked = match walked_board(alloc, &board) {
         Ok(walked) => walked,
         Err(failure) => return Err(failure),
     };
@@ -42,16 +42,15 @@ fn lent(found: &Option<Vec<Group>>) -> Option<&[Group]>
 fn put_groups<K: Sink>(
     alloc: Global,
     walked: &Walked,
-    text: Vec<u8>,
+    text: ShortText,
     out: &mut K,
 ) -> Result<(), Unput>
     requires walk { IsWalkOf walked.now.board walked.now.walk }
-    requires text { length text.items < 2 ^ 32 }
-    ensures { AnswersOn grouping grouping_text FindsGroups text.items walked.now.board (K.shown out.old) (K.shown out.new) result }
+    ensures { AnswersOn grouping grouping_text FindsGroups text walked.now.board (K.shown out.old) (K.shown out.new) result }
 {
     let Walked { board, walk } = walked;
     let rows = walk.nets().len() as u64;
-    let log = match log_of(alloc, text, rows, board.dr_bits()) {
+    let log = match log_of(alloc, text.into_bytes(), rows, board.dr_bits()) {
         Ok(log) => log,
         Err(fault) => return Err(unput_by_log(rows, fault)),
     };

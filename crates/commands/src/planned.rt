@@ -3,7 +3,7 @@ ghost use Rattle.std.specs.Prelude.{◌≡◌, Ok, IfOk, IfErr};
 ghost use Rattle.board_defs.specs.Passes.{passes_of};
 ghost use Rattle.scan_planner.specs.Plans.{IsPlanOf};
 ghost use Rattle.commands.specs.Answers.{IsBoardOf};
-ghost use Rattle.commands.specs.inner.Unput.{NoBoardOf};
+ghost use Rattle.commands.specs.inner.Unput.{NoBoard};
 
 use crate::texts::BoardTexts;
 use crate::unput::{Unput, unput_by};
@@ -21,22 +21,23 @@ pub struct Planned {
 }
 
 /// The board of these texts, or why there is none.
-pub fn board_of(alloc: Global, texts: BoardTexts) -> Result<Board, Unput>
-    ensures denoted { IfOk result (λ board. IsBoardOf texts.entry (Ok board)) }
-    ensures none { IfErr result (NoBoardOf texts.entry) }
+pub fn board_of(alloc: Global, texts: &BoardTexts) -> Result<Board, Unput>
+    ensures denoted { IfOk result (λ board. IsBoardOf texts.now (Ok board)) }
+    ensures none { IfErr result (NoBoard texts.now) }
 {
-    match read_board(alloc, texts.chain, texts.nets, texts.bsdl) {
+    let BoardTexts { chain, nets, bsdl } = texts;
+    match read_board(alloc, chain.as_bytes(), nets.as_bytes(), bsdl.as_slice()) {
         Ok(board) => Ok(board),
         Err(fault) => Err(unput_by(fault)),
     }
 }
 
 /// The board of these texts with the plan of its test, or why there is none.
-pub fn planned_board(alloc: Global, texts: BoardTexts) -> Result<Planned, Unput>
-    ensures denoted { IfOk result (λ planned. IsBoardOf texts.entry (Ok planned.board)) }
+pub fn planned_board(alloc: Global, texts: &BoardTexts) -> Result<Planned, Unput>
+    ensures denoted { IfOk result (λ planned. IsBoardOf texts.now (Ok planned.board)) }
     ensures plan { IfOk result (λ planned. IsPlanOf planned.board planned.plan) }
     ensures passes { IfOk result (λ planned. planned.plan.passes ≡ passes_of planned.board) }
-    ensures none { IfErr result (NoBoardOf texts.entry) }
+    ensures none { IfErr result (NoBoard texts.now) }
 {
     let board = match board_of(alloc, texts) {
         Ok(board) => board,

@@ -1,53 +1,104 @@
-// The texts that a command is given.
-ghost use Rattle.std.specs.Prelude.{◌≡◌, ◌<◌, ◌≤◌, ◌^◌, ◌∷◌, All, length, map};
+// The texts that a command is given, none of which has 2^32 bytes or more.
+ghost use Rattle.std.specs.Prelude.{◌≡◌, ◌<◌, ◌^◌, All, length, map};
 
-use std::alloc::Global;
-use std::mem;
+use std::marker::Model;
 
-/// The texts of a board, none of which has 2^32 bytes or more.
-#[derive(Clone, Copy)]
-pub struct BoardTexts<'a> {
-    pub chain: &'a [u8],
-    pub nets: &'a [u8],
-    pub bsdl: &'a [Vec<u8>],
-    ghost chain_short: { length chain.now < 2 ^ 32 },
-    ghost nets_short: { length nets.now < 2 ^ 32 },
-    ghost each_short: { All (λ text. length text.items < 2 ^ 32) bsdl.now },
-    ghost few: { length bsdl.now < 2 ^ 32 },
+/// A text of fewer than 2^32 bytes.
+#[derive(Drop)]
+pub struct ShortText {
+    bytes: Vec<u8>,
 }
 
-/// A text of logs, which is as short, and those of the board that they are of.
-pub struct LogTexts<'a> {
-    pub log: Vec<u8>,
-    pub board: BoardTexts<'a>,
-    ghost log_short: { length log.items < 2 ^ 32 },
+impl Model for ShortText {
+    ghost use Rattle.std.specs.Prelude.{ℕ, ◌<◌, ◌^◌, List, length};
+
+    ghost Value = { List ℕ };
+
+    ghost view = { λ t. t.bytes.items };
+
+    ghost invariant = { λ t. length t.bytes.items < 2 ^ 32 };
 }
 
-/// The texts of a board as they stand in a command: a chain file, a net file and BSDL texts.
-pub fn board_texts<'a>(texts: &'a [Vec<u8>]) -> BoardTexts<'a>
-    requires some { 2 ≤ length texts.now }
-    requires few { length texts.now ≤ 258 }
-    requires short { All (λ text. length text.items < 2 ^ 32) texts.now }
-    ensures { map (λ text. text.items) texts.entry.now ≡ result.chain.now ∷ result.nets.now ∷ map (λ text. text.items) result.bsdl.now }
-{
-    let [chain, nets, bsdl @ ..] = texts else {
-        unreachable!()
-    };
-    BoardTexts { chain, nets, bsdl }
-}
-
-/// The same behind a text of logs, which it takes out of the texts.
-pub fn log_texts<'a>(alloc: Global, texts: &'a mut [Vec<u8>]) -> LogTexts<'a>
-    requires some { 3 ≤ length texts.old }
-    requires few { length texts.old ≤ 258 }
-    requires short { All (λ text. length text.items < 2 ^ 32) texts.old }
-    ensures { map (λ text. text.items) texts.old ≡ result.log.items ∷ result.board.chain.now ∷ result.board.nets.now ∷ map (λ text. text.items) result.board.bsdl.now }
-{
-    let [log, board @ ..] = texts else {
-        unreachable!()
-    };
-    LogTexts {
-        log: mem::replace(log, Vec::new(alloc)),
-        board: board_texts(board),
+impl ShortText {
+    /// The text of these bytes, which it takes over.
+    pub fn of(bytes: Vec<u8>) -> ShortText
+        requires { length bytes.items < 2 ^ 32 }
+        ensures { result ≡ bytes.items }
+    {
+        ShortText { bytes }
     }
+
+    /// The bytes of the text.
+    pub fn as_bytes(&self) -> &[u8]
+        ensures bytes { result.now ≡ self.now }
+        ensures short { length result.now < 2 ^ 32 }
+    {
+        &self.bytes
+    }
+
+    /// The bytes of the text, which it gives up.
+    pub fn into_bytes(self) -> Vec<u8>
+        ensures bytes { result.items ≡ self }
+        ensures short { length result.items < 2 ^ 32 }
+    {
+        self.bytes
+    }
+}
+
+/// Fewer than 2^32 such texts.
+#[derive(Drop)]
+pub struct ShortTexts {
+    texts: Vec<Vec<u8>>,
+}
+
+impl Model for ShortTexts {
+    ghost use Rattle.std.specs.Prelude.{ℕ, ◌<◌, ◌^◌, All, List, length, map};
+
+    ghost Value = { List (List ℕ) };
+
+    ghost view = { λ t. map (λ text. text.items) t.texts.items };
+
+    ghost invariant = { λ t. All (λ text. length text.items < 2 ^ 32) t.texts.items × (length t.texts.items < 2 ^ 32) };
+}
+
+impl ShortTexts {
+    /// These texts, which it takes over.
+    pub fn of(texts: Vec<Vec<u8>>) -> ShortTexts
+        requires each { All (λ text. length text.items < 2 ^ 32) texts.items }
+        requires few { length texts.items < 2 ^ 32 }
+        ensures { result ≡ map (λ text. text.items) texts.items }
+    {
+        ShortTexts { texts }
+    }
+
+    /// The texts in order.
+    pub fn as_slice(&self) -> &[Vec<u8>]
+        ensures texts { map (λ text. text.items) result.now ≡ self.now }
+        ensures each { All (λ text. length text.items < 2 ^ 32) result.now }
+        ensures few { length result.now < 2 ^ 32 }
+    {
+        &self.texts
+    }
+}
+
+/// A chain file and BSDL texts.
+#[derive(Drop)]
+pub struct ChainTexts {
+    pub chain: ShortText,
+    pub bsdl: ShortTexts,
+}
+
+/// A chain file, a net file and BSDL texts.
+#[derive(Drop)]
+pub struct BoardTexts {
+    pub chain: ShortText,
+    pub nets: ShortText,
+    pub bsdl: ShortTexts,
+}
+
+/// A text of logs, and the texts of the board that they are of.
+#[derive(Drop)]
+pub struct LogTexts {
+    pub log: ShortText,
+    pub board: BoardTexts,
 }

@@ -1,5 +1,5 @@
 -- What each command promises, from what its text is worth.
-use Rattle.std.proofs.Common.{◌≡◌, ◌∙◌, ℕ, Bool, List, [], ◌∷◌, Option, Result, Ok, Err, sym, ap, subst, inl, inr}
+use Rattle.std.proofs.Common.{◌≡◌, ◌∙◌, ℕ, Bool, List, [], ◌∷◌, Option, Result, Ok, Err, refl, sym, ap, subst, inl, inr}
 use Rattle.std.specs.Prelude.{◌↔◌, Some}
 use Rattle.board_defs.specs.declared.board.RawBoard.{RawBoard}
 use Rattle.board_defs.specs.declared.device.Symbol.{Symbol}
@@ -41,7 +41,7 @@ module _ (run : Run) (is : IsRun run) (one : SayOne) where
 
   pub tests_chain : TestsChain run
   tests_chain names chain bsdl lengths on are =
-      prints run is (Chain names) on.0 (chain ∷ bsdl) on.1 _ (λ line gives. not_both (one.chain chain bsdl (Ok lengths) (Err gives.0) are gives.1))
+      prints run is (Chain names) on.0 (chain ∷ bsdl) on.1 _ refl _ (λ line gives. not_both (one.chain chain bsdl (Ok lengths) (Err gives.0) are gives.1))
       (λ text gives worth.
       let value : gives.0 ≡ lengths = same_ok (one.chain chain bsdl (Ok gives.0) (Ok lengths) gives.1 are) in
       let same : worth.lengths ≡ lengths = same_ok (one.chain chain bsdl (Ok worth.lengths) (Ok lengths) worth.are are) in
@@ -50,7 +50,7 @@ module _ (run : Run) (is : IsRun run) (one : SayOne) where
 
   pub tests_idents : TestsIdents run
   tests_idents names chain bsdl patterns on are =
-      prints run is (Ident names) on.0 (chain ∷ bsdl) on.1 _ (λ line gives. not_both (one.idents chain bsdl (Ok patterns) (Err gives.0) are gives.1))
+      prints run is (Ident names) on.0 (chain ∷ bsdl) on.1 _ refl _ (λ line gives. not_both (one.idents chain bsdl (Ok patterns) (Err gives.0) are gives.1))
       (λ text gives worth.
       let value : gives.0 ≡ patterns = same_ok (one.idents chain bsdl (Ok gives.0) (Ok patterns) gives.1 are) in
       let same : worth.patterns ≡ patterns = same_ok (one.idents chain bsdl (Ok worth.patterns) (Ok patterns) worth.are are) in
@@ -59,14 +59,14 @@ module _ (run : Run) (is : IsRun run) (one : SayOne) where
 
   pub lists_device : ListsDevice run
   lists_device name text device on described =
-      prints run is (Device name) on.0 (text ∷ []) on.1 _ (λ line gives. not_both (one.device text (Ok device) (Err gives.0) described gives.1))
+      prints run is (Device name) on.0 (text ∷ []) on.1 _ refl _ (λ line gives. not_both (one.device text (Ok device) (Err gives.0) described gives.1))
       (λ listing gives worth.
       let same : worth.device ≡ device = same_ok (one.device text (Ok worth.device) (Ok device) worth.described described) in
       (worth.is ∙ ap device_text same, subst IsDevice same worth.rules))
 
   pub lists_cover : ListsCover run
   lists_cover names chain nets bsdl board on denotes =
-      prints run is (Cover names) on.0 (chain ∷ nets ∷ bsdl) on.1 _ (λ line gives. not_both (one.board chain nets bsdl (Ok board) (Err gives.0) denotes gives.1))
+      prints run is (Cover names) on.0 (chain ∷ nets ∷ bsdl) on.1 _ refl _ (λ line gives. not_both (one.board chain nets bsdl (Ok board) (Err gives.0) denotes gives.1))
       (λ text gives worth.
       let same = same_board chain nets bsdl board worth.board denotes worth.denoted in (
         gives.2 ∙ ap cover_text (same_board chain nets bsdl board gives.0 denotes gives.1),
@@ -76,7 +76,7 @@ module _ (run : Run) (is : IsRun run) (one : SayOne) where
 
   pub tests_board : TestsBoard run
   tests_board names chain nets bsdl board on denotes =
-      prints run is (Svf names) on.0 (chain ∷ nets ∷ bsdl) on.1 _ (λ line gives. not_both (one.board chain nets bsdl (Ok board) (Err gives.0) denotes gives.1))
+      prints run is (Svf names) on.0 (chain ∷ nets ∷ bsdl) on.1 _ refl _ (λ line gives. not_both (one.board chain nets bsdl (Ok board) (Err gives.0) denotes gives.1))
       (λ text gives worth.
       let same = same_board chain nets bsdl board worth.board denotes worth.denoted in
       let test = subst (λ (b : RawBoard). IsBoardTest b text) same worth.tests in
@@ -84,7 +84,7 @@ module _ (run : Run) (is : IsRun run) (one : SayOne) where
 
   pub walks_board : WalksBoard run
   walks_board names chain nets bsdl board on denotes =
-      prints run is (Walk names) on.0 (chain ∷ nets ∷ bsdl) on.1 _ (λ line gives. not_both (one.board chain nets bsdl (Ok board) (Err gives.0) denotes gives.1))
+      prints run is (Walk names) on.0 (chain ∷ nets ∷ bsdl) on.1 _ refl _ (λ line gives. not_both (one.board chain nets bsdl (Ok board) (Err gives.0) denotes gives.1))
       (λ text gives worth.
       let same = same_board chain nets bsdl board worth.board denotes worth.denoted in
       let test = subst (λ (b : RawBoard). IsHarmless b text) same worth.harmless in
@@ -94,7 +94,7 @@ module _ (run : Run) (is : IsRun run) (one : SayOne) where
   sums_up parts board on denotes =
       let chain = made.chain_text parts in
       let nets = made.net_text parts in
-      prints run is (Make parts) on.0 [] on.1 _ (λ line gives. not_both (one.board chain nets (bsdl_text ∷ []) (Ok board) (Err gives.0) denotes gives.1))
+      prints run is (Make parts) on.0 [] on.1 _ refl _ (λ line gives. not_both (one.board chain nets (bsdl_text ∷ []) (Ok board) (Err gives.0) denotes gives.1))
       (λ text gives worth. gives.2 ∙ ap summary (same_board chain nets (bsdl_text ∷ []) board gives.0 denotes gives.1))
 
   -- a log that is read on the board has no fault, nor have the files
@@ -111,7 +111,7 @@ module _ (run : Run) (is : IsRun run) (one : SayOne) where
 
   pub diagnoses_log : LinesAreRead → DiagnosesLog run
   diagnoses_log lines workers name names log chain nets bsdl board rows on denotes holds =
-      prints run is (Diagnose workers name names) on.0 (log ∷ chain ∷ nets ∷ bsdl) on.1 _ (λ line gives. sound gives)
+      prints run is (Diagnose workers name names) on.0 (log ∷ chain ∷ nets ∷ bsdl) on.1 _ refl _ (λ line gives. sound gives)
       (λ text gives worth.
       let told = subst (λ (b : RawBoard). Diagnoses log b text) (same_board chain nets bsdl board worth.0 denotes worth.1) worth.2 in
       let same : told.rows ≡ rows = same_ok (sym told.read ∙ read) in
@@ -134,7 +134,7 @@ module _ (run : Run) (is : IsRun run) (one : SayOne) where
 
   pub diagnoses_blocks : LinesAreRead → DiagnosesBlocks run
   diagnoses_blocks lines workers name names logs chain nets bsdl board blocks on denotes holds =
-      prints run is (Batch workers name names) on.0 (logs ∷ chain ∷ nets ∷ bsdl) on.1 _ (λ line gives. sound gives)
+      prints run is (Batch workers name names) on.0 (logs ∷ chain ∷ nets ∷ bsdl) on.1 _ refl _ (λ line gives. sound gives)
       (λ text gives worth.
       let told = subst (λ (b : RawBoard). DiagnosesEach logs b text) (same_board chain nets bsdl board worth.0 denotes worth.1) worth.2 in
       let same : told.blocks ≡ blocks = same_ok (sym told.read ∙ read) in
@@ -154,7 +154,7 @@ module _ (run : Run) (is : IsRun run) (one : SayOne) where
 
   pub finds_groups : LinesAreRead → FindsGroups run
   finds_groups lines name names log chain nets bsdl board rows on denotes holds =
-      prints run is (Groups name names) on.0 (log ∷ chain ∷ nets ∷ bsdl) on.1 _ (λ line gives. sound gives)
+      prints run is (Groups name names) on.0 (log ∷ chain ∷ nets ∷ bsdl) on.1 _ refl _ (λ line gives. sound gives)
       (λ text gives worth.
       let told = subst (λ (b : RawBoard). FindsOne log b text) (same_board chain nets bsdl board worth.0 denotes worth.1) worth.2 in
       let same : told.rows ≡ rows = same_ok (sym told.read ∙ read) in (

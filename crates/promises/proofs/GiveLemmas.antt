@@ -26,8 +26,12 @@ use Rattle.btest_core.specs.IdentsRead.{AreIdents}
 use Rattle.refusal_lines.specs.Refusals.{Names, input_fault_line, log_fault_line, batch_fault_line}
 use Rattle.commands.specs.LogRead.{Judging, OnDenoted, Input, Log, Batch as OfBatch, diagnosing, diagnosis_text, grouping, grouping_text, judging_each, verdicts_text, test_rows, walk_rows}
 use Rattle.command_line.specs.Words.{Text, Command, Chain, Ident, Device, Cover, Svf, Walk, Make, Diagnose, Groups, Batch}
-use Rattle.btest_cli.specs.Refusals.{text_fault_line}
-use Rattle.btest_cli.specs.Outcome.{IsGiven, IsSaid}
+use Rattle.commands.specs.Requests.{board_texts, chain_texts, log_texts}
+use Rattle.commands.specs.declared.request.Request.TheVariants as request
+use Rattle.btest_cli.specs.Refusals.{roles_of, text_fault_line}
+use Rattle.btest_cli.specs.Texts.{Read}
+use Rattle.btest_cli.specs.Outcome.{IsGiven, IsOutcome, IsSaid}
+use Rattle.btest_cli.proofs.RequestLemmas.{by_request}
 use Rattle.promises.specs.Gives.{Finds, FindsLogs, Gives, of_board, of_chain, summary}
 
 pub same_ok : {A E : Type 0} {x y : A} → ◌≡◌ {A = Result A E} (Ok x) (Ok y) → x ≡ y
@@ -80,77 +84,49 @@ each_back : (board : RawBoard) (blocks : List Block) (found : List Block × List
 each_back board blocks found is = (found.1, is.1, ap (λ (l : List Block). batch_text board l found.1) is.0)
 
 -- what the files give, as an outcome of `run`
-pub gives_is : (command : Command) (texts : List Text) (outcome : Result Text Text) → Gives command texts outcome → IsGiven command texts outcome
+pub gives_is : (command : Command) (texts : List Text) (outcome : Result Text Text) → Gives command texts outcome → IsOutcome command (Read texts) outcome
 gives_is (Chain names) [] outcome gives = absurd gives
-gives_is (Chain names) (chain ∷ bsdl) outcome gives = said (AreChainLengths chain bsdl) chain_text (of_chain names) outcome gives
+gives_is (Chain names) (chain ∷ bsdl) outcome gives = (request.Chain (chain_texts chain bsdl), refl, said (AreChainLengths chain bsdl) chain_text (of_chain names) outcome gives)
 gives_is (Ident names) [] outcome gives = absurd gives
-gives_is (Ident names) (chain ∷ bsdl) outcome gives = said (AreIdents chain bsdl) ident_text (of_chain names) outcome gives
+gives_is (Ident names) (chain ∷ bsdl) outcome gives = (request.Ident (chain_texts chain bsdl), refl, said (AreIdents chain bsdl) ident_text (of_chain names) outcome gives)
 gives_is (Device name) [] outcome gives = absurd gives
-gives_is (Device name) (text ∷ []) outcome gives = said (IsDeviceText text) device_text (record { log = []; chain = []; nets = []; bsdl = name ∷ [] }) outcome gives
+gives_is (Device name) (text ∷ []) outcome gives = (request.Device text, refl, said (IsDeviceText text) device_text (record { log = []; chain = []; nets = []; bsdl = name ∷ [] }) outcome gives)
 gives_is (Device name) (text ∷ other ∷ others) outcome gives = absurd gives
 gives_is (Cover names) [] outcome gives = absurd gives
 gives_is (Cover names) (chain ∷ []) outcome gives = absurd gives
-gives_is (Cover names) (chain ∷ nets ∷ bsdl) outcome gives = said (IsBoardRead chain nets bsdl) cover_text (of_board [] names) outcome gives
+gives_is (Cover names) (chain ∷ nets ∷ bsdl) outcome gives = (request.Cover (board_texts chain nets bsdl), refl, said (IsBoardRead chain nets bsdl) cover_text (of_board [] names) outcome gives)
 gives_is (Svf names) [] outcome gives = absurd gives
 gives_is (Svf names) (chain ∷ []) outcome gives = absurd gives
-gives_is (Svf names) (chain ∷ nets ∷ bsdl) outcome gives = said (IsBoardRead chain nets bsdl) board_text (of_board [] names) outcome gives
+gives_is (Svf names) (chain ∷ nets ∷ bsdl) outcome gives = (request.Svf (board_texts chain nets bsdl), refl, said (IsBoardRead chain nets bsdl) board_text (of_board [] names) outcome gives)
 gives_is (Walk names) [] outcome gives = absurd gives
 gives_is (Walk names) (chain ∷ []) outcome gives = absurd gives
-gives_is (Walk names) (chain ∷ nets ∷ bsdl) outcome gives = said (IsBoardRead chain nets bsdl) board_walk_text (of_board [] names) outcome gives
-gives_is (Make parts) texts outcome gives = said (IsBoardRead (made.chain_text parts) (made.net_text parts) (bsdl_text ∷ [])) summary (record { log = []; chain = codes "chain"; nets = codes "nets"; bsdl = codes "bsdl" ∷ [] }) outcome gives
+gives_is (Walk names) (chain ∷ nets ∷ bsdl) outcome gives = (request.Walk (board_texts chain nets bsdl), refl, said (IsBoardRead chain nets bsdl) board_walk_text (of_board [] names) outcome gives)
+gives_is (Make parts) texts outcome gives = (request.Make parts, refl, said (IsBoardRead (made.chain_text parts) (made.net_text parts) (bsdl_text ∷ [])) summary (record { log = []; chain = codes "chain"; nets = codes "nets"; bsdl = codes "bsdl" ∷ [] }) outcome gives)
 gives_is (Diagnose workers log names) [] outcome gives = absurd gives
 gives_is (Diagnose workers log names) (rows ∷ []) outcome gives = absurd gives
 gives_is (Diagnose workers log names) (rows ∷ chain ∷ []) outcome gives = absurd gives
-gives_is (Diagnose workers log names) (rows ∷ chain ∷ nets ∷ bsdl) outcome gives =
-    logs_said diagnosing (λ board log (found : Diagnosis). IsDiagnosis board log found.0 found.1) (λ board log (found : Diagnosis). diag_text board found.0 found.1) diagnosis_text (λ board fault. log_fault_line log (test_rows board) fault) (of_board log names) (λ board fault. refl)
-    (λ board log found is. (found, is, refl)) (λ board log found is. (found, is, refl)) rows chain nets bsdl outcome gives
+gives_is (Diagnose workers log names) (rows ∷ chain ∷ nets ∷ bsdl) outcome gives = (request.Diagnose workers (log_texts rows chain nets bsdl), refl, logs_said diagnosing (λ board log (found : Diagnosis). IsDiagnosis board log found.0 found.1) (λ board log (found : Diagnosis). diag_text board found.0 found.1) diagnosis_text (λ board fault. log_fault_line log (test_rows board) fault) (of_board log names) (λ board fault. refl) (λ board log found is. (found, is, refl)) (λ board log found is. (found, is, refl)) rows chain nets bsdl outcome gives)
 gives_is (Groups log names) [] outcome gives = absurd gives
 gives_is (Groups log names) (rows ∷ []) outcome gives = absurd gives
 gives_is (Groups log names) (rows ∷ chain ∷ []) outcome gives = absurd gives
-gives_is (Groups log names) (rows ∷ chain ∷ nets ∷ bsdl) outcome gives =
-    logs_said grouping AreFound (λ board log found. groups_text board found) grouping_text (λ board fault. log_fault_line log (walk_rows board) fault) (of_board log names) (λ board fault. refl)
-    (λ board log found is. (found, is, refl)) (λ board log found is. (found, is, refl)) rows chain nets bsdl outcome gives
+gives_is (Groups log names) (rows ∷ chain ∷ nets ∷ bsdl) outcome gives = (request.Groups (log_texts rows chain nets bsdl), refl, logs_said grouping AreFound (λ board log found. groups_text board found) grouping_text (λ board fault. log_fault_line log (walk_rows board) fault) (of_board log names) (λ board fault. refl) (λ board log found is. (found, is, refl)) (λ board log found is. (found, is, refl)) rows chain nets bsdl outcome gives)
 gives_is (Batch workers log names) [] outcome gives = absurd gives
 gives_is (Batch workers log names) (rows ∷ []) outcome gives = absurd gives
 gives_is (Batch workers log names) (rows ∷ chain ∷ []) outcome gives = absurd gives
-gives_is (Batch workers log names) (rows ∷ chain ∷ nets ∷ bsdl) outcome gives =
-    logs_said judging_each AreVerdicts batch_text verdicts_text (λ board fault. batch_fault_line log (test_rows board) fault) (of_board log names) (λ board fault. refl)
-    (λ board blocks verdicts is. ((blocks, verdicts), (refl, is), refl)) each_back rows chain nets bsdl outcome gives
+gives_is (Batch workers log names) (rows ∷ chain ∷ nets ∷ bsdl) outcome gives = (request.Batch workers (log_texts rows chain nets bsdl), refl, logs_said judging_each AreVerdicts batch_text verdicts_text (λ board fault. batch_fault_line log (test_rows board) fault) (of_board log names) (λ board fault. refl) (λ board blocks verdicts is. ((blocks, verdicts), (refl, is), refl)) each_back rows chain nets bsdl outcome gives)
 
 -- and the other way round
-pub is_gives : (command : Command) (texts : List Text) (outcome : Result Text Text) → IsGiven command texts outcome → Gives command texts outcome
-is_gives (Chain names) [] outcome gives = absurd gives
-is_gives (Chain names) (chain ∷ bsdl) outcome gives = found (AreChainLengths chain bsdl) chain_text (of_chain names) outcome gives
-is_gives (Ident names) [] outcome gives = absurd gives
-is_gives (Ident names) (chain ∷ bsdl) outcome gives = found (AreIdents chain bsdl) ident_text (of_chain names) outcome gives
-is_gives (Device name) [] outcome gives = absurd gives
-is_gives (Device name) (text ∷ []) outcome gives = found (IsDeviceText text) device_text (record { log = []; chain = []; nets = []; bsdl = name ∷ [] }) outcome gives
-is_gives (Device name) (text ∷ other ∷ others) outcome gives = absurd gives
-is_gives (Cover names) [] outcome gives = absurd gives
-is_gives (Cover names) (chain ∷ []) outcome gives = absurd gives
-is_gives (Cover names) (chain ∷ nets ∷ bsdl) outcome gives = found (IsBoardRead chain nets bsdl) cover_text (of_board [] names) outcome gives
-is_gives (Svf names) [] outcome gives = absurd gives
-is_gives (Svf names) (chain ∷ []) outcome gives = absurd gives
-is_gives (Svf names) (chain ∷ nets ∷ bsdl) outcome gives = found (IsBoardRead chain nets bsdl) board_text (of_board [] names) outcome gives
-is_gives (Walk names) [] outcome gives = absurd gives
-is_gives (Walk names) (chain ∷ []) outcome gives = absurd gives
-is_gives (Walk names) (chain ∷ nets ∷ bsdl) outcome gives = found (IsBoardRead chain nets bsdl) board_walk_text (of_board [] names) outcome gives
-is_gives (Make parts) texts outcome gives = found (IsBoardRead (made.chain_text parts) (made.net_text parts) (bsdl_text ∷ [])) summary (record { log = []; chain = codes "chain"; nets = codes "nets"; bsdl = codes "bsdl" ∷ [] }) outcome gives
-is_gives (Diagnose workers log names) [] outcome gives = absurd gives
-is_gives (Diagnose workers log names) (rows ∷ []) outcome gives = absurd gives
-is_gives (Diagnose workers log names) (rows ∷ chain ∷ []) outcome gives = absurd gives
-is_gives (Diagnose workers log names) (rows ∷ chain ∷ nets ∷ bsdl) outcome gives =
-    logs_found diagnosing (λ board log (found : Diagnosis). IsDiagnosis board log found.0 found.1) (λ board log (found : Diagnosis). diag_text board found.0 found.1) diagnosis_text (λ board fault. log_fault_line log (test_rows board) fault) (of_board log names) (λ board fault. refl)
-    (λ board log found is. (found, is, refl)) (λ board log found is. (found, is, refl)) rows chain nets bsdl outcome gives
-is_gives (Groups log names) [] outcome gives = absurd gives
-is_gives (Groups log names) (rows ∷ []) outcome gives = absurd gives
-is_gives (Groups log names) (rows ∷ chain ∷ []) outcome gives = absurd gives
-is_gives (Groups log names) (rows ∷ chain ∷ nets ∷ bsdl) outcome gives =
-    logs_found grouping AreFound (λ board log found. groups_text board found) grouping_text (λ board fault. log_fault_line log (walk_rows board) fault) (of_board log names) (λ board fault. refl)
-    (λ board log found is. (found, is, refl)) (λ board log found is. (found, is, refl)) rows chain nets bsdl outcome gives
-is_gives (Batch workers log names) [] outcome gives = absurd gives
-is_gives (Batch workers log names) (rows ∷ []) outcome gives = absurd gives
-is_gives (Batch workers log names) (rows ∷ chain ∷ []) outcome gives = absurd gives
-is_gives (Batch workers log names) (rows ∷ chain ∷ nets ∷ bsdl) outcome gives =
-    logs_found judging_each AreVerdicts batch_text verdicts_text (λ board fault. batch_fault_line log (test_rows board) fault) (of_board log names) (λ board fault. refl)
-    (λ board blocks verdicts is. ((blocks, verdicts), (refl, is), refl)) each_back rows chain nets bsdl outcome gives
+pub is_gives : (command : Command) (texts : List Text) (outcome : Result Text Text) → IsOutcome command (Read texts) outcome → Gives command texts outcome
+is_gives command texts outcome (asked, is, given) =
+    by_request (λ command texts asked. IsGiven (roles_of command) asked outcome → Gives command texts outcome)
+    (λ names chain bsdl given. found (AreChainLengths chain bsdl) chain_text (of_chain names) outcome given)
+    (λ names chain bsdl given. found (AreIdents chain bsdl) ident_text (of_chain names) outcome given)
+    (λ name text given. found (IsDeviceText text) device_text (record { log = []; chain = []; nets = []; bsdl = name ∷ [] }) outcome given)
+    (λ names chain nets bsdl given. found (IsBoardRead chain nets bsdl) cover_text (of_board [] names) outcome given)
+    (λ names chain nets bsdl given. found (IsBoardRead chain nets bsdl) board_text (of_board [] names) outcome given)
+    (λ names chain nets bsdl given. found (IsBoardRead chain nets bsdl) board_walk_text (of_board [] names) outcome given)
+    (λ parts texts given. found (IsBoardRead (made.chain_text parts) (made.net_text parts) (bsdl_text ∷ [])) summary (record { log = []; chain = codes "chain"; nets = codes "nets"; bsdl = codes "bsdl" ∷ [] }) outcome given)
+    (λ workers log names rows chain nets bsdl given. logs_found diagnosing (λ board log (found : Diagnosis). IsDiagnosis board log found.0 found.1) (λ board log (found : Diagnosis). diag_text board found.0 found.1) diagnosis_text (λ board fault. log_fault_line log (test_rows board) fault) (of_board log names) (λ board fault. refl) (λ board log found is. (found, is, refl)) (λ board log found is. (found, is, refl)) rows chain nets bsdl outcome given)
+    (λ log names rows chain nets bsdl given. logs_found grouping AreFound (λ board log found. groups_text board found) grouping_text (λ board fault. log_fault_line log (walk_rows board) fault) (of_board log names) (λ board fault. refl) (λ board log found is. (found, is, refl)) (λ board log found is. (found, is, refl)) rows chain nets bsdl outcome given)
+    (λ workers log names rows chain nets bsdl given. logs_found judging_each AreVerdicts batch_text verdicts_text (λ board fault. batch_fault_line log (test_rows board) fault) (of_board log names) (λ board fault. refl) (λ board blocks verdicts is. ((blocks, verdicts), (refl, is), refl)) each_back rows chain nets bsdl outcome given)
+    command texts asked is given

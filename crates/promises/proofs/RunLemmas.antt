@@ -4,11 +4,14 @@ use Rattle.std.specs.Prelude.{IfSome}
 use Rattle.bt_base.specs.Counts.{Rose}
 use Rattle.bt_base.specs.Puts.{Shown, Takes}
 use Rattle.command_line.specs.Words.{Text, Command, command_of, names_of}
+use Rattle.commands.specs.Requests.{request_of}
 use Rattle.commands.specs.Worth.{IsWorthFor}
+use Rattle.commands.specs.declared.request.Request.{Request}
 use Rattle.btest_cli.specs.declared.status.Status.{Status}
 use Rattle.btest_cli.specs.declared.status.Status.TheVariants.{Done, Refused, WriteFault, NoMemory}
 use Rattle.btest_cli.specs.Texts.{Wanted, Reading, Read, IsRead, known_reading, wanted_of}
-use Rattle.btest_cli.specs.Outcome.{IsComplete, IsCutShort, IsDone, IsGiven, IsOutcome, IsRefused, Settles, SomeRose, TookOrCut}
+use Rattle.btest_cli.specs.Outcome.{IsComplete, IsCutShort, IsDone, IsOutcome, IsRefused, Settles, SomeRose, TookOrCut}
+use Rattle.btest_cli.proofs.RequestLemmas.{same_request}
 use Rattle.btest_cli.proofs.RunLemmas.{one_reading}
 use Rattle.promises.specs.Runs.{Asks, EndsWith, HoldsEach, NoReadFailed, Notes, Prints, Puts, PutsNothing, Run, files_of}
 use Rattle.promises.specs.Gives.{Gives}
@@ -72,14 +75,14 @@ module _ (run : Run) (is : IsRun run) (command : Command) (asks : Asks run comma
   pub not_done : SayOne → (reading : Reading) (line : Text) → known_reading run.old.held (wanted_of command) ≡ Some reading → IsOutcome command reading (Err line) → run.status ≢ Done
   not_done one reading line known fault e =
       let told = done_here e in
-      let same = one_reading run.old.held (wanted_of command) reading (Read told.texts) known told.read in
-      not_both (one.outcome command reading (Ok told.text) (Err line) (subst (λ (r : Reading). IsOutcome command r (Ok told.text)) same told.gives) fault)
+      let same = one_reading run.old.held (wanted_of command) reading (Read told.read.texts) known told.read.read in
+      not_both (one.outcome command reading (Ok told.text) (Err line) (subst (λ (r : Reading). IsOutcome command r (Ok told.text)) same (told.request, told.read.made, told.gives)) fault)
 
   pub not_cut : SayOne → (reading : Reading) (line : Text) → known_reading run.old.held (wanted_of command) ≡ Some reading → IsOutcome command reading (Err line) → run.status ≢ WriteFault
   not_cut one reading line known fault e =
       let told = cut_here e in
-      let same = one_reading run.old.held (wanted_of command) reading (Read told.texts) known told.read in
-      not_both (one.outcome command reading (Ok told.text) (Err line) (subst (λ (r : Reading). IsOutcome command r (Ok told.text)) same told.gives) fault)
+      let same = one_reading run.old.held (wanted_of command) reading (Read told.read.texts) known told.read.read in
+      not_both (one.outcome command reading (Ok told.text) (Err line) (subst (λ (r : Reading). IsOutcome command r (Ok told.text)) same (told.request, told.read.made, told.gives)) fault)
 
   module _ (texts : List Text) (each : HoldsEach run.old.held (files_of command) texts) where
     pub known : known_reading run.old.held (wanted_of command) ≡ Some (Read texts)
@@ -91,14 +94,15 @@ module _ (run : Run) (is : IsRun run) (command : Command) (asks : Asks run comma
         cc
 
     -- a command that puts a text of which P holds
-    pub prints : (P : Text → Type 0) → ((line : Text) → Gives command texts (Err line) → ⊥) → ((text : Text) → Gives command texts (Ok text) → IsWorthFor command texts text → P text) → Prints run command P
-    prints P sound worth = record {
-      asks = λ e. (done_here e).asks;
+    pub prints : (request : Request) → request_of command texts ≡ Some request → (P : Text → Type 0) → ((line : Text) → Gives command texts (Err line) → ⊥) → ((text : Text) → Gives command texts (Ok text) → IsWorthFor request text → P text) → Prints run command P
+    prints request made P sound worth = record {
+      asks = λ e. (done_here e).read.asks;
       puts = λ e.
           let told = done_here e in
-          let same = texts_are told.texts told.read in
-          let gives = is_gives command texts (Ok told.text) (subst (λ (l : List Text). IsGiven command l (Ok told.text)) same told.gives) in
-          let is_worth = subst (λ (l : List Text). IsWorthFor command l told.text) same told.worth in
+          let same = texts_are told.read.texts told.read.read in
+          let made_here = subst (λ (l : List Text). request_of command l ≡ Some told.request) same told.read.made in
+          let gives = is_gives command texts (Ok told.text) (told.request, made_here, told.gives) in
+          let is_worth = subst (λ (r : Request). IsWorthFor r told.text) (same_request (sym made_here ∙ made)) told.worth in
           (told.text, out_taken run told.text told.takes, worth told.text gives is_worth);
       silent = λ e. nothing_noted run (is.silent e);
       ends = λ calm unread. let told = settled (Read texts) known unread in by_outcome calm told.0 told.1 told.2;

@@ -7,7 +7,9 @@ use Rattle.refusal_lines.specs.Refusals.{usage_line, long_line, read_line, write
 use Rattle.btest_cli.specs.declared.status.Status.{Status}
 use Rattle.btest_cli.specs.declared.status.Status.TheVariants.{Done, Refused, Usage, ReadFault, WriteFault, NoMemory}
 use Rattle.btest_cli.specs.Texts.{Wanted, Reading, Read, TooLong, AsksFor as AskedFor, IsRead, known_reading, wanted_of}
-use Rattle.btest_cli.specs.Outcome.{AsksSome, IsGiven, IsNotRead, IsOutcome}
+use Rattle.commands.specs.declared.request.Request.{Request}
+use Rattle.btest_cli.specs.Refusals.{roles_of}
+use Rattle.btest_cli.specs.Outcome.{AsksSome, IsGiven, IsNotRead, IsOutcome, IsReadAs}
 use Rattle.btest_cli.proofs.RunLemmas.{all_asked, one_reading, rose_among}
 use Rattle.promises.specs.Runs.{Asks, AsksFor, EndsWith, HoldsEach, IsTooLong, NoReadFailed, Notes, Puts, PutsNothing, Run, files_of}
 use Rattle.promises.specs.Gives.{Gives}
@@ -93,9 +95,9 @@ tells_unwritten run is e = (is.write e, noted run write_line (is.write_noted e),
     unwritten : (command : Command) (texts : List Text) → Asks run command → HoldsEach run.old.held (files_of command) texts → AsksFor run (names_of command) × ((text : Text) × Gives command texts (Ok text) × (count : ℕ) × Puts run (take count text))
     unwritten command texts asks each =
         let told = cut_here run is command asks e in
-        let same = texts_are run is command asks texts each told.texts told.read in
-        let gives = subst (λ (l : List Text). IsGiven command l (Ok told.text)) same told.gives in
-        (told.asks, (told.text, is_gives command texts (Ok told.text) gives, told.bytes, out_taken run (take told.bytes told.text) told.takes))
+        let same = texts_are run is command asks texts each told.read.texts told.read.read in
+        let gives = subst (λ (l : List Text). IsOutcome command (Read l) (Ok told.text)) same (told.request, told.read.made, told.gives) in
+        (told.read.asks, (told.text, is_gives command texts (Ok told.text) gives, told.bytes, out_taken run (take told.bytes told.text) told.takes))
 
 pub tells_memory : (run : Run) → IsRun run → TellsMemory run
 tells_memory run is e = (
@@ -121,8 +123,8 @@ module _ (run : Run) (is : IsRun run) (tells : Tells run.old.held) where
   held_texts : (command : Command) (texts : List Text) → IsRead run.old.held (wanted_of command) (Read texts) → HoldsEach run.old.held (files_of command) texts
   held_texts command texts read = subst (λ (files : List Wanted). HoldsEach run.old.held files texts) (sym (files_are command)) (read_holds run.old.held tells (wanted_of command) texts read)
 
-  give_text : (command : Command) (texts : List Text) (text : Text) → IsRead run.old.held (wanted_of command) (Read texts) → IsGiven command texts (Ok text) → FilesGive run command (Ok text)
-  give_text command texts text read gives = inl (texts, held_texts command texts read, is_gives command texts (Ok text) gives)
+  give_text : (command : Command) (request : Request) (text : Text) → IsReadAs run.old.held command run.old.asked run.new.asked request → IsGiven (roles_of command) request (Ok text) → FilesGive run command (Ok text)
+  give_text command request text read gives = inl (read.texts, held_texts command read.texts read.read, is_gives command read.texts (Ok text) (request, read.made, gives))
 
   give_line : (command : Command) (reading : Reading) (line : Text) → IsRead run.old.held (wanted_of command) reading → IsOutcome command reading (Err line) → FilesGive run command (Err line)
   give_line command (Read texts) line read gives = inl (texts, held_texts command texts read, is_gives command texts (Err line) gives)
@@ -136,13 +138,13 @@ module _ (run : Run) (is : IsRun run) (tells : Tells run.old.held) where
       done e =
           let asked = some_asked run is Done e (λ u. cc) (λ m. cc) in
           let told = done_here run is asked.0 asked.1 e in
-          (asked.0, asked.1, told.text, give_text asked.0 told.texts told.text told.read told.gives, out_taken run told.text told.takes)
+          (asked.0, asked.1, told.text, give_text asked.0 told.request told.text told.read told.gives, out_taken run told.text told.takes)
 
       cut : run.status ≡ WriteFault → (command : Command) × Asks run command × (text : Text) × FilesGive run command (Ok text) × (count : ℕ) × Puts run (take count text)
       cut e =
           let asked = some_asked run is WriteFault e (λ u. cc) (λ m. cc) in
           let told = cut_here run is asked.0 asked.1 e in
-          (asked.0, asked.1, told.text, give_text asked.0 told.texts told.text told.read told.gives, told.bytes, out_taken run (take told.bytes told.text) told.takes)
+          (asked.0, asked.1, told.text, give_text asked.0 told.request told.text told.read told.gives, told.bytes, out_taken run (take told.bytes told.text) told.takes)
 
       refused : run.status ≡ Refused → (command : Command) × Asks run command × (line : Text) × FilesGive run command (Err line) × Notes run line
       refused e =
@@ -154,13 +156,13 @@ module _ (run : Run) (is : IsRun run) (tells : Tells run.old.held) where
   finds_outcome = (λ command asks calm memory. by_status command asks calm memory run.status refl, λ command texts on calm. held command texts on.0 on.1 calm)
     where
       by_status : (command : Command) → Asks run command → NoReadFailed run command → run.status ≢ NoMemory → (status : Status) → run.status ≡ status → (outcome : Result Text Text) × FilesGive run command outcome
-      by_status command asks calm memory Done e = let told = done_here run is command asks e in (Ok told.text, give_text command told.texts told.text told.read told.gives)
+      by_status command asks calm memory Done e = let told = done_here run is command asks e in (Ok told.text, give_text command told.request told.text told.read told.gives)
       by_status command asks calm memory Refused e = let told = refused_here run is command asks e in (Err told.line, give_line command told.reading told.line told.read told.gives)
       by_status command asks calm memory Usage e = absurd (none_asked run (is.usage e) command asks)
       by_status command asks calm memory ReadFault e =
           let told = here run is command asks (λ c. IsNotRead run.old.held c run.old.unread run.new.unread run.old.asked run.new.asked (notes_of run.old) (notes_of run.new)) (is.read e) in
           absurd (none_rose run is command asks calm (rose_among command run.old.held run.old.unread run.new.unread run.old.asked run.new.asked told.last told.asks told.rose))
-      by_status command asks calm memory WriteFault e = let told = cut_here run is command asks e in (Ok told.text, give_text command told.texts told.text told.read told.gives)
+      by_status command asks calm memory WriteFault e = let told = cut_here run is command asks e in (Ok told.text, give_text command told.request told.text told.read told.gives)
       by_status command asks calm memory NoMemory e = absurd (memory e)
 
       held : (command : Command) (texts : List Text) → Asks run command → HoldsEach run.old.held (files_of command) texts → NoReadFailed run command → (outcome : Result Text Text) × Gives command texts outcome

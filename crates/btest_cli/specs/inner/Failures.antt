@@ -1,18 +1,18 @@
 -- Why a command put no whole text: the status and the line.
-use Rattle.std.specs.Prelude.{◌≡◌, ℕ, List, take, Result, Ok, Err}
+use Rattle.std.specs.Prelude.{◌≡◌, ℕ, take, Result, Ok, Err}
 use Rattle.bt_base.specs.Counts.{Rose}
 use Rattle.bt_base.specs.Puts.{Shown, Takes}
-use Rattle.command_line.specs.Words.{Text, Command}
+use Rattle.command_line.specs.Words.{Text}
 use Rattle.btest_cli.specs.declared.failure.Unread.{Unread}
 use Rattle.btest_cli.specs.declared.failure.Unread.TheVariants as unread
+use Rattle.commands.specs.declared.request.Request.{Request}
 use Rattle.commands.specs.declared.unput.Unput.{Unput}
 use Rattle.commands.specs.declared.unput.Unput.TheVariants as unput
 use Rattle.btest_cli.specs.declared.status.Status.{Status}
 use Rattle.btest_cli.specs.declared.status.Status.TheVariants.{Refused, ReadFault, WriteFault, NoMemory}
 use Rattle.btest_cli.specs.declared.texts.Wanted.{Wanted as Lent}
-use Rattle.btest_cli.specs.Texts.{Held, Wanted, TooLong, Asks, IsRead, IsReadUpTo, names_in}
+use Rattle.btest_cli.specs.Texts.{Wanted}
 use Rattle.refusal_lines.specs.Refusals.{Names, input_fault_line, log_fault_line, batch_fault_line, long_line, read_line, write_line, memory_line}
-use Rattle.btest_cli.specs.Refusals.{roles_of}
 use Rattle.btest_cli.specs.Outcome.{IsGiven}
 use Rattle.commands.specs.Worth.{IsWorthFor}
 
@@ -44,36 +44,30 @@ unput_line names (unput.Batch rows fault) = batch_fault_line names.log rows faul
 unput_line names unput.Write = write_line
 unput_line names unput.Memory = memory_line
 
--- why texts were not all read, and which were asked for
-abbrev pub IsUnread : Held → (Text → ℕ) → (Text → ℕ) → List Text → List Text → List Wanted → Unread → Type 0
-IsUnread held before now asked asked' texts (unread.TooLong wanted) = IsRead held texts (TooLong (wanted_view wanted)) × IsReadUpTo held texts (wanted_view wanted) asked asked'
-IsUnread held before now asked asked' texts (unread.Failed wanted) = IsReadUpTo held texts (wanted_view wanted) asked asked' × Rose (before wanted.name.now) (now wanted.name.now)
-IsUnread held before now asked asked' texts unread.Memory = (count : ℕ) × Asks asked asked' (take count (names_in texts))
-
--- the sink took some first bytes of the text that the texts give, and its count of faults rose
-pub record IsCut (command : Command) (texts : List Text) (old new : Shown) : Type 0 where
+-- the sink took some first bytes of the text that a request gives, and its count of faults rose
+pub record IsCut (names : Names) (request : Request) (old new : Shown) : Type 0 where
   pub rose : Rose old.faults new.faults
   pub text : Text
-  pub gives : IsGiven command texts (Ok text)
+  pub gives : IsGiven names request (Ok text)
   pub bytes : ℕ
   pub takes : Takes old new (take bytes text)
 
--- the sink took the text that the texts give, and it is worth what it should be
-pub record IsPut (command : Command) (texts : List Text) (old new : Shown) : Type 0 where
+-- the sink took the text that a request gives, and it is worth what it should be
+pub record IsPut (names : Names) (request : Request) (old new : Shown) : Type 0 where
   pub text : Text
-  pub gives : IsGiven command texts (Ok text)
+  pub gives : IsGiven names request (Ok text)
   pub takes : Takes old new text
-  pub worth : IsWorthFor command texts text
+  pub worth : IsWorthFor request text
 
--- why the text of these texts was not put whole
-abbrev pub IsUnput : Command → List Text → Shown → Shown → Unput → Type 0
-IsUnput command texts old new (unput.Input fault) = IsGiven command texts (Err (input_fault_line (roles_of command) fault)) × (new ≡ old)
-IsUnput command texts old new (unput.Log rows fault) = IsGiven command texts (Err (log_fault_line (roles_of command).log rows fault)) × (new ≡ old)
-IsUnput command texts old new (unput.Batch rows fault) = IsGiven command texts (Err (batch_fault_line (roles_of command).log rows fault)) × (new ≡ old)
-IsUnput command texts old new unput.Write = IsCut command texts old new
-IsUnput command texts old new unput.Memory = new ≡ old
+-- why the text of a request was not put whole
+abbrev pub IsUnput : Names → Request → Shown → Shown → Unput → Type 0
+IsUnput names request old new (unput.Input fault) = IsGiven names request (Err (input_fault_line names fault)) × (new ≡ old)
+IsUnput names request old new (unput.Log rows fault) = IsGiven names request (Err (log_fault_line names.log rows fault)) × (new ≡ old)
+IsUnput names request old new (unput.Batch rows fault) = IsGiven names request (Err (batch_fault_line names.log rows fault)) × (new ≡ old)
+IsUnput names request old new unput.Write = IsCut names request old new
+IsUnput names request old new unput.Memory = new ≡ old
 
--- what putting the text of these texts leaves
-abbrev pub IsAnswered : Command → List Text → Shown → Shown → Result (Unit {0}) Unput → Type 0
-IsAnswered command texts old new (Ok done) = IsPut command texts old new
-IsAnswered command texts old new (Err failure) = IsUnput command texts old new failure
+-- what putting the text of a request leaves
+abbrev pub IsAnswered : Names → Request → Shown → Shown → Result (Unit {0}) Unput → Type 0
+IsAnswered names request old new (Ok done) = IsPut names request old new
+IsAnswered names request old new (Err failure) = IsUnput names request old new failure

@@ -1,5 +1,5 @@
 -- Why nothing is put where texts have a fault, and what the sink took of a text where they have none.
-use Rattle.std.specs.Prelude.{◌≡◌, ℕ, List, take, Result, Ok, Err}
+use Rattle.std.specs.Prelude.{◌≡◌, ℕ, take, Result, Ok, Err}
 use Rattle.bt_base.specs.Counts.{Rose}
 use Rattle.bt_base.specs.Puts.{Shown, Takes}
 use Rattle.btest_core.specs.declared.fault.InputFault.{InputFault}
@@ -9,8 +9,7 @@ use Rattle.response_log.specs.declared.fault.LogFault.TheVariants as log
 use Rattle.command_line.specs.Words.{Text}
 use Rattle.batch_diag.specs.declared.fault.BatchFault.{BatchFault}
 use Rattle.batch_diag.specs.declared.fault.BatchFault.TheVariants as batch
-use Rattle.btest_core.specs.BoardRead.{IsBoardRead}
-use Rattle.commands.specs.Answers.{bytes_of}
+use Rattle.commands.specs.Answers.{IsBoardOf}
 use Rattle.commands.specs.declared.texts.BoardTexts.{BoardTexts}
 use Rattle.commands.specs.declared.unput.Unput.{Unput}
 use Rattle.commands.specs.declared.unput.Unput.TheVariants as unput
@@ -31,16 +30,12 @@ unput_batch rows (batch.Title line) = unput.Batch rows (batch.Title line)
 unput_batch rows (batch.Inner board fault) = unput.Batch rows (batch.Inner board fault)
 
 -- why there is no board: the first fault of its texts, or want of memory
-abbrev pub NoBoard : Text → Text → List Text → Unput → Type 0
-NoBoard chain nets texts (unput.Input fault) = IsBoardRead chain nets texts (Err fault)
-NoBoard chain nets texts (unput.Log rows fault) = ⊥
-NoBoard chain nets texts (unput.Batch rows fault) = ⊥
-NoBoard chain nets texts unput.Write = ⊥
-NoBoard chain nets texts unput.Memory = Unit {0}
-
--- the same of the texts as code has them
-abbrev pub NoBoardOf : BoardTexts → Unput → Type 0
-NoBoardOf texts failure = NoBoard texts.chain.now texts.nets.now (bytes_of texts.bsdl.now) failure
+abbrev pub NoBoard : BoardTexts → Unput → Type 0
+NoBoard texts (unput.Input fault) = IsBoardOf texts (Err fault)
+NoBoard texts (unput.Log rows fault) = ⊥
+NoBoard texts (unput.Batch rows fault) = ⊥
+NoBoard texts unput.Write = ⊥
+NoBoard texts unput.Memory = Unit {0}
 
 -- why nothing is put where the texts have this fault
 abbrev pub unput_of : InputFault → Unput

@@ -1,88 +1,90 @@
-use Rattle.std.proofs.Common.{List, sym, ap, subst, map}
-use Rattle.command_line.specs.Words.{Text, Command, Cover, Svf, Walk, Diagnose, Groups, Batch, HasNumber}
-use Rattle.command_line.specs.declared.words.Command.{Command as Lent}
-use Rattle.command_line.specs.CommandView.{board_view, chain_view, command_view}
+use Rattle.std.proofs.Common.{[], ◌∷◌, sym, subst}
+use Rattle.tap_defs.specs.chain.ChainScans.{chain_text}
+use Rattle.tap_defs.specs.board.BoardScans.{board_text}
+use Rattle.device_check.specs.DeviceText.{device_text}
+use Rattle.coverage_list.specs.CoverText.{cover_text}
+use Rattle.ident_test.specs.Patterns.{ident_text}
+use Rattle.walk_test.specs.WalkTest.{board_walk_text}
+use Rattle.board_gen.specs.BoardTexts as made
+use Rattle.board_gen.specs.DeviceText.{bsdl_text}
+use Rattle.btest_core.specs.BoardRead.{AreChainLengths, IsBoardRead}
+use Rattle.btest_core.specs.DevicesRead.{IsDeviceText}
+use Rattle.btest_core.specs.IdentsRead.{AreIdents}
+use Rattle.commands.specs.Answers.{IsBoardOf, IsJudgedOf, Nothing}
+use Rattle.commands.specs.LogRead.{diagnosing, diagnosis_text, grouping, grouping_text, judging_each, verdicts_text}
+use Rattle.commands.specs.Summary.{summary_text}
+use Rattle.commands.specs.Worth.{Diagnoses, DiagnosesEach, FindsGroups, ListsCover, ListsDevice, OfDenoted, TestsBoard, TestsChain, TestsIdents, WalksBoard}
+use Rattle.commands.specs.declared.request.Request.{Request}
+use Rattle.commands.specs.declared.request.Request.TheVariants as request
 use Rattle.btest_cli.specs.inner.Failures.{IsAnswered}
-use Rattle.btest_cli.proofs.AnswerLemmas.{batch_answered, cover_answered, diagnose_answered, groups_answered, make_answered, svf_answered, walk_answered}
+use Rattle.btest_cli.specs.inner.Reads.{IsNumbered}
+use Rattle.btest_cli.proofs.AnswerLemmas.{answered, log_answered}
 use Rattle.btest_cli.proofs.top.answer.Goals as goal
 
 pub returns-in-Chain : goal.returns-in-Chain
-returns-in-Chain g c =
-    subst (λ (command : Command). IsAnswered command (map (λ text. text.items) c.args.texts.now) (g.K.Sink.shown c.args.out.now) (g.K.Sink.shown c.answer_chain.new.out) c.answer_chain.result)
-    (sym (ap command_view c.in-Chain.is)) (c.answer_chain.ensures (chain_view c.in-Chain.field-0))
-
-pub returns-in-Device : goal.returns-in-Device
-returns-in-Device g c =
-    subst (λ (command : Command). IsAnswered command (map (λ text. text.items) c.args.texts.now) (g.K.Sink.shown c.args.out.now) (g.K.Sink.shown c.answer_device.new.out) c.answer_device.result)
-    (sym (ap command_view c.in-Device.is)) (c.answer_device.ensures c.in-Device.bsdl.now)
-
-pub returns-in-Cover : goal.returns-in-Cover
-returns-in-Cover g c =
-    let told = cover_answered (board_view c.in-Cover.field-0) _ _ _ _ _ _ c.cover.ensures in
-    let all = subst (λ (texts : List Text). IsAnswered (Cover (board_view c.in-Cover.field-0)) texts (g.K.Sink.shown c.args.out.now) (g.K.Sink.shown c.cover.new.out) c.cover.result) (sym c.board_texts.ensures) told in
-    subst (λ (command : Command). IsAnswered command (map (λ text. text.items) c.args.texts.now) (g.K.Sink.shown c.args.out.now) (g.K.Sink.shown c.cover.new.out) c.cover.result)
-    (sym (ap command_view c.in-Cover.is)) all
-
-pub returns-in-Svf : goal.returns-in-Svf
-returns-in-Svf g c =
-    let told = svf_answered (board_view c.in-Svf.field-0) _ _ _ _ _ _ c.svf.ensures in
-    let all = subst (λ (texts : List Text). IsAnswered (Svf (board_view c.in-Svf.field-0)) texts (g.K.Sink.shown c.args.out.now) (g.K.Sink.shown c.svf.new.out) c.svf.result) (sym c.board_texts-in-Svf.ensures) told in
-    subst (λ (command : Command). IsAnswered command (map (λ text. text.items) c.args.texts.now) (g.K.Sink.shown c.args.out.now) (g.K.Sink.shown c.svf.new.out) c.svf.result)
-    (sym (ap command_view c.in-Svf.is)) all
-
-pub returns-in-Walk : goal.returns-in-Walk
-returns-in-Walk g c =
-    let told = walk_answered (board_view c.in-Walk.field-0) _ _ _ _ _ _ c.walk.ensures in
-    let all = subst (λ (texts : List Text). IsAnswered (Walk (board_view c.in-Walk.field-0)) texts (g.K.Sink.shown c.args.out.now) (g.K.Sink.shown c.walk.new.out) c.walk.result) (sym c.board_texts-in-Walk.ensures) told in
-    subst (λ (command : Command). IsAnswered command (map (λ text. text.items) c.args.texts.now) (g.K.Sink.shown c.args.out.now) (g.K.Sink.shown c.walk.new.out) c.walk.result)
-    (sym (ap command_view c.in-Walk.is)) all
+returns-in-Chain g c = λ names.
+    subst (λ (r : Request). IsAnswered names r (g.K.Sink.shown c.args.out.now) (g.K.Sink.shown c.chain.new.out) c.chain.result) (sym c.in-Chain.is)
+    (answered names (request.Chain c.in-Chain.texts) (AreChainLengths c.in-Chain.texts.chain c.in-Chain.texts.bsdl) chain_text (TestsChain c.in-Chain.texts) _ _ _ (λ o says. says) (λ text worth. worth) c.chain.ensures)
 
 pub returns-in-Ident : goal.returns-in-Ident
-returns-in-Ident g c =
-    subst (λ (command : Command). IsAnswered command (map (λ text. text.items) c.args.texts.now) (g.K.Sink.shown c.args.out.now) (g.K.Sink.shown c.answer_ident.new.out) c.answer_ident.result)
-    (sym (ap command_view c.in-Ident.is)) (c.answer_ident.ensures (chain_view c.in-Ident.field-0))
+returns-in-Ident g c = λ names.
+    subst (λ (r : Request). IsAnswered names r (g.K.Sink.shown c.args.out.now) (g.K.Sink.shown c.ident.new.out) c.ident.result) (sym c.in-Ident.is)
+    (answered names (request.Ident c.in-Ident.texts) (AreIdents c.in-Ident.texts.chain c.in-Ident.texts.bsdl) ident_text (TestsIdents c.in-Ident.texts) _ _ _ (λ o says. says) (λ text worth. worth) c.ident.ensures)
+
+pub returns-in-Device : goal.returns-in-Device
+returns-in-Device g c = λ names.
+    subst (λ (r : Request). IsAnswered names r (g.K.Sink.shown c.args.out.now) (g.K.Sink.shown c.device.new.out) c.device.result) (sym c.in-Device.is)
+    (answered names (request.Device c.in-Device.bsdl) (IsDeviceText c.in-Device.bsdl) device_text (ListsDevice c.in-Device.bsdl) _ _ _ (λ o says. says) (λ text worth. worth) c.device.ensures)
+
+pub returns-in-Cover : goal.returns-in-Cover
+returns-in-Cover g c = λ names.
+    subst (λ (r : Request). IsAnswered names r (g.K.Sink.shown c.args.out.now) (g.K.Sink.shown c.cover.new.out) c.cover.result) (sym c.in-Cover.is)
+    (answered names (request.Cover c.in-Cover.texts) (IsBoardOf c.in-Cover.texts) cover_text (ListsCover c.in-Cover.texts) _ _ _ (λ o says. says) (λ text worth. worth) c.cover.ensures)
+
+pub returns-in-Svf : goal.returns-in-Svf
+returns-in-Svf g c = λ names.
+    subst (λ (r : Request). IsAnswered names r (g.K.Sink.shown c.args.out.now) (g.K.Sink.shown c.svf.new.out) c.svf.result) (sym c.in-Svf.is)
+    (answered names (request.Svf c.in-Svf.texts) (IsBoardOf c.in-Svf.texts) board_text (TestsBoard c.in-Svf.texts) _ _ _ (λ o says. says) (λ text worth. worth) c.svf.ensures)
+
+pub returns-in-Walk : goal.returns-in-Walk
+returns-in-Walk g c = λ names.
+    subst (λ (r : Request). IsAnswered names r (g.K.Sink.shown c.args.out.now) (g.K.Sink.shown c.walk.new.out) c.walk.result) (sym c.in-Walk.is)
+    (answered names (request.Walk c.in-Walk.texts) (IsBoardOf c.in-Walk.texts) board_walk_text (WalksBoard c.in-Walk.texts) _ _ _ (λ o says. says) (λ text worth. worth) c.walk.ensures)
 
 pub summary-requires-clause-some : goal.summary-requires-clause-some
-summary-requires-clause-some g c = (subst (λ (command : Lent). HasNumber (command_view command)) c.in-Make.is c.requires.number).0
+summary-requires-clause-some g c = (subst IsNumbered c.in-Make.is c.requires.number).0
 
 pub summary-requires-clause-few : goal.summary-requires-clause-few
-summary-requires-clause-few g c = (subst (λ (command : Lent). HasNumber (command_view command)) c.in-Make.is c.requires.number).1
+summary-requires-clause-few g c = (subst IsNumbered c.in-Make.is c.requires.number).1
 
 pub returns-in-Make : goal.returns-in-Make
-returns-in-Make g c =
-    let told = make_answered c.in-Make.number (map (λ text. text.items) c.args.texts.now) _ _ _ c.summary.ensures in
-    subst (λ (command : Command). IsAnswered command (map (λ text. text.items) c.args.texts.now) (g.K.Sink.shown c.args.out.now) (g.K.Sink.shown c.summary.new.out) c.summary.result)
-    (sym (ap command_view c.in-Make.is)) told
+returns-in-Make g c = λ names.
+    subst (λ (r : Request). IsAnswered names r (g.K.Sink.shown c.args.out.now) (g.K.Sink.shown c.summary.new.out) c.summary.result) (sym c.in-Make.is)
+    (answered names (request.Make c.in-Make.parts) (IsBoardRead (made.chain_text c.in-Make.parts) (made.net_text c.in-Make.parts) (bsdl_text ∷ [])) summary_text Nothing _ _ _ (λ o says. says) (λ text worth. worth) c.summary.ensures)
 
 pub diagnosis-requires-clause-some : goal.diagnosis-requires-clause-some
-diagnosis-requires-clause-some g c = λ κs within. (subst (λ (command : Lent). HasNumber (command_view command)) c.in-Diagnose.is c.requires.number).0
+diagnosis-requires-clause-some g c = λ κs within. (subst IsNumbered c.in-Diagnose.is c.requires.number).0
 
 pub diagnosis-requires-clause-few : goal.diagnosis-requires-clause-few
-diagnosis-requires-clause-few g c = λ κs within. (subst (λ (command : Lent). HasNumber (command_view command)) c.in-Diagnose.is c.requires.number).1
+diagnosis-requires-clause-few g c = λ κs within. (subst IsNumbered c.in-Diagnose.is c.requires.number).1
 
 pub returns-in-Diagnose : goal.returns-in-Diagnose
-returns-in-Diagnose g c =
-    let told = diagnose_answered c.in-Diagnose.workers c.in-Diagnose.log.now (board_view c.in-Diagnose.board) _ _ _ _ _ _ _ c.diagnosis.ensures in
-    let all = subst (λ (texts : List Text). IsAnswered (Diagnose c.in-Diagnose.workers c.in-Diagnose.log.now (board_view c.in-Diagnose.board)) texts (g.K.Sink.shown c.args.out.now) (g.K.Sink.shown c.diagnosis.new.out) c.diagnosis.result) (sym c.log_texts.ensures) told in
-    subst (λ (command : Command). IsAnswered command (map (λ text. text.items) c.args.texts.now) (g.K.Sink.shown c.args.out.now) (g.K.Sink.shown c.diagnosis.new.out) c.diagnosis.result)
-    (sym (ap command_view c.in-Diagnose.is)) all
+returns-in-Diagnose g c = λ names.
+    subst (λ (r : Request). IsAnswered names r (g.K.Sink.shown c.args.out.now) (g.K.Sink.shown c.diagnosis.new.out) c.diagnosis.result) (sym c.in-Diagnose.is)
+    (log_answered names (request.Diagnose c.in-Diagnose.workers c.in-Diagnose.texts) (IsJudgedOf diagnosing c.in-Diagnose.texts) diagnosis_text (OfDenoted (Diagnoses c.in-Diagnose.texts.log) c.in-Diagnose.texts.board) _ _ _ (λ o says. says) (λ text worth. worth) c.diagnosis.ensures)
 
 pub returns-in-Groups : goal.returns-in-Groups
-returns-in-Groups g c =
-    let told = groups_answered c.in-Groups.log.now (board_view c.in-Groups.board) _ _ _ _ _ _ _ c.groups.ensures in
-    let all = subst (λ (texts : List Text). IsAnswered (Groups c.in-Groups.log.now (board_view c.in-Groups.board)) texts (g.K.Sink.shown c.args.out.now) (g.K.Sink.shown c.groups.new.out) c.groups.result) (sym c.log_texts-in-Groups.ensures) told in
-    subst (λ (command : Command). IsAnswered command (map (λ text. text.items) c.args.texts.now) (g.K.Sink.shown c.args.out.now) (g.K.Sink.shown c.groups.new.out) c.groups.result)
-    (sym (ap command_view c.in-Groups.is)) all
+returns-in-Groups g c = λ names.
+    subst (λ (r : Request). IsAnswered names r (g.K.Sink.shown c.args.out.now) (g.K.Sink.shown c.groups.new.out) c.groups.result) (sym c.in-Groups.is)
+    (log_answered names (request.Groups c.in-Groups.texts) (IsJudgedOf grouping c.in-Groups.texts) grouping_text (OfDenoted (FindsGroups c.in-Groups.texts.log) c.in-Groups.texts.board) _ _ _ (λ o says. says) (λ text worth. worth) c.groups.ensures)
 
 pub batch-requires-clause-some : goal.batch-requires-clause-some
-batch-requires-clause-some g c = λ κs within. (subst (λ (command : Lent). HasNumber (command_view command)) c.in-Batch.is c.requires.number).0
+batch-requires-clause-some g c = λ κs within. (subst IsNumbered c.in-Batch.is c.requires.number).0
 
 pub batch-requires-clause-few : goal.batch-requires-clause-few
-batch-requires-clause-few g c = λ κs within. (subst (λ (command : Lent). HasNumber (command_view command)) c.in-Batch.is c.requires.number).1
+batch-requires-clause-few g c = λ κs within. (subst IsNumbered c.in-Batch.is c.requires.number).1
 
 pub returns-in-Batch : goal.returns-in-Batch
-returns-in-Batch g c =
-    let told = batch_answered c.in-Batch.workers c.in-Batch.log.now (board_view c.in-Batch.board) _ _ _ _ _ _ _ c.batch.ensures in
-    let all = subst (λ (texts : List Text). IsAnswered (Batch c.in-Batch.workers c.in-Batch.log.now (board_view c.in-Batch.board)) texts (g.K.Sink.shown c.args.out.now) (g.K.Sink.shown c.batch.new.out) c.batch.result) (sym c.log_texts-in-Batch.ensures) told in
-    subst (λ (command : Command). IsAnswered command (map (λ text. text.items) c.args.texts.now) (g.K.Sink.shown c.args.out.now) (g.K.Sink.shown c.batch.new.out) c.batch.result)
-    (sym (ap command_view c.in-Batch.is)) all
+returns-in-Batch g c = λ names.
+    subst (λ (r : Request). IsAnswered names r (g.K.Sink.shown c.args.out.now) (g.K.Sink.shown c.batch.new.out) c.batch.result) (sym c.in-Batch.is)
+    (log_answered names (request.Batch c.in-Batch.workers c.in-Batch.texts) (IsJudgedOf judging_each c.in-Batch.texts) verdicts_text (OfDenoted (DiagnosesEach c.in-Batch.texts.log) c.in-Batch.texts.board) _ _ _ (λ o says. says) (λ text worth. worth) c.batch.ensures)

@@ -1,4 +1,3 @@
-use Rattle.std.proofs.Common.{map}
 use Rattle.coverage_list.specs.CoverText.{cover_text}
 use Rattle.commands.specs.Worth.{ListsCover}
 use Rattle.commands.proofs.AnswerLemmas.{no_board_answers, text_answers}
@@ -6,11 +5,11 @@ use Rattle.commands.proofs.board_cover.cover.Goals as goal
 
 pub returns-in-Err : goal.returns-in-Err
 returns-in-Err g c =
-    no_board_answers c.args.texts.chain.now c.args.texts.nets.now (map (λ text. text.items) c.args.texts.bsdl.now) cover_text (ListsCover c.args.texts.chain.now c.args.texts.nets.now (map (λ text. text.items) c.args.texts.bsdl.now)) (g.K.Sink.shown c.args.out.now) c.in-Err.failure c.in-Err.ensures.none
+    no_board_answers c.args.texts.now cover_text (ListsCover c.args.texts.now) (g.K.Sink.shown c.args.out.now) c.in-Err.failure c.in-Err.ensures.none
 
 pub returns : goal.returns
 returns g c =
     let board = c.in-Ok.board in
-    let rules = c.inputs_keep_rules.ensures.board c.args.texts.chain.now c.args.texts.nets.now (map (λ text. text.items) c.args.texts.bsdl.now) board c.in-Ok.ensures.denoted in
+    let rules = c.inputs_keep_rules.ensures.board c.args.texts.now.chain c.args.texts.now.nets c.args.texts.now.bsdl board c.in-Ok.ensures.denoted in
     text_answers _ _ _ board c.in-Ok.ensures.denoted _ _ _ (c.answer_by.ensures _ _ _ c.write_cover.ensures)
     (record { board = board; denoted = c.in-Ok.ensures.denoted; rules = rules; lists = c.lists_are_true.ensures board rules })

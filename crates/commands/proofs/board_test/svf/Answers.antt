@@ -1,16 +1,15 @@
-use Rattle.std.proofs.Common.{map}
 use Rattle.tap_defs.specs.board.BoardScans.{board_text}
-use Rattle.btest_core.specs.BoardRead.{IsBoardRead}
+use Rattle.commands.specs.Answers.{IsBoardOf}
 use Rattle.commands.specs.Worth.{TestsBoard}
 use Rattle.commands.proofs.AnswerLemmas.{no_board_answers, text_answers}
 use Rattle.commands.proofs.board_test.svf.Goals as goal
 
 pub returns-in-Err : goal.returns-in-Err
 returns-in-Err g c =
-    no_board_answers c.args.texts.chain.now c.args.texts.nets.now (map (λ text. text.items) c.args.texts.bsdl.now) board_text (TestsBoard c.args.texts.chain.now c.args.texts.nets.now (map (λ text. text.items) c.args.texts.bsdl.now)) (g.K.Sink.shown c.args.out.now) c.in-Err.failure c.in-Err.ensures.none
+    no_board_answers c.args.texts.now board_text (TestsBoard c.args.texts.now) (g.K.Sink.shown c.args.out.now) c.in-Err.failure c.in-Err.ensures.none
 
 pub returns : goal.returns
 returns g c =
     let board = c.in-Ok.planned.board in
-    text_answers (IsBoardRead c.args.texts.chain.now c.args.texts.nets.now (map (λ text. text.items) c.args.texts.bsdl.now)) board_text (TestsBoard c.args.texts.chain.now c.args.texts.nets.now (map (λ text. text.items) c.args.texts.bsdl.now)) board c.in-Ok.ensures.denoted (g.K.Sink.shown c.args.out.now) (g.K.Sink.shown c.put_test.new.out) c.put_test.result c.put_test.ensures
+    text_answers (IsBoardOf c.args.texts.now) board_text (TestsBoard c.args.texts.now) board c.in-Ok.ensures.denoted (g.K.Sink.shown c.args.out.now) (g.K.Sink.shown c.put_test.new.out) c.put_test.result c.put_test.ensures
     (record { board = board; denoted = c.in-Ok.ensures.denoted; tests = c.tests_board.ensures })

@@ -1,16 +1,15 @@
-use Rattle.std.proofs.Common.{map}
 use Rattle.walk_test.specs.WalkTest.{board_walk_text}
-use Rattle.btest_core.specs.BoardRead.{IsBoardRead}
+use Rattle.commands.specs.Answers.{IsBoardOf}
 use Rattle.commands.specs.Worth.{WalksBoard}
 use Rattle.commands.proofs.AnswerLemmas.{no_board_answers, text_answers}
 use Rattle.commands.proofs.board_walk.walk.Goals as goal
 
 pub returns-in-Err : goal.returns-in-Err
 returns-in-Err g c =
-    no_board_answers c.args.texts.chain.now c.args.texts.nets.now (map (λ text. text.items) c.args.texts.bsdl.now) board_walk_text (WalksBoard c.args.texts.chain.now c.args.texts.nets.now (map (λ text. text.items) c.args.texts.bsdl.now)) (g.K.Sink.shown c.args.out.now) c.in-Err.failure c.in-Err.ensures.none
+    no_board_answers c.args.texts.now board_walk_text (WalksBoard c.args.texts.now) (g.K.Sink.shown c.args.out.now) c.in-Err.failure c.in-Err.ensures.none
 
 pub returns : goal.returns
 returns g c =
     let board = c.in-Ok.walked.board in
-    text_answers (IsBoardRead c.args.texts.chain.now c.args.texts.nets.now (map (λ text. text.items) c.args.texts.bsdl.now)) board_walk_text (WalksBoard c.args.texts.chain.now c.args.texts.nets.now (map (λ text. text.items) c.args.texts.bsdl.now)) board c.in-Ok.ensures.denoted (g.K.Sink.shown c.args.out.now) (g.K.Sink.shown c.put_walk.new.out) c.put_walk.result c.put_walk.ensures
+    text_answers (IsBoardOf c.args.texts.now) board_walk_text (WalksBoard c.args.texts.now) board c.in-Ok.ensures.denoted (g.K.Sink.shown c.args.out.now) (g.K.Sink.shown c.put_walk.new.out) c.put_walk.result c.put_walk.ensures
     (record { board = board; denoted = c.in-Ok.ensures.denoted; harmless = c.is_harmless.ensures })

@@ -1,5 +1,7 @@
-use Rattle.std.proofs.Common.{refl}
+use Rattle.std.proofs.Common.{List, ℕ, Ok, Err, refl, subst}
+use Rattle.std.specs.Prelude.{IfSome}
 use Rattle.device_check.specs.DeviceText.{device_text}
+use Rattle.btest_core.specs.Answers.{input_told}
 use Rattle.btest_core.specs.DevicesRead.{IsDeviceText}
 use Rattle.commands.specs.Worth.{ListsDevice}
 use Rattle.commands.proofs.AnswerLemmas.{answers_fault, text_answers}
@@ -7,12 +9,14 @@ use Rattle.commands.proofs.device_listing.device.Goals as goal
 
 pub returns-in-Err : goal.returns-in-Err
 returns-in-Err g c =
+    let is = subst (λ (text : List ℕ). IfSome (input_told c.in-Err.fault) (λ f. IsDeviceText text (Err f))) c.as_bytes.ensures.bytes c.in-Err.ensures in
     rw c.unput_by.ensures
-    (answers_fault (IsDeviceText c.args.text.now) device_text (ListsDevice c.args.text.now) (g.K.Sink.shown c.args.out.now) c.in-Err.fault c.in-Err.ensures)
+    (answers_fault (IsDeviceText c.args.text.now) device_text (ListsDevice c.args.text.now) (g.K.Sink.shown c.args.out.now) c.in-Err.fault is)
 
 pub returns : goal.returns
 returns g c =
     let device = c.in-Ok.device in
-    let rules = c.inputs_keep_rules.ensures.device c.args.text.now device c.in-Ok.ensures in
-    text_answers _ _ _ device c.in-Ok.ensures _ _ _ (c.answer_by.ensures _ _ _ c.write_device.ensures)
-    (record { device = device; described = c.in-Ok.ensures; rules = rules; is = refl })
+    let described = subst (λ (text : List ℕ). IsDeviceText text (Ok device)) c.as_bytes.ensures.bytes c.in-Ok.ensures in
+    let rules = c.inputs_keep_rules.ensures.device c.args.text.now device described in
+    text_answers _ _ _ device described _ _ _ (c.answer_by.ensures _ _ _ c.write_device.ensures)
+    (record { device = device; described = described; rules = rules; is = refl })

@@ -19,7 +19,8 @@ pub returns-in-Err : goal.returns-in-Err
 returns-in-Err g c =
     let board = c.args.planned.now.board in
     let count = c.rows.ensures ∙ rows_are board c.args.planned.now.plan c.requires.plan c.requires.passes in
-    let counted = subst (λ (n : ℕ). IfSome (batch_told c.in-Err.fault) (λ f. batch_of c.args.text.now n c.dr_bits.result ≡ Err f)) count c.in-Err.ensures.read in
+    let said = subst (λ (t : List ℕ). IfSome (batch_told c.in-Err.fault) (λ f. batch_of t c.rows.result c.dr_bits.result ≡ Err f)) c.as_bytes.ensures.bytes c.in-Err.ensures.read in
+    let counted = subst (λ (n : ℕ). IfSome (batch_told c.in-Err.fault) (λ f. batch_of c.args.text.now n c.dr_bits.result ≡ Err f)) count said in
     let faulty = subst (λ (n : ℕ). IfSome (batch_told c.in-Err.fault) (λ f. batch_of c.args.text.now (test_rows board) n ≡ Err f)) c.dr_bits.ensures counted in
     let wanted = c.rows-in-Err.ensures ∙ rows_are board c.args.planned.now.plan c.requires.plan c.requires.passes in
     rw c.unput_by_batch.ensures
@@ -32,7 +33,8 @@ returns g c =
     let blocks = c.in-Ok.blocks.items in
     let verdicts = c.in-Ok-diagnose_all.verdicts.items in
     let count = c.rows.ensures ∙ rows_are board c.args.planned.now.plan c.requires.plan c.requires.passes in
-    let counted = subst (λ (n : ℕ). batch_of c.args.text.now n c.dr_bits.result ≡ Ok blocks) count c.in-Ok.ensures.read in
+    let said = subst (λ (t : List ℕ). batch_of t c.rows.result c.dr_bits.result ≡ Ok blocks) c.as_bytes.ensures.bytes c.in-Ok.ensures.read in
+    let counted = subst (λ (n : ℕ). batch_of c.args.text.now n c.dr_bits.result ≡ Ok blocks) count said in
     let read : test_blocks c.args.text.now board ≡ Ok blocks = subst (λ (n : ℕ). batch_of c.args.text.now (test_rows board) n ≡ Ok blocks) c.dr_bits.ensures counted in
     let sized = subst (λ (n : ℕ). All (λ (block : Block). HasSize n c.dr_bits.result block.log) blocks) count c.in-Ok.ensures.size in
     let size = subst (λ (n : ℕ). All (λ (block : Block). HasSize (test_rows board) n block.log) blocks) c.dr_bits.ensures sized in

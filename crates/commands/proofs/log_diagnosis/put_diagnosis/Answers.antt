@@ -25,11 +25,12 @@ pub returns-in-Err : goal.returns-in-Err
 returns-in-Err g c =
     let board = c.args.planned.now.board in
     let count = c.rows.ensures ∙ rows_are board c.args.planned.now.plan c.requires.plan c.requires.passes in
-    let counted = subst (λ (n : ℕ). IfSome (log_told c.in-Err.fault) (λ f. log_rows c.args.text.items n c.dr_bits.result ≡ Err f)) count c.in-Err.ensures.read in
-    let faulty = subst (λ (n : ℕ). IfSome (log_told c.in-Err.fault) (λ f. log_rows c.args.text.items (test_rows board) n ≡ Err f)) c.dr_bits.ensures counted in
+    let said = subst (λ (t : List ℕ). IfSome (log_told c.in-Err.fault) (λ f. log_rows t c.rows.result c.dr_bits.result ≡ Err f)) c.into_bytes.ensures.bytes c.in-Err.ensures.read in
+    let counted = subst (λ (n : ℕ). IfSome (log_told c.in-Err.fault) (λ f. log_rows c.args.text n c.dr_bits.result ≡ Err f)) count said in
+    let faulty = subst (λ (n : ℕ). IfSome (log_told c.in-Err.fault) (λ f. log_rows c.args.text (test_rows board) n ≡ Err f)) c.dr_bits.ensures counted in
     let wanted = c.rows-in-Err.ensures ∙ rows_are board c.args.planned.now.plan c.requires.plan c.requires.passes in
     rw c.unput_by_log.ensures
-    (log_wrong (OnBoard diagnosing c.args.text.items board) (λ found. diagnosis_text (board, found)) (Diagnoses c.args.text.items board) (g.K.Sink.shown c.args.out.now) c.rows-in-Err.result (test_log c.args.text.items board) c.in-Err.fault faulty
+    (log_wrong (OnBoard diagnosing c.args.text board) (λ found. diagnosis_text (board, found)) (Diagnoses c.args.text board) (g.K.Sink.shown c.args.out.now) c.rows-in-Err.result (test_log c.args.text board) c.in-Err.fault faulty
     (λ fault fails. record { cause = fault; fails = fails; is = ap (λ (n : ℕ). Log n fault) wanted }))
 
 pub returns : goal.returns
@@ -41,12 +42,13 @@ returns g c =
     let passes = c.none_differs-pass.ensures in
     let explaining = c.in-Ok-diagnose_by.ensures.faults in
     let count = c.rows.ensures ∙ rows_are board c.args.planned.now.plan c.requires.plan c.requires.passes in
-    let counted = subst (λ (n : ℕ). log_rows c.args.text.items n c.dr_bits.result ≡ Ok rows) count c.in-Ok.ensures.read in
-    let read : test_log c.args.text.items board ≡ Ok rows = subst (λ (n : ℕ). log_rows c.args.text.items (test_rows board) n ≡ Ok rows) c.dr_bits.ensures counted in
+    let said = subst (λ (t : List ℕ). log_rows t c.rows.result c.dr_bits.result ≡ Ok rows) c.into_bytes.ensures.bytes c.in-Ok.ensures.read in
+    let counted = subst (λ (n : ℕ). log_rows c.args.text n c.dr_bits.result ≡ Ok rows) count said in
+    let read : test_log c.args.text board ≡ Ok rows = subst (λ (n : ℕ). log_rows c.args.text (test_rows board) n ≡ Ok rows) c.dr_bits.ensures counted in
     let sized = subst (λ (n : ℕ). HasSize n c.dr_bits.result rows) count c.in-Ok.ensures.size in
     let size = subst (λ (n : ℕ). HasSize (test_rows board) n rows) c.dr_bits.ensures sized in
     let puts = subst (λ (listed : List Single). Puts (g.K.Sink.shown c.args.out.now) (g.K.Sink.shown c.write_diagnosis.new.out) (diag_text board pass listed) c.write_diagnosis.result) c.deref-3.ensures.value c.write_diagnosis.ensures in
     let right = is_right c.explaining_listed.ensures c.passing_unexplained.ensures board c.raw-rules.ensures.rules rows pass faults passes explaining in
-    text_judged (OnBoard diagnosing c.args.text.items board) (λ found. diagnosis_text (board, found)) (Diagnoses c.args.text.items board) (pass, faults)
+    text_judged (OnBoard diagnosing c.args.text board) (λ found. diagnosis_text (board, found)) (Diagnoses c.args.text board) (pass, faults)
     (record { contents = rows; holds = read; finds = record { passes = passes; list = explaining } }) _ _ _ (c.answer_by.ensures _ _ _ puts)
     (record { means = c.test_means.ensures (svf_row_scans board); respond = c.singles_respond.ensures; rows = rows; read = read; shape = c.test_logs_shaped.ensures rows size; pass = pass; faults = faults; right = right; is = refl })

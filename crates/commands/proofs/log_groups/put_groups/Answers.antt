@@ -14,10 +14,11 @@ pub returns-in-Err : goal.returns-in-Err
 returns-in-Err g c =
     let board = c.args.walked.now.board in
     let count : length c.nets.result.now ≡ walk_rows board = ap (λ (nets : List ℕ). length nets) (c.nets.ensures ∙ c.requires.walk.nets) in
-    let counted = subst (λ (n : ℕ). IfSome (log_told c.in-Err.fault) (λ f. log_rows c.args.text.items n c.dr_bits.result ≡ Err f)) count c.in-Err.ensures.read in
-    let faulty = subst (λ (n : ℕ). IfSome (log_told c.in-Err.fault) (λ f. log_rows c.args.text.items (walk_rows board) n ≡ Err f)) c.dr_bits.ensures counted in
+    let said = subst (λ (t : List ℕ). IfSome (log_told c.in-Err.fault) (λ f. log_rows t (length c.nets.result.now) c.dr_bits.result ≡ Err f)) c.into_bytes.ensures.bytes c.in-Err.ensures.read in
+    let counted = subst (λ (n : ℕ). IfSome (log_told c.in-Err.fault) (λ f. log_rows c.args.text n c.dr_bits.result ≡ Err f)) count said in
+    let faulty = subst (λ (n : ℕ). IfSome (log_told c.in-Err.fault) (λ f. log_rows c.args.text (walk_rows board) n ≡ Err f)) c.dr_bits.ensures counted in
     rw c.unput_by_log.ensures
-    (log_wrong (OnBoard grouping c.args.text.items board) (λ found. grouping_text (board, found)) (FindsGroups c.args.text.items board) (g.K.Sink.shown c.args.out.now) (length c.nets.result.now) (walk_log c.args.text.items board) c.in-Err.fault faulty
+    (log_wrong (OnBoard grouping c.args.text board) (λ found. grouping_text (board, found)) (FindsGroups c.args.text board) (g.K.Sink.shown c.args.out.now) (length c.nets.result.now) (walk_log c.args.text board) c.in-Err.fault faulty
     (λ fault fails. record { cause = fault; fails = fails; is = ap (λ (n : ℕ). Log n fault) count }))
 
 pub returns : goal.returns
@@ -26,13 +27,14 @@ returns g c =
     let rules = c.raw-rules.ensures.rules in
     let rows = c.in-Ok.log in
     let count : length c.nets.result.now ≡ walk_rows board = ap (λ (nets : List ℕ). length nets) (c.nets.ensures ∙ c.requires.walk.nets) in
-    let counted = subst (λ (n : ℕ). log_rows c.args.text.items n c.dr_bits.result ≡ Ok rows) count c.in-Ok.ensures.read in
-    let read : walk_log c.args.text.items board ≡ Ok rows = subst (λ (n : ℕ). log_rows c.args.text.items (walk_rows board) n ≡ Ok rows) c.dr_bits.ensures counted in
+    let said = subst (λ (t : List ℕ). log_rows t (length c.nets.result.now) c.dr_bits.result ≡ Ok rows) c.into_bytes.ensures.bytes c.in-Ok.ensures.read in
+    let counted = subst (λ (n : ℕ). log_rows c.args.text n c.dr_bits.result ≡ Ok rows) count said in
+    let read : walk_log c.args.text board ≡ Ok rows = subst (λ (n : ℕ). log_rows c.args.text (walk_rows board) n ≡ Ok rows) c.dr_bits.ensures counted in
     let sized = subst (λ (n : ℕ). HasSize n c.dr_bits.result rows) count c.in-Ok.ensures.size in
     let size = subst (λ (n : ℕ). HasSize (walk_rows board) n rows) c.dr_bits.ensures sized in
     let found : Option (List (List ℕ)) = option_map (λ groups. groups.items) c.in-Ok-groups.found in
     let puts = subst (λ (o : Option (List (List ℕ))). Puts (g.K.Sink.shown c.args.out.now) (g.K.Sink.shown c.write_groups.new.out) (groups_text board o) c.write_groups.result) c.lent.ensures c.write_groups.ensures in
-    text_judged (OnBoard grouping c.args.text.items board) (λ found. grouping_text (board, found)) (FindsGroups c.args.text.items board) found
+    text_judged (OnBoard grouping c.args.text board) (λ found. grouping_text (board, found)) (FindsGroups c.args.text board) found
     (record { contents = rows; holds = read; finds = c.in-Ok-groups.ensures.found }) _ _ _ (c.answer_by.ensures _ _ _ puts)
     (record {
       means = c.test_means.ensures (walk_row_list board);

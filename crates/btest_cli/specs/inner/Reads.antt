@@ -1,0 +1,79 @@
+-- Texts that are read one after the other.
+use Rattle.std.specs.Prelude.{◌≡◌, ℕ, ◌≤◌, List, [], ◌∷◌, ◌++◌, Some, Result, Ok, Err}
+use Rattle.bt_base.specs.Counts.{Rose}
+use Rattle.command_line.specs.Words.{Text, Command}
+use Rattle.commands.specs.Requests.{request_of}
+use Rattle.commands.specs.declared.request.Request.{Request}
+use Rattle.commands.specs.declared.request.Request.TheVariants.{Make, Diagnose, Batch}
+use Rattle.commands.specs.declared.texts.BoardTexts.{BoardTexts}
+use Rattle.commands.specs.declared.texts.ChainTexts.{ChainTexts}
+use Rattle.commands.specs.declared.texts.LogTexts.{LogTexts}
+use Rattle.btest_cli.specs.declared.failure.Unread.{Unread}
+use Rattle.btest_cli.specs.declared.failure.Unread.TheVariants as unread
+use Rattle.btest_cli.specs.Texts.{Held, Wanted, Reading, Read, TooLong, Asks, IsRead, IsReadUpTo, names_in}
+use Rattle.btest_cli.specs.inner.Failures.{wanted_view}
+
+-- a reading, behind texts that were read before
+abbrev pub behind : List Text → Reading → Reading
+behind front (Read texts) = Read (front ++ texts)
+behind front (TooLong wanted) = TooLong wanted
+
+-- these texts were read of what is wanted: what reading more gives stands behind them
+abbrev pub Continues : Held → List Wanted → List Text → Type 0
+Continues held wanted front = (rest : List Wanted) (reading : Reading) → IsRead held rest reading → IsRead held (wanted ++ rest) (behind front reading)
+
+-- some first texts were asked for
+pub record AsksFirst (wanted : List Wanted) (asked asked' : List Text) : Type 0 where
+  pub first : List Text
+  pub others : List Text
+  pub are : names_in wanted ≡ first ++ others
+  pub asks : Asks asked asked' first
+
+-- what was read, as which these texts stand
+pub record IsReadOf {A : Type 0} (Of : A → List Text → Type 0) (wanted : List Wanted) (held : Held) (asked asked' : List Text) (value : A) : Type 0 where
+  pub texts : List Text
+  pub stands : Of value texts
+  pub continues : Continues held wanted texts
+  pub asks : Asks asked asked' (names_in wanted)
+
+-- why texts were not all read, whatever is wanted behind them, and which were asked for
+abbrev pub IsUnread : List Wanted → Held → (Text → ℕ) → (Text → ℕ) → List Text → List Text → Unread → Type 0
+IsUnread wanted held before now asked asked' (unread.TooLong last) = ((rest : List Wanted) → IsRead held (wanted ++ rest) (TooLong (wanted_view last))) × IsReadUpTo held wanted (wanted_view last) asked asked'
+IsUnread wanted held before now asked asked' (unread.Failed last) = IsReadUpTo held wanted (wanted_view last) asked asked' × Rose (before last.name.now) (now last.name.now)
+IsUnread wanted held before now asked asked' unread.Memory = AsksFirst wanted asked asked'
+
+abbrev pub TellsRead : {A : Type 0} → (A → List Text → Type 0) → List Wanted → Held → (Text → ℕ) → (Text → ℕ) → List Text → List Text → Result A Unread → Type 0
+TellsRead Of wanted held before now asked asked' (Ok value) = IsReadOf Of wanted held asked asked' value
+TellsRead Of wanted held before now asked asked' (Err lost) = IsUnread wanted held before now asked asked' lost
+
+-- what reading texts one after the other tells, and what it leaves of what a store holds, of its counts and of what it was asked for
+pub record Reads {A : Type 0} (Of : A → List Text → Type 0) (wanted : List Wanted) (held held' : Held) (before now : Text → ℕ) (asked asked' : List Text) (result : Result A Unread) : Type 0 where
+  pub same : held' ≡ held
+  pub later : (name : Text) → before name ≤ now name
+  pub told : TellsRead Of wanted held before now asked asked' result
+
+-- the number of a request is in its range: a board that is to be made has 1 to 255 parts, and diagnoses have 1 to 64 workers
+abbrev pub IsNumbered : Request → Type 0
+IsNumbered (Make parts) = (1 ≤ parts) × (parts ≤ 255)
+IsNumbered (Diagnose workers texts) = (1 ≤ workers) × (workers ≤ 64)
+IsNumbered (Batch workers texts) = (1 ≤ workers) × (workers ≤ 64)
+IsNumbered other = Unit {0}
+
+-- what was read, as its texts in order
+abbrev pub IsOne : Text → List Text → Type 0
+IsOne text texts = texts ≡ text ∷ []
+
+abbrev pub AreAll : List Text → List Text → Type 0
+AreAll all texts = texts ≡ all
+
+abbrev pub OfChain : ChainTexts → List Text → Type 0
+OfChain chain texts = texts ≡ chain.chain ∷ chain.bsdl
+
+abbrev pub OfBoard : BoardTexts → List Text → Type 0
+OfBoard board texts = texts ≡ board.chain ∷ board.nets ∷ board.bsdl
+
+abbrev pub OfLog : LogTexts → List Text → Type 0
+OfLog log texts = texts ≡ log.log ∷ log.board.chain ∷ log.board.nets ∷ log.board.bsdl
+
+abbrev pub OfRequest : Command → Request → List Text → Type 0
+OfRequest command request texts = request_of command texts ≡ Some request

@@ -1,0 +1,106 @@
+// Reading the texts of a command, by what they hold.
+ghost use Rattle.std.specs.Prelude.{◌≡◌, ◌<◌, ◌≤◌, ◌^◌, ◌∷◌, length, map};
+ghost use Rattle.command_line.specs.Words.{board_names, chain_names, names_of};
+ghost use Rattle.command_line.specs.CommandView.{board_view, chain_view, command_view};
+ghost use Rattle.btest_cli.specs.Texts.{log_called, text_called, wanted_of};
+ghost use Rattle.btest_cli.specs.inner.Reads.{OfBoard, OfChain, OfLog, OfRequest, Reads};
+
+use crate::failure::Unread;
+use crate::texts::{read_log, read_text, read_texts};
+use bt_base::Store;
+use command_line::{BoardNames, ChainNames, Command};
+use commands::{BoardTexts, ChainTexts, LogTexts, Request};
+use std::alloc::Global;
+
+/// Reads the texts of a command, in the order of their names.
+pub fn read_request<'a, S: Store>(
+    alloc: Global,
+    command: Command<'a>,
+    store: &mut S,
+) -> Result<Request, Unread<'a>>
+    requires { length (names_of (command_view command)) ≤ 258 }
+    ensures { Reads (OfRequest (command_view command.entry)) (wanted_of (command_view command.entry)) (S.held store.old) (S.held store.new) (S.faults store.old) (S.faults store.new) (S.asked store.old) (S.asked store.new) result }
+{
+    match command {
+        Command::Chain(names) => read_chain(alloc, names, store).map(Request::Chain),
+        Command::Ident(names) => read_chain(alloc, names, store).map(Request::Ident),
+        Command::Device { bsdl } => read_text(alloc, bsdl, store).map(Request::Device),
+        Command::Cover(names) => read_board(alloc, names, store).map(Request::Cover),
+        Command::Svf(names) => read_board(alloc, names, store).map(Request::Svf),
+        Command::Walk(names) => read_board(alloc, names, store).map(Request::Walk),
+        Command::Make(parts) => Ok(Request::Make(parts)),
+        Command::Diagnose {
+            workers,
+            log,
+            board,
+        } => read_logs(alloc, log, board, store).map(|texts| Request::Diagnose { workers, texts }),
+        Command::Groups { log, board } => read_logs(alloc, log, board, store).map(Request::Groups),
+        Command::Batch {
+            workers,
+            log,
+            board,
+        } => read_logs(alloc, log, board, store).map(|texts| Request::Batch { workers, texts }),
+    }
+}
+
+// Reads the texts of a chain.
+fn read_chain<'a, S: Store>(
+    alloc: Global,
+    names: ChainNames<'a>,
+    store: &mut S,
+) -> Result<ChainTexts, Unread<'a>>
+    requires { length names.bsdl.now < 2 ^ 32 }
+    ensures { Reads OfChain (map text_called (chain_names (chain_view names.entry))) (S.held store.old) (S.held store.new) (S.faults store.old) (S.faults store.new) (S.asked store.old) (S.asked store.new) result }
+{
+    let chain = match read_text(alloc, names.chain, store) {
+        Ok(chain) => chain,
+        Err(failure) => return Err(failure),
+    };
+    match read_texts(alloc, names.bsdl, store) {
+        Ok(bsdl) => Ok(ChainTexts { chain, bsdl }),
+        Err(failure) => Err(failure),
+    }
+}
+
+// Reads the texts of a board.
+fn read_board<'a, S: Store>(
+    alloc: Global,
+    names: BoardNames<'a>,
+    store: &mut S,
+) -> Result<BoardTexts, Unread<'a>>
+    requires { length names.bsdl.now < 2 ^ 32 }
+    ensures { Reads OfBoard (map text_called (board_names (board_view names.entry))) (S.held store.old) (S.held store.new) (S.faults store.old) (S.faults store.new) (S.asked store.old) (S.asked store.new) result }
+{
+    let chain = match read_text(alloc, names.chain, store) {
+        Ok(chain) => chain,
+        Err(failure) => return Err(failure),
+    };
+    let nets = match read_text(alloc, names.nets, store) {
+        Ok(nets) => nets,
+        Err(failure) => return Err(failure),
+    };
+    match read_texts(alloc, names.bsdl, store) {
+        Ok(bsdl) => Ok(BoardTexts { chain, nets, bsdl }),
+        Err(failure) => Err(failure),
+    }
+}
+
+// Reads a text of logs, and then the texts of the board that they are of.
+fn read_logs<'a, S: Store>(
+    alloc: Global,
+    log: &'a str,
+    names: BoardNames<'a>,
+    store: &mut S,
+) -> Result<LogTexts, Unread<'a>>
+    requires { length names.bsdl.now < 2 ^ 32 }
+    ensures { Reads OfLog (log_called log.entry.now ∷ map text_called (board_names (board_view names.entry))) (S.held store.old) (S.held store.new) (S.faults store.old) (S.faults store.new) (S.asked store.old) (S.asked store.new) result }
+{
+    let log = match read_log(alloc, log, store) {
+        Ok(log) => log,
+        Err(failure) => return Err(failure),
+    };
+    match read_board(alloc, names, store) {
+        Ok(board) => Ok(LogTexts { log, board }),
+        Err(failure) => Err(failure),
+    }
+}
