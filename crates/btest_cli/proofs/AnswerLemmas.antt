@@ -1,5 +1,5 @@
 -- The answer to a request, as what the run says of it.
-use Rattle.std.proofs.Common.{List, Result, Ok, Err, refl, inl, inr}
+use Rattle.std.proofs.Common.{Result, Ok, Err, refl, inl, inr}
 use Rattle.bt_base.specs.Puts.{Shown}
 use Rattle.btest_core.specs.declared.fault.InputFault.{InputFault}
 use Rattle.command_line.specs.Words.{Text}

@@ -1,5 +1,5 @@
 -- A command with its texts.
-use Rattle.std.proofs.Common.{◌≡◌, ◌≤◌, ℕ, suc, List, [], ◌∷◌, length, Option, Some, None, refl, sym, subst, arith}
+use Rattle.std.proofs.Common.{◌≡◌, ℕ, List, [], ◌∷◌, length, Option, Some, None, refl, subst, arith}
 use Rattle.command_line.specs.Words.{Text, BoardNames, ChainNames, Command, Chain, Ident, Device, Cover, Svf, Walk, Make, Diagnose, Groups, Batch, HasNumber, names_of}
 use Rattle.commands.specs.Requests.{board_texts, chain_texts, log_texts, request_of}
 use Rattle.commands.specs.declared.request.Request.{Request}

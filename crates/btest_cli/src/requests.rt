@@ -1,5 +1,5 @@
 // Reading the texts of a command, by what they hold.
-ghost use Rattle.std.specs.Prelude.{◌≡◌, ◌<◌, ◌≤◌, ◌^◌, ◌∷◌, length, map};
+ghost use Rattle.std.specs.Prelude.{◌<◌, ◌≤◌, ◌^◌, ◌∷◌, length, map};
 ghost use Rattle.command_line.specs.Words.{board_names, chain_names, names_of};
 ghost use Rattle.command_line.specs.CommandView.{board_view, chain_view, command_view};
 ghost use Rattle.btest_cli.specs.Texts.{log_called, text_called, wanted_of};

@@ -1,4 +1,4 @@
-use Rattle.std.proofs.Common.{List, [], ◌∷◌, ◌++◌, ◌∙◌, ap, subst}
+use Rattle.std.proofs.Common.{List, ◌∷◌, ◌++◌, ◌∙◌, ap, subst}
 use Rattle.command_line.specs.Words.{Text}
 use Rattle.btest_cli.specs.inner.Reads.{AreAll, IsOne, OfBoard, Reads}
 use Rattle.btest_cli.proofs.ReadingLemmas.{lost_first, lost_then, read_then, read_two}
