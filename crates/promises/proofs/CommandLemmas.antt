@@ -119,7 +119,7 @@ module _ (run : Run) (is : IsRun run) (one : SayOne) where
       (responses board told.means told.respond, told.pass, told.faults, diagnosed board rows told.pass told.faults right, told.is))
     where
       read : test_log log board ≡ Ok rows
-      read = lines.test chain nets bsdl board log rows denotes holds
+      read = (lines.test chain nets bsdl board log rows denotes).1 holds
 
       sound : {line : Text} → Gives (Diagnose workers name names) (log ∷ chain ∷ nets ∷ bsdl) (Err line) → ⊥
       sound (inl (fault, found, e)) = not_both (one.board chain nets bsdl (Ok board) (Err fault) denotes found)
@@ -146,7 +146,7 @@ module _ (run : Run) (is : IsRun run) (one : SayOne) where
       ))
     where
       read : test_blocks logs board ≡ Ok blocks
-      read = lines.blocks chain nets bsdl board logs blocks denotes holds
+      read = (lines.blocks chain nets bsdl board logs blocks denotes).1 holds
 
       sound : {line : Text} → Gives (Batch workers name names) (logs ∷ chain ∷ nets ∷ bsdl) (Err line) → ⊥
       sound (inl (fault, found, e)) = not_both (one.board chain nets bsdl (Ok board) (Err fault) denotes found)
@@ -167,7 +167,7 @@ module _ (run : Run) (is : IsRun run) (one : SayOne) where
       ))
     where
       read : walk_log log board ≡ Ok rows
-      read = lines.walk chain nets bsdl board log rows denotes holds
+      read = (lines.walk chain nets bsdl board log rows denotes).1 holds
 
       sound : {line : Text} → Gives (Groups name names) (log ∷ chain ∷ nets ∷ bsdl) (Err line) → ⊥
       sound (inl (fault, found, e)) = not_both (one.board chain nets bsdl (Ok board) (Err fault) denotes found)

@@ -1,7 +1,9 @@
 pub mod WordLemmas
 mod SampleWords
+mod SampleLogs
 pub mod ReadLemmas
 pub mod GiveLemmas
+pub mod RowLemmas
 pub mod LogLemmas
 pub mod RunLemmas
 pub mod CommandLemmas

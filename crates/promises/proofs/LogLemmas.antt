@@ -1,4 +1,4 @@
--- Logs are read by their lines.
+-- A text is read as a log or a batch exactly where it holds that by its lines.
 use Rattle.std.proofs.Common.{◌≡◌, ◌↔◌, ℕ, ◌*◌, Bool, List, [], ◌∷◌, length, Ok}
 use Rattle.std.specs.Prelude.{All, count_by}
 use Rattle.board_defs.specs.declared.board.Ctl.{Ctl}
@@ -9,17 +9,18 @@ use Rattle.board_defs.specs.Pins.{data_bits}
 use Rattle.tap_defs.specs.board.TestRows.{code_row, code_width, observed_count}
 use Rattle.tap_defs.specs.board.BoardScans.{RowScan, board_scans, is_walked, row_scans, svf_row_scans, walk_row, walk_row_scans}
 use Rattle.tap_defs.specs.board.Explaining.{CompareRows, HasShape, compared_scans, is_compared}
-use Rattle.response_log.specs.LogRows.{IsLogOf, log_rows}
+use Rattle.response_log.specs.LogRows.{HasSize, IsLogOf, log_rows, row_lines}
 use Rattle.batch_diag.specs.declared.block.Block.{Block}
-use Rattle.batch_diag.specs.OwnTexts.{BlockText, BlocksByThemselves, HoldsBlock as HoldsLogRows, own_text}
+use Rattle.batch_diag.specs.OwnTexts.{BlockText, BlocksByThemselves, HoldsBlock as HoldsLogRows, HoldsBlocks as HoldsBlockLogs, own_text}
 use Rattle.batch_diag.specs.Verdicts.{EachPair}
 use Rattle.walk_test.specs.WalkTest.{walk_row_list}
 use Rattle.btest_core.specs.BoardRead.{Denotes}
-use Rattle.commands.specs.LogRead.{test_log, test_rows, walk_log}
-use Rattle.commands.proofs.ShapeLemmas.{walk_sized}
+use Rattle.commands.specs.LogRead.{test_log, test_rows, walk_log, walk_rows}
+use Rattle.commands.proofs.ShapeLemmas.{walk_shaped, walk_sized}
 use Rattle.command_line.specs.Words.{Text}
-use Rattle.promises.specs.Logs.{HoldsBlock, HoldsLog}
+use Rattle.promises.specs.Logs.{HoldsBlock, HoldsBlocks, HoldsLog}
 use Rattle.promises.specs.inner.Facts.{LinesAreRead}
+use Rattle.promises.proofs.RowLemmas.{rows_many}
 
 module _ (are_lines : (text : List ℕ) (rows len : ℕ) (log : List (List Bool)) → (log_rows text rows len ≡ Ok log) ↔ IsLogOf text rows len log) (by_themselves : BlocksByThemselves)
     (rules_of : (chain nets : Text) (texts : List Text) (board : RawBoard) → Denotes chain nets texts board → IsBoard board) (kept : (board : RawBoard) → IsBoard board → ArePasses board (passes_of board))
@@ -47,11 +48,46 @@ module _ (are_lines : (text : List ℕ) (rows len : ℕ) (log : List (List Bool)
   read_each board rules (text ∷ texts) (block ∷ blocks) (holds, each) =
       (record { words = holds.title; id = holds.id; log = read_test board rules (own_text text) block.log holds.log }, read_each board rules texts blocks each)
 
+  blocks_read : (board : RawBoard) → IsBoard board → (logs : Text) (blocks : List Block) → HoldsBlocks board logs blocks → HoldsBlockLogs logs (test_rows board) (data_bits board) blocks
+  blocks_read board rules logs blocks holds = record { front = holds.front; texts = holds.texts; cut = holds.cut; each = read_each board rules holds.texts blocks holds.each }
+
+  -- And the other way round: a text that is read holds what is read, of the size that was wanted.
+
+  is_held : (board : RawBoard) (scans : List RowScan) (count : ℕ) (log : Text) (rows : List (List Bool)) → log_rows log count (data_bits board) ≡ Ok rows → (HasSize count (data_bits board) rows → HasShape board scans rows) → HoldsLog board scans log rows
+  is_held board scans count log rows read shaped =
+      let is = (are_lines log count (data_bits board) rows).0 read in
+      record { lines = is.lines; shape = shaped (record { rows = is.count; bits = rows_many (data_bits board) (row_lines log) rows is.lines }) }
+
+  test_shaped : (board : RawBoard) → IsBoard board → (rows : List (List Bool)) → HasSize (test_rows board) (data_bits board) rows → HasShape board (svf_row_scans board) rows
+  test_shaped board rules rows size = (shape board (passes_of board) (code_width (observed_count board (passes_of board))) rows rules (kept board rules)).1 (size.rows, size.bits)
+
+  held_test : (board : RawBoard) → IsBoard board → (log : Text) (rows : List (List Bool)) → test_log log board ≡ Ok rows → HoldsLog board (svf_row_scans board) log rows
+  held_test board rules log rows read = is_held board (svf_row_scans board) (test_rows board) log rows read (test_shaped board rules rows)
+
+  held_walk : (board : RawBoard) → IsBoard board → (log : Text) (rows : List (List Bool)) → walk_log log board ≡ Ok rows → HoldsLog board (walk_row_list board) log rows
+  held_walk board rules log rows read =
+      is_held board (walk_row_list board) (walk_rows board) log rows read (walk_shaped board (λ walk. compare board walk rules) (counted board) rows)
+
+  held_each : (board : RawBoard) → IsBoard board → (texts : List BlockText) (blocks : List Block) → EachPair (HoldsLogRows (test_rows board) (data_bits board)) texts blocks → EachPair (HoldsBlock board) texts blocks
+  held_each board rules [] [] each = tt
+  held_each board rules [] (block ∷ blocks) each = absurd each
+  held_each board rules (text ∷ texts) [] each = absurd each
+  held_each board rules (text ∷ texts) (block ∷ blocks) (holds, each) =
+      (record { title = holds.words; id = holds.id; log = held_test board rules (own_text text) block.log holds.log }, held_each board rules texts blocks each)
+
+  blocks_held : (board : RawBoard) → IsBoard board → (logs : Text) (blocks : List Block) → HoldsBlockLogs logs (test_rows board) (data_bits board) blocks → HoldsBlocks board logs blocks
+  blocks_held board rules logs blocks holds = record { front = holds.front; texts = holds.texts; cut = holds.cut; each = held_each board rules holds.texts blocks holds.each }
+
   pub lines_read : LinesAreRead
   lines_read = record {
-    test = λ chain nets texts board log rows denotes holds. read_test board (rules_of chain nets texts board denotes) log rows holds;
-    walk = λ chain nets texts board log rows denotes holds. read_walk board (rules_of chain nets texts board denotes) log rows holds;
-    blocks = λ chain nets texts board logs blocks denotes holds.
-        (by_themselves logs (test_rows board) (data_bits board) blocks).1
-        (record { front = holds.front; texts = holds.texts; cut = holds.cut; each = read_each board (rules_of chain nets texts board denotes) holds.texts blocks holds.each });
+    test = λ chain nets texts board log rows denotes.
+        let rules = rules_of chain nets texts board denotes in
+        (held_test board rules log rows, read_test board rules log rows);
+    walk = λ chain nets texts board log rows denotes.
+        let rules = rules_of chain nets texts board denotes in
+        (held_walk board rules log rows, read_walk board rules log rows);
+    blocks = λ chain nets texts board logs blocks denotes.
+        let rules = rules_of chain nets texts board denotes in
+        let own = by_themselves logs (test_rows board) (data_bits board) blocks in
+        (λ read. blocks_held board rules logs blocks (own.0 read), λ holds. own.1 (blocks_read board rules logs blocks holds));
   }

@@ -1,7 +1,6 @@
 -- What each status but Done tells, from the clauses of `run`.
 use Rattle.std.proofs.Common.{◌≡◌, ◌≢◌, ◌⊎◌, ◌∙◌, ℕ, List, [], ◌∷◌, ◌++◌, map, Option, Some, None, Result, Ok, Err, refl, sym, subst, inl, inr}
 use Rattle.std.specs.Prelude.{take}
-use Rattle.bt_base.specs.Counts.{Rose}
 use Rattle.command_line.specs.Words.{Text, Command, command_of, names_of}
 use Rattle.refusal_lines.specs.Refusals.{usage_line, long_line, read_line, write_line, memory_line}
 use Rattle.btest_cli.specs.declared.status.Status.{Status}
@@ -18,7 +17,7 @@ use Rattle.promises.specs.inner.Facts.{IsRun, SayOne, notes_of}
 use Rattle.promises.proofs.WordLemmas.{asks_for, no_command, none_asked}
 use Rattle.promises.proofs.ReadLemmas.{Tells, files_are, long_cut, read_holds, read_long, reads_long}
 use Rattle.promises.proofs.GiveLemmas.{gives_is, is_gives}
-use Rattle.promises.proofs.RunLemmas.{cut_here, done_here, ends_refused, here, known, none_rose, not_cut, not_done, noted, nothing_put, out_taken, refused_here, settled, texts_are}
+use Rattle.promises.proofs.RunLemmas.{cut_here, done_here, ends_refused, here, known, none_rose, not_cut, not_done, noted, nothing_put, out_taken, refused_here, texts_are}
 
 -- at a status that is neither Done nor WriteFault the output took nothing
 untouched : (run : Run) → IsRun run → (status : Status) → run.status ≡ status → status ≢ Done → status ≢ WriteFault → PutsNothing run
@@ -70,24 +69,37 @@ tells_long run is one command file asks long =
         let cut = long_cut run.old.held long.before asked.before long.after asked.after file long.texts asked.found long.text long.holds long.long long.each asked.read (sym wanted ∙ asked.are) in
         (subst (λ (l : List Wanted). AsksFor run (map (λ f. f.name) l ++ file.name ∷ [])) cut asked.asked, subst (λ (t : Text). Notes run t) line_is (noted run told.line told.noted))
 
-pub tells_unread : (run : Run) → IsRun run → TellsUnread run
-tells_unread run is e = (untouched run is ReadFault e (λ d. cc) (λ w. cc), λ command asks. unread command asks)
+-- the words ask for a command where the status is neither Usage nor NoMemory
+some_asked : (run : Run) → IsRun run → (status : Status) → run.status ≡ status → status ≢ Usage → status ≢ NoMemory → (command : Command) × Asks run command
+some_asked run is status e not_usage not_memory = by_command (command_of run.words) refl
   where
-    unread : (command : Command) → Asks run command → (before after : List Wanted) × (file : Wanted) × (files_of command ≡ before ++ file ∷ after)
-        × Rose (run.old.unread file.name) (run.new.unread file.name) × AsksFor run (map (λ f. f.name) before ++ file.name ∷ []) × Notes run (read_line file.name)
-        × ((held : Text → Option Text) → run.old.held ≡ Some held → (texts : List Text) × HoldsEach run.old.held before texts)
-    unread command asks =
-        let told = here run is command asks (λ c. IsNotRead run.old.held c run.old.unread run.new.unread run.old.asked run.new.asked (notes_of run.old) (notes_of run.new)) (is.read e) in
-        let up_to = told.asks in (
-          up_to.before,
-          up_to.after,
-          told.last,
-          files_are command ∙ up_to.are,
-          told.rose,
-          up_to.asked,
-          noted run (read_line told.last.name) told.noted,
-          λ held tells. (up_to.found, read_holds run.old.held (held, tells) up_to.before up_to.found up_to.read),
-        )
+    by_end : (run.status ≡ Usage) ⊎ (run.status ≡ NoMemory) → ⊥
+    by_end (inl usage) = not_usage (sym e ∙ usage)
+    by_end (inr memory) = not_memory (sym e ∙ memory)
+
+    by_command : (o : Option Command) → command_of run.words ≡ o → (command : Command) × Asks run command
+    by_command None none = absurd (by_end (is.words none))
+    by_command (Some command) some = (command, asks_for run command some)
+
+unread_of : (run : Run) → IsRun run → (command : Command) → Asks run command → TellsUnread run
+unread_of run is command asks e =
+    let told = here run is command asks (λ c. IsNotRead run.old.held c run.old.unread run.new.unread run.old.asked run.new.asked (notes_of run.old) (notes_of run.new)) (is.read e) in
+    let up_to = told.asks in (
+      untouched run is ReadFault e (λ d. cc) (λ w. cc),
+      command,
+      asks,
+      up_to.before,
+      up_to.after,
+      told.last,
+      files_are command ∙ up_to.are,
+      told.rose,
+      up_to.asked,
+      noted run (read_line told.last.name) told.noted,
+      λ held tells. (up_to.found, read_holds run.old.held (held, tells) up_to.before up_to.found up_to.read),
+    )
+
+pub tells_unread : (run : Run) → IsRun run → TellsUnread run
+tells_unread run is e = let asked = some_asked run is ReadFault e (λ u. cc) (λ m. cc) in unread_of run is asked.0 asked.1 e
 
 pub tells_unwritten : (run : Run) → IsRun run → TellsUnwritten run
 tells_unwritten run is e = (is.write e, noted run write_line (is.write_noted e), λ command texts on. unwritten command texts on.0 on.1)
@@ -105,18 +117,6 @@ tells_memory run is e = (
   noted run memory_line (is.memory_noted e),
   λ command asks. here run is command asks (λ c. AsksSome c run.old.asked run.new.asked) (is.memory_asks e),
 )
-
--- the words ask for a command where the status is neither Usage nor NoMemory
-some_asked : (run : Run) → IsRun run → (status : Status) → run.status ≡ status → status ≢ Usage → status ≢ NoMemory → (command : Command) × Asks run command
-some_asked run is status e not_usage not_memory = by_command (command_of run.words) refl
-  where
-    by_end : (run.status ≡ Usage) ⊎ (run.status ≡ NoMemory) → ⊥
-    by_end (inl usage) = not_usage (sym e ∙ usage)
-    by_end (inr memory) = not_memory (sym e ∙ memory)
-
-    by_command : (o : Option Command) → command_of run.words ≡ o → (command : Command) × Asks run command
-    by_command None none = absurd (by_end (is.words none))
-    by_command (Some command) some = (command, asks_for run command some)
 
 -- what each of these three statuses tells of the files
 module _ (run : Run) (is : IsRun run) (tells : Tells run.old.held) where
@@ -152,8 +152,8 @@ module _ (run : Run) (is : IsRun run) (tells : Tells run.old.held) where
           let told = refused_here run is asked.0 asked.1 e in
           (asked.0, asked.1, told.line, give_line asked.0 told.reading told.line told.read told.gives, noted run told.line told.noted)
 
-  pub finds_outcome : FindsOutcome run
-  finds_outcome = (λ command asks calm memory. by_status command asks calm memory run.status refl, λ command texts on calm. held command texts on.0 on.1 calm)
+  pub finds_outcome : SayOne → FindsOutcome run
+  finds_outcome one = (λ command asks calm memory. by_status command asks calm memory run.status refl, λ command texts on. held command texts on.0 on.1)
     where
       by_status : (command : Command) → Asks run command → NoReadFailed run command → run.status ≢ NoMemory → (status : Status) → run.status ≡ status → (outcome : Result Text Text) × FilesGive run command outcome
       by_status command asks calm memory Done e = let told = done_here run is command asks e in (Ok told.text, give_text command told.request told.text told.read told.gives)
@@ -165,7 +165,7 @@ module _ (run : Run) (is : IsRun run) (tells : Tells run.old.held) where
       by_status command asks calm memory WriteFault e = let told = cut_here run is command asks e in (Ok told.text, give_text command told.request told.text told.read told.gives)
       by_status command asks calm memory NoMemory e = absurd (memory e)
 
-      held : (command : Command) (texts : List Text) → Asks run command → HoldsEach run.old.held (files_of command) texts → NoReadFailed run command → (outcome : Result Text Text) × Gives command texts outcome
-      held command texts asks each calm =
-          let told = settled run is command asks (Read texts) (known run is command asks texts each) calm in
+      held : (command : Command) (texts : List Text) → Asks run command → HoldsEach run.old.held (files_of command) texts → (outcome : Result Text Text) × Gives command texts outcome
+      held command texts asks each =
+          let told = one.some_outcome command run.old.held (Read texts) (known run is command asks texts each) in
           (told.0, is_gives command texts told.0 told.1)

@@ -174,20 +174,20 @@ RestsOnFiles run =
     × (run.status ≡ Refused → (command : Command) × Asks run command × (line : Text) × FilesGive run command (Err line) × Notes run line)
 
 -- where the words ask for a command and no read of its files failed, its files give a text or a line, unless memory ran out; and texts that
--- the store holds give one or the other
+-- the store holds for them give one or the other, however the run ends
 abbrev pub FindsOutcome : Run → Type 0
 FindsOutcome run =
     ((command : Command) → Asks run command → NoReadFailed run command → run.status ≢ NoMemory → (outcome : Result Text Text) × FilesGive run command outcome)
-    × ((command : Command) (texts : List Text) → RunsOn run command texts → NoReadFailed run command → (outcome : Result Text Text) × Gives command texts outcome)
+    × ((command : Command) (texts : List Text) → RunsOn run command texts → (outcome : Result Text Text) × Gives command texts outcome)
 
--- ReadFault comes only where a read of a file failed. It is named, those before it were asked for and none behind it, and a store that tells
--- its files holds those before it
+-- ReadFault comes only where the words ask for a command and a read of one of its files failed. It is named, those before it were asked for
+-- and none behind it, and a store that tells its files holds those before it
 abbrev pub TellsUnread : Run → Type 0
 TellsUnread run =
     run.status ≡ ReadFault → PutsNothing run
-    × ((command : Command) → Asks run command → (before after : List Wanted) × (file : Wanted) × (files_of command ≡ before ++ file ∷ after)
+    × (command : Command) × Asks run command × (before after : List Wanted) × (file : Wanted) × (files_of command ≡ before ++ file ∷ after)
     × Rose (run.old.unread file.name) (run.new.unread file.name) × AsksFor run (map (λ f. f.name) before ++ file.name ∷ []) × Notes run (read_line file.name)
-    × ((held : Text → Option Text) → run.old.held ≡ Some held → (texts : List Text) × HoldsEach run.old.held before texts))
+    × ((held : Text → Option Text) → run.old.held ≡ Some held → (texts : List Text) × HoldsEach run.old.held before texts)
 
 -- WriteFault comes only where a write of the output failed, and the output took some first bytes of the text
 abbrev pub TellsUnwritten : Run → Type 0

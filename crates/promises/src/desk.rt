@@ -64,7 +64,7 @@ pub(crate) fn run_on<R: Threads + Sync, S: Store, G: Gate>(
     run(rt, alloc, words, store, out, notes, gate)
 }
 
-/// Logs are read by their lines.
+/// Logs are read by their lines, and a text that is read as one holds it by its lines.
 pub(crate) fn lines_are_read()
     ensures { LinesAreRead }
 {

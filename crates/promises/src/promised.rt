@@ -122,8 +122,9 @@ impl Desk {
         self.run(rt, words, gate)
     }
 
-    /// A text is printed only where the words ask for a command whose files give it, and a line told only where they give
-    /// that; and files that were read give one or the other.
+    /// A text is printed only where the words ask for a command whose files give it, and Refused comes only where they give
+    /// the line that it tells; of the lines of other statuses this says nothing. Files that were read or that the store
+    /// holds give one or the other.
     pub fn outcome<R: Threads + Sync, G: Gate>(
         &mut self,
         rt: &R,

@@ -1,5 +1,5 @@
 -- The clauses of `run` as one fact on a run, and the laws that texts give one thing and that logs are read by their lines.
-use Rattle.std.specs.Prelude.{◌≡◌, ◌≢◌, ◌⊎◌, ℕ, Bool, List, Some, None, Result, Ok, IfSome}
+use Rattle.std.specs.Prelude.{◌≡◌, ◌≢◌, ◌⊎◌, ◌↔◌, ℕ, Bool, List, Some, None, Result, Ok, IfSome}
 use Rattle.bt_base.specs.Counts.{Rose}
 use Rattle.bt_base.specs.Puts.{Shown}
 use Rattle.board_defs.specs.declared.board.RawBoard.{RawBoard}
@@ -14,7 +14,7 @@ use Rattle.btest_core.specs.IdentsRead.{Ident, AreIdents}
 use Rattle.refusal_lines.specs.Refusals.{usage_line, write_line, memory_line}
 use Rattle.commands.specs.LogRead.{test_blocks, test_log, walk_log}
 use Rattle.command_line.specs.Words.{Text, Command, command_of, names_of}
-use Rattle.btest_cli.specs.Texts.{Reading}
+use Rattle.btest_cli.specs.Texts.{Held, Reading, known_reading, wanted_of}
 use Rattle.btest_cli.specs.Outcome.{AsksSome, IsComplete, IsCutShort, IsDone, IsNotRead, IsOutcome, IsRefused, SomeRose, TookOrCut}
 use Rattle.btest_cli.specs.declared.status.Status.TheVariants.{Done, Refused, Usage, ReadFault, WriteFault, NoMemory}
 use Rattle.promises.specs.Runs.{Ends, Run}
@@ -50,16 +50,19 @@ pub record IsRun (run : Run) : Type 0 where
   pub memory_asks : run.status ≡ NoMemory → Commanded run (λ c. AsksSome c run.old.asked run.new.asked)
   pub complete : Commanded run (λ c. IsComplete run.old.held c (SomeRose run.old.unread run.new.unread (names_of c)) (Rose run.old.unwritten run.new.unwritten) run.status)
 
--- texts say one thing: of a device, of a chain, of its identification codes, and of a board; and what was read gives one outcome
+-- texts say one thing: of a device, of a chain, of its identification codes, and of a board; and what was read gives an outcome, and no
+-- second one
 pub record SayOne : Type 0 where
   pub device : (text : Text) (a b : Result RawDevice InputFault) → IsDeviceText text a → IsDeviceText text b → a ≡ b
   pub chain : (chain : Text) (texts : List Text) (a b : Result (List ℕ) InputFault) → AreChainLengths chain texts a → AreChainLengths chain texts b → a ≡ b
   pub idents : (chain : Text) (texts : List Text) (a b : Result (List Ident) InputFault) → AreIdents chain texts a → AreIdents chain texts b → a ≡ b
   pub board : (chain nets : Text) (texts : List Text) (a b : Result RawBoard InputFault) → IsBoardRead chain nets texts a → IsBoardRead chain nets texts b → a ≡ b
   pub outcome : (command : Command) (reading : Reading) (a b : Result Text Text) → IsOutcome command reading a → IsOutcome command reading b → a ≡ b
+  pub some_outcome : (command : Command) (held : Held) (reading : Reading) → known_reading held (wanted_of command) ≡ Some reading → (outcome : Result Text Text) × IsOutcome command reading outcome
 
--- a text that holds a log of a board's test, one of its walking test or a batch by its lines is read as such
+-- on the board that files denote, a text is read as a log of its test, as one of its walking test or as a batch exactly where it holds that
+-- by its lines
 pub record LinesAreRead : Type 0 where
-  pub test : (chain nets : Text) (texts : List Text) (board : RawBoard) (log : Text) (rows : List (List Bool)) → Denotes chain nets texts board → HoldsLog board (svf_row_scans board) log rows → test_log log board ≡ Ok rows
-  pub walk : (chain nets : Text) (texts : List Text) (board : RawBoard) (log : Text) (rows : List (List Bool)) → Denotes chain nets texts board → HoldsLog board (walk_row_list board) log rows → walk_log log board ≡ Ok rows
-  pub blocks : (chain nets : Text) (texts : List Text) (board : RawBoard) (logs : Text) (blocks : List Block) → Denotes chain nets texts board → HoldsBlocks board logs blocks → test_blocks logs board ≡ Ok blocks
+  pub test : (chain nets : Text) (texts : List Text) (board : RawBoard) (log : Text) (rows : List (List Bool)) → Denotes chain nets texts board → (test_log log board ≡ Ok rows) ↔ HoldsLog board (svf_row_scans board) log rows
+  pub walk : (chain nets : Text) (texts : List Text) (board : RawBoard) (log : Text) (rows : List (List Bool)) → Denotes chain nets texts board → (walk_log log board ≡ Ok rows) ↔ HoldsLog board (walk_row_list board) log rows
+  pub blocks : (chain nets : Text) (texts : List Text) (board : RawBoard) (logs : Text) (blocks : List Block) → Denotes chain nets texts board → (test_blocks logs board ≡ Ok blocks) ↔ HoldsBlocks board logs blocks

@@ -6,4 +6,4 @@ pub returns-clause-only : goal.returns-clause-only
 returns-clause-only g c = rests_on_files _ c.run.ensures.run (_, refl)
 
 pub returns-clause-some : goal.returns-clause-some
-returns-clause-some g c = finds_outcome _ c.run.ensures.run (_, refl)
+returns-clause-some g c = finds_outcome _ c.run.ensures.run (_, refl) c.run.ensures.one
