@@ -246,6 +246,7 @@ SIZES = [
     Size('1,024 nets, walk', ['walk', *RING], partial(ring, 512, 'walk')),
     Size('11,584 nets, groups of a log of 64 MiB', ['groups', 'g', *RING], partial(ring, 5792, 'groups'), '', {'g': LOG}),
     Size('boards in a batch of 64 MiB', ['batch', '4', 'g', *RING], partial(ring, 64, 'batch')),
+    Size('titles alone in a batch of 64 MiB', ['batch', '4', 'g', *boards.BOARD], partial(repeated, 'g', b'', b'BOARD A\n', LOG // 8, b''), 'g board 1: 0 rows of 2'),
     Size('32,766 resistors between two pins', COVER, partial(joined, 32_766)),
 
     Size('1,000,000 parentheses, each in the last', DEVICE, partial(changed, b'end DRV', b'attribute FOO %s;\nend DRV', b'(', 1_000_000)),
