@@ -3,7 +3,7 @@
 
 mod printing;
 
-pub use printing::{begin_line, end_line, print, print_all, print_number, put_line};
+pub use printing::{begin_line, end_line, print, print_all, put_line};
 
 #[cfg(test)]
 mod tests;

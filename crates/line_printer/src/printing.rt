@@ -1,11 +1,10 @@
 // Lines of any length.
-ghost use Rattle.std.specs.Prelude.{◌≡◌, ◌<◌, ℕ, List, [], ◌∷◌, ◌++◌, length, map, decimal, OnOk};
+ghost use Rattle.std.specs.Prelude.{◌≡◌, ◌<◌, ℕ, List, [], ◌∷◌, ◌++◌, length, map, OnOk};
 ghost use Rattle.bt_base.specs.Puts.{Puts};
 ghost use Rattle.line_printer.specs.Prints.{Prints, line_of, whole};
 
 use bt_base::{PutFault, Sink};
 use bt_bits::{Line, MAX_LINE};
-use itoa::Buffer;
 
 // Puts the line if it is full, and leaves it empty then.
 fn make_room<K: Sink>(line: &mut Line, out: &mut K) -> Result<(), PutFault>
@@ -56,14 +55,6 @@ pub fn print_all<K: Sink>(pieces: &[&[u8]], line: &mut Line, out: &mut K) -> Res
         print(piece, line, out)?;
     }
     Ok(())
-}
-
-/// Prints a number in decimal at the end of the line, as `print` does.
-pub fn print_number<K: Sink>(n: u64, line: &mut Line, out: &mut K) -> Result<(), PutFault>
-    ensures { Prints (K.shown out.old) (K.shown out.new) line.old line.new (decimal n) result }
-{
-    let mut number = Buffer::new();
-    print(number.format(n).as_bytes(), line, out)
 }
 
 /// Begins a line with pieces. What the line held is dropped.

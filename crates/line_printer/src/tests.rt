@@ -44,13 +44,13 @@ fn puts_a_line_at_once_or_in_full_pieces(rt: HostRuntime) -> Result<(), Fail> {
 }
 
 #[test]
-fn prints_pieces_and_numbers_to_one_line(rt: HostRuntime) -> Result<(), Fail> {
+fn prints_pieces_to_one_line(rt: HostRuntime) -> Result<(), Fail> {
     let mut line = Line::new(rt.alloc())?;
     line.push(b"dropped");
     let mut out = MemSink::with_room(rt.alloc(), 100)?;
     out.fail_at(2, 0)?;
     assert!(rt; begin_line(&[b"NETS "], &mut line, &mut out).is_ok());
-    assert!(rt; print_number(12, &mut line, &mut out).is_ok());
+    assert!(rt; print(b"12", &mut line, &mut out).is_ok());
     assert!(rt; print(b" COVERED ", &mut line, &mut out).is_ok());
     assert!(rt; print_all(&[b"1", b"0"], &mut line, &mut out).is_ok());
     assert!(rt; end_line(&mut line, &mut out).is_ok());
