@@ -127,9 +127,9 @@ DiagnosesBlocks run =
     Prints run (Batch workers name names) (λ text. HasResponses board × (verdicts : List Verdict)
     × EachPair (λ block verdict. IsDiagnosed board block.log verdict.pass verdict.faults) blocks verdicts × (text ≡ batch_text board blocks verdicts))
 
--- `groups`: of every text that holds a log of the walking test, the text that is printed names the one set of groups of nets that walk of
--- which, shorted so that a 1 wins, every run gives the log's compared bits, or says that there is none. Each set gives some log, and all logs
--- that it gives have the same compared bits
+-- `groups`: of every text that holds a log of the walking test, the text that is printed names the one set of groups of nets that walk with
+-- which, each group shorted so that a 1 wins and nothing else faulty, every run gives the log's compared bits, or says that there is none. Each
+-- set gives some log, and all logs that it gives have the same compared bits
 abbrev pub FindsGroups : Run → Type 0
 FindsGroups run =
     (name : Text) (names : BoardNames) (log chain nets : Text) (bsdl : List Text) (board : RawBoard) (rows : List (List Bool)) →
@@ -153,7 +153,7 @@ TellsFault run =
     (run.status ≡ Refused → AsksFor run (names_of command) × ((line : Text) × Gives command texts (Err line) × Notes run line))
     × ((line : Text) → Gives command texts (Err line) → (run.status ≢ Done) × (run.status ≢ WriteFault) × EndsWith run command Refused))
 
--- so it does where a file is longer than it may be, and no file behind it is asked for
+-- so it does where a file is longer than it may be. Where it is refused, no file behind it was asked for
 abbrev pub TellsLong : Run → Type 0
 TellsLong run =
     (command : Command) (file : Wanted) → Asks run command → (long : IsTooLong run.old.held (files_of command) file) →
