@@ -15,5 +15,7 @@ pub mod SampleStates
 pub mod SampleTexts
 pub mod SampleRun
 pub mod ScanLemmas
+pub mod ScanRowLemmas
+pub mod SampleScanRows
 pub mod StateLemmas
 pub mod TraceLemmas

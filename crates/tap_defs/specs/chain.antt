@@ -1,5 +1,6 @@
 -- The chain: TAP controllers, scans, the meaning of SVF text, the chain test. Nothing here knows of boards.
 pub mod Scan
+pub mod ScanRows
 pub mod Codes
 pub mod Text
 pub mod ChainScans

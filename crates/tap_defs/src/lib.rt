@@ -12,5 +12,5 @@ pub mod chain_law;
 mod scan;
 mod tap;
 
-pub use scan::Shape;
+pub use scan::{ScanRows, Shape, StoredRows};
 pub use tap::TapState;

@@ -1,8 +1,42 @@
-// The kind of a scan.
+// The kind of a scan, and its rows.
+ghost use Rattle.std.specs.Prelude.{List};
+ghost use Rattle.tap_defs.specs.chain.Scan.{ScanBit};
+ghost use Rattle.tap_defs.specs.chain.ScanRows.{AreRowsOf, AreSameRows, HaveRoomFor, HoldBits};
+
+use bt_bits::Row;
 
 /// The kind of a scan: of instructions (SIR) or of data (SDR), and whether some bit of it is compared.
 #[derive(Clone, Copy, Debug, PartialEq, Eq)]
 pub struct Shape {
     pub ir: bool,
     pub compare: bool,
+}
+
+/// The three rows of a scan, stored: what is shifted in, what is expected to come out, and where that is compared.
+#[derive(Drop)]
+pub struct StoredRows {
+    pub tdi: Row,
+    pub tdo: Row,
+    pub mask: Row,
+}
+
+/// The three rows of a scan, lent together, so that what fills them has one thing to fill.
+#[derive(Drop)]
+pub struct ScanRows<'a> {
+    pub tdi: &'a mut Row,
+    pub tdo: &'a mut Row,
+    pub mask: &'a mut Row,
+}
+
+impl ScanRows<'_> {
+    /// Makes the rows those that are stored, for which they have room.
+    pub fn copy_from(&mut self, stored: &StoredRows)
+        requires { HaveRoomFor stored.now self.old }
+        ensures bits { (bits : List ScanBit) → AreRowsOf bits stored.now → HoldBits bits self.new }
+        ensures kept { AreSameRows self.old self.new }
+    {
+        self.tdi.copy_row(&stored.tdi);
+        self.tdo.copy_row(&stored.tdo);
+        self.mask.copy_row(&stored.mask);
+    }
 }

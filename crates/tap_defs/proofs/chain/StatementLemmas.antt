@@ -73,7 +73,7 @@ bit_is : (tdi : Bool) (expect : Option Bool) →
 bit_is tdi None = refl
 bit_is tdi (Some e) = refl
 
-scan_bits_are : (bits : List ScanBit) → scan_bits (tdi_bits bits) (tdo_bits bits) (mask_bits bits) ≡ bits
+pub scan_bits_are : (bits : List ScanBit) → scan_bits (tdi_bits bits) (tdo_bits bits) (mask_bits bits) ≡ bits
 scan_bits_are [] = refl
 scan_bits_are (b ∷ bits) = cons_path (bit_is b.tdi b.expect) (scan_bits_are bits)
 
