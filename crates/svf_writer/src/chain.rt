@@ -1,7 +1,8 @@
 // The text of the chain test.
 ghost use Rattle.std.specs.Prelude.{◌≡◌, ◌+◌, ◌<◌, ◌≤◌, true, false, length, sum, replicate, slice_set, All};
 ghost use Rattle.bt_base.specs.Puts.{Puts};
-ghost use Rattle.tap_defs.specs.chain.Scan.{tdi_bits, tdo_bits, mask_bits};
+ghost use Rattle.tap_defs.specs.chain.Scan.{tdo_bits, mask_bits};
+ghost use Rattle.tap_defs.specs.chain.ScanRows.{AreSameRows, EachHasRoom, HoldBits};
 ghost use Rattle.tap_defs.specs.chain.Text.{scan_text, scan_texts};
 ghost use Rattle.tap_defs.specs.chain.ChainScans.{chain_scans};
 ghost use Rattle.svf_writer.specs.inner.Chain.{bypass_bits, mark_bits, marked};
@@ -10,7 +11,7 @@ ghost use Rattle.svf_writer.specs.Rows.{IsRoom};
 use crate::write_scan;
 use bt_base::{PutFault, Sink};
 use bt_bits::{Line, Row};
-use tap_defs::Shape;
+use tap_defs::{ScanRows, Shape};
 
 // How many bits the marks of the data scan have.
 const MARKS: u32 = 8;
@@ -41,23 +42,17 @@ fn set_marks(at: u32, row: &mut Row)
 }
 
 // Fills the rows of the data scan of so many parts: the marks are shifted in, and come out as many places later.
-fn fill_marks(parts: u32, tdi: &mut Row, tdo: &mut Row, mask: &mut Row)
+fn fill_marks(parts: u32, rows: &mut ScanRows)
     requires few { parts ≤ 255 }
-    requires tdi_room { parts + 8 ≤ tdi.old.room }
-    requires tdo_room { parts + 8 ≤ tdo.old.room }
-    requires mask_room { parts + 8 ≤ mask.old.room }
-    ensures tdi { tdi.new.bits ≡ tdi_bits (mark_bits parts) }
-    ensures tdo { tdo.new.bits ≡ tdo_bits (mark_bits parts) }
-    ensures mask { mask.new.bits ≡ mask_bits (mark_bits parts) }
-    ensures tdi_kept { tdi.new.room ≡ tdi.old.room }
-    ensures tdo_kept { tdo.new.room ≡ tdo.old.room }
-    ensures mask_kept { mask.new.room ≡ mask.old.room }
+    requires room { EachHasRoom (λ room. parts + 8 ≤ room) rows.old }
+    ensures bits { HoldBits (mark_bits parts) rows.new }
+    ensures kept { AreSameRows rows.old rows.new }
 {
-    tdi.clear(parts + MARKS);
-    set_marks(0, tdi);
-    tdo.clear(parts + MARKS);
-    set_marks(parts, tdo);
-    fill_ones(parts + MARKS, mask);
+    rows.tdi.clear(parts + MARKS);
+    set_marks(0, rows.tdi);
+    rows.tdo.clear(parts + MARKS);
+    set_marks(parts, rows.tdo);
+    fill_ones(parts + MARKS, rows.mask);
 }
 
 // Sets what is compared of one part's instruction, whose lowest bit has this position: 01 in the two lowest bits.
@@ -102,80 +97,80 @@ fn bits_of(lengths: &[u32]) -> u32
 }
 
 // Fills the rows of the instruction scan: ones are shifted in, and 01 comes out of each part.
-fn fill_codes(lengths: &[u32], tdi: &mut Row, tdo: &mut Row, mask: &mut Row)
+fn fill_codes(lengths: &[u32], rows: &mut ScanRows)
     requires each { All (λ n. 2 ≤ n) lengths.now }
     requires total { sum lengths.now ≤ 65535 }
-    requires tdi_room { sum lengths.now ≤ tdi.old.room }
-    requires tdo_room { sum lengths.now ≤ tdo.old.room }
-    requires mask_room { sum lengths.now ≤ mask.old.room }
-    ensures tdi { tdi.new.bits ≡ tdi_bits (bypass_bits lengths.now) }
-    ensures tdo { tdo.new.bits ≡ tdo_bits (bypass_bits lengths.now) }
-    ensures mask { mask.new.bits ≡ mask_bits (bypass_bits lengths.now) }
-    ensures tdi_kept { tdi.new.room ≡ tdi.old.room }
-    ensures tdo_kept { tdo.new.room ≡ tdo.old.room }
-    ensures mask_kept { mask.new.room ≡ mask.old.room }
+    requires room { EachHasRoom (λ room. sum lengths.now ≤ room) rows.old }
+    ensures bits { HoldBits (bypass_bits lengths.now) rows.new }
+    ensures kept { AreSameRows rows.old rows.new }
 {
     let total = bits_of(lengths);
-    fill_ones(total, tdi);
-    tdo.clear(total);
-    mask.clear(total);
-    set_captures(lengths, tdo, mask);
+    fill_ones(total, rows.tdi);
+    rows.tdo.clear(total);
+    rows.mask.clear(total);
+    set_captures(lengths, rows.tdo, rows.mask);
 }
 
 // Puts the instruction scan.
 fn write_codes<K: Sink>(
     lengths: &[u32],
-    tdi: &mut Row,
-    tdo: &mut Row,
-    mask: &mut Row,
+    rows: &mut ScanRows,
     line: &mut Line,
     out: &mut K,
 ) -> Result<(), PutFault>
     requires some { 0 < length lengths.now }
     requires each { All (λ n. 2 ≤ n) lengths.now }
     requires total { sum lengths.now ≤ 65535 }
-    requires tdi_room { sum lengths.now ≤ tdi.old.room }
-    requires tdo_room { sum lengths.now ≤ tdo.old.room }
-    requires mask_room { sum lengths.now ≤ mask.old.room }
+    requires room { EachHasRoom (λ room. sum lengths.now ≤ room) rows.old }
     ensures text { Puts (K.shown out.old) (K.shown out.new)
         (scan_text (record { ir = true; bits = bypass_bits lengths.now })) result }
-    ensures tdi { tdi.new.room ≡ tdi.old.room }
-    ensures tdo { tdo.new.room ≡ tdo.old.room }
-    ensures mask { mask.new.room ≡ mask.old.room }
+    ensures kept { AreSameRows rows.old rows.new }
 {
-    fill_codes(lengths, tdi, tdo, mask);
+    fill_codes(lengths, rows);
     let shape = Shape {
         ir: true,
         compare: true,
     };
-    write_scan(shape, tdi, tdo, mask, line, out)
+    write_scan(shape, rows.tdi, rows.tdo, rows.mask, line, out)
 }
 
 // Puts the data scan of so many parts.
 fn write_marks<K: Sink>(
     parts: u32,
-    tdi: &mut Row,
-    tdo: &mut Row,
-    mask: &mut Row,
+    rows: &mut ScanRows,
     line: &mut Line,
     out: &mut K,
 ) -> Result<(), PutFault>
     requires few { parts ≤ 255 }
-    requires tdi_room { parts + 8 ≤ tdi.old.room }
-    requires tdo_room { parts + 8 ≤ tdo.old.room }
-    requires mask_room { parts + 8 ≤ mask.old.room }
+    requires room { EachHasRoom (λ room. parts + 8 ≤ room) rows.old }
     ensures text { Puts (K.shown out.old) (K.shown out.new)
         (scan_text (record { ir = false; bits = mark_bits parts })) result }
-    ensures tdi { tdi.new.room ≡ tdi.old.room }
-    ensures tdo { tdo.new.room ≡ tdo.old.room }
-    ensures mask { mask.new.room ≡ mask.old.room }
+    ensures kept { AreSameRows rows.old rows.new }
 {
-    fill_marks(parts, tdi, tdo, mask);
+    fill_marks(parts, rows);
     let shape = Shape {
         ir: false,
         compare: true,
     };
-    write_scan(shape, tdi, tdo, mask, line, out)
+    write_scan(shape, rows.tdi, rows.tdo, rows.mask, line, out)
+}
+
+// Puts the two scans of the chain test.
+fn write_scans<K: Sink>(
+    lengths: &[u32],
+    rows: &mut ScanRows,
+    line: &mut Line,
+    out: &mut K,
+) -> Result<(), PutFault>
+    requires some { 0 < length lengths.now }
+    requires parts { length lengths.now ≤ 255 }
+    requires each { All (λ n. (2 ≤ n) × (n ≤ 255)) lengths.now }
+    requires room { EachHasRoom (IsRoom lengths.now) rows.old }
+    ensures text { Puts (K.shown out.old) (K.shown out.new) (scan_texts (chain_scans lengths.now)) result }
+    ensures kept { AreSameRows rows.old rows.new }
+{
+    write_codes(lengths, rows, line, out)?;
+    write_marks(lengths.len() as u32, rows, line, out)
 }
 
 /// Puts the two scans of the chain test of parts with these instruction lengths, in the order from TDI to TDO. The
@@ -203,6 +198,5 @@ pub fn write_chain<K: Sink>(
     ensures tdo { tdo.new.room ≡ tdo.old.room }
     ensures mask { mask.new.room ≡ mask.old.room }
 {
-    write_codes(lengths, tdi, tdo, mask, line, out)?;
-    write_marks(lengths.len() as u32, tdi, tdo, mask, line, out)
+    write_scans(lengths, &mut ScanRows { tdi, tdo, mask }, line, out)
 }
