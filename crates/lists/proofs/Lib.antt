@@ -1,2 +1,4 @@
+pub mod Booleans
+pub mod ListLemmas
 pub mod RowLemmas
 mod Samples
