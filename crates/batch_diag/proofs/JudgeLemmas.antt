@@ -1,13 +1,11 @@
 -- Verdicts on neighbouring ranges of blocks, and where the blocks are cut.
 use Rattle.std.proofs.Common.{◌≡◌, ℕ, ◌+◌, ◌-◌, ◌*◌, ◌/◌, ◌<◌, ◌≤◌, suc, List, [], ◌∷◌, ◌++◌, length, get_or, take, drop, Result, Ok, Err, refl, sym, ap, ◌∙◌, subst, arith}
 use Rattle.std.specs.Prelude.{All, IfOk, IsOkAnd}
-use Rattle.std.proofs.Math.Nat.{div-mul-le_self, mul-div_left, mul-le-mul_right}
-use Rattle.std.proofs.Math.Seq.{take-add}
-use Rattle.std.proofs.lemmas.Nat.{le-div}
-use Rattle.std.proofs.lemmas.List.{drop_more, drop-drop, take_all}
+use Rattle.std.proofs.lemmas.List.{drop_more, take_all}
 use Rattle.std.proofs.lemmas.List.Elements.{All-nil, All-cons}
 use Rattle.board_defs.specs.declared.board.RawBoard.{RawBoard}
 use Rattle.diagnoser.specs.Diagnosis.{IsNamed}
+use Rattle.diagnoser.proofs.CutLemmas.{cut_rises, cut_start, cut_end, parts}
 use Rattle.batch_diag.specs.declared.block.Block.{Block}
 use Rattle.batch_diag.specs.declared.judging.Batch.{Batch}
 use Rattle.batch_diag.specs.declared.verdict.Verdict.{Verdict}
@@ -40,30 +38,9 @@ module _ {A B : Type 0} (R : A → B → Type 0) (P : B → Type 0) where
   each_second (x ∷ xs) [] each = absurd each
   each_second (x ∷ xs) (y ∷ ys) each = All-cons P y ys each.0.1 (each_second xs ys each.1)
 
--- later pieces begin later, and none behind the blocks
-pub cut_rises : (m w p q : ℕ) → 0 < w → p ≤ q → p * m / w ≤ q * m / w
-cut_rises m w p q some less =
-    let more : p * m ≤ q * m = mul-le-mul_right m less in
-    le-div (p * m / w) (q * m) w some (omega (arith, div-mul-le_self (p * m) w, more))
-
-pub cut_start : (m w : ℕ) → 0 * m / w ≡ 0
-cut_start m w = grind arith
-
-pub cut_end : (m w : ℕ) → 0 < w → w * m / w ≡ m
-cut_end m w some = grind (arith, mul-div_left)
-
--- and each piece ends within the blocks
+-- each piece ends within the blocks
 pub cut_within : (m w p : ℕ) → 0 < w → p ≤ w → p * m / w ≤ m
 cut_within m w p some less = omega (arith, cut_rises m w p w some less, cut_end m w some)
-
--- two neighbouring ranges are one
-pub parts : {X : Type 0} (xs : List X) (from middle to : ℕ) → from ≤ middle → middle ≤ to → take (to - from) (drop from xs) ≡ take (middle - from) (drop from xs) ++ take (to - middle) (drop middle xs)
-parts {X} xs from middle to low high =
-    let sum : to - from ≡ (middle - from) + (to - middle) = omega arith in
-    let start : from + (middle - from) ≡ middle = omega arith in
-    ap (λ n. take n (drop from xs)) sum
-    ∙ take-add (middle - from) (to - middle) (drop from xs)
-    ∙ ap (λ (l : List X). take (middle - from) (drop from xs) ++ take (to - middle) l) (drop-drop (middle - from) from xs ∙ ap (λ n. drop n xs) start)
 
 module _ (b : Batch) where
   judged_append : (from middle to : ℕ) (xs ys : List Verdict) → from ≤ middle → middle ≤ to → Judged b from middle xs → Judged b middle to ys → Judged b from to (xs ++ ys)

@@ -15,7 +15,7 @@ use Rattle.batch_diag.specs.declared.reader.Reading.{Reading}
 use Rattle.batch_diag.specs.Batch.{Answer, BlockLines, begins_block, is_wrong_title, start_fault, title_fault, IsOfLines, block_then, blocks_of, logs_from, onto, unless, up_to_title, batch_told}
 use Rattle.batch_diag.specs.inner.Cutting.{rows_from, blocks_at, in_block}
 use Rattle.batch_diag.specs.inner.Reading.{IsRead, after, first_unread, lines_of_unread, said_between, said_then}
-use Rattle.batch_diag.proofs.JudgeLemmas.{cut_end, cut_start, parts}
+use Rattle.diagnoser.proofs.CutLemmas.{cut_start, cut_end, parts}
 
 after_none : (answer : Answer) → after [] answer ≡ answer
 after_none (Ok blocks) = refl

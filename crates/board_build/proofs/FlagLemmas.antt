@@ -1,10 +1,11 @@
 -- The flags of a device's port bits say which have an always-on driver.
-use Rattle.std.proofs.Common.{◌≡◌, ℕ, suc, ◌+◌, ◌<◌, ◌≤◌, nat_lt, Bool, true, false, cond, ◌&&◌, List, [], ◌∷◌, length, drop, get_or, Option, Some, None, refl, sym, ap, subst, ◌∙◌, arith}
+use Rattle.std.proofs.Common.{◌≡◌, ℕ, suc, ◌+◌, ◌<◌, ◌≤◌, nat_lt, Bool, true, false, cond, ◌&&◌, List, [], ◌∷◌, length, drop, get_or, Some, refl, sym, ap, subst, ◌∙◌, arith}
 use Rattle.std.specs.Prelude.{find, All}
 use Rattle.std.proofs.lemmas.List.{drop_more, get_or_past}
 use Rattle.board_defs.specs.declared.device.Cell.{Cell}
 use Rattle.board_defs.specs.declared.device.RawDevice.{RawDevice}
-use Rattle.board_defs.specs.DeviceRules.{is_driving, is_on, drives_bit, driving_entry, HasPlace}
+use Rattle.board_defs.specs.DeviceRules.{is_driving, drives_bit, driving_entry, HasPlace}
+use Rattle.board_defs.proofs.CellLemmas.{off_past}
 use Rattle.board_build.specs.inner.Marked.{AreFlags, is_free}
 
 -- one entry more, on the way from the last to the first
@@ -14,18 +15,11 @@ flags_more cells i k bits old new d next within was step =
     let cut : drop k cells ≡ get_or cells k d ∷ drop i cells = drop_more cells k d within ∙ ap (λ n. get_or cells k d ∷ drop n cells) next in
     subst (λ (v : List Cell). AreFlags v bits new) (sym cut) (step was)
 
--- no entry is on a bit that is not there
-not_there : (bits bit : ℕ) (cell : Cell) (on : Option ℕ) → HasPlace bits cell.role on → bits ≤ bit → is_on bit on ≡ false
-not_there bits bit cell None place past = refl
-not_there bits bit cell (Some b) place past =
-    let less : b < bits = place.1 in
-    grind arith
-
 none_there : (bits bit : ℕ) (cells : List Cell) → All (λ entry. HasPlace bits entry.role entry.bit) cells → bits ≤ bit → is_free (find (drives_bit bit) cells) ≡ false
 none_there bits bit [] places past = refl
 none_there bits bit (cell ∷ cells) places past =
     let rest = none_there bits bit cells (λ i d less. places (suc i) d (omega arith)) past in
-    ap (λ on. is_free (cond (on && is_driving cell.role) (Some cell) (find (drives_bit bit) cells))) (not_there bits bit cell cell.bit (places 0 cell (omega arith)) past) ∙ rest
+    ap (λ on. is_free (cond (on && is_driving cell.role) (Some cell) (find (drives_bit bit) cells))) (off_past bits bit cell cell.bit (places 0 cell (omega arith)) past) ∙ rest
 
 -- the flags of all entries of a device, at each bit
 pub device_flagged : (device : RawDevice) (flags : List Bool) → All (λ entry. HasPlace (length device.bits) entry.role entry.bit) device.cells → AreFlags device.cells (length device.bits) flags →

@@ -2,10 +2,11 @@
 use Rattle.std.proofs.Common.{◌≡◌, ◌≢◌, ℕ, zero, suc, ◌+◌, ◌<◌, ◌≤◌, ◌==◌, Bool, true, false, cond, List, [], ◌∷◌, ◌++◌, length, map, take, drop, get_or, set, append_assoc, nat_lt, Option, Some, None, refl, sym, ap, ◌∙◌, arith, Bor}
 use Rattle.std.specs.Prelude.{filter, zip, slice_get, option_map}
 use Rattle.std.specs.Option.{option_to_list}
-use Rattle.std.proofs.lemmas.Bool.{eqb-true, eq-eqb}
+use Rattle.std.proofs.lemmas.Bool.{eqb-true}
 use Rattle.std.proofs.lemmas.Option.{get_or_from_slice_get}
 use Rattle.std.proofs.lemmas.List.{map-append, take_more, drop_more, get_or-set_same, get_or-set_other, append-nil}
 use Rattle.std.proofs.lemmas.List.Elements.{filter-append}
+use Rattle.lists.proofs.Booleans.{eqb_refl}
 use Rattle.board_defs.specs.declared.board.Part.{Part}
 use Rattle.board_defs.specs.declared.board.PinAt.{PinAt}
 use Rattle.board_defs.specs.declared.board.NetPin.{NetPin}
@@ -43,13 +44,10 @@ groups_step words i w count old new within read inside changed was n less = by_t
         sym (ap (λ k. get_or new k []) same) ∙ put ∙ ap (λ k. get_or old k [] ++ pin_with (seen w) ∷ []) same ∙ ap (λ v. v ++ pin_with (seen w) ∷ []) (was n less)
         ∙ sym (ap (λ t. group_of (map seen (take i words)) n ++ cond t (pin_with (seen w) ∷ []) []) e) ∙ sym (group_more words i w n within read)
     by_test false e =
-        let other : n ≢ w.net = (λ same. wrong (sym (eq_self n) ∙ ap (λ k. k == n) same ∙ e)) in
+        let other : n ≢ w.net = (λ same. wrong (sym (eqb_refl n) ∙ ap (λ k. k == n) same ∙ e)) in
         let kept : get_or new n [] ≡ get_or old n [] = ap (λ v. get_or v n []) changed ∙ get_or-set_other old w.net n (get_or old w.net [] ++ pin_with (seen w) ∷ []) [] other in
         kept ∙ was n less ∙ sym (append-nil (group_of (map seen (take i words)) n)) ∙ sym (ap (λ t. group_of (map seen (take i words)) n ++ cond t (pin_with (seen w) ∷ []) []) e) ∙ sym (group_more words i w n within read)
       where
-        eq_self : (k : ℕ) → (k == k) ≡ true
-        eq_self k = eq-eqb k k refl
-
         wrong : true ≡ false → ⊥
         wrong h = cc h
 

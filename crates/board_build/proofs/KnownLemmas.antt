@@ -3,6 +3,8 @@ use Rattle.std.proofs.Common.{◌≡◌, ℕ, ◌+◌, Bool, true, false, cond, 
 use Rattle.std.specs.Prelude.{find, is_some, option_map}
 use Rattle.std.specs.List.{list_any, position_from, cons_option}
 use Rattle.std.proofs.lemmas.List.Folds.{list_any-append}
+use Rattle.std.proofs.lemmas.Bool.{or_parts}
+use Rattle.std.proofs.Math.Bool.{or-true}
 use Rattle.first_places.specs.Places.{first_value}
 use Rattle.board_defs.specs.declared.device.PortBit.{PortBit}
 use Rattle.board_defs.specs.declared.board.Part.{Part}
@@ -30,10 +32,6 @@ some_value {K} {V} eq (item ∷ items) q = by_test (eq item.0 q) (some_value eq 
     by_test true e = refl
     by_test false e = e
 
-neither : (a b : Bool) → (a || b) ≡ false → (a ≡ false) × (b ≡ false)
-neither true b e = cc e
-neither false b e = (refl, e)
-
 -- a part with another name has no place of the pin
 none_in_bits : (part : ℕ) (name : List ℕ) (n : ℕ) (bits : List PortBit) (pin : Pin) → same_word name pin.0 ≡ false → list_any (λ (i : PinPlace). same_pin i.0 pin) (bit_places part name n bits) ≡ false
 none_in_bits part name n [] pin e = refl
@@ -53,19 +51,15 @@ none_placed n (part ∷ parts) pin e =
         (list_any (λ (i : PinPlace). same_pin i.0 pin) (part_places n part.name kind) || list_any (λ (i : PinPlace). same_pin i.0 pin) (places_from (n + 1) parts)) ≡ false
     by_kind (Bypass bits) rest k = rest k
     by_kind (Described device) rest k =
-        let both = neither (same_word part.name pin.0) (list_any (λ name. same_word name pin.0) (described_names parts)) k in
+        let both = or_parts (same_word part.name pin.0) (list_any (λ name. same_word name pin.0) (described_names parts)) k in
         ap (λ b. b || list_any (λ (i : PinPlace). same_pin i.0 pin) (places_from (n + 1) parts)) (none_in_bits n part.name 0 device.bits pin both.0) ∙ rest both.1
-
-or_true : (a : Bool) → (a || true) ≡ true
-or_true true = refl
-or_true false = refl
 
 -- so a place says that the part is described
 placed_known : (parts : List Part) (pin : Pin) → (is_some (place_of_pin (pin_places parts) pin) || is_among (described_names parts) pin.0) ≡ is_among (described_names parts) pin.0
 placed_known parts pin = by_test (is_among (described_names parts) pin.0) refl
   where
     by_test : (b : Bool) → is_among (described_names parts) pin.0 ≡ b → (is_some (place_of_pin (pin_places parts) pin) || b) ≡ b
-    by_test true e = or_true (is_some (place_of_pin (pin_places parts) pin))
+    by_test true e = or-true (is_some (place_of_pin (pin_places parts) pin))
     by_test false e =
         ap (λ b. b || false) (some_value same_pin (pin_places parts) pin ∙ none_placed 0 parts pin (sym (some_place (λ name. same_word name pin.0) 0 (described_names parts)) ∙ e))
 

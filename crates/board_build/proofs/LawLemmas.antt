@@ -1,8 +1,8 @@
 -- Files in which no rule finds a fault denote a board.
-use Rattle.std.proofs.Common.{◌≡◌, ◌≢◌, ℕ, ◌<◌, ◌≤◌, ◌==◌, Bool, true, false, ◌||◌, List, length, map, Some, None, refl, sym, ap, subst, ◌∙◌, arith, ◌⊎◌, inl, inr}
+use Rattle.std.proofs.Common.{◌≡◌, ◌≢◌, ℕ, ◌<◌, ◌≤◌, ◌==◌, true, false, List, length, map, Some, None, refl, sym, ap, subst, ◌∙◌, arith, ◌⊎◌, inl, inr}
 use Rattle.std.specs.Prelude.{slice_get, find, All, AllPairs}
 use Rattle.std.specs.List.{list_any, AllByRecursion, slice_index_or}
-use Rattle.std.proofs.lemmas.Bool.{eqb-true, eq-eqb, cases_order}
+use Rattle.std.proofs.lemmas.Bool.{eqb-true, eq-eqb, cases_order, or_parts}
 use Rattle.std.proofs.lemmas.List.{length-map, get_or-map}
 use Rattle.std.proofs.lemmas.List.Elements.{All-from_recursion}
 use Rattle.std.proofs.lemmas.List.Kept.{AllPairs-filter}
@@ -94,11 +94,7 @@ no_guarded parts marks words names none n place net pin stands drives =
     let got : slice_get (board_nets marks words names) (net_of r.word) ≡ Some net = ap (slice_get (board_nets marks words names)) number ∙ stands.on_board in
     let driver : Has (always_on board marks words) r.word = has_filter (λ word. drives_always board marks (pin_of word) (slice_get board.nets (net_of word))) words r.word (has_at words there.place r.word there.stands) (drives_at parts marks words names n place net pin stands.on_board drives r) in
     let kept : is_kept board (slice_get (board_nets marks words names) (net_of r.word)) ≡ false = find_none (λ word. is_kept board (slice_get board.nets (net_of word))) (always_on board marks words) r.word none driver in
-    parts_of net.supply (list_any (is_test_pin board) net.pins) (sym (ap (is_kept board) got) ∙ kept)
-  where
-    parts_of : (a b : Bool) → (a || b) ≡ false → (a ≡ false) × (b ≡ false)
-    parts_of true b e = cc e
-    parts_of false b e = (refl, e)
+    or_parts net.supply (list_any (is_test_pin board) net.pins) (sym (ap (is_kept board) got) ∙ kept)
 
 one_always_on : (parts : List Part) (marks : Marks) (words : List NetWord) (names : List (List ℕ)) → Apart (λ a b. (net_of a == net_of b) ≡ false) (always_on (board_on parts marks words names) marks words) →
     OneAlwaysOn (board_on parts marks words names)

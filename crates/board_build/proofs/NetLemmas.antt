@@ -6,6 +6,7 @@ use Rattle.std.proofs.lemmas.Bool.{eqb-true, eq-eqb, and_from}
 use Rattle.std.proofs.lemmas.List.Sums.{sum_by-cons}
 use Rattle.std.proofs.lemmas.List.{length-map}
 use Rattle.std.proofs.lemmas.List.Kept.{AllPairs-filter}
+use Rattle.lists.proofs.Booleans.{clash}
 use Rattle.board_defs.specs.declared.board.NetPin.{NetPin}
 use Rattle.board_defs.specs.declared.board.Net.{Net}
 use Rattle.board_files.specs.Names.{same_word}
@@ -72,11 +73,7 @@ pub same_pin_of : (a b : Pin) → a.0 ≡ b.0 → a.1 ≡ b.1 → same_pin a b �
 same_pin_of a b e f = and_from (same_word a.0 b.0) (same_word a.1 b.1) (sym (ap (same_word a.0) e) ∙ same_name_refl a.0) (sym (ap (same_word a.1) f) ∙ same_name_refl a.1)
 
 not_apart : (a b : NetWord) → (pin_of a).0 ≡ (pin_of b).0 → (pin_of a).1 ≡ (pin_of b).1 → have_same_pin a b ≡ false → ⊥
-not_apart a b e f h = wrong (have_same_pin a b) (same_pin_of (pin_of a) (pin_of b) e f) h
-  where
-    wrong : (t : Bool) → t ≡ true → t ≡ false → ⊥
-    wrong true p q = cc q
-    wrong false p q = cc p
+not_apart a b e f h = clash (have_same_pin a b) (same_pin_of (pin_of a) (pin_of b) e f) h
 
 -- words of one pin are one word
 pub record SameWord (m n i j : ℕ) : Type 0 where

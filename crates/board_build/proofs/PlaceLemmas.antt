@@ -1,10 +1,11 @@
 -- Words of which no two have one place or one name name different pins.
-use Rattle.std.proofs.Common.{◌≡◌, ℕ, ◌≤◌, ◌==◌, Bool, true, false, cond, ◌&&◌, ◌||◌, List, [], ◌∷◌, ◌++◌, length, map, take, drop, Option, Some, None, refl, sym, ap, ◌∙◌, arith}
+use Rattle.std.proofs.Common.{◌≡◌, ℕ, ◌≤◌, ◌==◌, Bool, true, false, cond, ◌&&◌, ◌||◌, List, [], ◌∷◌, ◌++◌, length, map, take, drop, Option, Some, None, refl, sym, ap, ◌∙◌}
 use Rattle.std.specs.Prelude.{option_map}
 use Rattle.std.specs.List.{list_any}
 use Rattle.std.specs.Cmp.Lexicographic.{same_text}
 use Rattle.std.proofs.lemmas.Bool.{and_parts}
 use Rattle.std.proofs.lemmas.List.{drop_all}
+use Rattle.lists.proofs.Booleans.{eqb_refl}
 use Rattle.first_places.specs.Places.{first_repeated, repeated_from}
 use Rattle.board_files.specs.declared.chain_file.ChainLine.{ChainLine}
 use Rattle.board_files.specs.declared.net_file.NetLine.{NetLine}
@@ -21,9 +22,7 @@ use Rattle.board_build.specs.declared.marked.MarkedWord.{MarkedWord}
 use Rattle.board_build.specs.inner.Marked.{Marked, mark, marked_twice, seen}
 use Rattle.board_build.specs.inner.SeenPins.{are_one, at_one_place}
 use Rattle.board_build.proofs.SoundLemmas.{twice_none}
-
-eqb_refl : (a : ℕ) → (a == a) ≡ true
-eqb_refl a = grind arith
+use Rattle.board_build.proofs.RuleLemmas.{map_none}
 
 one_at : (o : Option PinAt) → at_one_place o o true ≡ true
 one_at None = refl
@@ -56,10 +55,6 @@ repeated_weaker {X} p q h seen (x ∷ xs) e = by_test (repeated_weaker p q h (se
     by_test : (repeated_from q (seen ++ x ∷ []) xs ≡ None → repeated_from p (seen ++ x ∷ []) xs ≡ None) → (b : Bool) → list_any (λ s. q s x) seen ≡ b → cond b (Some x) (repeated_from q (seen ++ x ∷ []) xs) ≡ None → repeated_from p seen (x ∷ xs) ≡ None
     by_test rest true eb k = cc k
     by_test rest false eb k = ap (λ b. cond b (Some x) (repeated_from p (seen ++ x ∷ []) xs)) (any_weaker (λ s. p s x) (λ s. q s x) (λ s. h s x) seen eb) ∙ rest k
-
-map_none : {A B : Type 0} (f : A → B) (o : Option A) → option_map f o ≡ None → o ≡ None
-map_none f None e = refl
-map_none f (Some a) e = cc e
 
 -- so where no two marked words have one pin by place, no two words have one by name
 pub differ_by_place : (parts : List Part) (inerts : List (List ℕ)) (words : List NetWord) (marked : List Marked) → marked ≡ map (mark parts (pin_places parts) inerts) words → first_repeated are_one marked ≡ None → first_repeated have_same_pin words ≡ None

@@ -29,7 +29,7 @@ use Rattle.board_lines.proofs.ApartLemmas.{Apart, unrepeated_apart}
 use Rattle.board_build.proofs.PartLemmas.{not_among}
 use Rattle.board_lines.proofs.FaultLemmas.{limit_kept, then_none}
 
-map_none : {A B : Type 0} (f : A → B) (o : Option A) → option_map f o ≡ None → o ≡ None
+pub map_none : {A B : Type 0} (f : A → B) (o : Option A) → option_map f o ≡ None → o ≡ None
 map_none f None e = refl
 map_none f (Some a) e = cc e
 

@@ -16,7 +16,8 @@ use Rattle.board_defs.specs.Pins.{described, data_bits, is_test_pin, is_same, dr
 use Rattle.board_defs.specs.BoardRules.{IsPart, PinsDiffer, IsPlaced, IsPlacedAt, AreInertAlike, NoGuardedDriver, OneAlwaysOn, IsBoard}
 use Rattle.board_defs.specs.Decided.{is_always_on}
 use Rattle.board_defs.proofs.Checks.{all_by, item_by, later_pass, later_by, pairs_by, one_by, two_pass, two_by, same_text, same_text_of, text_of, texts_differ, implied, not_shared}
-use Rattle.board_defs.proofs.DeviceChecks.{device_passes, device_of, same_of, same_pin}
+use Rattle.board_defs.proofs.DeviceChecks.{device_passes, device_of, same_pin}
+use Rattle.board_defs.proofs.SameBits.{same_of_is_same}
 
 abbrev part_passes : PartKind → Bool
 part_passes (Described device) = device_passes device
@@ -121,7 +122,7 @@ inert_of b h k = record {
       net.pins e)
       b.nets h;
   agree = λ m n i j first second p q s t same.
-      same_of p.inert q.inert
+      same_of_is_same p.inert q.inert
       (implied (same_text p.part q.part) (is_same p.inert q.inert) (two_by pins_agree first.pins second.pins i j p q (two_by nets_agree b.nets b.nets m n first second k s.on_board t.on_board) s.in_net t.in_net) (same_text_of p.part q.part same));
 }
 

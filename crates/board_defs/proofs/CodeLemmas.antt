@@ -7,7 +7,7 @@ use Rattle.board_defs.specs.declared.device.Symbol.TheVariants.{Zero, One, Any}
 use Rattle.board_defs.specs.declared.device.RawDevice.{RawDevice}
 use Rattle.board_defs.specs.DeviceRules.{bit_of, HasCodes}
 
-same_symbol : (s t : Symbol) → s ≢ Any → t ≢ Any → bit_of s ≡ bit_of t → s ≡ t
+pub same_symbol : (s t : Symbol) → s ≢ Any → t ≢ Any → bit_of s ≡ bit_of t → s ≡ t
 same_symbol Any t gs gt e = absurd (gs refl)
 same_symbol s Any gs gt e = absurd (gt refl)
 same_symbol Zero Zero gs gt e = refl

@@ -1,9 +1,10 @@
 -- The tests decide what some safe setting does.
-use Rattle.std.proofs.Common.{◌≡◌, ◌≢◌, ℕ, ◌<◌, Bool, true, false, not, ◌&&◌, ◌||◌, length, Option, Some, None, refl, sym, ◌∙◌, ap, subst, ◌⊎◌, inl, inr}
+use Rattle.std.proofs.Common.{◌≡◌, ◌≢◌, ℕ, ◌<◌, true, false, not, ◌&&◌, ◌||◌, length, Option, Some, None, refl, sym, ◌∙◌, ap, subst, ◌⊎◌, inl, inr}
 use Rattle.std.specs.Prelude.{slice_get}
 use Rattle.std.specs.List.{list_any}
 use Rattle.std.proofs.lemmas.Bool.{both_ways, not-true, not_from_false, and_parts, and_from, or_left, or_right, or_cases}
 use Rattle.std.proofs.lemmas.Option.{slice_get_within}
+use Rattle.lists.proofs.Booleans.{true_of_or_false}
 use Rattle.board_defs.specs.declared.board.NetPin.{NetPin}
 use Rattle.board_defs.specs.declared.board.Net.{Net}
 use Rattle.board_defs.specs.declared.board.RawBoard.{RawBoard}
@@ -158,11 +159,7 @@ compatible_safe board (Some OneSided) e rules h = cc h
 compatible_safe board (Some AlwaysOn) e rules h = needed_safe board e rules h
 compatible_safe board (Some (By c)) None rules h = cc h
 compatible_safe board (Some (By c)) (Some OneSided) rules h = cc h
-compatible_safe board (Some (By c)) (Some AlwaysOn) rules h = safe_within board (either (just c) nothing) (just c) (λ a k. only (same_ctl a c) k) (alone_safe board c rules h)
-  where
-    only : (t : Bool) → (t || false) ≡ true → t ≡ true
-    only true k = k
-    only false k = k
+compatible_safe board (Some (By c)) (Some AlwaysOn) rules h = safe_within board (either (just c) nothing) (just c) (λ a k. true_of_or_false (same_ctl a c) k) (alone_safe board c rules h)
 compatible_safe board (Some (By c)) (Some (By b)) rules h = together_safe board c b rules h
 
 pub safe_compatible : (board : RawBoard) (s : Enabling) (d e : Option Drive) → IsSafe board s → can_enable board d ≡ true → can_enable board e ≡ true → ((c : Ctl) → needed d c ≡ true → s c ≡ true) → ((c : Ctl) → needed e c ≡ true → s c ≡ true) → are_compatible board d e ≡ true

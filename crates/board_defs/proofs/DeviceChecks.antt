@@ -20,6 +20,7 @@ use Rattle.board_defs.specs.DeviceRules.{is_driving, is_loading, is_writing, is_
 use Rattle.board_defs.specs.Pins.{is_same}
 use Rattle.board_defs.proofs.Members.{has_contains, any_has}
 use Rattle.board_defs.proofs.Checks.{all_by, item_by, below_by, later_pass, pairs_by, one_by, two_pass, two_by, same_text, same_text_of, texts_differ, implied, not_shared}
+use Rattle.board_defs.proofs.SameBits.{same_of_is_same, is_same_refl}
 
 -- codes
 abbrev is_given : Symbol → Bool
@@ -51,11 +52,7 @@ bits_same (s ∷ ss) (t ∷ ts) = is_same (bit_of s) (bit_of t) && bits_same ss 
 
 bits_same_refl : (ss : List Symbol) → bits_same ss ss ≡ true
 bits_same_refl [] = refl
-bits_same_refl (s ∷ ss) = and_from (is_same (bit_of s) (bit_of s)) (bits_same ss ss) (same (bit_of s)) (bits_same_refl ss)
-  where
-    same : (b : Bool) → is_same b b ≡ true
-    same true = refl
-    same false = refl
+bits_same_refl (s ∷ ss) = and_from (is_same (bit_of s) (bit_of s)) (bits_same ss ss) (is_same_refl (bit_of s)) (bits_same_refl ss)
 
 abbrev is_old : Edition → Bool
 is_old Old = true
@@ -120,12 +117,6 @@ mode_back Linkage = refl
 mode_of : (a b : Mode) → (mode_number a == mode_number b) ≡ true → a ≡ b
 mode_of a b h = sym (mode_back a) ∙ ap numbered_mode (eqb-true (mode_number a) (mode_number b) h) ∙ mode_back b
 
-pub same_of : (a b : Bool) → is_same a b ≡ true → a ≡ b
-same_of true true h = refl
-same_of true false h = cc h
-same_of false true h = cc h
-same_of false false h = refl
-
 abbrev indexes_same : List (Option ℕ) → List (Option ℕ) → Bool
 indexes_same [] [] = true
 indexes_same [] (b ∷ bs) = false
@@ -179,7 +170,7 @@ port_of bits h =
     record {
       indexed = are_indexed bits a.0;
       one_mode = pairs_by (λ (a b : PortBit). a.mode ≡ b.mode) (λ a b. mode_number a.mode == mode_number b.mode) (λ a b e. mode_of a.mode b.mode e) bits b.0;
-      mapped_whole = pairs_by (λ (a b : PortBit). is_some a.pin ≡ is_some b.pin) (λ a b. is_same (is_some a.pin) (is_some b.pin)) (λ a b e. same_of (is_some a.pin) (is_some b.pin) e) bits b.1;
+      mapped_whole = pairs_by (λ (a b : PortBit). is_some a.pin ≡ is_some b.pin) (λ a b. is_same (is_some a.pin) (is_some b.pin)) (λ a b e. same_of_is_same (is_some a.pin) (is_some b.pin) e) bits b.1;
     }
 
 -- numbers in order
@@ -308,7 +299,7 @@ disable_passes (Some a) (Some b) = not (a.cell == b.cell) || is_same a.disable b
 disable_is : (d : RawDevice) → two_pass (λ x y. disable_passes x.ctl y.ctl) d.cells d.cells ≡ true → OneDisable d
 disable_is d h i j e f a b ei ej ea fb same =
     let both : disable_passes (Some a) (Some b) ≡ true = sym (ap (λ (v : Option Control). disable_passes v f.ctl) ea ∙ ap (disable_passes (Some a)) fb) ∙ two_by (λ (x y : Cell). disable_passes x.ctl y.ctl) d.cells d.cells i j e f h ei ej in
-    same_of a.disable b.disable (implied (a.cell == b.cell) (is_same a.disable b.disable) both (eq-eqb a.cell b.cell same))
+    same_of_is_same a.disable b.disable (implied (a.cell == b.cell) (is_same a.disable b.disable) both (eq-eqb a.cell b.cell same))
 
 abbrev both_of : (Role → Bool) → Cell → Cell → Bool
 both_of roles x y = roles x.role && (roles y.role && (x.num == y.num))

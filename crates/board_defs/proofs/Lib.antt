@@ -19,5 +19,7 @@ mod Checks
 mod DeviceChecks
 pub mod BoardChecks
 pub mod CodeLemmas
+pub mod CellLemmas
+pub mod SameBits
 pub mod Ordered
 pub mod PassWords

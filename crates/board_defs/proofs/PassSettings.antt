@@ -1,6 +1,7 @@
 -- The settings of passes: every two of their controls are together, and a walk keeps what a setting holds.
 use Rattle.std.proofs.Common.{◌≡◌, Bool, true, false, not, ◌&&◌, ◌||◌, List, [], ◌∷◌, Some, refl, sym, ◌∙◌, ap, cond, ◌⊎◌, inl, inr}
 use Rattle.std.proofs.lemmas.Bool.{and_parts, and_from, or_left, or_right, or_cases}
+use Rattle.lists.proofs.Booleans.{or_swap}
 use Rattle.board_defs.specs.declared.board.Ctl.{Ctl}
 use Rattle.board_defs.specs.declared.board.RawBoard.{RawBoard}
 use Rattle.board_defs.specs.declared.board.Drive.{Drive}
@@ -19,11 +20,6 @@ pub holds_inserted : (c d : Ctl) (list : List Ctl) → holds (inserted c list) d
 holds_inserted c d [] = refl
 holds_inserted c d (x ∷ list) = by_before (holds_inserted c d list) (precedes x c) (same_ctl c x) refl
   where
-    swap : (a b r : Bool) → (a || (b || r)) ≡ (b || (a || r))
-    swap true true r = refl
-    swap true false r = refl
-    swap false b r = refl
-
     twice : (a b r : Bool) → a ≡ b → (b || r) ≡ (a || (b || r))
     twice true true r e = refl
     twice true false r e = cc e
@@ -31,7 +27,7 @@ holds_inserted c d (x ∷ list) = by_before (holds_inserted c d list) (precedes 
 
     by_before : holds (inserted c list) d ≡ (same_ctl d c || holds list d) → (t s : Bool) → same_ctl c x ≡ s →
         holds (cond t (x ∷ inserted c list) (cond s (x ∷ list) (c ∷ x ∷ list))) d ≡ (same_ctl d c || (same_ctl d x || holds list d))
-    by_before rest true s e = ap (λ t. same_ctl d x || t) rest ∙ swap (same_ctl d x) (same_ctl d c) (holds list d)
+    by_before rest true s e = ap (λ t. same_ctl d x || t) rest ∙ or_swap (same_ctl d x) (same_ctl d c) (holds list d)
     by_before rest false true e = twice (same_ctl d c) (same_ctl d x) (holds list d) (ap (same_ctl d) (same_equal c x e))
     by_before rest false false e = refl
 

@@ -3,6 +3,7 @@ use Rattle.std.proofs.Common.{◌≡◌, ℕ, ◌<◌, Bool, true, false, ◌&&�
 use Rattle.std.specs.Prelude.{slice_get}
 use Rattle.std.specs.List.{list_any}
 use Rattle.std.proofs.lemmas.Bool.{both_ways, and_parts, cases_order}
+use Rattle.lists.proofs.ListLemmas.{list_any_before, list_any_last}
 use Rattle.board_defs.specs.declared.board.Net.{Net}
 use Rattle.board_defs.specs.declared.board.Ctl.{Ctl}
 use Rattle.board_defs.specs.declared.board.RawBoard.{RawBoard}
@@ -12,51 +13,45 @@ use Rattle.board_defs.specs.Settings.{holds, ObservesBy, ObservesNet}
 use Rattle.board_defs.specs.Coverage.{IsCovered, ArePaired, IsTestedDriver, IsTestedReceiver, TestsDriver, TestsReceiver}
 use Rattle.board_defs.specs.Decided.{any_below, can_enable, are_compatible, are_paired, pairs_at, is_tested_driver, place_drive}
 use Rattle.board_defs.specs.Passes.{useful_controls, tested_drivers, drivers_by_net, is_enabled, driver_pass, add_for_driver, driver_passes, shows, are_shown, pairs_of, pairs_within, first_pair, pair_pass, with_pair, add_for_nets, passes_of, SomePass, ArePasses}
-use Rattle.board_defs.proofs.Members.{Has, has_at, has_place, has_left, has_right, has_pairs_of, has_pairs_within, any_has, has_any, find_none}
+use Rattle.board_defs.proofs.Members.{Has, has_at, has_place, has_pairs_of, has_pairs_within, any_has, find_none}
 use Rattle.board_defs.proofs.Places.{FoundBelow, below_place}
 use Rattle.board_defs.proofs.Covered.{net_same, tested_can, tested_driver_of, paired_true}
 use Rattle.board_defs.proofs.PassSettings.{driver_pass_enables, safe_setting}
 use Rattle.board_defs.proofs.PassesKept.{Good, good_passes, reason_at, fold_keeps, fold_makes, all_drivers, on_board_driver, has_tested, tested_drives, in_nets, enabled_observes, shows_observes, Compatible, pair_shows}
 
 -- a pass that enables the driver stays, and so does one that shows two nets
-abbrev Enabled : Drive → List (List Ctl) → Type 0
+abbrev pub Enabled : Drive → List (List Ctl) → Type 0
 Enabled d passes = list_any (λ pass. is_enabled pass d) passes ≡ true
 
 abbrev Shown : List Drive → List Drive → List (List Ctl) → Type 0
 Shown a b passes = are_shown passes a b ≡ true
 
-any_end : (p : List Ctl → Bool) (passes : List (List Ctl)) (pass : List Ctl) → list_any p passes ≡ true → list_any p (passes ++ pass ∷ []) ≡ true
-any_end p passes pass h = let r = any_has p passes h in has_any p (passes ++ pass ∷ []) r.0 (has_left passes (pass ∷ []) r.0 r.1) r.2
-
-any_last : (p : List Ctl → Bool) (passes : List (List Ctl)) (pass : List Ctl) → p pass ≡ true → list_any p (passes ++ pass ∷ []) ≡ true
-any_last p passes pass h = has_any p (passes ++ pass ∷ []) pass (has_right passes (pass ∷ []) pass (inl refl)) h
-
 -- what is true of a list of passes by one of them stays true in both steps
-driver_keeps : (p : List Ctl → Bool) (board : RawBoard) (useful : List Ctl) (passes : List (List Ctl)) (d : Drive) → list_any p passes ≡ true → list_any p (add_for_driver board useful passes d) ≡ true
+pub driver_keeps : (p : List Ctl → Bool) (board : RawBoard) (useful : List Ctl) (passes : List (List Ctl)) (d : Drive) → list_any p passes ≡ true → list_any p (add_for_driver board useful passes d) ≡ true
 driver_keeps p board useful passes d h = by_test (list_any (λ pass. is_enabled pass d) passes)
   where
     by_test : (t : Bool) → list_any p (cond t passes (passes ++ driver_pass board useful passes d ∷ [])) ≡ true
     by_test true = h
-    by_test false = any_end p passes (driver_pass board useful passes d) h
+    by_test false = list_any_before p passes (driver_pass board useful passes d) h
 
 nets_keep : (p : List Ctl → Bool) (board : RawBoard) (useful : List Ctl) (passes : List (List Ctl)) (nets : List Drive × List Drive) → list_any p passes ≡ true → list_any p (add_for_nets board useful passes nets) ≡ true
 nets_keep p board useful passes nets h = by_test (are_shown passes nets.0 nets.1)
   where
     by_pair : (found : Option (Drive × Drive)) → list_any p (with_pair board useful passes found) ≡ true
     by_pair None = h
-    by_pair (Some pair) = any_end p passes (pair_pass board useful pair) h
+    by_pair (Some pair) = list_any_before p passes (pair_pass board useful pair) h
 
     by_test : (t : Bool) → list_any p (cond t passes (with_pair board useful passes (first_pair board nets.0 nets.1))) ≡ true
     by_test true = h
     by_test false = by_pair (first_pair board nets.0 nets.1)
 
 -- each tested driver is enabled
-driver_enabled : (board : RawBoard) (useful : List Ctl) (passes : List (List Ctl)) (d : Drive) → can_enable board (Some d) ≡ true → Enabled d (add_for_driver board useful passes d)
+pub driver_enabled : (board : RawBoard) (useful : List Ctl) (passes : List (List Ctl)) (d : Drive) → can_enable board (Some d) ≡ true → Enabled d (add_for_driver board useful passes d)
 driver_enabled board useful passes d can = by_test (list_any (λ pass. is_enabled pass d) passes) refl
   where
     by_test : (t : Bool) → list_any (λ pass. is_enabled pass d) passes ≡ t → Enabled d (cond t passes (passes ++ driver_pass board useful passes d ∷ []))
     by_test true e = e
-    by_test false e = any_last (λ pass. is_enabled pass d) passes (driver_pass board useful passes d) (driver_pass_enables board useful passes d can)
+    by_test false e = list_any_last (λ pass. is_enabled pass d) passes (driver_pass board useful passes d) (driver_pass_enables board useful passes d can)
 
 all_enabled : (board : RawBoard) (n : ℕ) (net : Net) (d : Drive) → slice_get board.nets n ≡ Some net → Has (tested_drivers board net) d → can_enable board (Some d) ≡ true → Enabled d (passes_of board)
 all_enabled board n net d en h can =
@@ -107,7 +102,7 @@ nets_shown board useful a b passes paired = by_test (are_shown passes (tested_dr
         (has_tested board b found.1.second.place found.0.1 found.1.second.tested found.1.second.drives)))
         found.1.compatible)
     by_pair (Some pair) e =
-        any_last (λ pass. shows (tested_drivers board a) pass && shows (tested_drivers board b) pass) passes (pair_pass board useful pair) (pair_shows board useful a b pair e)
+        list_any_last (λ pass. shows (tested_drivers board a) pass && shows (tested_drivers board b) pass) passes (pair_pass board useful pair) (pair_shows board useful a b pair e)
 
     by_test : (t : Bool) → are_shown passes (tested_drivers board a) (tested_drivers board b) ≡ t → Shown (tested_drivers board a) (tested_drivers board b) (cond t passes (with_pair board useful passes (first_pair board (tested_drivers board a) (tested_drivers board b))))
     by_test true e = e

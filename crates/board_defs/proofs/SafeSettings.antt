@@ -15,7 +15,7 @@ use Rattle.board_defs.specs.declared.board.RawBoard.{RawBoard}
 use Rattle.board_defs.specs.declared.board.Ctl.{Ctl}
 use Rattle.board_defs.specs.declared.board.Drive.{Drive}
 use Rattle.board_defs.specs.declared.board.Drive.TheVariants.{AlwaysOn, By}
-use Rattle.board_defs.specs.Pins.{drive, guarded, entry_at, device_at, is_pinned, is_pulled_to, is_same, lets_switch}
+use Rattle.board_defs.specs.Pins.{drive, guarded, entry_at, device_at, is_pinned, is_pulled_to, lets_switch}
 use Rattle.board_defs.specs.Settings.{Enabling, same_ctl, just, both, enables, SwitchesAt, IsSafe}
 use Rattle.board_defs.specs.BoardRules.{IsBoard, Stands}
 use Rattle.board_defs.specs.Decided.{at_most_one, is_always_on, is_by, drives_net, is_closed, admits, is_at, is_switching, own_where, own_control, is_one_sided_by, port_bits, bit_count, enables_one_sided, is_safe_alone, share_net, are_together}
@@ -24,6 +24,7 @@ use Rattle.board_defs.proofs.Places.{Found, any_place, any_at, all_at, all_from,
 use Rattle.board_defs.proofs.BoardLemmas.{pins_once, pins_stand}
 use Rattle.board_defs.proofs.Driving.{View, no_driver, always_on, by_control, one_sided, view, by_true, always_true, is_by_drive, is_always_drive, by_enables, always_enables}
 use Rattle.board_defs.proofs.Pairwise.{safe_within}
+use Rattle.board_defs.proofs.SameBits.{is_same_refl, same_of_is_same}
 
 not_both : (a b : Bool) → (a ≡ true → b ≡ true → ⊥) → not (a && b) ≡ true
 not_both true true h = absurd (h refl refl)
@@ -34,24 +35,12 @@ not_both false b h = refl
 abbrev pub OwnSwitches : RawBoard → Enabling → Type 0
 OwnSwitches board s = (at : PinAt) (cell : Cell) (control : Control) → is_pinned board at ≡ true → entry_at board at ≡ Some cell → cell.ctl ≡ Some control → control.cell ≡ cell.num → s (record { part = at.part; cell = control.cell }) ≡ true → SwitchesAt board at control.disable
 
-same_bool : (a b : Bool) → a ≡ b → is_same a b ≡ true
-same_bool true true h = refl
-same_bool true false h = cc h
-same_bool false true h = cc h
-same_bool false false h = refl
-
-bool_same : (a b : Bool) → is_same a b ≡ true → a ≡ b
-bool_same true true h = refl
-bool_same true false h = cc h
-bool_same false true h = cc h
-bool_same false false h = refl
-
 pulled_true : (value : Bool) (pull : Option Bool) → pull ≡ Some value → is_pulled_to value pull ≡ true
-pulled_true value pull h = ap (is_pulled_to value) h ∙ same_bool value value refl
+pulled_true value pull h = ap (is_pulled_to value) h ∙ is_same_refl value
 
 pulled_some : (value : Bool) (pull : Option Bool) → is_pulled_to value pull ≡ true → pull ≡ Some value
 pulled_some value None h = cc h
-pulled_some value (Some b) h = ap Some (sym (bool_same value b h))
+pulled_some value (Some b) h = ap Some (sym (same_of_is_same value b h))
 
 -- the one-sided pin that stands there is not enabled
 pub one_sided_off : (board : RawBoard) (s : Enabling) → IsBoard board → OwnSwitches board s → (n : ℕ) (net : Net) (i : ℕ) (p : NetPin) → Stands board n net i p →
@@ -105,7 +94,7 @@ is_at_same at b h =
     let Q : ℕ → Type 0 = λ n. b ≡ record { part = at.part; bit = n } in
     subst Q c (subst P p refl)
 
-is_at_some : (at : PinAt) (place : Option PinAt) → is_at at place ≡ true → place ≡ Some at
+pub is_at_some : (at : PinAt) (place : Option PinAt) → is_at at place ≡ true → place ≡ Some at
 is_at_some at None h = cc h
 is_at_some at (Some b) h = ap Some (is_at_same at b h)
 

@@ -1,7 +1,8 @@
 -- The words of a net file line by line, and words of which no two name the same pin.
-use Rattle.std.proofs.Common.{◌≡◌, ℕ, zero, suc, ◌+◌, ◌<◌, ◌==◌, Bool, true, false, ◌&&◌, List, [], ◌∷◌, ◌++◌, length, map, drop, get_or, append_assoc, arith, Option, Some, None, refl, sym, ap, ◌∙◌, Bor}
+use Rattle.std.proofs.Common.{◌≡◌, ℕ, zero, suc, ◌+◌, ◌<◌, ◌==◌, Bool, true, List, [], ◌∷◌, ◌++◌, length, map, drop, get_or, append_assoc, arith, Option, Some, None, refl, sym, ap, ◌∙◌, Bor}
 use Rattle.std.specs.Prelude.{is_none, slice_get, unwrap_or}
 use Rattle.std.proofs.lemmas.List.{drop_more}
+use Rattle.std.proofs.lemmas.Bool.{and_right}
 use Rattle.board_files.specs.declared.net_file.NetLine.{NetLine}
 use Rattle.first_places.specs.Places.{once, first_repeated}
 use Rattle.first_places.proofs.OnceLemmas.{unrepeated}
@@ -28,13 +29,9 @@ words_step names lines i line numbers done new all within read told pushed same 
     ∙ sym (append_assoc done (line_words (unwrap_or (slice_get numbers i) 0) line.line 3 line.pins) (words_of names (drop (i + 1) lines)))
     ∙ ap (λ (v : List NetWord). v ++ words_of names (drop (i + 1) lines)) (sym pushed)
 
-and_false : (a b : Bool) → b ≡ false → (a && b) ≡ false
-and_false true b e = e
-and_false false b e = refl
-
 -- where no pin is repeated, each word stands
 pub all_stand : (words : List NetWord) → first_repeated have_same_pin words ≡ None → once same_place words ≡ words
-all_stand words e = unrepeated have_same_pin same_place (λ a b h. and_false (net_of a == net_of b) (same_pin (pin_of a) (pin_of b)) h) words e
+all_stand words e = unrepeated have_same_pin same_place (λ a b h. and_right (net_of a == net_of b) (same_pin (pin_of a) (pin_of b)) h) words e
 
 pub none_of : {A : Type 0} (o : Option A) → is_none o ≡ true → o ≡ None
 none_of None e = refl

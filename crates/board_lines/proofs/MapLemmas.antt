@@ -3,8 +3,8 @@ use Rattle.std.proofs.Common.{◌≡◌, Bool, true, false, cond, List, [], ◌�
 use Rattle.std.specs.Prelude.{find, filter, option_map}
 use Rattle.std.specs.List.{list_any}
 use Rattle.std.proofs.lemmas.List.{map-append}
+use Rattle.lists.proofs.ListLemmas.{list_any-map}
 use Rattle.first_places.specs.Places.{once_from, once, repeated_from, first_repeated, first_value}
-use Rattle.board_lines.proofs.NameLemmas.{any-map}
 
 pub map_seen : {A B C : Type 0} (f : A → C) (view : A → B) (g : B → C) → ((a : A) → f a ≡ g (view a)) → (xs : List A) → map f xs ≡ map g (map view xs)
 map_seen f view g same [] = refl
@@ -30,7 +30,7 @@ once_from-map : {A B : Type 0} (f : A → B) (eq : B → B → Bool) (seen xs : 
 once_from-map f eq seen [] = refl
 once_from-map {A} {B} f eq seen (x ∷ xs) =
     by_test (list_any (λ s. eq (f s) (f x)) seen) (once_from-map f eq (seen ++ x ∷ []) xs ∙ ap (λ (v : List B). once_from eq v (map f xs)) (map-append f seen (x ∷ [])))
-    ∙ ap (λ b. cond b (once_from eq (map f seen ++ f x ∷ []) (map f xs)) (f x ∷ once_from eq (map f seen ++ f x ∷ []) (map f xs))) (any-map f (λ s. eq s (f x)) seen)
+    ∙ ap (λ b. cond b (once_from eq (map f seen ++ f x ∷ []) (map f xs)) (f x ∷ once_from eq (map f seen ++ f x ∷ []) (map f xs))) (sym (list_any-map f (λ s. eq s (f x)) seen))
   where
     by_test : (b : Bool) → map f (once_from (λ a b. eq (f a) (f b)) (seen ++ x ∷ []) xs) ≡ once_from eq (map f seen ++ f x ∷ []) (map f xs) →
         map f (cond b (once_from (λ a b. eq (f a) (f b)) (seen ++ x ∷ []) xs) (x ∷ once_from (λ a b. eq (f a) (f b)) (seen ++ x ∷ []) xs)) ≡ cond b (once_from eq (map f seen ++ f x ∷ []) (map f xs)) (f x ∷ once_from eq (map f seen ++ f x ∷ []) (map f xs))
@@ -43,7 +43,7 @@ once-map f eq xs = once_from-map f eq [] xs
 repeated_from-map : {A B C : Type 0} (f : A → B) (eq : B → B → Bool) (h : B → C) (seen xs : List A) → option_map h (repeated_from eq (map f seen) (map f xs)) ≡ option_map (λ x. h (f x)) (repeated_from (λ a b. eq (f a) (f b)) seen xs)
 repeated_from-map f eq h seen [] = refl
 repeated_from-map {A} {B} {C} f eq h seen (x ∷ xs) =
-    ap (λ b. option_map h (cond b (Some (f x)) (repeated_from eq (map f seen ++ f x ∷ []) (map f xs)))) (sym (any-map f (λ s. eq s (f x)) seen))
+    ap (λ b. option_map h (cond b (Some (f x)) (repeated_from eq (map f seen ++ f x ∷ []) (map f xs)))) (list_any-map f (λ s. eq s (f x)) seen)
     ∙ by_test (list_any (λ s. eq (f s) (f x)) seen) (ap (λ (v : List B). option_map h (repeated_from eq v (map f xs))) (sym (map-append f seen (x ∷ []))) ∙ repeated_from-map f eq h (seen ++ x ∷ []) xs)
   where
     by_test : (b : Bool) → option_map h (repeated_from eq (map f seen ++ f x ∷ []) (map f xs)) ≡ option_map (λ x. h (f x)) (repeated_from (λ a b. eq (f a) (f b)) (seen ++ x ∷ []) xs) →
@@ -59,7 +59,3 @@ repeated-map f eq h xs = repeated_from-map f eq h [] xs
 -- the value of a lent key
 pub value_lent : {A K V : Type 0} (view : A → K) (eq : K → K → Bool) (items : List (A × V)) (q : A) → first_value (λ a b. eq (view a) (view b)) items q ≡ first_value eq (map (λ (i : A × V). (view i.0, i.1)) items) (view q)
 value_lent {A} {K} {V} view eq items q = sym (find-map (λ (i : A × V). let p : K × V = (view i.0, i.1) in p) (λ (p : K × V). eq p.0 (view q)) (λ (p : K × V). p.1) items)
-
-pub map-map : {A B C : Type 0} (f : A → B) (g : B → C) (xs : List A) → map g (map f xs) ≡ map (λ x. g (f x)) xs
-map-map f g [] = refl
-map-map {A} {B} {C} f g (x ∷ xs) = ap (λ (v : List C). g (f x) ∷ v) (map-map f g xs)

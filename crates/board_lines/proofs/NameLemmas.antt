@@ -1,26 +1,18 @@
 -- Names that are lent, against the names.
-use Rattle.std.proofs.Common.{◌≡◌, ℕ, ◌+◌, ◌<◌, Bool, cond, ◌||◌, List, [], ◌∷◌, ◌++◌, length, map, drop, get_or, Option, Some, None, refl, sym, ap, ◌∙◌, append_assoc, Bor, Result, Ok, Err}
-use Rattle.std.specs.Prelude.{IfOk}
+use Rattle.std.proofs.Common.{◌≡◌, ℕ, ◌+◌, ◌<◌, Bool, cond, List, [], ◌∷◌, ◌++◌, length, map, drop, get_or, Option, Some, None, refl, sym, ap, ◌∙◌, append_assoc, Bor}
 use Rattle.std.proofs.lemmas.List.{map-append, drop_more}
-use Rattle.std.specs.List.{list_any, position_from}
-use Rattle.first_places.specs.Places.{first_place, first_repeat, repeat_from}
+use Rattle.std.specs.List.{list_any}
+use Rattle.lists.proofs.ListLemmas.{list_any-map}
+use Rattle.first_places.specs.Places.{first_repeat, repeat_from}
 use Rattle.board_files.specs.declared.chain_file.ChainLine.{ChainLine}
 use Rattle.board_lines.specs.declared.names.Naming.{Naming}
 use Rattle.board_files.specs.Names.{same_word}
 use Rattle.board_lines.specs.Names.{Named, named, name_of, with_name}
 
-pub any-map : {A B : Type 0} (f : A → B) (p : B → Bool) (xs : List A) → list_any (λ a. p (f a)) xs ≡ list_any p (map f xs)
-any-map f p [] = refl
-any-map f p (x ∷ xs) = ap (λ b. p (f x) || b) (any-map f p xs)
-
-pub place-map : {A B : Type 0} (f : A → B) (p : B → Bool) (n : ℕ) (xs : List A) → position_from (λ a. p (f a)) n xs ≡ position_from p n (map f xs)
-place-map f p n [] = refl
-place-map f p n (x ∷ xs) = ap (cond (p (f x)) (Some n)) (place-map f p (n + 1) xs)
-
 pub repeat-map : {A B : Type 0} (f : A → B) (eq : B → B → Bool) (seen : List A) (n : ℕ) (xs : List A) → repeat_from (λ a b. eq (f a) (f b)) seen n xs ≡ repeat_from eq (map f seen) n (map f xs)
 repeat-map f eq seen n [] = refl
 repeat-map f eq seen n (x ∷ xs) =
-    ap (λ b. cond b (Some n) (repeat_from (λ a b. eq (f a) (f b)) (seen ++ x ∷ []) (n + 1) xs)) (any-map f (λ s. eq s (f x)) seen)
+    ap (λ b. cond b (Some n) (repeat_from (λ a b. eq (f a) (f b)) (seen ++ x ∷ []) (n + 1) xs)) (sym (list_any-map f (λ s. eq s (f x)) seen))
     ∙ ap (cond (list_any (λ s. eq s (f x)) (map f seen)) (Some n)) (repeat-map f eq (seen ++ x ∷ []) (n + 1) xs ∙ ap (λ s. repeat_from eq s (n + 1) (map f xs)) (map-append f seen (x ∷ [])))
 
 -- the names so far, and then those of the lines that are left
@@ -39,13 +31,6 @@ named_none line o done rest all e same = same ∙ ap (λ o. done ++ with_name li
 -- the first name that stands a second time, of lent names
 pub first_repeat_lent : (names : List (Bor (List ℕ))) → first_repeat (λ a b. same_word a.now b.now) names ≡ first_repeat same_word (map (λ n. n.now) names)
 first_repeat_lent names = repeat-map (λ n. n.now) same_word [] 0 names
-
-pub first_place_lent : (names : List (Bor (List ℕ))) (q : Bor (List ℕ)) → first_place (λ a b. same_word a.now b.now) names q ≡ first_place same_word (map (λ n. n.now) names) q.now
-first_place_lent names q = place-map (λ n. n.now) (λ n. same_word n q.now) 0 names
-
-pub if_ok_map : {V E : Type 0} (P Q : V → Type 0) → ((v : V) → P v → Q v) → (r : Result V E) → IfOk r P → IfOk r Q
-if_ok_map P Q f (Ok v) h = f v h
-if_ok_map P Q f (Err e) h = tt
 
 -- a question about each lent name
 pub map_lent : {A : Type 0} (f : Bor (List ℕ) → A) (g : List ℕ → A) → ((n : Bor (List ℕ)) → f n ≡ g n.now) → (names : List (Bor (List ℕ))) → map f names ≡ map g (map (λ n. n.now) names)

@@ -7,6 +7,7 @@ use Rattle.std.specs.Cmp.Lexicographic.{same_text}
 use Rattle.std.proofs.lemmas.List.{drop_more, take_more}
 use Rattle.std.proofs.lemmas.List.Folds.{find-append}
 use Rattle.std.proofs.lemmas.Option.{slice_get-map}
+use Rattle.lists.proofs.ListLemmas.{position_from-map}
 use Rattle.first_places.specs.Places.{first_place, first_value}
 use Rattle.board_files.specs.Names.{same_word}
 use Rattle.board_defs.specs.declared.device.PortBit.{PortBit}
@@ -16,7 +17,6 @@ use Rattle.board_defs.specs.declared.board.PartKind.TheVariants.{Described, Bypa
 use Rattle.board_defs.specs.declared.board.PinAt.{PinAt}
 use Rattle.board_lines.specs.NetWords.{Pin, same_pin}
 use Rattle.board_lines.specs.ChainParts.{PinPlace, bit_places, with_place, part_places, places_from, pin_places, place_of_pin}
-use Rattle.board_lines.proofs.NameLemmas.{place-map}
 use Rattle.board_lines.specs.PinRows.{AreRows, bit_of_pin, is_pin, pins_of, pins_of_bits, place_by_part, row_at}
 
 -- the place of a pin within a part, from its port bit
@@ -198,4 +198,4 @@ bits_step bits i default name old new some within was put =
 
 -- the map of all bits
 pub bits_all : (bits : List PortBit) (i : ℕ) (name : List ℕ) → i ≡ 0 → position_from (λ (b : PortBit). is_pin name b.pin) i (drop i bits) ≡ bit_of_pin (pins_of_bits bits) name
-bits_all bits i name e = ap (λ k. position_from (λ (b : PortBit). is_pin name b.pin) k (drop k bits)) e ∙ place-map (λ (b : PortBit). b.pin) (is_pin name) 0 bits
+bits_all bits i name e = ap (λ k. position_from (λ (b : PortBit). is_pin name b.pin) k (drop k bits)) e ∙ position_from-map (λ (b : PortBit). b.pin) (is_pin name) 0 bits

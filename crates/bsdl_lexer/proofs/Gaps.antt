@@ -2,9 +2,9 @@
 use Rattle.std.proofs.Common.{◌≡◌, ℕ, suc, ◌+◌, ◌≤◌, List, [], ◌∷◌, ◌++◌, length, take, drop, Bool, true, false, ◌&&◌, ◌||◌, not, ◌==◌, cond, IsTrue, ◌⊎◌, inl, inr, refl, sym, ◌∙◌, ap, subst, arith, append_assoc, append-nil, length-append, nat_eq}
 use Rattle.std.proofs.lemmas.Bool.Decides.{nat_tests}
 use Rattle.std.specs.List.{list_all}
+use Rattle.std.proofs.lemmas.Bool.{and_parts}
 use Rattle.bsdl_lexer.specs.Forms.{IsGap, nothing, blank, comment, last_comment, is_blank, begins_comment, begins_gap, line_feed, dash}
 use Rattle.bsdl_lexer.specs.inner.Lengths.{gap_len}
-use Rattle.bsdl_lexer.proofs.Longest.{both_true}
 
 abbrev pub stays : ℕ → Bool
 stays byte = not (byte == line_feed)
@@ -39,7 +39,7 @@ behind_dash more rest h = go h.words h.split h.free
       | inl k ↦ (let z : dash ∷ rest ≡ [] = e ∙ k.0 in cc)
       | inr k ↦ (let z : dash ∷ rest ≡ line_feed ∷ k.0 = e ∙ k.1 in absurd (let y : dash ≡ line_feed = cc in omega arith))
     ]
-    go (w ∷ words) e f = record { words = words; tail = h.tail; split = cc; free = (both_true (stays w) (list_all stays words) f).1; ends = h.ends }
+    go (w ∷ words) e f = record { words = words; tail = h.tail; split = cc; free = (and_parts (stays w) (list_all stays words) f).1; ends = h.ends }
 
 longer_rest : (first : ℕ) (more rest : List ℕ) → nat_eq first line_feed ≡ false → CommentRest more rest → CommentRest more (first ∷ rest)
 longer_rest first more rest n h = record { words = first ∷ h.words; tail = h.tail; split = ap (λ xs. first ∷ xs) h.split; free = rw n h.free; ends = h.ends }

@@ -4,11 +4,11 @@ use Rattle.std.proofs.lemmas.Bool.Decides.{nat_tests}
 use Rattle.std.proofs.lemmas.List.Sums.{sum_by-cons, sum_by-append}
 use Rattle.std.specs.List.{list_all}
 use Rattle.std.specs.Char.{is_ascii_alphabetic, is_ascii_digit}
+use Rattle.std.proofs.lemmas.Bool.{and_parts}
 use Rattle.bsdl_lexer.specs.declared.token.TokenKind.{TokenKind}
 use Rattle.bsdl_lexer.specs.declared.token.TokenKind.TheVariants.{Word, Number, Text, Mark}
 use Rattle.bsdl_lexer.specs.Forms.{HasForm, IsDigits, IsSigned, IsFraction, IsExponent, is_word_byte, is_text_byte, is_sign, is_exponent_letter, point, is_mark, quote, line_feed}
 use Rattle.bsdl_lexer.specs.Tokens.{line_feeds}
-use Rattle.bsdl_lexer.proofs.Longest.{both_true}
 
 pub line_feeds-append : (xs ys : List ℕ) → line_feeds (xs ++ ys) ≡ line_feeds xs + line_feeds ys
 line_feeds-append xs ys = sum_by-append (λ byte. cond (nat_eq byte line_feed) 1 0) xs ys
@@ -33,7 +33,7 @@ none_more x xs n h =
 none_in : (p : ℕ → Bool) (xs : List ℕ) → p line_feed ≡ false → list_all p xs ≡ true → line_feeds xs ≡ 0
 none_in p [] n h = refl
 none_in p (x ∷ xs) n h =
-    let k = both_true (p x) (list_all p xs) h in
+    let k = and_parts (p x) (list_all p xs) h in
     none_more x xs (other_byte p x n k.0) (none_in p xs n k.1)
 
 none_at : (p : ℕ → Bool) (x : ℕ) (xs : List ℕ) → p line_feed ≡ false → p x ≡ true → line_feeds xs ≡ 0 → line_feeds (x ∷ xs) ≡ 0

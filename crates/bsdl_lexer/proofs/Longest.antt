@@ -1,22 +1,19 @@
 -- What the length of the token at the front says.
-use Rattle.std.proofs.Common.{◌≡◌, ℕ, suc, ◌+◌, ◌<◌, ◌≤◌, List, [], ◌∷◌, ◌++◌, length, take, drop, Bool, true, false, ◌&&◌, cond, IsTrue, inl, inr, refl, sym, ◌∙◌, ap, subst, arith, append_assoc, append-nil, length-append, nat_eq, Some, slice_get}
+use Rattle.std.proofs.Common.{◌≡◌, ℕ, suc, ◌+◌, ◌<◌, ◌≤◌, List, [], ◌∷◌, ◌++◌, length, take, drop, Bool, true, false, cond, IsTrue, inl, inr, refl, sym, ◌∙◌, ap, subst, arith, append_assoc, append-nil, length-append, nat_eq, Some, slice_get}
 use Rattle.std.proofs.lemmas.Bool.Decides.{nat_tests}
 use Rattle.std.specs.List.{prefix_len, list_all}
 use Rattle.std.specs.Char.{is_ascii_alphabetic, is_ascii_digit}
+use Rattle.std.proofs.lemmas.Bool.{and_parts}
 use Rattle.bsdl_lexer.specs.declared.token.TokenKind.{TokenKind}
 use Rattle.bsdl_lexer.specs.declared.token.TokenKind.TheVariants.{Word, Number, Text, Mark}
 use Rattle.bsdl_lexer.specs.Forms.{IsWord, IsDigits, IsFraction, IsSigned, IsExponent, IsNumber, IsText, HasForm, is_word_byte, is_text_byte, is_mark, is_exponent_letter, is_sign, begins_comment, quote, point}
 use Rattle.bsdl_lexer.specs.inner.Lengths.{with_digits, fraction_len, signed_len, exponent_len, number_len, closed_len, token_at}
 
-pub both_true : (a b : Bool) → (a && b) ≡ true → (a ≡ true) × (b ≡ true)
-both_true true b h = (refl, h)
-both_true false b h = cc
-
 -- a front that passes is within the longest one
 at_least : (p : ℕ → Bool) (xs ys : List ℕ) → list_all p xs ≡ true → length xs ≤ prefix_len p (xs ++ ys)
 at_least p [] ys h = omega arith
 at_least p (x ∷ xs) ys h =
-    let k = both_true (p x) (list_all p xs) h in
+    let k = and_parts (p x) (list_all p xs) h in
     let others : length xs ≤ prefix_len p (xs ++ ys) = at_least p xs ys k.1 in
     rw k.0 (omega arith)
 
@@ -24,7 +21,7 @@ at_least p (x ∷ xs) ys h =
 exactly : (p : ℕ → Bool) (xs : List ℕ) (y : ℕ) (ys : List ℕ) → list_all p xs ≡ true → p y ≡ false → prefix_len p (xs ++ y ∷ ys) ≡ length xs
 exactly p [] y ys h n = rw n
 exactly p (x ∷ xs) y ys h n =
-    let k = both_true (p x) (list_all p xs) h in
+    let k = and_parts (p x) (list_all p xs) h in
     rw (k.0, exactly p xs y ys k.1 n) (omega arith)
 
 -- the longest front passes
@@ -65,7 +62,7 @@ letter_no_point b h = grind (arith, nat_tests)
 signed_at_least : (xs ys : List ℕ) → IsSigned xs → 1 + length xs ≤ signed_len (xs ++ ys)
 signed_at_least [] ys h = absurd h
 signed_at_least (x ∷ xs) ys (inl h) =
-    let digit : is_ascii_digit x ≡ true = (both_true (is_ascii_digit x) (list_all is_ascii_digit xs) h).0 in
+    let digit : is_ascii_digit x ≡ true = (and_parts (is_ascii_digit x) (list_all is_ascii_digit xs) h).0 in
     rw (digit_no_sign x digit) (digits_at_least 1 (x ∷ xs) ys h)
 signed_at_least (x ∷ xs) ys (inr h) = rw h.0 (let k : 2 + length xs ≤ with_digits 2 (xs ++ ys) = digits_at_least 2 xs ys h.1 in omega arith)
 
@@ -142,7 +139,7 @@ number_first first others h = starts h.whole h.parts h.digits
   where
     starts : (whole : List ℕ) → first ∷ others ≡ whole ++ (h.fraction ++ h.exponent) → IsDigits whole → is_ascii_digit first ≡ true
     starts [] e d = absurd d
-    starts (x ∷ xs) e d = let same : first ≡ x = cc in rw same (both_true (is_ascii_digit x) (list_all is_ascii_digit xs) d).0
+    starts (x ∷ xs) e d = let same : first ≡ x = cc in rw same (and_parts (is_ascii_digit x) (list_all is_ascii_digit xs) d).0
 
 number_within : (first : ℕ) (others more : List ℕ) → begins_comment (first ∷ (others ++ more)) ≡ false → IsNumber (first ∷ others) → IsWithin (first ∷ (others ++ more)) Number (length (first ∷ others))
 number_within first others more n h =

@@ -2,12 +2,12 @@
 use Rattle.std.proofs.Common.{◌≡◌, ℕ, suc, List, [], ◌∷◌, ◌++◌, Bool, true, false, cond, Option, Some, None, ◌⊎◌, inl, inr, refl, sym, ◌∙◌, ap, arith, nat_eq, slice_get, IsTrue}
 use Rattle.std.proofs.lemmas.Bool.Decides.{nat_tests}
 use Rattle.std.specs.List.{prefix_len, list_all}
+use Rattle.std.proofs.lemmas.Bool.{and_parts}
 use Rattle.bsdl_lexer.specs.declared.token.TokenKind.{TokenKind}
 use Rattle.bsdl_lexer.specs.declared.token.TokenKind.TheVariants.{Text}
 use Rattle.bsdl_lexer.specs.Forms.{begins_gap, is_text_byte, line_feed, carriage_return, quote}
 use Rattle.bsdl_lexer.specs.Answer.{BeginsOpenText, EndsOpen}
 use Rattle.bsdl_lexer.specs.inner.Lengths.{token_at, closed_len}
-use Rattle.bsdl_lexer.proofs.Longest.{both_true}
 
 -- the byte behind the longest front that may stand in a text
 byte_behind : List ℕ → Option ℕ
@@ -74,7 +74,7 @@ never_closed [] [] a o e = none_behind e
 never_closed [] (y ∷ ys) (a) (inl o) e = let k : byte_behind (y ∷ ys) ≡ Some y = behind_none y ys (rw o refl) in let same : quote ≡ line_feed = cc in absurd (omega arith)
 never_closed [] (y ∷ ys) (a) (inr o) e = let k : byte_behind (y ∷ ys) ≡ Some y = behind_none y ys (rw o refl) in let same : quote ≡ carriage_return = cc in absurd (omega arith)
 never_closed (x ∷ inner) more a o e =
-    let k = both_true (is_text_byte x) (list_all is_text_byte inner) a in
+    let k = and_parts (is_text_byte x) (list_all is_text_byte inner) a in
     never_closed inner more k.1 o (sym (behind_first x (inner ++ more) k.0) ∙ e)
 
 quote_at : (others : List ℕ) → token_at (quote ∷ others) ≡ closed_len (byte_behind others) (prefix_len is_text_byte others)

@@ -4,6 +4,7 @@ use Rattle.std.proofs.lemmas.Bool.Decides.{nat_tests}
 use Rattle.std.proofs.lemmas.Option.{IfSome_then}
 use Rattle.answers.specs.Gives.{Gives}
 use Rattle.std.specs.Result.{IfOk}
+use Rattle.std.proofs.lemmas.Bool.{and_parts}
 use Rattle.bsdl_lexer.specs.declared.token.Token.{Token}
 use Rattle.bsdl_lexer.specs.Tokens.{AreTokens}
 use Rattle.bsdl_parser.specs.declared.fault.ParseFault.{ParseFault}
@@ -17,7 +18,6 @@ use Rattle.bsdl_parser.specs.Bsdl.{file}
 use Rattle.bsdl_parser.specs.Answer.{Derives, IsStray, StartsPackage, IsUnfinished, last_line, IsFault, IsAnswer, parse_told}
 use Rattle.bsdl_parser.specs.inner.Judged.{is_package, fault_at, judged}
 use Rattle.grammars.proofs.Exact.{RunsOut, Reads, Refuses, IsLocalAt, reads_on}
-use Rattle.bsdl_parser.proofs.Integers.{both_true}
 use Rattle.bsdl_parser.proofs.Decided.{decides_file}
 use Rattle.bsdl_parser.proofs.AttributeKinds.{have_kinds}
 use Rattle.bsdl_parser.proofs.Sizes.{is_small}
@@ -114,7 +114,7 @@ no_front (t ∷ before) after tokens token e h =
 
 starts_inside : (before after tokens : List Lexeme) (token : Lexeme) → tokens ≡ before ++ token ∷ after → (is_package token && nat_eq (length (token ∷ after)) (length tokens)) ≡ true → StartsPackage before token
 starts_inside before after tokens token e h =
-    let k = both_true (is_package token) (nat_eq (length (token ∷ after)) (length tokens)) h in
+    let k = and_parts (is_package token) (nat_eq (length (token ∷ after)) (length tokens)) h in
     record { word = k.0; place = inl (no_front before after tokens token e k.1) }
 
 whole_front : (tokens : List Lexeme) (token : Lexeme) (after : List Lexeme) → tokens ≡ token ∷ after → nat_eq (length (token ∷ after)) (length tokens) ≡ true
@@ -146,13 +146,14 @@ judged_is text tokens (refused (token ∷ after)) is h =
 pub is_answer : (text : List ℕ) (tokens : List Lexeme) → IsAnswer text tokens (judged text tokens (reader_of file tokens))
 is_answer text tokens = judged_is text tokens (read tokens) refl (decides_file.local tokens)
 
-not_true : (b : Bool) → (b ≡ true → ⊥) → b ≡ false
-not_true true n = absurd (n refl)
-not_true false n = refl
-
 unfinished : (text : List ℕ) (tokens : List Lexeme) (o : Outcome Lexeme Entity) → read tokens ≡ o → RunsOut o → IsUnfinished tokens → Err (Expected (last_line text)) ≡ judged text tokens o
 unfinished text tokens (found entity rest) is out h = absurd (h.no_entity entity (decides_file.is_whole tokens entity (is ∙ ap (found entity) out)))
 unfinished text tokens (refused rest) is out h = ap (λ ts. judged text tokens (refused ts)) (sym out)
+
+agree : (a b : Bool) → (a ≡ true → b ≡ true) → (b ≡ true → a ≡ true) → a ≡ b
+agree true b f g = sym (f refl)
+agree false true f g = g refl
+agree false false f g = refl
 
 stray_is : (text : List ℕ) (tokens before : List Lexeme) (token : Lexeme) (after : List Lexeme) → IsStray tokens before token after → (o : Outcome Lexeme Entity) → StrayRead before token after o → (b : Bool)
     → (StartsPackage before token → b ≡ true) → (b ≡ true → StartsPackage before token) → Err (fault_at b token.line) ≡ judged text tokens o
@@ -160,19 +161,9 @@ stray_is text tokens before token after h o (inside e cut) b starts is =
     let same : b ≡ (is_package token && nat_eq (length (token ∷ after)) (length tokens)) = agree b (is_package token && nat_eq (length (token ∷ after)) (length tokens))
     (λ k. is_start_inside before after tokens token h.split cut (is k)) (λ k. starts (starts_inside before after tokens token h.split k)) in
     ap (λ b. Err (fault_at b token.line)) same ∙ ap (judged text tokens) (sym e)
-  where
-    agree : (a b : Bool) → (a ≡ true → b ≡ true) → (b ≡ true → a ≡ true) → a ≡ b
-    agree true b f g = sym (f refl)
-    agree false true f g = g refl
-    agree false false f g = refl
 stray_is text tokens before token after h o (behind entity e whole) b starts is =
     let same : b ≡ is_package token = agree b (is_package token) (λ k. (is k).word) (λ k. starts (starts_behind before token entity whole k)) in
     ap (λ b. Err (fault_at b token.line)) same ∙ ap (judged text tokens) (sym e)
-  where
-    agree : (a b : Bool) → (a ≡ true → b ≡ true) → (b ≡ true → a ≡ true) → a ≡ b
-    agree true b f g = sym (f refl)
-    agree false true f g = g refl
-    agree false false f g = refl
 
 -- there is no other answer
 pub one_answer : (text : List ℕ) (tokens : List Lexeme) (other : Result Entity ParseFault) → IsAnswer text tokens other → other ≡ judged text tokens (reader_of file tokens)

@@ -15,11 +15,11 @@ use Rattle.btest_cli.specs.Texts.{Held, Wanted, Reading, Read, TooLong, IsRead, 
 use Rattle.btest_cli.specs.inner.Failures.{wanted_view}
 use Rattle.btest_cli.specs.inner.Reads.{AreAll, Continues, IsOne, IsReadOf, IsUnread, Reads, behind}
 
-not_long : (limit n : ℕ) (b : Bool) → nat_lt limit n ≡ b → n ≤ limit → b ≡ false
+pub not_long : (limit n : ℕ) (b : Bool) → nat_lt limit n ≡ b → n ≤ limit → b ≡ false
 not_long limit n true test short = grind (arith, common_steps)
 not_long limit n false test short = refl
 
-is_long : (limit n : ℕ) (b : Bool) → nat_lt limit n ≡ b → limit < n → b ≡ true
+pub is_long : (limit n : ℕ) (b : Bool) → nat_lt limit n ≡ b → limit < n → b ≡ true
 is_long limit n true test long = refl
 is_long limit n false test long = grind (arith, common_steps)
 

@@ -1,9 +1,10 @@
 -- Words that are no flags, and what `clap` does with one where an argument by place may stand.
-use Rattle.std.proofs.Common.{◌≡◌, refl, ap, ◌∙◌, true, false, Bool, List, [], ◌∷◌, ℕ, nat_eq, Some, None}
-use Rattle.std.specs.Prelude.{◌&&◌, not, option_and_then, if◌then◌else◌}
+use Rattle.std.proofs.Common.{◌≡◌, ap, ◌∙◌, true, false, Bool, List, [], ◌∷◌, ℕ, nat_eq, Some, None}
+use Rattle.std.specs.Prelude.{option_and_then, if◌then◌else◌}
 use Rattle.std.specs.List.{list_all}
 use Rattle.std.specs.Option.{option_map_or}
 use Rattle.std.specs.Str.{bytes_eq}
+use Rattle.std.proofs.lemmas.Bool.{and_left, and_parts, not-true}
 use Rattle.clap.specs.Lexer.{strip_byte, long_of, long_of_rest, short_of, short_of_rest}
 use Rattle.clap.specs.Walk.{after_step, word_met, value, trailing, long_or_other, short_or_plain, Held, Rule, Text, Walk, walked, idle, positional}
 use Rattle.clap.specs.Simple.{Shape}
@@ -18,15 +19,12 @@ pub record Plain (word : Text) : Type 0 where
   pub long : long_of word ≡ None
   pub short : short_of word ≡ None
 
-by_false : (t u : Bool) → t ≡ false → (t && u) ≡ false
-by_false t u e = ap (λ x. x && u) e
-
 strip-plain : (b : ℕ) (bs : Text) → nat_eq b 45 ≡ false → strip_byte 45 (b ∷ bs) ≡ None
 strip-plain b bs e = ap (λ (t : Bool). (if t then Some bs else None)) e
 
 plain : (b : ℕ) (bs : Text) → nat_eq b 45 ≡ false → Plain (b ∷ bs)
 plain b bs e = record {
-  dashes = by_false (nat_eq b 45) (bytes_eq bs (45 ∷ [])) e;
+  dashes = and_left (nat_eq b 45) (bytes_eq bs (45 ∷ [])) e;
   long = ap (λ o. option_and_then long_of_rest (option_and_then (strip_byte 45) o)) (strip-plain b bs e);
   short = ap (λ o. option_and_then short_of_rest o) (strip-plain b bs e);
 }
@@ -36,25 +34,13 @@ abbrev pub AllPlain : List Text → Type 0
 AllPlain [] = Unit {0}
 AllPlain (w ∷ ws) = Plain w × AllPlain ws
 
-and_first : (a b : Bool) → (a && b) ≡ true → a ≡ true
-and_first true b e = refl
-and_first false b e = absurd cc
-
-and_second : (a b : Bool) → (a && b) ≡ true → b ≡ true
-and_second true b e = e
-and_second false b e = absurd cc
-
-not_true : (b : Bool) → not b ≡ true → b ≡ false
-not_true true e = absurd cc
-not_true false e = refl
-
 is_plain_gives : (w : Text) → is_plain w ≡ true → Plain w
 is_plain_gives [] e = absurd cc
-is_plain_gives (b ∷ bs) e = plain b bs (not_true (nat_eq b 45) e)
+is_plain_gives (b ∷ bs) e = plain b bs (not-true (nat_eq b 45) e)
 
 pub all_plain : (ws : List Text) → list_all is_plain ws ≡ true → AllPlain ws
 all_plain [] e = tt
-all_plain (w ∷ ws) e = (is_plain_gives w (and_first (is_plain w) (list_all is_plain ws) e), all_plain ws (and_second (is_plain w) (list_all is_plain ws) e))
+all_plain (w ∷ ws) e = (is_plain_gives w ((and_parts (is_plain w) (list_all is_plain ws) e).0), all_plain ws ((and_parts (is_plain w) (list_all is_plain ws) e).1))
 
 pub idle_met : (c : List Rule) (position : ℕ) (word : Text) (h : Held) → Plain word → word_met c [] false idle position word h ≡ (h, value)
 idle_met c position word h p =

@@ -1,6 +1,7 @@
 -- The walk of `clap` over the words of a command.
 use Rattle.std.proofs.Common.{◌≡◌, refl, sym, ap, ◌∙◌, true, false, Bool, List, [], ◌∷◌, ◌++◌, codes, Some, None, append_assoc, append-nil}
 use Rattle.std.specs.Prelude.{fold, ◌||◌, if◌then◌else◌}
+use Rattle.std.proofs.Math.Bool.{or-true}
 use Rattle.clap.specs.declared.parser.matches.ValueSource.TheVariants.{CommandLine}
 use Rattle.clap.specs.Values.{reading_of}
 use Rattle.clap.specs.Facts.{parser_of_value}
@@ -66,17 +67,13 @@ names_fault s at_names takes tail x (y ∷ rest) all =
     goes_on s (at_names tail x) (at_names (more_rows x tail) y) y rest (takes.passes tail x y all.0) (takes.step tail x y all.0)
     ∙ names_fault s at_names takes (more_rows x tail) y rest all.1
 
-or_any : (b : Bool) → (b || true) ≡ true
-or_any true = refl
-or_any false = refl
-
 if_same : {X : Type 0} (b : Bool) (x : X) → (if b then x else x) ≡ x
 if_same true x = refl
 if_same false x = refl
 
 -- names that are not given are no fault, and have no default
 pub no_default_fault : (names_built : Rule) (rows : List Row) → (default_fault rows names_built ≡ (if has_row (codes "BSDL") rows || true then [] else given_default_fault names_built [])) → default_fault rows names_built ≡ []
-no_default_fault names_built rows is = is ∙ ap (λ (t : Bool). (if t then [] else given_default_fault names_built [])) (or_any (has_row (codes "BSDL") rows))
+no_default_fault names_built rows is = is ∙ ap (λ (t : Bool). (if t then [] else given_default_fault names_built [])) (or-true (has_row (codes "BSDL") rows))
 
 pub no_default : (names_built : Rule) (rows : List Row) → (with_default rows names_built ≡ (if has_row (codes "BSDL") rows then rows else rows)) → with_default rows names_built ≡ rows
 no_default names_built rows is = is ∙ if_same (has_row (codes "BSDL") rows) rows

@@ -1,8 +1,9 @@
 -- How many rows a log of a walking test has.
-use Rattle.std.proofs.Common.{◌≡◌, ◌∙◌, ℕ, suc, ◌+◌, ◌*◌, Bool, true, false, cond, List, [], ◌∷◌, length, Option, Some, None, refl, ap, sym, arith}
+use Rattle.std.proofs.Common.{◌≡◌, ◌∙◌, ℕ, suc, ◌+◌, Bool, true, false, cond, List, [], ◌∷◌, length, Option, Some, None, refl, ap, sym, arith}
 use Rattle.std.specs.Prelude.{count_by, filter, slice_get}
 use Rattle.std.specs.List.{range_with_len}
 use Rattle.std.proofs.lemmas.List.Sums.{sum_by-cons}
+use Rattle.std.proofs.Math.Nat.{one-mul}
 use Rattle.board_defs.specs.declared.board.Ctl.{Ctl}
 use Rattle.board_defs.specs.declared.board.Net.{Net}
 use Rattle.board_defs.specs.declared.board.RawBoard.{RawBoard}
@@ -36,9 +37,6 @@ module _ {X : Type 0} (p : X → Bool) (q : ℕ → Bool) where
       by_test true e counted = ap (λ (b : Bool). length (cond b (k ∷ rest) rest)) e ∙ omega (arith, counted)
       by_test false e counted = ap (λ (b : Bool). length (cond b (k ∷ rest) rest)) e ∙ omega (arith, counted)
 
-one_times : (n : ℕ) → 1 * n ≡ n
-one_times n = omega arith
-
 module _ (board : RawBoard) (compare : (walk : List Ctl) → CompareRows (walk_row board) (count_by (is_walked board walk) board.nets) (walk ∷ []) (compared_scans board (walk_row_scans board walk)))
     (counted : (rows : List RowScan) → count_by is_compared (board_scans board rows) ≡ length (compared_scans board rows)) where
   -- one for each compared SDR statement
@@ -58,7 +56,7 @@ module _ (board : RawBoard) (compare : (walk : List Ctl) → CompareRows (walk_r
           ∙ sym (counted []) ∙ ap (λ (o : Option (List Ctl)). count_by is_compared (board_scans board (scans_by board o))) (sym is)
       by_setting (Some walk) is =
           kept_count (is_walked board walk) (λ n. is_walk_net board (walk_setting board) (slice_get board.nets n)) 0 board.nets (tests walk is)
-          ∙ sym (one_times (count_by (is_walked board walk) board.nets))
+          ∙ sym (one-mul (count_by (is_walked board walk) board.nets))
           ∙ sym (compare walk).count
           ∙ sym (counted (walk_row_scans board walk))
           ∙ ap (λ (o : Option (List Ctl)). count_by is_compared (board_scans board (scans_by board o))) (sym is)

@@ -2,6 +2,7 @@
 use Rattle.std.proofs.Common.{◌≡◌, ◌<◌, ◌≤◌, ℕ, zero, suc, ◌+◌, ◌*◌, List, [], ◌∷◌, ◌++◌, length, take, drop, Option, Some, slice_get, Result, Ok, Err, IsErr, refl, sym, ap, ◌∙◌, subst, append_assoc, append-nil, arith}
 use Rattle.std.specs.Prelude.{IfSome}
 use Rattle.std.proofs.lemmas.List.{take_all}
+use Rattle.std.proofs.Math.Numerals.{suc-eq-add-one}
 use Rattle.bt_base.specs.Puts.{Puts, Shown}
 use Rattle.bt_base.proofs.Cuts.{puts_ok, puts_cut}
 use Rattle.board_defs.specs.declared.board.RawBoard.{RawBoard}
@@ -51,9 +52,6 @@ below scans k count is within = subst (λ n. k < n) is within
 pub past : (scans : List Scan) (k count : ℕ) → count ≡ length scans → count ≤ k → length scans ≤ k
 past scans k count is beyond = subst (λ n. n ≤ k) is beyond
 
-next : (k : ℕ) → suc k ≡ k + 1
-next k = omega arith
-
 -- what was put before scan k, and that scan
 pub puts_scan : {E : Type 0} {old mid new : Shown} {r : Result (Unit {0}) E} {x : Unit {0}} (head : Text) (scans : List Scan) (k : ℕ) → k < length scans → Puts {T = Unit {0}} {E = E} old mid (head ++ scan_texts (take k scans)) (Ok tt)
     → IfSome (slice_get scans k) (λ scan. Puts mid new (scan_text scan) r) → r ≡ Ok x → Puts {T = Unit {0}} {E = E} old new (head ++ scan_texts (take (k + 1) scans)) (Ok tt)
@@ -62,7 +60,7 @@ puts_scan {E} {old} {mid} {new} {r} {x} head scans k within before put ok =
     let one = subst (λ (o : Option Scan). IfSome o (λ scan. Puts mid new (scan_text scan) r)) at.1 put in
     let done = puts_ok before refl (subst (λ (q : Result (Unit {0}) E). Puts mid new (scan_text at.0) q) ok one) in
     let text : (head ++ scan_texts (take k scans)) ++ scan_text at.0 ≡ head ++ scan_texts (take (k + 1) scans) =
-    append_assoc head (scan_texts (take k scans)) (scan_text at.0) ∙ ap (λ t. head ++ t) (sym (texts_more scans k at.0 at.1)) ∙ ap (λ n. head ++ scan_texts (take n scans)) (next k) in
+    append_assoc head (scan_texts (take k scans)) (scan_text at.0) ∙ ap (λ t. head ++ t) (sym (texts_more scans k at.0 at.1)) ∙ ap (λ n. head ++ scan_texts (take n scans)) (suc-eq-add-one k) in
     unit_put text done
   where
     unit_put : {E : Type 0} {old new : Shown} {a b : Text} {x : Unit {0}} → a ≡ b → Puts {T = Unit {0}} {E = E} old new a (Ok x) → Puts {T = Unit {0}} {E = E} old new b (Ok tt)

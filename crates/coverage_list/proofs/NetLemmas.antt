@@ -8,6 +8,7 @@ use Rattle.std.proofs.lemmas.List.{take_more}
 use Rattle.std.proofs.lemmas.List.Elements.{filter-append}
 use Rattle.std.proofs.lemmas.Option.{slice_get_within, get_or_from_slice_get}
 use Rattle.std.proofs.lemmas.List.Sums.{get_or-le-sum_by}
+use Rattle.lists.proofs.ListLemmas.{item_there}
 use Rattle.board_defs.specs.declared.board.Net.{Net}
 use Rattle.board_defs.specs.declared.board.RawBoard.{RawBoard}
 use Rattle.board_defs.specs.declared.board.NetPin.{NetPin}
@@ -21,12 +22,6 @@ use Rattle.coverage_list.specs.inner.CoverForms.{of_item, texts_from, net_reason
 
 pub same_item : {X : Type 0} {o : Option X} {x y : X} → o ≡ Some x → o ≡ Some y → x ≡ y
 same_item {X} {o} {x} {y} e f = cc
-
--- the item that stands at a place
-pub item_there : {X : Type 0} (xs : List X) (i : ℕ) → i < length xs → (x : X) × (slice_get xs i ≡ Some x)
-item_there [] i h = absurd (omega arith)
-item_there (x ∷ xs) zero h = (x, refl)
-item_there (x ∷ xs) (suc i) h = item_there xs i (omega arith)
 
 -- how many of the first items pass, with one more
 pub count_more : {X : Type 0} (p : X → Bool) (xs : List X) (i : ℕ) (x : X) → slice_get xs i ≡ Some x → length (filter p (take (i + 1) xs)) ≡ length (filter p (take i xs)) + cond (p x) 1 0
@@ -104,10 +99,6 @@ empty_word board low from end word one are none most at = texts_empty (pair_at b
         ap (λ t. cond t (pair_line one other) []) (sym (bit_says board low n word one other (subst P same are) at e) ∙ unset n)
 
 -- the texts of a net, a pin and a pair are those of their numbers
-pub is_true : (b : Bool) → not b ≡ false → b ≡ true
-is_true true e = refl
-is_true false e = cc e
-
 pub reason_is : (board : RawBoard) (n : ℕ) (net : Net) (reason : Option Reason) → slice_get board.nets n ≡ Some net → reason ≡ reason_of board net → reason_line net.name reason ≡ reason_at board n
 reason_is board n net reason at e = ap (reason_line net.name) e ∙ sym (ap (of_item (net_reason board)) at)
 

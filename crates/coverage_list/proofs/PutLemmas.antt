@@ -5,10 +5,8 @@ use Rattle.bt_base.specs.Puts.{Shown}
 use Rattle.bt_base.specs.declared.sink.PutFault.{PutFault}
 use Rattle.line_printer.specs.Prints.{Prints}
 use Rattle.line_printer.proofs.PrintLemmas.{prints_ok, prints_err, prints_none, prints_same}
+use Rattle.line_printer.proofs.PutLemmas.{Completes}
 use Rattle.coverage_list.specs.inner.CoverForms.{texts_from}
-
-abbrev pub Completes : Shown → Shown → List ℕ → List ℕ → Type 0
-Completes start now rest whole = (new : Shown) (r : Result (Unit {0}) PutFault) → Prints now new [] [] rest r → Prints start new [] [] whole r
 
 texts_next : (f : ℕ → List ℕ) (n count : ℕ) → n < count → texts_from f n count ≡ f n ++ texts_from f (n + 1) count
 texts_next f n count less = let e : count - n ≡ suc (count - (n + 1)) = omega arith in ap (λ k. flat_map f (range_with_len n k)) e

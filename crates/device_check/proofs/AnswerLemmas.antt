@@ -1,7 +1,8 @@
 -- What was found is the answer.
-use Rattle.std.proofs.Common.{◌≡◌, ℕ, ◌≤◌, Bool, true, false, ◌&&◌, not, List, [], ◌∷◌, ◌++◌, find, Option, Some, None, Result, Ok, Err, inl, inr, refl, sym, ◌∙◌, ap, subst, arith}
+use Rattle.std.proofs.Common.{◌≡◌, ℕ, ◌≤◌, Bool, true, not, List, [], ◌∷◌, ◌++◌, find, Option, Some, None, Result, Ok, Err, inl, inr, refl, sym, ◌∙◌, ap, subst, arith}
 use Rattle.std.proofs.lemmas.Bool.Decides.{nat_tests}
 use Rattle.std.specs.Option.{IfSome, unwrap_or}
+use Rattle.std.proofs.lemmas.Bool.{and_parts, not-false}
 use Rattle.answers.specs.Gives.{Gives}
 use Rattle.board_defs.specs.declared.device.RawDevice.{RawDevice}
 use Rattle.bsdl_parser.specs.declared.entity.Entity.{Entity}
@@ -54,14 +55,6 @@ short_strings entity given strings small read = record {
 pub short_draft : (entity : Entity) (given : Option (List ℕ)) (strings : Strings) (draft : Draft) → IsSmall entity → AreStrings entity given strings → draft ≡ draft_of entity given strings → HasShortLists draft
 short_draft entity given strings draft small read is = subst HasShortLists (sym is) (short_strings entity given strings small read)
 
-right_of : (a b : Bool) → (a && b) ≡ true → b ≡ true
-right_of true b h = h
-right_of false b h = cc
-
-not_wrong : (b : Bool) → not b ≡ false → b ≡ true
-not_wrong true h = refl
-not_wrong false h = cc
-
 lies_within : (least most : ℕ) (number : Option ℕ) → is_within least most number ≡ true → (least ≤ unwrap_or number 0) × (unwrap_or number 0 ≤ most)
 lies_within least most None h = cc
 lies_within least most (Some number) h = (grind (arith, nat_tests), grind (arith, nat_tests))
@@ -71,15 +64,15 @@ as_needed : (entity : Entity) (given : Option (List ℕ)) (front : List ℕ) (nu
 unfolding v1
 as_needed entity given front number back split e =
     let p : ℕ → Bool = λ number. not (is_as_needed entity (constants_named entity (chosen entity given)) number) in
-    not_wrong (is_as_needed entity (constants_named entity (chosen entity given)) number) (none_at p front number back (sym (ap (λ numbers. find p numbers) split) ∙ e))
+    not-false (is_as_needed entity (constants_named entity (chosen entity given)) number) (none_at p front number back (sym (ap (λ numbers. find p numbers) split) ∙ e))
 
 ir_within : (entity : Entity) (constants : ℕ) → is_as_needed entity constants 6 ≡ true → is_within 2 255 (number_of entity 6) ≡ true
 unfolding is_as_needed
-ir_within entity constants h = right_of (stands_once entity 6) (is_within 2 255 (number_of entity 6)) h
+ir_within entity constants h = (and_parts (stands_once entity 6) (is_within 2 255 (number_of entity 6)) h).1
 
 boundary_within : (entity : Entity) (constants : ℕ) → is_as_needed entity constants 9 ≡ true → is_within 1 65535 (number_of entity 9) ≡ true
 unfolding is_as_needed
-boundary_within entity constants h = right_of (stands_once entity 9) (is_within 1 65535 (number_of entity 9)) h
+boundary_within entity constants h = (and_parts (stands_once entity 9) (is_within 1 65535 (number_of entity 9)) h).1
 
 pub lengths_hold : (entity : Entity) (given : Option (List ℕ)) (strings : Strings) → v1 entity given ≡ None → HasLengths (draft_of entity given strings)
 lengths_hold entity given strings e =

@@ -2,9 +2,7 @@
 use Rattle.std.proofs.Common.{◌≡◌, ℕ, zero, suc, ◌+◌, ◌<◌, Bool, true, false, List, [], ◌∷◌, ◌++◌, length, take, slice_index_or, Option, Some, None, refl, sym, ◌∙◌, ap, arith}
 use Rattle.std.specs.Prelude.{cond}
 use Rattle.std.specs.List.{find}
-
-add_one : (n : ℕ) → suc n ≡ n + 1
-add_one n = omega arith
+use Rattle.std.proofs.Math.Numerals.{suc-eq-add-one}
 
 -- no item of a list up to some place has it, and that at the place has not
 none_next : (p : ℕ → Bool) (xs : List ℕ) (i : ℕ) → i < length xs → find p (take i xs) ≡ None → p (slice_index_or xs i 0) ≡ false → find p (take (suc i) xs) ≡ None
@@ -17,7 +15,7 @@ none_next p (x ∷ xs) (suc i) lt none e = by (p x) none (λ h. none_next p xs i
     by false h again = again h
 
 pub none_on : (p : ℕ → Bool) (xs : List ℕ) (i : ℕ) → i < length xs → find p (take i xs) ≡ None → p (slice_index_or xs i 0) ≡ false → find p (take (i + 1) xs) ≡ None
-none_on p xs i lt none e = ap (λ n. find p (take n xs)) (sym (add_one i)) ∙ none_next p xs i lt none e
+none_on p xs i lt none e = ap (λ n. find p (take n xs)) (sym (suc-eq-add-one i)) ∙ none_next p xs i lt none e
 
 -- no item up to some place has it, and that at the place has
 pub found_at : (p : ℕ → Bool) (xs : List ℕ) (i : ℕ) → i < length xs → find p (take i xs) ≡ None → p (slice_index_or xs i 0) ≡ true → Some (slice_index_or xs i 0) ≡ find p xs

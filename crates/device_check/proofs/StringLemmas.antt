@@ -1,5 +1,5 @@
 -- Each string is in its grammar or leaves it at one entry, and never both.
-use Rattle.std.proofs.Common.{◌≡◌, ℕ, zero, suc, ◌+◌, ◌*◌, ◌<◌, ◌≤◌, ◌^◌, Bool, true, false, List, [], ◌∷◌, ◌++◌, length, ◌⊎◌, inl, inr, refl, subst, arith, length-append}
+use Rattle.std.proofs.Common.{◌≡◌, ℕ, zero, suc, ◌+◌, ◌*◌, ◌<◌, ◌≤◌, ◌^◌, Bool, true, false, List, [], ◌∷◌, ◌++◌, length, ◌⊎◌, inl, inr, refl, subst, arith, length-append, zero-add}
 use Rattle.std.proofs.Math.Nat.{lt_of_not-le}
 use Rattle.std.specs.List.{take_while}
 use Rattle.board_defs.specs.declared.device.Symbol.{Symbol}
@@ -8,7 +8,7 @@ use Rattle.grammars.specs.Grammar.{Grammar, production_of, reader_of}
 use Rattle.grammars.specs.Lists.{list_of, Fronts, GoesWrongAt}
 use Rattle.grammars.proofs.Exact.{Decides}
 use Rattle.grammars.proofs.Grammars.{read_grammar, decides_grammar}
-use Rattle.grammars.proofs.ListReaders.{CanRead, Progress, each_takes, begins, found_front, goes_further, ends_with, wrong_at_entry, wrong_after_entry, value_of_list, one_value}
+use Rattle.grammars.proofs.ListReaders.{CanRead, Progress, each_takes, begins, found_front, goes_further, ends_with, wrong_at_entry, wrong_after_entry, value_of_list, one_value, suc_plus}
 use Rattle.bsdl_strings.specs.Pieces.{pieces}
 use Rattle.bsdl_strings.specs.Places.{Part, comma_or_end, is_code, code_of, is_symbol}
 use Rattle.bsdl_strings.specs.Strings.{IsListOf, IsPattern, IsNoPattern}
@@ -18,12 +18,6 @@ use Rattle.bsdl_strings.proofs.PieceLemmas.{length_pieces}
 pub data Answered {T A : Type 0} (entry : Grammar T A) (more : Grammar T Bool) (tokens : List T) : Type 0 where
   listed : (values : List A) → (production_of (list_of entry more)).Whole tokens values → 2 * length values ≤ length tokens → Answered entry more tokens
   wrong : (number : ℕ) → GoesWrongAt entry more number tokens → Answered entry more tokens
-
-zero_plus : (n : ℕ) → zero + n ≡ n
-zero_plus n = omega arith
-
-suc_plus : (n : ℕ) → suc n ≡ suc zero + n
-suc_plus n = omega arith
 
 -- the list ended, and more comes behind it
 ends_early : {T A : Type 0} {entry : Grammar T A} {more : Grammar T Bool} → CanRead entry more → (tokens here mid : List T) (t : T) (rest : List T) (before : List A) (one : A)
@@ -36,7 +30,7 @@ ends_early {T} {A} {entry} {more} can tokens here mid t rest before one so_far e
       cc (k, l);
   whole = length before;
   next = refl;
-  stand = subst (λ k. Fronts entry more k tokens) (zero_plus (length before)) (so_far.stand zero tt);
+  stand = subst (λ k. Fronts entry more k tokens) (zero-add (length before)) (so_far.stand zero tt);
   no_more = λ h. none (so_far.only (suc zero) (subst (λ k. Fronts entry more k tokens) (suc_plus (length before)) h));
 }
   where

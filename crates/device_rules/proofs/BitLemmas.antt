@@ -9,7 +9,7 @@ use Rattle.std.proofs.lemmas.List.Folds.{list_any-append, find_at}
 use Rattle.std.proofs.lemmas.List.{drop_more, take-append-drop}
 use Rattle.std.proofs.lemmas.Option.{slice_get_past, slice_get-get_or}
 use Rattle.std.proofs.lemmas.Iterator.Adapters.{position_from-zero}
-use Rattle.std.proofs.lemmas.Bool.{or_parts, not-false}
+use Rattle.std.proofs.lemmas.Bool.{or_parts, not-false, or_from, ltb-true, ltb-false}
 use Rattle.std.proofs.lemmas.Bool.Decides.{nat_tests}
 use Rattle.board_defs.proofs.Members.{has_at}
 use Rattle.bsdl_parser.specs.declared.entity.Port.{Port}
@@ -171,11 +171,8 @@ fresh_less before port (later ∷ ports) h =
     let both : (list_any (port_named later.name) before || (bytes_eq port.name later.name || false)) ≡ false = sym (list_any-append (port_named later.name) before (port ∷ [])) ∙ h.0 in
     let parts = or_parts (list_any (port_named later.name) before) _ both in
     let here : bytes_eq later.name port.name ≡ false = turned port.name later.name (or_parts (bytes_eq port.name later.name) false parts.1).0 in
-    ((parts.0, rest.0), both_false _ _ here rest.1)
+    ((parts.0, rest.0), or_from _ _ here rest.1)
   where
-    both_false : (a b : Bool) → a ≡ false → b ≡ false → (a || b) ≡ false
-    both_false a b e f = rw e f
-
     turned : (a b : List ℕ) → bytes_eq a b ≡ false → bytes_eq b a ≡ false
     turned a b e = grind (arith, bytes_eq-Decides)
 
@@ -217,10 +214,7 @@ is_first name (first ∷ ports) (suc n) port h at is =
 at_by : {A : Type 0} (p : A → Bool) (xs : List A) (n : ℕ) (b : Bool) → nat_lt (position_or_len p xs) (length xs) ≡ b → cond b (Some (position_or_len p xs)) None ≡ Some n → (n < length xs) × (find p xs ≡ slice_get xs n)
 at_by p xs n true e f =
     let is : position_or_len p xs ≡ n = cc f in
-    (subst (λ k. k < length xs) is (less (position_or_len p xs) (length xs) e), find_at p xs ∙ ap (slice_get xs) is)
-  where
-    less : (a b : ℕ) → nat_lt a b ≡ true → a < b
-    less a b e = grind (arith, nat_tests)
+    (subst (λ k. k < length xs) is (ltb-true (position_or_len p xs) (length xs) e), find_at p xs ∙ ap (slice_get xs) is)
 at_by p xs n false e f = cc f
 
 at_first : {A : Type 0} (p : A → Bool) (xs : List A) (n : ℕ) → position_from p 0 xs ≡ Some n → (n < length xs) × (find p xs ≡ slice_get xs n)
@@ -234,10 +228,7 @@ found_at p xs n e = sym (at_first p xs n e).1
 
 nothing_by : {A : Type 0} (p : A → Bool) (xs : List A) (b : Bool) → nat_lt (position_or_len p xs) (length xs) ≡ b → cond b (Some (position_or_len p xs)) None ≡ None → None ≡ find p xs
 nothing_by p xs true e f = cc f
-nothing_by p xs false e f = sym (find_at p xs ∙ slice_get_past xs (position_or_len p xs) (not_less (position_or_len p xs) (length xs) e))
-  where
-    not_less : (a b : ℕ) → nat_lt a b ≡ false → b ≤ a
-    not_less a b e = grind (arith, nat_tests)
+nothing_by p xs false e f = sym (find_at p xs ∙ slice_get_past xs (position_or_len p xs) (ltb-false (position_or_len p xs) (length xs) e))
 
 pub nothing_found : {A : Type 0} (p : A → Bool) (xs : List A) → position_from p 0 xs ≡ None → None ≡ find p xs
 nothing_found p xs e = nothing_by p xs (nat_lt (position_or_len p xs) (length xs)) refl (position_from-zero p xs ∙ e)

@@ -1,11 +1,13 @@
 -- Cell numbers that are below the length of the register.
-use Rattle.std.proofs.Common.{◌≡◌, ◌≢◌, ℕ, ◌<◌, ◌≤◌, ◌==◌, Bool, true, false, ◌&&◌, cond, List, [], ◌∷◌, Option, Some, None, refl, sym, ◌∙◌, ap, arith, nat_le, find, ◌⊎◌, inl, inr}
+use Rattle.std.proofs.Common.{◌≡◌, ◌≢◌, ℕ, ◌<◌, ◌≤◌, ◌==◌, Bool, true, false, ◌&&◌, cond, List, [], ◌∷◌, Option, Some, None, refl, sym, ◌∙◌, ap, arith, nat_le, find, inl, inr}
 use Rattle.std.specs.Prelude.{option_map, All, slice_index_or}
 use Rattle.std.proofs.lemmas.List.{get_or_past}
 use Rattle.std.proofs.lemmas.List.Folds.{list_any_none}
 use Rattle.std.proofs.lemmas.List.Elements.{All-weaker, All-nil, All-cons}
 use Rattle.std.proofs.Math.Bool.{and-false}
 use Rattle.std.proofs.lemmas.Bool.Decides.{nat_tests}
+use Rattle.std.proofs.lemmas.Bool.{cases_lt}
+use Rattle.lists.proofs.Booleans.{lt-eqb, eqb_refl}
 use Rattle.board_defs.specs.declared.device.Role.{Role}
 use Rattle.bsdl_strings.specs.declared.values.Entry.{Entry}
 use Rattle.board_defs.specs.DeviceRules.{is_controlling}
@@ -14,10 +16,7 @@ use Rattle.device_rules.specs.inner.Tables.{Marks}
 use Rattle.device_rules.specs.Cells.{is_entry_of, is_control_of, has_control_entry, too_large, v8}
 
 another_cell : (cell boundary : ℕ) (entry : Entry) → boundary ≤ cell → entry.num < boundary → is_control_of cell entry ≡ false
-another_cell cell boundary entry le lt = ap (λ b. b && is_controlling entry.role) (differs entry.num cell (omega arith))
-  where
-    differs : (m n : ℕ) → m < n → (m == n) ≡ false
-    differs m n lt = grind (arith, nat_tests)
+another_cell cell boundary entry le lt = ap (λ b. b && is_controlling entry.role) (lt-eqb entry.num cell (omega arith))
 
 -- a number that is too large has no entry
 no_control_there : (cell boundary : ℕ) (entries : List Entry) → boundary ≤ cell → All (λ entry. entry.num < boundary) entries → false ≡ has_control_entry entries cell
@@ -26,13 +25,10 @@ no_control_there cell boundary entries le below = sym (list_any_none (is_control
 
 -- flags of the cells below the length say of every cell whether it has a CONTROL or CONTROLR entry
 pub controls_known : (boundary : ℕ) (entries : List Entry) (flags : List Bool) → All (λ entry. entry.num < boundary) entries → Marks is_control_of entries boundary flags → (cell : ℕ) → slice_index_or flags cell false ≡ has_control_entry entries cell
-controls_known boundary entries flags below marks cell = elim (less_or_not cell boundary) [
+controls_known boundary entries flags below marks cell = elim (cases_lt cell boundary) [
   | inl less ↦ marks.each cell less
   | inr more ↦ get_or_past flags cell false (omega (arith, more, marks.size)) ∙ no_control_there cell boundary entries more below
 ]
-  where
-    less_or_not : (m n : ℕ) → (m < n) ⊎ (n ≤ m)
-    less_or_not m n = grind arith
 
 below_step : (boundary : ℕ) (entry : Entry) (entries : List Entry) (b : Bool) → nat_le boundary entry.num ≡ b → (too_large boundary entries ≡ None → All (λ entry. entry.num < boundary) entries)
     → option_map (λ entry. entry.num) (cond b (Some entry) (find (λ entry. nat_le boundary entry.num) entries)) ≡ None → All (λ entry. entry.num < boundary) (entry ∷ entries)
@@ -56,9 +52,6 @@ unfolding v8
 all_below boundary entries e = none_too_large boundary entries (first_none (too_large boundary entries) _ e)
 
 -- what an entry counts for
-eqb_refl : (n : ℕ) → (n == n) ≡ true
-eqb_refl n = grind (arith, nat_tests)
-
 apart : (m n : ℕ) → n ≢ m → (m == n) ≡ false
 apart m n h = grind (arith, nat_tests)
 

@@ -4,6 +4,8 @@ use Rattle.std.specs.Prelude.{All, Contains, IfSome, count_by, nat_lt, if◌then
 use Rattle.std.specs.List.{list_any}
 use Rattle.std.proofs.lemmas.Bool.{or_parts, or_cases, and_parts, and_from, not-false, eqb-true, eq-eqb, ltb-false}
 use Rattle.std.proofs.lemmas.List.Elements.{All-map}
+use Rattle.lists.proofs.Booleans.{clash}
+use Rattle.lists.proofs.ListLemmas.{list_any-map}
 use Rattle.board_defs.specs.declared.device.Role.{Role}
 use Rattle.board_defs.specs.declared.device.Role.TheVariants.{Input, Output2, Output3, Control as ControlRole, ControlR, Internal, Clock, Bidir, ObserveOnly}
 use Rattle.board_defs.specs.declared.device.Control.{Control}
@@ -19,7 +21,7 @@ use Rattle.device_rules.specs.Raw.{cell_of, raw_cells, raw_device}
 use Rattle.device_rules.proofs.RuleLemmas.{holds, none_below}
 use Rattle.device_rules.proofs.CellLemmas.{all_below, counts_here}
 use Rattle.device_rules.proofs.IsDeviceCodes.{same_bits}
-use Rattle.device_rules.proofs.IsDeviceLists.{clash, holds_at, all_from_has, has_from_all, Made, made_at, counted_once, any_made}
+use Rattle.device_rules.proofs.IsDeviceLists.{holds_at, all_from_has, has_from_all, Made, made_at, counted_once}
 
 -- numbers
 pub cells_below : (draft : Draft) → v8 draft.boundary draft.entries ≡ None → All (λ entry. entry.num < draft.boundary) (raw_device draft).cells
@@ -99,7 +101,7 @@ unfolding raw_cells
 controls_stand draft e i cell control at is =
     let x : Made (cell_of draft.ports) draft.entries i cell = made_at (cell_of draft.ports) draft.entries i cell at in
     let stands = (stands_at draft.entries e x.from (has_at draft.entries i x.from x.at) control (ap (λ (c : Cell). c.ctl) x.gives ∙ is)).stands in
-    ap (λ b. (control.cell == cell.num) || b) (any_made (is_control_entry control.cell) (cell_of draft.ports) draft.entries)
+    ap (λ b. (control.cell == cell.num) || b) (list_any-map (cell_of draft.ports) (is_control_entry control.cell) draft.entries)
     ∙ (ap (λ n. (control.cell == n) || has_control_entry draft.entries control.cell) (sym (ap (λ (c : Cell). c.num) x.gives)) ∙ stands)
 
 control_below : (boundary : ℕ) (entries : List Entry) → v8 boundary entries ≡ None → v10 entries ≡ None → (entry : Entry) → Has entries entry → (control : Control) → entry.ctl ≡ Some control → control.cell < boundary

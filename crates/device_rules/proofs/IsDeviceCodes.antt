@@ -5,6 +5,7 @@ use Rattle.std.specs.List.{list_any, list_all}
 use Rattle.std.proofs.lemmas.Bool.{or_parts, and_parts, not-true, not-false, eqb-true, eq-eqb, and_from}
 use Rattle.std.proofs.lemmas.List.{length-map, length-replicate}
 use Rattle.std.proofs.lemmas.List.Elements.{All-replicate}
+use Rattle.lists.proofs.Booleans.{clash}
 use Rattle.board_defs.specs.declared.device.Symbol.{Symbol}
 use Rattle.board_defs.specs.declared.device.Symbol.TheVariants.{Zero, One, Any}
 use Rattle.board_defs.specs.declared.device.Edition.{Edition}
@@ -17,7 +18,7 @@ use Rattle.first_places.specs.Items.{or_else}
 use Rattle.instruction_rules.specs.Instructions.{has_length, is_called, breaks_opcode, v5, first_of, opcode, first_code, preload_code, is_all_ones, is_all_zeros, may_preload, same_bit, same_code, is_same, may_extest, has_code, fits_one, extest_holds, v6, ends_in_01, may_be_idcode, v7, settled, settled_code, preload, extest}
 use Rattle.device_rules.specs.Raw.{raw_device, HasLengths}
 use Rattle.device_rules.proofs.RuleLemmas.{holds}
-use Rattle.device_rules.proofs.IsDeviceLists.{clash, holds_at, all_from_has}
+use Rattle.device_rules.proofs.IsDeviceLists.{holds_at, all_from_has}
 
 -- lengths of codes
 abbrev AreLong : ℕ → List Opcode → Type 0

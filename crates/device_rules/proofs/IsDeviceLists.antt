@@ -1,9 +1,9 @@
 -- Lists: the places of items, items that a key tells apart, and what a rule that holds says of items by their places.
-use Rattle.std.proofs.Common.{◌≡◌, ℕ, zero, suc, ◌+◌, ◌<◌, ◌≤◌, Bool, true, false, ◌||◌, cond, List, [], ◌∷◌, ◌++◌, map, length, take, drop, Option, Some, None, refl, sym, ◌∙◌, ap, subst, arith, ◌⊎◌, inl, inr}
+use Rattle.std.proofs.Common.{◌≡◌, ℕ, zero, suc, ◌+◌, ◌<◌, ◌≤◌, Bool, true, false, cond, List, [], ◌∷◌, ◌++◌, map, length, take, drop, Option, Some, None, refl, sym, ◌∙◌, ap, subst, arith, ◌⊎◌, inl, inr}
 use Rattle.std.specs.Prelude.{slice_get, All, AllPairs, count_by, is_some}
 use Rattle.std.specs.List.{list_any, position_from}
 use Rattle.std.specs.Str.{bytes_eq}
-use Rattle.std.proofs.lemmas.Bool.{or_parts, cases_order, false≢true}
+use Rattle.std.proofs.lemmas.Bool.{or_parts, cases_order}
 use Rattle.std.proofs.lemmas.List.Elements.{All-nil, All-cons, All-contains}
 use Rattle.std.proofs.lemmas.List.Sums.{sum_by-cons}
 use Rattle.std.proofs.lemmas.Slice.Eq.{bytes_eq-Decides}
@@ -16,9 +16,6 @@ same_name a b = (bytes_eq-Decides a b).0
 
 pub name_same : (a b : List ℕ) → a ≡ b → bytes_eq a b ≡ true
 name_same a b = (bytes_eq-Decides a b).1
-
-pub clash : (b : Bool) → b ≡ true → b ≡ false → ⊥
-clash b t f = false≢true (sym f ∙ t)
 
 -- the list before an item, the item, and the list behind it
 pub cut : {X : Type 0} (xs : List X) (j : ℕ) (x : X) → slice_get xs j ≡ Some x → xs ≡ take j xs ++ x ∷ drop (suc j) xs
@@ -40,10 +37,6 @@ pub none_has : {X : Type 0} (p : X → Bool) (xs : List X) (x : X) → list_any 
 none_has p [] x e h = absurd h
 none_has p (y ∷ ys) x e (inl same) = sym (ap p same) ∙ (or_parts (p y) (list_any p ys) e).0
 none_has p (y ∷ ys) x e (inr h) = none_has p ys x (or_parts (p y) (list_any p ys) e).1 h
-
-pub any_made : {X Y : Type 0} (p : Y → Bool) (f : X → Y) (xs : List X) → list_any p (map f xs) ≡ list_any (λ x. p (f x)) xs
-any_made p f [] = refl
-any_made p f (x ∷ xs) = ap (λ b. p (f x) || b) (any_made p f xs)
 
 -- what holds of each item that the list has
 pub all_from_has : {X : Type 0} (P : X → Type 0) (xs : List X) → ((x : X) → Has xs x → P x) → All P xs

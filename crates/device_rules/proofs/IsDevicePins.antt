@@ -5,6 +5,7 @@ use Rattle.std.specs.List.{list_any}
 use Rattle.std.specs.Str.{bytes_eq}
 use Rattle.std.proofs.lemmas.Bool.{or_parts, not-false, eqb-true, cases_order}
 use Rattle.std.proofs.lemmas.Option.{slice_get_within}
+use Rattle.lists.proofs.Booleans.{clash}
 use Rattle.board_defs.specs.declared.device.PortBit.{PortBit}
 use Rattle.board_defs.proofs.Members.{Has, has_at, has_place, has_left, has_right, has_any, has_flat_map, find_has, find_none}
 use Rattle.bsdl_parser.specs.declared.entity.Port.{Port}
@@ -17,7 +18,7 @@ use Rattle.device_rules.specs.Taps.{is_among}
 use Rattle.device_rules.specs.PinMap.{maps_port, has_width, some_repeats, pins_of, breaks_map, v4}
 use Rattle.device_rules.specs.Raw.{pin_of, port_bit}
 use Rattle.device_rules.proofs.RuleLemmas.{holds}
-use Rattle.device_rules.proofs.IsDeviceLists.{same_name, name_same, clash, earlier, holds_at, Once, once_nil, once_cons, made_at, once_item, there}
+use Rattle.device_rules.proofs.IsDeviceLists.{same_name, name_same, earlier, holds_at, Once, once_nil, once_cons, made_at, once_item, there}
 use Rattle.device_rules.proofs.RangeLemmas.{length_indexes}
 use Rattle.device_rules.proofs.IsDevicePorts.{PortsStand, IsBitOf, is_bit_of, spot, spots_once}
 

@@ -2,15 +2,17 @@
 use Rattle.std.proofs.Common.{◌≡◌, ℕ, ◌<◌, Bool, true, false, not, ◌&&◌, List, map, length, take, Option, Some, None, refl, sym, ◌∙◌, ap, subst, ◌⊎◌, inl, inr}
 use Rattle.std.specs.Prelude.{slice_get, All, is_none, if◌then◌else◌}
 use Rattle.std.specs.Str.{bytes_eq}
-use Rattle.std.proofs.lemmas.Bool.{or_parts, and_parts, not-false, eqb-true, eq-eqb, cases_order}
+use Rattle.std.proofs.lemmas.Bool.{or_parts, and_parts, not-false, eq-eqb, cases_order}
 use Rattle.std.proofs.lemmas.List.{length-map}
 use Rattle.std.proofs.lemmas.List.Elements.{All-map}
 use Rattle.std.proofs.lemmas.Option.{slice_get_within}
+use Rattle.lists.proofs.Booleans.{clash}
 use Rattle.board_defs.specs.declared.device.Role.{Role}
 use Rattle.board_defs.specs.declared.device.Cell.{Cell}
 use Rattle.board_defs.specs.declared.device.PortBit.{PortBit}
 use Rattle.board_defs.specs.DeviceRules.{is_inner, is_driving, may_drive, is_on, drives_bit, HasPlace, OneDriver, EntriesFitPorts}
 use Rattle.board_defs.proofs.Members.{Has, has_at, has_place}
+use Rattle.board_defs.proofs.CellLemmas.{on_is}
 use Rattle.bsdl_parser.specs.declared.entity.Port.{Port}
 use Rattle.bsdl_strings.specs.declared.values.Entry.{Entry}
 use Rattle.bsdl_strings.specs.declared.values.PortWord.{PortWord}
@@ -22,7 +24,7 @@ use Rattle.device_rules.specs.Taps.{is_among, tap_names}
 use Rattle.device_rules.specs.Places.{is_star, breaks_place, v9, driven_bit, is_driven, breaks_driver, v13, misfits, breaks_mode, v14}
 use Rattle.device_rules.specs.Raw.{cell_of, port_bit, raw_cells, raw_bits, raw_device}
 use Rattle.device_rules.proofs.RuleLemmas.{holds}
-use Rattle.device_rules.proofs.IsDeviceLists.{same_name, clash, earlier, holds_at, none_has, all_from_has, Made, made_at, Found, found_at, never_found}
+use Rattle.device_rules.proofs.IsDeviceLists.{same_name, earlier, holds_at, none_has, all_from_has, Made, made_at, Found, found_at, never_found}
 use Rattle.device_rules.proofs.IsDevicePorts.{PortsStand, IsBitOf, is_bit_of}
 use Rattle.device_rules.proofs.IsDevicePins.{port_is}
 
@@ -62,10 +64,6 @@ places draft e =
     subst (λ n. HasPlace n entry.role (bit_number draft.ports entry.port)) (sym many) (place_of draft.ports entry (place_kept draft.ports draft.entries e entry has))))
 
 -- a port bit has one driving entry at most
-on_is : (bit : ℕ) (o : Option ℕ) → is_on bit o ≡ true → o ≡ Some bit
-on_is bit None e = cc e
-on_is bit (Some b) e = ap Some (eqb-true b bit e)
-
 driven : (ports : List Port) (bit : ℕ) (entry : Entry) → drives_bit bit (cell_of ports entry) ≡ true → driven_bit ports entry ≡ Some bit
 driven ports bit entry e =
     let parts = and_parts (is_on bit (bit_number ports entry.port)) (is_driving entry.role) e in

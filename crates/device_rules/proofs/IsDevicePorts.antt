@@ -4,13 +4,14 @@ use Rattle.std.specs.Prelude.{slice_get, nat_lt}
 use Rattle.std.specs.List.{list_any}
 use Rattle.std.proofs.lemmas.Bool.{or_parts, not-false, ltb-false}
 use Rattle.std.proofs.lemmas.List.Sums.{sum_by-cons, sum_by_push}
+use Rattle.lists.proofs.Booleans.{clash}
 use Rattle.board_defs.proofs.Members.{Has, has_at, has_place, has_append}
 use Rattle.bsdl_parser.specs.declared.entity.Port.{Port}
 use Rattle.first_places.specs.Items.{Holds}
 use Rattle.device_rules.specs.Ports.{in_order, width, bits_of, port_named, breaks_port, v2, Bit, indexes, bits_along, bits_of_port, bits_from, port_bits}
 use Rattle.device_rules.proofs.RuleLemmas.{holds}
 use Rattle.device_rules.proofs.BitLemmas.{length_bits}
-use Rattle.device_rules.proofs.IsDeviceLists.{name_same, clash, earlier, holds_at, none_has, Once, once_nil, once_cons, once_tail, once_head, once_append, once_by_order}
+use Rattle.device_rules.proofs.IsDeviceLists.{name_same, earlier, holds_at, none_has, Once, once_nil, once_cons, once_tail, once_head, once_append, once_by_order}
 
 -- what the rule says of the ports
 pub record PortsStand (ports : List Port) : Type 0 where

@@ -5,6 +5,7 @@ use Rattle.std.specs.List.{list_all}
 use Rattle.std.specs.Str.{bytes_eq}
 use Rattle.std.proofs.lemmas.Bool.{or_parts, and_parts, not-false, false_from_ne_true}
 use Rattle.std.proofs.lemmas.List.Sums.{sum_by-cons, sum_by-append}
+use Rattle.lists.proofs.Booleans.{clash}
 use Rattle.board_defs.specs.declared.device.Mode.{Mode}
 use Rattle.board_defs.specs.declared.device.Mode.TheVariants.{Inward, Outward, Both, Buffer, Linkage}
 use Rattle.board_defs.specs.declared.device.PortBit.{PortBit}
@@ -19,7 +20,7 @@ use Rattle.first_places.specs.Items.{or_else, broken_by}
 use Rattle.device_rules.specs.Ports.{port_named, port_of, Bit, indexes, bits_along, bits_of_port, bits_from, port_bits}
 use Rattle.device_rules.specs.Taps.{is_inward, is_outward, is_plain, is_among, breaks_tap, reset_breaks, four_taps, listed, tap_names, wrong_tap, complies, v3}
 use Rattle.device_rules.specs.Raw.{port_bit, raw_bits, raw_device}
-use Rattle.device_rules.proofs.IsDeviceLists.{same_name, name_same, clash, all_from_has, Once, once_tail, once_head, once_item}
+use Rattle.device_rules.proofs.IsDeviceLists.{same_name, name_same, all_from_has, Once, once_tail, once_head, once_item}
 use Rattle.device_rules.proofs.IsDevicePorts.{PortsStand, IsBitOf, is_bit_of, is_of_port}
 
 -- a name is that of a plain port of this mode

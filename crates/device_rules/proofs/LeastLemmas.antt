@@ -1,17 +1,15 @@
 -- A loop that looks for the least number with a property.
 use Rattle.std.proofs.Common.{◌≡◌, ℕ, zero, suc, ◌+◌, ◌-◌, ◌<◌, ◌≤◌, Bool, true, false, Option, Some, None, refl, sym, ◌∙◌, ap, arith, ◌⊎◌, inl, inr}
 use Rattle.std.specs.Bool.{if◌then◌else◌}
+use Rattle.std.proofs.Math.Numerals.{suc-eq-add-one}
 use Rattle.first_places.specs.Items.{least_from, least_below, IsLeast}
 
 one_on : (n bound : ℕ) → n < bound → bound - n ≡ suc (bound - (n + 1))
 one_on n bound lt = omega arith
 
-add_one : (n : ℕ) → suc n ≡ n + 1
-add_one n = omega arith
-
 pub least_step : (is : ℕ → Bool) (n bound : ℕ) (o : Option ℕ) → n < bound → is n ≡ false → least_from is n (bound - n) ≡ o → least_from is (n + 1) (bound - (n + 1)) ≡ o
 least_step is n bound o lt e so_far =
-    sym (ap (λ m. least_from is m (bound - (n + 1))) (add_one n)) ∙ sym (skips is n (bound - (n + 1)) e) ∙ sym (ap (λ k. least_from is n k) (one_on n bound lt)) ∙ so_far
+    sym (ap (λ m. least_from is m (bound - (n + 1))) (suc-eq-add-one n)) ∙ sym (skips is n (bound - (n + 1)) e) ∙ sym (ap (λ k. least_from is n k) (one_on n bound lt)) ∙ so_far
   where
     skips : (is : ℕ → Bool) (n k : ℕ) → is n ≡ false → least_from is n (suc k) ≡ least_from is (suc n) k
     skips is n k e = rw e refl

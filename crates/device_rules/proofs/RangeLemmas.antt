@@ -1,11 +1,14 @@
 -- The place of an index within a range.
-use Rattle.std.proofs.Common.{◌≡◌, ℕ, zero, suc, ◌+◌, ◌-◌, ◌<◌, ◌≤◌, ◌==◌, Bool, true, false, ◌&&◌, cond, ◌⊎◌, inl, inr, List, [], ◌∷◌, ◌++◌, length, map, get_or, reverse, Option, Some, None, refl, sym, ap, subst, ◌∙◌, arith, nat_le}
+use Rattle.std.proofs.Common.{◌≡◌, ℕ, zero, suc, ◌+◌, ◌-◌, ◌<◌, ◌≤◌, ◌==◌, Bool, true, false, ◌&&◌, cond, ◌⊎◌, inl, inr, List, [], ◌∷◌, length, map, get_or, reverse, Option, Some, None, refl, sym, ap, subst, ◌∙◌, arith, nat_le}
 use Rattle.std.specs.Prelude.{is_none, option_map, if◌then◌else◌}
 use Rattle.std.specs.List.{position_from, range_with_len}
 use Rattle.std.proofs.lemmas.Bool.Decides.{nat_tests}
 use Rattle.std.proofs.lemmas.List.FromFn.{length-range_with_len, get_or-range_with_len}
 use Rattle.std.proofs.Math.Bool.{and-false}
 use Rattle.std.proofs.lemmas.List.{get_or-map, length-map, reverse-append, length-reverse}
+use Rattle.std.proofs.lemmas.Bool.{eq-eqb, cases_lt}
+use Rattle.lists.proofs.Booleans.{gt-eqb, lt-eqb}
+use Rattle.lists.proofs.ListLemmas.{range_with_len_more}
 use Rattle.board_defs.specs.DeviceRules.{range_indexes, is_on}
 use Rattle.bsdl_parser.specs.declared.entity.Range.{Range}
 use Rattle.device_rules.specs.Ports.{in_order, width, indexes, has_index}
@@ -14,15 +17,6 @@ use Rattle.device_rules.specs.inner.Index.{place_in, index_at}
 -- the first place of an index
 abbrev place_of : ℕ → ℕ → List ℕ → Option ℕ
 place_of i n indexes = position_from (is_on i) n (map Some indexes)
-
-same : (a i : ℕ) → a ≡ i → (a == i) ≡ true
-same a i e = grind (arith, nat_tests)
-
-other : (a i : ℕ) → a < i → (a == i) ≡ false
-other a i e = grind (arith, nat_tests)
-
-other_below : (a i : ℕ) → i < a → (a == i) ≡ false
-other_below a i e = grind (arith, nat_tests)
 
 hit : (i n a : ℕ) (indexes : List ℕ) → (a == i) ≡ true → place_of i n (a ∷ indexes) ≡ Some n
 hit i n a indexes e = ap (λ b. cond b (Some n) (place_of i (n + 1) indexes)) e
@@ -37,11 +31,11 @@ here_or_above i a le = grind arith
 up_step : (i n a count : ℕ) → (a + 1 ≤ i → place_of i (n + 1) (range_with_len (a + 1) count) ≡ Some ((n + 1) + (i - (a + 1)))) → (a ≡ i) ⊎ (a + 1 ≤ i) → place_of i n (range_with_len a (suc count)) ≡ Some (n + (i - a))
 up_step i n a count later (inl e) =
     let here : n ≡ n + (i - a) = omega (arith, e) in
-    hit i n a (range_with_len (a + 1) count) (same a i e) ∙ ap Some here
+    hit i n a (range_with_len (a + 1) count) (eq-eqb a i e) ∙ ap Some here
 up_step i n a count later (inr above) =
     let sums : (n + 1) + (i - (a + 1)) ≡ n + (i - a) = omega (arith, above) in
     let less : a < i = omega (arith, above) in
-    miss i n a (range_with_len (a + 1) count) (other a i less) ∙ later above ∙ ap Some sums
+    miss i n a (range_with_len (a + 1) count) (lt-eqb a i less) ∙ later above ∙ ap Some sums
 
 up_hit : (i n a count : ℕ) → a ≤ i → i < a + count → place_of i n (range_with_len a count) ≡ Some (n + (i - a))
 up_hit i n a zero low high = absurd (omega arith)
@@ -49,28 +43,22 @@ up_hit i n a (suc count) low high = up_step i n a count (λ above. up_hit i (n +
 
 up_above : (i n a count : ℕ) → i < a → place_of i n (range_with_len a count) ≡ None
 up_above i n a zero less = refl
-up_above i n a (suc count) less = miss i n a (range_with_len (a + 1) count) (other_below a i less) ∙ up_above i (n + 1) (a + 1) count (omega arith)
+up_above i n a (suc count) less = miss i n a (range_with_len (a + 1) count) (gt-eqb a i less) ∙ up_above i (n + 1) (a + 1) count (omega arith)
 
 up_below : (i n a count : ℕ) → a + count ≤ i → place_of i n (range_with_len a count) ≡ None
 up_below i n a zero le = refl
 up_below i n a (suc count) le =
     let less : a < i = omega arith in
-    miss i n a (range_with_len (a + 1) count) (other a i less) ∙ up_below i (n + 1) (a + 1) count (omega arith)
+    miss i n a (range_with_len (a + 1) count) (lt-eqb a i less) ∙ up_below i (n + 1) (a + 1) count (omega arith)
 
 -- the indexes of a range downwards
 abbrev down : ℕ → ℕ → List ℕ
 down a zero = []
 down a (suc count) = (a + count) ∷ down a count
 
-range_more : (a count : ℕ) → range_with_len a (suc count) ≡ range_with_len a count ++ (a + count) ∷ []
-range_more a zero = let sums : a ≡ a + zero = omega arith in ap (λ n. n ∷ []) sums
-range_more a (suc count) =
-    let sums : a + 1 + count ≡ a + suc count = omega arith in
-    ap (λ ns. a ∷ ns) (range_more (a + 1) count) ∙ ap (λ n. a ∷ (range_with_len (a + 1) count ++ n ∷ [])) sums
-
 down_is : (a count : ℕ) → reverse (range_with_len a count) ≡ down a count
 down_is a zero = refl
-down_is a (suc count) = ap reverse (range_more a count) ∙ reverse-append (range_with_len a count) ((a + count) ∷ []) ∙ ap (λ ns. (a + count) ∷ ns) (down_is a count)
+down_is a (suc count) = ap reverse (range_with_len_more a count) ∙ reverse-append (range_with_len a count) ((a + count) ∷ []) ∙ ap (λ ns. (a + count) ∷ ns) (down_is a count)
 
 here_or_below : (i top : ℕ) → i ≤ top → (top ≡ i) ⊎ (i < top)
 here_or_below i top le = grind arith
@@ -78,10 +66,10 @@ here_or_below i top le = grind arith
 down_step : (i n a count : ℕ) → (i < a + count → place_of i (n + 1) (down a count) ≡ Some ((n + 1) + (a + count - 1 - i))) → (a + count ≡ i) ⊎ (i < a + count) → place_of i n (down a (suc count)) ≡ Some (n + (a + suc count - 1 - i))
 down_step i n a count later (inl e) =
     let here : n ≡ n + (a + suc count - 1 - i) = omega (arith, e) in
-    hit i n (a + count) (down a count) (same (a + count) i e) ∙ ap Some here
+    hit i n (a + count) (down a count) (eq-eqb (a + count) i e) ∙ ap Some here
 down_step i n a count later (inr below) =
     let sums : (n + 1) + (a + count - 1 - i) ≡ n + (a + suc count - 1 - i) = omega (arith, below) in
-    miss i n (a + count) (down a count) (other_below (a + count) i below) ∙ later below ∙ ap Some sums
+    miss i n (a + count) (down a count) (gt-eqb (a + count) i below) ∙ later below ∙ ap Some sums
 
 down_hit : (i n a count : ℕ) → a ≤ i → i < a + count → place_of i n (down a count) ≡ Some (n + (a + count - 1 - i))
 down_hit i n a zero low high = absurd (omega arith)
@@ -91,13 +79,13 @@ down_above : (i n a count : ℕ) → i < a → place_of i n (down a count) ≡ N
 down_above i n a zero less = refl
 down_above i n a (suc count) less =
     let under : i < a + count = omega arith in
-    miss i n (a + count) (down a count) (other_below (a + count) i under) ∙ down_above i (n + 1) a count less
+    miss i n (a + count) (down a count) (gt-eqb (a + count) i under) ∙ down_above i (n + 1) a count less
 
 down_below : (i n a count : ℕ) → a + count ≤ i → place_of i n (down a count) ≡ None
 down_below i n a zero le = refl
 down_below i n a (suc count) le =
     let over : a + count < i = omega arith in
-    miss i n (a + count) (down a count) (other (a + count) i over) ∙ down_below i (n + 1) a count (omega arith)
+    miss i n (a + count) (down a count) (lt-eqb (a + count) i over) ∙ down_below i (n + 1) a count (omega arith)
 
 -- no index of a vector is left out
 none_at : (n : ℕ) (indexes : List ℕ) → position_from is_none n (map Some indexes) ≡ None
@@ -133,14 +121,11 @@ abbrev Inside : ℕ → ℕ → ℕ → Type 0
 Inside low high i = (low ≤ i) × (i ≤ high)
 
 where_is : (low high i : ℕ) → (i < low) ⊎ (Inside low high i ⊎ (high < i))
-where_is low high i = by_low (below_or_not i low)
+where_is low high i = by_low (cases_lt i low)
   where
-    below_or_not : (a b : ℕ) → (a < b) ⊎ (b ≤ a)
-    below_or_not a b = grind arith
-
     by_low : (i < low) ⊎ (low ≤ i) → (i < low) ⊎ (Inside low high i ⊎ (high < i))
     by_low (inl a) = inl a
-    by_low (inr a) = elim (below_or_not high i) [ inl b ↦ inr (inr b) | inr b ↦ inr (inl (a, b)) ]
+    by_low (inr a) = elim (cases_lt high i) [ inl b ↦ inr (inr b) | inr b ↦ inr (inl (a, b)) ]
 
 found_in : (start k : ℕ) (test : Bool) (o : Option ℕ) → test ≡ true → o ≡ Some (start + k) → o ≡ option_map (λ j. start + j) (if test then Some k else None)
 found_in start k test o e f = rw e f

@@ -4,6 +4,7 @@ use Rattle.std.specs.Prelude.{option_and_then, slice_get, find}
 use Rattle.std.specs.List.{list_any, position_from}
 use Rattle.std.specs.Str.{bytes_eq}
 use Rattle.std.proofs.lemmas.List.{map-append, drop_more, take_more}
+use Rattle.lists.proofs.ListLemmas.{position_from-map}
 use Rattle.first_places.specs.Places.{first_place}
 use Rattle.board_defs.specs.declared.device.Mode.{Mode}
 use Rattle.board_defs.specs.declared.device.PortBit.{PortBit}
@@ -17,7 +18,6 @@ use Rattle.bsdl_strings.specs.declared.values.MapEntry.{MapEntry}
 use Rattle.device_rules.specs.Ports.{Bit, in_order, width, indexes, bits_along, bits_of_port, bits_from, v2}
 use Rattle.device_rules.specs.PinMap.{maps_port}
 use Rattle.device_rules.specs.inner.Index.{index_at, bit_of_port, names_bit, words_of}
-use Rattle.device_rules.proofs.NameLemmas.{place-map}
 use Rattle.device_rules.proofs.RangeLemmas.{index_found, length_indexes}
 use Rattle.device_rules.proofs.BitLemmas.{Apart, apart, length_bits}
 
@@ -68,7 +68,7 @@ pub ordered_at : (ports : List Port) (i : ℕ) (port : Port) → v2 ports ≡ No
 ordered_at ports i port e less is = ordered_in ports i port (apart ports e) less is
 
 pub map_place_is : (names : List (List ℕ)) (entries : List MapEntry) (q : List ℕ) → names ≡ map (λ entry. entry.port) entries → first_place bytes_eq names q ≡ position_from (maps_port q) 0 entries
-map_place_is names entries q e = ap (λ ns. first_place bytes_eq ns q) e ∙ sym (place-map (λ entry. entry.port) (λ n. bytes_eq n q) 0 entries)
+map_place_is names entries q e = ap (λ ns. first_place bytes_eq ns q) e ∙ sym (position_from-map (λ entry. entry.port) (λ n. bytes_eq n q) 0 entries)
 
 -- the bit at a place of a port, by its fields
 pub bit_is : (entries : List MapEntry) (taps : TapPorts) (compliance : Option Compliance) (number : ℕ) (port : Port) (place : ℕ) (name : List ℕ) (index : Option ℕ) (pin : Option (List ℕ)) (tap named : Bool)

@@ -30,7 +30,7 @@ pub cut_end : (m w : ℕ) → 0 < w → w * m / w ≡ m
 cut_end m w some = grind (arith, mul-div_left)
 
 -- two neighbouring ranges are one
-parts : {X : Type 0} (xs : List X) (from middle to : ℕ) → from ≤ middle → middle ≤ to →
+pub parts : {X : Type 0} (xs : List X) (from middle to : ℕ) → from ≤ middle → middle ≤ to →
     take (to - from) (drop from xs) ≡ take (middle - from) (drop from xs) ++ take (to - middle) (drop middle xs)
 parts {X} xs from middle to low high =
     let sum : to - from ≡ (middle - from) + (to - middle) = omega arith in

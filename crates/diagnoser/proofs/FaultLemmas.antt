@@ -19,6 +19,7 @@ use Rattle.board_defs.specs.Faults.{singles, IsSingle, kind_rank}
 use Rattle.board_defs.specs.Pins.{is_same}
 use Rattle.board_defs.proofs.Members.{Has, has_filter, filter_has, any_has, has_any, has_at, has_contains}
 use Rattle.board_defs.proofs.SingleFaults.{single_is}
+use Rattle.board_defs.proofs.SameBits.{same_of_is_same, is_same_refl}
 use Rattle.tap_defs.specs.board.Explaining.{Explains}
 use Rattle.plan_tables.specs.declared.tables.PlanTables.{PlanTables}
 use Rattle.fault_sim.specs.declared.fault_lists.FaultLists.{FaultLists}
@@ -43,12 +44,6 @@ kind_back Or = refl
 kind_back First = refl
 kind_back Second = refl
 
-same_of : (a b : Bool) → is_same a b ≡ true → a ≡ b
-same_of true true e = refl
-same_of true false e = cc e
-same_of false true e = cc e
-same_of false false e = refl
-
 -- two faults are one
 abbrev same_single : Single → Single → Bool
 same_single (StuckNet n v) (StuckNet m w) = (n == m) && is_same v w
@@ -64,7 +59,7 @@ same_single (Short a b k) (Short c d l) = (a == c) && ((b == d) && (kind_rank k 
 same_one : (s t : Single) → same_single s t ≡ true → s ≡ t
 same_one (StuckNet n v) (StuckNet m w) e =
     let h = and_parts (n == m) (is_same v w) e in
-    ap (λ k. StuckNet k v) (eqb-true n m h.0) ∙ ap (λ b. StuckNet m b) (same_of v w h.1)
+    ap (λ k. StuckNet k v) (eqb-true n m h.0) ∙ ap (λ b. StuckNet m b) (same_of_is_same v w h.1)
 same_one (StuckNet n v) (OpenPin q w) e = cc e
 same_one (StuckNet n v) (Short c d l) e = cc e
 same_one (OpenPin p v) (StuckNet m w) e = cc e
@@ -73,7 +68,7 @@ same_one (OpenPin p v) (OpenPin q w) e =
     let i = and_parts (p.place == q.place) (is_same v w) h.1 in
     let net : p ≡ record { net = q.net; place = p.place } = ap (λ (n : ℕ). let r : PinRef = record { net = n; place = p.place } in r) (eqb-true p.net q.net h.0) in
     let place : record { net = q.net; place = p.place } ≡ q = ap (λ (n : ℕ). let r : PinRef = record { net = q.net; place = n } in r) (eqb-true p.place q.place i.0) in
-    ap (λ r. OpenPin r v) (net ∙ place) ∙ ap (λ b. OpenPin q b) (same_of v w i.1)
+    ap (λ r. OpenPin r v) (net ∙ place) ∙ ap (λ b. OpenPin q b) (same_of_is_same v w i.1)
 same_one (OpenPin p v) (Short c d l) e = cc e
 same_one (Short a b k) (StuckNet m w) e = cc e
 same_one (Short a b k) (OpenPin q w) e = cc e
@@ -83,14 +78,10 @@ same_one (Short a b k) (Short c d l) e =
     let kind : k ≡ l = sym (kind_back k) ∙ (ap kind_of (eqb-true (kind_rank k) (kind_rank l) i.1) ∙ kind_back l) in
     ap (λ n. Short n b k) (eqb-true a c h.0) ∙ (ap (λ n. Short c n k) (eqb-true b d i.0) ∙ ap (λ q. Short c d q) kind)
 
-same_bit : (b : Bool) → is_same b b ≡ true
-same_bit true = refl
-same_bit false = refl
-
 one_same : (s : Single) → same_single s s ≡ true
-one_same (StuckNet n v) = and_from (n == n) (is_same v v) (eq-eqb n n refl) (same_bit v)
+one_same (StuckNet n v) = and_from (n == n) (is_same v v) (eq-eqb n n refl) (is_same_refl v)
 one_same (OpenPin p v) =
-    and_from (p.net == p.net) ((p.place == p.place) && is_same v v) (eq-eqb p.net p.net refl) (and_from (p.place == p.place) (is_same v v) (eq-eqb p.place p.place refl) (same_bit v))
+    and_from (p.net == p.net) ((p.place == p.place) && is_same v v) (eq-eqb p.net p.net refl) (and_from (p.place == p.place) (is_same v v) (eq-eqb p.place p.place refl) (is_same_refl v))
 one_same (Short a b k) =
     and_from (a == a) ((b == b) && (kind_rank k == kind_rank k)) (eq-eqb a a refl) (and_from (b == b) (kind_rank k == kind_rank k) (eq-eqb b b refl) (eq-eqb (kind_rank k) (kind_rank k) refl))
 

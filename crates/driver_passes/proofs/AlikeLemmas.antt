@@ -7,7 +7,7 @@ use Rattle.board_defs.specs.declared.board.Drive.{Drive}
 use Rattle.board_defs.specs.declared.board.Drive.TheVariants.{AlwaysOn, OneSided, By}
 use Rattle.board_defs.specs.contracts.board.DrivePartialEq.TheImpl as drives
 use Rattle.board_defs.specs.Settings.{same_ctl}
-use Rattle.driver_passes.proofs.ControlLemmas.{same_equal, same_self}
+use Rattle.board_defs.proofs.ControlOrder.{same_equal, same_refl}
 
 -- equal lists of drivers
 
@@ -20,7 +20,7 @@ drives_decided OneSided OneSided = (λ h. refl, λ e. refl)
 drives_decided OneSided (By c) = (λ h. cc h, λ e. cc e)
 drives_decided (By c) AlwaysOn = (λ h. cc h, λ e. cc e)
 drives_decided (By c) OneSided = (λ h. cc h, λ e. cc e)
-drives_decided (By c) (By d) = (λ h. ap By (same_equal c d h), λ e. let same : c ≡ d = cc e in ap (same_ctl c) (sym same) ∙ same_self c)
+drives_decided (By c) (By d) = (λ h. ap By (same_equal c d h), λ e. let same : c ≡ d = cc e in ap (same_ctl c) (sym same) ∙ same_refl c)
 
 pub drives_same : (drivers others : List Drive) (t : Bool) → t ≡ pointwise drives.eq-value.it drivers others → t ≡ true → drivers ≡ others
 drives_same drivers others t e h = (slice_eq-Decides drives_decided drivers others t e).0 h

@@ -6,8 +6,9 @@ use Rattle.std.proofs.lemmas.Option.{slice_get_within, get_or_from_slice_get}
 use Rattle.std.proofs.lemmas.List.Elements.{All-cons, All-nil, All-head, All-tail}
 use Rattle.board_defs.specs.declared.board.Ctl.{Ctl}
 use Rattle.board_defs.specs.Settings.{same_ctl, precedes, holds, inserted, IsInControlOrder}
+use Rattle.board_defs.proofs.ControlOrder.{same_refl}
 use Rattle.driver_passes.specs.inner.Drafts.{chosen}
-use Rattle.driver_passes.proofs.ControlLemmas.{same_self, after_is, ComeAfter, come_after, order_rest, order_with, insert_before, insert_front, insert_behind, none_holds}
+use Rattle.driver_passes.proofs.ControlLemmas.{after_is, ComeAfter, come_after, order_rest, order_with, insert_before, insert_front, insert_behind, none_holds}
 
 -- where no place passes, none is chosen
 pub chosen_none : (p : ℕ → Bool) (place : ℕ) (controls : List Ctl) → ((n : ℕ) → p n ≡ false) → chosen p place controls ≡ []
@@ -84,7 +85,7 @@ chosen_holds p first zero place (d ∷ controls) c order at e = sym (ap (holds (
     same = cc e
 
     by_test : (t : Bool) → holds (cond t (d ∷ rest) rest) d ≡ t
-    by_test true = or_left (same_ctl d d) (holds rest d) (same_self d)
+    by_test true = or_left (same_ctl d d) (holds rest d) (same_refl d)
     by_test false = none_holds d rest (chosen_after d p (suc first) controls (come_after d controls order))
 chosen_holds p first (suc i) place (d ∷ controls) c order at e = by_test (p first) ∙ chosen_holds p (suc first) i place controls c (order_rest d controls order) (omega (arith, at)) e
   where

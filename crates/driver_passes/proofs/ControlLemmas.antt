@@ -1,22 +1,13 @@
 -- Lists of controls in control order, and what a setting holds.
-use Rattle.std.proofs.Common.{◌≡◌, ◌≢◌, ◌⊎◌, inl, inr, ℕ, zero, suc, ◌<◌, ◌==◌, Bool, true, false, ◌&&◌, ◌||◌, List, [], ◌∷◌, get_or, Some, refl, sym, ◌∙◌, ap, subst, arith, cond}
+use Rattle.std.proofs.Common.{◌≡◌, ◌≢◌, ◌⊎◌, inl, inr, ℕ, zero, suc, ◌<◌, Bool, true, false, ◌&&◌, ◌||◌, List, [], ◌∷◌, get_or, Some, refl, sym, ◌∙◌, ap, subst, arith, cond}
 use Rattle.std.specs.Prelude.{slice_get, All, IsTrue}
 use Rattle.std.specs.List.{list_all}
 use Rattle.std.proofs.lemmas.Bool.Decides.{nat_tests}
-use Rattle.std.proofs.lemmas.Bool.{cases_order, eqb-true, eq-eqb, and_parts, and_from, or_cases}
+use Rattle.std.proofs.lemmas.Bool.{cases_order, or_cases}
 use Rattle.std.proofs.lemmas.Option.{slice_get_within, get_or_from_slice_get}
 use Rattle.board_defs.specs.declared.board.Ctl.{Ctl}
 use Rattle.board_defs.specs.Settings.{same_ctl, precedes, holds, inserted, IsInControlOrder}
-
-pub same_equal : (a b : Ctl) → same_ctl a b ≡ true → a ≡ b
-same_equal a b h =
-    let both : ((a.part == b.part) ≡ true) × ((a.cell == b.cell) ≡ true) = and_parts (a.part == b.part) (a.cell == b.cell) h in
-    let P : ℕ → Type 0 = λ n. a ≡ record { part = n; cell = a.cell } in
-    let Q : ℕ → Type 0 = λ n. a ≡ record { part = b.part; cell = n } in
-    subst Q (eqb-true a.cell b.cell both.1) (subst P (eqb-true a.part b.part both.0) refl)
-
-pub same_self : (c : Ctl) → same_ctl c c ≡ true
-same_self c = and_from (c.part == c.part) (c.cell == c.cell) (eq-eqb c.part c.part refl) (eq-eqb c.cell c.cell refl)
+use Rattle.board_defs.proofs.ControlOrder.{same_equal, same_refl}
 
 pub after_is : (a b : Ctl) → precedes a b ≡ true → (precedes b a ≡ false) × (same_ctl a b ≡ false) × (same_ctl b a ≡ false)
 after_is a b h = (grind (arith, nat_tests), grind (arith, nat_tests), grind (arith, nat_tests))
@@ -49,7 +40,7 @@ insert_before c (d ∷ setting) after =
 -- one that is at the front already changes nothing
 pub insert_front : (c : Ctl) (setting : List Ctl) → inserted c (c ∷ setting) ≡ c ∷ setting
 insert_front c setting =
-    ap (λ t. cond t (c ∷ inserted c setting) (cond (same_ctl c c) (c ∷ setting) (c ∷ c ∷ setting))) (itself_is c) ∙ ap (λ t. cond t (c ∷ setting) (c ∷ c ∷ setting)) (same_self c)
+    ap (λ t. cond t (c ∷ inserted c setting) (cond (same_ctl c c) (c ∷ setting) (c ∷ c ∷ setting))) (itself_is c) ∙ ap (λ t. cond t (c ∷ setting) (c ∷ c ∷ setting)) (same_refl c)
 
 -- one after the first goes behind it
 pub insert_behind : (c d : Ctl) (setting : List Ctl) → precedes d c ≡ true → inserted c (d ∷ setting) ≡ d ∷ inserted c setting

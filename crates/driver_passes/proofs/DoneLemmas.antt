@@ -4,6 +4,7 @@ use Rattle.std.specs.Prelude.{is_some, slice_get}
 use Rattle.std.specs.List.{list_all, list_any}
 use Rattle.std.proofs.lemmas.Bool.{and_cases, and_from, and_parts, cases_eq, not-false, not-true, or_cases, or_left, or_right}
 use Rattle.std.proofs.lemmas.List.{drop_all, length-map}
+use Rattle.lists.proofs.ListLemmas.{item_there, list_any_before, list_any_last}
 use Rattle.board_defs.specs.declared.board.Ctl.{Ctl}
 use Rattle.board_defs.specs.declared.board.RawBoard.{RawBoard}
 use Rattle.board_defs.specs.declared.board.Drive.{Drive}
@@ -17,8 +18,7 @@ use Rattle.driver_passes.specs.inner.NumberSets.{is_in}
 use Rattle.driver_passes.specs.inner.Pairs.{AreDone, AreLeft, IsDone, IsDoneTo, StaysDone, is_wanted, pairs_from}
 use Rattle.driver_passes.specs.inner.Progress.{EnableTested}
 use Rattle.driver_passes.specs.inner.Shown.{drivers_at}
-use Rattle.driver_passes.proofs.EnabledLemmas.{any_end, any_last}
-use Rattle.driver_passes.proofs.ProgressLemmas.{drivers_are, net_there}
+use Rattle.driver_passes.proofs.ProgressLemmas.{drivers_are}
 use Rattle.driver_passes.proofs.PairLemmas.{one_done}
 
 -- no pass is added
@@ -41,7 +41,7 @@ done_kept board useful passes after nets e m n (inl shown) = inl (ap (list_any p
     by_test : (t : Bool) (found : Option (Drive × Drive)) → list_any p (cond t passes (with_pair board useful passes found)) ≡ true
     by_test true found = shown
     by_test false None = shown
-    by_test false (Some pair) = any_end p passes (pair_pass board useful pair) shown
+    by_test false (Some pair) = list_any_before p passes (pair_pass board useful pair) shown
 
 -- once passes are added for two nets, nothing is to be done for them
 pub done_now : (board : RawBoard) (useful : List Ctl) (passes after : List (List Ctl)) (a b : ℕ) → a < length board.nets → b < length board.nets → after ≡ add_for_nets board useful passes (drivers_at board a, drivers_at board b) → IsDone board after a b
@@ -52,8 +52,8 @@ done_now board useful passes after a b first second e = let P : List (List Ctl) 
 
     made : (pair : Drive × Drive) → first_pair board (drivers_at board a) (drivers_at board b) ≡ Some pair → p (pair_pass board useful pair) ≡ true
     made pair h =
-        let one : (net : Net) × (slice_get board.nets a ≡ Some net) = net_there board.nets a first in
-        let two : (net : Net) × (slice_get board.nets b ≡ Some net) = net_there board.nets b second in
+        let one : (net : Net) × (slice_get board.nets a ≡ Some net) = item_there board.nets a first in
+        let two : (net : Net) × (slice_get board.nets b ≡ Some net) = item_there board.nets b second in
         let P : List Drive → Type 0 = λ v. first_pair board v (drivers_at board b) ≡ Some pair → (shows v (pair_pass board useful pair) && shows (drivers_at board b) (pair_pass board useful pair)) ≡ true in
         let Q : List Drive → Type 0 = λ v. first_pair board (tested_drivers board one.0) v ≡ Some pair → (shows (tested_drivers board one.0) (pair_pass board useful pair) && shows v (pair_pass board useful pair)) ≡ true in
         subst P (sym (drivers_are board a one.0 one.1)) (subst Q (sym (drivers_are board b two.0 two.1)) (pair_shows board useful one.0 two.0 pair)) h
@@ -61,7 +61,7 @@ done_now board useful passes after a b first second e = let P : List (List Ctl) 
     by_test : (t : Bool) → are_shown passes (drivers_at board a) (drivers_at board b) ≡ t → (found : Option (Drive × Drive)) → first_pair board (drivers_at board a) (drivers_at board b) ≡ found → IsDone board (cond t passes (with_pair board useful passes found)) a b
     by_test true shown found h = inl shown
     by_test false shown None h = inr h
-    by_test false shown (Some pair) h = inl (any_last p passes (pair_pass board useful pair) (made pair h))
+    by_test false shown (Some pair) h = inl (list_any_last p passes (pair_pass board useful pair) (made pair h))
 
 -- one net more
 pub done_next : (board : RawBoard) (passes : List (List Ctl)) (a : ℕ) → AreDone board passes a → IsDoneTo board passes a (length board.nets) → AreDone board passes (a + 1)

@@ -5,13 +5,13 @@ use Rattle.std.specs.List.{list_any}
 use Rattle.std.proofs.Math.Bool.{and-false, and-true}
 use Rattle.std.proofs.lemmas.Bool.{cases_eq, eq-eqb, ne_eqb}
 use Rattle.std.proofs.lemmas.Option.{slice_get_within}
+use Rattle.lists.proofs.ListLemmas.{list_any_same}
 use Rattle.board_defs.specs.declared.board.Ctl.{Ctl}
 use Rattle.board_defs.specs.declared.board.RawBoard.{RawBoard}
 use Rattle.board_defs.specs.Decided.{are_together}
 use Rattle.board_defs.specs.Settings.{holds, inserted, IsInControlOrder}
 use Rattle.board_defs.specs.Passes.{fits, useful_controls}
 use Rattle.board_defs.specs.Laws.{PassesAre, DecidesTerms}
-use Rattle.net_facts.proofs.Answered.{any_same}
 use Rattle.net_facts.specs.Kept.{shared_nets}
 use Rattle.net_classes.specs.Laws.{NetsAreShared}
 use Rattle.driver_passes.specs.declared.blocks.Block.{Block}
@@ -46,7 +46,7 @@ pub loses_listed : (board : RawBoard) (sharers : List (List Block)) (nets : List
 loses_listed board sharers nets c before after are decides shared listed is useful closed q e at other =
     closed q ∙
     ap (λ t. is_in before q && t) (sym (together_is board e c shared (useful_safe board e are decides (holds_at (useful_controls board) q e at)) (useful_safe board c are decides useful) other ∙
-    ap not (common_swap (shared_nets board e) (shared_nets board c) ∙ sym (any_same (λ n. has_place (get_or sharers n []) q) (has_number (shared_nets board e)) (listed q e at) nets ∙ ap (list_any (has_number (shared_nets board e))) is))))
+    ap not (common_swap (shared_nets board e) (shared_nets board c) ∙ sym (list_any_same (λ n. has_place (get_or sharers n []) q) (has_number (shared_nets board e)) (listed q e at) nets ∙ ap (list_any (has_number (shared_nets board e))) is))))
 
 pub added_draft : (board : RawBoard) (held free held_after kept free_after : List ℕ) (place : ℕ) (c : Ctl) → PassesAre board → IsDraft board held free → slice_get (useful_controls board) place ≡ Some c → length held_after ≡ length held → IsAdded place held held_after → LosesApart board c free kept → ((q : ℕ) → is_in free_after q ≡ (is_in kept q && not (q == place))) → IsDraft board held_after free_after
 added_draft board held free held_after kept free_after place c are is stands room added apart removed = record {

@@ -11,11 +11,11 @@ use Rattle.board_defs.specs.Decided.{is_safe_alone, share_net, are_together}
 use Rattle.board_defs.specs.Passes.{useful_controls, fits}
 use Rattle.board_defs.specs.Coverage.{IsUseful}
 use Rattle.board_defs.specs.Laws.{PassesAre, DecidesTerms}
+use Rattle.board_defs.proofs.ControlOrder.{same_refl}
 use Rattle.net_facts.specs.Kept.{shared_nets}
 use Rattle.net_classes.specs.Laws.{HaveCommon, NetsAreShared, SaysShared}
 use Rattle.driver_passes.specs.inner.Drafts.{has_number, setting_of, IsDraft}
 use Rattle.driver_passes.specs.inner.NumberSets.{is_in}
-use Rattle.driver_passes.proofs.ControlLemmas.{same_self}
 use Rattle.driver_passes.proofs.ChosenLemmas.{chosen_set}
 
 -- numbers in two lists
@@ -75,7 +75,7 @@ together_is board c d shared safe also other =
 
 pub holds_at : (controls : List Ctl) (i : ℕ) (c : Ctl) → slice_get controls i ≡ Some c → holds controls c ≡ true
 holds_at [] i c e = cc e
-holds_at (d ∷ controls) zero c e = let same : d ≡ c = cc e in or_left (same_ctl c d) (holds controls c) (ap (same_ctl c) same ∙ same_self c)
+holds_at (d ∷ controls) zero c e = let same : d ≡ c = cc e in or_left (same_ctl c d) (holds controls c) (ap (same_ctl c) same ∙ same_refl c)
 holds_at (d ∷ controls) (suc i) c e = or_right (same_ctl c d) (holds controls c) (holds_at controls i c e)
 
 -- a useful control is safe alone

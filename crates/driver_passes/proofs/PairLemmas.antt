@@ -3,7 +3,7 @@ use Rattle.std.proofs.Common.{◌≡◌, ℕ, suc, ◌+◌, ◌<◌, ◌≤◌, 
 use Rattle.std.specs.Prelude.{find, option_map}
 use Rattle.std.specs.Option.{option_or}
 use Rattle.std.proofs.Math.Seq.{drop-cons}
-use Rattle.std.proofs.lemmas.List.{length-map}
+use Rattle.std.proofs.lemmas.List.{length-map, length_push}
 use Rattle.std.proofs.lemmas.List.Folds.{find-append}
 use Rattle.std.proofs.lemmas.List.Sums.{fold-append}
 use Rattle.board_defs.specs.declared.board.Ctl.{Ctl}
@@ -14,7 +14,6 @@ use Rattle.board_defs.specs.Passes.{add_for_nets, are_shown, drivers_by_net, fir
 use Rattle.net_classes.specs.Pairs.{fit}
 use Rattle.driver_passes.specs.inner.Pairs.{pairs_from}
 use Rattle.driver_passes.specs.inner.Shown.{drivers_at}
-use Rattle.driver_passes.proofs.ProgressLemmas.{length_end}
 
 -- the first pair with the first driver, where there is one
 abbrev is_fitting : RawBoard → Drive × Drive → Bool
@@ -75,4 +74,4 @@ one_more board useful passes nets = by_test (are_shown passes nets.0 nets.1) (fi
     by_test : (t : Bool) (found : Option (Drive × Drive)) → length (cond t passes (with_pair board useful passes found)) ≤ length passes + 1
     by_test true found = omega arith
     by_test false None = omega arith
-    by_test false (Some pair) = omega (arith, length_end passes (pair_pass board useful pair))
+    by_test false (Some pair) = omega (arith, length_push passes (pair_pass board useful pair))

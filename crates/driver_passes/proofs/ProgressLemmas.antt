@@ -1,13 +1,14 @@
 -- The passes so far, and the tested drivers of the nets.
-use Rattle.std.proofs.Common.{◌≡◌, ℕ, zero, suc, ◌+◌, ◌<◌, ◌≤◌, Bool, true, false, not, ◌&&◌, ◌||◌, List, [], ◌∷◌, ◌++◌, length, map, get_or, take, fold, Option, Some, None, refl, sym, ◌∙◌, ap, subst, arith, cond}
+use Rattle.std.proofs.Common.{◌≡◌, ℕ, zero, suc, ◌+◌, ◌≤◌, Bool, true, false, not, ◌&&◌, ◌||◌, List, [], ◌∷◌, ◌++◌, length, map, get_or, take, fold, Option, Some, None, refl, sym, ◌∙◌, ap, subst, arith, cond}
 use Rattle.std.specs.Prelude.{◌==◌, slice_get, All, Contains, filter_map, sum_by}
 use Rattle.std.specs.List.{list_any, flat_map, range_with_len, cons_option}
 use Rattle.std.proofs.Math.Bool.{or-false, or_comm}
-use Rattle.std.proofs.lemmas.Bool.{and_parts, ne_eqb}
+use Rattle.std.proofs.lemmas.Bool.{and_parts}
 use Rattle.std.proofs.lemmas.Option.{slice_get_within, get_or_from_slice_get}
-use Rattle.std.proofs.lemmas.List.{get_or-map as item-map, get_or_default, length-append, length-map, take_all}
+use Rattle.std.proofs.lemmas.List.{get_or-map as item-map, get_or_default, length-append, length-map, take_all, length_push}
 use Rattle.std.proofs.lemmas.List.Folds.{list_any-append}
 use Rattle.std.proofs.lemmas.List.Sums.{sum_by-cons}
+use Rattle.lists.proofs.Booleans.{suc-eqb_zero}
 use Rattle.board_defs.specs.declared.board.Net.{Net}
 use Rattle.board_defs.specs.declared.board.Ctl.{Ctl}
 use Rattle.board_defs.specs.declared.board.RawBoard.{RawBoard}
@@ -31,20 +32,10 @@ held_more board passes after pass held joined is len join e = record {
   held_are = λ i c h. join i c h ∙ ap (λ v. holds pass c || v) (is.held_are i c h) ∙ or_comm (holds pass c) (is_held passes c) ∙ ap (λ v. is_held passes c || v) (sym (or-false (holds pass c))) ∙ sym (ap (λ v. is_held v c) e ∙ list_any-append (λ pass. holds pass c) passes (pass ∷ []));
 }
 
--- a list with an item isn't empty
-pub some_length : (n : ℕ) → (suc n == 0) ≡ false
-some_length n = ne_eqb (suc n) 0 (λ e. omega (arith, e))
-
 -- an always-on driver is enabled by each pass
 pub any_pass : (passes : List (List Ctl)) → list_any (λ pass. true) passes ≡ not (length passes == 0)
 any_pass [] = refl
-any_pass (pass ∷ passes) = sym (ap not (some_length (length passes)))
-
--- the net of a number
-pub net_there : {X : Type 0} (xs : List X) (i : ℕ) → i < length xs → (x : X) × (slice_get xs i ≡ Some x)
-net_there [] i h = absurd (omega arith)
-net_there (x ∷ xs) zero h = (x, refl)
-net_there (x ∷ xs) (suc i) h = net_there xs i (omega arith)
+any_pass (pass ∷ passes) = sym (ap not (suc-eqb_zero (length passes)))
 
 pub drivers_are : (board : RawBoard) (n : ℕ) (net : Net) → slice_get board.nets n ≡ Some net → drivers_at board n ≡ tested_drivers board net
 drivers_are board n net e = item-map (tested_drivers board) board.nets n net [] (slice_get_within board.nets n net e) ∙ ap (tested_drivers board) (get_or_from_slice_get board.nets n net net e)
@@ -80,16 +71,12 @@ passes_whole board useful passes n most e =
     e ∙ ap (λ v. fold (add_for_driver board useful) [] (flat_map (λ (drivers : List Drive). drivers) v)) (take_all n (drivers_by_net board) all)
 
 -- each driver gives at most one pass
-pub length_end : {X : Type 0} (xs : List X) (x : X) → length (xs ++ x ∷ []) ≡ length xs + 1
-length_end [] x = refl
-length_end (y ∷ xs) x = let e : length (xs ++ x ∷ []) ≡ length xs + 1 = length_end xs x in omega (arith, e)
-
 one_more : (board : RawBoard) (useful : List Ctl) (passes : List (List Ctl)) (d : Drive) → length (add_for_driver board useful passes d) ≤ length passes + 1
 one_more board useful passes d = by_test (list_any (λ pass. is_enabled pass d) passes)
   where
     by_test : (t : Bool) → length (cond t passes (passes ++ driver_pass board useful passes d ∷ [])) ≤ length passes + 1
     by_test true = omega arith
-    by_test false = omega (arith, length_end passes (driver_pass board useful passes d))
+    by_test false = omega (arith, length_push passes (driver_pass board useful passes d))
 
 fold_few : (board : RawBoard) (useful : List Ctl) (drivers : List Drive) (passes : List (List Ctl)) → length (fold (add_for_driver board useful) passes drivers) ≤ length passes + length drivers
 fold_few board useful [] passes = omega arith

@@ -8,6 +8,8 @@ use Rattle.std.proofs.lemmas.List.{get_or-set_same, get_or-set_other, take_more}
 use Rattle.std.proofs.lemmas.Option.{slice_get_within, get_or_from_slice_get}
 use Rattle.std.proofs.lemmas.List.Elements.{All-cons, All-nil}
 use Rattle.std.proofs.lemmas.List.Folds.{list_any-append}
+use Rattle.lists.proofs.Booleans.{or_swap}
+use Rattle.lists.proofs.ListLemmas.{item_there}
 use Rattle.board_defs.specs.declared.board.Ctl.{Ctl}
 use Rattle.board_defs.specs.declared.board.RawBoard.{RawBoard}
 use Rattle.board_defs.specs.declared.board.Drive.{Drive}
@@ -15,14 +17,14 @@ use Rattle.board_defs.specs.declared.board.Drive.TheVariants.{AlwaysOn, OneSided
 use Rattle.board_defs.specs.Decided.{is_by}
 use Rattle.board_defs.specs.Settings.{holds, same_ctl, IsInControlOrder}
 use Rattle.board_defs.specs.Passes.{is_enabled, shows, useful_controls}
+use Rattle.board_defs.proofs.ControlOrder.{same_refl}
 use Rattle.driver_passes.specs.inner.Drafts.{chosen, has_number}
 use Rattle.driver_passes.specs.inner.Tested.{AreListed, AreNoted, drives}
 use Rattle.driver_passes.specs.inner.NumberSets.{is_in}
 use Rattle.driver_passes.specs.inner.Shown.{drivers_at}
 use Rattle.driver_passes.proofs.BlockLemmas.{below_more, same_place}
 use Rattle.driver_passes.proofs.ChosenLemmas.{chosen_next, chosen_skip}
-use Rattle.driver_passes.proofs.ControlLemmas.{other_place, same_self}
-use Rattle.driver_passes.proofs.ProgressLemmas.{net_there}
+use Rattle.driver_passes.proofs.ControlLemmas.{other_place}
 
 -- what one control more shows
 
@@ -44,15 +46,10 @@ shows_with c setting (d ∷ drivers) =
     ap (λ t. t || shows drivers (c ∷ setting)) (enabled_with c setting d) ∙ ap (λ t. (is_by c (Some d) || is_enabled setting d) || t) (shows_with c setting drivers) ∙
     regroup (is_by c (Some d)) (is_enabled setting d) (drives c drivers) (shows drivers setting)
 
-swap : (a b x : Bool) → (a || (b || x)) ≡ (b || (a || x))
-swap true true x = refl
-swap true false x = refl
-swap false b x = refl
-
 -- a setting shows a net by a driver that is always on, or by one of its controls
 pub shows_split : (drivers : List Drive) (setting : List Ctl) → shows drivers setting ≡ (shows drivers [] || list_any (λ c. drives c drivers) setting)
 shows_split drivers [] = sym (or-false (shows drivers []))
-shows_split drivers (c ∷ setting) = shows_with c setting drivers ∙ ap (λ t. drives c drivers || t) (shows_split drivers setting) ∙ swap (drives c drivers) (shows drivers []) (list_any (λ e. drives e drivers) setting)
+shows_split drivers (c ∷ setting) = shows_with c setting drivers ∙ ap (λ t. drives c drivers || t) (shows_split drivers setting) ∙ or_swap (drives c drivers) (shows drivers []) (list_any (λ e. drives e drivers) setting)
 
 -- lists of numbers
 
@@ -90,7 +87,7 @@ noted board lists net q e list order size at' is place c at n = by_place (cases_
         let one : Some e ≡ Some c = sym at' ∙ sym (ap (slice_get (useful_controls board)) same) ∙ at in
         let control : e ≡ c = cc one in
         ap (λ k. has_number (get_or (set lists q list) k []) n) same ∙ ap (λ v. has_number v n) (get_or-set_same lists q list [] within ∙ is) ∙ number_end (get_or lists q []) net n ∙
-        ap (λ t. t || has_number (get_or lists q []) n) (sym (and-true (n == net)) ∙ ap (λ t. n == net && t) (sym (sym (ap (same_ctl e) control) ∙ same_self e))) ∙ ap (λ k. (n == net && same_ctl e c) || has_number (get_or lists k []) n) (sym same)
+        ap (λ t. t || has_number (get_or lists q []) n) (sym (and-true (n == net)) ∙ ap (λ t. n == net && t) (sym (sym (ap (same_ctl e) control) ∙ same_refl e))) ∙ ap (λ k. (n == net && same_ctl e c) || has_number (get_or lists k []) n) (sym same)
     by_place (inr differ) =
         ap (λ v. has_number v n) (get_or-set_other lists q place list [] differ) ∙ ap (λ t. t || has_number (get_or lists place []) n) (sym (and-false (n == net)) ∙ ap (λ t. n == net && t) (sym (other_place (useful_controls board) place q c e order at at' differ)))
 
@@ -133,7 +130,7 @@ left_skip board held place next n least none = ap (list_any (λ c. drives c (dri
 list_is : (board : RawBoard) (lists : List (List ℕ)) (place : ℕ) (list : List ℕ) → AreListed board (length board.nets) lists → place < length (useful_controls board) → list ≡ get_or lists place [] →
     (c : Ctl) × (slice_get (useful_controls board) place ≡ Some c) × ((n : ℕ) → has_number list n ≡ (ltb n (length board.nets) && drives c (drivers_at board n)))
 list_is board lists place list are less e =
-    let there : (c : Ctl) × (slice_get (useful_controls board) place ≡ Some c) = net_there (useful_controls board) place less in
+    let there : (c : Ctl) × (slice_get (useful_controls board) place ≡ Some c) = item_there (useful_controls board) place less in
     (there.0, there.1, λ n. ap (λ v. has_number v n) e ∙ are.lists_are place there.0 there.1 n)
 
 pub list_within : (board : RawBoard) (lists : List (List ℕ)) (place : ℕ) (list row : List ℕ) → AreListed board (length board.nets) lists → place < length (useful_controls board) → list ≡ get_or lists place [] → length row ≡ length board.nets / 64 + 1 → All (λ n. n / 64 < length row) list

@@ -6,6 +6,7 @@ use Rattle.std.specs.List.{list_all}
 use Rattle.std.specs.Cmp.{booleans_Decides}
 use Rattle.std.proofs.lemmas.Bool.Decides.{same_from_decides, not_from_Decides, Decides-like, Decides-and, Decides-eqb, Decides-by_and}
 use Rattle.std.proofs.lemmas.Option.{slice_get_within, get_or_from_slice_get}
+use Rattle.lists.proofs.ListLemmas.{item_there}
 use Rattle.board_defs.specs.declared.board.RawBoard.{RawBoard}
 use Rattle.board_defs.specs.declared.fault.Single.{Single}
 use Rattle.board_defs.specs.BoardRules.{IsBoard}
@@ -22,7 +23,6 @@ use Rattle.tap_defs.proofs.chain.ListLemmas.{cons_path}
 use Rattle.tap_defs.proofs.board.LogLemmas.{length-row_bits}
 use Rattle.tap_defs.proofs.board.SingleLemmas.{single_observable, single_no_open_shorted}
 use Rattle.tap_defs.proofs.board.ResponseLogLemmas.{explained_by_rows, logs_agree, some_log, own_in_turn}
-use Rattle.plan_tables.proofs.ListLemmas.{some_at}
 use Rattle.fault_sim.specs.Diagnosis.{Picks, IsDiagnosis}
 
 -- some test decides the statement
@@ -129,7 +129,7 @@ module _ (board : RawBoard) where
         where
           captures : IsCapturedBy board faults scans log
           captures x scan logged choice e f =
-              let second = some_at other x (omega (arith, slice_get_within log x logged f, shape.rows, explained.shape.rows)) in
+              let second = item_there other x (omega (arith, slice_get_within log x logged f, shape.rows, explained.shape.rows)) in
               let long : length (second.0) ≡ data_bits board =
               sym (ap (λ (row : List Bool). length row) (get_or_from_slice_get other x (second.0) [] second.1)) ∙ explained.shape.bits x [] (slice_get_within other x (second.0) second.1) in
               agree_through (joined (row_bits board scan)) logged (second.0) (row_captured board faults scan.before choice) (length-row_bits board scan ∙ sym long) (agree x scan logged (second.0) e f second.1)

@@ -6,6 +6,7 @@ use Rattle.std.proofs.lemmas.Bool.{lt-ltb, both_ways, cases_eq, cases_Bool, ne_e
 use Rattle.std.proofs.lemmas.List.{get_or-set_same, get_or-set_other}
 use Rattle.std.proofs.lemmas.List.Sums.{sum_by-cons}
 use Rattle.std.proofs.lemmas.Option.{get_or_from_slice_get}
+use Rattle.lists.proofs.ListLemmas.{item_there}
 use Rattle.board_defs.specs.declared.board.Net.{Net}
 use Rattle.board_defs.specs.declared.board.RawBoard.{RawBoard}
 use Rattle.board_defs.specs.declared.board.Ctl.{Ctl}
@@ -22,7 +23,6 @@ use Rattle.plan_tables.specs.declared.tables.ReaderCell.{ReaderCell}
 use Rattle.plan_tables.specs.declared.tables.PlanTables.{PlanTables}
 use Rattle.plan_tables.specs.Building.{is_read_beside}
 use Rattle.scan_planner.specs.Plans.{IsPlanOf}
-use Rattle.plan_tables.proofs.ListLemmas.{some_at}
 use Rattle.fault_sim.specs.Effects.{driver_in, place_of_driver, readers_in, code_in}
 use Rattle.fault_sim.specs.declared.effect.Effect.TheVariants.{Plain}
 use Rattle.fault_sim.specs.Fits.{bit_in, cell_shows, ShowBy, NetShows, ShowsOn, ShowsAll}
@@ -133,7 +133,7 @@ module _ (board : RawBoard) (rules : IsBoard board) (plan : PlanTables) (p : IsP
   -- a net that no pass observes shows whatever the log is
   unobserved_shows : (n : ℕ) (net : Net) → slice_get board.nets n ≡ Some net → is_observed board plan.passes net ≡ false → ShowsOn board plan None log n
   unobserved_shows n net is_net off x less =
-      let pass = some_at plan.passes x less in
+      let pass = item_there plan.passes x less in
       subst (λ (q : List Ctl). NetShows board plan None log (x * plan.width) q n) (sym (get_or_from_slice_get plan.passes x (pass.0) [] pass.1))
       (by_driver (pass.0) pass.1 (driver_in plan (pass.0) n) refl)
     where

@@ -7,6 +7,7 @@ use Rattle.std.proofs.lemmas.List.{drop_all}
 use Rattle.std.proofs.lemmas.List.Sums.{sum_by-cons}
 use Rattle.std.proofs.lemmas.Option.{slice_get_within, get_or_from_slice_get}
 use Rattle.std.proofs.Math.Seq.{drop-cons}
+use Rattle.lists.proofs.ListLemmas.{item_there}
 use Rattle.board_defs.specs.declared.board.PinRef.{PinRef}
 use Rattle.board_defs.specs.declared.board.RawBoard.{RawBoard}
 use Rattle.board_defs.specs.declared.board.Ctl.{Ctl}
@@ -30,7 +31,7 @@ use Rattle.tap_defs.specs.board.TestRows.{code_row, code_width, observed_count, 
 use Rattle.tap_defs.proofs.board.ScanPlaceLemmas.{front_at, rest_at}
 use Rattle.plan_tables.specs.declared.tables.PlanTables.{PlanTables}
 use Rattle.scan_planner.specs.Plans.{IsPlanOf}
-use Rattle.plan_tables.proofs.ListLemmas.{all_has, some_at}
+use Rattle.plan_tables.proofs.ListLemmas.{all_has}
 use Rattle.fault_sim.specs.declared.effect.Effect.{Effect}
 use Rattle.fault_sim.specs.declared.effect.Effect.TheVariants.{Plain, Constant}
 use Rattle.fault_sim.specs.declared.fault_lists.FaultLists.{FaultLists}
@@ -89,7 +90,7 @@ module _ (plan : PlanTables) (lists : FaultLists) (starts : AreStarts (length li
   module _ (i : ℕ) (single : Single) (at : slice_get (listed_places plan lists) i ≡ Some (Some single)) where
     by_stuck : i < 2 * length lists.nets → PlaceOf lists i single
     by_stuck less =
-        let net = some_at lists.nets (i / 2) (omega (arith, less)) in
+        let net = item_there lists.nets (i / 2) (omega (arith, less)) in
         let here = placed_at (flat_map stuck_faults lists.nets) i single (sym (front_at stuck (opens ++ shorts) i (omega (arith, less, stuck_length plan lists))) ∙ at) in
         let two : Some (StuckNet (net.0) ((i % 2) == 1)) ≡ Some single =
         sym (flat_at stuck_faults 2 (λ n. refl) lists.nets (i / 2) (net.0) net.1 (i % 2) i (omega arith) (omega arith) ∙ stuck_fault (net.0) (i % 2) (omega arith)) ∙ here in
@@ -98,7 +99,7 @@ module _ (plan : PlanTables) (lists : FaultLists) (starts : AreStarts (length li
     by_open : 2 * length lists.nets ≤ i → i < 2 * length lists.nets + 2 * length lists.pins → PlaceOf lists i single
     by_open above less =
         let k : ℕ = i - 2 * length lists.nets in
-        let pin = some_at lists.pins (k / 2) (omega (arith, less, above)) in
+        let pin = item_there lists.pins (k / 2) (omega (arith, less, above)) in
         let here = placed_at (flat_map open_faults lists.pins) k single
         (sym (rest_at stuck (opens ++ shorts) k i (omega (arith, above, stuck_length plan lists)) ∙ front_at opens shorts k (omega (arith, less, above, opens_length plan lists))) ∙ at) in
         let two : Some (OpenPin (pin.0) ((k % 2) == 1)) ≡ Some single =
@@ -111,7 +112,7 @@ module _ (plan : PlanTables) (lists : FaultLists) (starts : AreStarts (length li
         let here : slice_get shorts k ≡ Some (Some single) =
         sym (rest_at stuck (opens ++ shorts) (2 * length lists.pins + k) i (omega (arith, above, stuck_length plan lists)) ∙ rest_at opens shorts k (2 * length lists.pins + k) (omega (arith, opens_length plan lists))) ∙ at in
         let within : k < length shorts = slice_get_within shorts k (Some single) here in
-        let pair = some_at (pairs_within lists.nets) (k / 4) (omega (arith, within, length-flat (number_places plan) 4 (length-four plan) (pairs_within lists.nets))) in
+        let pair = item_there (pairs_within lists.nets) (k / 4) (omega (arith, within, length-flat (number_places plan) 4 (length-four plan) (pairs_within lists.nets))) in
         let inside : slice_get (number_places plan (pair.0)) (k % 4) ≡ Some (Some single) =
         sym (flat_at (number_places plan) 4 (length-four plan) (pairs_within lists.nets) (k / 4) (pair.0) pair.1 (k % 4) k (omega arith) (omega arith)) ∙ here in
         by_pair k (omega (arith, above)) (pair.0) (pair_at lists.nets (k / 4) (pair.0) pair.1) (paired_in plan ((pair.0).0) ((pair.0).1)) inside
@@ -397,7 +398,7 @@ module _ (board : RawBoard) (plan : PlanTables) (lists : FaultLists) (starts : A
       let whole : from ≡ length lists.pins = omega (arith, e) in
       sym (ap (λ (k : ℕ). 2 * count_by (λ (pin : PinRef). pin.net == n) (drop k lists.pins)) whole ∙ ap (λ (l : List PinRef). 2 * count_by (λ (pin : PinRef). pin.net == n) l) (drop_all (length lists.pins) lists.pins (omega arith)))
   pins_counted n from (suc count) e =
-      let pin = some_at lists.pins from (omega (arith, e)) in
+      let pin = item_there lists.pins from (omega (arith, e)) in
       let cut : drop from lists.pins ≡ (pin.0) ∷ drop (from + 1) lists.pins = cut_at (pin.0) pin.1 in
       length-append (pin_suspects lists n from) (flat_map (pin_suspects lists n) (range_with_len (from + 1) count))
       ∙ omega (
@@ -477,7 +478,7 @@ module _ (board : RawBoard) (rules : IsBoard board) (plan : PlanTables) (p : IsP
 
   there : (n : ℕ) → n < length board.nets → (ShowsOn board plan None log n → ⊥) → slice_get lists.nets (covered_place plan n) ≡ Some n
   there n within hidden =
-      let net = some_at board.nets n within in
+      let net = item_there board.nets n within in
       ap (λ (l : List ℕ). slice_get l (covered_place plan n)) nets_same
       ∙ covered_there board rules plan p log n (net.0) net.1 (differing_observed board rules plan p log n (net.0) net.1 hidden)
 

@@ -1,5 +1,5 @@
 -- What is kept of the passes of a test, and what is found in it.
-use Rattle.std.proofs.Common.{◌≡◌, ℕ, zero, suc, ◌+◌, ◌<◌, Bool, true, false, ◌&&◌, cond, List, [], ◌∷◌, ◌++◌, length, length-append, get_or, Option, Some, None, refl, subst}
+use Rattle.std.proofs.Common.{◌≡◌, ℕ, zero, suc, ◌+◌, ◌<◌, Bool, true, false, ◌&&◌, cond, List, [], ◌∷◌, ◌++◌, length, get_or, Option, Some, None, refl, subst}
 use Rattle.std.specs.Prelude.{option_and_then, option_map, slice_get}
 use Rattle.std.proofs.lemmas.Bool.{both_ways}
 use Rattle.std.proofs.lemmas.Option.{get_or_from_slice_get, slice_get-get_or, slice_get_within}
@@ -23,9 +23,6 @@ each_more P [] y all last zero x at = subst (P 0) (cc at) last
 each_more P [] y all last (suc i) x at = cc at
 each_more P (z ∷ xs) y all last zero x at = all 0 x at
 each_more P (z ∷ xs) y all last (suc i) x at = each_more (λ k v. P (suc k) v) xs y (λ k v e. all (suc k) v e) last i x at
-
-pub length-more : {A : Type 0} (xs : List A) (y : A) → length (xs ++ y ∷ []) ≡ length xs + 1
-length-more xs y = length-append xs (y ∷ [])
 
 -- where nothing is kept, what is kept is right
 pub no_rows : (board : RawBoard) (plan : PlanTables) → KeepRows board plan []

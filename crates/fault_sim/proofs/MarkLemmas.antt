@@ -11,6 +11,7 @@ use Rattle.std.proofs.lemmas.List.{get_or-set_same, get_or-set_other}
 use Rattle.std.proofs.lemmas.Option.{get_or_from_slice_get}
 use Rattle.bt_bits.specs.Digits.{digit_bit, digits_of}
 use Rattle.bt_bits.proofs.DigitLemmas.{digits_of-get}
+use Rattle.lists.proofs.ListLemmas.{item_there}
 use Rattle.board_defs.specs.declared.board.Net.{Net}
 use Rattle.board_defs.specs.declared.board.RawBoard.{RawBoard}
 use Rattle.board_defs.specs.declared.board.Ctl.{Ctl}
@@ -18,6 +19,7 @@ use Rattle.board_defs.specs.BoardRules.{IsBoard}
 use Rattle.board_defs.specs.Pins.{data_bits, is_same}
 use Rattle.board_defs.proofs.Members.{Has, has_at, has_any}
 use Rattle.board_defs.proofs.Places.{all_from}
+use Rattle.board_defs.proofs.SameBits.{is_same_of_same}
 use Rattle.tap_defs.specs.board.TestRows.{code_row, code_bit, net_code_bit, expect_bit}
 use Rattle.response_log.specs.Kept.{AreRowDigits}
 use Rattle.plan_tables.specs.declared.nets.NetDriver.{NetDriver}
@@ -26,13 +28,12 @@ use Rattle.plan_tables.specs.declared.tables.PlanTables.{PlanTables}
 use Rattle.plan_tables.specs.Tables.{first_position}
 use Rattle.scan_planner.specs.Plans.{IsPlanOf, scan_of_pass}
 use Rattle.plan_tables.proofs.LaidLemmas.{laid_at, length-laid, tdo_laid, mask_laid}
-use Rattle.plan_tables.proofs.ListLemmas.{some_at}
 use Rattle.fault_sim.specs.declared.effect.Effect.TheVariants.{Plain}
 use Rattle.fault_sim.specs.Effects.{readers_in, code_in, driver_in, place_of_driver}
 use Rattle.fault_sim.specs.Fits.{bit_in, cell_shows, ShowBy, NetShows, ShowsOn}
 use Rattle.fault_sim.specs.Kept.{compared_in, expected_in}
 use Rattle.fault_sim.specs.inner.Marks.{HasExpected, MarkRows, AreMarks, are_marked}
-use Rattle.fault_sim.proofs.ShowLemmas.{ComparedCell, compared_cell, bits_same}
+use Rattle.fault_sim.proofs.ShowLemmas.{ComparedCell, compared_cell}
 
 -- numbers that agree wherever a third has a 1
 masked_same : (a b mask k : ℕ) → bit_and (bit_xor a b) mask ≡ 0 → digit_bit mask k ≡ true → digit_bit a k ≡ digit_bit b k
@@ -143,13 +144,13 @@ module _ (board : RawBoard) (rules : IsBoard board) (plan : PlanTables) (p : IsP
         by_place : (reader : ReaderCell) → Has (readers_in plan n) reader → (b : Bool) → (reader.place == d.place) ≡ b →
             (b || is_same (bit_in log (x * plan.width + j) reader.position) (code_bit (code_in plan n) j)) ≡ true
         by_place y has true e = refl
-        by_place y has false e = bits_same (bit_in log (x * plan.width + j) y.position) (code_bit (code_in plan n) j) (bit_is y has e)
+        by_place y has false e = is_same_of_same (bit_in log (x * plan.width + j) y.position) (code_bit (code_in plan n) j) (bit_is y has e)
 
   -- a net shows the expected bits where none of the digits of its cells has a mark
   pub unmarked_shows : (n : ℕ) → n < length board.nets → are_marked marks (readers_in plan n) ≡ false → ShowsOn board plan None log n
   unmarked_shows n within unmarked x less =
-      let net = some_at board.nets n within in
-      let pass = some_at plan.passes x less in
+      let net = item_there board.nets n within in
+      let pass = item_there plan.passes x less in
       subst (λ (q : List Ctl). NetShows board plan None log (x * plan.width) q n) (sym (get_or_from_slice_get plan.passes x pass.0 [] pass.1))
       (by_driver net.0 net.1 pass.0 pass.1 (driver_in plan pass.0 n) refl)
     where

@@ -7,6 +7,7 @@ use Rattle.std.proofs.lemmas.Nat.{mul-le}
 use Rattle.std.proofs.lemmas.List.{length-map, get_or_append_left, get_or-append-add}
 use Rattle.std.proofs.lemmas.List.Elements.{filter_map-append, filter-append}
 use Rattle.std.proofs.lemmas.Option.{slice_get-map, slice_get_within}
+use Rattle.std.proofs.Math.Nat.{suc-mul}
 use Rattle.board_defs.specs.declared.board.Net.{Net}
 use Rattle.board_defs.specs.declared.board.RawBoard.{RawBoard}
 use Rattle.board_defs.specs.declared.board.PinRef.{PinRef}
@@ -139,18 +140,12 @@ flat_at {X} {Y} f w each (z ∷ xs) zero x e r i less at =
     ∙ ap (λ (y : X). slice_get (f y) i) same
     ∙ ap (λ (k : ℕ). slice_get (f x) k) here
 flat_at f w each (z ∷ xs) (suc m) x e r i less at =
-    rest_at (f z) (flat_map f xs) (m * w + r) i (omega (arith, at, each z, times m w))
+    rest_at (f z) (flat_map f xs) (m * w + r) i (omega (arith, at, each z, suc-mul m w))
     ∙ flat_at f w each xs m x e r (m * w + r) less refl
-  where
-    times : (m w : ℕ) → suc m * w ≡ m * w + w
-    times m w = omega arith
 
 pub length-flat : {X Y : Type 0} (f : X → List Y) (w : ℕ) → ((x : X) → length (f x) ≡ w) → (xs : List X) → length (flat_map f xs) ≡ length xs * w
 length-flat f w each [] = omega arith
-length-flat f w each (x ∷ xs) = omega (arith, length-append (f x) (flat_map f xs), each x, length-flat f w each xs, times (length xs) w)
-  where
-    times : (m w : ℕ) → suc m * w ≡ m * w + w
-    times m w = omega arith
+length-flat f w each (x ∷ xs) = omega (arith, length-append (f x) (flat_map f xs), each x, length-flat f w each xs, suc-mul (length xs) w)
 
 -- the pairs of a list, by the places of their items
 pub pair_there : {X : Type 0} (xs : List X) (a b k : ℕ) (x y : X) → a < b → slice_get xs a ≡ Some x → slice_get xs b ≡ Some y → k + suc a ≡ pairs_before (length xs) a + b →

@@ -2,9 +2,12 @@
 use Rattle.std.proofs.Common.{◌≡◌, ◌≢◌, ◌⊎◌, inl, inr, ℕ, zero, suc, ◌+◌, ◌-◌, ◌*◌, ◌<◌, ◌≤◌, ◌==◌, Bool, true, false, cond, not, ◌&&◌, ◌||◌, List, [], length, get_or, Option, Some, None, refl, sym, ap, ◌∙◌, subst, arith}
 use Rattle.std.specs.Prelude.{slice_get, option_and_then, All}
 use Rattle.std.specs.List.{list_all}
-use Rattle.std.proofs.lemmas.Bool.{eq-eqb, ne_eqb, and_parts, both_ways, cases_lt}
+use Rattle.std.proofs.lemmas.Bool.{eq-eqb, and_parts, both_ways, cases_lt}
 use Rattle.std.proofs.lemmas.Nat.{mul-add-lt}
 use Rattle.std.proofs.lemmas.Option.{get_or_from_slice_get, slice_get-get_or, slice_get_within}
+use Rattle.std.proofs.Math.Nat.{suc-mul}
+use Rattle.lists.proofs.ListLemmas.{item_there}
+use Rattle.lists.proofs.Booleans.{eqb_swap}
 use Rattle.board_defs.specs.declared.device.Cell.{Cell}
 use Rattle.board_defs.specs.declared.device.RawDevice.{RawDevice}
 use Rattle.board_defs.specs.declared.board.PinAt.{PinAt}
@@ -14,17 +17,19 @@ use Rattle.board_defs.specs.declared.board.Ctl.{Ctl}
 use Rattle.board_defs.specs.declared.fault.Single.{Single}
 use Rattle.board_defs.specs.BoardRules.{IsBoard}
 use Rattle.board_defs.specs.DeviceRules.{is_on, is_receiving, reading_entry}
-use Rattle.board_defs.specs.Pins.{device_at, guarded, data_bits, is_same, receives_where}
+use Rattle.board_defs.specs.Pins.{device_at, guarded, data_bits, is_same}
 use Rattle.board_defs.specs.Settings.{holds}
 use Rattle.board_defs.proofs.Members.{Has, has_at, has_place, has_any, all_has, contains_has, has_contains}
 use Rattle.board_defs.proofs.Places.{all_from, all_stands}
+use Rattle.board_defs.proofs.CellLemmas.{on_is}
+use Rattle.board_defs.proofs.SameBits.{same_of_is_same, is_same_of_same}
 use Rattle.tap_defs.specs.board.NetBits.{Place, place_of}
 use Rattle.tap_defs.specs.board.TestRows.{TestRow, code_row, code_bit, code_of_net, net_code_bit, observing_driver, only_if, expect_entry, expect_pin, expect_place, expect_observed}
 use Rattle.tap_defs.specs.board.BoardScans.{RowScan, row_now}
 use Rattle.tap_defs.specs.board.Explaining.{CompareRows, IsCompared, ShowsBits, compared_scans, cell_position}
-use Rattle.tap_defs.proofs.board.LiveLemmas.{on_is}
 use Rattle.tap_defs.proofs.board.FeedingLemmas.{Observing, observing_at}
 use Rattle.tap_defs.proofs.board.PassingLemmas.{stands_at}
+use Rattle.tap_defs.proofs.board.SingleBitLemmas.{ReadsPlace, reads_place}
 use Rattle.plan_tables.specs.declared.nets.NetDriver.{NetDriver}
 use Rattle.plan_tables.specs.declared.tables.ReaderCell.{ReaderCell}
 use Rattle.plan_tables.specs.declared.tables.PlanTables.{PlanTables}
@@ -33,7 +38,6 @@ use Rattle.plan_tables.specs.Building.{is_read_beside, enabled_in, drivers_of_pi
 use Rattle.scan_planner.specs.Plans.{IsPlanOf}
 use Rattle.plan_tables.proofs.LaidLemmas.{laid_at}
 use Rattle.plan_tables.proofs.PinLemmas.{Standing, standing, on_self, reading_entry_is, Reads, reads_by}
-use Rattle.plan_tables.proofs.ListLemmas.{some_at}
 use Rattle.plan_tables.proofs.TableLemmas.{FirstOn, reader_is, is_reader}
 use Rattle.fault_sim.specs.Effects.{readers_in, code_in, driver_in, place_of_driver, effect_in, effect_bit}
 use Rattle.fault_sim.specs.inner.Effects.{fault_bit}
@@ -49,9 +53,6 @@ pub record RowOf (passes width y : ℕ) : Type 0 where
   pub bit_below : bit < width
   pub row_is : y ≡ pass * width + bit
 
-suc_times : (p w : ℕ) → suc p * w ≡ p * w + w
-suc_times p w = grind arith
-
 pub row_of : (passes width y : ℕ) → y < passes * width → RowOf passes width y
 row_of zero width y less = absurd (grind (arith, less))
 row_of (suc passes) width y less = by_side (cases_lt y (passes * width)) (row_of passes width y)
@@ -64,88 +65,9 @@ row_of (suc passes) width y less = by_side (cases_lt y (passes * width)) (row_of
       pass = passes;
       bit = y - passes * width;
       pass_below = omega arith;
-      bit_below = omega (arith, less, above, suc_times passes width);
+      bit_below = omega (arith, less, above, suc-mul passes width);
       row_is = omega (arith, above);
     }
-
--- the two bits are equal
-same_bits : (a b : Bool) → is_same a b ≡ true → a ≡ b
-same_bits true b e = sym e
-same_bits false true e = cc e
-same_bits false false e = refl
-
-pub bits_same : (a b : Bool) → a ≡ b → is_same a b ≡ true
-bits_same a b e = ap (λ (x : Bool). is_same a x) (sym e) ∙ by_bit a
-  where
-    by_bit : (x : Bool) → is_same x x ≡ true
-    by_bit true = refl
-    by_bit false = refl
-
--- a compared cell reads a pin of an observed net beside the driver
-record Read (board : RawBoard) (row : TestRow) (part : ℕ) (device : RawDevice) (cell : ℕ) (place : Place) (v : Bool) : Type 0 where
-  entry : Cell
-  reads : reading_entry device cell ≡ Some entry
-  receiving : is_receiving entry.role ≡ true
-  bit : ℕ
-  bit_is : entry.bit ≡ Some bit
-  receives_is : receives_where board (Some (record { part = part; bit = bit })) ≡ true
-  is_place : place_of (record { part = part; bit = bit }) 0 board.nets ≡ Some place
-  driver : ℕ
-  observing : observing_driver board row.setting place.net ≡ Some driver
-  other : (driver == place.place) ≡ false
-  carried : row.carried place.number ≡ Some v
-
-module _ (board : RawBoard) (row : TestRow) (part : ℕ) (device : RawDevice) (cell : ℕ) (place : Place) (v : Bool) where
-  abbrev pin_at : ℕ → PinAt
-  pin_at b = record { part = part; bit = b }
-
-  module _ (entry : Cell) (reads : reading_entry device cell ≡ Some entry) (receiving : is_receiving entry.role ≡ true) (bit : ℕ) (bit_is : entry.bit ≡ Some bit) (receives_is : receives_where board (Some (pin_at bit)) ≡ true)
-      (is_place : place_of (pin_at bit) 0 board.nets ≡ Some place) where
-    by_other : (d : ℕ) → observing_driver board row.setting place.net ≡ Some d → (b : Bool) → (d == place.place) ≡ b →
-        only_if (not b) (row.carried place.number) ≡ Some v → Read board row part device cell place v
-    by_other d o true q e = cc e
-    by_other d o false q e = record {
-      entry = entry;
-      reads = reads;
-      receiving = receiving;
-      bit = bit;
-      bit_is = bit_is;
-      receives_is = receives_is;
-      is_place = is_place;
-      driver = d;
-      observing = o;
-      other = q;
-      carried = e;
-    }
-
-    by_driver : (o : Option ℕ) → observing_driver board row.setting place.net ≡ o → expect_observed (row.carried place.number) place.place o ≡ Some v → Read board row part device cell place v
-    by_driver None o e = cc e
-    by_driver (Some d) o e = by_other d o (d == place.place) refl e
-
-  by_bit : (entry : Cell) → reading_entry device cell ≡ Some entry → is_receiving entry.role ≡ true → (o : Option ℕ) → entry.bit ≡ o →
-      expect_pin board row part o ≡ Some v → option_and_then (λ b. place_of (pin_at b) 0 board.nets) o ≡ Some place → Read board row part device cell place v
-  by_bit entry reads receiving None q e at = cc e
-  by_bit entry reads receiving (Some b) q e at = by_receives (receives_where board (Some (pin_at b))) refl e
-    where
-      by_receives : (r : Bool) → receives_where board (Some (pin_at b)) ≡ r → cond r (expect_place board row (place_of (pin_at b) 0 board.nets)) None ≡ Some v → Read board row part device cell place v
-      by_receives true r h =
-          by_driver entry reads receiving b q r at (observing_driver board row.setting place.net) refl (sym (ap (λ (o : Option Place). expect_place board row o) at) ∙ h)
-      by_receives false r h = cc h
-
-  by_entry : (o : Option Cell) → reading_entry device cell ≡ o → expect_entry board row part o ≡ Some v →
-      option_and_then (λ entry. option_and_then (λ b. place_of (pin_at b) 0 board.nets) entry.bit) o ≡ Some place → Read board row part device cell place v
-  by_entry None q e at = cc e
-  by_entry (Some entry) q e at = by_role (is_receiving entry.role) refl e
-    where
-      by_role : (r : Bool) → is_receiving entry.role ≡ r → cond r (expect_pin board row part entry.bit) None ≡ Some v → Read board row part device cell place v
-      by_role true r h = by_bit entry q r entry.bit refl h at
-      by_role false r h = cc h
-
-  read_of : IsCompared board row part device cell place v → Read board row part device cell place v
-  read_of c = by_entry (reading_entry device cell) refl c.expects c.reads
-
-not_same : (a b : ℕ) → (a == b) ≡ false → (b == a) ≡ false
-not_same a b e = ne_eqb b a (λ same. both_ways (a == b) e (eq-eqb a b (sym same)))
 
 -- a cell that reads a net beside the driver that a pass enables: row j of the pass compares it with the bit of the net's code
 pub record ComparedCell (board : RawBoard) (plan : PlanTables) (pass : List Ctl) (j n : ℕ) (net : Net) (reader : ReaderCell) : Type 0 where
@@ -210,7 +132,7 @@ module _ (board : RawBoard) (rules : IsBoard board) (plan : PlanTables) (p : IsP
           ∙ ap (λ (b : Bool). cond b (expect_place board (code_row board plan.passes pass j) (place_of q.at 0 board.nets)) None) q.receives
           ∙ ap (λ (o : Option Place). expect_place board (code_row board plan.passes pass j) o) t.is_place
           ∙ ap (λ (o : Option ℕ). expect_observed (Some (net_code_bit board plan.passes j n)) reader.place o) observing
-          ∙ ap (λ (b : Bool). only_if (not b) (Some (net_code_bit board plan.passes j n))) (not_same reader.place d.place differs);
+          ∙ ap (λ (b : Bool). only_if (not b) (Some (net_code_bit board plan.passes j n))) (eqb_swap reader.place d.place differs);
     }
 
     pub compared_cell : ComparedCell board plan pass j n net reader
@@ -268,8 +190,8 @@ module _ (board : RawBoard) (rules : IsBoard board) (plan : PlanTables) (p : IsP
     -- what the log shows is the bit of each compared cell
     module _ (show : (n : ℕ) → n < length board.nets → Shows board plan fault log x n) (logged : List Bool) (is_logged : slice_get log number ≡ Some logged) (part : ℕ) (device : RawDevice) (cell : ℕ) (place : Place) (expected : Bool)
         (c : IsCompared board row part device cell place expected) where
-      r : Read board row part device cell place expected
-      r = read_of board row part device cell place expected c
+      r : ReadsPlace board row part device cell place expected
+      r = reads_place board row part device cell place expected c
 
       abbrev at : PinAt
       at = record { part = part; bit = r.bit }
@@ -282,7 +204,7 @@ module _ (board : RawBoard) (rules : IsBoard board) (plan : PlanTables) (p : IsP
 
       is_net : slice_get board.nets n ≡ Some net
       is_net =
-          let s = stands_at board at place 0 board.nets r.is_place in
+          let s = stands_at board at place 0 board.nets r.stands in
           let z : s.index ≡ n = omega (arith, s.number_is) in
           subst (λ (i : ℕ). slice_get board.nets i ≡ Some net) z s.net_is
 
@@ -294,7 +216,7 @@ module _ (board : RawBoard) (rules : IsBoard board) (plan : PlanTables) (p : IsP
 
       has_reader : Has (readers_in plan n) reader
       has_reader =
-          let s = stands_at board at place 0 board.nets r.is_place in
+          let s = stands_at board at place 0 board.nets r.stands in
           let reads : Reads device cell r.entry = reads_by device cell r.entry r.reads in
           subst (λ (l : List ReaderCell). Has l reader) (sym (readers_are board rules plan p n net is_net))
           (is_reader board net reader (record {
@@ -331,12 +253,12 @@ module _ (board : RawBoard) (rules : IsBoard board) (plan : PlanTables) (p : IsP
               cc bad
       by_enabled (Some d) e shown =
           let place_is : r.driver ≡ d.place = driver_place in
-          let differs : (place.place == d.place) ≡ false = not_same d.place place.place (sym (ap (λ (i : ℕ). i == place.place) place_is) ∙ r.other) in
+          let differs : (place.place == d.place) ≡ false = eqb_swap d.place place.place (sym (ap (λ (i : ℕ). i == place.place) place_is) ∙ r.other) in
           let other : place.place ≢ d.place = λ q. both_ways (place.place == d.place) differs (eq-eqb place.place d.place q) in
           let cell_is : cell_shows log number d.place (effect_in board plan pass fault n) j (code_bit (code_in plan n) j) reader ≡ true =
           all_has (cell_shows log number d.place (effect_in board plan pass fault n) j (code_bit (code_in plan n) j)) (readers_in plan n) reader (shown j less) has_reader in
           logged_is logged is_logged part device cell c.is_device c.below
-          ∙ ap Some (same_bits (bit_in log number (first_position board part + cell)) (effect_bit (effect_in board plan pass fault n) j place.place (code_bit (code_in plan n) j))
+          ∙ ap Some (same_of_is_same (bit_in log number (first_position board part + cell)) (effect_bit (effect_in board plan pass fault n) j place.place (code_bit (code_in plan n) j))
           (sym (ap (λ (t : Bool). t || is_same (bit_in log number (first_position board part + cell)) (effect_bit (effect_in board plan pass fault n) j place.place (code_bit (code_in plan n) j))) differs) ∙ cell_is)
           ∙ ap (λ (v : Bool). effect_bit (effect_in board plan pass fault n) j place.place v) expected_is
           ∙ value_is n net is_net o.unguarded d e place.place other expected)
@@ -363,7 +285,7 @@ module _ (board : RawBoard) (rules : IsBoard board) (plan : PlanTables) (p : IsP
         bit_is : bit_in log number reader.position ≡ effect_bit (effect_in board plan pass fault n) j reader.place (code_bit (code_in plan n) j)
         bit_is =
             let c : ComparedCell board plan pass j n net reader = compared_cell board rules plan p x pass stands j n net is_net d enabled reader has differs in
-            let logged = some_at log number row_there in
+            let logged = item_there log number row_there in
             let shown = shows number scan_here logged.0 c.part c.device c.cell (record { number = n; net = net; place = reader.place }) expected scan_is logged.1 c.compared in
             let there = logged_is logged.0 logged.1 c.part c.device c.cell c.compared.is_device c.compared.below in
             let two : Some (bit_in log number (first_position board c.part + c.cell)) ≡ Some (fault_bit board fault row (record { number = n; net = net; place = reader.place }) expected) = sym there ∙ shown in
@@ -382,13 +304,13 @@ module _ (board : RawBoard) (rules : IsBoard board) (plan : PlanTables) (p : IsP
               (b || is_same (bit_in log number reader.position) (effect_bit (effect_in board plan pass fault n) j reader.place (code_bit (code_in plan n) j))) ≡ true
           by_place y has true e = refl
           by_place y has false e =
-              bits_same (bit_in log number y.position) (effect_bit (effect_in board plan pass fault n) j y.place (code_bit (code_in plan n) j)) (bit_is y has e)
+              is_same_of_same (bit_in log number y.position) (effect_bit (effect_in board plan pass fault n) j y.place (code_bit (code_in plan n) j)) (bit_is y has e)
 
   pub bits_shown : ShowsAll board plan fault log → ShowsBits board scans (fault_bit board fault) log
   bits_shown show y scan logged part device cell place expected at_scan at_log c =
       let within : y < length plan.passes * plan.width = omega (arith, slice_get_within (compared_scans board scans) y scan at_scan, compare.count) in
       let r : RowOf (length plan.passes) plan.width y = row_of (length plan.passes) plan.width y within in
-      let pass = some_at plan.passes r.pass r.pass_below in
+      let pass = item_there plan.passes r.pass r.pass_below in
       let two : Some scan ≡ Some (scan_here r.pass (pass.0) pass.1 r.bit r.bit_below) =
       sym at_scan ∙ ap (λ (i : ℕ). slice_get (compared_scans board scans) i) r.row_is ∙ scan_is r.pass (pass.0) pass.1 r.bit r.bit_below in
       let same : scan ≡ scan_here r.pass (pass.0) pass.1 r.bit r.bit_below = cc two in
@@ -398,8 +320,8 @@ module _ (board : RawBoard) (rules : IsBoard board) (plan : PlanTables) (p : IsP
 
   pub all_shown : ShowsBits board scans (fault_bit board fault) log → ShowsAll board plan fault log
   all_shown shows x x_less n n_less =
-      let pass = some_at plan.passes x x_less in
-      let net = some_at board.nets n n_less in
+      let pass = item_there plan.passes x x_less in
+      let net = item_there board.nets n n_less in
       subst (λ (q : List Ctl). NetShows board plan fault log (x * plan.width) q n) (sym (get_or_from_slice_get plan.passes x (pass.0) [] pass.1))
       (by_driver (pass.0) pass.1 (net.0) net.1 (driver_in plan (pass.0) n) refl)
     where

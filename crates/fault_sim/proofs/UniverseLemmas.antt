@@ -3,6 +3,7 @@ use Rattle.std.proofs.Common.{◌≡◌, ◌≢◌, ◌⊎◌, inl, inr, ℕ, �
 use Rattle.std.specs.Prelude.{slice_get}
 use Rattle.std.specs.List.{flat_map}
 use Rattle.std.proofs.lemmas.List.{map-append}
+use Rattle.std.proofs.lemmas.List.Folds.{flat_map-map}
 use Rattle.board_defs.specs.declared.board.RawBoard.{RawBoard}
 use Rattle.board_defs.specs.declared.fault.Single.{Single}
 use Rattle.board_defs.specs.BoardRules.{IsBoard}
@@ -16,10 +17,6 @@ use Rattle.scan_planner.specs.Plans.{IsPlanOf}
 use Rattle.fault_sim.specs.declared.fault_lists.FaultLists.{FaultLists}
 use Rattle.fault_sim.specs.Places.{placed, pair_places, stuck_places, open_places, places_of, IsUniverse, number_places, listed_places}
 use Rattle.fault_sim.proofs.TestedLemmas.{paired_in_is}
-
-flat_over : {X Y Z : Type 0} (f : Y → List Z) (g : X → Y) (xs : List X) → flat_map f (map g xs) ≡ flat_map (λ x. f (g x)) xs
-flat_over f g [] = refl
-flat_over {X} {Y} {Z} f g (x ∷ xs) = ap (λ (l : List Z). f (g x) ++ l) (flat_over f g xs)
 
 flat_same : {X Z : Type 0} (f g : X → List Z) (xs : List X) → ((x : X) → Has xs x → f x ≡ g x) → flat_map f xs ≡ flat_map g xs
 flat_same f g [] same = refl
@@ -78,8 +75,8 @@ module _ (board : RawBoard) (rules : IsBoard board) (plan : PlanTables) (p : IsP
   listed_are =
       ap (λ (l : List ℕ). placed (flat_map stuck_faults l) ++ (placed (flat_map open_faults lists.pins) ++ flat_map (number_places plan) (pairs_within l))) universe.nets
       ∙ ap (λ l. placed (flat_map stuck_faults (map (λ (net : Numbered). net.0) (covered_nets board))) ++ (placed (flat_map open_faults l) ++ flat_map (number_places plan) (pairs_within (map (λ (net : Numbered). net.0) (covered_nets board))))) universe.pins
-      ∙ ap (λ (l : List Single). placed l ++ (open_places board ++ flat_map (number_places plan) (pairs_within (map (λ (net : Numbered). net.0) (covered_nets board))))) (flat_over stuck_faults (λ (net : Numbered). net.0) (covered_nets board))
+      ∙ ap (λ (l : List Single). placed l ++ (open_places board ++ flat_map (number_places plan) (pairs_within (map (λ (net : Numbered). net.0) (covered_nets board))))) (flat_map-map stuck_faults (λ (net : Numbered). net.0) (covered_nets board))
       ∙ ap (λ (l : List (Option Single)). stuck_places board ++ (open_places board ++ l))
       (ap (λ (l : List (ℕ × ℕ)). flat_map (number_places plan) l) (pairs_over (covered_nets board))
-      ∙ flat_over (number_places plan) numbers (pairs_within (covered_nets board))
+      ∙ flat_map-map (number_places plan) numbers (pairs_within (covered_nets board))
       ∙ flat_same (λ pair. number_places plan (numbers pair)) (pair_places board) (pairs_within (covered_nets board)) pair_is)

@@ -1,5 +1,5 @@
 -- A loop that reads a list, entry by entry.
-use Rattle.std.proofs.Common.{◌≡◌, ℕ, zero, suc, ◌+◌, ◌*◌, ◌<◌, ◌≤◌, Bool, true, false, List, [], ◌∷◌, ◌++◌, length, inl, refl, sym, ◌∙◌, ap, subst, arith, length-append}
+use Rattle.std.proofs.Common.{◌≡◌, ℕ, zero, suc, ◌+◌, ◌*◌, ◌<◌, ◌≤◌, Bool, true, false, List, [], ◌∷◌, ◌++◌, length, inl, refl, sym, ◌∙◌, ap, subst, arith, length-append, zero-add}
 use Rattle.grammars.specs.Turn.{turn_of}
 use Rattle.grammars.specs.inner.Reader.{found, refused}
 use Rattle.grammars.specs.Grammar.{Grammar, turns, production_of, reader_of}
@@ -137,22 +137,19 @@ no_value g h tokens rest e a whole =
     let k : reader_of g tokens ≡ found a [] = (decides_grammar g h).whole tokens a whole in
     cc (e, k)
 
+pub suc_plus : (n : ℕ) → suc n ≡ suc zero + n
+suc_plus n = omega arith
+
 pub wrong_at_entry : {T A : Type 0} {entry : Grammar T A} {more : Grammar T Bool} → CanRead entry more → (tokens here rest : List T) (before : List A)
     → Progress entry more tokens here before → reader_of entry here ≡ refused rest → GoesWrongAt entry more (length before + 1) tokens
 wrong_at_entry {T} {A} {entry} {more} can tokens here rest before so_far e = record {
   no_value = no_value (list_of entry more) (each_takes can) tokens rest (stops_at_entry can tokens here rest before so_far e);
   whole = length before;
   next = refl;
-  stand = subst (λ k. Fronts entry more k tokens) (zero_plus (length before)) (so_far.stand zero tt);
+  stand = subst (λ k. Fronts entry more k tokens) (zero-add (length before)) (so_far.stand zero tt);
   no_more = λ h. none here rest e (so_far.only (suc zero) (subst (λ k. Fronts entry more k tokens) (suc_plus (length before)) h));
 }
   where
-    zero_plus : (n : ℕ) → zero + n ≡ n
-    zero_plus n = omega arith
-
-    suc_plus : (n : ℕ) → suc n ≡ suc zero + n
-    suc_plus n = omega arith
-
     none : (here rest : List T) → reader_of entry here ≡ refused rest → Fronts entry more (suc zero) here → ⊥
     none here rest e h = let k = found_front entry can.entries here h.front h.back h.value h.split h.first in cc (e, k)
 
@@ -162,16 +159,10 @@ wrong_after_entry {T} {A} {entry} {more} can tokens here mid rest before one so_
   no_value = no_value (list_of entry more) (each_takes can) tokens rest (stops_after_entry can tokens here mid rest before one so_far e f);
   whole = length before;
   next = refl;
-  stand = subst (λ k. Fronts entry more k tokens) (zero_plus (length before)) (so_far.stand zero tt);
+  stand = subst (λ k. Fronts entry more k tokens) (zero-add (length before)) (so_far.stand zero tt);
   no_more = λ h. none here mid rest one e f (so_far.only (suc zero) (subst (λ k. Fronts entry more k tokens) (suc_plus (length before)) h));
 }
   where
-    zero_plus : (n : ℕ) → zero + n ≡ n
-    zero_plus n = omega arith
-
-    suc_plus : (n : ℕ) → suc n ≡ suc zero + n
-    suc_plus n = omega arith
-
     none : (here mid rest : List T) (one : A) → reader_of entry here ≡ found one mid → reader_of more mid ≡ refused rest → Fronts entry more (suc zero) here → ⊥
     none here mid rest one e f h =
         let first = found_front entry can.entries here h.front h.back h.value h.split h.first in

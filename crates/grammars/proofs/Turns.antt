@@ -1,5 +1,6 @@
 -- Any number of turns: reading with enough turns is reading with as many as there are tokens.
 use Rattle.std.proofs.Common.{◌≡◌, ℕ, zero, suc, ◌+◌, ◌<◌, ◌≤◌, List, [], ◌∷◌, ◌++◌, length, Option, Some, None, refl, sym, ◌∙◌, ap, subst, arith, length-append}
+use Rattle.std.proofs.lemmas.List.{append_cancel_right}
 use Rattle.grammars.specs.Turn.{Turn, again, last}
 use Rattle.grammars.specs.Production.{Production}
 use Rattle.grammars.specs.Production as production
@@ -74,15 +75,6 @@ raise_out (suc n) (suc m) read d shrinks s tokens le h =
     related outs (reader.turns_up_to n read) (reader.turns_up_to m read) (length tokens)
     (λ t rest lt. raise_out n m read d shrinks t rest (omega arith)) (read s tokens) (shrinks s tokens) h
 
-pub same_front : {T : Type 0} (xs ys rest : List T) → xs ++ rest ≡ ys ++ rest → xs ≡ ys
-same_front {T} [] [] rest e = refl
-same_front {T} [] (y ∷ ys) rest e = absurd (let k : length rest ≡ length ((y ∷ ys) ++ rest) = ap length e in omega (arith, k, length-append (y ∷ ys) rest))
-same_front (x ∷ xs) [] rest e = absurd (let k : length ((x ∷ xs) ++ rest) ≡ length rest = ap length e in omega (arith, k, length-append (x ∷ xs) rest))
-same_front (x ∷ xs) (y ∷ ys) rest e =
-    let head : x ≡ y = cc in
-    let others : xs ≡ ys = same_front xs ys rest cc in
-    cc
-
 -- reading with n turns, where n is more than the tokens
 enough : {T S A : Type 0} (n : ℕ) (read : S → Reader T (Turn S A)) → EachShrinks read → (s : S) (tokens : List T) → length tokens < n
     → reader.turns_up_to n read s tokens ≡ reader.turns read s tokens
@@ -113,7 +105,7 @@ local_turns {T} read d shrinks s tokens (refused rest) is h = record {
         let n : ℕ = suc (length tokens) + suc (length (h.front ++ token ∷ more)) in
         let is_refused : reader.turns_up_to n read s tokens ≡ refused rest = enough n read shrinks s tokens (omega arith) ∙ is in
         let k : Refuses (reader.turns_up_to n read s) tokens rest = subst (λ o. IsLocalAt (reader.turns_up_to n read s) tokens o) is_refused ((decides_up_to n d s).local tokens) in
-        let same : k.front ≡ h.front = same_front k.front h.front rest (sym k.split ∙ h.split) in
+        let same : k.front ≡ h.front = append_cancel_right k.front h.front rest (sym k.split ∙ h.split) in
         sym (enough n read shrinks s (h.front ++ token ∷ more) (omega arith)) ∙ ap (λ ts. reader.turns_up_to n read s (ts ++ token ∷ more)) (sym same) ∙ k.again token tail more e
 
 pub decides_turns : {T S A : Type 0} {turn : S → Production T (Turn S A)} {read : S → Reader T (Turn S A)} → EachDecides turn read → EachShrinks read

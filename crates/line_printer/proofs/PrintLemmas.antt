@@ -1,10 +1,9 @@
 -- Lemmas on texts that are printed in pieces, whole or cut short.
 use Rattle.std.proofs.Common.{◌≡◌, ℕ, ◌+◌, ◌-◌, ◌<◌, min, List, [], ◌∷◌, ◌++◌, length, take, refl, sym, ap, ◌∙◌, append_assoc, append-nil, arith, subst, Result, Ok, Err, IsErr, true, false, inl, inr, map, drop, Bor, get_or}
-use Rattle.std.proofs.Math.Seq.{take-add, take-append-add}
-use Rattle.std.proofs.lemmas.Grind.{common_steps}
+use Rattle.std.proofs.Math.Seq.{take-add}
 use Rattle.std.proofs.lemmas.List.{drop_more, take_more, take-append-drop}
 use Rattle.bt_base.specs.Puts.{Puts, Shown, Takes}
-use Rattle.bt_base.proofs.Cuts.{rose_after, takes_twice}
+use Rattle.bt_base.proofs.Cuts.{rose_after, takes_twice, take-append-past, take-append-least, takes_same}
 use Rattle.line_printer.specs.Prints.{Prints, Moves, whole}
 
 pub prints_same : {T E : Type 0} {old new : Shown} {p l a b : List ℕ} {r : Result T E} → a ≡ b → Prints old new p l a r → Prints old new p l b r
@@ -19,9 +18,6 @@ prints_to {T} {E} {old} {new} {p} {l} {m} {a} {r} same prints = subst (λ t. Pri
 -- nothing was put, and the text stands in the line
 pub prints_none : {T E : Type 0} {old : Shown} {p l a : List ℕ} (x : T) → l ≡ p ++ a → Prints {T = T} {E = E} old old p l a (Ok x)
 prints_none x holds = record { whole = inl (refl, holds); cut = tt; later = omega arith; cause = tt }
-
-takes_is : {old new : Shown} {a b : List ℕ} → a ≡ b → Takes old new a → Takes old new b
-takes_is {old} {new} same t = subst (Takes old new) same t
 
 two_moves : (u m v l p a b : List ℕ) → u ++ m ≡ p ++ a → v ++ l ≡ m ++ b → (u ++ v) ++ l ≡ p ++ (a ++ b)
 two_moves u m v l p a b first second =
@@ -43,18 +39,12 @@ moves_twice {old} {mid} {new} p m l a b (inr (u, takes, holds)) (inl (same, hold
 moves_twice {old} {mid} {new} p m l a b (inr (u, takes, holds)) (inr (v, takes', holds')) =
     inr (u ++ v, takes_twice takes takes', two_moves u m v l p a b holds holds')
 
-take-append-past : (k : ℕ) (a b : List ℕ) → a ++ take k b ≡ take (length a + k) (a ++ b)
-take-append-past k a b = sym (take-append-add a b k)
-
-take-append-least : (k : ℕ) (a b : List ℕ) → take k a ≡ take (min k (length a)) (a ++ b)
-take-append-least k a b = grind (arith, common_steps)
-
 -- the second text was cut short
 cut_second : {old mid new : Shown} (p m a b : List ℕ) (k : ℕ) → Moves old mid p m a → Takes mid new (take k (m ++ b)) → (n : ℕ) × Takes old new (take n (p ++ (a ++ b)))
 cut_second {old} {mid} {new} p m a b k (inl (same, holds)) takes =
-    (k, takes_is (ap (take k) (ap (λ t. t ++ b) holds ∙ append_assoc p a b)) (subst (λ s. Takes s new (take k (m ++ b))) same takes))
+    (k, takes_same (ap (take k) (ap (λ t. t ++ b) holds ∙ append_assoc p a b)) (subst (λ s. Takes s new (take k (m ++ b))) same takes))
 cut_second {old} {mid} {new} p m a b k (inr (u, first, holds)) takes =
-    (length u + k, takes_is (take-append-past k u (m ++ b) ∙ ap (take (length u + k)) (sym (append_assoc u m b) ∙ ap (λ t. t ++ b) holds ∙ append_assoc p a b)) (takes_twice first takes))
+    (length u + k, takes_same (take-append-past k u (m ++ b) ∙ ap (take (length u + k)) (sym (append_assoc u m b) ∙ ap (λ t. t ++ b) holds ∙ append_assoc p a b)) (takes_twice first takes))
 
 -- a call answered Ok, and the text goes on
 pub prints_ok : {T U E F : Type 0} {old mid new : Shown} {p m l a b : List ℕ} {r : Result T E} {x : T} {s : Result U F} → Prints old mid p m a r → r ≡ Ok x → Prints mid new m l b s → Prints old new p l (a ++ b) s
@@ -88,7 +78,7 @@ prints_err {T} {U} {E} {F} {old} {new} {p} {m} {l} {a} {r} {e} {s} b first err i
     by (Ok y) is = let bad : false ≡ true = is in absurd cc
     by (Err f) is = record {
       whole = tt;
-      cut = (min cut.cut.0 (length (p ++ a)), takes_is (take-append-least cut.cut.0 (p ++ a) b ∙ ap (take (min cut.cut.0 (length (p ++ a)))) (append_assoc p a b)) cut.cut.1);
+      cut = (min cut.cut.0 (length (p ++ a)), takes_same (take-append-least cut.cut.0 (p ++ a) b ∙ ap (take (min cut.cut.0 (length (p ++ a)))) (append_assoc p a b)) cut.cut.1);
       later = cut.later;
       cause = cut.cause;
     }
@@ -115,7 +105,7 @@ prints_put {T} {E} {old} {new} {p} {l} {a} {b} {r} put same empty = by r put
     }
     by (Err e) put = record {
       whole = tt;
-      cut = (put.cut.0, takes_is (ap (take put.cut.0) same) put.cut.1);
+      cut = (put.cut.0, takes_same (ap (take put.cut.0) same) put.cut.1);
       later = put.later;
       cause = put.cause;
     }
@@ -126,7 +116,7 @@ puts_of {T} {E} {old} {new} {c} {a} {r} prints = by r prints
   where
     moved : Moves old new [] [] (c ∷ a) → Takes old new (c ∷ a)
     moved (inl (same, holds)) = let clash : ◌≡◌ {A = List ℕ} [] (c ∷ a) = holds in cc clash
-    moved (inr (u, takes, holds)) = takes_is (sym (append-nil u) ∙ holds) takes
+    moved (inr (u, takes, holds)) = takes_same (sym (append-nil u) ∙ holds) takes
 
     by : (r : Result T E) → Prints old new [] [] (c ∷ a) r → Puts old new (c ∷ a) r
     by (Ok x) prints = record { whole = moved prints.whole; cut = tt; later = prints.later; cause = tt }

@@ -3,6 +3,11 @@ use Rattle.std.proofs.Common.{◌≡◌, inl, inr, ℕ, ◌+◌, ◌<◌, Bool, 
 use Rattle.std.specs.Prelude.{slice_get, filter, is_some}
 use Rattle.std.specs.List.{list_any, list_all}
 use Rattle.std.proofs.lemmas.List.{take_more}
+use Rattle.std.proofs.lemmas.Bool.{and_from}
+use Rattle.std.proofs.lemmas.List.Folds.{list_any-append}
+use Rattle.std.proofs.Math.Bool.{or-false}
+use Rattle.lists.proofs.Booleans.{and_left, and_right}
+use Rattle.lists.proofs.ListLemmas.{list_any-map}
 use Rattle.board_defs.specs.declared.board.Ctl.{Ctl}
 use Rattle.board_defs.specs.declared.board.Net.{Net}
 use Rattle.board_defs.specs.declared.board.NetPin.{NetPin}
@@ -30,19 +35,13 @@ use Rattle.net_facts.specs.Cells.{item_of, table, holds_there}
 use Rattle.net_facts.specs.Kept.{drives_there}
 use Rattle.net_classes.specs.inner.Pairs.{IsByCell}
 use Rattle.net_classes.proofs.ControlSetLemmas.{same_set}
-use Rattle.net_classes.proofs.Lists.{any_joined}
 use Rattle.net_classes.proofs.Paired.{has_cells}
 use Rattle.net_classes.proofs.SharedLemmas.{driven_has}
-use Rattle.net_facts.proofs.Truth.{and_intro, and_left, and_right, any_map}
 
 -- one net more
 pub pins_drive : (board : RawBoard) (c : Ctl) (net : Option Net) → list_any (λ (pin : PinFacts). is_by c pin.drive) (pins_there board net) ≡ drives_there board c net
 pins_drive board c None = refl
-pins_drive board c (Some net) = any_map (pin_facts_of board net) (λ (pin : PinFacts). is_by c pin.drive) net.pins
-
-or_false : (s : Bool) → s ≡ (s || false)
-or_false true = refl
-or_false false = refl
+pins_drive board c (Some net) = list_any-map (pin_facts_of board net) (λ (pin : PinFacts). is_by c pin.drive) net.pins
 
 pub set_more : (board : RawBoard) (nets : List ℕ) (i n : ℕ) (pins : List PinFacts) (set : ControlSet) → i < length nets → n ≡ get_or nets i n → pins ≡ pins_there board (slice_get board.nets n) → IsSet board (λ c. drives_some board (take i nets) c || list_any (λ pin. is_by c pin.drive) pins) set → IsSet board (drives_some board (take (i + 1) nets)) set
 set_more board nets i n pins set less at e is = same_set board _ (drives_some board (take (i + 1) nets)) set same is
@@ -50,8 +49,8 @@ set_more board nets i n pins set less at e is = same_set board _ (drives_some bo
     same : (c : Ctl) → (drives_some board (take i nets) c || list_any (λ (pin : PinFacts). is_by c pin.drive) pins) ≡ drives_some board (take (i + 1) nets) c
     same c =
         let drives : ℕ → Bool = λ k. drives_there board c (slice_get board.nets k) in
-        ap (λ v. drives_some board (take i nets) c || v) (ap (list_any (λ (pin : PinFacts). is_by c pin.drive)) e ∙ pins_drive board c (slice_get board.nets n) ∙ or_false (drives n)) ∙
-        sym (any_joined drives (take i nets) (n ∷ [])) ∙ ap (list_any drives) (ap (λ k. take i nets ++ k ∷ []) at ∙ sym (take_more nets i n less))
+        ap (λ v. drives_some board (take i nets) c || v) (ap (list_any (λ (pin : PinFacts). is_by c pin.drive)) e ∙ pins_drive board c (slice_get board.nets n) ∙ sym (or-false (drives n))) ∙
+        sym (list_any-append drives (take i nets) (n ∷ [])) ∙ ap (list_any drives) (ap (λ k. take i nets ++ k ∷ []) at ∙ sym (take_more nets i n less))
 
 -- a tested driver drives its net
 pub tested_in : (board : RawBoard) (net : Net) (c : Ctl) → Has (tested_drivers board net) (By c) → drives_net board c net ≡ true
@@ -63,7 +62,7 @@ tested_in board net c has = let t : Tested board net (By c) = tested_has board n
 
 pub all_on : {X : Type 0} (p q : X → Bool) (xs : List X) → ((x : X) → Has xs x → p x ≡ true → q x ≡ true) → list_all p xs ≡ true → list_all q xs ≡ true
 all_on p q [] f h = refl
-all_on p q (x ∷ xs) f h = and_intro (q x) (list_all q xs) (f x (inl refl) (and_left (p x) (list_all p xs) h)) (all_on p q xs (λ y k. f y (inr k)) (and_right (p x) (list_all p xs) h))
+all_on p q (x ∷ xs) f h = and_from (q x) (list_all q xs) (f x (inl refl) (and_left (p x) (list_all p xs) h)) (all_on p q xs (λ y k. f y (inr k)) (and_right (p x) (list_all p xs) h))
 
 pub cells_there : (board : RawBoard) (net : Option Net) (d : Drive) → IsBoard board → Has (drivers_there board net) d → IsByCell board d
 cells_there board None d rules h = absurd h
@@ -118,7 +117,7 @@ closed_are known set nets closed is in_set e n = (there, back)
         let Q : List Drive → Type 0 = λ v. Has v (By c) in
         let R : List Drive → Type 0 = λ v. (is_by c (slice_get v 0) && list_all (is_by_one (has_control set)) v) ≡ true in
         let member : Has set.members.items c = contains_has set.members.items c (in_set.members_are c (cell c refl) (and_left (drives c) (list_all (is_by_one drives) ds) h)) in
-        let passes : closes board set c n ≡ true = subst R (sym g) (and_intro (same c) (list_all (is_by_one (has_control set)) (By c ∷ ds)) (same_refl c) k) in
+        let passes : closes board set c n ≡ true = subst R (sym g) (and_from (same c) (list_all (is_by_one (has_control set)) (By c ∷ ds)) (same_refl c) k) in
         subst P (sym e) (has_flat_map found set.members.items c n member (has_filter (closes board set c) (driven_in known c) n (is_driven c net (cell c refl) at (subst Q (sym f) (inl refl))) passes))
       where
         same : Ctl → Bool

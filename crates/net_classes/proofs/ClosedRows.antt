@@ -3,6 +3,9 @@ use Rattle.std.proofs.Common.{◌≡◌, inl, inr, ℕ, ◌+◌, ◌/◌, ◌<�
 use Rattle.std.specs.Prelude.{slice_get, filter}
 use Rattle.std.specs.List.{list_any, list_all}
 use Rattle.std.proofs.lemmas.Option.{slice_get-get_or, slice_get_within}
+use Rattle.std.proofs.lemmas.Bool.{and_from, eqb-true}
+use Rattle.std.proofs.Math.Bool.{and-true}
+use Rattle.lists.proofs.Booleans.{and_left, and_right, clash, eqb_refl, same_truth}
 use Rattle.board_defs.specs.declared.board.Ctl.{Ctl}
 use Rattle.board_defs.specs.declared.board.Net.{Net}
 use Rattle.board_defs.specs.declared.board.RawBoard.{RawBoard}
@@ -22,7 +25,6 @@ use Rattle.net_classes.specs.inner.PairRows.{owns_at}
 use Rattle.net_classes.proofs.ClosedLemmas.{nothing_closed}
 use Rattle.net_classes.proofs.ContendedLemmas.{has_shares, share_has}
 use Rattle.net_classes.proofs.PairRowLemmas.{covered_bit}
-use Rattle.net_facts.proofs.Truth.{and_intro, and_left, and_right, clash, eqb_refl, eqb_same, same_truth}
 use Rattle.net_classes.proofs.WordLemmas.{same_row}
 
 -- another control drives one of the nets that a control shares exactly where the two share a net
@@ -37,7 +39,7 @@ shares board c d differ = same_truth (drives_some board (shared_nets board c) d)
         let r : (n : ℕ) × Has (shared_nets board c) n × (drives n ≡ true) = any_has drives (shared_nets board c) h in
         let s : (net : Net) × (slice_get board.nets r.0 ≡ Some net) × (is_contended board c net ≡ true) = has_shares board c r.0 r.1 in
         any_at (λ (net : Net). drives_net board c net && drives_net board d net) board.nets r.0 s.0 s.1
-        (and_intro (drives_net board c s.0) (drives_net board d s.0) (and_left (drives_net board c s.0) _ s.2) (sym (ap (drives_there board d) s.1) ∙ r.2))
+        (and_from (drives_net board c s.0) (drives_net board d s.0) (and_left (drives_net board c s.0) _ s.2) (sym (ap (drives_there board d) s.1) ∙ r.2))
 
     back : share_net board c d ≡ true → list_any drives (shared_nets board c) ≡ true
     back h =
@@ -100,12 +102,12 @@ stands_filter q xs n = same_truth (stands_in (filter q xs) n) (stands_in xs n &&
     there h =
         let r : (k : ℕ) × Has (filter q xs) k × ((k == n) ≡ true) = any_has (λ k. k == n) (filter q xs) h in
         let s : Has xs r.0 × (q r.0 ≡ true) = filter_has q xs r.0 r.1 in
-        and_intro (stands_in xs n) (q n) (has_any (λ k. k == n) xs r.0 s.0 r.2) (sym (ap q (eqb_same r.0 n r.2)) ∙ s.1)
+        and_from (stands_in xs n) (q n) (has_any (λ k. k == n) xs r.0 s.0 r.2) (sym (ap q (eqb-true r.0 n r.2)) ∙ s.1)
 
     back : (stands_in xs n && q n) ≡ true → stands_in (filter q xs) n ≡ true
     back h =
         let r : (k : ℕ) × Has xs k × ((k == n) ≡ true) = any_has (λ k. k == n) xs (and_left (stands_in xs n) (q n) h) in
-        has_any (λ k. k == n) (filter q xs) r.0 (has_filter q xs r.0 r.1 (ap q (eqb_same r.0 n r.2) ∙ and_right (stands_in xs n) (q n) h)) r.2
+        has_any (λ k. k == n) (filter q xs) r.0 (has_filter q xs r.0 r.1 (ap q (eqb-true r.0 n r.2) ∙ and_right (stands_in xs n) (q n) h)) r.2
 
 stands_contains : (xs : List ℕ) (n : ℕ) (b : Bool) → Decides b (Contains xs n) → stands_in xs n ≡ b
 stands_contains xs n b d = same_truth (stands_in xs n) b there back
@@ -114,7 +116,7 @@ stands_contains xs n b d = same_truth (stands_in xs n) b there back
     there h =
         let r : (k : ℕ) × Has xs k × ((k == n) ≡ true) = any_has (λ k. k == n) xs h in
         let P : ℕ → Type 0 = λ v. Has xs v in
-        d.1 (has_contains xs n (subst P (eqb_same r.0 n r.2) r.1))
+        d.1 (has_contains xs n (subst P (eqb-true r.0 n r.2) r.1))
 
     back : b ≡ true → stands_in xs n ≡ true
     back h = has_any (λ k. k == n) xs n (contains_has xs n (d.0 h)) (eqb_refl n)
@@ -137,12 +139,8 @@ row_fits board c closed n safe are =
 pub row_made : (board : RawBoard) (c : Ctl) (closed failing row : List ℕ) → is_safe_alone board c ≡ true → AreClosed board (shared_nets board c) closed → failing ≡ filter (λ n. not (owns_at board c n)) closed → AreRowBits (λ n. fits_at board AlwaysOn n && not (stands_in failing n)) row → AreRowBits (fits_at board (By c)) row
 row_made board c closed failing row safe are e bits = same_row (λ n. fits_at board AlwaysOn n && not (stands_in failing n)) (fits_at board (By c)) (λ n. ap (λ v. fits_at board AlwaysOn n && not (stands_in v n)) e ∙ row_fits board c closed n safe are) row bits
 
-and_true : (t : Bool) → t ≡ (t && true)
-and_true true = refl
-and_true false = refl
-
 pub none_fail : (board : RawBoard) (failing row : List ℕ) → failing ≡ [] → AreRowBits (fits_at board AlwaysOn) row → AreRowBits (λ n. fits_at board AlwaysOn n && not (stands_in failing n)) row
-none_fail board failing row e bits = same_row (fits_at board AlwaysOn) (λ n. fits_at board AlwaysOn n && not (stands_in failing n)) (λ n. and_true (fits_at board AlwaysOn n) ∙ sym (ap (λ v. fits_at board AlwaysOn n && not (stands_in v n)) e)) row bits
+none_fail board failing row e bits = same_row (fits_at board AlwaysOn) (λ n. fits_at board AlwaysOn n && not (stands_in failing n)) (λ n. sym (and-true (fits_at board AlwaysOn n)) ∙ sym (ap (λ v. fits_at board AlwaysOn n && not (stands_in v n)) e)) row bits
 
 -- a closed net has a bit in a row
 closed_within : (board : RawBoard) (nets : List ℕ) (n : ℕ) → is_closed_by board nets n ≡ true → n < length board.nets

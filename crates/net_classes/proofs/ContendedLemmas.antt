@@ -4,6 +4,8 @@ use Rattle.std.specs.Prelude.{slice_get}
 use Rattle.std.specs.List.{list_any, range_with_len}
 use Rattle.std.specs.Bool.{Decides}
 use Rattle.std.proofs.lemmas.Option.{slice_get_within, get_or_from_slice_get}
+use Rattle.std.proofs.lemmas.Bool.{and_from, not_from_false}
+use Rattle.lists.proofs.Booleans.{same_truth, and_left, and_right}
 use Rattle.board_defs.specs.declared.board.Net.{Net}
 use Rattle.board_defs.specs.declared.board.NetPin.{NetPin}
 use Rattle.board_defs.specs.declared.board.Ctl.{Ctl}
@@ -17,7 +19,6 @@ use Rattle.board_defs.proofs.Places.{Found, any_place, any_at}
 use Rattle.net_facts.specs.Found.{IsAscending, Meet}
 use Rattle.net_classes.specs.Laws.{HaveCommon}
 use Rattle.net_facts.specs.Kept.{is_by_other, is_contended, contends_there, shared_nets}
-use Rattle.net_facts.proofs.Truth.{same_truth, and_left, and_right, and_intro, not_of_false}
 use Rattle.net_classes.proofs.SharedLemmas.{kept_ascend, item_has}
 use Rattle.net_facts.proofs.Contended.{differ_back}
 
@@ -37,8 +38,8 @@ has_shares board c n h = by_net (slice_get board.nets n) refl (filter_has (λ k.
 contends : (board : RawBoard) (c d : Ctl) (net : Net) → same_ctl d c ≡ false → drives_net board c net ≡ true → drives_net board d net ≡ true → is_contended board c net ≡ true
 contends board c d net ne dc dd =
     let r : Found (λ (p : NetPin). is_by d (drive board net p)) net.pins = any_place (λ (p : NetPin). is_by d (drive board net p)) net.pins dd in
-    and_intro (drives_net board c net) (list_any (λ (p : NetPin). is_by_other c (drive board net p)) net.pins) dc
-    (any_at (λ (p : NetPin). is_by_other c (drive board net p)) net.pins r.place r.item r.stands (ap (is_by_other c) (by_true d (drive board net r.item) r.passes) ∙ not_of_false (same_ctl d c) ne))
+    and_from (drives_net board c net) (list_any (λ (p : NetPin). is_by_other c (drive board net p)) net.pins) dc
+    (any_at (λ (p : NetPin). is_by_other c (drive board net p)) net.pins r.place r.item r.stands (ap (is_by_other c) (by_true d (drive board net r.item) r.passes) ∙ not_from_false (same_ctl d c) ne))
 
 pub share_has : (board : RawBoard) (a b : Ctl) → same_ctl a b ≡ false → share_net board a b ≡ true → (n : ℕ) × Has (shared_nets board a) n × Has (shared_nets board b) n
 share_has board a b ne h =
@@ -58,7 +59,7 @@ has_share board a b n x y =
     let two : Some q.0 ≡ Some p.0 = sym q.1 ∙ p.1 in
     let same : q.0 ≡ p.0 = cc in
     any_at (λ (net : Net). drives_net board a net && drives_net board b net) board.nets n p.0 p.1
-    (and_intro (drives_net board a p.0) (drives_net board b p.0)
+    (and_from (drives_net board a p.0) (drives_net board b p.0)
     (and_left (drives_net board a p.0) (list_any (λ (v : NetPin). is_by_other a (drive board p.0 v)) p.0.pins) p.2)
     (sym (ap (drives_net board b) same) ∙ and_left (drives_net board b q.0) (list_any (λ (v : NetPin). is_by_other b (drive board q.0 v)) q.0.pins) q.2))
 

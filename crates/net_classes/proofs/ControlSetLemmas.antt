@@ -2,6 +2,8 @@
 use Rattle.std.proofs.Common.{◌≡◌, inl, inr, Bool, true, false, ◌||◌, List, [], ◌∷◌, ◌++◌, map, Contains, Option, Some, None, refl, sym, ◌∙◌, ap, subst}
 use Rattle.std.specs.Prelude.{slice_get, option_map, option_and_then, is_some}
 use Rattle.std.proofs.lemmas.Option.{slice_get-map}
+use Rattle.std.proofs.Math.Bool.{or-false, or-true}
+use Rattle.lists.proofs.Booleans.{clash}
 use Rattle.board_defs.specs.declared.board.Ctl.{Ctl}
 use Rattle.board_defs.specs.declared.board.RawBoard.{RawBoard}
 use Rattle.board_defs.specs.Pins.{IsCell}
@@ -12,7 +14,6 @@ use Rattle.net_classes.specs.declared.control_sets.ControlSet.{ControlSet}
 use Rattle.net_facts.specs.Cells.{filled, put, item_of, table, at_control, holds_there}
 use Rattle.net_classes.specs.inner.ControlSets.{IsSet, has_control, put_all}
 use Rattle.net_facts.proofs.Notes.{at_same, at_other}
-use Rattle.net_facts.proofs.Truth.{clash}
 
 -- an item of a table of the same shape
 pub filled_item : {X Y : Type 0} (item : Y) (rows : List (List X)) (c : Ctl) → is_some (item_of rows c) ≡ true → item_of (filled item rows) c ≡ Some item
@@ -51,11 +52,7 @@ had board passes set c is h = record {
         let at : has_control set d ≡ true = ap (has_control set) (sym (same_equal c d e)) ∙ h in
         let p : passes d ≡ true = sym (ap holds_there (is.marks_are d cell)) ∙ at in
         p ∙ sym (ap (λ s. s || same_ctl c d) p)
-    by_same d cell false e = or_false (passes d) ∙ ap (λ s. passes d || s) (sym e)
-      where
-        or_false : (s : Bool) → s ≡ (s || false)
-        or_false true = refl
-        or_false false = refl
+    by_same d cell false e = sym (or-false (passes d)) ∙ ap (λ s. passes d || s) (sym e)
 
 -- the control is marked and listed
 pub added : (board : RawBoard) (passes : Ctl → Bool) (set after : ControlSet) (c : Ctl) → IsSet board passes set → table after.marks.items ≡ at_control c (put true) (table set.marks.items) → after.members.items ≡ set.members.items ++ c ∷ [] → IsSet board (λ d. passes d || same_ctl c d) after
@@ -67,17 +64,9 @@ added board passes set after c is e f = record {
     rows : List (List Bool)
     rows = table set.marks.items
 
-    or_true : (s : Bool) → true ≡ (s || true)
-    or_true true = refl
-    or_true false = refl
-
-    or_false : (s : Bool) → s ≡ (s || false)
-    or_false true = refl
-    or_false false = refl
-
     by_same : (d : Ctl) → IsCell board d → (t : Bool) → same_ctl c d ≡ t → item_of (at_control c (put true) rows) d ≡ Some (passes d || t)
-    by_same d cell true k = (put_item c d true (passes d) rows (is.marks_are d cell)).0 k ∙ ap Some (or_true (passes d))
-    by_same d cell false k = (put_item c d true (passes d) rows (is.marks_are d cell)).1 k ∙ ap Some (or_false (passes d))
+    by_same d cell true k = (put_item c d true (passes d) rows (is.marks_are d cell)).0 k ∙ ap Some (sym (or-true (passes d)))
+    by_same d cell false k = (put_item c d true (passes d) rows (is.marks_are d cell)).1 k ∙ ap Some (sym (or-false (passes d)))
 
     by_member : (d : Ctl) → IsCell board d → (s : Bool) → passes d ≡ s → (t : Bool) → same_ctl c d ≡ t → (s || t) ≡ true → Contains (set.members.items ++ c ∷ []) d
     by_member d cell true k t g p = has_contains (set.members.items ++ c ∷ []) d (has_left set.members.items (c ∷ []) d (contains_has set.members.items d (is.members_are d cell k)))

@@ -2,6 +2,8 @@
 use Rattle.std.proofs.Common.{◌≡◌, ℕ, zero, suc, Bool, true, List, [], ◌∷◌, slice_index_or, Option, Some, None, refl, sym, ◌∙◌, ap}
 use Rattle.std.specs.Prelude.{slice_get, find, is_some, option_map}
 use Rattle.std.proofs.lemmas.Option.{slice_get-map}
+use Rattle.std.proofs.lemmas.Bool.{false_from_ne_true}
+use Rattle.lists.proofs.Booleans.{clash}
 use Rattle.board_defs.specs.declared.board.Net.{Net}
 use Rattle.board_defs.specs.declared.board.RawBoard.{RawBoard}
 use Rattle.board_defs.specs.declared.board.Drive.{Drive}
@@ -11,7 +13,6 @@ use Rattle.board_defs.proofs.Members.{Has, any_has, find_has, find_none, has_any
 use Rattle.net_classes.specs.Pairs.{drivers_there, fit, fits_some, pair_there, pairs_with}
 use Rattle.net_classes.specs.inner.Pairs.{some_fit}
 use Rattle.net_classes.proofs.Paired.{pairs_are}
-use Rattle.net_facts.proofs.Truth.{clash, not_true}
 
 -- two drivers fit where a first pair is found
 pub fit_found : (board : RawBoard) (ds es : List Drive) → some_fit board ds es ≡ is_some (first_pair board ds es)
@@ -21,7 +22,7 @@ fit_found board ds es = by_found (first_pair board ds es) refl
     p pair = are_compatible board (Some pair.0) (Some pair.1)
 
     by_found : (found : Option (Drive × Drive)) → find p (pairs_of ds es) ≡ found → some_fit board ds es ≡ is_some found
-    by_found None e = not_true (some_fit board ds es) (λ h.
+    by_found None e = false_from_ne_true (some_fit board ds es) (λ h.
         let x : (d : Drive) × Has ds d × (fits_some board es d ≡ true) = any_has (fits_some board es) ds h in
         let y : (d : Drive) × Has es d × (fit board x.0 d ≡ true) = any_has (fit board x.0) es x.2 in
         clash (fit board x.0 y.0) y.2 (find_none p (pairs_of ds es) (x.0, y.0) e (has_pairs_of ds es x.0 y.0 x.1 y.1)))
@@ -36,7 +37,7 @@ item_or (Some ds) = ds
 
 pub there_are : (board : RawBoard) (a b : Option Net) → pair_there board a b ≡ some_fit board (drivers_there board a) (drivers_there board b)
 there_are board None b = refl
-there_are board (Some a) None = sym (not_true (some_fit board (tested_drivers board a) []) (λ h.
+there_are board (Some a) None = sym (false_from_ne_true (some_fit board (tested_drivers board a) []) (λ h.
     let x : (d : Drive) × Has (tested_drivers board a) d × (fits_some board [] d ≡ true) = any_has (fits_some board []) (tested_drivers board a) h in
     cc x.2))
 there_are board (Some a) (Some b) = sym (pairs_are board a b)

@@ -3,6 +3,10 @@ use Rattle.std.proofs.Common.{◌≡◌, ◌⊎◌, inl, inr, ℕ, ◌+◌, ◌<
 use Rattle.std.specs.Prelude.{slice_get}
 use Rattle.std.specs.List.{flat_map, list_all, list_any}
 use Rattle.std.proofs.lemmas.List.{take_more}
+use Rattle.std.proofs.lemmas.Bool.{and_from, or_cases, or_left, or_right}
+use Rattle.std.proofs.lemmas.List.Folds.{list_any-append}
+use Rattle.std.proofs.Math.Bool.{and-false}
+use Rattle.lists.proofs.Booleans.{and_left, and_right, clash, true_of_or_false}
 use Rattle.board_defs.specs.declared.board.Ctl.{Ctl}
 use Rattle.board_defs.specs.declared.board.Net.{Net}
 use Rattle.board_defs.specs.declared.board.RawBoard.{RawBoard}
@@ -24,9 +28,7 @@ use Rattle.net_classes.specs.inner.Pairs.{IsByCell}
 use Rattle.net_facts.specs.Cells.{holds_there}
 use Rattle.net_classes.proofs.ClosedLemmas.{all_on, cells_there, pins_drive, tested_in}
 use Rattle.net_classes.proofs.ControlSetLemmas.{same_set}
-use Rattle.net_classes.proofs.Lists.{any_joined}
 use Rattle.net_classes.proofs.SharedLemmas.{driven_has}
-use Rattle.net_facts.proofs.Truth.{and_intro, and_left, and_right, clash}
 
 -- a control that the other set has
 same_outside : (set : ControlSet) (c d : Ctl) (t : Bool) → has_control set c ≡ t → (same_ctl c d && not t) ≡ (same_ctl c d && not (has_control set d))
@@ -62,28 +64,17 @@ pub no_others : (board : RawBoard) (set others : ControlSet) → IsSet board (λ
 no_others board set others is = record { passes = λ c. false; are_set = is; drive = λ c h. cc h; all = λ c cell h unset. cc h }
 
 -- a net more
-either : (s t : Bool) → (s || t) ≡ true → (s ≡ true) ⊎ (t ≡ true)
-either true t h = inl refl
-either false t h = inr h
-
-left_true : (s t : Bool) → s ≡ true → (s || t) ≡ true
-left_true s t h = ap (λ v. v || t) h
-
-right_true : (s t : Bool) → t ≡ true → (s || t) ≡ true
-right_true true t h = refl
-right_true false t h = h
-
 drives_more : (board : RawBoard) (nets : List ℕ) (i n : ℕ) (c : Ctl) → i < length nets → n ≡ get_or nets i n → drives_some board (take (i + 1) nets) c ≡ (drives_some board (take i nets) c || (drives_there board c (slice_get board.nets n) || false))
 drives_more board nets i n c less at =
     let drives : ℕ → Bool = λ k. drives_there board c (slice_get board.nets k) in
-    ap (list_any drives) (take_more nets i n less ∙ ap (λ k. take i nets ++ k ∷ []) (sym at)) ∙ any_joined drives (take i nets) (n ∷ [])
+    ap (list_any drives) (take_more nets i n less ∙ ap (λ k. take i nets ++ k ∷ []) (sym at)) ∙ list_any-append drives (take i nets) (n ∷ [])
 
 pub core_again : (board : RawBoard) (set others : ControlSet) (nets : List ℕ) (i n core : ℕ) → i < length nets → n ≡ get_or nets i n → n ≡ core → IsSet board (drives_some board (core ∷ [])) set → AreOthers board set (take i nets) others → AreOthers board set (take (i + 1) nets) others
 core_again board set others nets i n core less at e is are = record {
   passes = are.passes;
   are_set = are.are_set;
-  drive = λ c h. drives_more board nets i n c less at ∙ left_true (drives_some board (take i nets) c) (drives_there board c (slice_get board.nets n) || false) (are.drive c h);
-  all = λ c cell h unset. by c cell unset (either (drives_some board (take i nets) c) (drives_there board c (slice_get board.nets n) || false) (sym (drives_more board nets i n c less at) ∙ h));
+  drive = λ c h. drives_more board nets i n c less at ∙ or_left (drives_some board (take i nets) c) (drives_there board c (slice_get board.nets n) || false) (are.drive c h);
+  all = λ c cell h unset. by c cell unset (or_cases (drives_some board (take i nets) c) (drives_there board c (slice_get board.nets n) || false) (sym (drives_more board nets i n c less at) ∙ h));
 }
   where
     by : (c : Ctl) → IsCell board c → has_control set c ≡ false → (drives_some board (take i nets) c ≡ true) ⊎ ((drives_there board c (slice_get board.nets n) || false) ≡ true) → are.passes c ≡ true
@@ -94,13 +85,9 @@ any_and : (p : PinFacts → Bool) (t : Bool) (pins : List PinFacts) → list_any
 any_and p t [] = refl
 any_and p t (pin ∷ pins) = step (p pin) t (list_any (λ x. p x && t) pins) (list_any p pins) (any_and p t pins)
   where
-    none : (s : Bool) → (s && false) ≡ false
-    none true = refl
-    none false = refl
-
     step : (s t l r : Bool) → l ≡ (r && t) → ((s && t) || l) ≡ ((s || r) && t)
     step true true l r e = refl
-    step true false l r e = e ∙ none r
+    step true false l r e = e ∙ and-false r
     step false t l r e = e
 
 pub others_more : (board : RawBoard) (set others after : ControlSet) (nets : List ℕ) (i n : ℕ) (pins : List PinFacts) → i < length nets → n ≡ get_or nets i n → pins ≡ pins_there board (slice_get board.nets n) → (are : AreOthers board set (take i nets) others) →
@@ -108,8 +95,8 @@ pub others_more : (board : RawBoard) (set others after : ControlSet) (nets : Lis
 others_more board set others after nets i n pins less at e are is = record {
   passes = λ c. are.passes c || list_any (λ pin. is_by c pin.drive && not (has_control set c)) pins;
   are_set = is;
-  drive = λ c h. drives_more board nets i n c less at ∙ by_pass c (either (are.passes c) (list_any (λ pin. is_by c pin.drive && not (has_control set c)) pins) h);
-  all = λ c cell h unset. by_net c cell unset (either (drives_some board (take i nets) c) (there c || false) (sym (drives_more board nets i n c less at) ∙ h));
+  drive = λ c h. drives_more board nets i n c less at ∙ by_pass c (or_cases (are.passes c) (list_any (λ pin. is_by c pin.drive && not (has_control set c)) pins) h);
+  all = λ c cell h unset. by_net c cell unset (or_cases (drives_some board (take i nets) c) (there c || false) (sym (drives_more board nets i n c less at) ∙ h));
 }
   where
     there : Ctl → Bool
@@ -123,19 +110,15 @@ others_more board set others after nets i n pins less at e are is = record {
     or_false true t h = refl
     or_false false t h = cc h
 
-    from_false : (s : Bool) → (s || false) ≡ true → s ≡ true
-    from_false true h = refl
-    from_false false h = cc h
-
     by_pass : (c : Ctl) → (are.passes c ≡ true) ⊎ (list_any (λ pin. is_by c pin.drive && not (has_control set c)) pins ≡ true) → (drives_some board (take i nets) c || (there c || false)) ≡ true
-    by_pass c (inl h) = left_true (drives_some board (take i nets) c) (there c || false) (are.drive c h)
-    by_pass c (inr h) = right_true (drives_some board (take i nets) c) (there c || false) (or_false (there c) (not (has_control set c)) (sym (pins_are c) ∙ h))
+    by_pass c (inl h) = or_left (drives_some board (take i nets) c) (there c || false) (are.drive c h)
+    by_pass c (inr h) = or_right (drives_some board (take i nets) c) (there c || false) (or_false (there c) (not (has_control set c)) (sym (pins_are c) ∙ h))
 
     by_net : (c : Ctl) → IsCell board c → has_control set c ≡ false → (drives_some board (take i nets) c ≡ true) ⊎ ((there c || false) ≡ true) → (are.passes c || list_any (λ pin. is_by c pin.drive && not (has_control set c)) pins) ≡ true
-    by_net c cell unset (inl h) = left_true (are.passes c) (list_any (λ pin. is_by c pin.drive && not (has_control set c)) pins) (are.all c cell h unset)
+    by_net c cell unset (inl h) = or_left (are.passes c) (list_any (λ pin. is_by c pin.drive && not (has_control set c)) pins) (are.all c cell h unset)
     by_net c cell unset (inr h) =
-        right_true (are.passes c) (list_any (λ pin. is_by c pin.drive && not (has_control set c)) pins)
-        (pins_are c ∙ and_intro (there c) (not (has_control set c)) (from_false (there c) h) (ap not unset))
+        or_right (are.passes c) (list_any (λ pin. is_by c pin.drive && not (has_control set c)) pins)
+        (pins_are c ∙ and_from (there c) (not (has_control set c)) (true_of_or_false (there c) h) (ap not unset))
 
 -- the nets that both sets close together
 some_fails : (p : Drive → Bool) (ds : List Drive) → list_all p ds ≡ false → (d : Drive) × Has ds d × (p d ≡ false)
@@ -165,12 +148,8 @@ both_close known set others core nets base closed is in_set base_are are has_cor
     cells : (d : Drive) → Has drivers d → IsByCell board d
     cells d has = cells_there board (slice_get board.nets n) d is.rules has
 
-    from_false : (s : Bool) → (s || false) ≡ true → s ≡ true
-    from_false true h = refl
-    from_false false h = cc h
-
     wider : (c : Ctl) → of_core c ≡ true → drives c ≡ true
-    wider c h = has_any (λ k. drives_there board c (slice_get board.nets k)) nets core (contains_has nets core has_core) (from_false (drives_there board c (slice_get board.nets core)) h)
+    wider c h = has_any (λ k. drives_there board c (slice_get board.nets k)) nets core (contains_has nets core has_core) (true_of_or_false (drives_there board c (slice_get board.nets core)) h)
 
     in_either : (c : Ctl) → IsCell board c → drives c ≡ true → has_either set others c ≡ true
     in_either c cell h = by (has_control set c) refl
@@ -180,7 +159,7 @@ both_close known set others core nets base closed is in_set base_are are has_cor
         by false f = ap holds_there (are.are_set.marks_are c cell) ∙ are.all c cell h f
 
     from_either : (c : Ctl) → IsCell board c → has_either set others c ≡ true → drives c ≡ true
-    from_either c cell h = by (either (has_control set c) (has_control others c) h)
+    from_either c cell h = by (or_cases (has_control set c) (has_control others c) h)
       where
         by : (has_control set c ≡ true) ⊎ (has_control others c ≡ true) → drives c ≡ true
         by (inl f) = wider c (sym (ap holds_there (in_set.marks_are c cell)) ∙ f)
@@ -247,7 +226,7 @@ both_close known set others core nets base closed is in_set base_are are has_cor
     found h false f =
         let r : (nat_lt 0 (length drivers) ≡ true) × (list_all (is_by_one drives) drivers ≡ true) = some_all drives drivers h in
         let s : (d : Drive) × Has drivers d × (is_by_one of_core d ≡ false) = some_fails (is_by_one of_core) drivers f in
-        let passes : closes_beside board set others n ≡ true = and_intro (nat_lt 0 (length drivers)) (list_all (is_by_one (has_either set others)) drivers) r.0 (all_on (is_by_one drives) (is_by_one (has_either set others)) drivers (λ d has k. by_either d (cells d has) k) r.1) in
+        let passes : closes_beside board set others n ≡ true = and_from (nat_lt 0 (length drivers)) (list_all (is_by_one (has_either set others)) drivers) r.0 (all_on (is_by_one drives) (is_by_one (has_either set others)) drivers (λ d has k. by_either d (cells d has) k) r.1) in
         has_right base (flat_map (closed_beside known set others) others.members.items) n (by_other s.0 s.1 (all_has (is_by_one drives) drivers s.0 r.1 s.1) s.2 passes)
 
     there : is_closed_by board nets n ≡ true → Contains closed n

@@ -4,6 +4,10 @@ use Rattle.std.specs.Prelude.{slice_get}
 use Rattle.std.specs.List.{list_any}
 use Rattle.std.proofs.lemmas.List.{take_more}
 use Rattle.std.proofs.lemmas.Option.{slice_get_within}
+use Rattle.std.proofs.lemmas.Bool.{eqb-true, false_from_ne_true}
+use Rattle.std.proofs.lemmas.List.Folds.{list_any-append}
+use Rattle.std.proofs.Math.Bool.{and-true, and-false}
+use Rattle.lists.proofs.Booleans.{and_right, eqb_refl, same_truth}
 use Rattle.board_defs.specs.declared.board.Net.{Net}
 use Rattle.board_defs.specs.declared.board.RawBoard.{RawBoard}
 use Rattle.board_defs.specs.declared.board.Drive.{Drive}
@@ -14,20 +18,14 @@ use Rattle.board_defs.proofs.Members.{Has}
 use Rattle.board_defs.proofs.PassesKept.{tested_can_drive, tested_has}
 use Rattle.net_classes.specs.Pairs.{drivers_at, drivers_there, fits_at, fit}
 use Rattle.net_classes.specs.NetRows.{AreRowBits, stands_in}
-use Rattle.net_classes.proofs.Lists.{any_joined}
-use Rattle.net_facts.proofs.Truth.{and_right, eqb_refl, eqb_same, not_true, same_truth}
 use Rattle.net_classes.proofs.WordLemmas.{same_row}
 
 -- a number more is taken out
-and_true : (t : Bool) → t ≡ (t && true)
-and_true true = refl
-and_true false = refl
-
 pub nothing_out : (passes : ℕ → Bool) (row less : List ℕ) → less ≡ row → AreRowBits passes row → AreRowBits (λ n. passes n && not (stands_in [] n)) less
-nothing_out passes row less e are = same_row passes (λ n. passes n && not (stands_in [] n)) (λ n. and_true (passes n)) less (subst (AreRowBits passes) (sym e) are)
+nothing_out passes row less e are = same_row passes (λ n. passes n && not (stands_in [] n)) (λ n. sym (and-true (passes n))) less (subst (AreRowBits passes) (sym e) are)
 
 stands_more : (nets : List ℕ) (i n : ℕ) → i < length nets → stands_in (take (i + 1) nets) n ≡ (stands_in (take i nets) n || ((get_or nets i 0 == n) || false))
-stands_more nets i n less = ap (list_any (λ k. k == n)) (take_more nets i 0 less) ∙ any_joined (λ k. k == n) (take i nets) (get_or nets i 0 ∷ [])
+stands_more nets i n less = ap (list_any (λ k. k == n)) (take_more nets i 0 less) ∙ list_any-append (λ k. k == n) (take i nets) (get_or nets i 0 ∷ [])
 
 or_right_true : (s : Bool) → (s || (true || false)) ≡ true
 or_right_true true = refl
@@ -37,18 +35,14 @@ or_right_false : (s : Bool) → (s || (false || false)) ≡ s
 or_right_false true = refl
 or_right_false false = refl
 
-and_nothing : (s : Bool) → (s && not true) ≡ false
-and_nothing true = refl
-and_nothing false = refl
-
 pub out_now : (passes : ℕ → Bool) (nets : List ℕ) (i : ℕ) → i < length nets → (passes (get_or nets i 0) && not (stands_in (take (i + 1) nets) (get_or nets i 0))) ≡ false
 out_now passes nets i less =
     let net : ℕ = get_or nets i 0 in
-    ap (λ t. passes net && not t) (stands_more nets i net less ∙ ap (λ t. stands_in (take i nets) net || (t || false)) (eqb_refl net) ∙ or_right_true (stands_in (take i nets) net)) ∙ and_nothing (passes net)
+    ap (λ t. passes net && not t) (stands_more nets i net less ∙ ap (λ t. stands_in (take i nets) net || (t || false)) (eqb_refl net) ∙ or_right_true (stands_in (take i nets) net)) ∙ and-false (passes net)
 
 pub out_still : (passes : ℕ → Bool) (nets : List ℕ) (i : ℕ) → i < length nets → (n : ℕ) → n ≢ get_or nets i 0 → (passes n && not (stands_in (take (i + 1) nets) n)) ≡ (passes n && not (stands_in (take i nets) n))
 out_still passes nets i less n other =
-    ap (λ t. passes n && not t) (stands_more nets i n less ∙ ap (λ t. stands_in (take i nets) n || (t || false)) (not_true (get_or nets i 0 == n) (λ h. other (sym (eqb_same (get_or nets i 0) n h)))) ∙ or_right_false (stands_in (take i nets) n))
+    ap (λ t. passes n && not t) (stands_more nets i n less ∙ ap (λ t. stands_in (take i nets) n || (t || false)) (false_from_ne_true (get_or nets i 0 == n) (λ h. other (sym (eqb-true (get_or nets i 0) n h)))) ∙ or_right_false (stands_in (take i nets) n))
 
 -- a net is covered where it has a tested driver
 pub covered_bit : (board : RawBoard) (n : ℕ) → nat_lt 0 (length (drivers_at board n)) ≡ fits_at board AlwaysOn n

@@ -1,10 +1,12 @@
 -- The words of the rows of a net's tested drivers say together which nets are paired with it.
-use Rattle.std.proofs.Common.{◌≡◌, ℕ, ◌+◌, ◌<◌, ◌≤◌, Bool, true, false, ◌||◌, List, [], ◌∷◌, ◌++◌, length, take, get_or, Some, refl, sym, ◌∙◌, ap, subst}
+use Rattle.std.proofs.Common.{◌≡◌, ℕ, ◌+◌, ◌<◌, ◌≤◌, true, false, ◌||◌, List, [], ◌∷◌, ◌++◌, length, take, get_or, Some, refl, sym, ◌∙◌, ap, subst}
 use Rattle.std.specs.Prelude.{slice_get}
 use Rattle.std.specs.List.{list_any}
 use Rattle.std.specs.Int.Bits.{bit_or}
 use Rattle.std.proofs.lemmas.List.{take_all, take_more}
 use Rattle.std.proofs.lemmas.Option.{slice_get-get_or}
+use Rattle.std.proofs.lemmas.List.Folds.{list_any-append}
+use Rattle.std.proofs.Math.Bool.{or-false}
 use Rattle.board_defs.specs.declared.board.Ctl.{Ctl}
 use Rattle.board_defs.specs.declared.board.Net.{Net}
 use Rattle.board_defs.specs.declared.board.RawBoard.{RawBoard}
@@ -22,7 +24,6 @@ use Rattle.net_classes.specs.Kept.{ArePairRows}
 use Rattle.net_classes.specs.inner.PairRows.{drive_word}
 use Rattle.net_classes.specs.Pairs.{AreBitsOf, drivers_there, fits_at, pairs_with}
 use Rattle.net_classes.proofs.DriverPairs.{there_are}
-use Rattle.net_classes.proofs.Lists.{any_joined}
 use Rattle.net_facts.proofs.Marks.{useful_is}
 use Rattle.net_classes.proofs.Paired.{has_cells}
 use Rattle.net_classes.proofs.WordLemmas.{either_word, same_word}
@@ -38,10 +39,6 @@ driver_word board pairs n w net AlwaysOn rules are at has = are.covered w
 driver_word board pairs n w net OneSided rules are at has = let wrong : false ≡ true = tested_can_drive board net OneSided (tested_has board net OneSided has) in cc wrong
 driver_word board pairs n w net (By c) rules are at has = are.each c (has_cells board net (By c) rules has c refl) (tested_useful board n net c at has) w
 
-or_false : (s : Bool) → (s || false) ≡ s
-or_false true = refl
-or_false false = refl
-
 pub word_more : (board : RawBoard) (pairs : PairRows) (n w : ℕ) (net : Net) (ds : List Drive) (i : ℕ) (d : Drive) (bits word : ℕ) → IsBoard board → ArePairRows board pairs → slice_get board.nets n ≡ Some net → ds ≡ tested_drivers board net → i < length ds → d ≡ get_or ds i d → word ≡ drive_word pairs d w →
     AreBitsOf (λ m. list_any (λ e. fits_at board e m) (take i ds)) w bits → AreBitsOf (λ m. list_any (λ e. fits_at board e m) (take (i + 1) ds)) w (bit_or bits word)
 word_more board pairs n w net ds i d bits word rules are at e less this is before =
@@ -53,7 +50,7 @@ word_more board pairs n w net ds i d bits word rules are at e less this is befor
   where
     same : (m : ℕ) → (list_any (λ x. fits_at board x m) (take i ds) || fits_at board d m) ≡ list_any (λ x. fits_at board x m) (take (i + 1) ds)
     same m =
-        ap (λ t. list_any (λ x. fits_at board x m) (take i ds) || t) (sym (or_false (fits_at board d m))) ∙ sym (any_joined (λ x. fits_at board x m) (take i ds) (d ∷ [])) ∙
+        ap (λ t. list_any (λ x. fits_at board x m) (take i ds) || t) (sym (or-false (fits_at board d m))) ∙ sym (list_any-append (λ x. fits_at board x m) (take i ds) (d ∷ [])) ∙
         ap (list_any (λ x. fits_at board x m)) (ap (λ x. take i ds ++ x ∷ []) this ∙ sym (take_more ds i d less))
 
 pub word_whole : (board : RawBoard) (n w : ℕ) (net : Net) (ds : List Drive) (i bits : ℕ) → slice_get board.nets n ≡ Some net → ds ≡ tested_drivers board net → length ds ≤ i → AreBitsOf (λ m. list_any (λ e. fits_at board e m) (take i ds)) w bits → AreBitsOf (pairs_with board n) w bits

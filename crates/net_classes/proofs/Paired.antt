@@ -3,6 +3,8 @@ use Rattle.std.proofs.Common.{◌≡◌, Bool, true, ◌&&◌, List, length, sli
 use Rattle.std.specs.Prelude.{slice_get}
 use Rattle.std.specs.List.{list_any}
 use Rattle.std.proofs.lemmas.Option.{slice_get-get_or}
+use Rattle.std.proofs.lemmas.Bool.{and_from}
+use Rattle.lists.proofs.Booleans.{same_truth, and_left, and_right}
 use Rattle.board_defs.specs.declared.board.Net.{Net}
 use Rattle.board_defs.specs.declared.board.NetPin.{NetPin}
 use Rattle.board_defs.specs.declared.board.Ctl.{Ctl}
@@ -20,7 +22,6 @@ use Rattle.board_defs.proofs.Covered.{tested_below}
 use Rattle.board_defs.proofs.PassesKept.{Tested, tested_has, has_tested, tested_drives}
 use Rattle.net_classes.specs.Pairs.{fit, fits_some}
 use Rattle.net_classes.specs.inner.Pairs.{IsByCell, AreByCells, some_fit}
-use Rattle.net_facts.proofs.Truth.{same_truth, and_left, and_right, and_intro}
 
 place_cell : (board : RawBoard) (net : Net) (pin : Option NetPin) (c : Ctl) → IsBoard board → drive_in board net pin ≡ Some (By c) → IsCell board c
 place_cell board net None c rules e = cc e
@@ -51,8 +52,8 @@ pairs_are board a b = same_truth (some_fit board (tested_drivers board a) (teste
         let t : Tested board b y.0 = tested_has board b y.0 y.1 in
         below_at (length a.pins) (λ i. any_below (length b.pins) (pairs_at board a b i)) s.place (tested_below board a s.place s.tested)
         (below_at (length b.pins) (pairs_at board a b s.place) t.place (tested_below board b t.place t.tested)
-        (and_intro (is_tested_driver board a s.place && is_tested_driver board b t.place) (are_compatible board (place_drive board a s.place) (place_drive board b t.place))
-        (and_intro (is_tested_driver board a s.place) (is_tested_driver board b t.place) s.tested t.tested)
+        (and_from (is_tested_driver board a s.place && is_tested_driver board b t.place) (are_compatible board (place_drive board a s.place) (place_drive board b t.place))
+        (and_from (is_tested_driver board a s.place) (is_tested_driver board b t.place) s.tested t.tested)
         (ap (λ v. are_compatible board v (place_drive board b t.place)) s.drives ∙ ap (λ v. are_compatible board (Some x.0) v) t.drives ∙ y.2)))
 
     back : are_paired board a b ≡ true → list_any some (tested_drivers board a) ≡ true

@@ -4,6 +4,8 @@ use Rattle.std.specs.Prelude.{slice_get, filter, Contains}
 use Rattle.std.specs.List.{range_with_len}
 use Rattle.std.specs.Bool.{Decides}
 use Rattle.std.proofs.lemmas.Option.{slice_get-get_or, slice_get_within}
+use Rattle.std.proofs.lemmas.Bool.{and_from}
+use Rattle.lists.proofs.Booleans.{and_left, and_right}
 use Rattle.board_defs.specs.declared.board.Net.{Net}
 use Rattle.board_defs.specs.declared.board.Ctl.{Ctl}
 use Rattle.board_defs.specs.declared.board.RawBoard.{RawBoard}
@@ -12,7 +14,6 @@ use Rattle.board_defs.proofs.Members.{Has, has_at, has_filter, filter_has, has_r
 use Rattle.board_defs.proofs.Places.{Found, any_place, any_at}
 use Rattle.net_facts.specs.Found.{IsAscending}
 use Rattle.net_facts.specs.Kept.{drives_there, driven_nets}
-use Rattle.net_facts.proofs.Truth.{and_left, and_right, and_intro}
 
 abbrev is_driven : RawBoard → Ctl → ℕ → Bool
 is_driven board c n = drives_there board c (slice_get board.nets n)
@@ -43,7 +44,7 @@ has_share board a b n x y =
     let q : (net : Net) × (slice_get board.nets n ≡ Some net) × (drives_net board b net ≡ true) = has_driven board b n y in
     let two : Some q.0 ≡ Some p.0 = sym q.1 ∙ p.1 in
     let same : q.0 ≡ p.0 = cc in
-    any_at (λ (net : Net). drives_net board a net && drives_net board b net) board.nets n p.0 p.1 (and_intro (drives_net board a p.0) (drives_net board b p.0) p.2 (sym (ap (drives_net board b) same) ∙ q.2))
+    any_at (λ (net : Net). drives_net board a net && drives_net board b net) board.nets n p.0 p.1 (and_from (drives_net board a p.0) (drives_net board b p.0) p.2 (sym (ap (drives_net board b) same) ∙ q.2))
 
 pub share_decided : (board : RawBoard) (a b : Ctl) → Decides (share_net board a b) ((n : ℕ) × Contains (driven_nets board a) n × Contains (driven_nets board b) n)
 share_decided board a b = (there, back)

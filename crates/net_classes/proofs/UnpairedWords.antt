@@ -6,6 +6,8 @@ use Rattle.std.specs.Int.{bit_at, bit_not, w64}
 use Rattle.std.specs.Int.Bits.{bit_and}
 use Rattle.std.proofs.lemmas.Nat.Bits.{bit_at_and, bit_at_not}
 use Rattle.std.proofs.lemmas.Option.{slice_get-get_or}
+use Rattle.std.proofs.Math.Bool.{and-false}
+use Rattle.lists.proofs.Booleans.{same_truth}
 use Rattle.board_defs.specs.declared.board.Net.{Net}
 use Rattle.board_defs.specs.declared.board.RawBoard.{RawBoard}
 use Rattle.board_defs.specs.declared.board.Drive.{Drive}
@@ -23,7 +25,6 @@ use Rattle.net_classes.specs.Pairs.{AreBitsOf, covered_there, drivers_at, driver
 use Rattle.net_classes.specs.inner.PairRows.{drive_word}
 use Rattle.net_classes.proofs.DriverPairs.{there_are}
 use Rattle.net_classes.proofs.PairWords.{driver_word}
-use Rattle.net_facts.proofs.Truth.{same_truth}
 
 -- a net is covered where it has a tested driver
 covered_fits : (board : RawBoard) (net : Net) → is_covered board net ≡ list_any (fit board AlwaysOn) (tested_drivers board net)
@@ -87,10 +88,6 @@ all_paired board pairs n net ds i d rules are at e less this same m = by_covered
     from_bits false true f h = cc f
     from_bits false false f h = cc h
 
-    and_false : (s : Bool) → (s && not true) ≡ false
-    and_false true = refl
-    and_false false = refl
-
     by_covered : (t : Bool) → covered_there board (slice_get board.nets m) ≡ t → unpaired_with board n m ≡ false
     by_covered false f = ap (λ t. t && not (pairs_with board n m)) f
     by_covered true f =
@@ -98,4 +95,4 @@ all_paired board pairs n net ds i d rules are at e less this same m = by_covered
         let paired : pairs_with board n m ≡ true =
         there_are board (slice_get board.nets n) (slice_get board.nets m) ∙ ap (λ o. list_any (fits_some board (drivers_at board m)) (drivers_there board o)) at ∙
         has_any (fits_some board (drivers_at board m)) (tested_drivers board net) d has fits in
-        ap (λ t. covered_there board (slice_get board.nets m) && not t) paired ∙ and_false (covered_there board (slice_get board.nets m))
+        ap (λ t. covered_there board (slice_get board.nets m) && not t) paired ∙ and-false (covered_there board (slice_get board.nets m))

@@ -1,9 +1,12 @@
 -- What the facts and the table say of a net is what the board's terms say.
-use Rattle.std.proofs.Common.{◌≡◌, ℕ, suc, ◌==◌, Bool, true, false, not, ◌&&◌, List, [], ◌∷◌, map, length, Option, Some, None, refl, sym, ◌∙◌, ap, subst, cond, inl, ◌||◌, arith}
+use Rattle.std.proofs.Common.{◌≡◌, ℕ, ◌==◌, Bool, true, false, not, ◌&&◌, List, [], ◌∷◌, map, length, Option, Some, None, refl, sym, ◌∙◌, ap, subst, cond, inl}
 use Rattle.std.specs.Prelude.{slice_get, option_map, filter_map, is_some}
 use Rattle.std.specs.List.{list_any, range_with_len, cons_option}
 use Rattle.std.proofs.lemmas.List.{length-map}
 use Rattle.std.proofs.lemmas.Option.{slice_get-map}
+use Rattle.std.proofs.lemmas.Bool.{false_from_ne_true}
+use Rattle.lists.proofs.ListLemmas.{list_any-map, list_any_same, map-map}
+use Rattle.lists.proofs.Booleans.{suc-eqb_zero}
 use Rattle.board_defs.specs.declared.board.NetPin.{NetPin}
 use Rattle.board_defs.specs.declared.board.Net.{Net}
 use Rattle.board_defs.specs.declared.board.Ctl.{Ctl}
@@ -29,7 +32,6 @@ use Rattle.net_facts.specs.Facts.{pin_facts_of, net_facts_of}
 use Rattle.net_facts.specs.inner.Found.{is_elsewhere_of, found_below}
 use Rattle.net_facts.specs.Kept.{pin_class_of, net_class_of}
 use Rattle.net_facts.specs.inner.Answers.{safe_in, enabled_in, drive_of_pin, drive_of, reads_in, reads_at, enables_at_place, readers_of, enablers_of, tested_in, reader_tested_in, pin_class_in, tested_drive_in, drivers_in, first_reason_in, reason_in, class_in}
-use Rattle.net_facts.proofs.Truth.{any_map, not_true}
 use Rattle.net_facts.proofs.FoundLemmas.{elsewhere_is, passes_in}
 
 -- the table says of each control whether it is safe alone
@@ -110,14 +112,6 @@ filter_map_same : {X Y : Type 0} (f g : X → Option Y) → ((x : X) → f x ≡
 filter_map_same f g h [] = refl
 filter_map_same f g h (x ∷ xs) = ap (λ o. cons_option o (filter_map f xs)) (h x) ∙ ap (λ ys. cons_option (g x) ys) (filter_map_same f g h xs)
 
-pub any_same : {X : Type 0} (f g : X → Bool) → ((x : X) → f x ≡ g x) → (xs : List X) → list_any f xs ≡ list_any g xs
-any_same f g h [] = refl
-any_same f g h (x ∷ xs) = ap (λ t. t || list_any f xs) (h x) ∙ ap (λ t. g x || t) (any_same f g h xs)
-
-pub map_map : {X Y Z : Type 0} (f : X → Y) (g : Y → Z) (xs : List X) → map g (map f xs) ≡ map (λ x. g (f x)) xs
-map_map f g [] = refl
-map_map f g (x ∷ xs) = ap (λ ys. g (f x) ∷ ys) (map_map f g xs)
-
 -- the tested drivers of a net
 drive_tested_is : (board : RawBoard) (rows : List (List ControlClass)) (net : Net) (place : ℕ) → IsBoard board → SaysSafe board rows → tested_drive_in rows (net_facts_of board net) place ≡ tested_drive board net place
 drive_tested_is board rows net place rules says =
@@ -129,15 +123,12 @@ drivers_is board rows net rules says =
     ap (λ n. filter_map (tested_drive_in rows (net_facts_of board net)) (range_with_len 0 n)) (length-map net.pins (pin_facts_of board net)) ∙
     filter_map_same (tested_drive_in rows (net_facts_of board net)) (tested_drive board net) (λ k. drive_tested_is board rows net k rules says) (range_with_len 0 (length net.pins))
 
-pub some_length : (n : ℕ) → (suc n == 0) ≡ false
-some_length n = grind arith
-
 -- a net is covered exactly where it has a tested driver
 pub covered_is : (board : RawBoard) (net : Net) → (length (tested_drivers board net) == 0) ≡ not (is_covered board net)
 covered_is board net = by_list (tested_drivers board net) refl
   where
     by_list : (ds : List Drive) → tested_drivers board net ≡ ds → (length ds == 0) ≡ not (is_covered board net)
-    by_list [] e = ap not (sym (not_true (is_covered board net) (λ h.
+    by_list [] e = ap not (sym (false_from_ne_true (is_covered board net) (λ h.
         let r : FoundBelow (length net.pins) (is_tested_driver board net) = below_place (length net.pins) (is_tested_driver board net) h in
         let d : (d : Drive) × (place_drive board net r.number ≡ Some d) = tested_drives board net r.number r.passes in
         let P : List Drive → Type 0 = λ v. Has v d.0 in
@@ -145,14 +136,14 @@ covered_is board net = by_list (tested_drivers board net) refl
     by_list (d ∷ ds) e =
         let P : List Drive → Type 0 = λ v. Has v d in
         let t : Tested board net d = tested_has board net d (subst P (sym e) (inl refl)) in
-        some_length (length ds) ∙ ap not (sym (below_at (length net.pins) (is_tested_driver board net) t.place (tested_below board net t.place t.tested) t.tested))
+        suc-eqb_zero (length ds) ∙ ap not (sym (below_at (length net.pins) (is_tested_driver board net) t.place (tested_below board net t.place t.tested) t.tested))
 
 -- why a net is not covered
 first_is : (board : RawBoard) (rows : List (List ControlClass)) (net : Net) → IsBoard board → SaysSafe board rows → first_reason_in rows (net_facts_of board net) ≡ first_reason board net
 first_is board rows net rules says =
-    ap (λ t. last t (list_any (λ (pin : PinFacts). enabled_in rows pin.drive) (map (pin_facts_of board net) net.pins))) (any_map (pin_facts_of board net) (λ (pin : PinFacts). is_some pin.drive) net.pins) ∙
+    ap (λ t. last t (list_any (λ (pin : PinFacts). enabled_in rows pin.drive) (map (pin_facts_of board net) net.pins))) (list_any-map (pin_facts_of board net) (λ (pin : PinFacts). is_some pin.drive) net.pins) ∙
     ap (λ t. last (list_any (λ (p : NetPin). is_some (drive board net p)) net.pins) t)
-    (any_map (pin_facts_of board net) (λ (pin : PinFacts). enabled_in rows pin.drive) net.pins ∙ any_same (λ (p : NetPin). enabled_in rows (drive board net p)) (λ (p : NetPin). can_enable board (drive board net p)) (λ p. enabled_is board rows net p rules says) net.pins)
+    (list_any-map (pin_facts_of board net) (λ (pin : PinFacts). enabled_in rows pin.drive) net.pins ∙ list_any_same (λ (p : NetPin). enabled_in rows (drive board net p)) (λ (p : NetPin). can_enable board (drive board net p)) (λ p. enabled_is board rows net p rules says) net.pins)
   where
     last : Bool → Bool → Reason
     last driven enabled = cond net.supply Supply (cond (list_any (is_test_pin board) net.pins) TestPort (cond (list_any (is_dark board) net.pins) Dark (cond (not driven) NoDriver (cond (not enabled) Blocked NoReceiver))))
@@ -178,4 +169,4 @@ class_is board rows net rules says =
     same r s ds es ps qs e f g = cc
 
 pub classes_are : (board : RawBoard) (rows : List (List ControlClass)) → IsBoard board → SaysSafe board rows → map (class_in rows) (map (net_facts_of board) board.nets) ≡ map (net_class_of board) board.nets
-classes_are board rows rules says = map_map (net_facts_of board) (class_in rows) board.nets ∙ map_same (λ net. class_in rows (net_facts_of board net)) (net_class_of board) (λ net. class_is board rows net rules says) board.nets
+classes_are board rows rules says = map-map (net_facts_of board) (class_in rows) board.nets ∙ map_same (λ net. class_in rows (net_facts_of board net)) (net_class_of board) (λ net. class_is board rows net rules says) board.nets

@@ -4,6 +4,9 @@ use Rattle.std.specs.Prelude.{slice_get, slice_index_or, option_map, option_and_
 use Rattle.std.specs.Option.{unwrap_or}
 use Rattle.std.specs.List.{list_any, range_with_len}
 use Rattle.std.proofs.lemmas.Option.{slice_get-map, unwrap_or-slice_get}
+use Rattle.std.proofs.lemmas.Bool.{false_from_ne_true, not_from_false}
+use Rattle.lists.proofs.ListLemmas.{list_any-map}
+use Rattle.lists.proofs.Booleans.{clash}
 use Rattle.board_defs.specs.declared.board.Net.{Net}
 use Rattle.board_defs.specs.declared.board.Ctl.{Ctl}
 use Rattle.board_defs.specs.declared.board.RawBoard.{RawBoard}
@@ -23,7 +26,6 @@ use Rattle.net_facts.specs.Facts.{pin_facts_of, net_facts_of}
 use Rattle.net_facts.specs.Cells.{item_of}
 use Rattle.net_facts.specs.Kept.{drives_there, driven_nets, is_by_other, is_contended, contends_there, shared_nets, control_class_of}
 use Rattle.net_facts.specs.inner.Shared.{with_drive, controls_from, is_several, contended_in, flags_of, shared_in}
-use Rattle.net_facts.proofs.Truth.{any_map, not_true, not_of_false, clash}
 
 abbrev other_pin : Ctl → PinFacts → Bool
 other_pin c pin = is_by_other c pin.drive
@@ -59,12 +61,12 @@ one_is d (pin ∷ pins) = by_drive pin.drive (one_is d pins)
     by_drive (Some (By e)) rest = by_same e (same_ctl e d) refl (same_ctl d e) refl rest
 
 pub differ_back : (c e : Ctl) → same_ctl e c ≡ false → same_ctl c e ≡ false
-differ_back c e h = not_true (same_ctl c e) (λ k. clash (same_ctl e c) (ap (same_ctl e) (same_equal c e k) ∙ same_refl e) h)
+differ_back c e h = false_from_ne_true (same_ctl c e) (λ k. clash (same_ctl e c) (ap (same_ctl e) (same_equal c e k) ∙ same_refl e) h)
 
 other_drives : (c e : Ctl) (pins : List PinFacts) → same_ctl e c ≡ false → list_any (by_pin c) pins ≡ true → list_any (other_pin e) pins ≡ true
 other_drives c e pins h k =
     let r : Found (by_pin c) pins = any_place (by_pin c) pins k in
-    any_at (other_pin e) pins r.place r.item r.stands (ap (is_by_other e) (by_true c r.item.drive r.passes) ∙ not_of_false (same_ctl c e) (differ_back c e h))
+    any_at (other_pin e) pins r.place r.item r.stands (ap (is_by_other e) (by_true c r.item.drive r.passes) ∙ not_from_false (same_ctl c e) (differ_back c e h))
 
 nobody_is : (c : Ctl) (pins : List PinFacts) → list_any (by_pin c) pins ≡ true → contended_in pins ≡ list_any (other_pin c) pins
 nobody_is c [] h = cc h
@@ -85,7 +87,7 @@ net_is board c net = by_drives (drives_net board c net) refl
   where
     by_drives : (t : Bool) → drives_net board c net ≡ t → (t && contended_in (map (pin_facts_of board net) net.pins)) ≡ (t && list_any (λ p. is_by_other c (drive board net p)) net.pins)
     by_drives false e = refl
-    by_drives true e = nobody_is c (map (pin_facts_of board net) net.pins) (any_map (pin_facts_of board net) (by_pin c) net.pins ∙ e) ∙ any_map (pin_facts_of board net) (other_pin c) net.pins
+    by_drives true e = nobody_is c (map (pin_facts_of board net) net.pins) (list_any-map (pin_facts_of board net) (by_pin c) net.pins ∙ e) ∙ list_any-map (pin_facts_of board net) (other_pin c) net.pins
 
 filter_both : (p q : ℕ → Bool) (xs : List ℕ) → filter p (filter q xs) ≡ filter (λ n. q n && p n) xs
 filter_both p q [] = refl

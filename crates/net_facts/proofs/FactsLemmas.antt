@@ -2,6 +2,7 @@
 use Rattle.std.proofs.Common.{◌≡◌, ℕ, Bool, true, false, ◌||◌, List, [], ◌∷◌, map, Option, Some, None, refl, ◌∙◌, ap}
 use Rattle.std.specs.Prelude.{option_map}
 use Rattle.std.specs.List.{list_any}
+use Rattle.lists.proofs.ListLemmas.{list_any-map}
 use Rattle.board_defs.specs.declared.device.Cell.{Cell}
 use Rattle.board_defs.specs.declared.device.Control.{Control}
 use Rattle.board_defs.specs.declared.board.PinAt.{PinAt}
@@ -14,7 +15,6 @@ use Rattle.net_facts.specs.declared.facts.PinFacts.{PinFacts}
 use Rattle.net_facts.specs.declared.facts.NetFacts.{NetFacts}
 use Rattle.net_facts.specs.Facts.{pin_facts_of, net_facts_of}
 use Rattle.net_facts.specs.inner.Facts.{drive_from, drive_where_in, pin_facts_in, guarded_in, pins_in, net_facts_in}
-use Rattle.net_facts.proofs.Truth.{any_map}
 use Rattle.net_facts.proofs.Answered.{map_same}
 
 drive_from_is : (board : RawBoard) (net : Net) (part : ℕ) (cell : Cell) (ctl : Option Control) → drive_from (guarded board net) net.pull part cell ctl ≡ drive_by board net part cell ctl
@@ -60,7 +60,7 @@ facts_is : (board : RawBoard) (net : Net) → net_facts_in board net ≡ net_fac
 facts_is board net =
     same _ _ _ _ _ _
     (guarded_is board net)
-    (ap (λ g. g || list_any on (pins_in board net)) (guarded_is board net) ∙ ap (λ ps. guarded board net || list_any on ps) (pins_are board net) ∙ ap (λ t. guarded board net || t) (any_map (pin_facts_of board net) on net.pins))
+    (ap (λ g. g || list_any on (pins_in board net)) (guarded_is board net) ∙ ap (λ ps. guarded board net || list_any on ps) (pins_are board net) ∙ ap (λ t. guarded board net || t) (list_any-map (pin_facts_of board net) on net.pins))
     (pins_are board net)
   where
     on : PinFacts → Bool

@@ -1,4 +1,3 @@
-pub mod Truth
 pub mod Lists
 pub mod RowLemmas
 pub mod FoundLemmas

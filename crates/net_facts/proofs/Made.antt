@@ -2,9 +2,12 @@
 use Rattle.std.proofs.Common.{◌≡◌, ℕ, zero, suc, ◌<◌, ◌≤◌, ◌==◌, Bool, true, false, not, ◌&&◌, ◌||◌, List, [], ◌∷◌, ◌++◌, map, length, Option, Some, None, refl, sym, ◌∙◌, ap, subst, arith, cond}
 use Rattle.std.specs.Prelude.{slice_get, option_map, option_and_then, filter}
 use Rattle.std.specs.List.{list_any, list_all, range_with_len}
-use Rattle.std.proofs.lemmas.List.{length-map}
+use Rattle.std.proofs.lemmas.List.{length-map, append-nil}
 use Rattle.std.proofs.lemmas.List.Elements.{filter-append}
 use Rattle.std.proofs.lemmas.Option.{slice_get-map, slice_get_within}
+use Rattle.std.proofs.lemmas.Bool.{false_from_ne_true, true_from_ne_false, eqb-true, and_from, not_from_false, not-true}
+use Rattle.lists.proofs.Booleans.{same_truth, clash, eqb_refl, and_left, and_right}
+use Rattle.lists.proofs.ListLemmas.{list_any-map, below_more}
 use Rattle.board_defs.specs.declared.device.Control.{Control}
 use Rattle.board_defs.specs.declared.board.PinAt.{PinAt}
 use Rattle.board_defs.specs.declared.board.Net.{Net}
@@ -24,8 +27,6 @@ use Rattle.net_facts.specs.Facts.{pin_facts_of, net_facts_of}
 use Rattle.net_facts.specs.Cells.{item_of, at_control}
 use Rattle.net_facts.specs.Kept.{drives_there, driven_nets}
 use Rattle.net_facts.specs.inner.Rows.{unsafe_too, ends_with, note_net, note_nets, copies, fresh, fresh_rows, block_where, block_bits, block_parts, made_rows}
-use Rattle.net_facts.proofs.Truth.{same_truth, not_true, not_false, clash, eqb_refl, eqb_same, and_left, and_right, and_intro, not_of_false, false_of_not, any_map}
-use Rattle.net_facts.proofs.Lists.{upto_end, plus_nothing}
 use Rattle.net_facts.proofs.RowLemmas.{copies_get}
 use Rattle.net_facts.proofs.Notes.{at_same, at_other, by_pin, run, pins_row, run_first, ends_other}
 
@@ -43,14 +44,14 @@ abbrev pub driven : RawBoard → Ctl → ℕ → List ℕ
 driven board c k = filter (λ n. drives_there board c (slice_get board.nets n)) (range_with_len 0 k)
 
 driven_more : (board : RawBoard) (c : Ctl) (k : ℕ) → driven board c (suc k) ≡ cond (drives_there board c (slice_get board.nets k)) (driven board c k ++ k ∷ []) (driven board c k)
-driven_more board c k = ap (filter test) (upto_end k) ∙ filter-append test (range_with_len 0 k) (k ∷ []) ∙ by_last (test k)
+driven_more board c k = ap (filter test) (below_more k) ∙ filter-append test (range_with_len 0 k) (k ∷ []) ∙ by_last (test k)
   where
     test : ℕ → Bool
     test n = drives_there board c (slice_get board.nets n)
 
     by_last : (t : Bool) → driven board c k ++ cond t (k ∷ []) [] ≡ cond t (driven board c k ++ k ∷ []) (driven board c k)
     by_last true = refl
-    by_last false = plus_nothing (driven board c k)
+    by_last false = append-nil (driven board c k)
 
 ends_driven : (board : RawBoard) (c : Ctl) (k n : ℕ) → k ≤ n → ends_with (driven board c k) n ≡ false
 ends_driven board c zero n h = refl
@@ -62,7 +63,7 @@ ends_driven board c (suc k) n h = ap (λ xs. ends_with xs n) (driven_more board 
 
 one_map : {X Y : Type 0} (f : X → Y) (test : Y → Bool) (xs : List X) → at_most_one test (map f xs) ≡ at_most_one (λ x. test (f x)) xs
 one_map f test [] = refl
-one_map f test (x ∷ xs) = ap (λ t. cond (test (f x)) (not t) (at_most_one test (map f xs))) (any_map f test xs) ∙ ap (λ t. cond (test (f x)) (not (list_any (λ y. test (f y)) xs)) t) (one_map f test xs)
+one_map f test (x ∷ xs) = ap (λ t. cond (test (f x)) (not t) (at_most_one test (map f xs))) (list_any-map f test xs) ∙ ap (λ t. cond (test (f x)) (not (list_any (λ y. test (f y)) xs)) t) (one_map f test xs)
 
 none_is_one : {X : Type 0} (test : X → Bool) (xs : List X) → list_any test xs ≡ false → at_most_one test xs ≡ true
 none_is_one test [] h = refl
@@ -111,7 +112,7 @@ net_row board c k (Some net) rows h =
     let closed : Bool = is_closed board net in
     pins_row k closed pins rows c ∙ ap (option_map (run k closed c pins)) h ∙
     ap Some (run_first k closed c pins (noted board c k) (ends_driven board c k k (omega arith)) ∙
-    ap (λ t. cond t (let r : ControlClass = record { nets = driven board c k ++ k ∷ []; safe = not (refused board c k) && not closed && at_most_one (by_pin c) pins; useful = false } in r) (noted board c k)) (any_map (pin_facts_of board net) (by_pin c) net.pins) ∙
+    ap (λ t. cond t (let r : ControlClass = record { nets = driven board c k ++ k ∷ []; safe = not (refused board c k) && not closed && at_most_one (by_pin c) pins; useful = false } in r) (noted board c k)) (list_any-map (pin_facts_of board net) (by_pin c) net.pins) ∙
     ap (λ t. cond (drives_net board c net) (let r : ControlClass = record { nets = driven board c k ++ k ∷ []; safe = not (refused board c k) && not closed && t; useful = false } in r) (noted board c k)) (one_map (pin_facts_of board net) (by_pin c) net.pins) ∙
     grown k (driven board c k) (drives_net board c net) closed (at_most_one (λ (p : NetPin). is_by c (drive board net p)) net.pins) (refused board c k) (none_is_one (λ (p : NetPin). is_by c (drive board net p)) net.pins))
 
@@ -209,14 +210,14 @@ hit_sided board c h = same_truth (any_below (length board.chain) (hits_part boar
     there e =
         let r : FoundBelow (length board.chain) (hits_part board c) = below_place (length board.chain) (hits_part board c) e in
         let s : FoundBelow (port_bits board r.number) (hits board c r.number) = below_place (port_bits board r.number) (hits board c r.number) r.passes in
-        let same : r.number ≡ c.part = eqb_same r.number c.part (and_left (r.number == c.part) (test r.number s.number) s.passes) in
+        let same : r.number ≡ c.part = eqb-true r.number c.part (and_left (r.number == c.part) (test r.number s.number) s.passes) in
         let P : ℕ → Type 0 = λ n. any_below (port_bits board n) (test n) ≡ true in
         subst P same (below_at (port_bits board r.number) (test r.number) s.number s.below (and_right (r.number == c.part) (test r.number s.number) s.passes))
 
     back : enables_one_sided board c ≡ true → any_below (length board.chain) (hits_part board c) ≡ true
     back e =
         let s : FoundBelow (port_bits board c.part) (test c.part) = below_place (port_bits board c.part) (test c.part) e in
-        below_at (length board.chain) (hits_part board c) c.part h (below_at (port_bits board c.part) (hits board c c.part) s.number s.below (and_intro (c.part == c.part) (test c.part s.number) (eqb_refl c.part) s.passes))
+        below_at (length board.chain) (hits_part board c) c.part h (below_at (port_bits board c.part) (hits board c c.part) s.number s.below (and_from (c.part == c.part) (test c.part s.number) (eqb_refl c.part) s.passes))
 
 cell_part : (board : RawBoard) (c : Ctl) → IsCell board c → c.part < length board.chain
 cell_part board c h = by_part (slice_get board.chain c.part) refl h
@@ -240,17 +241,17 @@ safe_alone_is board c = ap (λ t. not (enables_one_sided board c) && not t) all 
       where
         some : (k : ℕ) (net : Option Net) → slice_get board.nets k ≡ net → refuses board c net ≡ true → list_all (admits board c) board.nets ≡ false
         some k None e g = cc g
-        some k (Some net) e g = not_true (list_all (admits board c) board.nets) (λ a. clash (admits board c net) (all_at (admits board c) board.nets a k net e) (false_of_not (admits board c net) g))
+        some k (Some net) e g = false_from_ne_true (list_all (admits board c) board.nets) (λ a. clash (admits board c net) (all_at (admits board c) board.nets a k net e) (not-true (admits board c net) g))
 
         there : refused board c (length board.nets) ≡ true → not (list_all (admits board c) board.nets) ≡ true
-        there e = let r : FoundBelow (length board.nets) (λ m. refuses board c (slice_get board.nets m)) = below_place (length board.nets) (λ m. refuses board c (slice_get board.nets m)) e in not_of_false (list_all (admits board c) board.nets) (some r.number (slice_get board.nets r.number) refl r.passes)
+        there e = let r : FoundBelow (length board.nets) (λ m. refuses board c (slice_get board.nets m)) = below_place (length board.nets) (λ m. refuses board c (slice_get board.nets m)) e in not_from_false (list_all (admits board c) board.nets) (some r.number (slice_get board.nets r.number) refl r.passes)
 
         back : not (list_all (admits board c) board.nets) ≡ true → refused board c (length board.nets) ≡ true
         back e = by_refused (refused board c (length board.nets)) refl
           where
             by_refused : (t : Bool) → refused board c (length board.nets) ≡ t → t ≡ true
             by_refused true k = refl
-            by_refused false k = absurd (clash (list_all (admits board c) board.nets) (all_from (admits board c) board.nets (λ i net g. not_false (admits board c net) (λ w. clash (refused board c (length board.nets)) (below_at (length board.nets) (λ m. refuses board c (slice_get board.nets m)) i (slice_get_within board.nets i net g) (ap (refuses board c) g ∙ not_of_false (admits board c net) w)) k))) (false_of_not (list_all (admits board c) board.nets) e))
+            by_refused false k = absurd (clash (list_all (admits board c) board.nets) (all_from (admits board c) board.nets (λ i net g. true_from_ne_false (admits board c net) (λ w. clash (refused board c (length board.nets)) (below_at (length board.nets) (λ m. refuses board c (slice_get board.nets m)) i (slice_get_within board.nets i net g) (ap (refuses board c) g ∙ not_from_false (admits board c net) w)) k))) (not-true (list_all (admits board c) board.nets) e))
 
 -- what the table holds of a control before the useful ones are marked
 abbrev pub row_before : RawBoard → Ctl → ControlClass

@@ -2,6 +2,10 @@
 use Rattle.std.proofs.Common.{◌≡◌, Bool, true, false, ◌||◌, List, [], ◌∷◌, map, length, Option, Some, None, refl, sym, ◌∙◌, ap}
 use Rattle.std.specs.Prelude.{option_map, filter, fold}
 use Rattle.std.specs.List.{list_any}
+use Rattle.std.proofs.lemmas.Bool.{and_from}
+use Rattle.std.proofs.Math.Bool.{or-false}
+use Rattle.lists.proofs.Booleans.{same_truth, and_left, and_right}
+use Rattle.lists.proofs.ListLemmas.{list_any-map}
 use Rattle.board_defs.specs.declared.board.Net.{Net}
 use Rattle.board_defs.specs.declared.board.Ctl.{Ctl}
 use Rattle.board_defs.specs.declared.board.RawBoard.{RawBoard}
@@ -26,7 +30,6 @@ use Rattle.net_facts.specs.Facts.{net_facts_of}
 use Rattle.net_facts.specs.declared.facts.NetFacts.{NetFacts}
 use Rattle.net_facts.specs.inner.Rows.{useful_too, mark_drive, mark_nets, made_rows}
 use Rattle.net_facts.specs.inner.Answers.{serves, useful_in, is_free, class_in}
-use Rattle.net_facts.proofs.Truth.{same_truth, any_map, and_left, and_right, and_intro}
 use Rattle.net_facts.proofs.Notes.{at_same, at_other}
 use Rattle.net_facts.proofs.Made.{made_row, row_before}
 use Rattle.net_facts.proofs.Answered.{SaysSafe, classes_are}
@@ -91,11 +94,11 @@ useful_is board c = same_truth (list_any some board.nets) (is_useful board c) th
         let d : (x : Drive) × Has (tested_drivers board r.item) x × (by_drive c x ≡ true) = any_has (by_drive c) (tested_drivers board r.item) r.passes in
         let t : Tested board r.item d.0 = tested_has board r.item d.0 d.1 in
         let by : Some d.0 ≡ Some (By c) = by_true c (Some d.0) d.2 in
-        and_intro (is_safe_alone board c) (list_any (tests_by board c) board.nets)
+        and_from (is_safe_alone board c) (list_any (tests_by board c) board.nets)
         (sym (ap (can_enable board) by) ∙ tested_can_drive board r.item d.0 t)
         (any_at (tests_by board c) board.nets r.place r.item r.stands
         (below_at (length r.item.pins) (tests_by_at board c r.item) t.place (tested_below board r.item t.place t.tested)
-        (and_intro (is_by c (place_drive board r.item t.place)) (is_tested_driver board r.item t.place) (ap (is_by c) t.drives ∙ d.2) t.tested)))
+        (and_from (is_by c (place_drive board r.item t.place)) (is_tested_driver board r.item t.place) (ap (is_by c) t.drives ∙ d.2) t.tested)))
 
     back : is_useful board c ≡ true → list_any some board.nets ≡ true
     back h =
@@ -111,11 +114,7 @@ marked_row board rows c h =
     marks_row (map (net_class_of board) board.nets) rows c ∙
     ap (option_map (mark_if (list_any (by_net c) (map (net_class_of board) board.nets)))) h ∙
     ap (λ b. Some (let r : ControlClass = record { nets = driven_nets board c; safe = is_safe_alone board c; useful = b } in r))
-    (or_nothing (list_any (by_net c) (map (net_class_of board) board.nets)) ∙ any_map (net_class_of board) (by_net c) board.nets ∙ useful_is board c)
-  where
-    or_nothing : (b : Bool) → (b || false) ≡ b
-    or_nothing true = refl
-    or_nothing false = refl
+    (or-false (list_any (by_net c) (map (net_class_of board) board.nets)) ∙ list_any-map (net_class_of board) (by_net c) board.nets ∙ useful_is board c)
 
 -- what classify makes
 pub record Made (board : RawBoard) (nets : List NetClass) (controls : List (List ControlClass)) (useful : List Ctl) : Type 0 where

@@ -2,6 +2,9 @@
 use Rattle.std.proofs.Common.{◌≡◌, ◌≢◌, ℕ, zero, suc, ◌-◌, ◌<◌, ◌==◌, Bool, true, false, not, ◌&&◌, ◌||◌, List, [], ◌∷◌, ◌++◌, length, Option, Some, None, refl, sym, ◌∙◌, ap, subst, arith, length-append, cond}
 use Rattle.std.specs.Prelude.{slice_get, option_map, option_and_then}
 use Rattle.std.specs.List.{list_any}
+use Rattle.std.proofs.lemmas.Bool.{false_from_ne_true, eqb-true, and_from}
+use Rattle.std.proofs.Math.Bool.{and-true, and-false}
+use Rattle.lists.proofs.Booleans.{clash, eqb_refl}
 use Rattle.board_defs.specs.declared.board.Ctl.{Ctl}
 use Rattle.board_defs.specs.declared.board.Drive.{Drive}
 use Rattle.board_defs.specs.declared.board.Drive.TheVariants.{AlwaysOn, OneSided, By}
@@ -12,7 +15,6 @@ use Rattle.net_facts.specs.declared.facts.PinFacts.{PinFacts}
 use Rattle.net_facts.specs.declared.classes.ControlClass.{ControlClass}
 use Rattle.net_facts.specs.Cells.{item_of, update_at, at_control}
 use Rattle.net_facts.specs.inner.Rows.{added, ends_with, is_number, note_drive, note_pins}
-use Rattle.net_facts.proofs.Truth.{not_true, clash, eqb_refl, eqb_same, and_intro}
 
 -- reading at the changed place, and at another
 pub get_update_same : {X : Type 0} (i : ℕ) (f : X → X) (xs : List X) → slice_get (update_at i f xs) i ≡ option_map f (slice_get xs i)
@@ -44,22 +46,14 @@ at_other {X} c d f rows h = by_part (c.part == d.part) refl
     by_part : (t : Bool) → (c.part == d.part) ≡ t → item_of (at_control c f rows) d ≡ item_of rows d
     by_part false e = ap (option_and_then (λ r. slice_get r d.cell)) (get_update_other c.part d.part (update_at c.cell f) rows (λ k. clash (c.part == d.part) (ap (λ n. c.part == n) (sym k) ∙ eqb_refl c.part) e))
     by_part true e =
-        let same : c.part ≡ d.part = eqb_same c.part d.part e in
-        let ne : c.cell ≢ d.cell = λ k. clash (same_ctl c d) (and_intro (c.part == d.part) (c.cell == d.cell) e (ap (λ n. c.cell == n) (sym k) ∙ eqb_refl c.cell)) h in
+        let same : c.part ≡ d.part = eqb-true c.part d.part e in
+        let ne : c.cell ≢ d.cell = λ k. clash (same_ctl c d) (and_from (c.part == d.part) (c.cell == d.cell) e (ap (λ n. c.cell == n) (sym k) ∙ eqb_refl c.cell)) h in
         let P : ℕ → Type 0 = λ n. option_and_then (λ r. slice_get r d.cell) (slice_get (update_at c.part (update_at c.cell f) rows) n) ≡ option_and_then (λ r. slice_get r d.cell) (slice_get rows n) in
         subst P same (ap (option_and_then (λ r. slice_get r d.cell)) (get_update_same c.part (update_at c.cell f) rows) ∙ get_in_part c.cell d.cell f (slice_get rows c.part) ne)
 
 pub map_same : (o : Option ControlClass) → option_map (λ r. r) o ≡ o
 map_same None = refl
 map_same (Some r) = refl
-
-and_nothing : (b : Bool) → (b && true) ≡ b
-and_nothing true = refl
-and_nothing false = refl
-
-and_all : (b : Bool) → (b && false) ≡ false
-and_all true = refl
-and_all false = refl
 
 get_appended : (xs : List ℕ) (n : ℕ) → slice_get (xs ++ n ∷ []) (length xs) ≡ Some n
 get_appended [] n = refl
@@ -72,7 +66,7 @@ pub ends_appended : (xs : List ℕ) (n : ℕ) → ends_with (xs ++ n ∷ []) n �
 ends_appended xs n = ap (λ k. is_number n (slice_get (xs ++ n ∷ []) k)) (appended_length xs n) ∙ ap (is_number n) (get_appended xs n) ∙ eqb_refl n
 
 pub ends_other : (xs : List ℕ) (m n : ℕ) → m < n → ends_with (xs ++ m ∷ []) n ≡ false
-ends_other xs m n h = ap (λ k. is_number n (slice_get (xs ++ m ∷ []) k)) (appended_length xs m) ∙ ap (is_number n) (get_appended xs m) ∙ not_true (m == n) (λ e. let same : m ≡ n = eqb_same m n e in omega arith)
+ends_other xs m n h = ap (λ k. is_number n (slice_get (xs ++ m ∷ []) k)) (appended_length xs m) ∙ ap (is_number n) (get_appended xs m) ∙ false_from_ne_true (m == n) (λ e. let same : m ≡ n = eqb-true m n e in omega arith)
 
 -- what the pins of a net make of one row
 abbrev pub run : ℕ → Bool → Ctl → List PinFacts → ControlClass → ControlClass
@@ -113,7 +107,7 @@ row_with row nets safe = record { nets = nets; safe = safe; useful = row.useful 
 
 -- the net stands in the row already
 pub run_again : (n : ℕ) (closed : Bool) (c : Ctl) (pins : List PinFacts) (row : ControlClass) → ends_with row.nets n ≡ true → run n closed c pins row ≡ row_with row row.nets (row.safe && not (list_any (by_pin c) pins))
-run_again n closed c [] row h = ap (λ b. row_with row row.nets b) (sym (and_nothing row.safe))
+run_again n closed c [] row h = ap (λ b. row_with row row.nets b) (sym (and-true row.safe))
 run_again n closed c (pin ∷ pins) row h = by_head (is_by c pin.drive) refl (run_again n closed c pins row h) (run_again n closed c pins (row_with row row.nets false) h)
   where
     by_head : (t : Bool) → is_by c pin.drive ≡ t → run n closed c pins row ≡ row_with row row.nets (row.safe && not (list_any (by_pin c) pins)) → run n closed c pins (row_with row row.nets false) ≡ row_with row row.nets false →
@@ -123,7 +117,7 @@ run_again n closed c (pin ∷ pins) row h = by_head (is_by c pin.drive) refl (ru
         ap (λ t. run n closed c pins (cond t (added n closed row) row)) e ∙
         ap (λ t. run n closed c pins (cond t (row_with row row.nets false) (row_with row (row.nets ++ n ∷ []) (row.safe && not closed)))) h ∙
         twice ∙
-        ap (λ t. row_with row row.nets t) (sym (and_all row.safe)) ∙
+        ap (λ t. row_with row row.nets t) (sym (and-false row.safe)) ∙
         ap (λ t. row_with row row.nets (row.safe && not (t || list_any (by_pin c) pins))) (sym e)
 
 -- the row after the pins of a net that it does not hold yet

@@ -4,6 +4,8 @@ use Rattle.std.specs.Prelude.{slice_get, option_map, option_and_then, fold}
 use Rattle.std.specs.List.{list_any}
 use Rattle.std.proofs.lemmas.List.{get_or-replicate, length-replicate}
 use Rattle.std.proofs.lemmas.Option.{slice_get-get_or, slice_get-map}
+use Rattle.std.proofs.Math.Bool.{or-false}
+use Rattle.lists.proofs.ListLemmas.{list_any-map, list_any_same}
 use Rattle.board_defs.specs.declared.board.PinAt.{PinAt}
 use Rattle.board_defs.specs.declared.board.Part.{Part}
 use Rattle.board_defs.specs.declared.board.Ctl.{Ctl}
@@ -18,9 +20,7 @@ use Rattle.net_facts.specs.Cells.{put, item_of, at_control, holds_there}
 use Rattle.net_facts.specs.Facts.{pin_facts_of, net_facts_of}
 use Rattle.net_facts.specs.inner.Switching.{mark_at, mark_pins, mark_pulled, blank_bits, pulled_bits}
 use Rattle.net_facts.specs.inner.Tables.{SaysPulled}
-use Rattle.net_facts.proofs.Truth.{any_map}
 use Rattle.net_facts.proofs.Notes.{at_same, at_other}
-use Rattle.net_facts.proofs.Answered.{any_same}
 
 mark_none : (o : Option Bool) → o ≡ option_map (λ b. false || b) o
 mark_none None = refl
@@ -88,14 +88,10 @@ blank_at board at h = ap (option_and_then (λ r. slice_get r at.bit)) (slice_get
     by_part None g = absurd (omega arith)
     by_part (Some part) g = replicate_get (bit_count (described part.kind)) at.bit g
 
-or_nothing : (b : Bool) → (b || false) ≡ b
-or_nothing true = refl
-or_nothing false = refl
-
 pub says_pulled : (board : RawBoard) (value : Bool) → SaysPulled board (pulled_bits board.chain (map (net_facts_of board) board.nets) value) value
 says_pulled board value at h =
     let c : Ctl = record { part = at.part; cell = at.bit } in
     ap holds_there (nets_row value (map (net_facts_of board) board.nets) (blank_bits board.chain) c ∙ ap (option_map (λ b. list_any (pulls value c) (map (net_facts_of board) board.nets) || b)) (blank_at board at h)) ∙
-    or_nothing (list_any (pulls value c) (map (net_facts_of board) board.nets)) ∙
-    any_map (net_facts_of board) (pulls value c) board.nets ∙
-    any_same (λ net. pulls value c (net_facts_of board net)) (is_switched board at value) (λ net. ap (λ t. lets_switch board net value && t) (any_map (pin_facts_of board net) (stands_at c) net.pins)) board.nets
+    or-false (list_any (pulls value c) (map (net_facts_of board) board.nets)) ∙
+    list_any-map (net_facts_of board) (pulls value c) board.nets ∙
+    list_any_same (λ net. pulls value c (net_facts_of board net)) (is_switched board at value) (λ net. ap (λ t. lets_switch board net value && t) (list_any-map (pin_facts_of board net) (stands_at c) net.pins)) board.nets

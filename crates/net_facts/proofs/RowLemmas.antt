@@ -6,10 +6,10 @@ use Rattle.std.specs.declared.alloc.Global.{Global}
 use Rattle.net_facts.specs.declared.classes.ControlClass.{ControlClass}
 use Rattle.std.proofs.lemmas.List.{map_more}
 use Rattle.std.proofs.lemmas.Option.{slice_get-get_or}
+use Rattle.std.proofs.lemmas.Bool.{eqb-true}
 use Rattle.net_facts.specs.declared.facts.NetFacts.{NetFacts}
 use Rattle.net_facts.specs.Cells.{table, update_at}
 use Rattle.net_facts.specs.inner.Rows.{copies, note_pins, note_net, note_nets}
-use Rattle.net_facts.proofs.Truth.{eqb_same}
 
 pub update_past : {X : Type 0} (i : ℕ) (f : X → X) (xs : List X) → length xs ≤ i → update_at i f xs ≡ xs
 update_past i f [] h = refl
@@ -64,7 +64,7 @@ copies_get x zero k h = absurd (omega arith)
 copies_get x (suc n) k h = by_last (k == n) refl (copies_get x n k)
   where
     by_last : (t : Bool) → (k == n) ≡ t → (k < n → slice_get (copies x n) k ≡ Some x) → slice_get (copies x n ++ x ∷ []) k ≡ Some x
-    by_last true e rest = get_end (copies x n) x k (eqb_same k n e ∙ sym (copies_length x n))
+    by_last true e rest = get_end (copies x n) x k (eqb-true k n e ∙ sym (copies_length x n))
     by_last false e rest = let less : k < n = grind arith in get_front (copies x n) x k (let l = copies_length x n in omega arith) ∙ rest less
 
 -- a value written at one place

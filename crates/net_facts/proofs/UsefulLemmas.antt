@@ -2,7 +2,7 @@
 use Rattle.std.proofs.Common.{◌≡◌, ℕ, ◌+◌, ◌<◌, ◌≤◌, Bool, List, [], ◌∷◌, ◌++◌, map, length, take, get_or, Option, Some, refl, sym, ◌∙◌, ap, subst, arith, inl, inr, cond}
 use Rattle.std.specs.Prelude.{slice_get, slice_index_or, filter, option_and_then, All}
 use Rattle.std.specs.List.{flat_map, enumerate_from, range_with_len}
-use Rattle.std.proofs.lemmas.List.{take_more, take_all, length-take-le}
+use Rattle.std.proofs.lemmas.List.{take_more, take_all, length-take-le, append-nil}
 use Rattle.std.proofs.lemmas.List.Concat.{flat_map-append}
 use Rattle.std.proofs.lemmas.List.Elements.{filter-append}
 use Rattle.std.proofs.lemmas.List.FromFn.{filter_of_map_range_with_len_more}
@@ -14,7 +14,6 @@ use Rattle.board_defs.specs.declared.board.RawBoard.{RawBoard}
 use Rattle.board_defs.specs.Pins.{described, cell_count, IsCell}
 use Rattle.board_defs.specs.Decided.{is_useful}
 use Rattle.board_defs.specs.Passes.{all_cells, cells_of, useful_controls}
-use Rattle.net_facts.proofs.Lists.{plus_nothing}
 use Rattle.std.proofs.lemmas.Option.{slice_get-get_or}
 use Rattle.board_defs.proofs.Members.{Has, has_at, filter_has, flat_map_has, enumerate_has, map_has, range_has}
 
@@ -41,7 +40,7 @@ cells_more p chain i part h e =
     let l : 0 + length (take i chain) ≡ i = omega (arith, n) in
     ap (λ xs. filter p (flat_map f (enumerate_from 0 xs))) (take_more chain i part h ∙ ap (λ x. take i chain ++ x ∷ []) (sym e)) ∙
     ap (λ xs. filter p (flat_map f xs)) (enumerate_end 0 (take i chain) part ∙ ap (λ k. enumerate_from 0 (take i chain) ++ (k, part) ∷ []) l) ∙
-    ap (filter p) (flat_map-append f (enumerate_from 0 (take i chain)) ((i, part) ∷ []) ∙ ap (λ ys. cells_upto chain i ++ ys) (plus_nothing (cells_of i part.kind))) ∙
+    ap (filter p) (flat_map-append f (enumerate_from 0 (take i chain)) ((i, part) ∷ []) ∙ ap (λ ys. cells_upto chain i ++ ys) (append-nil (cells_of i part.kind))) ∙
     filter-append p (cells_upto chain i) (cells_of i part.kind)
 
 joined : (xs ys zs : List Ctl) → (xs ++ ys) ++ zs ≡ xs ++ (ys ++ zs)

@@ -9,13 +9,10 @@ use Rattle.board_defs.specs.declared.board.PartKind.TheVariants.{Described, Bypa
 use Rattle.board_defs.specs.Pins.{instruction_length}
 use Rattle.tap_defs.specs.chain.Scan.{ScanBit, tdi_bits, tdo_bits, mask_bits}
 use Rattle.tap_defs.specs.chain.Codes.{sent, code_bits, instructs}
+use Rattle.tap_defs.proofs.chain.RowLemmas.{tdi_bits-code_bits}
 use Rattle.plan_tables.specs.declared.instructions.Instruction.{Instruction}
 use Rattle.plan_tables.specs.declared.instructions.Instruction.TheVariants.{Preload, Extest}
 use Rattle.plan_tables.specs.inner.Codes.{code_for, IsCoded, AreCoded, captured_bits, compared_bits}
-
-sent_tdi : (code : List Bool) → tdi_bits (map sent code) ≡ code
-sent_tdi [] = refl
-sent_tdi (a ∷ code) = ap (λ t. a ∷ t) (sent_tdi code)
 
 sent_tdo : (code : List Bool) → tdo_bits (map sent code) ≡ replicate (length code) false
 sent_tdo [] = refl
@@ -24,11 +21,6 @@ sent_tdo (a ∷ code) = ap (λ t. false ∷ t) (sent_tdo code)
 sent_mask : (code : List Bool) → mask_bits (map sent code) ≡ replicate (length code) false
 sent_mask [] = refl
 sent_mask (a ∷ code) = ap (λ t. false ∷ t) (sent_mask code)
-
-code_tdi : (code : List Bool) → tdi_bits (code_bits code) ≡ code
-code_tdi [] = refl
-code_tdi (a ∷ []) = refl
-code_tdi (a ∷ b ∷ code) = ap (λ t. a ∷ b ∷ t) (sent_tdi code)
 
 code_tdo : (code : List Bool) (n : ℕ) → length code ≡ n → 2 ≤ n → tdo_bits (code_bits code) ≡ captured_bits n
 code_tdo [] n e long = absurd (omega (arith, e, long))
@@ -74,7 +66,7 @@ module _ (instruction : Instruction) (chain : List Part) (coded : AreCoded instr
   step_tdi =
       ap (λ (l : List Part). tdi_bits (bits_of instruction l)) (part_before chain i d some within)
       ∙ map-append (λ b. b.tdi) (bits_of instruction (drop i chain)) (code_bits (code_for instruction part.kind))
-      ∙ ap (λ t. tdi_bits (bits_of instruction (drop i chain)) ++ t) (code_tdi (code_for instruction part.kind))
+      ∙ ap (λ t. tdi_bits (bits_of instruction (drop i chain)) ++ t) (tdi_bits-code_bits (code_for instruction part.kind))
 
   pub step_tdo : tdo_bits (bits_of instruction (drop (i - 1) chain)) ≡ tdo_bits (bits_of instruction (drop i chain)) ++ captured_bits (instruction_length (get_or chain (i - 1) d).kind)
   step_tdo =

@@ -12,16 +12,13 @@ use Rattle.board_defs.specs.DeviceRules.{is_control_of, is_driving}
 use Rattle.board_defs.specs.Pins.{device_at, cell_count, is_pinned}
 use Rattle.tap_defs.specs.board.NetBits.{Place, place_of}
 use Rattle.tap_defs.specs.board.Quiet.{controls_driver}
-use Rattle.tap_defs.specs.board.TestRows.{quiet_row, driving_cell, data_bit, data_pin, data_place, data_observed, only_if, observing_driver, steady_bit, row_bit}
+use Rattle.tap_defs.specs.board.TestRows.{quiet_row, driving_cell, data_bit, data_pin, data_place, data_observed, observing_driver, steady_bit, row_bit}
 use Rattle.tap_defs.proofs.board.ReadingLemmas.{any_is}
 use Rattle.tap_defs.proofs.board.QuietLemmas.{control_is}
+use Rattle.tap_defs.proofs.board.EntryLemmas.{only_if-None}
 use Rattle.plan_tables.specs.Plans.{controls_in, controls_some}
 use Rattle.plan_tables.specs.inner.Laid.{steady}
 use Rattle.plan_tables.proofs.PinLemmas.{wired_at}
-
-no_bit : (t : Bool) → only_if t None ≡ None
-no_bit true = refl
-no_bit false = refl
 
 -- no cell carries a net's bit in the quiet row
 quiet_data : (board : RawBoard) (part : ℕ) (device : RawDevice) (cell : ℕ) → data_bit board quiet_row part device cell ≡ None
@@ -29,7 +26,7 @@ quiet_data board part device cell = by_cell (driving_cell device cell)
   where
     by_driver : (p : Place) (o : Option ℕ) → data_observed None p.place o ≡ None
     by_driver p None = refl
-    by_driver p (Some driver) = no_bit (driver == p.place)
+    by_driver p (Some driver) = only_if-None (driver == p.place)
 
     by_place : (o : Option Place) → data_place board quiet_row o ≡ None
     by_place None = refl

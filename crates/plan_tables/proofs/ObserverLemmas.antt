@@ -1,8 +1,8 @@
 -- The drivers by which a pass observes nets are those that it enables among the observers.
-use Rattle.std.proofs.Common.{◌≡◌, ℕ, ◌+◌, ◌<◌, ◌==◌, Bool, true, false, cond, ◌&&◌, List, [], length, map, get_or, Option, Some, None, refl, sym, ap, ◌∙◌, subst, arith, ◌⊎◌, inl, inr}
+use Rattle.std.proofs.Common.{◌≡◌, ℕ, ◌+◌, ◌<◌, Bool, true, false, cond, List, [], length, map, get_or, Option, Some, None, refl, sym, ap, ◌∙◌, subst, arith, ◌⊎◌, inl, inr}
 use Rattle.std.specs.Prelude.{slice_get, option_map, option_and_then, filter, find, All}
 use Rattle.std.proofs.lemmas.Option.{slice_get-get_or, slice_get_within}
-use Rattle.std.proofs.lemmas.Bool.{and_parts, cases_eq, eq-eqb, eqb-true, both_ways}
+use Rattle.std.proofs.lemmas.Bool.{cases_eq, both_ways}
 use Rattle.board_defs.specs.declared.device.Cell.{Cell}
 use Rattle.board_defs.specs.declared.device.Control.{Control}
 use Rattle.board_defs.specs.declared.device.RawDevice.{RawDevice}
@@ -17,6 +17,7 @@ use Rattle.board_defs.specs.Pins.{device_at, entry_at, guarded, cell_count, data
 use Rattle.board_defs.specs.Settings.{Enabling, IsSafe, holds, same_ctl, enables, enables_where, enables_entry}
 use Rattle.board_defs.proofs.Members.{Has, has_at, has_place, has_map, map_has, has_filter, filter_has, find_has, find_none}
 use Rattle.board_defs.proofs.Places.{any_place, any_at}
+use Rattle.board_defs.proofs.ControlOrder.{same_refl, same_equal}
 use Rattle.plan_tables.specs.declared.nets.NetDriver.{NetDriver}
 use Rattle.plan_tables.specs.declared.observers.Observer.{Observer}
 use Rattle.plan_tables.specs.declared.tables.HeldCell.{HeldCell}
@@ -239,20 +240,11 @@ observer_stands board rules x h =
     )
 
 -- the controls of a pass, by their positions
-pub same_self : (c : Ctl) → same_ctl c c ≡ true
-same_self c = ap (λ (b : Bool). b && (c.cell == c.cell)) (eq-eqb c.part c.part refl) ∙ eq-eqb c.cell c.cell refl
-
-pub same_is : (a b : Ctl) → same_ctl a b ≡ true → a ≡ b
-same_is a b e =
-    let p = and_parts (a.part == b.part) (a.cell == b.cell) e in
-    ap (λ (m : ℕ). let c : Ctl = record { part = m; cell = a.cell } in c) (eqb-true a.part b.part p.0)
-    ∙ ap (λ (m : ℕ). let c : Ctl = record { part = b.part; cell = m } in c) (eqb-true a.cell b.cell p.1)
-
 pub holds_has : (pass : List Ctl) (c : Ctl) → holds pass c ≡ true → Has pass c
-holds_has pass c h = let f = any_place (same_ctl c) pass h in has_at pass f.place c (f.stands ∙ ap (λ (x : Ctl). Some x) (sym (same_is c f.item f.passes)))
+holds_has pass c h = let f = any_place (same_ctl c) pass h in has_at pass f.place c (f.stands ∙ ap (λ (x : Ctl). Some x) (sym (same_equal c f.item f.passes)))
 
 pub has_holds : (pass : List Ctl) (c : Ctl) → Has pass c → holds pass c ≡ true
-has_holds pass c h = let p = has_place pass c h in any_at (same_ctl c) pass p.0 c p.1 (same_self c)
+has_holds pass c h = let p = has_place pass c h in any_at (same_ctl c) pass p.0 c p.1 (same_refl c)
 
 -- two controls at one position are one
 position_once : (board : RawBoard) (c e : Ctl) → c.cell < cell_count (device_at board c.part) → e.cell < cell_count (device_at board e.part) → control_position board e ≡ control_position board c → e ≡ c
@@ -260,11 +252,11 @@ position_once board c e below_c below_e same =
     let g : ℕ → RawDevice → ℕ → Bool = λ part device cell. same_ctl (record { part = part; cell = cell }) c in
     let tc = cell_there board c.part c.cell below_c in
     let te = cell_there board e.part e.cell below_e in
-    same_is e c
+    same_equal e c
     (sym (laid_at g board e.part te.device e.cell te.is_device te.below).1
     ∙ ap (λ (n : ℕ). get_or (laid g board) n false) same
     ∙ (laid_at g board c.part tc.device c.cell tc.is_device tc.below).1
-    ∙ same_self c)
+    ∙ same_refl c)
 
 module _ (board : RawBoard) (rules : IsBoard board) (quiet : List Bool) (pass : List Ctl) (safe : IsSafe board (holds pass)) (there : (c : Ctl) → holds pass c ≡ true → c.cell < cell_count (device_at board c.part)) where
   abbrev held : List HeldCell

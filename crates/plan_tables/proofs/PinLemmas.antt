@@ -3,8 +3,6 @@ use Rattle.std.proofs.Common.{◌≡◌, ℕ, ◌==◌, Bool, true, ◌&&◌, Op
 use Rattle.std.specs.Prelude.{slice_get, option_and_then}
 use Rattle.std.proofs.lemmas.Bool.{and_parts, eq-eqb, eqb-true}
 use Rattle.board_defs.specs.declared.device.Cell.{Cell}
-use Rattle.board_defs.specs.declared.device.Role.{Role}
-use Rattle.board_defs.specs.declared.device.Role.TheVariants.{Input, Output2, Output3, Control as ControlRole, ControlR, Internal, Clock as ClockRole, Bidir, ObserveOnly}
 use Rattle.board_defs.specs.declared.device.RawDevice.{RawDevice}
 use Rattle.board_defs.specs.declared.board.Part.{Part}
 use Rattle.board_defs.specs.declared.board.PinAt.{PinAt}
@@ -14,9 +12,10 @@ use Rattle.board_defs.specs.declared.board.RawBoard.{RawBoard}
 use Rattle.board_defs.specs.BoardRules.{IsBoard}
 use Rattle.board_defs.specs.DeviceRules.{is_on, is_driving, is_reading, is_receiving, drives_bit, driving_entry, reading_entry}
 use Rattle.board_defs.specs.Pins.{described, device_at, entry_at}
+use Rattle.board_defs.proofs.CellLemmas.{on_is, receiving_reads}
 use Rattle.tap_defs.specs.board.NetBits.{place_of}
 use Rattle.tap_defs.specs.board.TestRows.{driving_cell}
-use Rattle.tap_defs.proofs.board.LiveLemmas.{IsWired, found, find_some, on_is}
+use Rattle.tap_defs.proofs.board.LiveLemmas.{IsWired, found, find_some}
 use Rattle.tap_defs.proofs.board.FeedingLemmas.{PinRules, apart, placed}
 use Rattle.tap_defs.proofs.board.NetRuleLemmas.{all_read, board_rules}
 use Rattle.tap_defs.proofs.board.QuietLemmas.{device_of}
@@ -95,17 +94,6 @@ driving_entry_is device wired cell entry bit e b =
     let g = found (drives_bit bit) device.cells y.0 y.1 in
     let same : y.0 ≡ entry = wired.one_driver f.1.0 g.1.0 entry y.0 bit f.1.1 here g.1.1 g.0 in
     (y.1 ∙ ap (λ (c : Cell). Some c) same, eqb-true entry.num cell p.0)
-
-receiving_reads : (r : Role) → is_receiving r ≡ true → is_reading r ≡ true
-receiving_reads Input e = refl
-receiving_reads ClockRole e = refl
-receiving_reads Bidir e = refl
-receiving_reads Output2 e = cc e
-receiving_reads Output3 e = cc e
-receiving_reads ControlRole e = cc e
-receiving_reads ControlR e = cc e
-receiving_reads Internal e = cc e
-receiving_reads ObserveOnly e = cc e
 
 -- the entry of a receiver is the reading entry of its cell
 pub reading_entry_is : (device : RawDevice) → IsRead device → (index : ℕ) (entry : Cell) → slice_get device.cells index ≡ Some entry → is_receiving entry.role ≡ true →

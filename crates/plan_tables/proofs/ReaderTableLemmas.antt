@@ -2,6 +2,7 @@
 use Rattle.std.proofs.Common.{◌≡◌, ℕ, ◌<◌, false, List, [], length, get_or, Some, subst, arith}
 use Rattle.std.specs.Prelude.{slice_get, All}
 use Rattle.std.proofs.lemmas.Option.{slice_get-get_or, get_or_from_slice_get}
+use Rattle.lists.proofs.ListLemmas.{item_there}
 use Rattle.board_defs.specs.declared.board.Net.{Net}
 use Rattle.board_defs.specs.declared.board.RawBoard.{RawBoard}
 use Rattle.board_defs.specs.BoardRules.{IsBoard}
@@ -12,7 +13,7 @@ use Rattle.plan_tables.specs.Tables.{IsReaderCell}
 use Rattle.plan_tables.specs.inner.Laid.{steady}
 use Rattle.plan_tables.proofs.LaidLemmas.{laid_at}
 use Rattle.plan_tables.proofs.PinLemmas.{read_at}
-use Rattle.plan_tables.proofs.ListLemmas.{all_has, some_at}
+use Rattle.plan_tables.proofs.ListLemmas.{all_has}
 
 -- tables of readers
 abbrev pub ReadersOf : RawBoard → List (List ReaderCell) → Type 0
@@ -28,7 +29,7 @@ reader_within board rules net r s =
 pub readers_below : (board : RawBoard) → IsBoard board → (readers : List (List ReaderCell)) → ReadersOf board readers → length readers ≡ length board.nets →
     All (λ cells. All (λ r. r.position < data_bits board) cells) readers
 readers_below board rules readers are long k d less =
-    let net = some_at board.nets k (omega (arith, less, long)) in
+    let net = item_there board.nets k (omega (arith, less, long)) in
     let same : get_or readers k [] ≡ get_or readers k d = get_or_from_slice_get readers k (get_or readers k d) [] (slice_get-get_or readers k d less) in
     subst (λ (l : List ReaderCell). All (λ r. r.position < data_bits board) l) same
     (all_has (λ r. r.position < data_bits board) (get_or readers k []) (λ r has. reader_within board rules net.0 r ((are k net.0 net.1).0 r has)))

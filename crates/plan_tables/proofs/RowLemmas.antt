@@ -1,14 +1,8 @@
 -- The lengths of rows whose cells are set, and rows of zeros.
-use Rattle.std.proofs.Common.{◌≡◌, ℕ, zero, suc, ◌==◌, Bool, true, false, cond, List, [], ◌∷◌, length, replicate, get_or, set, refl, ◌∙◌, length-set}
-use Rattle.std.specs.List.{list_any}
+use Rattle.std.proofs.Common.{◌≡◌, ℕ, ◌==◌, Bool, true, false, cond, List, [], ◌∷◌, length, get_or, set, refl, ◌∙◌, length-set}
 use Rattle.plan_tables.specs.declared.tables.DriverCell.{DriverCell}
 use Rattle.plan_tables.specs.declared.tables.ReaderCell.{ReaderCell}
 use Rattle.plan_tables.specs.Assigned.{set_readers, set_compared}
-
--- no bit is looked for in zeros
-pub none_of_zeros : (n : ℕ) → list_any (λ bit. bit) (replicate n false) ≡ false
-none_of_zeros zero = refl
-none_of_zeros (suc n) = none_of_zeros n
 
 pub length-set_readers : (place : ℕ) (bit : Bool) (bits : List Bool) (readers : List ReaderCell) → length (set_readers place bit bits readers) ≡ length bits
 length-set_readers place bit bits [] = refl

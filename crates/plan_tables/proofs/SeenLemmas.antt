@@ -6,6 +6,7 @@ use Rattle.std.specs.List.{flat_map}
 use Rattle.std.proofs.lemmas.List.Sums.{fold-append}
 use Rattle.std.proofs.lemmas.List.{ext_get_or, length-map, length-replicate, get_or-replicate}
 use Rattle.std.proofs.lemmas.Option.{slice_get-map, get_or_from_slice_get, slice_get_within}
+use Rattle.lists.proofs.ListLemmas.{item_there}
 use Rattle.board_defs.specs.declared.board.Net.{Net}
 use Rattle.board_defs.specs.declared.board.RawBoard.{RawBoard}
 use Rattle.board_defs.specs.declared.board.Ctl.{Ctl}
@@ -21,7 +22,6 @@ use Rattle.plan_tables.specs.Assigned.{assigned}
 use Rattle.plan_tables.specs.inner.Codes.{marked, marked_on, seen_in}
 use Rattle.plan_tables.proofs.AssignLemmas.{length-assigned, has_mark, mark_has}
 use Rattle.plan_tables.proofs.PassLemmas.{fold_on}
-use Rattle.plan_tables.proofs.ListLemmas.{some_at}
 use Rattle.board_defs.specs.declared.device.Cell.{Cell}
 use Rattle.board_defs.specs.declared.board.PinAt.{PinAt}
 use Rattle.board_defs.specs.Pins.{entry_at}
@@ -107,7 +107,7 @@ module _ (board : RawBoard) (quiet : List Bool) (passes : List (List Ctl)) (stea
 
       by_part : Has steady d ⊎ Has (flat_map own_cells passes) d → InPass d
       by_part (inl k) =
-          let pass = some_at passes 0 (are.some d (has_contains steady d k)) in
+          let pass = item_there passes 0 (are.some d (has_contains steady d k)) in
           of 0 (pass.0) pass.1 (has_left steady (own_cells (pass.0)) d k)
       by_part (inr k) =
           let m = flat_map_has own_cells passes d k in
@@ -157,7 +157,7 @@ module _ (board : RawBoard) (quiet : List Bool) (passes : List (List Ctl)) (stea
   seen_are =
       ext_get_or false seen (map (is_observed board passes) board.nets)
       (length-seen_in board (length board.nets) steady table passes ∙ sym (length-map board.nets (is_observed board passes)))
-      (λ n less. each n (some_at board.nets n (omega (arith, less, length-seen_in board (length board.nets) steady table passes))))
+      (λ n less. each n (item_there board.nets n (omega (arith, less, length-seen_in board (length board.nets) steady table passes))))
     where
       each : (n : ℕ) → ((net : Net) × (slice_get board.nets n ≡ Some net)) → get_or seen n false ≡ get_or (map (is_observed board passes) board.nets) n false
       each n (net, e) =

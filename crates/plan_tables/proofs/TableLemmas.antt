@@ -4,6 +4,7 @@ use Rattle.std.specs.Prelude.{slice_get, option_and_then, option_map, filter}
 use Rattle.std.specs.List.{list_any}
 use Rattle.std.proofs.lemmas.Bool.{and_parts}
 use Rattle.std.proofs.lemmas.List.Folds.{list_any-append}
+use Rattle.std.proofs.Math.Bool.{and-false, and-true}
 use Rattle.board_defs.specs.declared.device.Control.{Control}
 use Rattle.board_defs.specs.declared.device.PortBit.{PortBit}
 use Rattle.board_defs.specs.declared.device.Cell.{Cell}
@@ -194,16 +195,8 @@ any_const {X} t f (y ∷ xs) x h same = ap (λ (b : Bool). b || list_any f xs) (
     by_test true off = refl
     by_test false off = off refl
 
-and_false : (b : Bool) → (b && false) ≡ false
-and_false true = refl
-and_false false = refl
-
-and_true : (b : Bool) → (b && true) ≡ b
-and_true true = refl
-and_true false = refl
-
 reads_pin : (board : RawBoard) (driver k : ℕ) (o : Option PinAt) → list_any (λ r. not (r.place == driver)) (readers_at board k o) ≡ (not (k == driver) && receives_where board o)
-reads_pin board driver k None = sym (and_false (not (k == driver)))
+reads_pin board driver k None = sym (and-false (not (k == driver)))
 reads_pin board driver k (Some at) = by_receives (receives_where board (Some at)) refl
   where
     entries : (device : RawDevice) (o : Option PortBit) → receives_bit device at.bit o ≡ true → list_any (reads_bit at.bit) device.cells ≡ true
@@ -223,8 +216,8 @@ reads_pin board driver k (Some at) = by_receives (receives_where board (Some at)
         over (x ∷ xs) = ap (λ (b : Bool). not (k == driver) || b) (over xs)
 
     by_receives : (t : Bool) → receives_where board (Some at) ≡ t → list_any (λ r. not (r.place == driver)) (cond t (readers_in board k at (device_at board at.part)) []) ≡ (not (k == driver) && t)
-    by_receives true e = by_device (device_at board at.part) e ∙ sym (and_true (not (k == driver)))
-    by_receives false e = sym (and_false (not (k == driver)))
+    by_receives true e = by_device (device_at board at.part) e ∙ sym (and-true (not (k == driver)))
+    by_receives false e = sym (and-false (not (k == driver)))
 
 pub beside_is : (board : RawBoard) (driver k : ℕ) (pins : List NetPin) →
     list_any (λ r. not (r.place == driver)) (gathered (λ place pin. readers_at board place pin.at) k pins) ≡ reads_beside board driver k pins

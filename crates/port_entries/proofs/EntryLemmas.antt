@@ -18,6 +18,7 @@ use Rattle.board_defs.specs.BoardRules.{IsBoard, IsPart}
 use Rattle.board_defs.specs.DeviceRules.{is_on, is_driving, is_receiving, is_linkage, may_drive, may_receive, drives_bit, HasPlace}
 use Rattle.board_defs.specs.Pins.{described, device_at, bit_at, entry_at, is_test_pin, is_dark, is_dark_bit, is_dark_in, is_dark_where, guards, receives_bit, receives_in}
 use Rattle.board_defs.proofs.Places.{all_stands}
+use Rattle.board_defs.proofs.CellLemmas.{off_past}
 use Rattle.lists.specs.Rows.{noted}
 use Rattle.lists.proofs.RowLemmas.{length-noted, noted_get}
 use Rattle.port_entries.specs.Entries.{entries_on, entries_of, entries_at, AreEntries}
@@ -39,15 +40,10 @@ all_noted_get (cell ∷ cells) rows k less =
     by_test true = refl
     by_test false = refl
 
--- no entry is on a port bit that is not there
-not_there : (bits k : ℕ) (cell : Cell) (bit : Option ℕ) → HasPlace bits cell.role bit → bits ≤ k → is_on k bit ≡ false
-not_there bits k cell None place past = refl
-not_there bits k cell (Some b) place past = let less : b < bits = place.1 in ne_eqb b k (λ e. omega (arith, less, past, e))
-
 none_there : (bits k : ℕ) (cells : List Cell) → All (λ entry. HasPlace bits entry.role entry.bit) cells → bits ≤ k → entries_on cells k ≡ []
 none_there bits k [] places past = refl
 none_there bits k (cell ∷ cells) places past =
-    ap (λ (t : Bool). cond t (cell ∷ entries_on cells k) (entries_on cells k)) (not_there bits k cell cell.bit (places 0 cell (omega arith)) past)
+    ap (λ (t : Bool). cond t (cell ∷ entries_on cells k) (entries_on cells k)) (off_past bits k cell cell.bit (places 0 cell (omega arith)) past)
     ∙ none_there bits k cells (λ i d less. places (suc i) d (omega (arith, less))) past
 
 row_is : (device : RawDevice) (k : ℕ) → All (λ entry. HasPlace (length device.bits) entry.role entry.bit) device.cells →

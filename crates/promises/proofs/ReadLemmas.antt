@@ -1,11 +1,12 @@
 -- What a store holds for the files of a command is what reading them gives.
 use Rattle.std.proofs.Common.{◌≡◌, ◌∙◌, ℕ, zero, suc, ◌<◌, ◌≤◌, Bool, true, false, List, [], ◌∷◌, ◌++◌, length, nat_lt, Option, Some, None, refl, sym, ap, subst, arith, inl, inr}
 use Rattle.std.specs.Prelude.{Contains, if◌then◌else◌}
-use Rattle.std.proofs.lemmas.Grind.{common_steps}
+use Rattle.std.proofs.lemmas.Bool.{ltb-false, ltb-true}
 use Rattle.bt_base.specs.Counts.{Rose}
 use Rattle.command_line.specs.Words.{Text, Command, Chain, Ident, Device, Cover, Svf, Walk, Make, Diagnose, Groups, Batch}
 use Rattle.btest_cli.specs.Texts.{Held, Wanted, Reading, Read, TooLong, IsRead, and_text, known_reading, read_first, reading_of, wanted_of}
 use Rattle.btest_cli.specs.Outcome.{SomeRose}
+use Rattle.btest_cli.proofs.ReadingLemmas.{not_long, is_long}
 use Rattle.promises.specs.Runs.{Holds, HoldsEach, IsTooLong, files_of}
 
 pub files_are : (command : Command) → files_of command ≡ wanted_of command
@@ -19,17 +20,6 @@ files_are (Make parts) = refl
 files_are (Diagnose workers log names) = refl
 files_are (Groups log names) = refl
 files_are (Batch workers log names) = refl
-
-not_long : (limit n : ℕ) (b : Bool) → nat_lt limit n ≡ b → n ≤ limit → b ≡ false
-not_long limit n true test short = grind (arith, common_steps)
-not_long limit n false test short = refl
-
-is_long : (limit n : ℕ) (b : Bool) → nat_lt limit n ≡ b → limit < n → b ≡ true
-is_long limit n true test long = refl
-is_long limit n false test long = grind (arith, common_steps)
-
-is_short : (limit n : ℕ) → nat_lt limit n ≡ false → n ≤ limit
-is_short limit n test = grind (arith, common_steps)
 
 -- a text that is short enough, before what others give
 then_rest : (file : Wanted) (text : Text) (rest : Option Reading) → length text ≤ file.limit → read_first file (Some text) rest ≡ and_text text rest
@@ -82,7 +72,7 @@ holds_read held (file ∷ files) texts e = by_text (held file.name) refl (readin
 
     by_length : (text : Text) → held file.name ≡ Some text → (long : Bool) → nat_lt file.limit (length text) ≡ long → (rest : Option Reading) → Later rest → (texts : List Text) → (if long then Some (TooLong file) else and_text text rest) ≡ Some (Read texts) → HoldsEach (Some held) (file ∷ files) texts
     by_length text is true test rest later texts e = absurd cc
-    by_length text is false test rest later texts e = and_rest text is (is_short file.limit (length text) test) rest later texts e
+    by_length text is false test rest later texts e = and_rest text is (ltb-false file.limit (length text) test) rest later texts e
 
     by_text : (o : Option Text) → held file.name ≡ o → (rest : Option Reading) → Later rest → (texts : List Text) → read_first file o rest ≡ Some (Read texts) → HoldsEach (Some held) (file ∷ files) texts
     by_text None is rest later texts e = absurd cc
@@ -109,9 +99,6 @@ after_first held first text files file is short long = record {
   long = long.long;
 }
 
-over : (limit n : ℕ) → nat_lt limit n ≡ true → limit < n
-over limit n test = grind (arith, common_steps)
-
 long_held : (held : Text → Option Text) (files : List Wanted) (file : Wanted) → reading_of held files ≡ Some (TooLong file) → IsTooLong (Some held) files file
 long_held held [] file e = absurd cc
 long_held held (first ∷ files) file e = by_text (held first.name) refl (reading_of held files) (long_held held files file) e
@@ -128,8 +115,8 @@ long_held held (first ∷ files) file e = by_text (held first.name) refl (readin
     by_length text is true test rest later e =
         let same : first ≡ file = cc in
         subst (IsTooLong (Some held) (first ∷ files)) same
-        (record { before = []; after = files; are = refl; texts = []; each = tt; text = text; holds = is; long = over first.limit (length text) test })
-    by_length text is false test rest later e = and_rest text is (is_short first.limit (length text) test) rest later e
+        (record { before = []; after = files; are = refl; texts = []; each = tt; text = text; holds = is; long = ltb-true first.limit (length text) test })
+    by_length text is false test rest later e = and_rest text is (ltb-false first.limit (length text) test) rest later e
 
     by_text : (o : Option Text) → held first.name ≡ o → (rest : Option Reading) → Later rest → read_first first o rest ≡ Some (TooLong file) → IsTooLong (Some held) (first ∷ files) file
     by_text None is rest later e = absurd cc

@@ -1,5 +1,5 @@
 -- What a plan's tables fill in is the scan.
-use Rattle.std.proofs.Common.{◌≡◌, ℕ, zero, suc, ◌+◌, ◌*◌, ◌^◌, ◌<◌, ◌≤◌, Bool, true, false, cond, List, [], ◌∷◌, ◌++◌, length, get_or, set, replicate, Option, Some, None, is_some, unwrap_or, refl, sym, ap, ◌∙◌, subst, arith}
+use Rattle.std.proofs.Common.{◌≡◌, ℕ, suc, ◌+◌, ◌*◌, ◌^◌, ◌<◌, ◌≤◌, Bool, true, false, cond, List, [], ◌++◌, length, get_or, set, replicate, Option, Some, is_some, unwrap_or, sym, ap, ◌∙◌, subst, arith}
 use Rattle.std.specs.Prelude.{slice_get, All}
 use Rattle.std.specs.List.{list_any}
 use Rattle.std.proofs.lemmas.Bool.{lt-ltb}
@@ -17,9 +17,10 @@ use Rattle.tap_defs.specs.declared.scan.Shape.{Shape}
 use Rattle.tap_defs.specs.chain.Scan.{ScanBit, Scan, joined, tdi_bits, tdo_bits, mask_bits, scan_bits}
 use Rattle.tap_defs.specs.board.TestRows.{TestRow, quiet_row, code_row, code_of_net, code_bit, net_code_bit, is_observed, observed_count, observing_driver, row_bit, expect_bit}
 use Rattle.tap_defs.specs.board.BoardScans.{RowScan, row_bits, row_now, scan_of_row, first_row_scan, test_scans}
-use Rattle.tap_defs.proofs.board.EntryLemmas.{row_scan_some}
+use Rattle.tap_defs.proofs.board.EntryLemmas.{row_scan_some, quiet_expects}
 use Rattle.tap_defs.proofs.board.ScanPlaceLemmas.{scans_placed}
 use Rattle.tap_defs.proofs.board.WidthLemmas.{width_is}
+use Rattle.tap_defs.proofs.chain.RowLemmas.{scan_bits-rows, one_masked}
 use Rattle.plan_tables.specs.declared.tables.FixedRows.{FixedRows}
 use Rattle.plan_tables.specs.declared.tables.HeldCell.{HeldCell}
 use Rattle.plan_tables.specs.declared.tables.DriverCell.{DriverCell}
@@ -39,30 +40,10 @@ use Rattle.plan_tables.proofs.HeldLemmas.{quiet_steady, control_cells}
 use Rattle.scan_planner.proofs.HeldLemmas.{held_laid}
 use Rattle.scan_planner.proofs.DriverLemmas.{drivers_laid}
 use Rattle.plan_tables.proofs.ReaderTableLemmas.{ReadersOf, readers_below}
-use Rattle.scan_planner.proofs.ReaderLemmas.{Pair, pairs, quiet_expect, set_compared_is, tdo_compared, mask_compared}
+use Rattle.scan_planner.proofs.ReaderLemmas.{Pair, pairs, set_compared_is, tdo_compared, mask_compared}
 use Rattle.plan_tables.proofs.PassLemmas.{fold_on}
 use Rattle.plan_tables.proofs.PlanLemmas.{width_most}
 use Rattle.plan_tables.proofs.SizeLemmas.{IsSized}
-
--- the scan that its rows make
-expected : (expect : Option Bool) → cond (is_some expect) (Some (unwrap_or expect false)) None ≡ expect
-expected None = refl
-expected (Some o) = refl
-
-scan_bits-rows : (bits : List ScanBit) → scan_bits (tdi_bits bits) (tdo_bits bits) (mask_bits bits) ≡ bits
-scan_bits-rows [] = refl
-scan_bits-rows (b ∷ bits) =
-    ap (λ (e : Option Bool). (let bit : ScanBit = record { tdi = b.tdi; expect = e } in bit) ∷ scan_bits (tdi_bits bits) (tdo_bits bits) (mask_bits bits)) (expected b.expect)
-    ∙ ap (λ t. b ∷ t) (scan_bits-rows bits)
-
-one_expected : (expect : Option Bool) → unwrap_or expect false ≡ true → is_some expect ≡ true
-one_expected None one = one
-one_expected (Some o) one = refl
-
-rows_masked : (bits : List ScanBit) (i : ℕ) → get_or (tdo_bits bits) i false ≡ true → get_or (mask_bits bits) i false ≡ true
-rows_masked [] i one = one
-rows_masked (b ∷ bits) zero one = one_expected b.expect one
-rows_masked (b ∷ bits) (suc i) one = rows_masked bits i one
 
 -- rows that are those of scan k fill it in
 pub fills : (board : RawBoard) (passes : List (List Ctl)) (width k : ℕ) (scan : Scan) (shape : Shape) (tdi tdo mask : List Bool) → slice_get (test_scans board passes width) k ≡ Some scan →
@@ -79,7 +60,7 @@ fills board passes width k scan shape tdi tdo mask placed some most is_tdi is_td
       tdo_length = ap (λ (l : List Bool). length l) is_tdo ∙ length-map scan.bits (λ b. unwrap_or b.expect false) ∙ sym long;
       mask_length = ap (λ (l : List Bool). length l) is_mask ∙ length-map scan.bits (λ b. is_some b.expect) ∙ sym long;
       compare = compare;
-      masked = λ i one. ap (λ (l : List Bool). get_or l i false) is_mask ∙ rows_masked scan.bits i (sym (ap (λ (l : List Bool). get_or l i false) is_tdo) ∙ one);
+      masked = λ i one. ap (λ (l : List Bool). get_or l i false) is_mask ∙ one_masked scan.bits i (sym (ap (λ (l : List Bool). get_or l i false) is_tdo) ∙ one);
     }
 
 -- the length of a row of a scan of instructions
@@ -113,13 +94,13 @@ marked_size board scan = ap length (mask_laid board scan) ∙ length-laid (λ pa
 pub quiet_tdo : (board : RawBoard) (scan : RowScan) → scan.before ≡ quiet_row → replicate (data_bits board) false ≡ tdo_bits (joined (row_bits board scan))
 quiet_tdo board scan e =
     zeros_laid board
-    ∙ laid_same board (λ part device cell. false) (λ part device cell. unwrap_or (expect_bit board quiet_row part device cell) false) (λ part device cell. sym (ap (λ (o : Option Bool). unwrap_or o false) (quiet_expect board part device cell)))
+    ∙ laid_same board (λ part device cell. false) (λ part device cell. unwrap_or (expect_bit board quiet_row part device cell) false) (λ part device cell. sym (ap (λ (o : Option Bool). unwrap_or o false) (quiet_expects board part device cell)))
     ∙ sym (tdo_laid board scan ∙ ap (λ (row : TestRow). laid (λ part device cell. unwrap_or (expect_bit board row part device cell) false) board) e)
 
 pub quiet_mask : (board : RawBoard) (scan : RowScan) → scan.before ≡ quiet_row → replicate (data_bits board) false ≡ mask_bits (joined (row_bits board scan))
 quiet_mask board scan e =
     zeros_laid board
-    ∙ laid_same board (λ part device cell. false) (λ part device cell. is_some (expect_bit board quiet_row part device cell)) (λ part device cell. sym (ap (λ (o : Option Bool). is_some o) (quiet_expect board part device cell)))
+    ∙ laid_same board (λ part device cell. false) (λ part device cell. is_some (expect_bit board quiet_row part device cell)) (λ part device cell. sym (ap (λ (o : Option Bool). is_some o) (quiet_expects board part device cell)))
     ∙ sym (mask_laid board scan ∙ ap (λ (row : TestRow). laid (λ part device cell. is_some (expect_bit board row part device cell)) board) e)
 
 module _ (board : RawBoard) (rules : IsBoard board) (plan : PlanTables) (p : IsPlanOf board plan) where

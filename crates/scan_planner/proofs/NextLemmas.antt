@@ -1,38 +1,25 @@
 -- Where a row of a pass is compared does not depend on its number, so the mask of one scan is that of the next.
-use Rattle.std.proofs.Common.{◌≡◌, ℕ, suc, ◌+◌, ◌*◌, ◌-◌, ◌<◌, ◌≤◌, Bool, true, false, cond, List, [], ◌∷◌, length, get_or, Option, Some, None, is_some, refl, sym, ap, ◌∙◌, arith}
+use Rattle.std.proofs.Common.{◌≡◌, ℕ, suc, ◌+◌, ◌*◌, ◌-◌, ◌<◌, ◌≤◌, Bool, List, [], length, get_or, Option, Some, None, sym, ap, ◌∙◌, arith}
 use Rattle.std.specs.Prelude.{slice_get}
 use Rattle.std.proofs.lemmas.Option.{slice_get-get_or}
 use Rattle.board_defs.specs.declared.board.RawBoard.{RawBoard}
 use Rattle.board_defs.specs.BoardRules.{IsBoard}
 use Rattle.tap_defs.specs.declared.scan.Shape.{Shape}
-use Rattle.tap_defs.specs.chain.Scan.{ScanBit, Scan, joined, mask_bits, scan_bits}
+use Rattle.tap_defs.specs.chain.Scan.{ScanBit, Scan, joined, mask_bits}
 use Rattle.tap_defs.specs.board.BoardScans.{row_bits, test_scans}
 use Rattle.tap_defs.proofs.board.ScanPlaceLemmas.{scans_placed}
+use Rattle.tap_defs.proofs.chain.RowLemmas.{mask_bits-scan_bits}
 use Rattle.plan_tables.specs.declared.tables.PlanTables.{PlanTables}
 use Rattle.plan_tables.specs.Plans.{IsPlanOf}
 use Rattle.scan_planner.specs.Plans.{FillsScan, scan_of_pass}
 use Rattle.scan_planner.proofs.FillLemmas.{mask_is}
-
--- the mask of the scan that rows make
-is_compared : (m o : Bool) → is_some (cond m (Some o) None) ≡ m
-is_compared true o = refl
-is_compared false o = refl
-
-rows_mask : (tdi tdo mask : List Bool) → length tdo ≡ length tdi → length mask ≡ length tdi → mask_bits (scan_bits tdi tdo mask) ≡ mask
-rows_mask [] tdo [] out marks = refl
-rows_mask [] tdo (m ∷ mask) out marks = cc marks
-rows_mask (i ∷ tdi) [] mask out marks = cc out
-rows_mask (i ∷ tdi) (o ∷ tdo) [] out marks = cc
-rows_mask (i ∷ tdi) (o ∷ tdo) (m ∷ mask) out marks =
-    ap (λ (b : Bool). b ∷ mask_bits (scan_bits tdi tdo mask)) (is_compared m o)
-    ∙ ap (λ (l : List Bool). m ∷ l) (rows_mask tdi tdo mask (omega (arith, out)) (omega (arith, marks)))
 
 -- the mask of rows that hold scan j - 1 of a pass is that of scan j, where both compare a row
 pub mask_stands : (board : RawBoard) → IsBoard board → (plan : PlanTables) → IsPlanOf board plan → (x j : ℕ) → x < length plan.passes → 1 < j → j ≤ plan.width →
     (shape : Shape) (tdi tdo mask : List Bool) → FillsScan board plan.passes plan.width (2 + (x * suc plan.width + j)) shape tdi tdo mask →
     mask ≡ mask_bits (joined (row_bits board (scan_of_pass board plan x j)))
 mask_stands board rules plan p x j less later within shape tdi tdo mask f =
-    sym (rows_mask tdi tdo mask f.tdo_length f.mask_length)
+    sym (mask_bits-scan_bits tdi tdo mask f.tdo_length f.mask_length)
     ∙ ap (λ (o : Option Scan). mask_bits (bits_of o)) (sym f.scan ∙ ap (slice_get scans) place ∙ (scans_placed board plan.passes plan.width).rows x (get_or plan.passes x []) (suc i) (slice_get-get_or plan.passes x [] less) (omega (arith, later, within)))
     ∙ sym (mask_is board rules plan p x less i)
     ∙ mask_is board rules plan p x less (suc i)

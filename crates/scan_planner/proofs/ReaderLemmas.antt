@@ -3,7 +3,8 @@ use Rattle.std.proofs.Common.{◌≡◌, ℕ, ◌+◌, ◌==◌, Bool, true, fal
 use Rattle.std.specs.Prelude.{slice_get}
 use Rattle.std.specs.List.{flat_map}
 use Rattle.std.proofs.lemmas.List.Sums.{fold-append}
-use Rattle.std.proofs.lemmas.Bool.{eq-eqb, and_parts, ne_eqb}
+use Rattle.std.proofs.lemmas.Bool.{and_parts}
+use Rattle.lists.proofs.Booleans.{eqb_swap}
 use Rattle.board_defs.specs.declared.device.Cell.{Cell}
 use Rattle.board_defs.specs.declared.device.RawDevice.{RawDevice}
 use Rattle.board_defs.specs.declared.board.PinAt.{PinAt}
@@ -14,9 +15,9 @@ use Rattle.board_defs.specs.DeviceRules.{is_on, is_receiving, reading_entry}
 use Rattle.board_defs.specs.Pins.{receives_where}
 use Rattle.board_defs.specs.Settings.{holds}
 use Rattle.board_defs.proofs.Members.{Has, has_at, has_place, contains_has, has_contains, has_flat_map, flat_map_has}
+use Rattle.board_defs.proofs.CellLemmas.{on_is}
 use Rattle.tap_defs.specs.board.NetBits.{Place, place_of}
-use Rattle.tap_defs.specs.board.TestRows.{TestRow, quiet_row, expect_bit, expect_entry, expect_pin, expect_place, expect_observed, only_if, observing_driver}
-use Rattle.tap_defs.proofs.board.LiveLemmas.{on_is}
+use Rattle.tap_defs.specs.board.TestRows.{TestRow, expect_bit, expect_entry, expect_pin, expect_place, expect_observed, only_if, observing_driver}
 use Rattle.tap_defs.proofs.board.PassingLemmas.{stands_at}
 use Rattle.plan_tables.specs.declared.tables.DriverCell.{DriverCell}
 use Rattle.plan_tables.specs.declared.tables.ReaderCell.{ReaderCell}
@@ -28,35 +29,6 @@ use Rattle.scan_planner.proofs.DriverLemmas.{pass_row}
 use Rattle.plan_tables.proofs.PinLemmas.{Standing, standing, on_self, reading_entry_is, Reads, reads_by}
 use Rattle.plan_tables.proofs.ReaderTableLemmas.{ReadersOf}
 use Rattle.plan_tables.proofs.SeenLemmas.{driver_cell}
-
--- nothing is compared of the quiet row
-pub quiet_expect : (board : RawBoard) (part : ℕ) (device : RawDevice) (cell : ℕ) → expect_bit board quiet_row part device cell ≡ None
-quiet_expect board part device cell = by_entry (reading_entry device cell)
-  where
-    no_bit : (t : Bool) → only_if t None ≡ None
-    no_bit true = refl
-    no_bit false = refl
-
-    no_entry : (t : Bool) (o : Option Bool) → o ≡ None → cond t o None ≡ None
-    no_entry true o e = e
-    no_entry false o e = refl
-
-    by_driver : (p : Place) (o : Option ℕ) → expect_observed None p.place o ≡ None
-    by_driver p None = refl
-    by_driver p (Some driver) = no_bit (not (driver == p.place))
-
-    by_place : (o : Option Place) → expect_place board quiet_row o ≡ None
-    by_place None = refl
-    by_place (Some p) = by_driver p (observing_driver board (λ c. false) p.net)
-
-    by_bit : (o : Option ℕ) → expect_pin board quiet_row part o ≡ None
-    by_bit None = refl
-    by_bit (Some b) =
-        no_entry (receives_where board (Some (record { part = part; bit = b }))) (expect_place board quiet_row (place_of (record { part = part; bit = b }) 0 board.nets)) (by_place (place_of (record { part = part; bit = b }) 0 board.nets))
-
-    by_entry : (o : Option Cell) → expect_entry board quiet_row part o ≡ None
-    by_entry None = refl
-    by_entry (Some e) = no_entry (is_receiving e.role) (expect_pin board quiet_row part e.bit) (by_bit e.bit)
 
 -- a compared cell, with the driver of its net
 abbrev pub Pair : Type 0
@@ -120,9 +92,6 @@ set_compared_is bit readers (d ∷ drivers) bits =
     ∙ ap (λ (b : List Bool). assigned (λ (x : Pair). x.1.position) (λ x. bit x.0) b (pairs readers drivers)) (set_one bit d (get_or readers d.net []) bits)
     ∙ sym (fold-append (λ done (x : Pair). set done x.1.position (bit x.0)) bits (pairs_of d (get_or readers d.net [])) (pairs readers drivers))
 
-not_same : (a b : ℕ) → (a == b) ≡ false → (b == a) ≡ false
-not_same a b e = ne_eqb b a (λ same. let z : (a == b) ≡ true = eq-eqb a b (sym same) in let bad : true ≡ false = sym z ∙ e in cc bad)
-
 module _ (board : RawBoard) (rules : IsBoard board) (pass : List Ctl) (carried : ℕ → Option Bool) (bit : DriverCell → Bool) (drivers : List DriverCell) (only : (d : DriverCell) → Has drivers d → IsDriverCell board pass d) (every : (d : DriverCell) → IsDriverCell board pass d → Has drivers d)
     (carries : (d : DriverCell) → Has drivers d → carried d.net ≡ Some (bit d)) (readers : List (List ReaderCell)) (are : ReadersOf board readers) where
   abbrev row : TestRow
@@ -175,7 +144,7 @@ module _ (board : RawBoard) (rules : IsBoard board) (pass : List Ctl) (carried :
                     ∙ ap (λ (b : Bool). cond b (expect_place board row (place_of q.at 0 board.nets)) None) q.receives
                     ∙ ap (λ (o : Option Place). expect_place board row o) t.is_place
                     ∙ ap (λ (o : Option ℕ). expect_observed (carried d.net) r.place o) s.observing
-                    ∙ ap (λ (b : Bool). only_if (not b) (carried d.net)) (not_same r.place d.place others)
+                    ∙ ap (λ (b : Bool). only_if (not b) (carried d.net)) (eqb_swap r.place d.place others)
                     ∙ carries d has;
               }
 
@@ -216,7 +185,7 @@ module _ (board : RawBoard) (rules : IsBoard board) (pass : List Ctl) (carried :
             reads = ap (λ (x : Bool). x && is_receiving e.role) (on_self b e.bit eb) ∙ er;
             position_is = ap (λ (i : ℕ). first_position board part + i) (sym reads.num_is);
           } in
-          by_driver p driver r is_net is_reader eo (not_same driver p.place t) refl
+          by_driver p driver r is_net is_reader eo (eqb_swap driver p.place t) refl
         where
           use_driver : (p : Place) (d : DriverCell) → d.net ≡ p.number → Has drivers d → (r : ReaderCell) → Has (get_or readers p.number []) r → (r.place == d.place) ≡ false →
               r.position ≡ first_position board part + cell → Covered part cell (only_if true (carried p.number))

@@ -4,6 +4,7 @@ use Rattle.std.specs.Prelude.{All, option_map, unwrap_or}
 use Rattle.std.specs.List.{cons_option, position_from}
 use Rattle.std.proofs.lemmas.List.{drop_more, get_or-map, length-map}
 use Rattle.std.proofs.lemmas.Option.{slice_get-get_or}
+use Rattle.std.proofs.lemmas.Bool.{false_from_ne_true}
 use Rattle.board_defs.proofs.Members.{Has, has_at, has_place, has_left, has_right, has_append, has_map, filter_map_has}
 use Rattle.board_files.specs.declared.chain_file.ChainLine.{ChainLine}
 use Rattle.board_files.specs.declared.chain_file.ChainStatement.{ChainStatement}
@@ -227,10 +228,6 @@ joined_leads nets chain x y (against {b = d} k e p) = by_kind (edge_kind nets ch
     by_kind (inl n) q = ap (λ w. leads (links nets chain) w (at (line_names nets) y)) (sym n.same) ∙ q
     by_kind (inr h) q = leads_back (links nets chain) (at (line_names nets) x) (at (line_names nets) d) (at (line_names nets) y) (has_link nets chain (d, x) h) q
 
-false_by : (b : Bool) → (b ≡ true → ⊥) → b ≡ false
-false_by true f = absurd (f refl)
-false_by false f = refl
-
 -- links lead from a line's net to an earlier line's only where the labels agree
 labels_agree : (nets : List NetLine) (chain : List ChainLine) (labels : List ℕ) → AreLabels (edges nets chain) labels → (k i : ℕ) → k < length (line_names nets) → i < length (line_names nets) →
     leads (links nets chain) (at (line_names nets) k) (at (line_names nets) i) ≡ true → get_or labels k 0 ≡ get_or labels i 0
@@ -249,7 +246,7 @@ least_name nets chain labels h count k within =
     let inside : get_or labels k 0 < length names = omega arith in
     sym (ap (λ o. unwrap_or o (at names k))
     (find_first (leads (links nets chain) (at names k)) names [] (get_or labels k 0) inside (joined_leads nets chain k (get_or labels k 0) (h.joined k (omega arith)))
-    (λ i less. false_by (leads (links nets chain) (at names k) (at names i)) (λ p.
+    (λ i less. false_from_ne_true (leads (links nets chain) (at names k) (at names i)) (λ p.
     let inner : i < length names = omega arith in
     let agree : get_or labels k 0 ≡ get_or labels i 0 = labels_agree nets chain labels h k i within inner p in
     let lower : get_or labels i 0 ≤ i = h.least i (omega arith) in
@@ -283,7 +280,7 @@ unfolding joined_name
 kept_name nets chain name none =
     let names = line_names nets in
     let missing : (i : ℕ) → i < length names → at names i ≡ name → ⊥ = λ i lt e. true≢false (sym (same_self name) ∙ ap (λ w. same_word w name) (sym e) ∙ place_none (λ n. same_word n name) 0 names [] i none lt) in
-    ap (λ o. unwrap_or o name) (find_missing (leads (links nets chain) name) names [] (λ i lt. false_by (leads (links nets chain) name (at names i)) (λ p.
+    ap (λ o. unwrap_or o name) (find_missing (leads (links nets chain) name) names [] (λ i lt. false_from_ne_true (leads (links nets chain) name (at names i)) (λ p.
     missing i lt (sym (absent names (link_edges nets chain) name (at names i) missing (λ e has. link_edges_within nets chain e has) (ap (λ ps. leads ps name (at names i)) (sym (links_ends nets chain)) ∙ p))))))
 
 renames_by : (nets : List NetLine) (chain : List ChainLine) (least : List Word) (name : Word) → least ≡ map (joined_name (links nets chain) (line_names nets)) (line_names nets) →

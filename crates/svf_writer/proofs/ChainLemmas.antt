@@ -9,6 +9,7 @@ use Rattle.tap_defs.specs.chain.Scan.{Scan, tdi_bits, tdo_bits, mask_bits}
 use Rattle.tap_defs.specs.chain.Codes.{sent, code_bits}
 use Rattle.tap_defs.specs.chain.Text.{scan_text, scan_texts}
 use Rattle.tap_defs.specs.chain.ChainScans.{marks, compared, chain_scans}
+use Rattle.tap_defs.proofs.chain.RowLemmas.{tdi_bits-code_bits, tdi_bits-compared}
 use Rattle.svf_writer.specs.inner.Chain.{bypass_bits, mark_bits, marked}
 
 -- the first of some equal bits is changed
@@ -28,10 +29,6 @@ ones_more len at within =
     ∙ ap (λ t. t ++ replicate (len - (at + 1)) false) (replicate_more at true)
 
 -- the bits of one part's code
-sent_tdi : (code : List Bool) → tdi_bits (map sent code) ≡ code
-sent_tdi [] = refl
-sent_tdi (a ∷ code) = ap (λ t. a ∷ t) (sent_tdi code)
-
 sent_tdo : (n : ℕ) → tdo_bits (map sent (replicate n true)) ≡ replicate n false
 sent_tdo zero = refl
 sent_tdo (suc n) = ap (λ t. false ∷ t) (sent_tdo n)
@@ -39,11 +36,6 @@ sent_tdo (suc n) = ap (λ t. false ∷ t) (sent_tdo n)
 sent_mask : (n : ℕ) → mask_bits (map sent (replicate n true)) ≡ replicate n false
 sent_mask zero = refl
 sent_mask (suc n) = ap (λ t. false ∷ t) (sent_mask n)
-
-code_tdi : (code : List Bool) → tdi_bits (code_bits code) ≡ code
-code_tdi [] = refl
-code_tdi (a ∷ []) = refl
-code_tdi (a ∷ b ∷ code) = ap (λ t. a ∷ b ∷ t) (sent_tdi code)
 
 bypass_tdo : (n : ℕ) → 2 ≤ n → tdo_bits (code_bits (replicate n true)) ≡ true ∷ replicate (n - 1) false
 bypass_tdo zero long = absurd (omega arith)
@@ -66,7 +58,7 @@ bypass_bits-tdi (n ∷ lengths) =
     let total : sum lengths + n ≡ sum (n ∷ lengths) = omega (arith, sum_by-cons (λ (x : ℕ). x) n lengths) in
     map-append (λ b. b.tdi) (bypass_bits lengths) (code_bits (replicate n true))
     ∙ ap (λ t. t ++ tdi_bits (code_bits (replicate n true))) (bypass_bits-tdi lengths)
-    ∙ ap (λ t. replicate (sum lengths) true ++ t) (code_tdi (replicate n true))
+    ∙ ap (λ t. replicate (sum lengths) true ++ t) (tdi_bits-code_bits (replicate n true))
     ∙ replicate-append-replicate (sum lengths) n true ∙ ap (λ k. replicate k true) total
 
 pub length-bypass_bits : (lengths : List ℕ) → length (bypass_bits lengths) ≡ sum lengths
@@ -120,11 +112,6 @@ marked-zeros at rest =
     ∙ set_after at (at + 7) 7 (set (set (set zeros 0 true) 2 true) 5 true) refl
 
 -- the bits of bits that are all compared
-compared_tdi : (ins out : List Bool) → length ins ≡ length out → tdi_bits (compared ins out) ≡ ins
-compared_tdi [] out same = refl
-compared_tdi (i ∷ ins) [] same = absurd (omega arith)
-compared_tdi (i ∷ ins) (o ∷ out) same = ap (λ t. i ∷ t) (compared_tdi ins out (omega arith))
-
 compared_tdo : (ins out : List Bool) → length ins ≡ length out → tdo_bits (compared ins out) ≡ out
 compared_tdo [] [] same = refl
 compared_tdo [] (o ∷ out) same = absurd (omega arith)
@@ -143,7 +130,7 @@ same_length parts = omega (arith, length-append marks (replicate parts false), l
 pub mark_bits-tdi : (parts : ℕ) → marked 0 (replicate (parts + 8) false) ≡ tdi_bits (mark_bits parts)
 mark_bits-tdi parts =
     let long : parts + 8 ≡ 0 + (8 + parts) = omega arith in
-    ap (λ k. marked 0 (replicate k false)) long ∙ marked-zeros 0 parts ∙ sym (compared_tdi (marks ++ replicate parts false) (replicate parts false ++ marks) (same_length parts))
+    ap (λ k. marked 0 (replicate k false)) long ∙ marked-zeros 0 parts ∙ sym (tdi_bits-compared (marks ++ replicate parts false) (replicate parts false ++ marks) (same_length parts))
 
 pub mark_bits-tdo : (parts : ℕ) → marked parts (replicate (parts + 8) false) ≡ tdo_bits (mark_bits parts)
 mark_bits-tdo parts = marked-zeros parts 0 ∙ sym (compared_tdo (marks ++ replicate parts false) (replicate parts false ++ marks) (same_length parts))
@@ -189,7 +176,7 @@ sum_some (n ∷ lengths) some each = omega (arith, sum_by-cons (λ (x : ℕ). x)
 
 pub length-mark_bits : (parts : ℕ) → length (tdi_bits (mark_bits parts)) ≡ parts + 8
 length-mark_bits parts =
-    ap length (compared_tdi (marks ++ replicate parts false) (replicate parts false ++ marks) (same_length parts))
+    ap length (tdi_bits-compared (marks ++ replicate parts false) (replicate parts false ++ marks) (same_length parts))
     ∙ omega (arith, length-append marks (replicate parts false), length-replicate parts false)
 
 pub length-bypass_tdi : (lengths : List ℕ) → length (tdi_bits (bypass_bits lengths)) ≡ sum lengths

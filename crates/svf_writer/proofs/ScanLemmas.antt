@@ -1,5 +1,5 @@
 -- Lemmas on scans and their rows.
-use Rattle.std.proofs.Common.{◌≡◌, ℕ, ◌+◌, ◌<◌, ◌≤◌, zero, suc, Bool, true, false, cond, ltb, List, [], ◌∷◌, ◌++◌, length, get_or, Option, None, Some, is_some, unwrap_or, replicate, refl, sym, ap, subst, inl, inr, ◌∙◌, append_assoc, length-append, arith}
+use Rattle.std.proofs.Common.{◌≡◌, ℕ, ◌+◌, ◌<◌, ◌≤◌, suc, Bool, true, false, cond, ltb, List, [], ◌∷◌, ◌++◌, length, get_or, None, Some, is_some, unwrap_or, refl, sym, ap, subst, inl, inr, ◌∙◌, append_assoc, length-append, arith}
 use Rattle.std.proofs.lemmas.List.{length-map}
 use Rattle.std.proofs.lemmas.Bool.{lt-ltb, le-ltb, cases_lt}
 use Rattle.std.specs.Prelude.{decimal, ◌||◌, codes}
@@ -8,6 +8,7 @@ use Rattle.bt_bits.specs.Hex.{hex_text, digit_count}
 use Rattle.bt_bits.proofs.HexLemmas.{length-hex_text}
 use Rattle.tap_defs.specs.chain.Scan.{ScanBit, Scan, scan_bits, tdi_bits, tdo_bits, mask_bits, compares}
 use Rattle.tap_defs.specs.chain.Text.{command_word, form, scan_text, gap, laid, compare_text}
+use Rattle.tap_defs.proofs.chain.RowLemmas.{mask_bits-scan_bits, scan_bits-rows, one_masked}
 use Rattle.svf_writer.specs.inner.Fields.{command_text, rest_text, fields_text, fields_length, fields_lines}
 use Rattle.svf_writer.specs.Rows.{IsMasked}
 
@@ -15,10 +16,6 @@ masked_bit : (o m : Bool) → (o ≡ true → m ≡ true) → unwrap_or (cond m 
 masked_bit o true masked = refl
 masked_bit false false masked = refl
 masked_bit true false masked = let bad : false ≡ true = masked refl in absurd cc
-
-mask_bit : (o m : Bool) → is_some (cond m (Some o) None) ≡ m
-mask_bit o true = refl
-mask_bit o false = refl
 
 -- the rows of a scan that is made of rows
 pub tdi_bits-scan_bits : (tdi tdo mask : List Bool) → length tdo ≡ length tdi → length mask ≡ length tdi → tdi_bits (scan_bits tdi tdo mask) ≡ tdi
@@ -36,38 +33,14 @@ tdo_bits-scan_bits (i ∷ is) (o' ∷ os) (m' ∷ ms) o m masked =
     ap (λ b. b ∷ tdo_bits (scan_bits is os ms)) (masked_bit o' m' (masked 0))
     ∙ ap (λ t. o' ∷ t) (tdo_bits-scan_bits is os ms (omega arith) (omega arith) (λ k. masked (suc k)))
 
-pub mask_bits-scan_bits : (tdi tdo mask : List Bool) → length tdo ≡ length tdi → length mask ≡ length tdi → mask_bits (scan_bits tdi tdo mask) ≡ mask
-mask_bits-scan_bits [] tdo [] o m = refl
-mask_bits-scan_bits [] tdo (m' ∷ ms) o m = absurd (omega arith)
-mask_bits-scan_bits (i ∷ is) [] mask o m = absurd (omega arith)
-mask_bits-scan_bits (i ∷ is) (o' ∷ os) [] o m = absurd (omega arith)
-mask_bits-scan_bits (i ∷ is) (o' ∷ os) (m' ∷ ms) o m =
-    ap (λ b. b ∷ mask_bits (scan_bits is os ms)) (mask_bit o' m') ∙ ap (λ t. m' ∷ t) (mask_bits-scan_bits is os ms (omega arith) (omega arith))
-
 -- something is compared where the mask has a 1
 pub list_any-mask_bits : (bits : List ScanBit) → list_any (λ bit. bit) (mask_bits bits) ≡ compares bits
 list_any-mask_bits [] = refl
 list_any-mask_bits (b ∷ bits) = ap (λ t. is_some b.expect || t) (list_any-mask_bits bits)
 
-expected : (expect : Option Bool) → cond (is_some expect) (Some (unwrap_or expect false)) None ≡ expect
-expected None = refl
-expected (Some o) = refl
-
--- the scan that its rows make
-pub scan_bits-rows : (bits : List ScanBit) → scan_bits (tdi_bits bits) (tdo_bits bits) (mask_bits bits) ≡ bits
-scan_bits-rows [] = refl
-scan_bits-rows (b ∷ bits) =
-    ap (λ (e : Option Bool). (let bit : ScanBit = record { tdi = b.tdi; expect = e } in bit) ∷ scan_bits (tdi_bits bits) (tdo_bits bits) (mask_bits bits)) (expected b.expect)
-    ∙ ap (λ t. b ∷ t) (scan_bits-rows bits)
-
-one_expected : (expect : Option Bool) → unwrap_or expect false ≡ true → is_some expect ≡ true
-one_expected None one = one
-one_expected (Some o) one = refl
-
+-- a bit of TDO is 1 only where it is compared
 pub IsMasked-rows : (bits : List ScanBit) → IsMasked (tdo_bits bits) (mask_bits bits)
-IsMasked-rows [] i one = one
-IsMasked-rows (b ∷ bits) zero one = one_expected b.expect one
-IsMasked-rows (b ∷ bits) (suc i) one = IsMasked-rows bits i one
+IsMasked-rows bits = one_masked bits
 
 pub compares-scan_bits : (tdi tdo mask : List Bool) → length tdo ≡ length tdi → length mask ≡ length tdi → compares (scan_bits tdi tdo mask) ≡ list_any (λ bit. bit) mask
 compares-scan_bits tdi tdo mask o m = sym (list_any-mask_bits (scan_bits tdi tdo mask)) ∙ ap (list_any (λ bit. bit)) (mask_bits-scan_bits tdi tdo mask o m)
@@ -166,8 +139,3 @@ masked_rows bits tdo mask is_tdo is_mask i one =
 pub scan_text-rows : (ir : Bool) (bits : List ScanBit) (tdi tdo mask : List Bool) → tdi ≡ tdi_bits bits → tdo ≡ tdo_bits bits → mask ≡ mask_bits bits → scan_text (scan_of ir tdi tdo mask) ≡ scan_text (record { ir = ir; bits = bits })
 scan_text-rows ir bits tdi tdo mask is_tdi is_tdo is_mask =
     ap (λ (bits : List ScanBit). let scan : Scan = record { ir = ir; bits = bits } in scan_text scan) (scan_of_rows bits tdi tdo mask is_tdi is_tdo is_mask)
-
--- nothing is compared under a mask of zeros
-pub none_compared : (n : ℕ) → list_any (λ bit. bit) (replicate n false) ≡ false
-none_compared zero = refl
-none_compared (suc n) = none_compared n

@@ -59,7 +59,7 @@ fn puts_the_chain_test(rt: HostRuntime) -> Result<(), Fail> {
 }
 
 // Puts a scan whose first and last bits are 1, and of which bit 4 may be compared with 1.
-#[tactic(auto, using(crate::proofs::ScanLemmas::none_compared))]
+#[tactic(auto, using(lists::proofs::ListLemmas::none_of_zeros))]
 fn put_scan(
     alloc: Global,
     len: u32,

@@ -14,6 +14,7 @@ pub mod MeaningLemmas
 pub mod SampleStates
 pub mod SampleTexts
 pub mod SampleRun
+pub mod RowLemmas
 pub mod ScanLemmas
 pub mod ScanRowLemmas
 pub mod SampleScanRows

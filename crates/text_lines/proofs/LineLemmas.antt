@@ -7,21 +7,17 @@ use Rattle.std.specs.List.{slice_split, position_or_len, onto_first, before_firs
 use Rattle.text_lines.specs.Words.{words_of, IsCut, is_blank, is_filled, begins_no_comment, begins_blank, begins_word}
 use Rattle.std.proofs.lemmas.List.Splits.{slice_split-cons_yes, slice_split-cons_no}
 use Rattle.std.proofs.lemmas.List.{take_rest, length-take-le}
-use Rattle.std.proofs.lemmas.Bool.{false≢true}
-
-passes_not : (b : Bool) → ¬ (b ≡ true) → not b ≡ true
-passes_not true not_true = absurd (not_true refl)
-passes_not false not_true = refl
+use Rattle.std.proofs.lemmas.Bool.{false≢true, not_from_false, false_from_ne_true}
 
 -- a byte that has no place passes nowhere
 pub no_place : (p : ℕ → Bool) (xs : List ℕ) → Nowhere (Passes p xs) 0 (length xs) → position_or_len p xs ≡ length xs
 no_place p xs nowhere =
-    prefix_len_is (λ x. not (p x)) xs (length xs) 0 (omega arith) (λ k within. passes_not (p (get_or xs k 0)) (nowhere k (omega arith) within)) (λ within. absurd (omega arith))
+    prefix_len_is (λ x. not (p x)) xs (length xs) 0 (omega arith) (λ k within. not_from_false (p (get_or xs k 0)) (false_from_ne_true (p (get_or xs k 0)) (nowhere k (omega arith) within))) (λ within. absurd (omega arith))
 
 -- the first byte that passes
 pub first_place : (p : ℕ → Bool) (xs : List ℕ) (k : ℕ) → NoneBefore (Passes p xs) 0 (length xs) k → Passes p xs k → position_or_len p xs ≡ k
 first_place p xs k before passes =
-    prefix_len_is (λ x. not (p x)) xs k 0 (omega (arith, before.high)) (λ j within. passes_not (p (get_or xs j 0)) (before.before j (omega arith) within)) (λ within. ap not passes)
+    prefix_len_is (λ x. not (p x)) xs k 0 (omega (arith, before.high)) (λ j within. not_from_false (p (get_or xs j 0)) (false_from_ne_true (p (get_or xs j 0)) (before.before j (omega arith) within))) (λ within. ap not passes)
 
 -- what stands before and behind it
 pub cut_there : (p : ℕ → Bool) (xs : List ℕ) (k : ℕ) → (NoneBefore (Passes p xs) 0 (length xs) k × Passes p xs k) → IsCut p xs (Some (take k xs, take (length xs - (k + 1)) (drop (k + 1) xs)))

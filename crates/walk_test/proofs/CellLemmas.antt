@@ -3,7 +3,8 @@ use Rattle.std.proofs.Common.{◌≡◌, ◌≢◌, ◌⊎◌, inl, inr, ℕ, ze
 use Rattle.std.specs.Prelude.{slice_get, unwrap_or, count_by, Contains}
 use Rattle.std.specs.List.{list_any, list_all}
 use Rattle.std.specs.Cmp.{both_ways as same_answer}
-use Rattle.std.proofs.lemmas.Bool.{both_ways, false_from_ne_true, and_parts, eqb-true, eq-eqb, ne_eqb}
+use Rattle.std.proofs.lemmas.Bool.{both_ways, false_from_ne_true, and_parts, eqb-true, eq-eqb}
+use Rattle.lists.proofs.Booleans.{eqb_swap}
 use Rattle.board_defs.specs.declared.device.Control.{Control}
 use Rattle.board_defs.specs.declared.device.Cell.{Cell}
 use Rattle.board_defs.specs.declared.device.RawDevice.{RawDevice}
@@ -23,6 +24,8 @@ use Rattle.board_defs.specs.Settings.{holds, enables_where, enables_entry, enabl
 use Rattle.board_defs.proofs.ControlOrder.{same_refl}
 use Rattle.board_defs.proofs.Members.{Has, has_place, has_any, contains_has, has_filter_map, filter_map_has, any_has}
 use Rattle.board_defs.proofs.Places.{any_at}
+use Rattle.board_defs.proofs.CellLemmas.{on_is}
+use Rattle.board_defs.proofs.SameBits.{is_same_refl}
 use Rattle.tap_defs.specs.chain.Part.{PinState}
 use Rattle.tap_defs.specs.chain.Chain.{ChainPart, pin_states}
 use Rattle.tap_defs.specs.chain.Run.{Choice}
@@ -35,7 +38,6 @@ use Rattle.tap_defs.specs.board.RowCaptures.{row_states, row_captured, NoOpenSho
 use Rattle.tap_defs.specs.board.RowDriving.{is_switched_off, cell_bit, entry_feeds, at_feeds, pin_feeds, driver_feeds}
 use Rattle.tap_defs.proofs.chain.ListLemmas.{cons_path}
 use Rattle.tap_defs.proofs.board.InTestLemmas.{InTest, shifted_row}
-use Rattle.tap_defs.proofs.board.LiveLemmas.{on_is}
 use Rattle.tap_defs.proofs.board.WrongLemmas.{Compared, captures}
 use Rattle.tap_defs.proofs.board.FeedingLemmas.{Observing, observing_at, PinRules, apart, placed, Carries, driven, pulled, carries, dead_at}
 use Rattle.tap_defs.proofs.board.QuietLemmas.{BoardRules, device_of}
@@ -52,9 +54,6 @@ use Rattle.plan_tables.proofs.PinLemmas.{Standing, standing, reading_entry_is}
 use Rattle.walk_test.specs.WalkTest.{is_switched_by, switches_some}
 use Rattle.walk_test.specs.Groups.{group_of, or_shorts}
 use Rattle.walk_test.specs.inner.Reading.{is_one_group, are_joined}
-
-not_same : (a b : ℕ) → (a == b) ≡ false → (b == a) ≡ false
-not_same a b e = ne_eqb b a (λ same. both_ways (a == b) e (eq-eqb a b (sym same)))
 
 -- a cell that reads an observed net beside the driver, as a compared one
 module _ (board : RawBoard) (rules : IsBoard board) (walk : List Ctl) (n : ℕ) (net : Net) (is_net : slice_get board.nets n ≡ Some net) (d : ℕ) (observing : observing_driver board (holds walk) net ≡ Some d) (r : ReaderCell) (q : IsReaderCell board net r) (other : (r.place == d) ≡ false) where
@@ -97,7 +96,7 @@ module _ (board : RawBoard) (rules : IsBoard board) (walk : List Ctl) (n : ℕ) 
         pin_at = q.is_at;
         driver = d;
         observing_is = observing;
-        other = not_same r.place d other;
+        other = eqb_swap r.place d other;
       }
 
   pub compared_device : Rattle.board_defs.specs.Pins.device_at board compared_of.k ≡ Some compared_of.device
@@ -221,7 +220,7 @@ module _ (board : RawBoard) (rules : IsBoard board) (walk : List Ctl) (setting :
       switched own (m, other, i, p, em, ei, ea, open_net, pull) =
           let lets : lets_switch board other control.disable ≡ true =
           ap (λ (g : Bool). not g && is_pulled_to control.disable other.pull) open_net
-          ∙ ap (λ (o : Option Bool). is_pulled_to control.disable o) pull ∙ same_self control.disable in
+          ∙ ap (λ (o : Option Bool). is_pulled_to control.disable o) pull ∙ is_same_refl control.disable in
           any_at (λ x. list_any (is_switched_by board c x) x.pins) board.nets m other em
           (any_at (is_switched_by board c other) other.pins i p ei
           (ap (λ (o : Option PinAt). Rattle.board_defs.specs.Pins.switches_entry board other (Rattle.std.specs.Prelude.option_and_then (entry_at board) o) && is_by c (Rattle.board_defs.specs.Pins.drive_where board other o)) ea
@@ -229,10 +228,6 @@ module _ (board : RawBoard) (rules : IsBoard board) (walk : List Ctl) (setting :
           ∙ ap (λ (o : Option Control). Rattle.board_defs.specs.Pins.switches_by board other entry o && is_by c (Some (Rattle.board_defs.specs.Pins.drive_by board other at.part entry o))) k
           ∙ by_tests (control.cell == entry.num) (lets_switch board other control.disable) own lets))
         where
-          same_self : (b : Bool) → is_same b b ≡ true
-          same_self true = refl
-          same_self false = refl
-
           by_tests : (x y : Bool) → x ≡ true → y ≡ true → ((x && y) && is_by c (Some (cond x (cond y (Rattle.board_defs.specs.declared.board.Drive.TheVariants.By c) Rattle.board_defs.specs.declared.board.Drive.TheVariants.OneSided) (Rattle.board_defs.specs.declared.board.Drive.TheVariants.By c)))) ≡ true
           by_tests true true p q = same_refl c
           by_tests true false p q = cc q

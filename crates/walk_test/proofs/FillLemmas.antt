@@ -6,6 +6,7 @@ use Rattle.std.specs.List.{list_any, range_with_len}
 use Rattle.std.proofs.lemmas.Bool.{lt-ltb, le-ltb, eq-eqb, both_ways}
 use Rattle.std.proofs.lemmas.List.{length-map, length-replicate, get_or-replicate}
 use Rattle.std.proofs.lemmas.Option.{slice_get_within, slice_get-get_or, get_or_from_slice_get, slice_get-map}
+use Rattle.lists.proofs.ListLemmas.{none_of_zeros}
 use Rattle.board_defs.specs.declared.board.Net.{Net}
 use Rattle.board_defs.specs.declared.board.RawBoard.{RawBoard}
 use Rattle.board_defs.specs.declared.board.Ctl.{Ctl}
@@ -20,6 +21,7 @@ use Rattle.tap_defs.specs.board.TestRows.{TestRow, quiet_row, code_row, code_of_
 use Rattle.tap_defs.specs.board.BoardScans.{RowScan, row_bits, scan_of_row, board_scans, row_scans, pass_scans, row_now, row_before, is_walked, walk_row, walk_row_scans}
 use Rattle.tap_defs.proofs.board.ScanPlaceLemmas.{front_at, length-pass_scans, pass_scan_at}
 use Rattle.tap_defs.proofs.board.WidthLemmas.{width_is}
+use Rattle.tap_defs.proofs.chain.RowLemmas.{scan_bits-rows, one_masked}
 use Rattle.plan_tables.specs.declared.nets.NetDriver.{NetDriver}
 use Rattle.plan_tables.specs.declared.tables.DriverCell.{DriverCell}
 use Rattle.plan_tables.specs.declared.tables.ReaderCell.{ReaderCell}
@@ -29,7 +31,6 @@ use Rattle.plan_tables.specs.Building.{enabled_in, is_read_beside, drivers_of, r
 use Rattle.scan_planner.specs.Plans.{IsPlanOf, FillsScan, scan_of_pass}
 use Rattle.plan_tables.specs.Tables.{IsDriverCell, IsReaderCell}
 use Rattle.scan_planner.proofs.FillLemmas.{row_sized, quiet_tdo, quiet_mask}
-use Rattle.plan_tables.proofs.RowLemmas.{none_of_zeros}
 use Rattle.plan_tables.proofs.LaidLemmas.{mask_laid, tdo_laid, tdi_laid, length-laid}
 use Rattle.plan_tables.proofs.AssignLemmas.{assigned_is}
 use Rattle.plan_tables.proofs.TableLemmas.{Observed, DriverAt, observed, reader_is, is_reader}
@@ -254,26 +255,6 @@ early_filled board passes width k shape tdi tdo mask less f = record {
   masked = f.masked;
 }
 
--- a scan from its rows
-expected : (expect : Option Bool) → cond (is_some expect) (Some (unwrap_or expect false)) None ≡ expect
-expected None = refl
-expected (Some o) = refl
-
-bits_of_rows : (bits : List ScanBit) → scan_bits (tdi_bits bits) (tdo_bits bits) (mask_bits bits) ≡ bits
-bits_of_rows [] = refl
-bits_of_rows (b ∷ bits) =
-    ap (λ (e : Option Bool). (let bit : ScanBit = record { tdi = b.tdi; expect = e } in bit) ∷ scan_bits (tdi_bits bits) (tdo_bits bits) (mask_bits bits)) (expected b.expect)
-    ∙ ap (λ (t : List ScanBit). b ∷ t) (bits_of_rows bits)
-
-one_masked : (bits : List ScanBit) (i : ℕ) → get_or (tdo_bits bits) i false ≡ true → get_or (mask_bits bits) i false ≡ true
-one_masked [] i one = one
-one_masked (b ∷ bits) zero one = by_expect b.expect one
-  where
-    by_expect : (o : Option Bool) → unwrap_or o false ≡ true → is_some o ≡ true
-    by_expect None e = e
-    by_expect (Some v) e = refl
-one_masked (b ∷ bits) (suc i) one = one_masked bits i one
-
 module _ (board : RawBoard) (rules : IsBoard board) (t : WalkTables) (w : IsWalkOf board t) where
   module _ (walk : List Ctl) (is : walk_setting board ≡ Some walk) where
     abbrev tables : AreWalkTables board walk t
@@ -404,7 +385,7 @@ module _ (board : RawBoard) (rules : IsBoard board) (t : WalkTables) (w : IsWalk
       let o : tdo ≡ tdo_bits bits = is_tdo ∙ tdo_laid board (record { now = quiet_row; before = scan.before }) ∙ sym (tdo_laid board scan) in
       let m : mask ≡ mask_bits bits = is_mask ∙ mask_laid board (record { now = quiet_row; before = scan.before }) ∙ sym (mask_laid board scan) in
       let whole : scan_bits tdi tdo mask ≡ bits =
-      ap (λ (x : List Bool). scan_bits x tdo mask) d ∙ ap (λ (x : List Bool). scan_bits (tdi_bits bits) x mask) o ∙ ap (scan_bits (tdi_bits bits) (tdo_bits bits)) m ∙ bits_of_rows bits in
+      ap (λ (x : List Bool). scan_bits x tdo mask) d ∙ ap (λ (x : List Bool). scan_bits (tdi_bits bits) x mask) o ∙ ap (scan_bits (tdi_bits bits) (tdo_bits bits)) m ∙ scan_bits-rows bits in
       let long : length tdi ≡ length bits = ap (λ (l : List Bool). length l) d ∙ length-map bits (λ b. b.tdi) in
       record {
         scan = row_placed some j le ∙ sym (ap (λ (b : Bool). Some (record { ir = b; bits = scan_bits tdi tdo mask })) is_ir ∙ ap (λ (l : List ScanBit). Some (record { ir = false; bits = l })) whole);

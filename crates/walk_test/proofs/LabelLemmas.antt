@@ -8,11 +8,13 @@ use Rattle.std.proofs.lemmas.Bool.Decides.{Decides-like, Decides-and}
 use Rattle.std.proofs.lemmas.Grind.{flat_map-append}
 use Rattle.std.proofs.lemmas.List.{length-map, append-nil}
 use Rattle.std.proofs.lemmas.Option.{slice_get_within, slice_get-get_or, slice_get-map, get_or_from_slice_get}
+use Rattle.lists.proofs.ListLemmas.{range_with_len_more}
 use Rattle.board_defs.specs.declared.board.RawBoard.{RawBoard}
 use Rattle.board_defs.specs.Pins.{is_same}
 use Rattle.board_defs.proofs.Members.{Has, has_at, has_contains, contains_has, has_flat_map, flat_map_has, has_range, all_has}
 use Rattle.board_defs.proofs.Ordered.{InOrder, order_pairs, order_flat_map, order_range}
 use Rattle.board_defs.proofs.Places.{all_from}
+use Rattle.board_defs.proofs.SameBits.{same_of_is_same, is_same_of_same}
 use Rattle.walk_test.specs.declared.tables.NetCells.{NetCells}
 use Rattle.walk_test.specs.WalkTest.{walk_nets}
 use Rattle.walk_test.specs.Groups.{Rise, least_of, AreGroups}
@@ -64,19 +66,6 @@ first_none (row ∷ log) at off =
     let rest : first_one log at ≡ length log = first_none log at (λ j less. off (suc j) (omega (arith, less))) in
     ap (λ (b : Bool). cond b 0 (suc (first_one log at))) (off 0 (omega arith)) ∙ ap (λ (k : ℕ). suc k) rest
 
--- a test that gives the bit
-pub same_bits : (a b : Bool) → is_same a b ≡ true → a ≡ b
-same_bits true true e = refl
-same_bits true false e = cc e
-same_bits false true e = cc e
-same_bits false false e = refl
-
-pub bits_same : (a b : Bool) → a ≡ b → is_same a b ≡ true
-bits_same true true e = refl
-bits_same true false e = cc e
-bits_same false true e = cc e
-bits_same false false e = refl
-
 -- the label of the net at a place
 pub label_is : (log : List (List Bool)) (cells : List NetCells) (i : ℕ) (c : NetCells) → slice_get cells i ≡ Some c → slice_get (map (label_of log) cells) i ≡ Some (label_of log c)
 label_is log cells i c e = slice_get-map (label_of log) cells i ∙ ap (λ (o : Option NetCells). option_map (label_of log) o) e
@@ -95,13 +84,13 @@ module _ (log : List (List Bool)) (cells : List NetCells) (long : length cells �
 
   pub each_shows : ShowsAll log log_labels cells → EachShows
   each_shows shows j i p c less e has =
-      same_bits (bit_in log j p) (get_or log_labels i 0 == get_or log_labels j 0)
+      same_of_is_same (bit_in log j p) (get_or log_labels i 0 == get_or log_labels j 0)
       (all_has (λ at. is_same (bit_in log j at) (get_or log_labels i 0 == get_or log_labels j 0)) c.compared p (shows j less i c e) has)
 
   pub shows_each : EachShows → ShowsAll log log_labels cells
   shows_each each j less i c e =
       all_from (λ at. is_same (bit_in log j at) (get_or log_labels i 0 == get_or log_labels j 0)) c.compared
-      (λ k p f. bits_same (bit_in log j p) (get_or log_labels i 0 == get_or log_labels j 0) (each j i p c less e (has_at c.compared k p f)))
+      (λ k p f. is_same_of_same (bit_in log j p) (get_or log_labels i 0 == get_or log_labels j 0) (each j i p c less e (has_at c.compared k p f)))
 
   -- the label of a net is the first net of that label
   pub own_label : ShowsAll log log_labels cells → (i k : ℕ) → slice_get log_labels i ≡ Some k → (k ≤ i) × (slice_get log_labels k ≡ Some k)
@@ -236,16 +225,12 @@ rise_members nets labels k group rise is =
     subst (λ (g : List ℕ). Rise g) (sym is) (order_pairs (λ a b. a < b) (members nets labels k) (members_rise nets labels k (pairs_order (λ a b. a < b) nets rise)))
 
 -- groups are gathered label by label
-range_more : (a n : ℕ) → range_with_len a (suc n) ≡ range_with_len a n ++ (a + n) ∷ []
-range_more a zero = let z : a ≡ a + 0 = omega arith in ap (λ (k : ℕ). k ∷ []) z
-range_more a (suc n) = let z : a + 1 + n ≡ a + suc n = omega arith in ap (λ (l : List ℕ). a ∷ l) (range_more (a + 1) n ∙ ap (λ (k : ℕ). range_with_len (a + 1) n ++ k ∷ []) z)
-
 pub groups_more : (nets labels : List ℕ) (k : ℕ) → flat_map (group_at nets labels) (range_with_len 0 (k + 1)) ≡ flat_map (group_at nets labels) (range_with_len 0 k) ++ group_at nets labels k
 groups_more nets labels k =
     let on : k + 1 ≡ suc k = omega arith in
     let z : 0 + k ≡ k = omega arith in
     ap (λ (n : ℕ). flat_map (group_at nets labels) (range_with_len 0 n)) on
-    ∙ ap (λ (l : List ℕ). flat_map (group_at nets labels) l) (range_more 0 k)
+    ∙ ap (λ (l : List ℕ). flat_map (group_at nets labels) l) (range_with_len_more 0 k)
     ∙ flat_map-append (group_at nets labels) (range_with_len 0 k) ((0 + k) ∷ [])
     ∙ ap (λ (l : List (List ℕ)). flat_map (group_at nets labels) (range_with_len 0 k) ++ l) (append-nil (group_at nets labels (0 + k)) ∙ ap (λ (n : ℕ). group_at nets labels n) z)
 

@@ -11,7 +11,6 @@ mod SampleGroups
 mod SampleLines
 mod LabelLemmas
 mod SetLemmas
-mod PutLemmas
 mod MemberLemmas
 mod DigitLemmas
 mod MaskLemmas

@@ -2,7 +2,7 @@
 use Rattle.std.proofs.Common.{◌≡◌, ◌⊎◌, inl, inr, ℕ, zero, suc, ◌+◌, ◌*◌, ◌/◌, ◌%◌, ◌<◌, ◌≤◌, ◌==◌, ◌^◌, Bool, true, false, ◌&&◌, List, [], ◌∷◌, length, get_or, min, Decides, refl, sym, ap, ◌∙◌, arith}
 use Rattle.std.specs.Int.{bit_at}
 use Rattle.std.specs.Int.Bits.{bit_and, bit_xor}
-use Rattle.std.proofs.lemmas.Bool.{eqb-true, cases_lt}
+use Rattle.std.proofs.lemmas.Bool.{eqb-true, cases_lt, and_parts}
 use Rattle.std.proofs.lemmas.List.{get_or_past}
 use Rattle.std.proofs.lemmas.Nat.Bits.{bit_at-zero, bit_at-lt, bit_at_and, bit_at_xor, bit_at_above, same_from_bits}
 use Rattle.bt_bits.specs.Digits.{digit_bit, digit_value, digits_of}
@@ -84,13 +84,9 @@ module _ (log : List (List Bool)) (mask : List Bool) (marks : List ℕ) (are : m
   one_is : (at : ℕ) (b : Bool) → get_or mask at false ≡ true → bit_in log j at ≡ b → is_one row marks at ≡ b
   one_is at b on is = ap (λ (m : Bool). m && bit_of row at) (mark_bit mask marks are at ∙ on) ∙ row_bit at on ∙ is
 
-  both : (a b : Bool) → (a && b) ≡ true → (a ≡ true) × (b ≡ true)
-  both true b e = (refl, e)
-  both false b e = cc e
-
   is_one_on : (at : ℕ) → is_one row marks at ≡ true → (get_or mask at false ≡ true) × (bit_in log j at ≡ true)
   is_one_on at one =
-      let r = both (bit_of marks at) (bit_of row at) one in
+      let r = and_parts (bit_of marks at) (bit_of row at) one in
       let on : get_or mask at false ≡ true = sym (mark_bit mask marks are at) ∙ r.0 in
       (on, sym (row_bit at on) ∙ r.1)
 

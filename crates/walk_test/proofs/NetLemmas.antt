@@ -1,10 +1,9 @@
 -- The walk nets: which they are, their places, and how many.
-use Rattle.std.proofs.Common.{◌≡◌, ℕ, zero, suc, ◌+◌, ◌<◌, ◌==◌, Bool, true, false, cond, List, [], ◌∷◌, ◌++◌, length, take, Option, Some, None, refl, sym, ◌∙◌, ap, subst, arith}
+use Rattle.std.proofs.Common.{◌≡◌, ℕ, zero, suc, ◌+◌, ◌<◌, ◌==◌, Bool, true, false, cond, List, [], ◌∷◌, length, take, Option, Some, None, refl, sym, ◌∙◌, ap, subst, arith}
 use Rattle.std.specs.Prelude.{slice_get, filter, count_by, is_some, Contains}
 use Rattle.std.specs.List.{range_with_len}
 use Rattle.std.specs.Cmp.{both_ways as same_answer}
 use Rattle.std.proofs.lemmas.Bool.{eqb-true, eq-eqb}
-use Rattle.std.proofs.lemmas.List.Elements.{filter-append}
 use Rattle.std.proofs.lemmas.List.Sums.{sum_by-cons}
 use Rattle.board_defs.specs.declared.board.Net.{Net}
 use Rattle.board_defs.specs.declared.board.RawBoard.{RawBoard}
@@ -166,17 +165,3 @@ module _ (board : RawBoard) (walk : List Ctl) (is : walk_setting board ≡ Some 
       let same : n ≡ one = cc two in
       eq-eqb n one same)
       (λ e. eq-eqb (count_by (is_walked board walk) (take n board.nets)) j (ap (λ (m : ℕ). count_by (is_walked board walk) (take m board.nets)) (eqb-true n one e) ∙ (walk_at j one at).counted))
-
--- one number more that a test keeps, where it does
-pub kept_more : (q : ℕ → Bool) (n : ℕ) → filter q (range_with_len 0 (n + 1)) ≡ filter q (range_with_len 0 n) ++ cond (q n) (n ∷ []) []
-kept_more q n =
-    let next : n + 1 ≡ suc n = omega arith in
-    let z : 0 + n ≡ n = omega arith in
-    ap (λ (k : ℕ). filter q (range_with_len 0 k)) next
-    ∙ ap (λ (l : List ℕ). filter q l) (by_length 0 n)
-    ∙ filter-append q (range_with_len 0 n) ((0 + n) ∷ [])
-    ∙ ap (λ (k : ℕ). filter q (range_with_len 0 n) ++ cond (q k) (k ∷ []) []) z
-  where
-    by_length : (a n : ℕ) → range_with_len a (suc n) ≡ range_with_len a n ++ (a + n) ∷ []
-    by_length a zero = let z : a ≡ a + 0 = omega arith in ap (λ (k : ℕ). k ∷ []) z
-    by_length a (suc n) = let z : a + 1 + n ≡ a + suc n = omega arith in ap (λ (l : List ℕ). a ∷ l) (by_length (a + 1) n ∙ ap (λ (k : ℕ). range_with_len (a + 1) n ++ k ∷ []) z)

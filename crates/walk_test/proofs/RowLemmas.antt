@@ -2,7 +2,7 @@
 use Rattle.std.proofs.Common.{◌≡◌, ◌⊎◌, inl, inr, ℕ, ◌+◌, ◌<◌, ◌≤◌, ◌==◌, Bool, true, false, not, List, [], ◌∷◌, ◌++◌, length, get_or, set, replicate, Option, Some, is_some, unwrap_or, refl, sym, ◌∙◌, ap, subst, arith, length-set}
 use Rattle.std.specs.Prelude.{slice_get, filter, Contains, All, count_by}
 use Rattle.std.specs.List.{list_any, flat_map}
-use Rattle.std.proofs.lemmas.Bool.{both_ways, cases_eq, cases_lt, eq-eqb}
+use Rattle.std.proofs.lemmas.Bool.{both_ways, cases_eq, cases_lt, eq-eqb, not-true}
 use Rattle.std.proofs.lemmas.List.{get_or-set_same, get_or-set_other, get_or_past, get_or-replicate, length-replicate}
 use Rattle.std.proofs.lemmas.Option.{get_or_from_slice_get}
 use Rattle.board_defs.specs.declared.device.Cell.{Cell}
@@ -347,11 +347,7 @@ beside_positions : (place : ℕ) (readers : List ReaderCell) (position : ℕ) �
 beside_positions place readers position h =
     let m = map_has (λ (r : ReaderCell). r.position) (filter (λ r. not (r.place == place)) readers) position h in
     let f = filter_has (λ (r : ReaderCell). not (r.place == place)) readers m.0 m.1 in
-    (m.0, f.0, not_false (m.0.place == place) f.1, m.2)
-  where
-    not_false : (b : Bool) → not b ≡ true → b ≡ false
-    not_false true e = cc e
-    not_false false e = refl
+    (m.0, f.0, not-true (m.0.place == place) f.1, m.2)
 
 positions_has : (place : ℕ) (readers : List ReaderCell) (r : ReaderCell) → Has readers r → (r.place == place) ≡ false → Has (positions_beside place readers) r.position
 positions_has place readers r h other =

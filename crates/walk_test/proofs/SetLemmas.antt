@@ -1,5 +1,5 @@
 -- The one set of groups that explains a log, by the labels of the walk nets.
-use Rattle.std.proofs.Common.{◌≡◌, inl, inr, ℕ, zero, suc, ◌*◌, ◌<◌, ◌≤◌, ◌==◌, Bool, true, false, cond, ◌&&◌, List, [], ◌∷◌, length, take, map, get_or, Option, Some, None, Decides, refl, sym, ◌∙◌, ap, subst, arith}
+use Rattle.std.proofs.Common.{◌≡◌, inl, inr, ℕ, zero, suc, ◌<◌, ◌≤◌, ◌==◌, Bool, true, false, cond, ◌&&◌, List, [], ◌∷◌, length, take, map, get_or, Option, Some, None, Decides, refl, sym, ◌∙◌, ap, subst, arith}
 use Rattle.std.specs.Prelude.{◌↔◌, slice_get, count_by, All, Contains, Result, Ok, Err, IfOk, option_map}
 use Rattle.std.specs.List.{list_all}
 use Rattle.std.specs.Option.{option_to_list}
@@ -8,6 +8,7 @@ use Rattle.std.proofs.lemmas.Bool.{eqb-true, eq-eqb}
 use Rattle.std.proofs.lemmas.Bool.Decides.{Decides-like, Decides-and, Decides-eqb, Decides-by_and}
 use Rattle.std.proofs.lemmas.List.{length-map}
 use Rattle.std.proofs.lemmas.Option.{slice_get_within, slice_get-get_or, slice_get-map, get_or_from_slice_get}
+use Rattle.std.proofs.Math.Nat.{one-mul}
 use Rattle.board_defs.specs.declared.board.Net.{Net}
 use Rattle.board_defs.specs.declared.board.RawBoard.{RawBoard}
 use Rattle.board_defs.specs.declared.board.Ctl.{Ctl}
@@ -227,9 +228,6 @@ shape_decided board scans log = (
 
     rows : Bool
     rows = length log == count_by is_compared (board_scans board scans)
-
-one_times : (k : ℕ) → 1 * k ≡ k
-one_times k = grind arith
 
 -- the nets of groups are nets of the board
 pub found_named : (board : RawBoard) (log : List (List Bool)) (found : Option (List (List ℕ))) → AreFound board log found → AreNamed board found
@@ -466,7 +464,7 @@ module _ (safe : WalkSafe) (by_rows : (board : RawBoard) (faults : FaultSet) (sc
       by_cells : (walk : List Ctl) → walk_setting board ≡ Some walk → HasShape board (walk_row_scans board walk) log → (cells : List NetCells) × CellsAre board walk (walk_nets board) cells → (found : Option (List (List ℕ))) × AreFound board log found
       by_cells walk is shape (cells, are) =
           let rows : length log ≡ length (walk_nets board) =
-          shape.rows ∙ rows_counted board (walk_row_scans board walk) ∙ (compare board walk rules).count ∙ one_times (count_by (is_walked board walk) board.nets) ∙ sym (count_is board walk is) in
+          shape.rows ∙ rows_counted board (walk_row_scans board walk) ∙ (compare board walk rules).count ∙ one-mul (count_by (is_walked board walk) board.nets) ∙ sym (count_is board walk is) in
           let d = shows_decided log (map (label_of log) cells) cells in
           (cond d.0 (Some (groups_by (walk_nets board) (map (label_of log) cells))) None, found_by board rules walk is log cells are rows shape.bits d.0 d.1)
 

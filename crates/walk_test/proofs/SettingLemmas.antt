@@ -4,7 +4,10 @@ use Rattle.std.specs.Prelude.{slice_get, filter, find, option_map, option_and_th
 use Rattle.std.specs.Option.{option_to_list}
 use Rattle.std.specs.List.{list_any, flat_map}
 use Rattle.std.specs.Cmp.{both_ways as same_answer}
-use Rattle.std.proofs.lemmas.Bool.{and_from, or_cases}
+use Rattle.std.proofs.lemmas.Bool.{and_from, or_cases, not-true}
+use Rattle.std.proofs.Math.Bool.{and-false, or-false}
+use Rattle.std.proofs.lemmas.List.Elements.{filter_agree}
+use Rattle.lists.proofs.ListLemmas.{list_any_same}
 use Rattle.board_defs.specs.declared.device.Control.{Control}
 use Rattle.board_defs.specs.declared.device.Cell.{Cell}
 use Rattle.board_defs.specs.declared.board.PinAt.{PinAt}
@@ -89,23 +92,15 @@ pin_switched board net pin c open_net = by_at pin.at
     by_at None = refl
     by_at (Some at) = by_entry at (entry_at board at)
 
-any_same : {X : Type 0} (p q : X → Bool) → ((x : X) → p x ≡ q x) → (xs : List X) → list_any p xs ≡ list_any q xs
-any_same p q same [] = refl
-any_same p q same (x ∷ xs) = ap (λ (b : Bool). b || list_any p xs) (same x) ∙ ap (λ (b : Bool). q x || b) (any_same p q same xs)
-
 none_switched : (board : RawBoard) (net : Net) (c : Ctl) → guarded board net ≡ true → (pins : List NetPin) → list_any (is_switched_by board c net) pins ≡ false
 none_switched board net c closed [] = refl
 none_switched board net c closed (pin ∷ pins) = ap (λ (b : Bool). b || list_any (is_switched_by board c net) pins) (by_entry (option_and_then (entry_at board) pin.at)) ∙ none_switched board net c closed pins
   where
-    and_none : (b : Bool) → (b && false) ≡ false
-    and_none true = refl
-    and_none false = refl
-
     by_control : (cell : Cell) (o : Option Control) → (switches_by board net cell o && is_by c (drive board net pin)) ≡ false
     by_control cell None = refl
     by_control cell (Some control) =
         ap (λ (g : Bool). ((control.cell == cell.num) && (not g && is_pulled_to control.disable net.pull)) && is_by c (drive board net pin)) closed
-        ∙ ap (λ (b : Bool). b && is_by c (drive board net pin)) (and_none (control.cell == cell.num))
+        ∙ ap (λ (b : Bool). b && is_by c (drive board net pin)) (and-false (control.cell == cell.num))
 
     by_entry : (o : Option Cell) → (switches_entry board net o && is_by c (drive board net pin)) ≡ false
     by_entry None = refl
@@ -118,7 +113,7 @@ net_held board s net c = by_guard (guarded board net) refl
     by_guard true e = sym (ap (λ (b : Bool). b || holds s c) (none_switched board net c e net.pins))
     by_guard false e =
         pins_held board net.pull s net.pins c
-        ∙ ap (λ (b : Bool). b || holds s c) (any_same (λ pin. is_ctl (pin_switch board net.pull pin.at) c) (is_switched_by board c net) (λ pin. pin_switched board net pin c e) net.pins)
+        ∙ ap (λ (b : Bool). b || holds s c) (list_any_same (λ pin. is_ctl (pin_switch board net.pull pin.at) c) (is_switched_by board c net) (λ pin. pin_switched board net pin c e) net.pins)
 
 nets_held : (board : RawBoard) (s : List Ctl) (nets : List Net) (c : Ctl) →
     holds (fold (with_net board) s nets) c ≡ (list_any (λ net. list_any (is_switched_by board c net) net.pins) nets || holds s c)
@@ -129,23 +124,13 @@ nets_held board s (net ∷ nets) c =
     ∙ ap (λ (b : Bool). rest || b) (net_held board s net c)
     ∙ regroup (list_any (is_switched_by board c net) net.pins) rest (holds s c)
 
-or_none : (b : Bool) → (b || false) ≡ b
-or_none true = refl
-or_none false = refl
-
 pub switching_is : (board : RawBoard) (c : Ctl) → holds (all_switching board board.nets) c ≡ switches_some board c
-switching_is board c = nets_held board [] board.nets c ∙ or_none (switches_some board c)
-
-filter_same : {X : Type 0} (p q : X → Bool) → ((x : X) → p x ≡ q x) → (xs : List X) → filter p xs ≡ filter q xs
-filter_same p q same [] = refl
-filter_same {X} p q same (x ∷ xs) =
-    ap (λ (b : Bool). cond b (x ∷ filter p xs) (filter p xs)) (same x)
-    ∙ ap (λ (l : List X). cond (q x) (x ∷ l) l) (filter_same p q same xs)
+switching_is board c = nets_held board [] board.nets c ∙ or-false (switches_some board c)
 
 -- what is left of a pass
 pub left_is : (board : RawBoard) (set pass : List Ctl) → set ≡ all_switching board board.nets → filter (λ c. not (holds set c)) pass ≡ without_switching board pass
 left_is board set pass is =
-    filter_same (λ c. not (holds set c)) (λ c. not (switches_some board c)) (λ c. ap (λ (s : List Ctl). not (holds s c)) is ∙ ap not (switching_is board c)) pass
+    filter_agree (λ c. not (holds set c)) (λ c. not (switches_some board c)) (λ c. ap (λ (s : List Ctl). not (holds s c)) is ∙ ap not (switching_is board c)) pass
 
 pub left_order : (p : Ctl → Bool) (pass : List Ctl) → IsInControlOrder pass → IsInControlOrder (filter p pass)
 left_order p pass order =
@@ -157,11 +142,7 @@ pub setting_held : (board : RawBoard) (pass : List Ctl) (c : Ctl) → holds (wit
 setting_held board pass c h =
     let r = any_place (same_ctl c) (without_switching board pass) h in
     let f = filter_has (λ d. not (switches_some board d)) pass r.item (has_at (without_switching board pass) r.place r.item r.stands) in
-    (has_any (same_ctl c) pass r.item f.0 r.passes, not_true (switches_some board c) (subst (λ (d : Ctl). not (switches_some board d) ≡ true) (sym (same_equal c r.item r.passes)) f.1))
-  where
-    not_true : (b : Bool) → not b ≡ true → b ≡ false
-    not_true true e = cc e
-    not_true false e = refl
+    (has_any (same_ctl c) pass r.item f.0 r.passes, not-true (switches_some board c) (subst (λ (d : Ctl). not (switches_some board d) ≡ true) (sym (same_equal c r.item r.passes)) f.1))
 
 -- the walk setting is made of the first pass
 pub record FirstPass (board : RawBoard) (setting : List Ctl) : Type 0 where

@@ -2,7 +2,7 @@
 use Rattle.std.proofs.Common.{◌≡◌, ◌↔◌, ℕ, suc, ◌<◌, Bool, true, false, cond, ◌&&◌, ◌||◌, List, [], ◌∷◌, ◌++◌, length, map, replicate, Option, Some, None, refl, sym, ◌∙◌, ap, subst, arith, append_assoc}
 use Rattle.std.specs.Prelude.{is_some}
 use Rattle.std.proofs.lemmas.Bool.{and_parts, and_from}
-use Rattle.std.proofs.lemmas.List.{length-map, length-replicate}
+use Rattle.std.proofs.lemmas.List.{length-map, length-replicate, nil_from_length}
 use Rattle.board_defs.specs.declared.board.PartKind.{PartKind}
 use Rattle.board_defs.specs.declared.board.PartKind.TheVariants.{Described, Bypass as WithoutDescription}
 use Rattle.board_defs.specs.declared.board.Part.{Part}
@@ -32,10 +32,6 @@ use Rattle.tap_defs.proofs.board.RowScanLemmas.{row_scan_by}
 use Rattle.tap_defs.proofs.board.EntryLemmas.{stays_of, row_scan_some, AllSilent, quiet_silent, entered, f3, scan2, in_test_after}
 use Rattle.tap_defs.proofs.chain.HeadLemmas.{scans_decide}
 
-no_items : {A : Type 0} (xs : List A) → length xs ≡ 0 → xs ≡ []
-no_items [] e = refl
-no_items (x ∷ xs) e = absurd (omega (arith, e))
-
 -- what a part shows while the row is in its latches
 part_shows : (board : RawBoard) (t : RowScan) (k : ℕ) (kind : PartKind) (logic : TestLogic) (s : PartState) → logic ≡ test_logic kind →
     IsStateOf logic s →
@@ -48,7 +44,7 @@ part_shows board t k (Described device) logic s l h c e =
     ∙ ap (λ (r : List Bool). record { current = Extest; latches = r }) latches
 part_shows board t k (WithoutDescription n) logic s l h c e =
     ap (λ (i : Instruction). record { current = i; latches = s.latches }) c
-    ∙ ap (λ (r : List Bool). record { current = Bypass; latches = r }) (no_items s.latches (h.latches ∙ ap (λ (x : TestLogic). x.boundary_length) l))
+    ∙ ap (λ (r : List Bool). record { current = Bypass; latches = r }) (nil_from_length s.latches (h.latches ∙ ap (λ (x : TestLogic). x.boundary_length) l))
 
 parts_show : (board : RawBoard) (t : RowScan) (k : ℕ) (ps : List Part) (chain : List ChainPart) →
     logics chain ≡ map (λ p. test_logic p.kind) ps → AllAreStates chain →

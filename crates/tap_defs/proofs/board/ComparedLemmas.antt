@@ -2,7 +2,7 @@
 use Rattle.std.proofs.Common.{◌≡◌, inl, inr, ℕ, zero, suc, ◌+◌, ◌*◌, ◌<◌, Bool, true, false, cond, ◌||◌, ◌==◌, List, [], ◌∷◌, ◌++◌, length, filter, drop, take, Option, Some, None, refl, sym, ◌∙◌, ap, subst, arith, length-append}
 use Rattle.std.specs.Prelude.{is_some, slice_get, count_by}
 use Rattle.std.specs.List.{list_any, flat_map}
-use Rattle.std.proofs.lemmas.Bool.{both_ways, false_from_ne_true}
+use Rattle.std.proofs.lemmas.Bool.{both_ways, false_from_ne_true, or_right}
 use Rattle.std.proofs.lemmas.List.{length-drop}
 use Rattle.std.proofs.lemmas.List.Elements.{filter-append}
 use Rattle.std.proofs.lemmas.List.Folds.{list_any-append}
@@ -46,10 +46,6 @@ any_joined (a ∷ bs) zero b e h =
     let same : a ≡ b = cc e in
     list_any-append (λ x. is_some x.expect) (joined bs) a
     ∙ or_right (compares (joined bs)) (compares a) (ap (λ (x : List ScanBit). compares x) same ∙ h)
-  where
-    or_right : (x y : Bool) → y ≡ true → (x || y) ≡ true
-    or_right true y e = refl
-    or_right false y e = e
 any_joined (a ∷ bs) (suc k) b e h =
     list_any-append (λ x. is_some x.expect) (joined bs) a
     ∙ ap (λ (x : Bool). x || compares a) (any_joined bs k b e h)

@@ -1,12 +1,11 @@
 -- From any state, after the head and the first three scans, the quiet row is in the latches under EXTEST.
-use Rattle.std.proofs.Common.{not, ◌≡◌, ◌≢◌, ℕ, zero, suc, ◌<◌, ◌≤◌, Bool, true, false, cond, ◌&&◌, List, [], ◌∷◌, length, map, replicate, Option, Some, refl, sym, ◌∙◌, ap, subst, length-append, take, arith, ◌++◌, ◌==◌, None}
-use Rattle.std.specs.Prelude.{slice_get, option_map, unwrap_or, All}
+use Rattle.std.proofs.Common.{not, ◌≡◌, ◌≢◌, ℕ, zero, suc, ◌<◌, ◌≤◌, Bool, true, false, cond, ◌&&◌, List, [], ◌∷◌, length, map, Option, Some, refl, sym, ◌∙◌, ap, subst, length-append, take, arith, ◌++◌, ◌==◌, None}
+use Rattle.std.specs.Prelude.{slice_get, option_map, unwrap_or}
 use Rattle.std.specs.List.{list_all, AllByRecursion}
 use Rattle.std.proofs.lemmas.List.Elements.{recursion_from_All}
 use Rattle.board_defs.specs.declared.device.RawDevice.{RawDevice}
 use Rattle.board_defs.specs.declared.device.Cell.{Cell}
 use Rattle.board_defs.specs.declared.device.Symbol.{Symbol}
-use Rattle.board_defs.specs.declared.device.Symbol.TheVariants.{Zero, One, Any}
 use Rattle.std.specs.Bool.{beq}
 use Rattle.std.specs.Cmp.Lexicographic.{pointwise}
 use Rattle.board_defs.specs.declared.board.PartKind.{PartKind}
@@ -33,6 +32,7 @@ use Rattle.tap_defs.specs.board.OnBoard.{test_logic, board_logics, board_wiring,
 use Rattle.tap_defs.specs.board.FaultSet.{FaultSet}
 use Rattle.tap_defs.specs.board.NetBits.{captured_by, Place, place_of}
 use Rattle.board_defs.specs.DeviceRules.{reading_entry, bit_of, is_receiving}
+use Rattle.board_defs.proofs.CodeLemmas.{same_code}
 use Rattle.tap_defs.proofs.chain.ListLemmas.{cons_path, drop_front, length-joined, length-filled}
 use Rattle.std.proofs.lemmas.List.{length-replicate}
 use Rattle.tap_defs.proofs.chain.MoveLemmas.{all_in}
@@ -45,6 +45,7 @@ use Rattle.tap_defs.proofs.chain.RunLemmas.{two_pass, run_keeps, scan_passes_tak
 use Rattle.tap_defs.proofs.chain.StateLemmas.{FitsLogics, chain_keeps}
 use Rattle.tap_defs.proofs.chain.HeadLemmas.{chain_logics, chain_lengths, ir_sizes, head_idles, scans_decide}
 use Rattle.tap_defs.proofs.chain.InstructLemmas.{AllRoom, tdi_bits-instructs, instructs_pass, length-instructs}
+use Rattle.tap_defs.proofs.chain.RowLemmas.{all_ones-replicate}
 
 -- the parts of a board keep their rules, by recursion on the chain
 abbrev pub Parts : List Part → Type 0
@@ -211,37 +212,9 @@ not_same c d h = by_test (pointwise beq c d) refl
     by_test true e = absurd (h (from_same c d e))
     by_test false e = refl
 
-given_bit : (s t : Symbol) → s ≢ Any → t ≢ Any → bit_of s ≡ bit_of t → s ≡ t
-given_bit Zero Zero h k e = refl
-given_bit Zero One h k e = cc e
-given_bit Zero Any h k e = absurd (k refl)
-given_bit One Zero h k e = cc e
-given_bit One One h k e = refl
-given_bit One Any h k e = absurd (k refl)
-given_bit Any t h k e = absurd (h refl)
-
--- codes of given bits that have the same bits
-given_same : (xs ys : List Symbol) → All (λ s. s ≢ Any) xs → All (λ s. s ≢ Any) ys → map bit_of xs ≡ map bit_of ys → xs ≡ ys
-given_same xs ys h k e =
-    go xs ys (recursion_from_All (λ (s : Symbol). s ≢ Any) xs h) (recursion_from_All (λ (s : Symbol). s ≢ Any) ys k) e
-  where
-    go : (xs ys : List Symbol) → AllByRecursion (λ (s : Symbol). s ≢ Any) xs → AllByRecursion (λ (s : Symbol). s ≢ Any) ys →
-        map bit_of xs ≡ map bit_of ys → xs ≡ ys
-    go [] [] h k e = refl
-    go [] (y ∷ ys) h k e = cc e
-    go (x ∷ xs) [] h k e = cc e
-    go (x ∷ xs) (y ∷ ys) h k e =
-        let head : bit_of x ≡ bit_of y = cc e in
-        let tail : map bit_of xs ≡ map bit_of ys = cc e in
-        cons_path (given_bit x y h.0 k.0 head) (go xs ys h.1 k.1 tail)
-
 ones_of : (xs : List Symbol) → all_ones (map bit_of xs) ≡ list_all bit_of xs
 ones_of [] = refl
 ones_of (x ∷ xs) = ap (λ (b : Bool). bit_of x && b) (ones_of xs)
-
-ones_are : (n : ℕ) → all_ones (replicate n true) ≡ true
-ones_are zero = refl
-ones_are (suc n) = ones_are n
 
 abbrev by_tests : Bool → Bool → Bool → Instruction
 by_tests ones extest sample = cond ones Bypass (cond extest Extest (cond sample Sample Other))
@@ -251,9 +224,9 @@ preload_means_one (Described device) h =
     let preload : List Bool = map bit_of device.sample in
     let extest : List Bool = map bit_of device.extest in
     ap (λ (b : Bool). by_tests b (pointwise beq extest preload) (pointwise beq preload preload)) (ones_of device.sample ∙ h.codes.sample_not_ones)
-    ∙ ap (λ (b : Bool). by_tests false b (pointwise beq preload preload)) (not_same extest preload (λ e. h.codes.codes_differ (sym (given_same device.extest device.sample h.codes.extest_given h.codes.sample_given e))))
+    ∙ ap (λ (b : Bool). by_tests false b (pointwise beq preload preload)) (not_same extest preload (λ e. h.codes.codes_differ (sym (same_code device.extest device.sample h.codes.extest_given h.codes.sample_given e))))
     ∙ ap (λ (b : Bool). by_tests false false b) (same_self preload)
-preload_means_one (WithoutDescription n) h = ap (λ (b : Bool). by_tests b false false) (ones_are n)
+preload_means_one (WithoutDescription n) h = ap (λ (b : Bool). by_tests b false false) (all_ones-replicate n)
 
 pub preload_means : (ps : List Part) → Parts ps → CodesMean preload_code preloading ps
 preload_means [] h = tt
@@ -265,7 +238,7 @@ extest_means_one (Described device) h =
     let extest : List Bool = map bit_of device.extest in
     ap (λ (b : Bool). by_tests b (pointwise beq extest extest) (pointwise beq preload extest)) (ones_of device.extest ∙ h.codes.extest_not_ones)
     ∙ ap (λ (b : Bool). by_tests false b (pointwise beq preload extest)) (same_self extest)
-extest_means_one (WithoutDescription n) h = ap (λ (b : Bool). by_tests b false false) (ones_are n)
+extest_means_one (WithoutDescription n) h = ap (λ (b : Bool). by_tests b false false) (all_ones-replicate n)
 
 pub extest_means : (ps : List Part) → Parts ps → CodesMean extest_code in_test ps
 extest_means [] h = tt
@@ -289,21 +262,21 @@ pub silent_made : (n : ℕ) (f : ℕ → ScanBit) → ((c : ℕ) → (f c).expec
 silent_made zero f q = tt
 silent_made (suc n) f q = (q 0, silent_made n (λ k. f (suc k)) (λ k. q (suc k)))
 
+pub only_if-None : (b : Bool) → only_if b None ≡ None
+only_if-None true = refl
+only_if-None false = refl
+
 -- the quiet row carries nothing that could be compared
-quiet_expects : (board : RawBoard) (k : ℕ) (device : RawDevice) (cell : ℕ) → expect_bit board quiet_row k device cell ≡ None
+pub quiet_expects : (board : RawBoard) (k : ℕ) (device : RawDevice) (cell : ℕ) → expect_bit board quiet_row k device cell ≡ None
 quiet_expects board k device cell = by_entry (reading_entry device cell)
   where
-    only_none : (b : Bool) → only_if b None ≡ None
-    only_none true = refl
-    only_none false = refl
-
     cond_none : (b : Bool) (o : Option Bool) → o ≡ None → cond b o None ≡ None
     cond_none true o e = e
     cond_none false o e = refl
 
     by_driver : (place : ℕ) (o : Option ℕ) → expect_observed None place o ≡ None
     by_driver place None = refl
-    by_driver place (Some i) = only_none (not (i == place))
+    by_driver place (Some i) = only_if-None (not (i == place))
 
     by_place : (o : Option Place) → expect_place board quiet_row o ≡ None
     by_place None = refl

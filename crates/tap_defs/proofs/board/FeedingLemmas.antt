@@ -2,6 +2,7 @@
 use Rattle.std.proofs.Common.{◌≡◌, ◌≢◌, ℕ, zero, suc, ◌+◌, ◌==◌, Bool, true, false, cond, not, ◌&&◌, List, [], ◌∷◌, Option, Some, None, refl, sym, ◌∙◌, ap, subst, arith}
 use Rattle.std.specs.Prelude.{slice_get, unwrap_or, option_map, option_and_then}
 use Rattle.std.specs.List.{list_all}
+use Rattle.lists.proofs.Booleans.{not_itself}
 use Rattle.board_defs.specs.declared.device.Control.{Control}
 use Rattle.board_defs.specs.declared.device.Cell.{Cell}
 use Rattle.board_defs.specs.declared.device.RawDevice.{RawDevice}
@@ -14,6 +15,7 @@ use Rattle.board_defs.specs.declared.board.RawBoard.{RawBoard}
 use Rattle.board_defs.specs.DeviceRules.{is_driving, drives_bit, driving_entry, is_on}
 use Rattle.board_defs.specs.Pins.{device_at, described, entry_at, guarded, is_same, is_pinned}
 use Rattle.board_defs.specs.Settings.{Enabling, enables, enables_where, enables_entry, enables_by, IsSafe, SwitchesAt}
+use Rattle.board_defs.proofs.CellLemmas.{on_is}
 use Rattle.tap_defs.specs.chain.Part.{PinState}
 use Rattle.tap_defs.specs.chain.Chain.{ChainPart, pin_states}
 use Rattle.tap_defs.specs.board.FaultSet.{FaultSet, no_faults}
@@ -21,7 +23,7 @@ use Rattle.tap_defs.specs.board.NetBits.{Place, place_of, in_extest, latch, live
 use Rattle.tap_defs.specs.board.TestRows.{TestRow, steady_bit, data_bit, data_pin, data_place, data_observed, only_if, observing_driver, observing_driver_by, first_enabled, reads_beside}
 use Rattle.std.proofs.lemmas.Bool.{and_parts, both_ways, eq-eqb, false_from_ne_true, eqb-true}
 use Rattle.tap_defs.proofs.board.InTestLemmas.{InTest, shifted_row}
-use Rattle.tap_defs.proofs.board.LiveLemmas.{IsWired, found, find_some, control_on, latch_is, extest_is, dead_if_off, on_is}
+use Rattle.tap_defs.proofs.board.LiveLemmas.{IsWired, found, find_some, control_on, latch_is, extest_is, dead_if_off}
 
 -- what the rules of a board say of a pin of a net: it is of no described part, or it is where the net file says
 pub data PinRules (board : RawBoard) (n : ℕ) (net : Net) (i : ℕ) (p : NetPin) : Type 0 where
@@ -164,10 +166,6 @@ module _ (board : RawBoard) (row : TestRow) (safe : IsSafe board row.setting) (n
     on_off false true e = cc e
     on_off false false e = refl
 
-    not_self : (b : Bool) → not b ≡ b → ⊥
-    not_self true e = cc e
-    not_self false e = cc e
-
     module _ (at : PinAt) (part : Part) (device : RawDevice) (at_is : w.pin.at ≡ Some at) (ek : slice_get board.chain at.part ≡ Some part) (ed : part.kind ≡ Described device) (wired : IsWired device) (pinned : is_pinned board at ≡ true)
         (place : place_of at 0 board.nets ≡ Some (record { number = n; net = net; place = d })) (e : Cell) (i : ℕ) (entry : driving_entry device at.bit ≡ Some e) (de : drives_bit at.bit e ≡ true) (ei : slice_get device.cells i ≡ Some e) where
       k : ℕ
@@ -238,7 +236,7 @@ module _ (board : RawBoard) (row : TestRow) (safe : IsSafe board row.setting) (n
         where
           by_own : latch (pin_states chain) at.part control.cell ≡ control.disable → (b : Bool) → (control.cell == e.num) ≡ b →
               net.pull ≡ Some v
-          by_own l false x = absurd (not_self control.disable (sym (other_cell control q on x) ∙ l))
+          by_own l false x = absurd (not_itself control.disable (sym (other_cell control q on x) ∙ l))
           by_own l true x =
               let num : control.cell ≡ e.num = eqb-true control.cell e.num x in
               let same : v ≡ control.disable = sym latch_num ∙ ap (λ (c : ℕ). latch (pin_states chain) at.part c) (sym num) ∙ l in

@@ -1,5 +1,5 @@
 -- What is live while a row of a pass is in the latches.
-use Rattle.std.proofs.Common.{◌≡◌, ℕ, zero, suc, ◌+◌, ◌<◌, ◌==◌, Bool, true, false, cond, not, ◌&&◌, List, [], ◌∷◌, Option, Some, None, refl, sym, ◌∙◌, ap, subst, arith}
+use Rattle.std.proofs.Common.{◌≡◌, ℕ, zero, suc, ◌<◌, ◌==◌, Bool, true, false, cond, not, ◌&&◌, List, [], ◌∷◌, Option, Some, None, refl, sym, ◌∙◌, ap, subst, zero-add}
 use Rattle.std.specs.Prelude.{slice_get, unwrap_or, option_map, option_and_then, find}
 use Rattle.std.specs.List.{list_any}
 use Rattle.std.proofs.lemmas.Option.{slice_get-map}
@@ -15,6 +15,7 @@ use Rattle.board_defs.specs.DeviceRules.{is_driving, drives_bit, driving_entry, 
 use Rattle.board_defs.specs.Pins.{device_at, described, entry_at, is_same, is_pinned}
 use Rattle.board_defs.specs.Settings.{enables_at, enables_entry, enables_by}
 use Rattle.board_defs.proofs.Places.{any_at}
+use Rattle.board_defs.proofs.CellLemmas.{on_is}
 use Rattle.tap_defs.specs.chain.TestLogic.{Instruction, Extest}
 use Rattle.tap_defs.specs.chain.Part.{PinState, pin_state}
 use Rattle.tap_defs.specs.chain.ShiftRegister.{filled}
@@ -26,6 +27,7 @@ use Rattle.tap_defs.specs.board.Quiet.{controls_driver, safe_bit}
 use Rattle.tap_defs.specs.board.TestRows.{TestRow, row_bit, steady_bit, data_bit, data_pin, data_place, driving_cell, expect_bit}
 use Rattle.tap_defs.specs.board.BoardScans.{RowScan, part_bits, row_bits}
 use Rattle.std.proofs.lemmas.Bool.{and_parts, eq-eqb, eqb-true, both_ways}
+use Rattle.std.proofs.Math.Bool.{and-false}
 use Rattle.tap_defs.proofs.board.InTestLemmas.{in_test, InTest, shifted_row}
 use Rattle.tap_defs.proofs.chain.ScanLemmas.{filled_at}
 use Rattle.tap_defs.proofs.board.WrongLemmas.{bits_at}
@@ -105,11 +107,8 @@ module _ (board : RawBoard) (t : RowScan) (chain : List ChainPart) (k : ℕ) (pa
   row_at =
       slice_get-map tdi_bits (row_bits board t) k
       ∙ ap (λ (o : Option (List ScanBit)). option_map tdi_bits o) (bits_at board t 0 board.chain k part ek)
-      ∙ ap (λ (i : ℕ). Some (tdi_bits (part_bits board t i part.kind))) (zero_add k)
+      ∙ ap (λ (i : ℕ). Some (tdi_bits (part_bits board t i part.kind))) (zero-add k)
       ∙ ap (λ (kind : PartKind). Some (tdi_bits (part_bits board t k kind))) ed
-    where
-      zero_add : (i : ℕ) → 0 + i ≡ i
-      zero_add i = omega arith
 
   pub state : UnderTest (tdi_bits (part_bits board t k (Described device))) chain k
   state = under_test board (shifted_row board t) chain k part device (tdi_bits (part_bits board t k (Described device))) h ek ed row_at
@@ -132,14 +131,6 @@ module _ (board : RawBoard) (t : RowScan) (chain : List ChainPart) (k : ℕ) (pa
 pub same_self : (b : Bool) → not (is_same b b) ≡ false
 same_self true = refl
 same_self false = refl
-
-pub and_false : (b : Bool) → (b && false) ≡ false
-and_false true = refl
-and_false false = refl
-
-pub on_is : (b : ℕ) (o : Option ℕ) → is_on b o ≡ true → o ≡ Some b
-on_is b None e = cc e
-on_is b (Some c) e = ap (λ (x : ℕ). Some x) (eqb-true c b e)
 
 -- a driver that the setting does not enable, and whose cell carries no code, is not live
 pub dead_if_off : (board : RawBoard) (row before : TestRow) (chain : List ChainPart) (k b : ℕ) (part : Part) (device : RawDevice) →
@@ -189,7 +180,7 @@ dead_if_off board row before chain k b part device h ek ed wired pinned off idle
         ∙ steady_is in
         ap (λ (y : Bool). in_extest (pin_states chain) k && not (is_same y control.disable)) bit
         ∙ ap (λ (y : Bool). in_extest (pin_states chain) k && y) (same_self control.disable)
-        ∙ and_false (in_extest (pin_states chain) k)
+        ∙ and-false (in_extest (pin_states chain) k)
       where
         no_code : (e : Cell) (i : ℕ) → drives_bit b e ≡ true → slice_get device.cells i ≡ Some e → (control : Control) →
             e.ctl ≡ Some control → (o : Option Cell) → driving_cell device control.cell ≡ o →

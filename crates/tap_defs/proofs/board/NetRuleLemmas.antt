@@ -22,11 +22,11 @@ use Rattle.board_defs.proofs.Places.{all_stands}
 use Rattle.board_defs.proofs.BoardLemmas.{pins_once, pins_stand}
 use Rattle.tap_defs.specs.board.NetBits.{place_in, place_of, or_next}
 use Rattle.board_defs.specs.Decided.{is_at}
+use Rattle.board_defs.proofs.SafeSettings.{is_at_some}
 use Rattle.std.proofs.lemmas.Bool.{and_parts, eq-eqb, eqb-true}
 use Rattle.tap_defs.proofs.board.LiveLemmas.{IsWired, found, find_some}
 use Rattle.tap_defs.proofs.board.FeedingLemmas.{PinRules, apart, placed, NetRules}
 use Rattle.tap_defs.proofs.board.ReadingLemmas.{IsRead, any_is, AllRead}
-use Rattle.tap_defs.proofs.board.PassingLemmas.{same_place}
 use Rattle.tap_defs.proofs.board.QuietLemmas.{BoardRules, device_of, control_is}
 
 -- one place, one item
@@ -161,7 +161,7 @@ place_in_at at m (suc i) (q ∷ ps) p e a once =
   where
     by_test : place_in at (suc m) ps ≡ Some (m + suc i) → (b : Bool) → is_at at q.at ≡ b →
         cond b (Some m) (place_in at (suc m) ps) ≡ Some (m + suc i)
-    by_test ih true h = let z : 0 ≡ suc i = once 0 q refl (same_place at q.at h) in absurd (omega (arith, z))
+    by_test ih true h = let z : 0 ≡ suc i = once 0 q refl (is_at_some at q.at h) in absurd (omega (arith, z))
     by_test ih false h = ih
 
 place_in_none : (at : PinAt) (m : ℕ) (ps : List NetPin) → ((j : ℕ) (q : NetPin) → slice_get ps j ≡ Some q → q.at ≡ Some at → ⊥) →
@@ -170,7 +170,7 @@ place_in_none at m [] none = refl
 place_in_none at m (q ∷ ps) none = by_test (place_in_none at (suc m) ps (λ j x. none (suc j) x)) (is_at at q.at) refl
   where
     by_test : place_in at (suc m) ps ≡ None → (b : Bool) → is_at at q.at ≡ b → cond b (Some m) (place_in at (suc m) ps) ≡ None
-    by_test ih true h = absurd (none 0 q refl (same_place at q.at h))
+    by_test ih true h = absurd (none 0 q refl (is_at_some at q.at h))
     by_test ih false h = ih
 
 place_of_at : (at : PinAt) (m n i : ℕ) (nets : List Net) (net : Net) (p : NetPin) → slice_get nets n ≡ Some net →

@@ -17,6 +17,7 @@ use Rattle.tap_defs.specs.board.FaultSet.{no_faults}
 use Rattle.tap_defs.specs.board.NetBits.{Place, place_of, place_in, or_next, read_entry, read_bit, read_at, live_where, feeding, captured_by}
 use Rattle.board_defs.specs.Decided.{is_at}
 use Rattle.board_defs.specs.DeviceRules.{reading_entry, is_receiving}
+use Rattle.board_defs.proofs.SafeSettings.{is_at_some}
 use Rattle.tap_defs.specs.chain.Run.{Choice, bit_passes}
 use Rattle.tap_defs.specs.board.OnBoard.{board_wiring}
 use Rattle.tap_defs.specs.chain.Scan.{ScanBit, joined}
@@ -24,7 +25,7 @@ use Rattle.tap_defs.specs.chain.Transport.{scan_passes}
 use Rattle.tap_defs.specs.chain.ChainRegisters.{pins_at}
 use Rattle.tap_defs.specs.board.TestRows.{TestRow, observing_driver, row_bit, expect_bit, expect_entry, expect_pin, expect_place, expect_observed, only_if}
 use Rattle.tap_defs.specs.board.BoardScans.{RowScan, part_bits, row_bits}
-use Rattle.std.proofs.lemmas.Bool.{and_parts, both_ways, eq-eqb, eqb-true}
+use Rattle.std.proofs.lemmas.Bool.{both_ways, eq-eqb}
 use Rattle.tap_defs.specs.board.RowCaptures.{register_of, registers}
 use Rattle.tap_defs.proofs.board.InTestLemmas.{InTest, shifted_row}
 use Rattle.tap_defs.proofs.chain.ScanLemmas.{parts_pass}
@@ -48,14 +49,6 @@ pub record Stands (board : RawBoard) (at : PinAt) (p : Place) (m : ℕ) (nets : 
   pub pin_is : slice_get p.net.pins p.place ≡ Some pin
   pub at_is : pin.at ≡ Some at
 
-pub same_place : (at : PinAt) (o : Option PinAt) → is_at at o ≡ true → o ≡ Some at
-same_place at None e = cc e
-same_place at (Some b) e =
-    let x = and_parts (b.part == at.part) (b.bit == at.bit) e in
-    let p : at.part ≡ b.part = sym (eqb-true b.part at.part x.0) in
-    let q : at.bit ≡ b.bit = sym (eqb-true b.bit at.bit x.1) in
-    sym (ap (λ (k : ℕ). Some (record { part = k; bit = at.bit })) p ∙ ap (λ (k : ℕ). Some (record { part = b.part; bit = k })) q)
-
 in_net : (at : PinAt) (m i : ℕ) (ps : List NetPin) → place_in at m ps ≡ Some i →
     (x : ℕ) × (q : NetPin) × (i ≡ m + x) × (slice_get ps x ≡ Some q) × (q.at ≡ Some at)
 in_net at m i [] e = cc e
@@ -64,7 +57,7 @@ in_net at m i (p ∷ ps) e = go (in_net at (suc m) i ps) (is_at at p.at) refl e
     go : (place_in at (suc m) ps ≡ Some i → (x : ℕ) × (q : NetPin) × (i ≡ suc m + x) × (slice_get ps x ≡ Some q) × (q.at ≡ Some at)) →
         (b : Bool) → is_at at p.at ≡ b → cond b (Some m) (place_in at (suc m) ps) ≡ Some i →
         (x : ℕ) × (q : NetPin) × (i ≡ m + x) × (slice_get (p ∷ ps) x ≡ Some q) × (q.at ≡ Some at)
-    go ih true q h = let z : m ≡ i = cc h in (0, p, omega (arith, z), refl, same_place at p.at q)
+    go ih true q h = let z : m ≡ i = cc h in (0, p, omega (arith, z), refl, is_at_some at p.at q)
     go ih false q h = let r = ih h in (suc r.0, r.1, omega (arith, r.2), r.3, r.4)
 
 pub stands_at : (board : RawBoard) (at : PinAt) (p : Place) (m : ℕ) (nets : List Net) → place_of at m nets ≡ Some p →

@@ -17,6 +17,7 @@ use Rattle.tap_defs.specs.board.TestRows.{code_of_net, is_observed, first_enable
 use Rattle.tap_defs.proofs.board.FeedingLemmas.{observing_at}
 use Rattle.tap_defs.proofs.board.ReadingLemmas.{beside_observing, beside}
 use Rattle.std.proofs.lemmas.Bool.{eqb-true, eqb-false, ne_eqb, both_ways}
+use Rattle.std.proofs.Math.Bool.{or-true}
 use Rattle.tap_defs.proofs.board.NetRuleLemmas.{all_read, net_rules}
 use Rattle.tap_defs.proofs.board.CodeBitLemmas.{has_one, count_whole, count_up, has_zero, codes_differ}
 use Rattle.tap_defs.proofs.board.DetectionLemmas.{IsPlan, Sees}
@@ -52,11 +53,7 @@ reads_is board driver m zero (q ∷ ps) p e r other =
     ∙ ap (λ (b : Bool). b || reads_beside board driver (suc m) ps) (ap (λ (x : NetPin). receives board x) z ∙ r)
 reads_is board driver m (suc i) (q ∷ ps) p e r other =
     ap (λ (b : Bool). (not (m == driver) && receives board q) || b) (reads_is board driver (suc m) i ps p e r (λ h. other (omega (arith, h))))
-    ∙ or_true (not (m == driver) && receives board q)
-  where
-    or_true : (b : Bool) → (b || true) ≡ true
-    or_true true = refl
-    or_true false = refl
+    ∙ or-true (not (m == driver) && receives board q)
 
 pub observing_is : (board : RawBoard) (setting : Enabling) → IsSafe board setting → (n : ℕ) (net : Net) (d : ℕ) →
     slice_get board.nets n ≡ Some net → ObservesBy board setting net d → observing_driver board setting net ≡ Some d

@@ -3,8 +3,6 @@ use Rattle.std.proofs.Common.{◌≡◌, ℕ, suc, ◌+◌, ◌<◌, ◌==◌, B
 use Rattle.std.specs.Prelude.{slice_get, option_and_then}
 use Rattle.std.specs.List.{list_any}
 use Rattle.board_defs.specs.declared.device.Cell.{Cell}
-use Rattle.board_defs.specs.declared.device.Role.{Role}
-use Rattle.board_defs.specs.declared.device.Role.TheVariants.{Input, Output2, Output3, Control as ControlRole, ControlR, Internal, Clock as ClockRole, Bidir, ObserveOnly}
 use Rattle.board_defs.specs.declared.device.PortBit.{PortBit}
 use Rattle.board_defs.specs.declared.device.RawDevice.{RawDevice}
 use Rattle.board_defs.specs.declared.board.PartKind.TheVariants.{Described}
@@ -16,9 +14,10 @@ use Rattle.board_defs.specs.declared.board.RawBoard.{RawBoard}
 use Rattle.board_defs.specs.DeviceRules.{is_reading, is_receiving, reads_bit, is_on, may_receive}
 use Rattle.board_defs.specs.Pins.{device_at, described, receives, receives_where, receives_bit, receives_in, guarded}
 use Rattle.board_defs.specs.Settings.{Enabling}
+use Rattle.board_defs.proofs.CellLemmas.{receiving_reads, on_is}
 use Rattle.tap_defs.specs.board.TestRows.{observing_driver, observing_driver_by, first_enabled, reads_beside}
-use Rattle.std.proofs.lemmas.Bool.{and_parts, eq-eqb, eqb-true}
-use Rattle.tap_defs.proofs.board.LiveLemmas.{found, find_some, on_is}
+use Rattle.std.proofs.lemmas.Bool.{and_parts, eq-eqb, eqb-true, not-true}
+use Rattle.tap_defs.proofs.board.LiveLemmas.{found, find_some}
 use Rattle.tap_defs.proofs.board.FeedingLemmas.{PinRules, apart, placed, NetRules}
 use Rattle.tap_defs.proofs.board.WrongLemmas.{Compared}
 
@@ -27,17 +26,6 @@ pub record IsRead (device : RawDevice) : Type 0 where
   pub one_reader : (i j : ℕ) (e d : Cell) → slice_get device.cells i ≡ Some e → is_reading e.role ≡ true →
       slice_get device.cells j ≡ Some d → is_reading d.role ≡ true → d.num ≡ e.num → d ≡ e
   pub num_below : (i : ℕ) (e : Cell) → slice_get device.cells i ≡ Some e → e.num < device.boundary
-
-receiving_reads : (r : Role) → is_receiving r ≡ true → is_reading r ≡ true
-receiving_reads Input e = refl
-receiving_reads ClockRole e = refl
-receiving_reads Bidir e = refl
-receiving_reads Output2 e = cc e
-receiving_reads Output3 e = cc e
-receiving_reads ControlRole e = cc e
-receiving_reads ControlR e = cc e
-receiving_reads Internal e = cc e
-receiving_reads ObserveOnly e = cc e
 
 pub any_is : (p : Cell → Bool) (xs : List Cell) → list_any p xs ≡ true → (i : ℕ) × (x : Cell) × (slice_get xs i ≡ Some x) × (p x ≡ true)
 any_is p [] e = cc e
@@ -54,17 +42,13 @@ pub beside : (board : RawBoard) (driver m : ℕ) (ps : List NetPin) → reads_be
 beside board driver m [] e = cc e
 beside board driver m (p ∷ ps) e = go (beside board driver (suc m) ps) (not (m == driver) && receives board p) refl e
   where
-    not_is : (b : Bool) → not b ≡ true → b ≡ false
-    not_is true q = cc q
-    not_is false q = refl
-
     flip : (m == driver) ≡ false → (driver == (m + 0)) ≡ false
     flip q = grind arith
 
     go : (reads_beside board driver (suc m) ps ≡ true → (i : ℕ) × (p : NetPin) × (slice_get ps i ≡ Some p) × (receives board p ≡ true) × ((driver == (suc m + i)) ≡ false)) →
         (b : Bool) → (not (m == driver) && receives board p) ≡ b → (b || reads_beside board driver (suc m) ps) ≡ true →
         (i : ℕ) × (q : NetPin) × (slice_get (p ∷ ps) i ≡ Some q) × (receives board q ≡ true) × ((driver == (m + i)) ≡ false)
-    go ih true q h = let r = and_parts (not (m == driver)) (receives board p) q in (0, p, refl, r.1, flip (not_is (m == driver) r.0))
+    go ih true q h = let r = and_parts (not (m == driver)) (receives board p) q in (0, p, refl, r.1, flip (not-true (m == driver) r.0))
     go ih false q h = let r = ih h in
         let z : suc m + r.0 ≡ m + suc r.0 = omega arith in
         (suc r.0, r.1, r.2, r.3, subst (λ (x : ℕ). (driver == x) ≡ false) z r.4)

@@ -43,24 +43,24 @@ use Rattle.tap_defs.proofs.board.SingleLemmas.{single_observable, single_no_open
 use Rattle.tap_defs.proofs.board.CellPlaceLemmas.{captured_cell}
 
 -- how a compared cell reads its pin
-record Reads (board : RawBoard) (row : TestRow) (part : ℕ) (device : RawDevice) (cell : ℕ) (place : Place) (v : Bool) : Type 0 where
-  entry : Cell
-  reads : reading_entry device cell ≡ Some entry
-  receiving : is_receiving entry.role ≡ true
-  bit : ℕ
-  bit_is : entry.bit ≡ Some bit
-  receives_is : receives_where board (Some (record { part = part; bit = bit })) ≡ true
-  stands : place_of (record { part = part; bit = bit }) 0 board.nets ≡ Some place
-  driver : ℕ
-  observing : observing_driver board row.setting place.net ≡ Some driver
-  other : (driver == place.place) ≡ false
-  carried : row.carried place.number ≡ Some v
+pub record ReadsPlace (board : RawBoard) (row : TestRow) (part : ℕ) (device : RawDevice) (cell : ℕ) (place : Place) (v : Bool) : Type 0 where
+  pub entry : Cell
+  pub reads : reading_entry device cell ≡ Some entry
+  pub receiving : is_receiving entry.role ≡ true
+  pub bit : ℕ
+  pub bit_is : entry.bit ≡ Some bit
+  pub receives_is : receives_where board (Some (record { part = part; bit = bit })) ≡ true
+  pub stands : place_of (record { part = part; bit = bit }) 0 board.nets ≡ Some place
+  pub driver : ℕ
+  pub observing : observing_driver board row.setting place.net ≡ Some driver
+  pub other : (driver == place.place) ≡ false
+  pub carried : row.carried place.number ≡ Some v
 
 module _ (board : RawBoard) (row : TestRow) (part : ℕ) (device : RawDevice) (cell : ℕ) (place : Place) (v : Bool) where
   module _ (entry : Cell) (reads : reading_entry device cell ≡ Some entry) (receiving : is_receiving entry.role ≡ true) (bit : ℕ) (bit_is : entry.bit ≡ Some bit) (receives_is : receives_where board (Some (record { part = part; bit = bit })) ≡ true)
       (stands : place_of (record { part = part; bit = bit }) 0 board.nets ≡ Some place) where
     by_other : (d : ℕ) → observing_driver board row.setting place.net ≡ Some d → (b : Bool) → (d == place.place) ≡ b →
-        only_if (not b) (row.carried place.number) ≡ Some v → Reads board row part device cell place v
+        only_if (not b) (row.carried place.number) ≡ Some v → ReadsPlace board row part device cell place v
     by_other d o true q e = cc e
     by_other d o false q e = record {
       entry = entry;
@@ -77,37 +77,37 @@ module _ (board : RawBoard) (row : TestRow) (part : ℕ) (device : RawDevice) (c
     }
 
     by_driver : (o : Option ℕ) → observing_driver board row.setting place.net ≡ o →
-        expect_observed (row.carried place.number) place.place o ≡ Some v → Reads board row part device cell place v
+        expect_observed (row.carried place.number) place.place o ≡ Some v → ReadsPlace board row part device cell place v
     by_driver None o e = cc e
     by_driver (Some d) o e = by_other d o (d == place.place) refl e
 
-    by_stand : expect_place board row (place_of (record { part = part; bit = bit }) 0 board.nets) ≡ Some v → Reads board row part device cell place v
+    by_stand : expect_place board row (place_of (record { part = part; bit = bit }) 0 board.nets) ≡ Some v → ReadsPlace board row part device cell place v
     by_stand e = by_driver (observing_driver board row.setting place.net) refl (sym (ap (λ (o : Option Place). expect_place board row o) stands) ∙ e)
 
   abbrev placed : Option ℕ → Option Place
   placed o = option_and_then (λ b. place_of (record { part = part; bit = b }) 0 board.nets) o
 
   by_bit : (entry : Cell) → reading_entry device cell ≡ Some entry → is_receiving entry.role ≡ true → (o : Option ℕ) → entry.bit ≡ o →
-      expect_pin board row part o ≡ Some v → placed o ≡ Some place → Reads board row part device cell place v
+      expect_pin board row part o ≡ Some v → placed o ≡ Some place → ReadsPlace board row part device cell place v
   by_bit entry reads receiving None q e at = cc e
   by_bit entry reads receiving (Some b) q e at = by_receives (receives_where board (Some (record { part = part; bit = b }))) refl e
     where
       by_receives : (r : Bool) → receives_where board (Some (record { part = part; bit = b })) ≡ r →
-          cond r (expect_place board row (place_of (record { part = part; bit = b }) 0 board.nets)) None ≡ Some v → Reads board row part device cell place v
+          cond r (expect_place board row (place_of (record { part = part; bit = b }) 0 board.nets)) None ≡ Some v → ReadsPlace board row part device cell place v
       by_receives true r h = by_stand entry reads receiving b q r at h
       by_receives false r h = cc h
 
   by_entry : (o : Option Cell) → reading_entry device cell ≡ o → expect_entry board row part o ≡ Some v →
-      option_and_then (λ entry. placed entry.bit) o ≡ Some place → Reads board row part device cell place v
+      option_and_then (λ entry. placed entry.bit) o ≡ Some place → ReadsPlace board row part device cell place v
   by_entry None q e at = cc e
   by_entry (Some entry) q e at = by_role (is_receiving entry.role) refl e
     where
-      by_role : (r : Bool) → is_receiving entry.role ≡ r → cond r (expect_pin board row part entry.bit) None ≡ Some v → Reads board row part device cell place v
+      by_role : (r : Bool) → is_receiving entry.role ≡ r → cond r (expect_pin board row part entry.bit) None ≡ Some v → ReadsPlace board row part device cell place v
       by_role true r h = by_bit entry q r entry.bit refl h at
       by_role false r h = cc h
 
-  reads_of : IsCompared board row part device cell place v → Reads board row part device cell place v
-  reads_of c = by_entry (reading_entry device cell) refl c.expects c.reads
+  pub reads_place : IsCompared board row part device cell place v → ReadsPlace board row part device cell place v
+  reads_place c = by_entry (reading_entry device cell) refl c.expects c.reads
 
 -- the nets of a short of two nets
 module _ (a b : ℕ) (less : a < b) (kind : Kind) (one two : Net) where
@@ -364,7 +364,7 @@ module _ (board : RawBoard) (rules : IsBoard board) (row : TestRow) (safe : IsSa
       IsCompared board row part device cell place v → (choice : Choice) →
       captured_cell board (set_of single) (row_states board row) choice part device cell ≡ single_bit board single row place v
   cell_value single is_single part device cell place v c choice =
-      let r = reads_of board row part device cell place v c in
+      let r = reads_place board row part device cell place v c in
       let pin_at : PinAt = record { part = part; bit = r.bit } in
       let s = stands_at board pin_at place 0 board.nets r.stands in
       let z : s.index ≡ place.number = omega (arith, s.number_is) in

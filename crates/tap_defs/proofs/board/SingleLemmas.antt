@@ -1,6 +1,7 @@
 -- A single fault of a board is a nonempty observable fault set.
 use Rattle.std.proofs.Common.{◌≡◌, ◌≢◌, ◌⊎◌, inl, inr, ℕ, ◌<◌, ◌==◌, Bool, true, false, cond, ◌&&◌, ◌||◌, Option, Some, None, refl, sym, ◌∙◌, ap, subst, arith}
 use Rattle.std.proofs.lemmas.Bool.{and_parts, or_cases, eqb-true, eq-eqb}
+use Rattle.std.proofs.lemmas.Option.{cond_some}
 use Rattle.board_defs.specs.declared.board.PinRef.{PinRef}
 use Rattle.board_defs.specs.declared.board.RawBoard.{RawBoard}
 use Rattle.board_defs.specs.declared.fault.Kind.{Kind}
@@ -13,11 +14,6 @@ use Rattle.tap_defs.specs.board.FaultSet.{Dominant, IsObservable, IsNonempty, so
 use Rattle.tap_defs.specs.board.Explaining.{set_of, short_kind}
 use Rattle.tap_defs.specs.board.RowCaptures.{NoOpenShorted}
 
--- what a test gives where it is there
-given : {A : Type 0} (t : Bool) (x y : A) → cond t (Some x) None ≡ Some y → (t ≡ true) × (x ≡ y)
-given true x y e = (refl, cc e)
-given false x y e = cc e
-
 nothing : {A P : Type 0} (x : A) → None ≡ Some x → P
 nothing x e = cc e
 
@@ -29,7 +25,7 @@ stuck_observable board net value covered = record {
     covered = λ n k e. nothing k e;
     dominant = λ n k d e f. nothing k e;
   };
-  stuck = λ n v e. subst (λ (m : ℕ). IsCovered board m) (sym (eqb-true n net (given (n == net) value v e).0)) covered;
+  stuck = λ n v e. subst (λ (m : ℕ). IsCovered board m) (sym (eqb-true n net (cond_some (n == net) value v e).0)) covered;
   opened = λ n i v e. nothing v e;
   shorts = λ n k e. nothing k e;
 }
@@ -46,7 +42,7 @@ open_observable board pin value tested = record {
   };
   stuck = λ n v e. nothing v e;
   opened = λ n i v e.
-      let both = and_parts (n == pin.net) (i == pin.place) (given ((n == pin.net) && (i == pin.place)) value v e).0 in
+      let both = and_parts (n == pin.net) (i == pin.place) (cond_some ((n == pin.net) && (i == pin.place)) value v e).0 in
       subst (λ (m : ℕ). IsTestedDriver board m i ⊎ IsTestedReceiver board m i) (sym (eqb-true n pin.net both.0))
       (subst (λ (j : ℕ). IsTestedDriver board pin.net j ⊎ IsTestedReceiver board pin.net j) (sym (eqb-true i pin.place both.1)) tested);
   shorts = λ n k e. nothing k e;
@@ -75,10 +71,10 @@ module _ (board : RawBoard) (a b : ℕ) (kind : Kind) (less : a < b) (paired : A
 
   by_member : (P : ℕ → Type 0) → P a → P b → (n : ℕ) (k : ℕ) → short_of n ≡ Some k → P n
   by_member P first second n k e =
-      elim (which n (given (is_member n) 0 k e).0) [ inl h ↦ subst P (sym h) first | inr h ↦ subst P (sym h) second ]
+      elim (which n (cond_some (is_member n) 0 k e).0) [ inl h ↦ subst P (sym h) first | inr h ↦ subst P (sym h) second ]
 
   number : (n k : ℕ) → short_of n ≡ Some k → ◌≡◌ {A = ℕ} 0 k
-  number n k e = (given (is_member n) 0 k e).1
+  number n k e = (cond_some (is_member n) 0 k e).1
 
   at_number : (n m k : ℕ) → short_of n ≡ Some k → short_of m ≡ Some 0 → short_of m ≡ Some k
   at_number n m k e h = h ∙ ap (λ (j : ℕ). Some j) (number n k e)

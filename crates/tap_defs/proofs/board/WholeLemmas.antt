@@ -46,10 +46,6 @@ pub record Passed (board : RawBoard) (clocks : List Clock) (out : List Bool) (ne
   pub last : TestRow
   pub quiet : InTest board (shifted_row board (record { now = quiet_row; before = last })) next
 
-run_two : (wiring : Wiring) (xs ys : List Clock) (free : Choices) (chain : List ChainPart) →
-    run wiring (xs ++ ys) free chain ≡ run wiring ys (choices_after xs free) (run wiring xs free chain)
-run_two wiring xs ys free chain = run-append wiring xs ys free chain
-
 module _ (board : RawBoard) (rules : IsBoard board) where
   abbrev good_env : Wiring
   good_env = board_wiring board no_faults
@@ -72,7 +68,7 @@ module _ (board : RawBoard) (rules : IsBoard board) where
             two_pass good_env first (row_clocks board ts) free chain
             ∙ and_from (run_passes first (tdos good_env first free chain)) (run_passes (row_clocks board ts) (tdos good_env (row_clocks board ts) (choices_after first free) next)) (e.compares ∙ ok) r.passes;
         last = r.last;
-        quiet = subst (λ (m : List ChainPart). InTest board (shifted_row board (record { now = quiet_row; before = r.last })) m) (sym (run_two good_env first (row_clocks board ts) free chain)) r.quiet;
+        quiet = subst (λ (m : List ChainPart). InTest board (shifted_row board (record { now = quiet_row; before = r.last })) m) (sym (run-append good_env first (row_clocks board ts) free chain)) r.quiet;
       }
 
   no_more : (free : Choices) (before : TestRow) (chain : List ChainPart) →
@@ -106,7 +102,7 @@ module _ (board : RawBoard) (rules : IsBoard board) where
       (record {
         passes = two_pass good_env cx cy free chain ∙ and_from (run_passes cx (tdos good_env cx free chain)) (run_passes cy (tdos good_env cy (choices_after cx free) next)) p.passes r.passes;
         last = r.last;
-        quiet = subst (λ (m : List ChainPart). InTest board (shifted_row board (record { now = quiet_row; before = r.last })) m) (sym (run_two good_env cx cy free chain)) r.quiet;
+        quiet = subst (λ (m : List ChainPart). InTest board (shifted_row board (record { now = quiet_row; before = r.last })) m) (sym (run-append good_env cx cy free chain)) r.quiet;
       })
 
   pub pass_passes : (rows : List Ctl → ℕ → TestRow) (width : ℕ) (ps : List (List Ctl)) →

@@ -1,6 +1,7 @@
 -- Which scans are wrong, under which faults.
-use Rattle.std.proofs.Common.{◌≡◌, ℕ, zero, suc, ◌+◌, ◌<◌, ◌==◌, Bool, true, false, cond, not, ◌&&◌, List, [], ◌∷◌, Option, Some, None, refl, sym, ◌∙◌, ap, arith}
+use Rattle.std.proofs.Common.{◌≡◌, ℕ, zero, suc, ◌+◌, ◌<◌, ◌==◌, Bool, true, false, cond, not, ◌&&◌, List, [], ◌∷◌, Option, Some, None, refl, sym, ◌∙◌, ap, arith, zero-add}
 use Rattle.std.specs.Prelude.{slice_get, unwrap_or, option_map}
+use Rattle.lists.proofs.Booleans.{not_itself}
 use Rattle.board_defs.specs.declared.device.Cell.{Cell}
 use Rattle.board_defs.specs.declared.device.RawDevice.{RawDevice}
 use Rattle.board_defs.specs.declared.board.PartKind.{PartKind}
@@ -121,7 +122,7 @@ passes_at board faults row now n net v carried c free chain dead ok =
     let reads : ℕ → Bool = λ x. read_entry board faults (pin_states chain) free.shorts ((free.parts c.k).cells x) c.k (reading_entry c.device x) in
     let bs : slice_get (row_bits board t) c.k ≡ Some (filled c.device.boundary cells) =
     bits_at board t 0 board.chain c.k c.part c.at_k
-    ∙ ap (λ (i : ℕ). Some (part_bits board t i c.part.kind)) (zero_add c.k)
+    ∙ ap (λ (i : ℕ). Some (part_bits board t i c.part.kind)) (zero-add c.k)
     ∙ ap (λ (kind : PartKind). Some (part_bits board t c.k kind)) c.device_is in
     let pin_bits : pins c.k ≡ filled c.device.boundary reads =
     ap (λ (o : Option Part). unwrap_or (option_map (λ q. captured_by board faults (pin_states chain) free.shorts (free.parts c.k).cells c.k q.kind) o) []) c.at_k
@@ -135,18 +136,11 @@ passes_at board faults row now n net v carried c free chain dead ok =
     cell_passes (filled c.device.boundary cells) (filled c.device.boundary reads) here c.cell (cells c.cell) (reads c.cell) (filled_at c.device.boundary cells c.cell c.below) (filled_at c.device.boundary reads c.cell c.below) in
     let m2 : bit_passes (Some v) (reads c.cell) ≡ true = sym (ap (λ (o : Option Bool). bit_passes o (reads c.cell)) (expects board row n net c ∙ carried)) ∙ m in
     sym (captures board faults row.setting n net (pin_states chain) free.shorts ((free.parts c.k).cells c.cell) c dead) ∙ same_is v (reads c.cell) m2
-  where
-    zero_add : (k : ℕ) → 0 + k ≡ k
-    zero_add k = omega arith
 
 -- the cell's pin is no live driver while the row is in the latches
 abbrev pub IsDead : RawBoard → TestRow → PinAt → Type 0
 IsDead board row at =
     (before : TestRow) (chain : List ChainPart) → InTest board (shifted_row board (record { now = row; before = before })) chain → live_where board (pin_states chain) (Some at) ≡ false
-
-not_same : (b : Bool) → not b ≡ b → ⊥
-not_same true e = cc e
-not_same false e = cc e
 
 -- a net that is stuck, or whose reading pin is open, has a constant in each compared cell
 pub wrong_if_constant : (board : RawBoard) (faults : FaultSet) (row before now : TestRow) (n : ℕ) (net : Net) (c : Compared board row.setting n net) (u : Bool) →
@@ -156,7 +150,7 @@ pub wrong_if_constant : (board : RawBoard) (faults : FaultSet) (row before now :
     IsWrong board faults (shifted_row board (record { now = row; before = before })) (record { now = now; before = row })
 wrong_if_constant board faults row before now n net c u dead const carried chain free h =
     false_from_ne_true (scan_passes (joined (row_bits board (record { now = now; before = row }))) (joined (registers (pins_at (board_wiring board faults) free chain) board.chain)))
-    (λ ok. not_same u (sym (passes_at board faults row now n net (not u) carried c free chain (dead before chain h) ok) ∙ const free chain h))
+    (λ ok. not_itself u (sym (passes_at board faults row now n net (not u) carried c free chain (dead before chain h) ok) ∙ const free chain h))
 
 -- two nets that read one bit, while their codes differ
 pub wrong_if_shorted : (board : RawBoard) (faults : FaultSet) (row before now : TestRow) (a b s : ℕ) (v : Bool) (one two : Net) (c : Compared board row.setting a one) (d : Compared board row.setting b two) →
@@ -172,7 +166,7 @@ wrong_if_shorted board faults row before now a b s v one two c d dead_c dead_d o
     let is_b : captured_here board faults free chain b two d.place d.k d.cell ≡ bit = reads_short b two d.place d.k d.cell chain free open_d stuck_b short_b in
     let code_a = passes_at board faults row now a one (not v) carried_a c free chain (dead_c before chain h) ok in
     let code_b = passes_at board faults row now b two v carried_b d free chain (dead_d before chain h) ok in
-    not_same v (sym code_a ∙ is_a ∙ sym is_b ∙ code_b))
+    not_itself v (sym code_a ∙ is_a ∙ sym is_b ∙ code_b))
   where
     reads_short : (n : ℕ) (net : Net) (place k cell : ℕ) (chain : List ChainPart) (free : Choice) → faults.opened n place ≡ None →
         faults.stuck n ≡ None → faults.short n ≡ Some s →

@@ -27,6 +27,7 @@ use Rattle.tap_defs.proofs.chain.CodeLemmas.{long_code_transport, lengths-ir_cap
 use Rattle.tap_defs.proofs.chain.HeadLemmas.{run_logics, ir_sizes, run_ir, chain_lengths, head_idles, scans_decide}
 use Rattle.tap_defs.proofs.chain.InstructLemmas.{length-instructs, tdi_bits-instructs, AllRoom, instructs_pass}
 use Rattle.tap_defs.proofs.chain.MeaningLemmas.{text_means}
+use Rattle.tap_defs.proofs.chain.RowLemmas.{tdi_bits-compared, all_ones-replicate}
 
 -- the code of ones for each part
 abbrev ones : List ℕ → List (List Bool)
@@ -44,11 +45,7 @@ ones_are : (lengths : List ℕ) → all_ones (joined (ones lengths)) ≡ true
 ones_are [] = refl
 ones_are (n ∷ lengths) =
     list_all-append (λ b. b) (joined (ones lengths)) (replicate n true)
-    ∙ and_from (all_ones (joined (ones lengths))) (all_ones (replicate n true)) (ones_are lengths) (one n)
-  where
-    one : (m : ℕ) → all_ones (replicate m true) ≡ true
-    one zero = refl
-    one (suc m) = one m
+    ∙ and_from (all_ones (joined (ones lengths))) (all_ones (replicate n true)) (ones_are lengths) (all_ones-replicate n)
 
 -- behind a front that is no longer than n, only ones are left after n bits
 ones_left : (front ones : List Bool) (n : ℕ) → length front ≤ n → all_ones ones ≡ true → all_ones (drop n (front ++ ones)) ≡ true
@@ -122,11 +119,6 @@ length-compared : (ins out : List Bool) → length ins ≡ length out → length
 length-compared [] out h = refl
 length-compared (i ∷ ins) [] h = absurd (omega (arith, h))
 length-compared (i ∷ ins) (o ∷ out) h = ap suc (length-compared ins out (omega (arith, h)))
-
-tdi_bits-compared : (ins out : List Bool) → length ins ≡ length out → tdi_bits (compared ins out) ≡ ins
-tdi_bits-compared [] out h = refl
-tdi_bits-compared (i ∷ ins) [] h = absurd (omega (arith, h))
-tdi_bits-compared (i ∷ ins) (o ∷ out) h = cons_path refl (tdi_bits-compared ins out (omega (arith, h)))
 
 count_by_logics : (ps : List ChainPart) (parts : List TestLogic) → logics ps ≡ parts → length ps ≡ length parts
 count_by_logics ps parts e = sym (length-map ps (λ p. p.logic)) ∙ ap (λ (l : List TestLogic). length l) e

@@ -1,11 +1,12 @@
 -- The digits of some bits, read as a field, give the bits.
 use Rattle.std.proofs.Common.{◌≡◌, ℕ, Bool, true, false, cond, not, List, [], ◌∷◌, ◌++◌, length, take, Option, Some, None, refl, sym, ◌∙◌, ap}
-use Rattle.std.proofs.Common.{append_assoc, length-append, eq-eqb, arith}
+use Rattle.std.proofs.Common.{append_assoc, eq-eqb}
 use Rattle.std.proofs.lemmas.List.{append-nil}
 use Rattle.std.proofs.Math.Seq.{take-append_seam, drop-append_seam}
 use Rattle.std.specs.Prelude.{option_and_then}
 use Rattle.std.specs.List.{list_all}
 use Rattle.bt_bits.specs.Hex.{hex_digit, hex_text, digit_count, digit_bits, joined_bits, text_bits, cut_to, field_bits}
+use Rattle.bt_bits.proofs.HexLemmas.{length-hex_text}
 
 digit_bits-hex_digit : (a b c d : Bool) → digit_bits (hex_digit a b c d) ≡ Some (a ∷ b ∷ c ∷ d ∷ [])
 digit_bits-hex_digit false false false false = refl
@@ -73,13 +74,6 @@ padded (a ∷ b ∷ c ∷ d ∷ bits) =
           ∙ ap (λ (r : Option (List Bool)). joined_bits r (text_bits (hex_text bits))) (digit_bits-hex_digit a b c d)
           ∙ ap (λ (r : Option (List Bool)). joined_bits (Some (a ∷ b ∷ c ∷ d ∷ [])) r) ih.read_is;
     }
-
-pub length-hex_text : (bits : List Bool) → length (hex_text bits) ≡ digit_count (length bits)
-length-hex_text [] = refl
-length-hex_text (a ∷ []) = refl
-length-hex_text (a ∷ b ∷ []) = refl
-length-hex_text (a ∷ b ∷ c ∷ []) = refl
-length-hex_text (a ∷ b ∷ c ∷ d ∷ bits) = omega (arith, length-append (hex_text bits) (hex_digit a b c d ∷ []), length-hex_text bits)
 
 pub field_bits-hex_text : (bits : List Bool) → field_bits (length bits) (hex_text bits) ≡ Some bits
 field_bits-hex_text bits =

@@ -11,20 +11,12 @@ use Rattle.tap_defs.specs.chain.Transport.{scan_passes}
 use Rattle.tap_defs.proofs.chain.ListLemmas.{cons_path, length-joined}
 use Rattle.tap_defs.proofs.chain.RunLemmas.{scan_passes-append}
 use Rattle.tap_defs.proofs.chain.CodeLemmas.{lengths-ir_captures}
+use Rattle.tap_defs.proofs.chain.RowLemmas.{tdi_bits-code_bits}
 
 sent_passes : (code out : List Bool) → scan_passes (map sent code) out ≡ true
 sent_passes [] out = refl
 sent_passes (b ∷ code) [] = refl
 sent_passes (b ∷ code) (o ∷ out) = sent_passes code out
-
-tdi_bits-sent : (code : List Bool) → tdi_bits (map sent code) ≡ code
-tdi_bits-sent [] = refl
-tdi_bits-sent (b ∷ code) = cons_path refl (tdi_bits-sent code)
-
-tdi_bits-code_bits : (code : List Bool) → tdi_bits (code_bits code) ≡ code
-tdi_bits-code_bits [] = refl
-tdi_bits-code_bits (a ∷ []) = refl
-tdi_bits-code_bits (a ∷ b ∷ code) = cons_path refl (cons_path refl (tdi_bits-sent code))
 
 length-code_bits : (code : List Bool) → length (code_bits code) ≡ length code
 length-code_bits [] = refl

@@ -5,7 +5,7 @@ use Rattle.tap_defs.specs.declared.scan.ScanRows.{ScanRows}
 use Rattle.tap_defs.specs.declared.scan.StoredRows.{StoredRows}
 use Rattle.tap_defs.specs.chain.Scan.{ScanBit, scan_bits, tdi_bits, tdo_bits, mask_bits}
 use Rattle.tap_defs.specs.chain.ScanRows.{AreBitsOf, AreRowsOf, EachHasRoom, HaveRoomFor}
-use Rattle.tap_defs.proofs.chain.StatementLemmas.{scan_bits_are}
+use Rattle.tap_defs.proofs.chain.RowLemmas.{scan_bits-rows}
 
 one_expected : (expect : Option Bool) → unwrap_or expect false ≡ true → is_some expect ≡ true
 one_expected None one = one
@@ -23,7 +23,7 @@ module _ {bits : List ScanBit} {shifted expected marks : List Bool} (are : AreBi
       ap (λ (l : List Bool). scan_bits l expected marks) are.tdi
       ∙ ap (λ (l : List Bool). scan_bits (tdi_bits bits) l marks) are.tdo
       ∙ ap (λ (l : List Bool). scan_bits (tdi_bits bits) (tdo_bits bits) l) are.mask
-      ∙ scan_bits_are bits
+      ∙ scan_bits-rows bits
 
   -- they have its length
   pub shifted_length : length shifted ≡ length bits

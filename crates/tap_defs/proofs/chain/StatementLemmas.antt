@@ -9,7 +9,7 @@ use Rattle.std.specs.List.{list_all}
 use Rattle.std.specs.Prelude.{codes, decimal, is_some, unwrap_or, option_and_then, option_map, nat_lt}
 use Rattle.std.specs.Str.Parse.{digits_value}
 use Rattle.bt_bits.specs.Hex.{hex_text, field_bits}
-use Rattle.tap_defs.specs.chain.Scan.{ScanBit, Scan, tdi_bits, tdo_bits, mask_bits, compares, scan_bits}
+use Rattle.tap_defs.specs.chain.Scan.{ScanBit, Scan, tdi_bits, tdo_bits, mask_bits, compares}
 use Rattle.tap_defs.specs.chain.Codes.{sent}
 use Rattle.tap_defs.specs.chain.Text.{command_word}
 use Rattle.tap_defs.specs.chain.SvfTokens.{Token, Close}
@@ -17,6 +17,7 @@ use Rattle.tap_defs.specs.chain.SvfStatements.{ScanOf, Field, fields_from, bits_
 use Rattle.tap_defs.proofs.chain.ListLemmas.{cons_path}
 use Rattle.tap_defs.proofs.chain.FieldLemmas.{field_bits-hex_text}
 use Rattle.tap_defs.proofs.chain.TokenLemmas.{decimal_digits, worded, run_on, words_of, run_on-words_of, field_tokens, compare_tokens, scan_tokens}
+use Rattle.tap_defs.proofs.chain.RowLemmas.{scan_bits-rows}
 
 length_is : (n : ℕ) → 0 < n → n < 2 ^ 64 → length_of (decimal n) ≡ Some n
 length_is n some fits =
@@ -68,15 +69,6 @@ fields_are long bits b =
 digits_are : (bits : List ScanBit) (f : ScanBit → Bool) → field_bits (length bits) (hex_text (map f bits)) ≡ Some (map f bits)
 digits_are bits f = ap (λ (n : ℕ). field_bits n (hex_text (map f bits))) (sym (length-map bits f)) ∙ field_bits-hex_text (map f bits)
 
-bit_is : (tdi : Bool) (expect : Option Bool) →
-    ◌≡◌ {A = ScanBit} (record { tdi = tdi; expect = cond (is_some expect) (Some (unwrap_or expect false)) None }) (record { tdi = tdi; expect = expect })
-bit_is tdi None = refl
-bit_is tdi (Some e) = refl
-
-pub scan_bits_are : (bits : List ScanBit) → scan_bits (tdi_bits bits) (tdo_bits bits) (mask_bits bits) ≡ bits
-scan_bits_are [] = refl
-scan_bits_are (b ∷ bits) = cons_path (bit_is b.tdi b.expect) (scan_bits_are bits)
-
 sent_are : (bits : List ScanBit) → compares bits ≡ false → map sent (tdi_bits bits) ≡ bits
 sent_are [] h = refl
 sent_are (b ∷ bits) h = by_expect b.tdi b.expect (sent_are bits) h
@@ -98,7 +90,7 @@ bits_are bits true h =
     ap (λ (o : Option (List Bool)). compared_bits o tdo mask) (digits_are bits (λ b. b.tdi))
     ∙ ap (λ (o : Option (List Bool)). compared_bits (Some (tdi_bits bits)) o mask) (digits_are bits (λ b. unwrap_or b.expect false))
     ∙ ap (λ (o : Option (List Bool)). compared_bits (Some (tdi_bits bits)) (Some (tdo_bits bits)) o) (digits_are bits (λ b. is_some b.expect))
-    ∙ ap (λ (r : List ScanBit). Some r) (scan_bits_are bits)
+    ∙ ap (λ (r : List ScanBit). Some r) (scan_bits-rows bits)
 
 pub statement_is : (long : Bool) (scan : Scan) → 0 < length scan.bits → length scan.bits < 2 ^ 64 →
     statement_of (scan_tokens long scan) ≡ Some (ScanOf scan)

@@ -9,6 +9,7 @@ use Rattle.std.specs.Char.{is_ascii_digit}
 use Rattle.std.specs.List.{list_all}
 use Rattle.std.specs.Prelude.{codes, decimal, is_some, unwrap_or}
 use Rattle.bt_bits.specs.Hex.{hex_digit, hex_text}
+use Rattle.lists.proofs.Booleans.{gt-eqb, lt-eqb}
 use Rattle.tap_defs.specs.chain.Scan.{ScanBit, Scan, tdi_bits, tdo_bits, mask_bits, compares}
 use Rattle.tap_defs.specs.chain.Text.{command_word, gap, broken, laid, compare_text, form}
 use Rattle.tap_defs.specs.chain.SvfTokens.{Token, Word, Open, Close, End, is_blank, ended, tokens_from}
@@ -95,18 +96,12 @@ plain_by : (b : ℕ) → (b == 32) ≡ false → (b == 9) ≡ false → (b == 10
     (b == 59) ≡ false → (b == 33) ≡ false → (b == 47) ≡ false → is_plain b ≡ true
 plain_by b p q r s t u v w x = rw (p, q, r, s, t, u, v, w, x) refl
 
-above : (m n : ℕ) → n < m → (m == n) ≡ false
-above m n h = grind arith
-
-under : (m n : ℕ) → m < n → (m == n) ≡ false
-under m n h = grind arith
-
 digit_plain : (b : ℕ) → is_ascii_digit b ≡ true → is_plain b ≡ true
 digit_plain b h =
     let low : 48 < b + 1 = grind arith in
     let high : b < 58 = grind arith in
-    plain_by b (above b 32 (omega arith)) (above b 9 (omega arith)) (above b 10 (omega arith)) (above b 13 (omega arith))
-    (above b 40 (omega arith)) (above b 41 (omega arith)) (under b 59 (omega arith)) (above b 33 (omega arith)) (above b 47 (omega arith))
+    plain_by b (gt-eqb b 32 (omega arith)) (gt-eqb b 9 (omega arith)) (gt-eqb b 10 (omega arith)) (gt-eqb b 13 (omega arith))
+    (gt-eqb b 40 (omega arith)) (gt-eqb b 41 (omega arith)) (lt-eqb b 59 (omega arith)) (gt-eqb b 33 (omega arith)) (gt-eqb b 47 (omega arith))
 
 pub decimal_plain : (n : ℕ) → n < 2 ^ 64 → list_all is_plain (decimal n) ≡ true
 decimal_plain n h = all_by is_ascii_digit is_plain digit_plain (decimal n) (decimal_digits n h)

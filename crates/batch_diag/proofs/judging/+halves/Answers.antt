@@ -1,6 +1,7 @@
 use Rattle.std.proofs.Common.{◌+◌, ◌-◌, ◌/◌, ◌≤◌, length, arith}
 use Rattle.batch_diag.specs.inner.Judging.{first_of}
-use Rattle.batch_diag.proofs.JudgeLemmas.{cut_rises, judged_both}
+use Rattle.batch_diag.proofs.JudgeLemmas.{judged_both}
+use Rattle.diagnoser.proofs.CutLemmas.{cut_rises}
 use Rattle.batch_diag.proofs.judging.+halves.Goals as goal
 
 pub returns : goal.returns

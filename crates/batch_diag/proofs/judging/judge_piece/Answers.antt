@@ -1,6 +1,7 @@
 use Rattle.std.proofs.Common.{◌≡◌, ◌+◌, ◌≤◌, length, arith}
 use Rattle.batch_diag.specs.inner.Judging.{first_of}
-use Rattle.batch_diag.proofs.JudgeLemmas.{cut_rises, judged_start, judged_more, judged_end}
+use Rattle.batch_diag.proofs.JudgeLemmas.{judged_start, judged_more, judged_end}
+use Rattle.diagnoser.proofs.CutLemmas.{cut_rises}
 use Rattle.batch_diag.proofs.judging.judge_piece.Goals as goal
 
 pub loop-i-init : goal.loop-i-init

@@ -1,7 +1,8 @@
 use Rattle.std.proofs.Common.{◌+◌, ◌-◌, ◌/◌, ◌≤◌, length, arith}
 use Rattle.batch_diag.specs.inner.Reading.{first_unread}
-use Rattle.batch_diag.proofs.JudgeLemmas.{cut_rises, cut_within}
+use Rattle.batch_diag.proofs.JudgeLemmas.{cut_within}
 use Rattle.batch_diag.proofs.ReadLemmas.{read_both}
+use Rattle.diagnoser.proofs.CutLemmas.{cut_rises}
 use Rattle.batch_diag.proofs.reader.+reading.Goals as goal
 
 pub returns : goal.returns

@@ -5,8 +5,8 @@ use Rattle.std.proofs.lemmas.List.Elements.{All-nil, All-push}
 use Rattle.response_log.specs.LogRows.{HasSize}
 use Rattle.batch_diag.specs.declared.block.Block.{Block}
 use Rattle.batch_diag.specs.inner.Reading.{first_unread}
-use Rattle.batch_diag.proofs.JudgeLemmas.{cut_rises}
 use Rattle.batch_diag.proofs.ReadLemmas.{read_end, read_more, read_none, read_start}
+use Rattle.diagnoser.proofs.CutLemmas.{cut_rises}
 use Rattle.batch_diag.proofs.reader.read_piece.Goals as goal
 
 pub loop-i-init : goal.loop-i-init

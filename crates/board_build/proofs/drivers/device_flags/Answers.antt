@@ -1,15 +1,15 @@
 -- A device that keeps its rules has no entry outside its port bits.
 use Rattle.std.proofs.Common.{ℕ, List, length, ap, ◌∙◌, subst}
+use Rattle.std.proofs.lemmas.Result.{IfOk-weaker}
 use Rattle.board_defs.specs.declared.device.Cell.{Cell}
 use Rattle.board_build.specs.inner.Marked.{AreFlags}
-use Rattle.board_lines.proofs.NameLemmas.{if_ok_map}
 use Rattle.board_build.proofs.FlagLemmas.{device_flagged}
 use Rattle.board_build.proofs.drivers.device_flags.Goals as goal
 
 pub returns : goal.returns
 returns c =
-    if_ok_map _ _
+    IfOk-weaker c.flags_of.result _ _
     (λ flags are. device_flagged c.args.device.now flags.items c.raw-raw.ensures.rules.places
     (subst (λ (n : ℕ). AreFlags c.args.device.now.cells n flags.items) (c.len.ensures ∙ ap (λ r. length r.bits) c.raw-raw.ensures.value)
     (subst (λ (v : List Cell). AreFlags v c.len.result flags.items) (c.as_slice.ensures ∙ ap (λ r. r.cells) c.raw-raw.ensures.value) are)))
-    c.flags_of.result c.flags_of.ensures
+    c.flags_of.ensures

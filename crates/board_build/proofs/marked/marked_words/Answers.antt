@@ -1,6 +1,8 @@
 -- The look-ups answer for the words of the definitions.
 use Rattle.std.proofs.Common.{map, ap, ◌∙◌}
 use Rattle.std.specs.Prelude.{is_some}
+use Rattle.std.proofs.lemmas.Result.{IfOk-weaker}
+use Rattle.lists.proofs.ListLemmas.{map-map}
 use Rattle.first_places.specs.Places.{first_place}
 use Rattle.board_lines.specs.declared.names.Naming.TheVariants.{Inert}
 use Rattle.board_files.specs.Names.{same_word}
@@ -8,8 +10,7 @@ use Rattle.board_lines.specs.Names.{named, names_of}
 use Rattle.board_lines.specs.NetWords.{lent_word, lent_pin}
 use Rattle.board_lines.specs.ChainParts.{pin_places, place_of_pin}
 use Rattle.board_build.specs.inner.Marked.{mark, seen}
-use Rattle.board_lines.proofs.NameLemmas.{if_ok_map}
-use Rattle.board_lines.proofs.MapLemmas.{map-map, map_seen}
+use Rattle.board_lines.proofs.MapLemmas.{map_seen}
 use Rattle.board_build.proofs.GroupLemmas.{mark_cong}
 use Rattle.board_build.proofs.KnownLemmas.{known_same}
 use Rattle.board_build.proofs.marked.marked_words.Goals as goal
@@ -20,7 +21,7 @@ returns c =
     let lines = c.lines-lines.result.now in
     let parts = c.parts-parts.result.now in
     let words = c.args.words.now in
-    if_ok_map _ _
+    IfOk-weaker c.mark_all.result _ _
     (λ marked e. ap (map seen) e ∙ map-map _ seen words ∙ map_seen _ lent_word (mark parts (pin_places parts) (names_of (named Inert lines)))
     (λ w.
     let place = ap (λ v. place_of_pin (pin_places v) (lent_pin w.0.1)) c.in_ok-places.ensures in
@@ -31,4 +32,4 @@ returns c =
     words
     ∙ ap (λ v. map (mark v (pin_places v) (names_of (named Inert lines))) (map lent_word words)) c.parts-parts.ensures.parts
     ∙ ap (λ v. map (mark chain.parts (pin_places chain.parts) (names_of (named Inert v))) (map lent_word words)) c.lines-lines.ensures.lines)
-    c.mark_all.result c.mark_all.ensures
+    c.mark_all.ensures

@@ -2,11 +2,11 @@
 use Rattle.std.proofs.Common.{◌≡◌, ◌∙◌, length, map, [], ap, sym, arith, Some, None}
 use Rattle.std.specs.Prelude.{nat_lt, false, if◌then◌else◌}
 use Rattle.std.proofs.lemmas.List.{length-map}
+use Rattle.std.proofs.lemmas.Result.{IfOk-weaker}
 use Rattle.first_places.specs.Places.{once}
 use Rattle.first_places.proofs.OnceLemmas.{once_few}
 use Rattle.board_lines.specs.declared.fault.BoardFault.TheVariants.{Limit}
 use Rattle.board_build.specs.inner.Marked.{marked_limit, same_pins, seen}
-use Rattle.board_lines.proofs.NameLemmas.{if_ok_map}
 use Rattle.board_lines.proofs.DifferLemmas.{same_lent}
 use Rattle.board_build.proofs.SeenLemmas.{pins_counted}
 use Rattle.board_build.proofs.rules.marked_limit.Goals as goal
@@ -22,4 +22,4 @@ returns-then-words-le-PIN_LIMIT c =
 pub returns : goal.returns
 unfolding marked_limit
 returns c =
-    if_ok_map _ _ (λ fault e. e ∙ ap (λ n. if nat_lt 65535 n then Some (Limit 4) else None) (ap (λ v. length (once same_lent v)) (c.deref.ensures.value ∙ c.in_ok-pins.ensures) ∙ pins_counted c.args.words.now)) c.pin_limit.result c.pin_limit.ensures
+    IfOk-weaker c.pin_limit.result _ _ (λ fault e. e ∙ ap (λ n. if nat_lt 65535 n then Some (Limit 4) else None) (ap (λ v. length (once same_lent v)) (c.deref.ensures.value ∙ c.in_ok-pins.ensures) ∙ pins_counted c.args.words.now)) c.pin_limit.ensures

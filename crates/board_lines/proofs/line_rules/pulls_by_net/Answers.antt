@@ -1,9 +1,9 @@
 -- The map's keys are lent names.
 use Rattle.std.proofs.Common.{◌∙◌}
+use Rattle.std.proofs.lemmas.Result.{IfOk-weaker}
 use Rattle.board_files.specs.Names.{same_word}
-use Rattle.board_lines.proofs.NameLemmas.{if_ok_map}
 use Rattle.board_lines.proofs.MapLemmas.{value_lent}
 use Rattle.board_lines.proofs.line_rules.pulls_by_net.Goals as goal
 
 pub returns : goal.returns
-returns c = if_ok_map _ _ (λ known h q. h q ∙ value_lent (λ n. n.now) same_word c.args.pulls.now q) c.first_values.result c.first_values.ensures
+returns c = IfOk-weaker c.first_values.result _ _ (λ known h q. h q ∙ value_lent (λ n. n.now) same_word c.args.pulls.now q) c.first_values.ensures

@@ -1,7 +1,9 @@
 -- The map's keys are lent names.
 use Rattle.std.proofs.Common.{◌∙◌}
-use Rattle.board_lines.proofs.NameLemmas.{first_place_lent, if_ok_map}
+use Rattle.std.proofs.lemmas.Result.{IfOk-weaker}
+use Rattle.first_places.proofs.PlaceLemmas.{first_place_lent}
+use Rattle.board_files.specs.Names.{same_word}
 use Rattle.board_lines.proofs.names.first_places_of.Goals as goal
 
 pub returns : goal.returns
-returns c = if_ok_map _ _ (λ m h q. h q ∙ first_place_lent c.args.names.now q) c.first_places.result c.first_places.ensures
+returns c = IfOk-weaker c.first_places.result _ _ (λ m h q. h q ∙ first_place_lent same_word c.args.names.now q) c.first_places.ensures

@@ -1,9 +1,9 @@
 -- The numbers of the lines' names are those of their nets.
 use Rattle.std.proofs.Common.{◌∙◌, map, ap}
+use Rattle.lists.proofs.ListLemmas.{map-map}
 use Rattle.first_places.specs.Places.{number_in, once}
 use Rattle.board_files.specs.Names.{same_word}
 use Rattle.board_lines.specs.NetWords.{net_names, net_number}
-use Rattle.board_lines.proofs.MapLemmas.{map-map}
 use Rattle.board_lines.proofs.words.net_names.Goals as goal
 
 pub returns-clause-numbers : goal.returns-clause-numbers

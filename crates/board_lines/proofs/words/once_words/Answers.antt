@@ -1,9 +1,9 @@
 -- The keys are lent words.
 use Rattle.std.proofs.Common.{◌∙◌, map, ap}
+use Rattle.std.proofs.lemmas.Result.{IfOk-weaker}
 use Rattle.board_lines.specs.NetWords.{lent_word, same_place}
-use Rattle.board_lines.proofs.NameLemmas.{if_ok_map}
 use Rattle.board_lines.proofs.MapLemmas.{once-map}
 use Rattle.board_lines.proofs.words.once_words.Goals as goal
 
 pub returns : goal.returns
-returns c = if_ok_map _ _ (λ kept e. ap (map lent_word) e ∙ once-map lent_word same_place c.args.words.now) c.once_by.result c.once_by.ensures
+returns c = IfOk-weaker c.once_by.result _ _ (λ kept e. ap (map lent_word) e ∙ once-map lent_word same_place c.args.words.now) c.once_by.ensures

@@ -2,7 +2,7 @@ use Rattle.std.proofs.Common.{length, ◌≡◌, ◌+◌, ◌-◌, Some}
 use Rattle.std.specs.Prelude.{slice_get}
 use Rattle.board_defs.specs.declared.board.Net.{Net}
 use Rattle.coverage_list.specs.inner.CoverForms.{pair_at, texts_from}
-use Rattle.coverage_list.proofs.PutLemmas.{Completes}
+use Rattle.line_printer.proofs.PutLemmas.{Completes}
 use Rattle.coverage_list.proofs.listing.put_later.Given as goal
 
 -- the pairs with the nets that are left complete the list

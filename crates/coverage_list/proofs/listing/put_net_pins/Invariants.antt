@@ -1,6 +1,6 @@
 use Rattle.std.proofs.Common.{length}
 use Rattle.coverage_list.specs.inner.CoverForms.{place_text, texts_from}
-use Rattle.coverage_list.proofs.PutLemmas.{Completes}
+use Rattle.line_printer.proofs.PutLemmas.{Completes}
 use Rattle.coverage_list.proofs.listing.put_net_pins.Given as goal
 
 -- the pins that are left complete the list

@@ -1,5 +1,6 @@
+use Rattle.lists.proofs.ListLemmas.{item_there}
 use Rattle.line_printer.proofs.PrintLemmas.{prints_same}
-use Rattle.coverage_list.proofs.NetLemmas.{item_there, pairs_is}
+use Rattle.coverage_list.proofs.NetLemmas.{pairs_is}
 use Rattle.coverage_list.proofs.listing.put_pairs_at.Goals as goal
 
 pub returns-then-may_be_unpaired : goal.returns-then-may_be_unpaired

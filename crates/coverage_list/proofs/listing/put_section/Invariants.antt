@@ -1,6 +1,6 @@
 use Rattle.std.proofs.Common.{length}
 use Rattle.coverage_list.specs.inner.CoverForms.{section_at, section_lines, texts_from}
-use Rattle.coverage_list.proofs.PutLemmas.{Completes}
+use Rattle.line_printer.proofs.PutLemmas.{Completes}
 use Rattle.coverage_list.proofs.listing.put_section.Given as goal
 
 -- what is said of the nets that are left completes the section

@@ -1,7 +1,9 @@
 -- The map's keys are lent names.
 use Rattle.std.proofs.Common.{◌∙◌}
-use Rattle.device_rules.proofs.NameLemmas.{first_place_lent, if_ok_map}
+use Rattle.std.specs.Str.{bytes_eq}
+use Rattle.std.proofs.lemmas.Result.{IfOk-weaker}
+use Rattle.first_places.proofs.PlaceLemmas.{first_place_lent}
 use Rattle.device_rules.proofs.port_index.first_places_of.Goals as goal
 
 pub returns : goal.returns
-returns c = if_ok_map _ _ (λ m h q. h q ∙ first_place_lent c.args.names.now q) c.first_places.result c.first_places.ensures
+returns c = IfOk-weaker c.first_places.result _ _ (λ m h q. h q ∙ first_place_lent bytes_eq c.args.names.now q) c.first_places.ensures

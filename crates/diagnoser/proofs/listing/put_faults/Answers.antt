@@ -1,6 +1,6 @@
 use Rattle.std.proofs.Common.{rules}
 use Rattle.diagnoser.specs.DiagText.{fault_line}
-use Rattle.diagnoser.proofs.PutLemmas.{next_ok, next_err, all_put}
+use Rattle.line_printer.proofs.PutLemmas.{next_ok, next_err, all_put}
 use Rattle.diagnoser.proofs.listing.put_faults.Goals as goal
 
 pub returns-in_err-put_fault : goal.returns-in_err-put_fault

@@ -1,6 +1,6 @@
 use Rattle.std.specs.List.{flat_map}
 use Rattle.diagnoser.specs.DiagText.{fault_line}
-use Rattle.diagnoser.proofs.PutLemmas.{Completes, texts_after}
+use Rattle.line_printer.proofs.PutLemmas.{Completes, texts_after}
 use Rattle.diagnoser.proofs.listing.put_faults.Given as goal
 
 -- what is said of the faults that are left completes the list

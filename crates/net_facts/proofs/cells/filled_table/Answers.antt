@@ -1,6 +1,6 @@
 use Rattle.std.proofs.Common.{map, ◌∙◌, ap, arith, sym}
 use Rattle.std.proofs.lemmas.List.{take_all}
-use Rattle.net_facts.proofs.Answered.{map_map}
+use Rattle.lists.proofs.ListLemmas.{map-map}
 use Rattle.net_facts.proofs.RowLemmas.{table_more}
 use Rattle.net_facts.proofs.cells.filled_table.Goals as goal
 
@@ -12,4 +12,4 @@ loop-row-preserved g c =
 pub returns : goal.returns
 returns g c =
     c.loop-row.invariant ∙ ap (map (λ row. map (λ before. c.args.item) row.items)) (take_all c.loop-row.row-index c.args.rows.now c.loop-row-test.false) ∙
-    sym (map_map (λ row. row.items) (map (λ before. c.args.item)) c.args.rows.now)
+    sym (map-map (λ row. row.items) (map (λ before. c.args.item)) c.args.rows.now)

@@ -1,13 +1,13 @@
 use Rattle.std.proofs.Common.{◌≡◌, map, length, arith, sym, ◌∙◌, ap, Vec, Global}
 use Rattle.std.specs.Prelude.{filter}
 use Rattle.std.proofs.lemmas.List.{with_items_is}
+use Rattle.lists.proofs.ListLemmas.{map-map}
 use Rattle.board_defs.specs.Passes.{all_cells}
 use Rattle.net_facts.specs.Cells.{table, item_of}
 use Rattle.net_facts.specs.inner.Rows.{made_rows, mark_nets}
 use Rattle.net_facts.specs.inner.Answers.{class_in, useful_in}
 use Rattle.net_facts.specs.declared.classes.ControlClass.{ControlClass}
 use Rattle.net_facts.specs.inner.Shared.{flags_of, shared_in}
-use Rattle.net_facts.proofs.Answered.{map_map}
 use Rattle.net_facts.proofs.Contended.{shared_rows}
 use Rattle.net_facts.proofs.Marks.{Made, made_of}
 use Rattle.net_facts.proofs.classes.facts_by.Goals as goal
@@ -29,5 +29,5 @@ returns c =
     let flags = c.in_ok-flags.flags.items in
     let shared = shared_rows board facts flags after (table c.in_ok-shared.shared.items) c.requires.facts (c.in_ok-flags.ensures ∙ ap flags_of c.deref-6.ensures.value) m.controls_are
     (c.in_ok-shared.ensures ∙ ap (λ v. map (λ (row : Vec ControlClass Global). map (shared_in v) row.items) c.deref-8.result.now) c.deref-7.ensures.value ∙
-    ap (map (λ (row : Vec ControlClass Global). map (shared_in flags) row.items)) (c.deref-8.ensures.value ∙ kept) ∙ sym (map_map (λ (row : Vec ControlClass Global). row.items) (map (shared_in flags)) c.mark_useful.new.rows)) in
+    ap (map (λ (row : Vec ControlClass Global). map (shared_in flags) row.items)) (c.deref-8.ensures.value ∙ kept) ∙ sym (map-map (λ (row : Vec ControlClass Global). row.items) (map (shared_in flags)) c.mark_useful.new.rows)) in
     record { facts_are = c.requires.facts; nets_are = m.nets_are; controls_are = λ d is. ap (λ rows. item_of (table rows) d) kept ∙ m.controls_are d is; useful_are = m.useful_are; shared_are = shared }

@@ -1,6 +1,6 @@
 use Rattle.std.proofs.Common.{Bool, List, false, ap, ◌∙◌, replicate}
 use Rattle.std.specs.List.{list_any}
-use Rattle.plan_tables.proofs.RowLemmas.{none_of_zeros}
+use Rattle.lists.proofs.ListLemmas.{none_of_zeros}
 use Rattle.scan_planner.proofs.FillLemmas.{quiet_tdo, quiet_mask}
 use Rattle.scan_planner.proofs.fill.compare_nothing.Goals as goal
 

@@ -1,7 +1,7 @@
 -- The labels tell the new name of every net.
 use Rattle.std.proofs.Common.{◌≡◌, length, map, ap, sym, ◌∙◌, Bor, List, ℕ}
+use Rattle.std.proofs.lemmas.Result.{IfOk-weaker}
 use Rattle.series_parts.specs.inner.Edges.{edges}
-use Rattle.series_parts.proofs.PlaceLemmas.{if_ok_map}
 use Rattle.series_parts.proofs.EdgeLemmas.{at, new_names}
 use Rattle.series_parts.proofs.least.least_names.Goals as goal
 
@@ -10,6 +10,6 @@ returns c =
     let labels = c.in_ok-labels.labels.items in
     let count : length labels ≡ length c.args.names.now = sym c.in_ok-labels.labels.ok.0 ∙ c.in_ok-labels.ensures.count ∙ c.len.ensures in
     let whole : c.deref.result.now ≡ edges c.args.pins.now c.args.chain.now = c.deref.ensures.value ∙ c.in_ok-edges.ensures.edges in
-    if_ok_map _ _
+    IfOk-weaker c.names_at.result _ _
     (λ least e name. new_names c.args.pins.now c.args.chain.now c.args.names.now c.deref.result.now labels (map (λ (n : Bor (List ℕ)). n.now) least.items) c.requires whole c.in_ok-labels.ensures.labels count (e ∙ ap (map (at c.args.names.now)) c.deref-2.ensures.value) name)
-    c.names_at.result c.names_at.ensures
+    c.names_at.ensures

@@ -1,6 +1,6 @@
 use Rattle.std.specs.List.{flat_map}
 use Rattle.walk_test.specs.GroupText.{group_text}
-use Rattle.walk_test.proofs.PutLemmas.{Completes, texts_after}
+use Rattle.line_printer.proofs.PutLemmas.{Completes, texts_after}
 use Rattle.walk_test.proofs.listing.put_groups.Given as goal
 
 -- what is said of the groups that are left completes the list

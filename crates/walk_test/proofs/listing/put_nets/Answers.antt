@@ -1,6 +1,6 @@
 use Rattle.std.proofs.Common.{rules}
 use Rattle.walk_test.specs.GroupText.{net_line}
-use Rattle.walk_test.proofs.PutLemmas.{next_ok, next_err, all_put}
+use Rattle.line_printer.proofs.PutLemmas.{next_ok, next_err, all_put}
 use Rattle.walk_test.proofs.listing.put_nets.Goals as goal
 
 pub returns-in_err-put_numbered : goal.returns-in_err-put_numbered

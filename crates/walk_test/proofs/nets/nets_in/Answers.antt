@@ -1,6 +1,6 @@
 use Rattle.std.proofs.Common.{◌++◌, ◌∷◌, [], ℕ, Bool, List, is_some, cond, ap, sym, ◌∙◌}
+use Rattle.lists.proofs.ListLemmas.{filter_below_more}
 use Rattle.walk_test.specs.inner.Tables.{observer_in, nets_in}
-use Rattle.walk_test.proofs.NetLemmas.{kept_more}
 use Rattle.walk_test.proofs.nets.nets_in.Goals as goal
 
 pub loop-n-preserved : goal.loop-n-preserved
@@ -11,4 +11,4 @@ loop-n-preserved c =
     c.in_ok-push_if.ensures
     ∙ ap (λ (l : List ℕ). l ++ cond c.observes.result (n ∷ []) []) c.loop-n.invariant
     ∙ ap (λ (b : Bool). nets_in plan walk n ++ cond b (n ∷ []) []) c.observes.ensures
-    ∙ sym (kept_more (λ m. is_some (observer_in plan walk m)) n)
+    ∙ sym (filter_below_more (λ m. is_some (observer_in plan walk m)) n)

@@ -1,5 +1,5 @@
 use Rattle.std.proofs.lemmas.List.{get_or_default}
-use Rattle.net_classes.proofs.Lists.{item_there}
+use Rattle.lists.proofs.ListLemmas.{item_there}
 use Rattle.net_classes.proofs.UnpairedWords.{all_paired}
 use Rattle.net_classes.proofs.classes.Classes.is_paired_with_all.Goals as goal
 

@@ -1,5 +1,5 @@
 use Rattle.std.proofs.lemmas.List.{get_or_default}
-use Rattle.net_classes.proofs.Lists.{item_there}
+use Rattle.lists.proofs.ListLemmas.{item_there}
 use Rattle.net_classes.proofs.PairWords.{word_more, word_whole}
 use Rattle.net_classes.proofs.WordLemmas.{no_word}
 use Rattle.net_classes.proofs.classes.Classes.paired_word.Goals as goal

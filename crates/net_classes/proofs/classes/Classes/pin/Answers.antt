@@ -1,6 +1,7 @@
+use Rattle.lists.proofs.ListLemmas.{item_there}
 use Rattle.net_facts.specs.Kept.{pin_class_of}
 use Rattle.std.proofs.Common.{length}
-use Rattle.net_classes.proofs.Lists.{item_there, numbered_length, numbered_item}
+use Rattle.net_classes.proofs.Lists.{numbered_length, numbered_item}
 use Rattle.net_classes.proofs.classes.Classes.pin.Goals as goal
 
 pub bounds-pins-pin : goal.bounds-pins-pin

@@ -1,5 +1,5 @@
 use Rattle.std.proofs.Common.{ap}
-use Rattle.net_classes.proofs.Lists.{item_there}
+use Rattle.lists.proofs.ListLemmas.{item_there}
 use Rattle.net_classes.proofs.classes.Classes.receiver_tested.Goals as goal
 
 pub returns-clause-meant : goal.returns-clause-meant

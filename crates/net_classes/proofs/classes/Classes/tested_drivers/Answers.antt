@@ -1,4 +1,4 @@
-use Rattle.net_classes.proofs.Lists.{item_there}
+use Rattle.lists.proofs.ListLemmas.{item_there}
 use Rattle.net_classes.proofs.Paired.{tested_cells}
 use Rattle.net_classes.proofs.classes.Classes.tested_drivers.Goals as goal
 
