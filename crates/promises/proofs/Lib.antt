@@ -1,6 +1,7 @@
 pub mod WordLemmas
 mod SampleWords
 mod SampleLogs
+mod SampleRuns
 pub mod ReadLemmas
 pub mod GiveLemmas
 pub mod RowLemmas

@@ -1,0 +1,434 @@
+-- Runs that break what is promised, one for each thing that a promise says, worked by hand; and runs of which a promise must speak, since
+-- only the read of another name failed. The texts of files are any texts of which what is said here holds.
+use Rattle.std.proofs.Common.{◌≡◌, ◌⊎◌, ◌∙◌, ℕ, zero, suc, ◌+◌, ◌<◌, ◌≤◌, true, false, List, [], ◌∷◌, ◌++◌, length, map, cond, Option, Some, None, Result, Ok, Err, refl, sym, ap, subst, inl, inr, length-append, arith}
+use Rattle.std.specs.Prelude.{Contains, codes, take}
+use Rattle.std.specs.Str.{bytes_eq}
+use Rattle.bt_base.specs.Counts.{Rose}
+use Rattle.refusal_lines.specs.Refusals.{usage_line, long_line, read_line, write_line, memory_line}
+use Rattle.command_line.specs.Words.{Text, Command, Chain, Device, Svf}
+use Rattle.btest_cli.specs.Texts.{Held, Wanted}
+use Rattle.btest_cli.specs.declared.status.Status.{Status}
+use Rattle.btest_cli.specs.declared.status.Status.TheVariants.{Done, Refused, Usage, ReadFault, WriteFault, NoMemory}
+use Rattle.promises.specs.Runs.{Asks, AsksNothing, Ends, HoldsEach, IsTooLong, NoReadFailed, Notes, Prints, Run, RunsOn, files_of}
+use Rattle.promises.specs.Gives.{Gives}
+use Rattle.promises.specs.Promises.{FilesGive, FindsOutcome, RestsOnFiles, TellsFault, TellsLong, TellsMemory, TellsUnread, TellsUnwritten, TellsUsage}
+use Rattle.promises.proofs.WordLemmas.{command_is, none_asked}
+
+-- ends of a store that tells this, with what was asked for, put and noted; no read and no write failed
+abbrev ends : Held → List Text → Text → Text → Ends
+ends held asked out notes = record { held = held; asked = asked; unread = λ name. 0; out = out; unwritten = 0; notes = notes; unnoted = 0 }
+
+-- a run of these words that finds nothing asked for, put or noted, and leaves this
+abbrev run_of : List Text → Held → Status → List Text → Text → Text → Run
+run_of words held status asked out notes = record { words = words; old = ends held [] [] []; new = ends held asked out notes; status = status }
+
+-- the words of `device`, of `chain` and of `svf`, and the names of their files
+abbrev device_words : List Text
+device_words = codes "device" ∷ codes "b" ∷ []
+
+abbrev device : Command
+device = Device (codes "b")
+
+abbrev b_file : Wanted
+b_file = record { name = codes "b"; limit = 4194304 }
+
+abbrev chain_words : List Text
+chain_words = codes "chain" ∷ codes "c" ∷ codes "b" ∷ []
+
+abbrev chain : Command
+chain = Chain (record { chain = codes "c"; bsdl = codes "b" ∷ [] })
+
+abbrev c_file : Wanted
+c_file = record { name = codes "c"; limit = 4194304 }
+
+abbrev svf_words : List Text
+svf_words = codes "svf" ∷ codes "c" ∷ codes "n" ∷ codes "b" ∷ []
+
+abbrev svf : Command
+svf = Svf (record { chain = codes "c"; nets = codes "n"; bsdl = codes "b" ∷ [] })
+
+abbrev b_asked : List Text
+b_asked = codes "b" ∷ []
+
+-- a store that tells that it holds no file
+abbrev empty : Held
+empty = Some (λ name. None)
+
+calm : Rose 0 0 → ⊥
+calm (inl less) = omega (arith, less)
+calm (inr last) = omega (arith, last)
+
+-- two texts that are not one
+apart : (one other : Text) → bytes_eq one one ≡ true → bytes_eq one other ≡ false → one ≡ other → ⊥
+apart one other same differ is =
+    let z : true ≡ false = sym same ∙ ap (bytes_eq one) is ∙ differ in
+    cc z
+
+-- the notes took no line, and none of one
+none_noted : (words : List Text) (held : Held) (status : Status) (asked : List Text) (out line : Text) → bytes_eq [] line ≡ false → Notes (run_of words held status asked out []) line → ⊥
+none_noted words held status asked out line some (inl is) = apart [] line refl some is
+none_noted words held status asked out line some (inr (rose, cut)) = calm rose
+
+-- the statuses that a run may end with, and another one
+neither : (status one other : Status) → (status ≡ one → ⊥) → (status ≡ other → ⊥) → (status ≡ one) ⊎ (status ≡ other) → ⊥
+neither status one other first second (inl is) = first is
+neither status one other first second (inr is) = second is
+
+-- `device` prints the text 1
+abbrev PrintsOne : Run → Type 0
+PrintsOne run = Prints run device (λ text. text ≡ 1 ∷ [])
+
+prints_unasked : PrintsOne (run_of device_words empty Done [] (1 ∷ []) []) → ⊥
+prints_unasked prints = let count : 0 ≡ 1 = ap length (prints.asks refl) in absurd (omega (arith, count))
+
+prints_asked_twice : PrintsOne (run_of device_words empty Done (codes "b" ∷ codes "b" ∷ []) (1 ∷ []) []) → ⊥
+prints_asked_twice prints = let count : 2 ≡ 1 = ap length (prints.asks refl) in absurd (omega (arith, count))
+
+prints_nothing : PrintsOne (run_of device_words empty Done b_asked [] []) → ⊥
+prints_nothing prints =
+    let told = prints.puts refl in
+    let count : 0 ≡ 1 = ap length (told.1 ∙ told.2) in
+    absurd (omega (arith, count))
+
+prints_more : PrintsOne (run_of device_words empty Done b_asked (1 ∷ 1 ∷ []) []) → ⊥
+prints_more prints =
+    let told = prints.puts refl in
+    let count : 2 ≡ 1 = ap length (told.1 ∙ told.2) in
+    absurd (omega (arith, count))
+
+prints_with_note : PrintsOne (run_of device_words empty Done b_asked (1 ∷ []) (1 ∷ [])) → ⊥
+prints_with_note prints = let count : 1 ≡ 0 = ap length (prints.silent refl) in absurd (omega (arith, count))
+
+prints_refused : PrintsOne (run_of device_words empty Refused b_asked [] []) → ⊥
+prints_refused prints = neither Refused Done NoMemory (λ e. cc) (λ e. cc) (prints.ends calm (λ name among rose. calm rose))
+
+-- no write of the output failed, and no read of its file
+prints_unwritten : PrintsOne (run_of device_words empty WriteFault b_asked [] []) → ⊥
+prints_unwritten prints = neither WriteFault Done NoMemory (λ e. cc) (λ e. cc) (prints.ends calm (λ name among rose. calm rose))
+
+-- A run of a store of which the read of this name failed once.
+
+abbrev failing : Text → Run → Run
+failing name run = record run { new = record run.new { unread = λ other. cond (bytes_eq name other) 1 0 } }
+
+only_name : (name : Text) → Contains (codes "b" ∷ []) name → name ≡ codes "b"
+only_name name (zero, below, is) = sym is
+only_name name (suc k, below, is) = absurd (omega (arith, below))
+
+-- no read of the file b failed where only that of x did
+b_read : (words asked : List Text) (held : Held) (status : Status) (out notes : Text) → NoReadFailed (failing (codes "x") (run_of words held status asked out notes)) device
+b_read words asked held status out notes name among rose =
+    let same : cond (bytes_eq (codes "x") name) 1 0 ≡ 0 = ap (λ (n : Text). cond (bytes_eq (codes "x") n) 1 0) (only_name name among) in
+    calm (subst (λ (n : ℕ). Rose 0 n) same rose)
+
+other_read_failed : PrintsOne (failing (codes "x") (run_of device_words empty ReadFault [] [] (read_line (codes "x")))) → ⊥
+other_read_failed prints = neither ReadFault Done NoMemory (λ e. cc) (λ e. cc) (prints.ends calm (b_read device_words [] empty ReadFault [] (read_line (codes "x"))))
+
+-- Words that ask for no command.
+
+nothing_asked : (held : Held) (status : Status) (asked : List Text) (out notes : Text) → AsksNothing (run_of [] held status asked out notes)
+nothing_asked held status asked out notes = none_asked (run_of [] held status asked out notes) refl
+
+usage_of_command : TellsUsage (run_of device_words empty Usage [] [] usage_line) → ⊥
+usage_of_command tells = (tells.0 refl).0 device (refl, refl)
+
+usage_with_text : TellsUsage (run_of [] empty Usage [] (1 ∷ []) usage_line) → ⊥
+usage_with_text tells = let count : 1 ≡ 0 = ap length (tells.0 refl).1 in absurd (omega (arith, count))
+
+usage_without_note : TellsUsage (run_of [] empty Usage [] [] []) → ⊥
+usage_without_note tells = none_noted [] empty Usage [] [] usage_line refl (tells.0 refl).2
+
+done_without_command : TellsUsage (run_of [] empty Done [] [] []) → ⊥
+done_without_command tells = neither Done Usage NoMemory (λ e. cc) (λ e. cc) (tells.1 (nothing_asked empty Done [] [] [])).0
+
+usage_that_asked : TellsUsage (run_of [] empty Usage b_asked [] usage_line) → ⊥
+usage_that_asked tells = let count : 1 ≡ 0 = ap length (tells.1 (nothing_asked empty Usage b_asked [] usage_line)).1 in absurd (omega (arith, count))
+
+usage_that_read : TellsUsage (failing (codes "b") (run_of [] empty Usage [] [] usage_line)) → ⊥
+usage_that_read tells =
+    let nothing : AsksNothing (failing (codes "b") (run_of [] empty Usage [] [] usage_line)) = none_asked (failing (codes "b") (run_of [] empty Usage [] [] usage_line)) refl in
+    let count : 1 ≡ 0 = ap (λ (unread : Text → ℕ). unread (codes "b")) (tells.1 nothing).2 in
+    absurd (omega (arith, count))
+
+-- the store held no file, and then tells no more what it holds
+abbrev forgotten : Run
+forgotten = let run = run_of [] empty Usage [] [] usage_line in record run { new = record run.new { held = None } }
+
+usage_that_forgot : TellsUsage forgotten → ⊥
+usage_that_forgot tells =
+    let same : ◌≡◌ {A = Held} None empty = (tells.1 (none_asked forgotten refl)).3 in
+    cc same
+
+-- A file with a first fault, whose line is not empty, is refused, and by its line.
+module _ (text : Text) (short : length text ≤ 4194304) where
+  abbrev holding : Held
+  holding = Some (λ name. Some text)
+
+  on_text : (status : Status) (asked : List Text) (out notes : Text) → RunsOn (run_of device_words holding status asked out notes) device (text ∷ [])
+  on_text status asked out notes = ((refl, refl), (refl, short, tt))
+
+  refused_with_text : TellsFault (run_of device_words holding Refused b_asked (1 ∷ []) []) → ⊥
+  refused_with_text tells = let count : 1 ≡ 0 = ap length (tells.0 refl) in absurd (omega (arith, count))
+
+  refused_unasked : TellsFault (run_of device_words holding Refused [] [] []) → ⊥
+  refused_unasked tells = let count : 0 ≡ 1 = ap length ((tells.1 device (text ∷ []) (on_text Refused [] [] [])).0 refl).0 in absurd (omega (arith, count))
+
+  refused_without_fault : ((line : Text) → Gives device (text ∷ []) (Err line) → ⊥) → TellsFault (run_of device_words holding Refused b_asked [] (1 ∷ [])) → ⊥
+  refused_without_fault sound tells = let told = ((tells.1 device (text ∷ []) (on_text Refused b_asked [] (1 ∷ []))).0 refl).1 in sound told.0 told.1
+
+  refused_without_note : (Gives device (text ∷ []) (Err []) → ⊥) → TellsFault (run_of device_words holding Refused b_asked [] []) → ⊥
+  refused_without_note some tells = let told = ((tells.1 device (text ∷ []) (on_text Refused b_asked [] [])).0 refl).1 in by_note told.0 told.1 told.2
+    where
+      by_note : (line : Text) → Gives device (text ∷ []) (Err line) → Notes (run_of device_words holding Refused b_asked [] []) line → ⊥
+      by_note line gives (inl is) = some (subst (λ (l : Text). Gives device (text ∷ []) (Err l)) (sym is) gives)
+      by_note line gives (inr (rose, cut)) = calm rose
+
+  module _ (line : Text) (gives : Gives device (text ∷ []) (Err line)) where
+    fault_done : TellsFault (run_of device_words holding Done b_asked [] []) → ⊥
+    fault_done tells = ((tells.1 device (text ∷ []) (on_text Done b_asked [] [])).1 line gives).0 refl
+
+    fault_unwritten : TellsFault (run_of device_words holding WriteFault b_asked [] []) → ⊥
+    fault_unwritten tells = ((tells.1 device (text ∷ []) (on_text WriteFault b_asked [] [])).1 line gives).1 refl
+
+    fault_as_usage : TellsFault (run_of device_words holding Usage b_asked [] []) → ⊥
+    fault_as_usage tells =
+        neither Usage Refused NoMemory (λ e. cc) (λ e. cc) (((tells.1 device (text ∷ []) (on_text Usage b_asked [] [])).1 line gives).2 (λ name among rose. calm rose))
+
+    -- the read of another name failed, which is no excuse
+    fault_as_unread : TellsFault (failing (codes "x") (run_of device_words holding ReadFault [] [] (read_line (codes "x")))) → ⊥
+    fault_as_unread tells =
+        neither ReadFault Refused NoMemory (λ e. cc) (λ e. cc) (((tells.1 device (text ∷ []) ((refl, refl), (refl, short, tt))).1 line gives).2 (b_read device_words [] holding ReadFault [] (read_line (codes "x"))))
+
+  -- the output took what is no beginning of the text, or took some where no write failed
+  abbrev cut_after : List Text → Text → Text → Run
+  cut_after asked out notes = let run = run_of device_words holding WriteFault asked out notes in record run { new = record run.new { unwritten = 1 } }
+
+  on_cut : (asked : List Text) (out notes : Text) → RunsOn (cut_after asked out notes) device (text ∷ [])
+  on_cut asked out notes = ((refl, refl), (refl, short, tt))
+
+  unwritten_without_fault : TellsUnwritten (run_of device_words holding WriteFault b_asked [] write_line) → ⊥
+  unwritten_without_fault tells = calm (tells refl).0
+
+  unwritten_without_note : TellsUnwritten (cut_after b_asked [] []) → ⊥
+  unwritten_without_note tells = by_note (tells refl).1
+    where
+      by_note : Notes (cut_after b_asked [] []) write_line → ⊥
+      by_note (inl is) = apart [] write_line refl refl is
+      by_note (inr (rose, cut)) = calm rose
+
+  unwritten_unasked : TellsUnwritten (cut_after [] [] write_line) → ⊥
+  unwritten_unasked tells = let count : 0 ≡ 1 = ap length ((tells refl).2 device (text ∷ []) (on_cut [] [] write_line)).0 in absurd (omega (arith, count))
+
+  unwritten_of_no_text : ((other : Text) → Gives device (text ∷ []) (Ok other) → ⊥) → TellsUnwritten (cut_after b_asked [] write_line) → ⊥
+  unwritten_of_no_text none tells = let told = ((tells refl).2 device (text ∷ []) (on_cut b_asked [] write_line)).1 in none told.0 told.1
+
+  other_bytes : ((other : Text) → Gives device (text ∷ []) (Ok other) → other ≡ 1 ∷ 2 ∷ []) → TellsUnwritten (cut_after b_asked (2 ∷ []) write_line) → ⊥
+  other_bytes only tells =
+      let told = ((tells refl).2 device (text ∷ []) (on_cut b_asked (2 ∷ []) write_line)).1 in
+      by_count told.2 (told.3 ∙ ap (take told.2) (only told.0 told.1))
+    where
+      by_count : (count : ℕ) → ◌≡◌ {A = Text} (2 ∷ []) (take count (1 ∷ 2 ∷ [])) → ⊥
+      by_count zero is = let none : 1 ≡ 0 = ap length is in absurd (omega (arith, none))
+      by_count (suc count) is = apart (2 ∷ []) (1 ∷ take count (2 ∷ [])) refl refl is
+
+  -- nothing is given for the text
+  nothing_given : ((outcome : Result Text Text) → Gives device (text ∷ []) outcome → ⊥) → FindsOutcome (run_of device_words holding NoMemory [] [] []) → ⊥
+  nothing_given none finds = let told = finds.1 device (text ∷ []) (on_text NoMemory [] [] []) in none told.0 told.1
+
+-- A file that is longer than it may be is refused, and by its line.
+module _ (text : Text) (over : 4194304 < length text) where
+  abbrev too_long : Held
+  too_long = Some (λ name. Some text)
+
+  abbrev long_b : IsTooLong too_long (files_of device) b_file
+  long_b = record { before = []; after = []; are = refl; texts = []; each = tt; text = text; holds = refl; long = over }
+
+  abbrev long_c : IsTooLong too_long (files_of chain) c_file
+  long_c = record { before = []; after = b_file ∷ []; are = refl; texts = []; each = tt; text = text; holds = refl; long = over }
+
+  -- the file behind it was asked for
+  long_and_next : TellsLong (run_of chain_words too_long Refused (codes "c" ∷ codes "b" ∷ []) [] (long_line (codes "c") 4194304)) → ⊥
+  long_and_next tells = let count : 2 ≡ 1 = ap length ((tells chain c_file ((refl, omega arith), refl) long_c).0 refl).0 in absurd (omega (arith, count))
+
+  long_unasked : TellsLong (run_of device_words too_long Refused [] [] (long_line (codes "b") 4194304)) → ⊥
+  long_unasked tells = let count : 0 ≡ 1 = ap length ((tells device b_file (refl, refl) long_b).0 refl).0 in absurd (omega (arith, count))
+
+  long_without_note : TellsLong (run_of device_words too_long Refused b_asked [] []) → ⊥
+  long_without_note tells = none_noted device_words too_long Refused b_asked [] (long_line (codes "b") 4194304) refl ((tells device b_file (refl, refl) long_b).0 refl).1
+
+  long_done : TellsLong (run_of device_words too_long Done b_asked [] []) → ⊥
+  long_done tells = (tells device b_file (refl, refl) long_b).1 refl
+
+  long_unwritten : TellsLong (run_of device_words too_long WriteFault b_asked [] []) → ⊥
+  long_unwritten tells = (tells device b_file (refl, refl) long_b).2 refl
+
+  long_as_usage : TellsLong (run_of device_words too_long Usage [] [] []) → ⊥
+  long_as_usage tells = neither Usage Refused NoMemory (λ e. cc) (λ e. cc) ((tells device b_file (refl, refl) long_b).3 (λ name among rose. calm rose))
+
+  long_as_unread : TellsLong (failing (codes "x") (run_of device_words too_long ReadFault [] [] (read_line (codes "x")))) → ⊥
+  long_as_unread tells = neither ReadFault Refused NoMemory (λ e. cc) (λ e. cc) ((tells device b_file (refl, refl) long_b).3 (b_read device_words [] too_long ReadFault [] (read_line (codes "x"))))
+
+-- On a store that holds no file nothing rests on files, but what `make` gives.
+
+is_device : (run : Run) (command : Command) → Asks run device → Asks run command → command ≡ device
+is_device run command one other =
+    let same : ◌≡◌ {A = Option Command} (Some command) (Some device) = sym (command_is run command other) ∙ command_is run device one in
+    cc
+
+no_file_given : (run : Run) → run.old.held ≡ empty → (outcome : Result Text Text) → FilesGive run device outcome → ⊥
+no_file_given run none outcome (inl (texts, each, gives)) = by_texts texts (subst (λ (held : Held). HoldsEach held (files_of device) texts) none each)
+  where
+    by_texts : (texts : List Text) → HoldsEach empty (files_of device) texts → ⊥
+    by_texts [] each = each
+    by_texts (text ∷ texts) each = cc each.0
+no_file_given run none outcome (inr (file, long, is)) =
+    let holds = subst (λ (held : Held). IsTooLong held (files_of device) file) none long in
+    let bad : ◌≡◌ {A = Option Text} None (Some holds.text) = holds.holds in
+    cc bad
+
+rests_on_no_file : (run : Run) → run.old.held ≡ empty → Asks run device → (command : Command) → Asks run command → (outcome : Result Text Text) → FilesGive run command outcome → ⊥
+rests_on_no_file run none device_asked command asked outcome gives =
+    no_file_given run none outcome (subst (λ (c : Command). FilesGive run c outcome) (is_device run command device_asked asked) gives)
+
+done_on_no_file : RestsOnFiles (run_of device_words empty Done b_asked [] []) → ⊥
+done_on_no_file rests =
+    let told = rests.0 refl in
+    rests_on_no_file (run_of device_words empty Done b_asked [] []) refl (refl, refl) told.0 told.1 (Ok told.2) told.3
+
+unwritten_on_no_file : RestsOnFiles (run_of device_words empty WriteFault b_asked [] []) → ⊥
+unwritten_on_no_file rests =
+    let told = rests.1 refl in
+    rests_on_no_file (run_of device_words empty WriteFault b_asked [] []) refl (refl, refl) told.0 told.1 (Ok told.2) told.3
+
+refused_on_no_file : RestsOnFiles (run_of device_words empty Refused b_asked [] []) → ⊥
+refused_on_no_file rests =
+    let told = rests.2 refl in
+    rests_on_no_file (run_of device_words empty Refused b_asked [] []) refl (refl, refl) told.0 told.1 (Err told.2) told.3
+
+done_without_words : RestsOnFiles (run_of [] empty Done [] [] []) → ⊥
+done_without_words rests = let told = rests.0 refl in nothing_asked empty Done [] [] [] told.0 told.1
+
+unwritten_without_words : RestsOnFiles (run_of [] empty WriteFault [] [] []) → ⊥
+unwritten_without_words rests = let told = rests.1 refl in nothing_asked empty WriteFault [] [] [] told.0 told.1
+
+refused_without_words : RestsOnFiles (run_of [] empty Refused [] [] []) → ⊥
+refused_without_words rests = let told = rests.2 refl in nothing_asked empty Refused [] [] [] told.0 told.1
+
+-- nothing was put, where files give no empty text, or noted, where they give no empty line
+done_without_text : ((command : Command) → FilesGive (run_of device_words empty Done b_asked [] []) command (Ok []) → ⊥) → RestsOnFiles (run_of device_words empty Done b_asked [] []) → ⊥
+done_without_text some rests =
+    let told = rests.0 refl in
+    some told.0 (subst (λ (text : Text). FilesGive (run_of device_words empty Done b_asked [] []) told.0 (Ok text)) (sym told.4) told.3)
+
+-- more was put than any text that files give
+unwritten_past_text : ((command : Command) (text : Text) → FilesGive (run_of device_words empty WriteFault b_asked (1 ∷ []) []) command (Ok text) → text ≡ []) → RestsOnFiles (run_of device_words empty WriteFault b_asked (1 ∷ []) []) → ⊥
+unwritten_past_text only rests =
+    let told = rests.1 refl in
+    by_count told.4 (told.5 ∙ ap (take told.4) (only told.0 told.2 told.3))
+  where
+    by_count : (count : ℕ) → ◌≡◌ {A = Text} (1 ∷ []) (take count []) → ⊥
+    by_count zero is = let none : 1 ≡ 0 = ap length is in absurd (omega (arith, none))
+    by_count (suc count) is = let none : 1 ≡ 0 = ap length is in absurd (omega (arith, none))
+
+refused_without_line : ((command : Command) → FilesGive (run_of device_words empty Refused b_asked [] []) command (Err []) → ⊥) → RestsOnFiles (run_of device_words empty Refused b_asked [] []) → ⊥
+refused_without_line some rests =
+    let told = rests.2 refl in
+    by_note told.0 told.2 told.3 told.4
+  where
+    by_note : (command : Command) (line : Text) → FilesGive (run_of device_words empty Refused b_asked [] []) command (Err line) → Notes (run_of device_words empty Refused b_asked [] []) line → ⊥
+    by_note command line gives (inl is) = some command (subst (λ (l : Text). FilesGive (run_of device_words empty Refused b_asked [] []) command (Err l)) (sym is) gives)
+    by_note command line gives (inr (rose, cut)) = calm rose
+
+-- no read of its file failed, and yet no file is held
+nothing_found : FindsOutcome (run_of device_words empty Done b_asked [] []) → ⊥
+nothing_found finds =
+    let told = finds.0 device (refl, refl) (λ name among rose. calm rose) (λ e. cc) in
+    no_file_given (run_of device_words empty Done b_asked [] []) refl told.0 told.1
+
+nothing_found_otherwise : FindsOutcome (failing (codes "x") (run_of device_words empty ReadFault b_asked [] [])) → ⊥
+nothing_found_otherwise finds =
+    let told = finds.0 device (refl, refl) (b_read device_words b_asked empty ReadFault [] []) (λ e. cc) in
+    no_file_given (failing (codes "x") (run_of device_words empty ReadFault b_asked [] [])) refl told.0 told.1
+
+-- Where memory ran out.
+
+memory_with_text : TellsMemory (run_of device_words empty NoMemory [] (1 ∷ []) memory_line) → ⊥
+memory_with_text tells = let count : 1 ≡ 0 = ap length (tells refl).0 in absurd (omega (arith, count))
+
+memory_without_note : TellsMemory (run_of device_words empty NoMemory [] [] []) → ⊥
+memory_without_note tells = none_noted device_words empty NoMemory [] [] memory_line refl (tells refl).1
+
+-- the second file was asked for before the first
+memory_out_of_order : TellsMemory (run_of svf_words empty NoMemory (codes "n" ∷ []) [] memory_line) → ⊥
+memory_out_of_order tells = let told = (tells refl).2 svf ((refl, omega arith), refl) in by_count told.0 told.1
+  where
+    by_count : (count : ℕ) → codes "n" ∷ [] ≡ take count (codes "c" ∷ codes "n" ∷ codes "b" ∷ []) → ⊥
+    by_count zero is = let none : 1 ≡ 0 = ap length is in absurd (omega (arith, none))
+    by_count (suc count) is = apart (codes "n") (codes "c") refl refl (ap (first_of (codes "x")) is)
+      where
+        first_of : Text → List Text → Text
+        first_of default [] = default
+        first_of default (name ∷ names) = name
+
+-- A file whose read failed is named, and it is the last that was asked for.
+
+abbrev last_of : Text → List Text → Text
+last_of first [] = first
+last_of first (name ∷ names) = last_of name names
+
+last_is : (first : Text) (before : List Text) (name : Text) → last_of first (before ++ name ∷ []) ≡ name
+last_is first [] name = refl
+last_is first (other ∷ before) name = last_is other before name
+
+-- the read of each name failed
+abbrev unread : List Text → List Text → Text → Text → Run
+unread words asked out notes = let run = run_of words empty ReadFault asked out notes in record run { new = record run.new { unread = λ name. 1 } }
+
+unread_with_text : TellsUnread (unread device_words b_asked (1 ∷ []) (read_line (codes "b"))) → ⊥
+unread_with_text tells = let count : 1 ≡ 0 = ap length (tells refl).0 in absurd (omega (arith, count))
+
+unread_without_words : TellsUnread (unread [] b_asked [] (read_line (codes "b"))) → ⊥
+unread_without_words tells = let told = tells refl in none_asked (unread [] b_asked [] (read_line (codes "b"))) refl told.1 told.2
+
+unread_without_fault : TellsUnread (run_of device_words empty ReadFault b_asked [] (read_line (codes "b"))) → ⊥
+unread_without_fault tells = calm (tells refl).7
+
+-- the second file was asked for, and the first is named
+first_named : TellsUnread (unread svf_words (codes "c" ∷ codes "n" ∷ []) [] (read_line (codes "c"))) → ⊥
+first_named tells = let told = tells refl in by_note told.5.name (named told.3 told.5 told.8) told.9
+  where
+    named : (before : List Wanted) (file : Wanted) → codes "c" ∷ codes "n" ∷ [] ≡ map (λ f. f.name) before ++ file.name ∷ [] → file.name ≡ codes "n"
+    named before file is = sym (last_is (codes "x") (map (λ f. f.name) before) file.name) ∙ sym (ap (last_of (codes "x")) is)
+
+    by_note : (name : Text) → name ≡ codes "n" → Notes (unread svf_words (codes "c" ∷ codes "n" ∷ []) [] (read_line (codes "c"))) (read_line name) → ⊥
+    by_note name same (inl is) = apart (read_line (codes "c")) (read_line (codes "n")) refl refl (is ∙ ap read_line same)
+    by_note name same (inr (rose, cut)) = calm rose
+
+-- a file that is none of the command's
+other_file : TellsUnread (unread device_words (codes "x" ∷ []) [] (read_line (codes "x"))) → ⊥
+other_file tells =
+    let told = tells refl in
+    let same = is_device (unread device_words (codes "x" ∷ []) [] (read_line (codes "x"))) told.1 (refl, refl) told.2 in
+    by_before told.3 told.4 told.5 (sym (ap files_of same) ∙ told.6) told.8
+  where
+    by_before : (before after : List Wanted) (file : Wanted) → b_file ∷ [] ≡ before ++ file ∷ after → codes "x" ∷ [] ≡ map (λ f. f.name) before ++ file.name ∷ [] → ⊥
+    by_before [] after file are asked =
+        let name : codes "b" ≡ file.name = ap (λ (files : List Wanted). last_of (codes "y") (map (λ f. f.name) (take 1 files))) are in
+        let last : codes "x" ≡ file.name = ap (last_of (codes "y")) asked in
+        apart (codes "b") (codes "x") refl refl (name ∙ sym last)
+    by_before (first ∷ before) after file are asked =
+        let count : 1 ≡ suc (length (before ++ file ∷ after)) = ap length are in
+        let more : length (before ++ file ∷ after) ≡ length before + suc (length after) = length-append before (file ∷ after) in
+        absurd (omega (arith, count, more))
+
+-- the first file is not held, and the second was asked for behind it
+first_not_held : TellsUnread (unread svf_words (codes "c" ∷ codes "n" ∷ []) [] (read_line (codes "n"))) → ⊥
+first_not_held tells = let told = tells refl in by_before told.3 told.5 told.8 (told.10 (λ name. None) refl)
+  where
+    by_texts : (first : Wanted) (before : List Wanted) (texts : List Text) → HoldsEach empty (first ∷ before) texts → ⊥
+    by_texts first before [] each = each
+    by_texts first before (text ∷ texts) each = cc each.0
+
+    by_before : (before : List Wanted) (file : Wanted) → codes "c" ∷ codes "n" ∷ [] ≡ map (λ f. f.name) before ++ file.name ∷ [] → (texts : List Text) × HoldsEach empty before texts → ⊥
+    by_before [] file asked held = let count : 2 ≡ 1 = ap length asked in absurd (omega (arith, count))
+    by_before (first ∷ before) file asked held = by_texts first before held.0 held.1
