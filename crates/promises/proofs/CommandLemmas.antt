@@ -29,10 +29,10 @@ use Rattle.commands.specs.Worth.{Diagnoses, DiagnosesEach, FindsGroups as FindsO
 use Rattle.command_line.specs.Words.{Text, Chain, Ident, Device, Cover, Svf, Walk, Make, Diagnose, Groups, Batch}
 use Rattle.promises.specs.Runs.{Run}
 use Rattle.promises.specs.Gives.{Gives, summary}
-use Rattle.promises.specs.Promises.{DiagnosesBlocks, DiagnosesLog, FindsGroups, HasResponses, IsDiagnosed, ListsCover, ListsDevice, SumsUp, TestsBoard, TestsChain, TestsIdents, WalksBoard}
+use Rattle.promises.specs.Promises.{DiagnosesBlocks, DiagnosesLog, FindsGroups, HasResponses, IsDiagnosed, ListsCover, ListsDevice, RestsOnBlocks, RestsOnLog, RestsOnWalkLog, SumsUp, TestsBoard, TestsChain, TestsIdents, WalksBoard}
 use Rattle.promises.specs.inner.Facts.{IsRun, LinesAreRead, SayOne}
 use Rattle.promises.proofs.GiveLemmas.{not_both, same_ok}
-use Rattle.promises.proofs.RunLemmas.{prints}
+use Rattle.promises.proofs.RunLemmas.{gives_text, prints}
 
 module _ (run : Run) (is : IsRun run) (one : SayOne) where
   -- the files denote one board
@@ -125,6 +125,11 @@ module _ (run : Run) (is : IsRun run) (one : SayOne) where
       sound (inl (fault, found, e)) = not_both (one.board chain nets bsdl (Ok board) (Err fault) denotes found)
       sound (inr (other, also, fault, fails, e)) = read_well test_log log chain nets bsdl board rows denotes read other fault also fails
 
+  pub rests_on_log : LinesAreRead → RestsOnLog run
+  rests_on_log lines workers name names log chain nets bsdl on ended =
+      let gives = (gives_text run is (Diagnose workers name names) on.0 (log ∷ chain ∷ nets ∷ bsdl) on.1 ended).1 in
+      (gives.0, gives.1, gives.2, (lines.test chain nets bsdl gives.0 log gives.2 gives.1).0 gives.3)
+
   diagnosed_each : (board : RawBoard) (blocks : List Block) (verdicts : List Verdict) → EachPair (λ block verdict. IsRight board block.log verdict.pass verdict.faults) blocks verdicts
       → EachPair (λ block verdict. IsDiagnosed board block.log verdict.pass verdict.faults) blocks verdicts
   diagnosed_each board [] [] right = tt
@@ -152,6 +157,11 @@ module _ (run : Run) (is : IsRun run) (one : SayOne) where
       sound (inl (fault, found, e)) = not_both (one.board chain nets bsdl (Ok board) (Err fault) denotes found)
       sound (inr (other, also, fault, fails, e)) = read_well test_blocks logs chain nets bsdl board blocks denotes read other fault also fails
 
+  pub rests_on_blocks : LinesAreRead → RestsOnBlocks run
+  rests_on_blocks lines workers name names logs chain nets bsdl on ended =
+      let gives = (gives_text run is (Batch workers name names) on.0 (logs ∷ chain ∷ nets ∷ bsdl) on.1 ended).1 in
+      (gives.0, gives.1, gives.2, (lines.blocks chain nets bsdl gives.0 logs gives.2 gives.1).0 gives.3)
+
   pub finds_groups : LinesAreRead → FindsGroups run
   finds_groups lines name names log chain nets bsdl board rows on denotes holds =
       prints run is (Groups name names) on.0 (log ∷ chain ∷ nets ∷ bsdl) on.1 _ refl _ (λ line gives. sound gives)
@@ -172,3 +182,8 @@ module _ (run : Run) (is : IsRun run) (one : SayOne) where
       sound : {line : Text} → Gives (Groups name names) (log ∷ chain ∷ nets ∷ bsdl) (Err line) → ⊥
       sound (inl (fault, found, e)) = not_both (one.board chain nets bsdl (Ok board) (Err fault) denotes found)
       sound (inr (other, also, fault, fails, e)) = read_well walk_log log chain nets bsdl board rows denotes read other fault also fails
+
+  pub rests_on_walk_log : LinesAreRead → RestsOnWalkLog run
+  rests_on_walk_log lines name names log chain nets bsdl on ended =
+      let gives = (gives_text run is (Groups name names) on.0 (log ∷ chain ∷ nets ∷ bsdl) on.1 ended).1 in
+      (gives.0, gives.1, gives.2, (lines.walk chain nets bsdl gives.0 log gives.2 gives.1).0 gives.3)

@@ -10,7 +10,8 @@ use Rattle.commands.specs.declared.request.Request.{Request}
 use Rattle.btest_cli.specs.declared.status.Status.{Status}
 use Rattle.btest_cli.specs.declared.status.Status.TheVariants.{Done, Refused, WriteFault, NoMemory}
 use Rattle.btest_cli.specs.Texts.{Wanted, Reading, Read, IsRead, known_reading, wanted_of}
-use Rattle.btest_cli.specs.Outcome.{IsComplete, IsCutShort, IsDone, IsOutcome, IsRefused, Settles, SomeRose, TookOrCut}
+use Rattle.btest_cli.specs.Refusals.{roles_of}
+use Rattle.btest_cli.specs.Outcome.{IsComplete, IsCutShort, IsDone, IsGiven, IsOutcome, IsReadAs, IsRefused, Settles, SomeRose, TookOrCut}
 use Rattle.btest_cli.proofs.RequestLemmas.{same_request}
 use Rattle.btest_cli.proofs.RunLemmas.{one_reading}
 use Rattle.promises.specs.Runs.{Asks, EndsWith, HoldsEach, NoReadFailed, Notes, Prints, Puts, PutsNothing, Run, files_of}
@@ -92,6 +93,17 @@ module _ (run : Run) (is : IsRun run) (command : Command) (asks : Asks run comma
     texts_are others read =
         let same = one_reading run.old.held (wanted_of command) (Read texts) (Read others) known read in
         cc
+
+    -- what is given for the texts that were read is given for those of the files
+    given : (request : Request) (text : Text) → IsReadAs run.old.held command run.old.asked run.new.asked request → IsGiven (roles_of command) request (Ok text) → Gives command texts (Ok text)
+    given request text read gives =
+        let made = subst (λ (l : List Text). request_of command l ≡ Some request) (texts_are read.texts read.read) read.made in
+        is_gives command texts (Ok text) (request, made, gives)
+
+    -- where a text was printed, or begun, the files give one
+    pub gives_text : (run.status ≡ Done) ⊎ (run.status ≡ WriteFault) → (text : Text) × Gives command texts (Ok text)
+    gives_text (inl e) = let told = done_here e in (told.text, given told.request told.text told.read told.gives)
+    gives_text (inr e) = let told = cut_here e in (told.text, given told.request told.text told.read told.gives)
 
     -- a command that puts a text of which P holds
     pub prints : (request : Request) → request_of command texts ≡ Some request → (P : Text → Type 0) → ((line : Text) → Gives command texts (Err line) → ⊥) → ((text : Text) → Gives command texts (Ok text) → IsWorthFor request text → P text) → Prints run command P

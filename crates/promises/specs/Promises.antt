@@ -118,6 +118,13 @@ DiagnosesLog run =
     RunsOn run (Diagnose workers name names) (log ∷ chain ∷ nets ∷ bsdl) → Denotes chain nets bsdl board → HoldsLog board (svf_row_scans board) log rows →
     Prints run (Diagnose workers name names) (λ text. HasResponses board × (pass : Bool) × (faults : List Single) × IsDiagnosed board rows pass faults × (text ≡ diag_text board pass faults))
 
+-- and a text is printed, or begun, only where the files denote a board and the log is one of its test
+abbrev pub RestsOnLog : Run → Type 0
+RestsOnLog run =
+    (workers : ℕ) (name : Text) (names : BoardNames) (log chain nets : Text) (bsdl : List Text) →
+    RunsOn run (Diagnose workers name names) (log ∷ chain ∷ nets ∷ bsdl) → (run.status ≡ Done) ⊎ (run.status ≡ WriteFault) →
+    (board : RawBoard) × Denotes chain nets bsdl board × (rows : List (List Bool)) × HoldsLog board (svf_row_scans board) log rows
+
 -- `batch`: of every text that holds blocks with logs of the board's test, the text that is printed has, for each block in order, its title and
 -- the diagnosis of its log by itself
 abbrev pub DiagnosesBlocks : Run → Type 0
@@ -126,6 +133,13 @@ DiagnosesBlocks run =
     RunsOn run (Batch workers name names) (logs ∷ chain ∷ nets ∷ bsdl) → Denotes chain nets bsdl board → HoldsBlocks board logs blocks →
     Prints run (Batch workers name names) (λ text. HasResponses board × (verdicts : List Verdict)
     × EachPair (λ block verdict. IsDiagnosed board block.log verdict.pass verdict.faults) blocks verdicts × (text ≡ batch_text board blocks verdicts))
+
+-- and a text is printed, or begun, only where the files denote a board and the text holds blocks with logs of its test
+abbrev pub RestsOnBlocks : Run → Type 0
+RestsOnBlocks run =
+    (workers : ℕ) (name : Text) (names : BoardNames) (logs chain nets : Text) (bsdl : List Text) →
+    RunsOn run (Batch workers name names) (logs ∷ chain ∷ nets ∷ bsdl) → (run.status ≡ Done) ⊎ (run.status ≡ WriteFault) →
+    (board : RawBoard) × Denotes chain nets bsdl board × (blocks : List Block) × HoldsBlocks board logs blocks
 
 -- `groups`: of every text that holds a log of the walking test, the text that is printed names the one set of groups of nets that walk with
 -- which, each group shorted so that a 1 wins and nothing else faulty, every run gives the log's compared bits, or says that there is none. Each
@@ -138,6 +152,13 @@ FindsGroups run =
     × (found : Option (List (List ℕ))) × (text ≡ groups_text board found) × ((groups : List (List ℕ)) → (found ≡ Some groups) ↔ Explain board rows groups)
     × ((groups : List (List ℕ)) → AreGroups board groups → (other : List (List Bool)) × Explain board other groups)
     × ((groups : List (List ℕ)) (one other : List (List Bool)) → Explain board one groups → Explain board other groups → AgreeOn board (walk_row_list board) one other))
+
+-- and a text is printed, or begun, only where the files denote a board and the log is one of its walking test
+abbrev pub RestsOnWalkLog : Run → Type 0
+RestsOnWalkLog run =
+    (name : Text) (names : BoardNames) (log chain nets : Text) (bsdl : List Text) →
+    RunsOn run (Groups name names) (log ∷ chain ∷ nets ∷ bsdl) → (run.status ≡ Done) ⊎ (run.status ≡ WriteFault) →
+    (board : RawBoard) × Denotes chain nets bsdl board × (rows : List (List Bool)) × HoldsLog board (walk_row_list board) log rows
 
 -- Usage comes exactly where the words ask for no command, unless memory ran out. The store is as it was
 abbrev pub TellsUsage : Run → Type 0

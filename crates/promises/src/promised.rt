@@ -1,6 +1,6 @@
 // What the program promises, in the order of its commands and then of the other statuses.
 ghost use Rattle.promises.specs.Runs.{desk_run, ends_of, run_of};
-ghost use Rattle.promises.specs.Promises.{DiagnosesBlocks, DiagnosesLog, FindsGroups, FindsOutcome, ListsCover, ListsDevice, RestsOnFiles, SumsUp, TellsFault, TellsLong, TellsMemory, TellsUnread, TellsUnwritten, TellsUsage, TestsBoard, TestsChain, TestsIdents, WalksBoard};
+ghost use Rattle.promises.specs.Promises.{DiagnosesBlocks, DiagnosesLog, FindsGroups, FindsOutcome, ListsCover, ListsDevice, RestsOnBlocks, RestsOnFiles, RestsOnLog, RestsOnWalkLog, SumsUp, TellsFault, TellsLong, TellsMemory, TellsUnread, TellsUnwritten, TellsUsage, TestsBoard, TestsChain, TestsIdents, WalksBoard};
 
 use crate::desk::{Desk, lines_are_read, run_on};
 use bt_base::{Gate, MemSink, Store};
@@ -71,40 +71,45 @@ impl Desk {
         self.run(rt, words, gate)
     }
 
-    /// `diagnose` lists exactly the single faults that explain a log.
+    /// `diagnose` lists exactly the single faults that explain a log, and prints only where there is one.
     pub fn diagnose<R: Threads + Sync, G: Gate>(
         &mut self,
         rt: &R,
         words: &[String],
         gate: &G,
     ) -> Status
-        ensures { DiagnosesLog (desk_run words.now self.old self.new result) }
+        ensures text { DiagnosesLog (desk_run words.now self.old self.new result) }
+        ensures only { RestsOnLog (desk_run words.now self.old self.new result) }
     {
         lines_are_read();
         self.run(rt, words, gate)
     }
 
-    /// `batch` gives for each block its title and the diagnosis of its log by itself.
+    /// `batch` gives for each block its title and the diagnosis of its log by itself, and prints only where there are such
+    /// blocks.
     pub fn batch<R: Threads + Sync, G: Gate>(
         &mut self,
         rt: &R,
         words: &[String],
         gate: &G,
     ) -> Status
-        ensures { DiagnosesBlocks (desk_run words.now self.old self.new result) }
+        ensures text { DiagnosesBlocks (desk_run words.now self.old self.new result) }
+        ensures only { RestsOnBlocks (desk_run words.now self.old self.new result) }
     {
         lines_are_read();
         self.run(rt, words, gate)
     }
 
-    /// `groups` names the one set of groups that explains a log, or says that there is none.
+    /// `groups` names the one set of groups that explains a log, or says that there is none, and prints only where there is a
+    /// log.
     pub fn groups<R: Threads + Sync, G: Gate>(
         &mut self,
         rt: &R,
         words: &[String],
         gate: &G,
     ) -> Status
-        ensures { FindsGroups (desk_run words.now self.old self.new result) }
+        ensures text { FindsGroups (desk_run words.now self.old self.new result) }
+        ensures only { RestsOnWalkLog (desk_run words.now self.old self.new result) }
     {
         lines_are_read();
         self.run(rt, words, gate)
