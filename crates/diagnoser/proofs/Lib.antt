@@ -1,5 +1,5 @@
 pub mod ThoseLemmas
 mod FaultLemmas
 mod LawLemmas
-mod CutLemmas
+pub mod CutLemmas
 mod Samples

@@ -1,0 +1,62 @@
+-- Where pieces begin, and how what is said of each piece is said of all items.
+use Rattle.std.proofs.Common.{◌≡◌, ℕ, suc, ◌+◌, ◌*◌, ◌/◌, ◌<◌, ◌≤◌, inl, inr, List, [], ◌∷◌, length, Result, Ok, Err, sym, ap, ◌∙◌, subst, arith}
+use Rattle.std.specs.Prelude.{slice_index_or}
+use Rattle.std.proofs.Math.Nat.{div-mul-le_self, mul-div_left, mul-le-mul_right}
+use Rattle.std.proofs.lemmas.Nat.{le-div}
+use Rattle.side_by_side.specs.declared.pieces.Piece.{Piece}
+use Rattle.side_by_side.specs.Pieces.{GivesTogether, IsOfPieces, piece_of, piece_start, said_then, seen, together}
+
+times_less : (p q m : ℕ) → p ≤ q → p * m ≤ q * m
+times_less p q m less = mul-le-mul_right m less
+
+-- later pieces begin later
+start_rises : (items pieces p q : ℕ) → 0 < pieces → p ≤ q → piece_start items pieces p ≤ piece_start items pieces q
+start_rises items pieces p q some less = le-div (p * items / pieces) (q * items) pieces some (omega (arith, div-mul-le_self (p * items) pieces, times_less p q items less))
+
+-- the first piece begins with the first item, and behind the last piece there is none
+start_first : (items pieces : ℕ) → piece_start items pieces 0 ≡ 0
+start_first items pieces = grind arith
+
+start_end : (items pieces : ℕ) → 0 < pieces → piece_start items pieces pieces ≡ items
+start_end items pieces some = grind (arith, mul-div_left)
+
+-- `Says from to said`: this is said of the items from one up to but without another
+module _ {T E : Type 0} (items : ℕ) (Says : ℕ → ℕ → Result (List T) E → Type 0) where
+  -- no item gives an empty list, and what is said of items and then of those behind them is said of both
+  pub record IsOfRanges : Type 0 where
+    pub nothing : (i : ℕ) → Says i i (Ok [])
+    pub both : (from middle to : ℕ) (said later : Result (List T) E) → from ≤ middle → middle ≤ to → to ≤ items → Says from middle said → Says middle to later → Says from to (said_then said later)
+
+  module _ {V : Type 0} (view : V → List T) (pieces : ℕ) (some : 0 < pieces) (ranges : IsOfRanges) where
+    abbrev start : ℕ → ℕ
+    start number = piece_start items pieces number
+
+    -- the pieces from one on
+    from_piece : (answers : List (Result V E)) (k : ℕ) → k + length answers ≡ pieces → ((i : ℕ) (none : Result V E) → i < length answers → Says (start (k + i)) (start (k + i + 1)) (seen view (slice_index_or answers i none))) → Says (start k) items (together view answers)
+    from_piece [] k count each =
+        let last : k ≡ pieces = omega (arith, count) in
+        subst (λ (n : ℕ). Says n items (Ok [])) (sym (ap start last ∙ start_end items pieces some)) (ranges.nothing items)
+    from_piece (answer ∷ answers) k count each =
+        let here : Says (start k) (start (k + 1)) (seen view answer) = subst (λ (n : ℕ). Says (start n) (start (n + 1)) (seen view answer)) (omega arith) (each 0 answer (omega arith)) in
+        let low : start k ≤ start (k + 1) = start_rises items pieces k (k + 1) some (omega arith) in
+        let high : start (k + 1) ≤ items = subst (λ (n : ℕ). start (k + 1) ≤ n) (start_end items pieces some) (start_rises items pieces (k + 1) pieces some (omega (arith, count))) in
+        let behind : Says (start (k + 1)) items (together view answers) =
+        from_piece answers (k + 1) (omega (arith, count)) (λ i none less. subst (λ (n : ℕ). Says (start n) (start (n + 1)) (seen view (slice_index_or answers i none))) (omega arith) (each (suc i) none (omega (arith, less)))) in
+        ranges.both (start k) (start (k + 1)) items (seen view answer) (together view answers) low high (omega arith) here behind
+
+    -- what is said of each piece is said of all items
+    pub of_pieces : (Gives : Piece → Result V E → Type 0) (IsRefusal : E → Type 0) (result : Result V E) →
+        ((number : ℕ) (answer : Result V E) → number < pieces → Gives (piece_of items pieces number) answer → Says (start number) (start (number + 1)) (seen view answer)) →
+        ((fault : E) → IsRefusal fault → Says 0 items (Err fault)) → GivesTogether view Gives IsRefusal items pieces result → Says 0 items (seen view result)
+    of_pieces Gives IsRefusal result each refused gives = by_result result gives
+      where
+        all : (said : Result (List T) E) → IsOfPieces view Gives items pieces said → Says 0 items said
+        all said of =
+            let whole : Says (start 0) items (together view of.answers) =
+            from_piece of.answers 0 (omega (arith, of.count)) (λ i none less. subst (λ (n : ℕ). Says (start n) (start (n + 1)) (seen view (slice_index_or of.answers i none))) (omega arith) (each i (slice_index_or of.answers i none) (omega (arith, less, of.count)) (of.each i none (omega (arith, less, of.count))))) in
+            subst (λ (s : Result (List T) E). Says 0 items s) of.is (subst (λ (n : ℕ). Says n items (together view of.answers)) (start_first items pieces) whole)
+
+        by_result : (result : Result V E) → GivesTogether view Gives IsRefusal items pieces result → Says 0 items (seen view result)
+        by_result (Ok v) gives = all (Ok (view v)) gives
+        by_result (Err fault) (inl gone) = refused fault gone
+        by_result (Err fault) (inr gives) = all (Err fault) gives

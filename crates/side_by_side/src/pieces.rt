@@ -1,0 +1,78 @@
+// Pieces of items, and what they give together.
+ghost use Rattle.std.specs.Prelude.{◌≡◌, ◌⊎◌, ◌<◌, ◌≤◌, Ok, Err, MatchResult, alloc_error};
+ghost use Rattle.side_by_side.specs.Pieces.{GivesTogether, piece_of, piece_start, together};
+
+use std::alloc::{AllocError, Global};
+use std::thread::{Threads, map_indices};
+
+/// A piece of many items: its number, and the items from `first` up to but without `end`. All are counted from 0.
+#[derive(Clone, Copy)]
+pub struct Piece {
+    pub number: u32,
+    pub first: u64,
+    pub end: u64,
+}
+
+// The first item of a piece, and the number of items for the piece after the last.
+fn piece_start(items: u64, pieces: u32, number: u32) -> u64
+    requires some { 0 < pieces }
+    requires number { number ≤ pieces }
+    ensures value { result ≡ piece_start items pieces number }
+    ensures within { result ≤ items }
+{
+    let sum = u128::from(number) * u128::from(items);
+    (sum / u128::from(pieces)) as u64
+}
+
+// The piece with this number.
+fn piece_of(items: u64, pieces: u32, number: u32) -> Piece
+    requires { number < pieces }
+    ensures piece { result ≡ piece_of items pieces number }
+    ensures order { result.first ≤ result.end }
+    ensures within { result.end ≤ items }
+{
+    Piece {
+        number,
+        first: piece_start(items, pieces, number),
+        end: piece_start(items, pieces, number + 1),
+    }
+}
+
+// The lists of some answers, one behind the other, or the fault of the first answer that has one.
+fn together<T: Drop, E: From<AllocError> + Drop>(
+    alloc: Global,
+    answers: Vec<Result<Vec<T>, E>>,
+) -> Result<Vec<T>, E>
+    ensures { MatchResult result (λ all. together (λ v. v.items) answers.items ≡ Ok all.items) (λ fault. E.from_gives alloc_error fault ⊎ (together (λ v. v.items) answers.items ≡ Err fault)) }
+{
+    let mut all = Vec::new(alloc);
+    for answer in answers {
+        match answer {
+            Ok(mut items) => all.append(&mut items)?,
+            Err(fault) => return Err(fault),
+        }
+    }
+    Ok(all)
+}
+
+/// Has the work done on each of so many pieces of the items, and gives what the pieces give, one behind the other, or the fault of
+/// the first piece that has one. Where memory is refused for this, it may be the fault in place of all others.
+///
+/// The pieces differ by at most one item. Halves of the pieces run side by side, down to one piece.
+pub fn in_pieces<
+    R: Threads + Sync,
+    T: Send + Drop,
+    E: From<AllocError> + Send + Drop,
+    F: Fn(Piece) -> Result<Vec<T>, E> + Sync,
+>(rt: &R, alloc: Global, items: u64, pieces: u32, work: &F) -> Result<Vec<T>, E>
+    requires some { 0 < pieces }
+    requires work { (piece : Piece) → piece.number < pieces → piece.first ≤ piece.end → piece.end ≤ items → F.pre work.now piece }
+    ensures { GivesTogether (λ v. v.items) (F.post work.now) (E.from_gives alloc_error) items pieces result }
+{
+    let answer_of = move |number: usize| -> Result<Vec<T>, E>
+        requires { (number < pieces) × ((piece : Piece) → piece.number < pieces → piece.first ≤ piece.end → piece.end ≤ items → F.pre work.now piece) }
+        ensures { F.post work.entry.now (piece_of items pieces number) result }
+    { work(piece_of(items, pieces, number as u32)) };
+    let answers = map_indices(rt, alloc, pieces as usize, &answer_of)?;
+    together(alloc, answers)
+}
