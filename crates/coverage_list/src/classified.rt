@@ -10,25 +10,21 @@ ghost use Rattle.coverage_list.specs.inner.CoverForms.{net_pairs};
 
 use crate::lines::PinUse;
 use board_defs::{Board, Net, PinRef, Reason};
-use net_classes::Classes;
+use net_classes::{BoardClasses, Classes};
 use std::marker::Model;
 
 /// A board with its classes, seen as the board.
 #[derive(Drop)]
 pub struct ClassifiedBoard<'a> {
-    board: &'a Board,
-    classes: &'a Classes,
+    classes: BoardClasses<'a>,
 }
 
 impl<'a> Model for ClassifiedBoard<'a> {
     ghost use Rattle.board_defs.specs.declared.board.RawBoard.{RawBoard};
-    ghost use Rattle.net_classes.specs.Kept.{AreClasses};
 
     ghost Value = { RawBoard };
 
-    ghost view = { λ a. a.board.now };
-
-    ghost invariant = { λ a. AreClasses a.board.now a.classes.now };
+    ghost view = { λ a. a.classes };
 }
 
 impl<'a> ClassifiedBoard<'a> {
@@ -37,7 +33,9 @@ impl<'a> ClassifiedBoard<'a> {
         requires { AreClasses board.now classes.now }
         ensures { result ≡ board.now }
     {
-        ClassifiedBoard { board, classes }
+        ClassifiedBoard {
+            classes: BoardClasses::of(board, classes),
+        }
     }
 
     /// How many nets the board has.
@@ -45,7 +43,7 @@ impl<'a> ClassifiedBoard<'a> {
         ensures value { result ≡ length self.now.nets }
         ensures most { result ≤ 16382 }
     {
-        self.board.raw().nets.len() as u32
+        self.classes.raw().nets.len() as u32
     }
 
     /// The net of a number.
@@ -53,7 +51,7 @@ impl<'a> ClassifiedBoard<'a> {
         requires { n < length self.now.nets }
         ensures { slice_get self.now.nets n ≡ Some result.now }
     {
-        &self.board.raw().nets.as_slice()[n as usize]
+        &self.classes.raw().nets.as_slice()[n as usize]
     }
 
     /// How many pins the net of a number has.
@@ -61,7 +59,7 @@ impl<'a> ClassifiedBoard<'a> {
         requires { slice_get self.now.nets n ≡ Some net.now }
         ensures { result ≡ length net.now.pins }
     {
-        let _rules = self.board.raw();
+        let _rules = self.classes.raw();
         net.pins.len() as u32
     }
 
@@ -70,7 +68,7 @@ impl<'a> ClassifiedBoard<'a> {
         requires { n < length self.now.nets }
         ensures { OfNet self.now n (λ net. result ≡ reason_of self.now net) }
     {
-        self.classes.reason(self.board, n)
+        self.classes.reason(n)
     }
 
     /// Whether the net is covered.
@@ -99,11 +97,10 @@ impl<'a> ClassifiedBoard<'a> {
         requires { IsOnBoard self.now pin }
         ensures { OfNet self.now pin.net (λ net. result ≡ is_untested self.now pin_use net pin.place) }
     {
-        let (board, classes) = (self.board, self.classes);
+        let class = self.classes.pin(pin);
         match pin_use {
-            PinUse::Driver => classes.drives(board, pin) && !classes.driver_tested(board, pin),
-            PinUse::Receiver => classes.receives(board, pin)
-                && !classes.receiver_tested(board, pin),
+            PinUse::Driver => class.drives && !class.driver_tested,
+            PinUse::Receiver => class.receives && !class.receiver_tested,
         }
     }
 
@@ -113,14 +110,13 @@ impl<'a> ClassifiedBoard<'a> {
         ensures free { result ≡ false → OfNet self.now n (λ net. net_pairs self.now n net ≡ []) }
         ensures covered { result ≡ true → OfNet self.now n (λ net. is_covered self.now net ≡ true) }
     {
-        self.is_covered(n) && !self.classes.is_paired_with_all(self.board, n)
+        self.is_covered(n) && !self.classes.is_paired_with_all(n as usize)
     }
 
     /// Of the 64 nets from net 64 * word on, those that are covered and not paired with the net.
     pub fn unpaired_word(&self, n: u32, word: u32) -> u64
-        requires { n < length self.now.nets }
         ensures { AreBitsOf (unpaired_with self.now n) word result }
     {
-        self.classes.unpaired_word(self.board, n, word)
+        self.classes.unpaired_word(n as usize, word as usize)
     }
 }

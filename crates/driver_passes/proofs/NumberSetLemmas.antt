@@ -80,17 +80,15 @@ pub bit_both : (a b i : ℕ) → has_bit (bit_and a b) i ≡ (has_bit a i && has
 bit_both a b i = ap (λ x. x == 1) (bit_at_and a b i) ∙ two_bits min (λ p q. p && q) refl refl refl refl (bit_at a i) (bit_at b i) (bit_at-lt a i) (bit_at-lt b i)
 
 -- two lists of words are put together word by word, and so number by number
-pub words_by : (t : Bool → Bool → Bool) → t false false ≡ false → (before after others : List ℕ) (n : ℕ) → length others ≡ length before → length after ≡ length before →
+pub words_by : (t : Bool → Bool → Bool) (before after others : List ℕ) (n : ℕ) → (length before ≤ n / 64 → t false (is_in others n) ≡ false) → length after ≡ length before →
     (n / 64 < length before → has_bit (get_or after (n / 64) 0) (n % 64) ≡ t (has_bit (get_or before (n / 64) 0) (n % 64)) (has_bit (get_or others (n / 64) 0) (n % 64))) →
     is_in after n ≡ t (is_in before n) (is_in others n)
 unfolding is_in
-words_by t none before after others n size same each = by_place (cases_lt (n / 64) (length before))
+words_by t before after others n none same each = by_place (cases_lt (n / 64) (length before))
   where
     by_place : (n / 64 < length before) ⊎ (length before ≤ n / 64) → is_in after n ≡ t (is_in before n) (is_in others n)
     by_place (inl within) = each within
-    by_place (inr past) =
-        none_past after n (omega (arith, past, same)) ∙ sym none
-        ∙ sym (ap (λ b. t b (is_in others n)) (none_past before n past) ∙ ap (t false) (none_past others n (omega (arith, past, size))))
+    by_place (inr past) = none_past after n (omega (arith, past, same)) ∙ sym (none past) ∙ sym (ap (λ b. t b (is_in others n)) (none_past before n past))
 
 -- the bits of one word are put together with others
 pub word_changed : (t : Bool → Bool → Bool) → ((b : Bool) → t b false ≡ b) → (words : List ℕ) (number word bits n : ℕ) → number < length words →

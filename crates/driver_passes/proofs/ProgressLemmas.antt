@@ -6,6 +6,7 @@ use Rattle.std.proofs.Math.Bool.{or-false, or_comm}
 use Rattle.std.proofs.lemmas.Bool.{and_parts}
 use Rattle.std.proofs.lemmas.Option.{slice_get_within, get_or_from_slice_get}
 use Rattle.std.proofs.lemmas.List.{get_or-map as item-map, get_or_default, length-append, length-map, take_all, length_push}
+use Rattle.std.proofs.lemmas.List.Elements.{All-nil}
 use Rattle.std.proofs.lemmas.List.Folds.{list_any-append}
 use Rattle.std.proofs.lemmas.List.Sums.{sum_by-cons}
 use Rattle.lists.proofs.Booleans.{suc-eqb_zero}
@@ -19,6 +20,7 @@ use Rattle.board_defs.specs.Decided.{any_other, can_enable, drive_in, place_driv
 use Rattle.board_defs.specs.Coverage.{IsUseful}
 use Rattle.board_defs.specs.Passes.{drivers_by_net, tested_drivers, tested_drive, useful_controls, add_for_driver, driver_pass, is_enabled}
 use Rattle.board_defs.specs.Laws.{PassesAre, DecidesTerms, HasTestedDriver}
+use Rattle.net_classes.specs.Pairs.{drivers_there}
 use Rattle.net_classes.specs.inner.Pairs.{IsByCell}
 use Rattle.driver_passes.specs.inner.Progress.{AreHeld, IsUsefulDriver, is_held}
 use Rattle.driver_passes.specs.inner.Shown.{drivers_at}
@@ -37,12 +39,21 @@ pub any_pass : (passes : List (List Ctl)) → list_any (λ pass. true) passes �
 any_pass [] = refl
 any_pass (pass ∷ passes) = sym (ap not (suc-eqb_zero (length passes)))
 
+-- the tested drivers of the net of a number
+pub same_drivers : (board : RawBoard) (n : ℕ) → drivers_there board (slice_get board.nets n) ≡ drivers_at board n
+same_drivers board n = by_place board.nets n
+  where
+    by_place : (nets : List Net) (n : ℕ) → drivers_there board (slice_get nets n) ≡ get_or (map (tested_drivers board) nets) n []
+    by_place [] n = refl
+    by_place (net ∷ nets) zero = refl
+    by_place (net ∷ nets) (suc n) = by_place nets n
+
 pub drivers_are : (board : RawBoard) (n : ℕ) (net : Net) → slice_get board.nets n ≡ Some net → drivers_at board n ≡ tested_drivers board net
-drivers_are board n net e = item-map (tested_drivers board) board.nets n net [] (slice_get_within board.nets n net e) ∙ ap (tested_drivers board) (get_or_from_slice_get board.nets n net net e)
+drivers_are board n net e = sym (same_drivers board n) ∙ ap (drivers_there board) e
 
 -- the control of a tested driver is useful
-pub tested_useful : (board : RawBoard) (n : ℕ) (net : Net) (drivers : List Drive) → PassesAre board → DecidesTerms board → slice_get board.nets n ≡ Some net → drivers ≡ tested_drivers board net → All (IsUsefulDriver board) drivers
-tested_useful board n net drivers are decides e f k d less c by = (are.said.useful c).1 (useful (tested.0 here))
+net_useful : (board : RawBoard) (n : ℕ) (net : Net) (drivers : List Drive) → PassesAre board → DecidesTerms board → slice_get board.nets n ≡ Some net → drivers ≡ tested_drivers board net → All (IsUsefulDriver board) drivers
+net_useful board n net drivers are decides e f k d less c by = (are.said.useful c).1 (useful (tested.0 here))
   where
     tested : (Contains (tested_drivers board net) (get_or drivers k d) → HasTestedDriver board n net (get_or drivers k d)) × (HasTestedDriver board n net (get_or drivers k d) → Contains (tested_drivers board net) (get_or drivers k d))
     tested = are.said.drivers n net (get_or drivers k d) e
@@ -61,6 +72,15 @@ tested_useful board n net drivers are decides e f k d less c by = (are.said.usef
 
         safe : IsSafe board (just c)
         safe = (decides.safe c).0 (sym (ap (can_enable board) (ap (drive_in board net) has.stands.in_net ∙ has.drives ∙ ap Some by)) ∙ enables)
+
+pub tested_useful : (board : RawBoard) (n : ℕ) (drivers : List Drive) → PassesAre board → DecidesTerms board → drivers ≡ drivers_at board n → All (IsUsefulDriver board) drivers
+tested_useful board n drivers are decides e = by_net (slice_get board.nets n) refl
+  where
+    by_net : (net : Option Net) → slice_get board.nets n ≡ net → All (IsUsefulDriver board) drivers
+    by_net None at =
+        let none : drivers ≡ [] = e ∙ sym (same_drivers board n) ∙ ap (drivers_there board) at in
+        rw none (All-nil (IsUsefulDriver board))
+    by_net (Some net) at = net_useful board n net drivers are decides at (e ∙ drivers_are board n net at)
 
 pub useful_by_cell : (board now : RawBoard) (d : Drive) → board ≡ now → All (IsCell board) (useful_controls board) → IsUsefulDriver now d → IsByCell board d
 useful_by_cell board now d e cells useful c by = holds_of (IsCell board) (useful_controls board) c cells (ap (λ b. holds (useful_controls b) c) e ∙ useful c by)

@@ -30,12 +30,6 @@ rows_more board passes after rows rows_after pass row are shown e f = rw (e, f) 
 -- what the rows say of the passes
 
 -- each row has room for each net
-pub rows_sized : (board : RawBoard) (passes : List (List Ctl)) (rows : List (List ℕ)) (size : ℕ) → AreRows board passes rows → size ≡ length board.nets / 64 + 1 → All (λ row. length row ≡ size) rows
-rows_sized board [] [] size are room = All-nil (λ (row : List ℕ). length row ≡ size)
-rows_sized board [] (row ∷ rows) size are room = absurd are
-rows_sized board (pass ∷ passes) [] size are room = absurd are
-rows_sized board (pass ∷ passes) (row ∷ rows) size are room = All-cons (λ (v : List ℕ). length v ≡ size) row rows (are.0.row_length ∙ sym room) (rows_sized board passes rows size are.1 room)
-
 both_same : (board : RawBoard) (pass : List Ctl) (row : List ℕ) (a b : ℕ) → AreShownBy board pass row → a < length board.nets → b < length board.nets → shows_both a b row ≡ (shows (drivers_at board a) pass && shows (drivers_at board b) pass)
 both_same board pass row a b are first second = ap (λ t. t && is_in row b) (are.row_are a first) ∙ ap (λ t. shows (drivers_at board a) pass && t) (are.row_are b second)
 

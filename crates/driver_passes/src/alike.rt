@@ -1,5 +1,5 @@
 // Nets with the same tested drivers: what is done for one of them is done for each other.
-ghost use Rattle.std.specs.Prelude.{◌≡◌, ◌≤◌, ◌<◌, length, slice_index_or, true, IfOk, IfSome};
+ghost use Rattle.std.specs.Prelude.{◌≡◌, ◌≤◌, ◌<◌, length, true, IfOk, IfSome};
 ghost use Rattle.board_defs.specs.Passes.{useful_controls};
 ghost use Rattle.driver_passes.specs.inner.Alike.{AreAlike};
 ghost use Rattle.driver_passes.specs.inner.Shown.{drivers_at};
@@ -26,7 +26,6 @@ fn first_place(board: &ClassedBoard<'_>, drivers: &[Drive]) -> Option<usize>
 
 /// The other net, where it is an earlier one with the same tested drivers, else this one.
 fn like_of(board: &ClassedBoard<'_>, other: usize, net: usize) -> usize
-    requires { net < length board.now.nets }
     ensures within { result ≤ net }
     ensures alike { drivers_at board.now result ≡ drivers_at board.now net }
 {
@@ -37,16 +36,6 @@ fn like_of(board: &ClassedBoard<'_>, other: usize, net: usize) -> usize
         other
     } else {
         net
-    }
-}
-
-/// The number at this place, 0 past the end.
-pub fn number_at(numbers: &[u32], place: usize) -> u32
-    ensures { result ≡ slice_index_or numbers.now place 0 }
-{
-    match numbers.get(place) {
-        None => 0,
-        Some(number) => *number,
     }
 }
 

@@ -1,5 +1,5 @@
 // A board with its classes.
-ghost use Rattle.std.specs.Prelude.{◌≡◌, ◌<◌, ◌≤◌, false, true, length, slice_get, All, MatchOption, Some};
+ghost use Rattle.std.specs.Prelude.{◌≡◌, ◌≤◌, false, true, length, slice_get, All, MatchOption, Some};
 ghost use Rattle.board_defs.specs.Passes.{useful_controls};
 ghost use Rattle.board_defs.specs.Settings.{holds};
 ghost use Rattle.net_facts.specs.Kept.{shared_nets};
@@ -11,14 +11,13 @@ ghost use Rattle.driver_passes.specs.inner.Shown.{drivers_at};
 
 use crate::places::place_in;
 use board_defs::{Board, Ctl, Drive, law};
-use net_classes::Classes;
+use net_classes::{BoardClasses, Classes};
 use std::marker::Model;
 
 /// A board with its classes and its useful controls, seen as the board.
 #[derive(Drop)]
 pub struct ClassedBoard<'a> {
-    pub(crate) board: &'a Board,
-    pub(crate) classes: &'a Classes,
+    pub(crate) classes: BoardClasses<'a>,
     useful: &'a [Ctl],
 }
 
@@ -27,15 +26,13 @@ impl<'a> Model for ClassedBoard<'a> {
     ghost use Rattle.board_defs.specs.declared.board.RawBoard.{RawBoard};
     ghost use Rattle.board_defs.specs.Passes.{useful_controls};
     ghost use Rattle.board_defs.specs.Pins.{IsCell};
-    ghost use Rattle.net_classes.specs.Kept.{AreClasses};
 
     ghost Value = { RawBoard };
 
-    ghost view = { λ a. a.board.now };
+    ghost view = { λ a. a.classes };
 
-    ghost invariant = { λ a. AreClasses a.board.now a.classes.now
-        × (a.useful.now ≡ useful_controls a.board.now)
-        × All (IsCell a.board.now) (useful_controls a.board.now) };
+    ghost invariant = { λ a. (a.useful.now ≡ useful_controls a.classes)
+        × All (IsCell a.classes) (useful_controls a.classes) };
 }
 
 impl<'a> ClassedBoard<'a> {
@@ -44,12 +41,9 @@ impl<'a> ClassedBoard<'a> {
         requires { AreClasses board.now classes.now }
         ensures { result ≡ board.now }
     {
-        let useful = classes.useful(board);
-        ClassedBoard {
-            board,
-            classes,
-            useful,
-        }
+        let classes = BoardClasses::of(board, classes);
+        let useful = classes.useful();
+        ClassedBoard { classes, useful }
     }
 
     /// Does nothing: its clause is what the laws of boards say of this one.
@@ -58,7 +52,7 @@ impl<'a> ClassedBoard<'a> {
     {
         law::passes_kept();
         law::terms_decided();
-        let _rules = self.board.raw();
+        let _rules = self.classes.raw();
     }
 
     /// How many nets the board has.
@@ -66,7 +60,7 @@ impl<'a> ClassedBoard<'a> {
         ensures count { result ≡ length self.now.nets }
         ensures few { result ≤ 16382 }
     {
-        self.board.raw().nets.as_slice().len()
+        self.classes.raw().nets.as_slice().len()
     }
 
     /// The useful controls, in control order.
@@ -85,14 +79,13 @@ impl<'a> ClassedBoard<'a> {
         place_in(self.useful(), c)
     }
 
-    /// How the tested drivers of the net are enabled, in pin order.
+    /// How the tested drivers of the net are enabled, in pin order; none past the last net.
     pub fn tested_drivers(&self, net: usize) -> &[Drive]
-        requires { net < length self.now.nets }
         ensures drivers { result.now ≡ drivers_at self.now net }
         ensures useful { All (IsUsefulDriver self.now) result.now }
     {
         self.laws();
-        self.classes.tested_drivers(self.board, net as u32)
+        self.classes.tested_drivers(net)
     }
 
     /// The nets that the useful control shares with another control, by their numbers in net order.
@@ -100,7 +93,7 @@ impl<'a> ClassedBoard<'a> {
         requires { holds (useful_controls self.now) c ≡ true }
         ensures { result.now ≡ shared_nets self.now c }
     {
-        self.classes.shared_nets(self.board, c)
+        self.classes.shared_nets(c)
     }
 
     /// Whether one safe setting enables both drivers.
@@ -109,6 +102,6 @@ impl<'a> ClassedBoard<'a> {
         requires second { IsUsefulDriver self.now e }
         ensures { result ≡ fit self.now d e }
     {
-        self.classes.fit(self.board, d, e)
+        self.classes.fit(d, e)
     }
 }

@@ -58,13 +58,11 @@ fn set_all(words: &mut [u64])
 
 /// Clears, from this word on, each bit that is set in the other words.
 fn clear_from(words: &mut [u64], others: &[u64], first: usize)
-    requires size { length others.now ≡ length words.old }
-    requires first { first ≤ length words.old }
     ensures { (n : ℕ) → first ≤ n / 64 →
         is_in words.new n ≡ (is_in words.old n && not (is_in others.now n)) }
 {
     for i in first..words.len() {
-        words[i] &= !others[i];
+        words[i] &= !word_at(others, i);
     }
 }
 
@@ -89,11 +87,10 @@ fn set_from(words: &mut [u64], others: &[u64])
 
 /// Clears each bit that is not set in the other words.
 fn clear_others(words: &mut [u64], others: &[u64])
-    requires { length others.now ≡ length words.old }
     ensures { (n : ℕ) → is_in words.new n ≡ (is_in words.old n && is_in others.now n) }
 {
-    for (i, other) in others.iter().enumerate() {
-        words[i] &= *other;
+    for i in 0..words.len() {
+        words[i] &= word_at(others, i);
     }
 }
 
@@ -170,10 +167,8 @@ impl NumberSet {
         set_all(&mut self.words);
     }
 
-    /// Takes out, from 64 * first on, the numbers of the other set, which has the same room.
+    /// Takes out, from 64 * first on, the numbers of the other set.
     pub fn take_out(&mut self, others: &NumberSet, first: usize)
-        requires size { length others.now ≡ length self.old }
-        requires first { first ≤ length self.old }
         ensures room { length self.new ≡ length self.old }
         ensures numbers { (n : ℕ) → first ≤ n / 64 →
             is_in self.new n ≡ (is_in self.old n && not (is_in others.now n)) }
@@ -204,9 +199,8 @@ impl NumberSet {
         set_from(&mut self.words, &others.words);
     }
 
-    /// Takes out the numbers that are not in the other set, which has the same room.
+    /// Takes out the numbers that are not in the other set.
     pub fn keep_only(&mut self, others: &NumberSet)
-        requires { length others.now ≡ length self.old }
         ensures room { length self.new ≡ length self.old }
         ensures numbers { (n : ℕ) → is_in self.new n ≡ (is_in self.old n && is_in others.now n) }
     {

@@ -29,8 +29,6 @@ impl<'a> ClassedBoard<'a> {
 
     /// The first tested drivers of two nets that one safe setting enables.
     pub fn first_pair(&self, a: usize, b: usize) -> Option<(Drive, Drive)>
-        requires first { a < length self.now.nets }
-        requires second { b < length self.now.nets }
         ensures found { result
             ≡ first_pair self.now (drivers_at self.now a) (drivers_at self.now b) }
         ensures useful { IfSome result (λ pair. IsUsefulPair self.now pair) }
@@ -47,24 +45,18 @@ impl<'a> ClassedBoard<'a> {
 
     /// Of the 64 nets with the word of this net, those of the set that are paired with net `a`.
     fn wanted_word(&self, left: &NumberSet, a: usize, net: usize) -> u64
-        requires first { a < length self.now.nets }
-        requires second { net < length self.now.nets }
         ensures { AreBitsOf (is_wanted self.now left.now a) (net / 64) result }
     {
         let word = left.word(net / 64);
         if word == 0 {
             return 0;
         }
-        self.laws();
-        let paired = self
-            .classes
-            .paired_word(self.board, a as u32, (net / 64) as u32);
+        let paired = self.classes.paired_word(a, net / 64);
         word & paired
     }
 
     /// The first net of the set, from this net on, that is paired with net `a`.
     pub fn next_wanted(&self, left: &NumberSet, a: usize, from: usize) -> Option<usize>
-        requires { a < length self.now.nets }
         ensures next { MatchOption result
             ((n : ℕ) → from ≤ n → n < length self.now.nets →
             is_wanted self.now left.now a n ≡ false)

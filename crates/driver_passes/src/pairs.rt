@@ -100,7 +100,6 @@ impl Pairing {
         b: usize,
     ) -> Result<(), AllocError>
         requires looks { LooksAt board.now self.old a }
-        requires second { b < length board.now.nets }
         requires unshown { are_shown self.old.passes.items
             (drivers_at board.now a) (drivers_at board.now b) ≡ false }
         ensures looks { OnOk result (LooksAt board.now self.new a) }

@@ -1,5 +1,5 @@
 // What the rows of the passes, the sets of the nets that they show, say of a net and the others.
-ghost use Rattle.std.specs.Prelude.{◌≡◌, ◌<◌, ◌≤◌, ◌/◌, ◌&&◌, ℕ, not, length, slice_index_or, All};
+ghost use Rattle.std.specs.Prelude.{◌≡◌, ◌<◌, ◌≤◌, ◌/◌, ◌&&◌, ℕ, not, length, slice_index_or};
 ghost use Rattle.std.specs.List.{list_all, list_any};
 ghost use Rattle.driver_passes.specs.inner.NumberSets.{is_in};
 ghost use Rattle.driver_passes.specs.inner.Shown.{shows_both, words_at};
@@ -8,7 +8,6 @@ use crate::number_set::{NumberSet, has_bit};
 
 /// Makes the set that of the nets which each pass shows.
 pub fn keep_shown(always: &mut NumberSet, rows: &[NumberSet])
-    requires sizes { All (λ row. length row ≡ length always.old) rows.now }
     ensures room { length always.new ≡ length always.old }
     ensures nets { (n : ℕ) → n / 64 < length always.old →
         is_in always.new n ≡ list_all (λ row. is_in row n) rows.now }
@@ -22,9 +21,7 @@ pub fn keep_shown(always: &mut NumberSet, rows: &[NumberSet])
 /// Takes out the nets from word `a / 64` on that the pass of this row shows together with net `a`.
 /// The row's own word `a / 64` is given too, so a row without net `a` need not be read.
 pub fn take_shown(left: &mut NumberSet, row: &NumberSet, word: u64, a: usize)
-    requires size { length row.now ≡ length left.old }
-    requires word { word ≡ slice_index_or row.now (a / 64) 0 }
-    requires first { a / 64 ≤ length left.old }
+    requires { word ≡ slice_index_or row.now (a / 64) 0 }
     ensures room { length left.new ≡ length left.old }
     ensures nets { (n : ℕ) → a / 64 ≤ n / 64 →
         is_in left.new n ≡ (is_in left.old n && not (shows_both a n row.now)) }
@@ -37,9 +34,7 @@ pub fn take_shown(left: &mut NumberSet, row: &NumberSet, word: u64, a: usize)
 /// Makes the set, from word `a / 64` on, that of the nets which no pass shows together with net `a`.
 /// The word `a / 64` of each row is given too.
 pub fn leave_unshown(left: &mut NumberSet, rows: &[NumberSet], words: &[u64], a: usize)
-    requires sizes { All (λ row. length row ≡ length left.old) rows.now }
-    requires words { words.now ≡ words_at (a / 64) rows.now }
-    requires first { a / 64 < length left.old }
+    requires { words.now ≡ words_at (a / 64) rows.now }
     ensures room { length left.new ≡ length left.old }
     ensures nets { (n : ℕ) → a / 64 ≤ n / 64 → n / 64 < length left.old →
         is_in left.new n ≡ not (list_any (shows_both a n) rows.now) }

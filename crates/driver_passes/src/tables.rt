@@ -10,7 +10,7 @@ ghost use Rattle.driver_passes.specs.inner.Progress.{IsUsefulDriver};
 ghost use Rattle.driver_passes.specs.inner.Sharers.{LosesApart};
 ghost use Rattle.driver_passes.specs.inner.Shown.{AreShownBy, drivers_at};
 
-use crate::alike::{likes_of, number_at};
+use crate::alike::likes_of;
 use crate::blocks::Blocks;
 use crate::classed::ClassedBoard;
 use crate::number_set::NumberSet;
@@ -93,9 +93,8 @@ impl<'a> BoardTables<'a> {
         self.classed.place_of(c)
     }
 
-    /// How the tested drivers of the net are enabled, in pin order.
+    /// How the tested drivers of the net are enabled, in pin order; none past the last net.
     pub fn tested_drivers(&self, net: usize) -> &[Drive]
-        requires { net < length self.now.nets }
         ensures drivers { result.now ≡ drivers_at self.now net }
         ensures useful { All (IsUsefulDriver self.now) result.now }
     {
@@ -104,8 +103,6 @@ impl<'a> BoardTables<'a> {
 
     /// The first tested drivers of two nets that one safe setting enables.
     pub fn first_pair(&self, a: usize, b: usize) -> Option<(Drive, Drive)>
-        requires first { a < length self.now.nets }
-        requires second { b < length self.now.nets }
         ensures found { result
             ≡ first_pair self.now (drivers_at self.now a) (drivers_at self.now b) }
         ensures useful { IfSome result (λ pair. IsUsefulPair self.now pair) }
@@ -115,7 +112,6 @@ impl<'a> BoardTables<'a> {
 
     /// The first net of the set, from this net on, that is paired with net `a`.
     pub fn next_wanted(&self, left: &NumberSet, a: usize, from: usize) -> Option<usize>
-        requires { a < length self.now.nets }
         ensures next { MatchOption result
             ((n : ℕ) → from ≤ n → n < length self.now.nets →
             is_wanted self.now left.now a n ≡ false)
@@ -127,11 +123,13 @@ impl<'a> BoardTables<'a> {
 
     /// An earlier net with the same tested drivers, or the net itself.
     pub fn like_of(&self, net: usize) -> usize
-        requires { net < length self.now.nets }
         ensures within { result ≤ net }
         ensures alike { drivers_at self.now result ≡ drivers_at self.now net }
     {
-        number_at(&self.likes, net) as usize
+        match self.likes.get(net) {
+            None => net,
+            Some(like) => *like as usize,
+        }
     }
 
     /// Takes out the places of the other useful controls that are not together with this one.

@@ -2,10 +2,10 @@
 use Rattle.std.proofs.Common.{◌≡◌, inl, inr, ℕ, ◌+◌, ◌<◌, Bool, true, false, ◌&&◌, ◌||◌, List, [], ◌∷◌, ◌++◌, Contains, length, get_or, take, Option, Some, None, refl, sym, ◌∙◌, ap, subst}
 use Rattle.std.specs.Prelude.{slice_get, filter, is_some}
 use Rattle.std.specs.List.{list_any, list_all}
+use Rattle.std.proofs.Math.Bool.{or-false}
 use Rattle.std.proofs.lemmas.List.{take_more}
 use Rattle.std.proofs.lemmas.Bool.{and_from}
 use Rattle.std.proofs.lemmas.List.Folds.{list_any-append}
-use Rattle.std.proofs.Math.Bool.{or-false}
 use Rattle.lists.proofs.Booleans.{and_left, and_right}
 use Rattle.lists.proofs.ListLemmas.{list_any-map}
 use Rattle.board_defs.specs.declared.board.Ctl.{Ctl}
@@ -26,8 +26,8 @@ use Rattle.board_defs.proofs.Places.{any_at}
 use Rattle.net_classes.specs.declared.closed_nets.ClosedNets.{ClosedNets}
 use Rattle.net_classes.specs.declared.control_sets.ControlSet.{ControlSet}
 use Rattle.net_facts.specs.declared.facts.PinFacts.{PinFacts}
-use Rattle.net_classes.specs.declared.known.Known.{Known}
-use Rattle.net_classes.specs.inner.Closed.{AreClosed, AreClosedNets, IsKnown, are_by_some, closed_in, closes, driven_in, drives_some, is_by_one, is_closed_by, nets_of, pins_there}
+use Rattle.net_classes.specs.inner.Closed.{AreClosed, AreClosedNets, are_by_some, closed_in, closes, drives_some, is_by_one, is_closed_by}
+use Rattle.net_classes.specs.inner.Known.{IsKnown, KnownBoard, driven_in, nets_of, pins_there}
 use Rattle.net_classes.specs.Pairs.{drivers_at, drivers_there}
 use Rattle.net_classes.specs.inner.ControlSets.{IsSet, has_control}
 use Rattle.net_facts.specs.Facts.{pin_facts_of}
@@ -69,11 +69,11 @@ cells_there board None d rules h = absurd h
 cells_there board (Some net) d rules h = has_cells board net d rules h
 
 -- the nets that are found by a set
-pub closed_are : (known : Known) (set : ControlSet) (nets closed : List ℕ) → IsKnown known → IsSet known.board.now (drives_some known.board.now nets) set → closed ≡ closed_in known set set.members.items → AreClosed known.board.now nets closed
+pub closed_are : (known : KnownBoard) (set : ControlSet) (nets closed : List ℕ) → IsKnown known → IsSet known.board (drives_some known.board nets) set → closed ≡ closed_in known set set.members.items → AreClosed known.board nets closed
 closed_are known set nets closed is in_set e n = (there, back)
   where
     board : RawBoard
-    board = known.board.now
+    board = known.board
 
     drives : Ctl → Bool
     drives = drives_some board nets
@@ -153,7 +153,3 @@ no_closed_nets board closed e f is others = record {
   set_is = let P : List ℕ → Type 0 = λ v. IsSet board (drives_some board v) closed.set in subst P (sym e) is;
   nets_are = let P : List ℕ → Type 0 = λ v. AreClosed board v closed.nets in let Q : List ℕ → Type 0 = λ v. AreClosed board [] v in subst P (sym e) (subst Q (sym f) (nothing_closed board));
 }
-
--- a control whose nets are known
-pub cell_known : (known : Known) (c : Ctl) → IsKnown known → IsCell known.board.now c → is_some (item_of (table known.shared.now) c) ≡ true
-cell_known known c is cell = ap is_some (is.shared_are c cell)

@@ -19,10 +19,10 @@ use Rattle.board_defs.proofs.ControlOrder.{same_equal}
 use Rattle.board_defs.proofs.Members.{Has, all_has, contains_has, filter_has, flat_map_has, has_any, has_append, has_contains, has_filter, has_flat_map, has_left, has_right}
 use Rattle.net_classes.specs.declared.control_sets.ControlSet.{ControlSet}
 use Rattle.net_facts.specs.declared.facts.PinFacts.{PinFacts}
-use Rattle.net_classes.specs.declared.known.Known.{Known}
 use Rattle.net_facts.specs.Kept.{drives_there}
 use Rattle.net_classes.specs.Pairs.{drivers_at, drivers_there}
-use Rattle.net_classes.specs.inner.Closed.{AreClosed, AreOthers, IsKnown, are_by_some, closed_beside, closes_beside, driven_in, drives_some, has_either, is_by_one, is_closed_by, nets_of, pins_there}
+use Rattle.net_classes.specs.inner.Closed.{AreClosed, AreOthers, are_by_some, closed_beside, closes_beside, drives_some, has_either, is_by_one, is_closed_by}
+use Rattle.net_classes.specs.inner.Known.{IsKnown, KnownBoard, driven_in, nets_of, pins_there}
 use Rattle.net_classes.specs.inner.ControlSets.{IsSet, has_control}
 use Rattle.net_classes.specs.inner.Pairs.{IsByCell}
 use Rattle.net_facts.specs.Cells.{holds_there}
@@ -129,12 +129,12 @@ some_fails p (d ∷ ds) h = by (some_fails p ds) (p d) refl
     by later false e = (d, inl refl, e)
     by later true e = let r : (x : Drive) × Has ds x × (p x ≡ false) = later (sym (ap (λ t. t && list_all p ds) e) ∙ h) in (r.0, inr r.1, r.2)
 
-pub both_close : (known : Known) (set others : ControlSet) (core : ℕ) (nets base closed : List ℕ) → IsKnown known → IsSet known.board.now (drives_some known.board.now (core ∷ [])) set → AreClosed known.board.now (core ∷ []) base → AreOthers known.board.now set nets others → Contains nets core →
-    closed ≡ base ++ flat_map (closed_beside known set others) others.members.items → AreClosed known.board.now nets closed
+pub both_close : (known : KnownBoard) (set others : ControlSet) (core : ℕ) (nets base closed : List ℕ) → IsKnown known → IsSet known.board (drives_some known.board (core ∷ [])) set → AreClosed known.board (core ∷ []) base → AreOthers known.board set nets others → Contains nets core →
+    closed ≡ base ++ flat_map (closed_beside known set others) others.members.items → AreClosed known.board nets closed
 both_close known set others core nets base closed is in_set base_are are has_core e n = (there, back)
   where
     board : RawBoard
-    board = known.board.now
+    board = known.board
 
     drives : Ctl → Bool
     drives = drives_some board nets

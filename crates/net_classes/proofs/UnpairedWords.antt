@@ -4,9 +4,9 @@ use Rattle.std.specs.Prelude.{slice_get}
 use Rattle.std.specs.List.{list_any}
 use Rattle.std.specs.Int.{bit_at, bit_not, w64}
 use Rattle.std.specs.Int.Bits.{bit_and}
+use Rattle.std.proofs.Math.Bool.{and-false}
 use Rattle.std.proofs.lemmas.Nat.Bits.{bit_at_and, bit_at_not}
 use Rattle.std.proofs.lemmas.Option.{slice_get-get_or}
-use Rattle.std.proofs.Math.Bool.{and-false}
 use Rattle.lists.proofs.Booleans.{same_truth}
 use Rattle.board_defs.specs.declared.board.Net.{Net}
 use Rattle.board_defs.specs.declared.board.RawBoard.{RawBoard}
@@ -65,14 +65,14 @@ unpaired_bits board pairs n w word other are e within paired i less =
     by_bits false false = refl
 
 -- a driver whose row is that of the covered nets
-pub all_paired : (board : RawBoard) (pairs : PairRows) (n : ℕ) (net : Net) (ds : List Drive) (i : ℕ) (d : Drive) → IsBoard board → ArePairRows board pairs → slice_get board.nets n ≡ Some net → ds ≡ tested_drivers board net → i < length ds → d ≡ get_or ds i d →
+pub all_paired : (board : RawBoard) (pairs : PairRows) (n : ℕ) (ds : List Drive) (i : ℕ) (d : Drive) → IsBoard board → ArePairRows board pairs → ds ≡ drivers_at board n → i < length ds → d ≡ get_or ds i d →
     ((w : ℕ) → drive_word pairs d w ≡ drive_word pairs AlwaysOn w) → (other : ℕ) → unpaired_with board n other ≡ false
-all_paired board pairs n net ds i d rules are at e less this same m = by_covered (covered_there board (slice_get board.nets m)) refl
+all_paired board pairs n ds i d rules are e less this same m = by_covered (covered_there board (slice_get board.nets m)) refl
   where
     P : List Drive → Type 0
     P v = Has v d
 
-    has : Has (tested_drivers board net) d
+    has : Has (drivers_at board n) d
     has = subst P e (has_at ds i d (slice_get-get_or ds i d less ∙ ap Some (sym this)))
 
     here : 64 * (m / 64) + m % 64 ≡ m
@@ -80,7 +80,7 @@ all_paired board pairs n net ds i d rules are at e less this same m = by_covered
 
     bits : ◌≡◌ {A = ℕ} (cond (fits_at board d m) 1 0) (cond (fits_at board AlwaysOn m) 1 0)
     bits =
-        ap (λ k. cond (fits_at board d k) 1 0) (sym here) ∙ sym (driver_word board pairs n (m / 64) net d rules are at has (m % 64) (omega arith)) ∙
+        ap (λ k. cond (fits_at board d k) 1 0) (sym here) ∙ sym (driver_word board pairs n (m / 64) d rules are has (m % 64) (omega arith)) ∙
         ap (λ v. bit_at v (m % 64)) (same (m / 64)) ∙ are.covered (m / 64) (m % 64) (omega arith) ∙ ap (λ k. cond (fits_at board AlwaysOn k) 1 0) here
 
     from_bits : (s t : Bool) → ◌≡◌ {A = ℕ} (cond s 1 0) (cond t 1 0) → t ≡ true → s ≡ true
@@ -93,6 +93,6 @@ all_paired board pairs n net ds i d rules are at e less this same m = by_covered
     by_covered true f =
         let fits : fits_at board d m ≡ true = from_bits (fits_at board d m) (fits_at board AlwaysOn m) bits (covered_says board m ∙ f) in
         let paired : pairs_with board n m ≡ true =
-        there_are board (slice_get board.nets n) (slice_get board.nets m) ∙ ap (λ o. list_any (fits_some board (drivers_at board m)) (drivers_there board o)) at ∙
-        has_any (fits_some board (drivers_at board m)) (tested_drivers board net) d has fits in
+        there_are board (slice_get board.nets n) (slice_get board.nets m) ∙
+        has_any (fits_some board (drivers_at board m)) (drivers_at board n) d has fits in
         ap (λ t. covered_there board (slice_get board.nets m) && not t) paired ∙ and-false (covered_there board (slice_get board.nets m))

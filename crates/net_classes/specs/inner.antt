@@ -1,6 +1,7 @@
 -- Terms that serve proofs and the contracts of private functions. Public contracts, here and in the crates above, cite Kept and Pairs; the others no public contract cites.
 pub mod Kept
 pub mod Pairs
+pub mod Known
 pub mod ControlSets
 pub mod Closed
 pub mod PairRows

@@ -1,10 +1,9 @@
 // The classes of a board.
 ghost use Rattle.std.specs.Prelude.{IfOk};
 ghost use Rattle.board_defs.specs.BoardRules.{IsBoard};
-ghost use Rattle.net_facts.specs.Kept.{AreBoardFacts};
-ghost use Rattle.net_classes.specs.Kept.{AreClasses, ArePairRows};
+ghost use Rattle.net_classes.specs.Kept.{AreClasses};
 
-use crate::known::{Known, first_drivers};
+use crate::known::Known;
 use crate::pair_rows::{PairRows, pair_rows};
 use board_defs::{Board, Ctl, RawBoard};
 use net_facts::{BoardFacts, ControlClass, NetClass, NetNumbers, board_facts};
@@ -21,29 +20,12 @@ pub struct Classes {
     pub(crate) pairs: PairRows,
 }
 
-fn rows_of(alloc: Global, board: &RawBoard, facts: &BoardFacts) -> Result<PairRows, AllocError>
-    requires rules { IsBoard board.now }
-    requires facts { AreBoardFacts board.now facts.now }
-    ensures { IfOk result (λ pairs. ArePairRows board.now pairs) }
-{
-    let firsts = first_drivers(alloc, &facts.nets)?;
-    let known = Known {
-        board,
-        facts: &facts.facts,
-        nets: &facts.nets,
-        controls: &facts.controls,
-        shared: &facts.shared,
-        firsts: &firsts,
-    };
-    pair_rows(alloc, known, &facts.useful)
-}
-
 fn classify_record(alloc: Global, board: &RawBoard) -> Result<Classes, AllocError>
     requires { IsBoard board.now }
     ensures { IfOk result (λ classes. AreClasses board.now classes) }
 {
     let facts = board_facts(alloc, board)?;
-    let pairs = rows_of(alloc, board, &facts)?;
+    let pairs = pair_rows(alloc, &Known::of(alloc, board, &facts)?)?;
     let BoardFacts {
         nets,
         controls,

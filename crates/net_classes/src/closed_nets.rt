@@ -5,7 +5,8 @@ ghost use Rattle.board_defs.specs.declared.board.Ctl.{Ctl};
 ghost use Rattle.board_defs.specs.declared.board.RawBoard.{RawBoard};
 ghost use Rattle.board_defs.specs.Settings.{same_ctl};
 ghost use Rattle.board_defs.specs.Decided.{is_by};
-ghost use Rattle.net_classes.specs.inner.Closed.{AreClosed, AreClosedNets, AreOthers, IsKnown, closed_beside, closed_in, closes, closes_beside, driven_in, drives_some, has_either, is_by_one};
+ghost use Rattle.net_classes.specs.inner.Closed.{AreClosed, AreClosedNets, AreOthers, closed_beside, closed_in, closes, closes_beside, drives_some, has_either, is_by_one};
+ghost use Rattle.net_classes.specs.inner.Known.{driven_in};
 ghost use Rattle.net_classes.specs.inner.ControlSets.{IsSet, has_control};
 
 use crate::control_sets::ControlSet;
@@ -34,9 +35,8 @@ fn add_pins(set: &mut ControlSet, pins: &[PinFacts]) -> Result<(), AllocError>
 }
 
 /// Makes the set that of the controls with a driver on one of the nets.
-fn gather(set: &mut ControlSet, known: Known<'_>, nets: &[u32]) -> Result<(), AllocError>
-    requires { IsKnown known }
-    ensures { (passes : Ctl → Bool) → IsSet known.entry.board.now passes set.old → OnOk result (IsSet known.entry.board.now (drives_some known.entry.board.now nets.now) set.new) }
+fn gather(set: &mut ControlSet, known: &Known<'_>, nets: &[u32]) -> Result<(), AllocError>
+    ensures { (passes : Ctl → Bool) → IsSet known.now.board passes set.old → OnOk result (IsSet known.now.board (drives_some known.now.board nets.now) set.new) }
 {
     set.clear();
     for net in nets {
@@ -102,13 +102,12 @@ fn add_other_pins(
 fn gather_others(
     others: &mut ControlSet,
     set: &ControlSet,
-    known: Known<'_>,
+    known: &Known<'_>,
     core: u32,
     nets: &[u32],
 ) -> Result<(), AllocError>
-    requires known { IsKnown known }
-    requires set { IsSet known.board.now (drives_some known.board.now (core ∷ [])) set.now }
-    ensures { (passes : Ctl → Bool) → IsSet known.entry.board.now passes others.old → OnOk result (AreOthers known.entry.board.now set.now nets.now others.new) }
+    requires { IsSet known.now.board (drives_some known.now.board (core ∷ [])) set.now }
+    ensures { (passes : Ctl → Bool) → IsSet known.now.board passes others.old → OnOk result (AreOthers known.now.board set.now nets.now others.new) }
 {
     others.clear();
     for net in nets {
@@ -134,9 +133,8 @@ fn are_by_either(set: &ControlSet, others: &ControlSet, drivers: &[Drive]) -> bo
     drivers.iter().all(|d| is_by_either(set, others, *d))
 }
 
-fn closes_beside(set: &ControlSet, others: &ControlSet, known: Known<'_>, net: u32) -> bool
-    requires { IsKnown known }
-    ensures { result ≡ closes_beside known.entry.board.now set.now others.now net }
+fn closes_beside(set: &ControlSet, others: &ControlSet, known: &Known<'_>, net: u32) -> bool
+    ensures { result ≡ closes_beside known.now.board set.now others.now net }
 {
     let drivers = known.drivers(net);
     drivers.len() > 0 && are_by_either(set, others, drivers)
@@ -146,11 +144,10 @@ fn add_closed_by(
     nets: &mut NetNumbers,
     set: &ControlSet,
     others: &ControlSet,
-    known: Known<'_>,
+    known: &Known<'_>,
     c: Ctl,
 ) -> Result<(), AllocError>
-    requires { IsKnown known }
-    ensures { OnOk result (nets.new ≡ nets.old ++ closed_beside known.entry set.now others.now c) }
+    ensures { OnOk result (nets.new ≡ nets.old ++ closed_beside known.now set.now others.now c) }
 {
     for net in known.driven(c) {
         push_if(nets, *net, closes_beside(set, others, known, *net))?;
@@ -164,10 +161,9 @@ fn closed_by_both(
     closed: &[u32],
     set: &ControlSet,
     others: &ControlSet,
-    known: Known<'_>,
+    known: &Known<'_>,
 ) -> Result<NetNumbers, AllocError>
-    requires { IsKnown known }
-    ensures { IfOk result (λ nets. nets ≡ closed.now ++ flat_map (closed_beside known.entry set.now others.now) others.now.members.items) }
+    ensures { IfOk result (λ nets. nets ≡ closed.now ++ flat_map (closed_beside known.now set.now others.now) others.now.members.items) }
 {
     let mut nets = copy_of(alloc, closed)?;
     for c in &others.members {
@@ -177,9 +173,8 @@ fn closed_by_both(
 }
 
 /// Of the nets, one with the most pins.
-fn core_of(known: Known<'_>, nets: &[u32]) -> u32
-    requires known { IsKnown known }
-    requires some { 0 < length nets.now }
+fn core_of(known: &Known<'_>, nets: &[u32]) -> u32
+    requires { 0 < length nets.now }
     ensures { Contains nets.now result }
 {
     let mut core = nets[0];
@@ -191,9 +186,8 @@ fn core_of(known: Known<'_>, nets: &[u32]) -> u32
     core
 }
 
-fn closes(set: &ControlSet, known: Known<'_>, c: Ctl, net: u32) -> bool
-    requires { IsKnown known }
-    ensures { result ≡ closes known.entry.board.now set.now c net }
+fn closes(set: &ControlSet, known: &Known<'_>, c: Ctl, net: u32) -> bool
+    ensures { result ≡ closes known.now.board set.now c net }
 {
     known.is_first(c, net) && are_by_members(set, known.drivers(net))
 }
@@ -201,11 +195,10 @@ fn closes(set: &ControlSet, known: Known<'_>, c: Ctl, net: u32) -> bool
 fn add_closed(
     nets: &mut NetNumbers,
     set: &ControlSet,
-    known: Known<'_>,
+    known: &Known<'_>,
     c: Ctl,
 ) -> Result<(), AllocError>
-    requires { IsKnown known }
-    ensures { OnOk result (nets.new ≡ nets.old ++ filter (closes known.entry.board.now set.now c) (driven_in known.entry c)) }
+    ensures { OnOk result (nets.new ≡ nets.old ++ filter (closes known.now.board set.now c) (driven_in known.now c)) }
 {
     for net in known.driven(c) {
         push_if(nets, *net, closes(set, known, c, *net))?;
@@ -213,9 +206,8 @@ fn add_closed(
     Ok(())
 }
 
-fn all_closed(alloc: Global, set: &ControlSet, known: Known<'_>) -> Result<NetNumbers, AllocError>
-    requires { IsKnown known }
-    ensures { IfOk result (λ nets. nets ≡ closed_in known.entry set.now set.now.members.items) }
+fn all_closed(alloc: Global, set: &ControlSet, known: &Known<'_>) -> Result<NetNumbers, AllocError>
+    ensures { IfOk result (λ nets. nets ≡ closed_in known.now set.now set.now.members.items) }
 {
     let mut nets = Items::none(alloc);
     for c in &set.members {
@@ -228,13 +220,13 @@ fn all_closed(alloc: Global, set: &ControlSet, known: Known<'_>) -> Result<NetNu
 fn closed_nets(
     alloc: Global,
     set: &mut ControlSet,
-    known: Known<'_>,
+    known: &Known<'_>,
     nets: &[u32],
 ) -> Result<NetNumbers, AllocError>
-    requires { IsKnown known }
-    ensures closed { (passes : Ctl → Bool) → IsSet known.entry.board.now passes set.old → IfOk result (λ closed. AreClosed known.entry.board.now nets.now closed) }
-    ensures set { (passes : Ctl → Bool) → IsSet known.entry.board.now passes set.old → OnOk result (IsSet known.entry.board.now (drives_some known.entry.board.now nets.now) set.new) }
+    ensures closed { (passes : Ctl → Bool) → IsSet known.now.board passes set.old → IfOk result (λ closed. AreClosed known.now.board nets.now closed) }
+    ensures set { (passes : Ctl → Bool) → IsSet known.now.board passes set.old → OnOk result (IsSet known.now.board (drives_some known.now.board nets.now) set.new) }
 {
+    known.laws();
     gather(set, known, nets)?;
     let closed = all_closed(alloc, set, known)?;
     Ok(closed)
@@ -253,15 +245,14 @@ pub struct ClosedNets {
 
 impl ClosedNets {
     /// Those that are closed by no net: none.
-    pub fn nothing(alloc: Global, known: Known<'_>) -> Result<ClosedNets, AllocError>
-        requires { IsKnown known }
-        ensures { IfOk result (λ closed. AreClosedNets known.entry.board.now closed) }
+    pub fn nothing(alloc: Global, known: &Known<'_>) -> Result<ClosedNets, AllocError>
+        ensures { IfOk result (λ closed. AreClosedNets known.now.board closed) }
     {
         Ok(ClosedNets {
             by: Items::none(alloc),
-            set: ControlSet::new(alloc, known.shared)?,
+            set: ControlSet::new(alloc, known.cells())?,
             nets: Items::none(alloc),
-            others: ControlSet::new(alloc, known.shared)?,
+            others: ControlSet::new(alloc, known.cells())?,
         })
     }
 
@@ -270,18 +261,18 @@ impl ClosedNets {
     pub fn closed_by(
         &mut self,
         alloc: Global,
-        known: Known<'_>,
+        known: &Known<'_>,
         nets: &[u32],
     ) -> Result<NetNumbers, AllocError>
-        requires known { IsKnown known }
         requires some { 0 < length nets.now }
-        requires closed { AreClosedNets known.board.now self.old }
-        ensures closed { OnOk result (AreClosedNets known.entry.board.now self.new) }
-        ensures nets { IfOk result (λ closed. AreClosed known.entry.board.now nets.now closed) }
+        requires closed { AreClosedNets known.now.board self.old }
+        ensures closed { OnOk result (AreClosedNets known.now.board self.new) }
+        ensures nets { IfOk result (λ closed. AreClosed known.now.board nets.now closed) }
     {
         if self.by.as_slice() == nets {
             return copy_of(alloc, self.nets.as_slice());
         }
+        known.laws();
         let core = core_of(known, nets);
         self.turn_to(alloc, known, &[core])?;
         gather_others(&mut self.others, &self.set, known, core, nets)?;
@@ -296,23 +287,21 @@ impl ClosedNets {
     fn closed_anew(
         &mut self,
         alloc: Global,
-        known: Known<'_>,
+        known: &Known<'_>,
         nets: &[u32],
     ) -> Result<NetNumbers, AllocError>
-        requires known { IsKnown known }
-        requires closed { AreClosedNets known.board.now self.old }
-        ensures closed { OnOk result (AreClosedNets known.entry.board.now self.new) }
-        ensures nets { IfOk result (λ closed. AreClosed known.entry.board.now nets.now closed) }
+        requires closed { AreClosedNets known.now.board self.old }
+        ensures closed { OnOk result (AreClosedNets known.now.board self.new) }
+        ensures nets { IfOk result (λ closed. AreClosed known.now.board nets.now closed) }
     {
         self.turn_to(alloc, known, nets)?;
         copy_of(alloc, self.nets.as_slice())
     }
 
     /// Turns to those that are closed by these nets.
-    fn turn_to(&mut self, alloc: Global, known: Known<'_>, nets: &[u32]) -> Result<(), AllocError>
-        requires known { IsKnown known }
-        requires closed { AreClosedNets known.board.now self.old }
-        ensures closed { OnOk result (AreClosedNets known.entry.board.now self.new) }
+    fn turn_to(&mut self, alloc: Global, known: &Known<'_>, nets: &[u32]) -> Result<(), AllocError>
+        requires closed { AreClosedNets known.now.board self.old }
+        ensures closed { OnOk result (AreClosedNets known.now.board self.new) }
         ensures by { OnOk result (self.new.by ≡ nets.now) }
     {
         if self.by.as_slice() != nets {

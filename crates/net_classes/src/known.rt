@@ -1,25 +1,44 @@
 // What is known of a board before its rows.
-ghost use Rattle.std.specs.Prelude.{◌≡◌, map, slice_get, IfOk};
+ghost use Rattle.std.specs.Prelude.{◌≡◌, ◌≤◌, true, is_some, length, map, slice_get, IfOk};
+ghost use Rattle.board_defs.specs.declared.board.Ctl.{Ctl};
+ghost use Rattle.board_defs.specs.declared.board.RawBoard.{RawBoard};
+ghost use Rattle.board_defs.specs.BoardRules.{IsBoard};
 ghost use Rattle.board_defs.specs.Decided.{is_by};
+ghost use Rattle.board_defs.specs.Passes.{useful_controls};
 ghost use Rattle.board_defs.specs.Pins.{IsCell};
-ghost use Rattle.net_classes.specs.inner.Closed.{IsKnown, driven_in, pins_there};
+ghost use Rattle.net_classes.specs.inner.Known.{IsKnown, driven_in, pins_there};
 ghost use Rattle.net_classes.specs.Pairs.{drivers_at};
-ghost use Rattle.net_facts.specs.Kept.{shared_nets};
+ghost use Rattle.net_facts.specs.Cells.{item_of, table};
+ghost use Rattle.net_facts.specs.Kept.{AreBoardFacts, net_class_of, shared_nets};
 
 use board_defs::{Ctl, Drive, RawBoard};
-use net_facts::{ControlClass, NetClass, NetFacts, NetNumbers, PinFacts};
+use net_facts::{BoardFacts, NetClass, NetNumbers, PinFacts};
 use std::alloc::{AllocError, Global};
+use std::marker::Model;
 
-/// A board, what is kept of its nets and controls, the nets that each control shares, and the first
-/// tested driver of each net.
-#[derive(Clone, Copy)]
+/// A board with what is known of its nets and controls, and the first tested driver of each net; seen
+/// as the board with the table of what is kept of its controls.
+#[derive(Drop)]
 pub struct Known<'a> {
-    pub board: &'a RawBoard,
-    pub facts: &'a [NetFacts],
-    pub nets: &'a [NetClass],
-    pub controls: &'a [Vec<ControlClass>],
-    pub shared: &'a [Vec<NetNumbers>],
-    pub firsts: &'a [Option<Drive>],
+    board: &'a RawBoard,
+    facts: &'a BoardFacts,
+    firsts: Vec<Option<Drive>>,
+}
+
+impl<'a> Model for Known<'a> {
+    ghost use Rattle.std.specs.Prelude.{◌≡◌, map, slice_get};
+    ghost use Rattle.board_defs.specs.BoardRules.{IsBoard};
+    ghost use Rattle.net_classes.specs.inner.Known.{KnownBoard, known_board};
+    ghost use Rattle.net_facts.specs.Cells.{table};
+    ghost use Rattle.net_facts.specs.Kept.{AreBoardFacts};
+
+    ghost Value = { KnownBoard };
+
+    ghost view = { λ a. known_board a.board.now (table a.facts.now.controls.items) };
+
+    ghost invariant = { λ a. IsBoard a.board.now
+        × AreBoardFacts a.board.now a.facts.now
+        × (a.firsts.items ≡ map (λ net. slice_get net.drivers 0) a.facts.now.nets.items) };
 }
 
 /// Whether the driver is controlled by the control.
@@ -33,7 +52,7 @@ pub fn is_by(c: Ctl, drive: Option<Drive>) -> bool
 }
 
 /// The first tested driver of each net.
-pub fn first_drivers(alloc: Global, nets: &[NetClass]) -> Result<Vec<Option<Drive>>, AllocError>
+fn first_drivers(alloc: Global, nets: &[NetClass]) -> Result<Vec<Option<Drive>>, AllocError>
     ensures { IfOk result (λ firsts. firsts.items ≡ map (λ net. slice_get net.drivers 0) nets.now) }
 {
     let mut firsts = Vec::new(alloc);
@@ -43,34 +62,86 @@ pub fn first_drivers(alloc: Global, nets: &[NetClass]) -> Result<Vec<Option<Driv
     Ok(firsts)
 }
 
+/// How the tested drivers of the net are enabled; none past the last net.
+pub fn drivers_in(nets: &[NetClass], net: usize) -> &[Drive]
+    ensures { (board : RawBoard) → nets.now ≡ map (net_class_of board) board.nets →
+        result.now ≡ drivers_at board net }
+{
+    match nets.get(net) {
+        None => &[],
+        Some(class) => class.drivers.as_slice(),
+    }
+}
+
 impl<'a> Known<'a> {
-    /// How the tested drivers of the net are enabled.
-    pub fn drivers(self, net: u32) -> &'a [Drive]
-        requires { IsKnown self }
-        ensures { result.now ≡ drivers_at self.entry.board.now net }
+    /// The board with these facts, which are its own.
+    pub fn of(
+        alloc: Global,
+        board: &'a RawBoard,
+        facts: &'a BoardFacts,
+    ) -> Result<Known<'a>, AllocError>
+        requires rules { IsBoard board.now }
+        requires facts { AreBoardFacts board.now facts.now }
+        ensures { IfOk result (λ known. known.board ≡ board.now) }
     {
-        match self.nets.get(net as usize) {
-            None => &[],
-            Some(class) => class.drivers.as_slice(),
-        }
+        let firsts = first_drivers(alloc, &facts.nets)?;
+        Ok(Known {
+            board,
+            facts,
+            firsts,
+        })
+    }
+
+    /// Does nothing: its clause is what is known of the board.
+    pub fn laws(&self)
+        ensures { IsKnown self.now }
+    {
+        let _known = &self.facts;
+    }
+
+    /// How many nets the board has.
+    pub fn net_count(&self) -> u32
+        ensures { result ≡ length self.now.board.nets }
+    {
+        self.facts.nets.len() as u32
+    }
+
+    /// A table with an item for each cell of the board.
+    pub fn cells(&self) -> &[Vec<NetNumbers>]
+        ensures { (c : Ctl) → IsCell self.now.board c → is_some (item_of (table result.now) c) ≡ true }
+    {
+        &self.facts.shared
+    }
+
+    /// The useful controls, in control order.
+    pub fn useful(&self) -> &[Ctl]
+        ensures { result.now ≡ useful_controls self.now.board }
+    {
+        &self.facts.useful
+    }
+
+    /// How the tested drivers of the net are enabled.
+    pub fn drivers(&self, net: u32) -> &[Drive]
+        ensures { result.now ≡ drivers_at self.now.board net }
+    {
+        drivers_in(&self.facts.nets, net as usize)
     }
 
     /// The facts of the pins of the net.
-    pub fn pins(self, net: u32) -> &'a [PinFacts]
-        requires { IsKnown self }
-        ensures { result.now ≡ pins_there self.entry.board.now (slice_get self.entry.board.now.nets net) }
+    pub fn pins(&self, net: u32) -> &[PinFacts]
+        ensures { result.now ≡ pins_there self.now.board (slice_get self.now.board.nets net) }
     {
-        match self.facts.get(net as usize) {
+        match self.facts.facts.get(net as usize) {
             None => &[],
             Some(facts) => facts.pins.as_slice(),
         }
     }
 
     /// The nets with a driver that the control controls.
-    pub fn driven(self, c: Ctl) -> &'a [u32]
-        ensures { result.now ≡ driven_in self.entry c }
+    pub fn driven(&self, c: Ctl) -> &[u32]
+        ensures { result.now ≡ driven_in self.now c }
     {
-        match self.controls.get(c.part as usize) {
+        match self.facts.controls.get(c.part as usize) {
             None => &[],
             Some(row) => match row.get(c.cell as usize) {
                 None => &[],
@@ -80,18 +151,16 @@ impl<'a> Known<'a> {
     }
 
     /// The nets that the control shares with another one.
-    pub fn shared(self, c: Ctl) -> &'a [u32]
-        requires known { IsKnown self }
-        requires cell { IsCell self.board.now c }
-        ensures { result.now ≡ shared_nets self.entry.board.now c }
+    pub fn shared(&self, c: Ctl) -> &[u32]
+        requires { IsCell self.now.board c }
+        ensures { result.now ≡ shared_nets self.now.board c }
     {
-        self.shared[c.part as usize][c.cell as usize].as_slice()
+        self.facts.shared[c.part as usize][c.cell as usize].as_slice()
     }
 
     /// Whether the control is that of the first tested driver of the net.
-    pub fn is_first(self, c: Ctl, net: u32) -> bool
-        requires { IsKnown self }
-        ensures { result ≡ is_by c (slice_get (drivers_at self.entry.board.now net) 0) }
+    pub fn is_first(&self, c: Ctl, net: u32) -> bool
+        ensures { result ≡ is_by c (slice_get (drivers_at self.now.board net) 0) }
     {
         match self.firsts.get(net as usize) {
             None => false,

@@ -1,9 +1,9 @@
 //! The classes of a board: what its nets, pins and controls can do in some safe setting.
 //!
-//! [`classify`] makes them once, and [`Classes`] answers: which nets are covered, and why one is not;
-//! which pins are tested; which controls are useful, and which two of them are together; which nets
-//! are paired, one by one or 64 at a time. What concerns one net, pin or control alone is found by
-//! `net_facts`.
+//! [`classify`] makes them once, and [`BoardClasses`], a board with its classes, answers: which nets
+//! are covered, and why one is not; which pins are tested; which controls are useful, and which two
+//! drivers fit; which nets are paired, 64 at a time. What concerns one net, pin or control alone is
+//! found by `net_facts`.
 #![tactic(auto)]
 
 mod classes;
@@ -18,3 +18,4 @@ mod words;
 
 pub use classes::{Classes, classify};
 pub use net_facts::{ControlClass, NetClass, NetNumbers, PinClass, meet};
+pub use questions::BoardClasses;

@@ -53,6 +53,6 @@ impl NetRow {
         ensures size { length self.new ≡ length self.old }
     {
         let number = (net / 64) as usize;
-        self.words[number] = put_bit(self.words[number], net % 64, on);
+        self.words[number] = put_bit(self.words[number], net, on);
     }
 }

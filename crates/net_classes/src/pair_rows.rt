@@ -1,12 +1,12 @@
 // Rows of bits, by which the nets that are paired with a net are known 64 at a time.
-ghost use Rattle.std.specs.Prelude.{◌≡◌, ◌<◌, ◌+◌, ◌/◌, ◌++◌, ℕ, Bool, true, false, not, ◌&&◌, filter, length, slice_index, All, IfOk, OnOk};
+ghost use Rattle.std.specs.Prelude.{◌≡◌, ◌<◌, ◌+◌, ◌/◌, ◌++◌, ℕ, Bool, true, false, not, ◌&&◌, filter, length, slice_index, is_some, All, IfOk, OnOk};
 ghost use Rattle.std.specs.Option.{option_to_list};
 ghost use Rattle.board_defs.specs.declared.board.Drive.TheVariants.{AlwaysOn};
 ghost use Rattle.board_defs.specs.declared.board.Ctl.{Ctl};
 ghost use Rattle.board_defs.specs.Pins.{IsCell};
 ghost use Rattle.board_defs.specs.Decided.{is_useful};
-ghost use Rattle.board_defs.specs.Passes.{useful_controls};
-ghost use Rattle.net_classes.specs.inner.Closed.{AreClosed, AreClosedNets, IsKnown};
+ghost use Rattle.net_classes.specs.inner.Closed.{AreClosed, AreClosedNets};
+ghost use Rattle.net_facts.specs.Cells.{item_of, table};
 ghost use Rattle.net_facts.specs.Kept.{shared_nets};
 ghost use Rattle.net_classes.specs.NetRows.{AreRowBits, stands_in};
 ghost use Rattle.net_classes.specs.Pairs.{AreBitsOf};
@@ -41,17 +41,17 @@ impl PairRows {
         }
     }
 
-    fn row_word(&self, number: usize, word: u32) -> u64
+    fn row_word(&self, number: usize, word: usize) -> u64
         ensures { result ≡ slice_index (row_in self.now number) word }
     {
         match self.rows.get(number) {
             None => 0,
-            Some(row) => row.word(word as usize),
+            Some(row) => row.word(word),
         }
     }
 
     /// Of 64 nets, those with a tested driver that some safe setting enables together with the driver.
-    pub(crate) fn word(&self, d: Drive, word: u32) -> u64
+    pub(crate) fn word(&self, d: Drive, word: usize) -> u64
         ensures { result ≡ drive_word self.now d word }
     {
         match d {
@@ -73,9 +73,8 @@ impl PairRows {
     }
 }
 
-fn owns(known: Known<'_>, c: Ctl, net: u32) -> bool
-    requires { IsKnown known }
-    ensures { result ≡ owns_at known.entry.board.now c net }
+fn owns(known: &Known<'_>, c: Ctl, net: u32) -> bool
+    ensures { result ≡ owns_at known.now.board c net }
 {
     known.drivers(net).iter().any(|d| is_by(c, Some(*d)))
 }
@@ -83,12 +82,11 @@ fn owns(known: Known<'_>, c: Ctl, net: u32) -> bool
 /// Those of the nets of which the control controls no tested driver.
 fn failing_nets(
     alloc: Global,
-    known: Known<'_>,
+    known: &Known<'_>,
     closed: &[u32],
     c: Ctl,
 ) -> Result<NetNumbers, AllocError>
-    requires { IsKnown known }
-    ensures { IfOk result (λ failing. failing ≡ filter (λ n. not (owns_at known.entry.board.now c n)) closed.now) }
+    ensures { IfOk result (λ failing. failing ≡ filter (λ n. not (owns_at known.now.board c n)) closed.now) }
 {
     let mut failing = Items::none(alloc);
     for net in closed {
@@ -110,40 +108,36 @@ fn row_without(row: &NetRow, nets: &[u32]) -> Result<NetRow, AllocError>
 }
 
 /// The row of the covered nets.
-fn covered_row(alloc: Global, known: Known<'_>) -> Result<NetRow, AllocError>
-    requires { IsKnown known }
-    ensures bits { IfOk result (λ row. AreRowBits (fits_at known.entry.board.now AlwaysOn) row) }
-    ensures room { IfOk result (λ row. length row ≡ length known.entry.board.now.nets / 64 + 1) }
+fn covered_row(alloc: Global, known: &Known<'_>) -> Result<NetRow, AllocError>
+    ensures bits { IfOk result (λ row. AreRowBits (fits_at known.now.board AlwaysOn) row) }
+    ensures room { IfOk result (λ row. length row ≡ length known.now.board.nets / 64 + 1) }
 {
-    let mut row = NetRow::blank(alloc, known.nets.len())?;
-    for net in 0..known.nets.len() {
-        row.put(net as u32, known.drivers(net as u32).len() > 0);
+    let mut row = NetRow::blank(alloc, known.net_count() as usize)?;
+    for net in 0..known.net_count() {
+        row.put(net, known.drivers(net).len() > 0);
     }
     Ok(row)
 }
 
-/// The row of a control, by the nets that are closed by those that it shares; None where it is the
-/// row of the covered nets.
+/// The row of a useful control, by the nets that are closed by those that it shares; None where it is
+/// the row of the covered nets.
 fn row_for(
     alloc: Global,
-    known: Known<'_>,
-    covered: &NetRow,
+    known: &Known<'_>,
+    pairs: &PairRows,
     closed: &[u32],
     c: Ctl,
 ) -> Result<Option<NetRow>, AllocError>
-    requires known { IsKnown known }
-    requires cell { IsCell known.board.now c }
-    requires useful { is_useful known.board.now c ≡ true }
-    requires covered { AreRowBits (fits_at known.board.now AlwaysOn) covered.now }
-    requires room { length covered.now ≡ length known.board.now.nets / 64 + 1 }
-    requires closed { AreClosed known.board.now (shared_nets known.board.now c) closed.now }
-    ensures { IfOk result (λ row. IsRowFor known.entry.board.now c covered.now row) }
+    requires pairs { HasCovered known.now.board pairs.now }
+    requires useful { is_useful known.now.board c ≡ true }
+    requires closed { AreClosed known.now.board (shared_nets known.now.board c) closed.now }
+    ensures { IfOk result (λ row. IsRowFor known.now.board c (row_in pairs.now 0) row) }
 {
     let failing = failing_nets(alloc, known, closed, c)?;
     if failing.as_slice().len() == 0 {
         return Ok(None);
     }
-    let row = row_without(covered, failing.as_slice())?;
+    let row = row_without(&pairs.rows[0], failing.as_slice())?;
     Ok(Some(row))
 }
 
@@ -163,14 +157,14 @@ fn add_row(rows: &mut Vec<NetRow>, row: Option<NetRow>) -> Result<usize, AllocEr
 
 fn put_row(
     pairs: &mut PairRows,
-    known: Known<'_>,
+    known: &Known<'_>,
     c: Ctl,
     row: Option<NetRow>,
 ) -> Result<(), AllocError>
-    requires pairs { HasCovered known.board.now pairs.old }
-    requires cell { IsCell known.board.now c }
-    requires row { IsRowFor known.board.now c (row_in pairs.old 0) row }
-    ensures { OnOk result (AddsRow known.entry.board.now pairs.old pairs.new c) }
+    requires pairs { HasCovered known.now.board pairs.old }
+    requires cell { IsCell known.now.board c }
+    requires row { IsRowFor known.now.board c (row_in pairs.old 0) row }
+    ensures { OnOk result (AddsRow known.now.board pairs.old pairs.new c) }
 {
     let number = add_row(&mut pairs.rows, row)?;
     put_at(&mut pairs.numbers, c, number);
@@ -179,49 +173,55 @@ fn put_row(
 
 fn add_control(
     alloc: Global,
-    known: Known<'_>,
+    known: &Known<'_>,
     closed: &mut ClosedNets,
     pairs: &mut PairRows,
     c: Ctl,
 ) -> Result<(), AllocError>
-    requires known { IsKnown known }
-    requires cell { IsCell known.board.now c }
-    requires useful { is_useful known.board.now c ≡ true }
-    requires closed { AreClosedNets known.board.now closed.old }
-    requires pairs { HasCovered known.board.now pairs.old }
-    ensures closed { OnOk result (AreClosedNets known.entry.board.now closed.new) }
-    ensures pairs { OnOk result (AddsRow known.entry.board.now pairs.old pairs.new c) }
+    requires cell { IsCell known.now.board c }
+    requires useful { is_useful known.now.board c ≡ true }
+    requires closed { AreClosedNets known.now.board closed.old }
+    requires pairs { HasCovered known.now.board pairs.old }
+    ensures closed { OnOk result (AreClosedNets known.now.board closed.new) }
+    ensures pairs { OnOk result (AddsRow known.now.board pairs.old pairs.new c) }
 {
     let shared = known.shared(c);
     if shared.len() == 0 {
         return put_row(pairs, known, c, None);
     }
     let nets = closed.closed_by(alloc, known, shared)?;
-    let row = row_for(alloc, known, &pairs.rows[0], nets.as_slice(), c)?;
+    let row = row_for(alloc, known, pairs, nets.as_slice(), c)?;
     put_row(pairs, known, c, row)
 }
 
-fn covered_rows(alloc: Global, known: Known<'_>) -> Result<PairRows, AllocError>
-    requires { IsKnown known }
-    ensures { IfOk result (λ pairs. HasCovered known.entry.board.now pairs) }
+/// For each cell of the board, the number of the first row.
+fn first_numbers(alloc: Global, known: &Known<'_>) -> Result<Vec<Vec<usize>>, AllocError>
+    ensures { IfOk result (λ numbers. (c : Ctl) → IsCell known.now.board c →
+        is_some (item_of (table numbers.items) c) ≡ true) }
+{
+    let numbers = filled_table(alloc, known.cells(), 0)?;
+    Ok(numbers)
+}
+
+fn covered_rows(alloc: Global, known: &Known<'_>) -> Result<PairRows, AllocError>
+    ensures { IfOk result (λ pairs. HasCovered known.now.board pairs) }
 {
     let mut rows = Vec::new(alloc);
     rows.push(covered_row(alloc, known)?)?;
-    let numbers = filled_table(alloc, known.shared, 0)?;
+    let numbers = first_numbers(alloc, known)?;
     Ok(PairRows { rows, numbers })
 }
 
 /// The rows of a board, by its useful controls.
-pub fn pair_rows(alloc: Global, known: Known<'_>, useful: &[Ctl]) -> Result<PairRows, AllocError>
-    requires known { IsKnown known }
-    requires useful { useful.now ≡ useful_controls known.board.now }
-    ensures { IfOk result (λ pairs. ArePairRows known.entry.board.now pairs) }
+pub fn pair_rows(alloc: Global, known: &Known<'_>) -> Result<PairRows, AllocError>
+    ensures { IfOk result (λ pairs. ArePairRows known.now.board pairs) }
 {
     law::terms_decided();
     law::passes_kept();
+    known.laws();
     let mut pairs = covered_rows(alloc, known)?;
     let mut closed = ClosedNets::nothing(alloc, known)?;
-    for c in useful {
+    for c in known.useful() {
         add_control(alloc, known, &mut closed, &mut pairs, *c)?;
     }
     Ok(pairs)

@@ -1,47 +1,19 @@
 -- Nets whose tested drivers all have controls that drive one of some nets: no control that shares these nets is on together with one of them, but for its own.
-use Rattle.std.specs.Prelude.{◌≡◌, ℕ, Bool, true, false, ◌&&◌, ◌||◌, List, [], ◌∷◌, Option, None, Some, map, filter, length, nat_lt, slice_get, Contains}
+use Rattle.std.specs.Prelude.{◌≡◌, ℕ, Bool, true, false, ◌&&◌, ◌||◌, List, [], ◌∷◌, filter, length, nat_lt, slice_get, Contains}
 use Rattle.std.specs.Bool.{Decides}
 use Rattle.std.specs.List.{list_any, list_all, flat_map}
 use Rattle.board_defs.specs.declared.board.Ctl.{Ctl}
-use Rattle.board_defs.specs.declared.board.Net.{Net}
 use Rattle.board_defs.specs.declared.board.RawBoard.{RawBoard}
 use Rattle.board_defs.specs.declared.board.Drive.{Drive}
 use Rattle.board_defs.specs.declared.board.Drive.TheVariants.{AlwaysOn, OneSided, By}
-use Rattle.board_defs.specs.BoardRules.{IsBoard}
 use Rattle.board_defs.specs.Pins.{IsCell}
 use Rattle.board_defs.specs.Decided.{is_by}
-use Rattle.net_facts.specs.declared.classes.ControlClass.{ControlClass}
-use Rattle.net_facts.specs.declared.facts.PinFacts.{PinFacts}
 use Rattle.net_classes.specs.declared.closed_nets.ClosedNets.{ClosedNets}
-use Rattle.net_classes.specs.declared.known.Known.{Known}
 use Rattle.net_classes.specs.declared.control_sets.ControlSet.{ControlSet}
+use Rattle.net_classes.specs.inner.Known.{KnownBoard, driven_in}
 use Rattle.net_classes.specs.inner.ControlSets.{IsSet, has_control}
-use Rattle.net_facts.specs.Facts.{net_facts_of, pin_facts_of}
-use Rattle.net_facts.specs.Cells.{item_of, table}
-use Rattle.net_facts.specs.Kept.{control_class_of, drives_there, net_class_of, shared_nets}
+use Rattle.net_facts.specs.Kept.{drives_there}
 use Rattle.net_classes.specs.Pairs.{drivers_at}
-
--- what is known is of the board
-pub record IsKnown (known : Known) : Type 0 where
-  pub rules : IsBoard known.board.now
-  pub facts_are : known.facts.now ≡ map (net_facts_of known.board.now) known.board.now.nets
-  pub nets_are : known.nets.now ≡ map (net_class_of known.board.now) known.board.now.nets
-  pub controls_are : (c : Ctl) → IsCell known.board.now c → item_of (table known.controls.now) c ≡ Some (control_class_of known.board.now c)
-  pub shared_are : (c : Ctl) → IsCell known.board.now c → item_of (table known.shared.now) c ≡ Some (shared_nets known.board.now c)
-  pub firsts_are : known.firsts.now ≡ map (λ net. slice_get net.drivers 0) known.nets.now
-
--- the facts of the pins of the net, where it is there
-abbrev pub pins_there : RawBoard → Option Net → List PinFacts
-pins_there board None = []
-pins_there board (Some net) = map (pin_facts_of board net) net.pins
-
--- the numbers of the nets that the table has for a control
-abbrev pub nets_of : Option ControlClass → List ℕ
-nets_of None = []
-nets_of (Some class) = class.nets
-
-abbrev pub driven_in : Known → Ctl → List ℕ
-driven_in known c = nets_of (item_of (table known.controls.now) c)
 
 -- the control controls a driver of one of these nets
 abbrev pub drives_some : RawBoard → List ℕ → Ctl → Bool
@@ -70,8 +42,8 @@ abbrev pub closes : RawBoard → ControlSet → Ctl → ℕ → Bool
 closes board set c n = is_by c (slice_get (drivers_at board n) 0) && list_all (is_by_one (has_control set)) (drivers_at board n)
 
 -- the nets that are closed by a set, found by the control of the first tested driver
-abbrev pub closed_in : Known → ControlSet → List Ctl → List ℕ
-closed_in known set controls = flat_map (λ c. filter (closes known.board.now set c) (driven_in known c)) controls
+abbrev pub closed_in : KnownBoard → ControlSet → List Ctl → List ℕ
+closed_in known set controls = flat_map (λ c. filter (closes known.board set c) (driven_in known c)) controls
 
 -- the control is in one of the two sets
 abbrev pub has_either : ControlSet → ControlSet → Ctl → Bool
@@ -82,8 +54,8 @@ abbrev pub closes_beside : RawBoard → ControlSet → ControlSet → ℕ → Bo
 closes_beside board set others n = nat_lt 0 (length (drivers_at board n)) && list_all (is_by_one (has_either set others)) (drivers_at board n)
 
 -- such nets that the control drives
-abbrev pub closed_beside : Known → ControlSet → ControlSet → Ctl → List ℕ
-closed_beside known set others c = filter (closes_beside known.board.now set others) (driven_in known c)
+abbrev pub closed_beside : KnownBoard → ControlSet → ControlSet → Ctl → List ℕ
+closed_beside known set others c = filter (closes_beside known.board set others) (driven_in known c)
 
 -- the second set has those controls with a driver on one of the nets that the first one has not
 pub record AreOthers (board : RawBoard) (set : ControlSet) (nets : List ℕ) (others : ControlSet) : Type 0 where

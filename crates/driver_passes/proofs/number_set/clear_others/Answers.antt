@@ -5,6 +5,6 @@ use Rattle.driver_passes.proofs.number_set.clear_others.Goals as goal
 
 pub returns : goal.returns
 returns c = λ n.
-    words_by (λ b o. b && o) refl c.args.words.now c.loop-i.words c.args.others.now n c.requires c.loop-i.auto.words (λ within.
-    ap (λ w. has_bit w (n % 64)) (c.loop-i.invariant.done (n / 64) (omega (arith, within, c.requires, c.loop-i-test.false)))
+    words_by (λ b o. b && o) c.args.words.now c.loop-i.words c.args.others.now n (λ past. refl) c.loop-i.auto.words (λ within.
+    ap (λ w. has_bit w (n % 64)) (c.loop-i.invariant.done (n / 64) (omega (arith, within, c.loop-i-test.false)))
     ∙ bit_both (get_or c.args.words.now (n / 64) 0) (get_or c.args.others.now (n / 64) 0) (n % 64))

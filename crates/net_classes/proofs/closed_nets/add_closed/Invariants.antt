@@ -1,7 +1,8 @@
 use Rattle.std.proofs.Common.{◌≡◌, ◌++◌, take}
 use Rattle.std.specs.Prelude.{filter}
-use Rattle.net_classes.specs.inner.Closed.{closes, driven_in}
+use Rattle.net_classes.specs.inner.Closed.{closes}
+use Rattle.net_classes.specs.inner.Known.{driven_in}
 use Rattle.net_classes.proofs.closed_nets.add_closed.Given as goal
 
 abbrev pub invariant-loop-net : goal.invariant-loop-net
-invariant-loop-net l = l.nets ≡ l.initial.nets ++ filter (closes l.known.board.now l.set l.c) (take l.net-index (driven_in l.known l.c))
+invariant-loop-net l = l.nets ≡ l.initial.nets ++ filter (closes l.known.board l.set l.c) (take l.net-index (driven_in l.known l.c))

@@ -1,7 +1,6 @@
-use Rattle.std.proofs.Common.{◌≡◌, ◌+◌, ◌/◌, false, ◌&&◌, nat_lt, length, sym, ◌∙◌, ap, subst}
-use Rattle.std.proofs.lemmas.List.{length-map, length-replicate}
+use Rattle.std.proofs.Common.{◌+◌, ◌/◌, false, ◌&&◌, nat_lt, length, sym, ◌∙◌, ap, subst}
+use Rattle.std.proofs.lemmas.List.{length-replicate}
 use Rattle.board_defs.specs.declared.board.Drive.TheVariants.{AlwaysOn}
-use Rattle.net_facts.specs.Kept.{net_class_of}
 use Rattle.net_classes.specs.NetRows.{AreRowBits}
 use Rattle.net_classes.specs.Pairs.{fits_at}
 use Rattle.net_classes.proofs.PairRowLemmas.{below_now, below_still, covered_bit, none_below}
@@ -10,17 +9,16 @@ use Rattle.net_classes.proofs.pair_rows.covered_row.Goals as goal
 
 pub loop-net-init : goal.loop-net-init
 loop-net-init c =
-    let board = c.args.known.board.now in
-    let words = length c.args.known.nets.now / 64 + 1 in
-    let size : length c.args.known.nets.now ≡ length board.nets = ap length c.requires.nets_are ∙ length-map board.nets (net_class_of board) in
+    let board = c.args.known.now.board in
+    let words = c.net_count.result / 64 + 1 in
     record {
-      size = ap length c.in_ok-row.ensures ∙ length-replicate words 0 ∙ ap (λ n. n / 64 + 1) size;
+      size = ap length c.in_ok-row.ensures ∙ length-replicate words 0 ∙ ap (λ n. n / 64 + 1) c.net_count.ensures;
       bits = same_row (λ n. false) (λ n. nat_lt n 0 && fits_at board AlwaysOn n) (none_below (fits_at board AlwaysOn)) c.in_ok-row.row (subst (AreRowBits (λ n. false)) (sym c.in_ok-row.ensures) (blank_bits words));
     }
 
 pub loop-net-preserved : goal.loop-net-preserved
 loop-net-preserved c =
-    let board = c.args.known.board.now in
+    let board = c.args.known.now.board in
     let k = c.loop-net.net in
     record {
       size = c.put.ensures.size ∙ c.loop-net.invariant.size;

@@ -6,6 +6,6 @@ use Rattle.net_classes.proofs.pair_rows.covered_row.Given as goal
 
 abbrev pub invariant-loop-net : goal.invariant-loop-net
 invariant-loop-net l = record {
-  size : length l.row ≡ length l.known.board.now.nets / 64 + 1;
-  bits : AreRowBits (λ n. nat_lt n l.net && fits_at l.known.board.now AlwaysOn n) l.row;
+  size : length l.row ≡ length l.known.board.nets / 64 + 1;
+  bits : AreRowBits (λ n. nat_lt n l.net && fits_at l.known.board AlwaysOn n) l.row;
 }

@@ -7,7 +7,7 @@ use Rattle.net_classes.proofs.pair_rows.pair_rows.Given as goal
 
 abbrev pub invariant-loop-c : goal.invariant-loop-c
 invariant-loop-c l = record {
-  closed : AreClosedNets l.known.board.now l.closed;
-  covered : HasCovered l.known.board.now l.pairs;
-  rows : (d : Ctl) → Has (take l.c-index l.useful) d → IsRowOf l.known.board.now l.pairs d;
+  closed : AreClosedNets l.known.board l.closed;
+  covered : HasCovered l.known.board l.pairs;
+  rows : (d : Ctl) → Has (take l.c-index l.c-items) d → IsRowOf l.known.board l.pairs d;
 }

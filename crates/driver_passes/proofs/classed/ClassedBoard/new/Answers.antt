@@ -6,5 +6,6 @@ use Rattle.driver_passes.proofs.classed.ClassedBoard.new.Goals as goal
 
 pub invariant_of-result : goal.invariant_of-result
 invariant_of-result c =
-    let P : List Ctl → Type 0 = λ v. All (IsCell c.args.board.now) v in
-    (c.requires, c.useful-useful.ensures.controls, subst P c.useful-useful.ensures.controls c.useful-useful.ensures.cells)
+    let P : List Ctl → Type 0 = λ v. All (IsCell c.of-classes.result) v in
+    let useful = c.useful-useful.ensures in
+    (useful.controls, subst P useful.controls useful.cells)

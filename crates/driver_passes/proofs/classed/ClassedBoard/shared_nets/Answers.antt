@@ -6,10 +6,10 @@ use Rattle.net_facts.specs.Kept.{shared_nets}
 use Rattle.driver_passes.proofs.ControlLemmas.{holds_of}
 use Rattle.driver_passes.proofs.classed.ClassedBoard.shared_nets.Goals as goal
 
-pub shared_nets-requires-clause-cell : goal.shared_nets-requires-clause-cell
-shared_nets-requires-clause-cell c =
-    let board = c.self.inside.board.now in
-    holds_of (IsCell board) (useful_controls board) c.args.c c.self.invariant.2 (ap (λ b. holds (useful_controls b) c.args.c) c.self.view_is ∙ c.requires)
+pub shared_nets-requires : goal.shared_nets-requires
+shared_nets-requires c =
+    let board = c.self.inside.classes in
+    holds_of (IsCell board) (useful_controls board) c.args.c c.self.invariant.1 (ap (λ b. holds (useful_controls b) c.args.c) c.self.view_is ∙ c.requires)
 
 pub returns : goal.returns
 returns c = c.shared_nets.ensures ∙ ap (λ b. shared_nets b c.args.c) c.self.view_is

@@ -9,4 +9,4 @@ returns-then-word-eq0 c = no_bits (is_in c.args.left.now) (pairs_with c.args.sel
 
 pub returns : goal.returns
 returns c =
-    rw (sym c.self.view_is) (and_bits (is_in c.args.left.now) (pairs_with c.self.inside.board.now c.args.a) (c.args.net / 64) c.word-word.result c.paired_word-paired.result c.word-word.ensures.bits c.paired_word-paired.ensures)
+    rw (sym c.self.view_is) (and_bits (is_in c.args.left.now) (pairs_with c.self.inside.classes c.args.a) (c.args.net / 64) c.word-word.result c.paired_word-paired.result c.word-word.ensures.bits c.paired_word-paired.ensures)

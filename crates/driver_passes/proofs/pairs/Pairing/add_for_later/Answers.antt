@@ -2,7 +2,7 @@ use Rattle.std.proofs.Common.{◌≤◌, ◌∙◌, not, refl, ap, length, arith
 use Rattle.std.specs.List.{list_any}
 use Rattle.board_defs.specs.Passes.{useful_controls}
 use Rattle.driver_passes.specs.inner.Shown.{shows_both, words_at}
-use Rattle.driver_passes.proofs.RowLemmas.{left_whole, rows_sized}
+use Rattle.driver_passes.proofs.RowLemmas.{left_whole}
 use Rattle.driver_passes.proofs.DoneLemmas.{done_next, none_later}
 use Rattle.driver_passes.proofs.pairs.Pairing.add_for_later.Goals as goal
 
@@ -13,12 +13,6 @@ returns-then-is_done-clause-added c =
 
 pub returns-then-is_done-clause-done : goal.returns-then-is_done-clause-done
 returns-then-is_done-clause-done c = done_next c.args.board.now c.args.self.now.passes.items c.args.a c.requires.done (c.is_done.ensures c.if-is_done.true)
-
-pub leave_unshown-requires-clause-sizes : goal.leave_unshown-requires-clause-sizes
-leave_unshown-requires-clause-sizes c =
-    let before = c.args.self.now in
-    let are = c.requires.pairing in
-    rw c.deref-2.ensures.value (rows_sized c.args.board.now before.passes.items before.rows.items (length before.left) are.rows are.left_length)
 
 pub loop-b-init : goal.loop-b-init
 loop-b-init c =

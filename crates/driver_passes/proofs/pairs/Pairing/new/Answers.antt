@@ -2,13 +2,8 @@ use Rattle.std.proofs.Common.{ℕ, ◌∙◌, ◌+◌, ◌/◌, ap, length}
 use Rattle.std.specs.List.{list_all}
 use Rattle.driver_passes.specs.inner.NumberSets.{is_in}
 use Rattle.driver_passes.specs.inner.Shown.{words_at}
-use Rattle.driver_passes.proofs.RowLemmas.{always_whole, rows_sized}
+use Rattle.driver_passes.proofs.RowLemmas.{always_whole}
 use Rattle.driver_passes.proofs.pairs.Pairing.new.Goals as goal
-
-pub keep_shown-requires : goal.keep_shown-requires
-keep_shown-requires c = record {
-  sizes = rw c.deref.ensures.value (rows_sized c.args.board.now c.args.progress.passes.items c.args.progress.rows.items (length c.in_ok-always.always) c.requires.progress.rows (c.in_ok-always.ensures.room ∙ ap (λ (n : ℕ). n / 64 + 1) c.nets-nets.ensures.count));
-}
 
 pub returns-clause-pairing : goal.returns-clause-pairing
 returns-clause-pairing c =

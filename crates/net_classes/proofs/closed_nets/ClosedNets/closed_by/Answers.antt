@@ -6,7 +6,7 @@ use Rattle.net_classes.proofs.closed_nets.ClosedNets.closed_by.Goals as goal
 
 pub returns-clause-nets : goal.returns-clause-nets
 returns-clause-nets c =
-    let board = c.args.known.board.now in
+    let board = c.args.known.now.board in
     let core = c.core_of-core.result in
     let base = c.turn_to.new.self in
     let was = c.in_ok-turn_to.ensures.closed in
@@ -15,5 +15,5 @@ returns-clause-nets c =
     let P : List ℕ → Type 0 = λ v. IsSet board (drives_some board v) base.set in
     let Q : List ℕ → Type 0 = λ v. AreClosed board v base.nets in
     let R : List ℕ → Type 0 = λ v. AreClosed board (core ∷ []) v in
-    both_close c.args.known base.set c.gather_others.new.others core c.args.nets.now c.as_slice-closed.result.now c.in_ok-both.both c.requires.known (subst P by was.set_is)
+    both_close c.args.known.now base.set c.gather_others.new.others core c.args.nets.now c.as_slice-closed.result.now c.in_ok-both.both c.laws.ensures (subst P by was.set_is)
     (subst R (sym c.as_slice-closed.ensures) (subst Q by was.nets_are)) (c.in_ok-gather_others.ensures others.passes others.is_set) c.core_of-core.ensures c.in_ok-both.ensures

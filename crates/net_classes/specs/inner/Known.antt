@@ -1,0 +1,38 @@
+-- A board with what is kept of its controls.
+use Rattle.std.specs.Prelude.{◌≡◌, ℕ, List, [], Option, None, Some, map}
+use Rattle.board_defs.specs.declared.board.Ctl.{Ctl}
+use Rattle.board_defs.specs.declared.board.Net.{Net}
+use Rattle.board_defs.specs.declared.board.RawBoard.{RawBoard}
+use Rattle.board_defs.specs.BoardRules.{IsBoard}
+use Rattle.board_defs.specs.Pins.{IsCell}
+use Rattle.net_facts.specs.declared.classes.ControlClass.{ControlClass}
+use Rattle.net_facts.specs.declared.facts.PinFacts.{PinFacts}
+use Rattle.net_facts.specs.Cells.{item_of}
+use Rattle.net_facts.specs.Facts.{pin_facts_of}
+use Rattle.net_facts.specs.Kept.{control_class_of}
+
+-- a board with a table that has an item for each cell of each part
+pub record KnownBoard : Type 0 where
+  pub board : RawBoard
+  pub controls : List (List ControlClass)
+
+abbrev pub known_board : RawBoard → List (List ControlClass) → KnownBoard
+known_board board controls = record { board = board; controls = controls }
+
+-- the board keeps the rules, and the table has what is kept of its controls
+pub record IsKnown (known : KnownBoard) : Type 0 where
+  pub rules : IsBoard known.board
+  pub controls_are : (c : Ctl) → IsCell known.board c → item_of known.controls c ≡ Some (control_class_of known.board c)
+
+-- the facts of the pins of the net, where it is there
+abbrev pub pins_there : RawBoard → Option Net → List PinFacts
+pins_there board None = []
+pins_there board (Some net) = map (pin_facts_of board net) net.pins
+
+-- the numbers of the nets that the table has for a control
+abbrev pub nets_of : Option ControlClass → List ℕ
+nets_of None = []
+nets_of (Some class) = class.nets
+
+abbrev pub driven_in : KnownBoard → Ctl → List ℕ
+driven_in known c = nets_of (item_of known.controls c)
