@@ -18,8 +18,8 @@ use Rattle.board_defs.proofs.Members.{has_contains, contains_has, has_filter, fi
 use Rattle.board_defs.proofs.Ordered.{order_pairs, order_filter, order_range}
 use Rattle.board_defs.proofs.Places.{all_from, any_at}
 use Rattle.tap_defs.specs.board.TestRows.{is_observed, observing_driver, code_of_net, code_bit}
-use Rattle.plan_tables.specs.declared.nets.NetDriver.{NetDriver}
-use Rattle.plan_tables.specs.declared.tables.ReaderCell.{ReaderCell}
+use Rattle.net_pins.specs.declared.nets.NetDriver.{NetDriver}
+use Rattle.net_pins.specs.declared.nets.ReaderCell.{ReaderCell}
 use Rattle.plan_tables.specs.declared.tables.PlanTables.{PlanTables}
 use Rattle.plan_tables.specs.Building.{is_read_beside}
 use Rattle.scan_planner.specs.Plans.{IsPlanOf}

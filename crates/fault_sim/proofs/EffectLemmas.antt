@@ -16,7 +16,7 @@ use Rattle.board_defs.specs.Settings.{holds}
 use Rattle.tap_defs.specs.board.NetBits.{Place, or_else}
 use Rattle.tap_defs.specs.board.TestRows.{TestRow, code_row, first_enabled}
 use Rattle.tap_defs.specs.board.SingleBits.{driven_to, pulled_to, shorted, shorted_nets_bit, is_place, single_bit}
-use Rattle.plan_tables.specs.declared.nets.NetDriver.{NetDriver}
+use Rattle.net_pins.specs.declared.nets.NetDriver.{NetDriver}
 use Rattle.plan_tables.specs.declared.tables.PlanTables.{PlanTables}
 use Rattle.scan_planner.specs.Plans.{IsPlanOf}
 use Rattle.fault_sim.specs.declared.effect.Effect.TheVariants.{Plain, Constant, AtPin}

@@ -26,8 +26,8 @@ use Rattle.tap_defs.specs.board.RowDriving.{cell_bit, is_switched_off, entry_fee
 use Rattle.tap_defs.specs.board.SingleBits.{bit_of_feeding, driven_to}
 use Rattle.tap_defs.proofs.board.FeedingLemmas.{PinRules, apart, placed}
 use Rattle.tap_defs.proofs.board.NetRuleLemmas.{board_rules}
-use Rattle.plan_tables.specs.declared.nets.NetDriver.{NetDriver}
-use Rattle.plan_tables.specs.declared.tables.ReaderCell.{ReaderCell}
+use Rattle.net_pins.specs.declared.nets.NetDriver.{NetDriver}
+use Rattle.net_pins.specs.declared.nets.ReaderCell.{ReaderCell}
 use Rattle.plan_tables.specs.declared.tables.PlanTables.{PlanTables}
 use Rattle.plan_tables.specs.Tables.{first_position}
 use Rattle.plan_tables.specs.inner.Laid.{laid, steady}

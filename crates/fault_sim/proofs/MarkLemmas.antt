@@ -22,8 +22,8 @@ use Rattle.board_defs.proofs.Places.{all_from}
 use Rattle.board_defs.proofs.SameBits.{is_same_of_same}
 use Rattle.tap_defs.specs.board.TestRows.{code_row, code_bit, net_code_bit, expect_bit}
 use Rattle.response_log.specs.Kept.{AreRowDigits}
-use Rattle.plan_tables.specs.declared.nets.NetDriver.{NetDriver}
-use Rattle.plan_tables.specs.declared.tables.ReaderCell.{ReaderCell}
+use Rattle.net_pins.specs.declared.nets.NetDriver.{NetDriver}
+use Rattle.net_pins.specs.declared.nets.ReaderCell.{ReaderCell}
 use Rattle.plan_tables.specs.declared.tables.PlanTables.{PlanTables}
 use Rattle.plan_tables.specs.Tables.{first_position}
 use Rattle.scan_planner.specs.Plans.{IsPlanOf, scan_of_pass}

@@ -30,8 +30,8 @@ use Rattle.tap_defs.specs.board.Explaining.{CompareRows, IsCompared, ShowsBits, 
 use Rattle.tap_defs.proofs.board.FeedingLemmas.{Observing, observing_at}
 use Rattle.tap_defs.proofs.board.PassingLemmas.{stands_at}
 use Rattle.tap_defs.proofs.board.SingleBitLemmas.{ReadsPlace, reads_place}
-use Rattle.plan_tables.specs.declared.nets.NetDriver.{NetDriver}
-use Rattle.plan_tables.specs.declared.tables.ReaderCell.{ReaderCell}
+use Rattle.net_pins.specs.declared.nets.NetDriver.{NetDriver}
+use Rattle.net_pins.specs.declared.nets.ReaderCell.{ReaderCell}
 use Rattle.plan_tables.specs.declared.tables.PlanTables.{PlanTables}
 use Rattle.plan_tables.specs.Tables.{first_position, IsReaderCell}
 use Rattle.plan_tables.specs.Building.{is_read_beside, enabled_in, drivers_of_pins}

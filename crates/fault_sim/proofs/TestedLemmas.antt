@@ -28,8 +28,8 @@ use Rattle.board_defs.proofs.Places.{any_place, any_at}
 use Rattle.board_defs.proofs.Covered.{tested_driver_true, tested_driver_is, tested_receiver_true, tested_receiver_is, paired_true, paired_is, net_same}
 use Rattle.tap_defs.specs.board.TestRows.{observing_driver, observing_driver_by, first_enabled, is_observed}
 use Rattle.tap_defs.proofs.board.PlanLemmas.{observing_is, observed_by}
-use Rattle.plan_tables.specs.declared.nets.NetDriver.{NetDriver}
-use Rattle.plan_tables.specs.declared.tables.ReaderCell.{ReaderCell}
+use Rattle.net_pins.specs.declared.nets.NetDriver.{NetDriver}
+use Rattle.net_pins.specs.declared.nets.ReaderCell.{ReaderCell}
 use Rattle.plan_tables.specs.declared.tables.PlanTables.{PlanTables}
 use Rattle.plan_tables.specs.Assigned.{assigned}
 use Rattle.plan_tables.specs.Tables.{first_position}

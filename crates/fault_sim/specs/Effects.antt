@@ -10,8 +10,8 @@ use Rattle.board_defs.specs.Settings.{holds, same_ctl}
 use Rattle.tap_defs.specs.board.NetBits.{or_else}
 use Rattle.tap_defs.specs.board.TestRows.{code_bit}
 use Rattle.tap_defs.specs.board.SingleBits.{pulled_to, shorted}
-use Rattle.plan_tables.specs.declared.nets.NetDriver.{NetDriver}
-use Rattle.plan_tables.specs.declared.tables.ReaderCell.{ReaderCell}
+use Rattle.net_pins.specs.declared.nets.NetDriver.{NetDriver}
+use Rattle.net_pins.specs.declared.nets.ReaderCell.{ReaderCell}
 use Rattle.plan_tables.specs.declared.tables.PlanTables.{PlanTables}
 use Rattle.plan_tables.specs.Building.{enabled_in, is_read_beside}
 use Rattle.fault_sim.specs.declared.feed.Source.{Source}

@@ -7,7 +7,6 @@ pub mod RowLemmas
 pub mod SizeLemmas
 pub mod BuildLemmas
 pub mod QuietLemmas
-pub mod EntryLemmas
 pub mod CodeLemmas
 pub mod TableLemmas
 pub mod ReaderTableLemmas

@@ -18,17 +18,18 @@ use Rattle.board_defs.specs.Settings.{Enabling, IsSafe, holds, same_ctl, enables
 use Rattle.board_defs.proofs.Members.{Has, has_at, has_place, has_map, map_has, has_filter, filter_has, find_has, find_none}
 use Rattle.board_defs.proofs.Places.{any_place, any_at}
 use Rattle.board_defs.proofs.ControlOrder.{same_refl, same_equal}
-use Rattle.plan_tables.specs.declared.nets.NetDriver.{NetDriver}
+use Rattle.net_pins.specs.declared.nets.NetDriver.{NetDriver}
 use Rattle.plan_tables.specs.declared.observers.Observer.{Observer}
 use Rattle.plan_tables.specs.declared.tables.HeldCell.{HeldCell}
 use Rattle.plan_tables.specs.declared.tables.DriverCell.{DriverCell}
-use Rattle.plan_tables.specs.declared.tables.ReaderCell.{ReaderCell}
+use Rattle.net_pins.specs.declared.nets.ReaderCell.{ReaderCell}
 use Rattle.plan_tables.specs.Tables.{first_position, IsDriverCell, control_position, held_cell}
 use Rattle.plan_tables.specs.inner.Laid.{laid}
 use Rattle.plan_tables.specs.Building.{is_on, optional, net_driver, driver_of, drivers_of_pins, drivers_of, readers_of, is_read_beside}
 use Rattle.plan_tables.specs.inner.Building.{driver_cell, IsControlThere, observer, observers_at, observers}
 use Rattle.plan_tables.proofs.LaidLemmas.{laid_at}
-use Rattle.plan_tables.proofs.BuildLemmas.{cell_there, entry_below, position_within}
+use Rattle.net_pins.proofs.PositionLemmas.{entry_below, position_within}
+use Rattle.plan_tables.proofs.BuildLemmas.{cell_there}
 use Rattle.plan_tables.proofs.PinLemmas.{wired_at, drives_by, entry_on}
 use Rattle.plan_tables.proofs.TableLemmas.{has_gathered, gathered_has, Observed, observed, observing_of, on_by}
 use Rattle.plan_tables.proofs.DriverTableLemmas.{IsOn, OnBy}

@@ -22,7 +22,7 @@ use Rattle.tap_defs.specs.board.BoardScans.{first_row_scan, preload_code, extest
 use Rattle.tap_defs.proofs.board.WidthLemmas.{width_is}
 use Rattle.plan_tables.specs.declared.codes.NetCodes.{NetCodes}
 use Rattle.plan_tables.specs.declared.tables.HeldCell.{HeldCell}
-use Rattle.plan_tables.specs.declared.tables.ReaderCell.{ReaderCell}
+use Rattle.net_pins.specs.declared.nets.ReaderCell.{ReaderCell}
 use Rattle.plan_tables.specs.Tables.{first_position, AreFirsts, AreRowsOf, IsHeldCell, held_cell, pass_cells_of}
 use Rattle.plan_tables.specs.declared.tables.PassTables.{PassTables}
 use Rattle.plan_tables.specs.declared.tables.PlanTables.{PlanTables}

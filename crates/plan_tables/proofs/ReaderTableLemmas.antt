@@ -8,7 +8,7 @@ use Rattle.board_defs.specs.declared.board.RawBoard.{RawBoard}
 use Rattle.board_defs.specs.BoardRules.{IsBoard}
 use Rattle.board_defs.specs.Pins.{data_bits}
 use Rattle.board_defs.proofs.Members.{Has, has_place, contains_has}
-use Rattle.plan_tables.specs.declared.tables.ReaderCell.{ReaderCell}
+use Rattle.net_pins.specs.declared.nets.ReaderCell.{ReaderCell}
 use Rattle.plan_tables.specs.Tables.{IsReaderCell}
 use Rattle.plan_tables.specs.inner.Laid.{steady}
 use Rattle.plan_tables.proofs.LaidLemmas.{laid_at}

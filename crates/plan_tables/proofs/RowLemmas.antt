@@ -1,7 +1,7 @@
 -- The lengths of rows whose cells are set.
 use Rattle.std.proofs.Common.{◌≡◌, ℕ, ◌==◌, Bool, true, false, cond, List, [], ◌∷◌, length, get_or, set, refl, ◌∙◌, length-set}
 use Rattle.plan_tables.specs.declared.tables.DriverCell.{DriverCell}
-use Rattle.plan_tables.specs.declared.tables.ReaderCell.{ReaderCell}
+use Rattle.net_pins.specs.declared.nets.ReaderCell.{ReaderCell}
 use Rattle.plan_tables.specs.Assigned.{set_readers, set_compared}
 
 pub length-set_readers : (place : ℕ) (bit : Bool) (bits : List Bool) (readers : List ReaderCell) → length (set_readers place bit bits readers) ≡ length bits

@@ -3,7 +3,7 @@ use Rattle.std.proofs.Common.{◌≡◌, ℕ, zero, suc, ◌<◌, Bool, true, fa
 use Rattle.std.specs.Prelude.{cond, count_by, slice_index_or, slice_set}
 use Rattle.std.specs.List.{list_any}
 use Rattle.plan_tables.specs.declared.tables.DriverCell.{DriverCell}
-use Rattle.plan_tables.specs.declared.tables.ReaderCell.{ReaderCell}
+use Rattle.net_pins.specs.declared.nets.ReaderCell.{ReaderCell}
 use Rattle.plan_tables.specs.declared.observers.Observer.{Observer}
 use Rattle.plan_tables.specs.declared.uses.Uses.{Uses}
 use Rattle.plan_tables.specs.Assigned.{assigned, driver_bit, set_compared}

@@ -19,8 +19,8 @@ use Rattle.board_defs.specs.Settings.{Enabling, enables, enables_where, enables_
 use Rattle.board_defs.proofs.Members.{Has, has_at, has_contains, contains_has, has_left, has_right, has_append, has_map, map_has, has_filter, filter_has}
 use Rattle.board_defs.proofs.Places.{any_place}
 use Rattle.tap_defs.specs.board.TestRows.{first_enabled, reads_beside, observing_driver, observing_driver_by}
-use Rattle.plan_tables.specs.declared.nets.NetDriver.{NetDriver}
-use Rattle.plan_tables.specs.declared.tables.ReaderCell.{ReaderCell}
+use Rattle.net_pins.specs.declared.nets.NetDriver.{NetDriver}
+use Rattle.net_pins.specs.declared.nets.ReaderCell.{ReaderCell}
 use Rattle.plan_tables.specs.Tables.{first_position, IsReaderCell}
 use Rattle.plan_tables.specs.Building.{is_on, enabled_in, gathered, optional, net_driver, driver_of, drivers_of_pins, drivers_of, reader_of, readers_in, readers_at, readers_of, is_read_beside}
 

@@ -2,7 +2,7 @@
 use Rattle.std.specs.Prelude.{ℕ, ◌==◌, Bool, cond, List, [], fold, slice_index_or, slice_set}
 use Rattle.tap_defs.specs.board.TestRows.{code_bit}
 use Rattle.plan_tables.specs.declared.tables.DriverCell.{DriverCell}
-use Rattle.plan_tables.specs.declared.tables.ReaderCell.{ReaderCell}
+use Rattle.net_pins.specs.declared.nets.ReaderCell.{ReaderCell}
 
 -- the bits after each item has set its own
 abbrev pub assigned : {X : Type 0} → (X → ℕ) → (X → Bool) → List Bool → List X → List Bool

@@ -1,76 +1,15 @@
--- How the tables of a plan are made, item by item.
-use Rattle.std.specs.Prelude.{ℕ, suc, ◌+◌, ◌==◌, Bool, true, not, find, cond, List, [], ◌∷◌, ◌++◌, map, filter, Option, Some, None, option_map}
+-- How the drivers and the compared cells of a net stand to each other, and to a setting.
+use Rattle.std.specs.Prelude.{◌==◌, Bool, true, not, find, List, Option, Some, None}
 use Rattle.std.specs.List.{list_any}
-use Rattle.board_defs.specs.declared.device.Cell.{Cell}
-use Rattle.board_defs.specs.declared.device.RawDevice.{RawDevice}
-use Rattle.board_defs.specs.declared.board.PinAt.{PinAt}
-use Rattle.board_defs.specs.declared.board.NetPin.{NetPin}
-use Rattle.board_defs.specs.declared.board.Net.{Net}
-use Rattle.board_defs.specs.declared.board.RawBoard.{RawBoard}
 use Rattle.board_defs.specs.declared.board.Ctl.{Ctl}
-use Rattle.board_defs.specs.DeviceRules.{reads_bit}
-use Rattle.board_defs.specs.Pins.{device_at, entry_at, receives_where, guarded}
 use Rattle.board_defs.specs.Settings.{Enabling}
-use Rattle.plan_tables.specs.declared.tables.ReaderCell.{ReaderCell}
-use Rattle.plan_tables.specs.declared.nets.NetDriver.{NetDriver}
-use Rattle.plan_tables.specs.Tables.{first_position}
-
--- what each item of a list gives by its place, one after another; the first item has this place
-abbrev pub gathered : {X Y : Type 0} → (ℕ → X → List Y) → ℕ → List X → List Y
-gathered f place [] = []
-gathered f place (x ∷ xs) = f place x ++ gathered f (suc place) xs
-
--- a list of what is there
-abbrev pub optional : {X : Type 0} → Option X → List X
-optional None = []
-optional (Some x) = x ∷ []
-
--- the driver of a net that a driving entry is
-abbrev pub net_driver : RawBoard → ℕ → ℕ → Cell → NetDriver
-net_driver board part place cell = record { place = place; ctl = option_map (λ control. record { part = part; cell = control.cell }) cell.ctl; own = record { part = part; cell = cell.num }; position = first_position board part + cell.num }
-
--- the driver that a pin is, where it is one
-abbrev pub driver_of : RawBoard → ℕ → Option PinAt → Option NetDriver
-driver_of board place None = None
-driver_of board place (Some at) = option_map (net_driver board at.part place) (entry_at board at)
-
--- the drivers of a net, in pin order
-abbrev pub drivers_of_pins : RawBoard → List NetPin → List NetDriver
-drivers_of_pins board pins = gathered (λ place pin. optional (driver_of board place pin.at)) 0 pins
-
--- the drivers of a net that may be enabled
-abbrev pub drivers_of : RawBoard → Net → List NetDriver
-drivers_of board net = cond (guarded board net) [] (drivers_of_pins board net.pins)
-
--- a cell that reads a pin
-abbrev pub reader_of : RawBoard → ℕ → ℕ → Cell → ReaderCell
-reader_of board part place cell = record { place = place; position = first_position board part + cell.num }
-
--- the compared cells of a port bit
-abbrev pub readers_in : RawBoard → ℕ → PinAt → Option RawDevice → List ReaderCell
-readers_in board place at None = []
-readers_in board place at (Some device) = map (reader_of board at.part place) (filter (reads_bit at.bit) device.cells)
-
--- the compared cells of a pin, where it is a receiver
-abbrev pub readers_at : RawBoard → ℕ → Option PinAt → List ReaderCell
-readers_at board place None = []
-readers_at board place (Some at) = cond (receives_where board (Some at)) (readers_in board place at (device_at board at.part)) []
-
--- the compared cells of a net, in pin order
-abbrev pub readers_of : RawBoard → List NetPin → List ReaderCell
-readers_of board pins = gathered (λ place pin. readers_at board place pin.at) 0 pins
+use Rattle.net_pins.specs.declared.nets.NetDriver.{NetDriver}
+use Rattle.net_pins.specs.declared.nets.ReaderCell.{ReaderCell}
+pub use Rattle.net_pins.specs.NetCells.{gathered, optional, net_driver, driver_of, drivers_of_pins, drivers_of, reader_of, readers_in, readers_at, readers_of, all_drivers, all_readers}
 
 -- another pin than the driver's is read
 abbrev pub is_read_beside : List ReaderCell → NetDriver → Bool
 is_read_beside readers d = list_any (λ r. not (r.place == d.place)) readers
-
--- the drivers of each net
-abbrev pub all_drivers : RawBoard → List (List NetDriver)
-all_drivers board = map (drivers_of board) board.nets
-
--- the compared cells of each net
-abbrev pub all_readers : RawBoard → List (List ReaderCell)
-all_readers board = map (λ net. readers_of board net.pins) board.nets
 
 -- the setting enables a driver with this control
 abbrev pub is_on : Enabling → Option Ctl → Bool

@@ -1,16 +1,15 @@
 -- What a plan keeps of a board: rows that every test of it has, and the positions at which those of a pass differ from the quiet row.
-use Rattle.std.specs.Prelude.{◌≡◌, ◌≢◌, ◌↔◌, ℕ, suc, ◌+◌, ◌<◌, Bool, true, false, not, List, [], ◌++◌, length, map, drop, sum_by, Some, slice_get, slice_index_or, unwrap_or, Contains}
+use Rattle.std.specs.Prelude.{◌≡◌, ◌≢◌, ◌↔◌, ℕ, ◌+◌, Bool, true, false, not, List, [], ◌++◌, length, map, Some, slice_get, slice_index_or, unwrap_or, Contains}
 use Rattle.std.specs.List.{flat_map}
 use Rattle.board_defs.specs.declared.device.Cell.{Cell}
 use Rattle.board_defs.specs.declared.device.RawDevice.{RawDevice}
-use Rattle.board_defs.specs.declared.board.Part.{Part}
 use Rattle.board_defs.specs.declared.board.PinAt.{PinAt}
 use Rattle.board_defs.specs.declared.board.NetPin.{NetPin}
 use Rattle.board_defs.specs.declared.board.Net.{Net}
 use Rattle.board_defs.specs.declared.board.RawBoard.{RawBoard}
 use Rattle.board_defs.specs.declared.board.Ctl.{Ctl}
 use Rattle.board_defs.specs.DeviceRules.{reads_bit, disable_of}
-use Rattle.board_defs.specs.Pins.{data_length, device_at, entry_at, receives_where}
+use Rattle.board_defs.specs.Pins.{device_at, entry_at, receives_where}
 use Rattle.board_defs.specs.Settings.{holds}
 use Rattle.tap_defs.specs.chain.Scan.{ScanBit, joined, tdi_bits, tdo_bits, mask_bits}
 use Rattle.tap_defs.specs.chain.Codes.{instructs}
@@ -19,18 +18,10 @@ use Rattle.tap_defs.specs.board.BoardScans.{row_bits, first_row_scan, preload_co
 use Rattle.plan_tables.specs.declared.tables.FixedRows.{FixedRows}
 use Rattle.plan_tables.specs.declared.tables.HeldCell.{HeldCell}
 use Rattle.plan_tables.specs.declared.tables.DriverCell.{DriverCell}
-use Rattle.plan_tables.specs.declared.tables.ReaderCell.{ReaderCell}
+use Rattle.net_pins.specs.declared.nets.ReaderCell.{ReaderCell}
 use Rattle.plan_tables.specs.declared.controls.DriverTable.{DriverTable}
 use Rattle.plan_tables.specs.declared.tables.PlanTables.{PlanTables}
-
--- the position of a part's first bit in a scan of data: behind those of the parts after it
-abbrev pub first_position : RawBoard → ℕ → ℕ
-first_position board part = sum_by (λ p. data_length p.kind) (drop (suc part) board.chain)
-
--- the first position of each part of a chain
-pub record AreFirsts (chain : List Part) (firsts : List ℕ) : Type 0 where
-  pub count : length firsts ≡ length chain
-  pub each : (part : ℕ) → part < length chain → slice_index_or firsts part 0 ≡ sum_by (λ p. data_length p.kind) (drop (part + 1) chain)
+pub use Rattle.net_pins.specs.Positions.{first_position, AreFirsts}
 
 -- the position of a control's cell
 abbrev pub control_position : RawBoard → Ctl → ℕ

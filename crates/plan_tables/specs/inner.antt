@@ -3,5 +3,4 @@ pub mod Building
 pub mod Codes
 pub mod Laid
 pub mod QuietBits
-pub mod Entries
 pub mod Steady

@@ -1,5 +1,6 @@
 // Makes the tables of a plan.
 ghost use Rattle.std.specs.Prelude.{◌≡◌, ◌<◌, ◌≤◌, ◌^◌, length, IfOk};
+ghost use Rattle.net_pins.specs.Tables.{AreNetPins};
 ghost use Rattle.plan_tables.specs.Tables.{AreFirsts, pass_cells_of};
 ghost use Rattle.plan_tables.specs.inner.Building.{observers};
 ghost use Rattle.plan_tables.specs.inner.Laid.{laid, quiet_bits};
@@ -8,10 +9,8 @@ ghost use Rattle.plan_tables.specs.inner.Steady.{ArePassTables};
 
 use crate::codes::{number_nets, seen_nets};
 use crate::controls::driver_table;
-use crate::drivers::all_drivers;
-use crate::entries::part_tables;
 use crate::instructions::{Instruction, instruction_rows};
-use crate::observers::{Observer, net_cells};
+use crate::observers::{Observer, net_observers};
 use crate::quiet::quiet_row;
 use crate::rows::row_of;
 use crate::tables::{PassTables, PlanTables};
@@ -19,6 +18,7 @@ use crate::uses::{moving, steady_cells, uses_of};
 use board_defs::{Board, Items, Setting};
 use bt_bits::Row;
 use counting_codes::width;
+use net_pins::NetPins;
 use std::alloc::{AllocError, Global};
 
 // The cells of the passes.
@@ -46,12 +46,14 @@ fn pass_tables(
     Ok(PassTables { steady, by_control })
 }
 
-/// The tables of the plan of these passes.
+/// The tables of the plan of these passes, by the pins of the board's nets.
 pub fn tables_of(
     alloc: Global,
     board: &Board,
+    pins: NetPins,
     passes: Items<Setting>,
 ) -> Result<PlanTables, AllocError>
+    requires pins { AreNetPins board.now pins }
     requires few { length passes < 2 ^ 32 }
     requires plannable { ArePlannable board.now passes }
     ensures plan { IfOk result (λ tables. IsPlanOf board.now tables) }
@@ -59,16 +61,18 @@ pub fn tables_of(
     ensures width { IfOk result (λ tables. tables.width ≤ 14) }
 {
     let _ = board.raw();
-    let parts = part_tables(alloc, board)?;
+    let observers = net_observers(alloc, board, &pins)?;
+    let NetPins {
+        tables: parts,
+        drivers,
+        readers: read,
+    } = pins;
     let firsts = parts.firsts.as_slice();
     let bits = quiet_row(alloc, board)?;
     let quiet = row_of(alloc, &bits)?;
-    let nets = net_cells(alloc, board, &parts)?;
-    let drivers = all_drivers(alloc, board, &parts)?;
-    let readers = nets.readers.as_slice();
-    let observers = nets.observers.as_slice();
+    let readers = read.as_slice();
     let settings = passes.as_slice();
-    let tables = pass_tables(alloc, board, firsts, &quiet, observers, settings)?;
+    let tables = pass_tables(alloc, board, firsts, &quiet, observers.as_slice(), settings)?;
     let seen = seen_nets(alloc, board, firsts, readers.len(), &tables, settings)?;
     let codes = number_nets(alloc, &seen)?;
     let width = width(codes.count);
@@ -84,7 +88,7 @@ pub fn tables_of(
         steady: tables.steady,
         firsts: parts.firsts,
         by_control: tables.by_control,
-        readers: nets.readers,
+        readers: read,
         drivers,
     })
 }

@@ -5,10 +5,10 @@ ghost use Rattle.plan_tables.specs.Tables.{AreFirsts, controlled};
 ghost use Rattle.plan_tables.specs.inner.Building.{all_noted, always_on, table_of};
 
 use crate::observers::Observer;
-use crate::positions::cell_position;
 use crate::tables::DriverCell;
 use board_defs::{Board, Ctl, Items};
 use lists::{blank, note_where};
+use net_pins::cell_position;
 use std::alloc::{AllocError, Global};
 
 /// The driver cells of one control.

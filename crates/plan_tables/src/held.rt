@@ -5,10 +5,10 @@ ghost use Rattle.board_defs.specs.Pins.{device_at, cell_count, data_bits};
 ghost use Rattle.board_defs.specs.Settings.{holds};
 ghost use Rattle.plan_tables.specs.Tables.{AreFirsts, held_cell};
 
-use crate::positions::cell_position;
 use crate::tables::HeldCell;
 use board_defs::{Board, Ctl, Items, Setting};
 use bt_bits::Row;
+use net_pins::cell_position;
 use std::alloc::{AllocError, Global};
 
 /// The cell of a control: its position, and the opposite of what it holds in the quiet row.

@@ -1,16 +1,15 @@
-// The drivers by which nets can be observed, and the compared cells of each net.
-ghost use Rattle.std.specs.Prelude.{◌≡◌, ◌≤◌, ◌++◌, ◌∷◌, [], not, ◌==◌, length, map, filter, option_map, IfOk, OnOk, All};
+// The drivers by which nets can be observed.
+ghost use Rattle.std.specs.Prelude.{◌≡◌, ◌≤◌, ◌++◌, [], not, ◌==◌, length, map, option_map, slice_index_or, IfOk, OnOk, All};
 ghost use Rattle.std.specs.List.{list_any};
-ghost use Rattle.plan_tables.specs.Building.{is_read_beside, readers_of};
+ghost use Rattle.board_defs.specs.BoardRules.{IsBoard};
+ghost use Rattle.net_pins.specs.NetCells.{drivers_of, readers_of};
+ghost use Rattle.net_pins.specs.Tables.{AreNetPins};
 ghost use Rattle.plan_tables.specs.Tables.{AreFirsts, control_position};
-ghost use Rattle.plan_tables.specs.inner.Building.{IsControlThere, observer, observers_of, observers_at, observers};
-ghost use Rattle.plan_tables.specs.inner.Entries.{ArePartTables};
+ghost use Rattle.plan_tables.specs.inner.Building.{IsControlThere, observer, observers_of, observers};
 
-use crate::entries::PartTables;
-use crate::nets::{NetDriver, drivers_of, readers_of};
-use crate::positions::cell_position;
-use crate::tables::{DriverCell, ReaderCell};
+use crate::tables::DriverCell;
 use board_defs::{Board, Ctl, Items, Net};
+use net_pins::{NetDriver, NetPins, ReaderCell, cell_position};
 use std::alloc::{AllocError, Global};
 
 /// A driver beside which some pin of its net is read: the position of its control's cell, if it has a control, and its
@@ -19,13 +18,6 @@ use std::alloc::{AllocError, Global};
 pub struct Observer {
     pub control: Option<u32>,
     pub cell: DriverCell,
-}
-
-/// The drivers by which the nets of a board can be observed, and the compared cells of each net.
-#[derive(Debug, Drop)]
-pub struct NetCells {
-    pub observers: Items<Observer>,
-    pub readers: Items<Items<ReaderCell>>,
 }
 
 fn control_position(board: &Board, firsts: &[u32], ctl: Option<Ctl>) -> Option<u32>
@@ -81,65 +73,52 @@ fn push_observers(
     Ok(())
 }
 
-// Adds what is kept of a net.
-fn push_net(
+// The items of a net in a list that has some for each net; none past its end.
+fn items_at<T>(rows: &[Items<T>], net: usize) -> &[T]
+    ensures { result.now ≡ slice_index_or rows.now net [] }
+{
+    match rows.get(net) {
+        None => &[],
+        Some(row) => row.as_slice(),
+    }
+}
+
+// Those of these nets, which have these drivers and compared cells.
+fn observers_of_nets(
     alloc: Global,
     board: &Board,
-    parts: &PartTables,
-    number: u32,
-    net: &Net,
-    observers: &mut Vec<Observer>,
-) -> Result<Items<ReaderCell>, AllocError>
-    requires parts { ArePartTables board.now parts.now }
-    requires few { length net.now.pins ≤ 65535 }
-    ensures observers { OnOk result (observers.new.items ≡ observers.old.items ++ observers_at board.now number net.now) }
-    ensures readers { IfOk result (λ readers. readers ≡ readers_of board.now net.now.pins) }
+    firsts: &[u32],
+    nets: &[Net],
+    drivers: &[Items<NetDriver>],
+    readers: &[Items<ReaderCell>],
+) -> Result<Items<Observer>, AllocError>
+    requires firsts { AreFirsts board.now.chain firsts.now }
+    requires drivers { drivers.now ≡ map (drivers_of board.now) nets.now }
+    requires readers { readers.now ≡ map (λ net. readers_of board.now net.pins) nets.now }
+    requires count { length nets.now ≤ 65535 }
+    ensures { IfOk result (λ found. found ≡ observers board.now nets.now) }
 {
     let _ = board.raw();
-    let firsts = parts.firsts.as_slice();
-    let drivers = drivers_of(alloc, board, parts, net)?;
-    let readers = readers_of(alloc, board, parts, net.pins.as_slice())?;
-    push_observers(
-        board,
-        firsts,
-        number,
-        drivers.as_slice(),
-        readers.as_slice(),
-        observers,
-    )?;
-    Ok(readers)
+    let mut observers = Vec::new(alloc);
+    for n in 0..nets.len() {
+        let own = items_at(drivers, n);
+        let read = items_at(readers, n);
+        push_observers(board, firsts, n as u32, own, read, &mut observers)?;
+    }
+    Ok(Items::of(observers))
 }
 
-fn cells_of_nets(
+/// The drivers by which the nets of a board can be observed, in net order.
+pub fn net_observers(
     alloc: Global,
     board: &Board,
-    parts: &PartTables,
-    nets: &[Net],
-) -> Result<NetCells, AllocError>
-    requires parts { ArePartTables board.now parts.now }
-    requires few { All (λ net. length net.pins ≤ 65535) nets.now }
-    requires count { length nets.now ≤ 65535 }
-    ensures observers { IfOk result (λ cells. cells.observers ≡ observers board.now nets.now) }
-    ensures readers { IfOk result (λ cells. cells.readers ≡ map (λ net. readers_of board.now net.pins) nets.now) }
+    pins: &NetPins,
+) -> Result<Items<Observer>, AllocError>
+    requires { AreNetPins board.now pins.now }
+    ensures { IfOk result (λ found. found ≡ observers board.now board.now.nets) }
 {
-    let mut observers = Vec::new(alloc);
-    let mut readers = Vec::new(alloc);
-    for n in 0..nets.len() {
-        let own = push_net(alloc, board, parts, n as u32, &nets[n], &mut observers)?;
-        readers.push(own)?;
-    }
-    Ok(NetCells {
-        observers: Items::of(observers),
-        readers: Items::of(readers),
-    })
-}
-
-/// The cells that the nets of a board have in its test.
-pub fn net_cells(alloc: Global, board: &Board, parts: &PartTables) -> Result<NetCells, AllocError>
-    requires { ArePartTables board.now parts.now }
-    ensures observers { IfOk result (λ cells. cells.observers ≡ observers board.now board.now.nets) }
-    ensures readers { IfOk result (λ cells. cells.readers ≡ map (λ net. readers_of board.now net.pins) board.now.nets) }
-{
-    let raw = board.raw();
-    cells_of_nets(alloc, board, parts, raw.nets.as_slice())
+    let nets = board.raw().nets.as_slice();
+    let firsts = pins.tables.firsts.as_slice();
+    let drivers = pins.drivers.as_slice();
+    observers_of_nets(alloc, board, firsts, nets, drivers, pins.readers.as_slice())
 }

@@ -1,8 +1,8 @@
 // What a plan keeps: positions and bits, from which each scan is made.
 use crate::controls::DriverTable;
-use crate::nets::NetDriver;
 use board_defs::{Items, Setting};
 use bt_bits::Row;
+use net_pins::{NetDriver, ReaderCell};
 
 /// The rows of a scan.
 #[derive(Drop)]
@@ -24,13 +24,6 @@ pub struct HeldCell {
 #[derive(Clone, Copy, Debug, PartialEq, Eq)]
 pub struct DriverCell {
     pub net: u32,
-    pub place: u32,
-    pub position: u32,
-}
-
-/// A cell that reads a net: the place of its pin in the net, and the cell's position.
-#[derive(Clone, Copy, Debug, PartialEq, Eq)]
-pub struct ReaderCell {
     pub place: u32,
     pub position: u32,
 }

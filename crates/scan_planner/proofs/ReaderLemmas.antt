@@ -20,7 +20,7 @@ use Rattle.tap_defs.specs.board.NetBits.{Place, place_of}
 use Rattle.tap_defs.specs.board.TestRows.{TestRow, expect_bit, expect_entry, expect_pin, expect_place, expect_observed, only_if, observing_driver}
 use Rattle.tap_defs.proofs.board.PassingLemmas.{stands_at}
 use Rattle.plan_tables.specs.declared.tables.DriverCell.{DriverCell}
-use Rattle.plan_tables.specs.declared.tables.ReaderCell.{ReaderCell}
+use Rattle.net_pins.specs.declared.nets.ReaderCell.{ReaderCell}
 use Rattle.plan_tables.specs.Tables.{first_position, IsDriverCell, IsReaderCell}
 use Rattle.plan_tables.specs.inner.Laid.{laid}
 use Rattle.plan_tables.specs.Assigned.{assigned, set_readers, set_compared}

@@ -3,6 +3,7 @@ ghost use Rattle.std.specs.Prelude.{◌≡◌, ◌+◌, ◌*◌, ◌<◌, ◌≤
 ghost use Rattle.board_defs.specs.Pins.{data_bits};
 ghost use Rattle.tap_defs.specs.board.BoardScans.{row_bits};
 ghost use Rattle.tap_defs.specs.chain.Scan.{joined, mask_bits, tdi_bits, tdo_bits};
+ghost use Rattle.net_pins.specs.Tables.{AreNetPins};
 ghost use Rattle.plan_tables.specs.Plans.{ArePlannable, IsPlanOf};
 ghost use Rattle.scan_planner.specs.PassRows.{AreCommonRows, AreKept};
 ghost use Rattle.scan_planner.specs.Plans.{IsRoom, FillsScan, scan_count, scan_of_pass};
@@ -12,6 +13,7 @@ use crate::next::fill_after;
 use crate::pass_rows::{PassRows, StackedRows};
 use board_defs::{Board, Items, Setting};
 use bt_bits::Row;
+use net_pins::NetPins;
 use plan_tables::{PlanTables, tables_of};
 use std::alloc::{AllocError, Global};
 use std::marker::Model;
@@ -47,7 +49,24 @@ impl Plan {
         ensures plan { IfOk result (λ plan. IsPlanOf board.now plan) }
         ensures passes { IfOk result (λ plan. plan.passes ≡ passes.items) }
     {
-        let tables = tables_of(alloc, board, Items::of(passes))?;
+        let pins = NetPins::new(alloc, board)?;
+        Plan::of(alloc, board, pins, passes)
+    }
+
+    /// The same, by the pins of the board's nets, which the plan takes over.
+    pub fn of(
+        alloc: Global,
+        board: &Board,
+        pins: NetPins,
+        passes: Vec<Setting>,
+    ) -> Result<Plan, AllocError>
+        requires pins { AreNetPins board.now pins }
+        requires few { length passes.items < 2 ^ 32 }
+        requires plannable { ArePlannable board.now passes.items }
+        ensures plan { IfOk result (λ plan. IsPlanOf board.now plan) }
+        ensures passes { IfOk result (λ plan. plan.passes ≡ passes.items) }
+    {
+        let tables = tables_of(alloc, board, pins, Items::of(passes))?;
         let common = StackedRows::common(alloc, &tables)?;
         Ok(Plan { tables, common })
     }

@@ -47,7 +47,7 @@ use Rattle.tap_defs.proofs.board.ResponseLemmas.{plain_is}
 use Rattle.tap_defs.proofs.board.OneResponseLemmas.{holding_chain, held_in_test, all_show}
 use Rattle.tap_defs.proofs.board.DrivingLemmas.{feeding_is}
 use Rattle.tap_defs.proofs.board.CellPlaceLemmas.{captured_cell, captured_laid, laid as laid_parts, part_laid as laid_part}
-use Rattle.plan_tables.specs.declared.tables.ReaderCell.{ReaderCell}
+use Rattle.net_pins.specs.declared.nets.ReaderCell.{ReaderCell}
 use Rattle.plan_tables.specs.Tables.{first_position, IsReaderCell}
 use Rattle.plan_tables.specs.inner.Laid.{CellBits, part_laid, parts_laid, laid}
 use Rattle.plan_tables.proofs.PinLemmas.{Standing, standing, reading_entry_is}

@@ -23,7 +23,7 @@ use Rattle.tap_defs.proofs.board.CellPlaceLemmas.{agree_at, agree_from, captured
 use Rattle.tap_defs.proofs.board.LogLemmas.{rows_counted}
 use Rattle.tap_defs.proofs.board.PlanLemmas.{observed_by}
 use Rattle.plan_tables.specs.declared.tables.DriverCell.{DriverCell}
-use Rattle.plan_tables.specs.declared.tables.ReaderCell.{ReaderCell}
+use Rattle.net_pins.specs.declared.nets.ReaderCell.{ReaderCell}
 use Rattle.plan_tables.specs.Tables.{IsDriverCell, IsReaderCell}
 use Rattle.plan_tables.proofs.LaidLemmas.{length-laid, mask_laid}
 use Rattle.walk_test.specs.WalkTest.{walk_setting, walk_nets}

@@ -6,7 +6,7 @@ use Rattle.std.specs.List.{list_any, range_with_len}
 use Rattle.std.proofs.lemmas.Bool.{lt-ltb, le-ltb, eq-eqb, both_ways}
 use Rattle.std.proofs.lemmas.List.{length-map, length-replicate, get_or-replicate}
 use Rattle.std.proofs.lemmas.Option.{slice_get_within, slice_get-get_or, get_or_from_slice_get, slice_get-map}
-use Rattle.lists.proofs.ListLemmas.{none_of_zeros}
+use Rattle.lists.proofs.ListLemmas.{item_there, none_of_zeros}
 use Rattle.board_defs.specs.declared.board.Net.{Net}
 use Rattle.board_defs.specs.declared.board.RawBoard.{RawBoard}
 use Rattle.board_defs.specs.declared.board.Ctl.{Ctl}
@@ -22,9 +22,9 @@ use Rattle.tap_defs.specs.board.BoardScans.{RowScan, row_bits, scan_of_row, boar
 use Rattle.tap_defs.proofs.board.ScanPlaceLemmas.{front_at, length-pass_scans, pass_scan_at}
 use Rattle.tap_defs.proofs.board.WidthLemmas.{width_is}
 use Rattle.tap_defs.proofs.chain.RowLemmas.{scan_bits-rows, one_masked}
-use Rattle.plan_tables.specs.declared.nets.NetDriver.{NetDriver}
+use Rattle.net_pins.specs.declared.nets.NetDriver.{NetDriver}
 use Rattle.plan_tables.specs.declared.tables.DriverCell.{DriverCell}
-use Rattle.plan_tables.specs.declared.tables.ReaderCell.{ReaderCell}
+use Rattle.net_pins.specs.declared.nets.ReaderCell.{ReaderCell}
 use Rattle.plan_tables.specs.declared.tables.PlanTables.{PlanTables}
 use Rattle.plan_tables.specs.Assigned.{assigned}
 use Rattle.plan_tables.specs.Building.{enabled_in, is_read_beside, drivers_of, readers_of}
@@ -463,7 +463,7 @@ compare_is board rules t w some zero le mask is =
     sym (ap (λ (l : List Bool). list_any (λ bit. bit) l) (is ∙ sym (first_mask board)) ∙ none_of_zeros (data_bits board))
 compare_is board rules t w some (suc j) le mask is =
     let within : j < length t.cells = omega (arith, le, cells_count board rules t w some) in
-    let c = Rattle.plan_tables.proofs.ListLemmas.some_at t.cells j within in
+    let c = item_there t.cells j within in
     let less : nat_lt 0 (suc j) ≡ true = lt-ltb 0 (suc j) (omega arith) in
     less ∙ sym (ap (λ (l : List Bool). list_any (λ bit. bit) l) is ∙ row_has_one board rules t w some j (omega (arith, le)) c.0 c.1)
 

@@ -20,7 +20,7 @@ use Rattle.tap_defs.specs.board.TestRows.{TestRow, quiet_row, code_row, row_bit,
 use Rattle.tap_defs.proofs.board.WrongLemmas.{Compared, expects}
 use Rattle.tap_defs.proofs.board.ReadingLemmas.{beside_observing}
 use Rattle.plan_tables.specs.declared.tables.DriverCell.{DriverCell}
-use Rattle.plan_tables.specs.declared.tables.ReaderCell.{ReaderCell}
+use Rattle.net_pins.specs.declared.nets.ReaderCell.{ReaderCell}
 use Rattle.plan_tables.specs.declared.tables.PlanTables.{PlanTables}
 use Rattle.plan_tables.specs.Assigned.{assigned}
 use Rattle.plan_tables.specs.Building.{readers_of as readers_in_order}

@@ -22,7 +22,7 @@ use Rattle.tap_defs.specs.board.Explaining.{is_compared, compared_scans, Compare
 use Rattle.tap_defs.specs.board.FaultSet.{FaultSet}
 use Rattle.tap_defs.proofs.board.LogLemmas.{rows_counted}
 use Rattle.plan_tables.specs.declared.tables.DriverCell.{DriverCell}
-use Rattle.plan_tables.specs.declared.tables.ReaderCell.{ReaderCell}
+use Rattle.net_pins.specs.declared.nets.ReaderCell.{ReaderCell}
 use Rattle.plan_tables.specs.Building.{readers_of as readers_in_order}
 use Rattle.plan_tables.specs.Tables.{IsDriverCell, IsReaderCell}
 use Rattle.plan_tables.proofs.SeenLemmas.{driver_cell}

@@ -9,7 +9,7 @@ use Rattle.tap_defs.specs.chain.Scan.{joined, tdi_bits, mask_bits}
 use Rattle.tap_defs.specs.board.TestRows.{TestRow, quiet_row}
 use Rattle.tap_defs.specs.board.BoardScans.{row_bits}
 use Rattle.plan_tables.specs.declared.tables.DriverCell.{DriverCell}
-use Rattle.plan_tables.specs.declared.tables.ReaderCell.{ReaderCell}
+use Rattle.net_pins.specs.declared.nets.ReaderCell.{ReaderCell}
 use Rattle.scan_planner.specs.Plans.{IsPlanOf}
 use Rattle.plan_tables.specs.Tables.{IsDriverCell, IsReaderCell}
 use Rattle.walk_test.specs.declared.tables.NetCells.{NetCells}

@@ -5,8 +5,8 @@ use Rattle.board_defs.specs.declared.board.Ctl.{Ctl}
 use Rattle.board_defs.specs.declared.board.Net.{Net}
 use Rattle.board_defs.specs.declared.board.PinRef.{PinRef}
 use Rattle.board_defs.specs.declared.board.RawBoard.{RawBoard}
-use Rattle.plan_tables.specs.declared.nets.NetDriver.{NetDriver}
-use Rattle.plan_tables.specs.declared.tables.ReaderCell.{ReaderCell}
+use Rattle.net_pins.specs.declared.nets.NetDriver.{NetDriver}
+use Rattle.net_pins.specs.declared.nets.ReaderCell.{ReaderCell}
 use Rattle.plan_tables.specs.declared.tables.PlanTables.{PlanTables}
 use Rattle.plan_tables.specs.Assigned.{assigned}
 use Rattle.plan_tables.specs.Building.{is_read_beside}

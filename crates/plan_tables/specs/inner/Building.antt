@@ -6,8 +6,8 @@ use Rattle.board_defs.specs.declared.board.RawBoard.{RawBoard}
 use Rattle.board_defs.specs.declared.board.Ctl.{Ctl}
 use Rattle.board_defs.specs.Pins.{device_at, cell_count}
 use Rattle.plan_tables.specs.declared.tables.DriverCell.{DriverCell}
-use Rattle.plan_tables.specs.declared.tables.ReaderCell.{ReaderCell}
-use Rattle.plan_tables.specs.declared.nets.NetDriver.{NetDriver}
+use Rattle.net_pins.specs.declared.nets.ReaderCell.{ReaderCell}
+use Rattle.net_pins.specs.declared.nets.NetDriver.{NetDriver}
 use Rattle.plan_tables.specs.declared.observers.Observer.{Observer}
 use Rattle.plan_tables.specs.declared.controls.DriverTable.{DriverTable}
 use Rattle.plan_tables.specs.Tables.{control_position}

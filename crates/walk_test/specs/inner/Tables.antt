@@ -7,8 +7,8 @@ use Rattle.board_defs.specs.Settings.{holds}
 use Rattle.tap_defs.specs.chain.Scan.{joined, tdo_bits}
 use Rattle.tap_defs.specs.board.TestRows.{TestRow, quiet_row, code_row}
 use Rattle.tap_defs.specs.board.BoardScans.{row_bits, walk_row, row_now, row_before}
-use Rattle.plan_tables.specs.declared.nets.NetDriver.{NetDriver}
-use Rattle.plan_tables.specs.declared.tables.ReaderCell.{ReaderCell}
+use Rattle.net_pins.specs.declared.nets.NetDriver.{NetDriver}
+use Rattle.net_pins.specs.declared.nets.ReaderCell.{ReaderCell}
 use Rattle.plan_tables.specs.declared.tables.PlanTables.{PlanTables}
 use Rattle.plan_tables.specs.Assigned.{assigned}
 use Rattle.plan_tables.specs.Building.{enabled_in, is_read_beside}

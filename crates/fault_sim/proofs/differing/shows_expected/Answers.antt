@@ -1,5 +1,5 @@
 use Rattle.std.proofs.Common.{List, refl, sym, ◌∙◌, ap}
-use Rattle.plan_tables.specs.declared.tables.ReaderCell.{ReaderCell}
+use Rattle.net_pins.specs.declared.nets.ReaderCell.{ReaderCell}
 use Rattle.fault_sim.specs.inner.Marks.{are_marked}
 use Rattle.fault_sim.proofs.MarkLemmas.{unmarked_shows}
 use Rattle.fault_sim.proofs.differing.shows_expected.Goals as goal

@@ -1,7 +1,7 @@
 use Rattle.std.proofs.Common.{[], ◌<◌, List, sym, subst, arith}
 use Rattle.std.specs.Prelude.{All}
 use Rattle.board_defs.specs.Pins.{data_bits}
-use Rattle.plan_tables.specs.declared.tables.ReaderCell.{ReaderCell}
+use Rattle.net_pins.specs.declared.nets.ReaderCell.{ReaderCell}
 use Rattle.scan_planner.proofs.FillLemmas.{readers_within}
 use Rattle.fault_sim.proofs.fits.shows.Goals as goal
 

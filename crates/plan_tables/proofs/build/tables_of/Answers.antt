@@ -4,7 +4,7 @@ use Rattle.std.proofs.lemmas.Option.{slice_get-get_or}
 use Rattle.board_defs.specs.declared.board.Ctl.{Ctl}
 use Rattle.board_defs.specs.declared.board.Net.{Net}
 use Rattle.plan_tables.specs.Tables.{pass_cells_of}
-use Rattle.plan_tables.specs.declared.tables.ReaderCell.{ReaderCell}
+use Rattle.net_pins.specs.declared.nets.ReaderCell.{ReaderCell}
 use Rattle.plan_tables.specs.inner.Laid.{quiet_bits}
 use Rattle.plan_tables.specs.Building.{readers_of}
 use Rattle.plan_tables.specs.inner.Codes.{seen_in}
@@ -22,13 +22,13 @@ seen_nets-requires-clause-cells c =
 pub number_nets-requires : goal.number_nets-requires
 number_nets-requires c =
     (seen_most c.args.board.now c.raw.ensures.rules c.as_slice-readers.result.now c.in_ok-tables.tables c.as_slice-settings.result.now c.deref-2.result.now
-    (c.as_slice-readers.ensures ∙ c.in_ok-nets.ensures.readers) (c.deref-2.ensures.value ∙ c.in_ok-seen.ensures)).1
+    (c.as_slice-readers.ensures ∙ c.requires.pins.readers_are) (c.deref-2.ensures.value ∙ c.in_ok-seen.ensures)).1
 
 pub width-width-requires : goal.width-width-requires
 width-width-requires c =
     count_most c.deref-2.result.now c.in_ok-codes.codes c.in_ok-codes.ensures
     (seen_most c.args.board.now c.raw.ensures.rules c.as_slice-readers.result.now c.in_ok-tables.tables c.as_slice-settings.result.now c.deref-2.result.now
-    (c.as_slice-readers.ensures ∙ c.in_ok-nets.ensures.readers) (c.deref-2.ensures.value ∙ c.in_ok-seen.ensures)).1
+    (c.as_slice-readers.ensures ∙ c.requires.pins.readers_are) (c.deref-2.ensures.value ∙ c.in_ok-seen.ensures)).1
 
 pub row_of-requires : goal.row_of-requires
 row_of-requires c =
@@ -41,11 +41,11 @@ returns-clause-plan c =
     let steady = c.in_ok-tables.tables.steady in
     let table = c.in_ok-tables.tables.by_control in
     let passes_now = c.as_slice-settings.result.now in
-    is_plan board c.raw.ensures.rules _ c.requires.plannable (c.in_ok-quiet.ensures ∙ c.deref.ensures.value ∙ c.in_ok-bits.ensures) c.in_ok-nets.ensures.readers c.in_ok-drivers.ensures c.in_ok-parts.ensures.firsts
+    is_plan board c.raw.ensures.rules _ c.requires.plannable (c.in_ok-quiet.ensures ∙ c.deref.ensures.value ∙ c.in_ok-bits.ensures) c.requires.pins.readers_are c.requires.pins.drivers_are c.requires.pins.finding.firsts
     (subst (λ (p : List (List Ctl)). ArePassTables board p steady (pass_cells_of board quiet table)) c.as_slice-settings.ensures c.in_ok-tables.ensures)
     c.deref-2.result.now
     (c.deref-2.ensures.value ∙ c.in_ok-seen.ensures
-    ∙ ap (λ (r : List (List ReaderCell)). seen_in board (length r) steady table passes_now) (c.as_slice-readers.ensures ∙ c.in_ok-nets.ensures.readers)
+    ∙ ap (λ (r : List (List ReaderCell)). seen_in board (length r) steady table passes_now) (c.as_slice-readers.ensures ∙ c.requires.pins.readers_are)
     ∙ ap (λ (k : ℕ). seen_in board k steady table passes_now) (length-map board.nets (λ (net : Net). readers_of board net.pins))
     ∙ ap (λ (p : List (List Ctl)). seen_in board (length board.nets) steady table p) c.as_slice-settings.ensures)
     c.in_ok-codes.codes c.in_ok-codes.ensures refl c.width-width.ensures.enough c.width-width.ensures.least
@@ -56,4 +56,4 @@ returns-clause-width c =
     width_most c.in_ok-codes.codes.count c.width-width.result
     (count_most c.deref-2.result.now c.in_ok-codes.codes c.in_ok-codes.ensures
     (seen_most c.args.board.now c.raw.ensures.rules c.as_slice-readers.result.now c.in_ok-tables.tables c.as_slice-settings.result.now c.deref-2.result.now
-    (c.as_slice-readers.ensures ∙ c.in_ok-nets.ensures.readers) (c.deref-2.ensures.value ∙ c.in_ok-seen.ensures)).1) c.width-width.ensures.least
+    (c.as_slice-readers.ensures ∙ c.requires.pins.readers_are) (c.deref-2.ensures.value ∙ c.in_ok-seen.ensures)).1) c.width-width.ensures.least

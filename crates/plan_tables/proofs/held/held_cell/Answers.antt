@@ -1,5 +1,5 @@
 use Rattle.std.proofs.Common.{arith}
-use Rattle.plan_tables.proofs.BuildLemmas.{position_within}
+use Rattle.net_pins.proofs.PositionLemmas.{position_within}
 use Rattle.plan_tables.proofs.held.held_cell.Goals as goal
 
 pub get-requires : goal.get-requires

@@ -1,0 +1,81 @@
+-- Where cells stand in a scan of data, and the steps of the loops that gather what pins have.
+use Rattle.std.proofs.Common.{◌≡◌, ℕ, zero, suc, ◌+◌, ◌<◌, ◌≤◌, List, [], ◌∷◌, ◌++◌, length, take, drop, get_or, Option, Some, None, refl, sym, ap, ◌∙◌, subst, arith, append_assoc}
+use Rattle.std.specs.Prelude.{option_and_then, slice_get, sum_by}
+use Rattle.std.proofs.lemmas.List.{append-nil, take_more, length-take-le}
+use Rattle.std.proofs.lemmas.List.Sums.{sum_by-cons}
+use Rattle.board_defs.specs.declared.device.Cell.{Cell}
+use Rattle.board_defs.specs.declared.device.RawDevice.{RawDevice}
+use Rattle.board_defs.specs.declared.board.PartKind.{PartKind}
+use Rattle.board_defs.specs.declared.board.PartKind.TheVariants.{Described, Bypass}
+use Rattle.board_defs.specs.declared.board.Part.{Part}
+use Rattle.board_defs.specs.declared.board.PinAt.{PinAt}
+use Rattle.board_defs.specs.declared.board.RawBoard.{RawBoard}
+use Rattle.board_defs.specs.BoardRules.{IsBoard, IsPart}
+use Rattle.board_defs.specs.DeviceRules.{IsDevice, driving_entry, drives_bit}
+use Rattle.board_defs.specs.Pins.{described, device_at, cell_count, entry_at, data_bits, data_length}
+use Rattle.board_defs.proofs.Members.{find_has, has_place}
+use Rattle.board_defs.proofs.Places.{all_stands}
+use Rattle.net_pins.specs.Positions.{first_position, AreFirsts}
+use Rattle.net_pins.specs.NetCells.{gathered}
+
+abbrev bits_of : List Part → ℕ
+bits_of parts = sum_by (λ p. data_length p.kind) parts
+
+cell_of_kind : (kind : PartKind) (cell : ℕ) → cell < cell_count (described kind) → cell < data_length kind
+cell_of_kind (Described device) cell less = less
+cell_of_kind (Bypass n) cell less = absurd (omega (arith, less))
+
+-- a cell of a part of a chain stands in its scan of data
+cell_in : (parts : List Part) (part cell : ℕ) → cell < cell_count (option_and_then (λ p. described p.kind) (slice_get parts part)) →
+    (part < length parts) × (bits_of (drop (suc part) parts) + cell < bits_of parts)
+cell_in [] part cell less = absurd (omega (arith, less))
+cell_in (p ∷ parts) zero cell less = (omega arith, omega (arith, cell_of_kind p.kind cell less, sum_by-cons (λ (q : Part). data_length q.kind) p parts))
+cell_in (p ∷ parts) (suc part) cell less =
+    let later = cell_in parts part cell less in
+    (omega (arith, later.0), omega (arith, later.1, sum_by-cons (λ (q : Part). data_length q.kind) p parts))
+
+pub position_within : (board : RawBoard) (part cell : ℕ) → cell < cell_count (device_at board part) → first_position board part + cell < data_bits board
+position_within board part cell less = (cell_in board.chain part cell less).1
+
+pub position_below : (board : RawBoard) → IsBoard board → (part cell : ℕ) → cell < cell_count (device_at board part) → first_position board part + cell ≤ 65535
+position_below board rules part cell less = omega (arith, position_within board part cell less, rules.data_most)
+
+pub first_is : (board : RawBoard) (firsts : List ℕ) → AreFirsts board.chain firsts → (part cell : ℕ) → cell < cell_count (device_at board part) →
+    (part < length firsts) × (get_or firsts part 0 ≡ first_position board part)
+first_is board firsts are part cell less =
+    let within : part < length board.chain = (cell_in board.chain part cell less).0 in
+    let next : part + 1 ≡ suc part = omega arith in
+    (omega (arith, within, are.count), are.each part within ∙ ap (λ (n : ℕ). bits_of (drop n board.chain)) next)
+
+-- a device of the chain keeps the rules of a device
+pub rules_of : (board : RawBoard) → IsBoard board → (part : ℕ) (device : RawDevice) → device_at board part ≡ Some device → IsDevice device
+rules_of board rules part device e = by_there (slice_get board.chain part) refl e
+  where
+    by_kind : (kind : PartKind) → IsPart kind → described kind ≡ Some device → IsDevice device
+    by_kind (Described other) is d = let same : other ≡ device = cc d in subst (λ (x : RawDevice). IsDevice x) same is
+    by_kind (Bypass n) is d = cc d
+
+    by_there : (o : Option Part) → slice_get board.chain part ≡ o → option_and_then (λ (p : Part). described p.kind) o ≡ Some device → IsDevice device
+    by_there None k d = cc d
+    by_there (Some p) k d = by_kind p.kind (all_stands (λ (q : Part). IsPart q.kind) board.chain part p k rules.parts) d
+
+-- a driving entry's cell
+pub entry_below : (board : RawBoard) → IsBoard board → (at : PinAt) (cell : Cell) → entry_at board at ≡ Some cell → cell.num < cell_count (device_at board at.part)
+entry_below board rules at cell e = by_device (device_at board at.part) refl e
+  where
+    by_device : (o : Option RawDevice) → device_at board at.part ≡ o → option_and_then (λ d. driving_entry d at.bit) o ≡ Some cell → cell.num < cell_count o
+    by_device None d f = cc f
+    by_device (Some device) d f =
+        let has = find_has (drives_bit at.bit) device.cells cell f in
+        let place = has_place device.cells cell has.0 in
+        all_stands (λ (c : Cell). c.num < device.boundary) device.cells place.0 cell place.1 (rules_of board rules at.part device d).cells_below
+
+-- one item more is looked at
+gathered-append : {X Y : Type 0} (f : ℕ → X → List Y) (k : ℕ) (xs : List X) (x : X) (n : ℕ) → n ≡ k + length xs → gathered f k (xs ++ x ∷ []) ≡ gathered f k xs ++ f n x
+gathered-append f k [] x n e = let z : k ≡ n = omega (arith, e) in append-nil (f k x) ∙ ap (λ (m : ℕ). f m x) z
+gathered-append f k (y ∷ xs) x n e =
+    ap (λ l. f k y ++ l) (gathered-append f (suc k) xs x n (omega (arith, e))) ∙ sym (append_assoc (f k y) (gathered f (suc k) xs) (f n x))
+
+pub gathered-more : {X Y : Type 0} (f : ℕ → X → List Y) (xs : List X) (i : ℕ) (d : X) → i < length xs → gathered f 0 (take (i + 1) xs) ≡ gathered f 0 (take i xs) ++ f i (get_or xs i d)
+gathered-more {X} {Y} f xs i d less =
+    ap (λ (l : List X). gathered f 0 l) (take_more xs i d less) ∙ gathered-append f 0 (take i xs) (get_or xs i d) i (omega (arith, length-take-le i xs (omega (arith, less))))

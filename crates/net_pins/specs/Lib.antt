@@ -1,0 +1,4 @@
+pub mod Positions
+pub mod NetCells
+pub mod Tables
+pub mod inner

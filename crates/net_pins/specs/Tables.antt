@@ -1,0 +1,21 @@
+-- What is kept of the pins of a board.
+use Rattle.std.specs.Prelude.{◌≡◌, map}
+use Rattle.board_defs.specs.declared.board.RawBoard.{RawBoard}
+use Rattle.board_defs.specs.Pins.{guarded}
+use Rattle.port_entries.specs.Entries.{AreEntries}
+use Rattle.net_pins.specs.declared.pin_tables.PinTables.{PinTables}
+use Rattle.net_pins.specs.declared.pins.NetPins.{NetPins}
+use Rattle.net_pins.specs.Positions.{AreFirsts}
+use Rattle.net_pins.specs.NetCells.{all_drivers, all_readers}
+
+-- the first position and the entries of each part, and which nets are guarded
+pub record ArePinTables (board : RawBoard) (tables : PinTables) : Type 0 where
+  pub firsts : AreFirsts board.chain tables.firsts
+  pub entries : AreEntries board tables.entries
+  pub guards : tables.guarded ≡ map (guarded board) board.nets
+
+-- the tables of a board, and the drivers and the compared cells of each net
+pub record AreNetPins (board : RawBoard) (pins : NetPins) : Type 0 where
+  pub finding : ArePinTables board pins.tables
+  pub drivers_are : pins.drivers ≡ all_drivers board
+  pub readers_are : pins.readers ≡ all_readers board

@@ -1,0 +1,38 @@
+// Which nets are guarded, by the entries of their pins.
+ghost use Rattle.std.specs.Prelude.{◌≡◌, map, IfOk};
+ghost use Rattle.board_defs.specs.Pins.{guarded};
+ghost use Rattle.port_entries.specs.Entries.{AreEntries};
+
+use board_defs::{Board, Items, Net, RawBoard};
+use port_entries::{BitEntries, is_guarded};
+use std::alloc::{AllocError, Global};
+
+fn guarded_of(
+    alloc: Global,
+    board: &RawBoard,
+    entries: &[Items<BitEntries>],
+    nets: &[Net],
+) -> Result<Vec<bool>, AllocError>
+    requires { AreEntries board.now entries.now }
+    ensures { IfOk result (λ flags. flags.items ≡ map (guarded board.now) nets.now) }
+{
+    let mut flags = Vec::with_capacity(alloc, nets.len())?;
+    for net in nets {
+        flags.push(is_guarded(entries, board, net))?;
+    }
+    Ok(flags)
+}
+
+/// Whether each net is guarded: it may have no enabled driver but those that are always on.
+pub fn guarded_nets(
+    alloc: Global,
+    board: &Board,
+    entries: &[Items<BitEntries>],
+) -> Result<Items<bool>, AllocError>
+    requires { AreEntries board.now entries.now }
+    ensures { IfOk result (λ flags. flags ≡ map (guarded board.now) board.now.nets) }
+{
+    let raw = board.raw();
+    let flags = guarded_of(alloc, raw, entries, raw.nets.as_slice())?;
+    Ok(Items::of(flags))
+}

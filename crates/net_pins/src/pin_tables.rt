@@ -1,0 +1,36 @@
+// The first position and the entries of each part, so that no pin goes through the cells of its part, and which nets are guarded.
+ghost use Rattle.std.specs.Prelude.{IfOk};
+ghost use Rattle.net_pins.specs.Tables.{ArePinTables};
+
+use crate::guards::guarded_nets;
+use crate::positions::first_positions;
+use board_defs::{Board, Items};
+use port_entries::{BitEntries, port_entries};
+use std::alloc::{AllocError, Global};
+
+/// What finds the cells of the pins of a board, and which of its nets are guarded.
+#[derive(Debug, Drop)]
+pub struct PinTables {
+    /// The position of each part's first bit in a scan of data.
+    pub firsts: Items<u32>,
+    /// The entries of each port bit of each part.
+    pub entries: Items<Items<BitEntries>>,
+    /// Whether each net is guarded: it may have no enabled driver but those that are always on.
+    pub guarded: Items<bool>,
+}
+
+impl PinTables {
+    /// The tables of a board.
+    pub fn new(alloc: Global, board: &Board) -> Result<PinTables, AllocError>
+        ensures { IfOk result (λ tables. ArePinTables board.now tables) }
+    {
+        let firsts = Items::of(first_positions(alloc, board)?);
+        let entries = port_entries(alloc, board.raw())?;
+        let guarded = guarded_nets(alloc, board, entries.as_slice())?;
+        Ok(PinTables {
+            firsts,
+            entries,
+            guarded,
+        })
+    }
+}

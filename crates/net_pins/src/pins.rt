@@ -1,0 +1,37 @@
+// What stands on each net of a board.
+ghost use Rattle.std.specs.Prelude.{IfOk};
+ghost use Rattle.net_pins.specs.Tables.{AreNetPins};
+
+use crate::drivers::all_drivers;
+use crate::nets::{NetDriver, ReaderCell};
+use crate::pin_tables::PinTables;
+use crate::readers::all_readers;
+use board_defs::{Board, Items};
+use std::alloc::{AllocError, Global};
+
+/// What finds the cells of the pins of a board, and what stands on each of its nets.
+#[derive(Debug, Drop)]
+pub struct NetPins {
+    /// The positions and the entries of the parts, and which nets are guarded.
+    pub tables: PinTables,
+    /// The drivers of each net that may be enabled, in pin order; none on a guarded net.
+    pub drivers: Items<Items<NetDriver>>,
+    /// The compared cells of each net, in pin order.
+    pub readers: Items<Items<ReaderCell>>,
+}
+
+impl NetPins {
+    /// The pins of a board's nets.
+    pub fn new(alloc: Global, board: &Board) -> Result<NetPins, AllocError>
+        ensures { IfOk result (λ pins. AreNetPins board.now pins) }
+    {
+        let tables = PinTables::new(alloc, board)?;
+        let drivers = all_drivers(alloc, board, &tables)?;
+        let readers = all_readers(alloc, board, &tables)?;
+        Ok(NetPins {
+            tables,
+            drivers,
+            readers,
+        })
+    }
+}

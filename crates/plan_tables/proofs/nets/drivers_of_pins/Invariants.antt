@@ -1,6 +1,0 @@
-use Rattle.std.proofs.Common.{◌≡◌, take}
-use Rattle.plan_tables.specs.Building.{drivers_of_pins}
-use Rattle.plan_tables.proofs.nets.drivers_of_pins.Given as goal
-
-abbrev pub invariant-loop-place : goal.invariant-loop-place
-invariant-loop-place l = l.drivers.items ≡ drivers_of_pins l.board (take l.place l.pins)

@@ -1,6 +1,0 @@
-use Rattle.std.proofs.Common.{◌≡◌, take}
-use Rattle.plan_tables.specs.Building.{readers_of}
-use Rattle.plan_tables.proofs.nets.readers_of.Given as goal
-
-abbrev pub invariant-loop-place : goal.invariant-loop-place
-invariant-loop-place l = l.readers.items ≡ readers_of l.board (take l.place l.pins)
