@@ -1,7 +1,8 @@
 // The text of the identity test.
 ghost use Rattle.std.specs.Prelude.{◌≡◌, ◌+◌, ◌<◌, ◌≤◌, false, length, map, replicate, unwrap_or, is_some, All, IfSome};
 ghost use Rattle.bt_base.specs.Puts.{Puts};
-ghost use Rattle.tap_defs.specs.chain.Scan.{tdi_bits, tdo_bits, mask_bits};
+ghost use Rattle.tap_defs.specs.chain.Scan.{tdo_bits, mask_bits};
+ghost use Rattle.tap_defs.specs.chain.ScanRows.{AreSameRows, EachHasRoom, HoldBits};
 ghost use Rattle.tap_defs.specs.chain.Text.{scan_text};
 ghost use Rattle.ident_test.specs.Patterns.{wanted, symbol_bit, register_pattern, ident_bits, ident_scan, ident_text};
 ghost use Rattle.ident_test.specs.inner.Rows.{placed};
@@ -10,7 +11,7 @@ use board_defs::{Code, Symbol};
 use bt_base::{PutFault, Sink};
 use bt_bits::{Line, Row};
 use svf_writer::{write_head, write_scan, write_tail};
-use tap_defs::Shape;
+use tap_defs::{ScanRows, Shape};
 
 // What leaves a part's register: its code, where it has a pattern, else the 0 of the bypass register.
 fn register_pattern(part: &Option<Code>) -> &[Symbol]
@@ -99,52 +100,40 @@ fn set_registers(parts: &[Option<Code>], tdo: &mut Row, mask: &mut Row)
 
 // Fills the rows of the scan.
 #[tactic(auto, using(crate::proofs::LengthLemmas::room_of))]
-fn fill_rows(parts: &[Option<Code>], tdi: &mut Row, tdo: &mut Row, mask: &mut Row)
+fn fill_rows(parts: &[Option<Code>], rows: &mut ScanRows)
     requires few { length parts.now ≤ 255 }
     requires whole { All (λ part. IfSome part (λ code. length code ≡ 32)) parts.now }
-    requires tdi_room { length (ident_bits parts.now) ≤ tdi.old.room }
-    requires tdo_room { length (ident_bits parts.now) ≤ tdo.old.room }
-    requires mask_room { length (ident_bits parts.now) ≤ mask.old.room }
-    ensures tdi { tdi.new.bits ≡ tdi_bits (ident_bits parts.now) }
-    ensures tdo { tdo.new.bits ≡ tdo_bits (ident_bits parts.now) }
-    ensures mask { mask.new.bits ≡ mask_bits (ident_bits parts.now) }
-    ensures tdi_kept { tdi.new.room ≡ tdi.old.room }
-    ensures tdo_kept { tdo.new.room ≡ tdo.old.room }
-    ensures mask_kept { mask.new.room ≡ mask.old.room }
+    requires room { EachHasRoom (λ room. length (ident_bits parts.now) ≤ room) rows.old }
+    ensures bits { HoldBits (ident_bits parts.now) rows.new }
+    ensures kept { AreSameRows rows.old rows.new }
 {
     let bits = scan_length(parts);
-    tdi.clear(bits);
-    tdo.clear(bits);
-    mask.clear(bits);
-    set_registers(parts, tdo, mask);
+    rows.tdi.clear(bits);
+    rows.tdo.clear(bits);
+    rows.mask.clear(bits);
+    set_registers(parts, rows.tdo, rows.mask);
 }
 
 // Puts the scan.
 fn put_scan<K: Sink>(
     parts: &[Option<Code>],
-    tdi: &mut Row,
-    tdo: &mut Row,
-    mask: &mut Row,
+    rows: &mut ScanRows,
     line: &mut Line,
     out: &mut K,
 ) -> Result<(), PutFault>
     requires some { 0 < length parts.now }
     requires few { length parts.now ≤ 255 }
     requires whole { All (λ part. IfSome part (λ code. length code ≡ 32)) parts.now }
-    requires tdi_room { length (ident_bits parts.now) ≤ tdi.old.room }
-    requires tdo_room { length (ident_bits parts.now) ≤ tdo.old.room }
-    requires mask_room { length (ident_bits parts.now) ≤ mask.old.room }
+    requires room { EachHasRoom (λ room. length (ident_bits parts.now) ≤ room) rows.old }
     ensures text { Puts (K.shown out.old) (K.shown out.new) (scan_text (ident_scan parts.now)) result }
-    ensures tdi { tdi.new.room ≡ tdi.old.room }
-    ensures tdo { tdo.new.room ≡ tdo.old.room }
-    ensures mask { mask.new.room ≡ mask.old.room }
+    ensures kept { AreSameRows rows.old rows.new }
 {
-    fill_rows(parts, tdi, tdo, mask);
+    fill_rows(parts, rows);
     let shape = Shape {
         ir: false,
-        compare: mask.has_one(),
+        compare: rows.mask.has_one(),
     };
-    write_scan(shape, tdi, tdo, mask, line, out)
+    write_scan(shape, rows.tdi, rows.tdo, rows.mask, line, out)
 }
 
 /// Puts the text of the identity test of described parts with these IDCODE patterns, in the order from TDI to TDO: a
@@ -173,6 +162,6 @@ pub fn write_ident<K: Sink>(
     ensures mask { mask.new.room ≡ mask.old.room }
 {
     write_head(out)?;
-    put_scan(parts, tdi, tdo, mask, line, out)?;
+    put_scan(parts, &mut ScanRows { tdi, tdo, mask }, line, out)?;
     write_tail(out)
 }

@@ -23,7 +23,8 @@ use Rattle.tap_defs.proofs.board.WidthLemmas.{width_is}
 use Rattle.plan_tables.specs.declared.codes.NetCodes.{NetCodes}
 use Rattle.plan_tables.specs.declared.tables.HeldCell.{HeldCell}
 use Rattle.net_pins.specs.declared.nets.ReaderCell.{ReaderCell}
-use Rattle.plan_tables.specs.Tables.{first_position, AreFirsts, AreRowsOf, IsHeldCell, held_cell, pass_cells_of}
+use Rattle.tap_defs.specs.chain.ScanRows.{AreRowsOf}
+use Rattle.plan_tables.specs.Tables.{first_position, AreFirsts, IsHeldCell, held_cell, pass_cells_of}
 use Rattle.plan_tables.specs.declared.tables.PassTables.{PassTables}
 use Rattle.plan_tables.specs.declared.tables.PlanTables.{PlanTables}
 use Rattle.plan_tables.specs.inner.Laid.{laid, quiet_bits}

@@ -11,11 +11,11 @@ use Rattle.board_defs.specs.declared.board.Ctl.{Ctl}
 use Rattle.board_defs.specs.DeviceRules.{reads_bit, disable_of}
 use Rattle.board_defs.specs.Pins.{device_at, entry_at, receives_where}
 use Rattle.board_defs.specs.Settings.{holds}
-use Rattle.tap_defs.specs.chain.Scan.{ScanBit, joined, tdi_bits, tdo_bits, mask_bits}
+use Rattle.tap_defs.specs.chain.Scan.{joined, tdi_bits}
+use Rattle.tap_defs.specs.chain.ScanRows.{AreRowsOf}
 use Rattle.tap_defs.specs.chain.Codes.{instructs}
 use Rattle.tap_defs.specs.board.TestRows.{observing_driver}
 use Rattle.tap_defs.specs.board.BoardScans.{row_bits, first_row_scan, preload_code, extest_code}
-use Rattle.plan_tables.specs.declared.tables.FixedRows.{FixedRows}
 use Rattle.plan_tables.specs.declared.tables.HeldCell.{HeldCell}
 use Rattle.plan_tables.specs.declared.tables.DriverCell.{DriverCell}
 use Rattle.net_pins.specs.declared.nets.ReaderCell.{ReaderCell}
@@ -26,12 +26,6 @@ pub use Rattle.net_pins.specs.Positions.{first_position, AreFirsts}
 -- the position of a control's cell
 abbrev pub control_position : RawBoard → Ctl → ℕ
 control_position board c = first_position board c.part + c.cell
-
--- the rows of a scan with these bits
-pub record AreRowsOf (bits : List ScanBit) (rows : FixedRows) : Type 0 where
-  pub tdi : rows.tdi.bits ≡ tdi_bits bits
-  pub tdo : rows.tdo.bits ≡ tdo_bits bits
-  pub mask : rows.mask.bits ≡ mask_bits bits
 
 -- the cell of a control of the pass, with the opposite of its disable value
 pub record IsHeldCell (board : RawBoard) (pass : List Ctl) (h : HeldCell) : Type 0 where

@@ -4,15 +4,15 @@ ghost use Rattle.board_defs.specs.declared.board.PartKind.TheVariants.{Described
 ghost use Rattle.board_defs.specs.DeviceRules.{bit_of};
 ghost use Rattle.board_defs.specs.BoardRules.{IsBoard};
 ghost use Rattle.tap_defs.specs.chain.Scan.{tdi_bits, tdo_bits, mask_bits};
+ghost use Rattle.tap_defs.specs.chain.ScanRows.{AreRowsOf};
 ghost use Rattle.tap_defs.specs.chain.Codes.{code_bits, instructs};
 ghost use Rattle.tap_defs.specs.board.BoardScans.{preload_code, extest_code};
-ghost use Rattle.plan_tables.specs.Tables.{AreRowsOf};
 ghost use Rattle.plan_tables.specs.inner.Codes.{code_for, AreCoded, captured_bits, compared_bits};
 
 use crate::rows::row_of;
-use crate::tables::FixedRows;
 use board_defs::{Board, Device, Part, PartKind, Symbol};
 use std::alloc::{AllocError, Global};
+use tap_defs::StoredRows;
 
 /// The instruction of a scan: the one that preloads the boundary register, or EXTEST.
 #[derive(Clone, Copy, Debug, PartialEq, Eq)]
@@ -79,7 +79,11 @@ fn push_capture(length: u32, tdo: &mut Vec<bool>, mask: &mut Vec<bool>) -> Resul
     push_same(length - 2, false, mask)
 }
 
-fn rows_of(alloc: Global, instruction: Instruction, chain: &[Part]) -> Result<FixedRows, AllocError>
+fn rows_of(
+    alloc: Global,
+    instruction: Instruction,
+    chain: &[Part],
+) -> Result<StoredRows, AllocError>
     requires coded { AreCoded instruction chain.now }
     requires few { length ((instructs (map (λ part. code_for instruction part.kind) chain.now)).bits) ≤ 65535 }
     ensures { IfOk result (λ rows. AreRowsOf ((instructs (map (λ part. code_for instruction part.kind) chain.now)).bits) rows) }
@@ -92,7 +96,7 @@ fn rows_of(alloc: Global, instruction: Instruction, chain: &[Part]) -> Result<Fi
         push_code(instruction, kind, &mut tdi)?;
         push_capture(kind.instruction_length(), &mut tdo, &mut mask)?;
     }
-    Ok(FixedRows {
+    Ok(StoredRows {
         tdi: row_of(alloc, &tdi)?,
         tdo: row_of(alloc, &tdo)?,
         mask: row_of(alloc, &mask)?,
@@ -104,7 +108,7 @@ pub fn instruction_rows(
     alloc: Global,
     instruction: Instruction,
     board: &Board,
-) -> Result<FixedRows, AllocError>
+) -> Result<StoredRows, AllocError>
     ensures { IfOk result (λ rows. AreRowsOf ((instructs (map (λ part. code_for instruction part.kind) board.now.chain)).bits) rows) }
 {
     rows_of(alloc, instruction, board.raw().chain.as_slice())

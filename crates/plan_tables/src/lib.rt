@@ -21,4 +21,4 @@ pub use build::tables_of;
 pub use controls::{ControlCells, DriverTable, controlled};
 pub use held::held_cell;
 pub use net_pins::{NetDriver, ReaderCell};
-pub use tables::{DriverCell, FixedRows, HeldCell, PlanTables};
+pub use tables::{DriverCell, HeldCell, PlanTables};

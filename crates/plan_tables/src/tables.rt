@@ -3,14 +3,7 @@ use crate::controls::DriverTable;
 use board_defs::{Items, Setting};
 use bt_bits::Row;
 use net_pins::{NetDriver, ReaderCell};
-
-/// The rows of a scan.
-#[derive(Drop)]
-pub struct FixedRows {
-    pub tdi: Row,
-    pub tdo: Row,
-    pub mask: Row,
-}
+use tap_defs::StoredRows;
 
 /// The cell of a control of a setting: its position, and the bit that enables what it controls.
 #[derive(Clone, Copy, Debug, PartialEq, Eq)]
@@ -43,8 +36,8 @@ pub struct PlanTables {
     pub passes: Items<Setting>,
     pub width: u32,
     pub codes: Items<u32>,
-    pub preload: FixedRows,
-    pub extest: FixedRows,
+    pub preload: StoredRows,
+    pub extest: StoredRows,
     pub quiet: Row,
     pub steady: Items<DriverCell>,
     pub firsts: Items<u32>,

@@ -9,29 +9,31 @@ use Rattle.std.proofs.lemmas.Option.{slice_get-get_or, get_or_from_slice_get}
 use Rattle.board_defs.specs.declared.board.RawBoard.{RawBoard}
 use Rattle.board_defs.specs.declared.board.Ctl.{Ctl}
 use Rattle.board_defs.specs.BoardRules.{IsBoard}
-use Rattle.board_defs.specs.Pins.{device_at, cell_count, data_bits}
+use Rattle.board_defs.specs.Pins.{device_at, cell_count, data_bits, instruction_bits}
 use Rattle.board_defs.specs.Settings.{holds}
 use Rattle.board_defs.proofs.Members.{Has, contains_has, has_contains}
 use Rattle.board_defs.proofs.Places.{any_at}
+use Rattle.tap_defs.specs.declared.scan.ScanRows.{ScanRows}
 use Rattle.tap_defs.specs.declared.scan.Shape.{Shape}
+use Rattle.tap_defs.specs.declared.scan.StoredRows.{StoredRows}
 use Rattle.tap_defs.specs.chain.Scan.{ScanBit, Scan, joined, tdi_bits, tdo_bits, mask_bits, scan_bits}
+use Rattle.tap_defs.specs.chain.ScanRows.{AreBitsOf, AreRowsOf, EachHasRoom, HaveRoomFor}
 use Rattle.tap_defs.specs.board.TestRows.{TestRow, quiet_row, code_row, code_of_net, code_bit, net_code_bit, is_observed, observed_count, observing_driver, row_bit, expect_bit}
 use Rattle.tap_defs.specs.board.BoardScans.{RowScan, row_bits, row_now, scan_of_row, first_row_scan, test_scans}
+use Rattle.tap_defs.proofs.chain.ScanRowLemmas.{rows_make, shifted_length, expected_same, marks_same, rows_masked, each_room, room_for}
 use Rattle.tap_defs.proofs.board.EntryLemmas.{row_scan_some, quiet_expects}
 use Rattle.tap_defs.proofs.board.ScanPlaceLemmas.{scans_placed}
 use Rattle.tap_defs.proofs.board.WidthLemmas.{width_is}
-use Rattle.tap_defs.proofs.chain.RowLemmas.{scan_bits-rows, one_masked}
-use Rattle.plan_tables.specs.declared.tables.FixedRows.{FixedRows}
 use Rattle.plan_tables.specs.declared.tables.HeldCell.{HeldCell}
 use Rattle.plan_tables.specs.declared.tables.DriverCell.{DriverCell}
 use Rattle.net_pins.specs.declared.nets.ReaderCell.{ReaderCell}
-use Rattle.plan_tables.specs.Tables.{PassCells, AreRowsOf, IsHeldCell, IsDriverCell, ArePassCells, pass_cells_of}
+use Rattle.plan_tables.specs.Tables.{PassCells, IsHeldCell, IsDriverCell, ArePassCells, pass_cells_of}
 use Rattle.plan_tables.specs.declared.tables.PlanTables.{PlanTables}
 use Rattle.plan_tables.specs.inner.Laid.{laid, steady}
 use Rattle.plan_tables.specs.Assigned.{assigned, driver_bit, set_readers, set_compared}
 use Rattle.plan_tables.specs.Plans.{IsPlanOf}
 use Rattle.scan_planner.specs.PassRows.{steady_compared, steady_shifted}
-use Rattle.scan_planner.specs.Plans.{FillsScan, scan_of_pass}
+use Rattle.scan_planner.specs.Plans.{FillsScan, IsRoom, scan_of_pass}
 use Rattle.scan_planner.specs.inner.Passes.{compared, driven}
 use Rattle.plan_tables.proofs.AssignLemmas.{length-assigned, assigned_apart}
 use Rattle.plan_tables.proofs.RowLemmas.{length-set_compared}
@@ -45,33 +47,25 @@ use Rattle.plan_tables.proofs.PassLemmas.{fold_on}
 use Rattle.plan_tables.proofs.PlanLemmas.{width_most}
 use Rattle.plan_tables.proofs.SizeLemmas.{IsSized}
 
--- rows that are those of scan k fill it in
+-- rows that have the bits of scan k fill it in
 pub fills : (board : RawBoard) (passes : List (List Ctl)) (width k : ℕ) (scan : Scan) (shape : Shape) (tdi tdo mask : List Bool) → slice_get (test_scans board passes width) k ≡ Some scan →
-    0 < length scan.bits → length scan.bits ≤ 65535 → tdi ≡ tdi_bits scan.bits → tdo ≡ tdo_bits scan.bits → mask ≡ mask_bits scan.bits → shape.ir ≡ scan.ir →
+    0 < length scan.bits → length scan.bits ≤ 65535 → AreBitsOf scan.bits tdi tdo mask → shape.ir ≡ scan.ir →
     shape.compare ≡ list_any (λ bit. bit) mask → FillsScan board passes width k shape tdi tdo mask
-fills board passes width k scan shape tdi tdo mask placed some most is_tdi is_tdo is_mask is_ir compare =
-    let long : length tdi ≡ length scan.bits = ap (λ (l : List Bool). length l) is_tdi ∙ length-map scan.bits (λ b. b.tdi) in
-    let bits : scan_bits tdi tdo mask ≡ scan.bits =
-    ap (λ t. scan_bits t tdo mask) is_tdi ∙ ap (λ t. scan_bits (tdi_bits scan.bits) t mask) is_tdo ∙ ap (scan_bits (tdi_bits scan.bits) (tdo_bits scan.bits)) is_mask ∙ scan_bits-rows scan.bits in
+fills board passes width k scan shape tdi tdo mask placed some most are is_ir compare =
     record {
-      scan = placed ∙ sym (ap (λ (b : Bool). Some (record { ir = b; bits = scan_bits tdi tdo mask })) is_ir ∙ ap (λ (l : List ScanBit). Some (record { ir = scan.ir; bits = l })) bits);
-      some = omega (arith, some, long);
-      most = omega (arith, most, long);
-      tdo_length = ap (λ (l : List Bool). length l) is_tdo ∙ length-map scan.bits (λ b. unwrap_or b.expect false) ∙ sym long;
-      mask_length = ap (λ (l : List Bool). length l) is_mask ∙ length-map scan.bits (λ b. is_some b.expect) ∙ sym long;
+      scan = placed ∙ sym (ap (λ (b : Bool). Some (record { ir = b; bits = scan_bits tdi tdo mask })) is_ir ∙ ap (λ (l : List ScanBit). Some (record { ir = scan.ir; bits = l })) (rows_make are));
+      some = omega (arith, some, shifted_length are);
+      most = omega (arith, most, shifted_length are);
+      tdo_length = expected_same are;
+      mask_length = marks_same are;
       compare = compare;
-      masked = λ i one. ap (λ (l : List Bool). get_or l i false) is_mask ∙ one_masked scan.bits i (sym (ap (λ (l : List Bool). get_or l i false) is_tdo) ∙ one);
+      masked = rows_masked are;
     }
 
--- the length of a row of a scan of instructions
-pub tdi_length : {bits : List ScanBit} {size : ℕ} {rows : FixedRows} → IsSized bits size → AreRowsOf bits rows → length rows.tdi.bits ≡ size
-tdi_length {bits} {size} {rows} s r = ap (λ (l : List Bool). length l) r.tdi ∙ length-map bits (λ b. b.tdi) ∙ s.size_is
-
-pub tdo_length : {bits : List ScanBit} {rows : FixedRows} → AreRowsOf bits rows → length rows.tdo.bits ≡ length rows.tdi.bits
-tdo_length {bits} {rows} r = ap (λ (l : List Bool). length l) r.tdo ∙ length-map bits (λ b. unwrap_or b.expect false) ∙ sym (ap (λ (l : List Bool). length l) r.tdi ∙ length-map bits (λ b. b.tdi))
-
-pub mask_length : {bits : List ScanBit} {rows : FixedRows} → AreRowsOf bits rows → length rows.mask.bits ≡ length rows.tdi.bits
-mask_length {bits} {rows} r = ap (λ (l : List Bool). length l) r.mask ∙ length-map bits (λ b. is_some b.expect) ∙ sym (ap (λ (l : List Bool). length l) r.tdi ∙ length-map bits (λ b. b.tdi))
+-- the stored rows of a scan of instructions go into rows with room for one
+pub codes_room : (board : RawBoard) (bits : List ScanBit) (stored : StoredRows) (rows : ScanRows) → IsSized bits (instruction_bits board) → AreRowsOf bits stored →
+    EachHasRoom (IsRoom board) rows → HaveRoomFor stored rows
+codes_room board bits stored rows s are each = room_for bits stored rows are (each_room (λ room is. omega (arith, s.size_is, is.instructions)) each)
 
 -- scans of data
 pub row_sized : (board : RawBoard) → IsBoard board → (scan : RowScan) → IsSized (joined (row_bits board scan)) (data_bits board)
@@ -222,11 +216,11 @@ module _ (board : RawBoard) (rules : IsBoard board) (plan : PlanTables) (p : IsP
         ∙ mask_compared board rules pass (carried j) (driver_bit plan.codes j) all driver_only every (carries j) plan.readers readers_of
         ∙ sym (mask_laid board (scan_of_pass board plan x (suc j)))
 
-    -- rows that are those of its scan j fill that in
-    pub fills_row : (j : ℕ) → j ≤ plan.width → (shape : Shape) (tdi tdo mask : List Bool) → shape.ir ≡ false → tdi ≡ tdi_bits (joined (row_bits board (scan_of_pass board plan x j))) →
-        tdo ≡ tdo_bits (joined (row_bits board (scan_of_pass board plan x j))) → mask ≡ mask_bits (joined (row_bits board (scan_of_pass board plan x j))) → shape.compare ≡ list_any (λ bit. bit) mask →
+    -- rows that have the bits of its scan j fill that in
+    pub fills_row : (j : ℕ) → j ≤ plan.width → (shape : Shape) (tdi tdo mask : List Bool) → shape.ir ≡ false →
+        AreBitsOf (joined (row_bits board (scan_of_pass board plan x j))) tdi tdo mask → shape.compare ≡ list_any (λ bit. bit) mask →
         FillsScan board plan.passes plan.width (3 + (x * suc plan.width + j)) shape tdi tdo mask
-    fills_row j within shape tdi tdo mask of_row shifts expects marks compare =
+    fills_row j within shape tdi tdo mask of_row are compare =
         let s = row_sized board rules (scan_of_pass board plan x j) in
         fills board plan.passes plan.width (3 + (x * suc plan.width + j)) (scan_of_row board (scan_of_pass board plan x j)) shape tdi tdo mask
-        ((scans_placed board plan.passes plan.width).rows x pass j stands within) s.some s.most shifts expects marks of_row compare
+        ((scans_placed board plan.passes plan.width).rows x pass j stands within) s.some s.most are of_row compare

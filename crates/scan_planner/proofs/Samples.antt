@@ -1,8 +1,8 @@
 -- What all passes have, worked by hand: a bus with two drivers and a receiver, of which the pass's one driver is steady.
 use Rattle.std.proofs.Common.{◌≡◌, Bool, true, false, List, [], ◌∷◌, map, replicate, refl}
 use Rattle.bt_bits.specs.Rows.{BitRow}
+use Rattle.tap_defs.specs.declared.scan.StoredRows.{StoredRows}
 use Rattle.plan_tables.specs.declared.tables.DriverCell.{DriverCell}
-use Rattle.plan_tables.specs.declared.tables.FixedRows.{FixedRows}
 use Rattle.plan_tables.specs.declared.tables.PlanTables.{PlanTables}
 use Rattle.plan_tables.specs.Assigned.{driver_bit}
 use Rattle.scan_planner.specs.PassRows.{steady_compared, steady_shifted}
@@ -10,7 +10,7 @@ use Rattle.scan_planner.specs.PassRows.{steady_compared, steady_shifted}
 abbrev row : List Bool → BitRow
 row bits = record { bits = bits; room = 5 }
 
-abbrev no_rows : FixedRows
+abbrev no_rows : StoredRows
 no_rows = record { tdi = row []; tdo = row []; mask = row [] }
 
 -- the quiet row, in which both drivers of the bus are off at 1

@@ -1,93 +1,36 @@
 // Fills rows with a scan.
-ghost use Rattle.std.specs.Prelude.{◌≡◌, ◌+◌, ◌*◌, ◌<◌, ◌≤◌, suc, true, false, length};
+ghost use Rattle.std.specs.Prelude.{◌≡◌, ◌+◌, ◌*◌, ◌<◌, ◌≤◌, suc, true, false, List, length};
 ghost use Rattle.std.specs.List.{list_any};
 ghost use Rattle.board_defs.specs.Pins.{data_bits};
 ghost use Rattle.tap_defs.specs.board.TestRows.{quiet_row};
 ghost use Rattle.tap_defs.specs.board.BoardScans.{RowScan, row_bits};
-ghost use Rattle.tap_defs.specs.chain.Scan.{joined, tdi_bits, tdo_bits, mask_bits};
+ghost use Rattle.tap_defs.specs.chain.Scan.{ScanBit, joined, tdi_bits, tdo_bits, mask_bits};
+ghost use Rattle.tap_defs.specs.chain.ScanRows.{AreRowsOf, AreSameRows, EachHasRoom, HaveRoomFor, HoldBits};
 ghost use Rattle.plan_tables.specs.Plans.{IsPlanOf};
-ghost use Rattle.scan_planner.specs.Plans.{IsRoom, FillsScan, scan_count, scan_of_pass};
+ghost use Rattle.scan_planner.specs.Plans.{IsRoom, scan_count, scan_of_pass};
+ghost use Rattle.scan_planner.specs.inner.Filled.{FillsRows};
 
 use crate::code_rows::{NoRows, RowAt};
 use crate::pass_cells::walk_pass;
 use crate::plan::Plan;
 use board_defs::Board;
 use bt_bits::Row;
-use plan_tables::{FixedRows, PlanTables};
-use tap_defs::Shape;
+use plan_tables::PlanTables;
+use tap_defs::{ScanRows, Shape, StoredRows};
 
-// The kind of a scan of instructions with this mask.
-fn code_shape(mask: &Row) -> Shape
+// Fills the rows with a scan of instructions that is stored.
+fn fill_codes(codes: &StoredRows, rows: &mut ScanRows) -> Shape
+    requires { HaveRoomFor codes.now rows.old }
+    ensures bits { (bits : List ScanBit) → AreRowsOf bits codes.now → HoldBits bits rows.new }
     ensures ir { result.ir ≡ true }
-    ensures compare { result.compare ≡ list_any (λ bit. bit) mask.now.bits }
+    ensures compare { result.compare ≡ list_any (λ bit. bit) rows.new.mask.now.bits }
+    ensures kept { AreSameRows rows.old rows.new }
 {
+    rows.copy_from(codes);
     Shape {
         ir: true,
-        compare: mask.has_one(),
+        compare: rows.mask.has_one(),
     }
-}
-
-// Copies the rows of a scan.
-fn copy_rows(rows: &FixedRows, tdi: &mut Row, tdo: &mut Row, mask: &mut Row)
-    requires tdo_length { length rows.now.tdo.bits ≡ length rows.now.tdi.bits }
-    requires mask_length { length rows.now.mask.bits ≡ length rows.now.tdi.bits }
-    requires tdi_room { length rows.now.tdi.bits ≤ tdi.old.room }
-    requires tdo_room { length rows.now.tdi.bits ≤ tdo.old.room }
-    requires mask_room { length rows.now.tdi.bits ≤ mask.old.room }
-    ensures tdi { tdi.new.bits ≡ rows.now.tdi.bits }
-    ensures tdo { tdo.new.bits ≡ rows.now.tdo.bits }
-    ensures mask { mask.new.bits ≡ rows.now.mask.bits }
-    ensures tdi_kept { tdi.new.room ≡ tdi.old.room }
-    ensures tdo_kept { tdo.new.room ≡ tdo.old.room }
-    ensures mask_kept { mask.new.room ≡ mask.old.room }
-{
-    tdi.copy_row(&rows.tdi);
-    tdo.copy_row(&rows.tdo);
-    mask.copy_row(&rows.mask);
-}
-
-// The first scan, which shifts the preload codes in.
-fn fill_preload(
-    board: &Board,
-    tables: &PlanTables,
-    tdi: &mut Row,
-    tdo: &mut Row,
-    mask: &mut Row,
-) -> Shape
-    requires plan { IsPlanOf board.now tables.now }
-    requires tdi_room { IsRoom board.now tdi.old.room }
-    requires tdo_room { IsRoom board.now tdo.old.room }
-    requires mask_room { IsRoom board.now mask.old.room }
-    ensures filled { FillsScan board.now tables.now.passes tables.now.width 0 result tdi.new.bits tdo.new.bits mask.new.bits }
-    ensures tdi_kept { tdi.new.room ≡ tdi.old.room }
-    ensures tdo_kept { tdo.new.room ≡ tdo.old.room }
-    ensures mask_kept { mask.new.room ≡ mask.old.room }
-{
-    let _ = board.raw();
-    copy_rows(&tables.preload, tdi, tdo, mask);
-    code_shape(mask)
-}
-
-// The third scan, which shifts the EXTEST codes in.
-fn fill_extest(
-    board: &Board,
-    tables: &PlanTables,
-    tdi: &mut Row,
-    tdo: &mut Row,
-    mask: &mut Row,
-) -> Shape
-    requires plan { IsPlanOf board.now tables.now }
-    requires tdi_room { IsRoom board.now tdi.old.room }
-    requires tdo_room { IsRoom board.now tdo.old.room }
-    requires mask_room { IsRoom board.now mask.old.room }
-    ensures filled { FillsScan board.now tables.now.passes tables.now.width 2 result tdi.new.bits tdo.new.bits mask.new.bits }
-    ensures tdi_kept { tdi.new.room ≡ tdi.old.room }
-    ensures tdo_kept { tdo.new.room ≡ tdo.old.room }
-    ensures mask_kept { mask.new.room ≡ mask.old.room }
-{
-    let _ = board.raw();
-    copy_rows(&tables.extest, tdi, tdo, mask);
-    code_shape(mask)
 }
 
 /// Shifts the quiet row in.
@@ -118,28 +61,36 @@ pub fn compare_nothing(board: &Board, tdo: &mut Row, mask: &mut Row)
 }
 
 // The second scan, which shifts the quiet row in and compares nothing.
-fn fill_quiet(
-    board: &Board,
-    tables: &PlanTables,
-    tdi: &mut Row,
-    tdo: &mut Row,
-    mask: &mut Row,
-) -> Shape
+fn fill_quiet(board: &Board, tables: &PlanTables, rows: &mut ScanRows) -> Shape
     requires plan { IsPlanOf board.now tables.now }
-    requires tdi_room { data_bits board.now ≤ tdi.old.room }
-    requires tdo_room { data_bits board.now ≤ tdo.old.room }
-    requires mask_room { data_bits board.now ≤ mask.old.room }
-    ensures filled { FillsScan board.now tables.now.passes tables.now.width 1 result tdi.new.bits tdo.new.bits mask.new.bits }
-    ensures tdi_kept { tdi.new.room ≡ tdi.old.room }
-    ensures tdo_kept { tdo.new.room ≡ tdo.old.room }
-    ensures mask_kept { mask.new.room ≡ mask.old.room }
+    requires room { EachHasRoom (IsRoom board.now) rows.old }
+    ensures filled { FillsRows board.now tables.now.passes tables.now.width 1 result rows.new }
+    ensures kept { AreSameRows rows.old rows.new }
 {
     let _ = board.raw();
-    shift_quiet(board, tables, tdi);
-    compare_nothing(board, tdo, mask);
+    shift_quiet(board, tables, rows.tdi);
+    compare_nothing(board, rows.tdo, rows.mask);
     Shape {
         ir: false,
         compare: false,
+    }
+}
+
+// One of the first three scans: it shifts the preload codes in, the quiet row, or the EXTEST codes.
+fn fill_early(board: &Board, tables: &PlanTables, k: u64, rows: &mut ScanRows) -> Shape
+    requires plan { IsPlanOf board.now tables.now }
+    requires early { k < 3 }
+    requires room { EachHasRoom (IsRoom board.now) rows.old }
+    ensures filled { FillsRows board.now tables.now.passes tables.now.width k result rows.new }
+    ensures kept { AreSameRows rows.old rows.new }
+{
+    let _ = board.raw();
+    if k == 0 {
+        fill_codes(&tables.preload, rows)
+    } else if k == 1 {
+        fill_quiet(board, tables, rows)
+    } else {
+        fill_codes(&tables.extest, rows)
     }
 }
 
@@ -247,63 +198,36 @@ fn compare_before(
 }
 
 // Scan `j` of a pass.
-fn fill_pass(
-    board: &Board,
-    plan: &Plan,
-    pass: usize,
-    j: u32,
-    tdi: &mut Row,
-    tdo: &mut Row,
-    mask: &mut Row,
-) -> Shape
+fn fill_pass(board: &Board, plan: &Plan, pass: usize, j: u32, rows: &mut ScanRows) -> Shape
     requires plan { IsPlanOf board.now plan.now }
     requires pass { pass < length plan.now.passes }
     requires row { j ≤ plan.now.width }
-    requires tdi_room { data_bits board.now ≤ tdi.old.room }
-    requires tdo_room { data_bits board.now ≤ tdo.old.room }
-    requires mask_room { data_bits board.now ≤ mask.old.room }
-    ensures filled { FillsScan board.now plan.now.passes plan.now.width (3 + (pass * suc plan.now.width + j)) result tdi.new.bits tdo.new.bits mask.new.bits }
-    ensures tdi_kept { tdi.new.room ≡ tdi.old.room }
-    ensures tdo_kept { tdo.new.room ≡ tdo.old.room }
-    ensures mask_kept { mask.new.room ≡ mask.old.room }
+    requires room { EachHasRoom (IsRoom board.now) rows.old }
+    ensures filled { FillsRows board.now plan.now.passes plan.now.width (3 + (pass * suc plan.now.width + j)) result rows.new }
+    ensures kept { AreSameRows rows.old rows.new }
 {
     let _ = board.raw();
-    shift_now(board, plan, pass, j, tdi);
+    shift_now(board, plan, pass, j, rows.tdi);
     Shape {
         ir: false,
-        compare: compare_before(board, plan, pass, j, tdo, mask),
+        compare: compare_before(board, plan, pass, j, rows.tdo, rows.mask),
     }
 }
 
 /// Fills the rows with scan `k`.
-pub fn fill_scan(
-    board: &Board,
-    plan: &Plan,
-    k: u64,
-    tdi: &mut Row,
-    tdo: &mut Row,
-    mask: &mut Row,
-) -> Shape
+pub fn fill_scan(board: &Board, plan: &Plan, k: u64, rows: &mut ScanRows) -> Shape
     requires plan { IsPlanOf board.now plan.now }
     requires scan { k < scan_count plan.now }
-    requires tdi_room { IsRoom board.now tdi.old.room }
-    requires tdo_room { IsRoom board.now tdo.old.room }
-    requires mask_room { IsRoom board.now mask.old.room }
-    ensures filled { FillsScan board.now plan.now.passes plan.now.width k result tdi.new.bits tdo.new.bits mask.new.bits }
-    ensures tdi_kept { tdi.new.room ≡ tdi.old.room }
-    ensures tdo_kept { tdo.new.room ≡ tdo.old.room }
-    ensures mask_kept { mask.new.room ≡ mask.old.room }
+    requires room { EachHasRoom (IsRoom board.now) rows.old }
+    ensures filled { FillsRows board.now plan.now.passes plan.now.width k result rows.new }
+    ensures kept { AreSameRows rows.old rows.new }
 {
-    if k == 0 {
-        fill_preload(board, plan.tables(), tdi, tdo, mask)
-    } else if k == 1 {
-        fill_quiet(board, plan.tables(), tdi, tdo, mask)
-    } else if k == 2 {
-        fill_extest(board, plan.tables(), tdi, tdo, mask)
+    if k < 3 {
+        fill_early(board, plan.tables(), k, rows)
     } else {
         let scans = u64::from(plan.width()) + 1;
         let pass = (k - 3) / scans;
         let j = (k - 3) % scans;
-        fill_pass(board, plan, pass as usize, j as u32, tdi, tdo, mask)
+        fill_pass(board, plan, pass as usize, j as u32, rows)
     }
 }

@@ -6,7 +6,9 @@ ghost use Rattle.tap_defs.specs.board.BoardScans.{row_bits};
 ghost use Rattle.tap_defs.specs.chain.Scan.{joined, tdi_bits, tdo_bits, mask_bits};
 ghost use Rattle.plan_tables.specs.Plans.{IsPlanOf};
 ghost use Rattle.scan_planner.specs.PassRows.{AreKept, ArePassRows};
-ghost use Rattle.scan_planner.specs.Plans.{IsRoom, FillsScan, scan_count, scan_of_pass};
+ghost use Rattle.tap_defs.specs.chain.ScanRows.{AreSameRows, EachHasRoom};
+ghost use Rattle.scan_planner.specs.Plans.{IsRoom, scan_count, scan_of_pass};
+ghost use Rattle.scan_planner.specs.inner.Filled.{FillsRows};
 
 use crate::fill::{compare_nothing, fill_scan, shift_quiet};
 use crate::pass_rows::{PassRows, StackedRows};
@@ -14,7 +16,7 @@ use crate::plan::Plan;
 use board_defs::Board;
 use bt_bits::Row;
 use plan_tables::PlanTables;
-use tap_defs::Shape;
+use tap_defs::{ScanRows, Shape};
 
 // Shifts row `j` of a pass in, or the quiet row after the last.
 fn shift_kept(
@@ -116,79 +118,66 @@ fn compare_kept(
     mask.has_one()
 }
 
-// Scan `j` of a pass, which has these rows, where `tdi`, `tdo` and `mask` hold the scan before it.
+// Scan `j` of a pass, whose rows are `stacked`, where `rows` hold the scan before it.
 fn fill_from(
     board: &Board,
     tables: &PlanTables,
     pass: usize,
     j: u32,
     before: Shape,
-    rows: &StackedRows,
-    tdi: &mut Row,
-    tdo: &mut Row,
-    mask: &mut Row,
+    stacked: &StackedRows,
+    rows: &mut ScanRows,
 ) -> Shape
     requires plan { IsPlanOf board.now tables.now }
-    requires rows { ArePassRows board.now tables.now pass rows.now }
+    requires stacked { ArePassRows board.now tables.now pass stacked.now }
     requires row { j ≤ tables.now.width }
-    requires before { FillsScan board.now tables.now.passes tables.now.width (2 + (pass * suc tables.now.width + j)) before tdi.old.bits tdo.old.bits mask.old.bits }
-    requires tdi_room { data_bits board.now ≤ tdi.old.room }
-    requires tdo_room { data_bits board.now ≤ tdo.old.room }
-    requires mask_room { data_bits board.now ≤ mask.old.room }
-    ensures filled { FillsScan board.now tables.now.passes tables.now.width (3 + (pass * suc tables.now.width + j)) result tdi.new.bits tdo.new.bits mask.new.bits }
-    ensures tdi_kept { tdi.new.room ≡ tdi.old.room }
-    ensures tdo_kept { tdo.new.room ≡ tdo.old.room }
-    ensures mask_kept { mask.new.room ≡ mask.old.room }
+    requires before { FillsRows board.now tables.now.passes tables.now.width (2 + (pass * suc tables.now.width + j)) before rows.old }
+    requires room { EachHasRoom (IsRoom board.now) rows.old }
+    ensures filled { FillsRows board.now tables.now.passes tables.now.width (3 + (pass * suc tables.now.width + j)) result rows.new }
+    ensures kept { AreSameRows rows.old rows.new }
 {
     let _ = board.raw();
-    shift_kept(board, tables, pass, j, rows, tdi);
+    shift_kept(board, tables, pass, j, stacked, rows.tdi);
     Shape {
         ir: false,
-        compare: compare_kept(board, tables, pass, j, before.compare, rows, tdo, mask),
+        compare: compare_kept(
+            board,
+            tables,
+            pass,
+            j,
+            before.compare,
+            stacked,
+            rows.tdo,
+            rows.mask,
+        ),
     }
 }
 
-/// Fills `tdi`, `tdo` and `mask` with scan `k + 1`, where they hold scan `k`, which has the shape `before`. The rows that are kept become
-/// those of its pass.
+/// Fills the rows with scan `k + 1`, where they hold scan `k`, which has the shape `before`. The rows that are kept become those of its
+/// pass.
 pub fn fill_after(
     board: &Board,
     plan: &Plan,
     k: u64,
     before: Shape,
     kept: &mut PassRows,
-    tdi: &mut Row,
-    tdo: &mut Row,
-    mask: &mut Row,
+    rows: &mut ScanRows,
 ) -> Shape
     requires plan { IsPlanOf board.now plan.now }
     requires next { k + 1 < scan_count plan.now }
-    requires before { FillsScan board.now plan.now.passes plan.now.width k before tdi.old.bits tdo.old.bits mask.old.bits }
+    requires before { FillsRows board.now plan.now.passes plan.now.width k before rows.old }
     requires kept { AreKept board.now plan.now kept.old }
-    requires tdi_room { IsRoom board.now tdi.old.room }
-    requires tdo_room { IsRoom board.now tdo.old.room }
-    requires mask_room { IsRoom board.now mask.old.room }
-    ensures filled { FillsScan board.now plan.now.passes plan.now.width (k + 1) result tdi.new.bits tdo.new.bits mask.new.bits }
+    requires room { EachHasRoom (IsRoom board.now) rows.old }
+    ensures filled { FillsRows board.now plan.now.passes plan.now.width (k + 1) result rows.new }
     ensures kept { AreKept board.now plan.now kept.new }
-    ensures tdi_kept { tdi.new.room ≡ tdi.old.room }
-    ensures tdo_kept { tdo.new.room ≡ tdo.old.room }
-    ensures mask_kept { mask.new.room ≡ mask.old.room }
+    ensures same_rows { AreSameRows rows.old rows.new }
 {
     if k < 2 {
-        return fill_scan(board, plan, k + 1, tdi, tdo, mask);
+        return fill_scan(board, plan, k + 1, rows);
     }
     let scans = u64::from(plan.width()) + 1;
     let pass = ((k - 2) / scans) as usize;
     let j = ((k - 2) % scans) as u32;
     kept.take_pass(board, plan, pass);
-    fill_from(
-        board,
-        plan.tables(),
-        pass,
-        j,
-        before,
-        &kept.rows,
-        tdi,
-        tdo,
-        mask,
-    )
+    fill_from(board, plan.tables(), pass, j, before, &kept.rows, rows)
 }

@@ -17,7 +17,7 @@ use net_pins::NetPins;
 use plan_tables::{PlanTables, tables_of};
 use std::alloc::{AllocError, Global};
 use std::marker::Model;
-use tap_defs::Shape;
+use tap_defs::{ScanRows, Shape};
 
 /// The plan of a board's test: its passes, and what each scan is made of: what all passes have in each row, and the
 /// cells in which those of a pass differ.
@@ -113,7 +113,7 @@ impl Plan {
         ensures tdo_kept { tdo.new.room ≡ tdo.old.room }
         ensures mask_kept { mask.new.room ≡ mask.old.room }
     {
-        fill_scan(board, self, k, tdi, tdo, mask)
+        fill_scan(board, self, k, &mut ScanRows { tdi, tdo, mask })
     }
 
     /// Fills the rows with scan `k + 1` of the test, where they hold scan `k`, which has the shape `before`, and tells its kind. The rows
@@ -144,7 +144,14 @@ impl Plan {
         ensures tdo_kept { tdo.new.room ≡ tdo.old.room }
         ensures mask_kept { mask.new.room ≡ mask.old.room }
     {
-        fill_after(board, self, k, before, rows, tdi, tdo, mask)
+        fill_after(
+            board,
+            self,
+            k,
+            before,
+            rows,
+            &mut ScanRows { tdi, tdo, mask },
+        )
     }
 
     /// Fills a row with what row `row` of a pass shifts in. The board is that of the plan, and the row has room for a scan of data. No

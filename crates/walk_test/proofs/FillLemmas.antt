@@ -17,11 +17,12 @@ use Rattle.board_defs.proofs.Members.{Has, has_at, has_place, contains_has, has_
 use Rattle.board_defs.proofs.Places.{any_at}
 use Rattle.tap_defs.specs.declared.scan.Shape.{Shape}
 use Rattle.tap_defs.specs.chain.Scan.{ScanBit, joined, tdi_bits, tdo_bits, mask_bits, scan_bits}
+use Rattle.tap_defs.specs.chain.ScanRows.{AreBitsOf}
 use Rattle.tap_defs.specs.board.TestRows.{TestRow, quiet_row, code_row, code_of_net, code_bit, net_code_bit, observing_driver, observed_count, code_width}
 use Rattle.tap_defs.specs.board.BoardScans.{RowScan, row_bits, scan_of_row, board_scans, row_scans, pass_scans, row_now, row_before, is_walked, walk_row, walk_row_scans}
+use Rattle.tap_defs.proofs.chain.ScanRowLemmas.{rows_make, shifted_length, expected_same, marks_same, rows_masked}
 use Rattle.tap_defs.proofs.board.ScanPlaceLemmas.{front_at, length-pass_scans, pass_scan_at}
 use Rattle.tap_defs.proofs.board.WidthLemmas.{width_is}
-use Rattle.tap_defs.proofs.chain.RowLemmas.{scan_bits-rows, one_masked}
 use Rattle.net_pins.specs.declared.nets.NetDriver.{NetDriver}
 use Rattle.plan_tables.specs.declared.tables.DriverCell.{DriverCell}
 use Rattle.net_pins.specs.declared.nets.ReaderCell.{ReaderCell}
@@ -329,7 +330,9 @@ module _ (board : RawBoard) (rules : IsBoard board) (t : WalkTables) (w : IsWalk
           let first : ℕ = get_or c.compared 0 0 in
           let has : Has c.compared first = has_at c.compared 0 first (slice_get-get_or c.compared 0 0 a.some) in
           let r = reader_in first has in
-          let masked : get_or (mask_of board (walk_row board walk j)) first false ≡ true = one_masked (joined (row_bits board (record { now = quiet_row; before = walk_row board walk j }))) first r.0 in
+          let bits : List ScanBit = joined (row_bits board (record { now = quiet_row; before = walk_row board walk j })) in
+          let are : AreBitsOf bits (tdi_bits bits) (tdo_bits bits) (mask_bits bits) = record { tdi = refl; tdo = refl; mask = refl } in
+          let masked : get_or (mask_of board (walk_row board walk j)) first false ≡ true = rows_masked are first r.0 in
           let long : length (mask_of board (walk_row board walk j)) ≡ data_bits board = ap (λ (l : List Bool). length l) (mask_laid board (record { now = quiet_row; before = walk_row board walk j })) ∙ length-laid (λ part device cell. is_some (Rattle.tap_defs.specs.board.TestRows.expect_bit board (walk_row board walk j) part device cell)) board in
           any_at (λ (bit : Bool). bit) (mask_of board (walk_row board walk j)) first true (slice_get-get_or (mask_of board (walk_row board walk j)) first false (omega (arith, r.1, long)) ∙ ap (λ (b : Bool). Some b) masked) refl
 
@@ -381,20 +384,19 @@ module _ (board : RawBoard) (rules : IsBoard board) (t : WalkTables) (w : IsWalk
       let scan : RowScan = scan_of j in
       let bits : List ScanBit = joined (row_bits board scan) in
       let s = row_sized board rules scan in
-      let d : tdi ≡ tdi_bits bits = is_tdi ∙ tdi_laid board (record { now = scan.now; before = quiet_row }) ∙ sym (tdi_laid board scan) in
-      let o : tdo ≡ tdo_bits bits = is_tdo ∙ tdo_laid board (record { now = quiet_row; before = scan.before }) ∙ sym (tdo_laid board scan) in
-      let m : mask ≡ mask_bits bits = is_mask ∙ mask_laid board (record { now = quiet_row; before = scan.before }) ∙ sym (mask_laid board scan) in
-      let whole : scan_bits tdi tdo mask ≡ bits =
-      ap (λ (x : List Bool). scan_bits x tdo mask) d ∙ ap (λ (x : List Bool). scan_bits (tdi_bits bits) x mask) o ∙ ap (scan_bits (tdi_bits bits) (tdo_bits bits)) m ∙ scan_bits-rows bits in
-      let long : length tdi ≡ length bits = ap (λ (l : List Bool). length l) d ∙ length-map bits (λ b. b.tdi) in
+      let are : AreBitsOf bits tdi tdo mask = record {
+        tdi = is_tdi ∙ tdi_laid board (record { now = scan.now; before = quiet_row }) ∙ sym (tdi_laid board scan);
+        tdo = is_tdo ∙ tdo_laid board (record { now = quiet_row; before = scan.before }) ∙ sym (tdo_laid board scan);
+        mask = is_mask ∙ mask_laid board (record { now = quiet_row; before = scan.before }) ∙ sym (mask_laid board scan);
+      } in
       record {
-        scan = row_placed some j le ∙ sym (ap (λ (b : Bool). Some (record { ir = b; bits = scan_bits tdi tdo mask })) is_ir ∙ ap (λ (l : List ScanBit). Some (record { ir = false; bits = l })) whole);
-        some = omega (arith, s.some, long);
-        most = omega (arith, s.most, long);
-        tdo_length = ap (λ (l : List Bool). length l) o ∙ length-map bits (λ b. unwrap_or b.expect false) ∙ sym long;
-        mask_length = ap (λ (l : List Bool). length l) m ∙ length-map bits (λ b. is_some b.expect) ∙ sym long;
+        scan = row_placed some j le ∙ sym (ap (λ (b : Bool). Some (record { ir = b; bits = scan_bits tdi tdo mask })) is_ir ∙ ap (λ (l : List ScanBit). Some (record { ir = false; bits = l })) (rows_make are));
+        some = omega (arith, s.some, shifted_length are);
+        most = omega (arith, s.most, shifted_length are);
+        tdo_length = expected_same are;
+        mask_length = marks_same are;
         compare = compare;
-        masked = λ i one. ap (λ (l : List Bool). get_or l i false) m ∙ one_masked bits i (sym (ap (λ (l : List Bool). get_or l i false) o) ∙ one);
+        masked = rows_masked are;
       }
 
 -- the row of a place

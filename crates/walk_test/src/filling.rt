@@ -5,12 +5,13 @@ ghost use Rattle.plan_tables.specs.Assigned.{assigned};
 ghost use Rattle.scan_planner.specs.Plans.{IsRoom};
 ghost use Rattle.walk_test.specs.Tables.{IsWalkOf, scan_count, tdi_of, mask_of};
 ghost use Rattle.walk_test.specs.inner.Tables.{tdo_of, now_of, before_of};
-ghost use Rattle.walk_test.specs.Scans.{FillsWalk};
+ghost use Rattle.walk_test.specs.inner.Filled.{FillsRows};
+ghost use Rattle.tap_defs.specs.chain.ScanRows.{AreSameRows, EachHasRoom};
 
 use crate::tables::{NetCells, WalkTables};
 use board_defs::Board;
 use bt_bits::Row;
-use tap_defs::Shape;
+use tap_defs::{ScanRows, Shape};
 
 fn cells_at(cells: &[NetCells], j: usize) -> &NetCells
     requires { j < length cells.now }
@@ -105,28 +106,17 @@ fn fill_before(board: &Board, tables: &WalkTables, j: usize, tdo: &mut Row, mask
 }
 
 // Scan `j` of those after the EXTEST codes.
-fn fill_row(
-    board: &Board,
-    tables: &WalkTables,
-    j: usize,
-    tdi: &mut Row,
-    tdo: &mut Row,
-    mask: &mut Row,
-) -> Shape
+fn fill_row(board: &Board, tables: &WalkTables, j: usize, rows: &mut ScanRows) -> Shape
     requires walk { IsWalkOf board.now tables.now }
     requires some { 0 < length tables.now.plan.passes }
     requires row { j ≤ length tables.now.nets }
-    requires tdi_room { data_bits board.now ≤ tdi.old.room }
-    requires tdo_room { data_bits board.now ≤ tdo.old.room }
-    requires mask_room { data_bits board.now ≤ mask.old.room }
-    ensures filled { FillsWalk board.now (3 + j) result tdi.new.bits tdo.new.bits mask.new.bits }
-    ensures tdi_kept { tdi.new.room ≡ tdi.old.room }
-    ensures tdo_kept { tdo.new.room ≡ tdo.old.room }
-    ensures mask_kept { mask.new.room ≡ mask.old.room }
+    requires room { EachHasRoom (IsRoom board.now) rows.old }
+    ensures filled { FillsRows board.now (3 + j) result rows.new }
+    ensures kept { AreSameRows rows.old rows.new }
 {
     let _rules = board.raw();
-    fill_now(board, tables, j, tdi);
-    fill_before(board, tables, j, tdo, mask);
+    fill_now(board, tables, j, rows.tdi);
+    fill_before(board, tables, j, rows.tdo, rows.mask);
     Shape {
         ir: false,
         compare: j > 0,
@@ -134,28 +124,17 @@ fn fill_row(
 }
 
 /// Fills the rows with scan `k`.
-pub fn fill_scan(
-    board: &Board,
-    tables: &WalkTables,
-    k: u64,
-    tdi: &mut Row,
-    tdo: &mut Row,
-    mask: &mut Row,
-) -> Shape
+pub fn fill_scan(board: &Board, tables: &WalkTables, k: u64, rows: &mut ScanRows) -> Shape
     requires walk { IsWalkOf board.now tables.now }
     requires scan { k < scan_count tables.now }
-    requires tdi_room { IsRoom board.now tdi.old.room }
-    requires tdo_room { IsRoom board.now tdo.old.room }
-    requires mask_room { IsRoom board.now mask.old.room }
-    ensures filled { FillsWalk board.now k result tdi.new.bits tdo.new.bits mask.new.bits }
-    ensures tdi_kept { tdi.new.room ≡ tdi.old.room }
-    ensures tdo_kept { tdo.new.room ≡ tdo.old.room }
-    ensures mask_kept { mask.new.room ≡ mask.old.room }
+    requires room { EachHasRoom (IsRoom board.now) rows.old }
+    ensures filled { FillsRows board.now k result rows.new }
+    ensures kept { AreSameRows rows.old rows.new }
 {
     let _rules = board.raw();
     if k < 3 {
-        tables.plan.fill(board, k, tdi, tdo, mask)
+        tables.plan.fill(board, k, rows.tdi, rows.tdo, rows.mask)
     } else {
-        fill_row(board, tables, (k - 3) as usize, tdi, tdo, mask)
+        fill_row(board, tables, (k - 3) as usize, rows)
     }
 }

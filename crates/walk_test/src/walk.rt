@@ -14,7 +14,7 @@ use bt_bits::Row;
 use scan_planner::Plan;
 use std::alloc::{AllocError, Global};
 use std::marker::Model;
-use tap_defs::Shape;
+use tap_defs::{ScanRows, Shape};
 
 /// The walking test of a board: its walk nets with their cells, and what its rows share.
 ///
@@ -80,6 +80,6 @@ impl Walk {
         ensures tdo_kept { tdo.new.room ≡ tdo.old.room }
         ensures mask_kept { mask.new.room ≡ mask.old.room }
     {
-        fill_scan(board, &self.tables, k, tdi, tdo, mask)
+        fill_scan(board, &self.tables, k, &mut ScanRows { tdi, tdo, mask })
     }
 }

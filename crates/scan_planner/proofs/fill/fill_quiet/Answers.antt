@@ -10,5 +10,9 @@ returns-clause-filled c =
     let plan = c.args.tables.now in
     let s = row_sized board c.raw.ensures.rules first_row_scan in
     fills board plan.passes plan.width 1 (scan_of_row board first_row_scan) _ _ _ _ (scans_placed board plan.passes plan.width).quiet s.some s.most
-    (c.shift_quiet.ensures.bits first_row_scan refl) (c.compare_nothing.ensures.tdo first_row_scan refl) (c.compare_nothing.ensures.mask first_row_scan refl)
+    (record {
+      tdi = c.shift_quiet.ensures.bits first_row_scan refl;
+      tdo = c.compare_nothing.ensures.tdo first_row_scan refl;
+      mask = c.compare_nothing.ensures.mask first_row_scan refl;
+    })
     refl (sym c.compare_nothing.ensures.nothing)
