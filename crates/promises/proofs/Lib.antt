@@ -2,6 +2,7 @@ pub mod WordLemmas
 mod SampleWords
 mod SampleLogs
 mod SampleRuns
+mod SampleCommands
 pub mod ReadLemmas
 pub mod GiveLemmas
 pub mod RowLemmas

@@ -15,36 +15,36 @@ use Rattle.promises.specs.Promises.{FilesGive, FindsOutcome, RestsOnFiles, Tells
 use Rattle.promises.proofs.WordLemmas.{command_is, none_asked}
 
 -- ends of a store that tells this, with what was asked for, put and noted; no read and no write failed
-abbrev ends : Held → List Text → Text → Text → Ends
+abbrev pub ends : Held → List Text → Text → Text → Ends
 ends held asked out notes = record { held = held; asked = asked; unread = λ name. 0; out = out; unwritten = 0; notes = notes; unnoted = 0 }
 
 -- a run of these words that finds nothing asked for, put or noted, and leaves this
-abbrev run_of : List Text → Held → Status → List Text → Text → Text → Run
+abbrev pub run_of : List Text → Held → Status → List Text → Text → Text → Run
 run_of words held status asked out notes = record { words = words; old = ends held [] [] []; new = ends held asked out notes; status = status }
 
 -- the words of `device`, of `chain` and of `svf`, and the names of their files
-abbrev device_words : List Text
+abbrev pub device_words : List Text
 device_words = codes "device" ∷ codes "b" ∷ []
 
-abbrev device : Command
+abbrev pub device : Command
 device = Device (codes "b")
 
 abbrev b_file : Wanted
 b_file = record { name = codes "b"; limit = 4194304 }
 
-abbrev chain_words : List Text
+abbrev pub chain_words : List Text
 chain_words = codes "chain" ∷ codes "c" ∷ codes "b" ∷ []
 
-abbrev chain : Command
+abbrev pub chain : Command
 chain = Chain (record { chain = codes "c"; bsdl = codes "b" ∷ [] })
 
 abbrev c_file : Wanted
 c_file = record { name = codes "c"; limit = 4194304 }
 
-abbrev svf_words : List Text
+abbrev pub svf_words : List Text
 svf_words = codes "svf" ∷ codes "c" ∷ codes "n" ∷ codes "b" ∷ []
 
-abbrev svf : Command
+abbrev pub svf : Command
 svf = Svf (record { chain = codes "c"; nets = codes "n"; bsdl = codes "b" ∷ [] })
 
 abbrev b_asked : List Text

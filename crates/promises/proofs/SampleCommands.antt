@@ -1,0 +1,267 @@
+-- What each command promises, seen from the text that a run put: a text that is another one, or worth less, is refused. The files hold any
+-- texts of which what is said here holds.
+use Rattle.std.proofs.Common.{◌≡◌, ◌≢◌, ◌↔◌, ◌∙◌, ℕ, ◌+◌, ◌≤◌, Bool, true, false, List, [], ◌∷◌, ◌++◌, length, sum, Option, Some, None, Ok, refl, sym, ap, subst, inl, length-append, arith}
+use Rattle.std.specs.Prelude.{codes}
+use Rattle.board_defs.specs.declared.board.RawBoard.{RawBoard}
+use Rattle.board_defs.specs.declared.device.RawDevice.{RawDevice}
+use Rattle.board_defs.specs.declared.device.Symbol.{Symbol}
+use Rattle.board_defs.specs.declared.fault.Single.{Single}
+use Rattle.board_defs.specs.BoardRules.{IsBoard}
+use Rattle.board_defs.specs.DeviceRules.{IsDevice}
+use Rattle.board_defs.specs.Faults.{IsSingle, SinglePrecedes}
+use Rattle.tap_defs.specs.chain.ChainScans.{chain_text}
+use Rattle.tap_defs.specs.chain.ChainTest.{AreIrLengths, ir_lengths}
+use Rattle.tap_defs.specs.chain.Clocks.{test_clocks}
+use Rattle.tap_defs.specs.chain.Run.{Clock, Wiring, PassesOn, FailsOn}
+use Rattle.tap_defs.specs.chain.Svf.{meaning}
+use Rattle.tap_defs.specs.chain.TestLogic.{TestLogic}
+use Rattle.tap_defs.specs.board.BoardScans.{board_text, svf_row_scans}
+use Rattle.tap_defs.specs.board.Explaining.{AgreeOn, Explains, IsExpected}
+use Rattle.tap_defs.specs.board.FaultSet.{FaultSet, no_faults, IsObservable, IsNonempty}
+use Rattle.tap_defs.specs.board.OnBoard.{PassOnBoard, FailOnBoard}
+use Rattle.tap_defs.specs.board.Quiet.{IsQuiet}
+use Rattle.device_check.specs.DeviceText.{device_text}
+use Rattle.coverage_list.specs.CoverList.{IsCoverList}
+use Rattle.coverage_list.specs.CoverText.{cover_text}
+use Rattle.ident_test.specs.CodedParts.{AreCoded, all_fit}
+use Rattle.ident_test.specs.IdentTest.{ArePatterns}
+use Rattle.ident_test.specs.Patterns.{ident_text}
+use Rattle.diagnoser.specs.DiagText.{diag_text}
+use Rattle.batch_diag.specs.declared.block.Block.{Block}
+use Rattle.batch_diag.specs.declared.verdict.Verdict.{Verdict}
+use Rattle.batch_diag.specs.Verdicts.{EachPair}
+use Rattle.batch_diag.specs.BatchText.{batch_text}
+use Rattle.walk_test.specs.Groups.{AreGroups, Explain}
+use Rattle.walk_test.specs.GroupText.{groups_text}
+use Rattle.walk_test.specs.WalkTest.{board_walk_text, walk_row_list, walk_scans}
+use Rattle.board_gen.specs.BoardTexts as made
+use Rattle.board_gen.specs.DeviceText.{bsdl_text}
+use Rattle.btest_core.specs.DevicesRead.{IsDeviceText}
+use Rattle.btest_core.specs.BoardRead.{AreChainLengths, AreLengths, Denotes}
+use Rattle.btest_core.specs.IdentsRead.{AreIdents}
+use Rattle.command_line.specs.Words.{Text, ChainNames, BoardNames, Command, Ident, Cover, Walk, Diagnose, Groups, Batch}
+use Rattle.btest_cli.specs.Texts.{Held}
+use Rattle.btest_cli.specs.declared.status.Status.TheVariants.{Done}
+use Rattle.promises.specs.Runs.{HoldsEach, Run, files_of}
+use Rattle.promises.specs.Gives.{summary}
+use Rattle.promises.specs.Logs.{HoldsBlocks, HoldsLog}
+use Rattle.promises.specs.Promises.{DiagnosesBlocks, DiagnosesLog, FindsGroups, HasResponses, IsDiagnosed, ListsCover, ListsDevice, RestsOnBlocks, RestsOnLog, RestsOnWalkLog, SumsUp, TestsBoard, TestsChain, TestsIdents, WalksBoard}
+use Rattle.promises.proofs.SampleRuns.{chain, chain_words, device, device_words, run_of, svf, svf_words}
+
+abbrev chain_names : ChainNames
+chain_names = record { chain = codes "c"; bsdl = codes "b" ∷ [] }
+
+abbrev board_names : BoardNames
+board_names = record { chain = codes "c"; nets = codes "n"; bsdl = codes "b" ∷ [] }
+
+-- the words of those names, which are asked for
+abbrev chain_files : List Text
+chain_files = codes "c" ∷ codes "b" ∷ []
+
+abbrev board_files : List Text
+board_files = codes "c" ∷ codes "n" ∷ codes "b" ∷ []
+
+abbrev log_files : List Text
+log_files = codes "g" ∷ board_files
+
+-- the text and one byte more
+past : (text : Text) → text ++ 1 ∷ [] ≡ text → ⊥
+past text same =
+    let more : length (text ++ 1 ∷ []) ≡ length text + 1 = length-append text (1 ∷ []) in
+    let count : length (text ++ 1 ∷ []) ≡ length text = ap length same in
+    omega (arith, more, count)
+
+module _ (held : Held) where
+  -- runs that put this text
+  abbrev chain_run : Text → Run
+  chain_run text = run_of chain_words held Done chain_files text []
+
+  module _ (lines : Text) (bsdl : List Text) (lengths : List ℕ) (each : HoldsEach held (files_of chain) (lines ∷ bsdl)) (are : AreChainLengths lines bsdl (Ok lengths)) where
+    other_chain_test : TestsChain (chain_run (chain_text lengths ++ 1 ∷ [])) → ⊥
+    other_chain_test tests = let told = (tests chain_names lines bsdl lengths (((refl, omega arith), refl), each) are).puts refl in past (chain_text lengths) (told.1 ∙ told.2.0)
+
+    chain_lengths : (text : Text) → TestsChain (chain_run text) → AreLengths lengths
+    chain_lengths text tests = ((tests chain_names lines bsdl lengths (((refl, omega arith), refl), each) are).puts refl).2.1
+
+    chain_passes : (text : Text) → TestsChain (chain_run text) → (wiring : Wiring) (parts : List TestLogic) → ir_lengths parts ≡ lengths → (clocks : List Clock) × (meaning text ≡ Some clocks) × PassesOn wiring parts clocks
+    chain_passes text tests wiring parts same =
+        let told = (tests chain_names lines bsdl lengths (((refl, omega arith), refl), each) are).puts refl in
+        (told.2.2, ap meaning told.1 ∙ told.2.3, told.2.4 wiring parts same)
+
+    -- another number of parts
+    chain_fails : (text : Text) → TestsChain (chain_run text) → (wiring : Wiring) (parts : List TestLogic) → AreIrLengths (ir_lengths parts) → length parts ≢ length lengths → sum (ir_lengths parts) ≤ sum lengths
+        → (clocks : List Clock) × (meaning text ≡ Some clocks) × FailsOn wiring parts clocks
+    chain_fails text tests wiring parts wide other within =
+        let told = (tests chain_names lines bsdl lengths (((refl, omega arith), refl), each) are).puts refl in
+        (told.2.2, ap meaning told.1 ∙ told.2.3, told.2.5 wiring parts wide other within)
+
+  abbrev ident_run : Text → Run
+  ident_run text = run_of (codes "ident" ∷ chain_files) held Done chain_files text []
+
+  module _ (lines : Text) (bsdl : List Text) (patterns : List (Option (List Symbol))) (each : HoldsEach held (files_of (Ident chain_names)) (lines ∷ bsdl)) (are : AreIdents lines bsdl (Ok patterns)) where
+    other_ident_test : TestsIdents (ident_run (ident_text patterns ++ 1 ∷ [])) → ⊥
+    other_ident_test tests = let told = (tests chain_names lines bsdl patterns (((refl, omega arith), refl), each) are).puts refl in past (ident_text patterns) (told.1 ∙ told.2.0)
+
+    ident_patterns : (text : Text) → TestsIdents (ident_run text) → ArePatterns patterns
+    ident_patterns text tests = ((tests chain_names lines bsdl patterns (((refl, omega arith), refl), each) are).puts refl).2.1
+
+    codes_pass : (text : Text) → TestsIdents (ident_run text) → (wiring : Wiring) (parts : List TestLogic) → AreCoded patterns parts → all_fit patterns parts ≡ true → (clocks : List Clock) × (meaning text ≡ Some clocks) × PassesOn wiring parts clocks
+    codes_pass text tests wiring parts coded fit =
+        let told = (tests chain_names lines bsdl patterns (((refl, omega arith), refl), each) are).puts refl in
+        (told.2.2, ap meaning told.1 ∙ told.2.3, told.2.4 wiring parts coded fit)
+
+    codes_fail : (text : Text) → TestsIdents (ident_run text) → (wiring : Wiring) (parts : List TestLogic) → AreCoded patterns parts → all_fit patterns parts ≡ false → (clocks : List Clock) × (meaning text ≡ Some clocks) × FailsOn wiring parts clocks
+    codes_fail text tests wiring parts coded unfit =
+        let told = (tests chain_names lines bsdl patterns (((refl, omega arith), refl), each) are).puts refl in
+        (told.2.2, ap meaning told.1 ∙ told.2.3, told.2.5 wiring parts coded unfit)
+
+  module _ (file : Text) (described : RawDevice) (each : HoldsEach held (files_of device) (file ∷ [])) (is : IsDeviceText file (Ok described)) where
+    other_listing : ListsDevice (run_of device_words held Done (codes "b" ∷ []) (device_text described ++ 1 ∷ []) []) → ⊥
+    other_listing lists = let told = (lists (codes "b") file described ((refl, refl), each) is).puts refl in past (device_text described) (told.1 ∙ told.2.0)
+
+    listed_rules : (text : Text) → ListsDevice (run_of device_words held Done (codes "b" ∷ []) text []) → IsDevice described
+    listed_rules text lists = ((lists (codes "b") file described ((refl, refl), each) is).puts refl).2.1
+
+  module _ (lines nets : Text) (bsdl : List Text) (board : RawBoard) (denotes : Denotes lines nets bsdl board) where
+    module _ (each : HoldsEach held (files_of (Cover board_names)) (lines ∷ nets ∷ bsdl)) where
+      abbrev cover_run : Text → Run
+      cover_run text = run_of (codes "cover" ∷ board_files) held Done board_files text []
+
+      other_cover_list : ListsCover (cover_run (cover_text board ++ 1 ∷ [])) → ⊥
+      other_cover_list lists = let told = (lists board_names lines nets bsdl board (((refl, omega arith), refl), each) denotes).puts refl in past (cover_text board) (told.1 ∙ told.2.0)
+
+      cover_is_true : (text : Text) → ListsCover (cover_run text) → IsBoard board × IsCoverList board text
+      cover_is_true text lists =
+          let told = (lists board_names lines nets bsdl board (((refl, omega arith), refl), each) denotes).puts refl in
+          (told.2.1, subst (IsCoverList board) (sym told.1) told.2.2)
+
+    module _ (each : HoldsEach held (files_of svf) (lines ∷ nets ∷ bsdl)) where
+      abbrev svf_run : Text → Run
+      svf_run text = run_of svf_words held Done board_files text []
+
+      other_test : TestsBoard (svf_run (board_text board ++ 1 ∷ [])) → ⊥
+      other_test tests = let told = (tests board_names lines nets bsdl board (((refl, omega arith), refl), each) denotes).puts refl in past (board_text board) (told.1 ∙ told.2.0)
+
+      test_is_quiet : (text : Text) → TestsBoard (svf_run text) → (clocks : List Clock) × (meaning text ≡ Some clocks) × IsQuiet board clocks × PassOnBoard board no_faults clocks
+      test_is_quiet text tests =
+          let told = (tests board_names lines nets bsdl board (((refl, omega arith), refl), each) denotes).puts refl in
+          (told.2.1, ap meaning told.1 ∙ told.2.2, told.2.3, told.2.4)
+
+      test_fails : (text : Text) → TestsBoard (svf_run text) → (faults : FaultSet) → IsObservable board faults → IsNonempty faults → (clocks : List Clock) × (meaning text ≡ Some clocks) × FailOnBoard board faults clocks
+      test_fails text tests faults observable some =
+          let told = (tests board_names lines nets bsdl board (((refl, omega arith), refl), each) denotes).puts refl in
+          (told.2.1, ap meaning told.1 ∙ told.2.2, told.2.5 faults observable some)
+
+    module _ (each : HoldsEach held (files_of (Walk board_names)) (lines ∷ nets ∷ bsdl)) where
+      abbrev walk_run : Text → Run
+      walk_run text = run_of (codes "walk" ∷ board_files) held Done board_files text []
+
+      other_walk : WalksBoard (walk_run (board_walk_text board ++ 1 ∷ [])) → ⊥
+      other_walk walks = let told = (walks board_names lines nets bsdl board (((refl, omega arith), refl), each) denotes).puts refl in past (board_walk_text board) (told.1 ∙ told.2.0)
+
+      walk_is_quiet : (text : Text) → WalksBoard (walk_run text) → (clocks : List Clock) × (meaning text ≡ Some clocks) × IsQuiet board clocks × PassOnBoard board no_faults clocks
+      walk_is_quiet text walks =
+          let told = (walks board_names lines nets bsdl board (((refl, omega arith), refl), each) denotes).puts refl in
+          (told.2.1, ap meaning told.1 ∙ told.2.2, told.2.3, told.2.4)
+
+    -- one worker
+    abbrev diagnose : Command
+    diagnose = Diagnose 1 (codes "g") board_names
+
+    abbrev diagnose_run : Text → Run
+    diagnose_run text = run_of (codes "diagnose" ∷ codes "1" ∷ log_files) held Done log_files text []
+
+    module _ (log : Text) (each : HoldsEach held (files_of diagnose) (log ∷ lines ∷ nets ∷ bsdl)) where
+      diagnosed : (text : Text) (rows : List (List Bool)) → HoldsLog board (svf_row_scans board) log rows → DiagnosesLog (diagnose_run text)
+          → HasResponses board × (pass : Bool) × (faults : List Single) × IsDiagnosed board rows pass faults × (text ≡ diag_text board pass faults)
+      diagnosed text rows holds diagnoses =
+          let told = (diagnoses 1 (codes "g") board_names log lines nets bsdl board rows (((codes "1", refl, (refl, omega arith)), refl), each) denotes holds).puts refl in
+          (told.2.0, told.2.1, told.2.2, told.2.3, told.1 ∙ told.2.4)
+
+      -- there is no log on a board that the files denote
+      diagnosed_without_log : (text : Text) → ((other : RawBoard) (rows : List (List Bool)) → Denotes lines nets bsdl other → HoldsLog other (svf_row_scans other) log rows → ⊥) → RestsOnLog (diagnose_run text) → ⊥
+      diagnosed_without_log text none rests =
+          let told = rests 1 (codes "g") board_names log lines nets bsdl (((codes "1", refl, (refl, omega arith)), refl), each) (inl refl) in
+          none told.0 told.2 told.1 told.3
+
+    abbrev batch : Command
+    batch = Batch 1 (codes "g") board_names
+
+    abbrev batch_run : Text → Run
+    batch_run text = run_of (codes "batch" ∷ codes "1" ∷ log_files) held Done log_files text []
+
+    module _ (logs : Text) (each : HoldsEach held (files_of batch) (logs ∷ lines ∷ nets ∷ bsdl)) where
+      blocks_diagnosed : (text : Text) (blocks : List Block) → HoldsBlocks board logs blocks → DiagnosesBlocks (batch_run text)
+          → HasResponses board × (verdicts : List Verdict) × EachPair (λ block verdict. IsDiagnosed board block.log verdict.pass verdict.faults) blocks verdicts × (text ≡ batch_text board blocks verdicts)
+      blocks_diagnosed text blocks holds diagnoses =
+          let told = (diagnoses 1 (codes "g") board_names logs lines nets bsdl board blocks (((codes "1", refl, (refl, omega arith)), refl), each) denotes holds).puts refl in
+          (told.2.0, told.2.1, told.2.2, told.1 ∙ told.2.3)
+
+      diagnosed_without_blocks : (text : Text) → ((other : RawBoard) (blocks : List Block) → Denotes lines nets bsdl other → HoldsBlocks other logs blocks → ⊥) → RestsOnBlocks (batch_run text) → ⊥
+      diagnosed_without_blocks text none rests =
+          let told = rests 1 (codes "g") board_names logs lines nets bsdl (((codes "1", refl, (refl, omega arith)), refl), each) (inl refl) in
+          none told.0 told.2 told.1 told.3
+
+    abbrev groups_command : Command
+    groups_command = Groups (codes "g") board_names
+
+    abbrev groups_run : Text → Run
+    groups_run text = run_of (codes "groups" ∷ log_files) held Done log_files text []
+
+    module _ (log : Text) (each : HoldsEach held (files_of groups_command) (log ∷ lines ∷ nets ∷ bsdl)) where
+      groups_found : (text : Text) (rows : List (List Bool)) → HoldsLog board (walk_row_list board) log rows → FindsGroups (groups_run text)
+          → (meaning (board_walk_text board) ≡ Some (test_clocks (walk_scans board))) × (found : Option (List (List ℕ))) × (text ≡ groups_text board found) × ((groups : List (List ℕ)) → (found ≡ Some groups) ↔ Explain board rows groups)
+      groups_found text rows holds finds =
+          let told = (finds (codes "g") board_names log lines nets bsdl board rows (((refl, omega arith), refl), each) denotes holds).puts refl in
+          (told.2.0, told.2.1, told.1 ∙ told.2.2, told.2.3)
+
+      groups_respond : (text : Text) (rows : List (List Bool)) → HoldsLog board (walk_row_list board) log rows → FindsGroups (groups_run text) → (groups : List (List ℕ)) → AreGroups board groups
+          → (one : List (List Bool)) × Explain board one groups × ((other : List (List Bool)) → Explain board other groups → AgreeOn board (walk_row_list board) one other)
+      groups_respond text rows holds finds groups are =
+          let told = (finds (codes "g") board_names log lines nets bsdl board rows (((refl, omega arith), refl), each) denotes holds).puts refl in
+          let one = told.2.4 groups are in
+          (one.0, one.1, λ other explains. told.2.5 groups one.0 other one.1 explains)
+
+      grouped_without_log : (text : Text) → ((other : RawBoard) (rows : List (List Bool)) → Denotes lines nets bsdl other → HoldsLog other (walk_row_list other) log rows → ⊥) → RestsOnWalkLog (groups_run text) → ⊥
+      grouped_without_log text none rests =
+          let told = rests (codes "g") board_names log lines nets bsdl (((refl, omega arith), refl), each) (inl refl) in
+          none told.0 told.2 told.1 told.3
+
+  other_summary : (board : RawBoard) → Denotes (made.chain_text 2) (made.net_text 2) (bsdl_text ∷ []) board → SumsUp (run_of (codes "make" ∷ codes "2" ∷ []) None Done [] (summary board ++ 1 ∷ []) []) → ⊥
+  other_summary board denotes sums = let told = (sums 2 board (((codes "2", refl, refl), refl), tt) denotes).puts refl in past (summary board) (told.1 ∙ told.2)
+
+-- Diagnoses that are wrong.
+module _ (board : RawBoard) (log : List (List Bool)) where
+  unexpected_pass : (faults : List Single) → (IsExpected board (svf_row_scans board) log → ⊥) → IsDiagnosed board log true faults → ⊥
+  unexpected_pass faults differs is = differs (is.passes.0 refl)
+
+  expected_fail : (faults : List Single) → IsExpected board (svf_row_scans board) log → IsDiagnosed board log false faults → ⊥
+  expected_fail faults expected is = let z : false ≡ true = is.passes.1 expected in cc z
+
+  pass_with_fault : (single : Single) → IsDiagnosed board log true (single ∷ []) → ⊥
+  pass_with_fault single is = let count : 1 ≡ 0 = ap length (is.none refl) in absurd (omega (arith, count))
+
+  fault_left_out : (single : Single) (pass : Bool) → IsSingle board single → Explains board single log → IsDiagnosed board log pass [] → ⊥
+  fault_left_out single pass one explains is = let contained = (is.exactly single).1 (one, explains) in omega (arith, contained.1)
+
+  fault_that_explains_nothing : (single : Single) (pass : Bool) → (Explains board single log → ⊥) → IsDiagnosed board log pass (single ∷ []) → ⊥
+  fault_that_explains_nothing single pass none is = none ((is.exactly single).0 (0, omega arith, refl)).1
+
+  fault_of_another_board : (single : Single) (pass : Bool) → (IsSingle board single → ⊥) → IsDiagnosed board log pass (single ∷ []) → ⊥
+  fault_of_another_board single pass none is = none ((is.exactly single).0 (0, omega arith, refl)).0
+
+  faults_out_of_order : (one other : Single) (pass : Bool) → (SinglePrecedes one other → ⊥) → IsDiagnosed board log pass (one ∷ other ∷ []) → ⊥
+  faults_out_of_order one other pass none is = none (is.in_order 0 1 one (omega arith) (omega arith))
+
+-- Boards of which there is no diagnosis.
+module _ (board : RawBoard) where
+  test_without_meaning : meaning (board_text board) ≡ None → HasResponses board → ⊥
+  test_without_meaning none has =
+      let bad : ◌≡◌ {A = Option (List Clock)} None (Some _) = sym none ∙ has.means in
+      cc bad
+
+  fault_without_response : (single : Single) → IsSingle board single → ((log : List (List Bool)) → Explains board single log → ⊥) → HasResponses board → ⊥
+  fault_without_response single one none has = let some = has.some single one in none some.0 some.1
+
+  two_responses : (single : Single) (log other : List (List Bool)) → Explains board single log → Explains board single other → (AgreeOn board (svf_row_scans board) log other → ⊥) → HasResponses board → ⊥
+  two_responses single log other one two differ has = differ (has.one single log other one two)
