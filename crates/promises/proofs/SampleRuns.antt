@@ -393,6 +393,20 @@ unread_without_words tells = let told = tells refl in none_asked (unread [] b_as
 unread_without_fault : TellsUnread (run_of device_words empty ReadFault b_asked [] (read_line (codes "b"))) → ⊥
 unread_without_fault tells = calm (tells refl).7
 
+unread_unasked : TellsUnread (unread device_words [] [] (read_line (codes "b"))) → ⊥
+unread_unasked tells = let told = tells refl in by_before told.3 told.5 told.8
+  where
+    by_before : (before : List Wanted) (file : Wanted) → ◌≡◌ {A = List Text} [] (map (λ f. f.name) before ++ file.name ∷ []) → ⊥
+    by_before [] file asked = let count : 0 ≡ 1 = ap length asked in absurd (omega (arith, count))
+    by_before (first ∷ before) file asked = let count : 0 ≡ suc (length (map (λ f. f.name) before ++ file.name ∷ [])) = ap length asked in absurd (omega (arith, count))
+
+unread_without_note : TellsUnread (unread device_words b_asked [] []) → ⊥
+unread_without_note tells = let told = tells refl in by_note (read_line told.5.name) refl told.9
+  where
+    by_note : (line : Text) → bytes_eq [] line ≡ false → Notes (unread device_words b_asked [] []) line → ⊥
+    by_note line some (inl is) = apart [] line refl some is
+    by_note line some (inr (rose, cut)) = calm rose
+
 -- the second file was asked for, and the first is named
 first_named : TellsUnread (unread svf_words (codes "c" ∷ codes "n" ∷ []) [] (read_line (codes "c"))) → ⊥
 first_named tells = let told = tells refl in by_note told.5.name (named told.3 told.5 told.8) told.9
