@@ -30,7 +30,8 @@ use Rattle.command_line.specs.Words.{Text, Chain, Ident, Device, Cover, Svf, Wal
 use Rattle.promises.specs.Runs.{Run}
 use Rattle.promises.specs.Gives.{Gives, summary}
 use Rattle.promises.specs.Promises.{DiagnosesBlocks, DiagnosesLog, FindsGroups, HasResponses, IsDiagnosed, ListsCover, ListsDevice, RestsOnBlocks, RestsOnLog, RestsOnWalkLog, SumsUp, TestsBoard, TestsChain, TestsIdents, WalksBoard}
-use Rattle.promises.specs.inner.Facts.{IsRun, LinesAreRead, SayOne}
+use Rattle.promises.specs.Logs.{LinesAreRead}
+use Rattle.promises.specs.inner.Facts.{IsRun, SayOne}
 use Rattle.promises.proofs.GiveLemmas.{not_both, same_ok}
 use Rattle.promises.proofs.RunLemmas.{gives_text, prints}
 

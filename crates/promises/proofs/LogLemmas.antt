@@ -18,8 +18,7 @@ use Rattle.btest_core.specs.BoardRead.{Denotes}
 use Rattle.commands.specs.LogRead.{test_log, test_rows, walk_log, walk_rows}
 use Rattle.commands.proofs.ShapeLemmas.{walk_shaped, walk_sized}
 use Rattle.command_line.specs.Words.{Text}
-use Rattle.promises.specs.Logs.{HoldsBlock, HoldsBlocks, HoldsLog}
-use Rattle.promises.specs.inner.Facts.{LinesAreRead}
+use Rattle.promises.specs.Logs.{HoldsBlock, HoldsBlocks, HoldsLog, LinesAreRead}
 use Rattle.promises.proofs.RowLemmas.{rows_many}
 
 module _ (are_lines : (text : List ℕ) (rows len : ℕ) (log : List (List Bool)) → (log_rows text rows len ≡ Ok log) ↔ IsLogOf text rows len log) (by_themselves : BlocksByThemselves)

@@ -1,5 +1,5 @@
--- What a text of logs holds, by its lines.
-use Rattle.std.specs.Prelude.{◌≡◌, Bool, true, List, [], ◌∷◌, map, Some, codes}
+-- What a text of logs holds, by its lines, and that texts are read by it.
+use Rattle.std.specs.Prelude.{◌≡◌, ◌↔◌, Bool, true, List, [], ◌∷◌, map, Some, Ok, codes}
 use Rattle.board_defs.specs.declared.board.RawBoard.{RawBoard}
 use Rattle.board_defs.specs.Pins.{data_bits}
 use Rattle.tap_defs.specs.board.BoardScans.{RowScan, svf_row_scans}
@@ -9,6 +9,9 @@ use Rattle.response_log.specs.LogRows.{bits_of_line, row_lines}
 use Rattle.batch_diag.specs.declared.block.Block.{Block}
 use Rattle.batch_diag.specs.OwnTexts.{BlockText, IsCutTo, own_text}
 use Rattle.batch_diag.specs.Verdicts.{EachPair}
+use Rattle.walk_test.specs.WalkTest.{walk_row_list}
+use Rattle.btest_core.specs.BoardRead.{Denotes}
+use Rattle.commands.specs.LogRead.{test_blocks, test_log, walk_log}
 use Rattle.command_line.specs.Words.{Text}
 
 -- the lines with words are these rows, each as one word: the hexadecimal digits of a bit for each position of a scan of data. There is a
@@ -29,3 +32,10 @@ pub record HoldsBlocks (board : RawBoard) (text : Text) (blocks : List Block) : 
   pub texts : List BlockText
   pub cut : IsCutTo text front texts
   pub each : EachPair (HoldsBlock board) texts blocks
+
+-- on the board that files denote, a text is read as a log of its test, as one of its walking test or as a batch exactly where it holds that
+-- by its lines
+pub record LinesAreRead : Type 0 where
+  pub test : (chain nets : Text) (texts : List Text) (board : RawBoard) (log : Text) (rows : List (List Bool)) → Denotes chain nets texts board → (test_log log board ≡ Ok rows) ↔ HoldsLog board (svf_row_scans board) log rows
+  pub walk : (chain nets : Text) (texts : List Text) (board : RawBoard) (log : Text) (rows : List (List Bool)) → Denotes chain nets texts board → (walk_log log board ≡ Ok rows) ↔ HoldsLog board (walk_row_list board) log rows
+  pub blocks : (chain nets : Text) (texts : List Text) (board : RawBoard) (logs : Text) (blocks : List Block) → Denotes chain nets texts board → (test_blocks logs board ≡ Ok blocks) ↔ HoldsBlocks board logs blocks

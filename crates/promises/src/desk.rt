@@ -1,6 +1,7 @@
 // A run on a store, an output and notes in memory.
 ghost use Rattle.promises.specs.Runs.{desk_run, ends_of, run_of};
-ghost use Rattle.promises.specs.inner.Facts.{IsRun, LinesAreRead, SayOne};
+ghost use Rattle.promises.specs.Logs.{LinesAreRead};
+ghost use Rattle.promises.specs.inner.Facts.{IsRun, SayOne};
 
 use batch_diag::law::blocks_stand_by_themselves;
 use board_defs::law::passes_kept;
@@ -65,7 +66,7 @@ pub(crate) fn run_on<R: Threads + Sync, S: Store, G: Gate>(
 }
 
 /// Logs are read by their lines, and a text that is read as one holds it by its lines.
-pub(crate) fn lines_are_read()
+pub fn lines_are_read()
     ensures { LinesAreRead }
 {
     inputs_keep_rules();

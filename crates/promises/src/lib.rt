@@ -5,5 +5,5 @@
 mod desk;
 mod promised;
 
-pub use desk::Desk;
+pub use desk::{Desk, lines_are_read};
 pub use promised::{make, read_fault};

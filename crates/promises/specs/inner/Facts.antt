@@ -1,24 +1,19 @@
--- The clauses of `run` as one fact on a run, and the laws that texts give one thing and that logs are read by their lines.
-use Rattle.std.specs.Prelude.{◌≡◌, ◌≢◌, ◌⊎◌, ◌↔◌, ℕ, Bool, List, Some, None, Result, Ok, IfSome}
+-- The clauses of `run` as one fact on a run, and the laws that texts give one thing.
+use Rattle.std.specs.Prelude.{◌≡◌, ◌≢◌, ◌⊎◌, ℕ, List, Some, None, Result, IfSome}
 use Rattle.bt_base.specs.Counts.{Rose}
 use Rattle.bt_base.specs.Puts.{Shown}
 use Rattle.board_defs.specs.declared.board.RawBoard.{RawBoard}
 use Rattle.board_defs.specs.declared.device.RawDevice.{RawDevice}
-use Rattle.tap_defs.specs.board.BoardScans.{svf_row_scans}
-use Rattle.batch_diag.specs.declared.block.Block.{Block}
-use Rattle.walk_test.specs.WalkTest.{walk_row_list}
 use Rattle.btest_core.specs.declared.fault.InputFault.{InputFault}
 use Rattle.btest_core.specs.DevicesRead.{IsDeviceText}
-use Rattle.btest_core.specs.BoardRead.{AreChainLengths, Denotes, IsBoardRead}
+use Rattle.btest_core.specs.BoardRead.{AreChainLengths, IsBoardRead}
 use Rattle.btest_core.specs.IdentsRead.{Ident, AreIdents}
 use Rattle.refusal_lines.specs.Refusals.{usage_line, write_line, memory_line}
-use Rattle.commands.specs.LogRead.{test_blocks, test_log, walk_log}
 use Rattle.command_line.specs.Words.{Text, Command, command_of, names_of}
 use Rattle.btest_cli.specs.Texts.{Held, Reading, known_reading, wanted_of}
 use Rattle.btest_cli.specs.Outcome.{AsksSome, IsComplete, IsCutShort, IsDone, IsNotRead, IsOutcome, IsRefused, SomeRose, TookOrCut}
 use Rattle.btest_cli.specs.declared.status.Status.TheVariants.{Done, Refused, Usage, ReadFault, WriteFault, NoMemory}
 use Rattle.promises.specs.Runs.{Ends, Run}
-use Rattle.promises.specs.Logs.{HoldsLog, HoldsBlocks}
 
 -- what the output and the notes show
 abbrev pub out_of : Ends → Shown
@@ -59,10 +54,3 @@ pub record SayOne : Type 0 where
   pub board : (chain nets : Text) (texts : List Text) (a b : Result RawBoard InputFault) → IsBoardRead chain nets texts a → IsBoardRead chain nets texts b → a ≡ b
   pub outcome : (command : Command) (reading : Reading) (a b : Result Text Text) → IsOutcome command reading a → IsOutcome command reading b → a ≡ b
   pub some_outcome : (command : Command) (held : Held) (reading : Reading) → known_reading held (wanted_of command) ≡ Some reading → (outcome : Result Text Text) × IsOutcome command reading outcome
-
--- on the board that files denote, a text is read as a log of its test, as one of its walking test or as a batch exactly where it holds that
--- by its lines
-pub record LinesAreRead : Type 0 where
-  pub test : (chain nets : Text) (texts : List Text) (board : RawBoard) (log : Text) (rows : List (List Bool)) → Denotes chain nets texts board → (test_log log board ≡ Ok rows) ↔ HoldsLog board (svf_row_scans board) log rows
-  pub walk : (chain nets : Text) (texts : List Text) (board : RawBoard) (log : Text) (rows : List (List Bool)) → Denotes chain nets texts board → (walk_log log board ≡ Ok rows) ↔ HoldsLog board (walk_row_list board) log rows
-  pub blocks : (chain nets : Text) (texts : List Text) (board : RawBoard) (logs : Text) (blocks : List Block) → Denotes chain nets texts board → (test_blocks logs board ≡ Ok blocks) ↔ HoldsBlocks board logs blocks
