@@ -2,7 +2,6 @@
 use Rattle.std.proofs.Common.{◌≡◌, ℕ, zero, suc, ◌-◌, ◌*◌, ◌/◌, ◌≤◌, Bool, true, false, ◌==◌, ◌&&◌, List, length, take, drop, Result, Ok, Err, Some, ◌⊎◌, inl, inr, get_or, ◌<◌, refl, sym, ap, ◌∙◌, subst, arith}
 use Rattle.std.specs.Prelude.{filter, filter_map, slice_get, All, IfOk}
 use Rattle.std.specs.List.{list_any}
-use Rattle.std.proofs.Math.Seq.{take-length}
 use Rattle.std.proofs.lemmas.Option.{slice_get_within, slice_get-get_or}
 use Rattle.std.proofs.lemmas.Bool.{and_parts, and_from, eqb-true, eq-eqb}
 use Rattle.board_defs.specs.declared.board.PinRef.{PinRef}
@@ -28,7 +27,8 @@ use Rattle.fault_sim.specs.Places.{fault_at}
 use Rattle.fault_sim.specs.Suspects.{AreSuspects}
 use Rattle.diagnoser.specs.Diagnosis.{AreExplaining, IsNamed}
 use Rattle.fault_sim.specs.Diagnosis.{Picks}
-use Rattle.diagnoser.proofs.CutLemmas.{cut_start, cut_end}
+use Rattle.side_by_side.specs.Pieces.{items_between}
+use Rattle.side_by_side.proofs.RangeLemmas.{range_whole}
 use Rattle.fault_sim.proofs.MatchLemmas.{nets_there}
 use Rattle.diagnoser.proofs.ThoseLemmas.{those_hold, hold_those, those_filter, filter_those}
 
@@ -118,25 +118,10 @@ module _ (board : RawBoard) (rules : IsBoard board) (plan : PlanTables) (lists :
           suffice board plan lists log suspects rules are test (λ single is on. only single on)
           ∙ those_filter (λ single. Explains board single log) test candidates faults (λ single candidate on. only single on) (λ single candidate explains. all single candidate explains) those
 
-  -- what all pieces find
-  pub all_found : (pieces : ℕ) → 1 ≤ pieces → {V E : Type 0} (view : V → List Single) (result : Result V E) →
-      IfOk result (λ v. Picks (λ single. Explains board single log) (filter_map (fault_at board) (take (pieces * length suspects / pieces - 0 * length suspects / pieces) (drop (0 * length suspects / pieces) suspects))) (view v)) →
-      IfOk result (λ v. AreExplaining board log (view v))
-  all_found pieces some view (Err e) found = tt
-  all_found pieces some view (Ok v) found =
-      candidates_explain (view v) (subst (λ (l : List ℕ). Picks (λ single. Explains board single log) (filter_map (fault_at board) l) (view v)) whole found)
-    where
-      start : 0 * length suspects / pieces ≡ 0
-      start = cut_start (length suspects) pieces
-
-      count : pieces * length suspects / pieces - 0 * length suspects / pieces ≡ length suspects
-      count = omega (arith, cut_start (length suspects) pieces, cut_end (length suspects) pieces (omega arith))
-
-      whole : take (pieces * length suspects / pieces - 0 * length suspects / pieces) (drop (0 * length suspects / pieces) suspects) ≡ suspects
-      whole =
-          ap (λ (n : ℕ). take n (drop (0 * length suspects / pieces) suspects)) count
-          ∙ ap (λ (n : ℕ). take (length suspects) (drop n suspects)) start
-          ∙ take-length suspects
+  -- what is found of all candidates
+  pub all_found : {V E : Type 0} (view : V → List Single) (result : Result V E) → IfOk result (λ v. Picks (λ single. Explains board single log) (filter_map (fault_at board) (items_between suspects 0 (length suspects))) (view v)) → IfOk result (λ v. AreExplaining board log (view v))
+  all_found view (Err e) found = tt
+  all_found view (Ok v) found = candidates_explain (view v) (subst (λ (l : List ℕ). Picks (λ single. Explains board single log) (filter_map (fault_at board) l) (view v)) (range_whole suspects) found)
 
 -- the faults that explain a log name nets and pins of the board
 pub single_named : (board : RawBoard) (single : Single) → IsSingle board single → IsNamed board single

@@ -1,5 +1,5 @@
 pub mod ThoseLemmas
 mod FaultLemmas
 mod LawLemmas
-pub mod CutLemmas
+mod FoundLemmas
 mod Samples

@@ -131,7 +131,6 @@ pub fn diagnose_logged<R: Threads + Sync, G: Gate>(
         nets,
         universe,
         suspects: &suspects,
-        pieces: workers,
     };
-    search_pieces(rt, alloc, search, 0, workers, gate)
+    search_pieces(rt, alloc, search, workers, gate)
 }

@@ -1,11 +1,12 @@
 -- What a search for the faults that explain a log finds.
-use Rattle.std.specs.Prelude.{◌≡◌, ℕ, ◌-◌, ◌*◌, ◌/◌, ◌<◌, List, length, take, drop, filter_map}
+use Rattle.std.specs.Prelude.{◌≡◌, ℕ, List, filter_map}
 use Rattle.board_defs.specs.declared.fault.Single.{Single}
 use Rattle.board_defs.specs.Passes.{passes_of}
 use Rattle.tap_defs.specs.board.Explaining.{Explains}
 use Rattle.fault_sim.specs.Kept.{IsLogged}
 use Rattle.fault_sim.specs.Places.{IsUniverse, fault_at}
 use Rattle.fault_sim.specs.Suspects.{AreDiffering, AreSuspects}
+use Rattle.side_by_side.specs.Pieces.{items_between}
 use Rattle.diagnoser.specs.declared.search.Search.{Search}
 use Rattle.fault_sim.specs.Diagnosis.{Picks}
 
@@ -16,16 +17,11 @@ pub record IsSearch (s : Search) : Type 0 where
   pub differing : AreDiffering s.logged.test.board.now s.logged.test.plan.now s.logged.log.now s.nets.now
   pub universe : IsUniverse s.logged.test.board.now s.universe.now
   pub suspects : AreSuspects s.logged.test.board.now s.logged.test.plan.now s.universe.now s.logged.log.now s.suspects.now
-  pub some : 0 < s.pieces
 
 -- the faults at the candidates from one up to but without another
 abbrev pub faults_between : Search → ℕ → ℕ → List Single
-faults_between s from to = filter_map (fault_at s.logged.test.board.now) (take (to - from) (drop from s.suspects.now))
+faults_between s from to = filter_map (fault_at s.logged.test.board.now) (items_between s.suspects.now from to)
 
 -- those of them that explain the log, in order
 abbrev pub Found : Search → ℕ → ℕ → List Single → Type 0
 Found s from to faults = Picks (λ single. Explains s.logged.test.board.now single s.logged.log.now) (faults_between s from to) faults
-
--- the first candidate of a piece; the pieces share the candidates evenly
-abbrev pub first_of : Search → ℕ → ℕ
-first_of s piece = piece * length s.suspects.now / s.pieces

@@ -6,7 +6,7 @@ use Rattle.diagnoser.proofs.diagnosis.diagnose_logged.Goals.{After-search_pieces
 
 explaining : (g : _) (c : After-search_pieces g) → IfOk c.search_pieces.result (λ faults. AreExplaining c.args.logged.now.test.board.now c.args.logged.now.log.now faults.items)
 explaining g c =
-    all_found c.args.logged.now.test.board.now c.raw-rules.ensures.rules c.args.logged.now.test.plan.now c.args.universe.now c.args.logged.now.log.now c.in_ok-suspects.suspects c.in_ok-suspects.ensures c.suspects_suffice.ensures c.args.workers c.requires.some
+    all_found c.args.logged.now.test.board.now c.raw-rules.ensures.rules c.args.logged.now.test.plan.now c.args.universe.now c.args.logged.now.log.now c.in_ok-suspects.suspects c.in_ok-suspects.ensures c.suspects_suffice.ensures
     (λ v. v.items) c.search_pieces.result c.search_pieces.ensures
 
 pub returns-clause-faults : goal.returns-clause-faults

@@ -2,7 +2,7 @@ use Rattle.std.proofs.Common.{◌≡◌, Some, None, true, false}
 use Rattle.std.specs.Prelude.{slice_get}
 use Rattle.fault_sim.specs.Places.{places_of}
 use Rattle.fault_sim.proofs.OrderLemmas.{place_single}
-use Rattle.diagnoser.proofs.CutLemmas.{found_none, found_one}
+use Rattle.diagnoser.proofs.FoundLemmas.{found_none, found_one}
 use Rattle.diagnoser.proofs.search.try_candidate.Goals as goal
 
 pub returns-in_err-fault : goal.returns-in_err-fault

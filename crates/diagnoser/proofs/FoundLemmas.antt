@@ -1,0 +1,82 @@
+-- What is found of the candidates from one up to but without another.
+use Rattle.std.proofs.Common.{◌≡◌, ℕ, ◌+◌, ◌<◌, ◌≤◌, Bool, true, false, cond, List, [], ◌∷◌, ◌++◌, length, Option, Some, None, Result, Ok, Err, refl, sym, ap, ◌∙◌, subst, inl, inr}
+use Rattle.std.specs.Prelude.{filter_map, slice_get, option_and_then, Decides, IfOk}
+use Rattle.std.specs.List.{cons_option}
+use Rattle.std.proofs.lemmas.List.Elements.{filter_map-append}
+use Rattle.std.proofs.lemmas.Option.{slice_get_within, get_or_from_slice_get}
+use Rattle.board_defs.specs.declared.fault.Single.{Single}
+use Rattle.tap_defs.specs.board.Explaining.{Explains}
+use Rattle.fault_sim.specs.Places.{places_of, fault_at}
+use Rattle.side_by_side.specs.declared.pieces.Piece.{Piece}
+use Rattle.side_by_side.specs.Pieces.{GivesTogether, items_between, piece_of, piece_start, said_then, seen}
+use Rattle.side_by_side.proofs.PieceLemmas.{IsOfRanges, of_pieces}
+use Rattle.side_by_side.proofs.RangeLemmas.{range_sum, range_none, range_one}
+use Rattle.diagnoser.specs.declared.search.Search.{Search}
+use Rattle.fault_sim.specs.Diagnosis.{Picks}
+use Rattle.diagnoser.specs.inner.Search.{faults_between, Found}
+use Rattle.diagnoser.proofs.ThoseLemmas.{those_append}
+
+pub found_append : (s : Search) (from middle to : ℕ) (a b : List Single) → from ≤ middle → middle ≤ to → Found s from middle a → Found s middle to b → Found s from to (a ++ b)
+found_append s from middle to a b low high first second =
+    let f = fault_at s.logged.test.board.now in
+    let all : faults_between s from middle ++ faults_between s middle to ≡ faults_between s from to =
+    sym (ap (λ (l : List ℕ). filter_map f l) (range_sum s.suspects.now from middle to low high)
+    ∙ filter_map-append f (items_between s.suspects.now from middle) (items_between s.suspects.now middle to)) in
+    subst (λ (l : List Single). Picks (λ single. Explains s.logged.test.board.now single s.logged.log.now) l (a ++ b)) all
+    (those_append (λ single. Explains s.logged.test.board.now single s.logged.log.now) (faults_between s from middle) (faults_between s middle to) a b first second)
+
+pub found_nothing : (s : Search) (i : ℕ) → Found s i i []
+found_nothing s i =
+    subst (λ (l : List ℕ). Picks (λ single. Explains s.logged.test.board.now single s.logged.log.now) (filter_map (fault_at s.logged.test.board.now) l) []) (sym (range_none s.suspects.now i)) refl
+
+-- one candidate
+one_candidate : (s : Search) (i place : ℕ) → slice_get s.suspects.now i ≡ Some place → faults_between s i (i + 1) ≡ cons_option (fault_at s.logged.test.board.now place) []
+one_candidate s i place at =
+    ap (filter_map (fault_at s.logged.test.board.now)) (range_one s.suspects.now i place (slice_get_within s.suspects.now i place at) (sym (get_or_from_slice_get s.suspects.now i place place at)))
+
+pub found_none : (s : Search) (i place : ℕ) → slice_get s.suspects.now i ≡ Some place → slice_get (places_of s.logged.test.board.now) place ≡ Some None → Found s i (i + 1) []
+found_none s i place at no_fault =
+    let none : fault_at s.logged.test.board.now place ≡ None = ap (λ (o : Option (Option Single)). option_and_then (λ p. p) o) no_fault in
+    let empty : [] ≡ faults_between s i (i + 1) = sym (one_candidate s i place at ∙ ap (λ (o : Option Single). cons_option o []) none) in
+    subst (λ (l : List Single). Picks (λ q. Explains s.logged.test.board.now q s.logged.log.now) l []) empty refl
+
+pub found_one : (s : Search) (i place : ℕ) (single : Single) (holds : Bool) → slice_get s.suspects.now i ≡ Some place → slice_get (places_of s.logged.test.board.now) place ≡ Some (Some single) →
+    Decides holds (Explains s.logged.test.board.now single s.logged.log.now) → Found s i (i + 1) (cond holds (single ∷ []) [])
+found_one s i place single holds at fault decides =
+    let some : fault_at s.logged.test.board.now place ≡ Some single = ap (λ (o : Option (Option Single)). option_and_then (λ p. p) o) fault in
+    let one : single ∷ [] ≡ faults_between s i (i + 1) = sym (one_candidate s i place at ∙ ap (λ (o : Option Single). cons_option o []) some) in
+    subst (λ (l : List Single). Picks (λ q. Explains s.logged.test.board.now q s.logged.log.now) l (cond holds (single ∷ []) [])) one (by_test holds decides)
+  where
+    by_test : (b : Bool) → Decides b (Explains s.logged.test.board.now single s.logged.log.now) → Picks (λ q. Explains s.logged.test.board.now q s.logged.log.now) (single ∷ []) (cond b (single ∷ []) [])
+    by_test true decides = inl ([], decides.0 refl, refl, refl)
+    by_test false decides = inr ((λ explains. let bad : false ≡ true = decides.1 explains in cc bad), refl)
+
+-- what was found of neighbouring ranges
+found_ranges : (s : Search) (items : ℕ) {E : Type 0} → IsOfRanges {E = E} items (λ from to said. IfOk said (Found s from to))
+found_ranges s items = record {
+  nothing = found_nothing s;
+  both = λ from middle to said later low high within. both from middle to said later low high;
+}
+  where
+    both : {E : Type 0} (from middle to : ℕ) (said later : Result (List Single) E) → from ≤ middle → middle ≤ to → IfOk said (Found s from middle) → IfOk later (Found s middle to) → IfOk (said_then said later) (Found s from to)
+    both from middle to (Ok a) (Ok b) low high first second = found_append s from middle to a b low high first second
+    both from middle to (Ok a) (Err e) low high first second = tt
+    both from middle to (Err e) later low high first second = tt
+
+found_seen : (s : Search) (from to : ℕ) {V E : Type 0} (view : V → List Single) (answer : Result V E) → IfOk answer (λ v. Found s from to (view v)) → IfOk (seen view answer) (Found s from to)
+found_seen s from to view (Ok v) found = found
+found_seen s from to view (Err e) found = tt
+
+seen_found : (s : Search) (from to : ℕ) {V E : Type 0} (view : V → List Single) (answer : Result V E) → IfOk (seen view answer) (Found s from to) → IfOk answer (λ v. Found s from to (view v))
+seen_found s from to view (Ok v) found = found
+seen_found s from to view (Err e) found = tt
+
+-- what the pieces find is found of all candidates
+pub found_pieces : (s : Search) (items pieces : ℕ) → 0 < pieces → items ≡ length s.suspects.now → {V E : Type 0} (view : V → List Single) (Gives : Piece → Result V E → Type 0) (IsRefusal : E → Type 0) (result : Result V E) → GivesTogether view Gives IsRefusal items pieces result →
+    ((number : ℕ) (answer : Result V E) → Gives (piece_of items pieces number) answer → IfOk answer (λ v. Found s (piece_start items pieces number) (piece_start items pieces (number + 1)) (view v))) →
+    IfOk result (λ v. Found s 0 (length s.suspects.now) (view v))
+found_pieces s items pieces some count {V} {E} view Gives IsRefusal result gives each =
+    subst (λ (n : ℕ). IfOk result (λ v. Found s 0 n (view v))) count
+    (seen_found s 0 items view result
+    (of_pieces items (λ from to said. IfOk said (Found s from to)) view pieces some (found_ranges s items) Gives IsRefusal result
+    (λ number answer within found. found_seen s (piece_start items pieces number) (piece_start items pieces (number + 1)) view answer (each number answer found)) (λ fault refused. tt) gives))
