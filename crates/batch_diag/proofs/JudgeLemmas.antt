@@ -1,16 +1,18 @@
--- Verdicts on neighbouring ranges of blocks, and where the blocks are cut.
-use Rattle.std.proofs.Common.{◌≡◌, ℕ, ◌+◌, ◌-◌, ◌*◌, ◌/◌, ◌<◌, ◌≤◌, suc, List, [], ◌∷◌, ◌++◌, length, get_or, take, drop, Result, Ok, Err, refl, sym, ap, ◌∙◌, subst, arith}
-use Rattle.std.specs.Prelude.{All, IfOk, IsOkAnd}
-use Rattle.std.proofs.lemmas.List.{drop_more, take_all}
+-- Verdicts on the blocks from one up to but without another.
+use Rattle.std.proofs.Common.{◌≡◌, ℕ, ◌+◌, ◌<◌, ◌≤◌, suc, List, [], ◌∷◌, ◌++◌, length, get_or, Result, Ok, Err, refl, sym, ap, subst, arith}
+use Rattle.std.specs.Prelude.{All, IfOk}
 use Rattle.std.proofs.lemmas.List.Elements.{All-nil, All-cons}
 use Rattle.board_defs.specs.declared.board.RawBoard.{RawBoard}
 use Rattle.diagnoser.specs.Diagnosis.{IsNamed}
-use Rattle.diagnoser.proofs.CutLemmas.{cut_rises, cut_start, cut_end, parts}
 use Rattle.batch_diag.specs.declared.block.Block.{Block}
 use Rattle.batch_diag.specs.declared.judging.Batch.{Batch}
 use Rattle.batch_diag.specs.declared.verdict.Verdict.{Verdict}
 use Rattle.batch_diag.specs.Verdicts.{EachPair, IsVerdict, AreVerdicts}
 use Rattle.batch_diag.specs.inner.Judging.{Judges, Judged}
+use Rattle.side_by_side.specs.declared.pieces.Piece.{Piece}
+use Rattle.side_by_side.specs.Pieces.{GivesTogether, items_between, piece_of, piece_start, said_then, seen}
+use Rattle.side_by_side.proofs.PieceLemmas.{IsOfRanges, of_pieces}
+use Rattle.side_by_side.proofs.RangeLemmas.{range_sum, range_none, range_one, range_whole}
 
 module _ {A B : Type 0} (R : A → B → Type 0) where
   each_append : (xs xs' : List A) (ys ys' : List B) → EachPair R xs ys → EachPair R xs' ys' → EachPair R (xs ++ xs') (ys ++ ys')
@@ -38,21 +40,18 @@ module _ {A B : Type 0} (R : A → B → Type 0) (P : B → Type 0) where
   each_second (x ∷ xs) [] each = absurd each
   each_second (x ∷ xs) (y ∷ ys) each = All-cons P y ys each.0.1 (each_second xs ys each.1)
 
--- each piece ends within the blocks
-pub cut_within : (m w p : ℕ) → 0 < w → p ≤ w → p * m / w ≤ m
-cut_within m w p some less = omega (arith, cut_rises m w p w some less, cut_end m w some)
-
 module _ (b : Batch) where
   judged_append : (from middle to : ℕ) (xs ys : List Verdict) → from ≤ middle → middle ≤ to → Judged b from middle xs → Judged b middle to ys → Judged b from to (xs ++ ys)
   judged_append from middle to xs ys low high first second =
-      subst (λ (l : List Block). EachPair (Judges b) l (xs ++ ys)) (sym (parts b.blocks.now from middle to low high))
-      (each_append (Judges b) (take (middle - from) (drop from b.blocks.now)) (take (to - middle) (drop middle b.blocks.now)) xs ys first second)
+      subst (λ (l : List Block). EachPair (Judges b) l (xs ++ ys)) (sym (range_sum b.blocks.now from middle to low high))
+      (each_append (Judges b) (items_between b.blocks.now from middle) (items_between b.blocks.now middle to) xs ys first second)
 
   -- no verdict so far
-  pub judged_start : (from first : ℕ) (none : List Verdict) → first ≡ from → none ≡ [] → Judged b from first none
-  judged_start from first none same is =
-      let nothing : first - from ≡ 0 = omega arith in
-      subst (λ (xs : List Verdict). EachPair (Judges b) (take (first - from) (drop from b.blocks.now)) xs) (sym is) (subst (λ (n : ℕ). EachPair (Judges b) (take n (drop from b.blocks.now)) []) (sym nothing) tt)
+  judged_none : (i : ℕ) → Judged b i i []
+  judged_none i = subst (λ (l : List Block). EachPair (Judges b) l []) (sym (range_none b.blocks.now i)) tt
+
+  pub judged_start : (from : ℕ) (none : List Verdict) → none ≡ [] → Judged b from from none
+  judged_start from none is = subst (λ (xs : List Verdict). Judged b from from xs) (sym is) (judged_none from)
 
   -- one verdict more
   pub judged_more : (from i : ℕ) (xs more : List Verdict) (x : Verdict) → from ≤ i → more ≡ xs ++ x ∷ [] → Judged b from i xs → Judged b i (i + 1) (x ∷ []) → Judged b from (i + 1) more
@@ -63,22 +62,40 @@ module _ (b : Batch) where
 
   -- one block
   pub judged_one : (i : ℕ) (block : Block) (verdict : Verdict) → i < length b.blocks.now → block ≡ get_or b.blocks.now i block → Judges b block verdict → Judged b i (i + 1) (verdict ∷ [])
-  judged_one i block verdict less is judges =
-      let one : i + 1 - i ≡ 1 = omega arith in
-      let blocks : take (i + 1 - i) (drop i b.blocks.now) ≡ block ∷ [] = ap (λ n. take n (drop i b.blocks.now)) one ∙ ap (take 1) (drop_more b.blocks.now i block less) ∙ ap (λ (x : Block). x ∷ []) (sym is) in
-      subst (λ (l : List Block). EachPair (Judges b) l (verdict ∷ [])) (sym blocks) (judges, tt)
+  judged_one i block verdict less is judges = subst (λ (l : List Block). EachPair (Judges b) l (verdict ∷ [])) (sym (range_one b.blocks.now i block less is)) (judges, tt)
 
-  -- the verdicts of two halves
-  pub judged_both : {V E : Type 0} (view : V → List Verdict) (from middle to : ℕ) (left right all : Result V E) → from ≤ middle → middle ≤ to →
-      IfOk left (λ v. Judged b from middle (view v)) → IfOk right (λ v. Judged b middle to (view v)) → IfOk all (λ v. IsOkAnd left (λ one. IsOkAnd right (λ two. view v ≡ view one ++ view two))) → IfOk all (λ v. Judged b from to (view v))
-  judged_both view from middle to left right (Err e) low high first second both = tt
-  judged_both view from middle to (Err e) right (Ok v) low high first second both = absurd both
-  judged_both view from middle to (Ok one) (Err e) (Ok v) low high first second both = absurd both
-  judged_both view from middle to (Ok one) (Ok two) (Ok v) low high first second both =
-      subst (λ (l : List Verdict). Judged b from to l) (sym both) (judged_append from middle to (view one) (view two) low high first second)
+  -- the verdicts on neighbouring ranges
+  judged_ranges : (items : ℕ) {E : Type 0} → IsOfRanges {E = E} items (λ from to said. IfOk said (Judged b from to))
+  judged_ranges items = record {
+    nothing = judged_none;
+    both = λ from middle to said later low high within. both from middle to said later low high;
+  }
+    where
+      both : {E : Type 0} (from middle to : ℕ) (said later : Result (List Verdict) E) → from ≤ middle → middle ≤ to → IfOk said (Judged b from middle) → IfOk later (Judged b middle to) → IfOk (said_then said later) (Judged b from to)
+      both from middle to (Ok xs) (Ok ys) low high first second = judged_append from middle to xs ys low high first second
+      both from middle to (Ok xs) (Err e) low high first second = tt
+      both from middle to (Err e) later low high first second = tt
 
--- the verdicts of all pieces
-module _ (board : RawBoard) (blocks : List Block) (pieces : ℕ) (some : 0 < pieces) where
+  judged_seen : (from to : ℕ) {V E : Type 0} (view : V → List Verdict) (answer : Result V E) → IfOk answer (λ v. Judged b from to (view v)) → IfOk (seen view answer) (Judged b from to)
+  judged_seen from to view (Ok v) judged = judged
+  judged_seen from to view (Err e) judged = tt
+
+  seen_judged : (from to : ℕ) {V E : Type 0} (view : V → List Verdict) (answer : Result V E) → IfOk (seen view answer) (Judged b from to) → IfOk answer (λ v. Judged b from to (view v))
+  seen_judged from to view (Ok v) judged = judged
+  seen_judged from to view (Err e) judged = tt
+
+  -- the verdicts of the pieces are those on all blocks
+  pub judged_pieces : (items pieces : ℕ) → 0 < pieces → items ≡ length b.blocks.now → {V E : Type 0} (view : V → List Verdict) (Gives : Piece → Result V E → Type 0) (IsRefusal : E → Type 0) (result : Result V E) → GivesTogether view Gives IsRefusal items pieces result →
+      ((number : ℕ) (answer : Result V E) → Gives (piece_of items pieces number) answer → IfOk answer (λ v. Judged b (piece_start items pieces number) (piece_start items pieces (number + 1)) (view v))) →
+      IfOk result (λ v. Judged b 0 (length b.blocks.now) (view v))
+  judged_pieces items pieces some count view Gives IsRefusal result gives each =
+      subst (λ (n : ℕ). IfOk result (λ v. Judged b 0 n (view v))) count
+      (seen_judged 0 items view result
+      (of_pieces items (λ from to said. IfOk said (Judged b from to)) view pieces some (judged_ranges items) Gives IsRefusal result
+      (λ number answer within judged. judged_seen (piece_start items pieces number) (piece_start items pieces (number + 1)) view answer (each number answer judged)) (λ fault refused. tt) gives))
+
+-- the verdicts on all blocks
+module _ (board : RawBoard) (blocks : List Block) where
   abbrev Named : Verdict → Type 0
   Named verdict = All (IsNamed board) verdict.faults
 
@@ -86,15 +103,10 @@ module _ (board : RawBoard) (blocks : List Block) (pieces : ℕ) (some : 0 < pie
   Both block verdict = IsVerdict board block verdict × Named verdict
 
   abbrev pub AllJudged : List Verdict → Type 0
-  AllJudged verdicts = EachPair (λ block verdict. IsVerdict board block verdict × All (IsNamed board) verdict.faults) (take (pieces * length blocks / pieces - 0 * length blocks / pieces) (drop (0 * length blocks / pieces) blocks)) verdicts
+  AllJudged verdicts = EachPair (λ block verdict. IsVerdict board block verdict × All (IsNamed board) verdict.faults) (items_between blocks 0 (length blocks)) verdicts
 
   all_judged : (verdicts : List Verdict) → AllJudged verdicts → EachPair Both blocks verdicts
-  all_judged verdicts judged =
-      let start : 0 * length blocks / pieces ≡ 0 = cut_start (length blocks) pieces in
-      let count : pieces * length blocks / pieces - 0 * length blocks / pieces ≡ length blocks = omega (arith, start, cut_end (length blocks) pieces some) in
-      let all : take (pieces * length blocks / pieces - 0 * length blocks / pieces) (drop (0 * length blocks / pieces) blocks) ≡ blocks =
-      ap (λ n. take n (drop (0 * length blocks / pieces) blocks)) count ∙ ap (λ n. take (length blocks) (drop n blocks)) start ∙ take_all (length blocks) blocks (omega arith) in
-      subst (λ (l : List Block). EachPair Both l verdicts) all judged
+  all_judged verdicts judged = subst (λ (l : List Block). EachPair Both l verdicts) (range_whole blocks) judged
 
   pub all_verdicts : {V E : Type 0} (view : V → List Verdict) (result : Result V E) → IfOk result (λ v. AllJudged (view v)) → IfOk result (λ v. AreVerdicts board blocks (view v))
   all_verdicts view (Ok v) judged = each_first (IsVerdict board) Named blocks (view v) (all_judged (view v) judged)

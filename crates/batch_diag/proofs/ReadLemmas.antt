@@ -1,11 +1,12 @@
 -- Blocks that are read one after the other.
 use Rattle.std.proofs.Common.{◌≡◌, ℕ, ◌+◌, ◌-◌, ◌<◌, ◌≤◌, Bool, true, false, cond, Option, Some, None, Result, Ok, Err, List, [], ◌∷◌, ◌++◌, length, length-drop, suc, get_or, map, take, drop, refl, sym, ap, ◌∙◌, subst, arith, append_assoc, append-nil}
-use Rattle.std.specs.Prelude.{IfSome}
-use Rattle.std.proofs.lemmas.List.{drop_more, length-map, length-take-le, length_push, map-append, take_all}
+use Rattle.std.specs.Prelude.{IfSome, alloc_error}
+use Rattle.std.proofs.lemmas.List.{length-map, length-take-le, length_push, map-append}
+use Rattle.std.proofs.lemmas.List.Elements.{All-nil, All-append}
 use Rattle.std.proofs.lemmas.Option.{IfSome_then}
 use Rattle.answers.specs.Gives.{Gives}
 use Rattle.text_lines.specs.Words.{Word}
-use Rattle.response_log.specs.LogRows.{NumberedLine, rows_of_lines, Answer as LogAnswer}
+use Rattle.response_log.specs.LogRows.{HasSize, NumberedLine, rows_of_lines, Answer as LogAnswer}
 use Rattle.batch_diag.specs.declared.block.Block.{Block}
 use Rattle.batch_diag.specs.declared.fault.BatchFault.{BatchFault}
 use Rattle.batch_diag.specs.declared.fault.BatchFault.TheVariants.{Start, Title as WrongTitle, Inner, Memory}
@@ -14,8 +15,11 @@ use Rattle.batch_diag.specs.declared.lines.UnreadBlock.{UnreadBlock}
 use Rattle.batch_diag.specs.declared.reader.Reading.{Reading}
 use Rattle.batch_diag.specs.Batch.{Answer, BlockLines, begins_block, is_wrong_title, start_fault, title_fault, IsOfLines, block_then, blocks_of, logs_from, onto, unless, up_to_title, batch_told}
 use Rattle.batch_diag.specs.inner.Cutting.{rows_from, blocks_at, in_block}
-use Rattle.batch_diag.specs.inner.Reading.{IsRead, after, first_unread, lines_of_unread, said_between, said_then}
-use Rattle.diagnoser.proofs.CutLemmas.{cut_start, cut_end, parts}
+use Rattle.batch_diag.specs.inner.Reading.{IsRead, lines_of_unread, said_between, said_of}
+use Rattle.side_by_side.specs.declared.pieces.Piece.{Piece}
+use Rattle.side_by_side.specs.Pieces.{GivesTogether, after, items_between, piece_of, piece_start, said_then, seen}
+use Rattle.side_by_side.proofs.PieceLemmas.{IsOfRanges, of_pieces}
+use Rattle.side_by_side.proofs.RangeLemmas.{range_sum, range_none, range_one, range_whole}
 
 after_none : (answer : Answer) → after [] answer ≡ answer
 after_none (Ok blocks) = refl
@@ -70,33 +74,30 @@ module _ {V : Type 0} (view : V → List Block) (rows len : ℕ) (said later : A
 
 -- ranges of the blocks of a reading
 module _ (r : Reading) where
-  said_number : (from middle to : ℕ) → from ≤ middle → middle ≤ to → to ≤ length r.unread.now → said_between r from to ≡ said_then (said_between r from middle) (said_between r middle to)
+  said_number : (from middle to : ℕ) → from ≤ middle → middle ≤ to → to ≤ length r.unread.items → said_between r from to ≡ said_then (said_between r from middle) (said_between r middle to)
   said_number from middle to low high within =
-      let first = map lines_of_unread (take (middle - from) (drop from r.unread.now)) in
-      let second = map lines_of_unread (take (to - middle) (drop middle r.unread.now)) in
+      let first = map lines_of_unread (items_between r.unread.items from middle) in
+      let second = map lines_of_unread (items_between r.unread.items middle to) in
       let count : length first ≡ middle - from =
-      length-map (take (middle - from) (drop from r.unread.now)) lines_of_unread ∙ length-take-le (middle - from) (drop from r.unread.now) (omega (arith, length-drop from r.unread.now)) in
+      length-map (take (middle - from) (drop from r.unread.items)) lines_of_unread ∙ length-take-le (middle - from) (drop from r.unread.items) (omega (arith, length-drop from r.unread.items)) in
       let number : from + 1 + length first ≡ middle + 1 = omega (arith, count) in
-      ap (λ (l : List BlockLines). logs_from r.rows r.len (from + 1) l) (ap (map lines_of_unread) (parts r.unread.now from middle to low high) ∙ map-append lines_of_unread (take (middle - from) (drop from r.unread.now)) (take (to - middle) (drop middle r.unread.now)))
+      ap (λ (l : List BlockLines). logs_from r.rows r.len (from + 1) l) (ap (map lines_of_unread) (range_sum r.unread.items from middle to low high) ∙ map-append lines_of_unread (items_between r.unread.items from middle) (items_between r.unread.items middle to))
       ∙ logs_append r.rows r.len (from + 1) first second
       ∙ ap (λ (n : ℕ). said_then (said_between r from middle) (logs_from r.rows r.len n second)) number
 
   -- nothing is said of no block
   said_nothing : (i : ℕ) → said_between r i i ≡ Ok []
-  said_nothing i = let none : i - i ≡ 0 = omega arith in ap (λ (n : ℕ). logs_from r.rows r.len (i + 1) (map lines_of_unread (take n (drop i r.unread.now)))) none
+  said_nothing i = ap (λ (l : List UnreadBlock). logs_from r.rows r.len (i + 1) (map lines_of_unread l)) (range_none r.unread.items i)
 
-  pub read_start : (from first : ℕ) (none : List Block) → first ≡ from → none ≡ [] → said_between r from first ≡ Ok none
-  read_start from first none same is = ap (λ (n : ℕ). said_between r from n) same ∙ said_nothing from ∙ ap Ok (sym is)
+  pub read_start : (from : ℕ) (none : List Block) → none ≡ [] → said_between r from from ≡ Ok none
+  read_start from none is = said_nothing from ∙ ap Ok (sym is)
 
-  module _ (i : ℕ) (block : UnreadBlock) (less : i < length r.unread.now) (is : block ≡ get_or r.unread.now i block) where
+  module _ (i : ℕ) (block : UnreadBlock) (less : i < length r.unread.items) (is : block ≡ get_or r.unread.items i block) where
     abbrev own : LogAnswer
     own = rows_of_lines r.rows r.len (rows_from (block.line + 1) block.own.now)
 
     said_one : said_between r i (i + 1) ≡ block_then block.id.now (i + 1) own (Ok [])
-    said_one =
-        let one : i + 1 - i ≡ 1 = omega arith in
-        let alone : take (i + 1 - i) (drop i r.unread.now) ≡ block ∷ [] = ap (λ n. take n (drop i r.unread.now)) one ∙ ap (take 1) (drop_more r.unread.now i block less) ∙ ap (λ (b : UnreadBlock). b ∷ []) (sym is) in
-        ap (λ (l : List UnreadBlock). logs_from r.rows r.len (i + 1) (map lines_of_unread l)) alone
+    said_one = ap (λ (l : List UnreadBlock). logs_from r.rows r.len (i + 1) (map lines_of_unread l)) (range_one r.unread.items i block less is)
 
     -- one block more
     pub read_more : (from board : ℕ) (found more : List Block) (read : Block) → from ≤ i → said_between r from i ≡ Ok found → read.id ≡ block.id.now → in_block board own ≡ Ok read.log → more ≡ found ++ read ∷ [] → said_between r from (i + 1) ≡ Ok more
@@ -106,7 +107,7 @@ module _ (r : Reading) where
         (said_one ∙ block_holds block.id.now (i + 1) board own read.log (Ok []) log ∙ ap (λ (word : Word). Ok (record { id = word; log = read.log } ∷ [])) (sym id)) sum
 
     -- where one is no log, nothing behind it is told of
-    pub read_none : (from to : ℕ) (found : List Block) (fault : BatchFault) → from ≤ i → i < to → to ≤ length r.unread.now → said_between r from i ≡ Ok found → IfSome (batch_told fault) (λ f. in_block (i + 1) own ≡ Err f) → IfSome (batch_told fault) (λ f. said_between r from to ≡ Err f)
+    pub read_none : (from to : ℕ) (found : List Block) (fault : BatchFault) → from ≤ i → i < to → to ≤ length r.unread.items → said_between r from i ≡ Ok found → IfSome (batch_told fault) (λ f. in_block (i + 1) own ≡ Err f) → IfSome (batch_told fault) (λ f. said_between r from to ≡ Err f)
     read_none from to found fault low high within said fails =
         IfSome_then (batch_told fault) fails (λ f bad.
         said_number from i to low (omega (arith, high)) within
@@ -114,30 +115,65 @@ module _ (r : Reading) where
         ∙ ap (after found) (said_number i (i + 1) to (omega arith) (omega (arith, high)) within
         ∙ ap (λ (s : Answer). said_then s (said_between r (i + 1) to)) (said_one ∙ block_fails block.id.now (i + 1) own f (Ok []) bad)))
 
-  -- what two halves read
-  pub read_both : {V : Type 0} (view : V → List Block) (from middle to : ℕ) (result : Result V BatchFault) → from ≤ middle → middle ≤ to → to ≤ length r.unread.now →
-      IsRead view r.rows r.len (said_then (said_between r from middle) (said_between r middle to)) result → IsRead view r.rows r.len (said_between r from to) result
-  read_both view from middle to result low high within read = subst (λ (said : Answer). IsRead view r.rows r.len said result) (sym (said_number from middle to low high within)) read
-
-  -- all pieces read all blocks
-  pub read_all : 0 < r.pieces → said_between r (first_unread r 0) (first_unread r r.pieces) ≡ logs_from r.rows r.len 1 (map lines_of_unread r.unread.now)
-  read_all some =
-      let blocks = r.unread.now in
-      let start : first_unread r 0 ≡ 0 = cut_start (length blocks) r.pieces in
-      let end : first_unread r r.pieces ≡ length blocks = cut_end (length blocks) r.pieces some in
-      let whole : length blocks - 0 ≡ length blocks = omega arith in
-      ap (λ (n : ℕ). said_between r n (first_unread r r.pieces)) start
-      ∙ ap (λ (n : ℕ). said_between r 0 n) end
-      ∙ ap (λ (n : ℕ). logs_from r.rows r.len 1 (map lines_of_unread (take n blocks))) whole
-      ∙ ap (λ (l : List UnreadBlock). logs_from r.rows r.len 1 (map lines_of_unread l)) (take_all (length blocks) blocks (omega arith))
-
   pub read_end : (from i end : ℕ) (found : List Block) → i ≡ end → said_between r from i ≡ Ok found → said_between r from end ≡ Ok found
   read_end from i end found same said = ap (λ (n : ℕ). said_between r from n) (sym same) ∙ said
 
-  -- the pieces read what is said of a text with these blocks
-  pub read_whole_text : {V : Type 0} (view : V → List Block) (said : Answer) (result : Result V BatchFault) → 0 < r.pieces → said ≡ logs_from r.rows r.len 1 (map lines_of_unread r.unread.now) →
-      IsRead view r.rows r.len (said_between r (first_unread r 0) (first_unread r r.pieces)) result → IsRead view r.rows r.len said result
-  read_whole_text view said result some is read = subst (λ (s : Answer). IsRead view r.rows r.len s result) (read_all some ∙ sym is) read
+  -- what was read of the blocks from one up to but without another
+  abbrev ReadBetween : ℕ → ℕ → Answer → Type 0
+  ReadBetween from to said = IsRead (λ (l : List Block). l) r.rows r.len (said_between r from to) said
+
+  abbrev Sized : Block → Type 0
+  Sized block = HasSize r.rows r.len block.log
+
+  read_ranges : IsOfRanges (length r.unread.items) ReadBetween
+  read_ranges = record {
+    nothing = λ i. (said_nothing i, All-nil Sized, tt);
+    both = λ from middle to said later low high within first second.
+        subst (λ (s : Answer). IsRead (λ (l : List Block). l) r.rows r.len s (said_then said later)) (sym (said_number from middle to low high within)) (both from middle to said later first second);
+  }
+    where
+      both : (from middle to : ℕ) (said later : Answer) → ReadBetween from middle said → ReadBetween middle to later → IsRead (λ (l : List Block). l) r.rows r.len (said_then (said_between r from middle) (said_between r middle to)) (said_then said later)
+      both from middle to (Ok blocks) (Ok more) first second =
+          (read_whole (λ (l : List Block). l) r.rows r.len (said_between r from middle) (said_between r middle to) blocks more (blocks ++ more) first.0 second.0 refl, All-append Sized blocks more first.1 second.1, tt)
+      both from middle to (Ok blocks) (Err fault) first second = (read_later (λ (l : List Block). l) r.rows r.len (said_between r from middle) (said_between r middle to) blocks fault first.0 second.0, tt, second.2)
+      both from middle to (Err fault) later first second = (read_first (λ (l : List Block). l) r.rows r.len (said_between r from middle) (said_between r middle to) fault first.0, tt, first.2)
+
+  read_refused : (from to : ℕ) (fault : BatchFault) → fault ≡ Memory alloc_error → ReadBetween from to (Err fault)
+  read_refused from to fault is = subst (λ (f : BatchFault). ReadBetween from to (Err f)) (sym is) (tt, tt, tt)
+
+  module _ {V : Type 0} (view : V → List Block) where
+    read_seen : (from to : ℕ) (answer : Result V BatchFault) → IsRead view r.rows r.len (said_between r from to) answer → ReadBetween from to (seen view answer)
+    read_seen from to (Ok v) read = read
+    read_seen from to (Err fault) read = read
+
+    seen_read : (answer : Result V BatchFault) → IsRead (λ (l : List Block). l) r.rows r.len (said_of r) (seen view answer) → IsRead view r.rows r.len (said_of r) answer
+    seen_read (Ok v) read = read
+    seen_read (Err fault) read = read
+
+    all_said : said_between r 0 (length r.unread.items) ≡ said_of r
+    all_said = ap (λ (l : List UnreadBlock). logs_from r.rows r.len 1 (map lines_of_unread l)) (range_whole r.unread.items)
+
+    -- what was read of all blocks
+    read_all : (answer : Result V BatchFault) → ReadBetween 0 (length r.unread.items) (seen view answer) → IsRead view r.rows r.len (said_of r) answer
+    read_all answer read = seen_read answer (subst (λ (s : Answer). IsRead (λ (l : List Block). l) r.rows r.len s (seen view answer)) all_said read)
+
+    -- what the pieces read is read of all blocks
+    pub read_of_pieces : (items pieces : ℕ) → 0 < pieces → items ≡ length r.unread.items → (Gives : Piece → Result V BatchFault → Type 0) (result : Result V BatchFault) → GivesTogether view Gives (λ fault. fault ≡ Memory alloc_error) items pieces result →
+        ((number : ℕ) (answer : Result V BatchFault) → Gives (piece_of items pieces number) answer → IsRead view r.rows r.len (said_between r (piece_start items pieces number) (piece_start items pieces (number + 1))) answer) →
+        IsRead view r.rows r.len (said_of r) result
+    read_of_pieces items pieces some count Gives result gives each =
+        read_all result
+        (subst (λ (n : ℕ). ReadBetween 0 n (seen view result)) count
+        (of_pieces items ReadBetween view pieces some (subst (λ (n : ℕ). IsOfRanges n ReadBetween) (sym count) read_ranges) Gives (λ fault. fault ≡ Memory alloc_error) result
+        (λ number answer within read. read_seen (piece_start items pieces number) (piece_start items pieces (number + 1)) answer (each number answer read)) (λ fault refused. read_refused 0 items fault refused) gives))
+
+    pub read_end_all : (end : ℕ) (answer : Result V BatchFault) → end ≡ length r.unread.items → IsRead view r.rows r.len (said_between r 0 end) answer → IsRead view r.rows r.len (said_of r) answer
+    read_end_all end answer is read =
+        subst (λ (s : Answer). IsRead view r.rows r.len s answer) (ap (λ (n : ℕ). said_between r 0 n) is ∙ all_said) read
+
+    -- and of a text with these blocks
+    pub read_text : (rows len : ℕ) (said : Answer) (answer : Result V BatchFault) → said ≡ said_of r → r.rows ≡ rows → r.len ≡ len → IsRead view r.rows r.len (said_of r) answer → IsRead view rows len said answer
+    read_text rows len said answer is same_rows same_len read = subst (λ (n : ℕ). IsRead view rows n said answer) same_len (subst (λ (n : ℕ). IsRead view n r.len said answer) same_rows (subst (λ (s : Answer). IsRead view r.rows r.len s answer) (sym is) read))
 
 -- blocks that are cut out of a text
 pub cut_more : (lines : List BlockLines) (unread : List UnreadBlock) (next following : Option Title) (title : Title) (own : List ℕ) (block : UnreadBlock) → next ≡ Some title → lines ≡ map lines_of_unread unread ++ blocks_at next →

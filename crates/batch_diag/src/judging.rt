@@ -1,5 +1,5 @@
 // The verdicts on the blocks of a batch, in pieces that run side by side.
-ghost use Rattle.std.specs.Prelude.{◌≡◌, ◌+◌, ◌<◌, ◌≤◌, ◌++◌, [], ◌∷◌, length, All, IfOk, IsOkAnd};
+ghost use Rattle.std.specs.Prelude.{◌≡◌, ◌+◌, ◌<◌, ◌≤◌, [], ◌∷◌, length, All, IfOk};
 ghost use Rattle.std.specs.Thread.{IsSync};
 ghost use Rattle.board_defs.specs.Passes.{passes_of};
 ghost use Rattle.scan_planner.specs.Plans.{IsPlanOf};
@@ -8,26 +8,25 @@ ghost use Rattle.fault_sim.specs.Diagnosis.{IsDiagnosis};
 ghost use Rattle.fault_sim.specs.Kept.{IsBoardTest, IsLogged};
 ghost use Rattle.fault_sim.specs.Places.{IsUniverse};
 ghost use Rattle.batch_diag.specs.Verdicts.{AreLogs, AreVerdicts};
-ghost use Rattle.batch_diag.specs.inner.Judging.{IsBatch, Judged, first_of};
+ghost use Rattle.batch_diag.specs.inner.Judging.{IsBatch, Judged};
 
 use crate::block::Block;
-use crate::pieces::piece_start;
 use crate::verdict::Verdict;
 use board_defs::{Board, Items};
 use bt_base::{Gate, OpenGate};
 use diagnoser::diagnose_logged;
 use fault_sim::{BoardTest, LoggedTest, Universe, kept_passes, none_differs};
 use scan_planner::Plan;
+use side_by_side::{Piece, in_pieces};
 use std::alloc::{AllocError, Global};
-use std::thread::{Threads, join};
+use std::thread::Threads;
 
-/// Blocks whose logs are of a board's test, with the universe of the board, and the number of the pieces that these are cut into.
+/// Blocks whose logs are of a board's test, with the universe of the board.
 #[derive(Clone, Copy)]
 pub struct Batch<'a> {
     pub test: BoardTest<'a>,
     pub universe: &'a Universe,
     pub blocks: &'a [Block],
-    pub pieces: u32,
 }
 
 /// A verdict on each block of a batch, in the order of the blocks, whatever the number of workers and the gate are. The plan
@@ -87,9 +86,8 @@ fn judge_all<R: Threads + Sync, G: Gate>(
         test: *test,
         universe: &universe,
         blocks,
-        pieces: workers,
     };
-    judge_pieces(rt, alloc, batch, 0, workers, gate)
+    judge_pieces(rt, alloc, batch, workers, gate)
 }
 
 // The verdict on a log.
@@ -120,15 +118,15 @@ fn judge<R: Threads + Sync, G: Gate>(
     alloc: Global,
     batch: Batch<'_>,
     piece: u32,
-    i: usize,
+    i: u64,
     gate: &G,
 ) -> Result<Verdict, AllocError>
     requires batch { IsBatch batch }
     requires block { i < length batch.blocks.now }
     ensures { IfOk result (λ verdict. Judged batch.entry i (i + 1) (verdict ∷ [])) }
 {
-    gate.enter(piece, i as u64);
-    let log = &batch.blocks[i].log;
+    gate.enter(piece, i);
+    let log = &batch.blocks[i as usize].log;
     let logged = LoggedTest {
         test: batch.test,
         log,
@@ -136,75 +134,42 @@ fn judge<R: Threads + Sync, G: Gate>(
     verdict_on(rt, alloc, &logged, batch.universe)
 }
 
-// The first block of a piece, and the number of blocks for the piece after the last.
-fn first_of(batch: Batch<'_>, piece: u32) -> usize
-    requires batch { IsBatch batch }
-    requires piece { piece ≤ batch.pieces }
-    ensures value { result ≡ first_of batch.entry piece }
-    ensures within { result ≤ length batch.entry.blocks.now }
-{
-    piece_start(piece, batch.pieces, batch.blocks.len())
-}
-
 // The verdicts of a piece.
 fn judge_piece<R: Threads + Sync, G: Gate>(
     rt: &R,
     alloc: Global,
     batch: Batch<'_>,
-    piece: u32,
+    piece: Piece,
     gate: &G,
 ) -> Result<Vec<Verdict>, AllocError>
     requires batch { IsBatch batch }
-    requires piece { piece < batch.pieces }
-    ensures { IfOk result (λ verdicts. Judged batch.entry (first_of batch.entry piece) (first_of batch.entry (piece + 1)) verdicts.items) }
+    requires order { piece.first ≤ piece.end }
+    requires within { piece.end ≤ length batch.blocks.now }
+    ensures { IfOk result (λ verdicts. Judged batch.entry piece.first piece.end verdicts.items) }
 {
     let mut verdicts = Vec::new(alloc);
-    for i in first_of(batch, piece)..first_of(batch, piece + 1) {
-        verdicts.push(judge(rt, alloc, batch, piece, i, gate)?)?;
+    for i in piece.first..piece.end {
+        verdicts.push(judge(rt, alloc, batch, piece.number, i, gate)?)?;
     }
     Ok(verdicts)
 }
 
-// The verdicts of two halves, the left before the right.
-fn both(
-    left: Result<Vec<Verdict>, AllocError>,
-    right: Result<Vec<Verdict>, AllocError>,
-) -> Result<Vec<Verdict>, AllocError>
-    ensures { IfOk result (λ all. IsOkAnd left (λ one. IsOkAnd right (λ two. all.items ≡ one.items ++ two.items))) }
-{
-    let mut verdicts = left?;
-    let mut later = right?;
-    verdicts.append(&mut later)?;
-    Ok(verdicts)
-}
-
-// The verdicts of the pieces from `first` up to but without `end`. The halves of the pieces run side by side.
-#[cycle(halves)]
+// The verdicts on all blocks, which are cut into so many pieces.
 fn judge_pieces<R: Threads + Sync, G: Gate>(
     rt: &R,
     alloc: Global,
     batch: Batch<'_>,
-    first: u32,
-    end: u32,
+    pieces: u32,
     gate: &G,
 ) -> Result<Vec<Verdict>, AllocError>
     requires batch { IsBatch batch }
-    requires some { first < end }
-    requires within { end ≤ batch.pieces }
-    ensures { IfOk result (λ verdicts. Judged batch.entry (first_of batch.entry first) (first_of batch.entry end) verdicts.items) }
+    requires some { 0 < pieces }
+    ensures { IfOk result (λ verdicts. Judged batch.entry 0 (length batch.entry.blocks.now) verdicts.items) }
 {
-    if end - first == 1 {
-        return judge_piece(rt, alloc, batch, first, gate);
-    }
-    let middle = first + (end - first) / 2;
-    let low = move || -> Result<Vec<Verdict>, AllocError>
-        requires { IsSync R.row × IsBatch batch × (first < middle) × (middle ≤ batch.pieces) }
-        ensures { IfOk result (λ verdicts. Judged batch.entry (first_of batch.entry first) (first_of batch.entry middle) verdicts.items) }
-    { judge_pieces(rt, alloc, batch, first, middle, gate) };
-    let high = move || -> Result<Vec<Verdict>, AllocError>
-        requires { IsSync R.row × IsBatch batch × (middle < end) × (end ≤ batch.pieces) }
-        ensures { IfOk result (λ verdicts. Judged batch.entry (first_of batch.entry middle) (first_of batch.entry end) verdicts.items) }
-    { judge_pieces(rt, alloc, batch, middle, end, gate) };
-    let (left, right) = join(rt, low, high);
-    both(left, right)
+    let count = batch.blocks.len() as u64;
+    let find = move |piece: Piece| -> Result<Vec<Verdict>, AllocError>
+        requires { IsSync R.row × IsBatch batch × (piece.first ≤ piece.end) × (piece.end ≤ length batch.blocks.now) }
+        ensures { IfOk result (λ verdicts. Judged batch.entry piece.first piece.end verdicts.items) }
+    { judge_piece(rt, alloc, batch, piece, gate) };
+    in_pieces(rt, alloc, count, pieces, &find)
 }

@@ -10,7 +10,6 @@ mod judging;
 pub mod law;
 mod lines;
 mod listing;
-mod pieces;
 mod reader;
 mod verdict;
 

@@ -1,20 +1,19 @@
 // From a text to the logs of boards.
-ghost use Rattle.std.specs.Prelude.{◌≡◌, ℕ, ◌+◌, ◌<◌, ◌≤◌, ◌^◌, length, get_or, map, All, IfOk, IfErr, IfSome, MatchResult, Err};
-ghost use Rattle.std.specs.Thread.{IsSync};
+ghost use Rattle.std.specs.Prelude.{◌≡◌, ◌+◌, ◌<◌, ◌≤◌, ◌^◌, length, get_or, All, IfOk, IfErr, IfSome, MatchResult, Err};
 ghost use Rattle.answers.specs.Gives.{Gives};
 ghost use Rattle.response_log.specs.LogRows.{HasSize, rows_of_lines};
-ghost use Rattle.batch_diag.specs.Batch.{Answer, IsOfLines, batch_of, batch_told, logs_from};
+ghost use Rattle.batch_diag.specs.Batch.{IsOfLines, batch_of, batch_told};
 ghost use Rattle.batch_diag.specs.inner.Cutting.{IsUpTo, in_block, moved_inner, rows_from};
-ghost use Rattle.batch_diag.specs.inner.Reading.{AreShort, IsRead, IsReading, first_unread, lines_of_unread, said_between, said_then};
+ghost use Rattle.batch_diag.specs.inner.Reading.{AreShort, IsRead, said_between, said_of};
 
 use crate::block::Block;
 use crate::fault::BatchFault;
 use crate::lines::{UnreadBlock, list_blocks, start_fault, title_fault};
-use crate::pieces::piece_start;
 use board_defs::Name;
 use response_log::{Log, LogFault, log};
+use side_by_side::{Piece, in_pieces};
 use std::alloc::Global;
-use std::thread::{Threads, join};
+use std::thread::Threads;
 
 /// Reads the blocks of a batch, each with a log of `rows` rows with `len` bits each. Any bytes may stand in the text, and a
 /// text without words has no block.
@@ -29,17 +28,11 @@ pub fn blocks(alloc: Global, bytes: &[u8], rows: u64, len: u32) -> Result<Vec<Bl
     ensures size { IfOk result (λ blocks. All (λ block. HasSize rows len block.log) blocks.items) }
     ensures inner { MatchResult result (λ _. Unit {0}) IsOfLines }
 {
-    let unread = match unread_blocks(alloc, bytes) {
-        Ok(unread) => unread,
+    let reading = match reading_of(alloc, bytes, rows, len) {
+        Ok(reading) => reading,
         Err(fault) => return Err(fault),
     };
-    let reading = Reading {
-        unread: &unread,
-        rows,
-        len,
-        pieces: 1,
-    };
-    read_piece(alloc, reading, 0)
+    read_between(alloc, &reading, 0, count(&reading))
 }
 
 /// Reads the same blocks in as many pieces as there are workers, from 1 to 64, which differ by at most one block. Halves of the pieces run
@@ -58,25 +51,35 @@ pub fn blocks_by<R: Threads + Sync>(
     ensures size { IfOk result (λ blocks. All (λ block. HasSize rows len block.log) blocks.items) }
     ensures inner { MatchResult result (λ _. Unit {0}) IsOfLines }
 {
-    let unread = match unread_blocks(alloc, bytes) {
-        Ok(unread) => unread,
+    let reading = match reading_of(alloc, bytes, rows, len) {
+        Ok(reading) => reading,
         Err(fault) => return Err(fault),
     };
-    let reading = Reading {
-        unread: &unread,
-        rows,
-        len,
-        pieces: workers,
-    };
-    read_pieces(rt, alloc, reading, 0, workers)
+    read_pieces(rt, alloc, &reading, workers)
+}
+
+/// Blocks whose logs are to be read, and how many rows with how many bits each log has.
+#[derive(Drop)]
+pub struct Reading<'a> {
+    pub unread: Vec<UnreadBlock<'a>>,
+    pub rows: u64,
+    pub len: u32,
+}
+
+// How many blocks there are.
+fn count(reading: &Reading<'_>) -> usize
+    ensures { result ≡ length reading.now.unread.items }
+{
+    reading.unread.len()
 }
 
 // The blocks of a text before their logs are read, or the first line that can't stand where it does.
-fn unread_blocks(alloc: Global, bytes: &[u8]) -> Result<Vec<UnreadBlock<'_>>, BatchFault>
+fn reading_of(alloc: Global, bytes: &[u8], rows: u64, len: u32) -> Result<Reading<'_>, BatchFault>
     requires { length bytes.now < 2 ^ 32 }
-    ensures blocks { IfOk result (λ unread. (rows len : ℕ) → batch_of bytes.now rows len ≡ logs_from rows len 1 (map lines_of_unread unread.items)) }
-    ensures fault { IfErr result (λ fault. (rows len : ℕ) → IfSome (batch_told fault) (λ f. batch_of bytes.now rows len ≡ Err f)) }
-    ensures short { IfOk result (λ unread. AreShort unread.items) }
+    ensures said { IfOk result (λ reading. batch_of bytes.now rows len ≡ said_of reading) }
+    ensures fault { IfErr result (λ fault. IfSome (batch_told fault) (λ f. batch_of bytes.now rows len ≡ Err f)) }
+    ensures size { IfOk result (λ reading. (reading.rows ≡ rows) × (reading.len ≡ len)) }
+    ensures short { IfOk result (λ reading. AreShort reading.unread.items) }
     ensures inner { MatchResult result (λ _. Unit {0}) IsOfLines }
 {
     if let Some(fault) = start_fault(bytes) {
@@ -85,46 +88,34 @@ fn unread_blocks(alloc: Global, bytes: &[u8]) -> Result<Vec<UnreadBlock<'_>>, Ba
     if let Some(fault) = title_fault(bytes) {
         return Err(fault);
     }
-    Ok(list_blocks(alloc, bytes)?)
-}
-
-/// Blocks whose logs are to be read, how many rows with how many bits each log has, and the number of the pieces that the blocks are cut into.
-#[derive(Clone, Copy)]
-pub struct Reading<'a> {
-    pub unread: &'a [UnreadBlock<'a>],
-    pub rows: u64,
-    pub len: u32,
-    pub pieces: u32,
-}
-
-// The first block of a piece, and the number of blocks for the piece after the last.
-fn first_unread(reading: Reading<'_>, piece: u32) -> usize
-    requires reading { IsReading reading }
-    requires piece { piece ≤ reading.pieces }
-    ensures value { result ≡ first_unread reading.entry piece }
-    ensures within { result ≤ length reading.entry.unread.now }
-{
-    piece_start(piece, reading.pieces, reading.unread.len())
+    let unread = list_blocks(alloc, bytes)?;
+    Ok(Reading { unread, rows, len })
 }
 
 // Block `i`, before its log is read.
-fn unread_at(reading: Reading<'_>, i: usize) -> UnreadBlock<'_>
-    requires reading { IsReading reading }
-    requires block { i < length reading.unread.now }
-    ensures at { result ≡ get_or reading.entry.unread.now i result }
+fn unread_at<'a>(reading: &Reading<'a>, i: usize) -> UnreadBlock<'a>
+    requires short { AreShort reading.now.unread.items }
+    requires block { i < length reading.now.unread.items }
+    ensures at { result ≡ get_or reading.now.unread.items i result }
     ensures short { result.line + length result.own.now < 2 ^ 32 }
 {
     reading.unread[i]
 }
 
-// The blocks of a piece.
-fn read_piece(alloc: Global, reading: Reading<'_>, piece: u32) -> Result<Vec<Block>, BatchFault>
-    requires reading { IsReading reading }
-    requires piece { piece < reading.pieces }
-    ensures { IsRead (λ v. v.items) reading.entry.rows reading.entry.len (said_between reading.entry (first_unread reading.entry piece) (first_unread reading.entry (piece + 1))) result }
+// The blocks from one up to but without another.
+fn read_between(
+    alloc: Global,
+    reading: &Reading<'_>,
+    first: usize,
+    end: usize,
+) -> Result<Vec<Block>, BatchFault>
+    requires short { AreShort reading.now.unread.items }
+    requires order { first ≤ end }
+    requires within { end ≤ length reading.now.unread.items }
+    ensures { IsRead (λ v. v.items) reading.now.rows reading.now.len (said_between reading.now first end) result }
 {
     let mut found = Vec::new(alloc);
-    for i in first_unread(reading, piece)..first_unread(reading, piece + 1) {
+    for i in first..end {
         let unread = unread_at(reading, i);
         let block = match read_block(alloc, unread, reading.rows, reading.len, i as u32 + 1) {
             Ok(block) => block,
@@ -135,53 +126,23 @@ fn read_piece(alloc: Global, reading: Reading<'_>, piece: u32) -> Result<Vec<Blo
     Ok(found)
 }
 
-// The blocks of two halves, the left before the right.
-fn both(
-    left: Result<Vec<Block>, BatchFault>,
-    right: Result<Vec<Block>, BatchFault>,
-) -> Result<Vec<Block>, BatchFault>
-    ensures { (rows len : ℕ) (said later : Answer) → IsRead (λ v. v.items) rows len said left → IsRead (λ v. v.items) rows len later right → IsRead (λ v. v.items) rows len (said_then said later) result }
-{
-    let mut blocks = match left {
-        Ok(blocks) => blocks,
-        Err(fault) => return Err(fault),
-    };
-    let mut later = match right {
-        Ok(later) => later,
-        Err(fault) => return Err(fault),
-    };
-    blocks.append(&mut later)?;
-    Ok(blocks)
-}
-
-// The blocks of the pieces from `first` up to but without `end`. The halves of the pieces run side by side.
-#[cycle(reading)]
+// All blocks, which are cut into so many pieces.
 fn read_pieces<R: Threads + Sync>(
     rt: &R,
     alloc: Global,
-    reading: Reading<'_>,
-    first: u32,
-    end: u32,
+    reading: &Reading<'_>,
+    pieces: u32,
 ) -> Result<Vec<Block>, BatchFault>
-    requires reading { IsReading reading }
-    requires some { first < end }
-    requires within { end ≤ reading.pieces }
-    ensures { IsRead (λ v. v.items) reading.entry.rows reading.entry.len (said_between reading.entry (first_unread reading.entry first) (first_unread reading.entry end)) result }
+    requires short { AreShort reading.now.unread.items }
+    requires some { 0 < pieces }
+    ensures { IsRead (λ v. v.items) reading.now.rows reading.now.len (said_of reading.now) result }
 {
-    if end - first == 1 {
-        return read_piece(alloc, reading, first);
-    }
-    let middle = first + (end - first) / 2;
-    let low = move || -> Result<Vec<Block>, BatchFault>
-        requires { IsSync R.row × IsReading reading × (first < middle) × (middle ≤ reading.pieces) }
-        ensures { IsRead (λ v. v.items) reading.entry.rows reading.entry.len (said_between reading.entry (first_unread reading.entry first) (first_unread reading.entry middle)) result }
-    { read_pieces(rt, alloc, reading, first, middle) };
-    let high = move || -> Result<Vec<Block>, BatchFault>
-        requires { IsSync R.row × IsReading reading × (middle < end) × (end ≤ reading.pieces) }
-        ensures { IsRead (λ v. v.items) reading.entry.rows reading.entry.len (said_between reading.entry (first_unread reading.entry middle) (first_unread reading.entry end)) result }
-    { read_pieces(rt, alloc, reading, middle, end) };
-    let (left, right) = join(rt, low, high);
-    both(left, right)
+    let count = count(reading) as u64;
+    let read = move |piece: Piece| -> Result<Vec<Block>, BatchFault>
+        requires { AreShort reading.now.unread.items × (piece.first ≤ piece.end) × (piece.end ≤ length reading.now.unread.items) }
+        ensures { IsRead (λ v. v.items) reading.entry.now.rows reading.entry.now.len (said_between reading.entry.now piece.first piece.end) result }
+    { read_between(alloc, reading, piece.first as usize, piece.end as usize) };
+    in_pieces(rt, alloc, count, pieces, &read)
 }
 
 // A block with its log. Its number counts the blocks from 1.

@@ -4,6 +4,7 @@ ghost use Rattle.std.specs.Prelude.{◌<◌, ◌^◌, length};
 use super::*;
 use std::alloc::{AllocError, Global};
 use std::test::Fail;
+use std::thread::Threads;
 
 // The id of each block, and the bits of each of its rows, the first one to the left.
 fn shown(alloc: Global, blocks: &[Block]) -> Result<String, AllocError> {
@@ -23,18 +24,48 @@ fn shown(alloc: Global, blocks: &[Block]) -> Result<String, AllocError> {
     Ok(text)
 }
 
-fn answer_to(alloc: Global, text: &[u8], rows: u64) -> Result<String, AllocError>
+// What a text answers that is read in so many pieces, or at once where there is none.
+fn answer_in<R: Threads + Sync>(
+    rt: &R,
+    alloc: Global,
+    text: &[u8],
+    rows: u64,
+    pieces: u32,
+) -> Result<String, AllocError>
     requires { length text.now < 2 ^ 32 }
 {
-    match blocks(alloc, text, rows, 2) {
+    let read = if pieces == 0 {
+        blocks(alloc, text, rows, 2)
+    } else {
+        blocks_by(rt, alloc, text, rows, 2, pieces)
+    };
+    match read {
         Ok(blocks) => shown(alloc, &blocks),
         Err(fault) => fault.to_string(alloc),
     }
 }
 
+// Whether a text answers this, at once and in pieces of several sizes.
+fn answers<R: Threads + Sync>(
+    rt: &R,
+    alloc: Global,
+    text: &[u8],
+    rows: u64,
+    wanted: &str,
+) -> Result<bool, AllocError>
+    requires { length text.now < 2 ^ 32 }
+{
+    for pieces in [0, 1, 2, 3, 64] {
+        if answer_in(rt, alloc, text, rows, pieces)?.as_str() != wanted {
+            return Ok(false);
+        }
+    }
+    Ok(true)
+}
+
 #[test]
 fn batches(rt: HostRuntime) -> Result<(), Fail> {
-    let cases: [(&[u8], u64, &str); 18] = [
+    let cases: [(&[u8], u64, &str); 19] = [
         (b"", 2, ""),
         (b"# no board\n\n\t\r\n", 2, ""),
         (b"BOARD A\n1\n2\nBOARD B\n0\n2", 2, "A:10 01 B:00 01 "),
@@ -47,6 +78,11 @@ fn batches(rt: HostRuntime) -> Result<(), Fail> {
         (b"\t BOARD A # BOARD B\n\n1 # 2\n2", 2, "A:10 01 "),
         (b"BOARD A\n1\n1\nBOARD A\n2\n2\n", 2, "A:10 10 A:01 01 "),
         (b"BOARD A\nBOARD B", 0, "A:B:"),
+        (
+            b"BOARD A\n1\nBOARD B\n2\nBOARD C\n3\nBOARD D\n0\nBOARD E\n1",
+            1,
+            "A:10 B:01 C:11 D:00 E:10 ",
+        ),
         (b"BOARD A\n\nBOARD B\n1", 1, "board 1: only 0 rows"),
         (b"BOARD A\n1\nBOARD B\n2\n", 1, "A:10 B:01 "),
         (b"BOARD A\n1\nBOARD B\n1\n2", 2, "board 1: only 1 rows"),
@@ -72,11 +108,7 @@ fn batches(rt: HostRuntime) -> Result<(), Fail> {
     ];
     for (text, rows, wanted) in cases {
         assert!(rt; text.len() < 1000);
-        assert_eq!(rt;
-            answer_to(rt.alloc(), text, rows)?.as_str(),
-            wanted,
-            "{text:?}"
-        );
+        assert!(rt; answers(&rt, rt.alloc(), text, rows, wanted)?, "{text:?}");
     }
     Ok(())
 }
@@ -100,11 +132,7 @@ fn lines_that_can_not_stand(rt: HostRuntime) -> Result<(), Fail> {
     ];
     for (text, wanted) in cases {
         assert!(rt; text.len() < 1000);
-        assert_eq!(rt;
-            answer_to(rt.alloc(), text, 2)?.as_str(),
-            wanted,
-            "{text:?}"
-        );
+        assert!(rt; answers(&rt, rt.alloc(), text, 2, wanted)?, "{text:?}");
     }
     Ok(())
 }
@@ -124,9 +152,6 @@ fn ids_have_up_to_255_bytes(rt: HostRuntime) -> Result<(), Fail> {
     assert!(rt; blocks(rt.alloc(), &longest, 0, 2).is_ok());
     let longer = title(rt.alloc(), 256)?;
     assert!(rt; longer.len() < 1000);
-    assert_eq!(rt;
-        answer_to(rt.alloc(), &longer, 0)?.as_str(),
-        "line 1: board not allowed"
-    );
+    assert!(rt; answers(&rt, rt.alloc(), &longer, 0, "line 1: board not allowed")?);
     Ok(())
 }

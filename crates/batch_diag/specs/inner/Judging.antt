@@ -1,9 +1,10 @@
 -- How the verdicts on the blocks of a batch are found in pieces.
-use Rattle.std.specs.Prelude.{◌≡◌, ℕ, ◌-◌, ◌*◌, ◌/◌, ◌<◌, List, length, take, drop, All}
+use Rattle.std.specs.Prelude.{◌≡◌, ℕ, List, All}
 use Rattle.board_defs.specs.Passes.{passes_of}
 use Rattle.fault_sim.specs.Kept.{IsBoardTest}
 use Rattle.fault_sim.specs.Places.{IsUniverse}
 use Rattle.diagnoser.specs.Diagnosis.{IsNamed}
+use Rattle.side_by_side.specs.Pieces.{items_between}
 use Rattle.batch_diag.specs.declared.block.Block.{Block}
 use Rattle.batch_diag.specs.declared.judging.Batch.{Batch}
 use Rattle.batch_diag.specs.declared.verdict.Verdict.{Verdict}
@@ -15,7 +16,6 @@ pub record IsBatch (b : Batch) : Type 0 where
   pub passes : b.test.plan.now.passes ≡ passes_of b.test.board.now
   pub universe : IsUniverse b.test.board.now b.universe.now
   pub logs : AreLogs b.test.board.now b.test.plan.now b.blocks.now
-  pub some : 0 < b.pieces
 
 -- the verdict on a block, whose faults name nets and pins of the board
 abbrev pub Judges : Batch → Block → Verdict → Type 0
@@ -23,8 +23,4 @@ Judges b block verdict = IsVerdict b.test.board.now block verdict × All (IsName
 
 -- the verdicts on the blocks from one up to but without another
 abbrev pub Judged : Batch → ℕ → ℕ → List Verdict → Type 0
-Judged b from to verdicts = EachPair (Judges b) (take (to - from) (drop from b.blocks.now)) verdicts
-
--- the first block of a piece; the pieces share the blocks evenly
-abbrev pub first_of : Batch → ℕ → ℕ
-first_of b piece = piece * length b.blocks.now / b.pieces
+Judged b from to verdicts = EachPair (Judges b) (items_between b.blocks.now from to) verdicts

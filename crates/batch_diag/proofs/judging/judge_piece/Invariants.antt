@@ -1,6 +1,6 @@
-use Rattle.batch_diag.specs.inner.Judging.{Judged, first_of}
+use Rattle.batch_diag.specs.inner.Judging.{Judged}
 use Rattle.batch_diag.proofs.judging.judge_piece.Given as goal
 
 -- the verdicts on the blocks before this one
 abbrev pub invariant-loop-i : goal.invariant-loop-i
-invariant-loop-i g l = Judged l.batch (first_of l.batch l.piece) l.i l.verdicts.items
+invariant-loop-i g l = Judged l.batch l.piece.first l.i l.verdicts.items

@@ -1,21 +1,21 @@
-use Rattle.std.proofs.Common.{◌∙◌, List, ap, sym, subst, arith}
-use Rattle.std.specs.Prelude.{map}
-use Rattle.batch_diag.specs.declared.lines.UnreadBlock.{UnreadBlock}
-use Rattle.batch_diag.specs.Batch.{logs_from}
-use Rattle.batch_diag.specs.inner.Reading.{AreShort, lines_of_unread}
-use Rattle.batch_diag.proofs.ReadLemmas.{read_whole_text}
+use Rattle.std.proofs.Common.{ℕ, subst}
+use Rattle.batch_diag.specs.Batch.{batch_of}
+use Rattle.batch_diag.specs.inner.Reading.{IsRead, said_between, said_of}
+use Rattle.batch_diag.proofs.ReadLemmas.{read_end_all, read_text}
 use Rattle.batch_diag.proofs.reader.blocks.Goals as goal
+use Rattle.batch_diag.proofs.reader.blocks.Goals.{After-read_between}
 
-pub read_piece-requires-clause-reading : goal.read_piece-requires-clause-reading
-read_piece-requires-clause-reading c = record { short = subst (λ (l : List UnreadBlock). AreShort l) (sym c.deref.ensures.value) c.in-Ok.ensures.short; some = omega arith }
+whole : (c : After-read_between) → IsRead (λ v. v.items) c.args.rows c.args.len (batch_of c.args.bytes.now c.args.rows c.args.len) c.read_between.result
+whole c =
+    let r = c.in-Ok.reading in
+    read_text r (λ v. v.items) c.args.rows c.args.len (batch_of c.args.bytes.now c.args.rows c.args.len) c.read_between.result c.in-Ok.ensures.said c.in-Ok.ensures.size.0 c.in-Ok.ensures.size.1
+    (read_end_all r (λ v. v.items) c.count.result c.read_between.result c.count.ensures c.read_between.ensures)
 
 pub returns-clause-read : goal.returns-clause-read
-returns-clause-read c =
-    let said = c.in-Ok.ensures.blocks c.args.rows c.args.len ∙ ap (λ (l : List UnreadBlock). logs_from c.args.rows c.args.len 1 (map lines_of_unread l)) (sym c.deref.ensures.value) in
-    (read_whole_text (record { unread = c.deref.result; rows = c.args.rows; len = c.args.len; pieces = 1 }) (λ v. v.items) _ c.read_piece.result (omega arith) said c.read_piece.ensures).0
+returns-clause-read c = (whole (goal.at.returns-clause-read c).After-read_between).0
 
 pub returns-clause-size : goal.returns-clause-size
-returns-clause-size c = c.read_piece.ensures.1
+returns-clause-size c = (whole (goal.at.returns-clause-size c).After-read_between).1
 
 pub returns-clause-inner : goal.returns-clause-inner
-returns-clause-inner c = c.read_piece.ensures.2
+returns-clause-inner c = c.read_between.ensures.2
