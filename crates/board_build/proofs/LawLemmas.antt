@@ -7,6 +7,7 @@ use Rattle.std.proofs.lemmas.List.{length-map, get_or-map}
 use Rattle.std.proofs.lemmas.List.Elements.{All-from_recursion}
 use Rattle.std.proofs.lemmas.List.Kept.{AllPairs-filter}
 use Rattle.std.proofs.lemmas.Option.{slice_get-get_or}
+use Rattle.board_defs.specs.Limits.{most_nets}
 use Rattle.board_defs.proofs.Members.{Has, has_at, has_filter, find_none}
 use Rattle.board_files.specs.declared.chain_file.ChainLine.{ChainLine}
 use Rattle.board_files.specs.declared.net_file.NetLine.{NetLine}
@@ -156,7 +157,7 @@ is_board chain nets parts selected names kinds e =
       names_differ = pairs_map (λ (part : Part). part.name) (λ a b. a ≢ b) parts (subst P (sym names) selected.differ);
       parts = kinds;
       data_most = limits.bits;
-      nets_most = subst (λ n. n ≤ 16382) (sym (count_nets (marks_of chain parts) words 0 (net_names nets))) limits.nets;
+      nets_most = subst (λ n. n ≤ most_nets) (sym (count_nets (marks_of chain parts) words 0 (net_names nets))) limits.nets;
       nets_differ = nets_differ (marks_of chain parts) words (net_names nets) (once_apart same_word (map (λ line. line.name) nets));
       pins_most = omega (arith, fit, whole, limits.pins);
       pins_differ = pins_differ parts (marks_of chain parts) words (net_names nets) pins.differ;

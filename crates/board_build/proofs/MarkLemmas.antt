@@ -3,6 +3,7 @@ use Rattle.std.proofs.Common.{◌≡◌, ℕ, zero, suc, ◌+◌, ◌==◌, Bool
 use Rattle.std.specs.Prelude.{slice_get, filter, is_none, is_some, option_map, option_and_then, nat_lt, if◌then◌else◌}
 use Rattle.std.proofs.lemmas.List.{length-map}
 use Rattle.std.proofs.lemmas.List.Elements.{filter_agree}
+use Rattle.board_defs.specs.Limits.{most_pins}
 use Rattle.first_places.specs.Places.{once}
 use Rattle.board_files.specs.declared.chain_file.ChainLine.{ChainLine}
 use Rattle.board_files.specs.declared.net_file.NetLine.{NetLine}
@@ -93,7 +94,7 @@ module _ (chain : List ChainLine) (parts : List Part) (names : List (List ℕ)) 
 
   pub limit_same : marked_limit (map marked words) ≡ pin_limit words
   unfolding marked_limit pin_limit
-  limit_same = ap (λ n. if nat_lt 65535 n then Some (Limit 4) else None) (ap length (sym (once-map marked same_pins words)) ∙ length-map (once have_same_pin words) marked)
+  limit_same = ap (λ n. if nat_lt most_pins n then Some (Limit 4) else None) (ap length (sym (once-map marked same_pins words)) ∙ length-map (once have_same_pin words) marked)
 
   pub unknown_same : marked_unknown (map marked words) ≡ no_pin (described_names parts) (pin_places parts) words
   unfolding marked_unknown no_pin

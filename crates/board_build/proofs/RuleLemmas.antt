@@ -7,6 +7,7 @@ use Rattle.std.proofs.lemmas.Iterator.Adapters.{position_from-zero}
 use Rattle.std.proofs.lemmas.List.Quantifiers.{position-Some}
 use Rattle.std.proofs.lemmas.List.{length-map}
 use Rattle.std.proofs.lemmas.Option.{slice_get-get_or}
+use Rattle.board_defs.specs.Limits.{most_bits, most_nets, most_pins}
 use Rattle.board_defs.proofs.Members.{Has, has_map}
 use Rattle.first_places.specs.Places.{once, first_place}
 use Rattle.first_places.proofs.OnceLemmas.{unrepeated}
@@ -35,9 +36,9 @@ map_none f (Some a) e = cc e
 
 -- the first fault of the limits
 pub record LimitsKept (parts : List Part) (names : List (List ℕ)) (words : List NetWord) : Type 0 where
-  pub bits : sum_by (λ part. data_length part.kind) parts ≤ 65535
-  pub nets : length names ≤ 16382
-  pub pins : length (once have_same_pin words) ≤ 65535
+  pub bits : sum_by (λ part. data_length part.kind) parts ≤ most_bits
+  pub nets : length names ≤ most_nets
+  pub pins : length (once have_same_pin words) ≤ most_pins
 
 pub limits_kept : (parts : List Part) (names : List (List ℕ)) (words : List NetWord) → limit_fault parts names words ≡ None → LimitsKept parts names words
 unfolding limit_fault data_limit net_limit pin_limit
@@ -45,9 +46,9 @@ limits_kept parts names words e =
     let first = then_none _ _ e in
     let second = then_none _ _ first.1 in
     record {
-      bits = limit_kept 65535 (sum_by (λ part. data_length part.kind) parts) (Limit 2) first.0;
-      nets = limit_kept 16382 (length names) (Limit 3) second.0;
-      pins = limit_kept 65535 (length (once have_same_pin words)) (Limit 4) second.1;
+      bits = limit_kept most_bits (sum_by (λ part. data_length part.kind) parts) (Limit 2) first.0;
+      nets = limit_kept most_nets (length names) (Limit 3) second.0;
+      pins = limit_kept most_pins (length (once have_same_pin words)) (Limit 4) second.1;
     }
 
 pub record PinsKept (parts : List Part) (words : List NetWord) : Type 0 where

@@ -1,6 +1,7 @@
 -- The rules that a board's files keep, and the order in which they are tried.
 use Rattle.std.specs.Prelude.{ℕ, ◌==◌, Bool, false, ◌&&◌, ◌||◌, List, filter, find, length, nat_lt, slice_get, sum_by, Option, Some, None, Result, option_map, is_none, if◌then◌else◌}
 use Rattle.std.specs.List.{list_any}
+use Rattle.board_defs.specs.Limits.{most_bits, most_nets, most_pins}
 use Rattle.first_places.specs.Places.{once, first_repeated}
 use Rattle.board_files.specs.declared.chain_file.ChainLine.{ChainLine}
 use Rattle.board_files.specs.declared.net_file.NetLine.{NetLine}
@@ -20,15 +21,15 @@ use Rattle.board_build.specs.BoardNets.{Marks, marks_of, net_pin, board_with}
 
 -- at most 65,535 bits in a data scan: the boundary cells of the described parts, and one for each other part
 unfoldable pub data_limit : List Part → Option BoardFault
-data_limit parts = if nat_lt 65535 (sum_by (λ part. data_length part.kind) parts) then Some (Limit 2) else None
+data_limit parts = if nat_lt most_bits (sum_by (λ part. data_length part.kind) parts) then Some (Limit 2) else None
 
 -- at most 16,382 nets
 unfoldable pub net_limit : List (List ℕ) → Option BoardFault
-net_limit names = if nat_lt 16382 (length names) then Some (Limit 3) else None
+net_limit names = if nat_lt most_nets (length names) then Some (Limit 3) else None
 
 -- at most 65,535 different pins in nets
 unfoldable pub pin_limit : List NetWord → Option BoardFault
-pin_limit words = if nat_lt 65535 (length (once have_same_pin words)) then Some (Limit 4) else None
+pin_limit words = if nat_lt most_pins (length (once have_same_pin words)) then Some (Limit 4) else None
 
 -- the pin's part is described, and the chosen pin map has no such pin
 abbrev pub is_unknown : List (List ℕ) → List PinPlace → Pin → Bool

@@ -1,6 +1,7 @@
 // The rules that a board's files keep, in their order.
 ghost use Rattle.std.specs.Prelude.{◌≡◌, ◌<◌, ◌≤◌, ◌^◌, ◌==◌, ◌&&◌, length, vec_len, map, filter, find, nat_lt, sum_by, slice_index_or, IfOk, Option, Some, None, option_map, is_none, true, false, if◌then◌else◌};
 ghost use Rattle.std.specs.List.{list_any};
+ghost use Rattle.board_defs.specs.Limits.{most_parts, most_pins};
 ghost use Rattle.first_places.specs.Places.{first_repeated, once};
 ghost use Rattle.board_defs.specs.Pins.{data_length, is_test_pin};
 ghost use Rattle.board_lines.specs.declared.fault.BoardFault.TheVariants.{Limit, NoPin, PinTwice, GuardedDriver, TwoAlwaysOn};
@@ -11,18 +12,15 @@ ghost use Rattle.board_build.specs.inner.Marked.{always_on, file_fault, marked_d
 use crate::marked::MarkedWord;
 use crate::selected_chain::SelectedChain;
 use crate::standing::StandingWords;
-use board_defs::{Net, NetPin, Part, RawBoard, Spot};
+use board_defs::{MOST_BITS, MOST_NETS, MOST_PINS, Net, NetPin, Part, RawBoard, Spot};
 use board_lines::{BoardFault, PinName, line_fault};
 use first_places::{first_repeated, once_by};
 use lists::is_set;
 use std::alloc::{AllocError, Global};
 
-/// The most different pins that the nets of a board may name.
-const PIN_LIMIT: usize = 65_535;
-
 /// The bits of a data scan of the whole chain.
 fn data_bits(parts: &[Part]) -> u64
-    requires { length parts.now ≤ 255 }
+    requires { length parts.now ≤ most_parts }
     ensures { result ≡ sum_by (λ part. data_length part.kind) parts.now }
 {
     let mut bits = 0u64;
@@ -34,10 +32,10 @@ fn data_bits(parts: &[Part]) -> u64
 
 #[tactic(auto, unfolding(crate::specs::BoardRules::data_limit))]
 fn data_limit(parts: &[Part]) -> Option<BoardFault>
-    requires { length parts.now ≤ 255 }
+    requires { length parts.now ≤ most_parts }
     ensures { result ≡ data_limit parts.now }
 {
-    if 65535 < data_bits(parts) {
+    if u64::from(MOST_BITS) < data_bits(parts) {
         Some(BoardFault::Limit(2))
     } else {
         None
@@ -48,7 +46,7 @@ fn data_limit(parts: &[Part]) -> Option<BoardFault>
 fn net_limit(names: &[&[u8]]) -> Option<BoardFault>
     ensures { result ≡ net_limit (map (λ n. n.now) names.now) }
 {
-    if 16382 < names.len() {
+    if MOST_NETS < names.len() {
         Some(BoardFault::Limit(3))
     } else {
         None
@@ -76,10 +74,10 @@ fn count_pins(alloc: Global, pins: &[(PinName<'_>, Spot)]) -> Result<usize, Allo
 }
 
 fn pin_limit(alloc: Global, pins: &[(PinName<'_>, Spot)]) -> Result<Option<BoardFault>, AllocError>
-    ensures { IfOk result (λ fault. fault ≡ (if nat_lt 65535 (length (once (λ a b. same_pin (lent_pin a.0) (lent_pin b.0)) pins.now)) then Some (Limit 4) else None)) }
+    ensures { IfOk result (λ fault. fault ≡ (if nat_lt most_pins (length (once (λ a b. same_pin (lent_pin a.0) (lent_pin b.0)) pins.now)) then Some (Limit 4) else None)) }
 {
     let count = count_pins(alloc, pins)?;
-    if PIN_LIMIT < count {
+    if MOST_PINS < count {
         Ok(Some(BoardFault::Limit(4)))
     } else {
         Ok(None)
@@ -110,7 +108,7 @@ fn marked_limit(alloc: Global, words: &[MarkedWord<'_>]) -> Result<Option<BoardF
     ensures { IfOk result (λ fault. fault ≡ marked_limit (map seen words.now)) }
 {
     // So few words name no more pins than a board may have, and need not be told apart.
-    if words.len() <= PIN_LIMIT {
+    if words.len() <= MOST_PINS {
         return Ok(None);
     }
     let pins = by_pin(alloc, words)?;

@@ -1,5 +1,6 @@
 // A chain that was selected, with its parts.
 ghost use Rattle.std.specs.Prelude.{◌≡◌, ◌≢◌, ◌<◌, ◌≤◌, ◌^◌, All, AllPairs, length, map};
+ghost use Rattle.board_defs.specs.Limits.{most_parts};
 ghost use Rattle.board_defs.specs.BoardRules.{IsPart};
 ghost use Rattle.board_lines.specs.Names.{named, names_of};
 ghost use Rattle.board_lines.specs.declared.names.Naming.TheVariants.{Part as PartName};
@@ -49,7 +50,7 @@ impl<'a> SelectedChain<'a> {
     /// The parts, at most 255 and with different names.
     pub fn parts(&self) -> &[Part]
         ensures parts { result.now ≡ self.now.parts }
-        ensures few { length result.now ≤ 255 }
+        ensures few { length result.now ≤ most_parts }
         ensures differ { AllPairs (λ a b. a ≢ b) (map (λ part. part.name) result.now) }
         ensures selected { IsSelected self.now }
     {

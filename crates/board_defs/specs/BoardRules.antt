@@ -11,13 +11,14 @@ use Rattle.board_defs.specs.declared.board.NetPin.{NetPin}
 use Rattle.board_defs.specs.declared.board.Net.{Net}
 use Rattle.board_defs.specs.declared.board.RawBoard.{RawBoard}
 use Rattle.board_defs.specs.declared.board.Drive.TheVariants.{AlwaysOn}
+use Rattle.board_defs.specs.Limits.{most_parts, most_bits, most_nets, most_pins, IsInstructionLength}
 use Rattle.board_defs.specs.DeviceRules.{IsDevice}
 use Rattle.board_defs.specs.Pins.{described, is_test_pin, drive, data_bits}
 
 -- a described part keeps the rules of a device; a part without a description has an instruction length from 2 to 255
 abbrev pub IsPart : PartKind → Type 0
 IsPart (Described device) = IsDevice device
-IsPart (Bypass n) = (2 ≤ n) × (n ≤ 255)
+IsPart (Bypass n) = IsInstructionLength n
 
 -- the pin stands at this place of this net
 pub record Stands (board : RawBoard) (n : ℕ) (net : Net) (place : ℕ) (pin : NetPin) : Type 0 where
@@ -63,13 +64,13 @@ OneAlwaysOn board =
 -- what is known of each board
 pub record IsBoard (board : RawBoard) : Type 0 where
   pub chain_some : 1 ≤ length board.chain
-  pub chain_most : length board.chain ≤ 255
+  pub chain_most : length board.chain ≤ most_parts
   pub names_differ : AllPairs (λ a b. a.name ≢ b.name) board.chain
   pub parts : All (λ part. IsPart part.kind) board.chain
-  pub data_most : data_bits board ≤ 65535
-  pub nets_most : length board.nets ≤ 16382
+  pub data_most : data_bits board ≤ most_bits
+  pub nets_most : length board.nets ≤ most_nets
   pub nets_differ : AllPairs (λ a b. a.name ≢ b.name) board.nets
-  pub pins_most : sum_by (λ net. length net.pins) board.nets ≤ 65535
+  pub pins_most : sum_by (λ net. length net.pins) board.nets ≤ most_pins
   pub pins_differ : PinsDiffer board
   pub placed : All (λ net. All (λ pin. IsPlaced board pin pin.at) net.pins) board.nets
   pub inert : AreInertAlike board

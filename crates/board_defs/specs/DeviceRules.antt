@@ -2,6 +2,7 @@
 use Rattle.std.specs.Prelude.{◌≡◌, ◌≢◌, ◌⊎◌, ℕ, ◌+◌, ◌-◌, ◌<◌, ◌≤◌, ◌==◌, Bool, true, false, ◌&&◌, ◌||◌, List, [], ◌∷◌, length, map, reverse, filter, find, count_by, Option, Some, None, option_map, is_some, All, AllPairs, Contains, IsSome, IsNone, IfSome, slice_get, nat_le, cond, IsTrue}
 use Rattle.std.specs.List.{list_any, list_all, range_with_len}
 use Rattle.std.specs.List.Sorted.{IsNonDecreasing}
+use Rattle.board_defs.specs.Limits.{most_instruction_bits, most_bits}
 use Rattle.board_defs.specs.declared.device.Symbol.{Symbol}
 use Rattle.board_defs.specs.declared.device.Symbol.TheVariants.{Zero, One, Any}
 use Rattle.board_defs.specs.declared.device.Mode.{Mode}
@@ -259,10 +260,10 @@ pub record HasCodes (device : RawDevice) : Type 0 where
 -- what is known of each device
 pub record IsDevice (device : RawDevice) : Type 0 where
   pub ir_least : 2 ≤ device.ir
-  pub ir_most : device.ir ≤ 255
+  pub ir_most : device.ir ≤ most_instruction_bits
   pub boundary_least : 1 ≤ device.boundary
-  pub boundary_most : device.boundary ≤ 65535
-  pub bits_most : length device.bits ≤ 65535
+  pub boundary_most : device.boundary ≤ most_bits
+  pub bits_most : length device.bits ≤ most_bits
   pub codes : HasCodes device
   pub ports : AreOfPorts device
   pub tap : HasTap device.bits

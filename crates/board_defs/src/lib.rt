@@ -7,6 +7,7 @@ mod device;
 mod fault;
 pub mod law;
 mod lengths;
+mod limits;
 mod name;
 mod pins;
 mod setting;
@@ -16,6 +17,7 @@ pub use board::{Board, Ctl, Drive, Net, NetPin, Part, PartKind, PinAt, PinRef, R
 pub use coverage::Reason;
 pub use device::{Cell, Code, Control, Device, Edition, Mode, PortBit, RawDevice, Role, Symbol};
 pub use fault::{Kind, Single};
+pub use limits::{MOST_BITS, MOST_INSTRUCTION_BITS, MOST_NETS, MOST_PARTS, MOST_PINS};
 pub use lists::Items;
 pub use name::Name;
 pub use setting::Setting;

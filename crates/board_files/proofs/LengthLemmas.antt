@@ -4,6 +4,7 @@ use Rattle.std.specs.Prelude.{IfOk, IfSome, if◌then◌else◌, ◌+◌}
 use Rattle.std.specs.List.{AllByRecursion, slice_split}
 use Rattle.std.specs.Str.{bytes_eq}
 use Rattle.std.proofs.lemmas.Grind.{common_steps}
+use Rattle.board_defs.specs.Limits.{most_instruction_bits, IsInstructionLength}
 use Rattle.board_files.specs.declared.fault.LineFault.{LineFault}
 use Rattle.board_files.specs.declared.chain_file.ChainLine.{ChainLine}
 use Rattle.board_files.specs.declared.chain_file.ChainStatement.{ChainStatement}
@@ -18,20 +19,20 @@ either : {A : Type 0} (P : A → Type 0) (t : Bool) (a b : Result A LineFault) �
 either P true a b h k = h
 either P false a b h k = k
 
-bound : (n : ℕ) (low high : Bool) → nat_le 2 n ≡ low → nat_le n 255 ≡ high → IfSome (if low && high then Some n else None) (λ m. (2 ≤ m) × (m ≤ 255))
+bound : (n : ℕ) (low high : Bool) → nat_le 2 n ≡ low → nat_le n most_instruction_bits ≡ high → IfSome (if low && high then Some n else None) IsInstructionLength
 bound n true true low high = (grind (arith, common_steps), grind (arith, common_steps))
 bound n true false low high = tt
 bound n false high low other = tt
 
-as_length_bound : (o : Option ℕ) → IfSome (as_length o) (λ m. (2 ≤ m) × (m ≤ 255))
+as_length_bound : (o : Option ℕ) → IfSome (as_length o) IsInstructionLength
 as_length_bound None = tt
-as_length_bound (Some n) = bound n (nat_le 2 n) (nat_le n 255) refl refl
+as_length_bound (Some n) = bound n (nat_le 2 n) (nat_le n most_instruction_bits) refl refl
 
-either_some : (t : Bool) (a : Option ℕ) → IfSome a (λ m. (2 ≤ m) × (m ≤ 255)) → IfSome (if t then a else None) (λ m. (2 ≤ m) × (m ≤ 255))
+either_some : (t : Bool) (a : Option ℕ) → IfSome a IsInstructionLength → IfSome (if t then a else None) IsInstructionLength
 either_some true a h = h
 either_some false a h = tt
 
-with_length : (n : ℕ) (part : Word) (o : Option ℕ) → IfSome o (λ m. (2 ≤ m) × (m ≤ 255)) → IfOk (bypass_with n part o) HasLength
+with_length : (n : ℕ) (part : Word) (o : Option ℕ) → IfSome o IsInstructionLength → IfOk (bypass_with n part o) HasLength
 with_length n part None h = tt
 with_length n part (Some bits) h = h
 

@@ -2,6 +2,7 @@
 use Rattle.std.specs.Prelude.{ℕ, ◌+◌, ◌*◌, ◌-◌, ◌≤◌, Bool, ◌&&◌, ◌||◌, List, [], ◌∷◌, length, nat_le, Option, Some, None, Result, Ok, Err, codes, if◌then◌else◌}
 use Rattle.std.specs.Str.{bytes_eq}
 use Rattle.std.specs.Char.{is_ascii_digit}
+use Rattle.board_defs.specs.Limits.{most_instruction_bits, IsInstructionLength}
 use Rattle.board_files.specs.declared.fault.LineFault.{LineFault}
 use Rattle.board_files.specs.declared.fault.LineFault.TheVariants.{Statement, Word as WordFault, Number}
 use Rattle.board_files.specs.declared.chain_file.ChainLine.{ChainLine}
@@ -25,7 +26,7 @@ decimal_from n (digit ∷ digits) = if is_ascii_digit digit then decimal_from (1
 
 abbrev pub as_length : Option ℕ → Option ℕ
 as_length None = None
-as_length (Some n) = if nat_le 2 n && nat_le n 255 then Some n else None
+as_length (Some n) = if nat_le 2 n && nat_le n most_instruction_bits then Some n else None
 
 -- 1 to 3 decimal digits with a value from 2 to 255
 abbrev pub length_of : Word → Option ℕ
@@ -88,7 +89,7 @@ chain_lines text = text_of chain_line text
 
 -- the length of a BYPASS line is from 2 to 255
 abbrev pub HasLength : ChainStatement → Type 0
-HasLength (Bypass part bits) = (2 ≤ bits) × (bits ≤ 255)
+HasLength (Bypass part bits) = IsInstructionLength bits
 HasLength (Device part entity pack) = Unit {0}
 HasLength (Inert part) = Unit {0}
 HasLength (Supply net) = Unit {0}

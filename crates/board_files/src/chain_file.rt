@@ -7,7 +7,7 @@ ghost use Rattle.board_files.specs.ChainLines.{package_of, decimal_from, length_
 
 use crate::fault::LineFault;
 use crate::words::{is_part, is_symbol, one_of, three_of, two_of};
-use board_defs::Name;
+use board_defs::{MOST_INSTRUCTION_BITS, Name};
 use std::alloc::{AllocError, Global};
 use std::marker::Model;
 use text_lines::{first_line, is_word, words};
@@ -207,7 +207,13 @@ fn length_of(word: &[u8]) -> Option<u32>
 {
     if word.len() <= 3 {
         match decimal(word) {
-            Some(n) => { if 2 <= n && n <= 255 { Some(n) } else { None } }
+            Some(n) => {
+                if 2 <= n && n <= MOST_INSTRUCTION_BITS {
+                    Some(n)
+                } else {
+                    None
+                }
+            }
             None => None,
         }
     } else {

@@ -5,6 +5,7 @@ use Rattle.std.specs.List.{list_any}
 use Rattle.std.specs.Cmp.Lexicographic.{other_text}
 use Rattle.std.proofs.lemmas.List.{length-map}
 use Rattle.std.proofs.lemmas.Option.{slice_get-get_or}
+use Rattle.board_defs.specs.Limits.{most_parts}
 use Rattle.first_places.specs.Places.{first_place, repeat_from, first_repeat, repeated_from}
 use Rattle.board_files.specs.declared.chain_file.ChainLine.{ChainLine}
 use Rattle.bsdl_parser.specs.declared.entity.Entity.{Entity}
@@ -65,9 +66,9 @@ unfolding no_chain
 some_parts [] e = cc e
 some_parts (p ∷ parts) e = omega arith
 
-few_parts : (parts : List Named) → chain_limit parts ≡ None → length parts ≤ 255
+few_parts : (parts : List Named) → chain_limit parts ≡ None → length parts ≤ most_parts
 unfolding chain_limit
-few_parts parts e = limit_kept 255 (length parts) (Limit 1) e
+few_parts parts e = limit_kept most_parts (length parts) (Limit 1) e
 
 unless_ok : {V : Type 0} (o : Option BoardFault) (v w : V) → unless o v ≡ Ok w → (o ≡ None) × (v ≡ w)
 unless_ok None v w e = (refl, cc e)

@@ -1,6 +1,7 @@
 -- The parts of a chain, and the places of their pins.
 use Rattle.std.specs.Prelude.{ℕ, ◌+◌, ◌≢◌, ◌≤◌, List, [], ◌∷◌, ◌++◌, length, drop, slice_get, Option, Some, None, option_map, AllPairs}
 use Rattle.std.specs.List.{cons_option}
+use Rattle.board_defs.specs.Limits.{most_parts}
 use Rattle.first_places.specs.Places.{first_value}
 use Rattle.board_files.specs.declared.chain_file.ChainLine.{ChainLine}
 use Rattle.board_files.specs.declared.chain_file.ChainStatement.{ChainStatement}
@@ -18,7 +19,7 @@ use Rattle.board_lines.specs.NetWords.{Pin, same_pin}
 -- a chain that was selected: it has 1 to 255 parts, with different names
 pub record IsChain (lines : List ChainLine) : Type 0 where
   pub some : 1 ≤ length (named PartName lines)
-  pub most : length (named PartName lines) ≤ 255
+  pub most : length (named PartName lines) ≤ most_parts
   pub differ : AllPairs (λ a b. a ≢ b) (names_of (named PartName lines))
 
 -- the part of a line, if it is one of the chain: a DEVICE line takes the next device

@@ -1,5 +1,6 @@
 -- The parts of a chain, and the entity of each described one.
 use Rattle.std.specs.Prelude.{ℕ, List, length, map, nat_eq, nat_lt, slice_get, Option, Some, None, Result, option_map, option_and_then, is_none, unwrap_or, position, if◌then◌else◌}
+use Rattle.board_defs.specs.Limits.{most_parts}
 use Rattle.first_places.specs.Places.{first_place, first_repeat}
 use Rattle.board_files.specs.declared.chain_file.ChainLine.{ChainLine}
 use Rattle.bsdl_parser.specs.declared.entity.Entity.{Entity}
@@ -37,7 +38,7 @@ entity_twice entities = option_map EntityTwice (first_repeat same_word entities)
 
 -- at most 255 parts
 unfoldable pub chain_limit : List Named → Option BoardFault
-chain_limit parts = if nat_lt 255 (length parts) then Some (Limit 1) else None
+chain_limit parts = if nat_lt most_parts (length parts) then Some (Limit 1) else None
 
 -- the rules in their order
 unfoldable pub first_fault : List Named → List Named → List (Option ℕ) → List (List ℕ) → Option BoardFault

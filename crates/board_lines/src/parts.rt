@@ -2,6 +2,7 @@
 ghost use Rattle.std.specs.Prelude.{◌≡◌, ◌≤◌, ◌++◌, vec_len, length, map, All, IfOk, IfSome, OnOk, option_map};
 ghost use Rattle.std.specs.Option.{option_to_list};
 ghost use Rattle.std.specs.Vec.Iter.{into_iter_items};
+ghost use Rattle.board_defs.specs.Limits.{IsInstructionLength};
 ghost use Rattle.board_files.specs.ChainLines.{HasLength};
 ghost use Rattle.board_defs.specs.BoardRules.{IsPart};
 ghost use Rattle.board_defs.specs.declared.board.PartKind.TheVariants.{Described as DescribedPart, Bypass as BypassPart};
@@ -24,7 +25,7 @@ fn described(alloc: Global, name: &Name, device: Device) -> Result<Part, AllocEr
 }
 
 fn bypass(alloc: Global, name: &Name, length: u32) -> Result<Part, AllocError>
-    requires { (2 ≤ length) × (length ≤ 255) }
+    requires { IsInstructionLength length }
     ensures part { IfOk result (λ part. part ≡ record { name = name.now; kind = BypassPart length }) }
     ensures kind { IfOk result (λ part. IsPart part.kind) }
 {

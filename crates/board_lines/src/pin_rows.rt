@@ -1,5 +1,6 @@
 // The pins of a device, each with its port bit: one row serves all parts with the same pins.
 ghost use Rattle.std.specs.Prelude.{◌≡◌, ◌<◌, ◌≤◌, ◌^◌, cond, length, slice_get, true, IfOk, IfSome, List, OnOk, Option, Some, ℕ};
+ghost use Rattle.board_defs.specs.Limits.{most_bits};
 ghost use Rattle.std.proofs.Common.{Bor};
 ghost use Rattle.indexmap.specs.IndexMap.{get_by};
 ghost use Rattle.board_files.specs.Names.{same_word};
@@ -17,7 +18,7 @@ const ROWS_COMPARED: usize = 16;
 /// The port bits of a part; a part in BYPASS has none.
 pub fn bits_of(kind: &PartKind) -> &[PortBit]
     ensures pins { pins_of_bits result.now ≡ pins_of kind.now }
-    ensures few { length result.now ≤ 65535 }
+    ensures few { length result.now ≤ most_bits }
 {
     match kind {
         PartKind::Described(device) => device.raw().bits.as_slice(),

@@ -9,7 +9,7 @@ ghost use Rattle.board_lines.specs.Selection.{spot_at, no_chain, part_twice, no_
 
 use crate::fault::BoardFault;
 use crate::names::{Naming, first_repeat_of, named, names_of, places_among};
-use board_defs::Spot;
+use board_defs::{MOST_PARTS, Spot};
 use board_files::ChainFile;
 use bsdl_parser::Entity;
 use std::alloc::{AllocError, Global};
@@ -133,7 +133,7 @@ fn no_chain(parts: &[(u32, &[u8])]) -> Option<BoardFault>
 fn chain_limit(parts: &[(u32, &[u8])]) -> Option<BoardFault>
     ensures { result ≡ chain_limit (map (λ n. (n.0, n.1.now)) parts.now) }
 {
-    if 255 < parts.len() {
+    if MOST_PARTS < parts.len() {
         Some(BoardFault::Limit(1))
     } else {
         None

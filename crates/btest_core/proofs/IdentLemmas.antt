@@ -4,6 +4,7 @@ use Rattle.std.specs.Prelude.{All, IfSome}
 use Rattle.std.specs.List.{AllByRecursion}
 use Rattle.std.proofs.lemmas.List.{length-map}
 use Rattle.std.proofs.lemmas.List.Elements.{All-from_recursion}
+use Rattle.board_defs.specs.Limits.{most_parts}
 use Rattle.board_defs.specs.declared.device.RawDevice.{RawDevice}
 use Rattle.board_defs.specs.DeviceRules.{IsDevice}
 use Rattle.board_files.specs.declared.chain_file.ChainLine.{ChainLine}
@@ -34,7 +35,7 @@ abbrev pub idents_of : List RawDevice → List Ident
 idents_of devices = map (λ device. device.idcode) devices
 
 -- as many patterns as parts
-pub count_idents : (lines : List ChainLine) (devices : List RawDevice) → IsChain lines → length devices ≡ length (named EntityName lines) → first_bypass lines ≡ None → (0 < length (idents_of devices)) × (length (idents_of devices) ≤ 255)
+pub count_idents : (lines : List ChainLine) (devices : List RawDevice) → IsChain lines → length devices ≡ length (named EntityName lines) → first_bypass lines ≡ None → (0 < length (idents_of devices)) × (length (idents_of devices) ≤ most_parts)
 count_idents lines devices chain number none =
     let same : length (idents_of devices) ≡ length devices = length-map devices (λ (device : RawDevice). device.idcode) in
     let parts = described lines none in

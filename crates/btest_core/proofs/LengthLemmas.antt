@@ -3,6 +3,7 @@ use Rattle.std.proofs.Common.{◌≡◌, ℕ, ◌≤◌, List, [], ◌∷◌, le
 use Rattle.std.specs.List.{All, AllByRecursion}
 use Rattle.std.proofs.lemmas.List.{length-map}
 use Rattle.std.proofs.lemmas.List.Elements.{All-from_recursion, recursion_from_All}
+use Rattle.board_defs.specs.Limits.{IsInstructionLength}
 use Rattle.board_defs.specs.declared.board.Part.{Part}
 use Rattle.board_defs.specs.declared.board.PartKind.{PartKind}
 use Rattle.board_defs.specs.declared.board.PartKind.TheVariants.{Described, Bypass}
@@ -15,7 +16,7 @@ use Rattle.board_lines.specs.declared.names.Naming.TheVariants.{Part as PartName
 use Rattle.btest_core.specs.BoardRead.{AreLengths}
 
 abbrev InBounds : ℕ → Type 0
-InBounds n = (2 ≤ n) × (n ≤ 255)
+InBounds n = IsInstructionLength n
 
 in_bounds : (kind : PartKind) → IsPart kind → InBounds (instruction_length kind)
 in_bounds (Described device) is = (is.ir_least, is.ir_most)

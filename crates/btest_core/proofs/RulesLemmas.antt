@@ -2,6 +2,7 @@
 use Rattle.std.proofs.Common.{◌≡◌, ◌<◌, ◌≤◌, ℕ, List, [], ◌∷◌, length, Option, Some, None, Result, Ok, Err, ap, sym, ◌∙◌, subst, refl, inl, inr, arith}
 use Rattle.std.specs.Prelude.{All}
 use Rattle.std.specs.List.{AllByRecursion}
+use Rattle.board_defs.specs.Limits.{most_parts}
 use Rattle.board_defs.specs.declared.board.RawBoard.{RawBoard}
 use Rattle.board_defs.specs.declared.device.RawDevice.{RawDevice}
 use Rattle.board_defs.specs.BoardRules.{IsBoard}
@@ -140,9 +141,9 @@ idents_ok (Some line) devices idents same = absurd cc
 
 -- 1 to 255 patterns, each of 32 symbols
 abbrev AreWhole : List Ident → Type 0
-AreWhole idents = (0 < length idents) × (length idents ≤ 255) × All IsWhole idents
+AreWhole idents = (0 < length idents) × (length idents ≤ most_parts) × All IsWhole idents
 
-pub idents_keep : SoundKeep → SelectChains → SelectEach → (chain : List ℕ) (texts : List (List ℕ)) (idents : List Ident) → AreIdents chain texts (Ok idents) → (0 < length idents) × (length idents ≤ 255) × All IsWhole idents
+pub idents_keep : SoundKeep → SelectChains → SelectEach → (chain : List ℕ) (texts : List (List ℕ)) (idents : List Ident) → AreIdents chain texts (Ok idents) → (0 < length idents) × (length idents ≤ most_parts) × All IsWhole idents
 idents_keep sound chains counts chain texts idents are =
     let of_chain = follows_ok (Is (in_file Chain (chain_lines chain))) (λ lines. AreFileIdents lines texts) idents are in
     let of_texts = follows_ok (AreDevices of_chain.0 texts) (λ devices. Is (idents_unless (first_bypass of_chain.0) devices)) idents of_chain.2 in

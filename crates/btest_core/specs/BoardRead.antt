@@ -1,6 +1,7 @@
 -- What the texts of a board say.
 use Rattle.std.specs.Prelude.{ℕ, ◌≤◌, List, length, map, Result, Ok}
 use Rattle.std.specs.List.{All}
+use Rattle.board_defs.specs.Limits.{most_parts, IsInstructionLength}
 use Rattle.board_defs.specs.declared.board.RawBoard.{RawBoard}
 use Rattle.board_defs.specs.declared.device.RawDevice.{RawDevice}
 use Rattle.board_defs.specs.Pins.{instruction_length}
@@ -45,5 +46,5 @@ Denotes chain nets texts board = IsBoardRead chain nets texts (Ok board)
 -- 1 to 255 instruction lengths of 2 to 255
 pub record AreLengths (lengths : List ℕ) : Type 0 where
   pub some : 1 ≤ length lengths
-  pub most : length lengths ≤ 255
-  pub each : All (λ n. (2 ≤ n) × (n ≤ 255)) lengths
+  pub most : length lengths ≤ most_parts
+  pub each : All IsInstructionLength lengths

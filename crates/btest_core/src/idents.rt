@@ -1,5 +1,6 @@
 // The identification codes of a chain.
 ghost use Rattle.std.specs.Prelude.{◌≡◌, ◌<◌, ◌≤◌, ◌^◌, All, IfOk, IfSome, length, map};
+ghost use Rattle.board_defs.specs.Limits.{most_parts};
 ghost use Rattle.board_lines.specs.ChainParts.{IsChain};
 ghost use Rattle.board_lines.specs.Names.{named};
 ghost use Rattle.board_lines.specs.declared.names.Naming.TheVariants.{Entity as EntityName};
@@ -65,7 +66,7 @@ fn idents_unless_bypass(
     requires chain { IsChain file.now }
     requires devices { length devices.now ≡ length (named EntityName file.now) }
     ensures read { Gives input_told (λ idents. idents.items) (Is (idents_unless (first_bypass file.now) devices.now)) result }
-    ensures count { IfOk result (λ idents. (0 < length idents.items) × (length idents.items ≤ 255)) }
+    ensures count { IfOk result (λ idents. (0 < length idents.items) × (length idents.items ≤ most_parts)) }
     ensures symbols { IfOk result (λ idents. All (λ ident. IfSome ident (λ code. length code ≡ 32)) idents.items) }
 {
     match first_bypass(file.lines()) {
@@ -84,7 +85,7 @@ fn file_idents(
     requires each { All (λ text. length text.items < 2 ^ 32) bsdl.now }
     requires count { length bsdl.now < 2 ^ 32 }
     ensures read { Gives input_told (λ idents. idents.items) (AreFileIdents file.now (map (λ text. text.items) bsdl.now)) result }
-    ensures count { IfOk result (λ idents. (0 < length idents.items) × (length idents.items ≤ 255)) }
+    ensures count { IfOk result (λ idents. (0 < length idents.items) × (length idents.items ≤ most_parts)) }
     ensures symbols { IfOk result (λ idents. All (λ ident. IfSome ident (λ code. length code ≡ 32)) idents.items) }
 {
     match devices(alloc, file, bsdl) {
@@ -107,7 +108,7 @@ pub fn read_idents(
     requires each { All (λ text. length text.items < 2 ^ 32) bsdl.now }
     requires count { length bsdl.now < 2 ^ 32 }
     ensures read { Gives input_told (λ idents. idents.items) (AreIdents chain.now (map (λ text. text.items) bsdl.now)) result }
-    ensures count { IfOk result (λ idents. (0 < length idents.items) × (length idents.items ≤ 255)) }
+    ensures count { IfOk result (λ idents. (0 < length idents.items) × (length idents.items ≤ most_parts)) }
     ensures symbols { IfOk result (λ idents. All (λ ident. IfSome ident (λ code. length code ≡ 32)) idents.items) }
 {
     match chain_file(alloc, chain) {

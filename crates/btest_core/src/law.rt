@@ -1,5 +1,6 @@
 //! Laws of the definitions, each the contract of a function that does nothing.
 ghost use Rattle.std.specs.Prelude.{◌≡◌, ◌<◌, ◌≤◌, ℕ, List, Result, Ok, All, IfSome, length};
+ghost use Rattle.board_defs.specs.Limits.{most_parts};
 ghost use Rattle.board_defs.specs.declared.board.RawBoard.{RawBoard};
 ghost use Rattle.board_defs.specs.declared.device.RawDevice.{RawDevice};
 ghost use Rattle.board_defs.specs.BoardRules.{IsBoard};
@@ -37,7 +38,7 @@ pub fn inputs_have_one_answer()
 pub fn inputs_keep_rules()
     ensures device { (text : List ℕ) (device : RawDevice) → IsDeviceText text (Ok device) → IsDevice device }
     ensures idents { (chain : List ℕ) (texts : List (List ℕ)) (idents : List Ident) → AreIdents chain texts (Ok idents)
-        → (0 < length idents) × (length idents ≤ 255) × All (λ ident. IfSome ident (λ code. length code ≡ 32)) idents }
+        → (0 < length idents) × (length idents ≤ most_parts) × All (λ ident. IfSome ident (λ code. length code ≡ 32)) idents }
     ensures board { (chain nets : List ℕ) (texts : List (List ℕ)) (board : RawBoard) → Denotes chain nets texts board → IsBoard board }
 {
     sound_devices_keep_rules();

@@ -8,6 +8,7 @@ use Rattle.std.proofs.lemmas.List.{take_more}
 use Rattle.std.proofs.lemmas.List.Elements.{filter-append}
 use Rattle.std.proofs.lemmas.Option.{slice_get_within, get_or_from_slice_get}
 use Rattle.std.proofs.lemmas.List.Sums.{get_or-le-sum_by}
+use Rattle.board_defs.specs.Limits.{most_pins}
 use Rattle.lists.proofs.ListLemmas.{item_there}
 use Rattle.board_defs.specs.declared.board.Net.{Net}
 use Rattle.board_defs.specs.declared.board.RawBoard.{RawBoard}
@@ -117,7 +118,7 @@ pairs_is board n net at e =
     sym (ap (of_item (net_pairs board n)) at ∙ ap (λ t. cond t (texts_from (pair_at board net) (n + 1) (length board.nets)) []) e)
 
 -- no net has more pins than a board may have
-pub few_pins : (board : RawBoard) (n : ℕ) (net : Net) → IsBoard board → slice_get board.nets n ≡ Some net → length net.pins ≤ 65535
+pub few_pins : (board : RawBoard) (n : ℕ) (net : Net) → IsBoard board → slice_get board.nets n ≡ Some net → length net.pins ≤ most_pins
 few_pins board n net rules at =
     let size : Net → ℕ = λ net. length net.pins in
     let most : size (get_or board.nets n net) ≤ sum_by size board.nets = get_or-le-sum_by size board.nets n net (slice_get_within board.nets n net at) in

@@ -1,5 +1,6 @@
 // A board with its classes, and what the list asks of the two.
 ghost use Rattle.std.specs.Prelude.{◌≡◌, ◌<◌, ◌≤◌, [], length, Some, true, false, slice_get};
+ghost use Rattle.board_defs.specs.Limits.{most_nets};
 ghost use Rattle.board_defs.specs.Pins.{IsOnBoard};
 ghost use Rattle.board_defs.specs.Decided.{is_covered, reason_of};
 ghost use Rattle.net_classes.specs.Kept.{AreClasses};
@@ -41,7 +42,7 @@ impl<'a> ClassifiedBoard<'a> {
     /// How many nets the board has.
     pub fn net_count(&self) -> u32
         ensures value { result ≡ length self.now.nets }
-        ensures most { result ≤ 16382 }
+        ensures most { result ≤ most_nets }
     {
         self.classes.raw().nets.len() as u32
     }

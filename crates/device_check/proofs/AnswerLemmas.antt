@@ -3,6 +3,7 @@ use Rattle.std.proofs.Common.{◌≡◌, ℕ, ◌≤◌, Bool, true, not, List, 
 use Rattle.std.proofs.lemmas.Bool.Decides.{nat_tests}
 use Rattle.std.specs.Option.{IfSome, unwrap_or}
 use Rattle.std.proofs.lemmas.Bool.{and_parts, not-false}
+use Rattle.board_defs.specs.Limits.{most_bits, most_instruction_bits}
 use Rattle.answers.specs.Gives.{Gives}
 use Rattle.board_defs.specs.declared.device.RawDevice.{RawDevice}
 use Rattle.bsdl_parser.specs.declared.entity.Entity.{Entity}
@@ -66,19 +67,19 @@ as_needed entity given front number back split e =
     let p : ℕ → Bool = λ number. not (is_as_needed entity (constants_named entity (chosen entity given)) number) in
     not-false (is_as_needed entity (constants_named entity (chosen entity given)) number) (none_at p front number back (sym (ap (λ numbers. find p numbers) split) ∙ e))
 
-ir_within : (entity : Entity) (constants : ℕ) → is_as_needed entity constants 6 ≡ true → is_within 2 255 (number_of entity 6) ≡ true
+ir_within : (entity : Entity) (constants : ℕ) → is_as_needed entity constants 6 ≡ true → is_within 2 most_instruction_bits (number_of entity 6) ≡ true
 unfolding is_as_needed
-ir_within entity constants h = (and_parts (stands_once entity 6) (is_within 2 255 (number_of entity 6)) h).1
+ir_within entity constants h = (and_parts (stands_once entity 6) (is_within 2 most_instruction_bits (number_of entity 6)) h).1
 
-boundary_within : (entity : Entity) (constants : ℕ) → is_as_needed entity constants 9 ≡ true → is_within 1 65535 (number_of entity 9) ≡ true
+boundary_within : (entity : Entity) (constants : ℕ) → is_as_needed entity constants 9 ≡ true → is_within 1 most_bits (number_of entity 9) ≡ true
 unfolding is_as_needed
-boundary_within entity constants h = (and_parts (stands_once entity 9) (is_within 1 65535 (number_of entity 9)) h).1
+boundary_within entity constants h = (and_parts (stands_once entity 9) (is_within 1 most_bits (number_of entity 9)) h).1
 
 pub lengths_hold : (entity : Entity) (given : Option (List ℕ)) (strings : Strings) → v1 entity given ≡ None → HasLengths (draft_of entity given strings)
 lengths_hold entity given strings e =
     let constants = constants_named entity (chosen entity given) in
-    let ir = lies_within 2 255 (number_of entity 6) (ir_within entity constants (as_needed entity given (1 ∷ 2 ∷ 3 ∷ 4 ∷ 5 ∷ []) 6 (7 ∷ 8 ∷ 9 ∷ 10 ∷ 11 ∷ 12 ∷ 13 ∷ 14 ∷ 15 ∷ []) refl e)) in
-    let boundary = lies_within 1 65535 (number_of entity 9) (boundary_within entity constants (as_needed entity given (1 ∷ 2 ∷ 3 ∷ 4 ∷ 5 ∷ 6 ∷ 7 ∷ 8 ∷ []) 9 (10 ∷ 11 ∷ 12 ∷ 13 ∷ 14 ∷ 15 ∷ []) refl e)) in
+    let ir = lies_within 2 most_instruction_bits (number_of entity 6) (ir_within entity constants (as_needed entity given (1 ∷ 2 ∷ 3 ∷ 4 ∷ 5 ∷ []) 6 (7 ∷ 8 ∷ 9 ∷ 10 ∷ 11 ∷ 12 ∷ 13 ∷ 14 ∷ 15 ∷ []) refl e)) in
+    let boundary = lies_within 1 most_bits (number_of entity 9) (boundary_within entity constants (as_needed entity given (1 ∷ 2 ∷ 3 ∷ 4 ∷ 5 ∷ 6 ∷ 7 ∷ 8 ∷ []) 9 (10 ∷ 11 ∷ 12 ∷ 13 ∷ 14 ∷ 15 ∷ []) refl e)) in
     record { ir_least = ir.0; ir_most = ir.1; boundary_least = boundary.0; boundary_most = boundary.1 }
 
 pub has_lengths : (entity : Entity) (given : Option (List ℕ)) (strings : Strings) (draft : Draft) → v1 entity given ≡ None → draft ≡ draft_of entity given strings → HasLengths draft

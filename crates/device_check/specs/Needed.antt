@@ -1,5 +1,6 @@
 -- The rule about the attributes that an entity needs.
 use Rattle.std.specs.Prelude.{ℕ, ◌==◌, List, [], ◌∷◌, Bool, false, ◌&&◌, ◌||◌, not, if◌then◌else◌, Option, Some, None, codes, nat_le, find}
+use Rattle.board_defs.specs.Limits.{most_bits, most_instruction_bits}
 use Rattle.bsdl_parser.specs.declared.entity.Entity.{Entity}
 use Rattle.device_check.specs.Attributes.{times, number_of, text_of, chosen, constants_named, is_text}
 
@@ -19,8 +20,8 @@ stands_once entity number = times entity number == 1
 -- The attribute with this number is as the entity needs it, where so many constants have the package's name. 1 to 10 stand once, 11 to 14 at most once; INSTRUCTION_LENGTH (6) is 2 to 255, BOUNDARY_LENGTH (9) is 1 to 65,535, and COMPONENT_CONFORMANCE (14) names an edition. 15 stands for the pin map: there is one such constant.
 unfoldable pub is_as_needed : Entity → ℕ → ℕ → Bool
 is_as_needed entity constants number =
-    if number == 6 then stands_once entity 6 && is_within 2 255 (number_of entity 6) else
-    if number == 9 then stands_once entity 9 && is_within 1 65535 (number_of entity 9) else
+    if number == 6 then stands_once entity 6 && is_within 2 most_instruction_bits (number_of entity 6) else
+    if number == 9 then stands_once entity 9 && is_within 1 most_bits (number_of entity 9) else
     if nat_le number 10 then stands_once entity number else
     if nat_le number 13 then nat_le (times entity number) 1 else
     if number == 14 then (times entity 14 == 0) || (stands_once entity 14 && is_edition (text_of entity 14)) else

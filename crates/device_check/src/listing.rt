@@ -1,6 +1,7 @@
 // The listing of a device.
 ghost use Rattle.std.specs.Prelude.{◌≡◌, ◌==◌, ◌<◌, ◌≤◌, ◌+◌, ℕ, [], ◌∷◌, ◌++◌, length, filter, is_some, codes, decimal, true};
 ghost use Rattle.std.specs.List.{flat_map, list_any, prefix_len};
+ghost use Rattle.board_defs.specs.Limits.{most_bits};
 ghost use Rattle.bt_base.specs.Puts.{Puts};
 ghost use Rattle.line_printer.specs.Prints.{Prints, line_of, whole};
 ghost use Rattle.board_defs.specs.DeviceRules.{IsDevice};
@@ -457,7 +458,7 @@ fn put_block<K: Sink>(
 // Puts the lines of all cells, block by block, so that no order of the entries makes it slow.
 fn put_blocks<K: Sink>(device: &RawDevice, line: &mut Line, out: &mut K) -> Result<(), PutFault>
     requires few { (num : ℕ) → length (entries_of num device.now.cells) ≤ 2 }
-    requires most { device.now.boundary ≤ 65535 }
+    requires most { device.now.boundary ≤ most_bits }
     ensures { Prints (K.shown out.old) (K.shown out.new) [] []
         (cell_lines device.now.ports device.now.bits device.now.cells 0 device.now.boundary) result }
 {
@@ -504,7 +505,7 @@ fn put_in_order<K: Sink>(
 // Puts the lines of all cells. Most texts have the entries in the order of the cells, so one walk puts them.
 fn put_cells<K: Sink>(device: &RawDevice, line: &mut Line, out: &mut K) -> Result<(), PutFault>
     requires few { (num : ℕ) → length (entries_of num device.now.cells) ≤ 2 }
-    requires most { device.now.boundary ≤ 65535 }
+    requires most { device.now.boundary ≤ most_bits }
     ensures { Prints (K.shown out.old) (K.shown out.new) [] []
         (cell_lines device.now.ports device.now.bits device.now.cells 0 device.now.boundary) result }
 {

@@ -4,6 +4,7 @@ ghost use Rattle.device_check.specs.Attributes.{times, text_of};
 ghost use Rattle.device_check.specs.Needed.{is_within, is_edition, stands_once, is_as_needed, v1};
 
 use crate::attributes::{chosen, constants_named, is_text, number_of, text_of, times};
+use board_defs::{MOST_BITS, MOST_INSTRUCTION_BITS};
 use bsdl_parser::Entity;
 
 fn is_within(least: u32, most: u32, number: Option<u32>) -> bool
@@ -46,8 +47,8 @@ fn is_as_needed(entity: &Entity, constants: usize, number: u32) -> bool
     ensures { result ≡ is_as_needed entity.now constants number }
 {
     match number {
-        6 => stands_once(entity, 6) && is_within(2, 255, number_of(entity, 6)),
-        9 => stands_once(entity, 9) && is_within(1, 65_535, number_of(entity, 9)),
+        6 => stands_once(entity, 6) && is_within(2, MOST_INSTRUCTION_BITS, number_of(entity, 6)),
+        9 => stands_once(entity, 9) && is_within(1, MOST_BITS, number_of(entity, 9)),
         0..=10 => stands_once(entity, number),
         11..=13 => times(entity, number) <= 1,
         14 => conforms(entity),

@@ -11,6 +11,7 @@ use Rattle.std.proofs.lemmas.Option.{slice_get_past, slice_get-get_or}
 use Rattle.std.proofs.lemmas.Iterator.Adapters.{position_from-zero}
 use Rattle.std.proofs.lemmas.Bool.{or_parts, not-false, or_from, ltb-true, ltb-false}
 use Rattle.std.proofs.lemmas.Bool.Decides.{nat_tests}
+use Rattle.board_defs.specs.Limits.{most_bits}
 use Rattle.board_defs.proofs.Members.{has_at}
 use Rattle.bsdl_parser.specs.declared.entity.Port.{Port}
 use Rattle.first_places.specs.Items.{first_from, or_else}
@@ -234,7 +235,7 @@ pub nothing_found : {A : Type 0} (p : A → Bool) (xs : List A) → position_fro
 nothing_found p xs e = nothing_by p xs (nat_lt (position_or_len p xs) (length xs)) refl (position_from-zero p xs ∙ e)
 
 -- the bits before a port and those of the port are few, where V2 holds
-pub bits_few : (ports : List Port) (i : ℕ) (port : Port) → v2 ports ≡ None → i < length ports → get_or ports i port ≡ port → bits_of (take i ports) + width port.range ≤ 65535
+pub bits_few : (ports : List Port) (i : ℕ) (port : Port) → v2 ports ≡ None → i < length ports → get_or ports i port ≡ port → bits_of (take i ports) + width port.range ≤ most_bits
 unfolding v2
 bits_few ports i port e less is =
     let cut : ports ≡ take i ports ++ port ∷ drop (i + 1) ports =
@@ -242,7 +243,7 @@ bits_few ports i port e less is =
     let fits : breaks_port (take i ports) port ≡ false = holds breaks_port ports e (take i ports) port (drop (i + 1) ports) cut in
     few (bits_of (take i ports) + width port.range) (or_parts (not (in_order port.range)) _ (or_parts (list_any (port_named port.name) (take i ports)) _ fits).1).1
   where
-    few : (n : ℕ) → nat_lt 65535 n ≡ false → n ≤ 65535
+    few : (n : ℕ) → nat_lt most_bits n ≡ false → n ≤ most_bits
     few n e = grind (arith, nat_tests)
 
 -- the bits of one port more

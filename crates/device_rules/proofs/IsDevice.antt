@@ -1,6 +1,7 @@
 -- A text that keeps the rules describes a device.
 use Rattle.std.proofs.Common.{◌≡◌, ◌≤◌, map, length, None, sym, subst, arith}
 use Rattle.std.proofs.lemmas.List.{length-map}
+use Rattle.board_defs.specs.Limits.{most_bits}
 use Rattle.board_defs.specs.DeviceRules.{PortPinsDiffer, IsDevice}
 use Rattle.board_defs.specs.declared.device.RawDevice.{RawDevice}
 use Rattle.device_rules.specs.declared.draft.Draft.{Draft}
@@ -17,7 +18,7 @@ use Rattle.device_rules.proofs.IsDeviceCodes.{has_codes}
 use Rattle.device_rules.proofs.IsDeviceCells.{cells_below, cells_all, controls_given, controls_stand, controls_below, one_disable, one_loading, one_writing}
 use Rattle.device_rules.proofs.IsDevicePlaces.{places, one_driver, fits_ports}
 
-bits_most : (draft : Draft) → PortsStand draft.ports → length (raw_device draft).bits ≤ 65535
+bits_most : (draft : Draft) → PortsStand draft.ports → length (raw_device draft).bits ≤ most_bits
 unfolding raw_bits
 bits_most draft stand =
     let made = port_bit draft.map draft.taps draft.compliance in

@@ -4,6 +4,7 @@ use Rattle.std.specs.Prelude.{slice_get, nat_lt}
 use Rattle.std.specs.List.{list_any}
 use Rattle.std.proofs.lemmas.Bool.{or_parts, not-false, ltb-false}
 use Rattle.std.proofs.lemmas.List.Sums.{sum_by-cons, sum_by_push}
+use Rattle.board_defs.specs.Limits.{most_bits}
 use Rattle.lists.proofs.Booleans.{clash}
 use Rattle.board_defs.proofs.Members.{Has, has_at, has_place, has_append}
 use Rattle.bsdl_parser.specs.declared.entity.Port.{Port}
@@ -17,18 +18,18 @@ use Rattle.device_rules.proofs.IsDeviceLists.{name_same, earlier, holds_at, none
 pub record PortsStand (ports : List Port) : Type 0 where
   pub once : Once (λ port. port.name) ports
   pub ordered : (port : Port) → Has ports port → in_order port.range ≡ true
-  pub few : bits_of ports ≤ 65535
+  pub few : bits_of ports ≤ most_bits
 
 record KeptPort (before : List Port) (port : Port) : Type 0 where
   new : list_any (port_named port.name) before ≡ false
   ordered : in_order port.range ≡ true
-  few : bits_of before + width port.range ≤ 65535
+  few : bits_of before + width port.range ≤ most_bits
 
 kept_port : (before : List Port) (port : Port) → breaks_port before port ≡ false → KeptPort before port
 kept_port before port e =
     let a = or_parts (list_any (port_named port.name) before) _ e in
-    let b = or_parts (not (in_order port.range)) (nat_lt 65535 (bits_of before + width port.range)) a.1 in
-    record { new = a.0; ordered = not-false (in_order port.range) b.0; few = ltb-false 65535 (bits_of before + width port.range) b.1 }
+    let b = or_parts (not (in_order port.range)) (nat_lt most_bits (bits_of before + width port.range)) a.1 in
+    record { new = a.0; ordered = not-false (in_order port.range) b.0; few = ltb-false most_bits (bits_of before + width port.range) b.1 }
 
 -- a list is empty or has a last item
 record EndsIn {X : Type 0} (xs : List X) : Type 0 where
@@ -40,11 +41,11 @@ ends_in : {X : Type 0} (x : X) (xs : List X) → EndsIn (x ∷ xs)
 ends_in x [] = record { front = []; last = x; split = refl }
 ends_in x (y ∷ ys) = let r = ends_in y ys in record { front = x ∷ r.front; last = r.last; split = ap (λ v. x ∷ v) r.split }
 
-few_bits : (ports : List Port) → Holds breaks_port ports → bits_of ports ≤ 65535
+few_bits : (ports : List Port) → Holds breaks_port ports → bits_of ports ≤ most_bits
 few_bits [] h = omega arith
 few_bits (port ∷ ports) h =
     let r : EndsIn (port ∷ ports) = ends_in port ports in
-    let kept : bits_of r.front + width r.last.range ≤ 65535 = (kept_port r.front r.last (h r.front r.last [] r.split)).few in
+    let kept : bits_of r.front + width r.last.range ≤ most_bits = (kept_port r.front r.last (h r.front r.last [] r.split)).few in
     let sum : bits_of (r.front ++ r.last ∷ []) ≡ bits_of r.front + width r.last.range = sum_by_push (λ (p : Port). width p.range) r.front r.last in
     let all : bits_of (port ∷ ports) ≡ bits_of (r.front ++ r.last ∷ []) = ap bits_of r.split in
     omega (arith, kept, sum, all)
@@ -70,7 +71,7 @@ length_all number (port ∷ ports) h =
     omega (arith, here, rest, all, sum)
 
 -- at most 65,535 bits
-pub bits_few : (ports : List Port) → PortsStand ports → length (port_bits ports) ≤ 65535
+pub bits_few : (ports : List Port) → PortsStand ports → length (port_bits ports) ≤ most_bits
 bits_few ports stand = let all : length (port_bits ports) ≡ bits_of ports = length_all 0 ports stand.ordered in omega (arith, all, stand.few)
 
 -- a bit of these ports, which are numbered from the first on

@@ -2,6 +2,7 @@
 use Rattle.std.specs.Prelude.{ℕ, ◌+◌, ◌-◌, List, [], ◌∷◌, ◌++◌, map, Bool, true, false, ◌&&◌, ◌||◌, not, if◌then◌else◌, Option, Some, None, is_none, nat_lt, nat_le, sum_by, find, option_and_then}
 use Rattle.std.specs.List.{list_any, position_from}
 use Rattle.std.specs.Str.{bytes_eq}
+use Rattle.board_defs.specs.Limits.{most_bits}
 use Rattle.board_defs.specs.declared.device.Mode.{Mode}
 use Rattle.board_defs.specs.DeviceRules.{range_indexes, is_on}
 use Rattle.bsdl_parser.specs.declared.entity.Port.{Port}
@@ -27,7 +28,7 @@ abbrev pub port_named : List ℕ → Port → Bool
 port_named name port = bytes_eq port.name name
 
 abbrev pub breaks_port : List Port → Port → Bool
-breaks_port before port = list_any (port_named port.name) before || (not (in_order port.range) || nat_lt 65535 (bits_of before + width port.range))
+breaks_port before port = list_any (port_named port.name) before || (not (in_order port.range) || nat_lt most_bits (bits_of before + width port.range))
 
 -- V2: names differ, ranges are in order, and there are at most 65,535 bits up to and with each port
 unfoldable pub v2 : List Port → Option ℕ

@@ -1,6 +1,7 @@
 -- The device that a text without a broken rule describes.
 use Rattle.std.specs.Prelude.{ℕ, ◌≤◌, List, map, Bool, false, Option, Some, None, find, option_and_then, slice_get}
 use Rattle.std.specs.List.{list_any}
+use Rattle.board_defs.specs.Limits.{most_bits, most_instruction_bits}
 use Rattle.board_defs.specs.declared.device.Cell.{Cell}
 use Rattle.board_defs.specs.declared.device.PortBit.{PortBit}
 use Rattle.board_defs.specs.declared.device.RawDevice.{RawDevice}
@@ -69,6 +70,6 @@ raw_device draft = record {
 -- the lengths of the registers are in their ranges
 pub record HasLengths (draft : Draft) : Type 0 where
   pub ir_least : 2 ≤ draft.ir
-  pub ir_most : draft.ir ≤ 255
+  pub ir_most : draft.ir ≤ most_instruction_bits
   pub boundary_least : 1 ≤ draft.boundary
-  pub boundary_most : draft.boundary ≤ 65535
+  pub boundary_most : draft.boundary ≤ most_bits

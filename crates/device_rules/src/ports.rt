@@ -2,6 +2,7 @@
 ghost use Rattle.std.specs.Prelude.{◌≡◌, ◌<◌, ◌^◌, length, IfOk};
 ghost use Rattle.device_rules.specs.Ports.{in_order, width, v2};
 
+use board_defs::MOST_BITS;
 use bsdl_parser::{Port, Range};
 use std::alloc::{AllocError, Global};
 use std::collections::HashSet;
@@ -52,7 +53,7 @@ pub(crate) fn wrong_port(alloc: Global, ports: &[Port]) -> Result<Option<u32>, A
         let known = seen.contains(name);
         let ordered = is_in_order(port.range);
         let more = bits + bit_count(port.range);
-        if known || !ordered || 65535 < more {
+        if known || !ordered || u64::from(MOST_BITS) < more {
             return Ok(Some(i as u32 + 1));
         }
         seen.insert(name)?;

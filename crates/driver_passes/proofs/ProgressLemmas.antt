@@ -9,6 +9,7 @@ use Rattle.std.proofs.lemmas.List.{get_or-map as item-map, get_or_default, lengt
 use Rattle.std.proofs.lemmas.List.Elements.{All-nil}
 use Rattle.std.proofs.lemmas.List.Folds.{list_any-append}
 use Rattle.std.proofs.lemmas.List.Sums.{sum_by-cons}
+use Rattle.board_defs.specs.Limits.{most_pins}
 use Rattle.lists.proofs.Booleans.{suc-eqb_zero}
 use Rattle.board_defs.specs.declared.board.Net.{Net}
 use Rattle.board_defs.specs.declared.board.Ctl.{Ctl}
@@ -115,5 +116,5 @@ drivers_few board [] = omega arith
 drivers_few board (net ∷ nets) =
     omega (arith, length-append (tested_drivers board net) (flat_map (λ (drivers : List Drive). drivers) (map (tested_drivers board) nets)), filter_few (tested_drive board net) 0 (length net.pins), sum_by-cons (λ (n : Net). length n.pins) net nets, drivers_few board nets)
 
-pub passes_few : (board : RawBoard) (useful : List Ctl) (passes : List (List Ctl)) → sum_by (λ net. length net.pins) board.nets ≤ 65535 → passes ≡ fold (add_for_driver board useful) [] (flat_map (λ drivers. drivers) (drivers_by_net board)) → length passes ≤ 65535
+pub passes_few : (board : RawBoard) (useful : List Ctl) (passes : List (List Ctl)) → sum_by (λ net. length net.pins) board.nets ≤ most_pins → passes ≡ fold (add_for_driver board useful) [] (flat_map (λ drivers. drivers) (drivers_by_net board)) → length passes ≤ most_pins
 passes_few board useful passes pins e = omega (arith, ap length e, fold_few board useful (flat_map (λ (drivers : List Drive). drivers) (drivers_by_net board)) [], drivers_few board board.nets)

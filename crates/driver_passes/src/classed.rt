@@ -1,5 +1,6 @@
 // A board with its classes.
 ghost use Rattle.std.specs.Prelude.{◌≡◌, ◌≤◌, false, true, length, slice_get, All, MatchOption, Some};
+ghost use Rattle.board_defs.specs.Limits.{most_nets};
 ghost use Rattle.board_defs.specs.Passes.{useful_controls};
 ghost use Rattle.board_defs.specs.Settings.{holds};
 ghost use Rattle.net_facts.specs.Kept.{shared_nets};
@@ -58,7 +59,7 @@ impl<'a> ClassedBoard<'a> {
     /// How many nets the board has.
     pub fn nets(&self) -> usize
         ensures count { result ≡ length self.now.nets }
-        ensures few { result ≤ 16382 }
+        ensures few { result ≤ most_nets }
     {
         self.classes.raw().nets.as_slice().len()
     }

@@ -1,6 +1,7 @@
 // The passes until each tested driver is enabled.
 ghost use Rattle.std.specs.Prelude.{◌≡◌, ◌<◌, ◌≤◌, ◌||◌, ◌++◌, ◌∷◌, [], false, true, fold, length, slice_get, take, All, IfOk, IfSome, OnOk};
 ghost use Rattle.std.specs.List.{flat_map, list_any};
+ghost use Rattle.board_defs.specs.Limits.{most_pins};
 ghost use Rattle.board_defs.specs.Settings.{holds};
 ghost use Rattle.board_defs.specs.Passes.{driver_pass, driver_passes, drivers_by_net, is_enabled, passes_of, useful_controls};
 ghost use Rattle.driver_passes.specs.inner.Drafts.{drafted};
@@ -141,7 +142,7 @@ pub fn driver_passes(alloc: Global, board: &BoardTables<'_>) -> Result<Progress,
         ≡ driver_passes board.now (useful_controls board.now)
         (flat_map (λ drivers. drivers) (drivers_by_net board.now))) }
     ensures tested { IfOk result (λ progress. EnableTested board.now progress.passes.items) }
-    ensures few { IfOk result (λ progress. length progress.passes.items ≤ 65535) }
+    ensures few { IfOk result (λ progress. length progress.passes.items ≤ most_pins) }
 {
     board.laws();
     let mut progress = Progress::new(alloc, board)?;

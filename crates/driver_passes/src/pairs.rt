@@ -1,5 +1,6 @@
 // More passes, until each two paired nets are observed by one pass.
 ghost use Rattle.std.specs.Prelude.{◌≡◌, ◌<◌, ◌≤◌, ◌+◌, ◌*◌, ◌^◌, ◌∷◌, ◌++◌, ℕ, [], false, true, fold, length, IfOk, OnOk};
+ghost use Rattle.board_defs.specs.Limits.{most_nets, most_pins};
 ghost use Rattle.board_defs.specs.Passes.{are_shown, drivers_by_net, pair_pass, pair_passes, useful_controls};
 ghost use Rattle.driver_passes.specs.inner.Drafts.{drafted};
 ghost use Rattle.driver_passes.specs.inner.Pairs.{AreDone, ArePairing, IsDone, IsDoneTo, IsUsefulPair, LooksAt, StaysDone, observing, pairs_from};
@@ -178,12 +179,12 @@ impl Pairing {
         requires first { a < length board.now.nets }
         requires pairing { ArePairing board.now self.old }
         requires done { AreDone board.now self.old.passes.items a }
-        requires few { length self.old.passes.items ≤ 65535 + 16382 * a }
+        requires few { length self.old.passes.items ≤ most_pins + most_nets * a }
         ensures pairing { OnOk result (ArePairing board.now self.new) }
         ensures done { OnOk result (AreDone board.now self.new.passes.items (a + 1)) }
         ensures added { OnOk result (self.new.passes.items
             ≡ fold (observing board.now) self.old.passes.items (pairs_from board.now a (a + 1))) }
-        ensures few { OnOk result (length self.new.passes.items ≤ 65535 + 16382 * (a + 1)) }
+        ensures few { OnOk result (length self.new.passes.items ≤ most_pins + most_nets * (a + 1)) }
     {
         if self.is_done(board, a) {
             return Ok(());
@@ -201,7 +202,7 @@ impl Pairing {
     /// Adds the passes that are wanted for each two nets.
     fn add_for_all(&mut self, alloc: Global, board: &BoardTables<'_>) -> Result<(), AllocError>
         requires pairing { ArePairing board.now self.old }
-        requires few { length self.old.passes.items ≤ 65535 }
+        requires few { length self.old.passes.items ≤ most_pins }
         ensures pairing { OnOk result (ArePairing board.now self.new) }
         ensures added { OnOk result (self.new.passes.items
             ≡ pair_passes board.now (useful_controls board.now) self.old.passes.items
@@ -223,7 +224,7 @@ pub fn pair_passes(
 ) -> Result<Vec<Setting>, AllocError>
     requires progress { IsProgress board.now progress }
     requires tested { EnableTested board.now progress.passes.items }
-    requires few { length progress.passes.items ≤ 65535 }
+    requires few { length progress.passes.items ≤ most_pins }
     ensures passes { IfOk result (λ all. all.items
         ≡ pair_passes board.now (useful_controls board.now) progress.passes.items
         (drivers_by_net board.now)) }

@@ -1,5 +1,6 @@
 // A board with the tables that its passes are made by.
 ghost use Rattle.std.specs.Prelude.{◌≡◌, ◌<◌, ◌≤◌, ℕ, false, true, length, slice_get, All, IfOk, IfSome, MatchOption, Some};
+ghost use Rattle.board_defs.specs.Limits.{most_nets};
 ghost use Rattle.board_defs.specs.Passes.{first_pair, useful_controls};
 ghost use Rattle.board_defs.specs.Settings.{holds};
 ghost use Rattle.driver_passes.specs.inner.Drafts.{setting_of};
@@ -73,7 +74,7 @@ impl<'a> BoardTables<'a> {
     /// How many nets the board has.
     pub fn nets(&self) -> usize
         ensures count { result ≡ length self.now.nets }
-        ensures few { result ≤ 16382 }
+        ensures few { result ≤ most_nets }
     {
         self.classed.nets()
     }

@@ -1,5 +1,6 @@
 -- What the identity test is worth: it tells whether each part's code fits its pattern.
 use Rattle.std.specs.Prelude.{◌≡◌, ℕ, ◌≤◌, true, false, List, length, Option, Some, All, IfSome}
+use Rattle.board_defs.specs.Limits.{most_parts}
 use Rattle.board_defs.specs.declared.device.Symbol.{Symbol}
 use Rattle.tap_defs.specs.chain.TestLogic.{TestLogic}
 use Rattle.tap_defs.specs.chain.Chain.{ChainPart, IsChainOf}
@@ -10,7 +11,7 @@ use Rattle.ident_test.specs.CodedParts.{AreCoded, all_fit}
 -- the patterns of a chain's parts: 1 to 255 of them, each of 32 symbols
 pub record ArePatterns (patterns : List (Option (List Symbol))) : Type 0 where
   pub some : 1 ≤ length patterns
-  pub few : length patterns ≤ 255
+  pub few : length patterns ≤ most_parts
   pub whole : All (λ pattern. IfSome pattern (λ code. length code ≡ 32)) patterns
 
 -- the text has a meaning. On every chain of parts with these patterns it passes where each code fits its pattern, and it fails where

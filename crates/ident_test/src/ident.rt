@@ -1,5 +1,6 @@
 // The text of the identity test.
 ghost use Rattle.std.specs.Prelude.{◌≡◌, ◌+◌, ◌<◌, ◌≤◌, false, length, map, replicate, unwrap_or, is_some, All, IfSome};
+ghost use Rattle.board_defs.specs.Limits.{most_bits, most_parts};
 ghost use Rattle.bt_base.specs.Puts.{Puts};
 ghost use Rattle.tap_defs.specs.chain.Scan.{tdo_bits, mask_bits};
 ghost use Rattle.tap_defs.specs.chain.ScanRows.{AreSameRows, EachHasRoom, HoldBits};
@@ -37,7 +38,7 @@ fn register_bits(part: &Option<Code>) -> u32
 
 // How many bits the scan has.
 fn scan_length(parts: &[Option<Code>]) -> u32
-    requires few { length parts.now ≤ 255 }
+    requires few { length parts.now ≤ most_parts }
     requires whole { All (λ part. IfSome part (λ code. length code ≡ 32)) parts.now }
     ensures { result ≡ length (ident_bits parts.now) }
 {
@@ -64,7 +65,7 @@ fn is_compared(symbol: Symbol) -> bool
 
 // Writes what is compared of a register, whose lowest bit has this position.
 fn set_register(at: u32, pattern: &[Symbol], tdo: &mut Row, mask: &mut Row)
-    requires few { at + length pattern.now ≤ 65535 }
+    requires few { at + length pattern.now ≤ most_bits }
     requires tdo { at + length pattern.now ≤ length tdo.old.bits }
     requires mask { at + length pattern.now ≤ length mask.old.bits }
     ensures tdo { tdo.new.bits ≡ placed at (tdo_bits (map symbol_bit pattern.now)) tdo.old.bits }
@@ -82,7 +83,7 @@ fn set_register(at: u32, pattern: &[Symbol], tdo: &mut Row, mask: &mut Row)
 
 // Writes what is compared of all parts, the last part's register first.
 fn set_registers(parts: &[Option<Code>], tdo: &mut Row, mask: &mut Row)
-    requires few { length (ident_bits parts.now) ≤ 65535 }
+    requires few { length (ident_bits parts.now) ≤ most_bits }
     requires tdo { tdo.old.bits ≡ replicate (length (ident_bits parts.now)) false }
     requires mask { mask.old.bits ≡ replicate (length (ident_bits parts.now)) false }
     ensures tdo { tdo.new.bits ≡ tdo_bits (ident_bits parts.now) }
@@ -101,7 +102,7 @@ fn set_registers(parts: &[Option<Code>], tdo: &mut Row, mask: &mut Row)
 // Fills the rows of the scan.
 #[tactic(auto, using(crate::proofs::LengthLemmas::room_of))]
 fn fill_rows(parts: &[Option<Code>], rows: &mut ScanRows)
-    requires few { length parts.now ≤ 255 }
+    requires few { length parts.now ≤ most_parts }
     requires whole { All (λ part. IfSome part (λ code. length code ≡ 32)) parts.now }
     requires room { EachHasRoom (λ room. length (ident_bits parts.now) ≤ room) rows.old }
     ensures bits { HoldBits (ident_bits parts.now) rows.new }
@@ -122,7 +123,7 @@ fn put_scan<K: Sink>(
     out: &mut K,
 ) -> Result<(), PutFault>
     requires some { 0 < length parts.now }
-    requires few { length parts.now ≤ 255 }
+    requires few { length parts.now ≤ most_parts }
     requires whole { All (λ part. IfSome part (λ code. length code ≡ 32)) parts.now }
     requires room { EachHasRoom (λ room. length (ident_bits parts.now) ≤ room) rows.old }
     ensures text { Puts (K.shown out.old) (K.shown out.new) (scan_text (ident_scan parts.now)) result }
@@ -151,7 +152,7 @@ pub fn write_ident<K: Sink>(
     out: &mut K,
 ) -> Result<(), PutFault>
     requires some { 0 < length parts.now }
-    requires few { length parts.now ≤ 255 }
+    requires few { length parts.now ≤ most_parts }
     requires whole { All (λ part. IfSome part (λ code. length code ≡ 32)) parts.now }
     requires tdi_room { length (ident_bits parts.now) ≤ tdi.old.room }
     requires tdo_room { length (ident_bits parts.now) ≤ tdo.old.room }

@@ -1,5 +1,6 @@
 // The drivers of each net that may be enabled.
 ghost use Rattle.std.specs.Prelude.{◌≡◌, ◌≤◌, length, map, IfOk, All};
+ghost use Rattle.board_defs.specs.Limits.{most_pins};
 ghost use Rattle.net_pins.specs.NetCells.{all_drivers, drivers_of};
 ghost use Rattle.net_pins.specs.Tables.{ArePinTables};
 
@@ -17,7 +18,7 @@ fn drivers_of_nets(
 ) -> Result<Items<Items<NetDriver>>, AllocError>
     requires tables { ArePinTables board.now tables.now }
     requires nets { nets.now ≡ board.now.nets }
-    requires few { All (λ net. length net.pins ≤ 65535) nets.now }
+    requires few { All (λ net. length net.pins ≤ most_pins) nets.now }
     ensures { IfOk result (λ drivers. drivers ≡ map (drivers_of board.now) nets.now) }
 {
     let mut drivers = Vec::with_capacity(alloc, nets.len())?;

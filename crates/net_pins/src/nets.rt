@@ -1,5 +1,6 @@
 // The cells that drive and read each net.
 ghost use Rattle.std.specs.Prelude.{◌≡◌, ◌<◌, ◌≤◌, ◌++◌, length, map, filter, Some, IfOk, OnOk, All};
+ghost use Rattle.board_defs.specs.Limits.{most_pins};
 ghost use Rattle.board_defs.specs.DeviceRules.{is_receiving};
 ghost use Rattle.board_defs.specs.Pins.{device_at, bit_at, entry_at, cell_count, guarded};
 ghost use Rattle.net_pins.specs.NetCells.{optional, net_driver, driver_of, drivers_of_pins, drivers_of, reader_of, readers_at, readers_of};
@@ -91,7 +92,7 @@ fn drivers_of_pins(
     pins: &[NetPin],
 ) -> Result<Items<NetDriver>, AllocError>
     requires tables { ArePinTables board.now tables.now }
-    requires few { length pins.now ≤ 65535 }
+    requires few { length pins.now ≤ most_pins }
     ensures { IfOk result (λ drivers. drivers ≡ drivers_of_pins board.now pins.now) }
 {
     let mut drivers = Vec::new(alloc);
@@ -114,7 +115,7 @@ pub fn drivers_of(
 ) -> Result<Items<NetDriver>, AllocError>
     requires tables { ArePinTables board.now tables.now }
     requires guards { is_guarded ≡ guarded board.now net.now }
-    requires few { length net.now.pins ≤ 65535 }
+    requires few { length net.now.pins ≤ most_pins }
     ensures { IfOk result (λ drivers. drivers ≡ drivers_of board.now net.now) }
 {
     if is_guarded {
@@ -201,7 +202,7 @@ pub fn readers_of(
     pins: &[NetPin],
 ) -> Result<Items<ReaderCell>, AllocError>
     requires tables { ArePinTables board.now tables.now }
-    requires few { length pins.now ≤ 65535 }
+    requires few { length pins.now ≤ most_pins }
     ensures { IfOk result (λ readers. readers ≡ readers_of board.now pins.now) }
 {
     let mut readers = Vec::new(alloc);

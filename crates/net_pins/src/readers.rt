@@ -1,5 +1,6 @@
 // The compared cells of each net.
 ghost use Rattle.std.specs.Prelude.{◌≡◌, ◌≤◌, length, map, IfOk, All};
+ghost use Rattle.board_defs.specs.Limits.{most_pins};
 ghost use Rattle.net_pins.specs.NetCells.{all_readers, readers_of};
 ghost use Rattle.net_pins.specs.Tables.{ArePinTables};
 
@@ -15,7 +16,7 @@ fn readers_of_nets(
     nets: &[Net],
 ) -> Result<Items<Items<ReaderCell>>, AllocError>
     requires tables { ArePinTables board.now tables.now }
-    requires few { All (λ net. length net.pins ≤ 65535) nets.now }
+    requires few { All (λ net. length net.pins ≤ most_pins) nets.now }
     ensures { IfOk result (λ readers. readers ≡ map (λ net. readers_of board.now net.pins) nets.now) }
 {
     let mut readers = Vec::with_capacity(alloc, nets.len())?;

@@ -1,6 +1,7 @@
 -- Steps of the loop that makes the rows of a scan of instructions.
 use Rattle.std.proofs.Common.{◌≡◌, ℕ, suc, ◌+◌, ◌-◌, ◌<◌, ◌≤◌, Bool, true, false, List, [], ◌∷◌, ◌++◌, length, map, drop, get_or, replicate, is_some, unwrap_or, refl, ap, ◌∙◌, arith}
 use Rattle.std.proofs.lemmas.List.{map-append, drop_more, length-map, length-replicate}
+use Rattle.board_defs.specs.Limits.{most_bits}
 use Rattle.board_defs.specs.declared.board.Part.{Part}
 use Rattle.board_defs.specs.declared.board.RawBoard.{RawBoard}
 use Rattle.board_defs.specs.BoardRules.{IsBoard, IsPart}
@@ -41,8 +42,8 @@ abbrev pub bits_of : Instruction → List Part → List ScanBit
 bits_of instruction parts = (instructs (map (λ part. code_for instruction part.kind) parts)).bits
 
 -- those of all of them, once none is left, are few
-pub few_left : (instruction : Instruction) (chain : List Part) → length (bits_of instruction chain) ≤ 65535 → (i : ℕ) → i ≡ 0 → (row : ScanBit → Bool) →
-    length (map row (bits_of instruction (drop i chain))) ≤ 65535
+pub few_left : (instruction : Instruction) (chain : List Part) → length (bits_of instruction chain) ≤ most_bits → (i : ℕ) → i ≡ 0 → (row : ScanBit → Bool) →
+    length (map row (bits_of instruction (drop i chain))) ≤ most_bits
 few_left instruction chain few i none row =
     let bits : List ScanBit = bits_of instruction (drop i chain) in
     omega (arith, length-map bits row, ap (λ n. length (bits_of instruction (drop n chain))) none, few)

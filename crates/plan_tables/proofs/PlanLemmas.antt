@@ -6,6 +6,7 @@ use Rattle.std.proofs.lemmas.List.{length-map}
 use Rattle.std.proofs.Math.Seq.{take-length}
 use Rattle.std.proofs.lemmas.List.Sums.{sum_by-cons, count_by-le-length, sum_by-take-drop, sum_by-drop_more}
 use Rattle.std.proofs.lemmas.Option.{slice_get-map, get_or_from_slice_get, slice_get_within}
+use Rattle.board_defs.specs.Limits.{most_nets, most_pins}
 use Rattle.board_defs.specs.declared.device.RawDevice.{RawDevice}
 use Rattle.board_defs.specs.declared.board.Net.{Net}
 use Rattle.board_defs.specs.declared.board.RawBoard.{RawBoard}
@@ -127,7 +128,7 @@ code_width_is n width enough least = by_order (cases_lt width (code_width n)) (c
     by_order (inr le) (inl less) = absurd (omega (arith, least (code_width n) less, (width_is n).enough))
     by_order (inr le) (inr ge) = omega (arith, le, ge)
 
-pub width_most : (n width : ℕ) → n ≤ 16382 → ((less : ℕ) → less < width → 2 ^ less < n + 2) → width ≤ 14
+pub width_most : (n width : ℕ) → n ≤ most_nets → ((less : ℕ) → less < width → 2 ^ less < n + 2) → width ≤ 14
 width_most n width few least = by_order (cases_lt 14 width)
   where
     by_order : (14 < width) ⊎ (width ≤ 14) → width ≤ 14
@@ -135,7 +136,7 @@ width_most n width few least = by_order (cases_lt 14 width)
     by_order (inr most) = most
 
 -- the pins of a net
-pub pins_most : (board : RawBoard) → IsBoard board → (k : ℕ) (d : Net) → k < length board.nets → length (get_or board.nets k d).pins ≤ 65535
+pub pins_most : (board : RawBoard) → IsBoard board → (k : ℕ) (d : Net) → k < length board.nets → length (get_or board.nets k d).pins ≤ most_pins
 pins_most board rules k d less =
     let f : Net → ℕ = λ net. length net.pins in
     omega (arith, rules.pins_most, sum_by-take-drop f board.nets k, sum_by-drop_more f board.nets k d less)
@@ -195,11 +196,11 @@ is_plan board rules plan plannable quiet readers_are drivers_are firsts tables s
 
 -- the nets and their codes are few
 pub seen_most : (board : RawBoard) → IsBoard board → (readers : List (List ReaderCell)) (tables : PassTables) (passes : List (List Ctl)) (seen : List Bool) → readers ≡ all_readers board →
-    seen ≡ seen_in board (length readers) tables.steady tables.by_control passes → (length seen ≡ length board.nets) × (length seen ≤ 16382)
+    seen ≡ seen_in board (length readers) tables.steady tables.by_control passes → (length seen ≡ length board.nets) × (length seen ≤ most_nets)
 seen_most board rules readers tables passes seen readers_are seen_is =
     let same : length seen ≡ length board.nets = ap (λ (l : List Bool). length l) seen_is ∙ length-seen_in board (length readers) tables.steady tables.by_control passes
     ∙ ap (λ (l : List (List ReaderCell)). length l) readers_are ∙ length-map board.nets (λ (net : Net). readers_of board net.pins) in
     (same, omega (arith, same, rules.nets_most))
 
-pub count_most : (seen : List Bool) (codes : NetCodes) → AreCodes seen codes → length seen ≤ 16382 → codes.count ≤ 16382
+pub count_most : (seen : List Bool) (codes : NetCodes) → AreCodes seen codes → length seen ≤ most_nets → codes.count ≤ most_nets
 count_most seen codes are most = omega (arith, are.count_is, count_by-le-length (λ b. b) seen, most)

@@ -2,6 +2,7 @@
 use Rattle.std.proofs.Common.{◌≡◌, ℕ, ◌<◌, ◌≤◌, Bool, List, [], ◌∷◌, length, map, refl, ◌∙◌, arith, length-append}
 use Rattle.std.specs.Prelude.{sum_by}
 use Rattle.std.proofs.lemmas.List.Sums.{sum_by-cons}
+use Rattle.board_defs.specs.Limits.{most_bits}
 use Rattle.board_defs.specs.declared.board.PartKind.{PartKind}
 use Rattle.board_defs.specs.declared.board.PartKind.TheVariants.{Described, Bypass}
 use Rattle.board_defs.specs.declared.board.Part.{Part}
@@ -30,7 +31,7 @@ codes_bits code (p ∷ parts) fit =
 
 pub record IsSized (bits : List ScanBit) (size : ℕ) : Type 0 where
   pub some : 0 < length bits
-  pub most : length bits ≤ 65535
+  pub most : length bits ≤ most_bits
   pub size_is : length bits ≡ size
 
 code_sized : (board : RawBoard) → IsBoard board → (code : PartKind → List Bool) → CodesFit code board.chain → IsSized ((instructs (map (λ p. code p.kind) board.chain)).bits) (instruction_bits board)
@@ -48,6 +49,6 @@ preload_sized board rules = code_sized board rules preload_code (preload_fits bo
 pub extest_sized : (board : RawBoard) → IsBoard board → IsSized ((instructs (map (λ p. extest_code p.kind) board.chain)).bits) (instruction_bits board)
 extest_sized board rules = code_sized board rules extest_code (extest_fits board.chain (parts_of board rules))
 
-pub few_bits : (instruction : Instruction) (board : RawBoard) → IsBoard board → length ((instructs (map (λ part. code_for instruction part.kind) board.chain)).bits) ≤ 65535
+pub few_bits : (instruction : Instruction) (board : RawBoard) → IsBoard board → length ((instructs (map (λ part. code_for instruction part.kind) board.chain)).bits) ≤ most_bits
 few_bits Preload board rules = (preload_sized board rules).most
 few_bits Extest board rules = (extest_sized board rules).most

@@ -1,5 +1,6 @@
 // The codes of nets.
 ghost use Rattle.std.specs.Prelude.{◌≡◌, ◌≤◌, ◌<◌, ℕ, false, true, suc, cond, length, fold, take, count_by, slice_index_or, IfOk, All};
+ghost use Rattle.board_defs.specs.Limits.{most_nets};
 ghost use Rattle.board_defs.specs.declared.board.Ctl.{Ctl as ControlRecord};
 ghost use Rattle.board_defs.specs.Pins.{device_at, cell_count};
 ghost use Rattle.board_defs.specs.Settings.{holds};
@@ -75,7 +76,7 @@ pub fn seen_nets(
 
 /// Numbers the nets that are observed from 1, in net order.
 pub fn number_nets(alloc: Global, seen: &[bool]) -> Result<NetCodes, AllocError>
-    requires { length seen.now ≤ 16382 }
+    requires { length seen.now ≤ most_nets }
     ensures { IfOk result (λ codes. AreCodes seen.now codes) }
 {
     let mut codes = Vec::new(alloc);

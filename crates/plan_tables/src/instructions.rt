@@ -1,5 +1,6 @@
 // The rows of the two scans of instructions.
 ghost use Rattle.std.specs.Prelude.{◌≡◌, ◌+◌, ◌<◌, ◌≤◌, ◌++◌, List, Bool, map, length, replicate, drop, IfOk, OnOk};
+ghost use Rattle.board_defs.specs.Limits.{most_bits};
 ghost use Rattle.board_defs.specs.declared.board.PartKind.TheVariants.{Described};
 ghost use Rattle.board_defs.specs.DeviceRules.{bit_of};
 ghost use Rattle.board_defs.specs.BoardRules.{IsBoard};
@@ -85,7 +86,7 @@ fn rows_of(
     chain: &[Part],
 ) -> Result<StoredRows, AllocError>
     requires coded { AreCoded instruction chain.now }
-    requires few { length ((instructs (map (λ part. code_for instruction part.kind) chain.now)).bits) ≤ 65535 }
+    requires few { length ((instructs (map (λ part. code_for instruction part.kind) chain.now)).bits) ≤ most_bits }
     ensures { IfOk result (λ rows. AreRowsOf ((instructs (map (λ part. code_for instruction part.kind) chain.now)).bits) rows) }
 {
     let mut tdi = Vec::new(alloc);

@@ -1,6 +1,7 @@
 // The drivers by which nets can be observed.
 ghost use Rattle.std.specs.Prelude.{◌≡◌, ◌≤◌, ◌++◌, [], not, ◌==◌, length, map, option_map, slice_index_or, IfOk, OnOk, All};
 ghost use Rattle.std.specs.List.{list_any};
+ghost use Rattle.board_defs.specs.Limits.{most_nets};
 ghost use Rattle.board_defs.specs.BoardRules.{IsBoard};
 ghost use Rattle.net_pins.specs.NetCells.{drivers_of, readers_of};
 ghost use Rattle.net_pins.specs.Tables.{AreNetPins};
@@ -95,7 +96,7 @@ fn observers_of_nets(
     requires firsts { AreFirsts board.now.chain firsts.now }
     requires drivers { drivers.now ≡ map (drivers_of board.now) nets.now }
     requires readers { readers.now ≡ map (λ net. readers_of board.now net.pins) nets.now }
-    requires count { length nets.now ≤ 65535 }
+    requires count { length nets.now ≤ most_nets }
     ensures { IfOk result (λ found. found ≡ observers board.now nets.now) }
 {
     let _ = board.raw();

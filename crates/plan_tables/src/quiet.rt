@@ -1,5 +1,6 @@
 // The quiet row.
 ghost use Rattle.std.specs.Prelude.{◌≡◌, ◌≤◌, ◌++◌, false, length, option_map, unwrap_or, IfOk, OnOk};
+ghost use Rattle.board_defs.specs.Limits.{most_parts};
 ghost use Rattle.board_defs.specs.DeviceRules.{is_reading, is_writing, IsDevice};
 ghost use Rattle.board_defs.specs.Pins.{is_pinned};
 ghost use Rattle.tap_defs.specs.chain.ShiftRegister.{filled};
@@ -160,7 +161,7 @@ fn push_part(
 
 fn row_of(alloc: Global, raw: &RawBoard, chain: &[Part]) -> Result<Vec<bool>, AllocError>
     requires chain { chain.now ≡ raw.now.chain }
-    requires few { length chain.now ≤ 255 }
+    requires few { length chain.now ≤ most_parts }
     ensures { IfOk result (λ quiet. quiet.items ≡ laid (quiet_bits raw.now) raw.now) }
 {
     let mut quiet = Vec::new(alloc);

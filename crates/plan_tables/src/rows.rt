@@ -1,12 +1,13 @@
 // Rows of bits.
 ghost use Rattle.std.specs.Prelude.{◌≡◌, ◌≤◌, length, IfOk};
+ghost use Rattle.board_defs.specs.Limits.{most_bits};
 
 use bt_bits::Row;
 use std::alloc::{AllocError, Global};
 
 /// A row of these bits.
 pub fn row_of(alloc: Global, bits: &[bool]) -> Result<Row, AllocError>
-    requires { length bits.now ≤ 65535 }
+    requires { length bits.now ≤ most_bits }
     ensures { IfOk result (λ row. row.bits ≡ bits.now) }
 {
     let mut row = Row::with_room(alloc, bits.len() as u32)?;

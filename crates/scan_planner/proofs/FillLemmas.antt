@@ -6,6 +6,7 @@ use Rattle.std.proofs.lemmas.Bool.{lt-ltb}
 use Rattle.std.proofs.lemmas.List.{length-map, length-replicate}
 use Rattle.std.proofs.lemmas.List.Sums.{fold-append, count_by-le-length}
 use Rattle.std.proofs.lemmas.Option.{slice_get-get_or, get_or_from_slice_get}
+use Rattle.board_defs.specs.Limits.{most_bits}
 use Rattle.board_defs.specs.declared.board.RawBoard.{RawBoard}
 use Rattle.board_defs.specs.declared.board.Ctl.{Ctl}
 use Rattle.board_defs.specs.BoardRules.{IsBoard}
@@ -49,7 +50,7 @@ use Rattle.plan_tables.proofs.SizeLemmas.{IsSized}
 
 -- rows that have the bits of scan k fill it in
 pub fills : (board : RawBoard) (passes : List (List Ctl)) (width k : ℕ) (scan : Scan) (shape : Shape) (tdi tdo mask : List Bool) → slice_get (test_scans board passes width) k ≡ Some scan →
-    0 < length scan.bits → length scan.bits ≤ 65535 → AreBitsOf scan.bits tdi tdo mask → shape.ir ≡ scan.ir →
+    0 < length scan.bits → length scan.bits ≤ most_bits → AreBitsOf scan.bits tdi tdo mask → shape.ir ≡ scan.ir →
     shape.compare ≡ list_any (λ bit. bit) mask → FillsScan board passes width k shape tdi tdo mask
 fills board passes width k scan shape tdi tdo mask placed some most are is_ir compare =
     record {

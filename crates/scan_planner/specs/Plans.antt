@@ -1,6 +1,7 @@
 -- What a plan fills in.
 use Rattle.std.specs.Prelude.{◌≡◌, ℕ, suc, ◌+◌, ◌*◌, ◌<◌, ◌≤◌, Bool, true, false, List, [], length, Some, slice_get, slice_index_or}
 use Rattle.std.specs.List.{list_any}
+use Rattle.board_defs.specs.Limits.{most_bits}
 use Rattle.board_defs.specs.declared.board.RawBoard.{RawBoard}
 use Rattle.board_defs.specs.declared.board.Ctl.{Ctl}
 use Rattle.board_defs.specs.Pins.{instruction_bits, data_bits}
@@ -26,7 +27,7 @@ pub record IsRoom (board : RawBoard) (room : ℕ) : Type 0 where
 pub record FillsScan (board : RawBoard) (passes : List (List Ctl)) (width k : ℕ) (shape : Shape) (tdi tdo mask : List Bool) : Type 0 where
   pub scan : slice_get (test_scans board passes width) k ≡ Some (record { ir = shape.ir; bits = scan_bits tdi tdo mask })
   pub some : 0 < length tdi
-  pub most : length tdi ≤ 65535
+  pub most : length tdi ≤ most_bits
   pub tdo_length : length tdo ≡ length tdi
   pub mask_length : length mask ≡ length tdi
   pub compare : shape.compare ≡ list_any (λ bit. bit) mask

@@ -5,6 +5,7 @@ use Rattle.std.proofs.lemmas.List.Sums.{sum_by-cons, sum_by-le, sum_by-take-drop
 use Rattle.std.specs.Prelude.{◌||◌}
 use Rattle.std.specs.List.{list_any, All}
 use Rattle.std.proofs.Math.Bool.{or-true}
+use Rattle.board_defs.specs.Limits.{IsInstructionLength}
 use Rattle.tap_defs.specs.chain.Scan.{Scan, tdi_bits, tdo_bits, mask_bits}
 use Rattle.tap_defs.specs.chain.Codes.{sent, code_bits}
 use Rattle.tap_defs.specs.chain.Text.{scan_text, scan_texts}
@@ -182,7 +183,7 @@ length-mark_bits parts =
 pub length-bypass_tdi : (lengths : List ℕ) → length (tdi_bits (bypass_bits lengths)) ≡ sum lengths
 length-bypass_tdi lengths = ap length (bypass_bits-tdi lengths) ∙ length-replicate (sum lengths) true
 
-pub sum_at_most : (lengths : List ℕ) → All (λ n. (2 ≤ n) × (n ≤ 255)) lengths → sum lengths ≤ length lengths * 255
+pub sum_at_most : (lengths : List ℕ) → All IsInstructionLength lengths → sum lengths ≤ length lengths * 255
 sum_at_most lengths each = sum_by-le (λ (x : ℕ). x) 255 lengths (λ k d within. (each k d within).1)
 
 -- the scans of the chain test

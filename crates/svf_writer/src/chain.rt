@@ -1,5 +1,6 @@
 // The text of the chain test.
 ghost use Rattle.std.specs.Prelude.{◌≡◌, ◌+◌, ◌<◌, ◌≤◌, true, false, length, sum, replicate, slice_set, All};
+ghost use Rattle.board_defs.specs.Limits.{most_bits, most_parts, IsInstructionLength};
 ghost use Rattle.bt_base.specs.Puts.{Puts};
 ghost use Rattle.tap_defs.specs.chain.Scan.{tdo_bits, mask_bits};
 ghost use Rattle.tap_defs.specs.chain.ScanRows.{AreSameRows, EachHasRoom, HoldBits};
@@ -30,7 +31,7 @@ fn fill_ones(len: u32, row: &mut Row)
 
 // Sets the marks, A5, from a place on.
 fn set_marks(at: u32, row: &mut Row)
-    requires few { at ≤ 255 }
+    requires few { at ≤ most_parts }
     requires bits { at + 8 ≤ length row.old.bits }
     ensures bits { row.new.bits ≡ marked at row.old.bits }
     ensures room { row.new.room ≡ row.old.room }
@@ -43,7 +44,7 @@ fn set_marks(at: u32, row: &mut Row)
 
 // Fills the rows of the data scan of so many parts: the marks are shifted in, and come out as many places later.
 fn fill_marks(parts: u32, rows: &mut ScanRows)
-    requires few { parts ≤ 255 }
+    requires few { parts ≤ most_parts }
     requires room { EachHasRoom (λ room. parts + 8 ≤ room) rows.old }
     ensures bits { HoldBits (mark_bits parts) rows.new }
     ensures kept { AreSameRows rows.old rows.new }
@@ -57,7 +58,7 @@ fn fill_marks(parts: u32, rows: &mut ScanRows)
 
 // Sets what is compared of one part's instruction, whose lowest bit has this position: 01 in the two lowest bits.
 fn set_capture(at: u32, tdo: &mut Row, mask: &mut Row)
-    requires few { at ≤ 65535 }
+    requires few { at ≤ most_bits }
     requires tdo { at + 2 ≤ length tdo.old.bits }
     requires mask { at + 2 ≤ length mask.old.bits }
     ensures tdo { tdo.new.bits ≡ slice_set tdo.old.bits at true }
@@ -73,7 +74,7 @@ fn set_capture(at: u32, tdo: &mut Row, mask: &mut Row)
 // Sets what is compared of the parts' instructions, the last part's first.
 fn set_captures(lengths: &[u32], tdo: &mut Row, mask: &mut Row)
     requires each { All (λ n. 2 ≤ n) lengths.now }
-    requires total { sum lengths.now ≤ 65535 }
+    requires total { sum lengths.now ≤ most_bits }
     requires tdo { tdo.old.bits ≡ replicate (sum lengths.now) false }
     requires mask { mask.old.bits ≡ replicate (sum lengths.now) false }
     ensures tdo { tdo.new.bits ≡ tdo_bits (bypass_bits lengths.now) }
@@ -90,7 +91,7 @@ fn set_captures(lengths: &[u32], tdo: &mut Row, mask: &mut Row)
 
 // How many instruction bits the parts have.
 fn bits_of(lengths: &[u32]) -> u32
-    requires { sum lengths.now ≤ 65535 }
+    requires { sum lengths.now ≤ most_bits }
     ensures { result ≡ sum lengths.now }
 {
     lengths.iter().sum()
@@ -99,7 +100,7 @@ fn bits_of(lengths: &[u32]) -> u32
 // Fills the rows of the instruction scan: ones are shifted in, and 01 comes out of each part.
 fn fill_codes(lengths: &[u32], rows: &mut ScanRows)
     requires each { All (λ n. 2 ≤ n) lengths.now }
-    requires total { sum lengths.now ≤ 65535 }
+    requires total { sum lengths.now ≤ most_bits }
     requires room { EachHasRoom (λ room. sum lengths.now ≤ room) rows.old }
     ensures bits { HoldBits (bypass_bits lengths.now) rows.new }
     ensures kept { AreSameRows rows.old rows.new }
@@ -120,7 +121,7 @@ fn write_codes<K: Sink>(
 ) -> Result<(), PutFault>
     requires some { 0 < length lengths.now }
     requires each { All (λ n. 2 ≤ n) lengths.now }
-    requires total { sum lengths.now ≤ 65535 }
+    requires total { sum lengths.now ≤ most_bits }
     requires room { EachHasRoom (λ room. sum lengths.now ≤ room) rows.old }
     ensures text { Puts (K.shown out.old) (K.shown out.new)
         (scan_text (record { ir = true; bits = bypass_bits lengths.now })) result }
@@ -141,7 +142,7 @@ fn write_marks<K: Sink>(
     line: &mut Line,
     out: &mut K,
 ) -> Result<(), PutFault>
-    requires few { parts ≤ 255 }
+    requires few { parts ≤ most_parts }
     requires room { EachHasRoom (λ room. parts + 8 ≤ room) rows.old }
     ensures text { Puts (K.shown out.old) (K.shown out.new)
         (scan_text (record { ir = false; bits = mark_bits parts })) result }
@@ -163,8 +164,8 @@ fn write_scans<K: Sink>(
     out: &mut K,
 ) -> Result<(), PutFault>
     requires some { 0 < length lengths.now }
-    requires parts { length lengths.now ≤ 255 }
-    requires each { All (λ n. (2 ≤ n) × (n ≤ 255)) lengths.now }
+    requires parts { length lengths.now ≤ most_parts }
+    requires each { All IsInstructionLength lengths.now }
     requires room { EachHasRoom (IsRoom lengths.now) rows.old }
     ensures text { Puts (K.shown out.old) (K.shown out.new) (scan_texts (chain_scans lengths.now)) result }
     ensures kept { AreSameRows rows.old rows.new }
@@ -188,8 +189,8 @@ pub fn write_chain<K: Sink>(
     out: &mut K,
 ) -> Result<(), PutFault>
     requires some { 0 < length lengths.now }
-    requires parts { length lengths.now ≤ 255 }
-    requires each { All (λ n. (2 ≤ n) × (n ≤ 255)) lengths.now }
+    requires parts { length lengths.now ≤ most_parts }
+    requires each { All IsInstructionLength lengths.now }
     requires tdi_room { IsRoom lengths.now tdi.old.room }
     requires tdo_room { IsRoom lengths.now tdo.old.room }
     requires mask_room { IsRoom lengths.now mask.old.room }

@@ -1,6 +1,7 @@
 // The text of one scan.
 ghost use Rattle.std.specs.Prelude.{◌≡◌, ◌↔◌, ◌+◌, ◌*◌, ◌<◌, ◌≤◌, [], ◌∷◌, ◌++◌, true, false, length, take, drop, IsTrue};
 ghost use Rattle.std.specs.List.{list_any};
+ghost use Rattle.board_defs.specs.Limits.{most_bits};
 ghost use Rattle.bt_base.specs.Puts.{Puts};
 ghost use Rattle.bt_bits.specs.Hex.{hex_text, digit_count};
 ghost use Rattle.tap_defs.specs.chain.Scan.{scan_bits};
@@ -31,7 +32,7 @@ fn begin(ir: bool, tdi: &Row, line: &mut Line)
 
 // How many digits a row's field has.
 fn digit_count(row: &Row) -> u32
-    requires { length row.now.bits ≤ 65535 }
+    requires { length row.now.bits ≤ most_bits }
     ensures { result ≡ digit_count (length row.now.bits) }
 {
     row.len().div_ceil(4)
@@ -39,7 +40,7 @@ fn digit_count(row: &Row) -> u32
 
 // Appends a field's label and its digits.
 fn push_field(label: &[u8], row: &Row, line: &mut Line)
-    requires bits { length row.now.bits ≤ 65535 }
+    requires bits { length row.now.bits ≤ most_bits }
     requires room { length line.old + length label.now + digit_count (length row.now.bits) ≤ 1024 }
     ensures text { line.new ≡ line.old ++ (label.now ++ hex_text row.now.bits) }
     ensures longer { length line.new ≡ length line.old + length label.now + digit_count (length row.now.bits) }
@@ -50,7 +51,7 @@ fn push_field(label: &[u8], row: &Row, line: &mut Line)
 
 // Ends the line of a scan with its fields.
 fn push_fields(compare: bool, tdi: &Row, tdo: &Row, mask: &Row, line: &mut Line)
-    requires bits { length tdi.now.bits ≤ 65535 }
+    requires bits { length tdi.now.bits ≤ most_bits }
     requires tdo { length tdo.now.bits ≡ length tdi.now.bits }
     requires mask { length mask.now.bits ≡ length tdi.now.bits }
     requires room { length line.old + 3 * digit_count (length tdi.now.bits) ≤ 1000 }
@@ -66,7 +67,7 @@ fn push_fields(compare: bool, tdi: &Row, tdo: &Row, mask: &Row, line: &mut Line)
 
 // How long the fields of a scan are in one line.
 fn fields_length(compare: bool, digits: u32) -> usize
-    requires { digits ≤ 65535 }
+    requires { digits ≤ most_bits }
     ensures { result ≡ fields_length compare digits }
 {
     let digits = digits as usize;
@@ -99,7 +100,7 @@ fn put_full_line<K: Sink>(
 
 // Whether the fields of a scan have room in the line that its command begins.
 fn has_room(compare: bool, tdi: &Row, line: &Line) -> bool
-    requires { length tdi.now.bits ≤ 65535 }
+    requires { length tdi.now.bits ≤ most_bits }
     ensures { IsTrue result ↔ (length line.now + fields_length compare (digit_count (length tdi.now.bits)) ≤ 80) }
 {
     line.len() + fields_length(compare, digit_count(tdi)) <= MAX_SHORT
@@ -113,7 +114,7 @@ fn put_field<K: Sink>(
     line: &mut Line,
     out: &mut K,
 ) -> Result<(), PutFault>
-    requires bits { length row.now.bits ≤ 65535 }
+    requires bits { length row.now.bits ≤ most_bits }
     requires label { length label.now ≤ 6 }
     requires end { length end.now ≤ 3 }
     ensures { Puts (K.shown out.old) (K.shown out.new) (label.now ++ (broken 64 (hex_text row.now.bits) ++ end.now)) result }
@@ -139,7 +140,7 @@ fn put_compared<K: Sink>(
     line: &mut Line,
     out: &mut K,
 ) -> Result<(), PutFault>
-    requires bits { length tdi.now.bits ≤ 65535 }
+    requires bits { length tdi.now.bits ≤ most_bits }
     requires tdo { length tdo.now.bits ≡ length tdi.now.bits }
     requires mask { length mask.now.bits ≡ length tdi.now.bits }
     ensures { Puts (K.shown out.old) (K.shown out.new)
@@ -159,7 +160,7 @@ fn put_fields<K: Sink>(
     line: &mut Line,
     out: &mut K,
 ) -> Result<(), PutFault>
-    requires bits { length tdi.now.bits ≤ 65535 }
+    requires bits { length tdi.now.bits ≤ most_bits }
     requires tdo { length tdo.now.bits ≡ length tdi.now.bits }
     requires mask { length mask.now.bits ≡ length tdi.now.bits }
     ensures { Puts (K.shown out.old) (K.shown out.new)
@@ -181,7 +182,7 @@ fn put_lines<K: Sink>(
     line: &mut Line,
     out: &mut K,
 ) -> Result<(), PutFault>
-    requires bits { length tdi.now.bits ≤ 65535 }
+    requires bits { length tdi.now.bits ≤ most_bits }
     requires tdo { length tdo.now.bits ≡ length tdi.now.bits }
     requires mask { length mask.now.bits ≡ length tdi.now.bits }
     requires room { length line.old ≤ 24 }
@@ -207,7 +208,7 @@ pub fn write_scan<K: Sink>(
     out: &mut K,
 ) -> Result<(), PutFault>
     requires some { 0 < length tdi.now.bits }
-    requires bits { length tdi.now.bits ≤ 65535 }
+    requires bits { length tdi.now.bits ≤ most_bits }
     requires tdo { length tdo.now.bits ≡ length tdi.now.bits }
     requires mask { length mask.now.bits ≡ length tdi.now.bits }
     requires compare { shape.compare ≡ list_any (λ bit. bit) mask.now.bits }

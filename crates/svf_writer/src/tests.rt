@@ -1,4 +1,5 @@
 ghost use Rattle.std.specs.Prelude.{◌≤◌, ◌<◌, length, All, IsTrue};
+ghost use Rattle.board_defs.specs.Limits.{IsInstructionLength};
 
 use super::*;
 use bt_base::{MemSink, PutFault};
@@ -10,7 +11,7 @@ use tap_defs::Shape;
 
 // Whether each is the length of an instruction register.
 fn are_lengths(lengths: &[u32]) -> bool
-    ensures { IsTrue result → All (λ n. (2 ≤ n) × (n ≤ 255)) lengths.now }
+    ensures { IsTrue result → All IsInstructionLength lengths.now }
 {
     lengths.iter().all(|n| *n >= 2 && *n <= 255)
 }

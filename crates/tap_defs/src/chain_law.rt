@@ -1,5 +1,6 @@
 //! The laws of the chain, as contracts of functions that do nothing: a caller knows the law after the call.
 ghost use Rattle.std.specs.Prelude.{◌≡◌, ℕ, ◌≤◌, List, sum, Some};
+ghost use Rattle.board_defs.specs.Limits.{most_bits};
 ghost use Rattle.tap_defs.specs.chain.ChainScans.{chain_text};
 ghost use Rattle.tap_defs.specs.chain.ChainTest.{AreIrLengths, IsChainTest};
 ghost use Rattle.tap_defs.specs.chain.Clocks.{test_clocks};
@@ -31,5 +32,5 @@ pub fn texts_mean()
 /// The chain test passes on every chain of parts with these instruction lengths, and fails on every chain with another number of
 /// parts and no more instruction bits in total.
 pub fn chain_tests()
-    ensures { (lengths : List ℕ) → AreIrLengths lengths → sum lengths ≤ 65535 → IsChainTest lengths (chain_text lengths) }
+    ensures { (lengths : List ℕ) → AreIrLengths lengths → sum lengths ≤ most_bits → IsChainTest lengths (chain_text lengths) }
 {}

@@ -1,7 +1,6 @@
 // The kind of a scan, and its rows.
-ghost use Rattle.std.specs.Prelude.{List};
-ghost use Rattle.tap_defs.specs.chain.Scan.{ScanBit};
-ghost use Rattle.tap_defs.specs.chain.ScanRows.{AreRowsOf, AreSameRows, HaveRoomFor, HoldBits};
+ghost use Rattle.std.specs.Prelude.{◌≡◌};
+ghost use Rattle.tap_defs.specs.chain.ScanRows.{AreSameRows, HaveRoomFor};
 
 use bt_bits::Row;
 
@@ -32,7 +31,9 @@ impl ScanRows<'_> {
     /// Makes the rows those that are stored, for which they have room.
     pub fn copy_from(&mut self, stored: &StoredRows)
         requires { HaveRoomFor stored.now self.old }
-        ensures bits { (bits : List ScanBit) → AreRowsOf bits stored.now → HoldBits bits self.new }
+        ensures tdi { self.new.tdi.now.bits ≡ stored.now.tdi.bits }
+        ensures tdo { self.new.tdo.now.bits ≡ stored.now.tdo.bits }
+        ensures mask { self.new.mask.now.bits ≡ stored.now.mask.bits }
         ensures kept { AreSameRows self.old self.new }
     {
         self.tdi.copy_row(&stored.tdi);

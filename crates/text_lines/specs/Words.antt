@@ -25,9 +25,13 @@ begins_no_comment (b ∷ bs) = not (b == 35)
 unfoldable pub words_of : List ℕ → List Word
 words_of line = take_while begins_no_comment (filter is_filled (slice_split is_blank line))
 
+-- the bytes of a word
+abbrev pub most_word_bytes : ℕ
+most_word_bytes = 255
+
 -- the word rule: 1 to 255 bytes, each from 33 to 126
 abbrev pub is_word : Word → Bool
-is_word word = is_filled word && nat_le (length word) 255 && list_all is_ascii_graphic word
+is_word word = is_filled word && nat_le (length word) most_word_bytes && list_all is_ascii_graphic word
 
 -- the lines of a text, where there is one
 abbrev pub lines_of : Option (List ℕ) → List (List ℕ)

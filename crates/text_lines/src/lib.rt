@@ -54,11 +54,14 @@ fn is_graphic(word: &[u8]) -> bool
     word.iter().all(|b| b.is_ascii_graphic())
 }
 
+/// The most bytes of a word.
+const MOST_WORD_BYTES: usize = 255;
+
 /// The word rule: 1 to 255 bytes, each from 33 to 126.
 pub fn is_word(word: &[u8]) -> bool
     ensures { result ≡ is_word word.now }
 {
-    is_filled(word) && word.len() <= 255 && is_graphic(word)
+    is_filled(word) && word.len() <= MOST_WORD_BYTES && is_graphic(word)
 }
 
 // Where the byte stands first. A text may have millions of lines without a byte, so the first byte is looked at before

@@ -2,6 +2,7 @@
 use Rattle.std.specs.Prelude.{◌≡◌, ℕ, ◌+◌, ◌<◌, ◌==◌, Bool, false, ◌&&◌, ◌||◌, List, [], ◌∷◌, ◌++◌, length, map, filter, find, nat_lt, slice_get, slice_index_or, slice_set, Option, Some, None, Result, option_and_then, option_map, is_none, is_some, if◌then◌else◌}
 use Rattle.std.proofs.Common.{Bor}
 use Rattle.std.specs.Option.{option_to_list}
+use Rattle.board_defs.specs.Limits.{most_pins}
 use Rattle.board_defs.specs.declared.device.Cell.{Cell}
 use Rattle.board_defs.specs.declared.device.RawDevice.{RawDevice}
 use Rattle.board_defs.specs.declared.board.Part.{Part}
@@ -141,7 +142,7 @@ same_pins a b = same_pin (pin_in a) (pin_in b)
 
 -- the rules on marked words
 unfoldable pub marked_limit : List Marked → Option BoardFault
-marked_limit words = if nat_lt 65535 (length (once same_pins words)) then Some (Limit 4) else None
+marked_limit words = if nat_lt most_pins (length (once same_pins words)) then Some (Limit 4) else None
 
 unfoldable pub marked_unknown : List Marked → Option BoardFault
 marked_unknown words = option_map (λ m. NoPin (place_of m)) (find (λ m. m.described && is_none m.at) words)

@@ -3,6 +3,7 @@ use Rattle.std.proofs.Common.{◌≡◌, ◌∙◌, length, map, [], ap, sym, ar
 use Rattle.std.specs.Prelude.{nat_lt, false, if◌then◌else◌}
 use Rattle.std.proofs.lemmas.List.{length-map}
 use Rattle.std.proofs.lemmas.Result.{IfOk-weaker}
+use Rattle.board_defs.specs.Limits.{most_pins}
 use Rattle.first_places.specs.Places.{once}
 use Rattle.first_places.proofs.OnceLemmas.{once_few}
 use Rattle.board_lines.specs.declared.fault.BoardFault.TheVariants.{Limit}
@@ -11,15 +12,15 @@ use Rattle.board_lines.proofs.DifferLemmas.{same_lent}
 use Rattle.board_build.proofs.SeenLemmas.{pins_counted}
 use Rattle.board_build.proofs.rules.marked_limit.Goals as goal
 
-pub returns-then-words-le-PIN_LIMIT : goal.returns-then-words-le-PIN_LIMIT
+pub returns-then-words-le-MOST_PINS : goal.returns-then-words-le-MOST_PINS
 unfolding marked_limit
-returns-then-words-le-PIN_LIMIT c =
+returns-then-words-le-MOST_PINS c =
     let few = once_few same_pins [] (map seen c.args.words.now) in
     let count = length-map c.args.words.now seen in
-    let past : nat_lt 65535 (length (once same_pins (map seen c.args.words.now))) ≡ false = grind (arith, few, count, c.if-words-le-PIN_LIMIT.true) in
+    let past : nat_lt most_pins (length (once same_pins (map seen c.args.words.now))) ≡ false = grind (arith, few, count, c.if-words-le-MOST_PINS.true) in
     ap (λ b. if b then Some (Limit 4) else None) (sym past)
 
 pub returns : goal.returns
 unfolding marked_limit
 returns c =
-    IfOk-weaker c.pin_limit.result _ _ (λ fault e. e ∙ ap (λ n. if nat_lt 65535 n then Some (Limit 4) else None) (ap (λ v. length (once same_lent v)) (c.deref.ensures.value ∙ c.in_ok-pins.ensures) ∙ pins_counted c.args.words.now)) c.pin_limit.ensures
+    IfOk-weaker c.pin_limit.result _ _ (λ fault e. e ∙ ap (λ n. if nat_lt most_pins n then Some (Limit 4) else None) (ap (λ v. length (once same_lent v)) (c.deref.ensures.value ∙ c.in_ok-pins.ensures) ∙ pins_counted c.args.words.now)) c.pin_limit.ensures

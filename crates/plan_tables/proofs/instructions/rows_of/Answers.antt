@@ -1,4 +1,5 @@
 use Rattle.std.proofs.Common.{◌-◌, ◌≤◌, ◌++◌, List, Bool, false, length, get_or, is_some, unwrap_or, ap, sym, ◌∙◌, subst, arith}
+use Rattle.board_defs.specs.Limits.{most_bits}
 use Rattle.board_defs.specs.declared.board.Part.{Part}
 use Rattle.board_defs.specs.Pins.{instruction_length}
 use Rattle.plan_tables.specs.inner.Codes.{code_for, captured_bits, compared_bits}
@@ -7,17 +8,17 @@ use Rattle.plan_tables.proofs.instructions.rows_of.Goals as goal
 
 pub row_of-requires : goal.row_of-requires
 row_of-requires c =
-    subst (λ (l : List Bool). length l ≤ 65535) (sym (c.deref.ensures.value ∙ c.loop-i.invariant.tdi))
+    subst (λ (l : List Bool). length l ≤ most_bits) (sym (c.deref.ensures.value ∙ c.loop-i.invariant.tdi))
     (few_left c.args.instruction c.args.chain.now c.requires.few c.loop-i.i (omega arith) (λ b. b.tdi))
 
 pub row_of-requires-2 : goal.row_of-requires-2
 row_of-requires-2 c =
-    subst (λ (l : List Bool). length l ≤ 65535) (sym (c.deref-2.ensures.value ∙ c.loop-i.invariant.tdo))
+    subst (λ (l : List Bool). length l ≤ most_bits) (sym (c.deref-2.ensures.value ∙ c.loop-i.invariant.tdo))
     (few_left c.args.instruction c.args.chain.now c.requires.few c.loop-i.i (omega arith) (λ b. unwrap_or b.expect false))
 
 pub row_of-requires-3 : goal.row_of-requires-3
 row_of-requires-3 c =
-    subst (λ (l : List Bool). length l ≤ 65535) (sym (c.deref-3.ensures.value ∙ c.loop-i.invariant.mask))
+    subst (λ (l : List Bool). length l ≤ most_bits) (sym (c.deref-3.ensures.value ∙ c.loop-i.invariant.mask))
     (few_left c.args.instruction c.args.chain.now c.requires.few c.loop-i.i (omega arith) (λ b. is_some b.expect))
 
 pub loop-i-preserved : goal.loop-i-preserved

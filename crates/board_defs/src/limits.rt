@@ -1,0 +1,16 @@
+// The limits of devices and boards, as `specs/Limits.antt` has them.
+
+/// The most bits of an instruction register.
+pub const MOST_INSTRUCTION_BITS: u32 = 255;
+
+/// The most parts of a chain.
+pub const MOST_PARTS: usize = 255;
+
+/// The most bits of a scan, of the cells of a device and of its port bits.
+pub const MOST_BITS: u32 = 65_535;
+
+/// The most nets of a board.
+pub const MOST_NETS: usize = 16_382;
+
+/// The most pins of all nets of a board.
+pub const MOST_PINS: usize = 65_535;
