@@ -1,5 +1,5 @@
 -- How many lines and words a text can have.
-use Rattle.std.proofs.Common.{◌≡◌, ℕ, ◌+◌, ◌≤◌, Bool, true, false, cond, List, [], ◌∷◌, length, Result, Ok, Err, refl, sym, ap, ◌∙◌, subst, arith, min}
+use Rattle.std.proofs.Common.{◌≡◌, ℕ, ◌+◌, ◌<◌, ◌≤◌, ◌^◌, Bool, true, false, cond, List, [], ◌∷◌, length, Result, Ok, Err, refl, sym, ap, ◌∙◌, subst, arith, min}
 use Rattle.std.specs.Prelude.{IfOk, filter, take_while, if◌then◌else◌, codes}
 use Rattle.std.specs.List.{AllByRecursion, slice_split, onto_first, prefix_len}
 use Rattle.std.proofs.lemmas.List.{length-take}
@@ -8,7 +8,8 @@ use Rattle.board_files.specs.declared.fault.LineFault.{LineFault}
 use Rattle.board_files.specs.declared.net_file.NetLine.{NetLine}
 use Rattle.board_files.specs.declared.net_file.PinWord.{PinWord}
 use Rattle.text_lines.specs.Words.{Word, words_of, is_newline, is_blank, is_filled, begins_no_comment, is_word}
-use Rattle.board_files.specs.Reading.{◌>>=◌, Reads, line_then, lines_from}
+use Rattle.board_files.specs.Files.{HasFewPins, IsNetFile}
+use Rattle.board_files.specs.Reading.{◌>>=◌, line_then, lines_from}
 use Rattle.board_files.specs.NetLines.{pin_of, pins_of, net_of, net_line, net_lines}
 
 -- the pieces that hold something are no more than the bytes
@@ -160,14 +161,14 @@ net_counts text values is =
     let counts = counts_from (length text) 1 (slice_split is_newline text) (pieces_within is_newline text) values is in
     record { lines_few = omega (arith, counts.lines_few, few_filled is_newline text); pins_few = counts.pins_few }
 
-pub if_counted : (text : List ℕ) (answer : Result (List NetLine) LineFault) → Reads (λ lines. lines) answer (net_lines text) → IfOk answer (λ lines. HasCounts (length text) (length text) lines)
-if_counted text (Ok lines) is = net_counts text lines is
-if_counted text (Err fault) is = tt
+few_pins : (n : ℕ) → n < 2 ^ 32 → (lines : List NetLine) → AllByRecursion (λ line. length line.pins + 2 ≤ n) lines → AllByRecursion HasFewPins lines
+few_pins n few [] pins = tt
+few_pins n few (line ∷ lines) pins =
+    let narrow : length line.pins + 2 ≤ n = pins.0 in
+    (omega (arith, few, narrow), few_pins n few lines pins.1)
 
-pub if_few : (n : ℕ) (answer : Result (List NetLine) LineFault) → IfOk answer (λ lines. HasCounts n n lines) → IfOk answer (λ lines. length lines ≤ n)
-if_few n (Ok lines) counts = counts.lines_few
-if_few n (Err fault) counts = tt
-
-pub if_narrow : (n : ℕ) (answer : Result (List NetLine) LineFault) → IfOk answer (λ lines. HasCounts n n lines) → IfOk answer (AllByRecursion (λ line. length line.pins + 2 ≤ n))
-if_narrow n (Ok lines) counts = counts.pins_few
-if_narrow n (Err fault) counts = tt
+-- so they are a net file
+pub is_net_file : (text : List ℕ) (values : List NetLine) → length text < 2 ^ 32 → net_lines text ≡ Ok values → IsNetFile values
+is_net_file text values few is =
+    let counts = net_counts text values is in
+    record { few = omega (arith, few, counts.lines_few); pins = few_pins (length text) few values counts.pins_few }

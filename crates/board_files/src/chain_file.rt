@@ -3,6 +3,7 @@ ghost use Rattle.std.specs.Prelude.{◌≡◌, ◌<◌, ◌≤◌, ◌^◌, List
 ghost use Rattle.std.specs.Str.{bytes_eq};
 ghost use Rattle.std.specs.List.{AllByRecursion};
 ghost use Rattle.board_files.specs.Reading.{Reads};
+ghost use Rattle.board_files.specs.Files.{IsChainFile};
 ghost use Rattle.board_files.specs.ChainLines.{package_of, decimal_from, length_of, is_bit, device_of, bypass_of, inert_of, supply_of, pull_of, link_of, statement_of, chain_line, chain_lines, HasLength};
 
 use crate::fault::LineFault;
@@ -54,7 +55,7 @@ pub struct ChainLine {
     pub statement: ChainStatement,
 }
 
-/// A chain file, seen as the list of its lines.
+/// A chain file, seen as the list of its lines: fewer than 2^32, and the lengths of its BYPASS lines are in their range.
 #[derive(Drop)]
 pub struct ChainFile {
     lines: Vec<ChainLine>,
@@ -64,20 +65,28 @@ impl Model for ChainFile {
     ghost use Rattle.std.specs.Prelude.{List};
     ghost use Rattle.board_files.specs.declared.chain_file.ChainLine.{ChainLine};
 
+    ghost use Rattle.board_files.specs.Files.{IsChainFile};
+
     ghost Value = { List ChainLine };
 
     ghost view = { λ a. a.lines.items };
+
+    ghost invariant = { λ a. IsChainFile a.lines.items };
 }
 
 impl ChainFile {
+    /// The file of these lines.
     pub fn of(lines: Vec<ChainLine>) -> ChainFile
+        requires { IsChainFile lines.items }
         ensures { result ≡ lines.items }
     {
         ChainFile { lines }
     }
 
+    /// The lines in their order.
     pub fn lines(&self) -> &[ChainLine]
-        ensures { result.now ≡ self.now }
+        ensures lines { result.now ≡ self.now }
+        ensures file { IsChainFile self.now }
     {
         &self.lines
     }

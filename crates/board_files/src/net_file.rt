@@ -3,6 +3,7 @@ ghost use Rattle.std.specs.Prelude.{◌≡◌, ◌+◌, ◌<◌, ◌≤◌, ◌^
 ghost use Rattle.std.specs.List.{AllByRecursion, before_first, after_first};
 ghost use Rattle.board_files.specs.Words.{is_dot};
 ghost use Rattle.board_files.specs.Reading.{Reads};
+ghost use Rattle.board_files.specs.Files.{IsNetFile};
 ghost use Rattle.board_files.specs.Names.{line_names};
 ghost use Rattle.board_files.specs.NetLines.{pin_of, pins_of, net_of, net_line, net_lines};
 
@@ -27,7 +28,7 @@ pub struct NetLine {
     pub pins: Items<PinWord>,
 }
 
-/// A net file, seen as the list of its lines.
+/// A net file, seen as the list of its lines: fewer than 2^32, and so are the words of each.
 #[derive(Drop)]
 pub struct NetFile {
     lines: Vec<NetLine>,
@@ -37,20 +38,28 @@ impl Model for NetFile {
     ghost use Rattle.std.specs.Prelude.{List};
     ghost use Rattle.board_files.specs.declared.net_file.NetLine.{NetLine};
 
+    ghost use Rattle.board_files.specs.Files.{IsNetFile};
+
     ghost Value = { List NetLine };
 
     ghost view = { λ a. a.lines.items };
+
+    ghost invariant = { λ a. IsNetFile a.lines.items };
 }
 
 impl NetFile {
+    /// The file of these lines.
     pub fn of(lines: Vec<NetLine>) -> NetFile
+        requires { IsNetFile lines.items }
         ensures { result ≡ lines.items }
     {
         NetFile { lines }
     }
 
+    /// The lines in their order.
     pub fn lines(&self) -> &[NetLine]
-        ensures { result.now ≡ self.now }
+        ensures lines { result.now ≡ self.now }
+        ensures file { IsNetFile self.now }
     {
         &self.lines
     }
@@ -76,12 +85,14 @@ pub fn nets(alloc: Global, bytes: &[u8]) -> Result<NetFile, LineFault>
     ensures count { IfOk result (λ file. length file ≤ length bytes.now) }
     ensures pins { IfOk result (AllByRecursion (λ line. length line.pins + 2 ≤ length bytes.now)) }
 {
-    read_lines(alloc, bytes)
+    let lines = read_lines(alloc, bytes)?;
+    Ok(NetFile::of(lines))
 }
 
-fn read_lines(alloc: Global, bytes: &[u8]) -> Result<NetFile, LineFault>
+// The lines of a net file, or its first faulty line.
+fn read_lines(alloc: Global, bytes: &[u8]) -> Result<Vec<NetLine>, LineFault>
     requires { length bytes.now < 2 ^ 32 }
-    ensures { Reads (λ file. file) result (net_lines bytes.now) }
+    ensures { Reads (λ lines. lines.items) result (net_lines bytes.now) }
 {
     let mut lines = Vec::new(alloc);
     let mut rest = Some(bytes);
@@ -95,7 +106,7 @@ fn read_lines(alloc: Global, bytes: &[u8]) -> Result<NetFile, LineFault>
         number += 1;
         rest = after;
     }
-    Ok(NetFile::of(lines))
+    Ok(lines)
 }
 
 fn net_line(alloc: Global, line: u32, words: &[&[u8]]) -> Result<NetLine, LineFault>
