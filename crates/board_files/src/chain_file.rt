@@ -86,7 +86,7 @@ impl ChainFile {
     /// The lines in their order.
     pub fn lines(&self) -> &[ChainLine]
         ensures lines { result.now ≡ self.now }
-        ensures file { IsChainFile self.now }
+        ensures file { IsChainFile result.now }
     {
         &self.lines
     }

@@ -59,7 +59,7 @@ impl NetFile {
     /// The lines in their order.
     pub fn lines(&self) -> &[NetLine]
         ensures lines { result.now ≡ self.now }
-        ensures file { IsNetFile self.now }
+        ensures file { IsNetFile result.now }
     {
         &self.lines
     }

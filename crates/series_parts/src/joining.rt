@@ -1,5 +1,5 @@
 // The joined files.
-ghost use Rattle.std.specs.Prelude.{◌≡◌, ◌<◌, ◌^◌, length, IfOk};
+ghost use Rattle.std.specs.Prelude.{◌≡◌, IfOk};
 ghost use Rattle.series_parts.specs.JoinedFiles.{AreJoinedFiles};
 ghost use Rattle.answers.specs.Gives.{Gives};
 ghost use Rattle.series_parts.specs.Joining.{link_told, joined_chain, joined_files, joined_nets};
@@ -10,7 +10,7 @@ use crate::least::least_names;
 use crate::missing::missing_link_pin;
 use crate::names::Names;
 use crate::pins::Pins;
-use board_files::{ChainFile, ChainLine, NetFile, NetLine};
+use board_files::{ChainFile, NetFile};
 use std::alloc::{AllocError, Global};
 
 /// A chain file and a net file in which joined nets have one name, and no LINK line stands.
@@ -23,14 +23,15 @@ pub struct Joined {
 /// The files with the new names.
 fn renamed_files(
     alloc: Global,
-    chain: &[ChainLine],
-    nets: &[NetLine],
+    chain: &ChainFile,
+    nets: &NetFile,
     pins: &Pins<'_>,
 ) -> Result<Joined, AllocError>
-    requires nets { length nets.now < 2 ^ 32 }
-    requires pins { pins.now ≡ nets.now }
+    requires { pins.now ≡ nets.now }
     ensures { IfOk result (λ joined. joined ≡ record { chain = joined_chain chain.now nets.now; nets = joined_nets chain.now nets.now }) }
 {
+    let chain = chain.lines();
+    let nets = nets.lines();
     let names = Names::of(alloc, nets)?;
     let least = least_names(alloc, chain, &names, pins)?;
     Ok(Joined {
@@ -42,8 +43,6 @@ fn renamed_files(
 /// The joined files of a chain file and a net file, or the first LINK line and word whose pin
 /// stands in no net.
 pub fn join(alloc: Global, chain: &ChainFile, nets: &NetFile) -> Result<Joined, LinkFault>
-    requires chain { length chain.now < 2 ^ 32 }
-    requires nets { length nets.now < 2 ^ 32 }
     ensures answer { Gives link_told (λ joined. joined) (λ answer. joined_files chain.now nets.now ≡ answer) result }
     ensures joined { IfOk result (λ joined. AreJoinedFiles chain.now nets.now joined.chain joined.nets) }
 {
@@ -51,5 +50,5 @@ pub fn join(alloc: Global, chain: &ChainFile, nets: &NetFile) -> Result<Joined, 
     if let Some(spot) = missing_link_pin(&pins, chain.lines()) {
         return Err(LinkFault::NoLinkPin(spot));
     }
-    Ok(renamed_files(alloc, chain.lines(), nets.lines(), &pins)?)
+    Ok(renamed_files(alloc, chain, nets, &pins)?)
 }

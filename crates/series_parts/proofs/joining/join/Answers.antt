@@ -1,5 +1,5 @@
 -- The function's files are the joined files.
-use Rattle.std.proofs.Common.{◌≡◌, ap, sym, subst, ◌∙◌, List}
+use Rattle.std.proofs.Common.{◌≡◌, ap, sym, subst, List}
 use Rattle.board_files.specs.declared.chain_file.ChainLine.{ChainLine}
 use Rattle.board_files.specs.declared.net_file.NetLine.{NetLine}
 use Rattle.series_parts.specs.declared.joining.Joined.{Joined}
@@ -13,7 +13,7 @@ returns-clause-joined c =
     let chain = c.args.chain.now in
     let nets = c.args.nets.now in
     let whole = c.in_ok-renamed_files.ensures in
-    let new_chain : c.in_ok-renamed_files.field-0.chain ≡ joined_chain chain nets = ap (λ (j : Joined). j.chain) whole ∙ (λ i. joined_chain (c.lines-3.ensures i) (c.lines-4.ensures i)) in
-    let new_nets : c.in_ok-renamed_files.field-0.nets ≡ joined_nets chain nets = ap (λ (j : Joined). j.nets) whole ∙ (λ i. joined_nets (c.lines-3.ensures i) (c.lines-4.ensures i)) in
+    let new_chain : c.in_ok-renamed_files.field-0.chain ≡ joined_chain chain nets = ap (λ (j : Joined). j.chain) whole in
+    let new_nets : c.in_ok-renamed_files.field-0.nets ≡ joined_nets chain nets = ap (λ (j : Joined). j.nets) whole in
     subst (λ (lines : List ChainLine). AreJoinedFiles chain nets lines c.in_ok-renamed_files.field-0.nets) (sym new_chain)
     (subst (λ (lines : List NetLine). AreJoinedFiles chain nets (joined_chain chain nets) lines) (sym new_nets) (files_joined chain nets))
