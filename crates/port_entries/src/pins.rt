@@ -1,8 +1,8 @@
 // What the entries say of pins and nets: the driving entry, receivers, dark pins and guarded nets.
-ghost use Rattle.std.specs.Prelude.{◌≡◌, ◌&&◌, find, Some};
+ghost use Rattle.std.specs.Prelude.{◌≡◌, ◌&&◌, ◌||◌, find, Some};
 ghost use Rattle.std.specs.List.{list_any};
 ghost use Rattle.board_defs.specs.DeviceRules.{is_driving, is_receiving, may_receive};
-ghost use Rattle.board_defs.specs.Pins.{bit_at, entry_at, guarded, is_dark, receives_where};
+ghost use Rattle.board_defs.specs.Pins.{bit_at, entry_at, guarded, is_dark, is_test_bit, receives_where};
 ghost use Rattle.port_entries.specs.Entries.{AreEntries, entries_at};
 ghost use Rattle.port_entries.specs.inner.Rows.{dark_by, dark_in, guards_in, receives_by};
 
@@ -100,10 +100,29 @@ pub fn has_dark_pin(rows: &[Items<BitEntries>], board: &RawBoard, pins: &[NetPin
     any_dark(rows, board, pins)
 }
 
+fn is_test_bit(bit: &PortBit) -> bool
+    ensures { result ≡ is_test_bit (Some bit.now) }
+{
+    bit.tap || bit.compliance
+}
+
+fn guards_bit(bit: &PortBit, entries: &[Cell]) -> bool
+    ensures { result ≡ (is_test_bit (Some bit.now) || dark_by (Some bit.now) entries.now) }
+{
+    is_test_bit(bit) || is_dark_bit(bit, entries)
+}
+
+// The port bit is looked up once for both, since each pin of each net is asked.
 fn guards(rows: &[Items<BitEntries>], board: &RawBoard, pin: &NetPin) -> bool
     ensures { result ≡ guards_in rows.now board.now pin.now }
 {
-    board.is_test_pin(pin) || is_dark(rows, board, pin)
+    match pin.at {
+        None => !pin.inert,
+        Some(at) => match board.port_bit(at) {
+            None => true,
+            Some(bit) => guards_bit(bit, entries_at(rows, at)),
+        },
+    }
 }
 
 fn any_guards(rows: &[Items<BitEntries>], board: &RawBoard, pins: &[NetPin]) -> bool
