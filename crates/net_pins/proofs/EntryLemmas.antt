@@ -1,5 +1,5 @@
 -- The entries on a port bit are the compared cells there, and of cells of its part.
-use Rattle.std.proofs.Common.{◌≡◌, ℕ, ◌<◌, Bool, true, false, cond, ◌&&◌, ◌||◌, List, [], ◌∷◌, map, Option, Some, None, refl, sym, ap, ◌∙◌, subst, arith}
+use Rattle.std.proofs.Common.{◌≡◌, ℕ, ◌<◌, Bool, true, false, cond, ◌&&◌, ◌||◌, List, [], ◌∷◌, map, Option, Some, None, refl, ap, ◌∙◌, arith}
 use Rattle.std.specs.Prelude.{slice_get, option_and_then, filter, All}
 use Rattle.std.specs.List.{list_any}
 use Rattle.std.proofs.lemmas.List.Elements.{All-filter}
@@ -11,7 +11,7 @@ use Rattle.board_defs.specs.declared.board.RawBoard.{RawBoard}
 use Rattle.board_defs.specs.BoardRules.{IsBoard}
 use Rattle.board_defs.specs.DeviceRules.{is_on, is_receiving, may_receive, reads_bit, IsDevice}
 use Rattle.board_defs.specs.Pins.{device_at, bit_at, cell_count, receives_in, receives_bit}
-use Rattle.port_entries.specs.Entries.{entries_on, entries_of, entries_at, AreEntries}
+use Rattle.port_entries.specs.Entries.{entries_on, entries_of}
 use Rattle.net_pins.specs.NetCells.{reader_of, readers_in, readers_at}
 use Rattle.net_pins.specs.inner.Receiving.{receives_by}
 use Rattle.net_pins.proofs.PositionLemmas.{rules_of}
@@ -27,13 +27,11 @@ filter_on roles k (cell ∷ cells) = by_test (is_on k cell.bit) (filter_on roles
     by_test true rest = ap (λ (l : List Cell). cond (roles cell) (cell ∷ l) l) rest
     by_test false rest = rest
 
-module _ (board : RawBoard) (rows : List (List (List Cell))) (are : AreEntries board rows) (at : PinAt) where
+module _ (board : RawBoard) (at : PinAt) where
   -- the compared cells of a port bit
   pub readers_is : (place : ℕ) →
-      cond (receives_by (bit_at board at)) (map (reader_of board at.part place) (filter (λ cell. is_receiving cell.role) (entries_at rows at))) [] ≡ readers_at board place (Some at)
-  readers_is place =
-      ap (λ (l : List Cell). cond (receives_by (bit_at board at)) (map (reader_of board at.part place) (filter (λ cell. is_receiving cell.role) l)) []) (are at)
-      ∙ by_device (device_at board at.part)
+      cond (receives_by (bit_at board at)) (map (reader_of board at.part place) (filter (λ cell. is_receiving cell.role) (entries_of (device_at board at.part) at.bit))) [] ≡ readers_at board place (Some at)
+  readers_is place = by_device (device_at board at.part)
     where
       none_read : (cells : List Cell) → list_any (reads_bit at.bit) cells ≡ false → map (reader_of board at.part place) (filter (reads_bit at.bit) cells) ≡ []
       none_read [] e = refl
@@ -66,8 +64,8 @@ module _ (board : RawBoard) (rows : List (List (List Cell))) (are : AreEntries b
           ∙ by_bit device (slice_get device.bits at.bit)
 
   -- the entries are of cells of the part
-  pub entries_below : IsBoard board → All (λ cell. cell.num < cell_count (device_at board at.part)) (entries_at rows at)
-  entries_below rules = subst (λ (l : List Cell). All (λ cell. cell.num < cell_count (device_at board at.part)) l) (sym (are at)) (by_device (device_at board at.part) refl)
+  pub entries_below : IsBoard board → All (λ cell. cell.num < cell_count (device_at board at.part)) (entries_of (device_at board at.part) at.bit)
+  entries_below rules = by_device (device_at board at.part) refl
     where
       by_device : (o : Option RawDevice) → device_at board at.part ≡ o → All (λ cell. cell.num < cell_count o) (entries_of o at.bit)
       by_device None e = λ i d less. absurd (omega (arith, less))

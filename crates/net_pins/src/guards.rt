@@ -23,7 +23,7 @@ fn guarded_of(
     Ok(flags)
 }
 
-/// Whether each net is guarded: it may have no enabled driver but those that are always on.
+/// Whether each net is guarded: no controlled and no one-sided driver of it may be enabled.
 pub fn guarded_nets(
     alloc: Global,
     board: &Board,

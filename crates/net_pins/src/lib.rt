@@ -1,9 +1,10 @@
-//! What stands on the nets of a board, made once for a plan.
+//! What stands on the nets of a board, made once for its classes and its plan.
 //!
-//! [`PinTables`] finds the entries of each port bit and their positions in scans of data, and says which nets are guarded. [`NetPins`]
-//! has with it, net by net, the drivers that may be enabled and the compared cells.
+//! [`PinTables`] finds the entries of each port bit and their positions in scans of data, and says which nets are guarded; [`BoardPins`],
+//! a board with these tables, answers. [`NetPins`] has with them, net by net, the drivers that may be enabled and the compared cells.
 #![tactic(auto)]
 
+mod board_pins;
 mod drivers;
 mod guards;
 mod nets;
@@ -12,6 +13,7 @@ mod pins;
 mod positions;
 mod readers;
 
+pub use board_pins::BoardPins;
 pub use nets::{NetDriver, ReaderCell};
 pub use pin_tables::PinTables;
 pub use pins::NetPins;

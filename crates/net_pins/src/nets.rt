@@ -2,16 +2,12 @@
 ghost use Rattle.std.specs.Prelude.{◌≡◌, ◌<◌, ◌≤◌, ◌++◌, length, map, filter, Some, IfOk, OnOk, All};
 ghost use Rattle.board_defs.specs.Limits.{most_pins};
 ghost use Rattle.board_defs.specs.DeviceRules.{is_receiving};
-ghost use Rattle.board_defs.specs.Pins.{device_at, bit_at, entry_at, cell_count, guarded};
+ghost use Rattle.board_defs.specs.Pins.{device_at, bit_at, cell_count, guarded};
 ghost use Rattle.net_pins.specs.NetCells.{optional, net_driver, driver_of, drivers_of_pins, drivers_of, reader_of, readers_at, readers_of};
-ghost use Rattle.net_pins.specs.Positions.{AreFirsts};
-ghost use Rattle.net_pins.specs.Tables.{ArePinTables};
 ghost use Rattle.net_pins.specs.inner.Receiving.{receives_by};
 
-use crate::pin_tables::PinTables;
-use crate::positions::cell_position;
-use board_defs::{Board, Cell, Ctl, Items, Net, NetPin, PinAt, RawBoard};
-use port_entries::entries_at;
+use crate::board_pins::BoardPins;
+use board_defs::{Cell, Ctl, Items, Net, NetPin, PinAt, RawBoard};
 use std::alloc::{AllocError, Global};
 
 /// A driver of a net: the place of its pin in the net, its control, if it has one, and its own cell with the position
@@ -32,9 +28,8 @@ pub struct ReaderCell {
 }
 
 // The driver that a driving entry of a part is.
-fn net_driver(board: &Board, firsts: &[u32], part: u32, place: u32, cell: Cell) -> NetDriver
-    requires firsts { AreFirsts board.now.chain firsts.now }
-    requires cell { cell.num < cell_count (device_at board.now part) }
+fn net_driver(board: &BoardPins<'_>, part: u32, place: u32, cell: Cell) -> NetDriver
+    requires { cell.num < cell_count (device_at board.now part) }
     ensures { result ≡ net_driver board.now part place cell }
 {
     NetDriver {
@@ -47,30 +42,20 @@ fn net_driver(board: &Board, firsts: &[u32], part: u32, place: u32, cell: Cell) 
             part,
             cell: cell.num,
         },
-        position: cell_position(board, firsts, part, cell.num),
+        position: board.position(part, cell.num),
     }
 }
 
-// The driving entry of a port bit of a part.
-fn driving_entry(board: &Board, tables: &PinTables, at: PinAt) -> Option<Cell>
-    requires { ArePinTables board.now tables.now }
-    ensures { result ≡ entry_at board.now at }
-{
-    port_entries::driving_entry(tables.entries.as_slice(), board.raw(), at)
-}
-
 // The driver that a pin is, where it is one.
-fn driver_of(board: &Board, tables: &PinTables, place: u32, at: Option<PinAt>) -> Option<NetDriver>
-    requires tables { ArePinTables board.now tables.now }
+fn driver_of(board: &BoardPins<'_>, place: u32, at: Option<PinAt>) -> Option<NetDriver>
     ensures { result ≡ driver_of board.now place at }
 {
     let _ = board.raw();
-    let firsts = tables.firsts.as_slice();
     match at {
         None => None,
-        Some(at) => match driving_entry(board, tables, at) {
+        Some(at) => match board.driving_entry(at) {
             None => None,
-            Some(cell) => Some(net_driver(board, firsts, at.part, place, cell)),
+            Some(cell) => Some(net_driver(board, at.part, place, cell)),
         },
     }
 }
@@ -87,33 +72,26 @@ fn push_some(drivers: &mut Vec<NetDriver>, driver: Option<NetDriver>) -> Result<
 // The drivers among these pins of a net.
 fn drivers_of_pins(
     alloc: Global,
-    board: &Board,
-    tables: &PinTables,
+    board: &BoardPins<'_>,
     pins: &[NetPin],
 ) -> Result<Items<NetDriver>, AllocError>
-    requires tables { ArePinTables board.now tables.now }
-    requires few { length pins.now ≤ most_pins }
+    requires { length pins.now ≤ most_pins }
     ensures { IfOk result (λ drivers. drivers ≡ drivers_of_pins board.now pins.now) }
 {
     let mut drivers = Vec::new(alloc);
     for place in 0..pins.len() {
-        push_some(
-            &mut drivers,
-            driver_of(board, tables, place as u32, pins[place].at),
-        )?;
+        push_some(&mut drivers, driver_of(board, place as u32, pins[place].at))?;
     }
     Ok(Items::of(drivers))
 }
 
-/// The drivers of a net that may be enabled, by whether it is guarded.
+/// The drivers of a net that may be enabled in a test: none, where it is guarded.
 pub fn drivers_of(
     alloc: Global,
-    board: &Board,
-    tables: &PinTables,
+    board: &BoardPins<'_>,
     is_guarded: bool,
     net: &Net,
 ) -> Result<Items<NetDriver>, AllocError>
-    requires tables { ArePinTables board.now tables.now }
     requires guards { is_guarded ≡ guarded board.now net.now }
     requires few { length net.now.pins ≤ most_pins }
     ensures { IfOk result (λ drivers. drivers ≡ drivers_of board.now net.now) }
@@ -121,25 +99,23 @@ pub fn drivers_of(
     if is_guarded {
         return Ok(Items::of(Vec::new(alloc)));
     }
-    drivers_of_pins(alloc, board, tables, net.pins.as_slice())
+    drivers_of_pins(alloc, board, net.pins.as_slice())
 }
 
 // Adds the compared cells among these entries on a port bit.
 fn push_readers(
-    board: &Board,
-    firsts: &[u32],
+    board: &BoardPins<'_>,
     part: u32,
     place: u32,
     entries: &[Cell],
     readers: &mut Vec<ReaderCell>,
 ) -> Result<(), AllocError>
-    requires firsts { AreFirsts board.now.chain firsts.now }
-    requires entries { All (λ cell. cell.num < cell_count (device_at board.now part)) entries.now }
+    requires { All (λ cell. cell.num < cell_count (device_at board.now part)) entries.now }
     ensures { OnOk result (readers.new.items ≡ readers.old.items ++ map (reader_of board.now part place) (filter (λ cell. is_receiving cell.role) entries.now)) }
 {
     for cell in entries {
         if cell.role.is_receiving() {
-            let position = cell_position(board, firsts, part, cell.num);
+            let position = board.position(part, cell.num);
             readers.push(ReaderCell { place, position })?;
         }
     }
@@ -158,20 +134,15 @@ fn may_receive(raw: &RawBoard, at: PinAt) -> bool
 
 // Adds the compared cells of a pin there, where it is a receiver.
 fn push_at(
-    board: &Board,
-    tables: &PinTables,
+    board: &BoardPins<'_>,
     place: u32,
     at: PinAt,
     readers: &mut Vec<ReaderCell>,
 ) -> Result<(), AllocError>
-    requires tables { ArePinTables board.now tables.now }
     ensures { OnOk result (readers.new.items ≡ readers.old.items ++ readers_at board.now place (Some at)) }
 {
-    let raw = board.raw();
-    let firsts = tables.firsts.as_slice();
-    let entries = entries_at(tables.entries.as_slice(), at);
-    if may_receive(raw, at) {
-        push_readers(board, firsts, at.part, place, entries, readers)
+    if may_receive(board.raw(), at) {
+        push_readers(board, at.part, place, board.entries(at), readers)
     } else {
         Ok(())
     }
@@ -179,35 +150,31 @@ fn push_at(
 
 // Adds the compared cells of a pin, where it is a receiver.
 fn push_pin(
-    board: &Board,
-    tables: &PinTables,
+    board: &BoardPins<'_>,
     place: u32,
     pin: &NetPin,
     readers: &mut Vec<ReaderCell>,
 ) -> Result<(), AllocError>
-    requires tables { ArePinTables board.now tables.now }
     ensures { OnOk result (readers.new.items ≡ readers.old.items ++ readers_at board.now place pin.now.at) }
 {
     match pin.at {
         None => Ok(()),
-        Some(at) => push_at(board, tables, place, at, readers),
+        Some(at) => push_at(board, place, at, readers),
     }
 }
 
 /// The compared cells of these pins of a net.
 pub fn readers_of(
     alloc: Global,
-    board: &Board,
-    tables: &PinTables,
+    board: &BoardPins<'_>,
     pins: &[NetPin],
 ) -> Result<Items<ReaderCell>, AllocError>
-    requires tables { ArePinTables board.now tables.now }
-    requires few { length pins.now ≤ most_pins }
+    requires { length pins.now ≤ most_pins }
     ensures { IfOk result (λ readers. readers ≡ readers_of board.now pins.now) }
 {
     let mut readers = Vec::new(alloc);
     for place in 0..pins.len() {
-        push_pin(board, tables, place as u32, &pins[place], &mut readers)?;
+        push_pin(board, place as u32, &pins[place], &mut readers)?;
     }
     Ok(Items::of(readers))
 }

@@ -15,7 +15,8 @@ pub struct PinTables {
     pub firsts: Items<u32>,
     /// The entries of each port bit of each part.
     pub entries: Items<Items<BitEntries>>,
-    /// Whether each net is guarded: it may have no enabled driver but those that are always on.
+    /// Whether each net is guarded: no controlled and no one-sided driver of it may be enabled. No setting observes such a net, so that
+    /// no driver is kept for it, not even one that is always on.
     pub guarded: Items<bool>,
 }
 

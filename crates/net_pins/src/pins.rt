@@ -1,7 +1,8 @@
 // What stands on each net of a board.
 ghost use Rattle.std.specs.Prelude.{IfOk};
-ghost use Rattle.net_pins.specs.Tables.{AreNetPins};
+ghost use Rattle.net_pins.specs.Tables.{AreNetPins, ArePinTables};
 
+use crate::board_pins::BoardPins;
 use crate::drivers::all_drivers;
 use crate::nets::{NetDriver, ReaderCell};
 use crate::pin_tables::PinTables;
@@ -26,8 +27,17 @@ impl NetPins {
         ensures { IfOk result (λ pins. AreNetPins board.now pins) }
     {
         let tables = PinTables::new(alloc, board)?;
-        let drivers = all_drivers(alloc, board, &tables)?;
-        let readers = all_readers(alloc, board, &tables)?;
+        NetPins::of(alloc, board, tables)
+    }
+
+    /// The same, by the tables of the board, which are taken over.
+    pub fn of(alloc: Global, board: &Board, tables: PinTables) -> Result<NetPins, AllocError>
+        requires { ArePinTables board.now tables }
+        ensures { IfOk result (λ pins. AreNetPins board.now pins) }
+    {
+        let lent = BoardPins::of(board, &tables);
+        let drivers = all_drivers(alloc, &lent)?;
+        let readers = all_readers(alloc, &lent)?;
         Ok(NetPins {
             tables,
             drivers,

@@ -1,5 +1,5 @@
 // Positions in scans of data.
-ghost use Rattle.std.specs.Prelude.{◌≡◌, ◌+◌, ◌<◌, ◌≤◌, length, sum_by, IfOk};
+ghost use Rattle.std.specs.Prelude.{◌≡◌, ◌+◌, ◌<◌, sum_by, IfOk};
 ghost use Rattle.board_defs.specs.Pins.{data_length, device_at, cell_count};
 ghost use Rattle.net_pins.specs.Positions.{first_position, AreFirsts};
 

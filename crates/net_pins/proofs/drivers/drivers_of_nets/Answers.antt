@@ -1,7 +1,9 @@
-use Rattle.std.proofs.Common.{◌++◌, ◌∷◌, [], Bool, false, List, map, take, get_or, ap, sym, ◌∙◌}
-use Rattle.std.proofs.lemmas.List.{take_more, map-append, get_or-map}
+use Rattle.std.proofs.Common.{◌++◌, ◌∷◌, [], List, map, take, get_or, ap, sym, ◌∙◌}
+use Rattle.std.specs.Prelude.{slice_get}
+use Rattle.std.proofs.lemmas.List.{take_more, map-append}
+use Rattle.std.proofs.lemmas.Option.{slice_get-get_or}
 use Rattle.board_defs.specs.declared.board.Net.{Net}
-use Rattle.board_defs.specs.Pins.{guarded}
+use Rattle.board_defs.specs.Pins.{guarded, guarded_of}
 use Rattle.net_pins.specs.declared.nets.NetDriver.{NetDriver}
 use Rattle.net_pins.specs.NetCells.{drivers_of}
 use Rattle.net_pins.proofs.drivers.drivers_of_nets.Goals as goal
@@ -12,9 +14,9 @@ drivers_of-requires-clause-guards c =
     let nets = c.args.nets.now in
     let n = c.loop-n.n in
     let net : Net = c.index-nets-n.result in
-    c.is_set-is_guarded.ensures
-    ∙ ap (λ (flags : List Bool). get_or flags n false) (c.as_slice.ensures ∙ c.requires.tables.guards ∙ ap (λ (l : List Net). map (guarded board) l) (sym c.requires.nets))
-    ∙ get_or-map (guarded board) nets n net false c.loop-n-test.true
+    c.is_guarded-is_guarded.ensures
+    ∙ ap (λ (l : List Net). guarded_of board (slice_get l n)) (sym c.requires.nets)
+    ∙ ap (guarded_of board) (slice_get-get_or nets n net c.loop-n-test.true)
     ∙ ap (guarded board) (sym c.index-nets-n.is)
 
 pub loop-n-preserved : goal.loop-n-preserved

@@ -1,5 +1,4 @@
 use Rattle.std.proofs.Common.{ℕ, List, sym, subst}
-use Rattle.board_defs.specs.declared.device.Cell.{Cell}
 use Rattle.board_defs.specs.declared.board.RawBoard.{RawBoard}
 use Rattle.port_entries.specs.Entries.{AreEntries}
 use Rattle.net_pins.specs.Positions.{AreFirsts}
