@@ -1,6 +1,6 @@
 -- Nets whose tested drivers all have controls that drive one of some nets.
 use Rattle.std.proofs.Common.{◌≡◌, inl, inr, ℕ, ◌+◌, ◌<◌, Bool, true, false, ◌&&◌, ◌||◌, List, [], ◌∷◌, ◌++◌, Contains, length, get_or, take, Option, Some, None, refl, sym, ◌∙◌, ap, subst}
-use Rattle.std.specs.Prelude.{slice_get, filter, is_some}
+use Rattle.std.specs.Prelude.{slice_get, filter}
 use Rattle.std.specs.List.{list_any, list_all}
 use Rattle.std.proofs.Math.Bool.{or-false}
 use Rattle.std.proofs.lemmas.List.{take_more}
@@ -31,7 +31,7 @@ use Rattle.net_classes.specs.inner.Known.{IsKnown, KnownBoard, driven_in, nets_o
 use Rattle.net_classes.specs.Pairs.{drivers_at, drivers_there}
 use Rattle.net_classes.specs.inner.ControlSets.{IsSet, has_control}
 use Rattle.net_facts.specs.Facts.{pin_facts_of}
-use Rattle.net_facts.specs.Cells.{item_of, table, holds_there}
+use Rattle.net_facts.specs.Cells.{holds_there}
 use Rattle.net_facts.specs.Kept.{drives_there}
 use Rattle.net_classes.specs.inner.Pairs.{IsByCell}
 use Rattle.net_classes.proofs.ControlSetLemmas.{same_set}

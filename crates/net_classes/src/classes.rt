@@ -1,12 +1,13 @@
 // The classes of a board.
 ghost use Rattle.std.specs.Prelude.{IfOk};
-ghost use Rattle.board_defs.specs.BoardRules.{IsBoard};
 ghost use Rattle.net_classes.specs.Kept.{AreClasses};
+ghost use Rattle.net_pins.specs.Tables.{ArePinTables};
 
 use crate::known::Known;
 use crate::pair_rows::{PairRows, pair_rows};
-use board_defs::{Board, Ctl, RawBoard};
+use board_defs::{Board, Ctl};
 use net_facts::{BoardFacts, ControlClass, NetClass, NetNumbers, board_facts};
+use net_pins::{BoardPins, PinTables};
 use std::alloc::{AllocError, Global};
 
 /// The classes of a board: its nets, the cells of its parts as controls, the useful controls, the
@@ -20,11 +21,12 @@ pub struct Classes {
     pub(crate) pairs: PairRows,
 }
 
-fn classify_record(alloc: Global, board: &RawBoard) -> Result<Classes, AllocError>
-    requires { IsBoard board.now }
+/// The classes of the board, by its pin tables.
+pub fn classify_by(alloc: Global, board: &Board, tables: &PinTables) -> Result<Classes, AllocError>
+    requires { ArePinTables board.now tables.now }
     ensures { IfOk result (λ classes. AreClasses board.now classes) }
 {
-    let facts = board_facts(alloc, board)?;
+    let facts = board_facts(alloc, &BoardPins::of(board, tables))?;
     let pairs = pair_rows(alloc, &Known::of(alloc, board, &facts)?)?;
     let BoardFacts {
         nets,
@@ -46,5 +48,6 @@ fn classify_record(alloc: Global, board: &RawBoard) -> Result<Classes, AllocErro
 pub fn classify(alloc: Global, board: &Board) -> Result<Classes, AllocError>
     ensures { IfOk result (λ classes. AreClasses board.now classes) }
 {
-    classify_record(alloc, board.raw())
+    let tables = PinTables::new(alloc, board)?;
+    classify_by(alloc, board, &tables)
 }

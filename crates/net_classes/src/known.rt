@@ -1,8 +1,7 @@
 // What is known of a board before its rows.
-ghost use Rattle.std.specs.Prelude.{◌≡◌, ◌≤◌, true, is_some, length, map, slice_get, IfOk};
+ghost use Rattle.std.specs.Prelude.{◌≡◌, true, is_some, length, map, slice_get, IfOk};
 ghost use Rattle.board_defs.specs.declared.board.Ctl.{Ctl};
 ghost use Rattle.board_defs.specs.declared.board.RawBoard.{RawBoard};
-ghost use Rattle.board_defs.specs.BoardRules.{IsBoard};
 ghost use Rattle.board_defs.specs.Decided.{is_by};
 ghost use Rattle.board_defs.specs.Passes.{useful_controls};
 ghost use Rattle.board_defs.specs.Pins.{IsCell};
@@ -11,7 +10,7 @@ ghost use Rattle.net_classes.specs.Pairs.{drivers_at};
 ghost use Rattle.net_facts.specs.Cells.{item_of, table};
 ghost use Rattle.net_facts.specs.Kept.{AreBoardFacts, net_class_of, shared_nets};
 
-use board_defs::{Ctl, Drive, RawBoard};
+use board_defs::{Board, Ctl, Drive};
 use net_facts::{BoardFacts, NetClass, NetNumbers, PinFacts};
 use std::alloc::{AllocError, Global};
 use std::marker::Model;
@@ -20,14 +19,13 @@ use std::marker::Model;
 /// as the board with the table of what is kept of its controls.
 #[derive(Drop)]
 pub struct Known<'a> {
-    board: &'a RawBoard,
+    board: &'a Board,
     facts: &'a BoardFacts,
     firsts: Vec<Option<Drive>>,
 }
 
 impl<'a> Model for Known<'a> {
     ghost use Rattle.std.specs.Prelude.{◌≡◌, map, slice_get};
-    ghost use Rattle.board_defs.specs.BoardRules.{IsBoard};
     ghost use Rattle.net_classes.specs.inner.Known.{KnownBoard, known_board};
     ghost use Rattle.net_facts.specs.Cells.{table};
     ghost use Rattle.net_facts.specs.Kept.{AreBoardFacts};
@@ -36,8 +34,7 @@ impl<'a> Model for Known<'a> {
 
     ghost view = { λ a. known_board a.board.now (table a.facts.now.controls.items) };
 
-    ghost invariant = { λ a. IsBoard a.board.now
-        × AreBoardFacts a.board.now a.facts.now
+    ghost invariant = { λ a. AreBoardFacts a.board.now a.facts.now
         × (a.firsts.items ≡ map (λ net. slice_get net.drivers 0) a.facts.now.nets.items) };
 }
 
@@ -77,11 +74,10 @@ impl<'a> Known<'a> {
     /// The board with these facts, which are its own.
     pub fn of(
         alloc: Global,
-        board: &'a RawBoard,
+        board: &'a Board,
         facts: &'a BoardFacts,
     ) -> Result<Known<'a>, AllocError>
-        requires rules { IsBoard board.now }
-        requires facts { AreBoardFacts board.now facts.now }
+        requires { AreBoardFacts board.now facts.now }
         ensures { IfOk result (λ known. known.board ≡ board.now) }
     {
         let firsts = first_drivers(alloc, &facts.nets)?;
@@ -96,14 +92,14 @@ impl<'a> Known<'a> {
     pub fn laws(&self)
         ensures { IsKnown self.now }
     {
-        let _known = &self.facts;
+        let _rules = self.board.raw();
     }
 
     /// How many nets the board has.
     pub fn net_count(&self) -> u32
         ensures { result ≡ length self.now.board.nets }
     {
-        self.facts.nets.len() as u32
+        self.board.raw().nets.len() as u32
     }
 
     /// A table with an item for each cell of the board.

@@ -9,7 +9,6 @@ ghost use Rattle.net_classes.specs.inner.Closed.{AreClosed, AreClosedNets};
 ghost use Rattle.net_facts.specs.Cells.{item_of, table};
 ghost use Rattle.net_facts.specs.Kept.{shared_nets};
 ghost use Rattle.net_classes.specs.NetRows.{AreRowBits, stands_in};
-ghost use Rattle.net_classes.specs.Pairs.{AreBitsOf};
 ghost use Rattle.net_classes.specs.inner.PairRows.{AddsRow, HasCovered, IsRowFor, drive_word, number_for, owns_at};
 ghost use Rattle.net_classes.specs.Kept.{ArePairRows, number_in, row_in};
 ghost use Rattle.net_classes.specs.Pairs.{fits_at};

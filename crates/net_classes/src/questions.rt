@@ -1,5 +1,5 @@
 // A board with its classes, and the questions that they answer.
-ghost use Rattle.std.specs.Prelude.{◌≡◌, ◌≢◌, ◌<◌, ◌||◌, ℕ, false, true, not, length, All, MatchOption, Some};
+ghost use Rattle.std.specs.Prelude.{◌≡◌, ◌≢◌, ◌<◌, ◌||◌, ℕ, false, true, not, length, All, MatchOption};
 ghost use Rattle.std.specs.Bool.{Decides};
 ghost use Rattle.board_defs.specs.BoardRules.{IsBoard};
 ghost use Rattle.board_defs.specs.Pins.{IsCell, IsOnBoard};
@@ -194,8 +194,8 @@ impl<'a> BoardClasses<'a> {
     }
 }
 
-// The calls of this crate's table, with what each answer means over all safe settings. The crates above ask
-// `BoardClasses`; `usable`, `together` and `paired` are there for other callers.
+// The six questions that this crate promises to any caller that has a board and its classes, each with what the answer means over all
+// safe settings. The crates above ask `BoardClasses` and call none of the six.
 impl Classes {
     /// Why the net is not covered, by the first reason that holds; None where it is covered.
     pub fn reason(&self, board: &Board, net: u32) -> Option<Reason>

@@ -18,8 +18,7 @@ use Rattle.net_facts.specs.declared.facts.PinFacts.{PinFacts}
 use Rattle.net_facts.specs.declared.facts.NetFacts.{NetFacts}
 use Rattle.net_facts.specs.Cells.{put, item_of, at_control, holds_there}
 use Rattle.net_facts.specs.Facts.{pin_facts_of, net_facts_of}
-use Rattle.net_facts.specs.inner.Switching.{mark_at, mark_pins, mark_pulled, blank_bits, pulled_bits}
-use Rattle.net_facts.specs.inner.Tables.{SaysPulled}
+use Rattle.net_facts.specs.inner.Switching.{mark_at, mark_pins, mark_pulled, blank_bits, pulled_bits, SaysPulled}
 use Rattle.net_facts.proofs.Notes.{at_same, at_other}
 
 mark_none : (o : Option Bool) → o ≡ option_map (λ b. false || b) o

@@ -3,6 +3,5 @@ pub mod Found
 pub mod Facts
 pub mod Switching
 pub mod Shared
-pub mod Tables
 pub mod Rows
 pub mod Answers

@@ -1,21 +1,17 @@
 // What is known of the nets, the pins and the controls of a board.
 ghost use Rattle.std.specs.Prelude.{◌≡◌, map, IfOk};
-ghost use Rattle.board_defs.specs.BoardRules.{IsBoard};
-ghost use Rattle.port_entries.specs.Entries.{AreEntries};
 ghost use Rattle.net_facts.specs.Facts.{net_facts_of};
 ghost use Rattle.net_facts.specs.Kept.{AreBoardFacts};
-ghost use Rattle.net_facts.specs.inner.Tables.{AreTables};
 
-use crate::controls::{Tables, control_rows, mark_useful};
+use crate::controls::{control_rows, mark_useful};
 use crate::facts::{NetFacts, all_net_facts};
 use crate::net_numbers::NetNumbers;
 use crate::shared::{contended_nets, shared_table};
-use crate::switching::pulled_bits;
 use crate::tested::net_classes;
 use crate::useful::useful_controls;
-use board_defs::{Ctl, Drive, Items, RawBoard, Reason};
+use board_defs::{Ctl, Drive, Reason};
 use few_items::Few;
-use port_entries::{BitEntries, port_entries};
+use net_pins::BoardPins;
 use std::alloc::{AllocError, Global};
 
 /// What a pin of a net is, and what some safe setting does with it.
@@ -69,45 +65,16 @@ pub struct BoardFacts {
     pub shared: Vec<Vec<NetNumbers>>,
 }
 
-fn facts_of(
-    alloc: Global,
-    board: &RawBoard,
-    entries: &[Items<BitEntries>],
-) -> Result<Vec<NetFacts>, AllocError>
-    requires { AreEntries board.now entries.now }
-    ensures { IfOk result (λ facts. facts.items ≡ map (net_facts_of board.now) board.now.nets) }
-{
-    let facts = all_net_facts(alloc, entries, board)?;
-    Ok(facts)
-}
-
-fn tables_of(
-    alloc: Global,
-    board: &RawBoard,
-    entries: Items<Items<BitEntries>>,
-    facts: &[NetFacts],
-) -> Result<Tables, AllocError>
-    requires entries { AreEntries board.now entries }
-    requires facts { facts.now ≡ map (net_facts_of board.now) board.now.nets }
-    ensures { IfOk result (λ tables. AreTables board.now tables) }
-{
-    let low = pulled_bits(alloc, board.chain.as_slice(), facts, false)?;
-    let high = pulled_bits(alloc, board.chain.as_slice(), facts, true)?;
-    Ok(Tables { entries, low, high })
-}
-
 fn facts_by(
     alloc: Global,
-    board: &RawBoard,
-    tables: &Tables,
+    board: &BoardPins<'_>,
     facts: Vec<NetFacts>,
 ) -> Result<BoardFacts, AllocError>
-    requires rules { IsBoard board.now }
-    requires tables { AreTables board.now tables.now }
-    requires facts { facts.items ≡ map (net_facts_of board.now) board.now.nets }
+    requires { facts.items ≡ map (net_facts_of board.now) board.now.nets }
     ensures { IfOk result (λ known. AreBoardFacts board.now known) }
 {
-    let mut controls = control_rows(alloc, tables, board, &facts)?;
+    let _rules = board.raw();
+    let mut controls = control_rows(alloc, board, &facts)?;
     let nets = net_classes(alloc, &controls, &facts)?;
     mark_useful(&mut controls, &nets);
     let useful = useful_controls(alloc, &controls, board)?;
@@ -123,12 +90,9 @@ fn facts_by(
 }
 
 /// What is known of the nets, the pins and the controls of the board.
-pub fn board_facts(alloc: Global, board: &RawBoard) -> Result<BoardFacts, AllocError>
-    requires { IsBoard board.now }
+pub fn board_facts(alloc: Global, board: &BoardPins<'_>) -> Result<BoardFacts, AllocError>
     ensures { IfOk result (λ known. AreBoardFacts board.now known) }
 {
-    let entries = port_entries(alloc, board)?;
-    let facts = facts_of(alloc, board, entries.as_slice())?;
-    let tables = tables_of(alloc, board, entries, &facts)?;
-    facts_by(alloc, board, &tables, facts)
+    let facts = all_net_facts(alloc, board)?;
+    facts_by(alloc, board, facts)
 }

@@ -1,28 +1,18 @@
 // The table of the controls: the nets that each drives, and whether it may be on.
-ghost use Rattle.std.specs.Prelude.{◌≡◌, ◌<◌, ◌≤◌, length, fold, option_and_then, OnOk, IfOk};
-ghost use Rattle.board_defs.specs.BoardRules.{IsBoard};
+ghost use Rattle.std.specs.Prelude.{◌≡◌, ◌<◌, ◌≤◌, length, fold, map, OnOk, IfOk};
+ghost use Rattle.board_defs.specs.Limits.{most_bits, most_nets};
 ghost use Rattle.board_defs.specs.Pins.{cell_count, described};
-ghost use Rattle.board_defs.specs.Decided.{is_switching, own_control, own_where, port_bits};
+ghost use Rattle.board_defs.specs.Decided.{own_control, port_bits};
 ghost use Rattle.net_facts.specs.Cells.{table, at_control, update_at};
-ghost use Rattle.net_facts.specs.inner.Tables.{AreTables};
+ghost use Rattle.net_facts.specs.Facts.{net_facts_of};
 ghost use Rattle.net_facts.specs.inner.Rows.{added, block_bits, block_parts, block_where, ends_with, copies, fresh, fresh_rows, made_rows, mark_drive, mark_nets, note_drive, note_nets, note_pins, unsafe_too, useful_too};
 
 use crate::classes::{ControlClass, NetClass};
 use crate::facts::{NetFacts, PinFacts};
-use crate::switching::is_marked;
-use board_defs::{Cell, Control, Ctl, Drive, Items, Part, PartKind, PinAt, RawBoard};
-use port_entries::{BitEntries, driving_entry};
+use crate::pulled_board::PulledBoard;
+use board_defs::{Ctl, Drive, Items, Part, PartKind, PinAt};
+use net_pins::BoardPins;
 use std::alloc::{AllocError, Global};
-
-/// The tables by which the controls of one-sided drivers are found.
-#[derive(Debug, Drop)]
-pub struct Tables {
-    pub entries: Items<Items<BitEntries>>,
-    /// The port bits with a pin in an unguarded net that is pulled to 0.
-    pub low: Vec<Vec<bool>>,
-    /// The same of a pull to 1.
-    pub high: Vec<Vec<bool>>,
-}
 
 fn is_last(nets: &[u32], net: u32) -> bool
     ensures { result ≡ ends_with nets.now net }
@@ -101,7 +91,7 @@ fn note_net(
 
 /// Notes of each control the nets that it drives.
 fn note_all(rows: &mut [Vec<ControlClass>], nets: &[NetFacts]) -> Result<(), AllocError>
-    requires { length nets.now ≤ 16382 }
+    requires { length nets.now ≤ most_nets }
     ensures { OnOk result (table rows.new ≡ note_nets nets.now (length nets.now) (table rows.old)) }
 {
     for (n, net) in nets.iter().enumerate() {
@@ -203,88 +193,32 @@ fn fresh_table(alloc: Global, chain: &[Part]) -> Result<Vec<Vec<ControlClass>>, 
     Ok(rows)
 }
 
-fn own_of(cell: Cell) -> Option<Control>
-    ensures { result ≡ own_where cell cell.ctl }
-{
-    match cell.ctl {
-        None => None,
-        Some(control) => {
-            if control.cell == cell.num {
-                Some(control)
-            } else {
-                None
-            }
-        }
-    }
-}
-
-fn own_control(entry: Option<Cell>) -> Option<Control>
-    ensures { result ≡ option_and_then (λ cell. own_where cell cell.ctl) entry }
-{
-    match entry {
-        None => None,
-        Some(cell) => own_of(cell),
-    }
-}
-
-fn own_control_at(tables: &Tables, board: &RawBoard, at: PinAt) -> Option<Control>
-    requires { AreTables board.now tables.now }
-    ensures { result ≡ own_control board.now at }
-{
-    own_control(driving_entry(tables.entries.as_slice(), board, at))
-}
-
-/// Whether the pin stands in an unguarded net that is pulled to this value.
-fn is_switching(tables: &Tables, board: &RawBoard, at: PinAt, value: bool) -> bool
-    requires tables { AreTables board.now tables.now }
-    requires bit { at.bit < port_bits board.now at.part }
-    ensures { result ≡ is_switching board.now at value }
-{
-    if value {
-        is_marked(&tables.high, at)
-    } else {
-        is_marked(&tables.low, at)
-    }
-}
-
 /// Notes that the control of a one-sided driver is not safe.
-fn block_pin(rows: &mut [Vec<ControlClass>], tables: &Tables, board: &RawBoard, at: PinAt)
-    requires tables { AreTables board.now tables.now }
-    requires bit { at.bit < port_bits board.now at.part }
+fn block_pin(rows: &mut [Vec<ControlClass>], board: &PulledBoard<'_, '_>, at: PinAt)
+    requires { at.bit < port_bits board.now at.part }
     ensures { table rows.new ≡ block_where board.now at (own_control board.now at) (table rows.old) }
 {
-    match own_control_at(tables, board, at) {
+    match board.own_control(at) {
         None => {}
         Some(control) => {
             let ctl = Ctl {
                 part: at.part,
                 cell: control.cell,
             };
-            if board.is_pinned(at) && !is_switching(tables, board, at, control.disable) {
+            if board.is_pinned(at) && !board.is_switching(at, control.disable) {
                 block_at(rows, ctl);
             }
         }
     }
 }
 
-fn bits_of(board: &RawBoard, part: u32) -> usize
-    ensures { result ≡ port_bits board.now part }
-{
-    match board.device(part) {
-        None => 0,
-        Some(device) => device.bits.len(),
-    }
-}
-
-fn block_part(rows: &mut [Vec<ControlClass>], tables: &Tables, board: &RawBoard, part: u32)
-    requires tables { AreTables board.now tables.now }
-    requires few { port_bits board.now part ≤ 65535 }
+fn block_part(rows: &mut [Vec<ControlClass>], board: &PulledBoard<'_, '_>, part: u32)
+    requires { port_bits board.now part ≤ most_bits }
     ensures { table rows.new ≡ block_bits board.now part (port_bits board.now part) (table rows.old) }
 {
-    for bit in 0..bits_of(board, part) {
+    for bit in 0..board.port_bits(part) {
         block_pin(
             rows,
-            tables,
             board,
             PinAt {
                 part,
@@ -294,30 +228,27 @@ fn block_part(rows: &mut [Vec<ControlClass>], tables: &Tables, board: &RawBoard,
     }
 }
 
-fn block_all(rows: &mut [Vec<ControlClass>], tables: &Tables, board: &RawBoard)
-    requires rules { IsBoard board.now }
-    requires tables { AreTables board.now tables.now }
+fn block_all(rows: &mut [Vec<ControlClass>], board: &PulledBoard<'_, '_>)
     ensures { table rows.new ≡ block_parts board.now (length board.now.chain) (table rows.old) }
 {
-    for part in 0..board.chain.len() {
-        block_part(rows, tables, board, part as u32);
+    let _rules = board.raw();
+    for part in 0..board.parts() {
+        block_part(rows, board, part as u32);
     }
 }
 
-/// The table of the controls.
+/// The table of the controls, by the facts of the nets.
 pub fn control_rows(
     alloc: Global,
-    tables: &Tables,
-    board: &RawBoard,
+    board: &BoardPins<'_>,
     nets: &[NetFacts],
 ) -> Result<Vec<Vec<ControlClass>>, AllocError>
-    requires rules { IsBoard board.now }
-    requires tables { AreTables board.now tables.now }
-    requires few { length nets.now ≤ 16382 }
+    requires { nets.now ≡ map (net_facts_of board.now) board.now.nets }
     ensures { IfOk result (λ rows. table rows.items ≡ made_rows board.now nets.now) }
 {
-    let mut rows = fresh_table(alloc, board.chain.as_slice())?;
+    let pulled = PulledBoard::of(alloc, board, nets)?;
+    let mut rows = fresh_table(alloc, board.raw().chain.as_slice())?;
     note_all(&mut rows, nets)?;
-    block_all(&mut rows, tables, board);
+    block_all(&mut rows, &pulled);
     Ok(rows)
 }

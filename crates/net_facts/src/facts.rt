@@ -1,14 +1,14 @@
 // What is known of nets and pins before anything is known of settings.
 ghost use Rattle.std.specs.Prelude.{◌≡◌, ◌&&◌, ◌||◌, not, map, IfOk, Some};
 ghost use Rattle.std.specs.List.{list_any};
-ghost use Rattle.board_defs.specs.Pins.{is_pulled_to, is_test_pin};
+ghost use Rattle.board_defs.specs.Pins.{is_dark, is_pulled_to, is_test_pin};
 ghost use Rattle.board_defs.specs.Decided.{is_always_on};
-ghost use Rattle.port_entries.specs.Entries.{AreEntries};
+ghost use Rattle.net_facts.specs.Facts.{net_facts_of};
 ghost use Rattle.net_facts.specs.inner.Facts.{drive_from, drive_where_in, net_facts_in, pin_facts_in};
 
-use board_defs::{Cell, Ctl, Drive, Items, Net, NetPin, PinAt, RawBoard};
+use board_defs::{Cell, Ctl, Drive, Net, NetPin, PinAt, RawBoard};
 use few_items::Few;
-use port_entries::{BitEntries, driving_entry, has_dark_pin, receives};
+use net_pins::BoardPins;
 use std::alloc::{AllocError, Global};
 
 /// Where a pin is in the chain, how it drives its net, and whether it receives.
@@ -41,10 +41,24 @@ pub struct NetFacts {
     pub pins: Few<PinFacts>,
 }
 
-fn has_test_pin(board: &RawBoard, pins: &[NetPin]) -> bool
+fn any_test_pin(board: &RawBoard, pins: &[NetPin]) -> bool
     ensures { result ≡ list_any (is_test_pin board.now) pins.now }
 {
     pins.iter().any(|pin| board.is_test_pin(pin))
+}
+
+// A net that is not guarded has no such pin, so only those of guarded nets are asked.
+fn has_test_pin(board: &BoardPins<'_>, guarded: bool, pins: &[NetPin]) -> bool
+    ensures { result ≡ (guarded && list_any (is_test_pin board.now) pins.now) }
+{
+    guarded && any_test_pin(board.raw(), pins)
+}
+
+// The same of dark pins.
+fn has_dark_pin(board: &BoardPins<'_>, guarded: bool, pins: &[NetPin]) -> bool
+    ensures { result ≡ (guarded && list_any (is_dark board.now) pins.now) }
+{
+    guarded && board.has_dark_pin(pins)
 }
 
 pub(crate) fn is_pull(value: bool, pull: Option<bool>) -> bool
@@ -86,54 +100,43 @@ fn drive_from(guarded: bool, pull: Option<bool>, part: u32, cell: Cell) -> Drive
 }
 
 fn drive(
-    entries: &[Items<BitEntries>],
-    board: &RawBoard,
+    board: &BoardPins<'_>,
     guarded: bool,
     pull: Option<bool>,
     at: Option<PinAt>,
 ) -> Option<Drive>
-    requires { AreEntries board.now entries.now }
     ensures { result ≡ drive_where_in board.now guarded pull at }
 {
     match at {
         None => None,
-        Some(at) => match driving_entry(entries, board, at) {
+        Some(at) => match board.driving_entry(at) {
             None => None,
             Some(cell) => Some(drive_from(guarded, pull, at.part, cell)),
         },
     }
 }
 
-fn pin_facts(
-    entries: &[Items<BitEntries>],
-    board: &RawBoard,
-    guarded: bool,
-    pull: Option<bool>,
-    pin: &NetPin,
-) -> PinFacts
-    requires { AreEntries board.now entries.now }
+fn pin_facts(board: &BoardPins<'_>, guarded: bool, pull: Option<bool>, pin: &NetPin) -> PinFacts
     ensures { result ≡ pin_facts_in board.now guarded pull pin.now }
 {
     PinFacts {
         at: pin.at,
-        drive: drive(entries, board, guarded, pull, pin.at),
-        receives: receives(entries, board, pin.at),
+        drive: drive(board, guarded, pull, pin.at),
+        receives: board.receives(pin.at),
     }
 }
 
 fn all_pin_facts(
     alloc: Global,
-    entries: &[Items<BitEntries>],
-    board: &RawBoard,
+    board: &BoardPins<'_>,
     guarded: bool,
     net: &Net,
 ) -> Result<Few<PinFacts>, AllocError>
-    requires { AreEntries board.now entries.now }
     ensures { IfOk result (λ facts. facts ≡ map (pin_facts_in board.now guarded net.now.pull) net.now.pins) }
 {
     let mut facts = Few::with_capacity(alloc, net.pins.len())?;
     for pin in net.pins.as_slice() {
-        facts.push(alloc, pin_facts(entries, board, guarded, net.pull, pin))?;
+        facts.push(alloc, pin_facts(board, guarded, net.pull, pin))?;
     }
     Ok(facts)
 }
@@ -159,17 +162,15 @@ fn is_closed(guarded: bool, pins: &[PinFacts]) -> bool
 
 fn net_facts(
     alloc: Global,
-    entries: &[Items<BitEntries>],
-    board: &RawBoard,
+    board: &BoardPins<'_>,
+    guarded: bool,
     net: &Net,
 ) -> Result<NetFacts, AllocError>
-    requires { AreEntries board.now entries.now }
-    ensures { IfOk result (λ facts. facts ≡ net_facts_in board.now net.now) }
+    ensures { IfOk result (λ facts. facts ≡ net_facts_in board.now guarded net.now) }
 {
-    let test_port = has_test_pin(board, net.pins.as_slice());
-    let dark = has_dark_pin(entries, board, net.pins.as_slice());
-    let guarded = net.supply || test_port || dark;
-    let pins = all_pin_facts(alloc, entries, board, guarded, net)?;
+    let test_port = has_test_pin(board, guarded, net.pins.as_slice());
+    let dark = has_dark_pin(board, guarded, net.pins.as_slice());
+    let pins = all_pin_facts(alloc, board, guarded, net)?;
     let closed = is_closed(guarded, pins.as_slice());
     Ok(NetFacts {
         supply: net.supply,
@@ -183,17 +184,13 @@ fn net_facts(
 }
 
 /// The facts of the nets of a board, in their order.
-pub fn all_net_facts(
-    alloc: Global,
-    entries: &[Items<BitEntries>],
-    board: &RawBoard,
-) -> Result<Vec<NetFacts>, AllocError>
-    requires { AreEntries board.now entries.now }
-    ensures { IfOk result (λ facts. facts.items ≡ map (net_facts_in board.now) board.now.nets) }
+pub fn all_net_facts(alloc: Global, board: &BoardPins<'_>) -> Result<Vec<NetFacts>, AllocError>
+    ensures { IfOk result (λ facts. facts.items ≡ map (net_facts_of board.now) board.now.nets) }
 {
-    let mut facts = Vec::with_capacity(alloc, board.nets.len())?;
-    for net in board.nets.as_slice() {
-        facts.push(net_facts(alloc, entries, board, net)?)?;
+    let nets = board.raw().nets.as_slice();
+    let mut facts = Vec::with_capacity(alloc, nets.len())?;
+    for n in 0..nets.len() {
+        facts.push(net_facts(alloc, board, board.is_guarded(n), &nets[n])?)?;
     }
     Ok(facts)
 }

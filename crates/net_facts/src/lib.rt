@@ -13,6 +13,7 @@ mod controls;
 mod facts;
 mod found;
 mod net_numbers;
+mod pulled_board;
 mod shared;
 mod switching;
 mod tested;

@@ -2,7 +2,6 @@
 ghost use Rattle.std.specs.Prelude.{◌≡◌, ◌++◌, [], None, cond, length, map, option_copied, is_some, IfOk, OnOk};
 ghost use Rattle.std.specs.List.{cons_option, list_any, range_with_len};
 ghost use Rattle.net_facts.specs.Cells.{item_of, table};
-ghost use Rattle.net_facts.specs.inner.Found.{is_elsewhere_of};
 ghost use Rattle.net_facts.specs.inner.Answers.{class_in, drive_of, drivers_in, enabled_in, enablers_of, enables_at_place, first_reason_in, pin_class_in, reader_tested_in, readers_of, reads_at, reason_in, safe_in, tested_in, useful_in};
 
 use crate::classes::{ControlClass, NetClass, PinClass};

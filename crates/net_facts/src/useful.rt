@@ -1,6 +1,5 @@
 // The useful controls.
 ghost use Rattle.std.specs.Prelude.{◌≡◌, ◌++◌, ◌∷◌, [], cond, filter, IfOk, OnOk};
-ghost use Rattle.board_defs.specs.BoardRules.{IsBoard};
 ghost use Rattle.board_defs.specs.Passes.{all_cells, cells_of};
 ghost use Rattle.net_facts.specs.Cells.{table};
 ghost use Rattle.net_facts.specs.inner.Answers.{useful_in};
@@ -8,7 +7,8 @@ ghost use Rattle.net_facts.specs.inner.Answers.{useful_in};
 use crate::classes::ControlClass;
 use crate::controls::cells_of;
 use crate::tested::is_useful;
-use board_defs::{Ctl, Part, PartKind, RawBoard};
+use board_defs::{Ctl, PartKind};
+use net_pins::BoardPins;
 use std::alloc::{AllocError, Global};
 
 fn push_if(useful: &mut Vec<Ctl>, c: Ctl, passes: bool) -> Result<(), AllocError>
@@ -39,13 +39,12 @@ fn add_part(
 pub fn useful_controls(
     alloc: Global,
     rows: &[Vec<ControlClass>],
-    board: &RawBoard,
+    board: &BoardPins<'_>,
 ) -> Result<Vec<Ctl>, AllocError>
-    requires { IsBoard board.now }
     ensures { IfOk result (λ useful. useful.items ≡ filter (useful_in (table rows.now)) (all_cells board.now)) }
 {
     let mut useful = Vec::new(alloc);
-    for (part, item) in board.chain.as_slice().iter().enumerate() {
+    for (part, item) in board.raw().chain.as_slice().iter().enumerate() {
         add_part(&mut useful, rows, part as u32, &item.kind)?;
     }
     Ok(useful)

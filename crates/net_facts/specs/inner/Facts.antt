@@ -9,7 +9,7 @@ use Rattle.board_defs.specs.declared.board.PinAt.{PinAt}
 use Rattle.board_defs.specs.declared.board.NetPin.{NetPin}
 use Rattle.board_defs.specs.declared.board.Net.{Net}
 use Rattle.board_defs.specs.declared.board.RawBoard.{RawBoard}
-use Rattle.board_defs.specs.Pins.{entry_at, receives, guarded, is_test_pin, is_dark, is_pulled_to}
+use Rattle.board_defs.specs.Pins.{entry_at, receives, is_test_pin, is_dark, is_pulled_to}
 use Rattle.board_defs.specs.Decided.{is_always_on}
 use Rattle.net_facts.specs.declared.facts.PinFacts.{PinFacts}
 use Rattle.net_facts.specs.declared.facts.NetFacts.{NetFacts}
@@ -29,19 +29,18 @@ drive_where_in board guarded pull (Some at) = option_map (λ cell. drive_from gu
 abbrev pub pin_facts_in : RawBoard → Bool → Option Bool → NetPin → PinFacts
 pin_facts_in board guarded pull pin = record { at = pin.at; drive = drive_where_in board guarded pull pin.at; receives = receives board pin }
 
-abbrev pub guarded_in : RawBoard → Net → Bool
-guarded_in board net = net.supply || list_any (is_test_pin board) net.pins || list_any (is_dark board) net.pins
+-- the pins of a net that is guarded or not
+abbrev pub pins_in : RawBoard → Bool → Net → List PinFacts
+pins_in board guarded net = map (pin_facts_in board guarded net.pull) net.pins
 
-abbrev pub pins_in : RawBoard → Net → List PinFacts
-pins_in board net = map (pin_facts_in board (guarded_in board net) net.pull) net.pins
-
-abbrev pub net_facts_in : RawBoard → Net → NetFacts
-net_facts_in board net = record {
+-- what is known of a net that is guarded or not
+abbrev pub net_facts_in : RawBoard → Bool → Net → NetFacts
+net_facts_in board guarded net = record {
   supply = net.supply;
   pull = net.pull;
-  test_port = list_any (is_test_pin board) net.pins;
-  dark = list_any (is_dark board) net.pins;
-  guarded = guarded_in board net;
-  closed = guarded_in board net || list_any (λ pin. is_always_on pin.drive) (pins_in board net);
-  pins = pins_in board net;
+  test_port = guarded && list_any (is_test_pin board) net.pins;
+  dark = guarded && list_any (is_dark board) net.pins;
+  guarded = guarded;
+  closed = guarded || list_any (λ pin. is_always_on pin.drive) (pins_in board guarded net);
+  pins = pins_in board guarded net;
 }

@@ -1,9 +1,10 @@
 -- The port bits whose pin stands in an unguarded net that is pulled to a value, in one table for each part.
-use Rattle.std.specs.Prelude.{Bool, true, false, not, ◌&&◌, List, map, fold, replicate, Option, Some, None, cond}
+use Rattle.std.specs.Prelude.{◌≡◌, ◌<◌, Bool, true, false, not, ◌&&◌, List, map, fold, replicate, Option, Some, None, cond}
 use Rattle.board_defs.specs.declared.board.Part.{Part}
 use Rattle.board_defs.specs.declared.board.PinAt.{PinAt}
+use Rattle.board_defs.specs.declared.board.RawBoard.{RawBoard}
 use Rattle.board_defs.specs.Pins.{described, is_pulled_to}
-use Rattle.board_defs.specs.Decided.{bit_count}
+use Rattle.board_defs.specs.Decided.{bit_count, is_switching, port_bits}
 use Rattle.net_facts.specs.declared.facts.PinFacts.{PinFacts}
 use Rattle.net_facts.specs.declared.facts.NetFacts.{NetFacts}
 use Rattle.net_facts.specs.Cells.{put, item_of, at_control, holds_there}
@@ -26,3 +27,7 @@ pulled_bits chain nets value = fold (mark_pulled value) (blank_bits chain) nets
 
 abbrev pub is_marked : List (List Bool) → PinAt → Bool
 is_marked rows at = holds_there (item_of rows (record { part = at.part; cell = at.bit }))
+
+-- the table says which port bits have a pin in an unguarded net that is pulled to the value
+abbrev pub SaysPulled : RawBoard → List (List Bool) → Bool → Type 0
+SaysPulled board rows value = (at : PinAt) → at.bit < port_bits board at.part → is_marked rows at ≡ is_switching board at value

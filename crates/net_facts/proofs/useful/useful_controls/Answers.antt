@@ -11,7 +11,7 @@ loop-part-preserved c =
     let p = useful_in (table c.args.rows.now) in
     let chain = c.args.board.now.chain in
     let item = c.item-item.result in
-    let same = c.as_slice-item-items.ensures in
+    let same = c.as_slice-item-items.ensures ∙ ap (λ b. b.chain) c.raw.ensures.value in
     let n = ap length same in
     let less : c.loop-part.part < length chain = omega (arith, n) in
     let is : item ≡ get_or chain c.loop-part.part item = c.item-item.is ∙ ap (λ v. get_or v c.loop-part.part item) same in
@@ -19,6 +19,6 @@ loop-part-preserved c =
 
 pub returns : goal.returns
 returns c =
-    let n = ap length c.as_slice-item-items.ensures in
+    let n = ap length (c.as_slice-item-items.ensures ∙ ap (λ b. b.chain) c.raw.ensures.value) in
     let most : length c.args.board.now.chain ≤ c.loop-part.part = omega (arith, n) in
     c.loop-part.invariant ∙ ap (filter (useful_in (table c.args.rows.now))) (cells_whole c.args.board.now c.loop-part.part most)

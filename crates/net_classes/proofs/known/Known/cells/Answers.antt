@@ -5,4 +5,4 @@ use Rattle.net_facts.specs.Cells.{item_of, table}
 use Rattle.net_classes.proofs.known.Known.cells.Goals as goal
 
 pub returns : goal.returns
-returns c d cell = ap (λ rows. is_some (item_of (table rows) d)) c.deref.ensures.value ∙ ap is_some (c.self.invariant.1.shared_are d (subst (λ k. IsCell k.board d) (sym c.self.view_is) cell))
+returns c d cell = ap (λ rows. is_some (item_of (table rows) d)) c.deref.ensures.value ∙ ap is_some (c.self.invariant.0.shared_are d (subst (λ k. IsCell k.board d) (sym c.self.view_is) cell))

@@ -1,4 +1,4 @@
 use Rattle.net_classes.proofs.known.Known.laws.Goals as goal
 
 pub returns : goal.returns
-returns c = rw (← c.self.view_is) (record { rules = c.self.invariant.0; controls_are = c.self.invariant.1.controls_are })
+returns c = rw (← c.self.view_is) (record { rules = c.raw-rules.ensures.rules; controls_are = c.self.invariant.0.controls_are })

@@ -1,5 +1,4 @@
-use Rattle.std.proofs.Common.{◌≡◌, length, map, ◌∙◌, ap}
-use Rattle.std.specs.List.{range_with_len}
+use Rattle.std.proofs.Common.{length, ◌∙◌, ap}
 use Rattle.net_facts.specs.Kept.{pin_class_of}
 use Rattle.lists.proofs.ListLemmas.{item_there}
 use Rattle.net_classes.proofs.Lists.{numbered_length, numbered_item}
