@@ -15,15 +15,14 @@ use board_defs::{Board, Ctl, Drive, law};
 use net_classes::{BoardClasses, Classes};
 use std::marker::Model;
 
-/// A board with its classes and its useful controls, seen as the board.
+/// A board with its classes, seen as the board.
 #[derive(Drop)]
 pub struct ClassedBoard<'a> {
     pub(crate) classes: BoardClasses<'a>,
-    useful: &'a [Ctl],
 }
 
 impl<'a> Model for ClassedBoard<'a> {
-    ghost use Rattle.std.specs.Prelude.{◌≡◌, All};
+    ghost use Rattle.std.specs.Prelude.{All};
     ghost use Rattle.board_defs.specs.declared.board.RawBoard.{RawBoard};
     ghost use Rattle.board_defs.specs.Passes.{useful_controls};
     ghost use Rattle.board_defs.specs.Pins.{IsCell};
@@ -32,8 +31,7 @@ impl<'a> Model for ClassedBoard<'a> {
 
     ghost view = { λ a. a.classes };
 
-    ghost invariant = { λ a. (a.useful.now ≡ useful_controls a.classes)
-        × All (IsCell a.classes) (useful_controls a.classes) };
+    ghost invariant = { λ a. All (IsCell a.classes) (useful_controls a.classes) };
 }
 
 impl<'a> ClassedBoard<'a> {
@@ -43,8 +41,8 @@ impl<'a> ClassedBoard<'a> {
         ensures { result ≡ board.now }
     {
         let classes = BoardClasses::of(board, classes);
-        let useful = classes.useful();
-        ClassedBoard { classes, useful }
+        let _cells = classes.useful();
+        ClassedBoard { classes }
     }
 
     /// Does nothing: its clause is what the laws of boards say of this one.
@@ -68,7 +66,7 @@ impl<'a> ClassedBoard<'a> {
     pub fn useful(&self) -> &[Ctl]
         ensures { result.now ≡ useful_controls self.now }
     {
-        self.useful
+        self.classes.useful()
     }
 
     /// Where the control stands among the useful controls.

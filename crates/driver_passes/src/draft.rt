@@ -1,5 +1,5 @@
 // A pass as it is made.
-ghost use Rattle.std.specs.Prelude.{◌≡◌, ◌<◌, ◌+◌, ◌/◌, ◌&&◌, ◌||◌, ℕ, [], not, true, length, slice_get, IfOk, Some};
+ghost use Rattle.std.specs.Prelude.{◌≡◌, ◌<◌, ◌+◌, ◌/◌, ◌||◌, ℕ, [], true, length, slice_get, IfOk, Some};
 ghost use Rattle.board_defs.specs.declared.board.Ctl.{Ctl};
 ghost use Rattle.board_defs.specs.Coverage.{IsUseful};
 ghost use Rattle.board_defs.specs.Settings.{holds};

@@ -1,9 +1,8 @@
 // Which nets each useful control tests, and so which nets a pass shows.
-ghost use Rattle.std.specs.Prelude.{◌≡◌, ◌<◌, ◌||◌, ◌&&◌, ◌/◌, ℕ, [], true, length, Some, All, IfOk, OnOk};
+ghost use Rattle.std.specs.Prelude.{◌≡◌, ◌<◌, ◌/◌, [], true, length, Some, IfOk, OnOk};
 ghost use Rattle.board_defs.specs.Decided.{is_by};
 ghost use Rattle.board_defs.specs.Passes.{shows, useful_controls};
-ghost use Rattle.driver_passes.specs.inner.Drafts.{has_number, setting_of};
-ghost use Rattle.driver_passes.specs.inner.NumberSets.{is_in};
+ghost use Rattle.driver_passes.specs.inner.Drafts.{setting_of};
 ghost use Rattle.driver_passes.specs.inner.Shown.{AreShownBy};
 ghost use Rattle.driver_passes.specs.inner.Tested.{AreListed, AreNoted, AreTestedNets, drives};
 

@@ -6,6 +6,5 @@ use Rattle.driver_passes.proofs.classed.ClassedBoard.new.Goals as goal
 
 pub invariant_of-result : goal.invariant_of-result
 invariant_of-result c =
-    let P : List Ctl → Type 0 = λ v. All (IsCell c.of-classes.result) v in
-    let useful = c.useful-useful.ensures in
-    (useful.controls, subst P useful.controls useful.cells)
+    let useful = c.useful-cells.ensures in
+    subst (λ (v : List Ctl). All (IsCell c.of-classes.result) v) useful.controls useful.cells

@@ -9,7 +9,7 @@ use Rattle.driver_passes.proofs.classed.ClassedBoard.shared_nets.Goals as goal
 pub shared_nets-requires : goal.shared_nets-requires
 shared_nets-requires c =
     let board = c.self.inside.classes in
-    holds_of (IsCell board) (useful_controls board) c.args.c c.self.invariant.1 (ap (λ b. holds (useful_controls b) c.args.c) c.self.view_is ∙ c.requires)
+    holds_of (IsCell board) (useful_controls board) c.args.c c.self.invariant (ap (λ b. holds (useful_controls b) c.args.c) c.self.view_is ∙ c.requires)
 
 pub returns : goal.returns
 returns c = c.shared_nets.ensures ∙ ap (λ b. shared_nets b c.args.c) c.self.view_is
