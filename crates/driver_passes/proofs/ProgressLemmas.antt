@@ -4,8 +4,7 @@ use Rattle.std.specs.Prelude.{◌==◌, slice_get, All, Contains, filter_map, su
 use Rattle.std.specs.List.{list_any, flat_map, range_with_len, cons_option}
 use Rattle.std.proofs.Math.Bool.{or-false, or_comm}
 use Rattle.std.proofs.lemmas.Bool.{and_parts}
-use Rattle.std.proofs.lemmas.Option.{slice_get_within, get_or_from_slice_get}
-use Rattle.std.proofs.lemmas.List.{get_or-map as item-map, get_or_default, length-append, length-map, take_all, length_push}
+use Rattle.std.proofs.lemmas.List.{get_or_default, length-append, length-map, take_all, length_push}
 use Rattle.std.proofs.lemmas.List.Elements.{All-nil}
 use Rattle.std.proofs.lemmas.List.Folds.{list_any-append}
 use Rattle.std.proofs.lemmas.List.Sums.{sum_by-cons}

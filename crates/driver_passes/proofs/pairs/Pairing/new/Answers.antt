@@ -1,4 +1,4 @@
-use Rattle.std.proofs.Common.{ℕ, ◌∙◌, ◌+◌, ◌/◌, ap, length}
+use Rattle.std.proofs.Common.{ℕ, ◌∙◌, ◌+◌, ◌/◌, ap}
 use Rattle.std.specs.List.{list_all}
 use Rattle.driver_passes.specs.inner.NumberSets.{is_in}
 use Rattle.driver_passes.specs.inner.Shown.{words_at}
