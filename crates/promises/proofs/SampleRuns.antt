@@ -1,9 +1,13 @@
--- Runs that break what is promised, one for each thing that a promise says, worked by hand; and runs of which a promise must speak, since
--- only the read of another name failed. The texts of files are any texts of which what is said here holds.
-use Rattle.std.proofs.Common.{◌≡◌, ◌⊎◌, ◌∙◌, ℕ, zero, suc, ◌+◌, ◌<◌, ◌≤◌, true, false, List, [], ◌∷◌, ◌++◌, length, map, cond, Option, Some, None, Result, Ok, Err, refl, sym, ap, subst, inl, inr, length-append, arith}
+-- Runs that break what is promised, one for each thing that a promise says, worked by hand: each breaks that thing alone. And runs of which
+-- a promise must speak, since only the read of another name failed, or only a write of the notes. The texts of files are any texts of which
+-- what is said here holds.
+use Rattle.std.proofs.Common.{◌≡◌, ◌⊎◌, ◌∙◌, ℕ, zero, suc, ◌+◌, ◌<◌, ◌≤◌, Bool, true, false, List, [], ◌∷◌, ◌++◌, length, map, cond, Option, Some, None, Result, Ok, Err, refl, sym, ap, subst, inl, inr, length-append, arith}
 use Rattle.std.specs.Prelude.{Contains, codes, take}
 use Rattle.std.specs.Str.{bytes_eq}
 use Rattle.bt_base.specs.Counts.{Rose}
+use Rattle.board_defs.specs.declared.device.RawDevice.{RawDevice}
+use Rattle.device_check.specs.DeviceText.{device_text}
+use Rattle.btest_core.specs.DevicesRead.{IsDeviceText}
 use Rattle.refusal_lines.specs.Refusals.{usage_line, long_line, read_line, write_line, memory_line}
 use Rattle.command_line.specs.Words.{Text, Command, Chain, Device, Svf}
 use Rattle.btest_cli.specs.Texts.{Held, Wanted}
@@ -64,6 +68,11 @@ apart one other same differ is =
     let z : true ≡ false = sym same ∙ ap (bytes_eq one) is ∙ differ in
     cc z
 
+-- a text that is none of the first bytes of another one
+no_front : (one line : Text) → bytes_eq one one ≡ true → bytes_eq one [] ≡ false → ((count : ℕ) → bytes_eq one (take (suc count) line) ≡ false) → (count : ℕ) → one ≡ take count line → ⊥
+no_front one line same some differ zero is = apart one [] same some is
+no_front one line same some differ (suc count) is = apart one (take (suc count) line) same (differ count) is
+
 -- the notes took no line, and none of one
 none_noted : (words : List Text) (held : Held) (status : Status) (asked : List Text) (out line : Text) → bytes_eq [] line ≡ false → Notes (run_of words held status asked out []) line → ⊥
 none_noted words held status asked out line some (inl is) = apart [] line refl some is
@@ -73,6 +82,30 @@ none_noted words held status asked out line some (inr (rose, cut)) = calm rose
 neither : (status one other : Status) → (status ≡ one → ⊥) → (status ≡ other → ⊥) → (status ≡ one) ⊎ (status ≡ other) → ⊥
 neither status one other first second (inl is) = first is
 neither status one other first second (inr is) = second is
+
+-- A run in which a write of the notes failed.
+
+abbrev unnoted : Run → Run
+unnoted run = record run { new = record run.new { unnoted = 1 } }
+
+abbrev noting : Text → Run
+noting notes = run_of [] empty Usage [] [] notes
+
+noted_whole : (line : Text) → Notes (noting line) line
+noted_whole line = inl refl
+
+noted_in_part : (line : Text) (count : ℕ) → Notes (unnoted (noting (take count line))) line
+noted_in_part line count = inr (inl (omega arith), (count, refl))
+
+-- some first bytes, where no write failed
+noted_in_part_alone : Notes (noting (codes "us")) usage_line → ⊥
+noted_in_part_alone (inl is) = apart (codes "us") usage_line refl refl is
+noted_in_part_alone (inr (rose, cut)) = calm rose
+
+-- what is none of its first bytes, where one failed
+noted_other : Notes (unnoted (noting (codes "x"))) usage_line → ⊥
+noted_other (inl is) = apart (codes "x") usage_line refl refl is
+noted_other (inr (rose, (count, is))) = no_front (codes "x") usage_line refl refl (λ n. refl) count is
 
 -- `device` prints the text 1
 abbrev PrintsOne : Run → Type 0
@@ -99,12 +132,20 @@ prints_more prints =
 prints_with_note : PrintsOne (run_of device_words empty Done b_asked (1 ∷ []) (1 ∷ [])) → ⊥
 prints_with_note prints = let count : 1 ≡ 0 = ap length (prints.silent refl) in absurd (omega (arith, count))
 
+-- some of a line, where a write of the notes failed
+prints_with_part : PrintsOne (unnoted (run_of device_words empty Done b_asked (1 ∷ []) (codes "us"))) → ⊥
+prints_with_part prints = let count : 2 ≡ 0 = ap length (prints.silent refl) in absurd (omega (arith, count))
+
 prints_refused : PrintsOne (run_of device_words empty Refused b_asked [] []) → ⊥
 prints_refused prints = neither Refused Done NoMemory (λ e. cc) (λ e. cc) (prints.ends calm (λ name among rose. calm rose))
 
 -- no write of the output failed, and no read of its file
 prints_unwritten : PrintsOne (run_of device_words empty WriteFault b_asked [] []) → ⊥
 prints_unwritten prints = neither WriteFault Done NoMemory (λ e. cc) (λ e. cc) (prints.ends calm (λ name among rose. calm rose))
+
+-- nor is a write of the notes one of the output
+prints_unnoted : PrintsOne (unnoted (run_of device_words empty WriteFault b_asked [] [])) → ⊥
+prints_unnoted prints = neither WriteFault Done NoMemory (λ e. cc) (λ e. cc) (prints.ends calm (λ name among rose. calm rose))
 
 -- A run of a store of which the read of this name failed once.
 
@@ -115,11 +156,14 @@ only_name : (name : Text) → Contains (codes "b" ∷ []) name → name ≡ code
 only_name name (zero, below, is) = sym is
 only_name name (suc k, below, is) = absurd (omega (arith, below))
 
--- no read of the file b failed where only that of x did
-b_read : (words asked : List Text) (held : Held) (status : Status) (out notes : Text) → NoReadFailed (failing (codes "x") (run_of words held status asked out notes)) device
-b_read words asked held status out notes name among rose =
-    let same : cond (bytes_eq (codes "x") name) 1 0 ≡ 0 = ap (λ (n : Text). cond (bytes_eq (codes "x") n) 1 0) (only_name name among) in
+-- no read of a file failed where only that of another one did
+was_read : (name other : Text) → bytes_eq name other ≡ false → (file : Text) → file ≡ other → Rose 0 (cond (bytes_eq name file) 1 0) → ⊥
+was_read name other differ file is rose =
+    let same : cond (bytes_eq name file) 1 0 ≡ 0 = ap (λ (n : Text). cond (bytes_eq name n) 1 0) is ∙ ap (λ (b : Bool). cond b 1 0) differ in
     calm (subst (λ (n : ℕ). Rose 0 n) same rose)
+
+b_read : (words asked : List Text) (held : Held) (status : Status) (out notes : Text) → NoReadFailed (failing (codes "x") (run_of words held status asked out notes)) device
+b_read words asked held status out notes name among rose = was_read (codes "x") (codes "b") refl name (only_name name among) rose
 
 other_read_failed : PrintsOne (failing (codes "x") (run_of device_words empty ReadFault [] [] (read_line (codes "x")))) → ⊥
 other_read_failed prints = neither ReadFault Done NoMemory (λ e. cc) (λ e. cc) (prints.ends calm (b_read device_words [] empty ReadFault [] (read_line (codes "x"))))
@@ -159,7 +203,24 @@ usage_that_forgot tells =
     let same : ◌≡◌ {A = Held} None empty = (tells.1 (none_asked forgotten refl)).3 in
     cc same
 
--- A file with a first fault, whose line is not empty, is refused, and by its line.
+is_device : (run : Run) (command : Command) → Asks run device → Asks run command → command ≡ device
+is_device run command one other =
+    let same : ◌≡◌ {A = Option Command} (Some command) (Some device) = sym (command_is run command other) ∙ command_is run device one in
+    cc
+
+same_text : {x y : Text} → ◌≡◌ {A = Option Text} (Some x) (Some y) → x ≡ y
+same_text e = cc
+
+-- a listing has bytes, and does not begin with this one
+some_listing : (described : RawDevice) → ◌≡◌ {A = Text} [] (device_text described) → ⊥
+unfolding device_text
+some_listing described is = apart [] (device_text described) refl refl is
+
+no_listing : (described : RawDevice) (count : ℕ) → codes "x" ≡ take count (device_text described) → ⊥
+unfolding device_text
+no_listing described count is = no_front (codes "x") (device_text described) refl refl (λ n. refl) count is
+
+-- A store that holds this text under each name.
 module _ (text : Text) (short : length text ≤ 4194304) where
   abbrev holding : Held
   holding = Some (λ name. Some text)
@@ -167,28 +228,67 @@ module _ (text : Text) (short : length text ≤ 4194304) where
   on_text : (status : Status) (asked : List Text) (out notes : Text) → RunsOn (run_of device_words holding status asked out notes) device (text ∷ [])
   on_text status asked out notes = ((refl, refl), (refl, short, tt))
 
-  refused_with_text : TellsFault (run_of device_words holding Refused b_asked (1 ∷ []) []) → ⊥
-  refused_with_text tells = let count : 1 ≡ 0 = ap length (tells.0 refl) in absurd (omega (arith, count))
+  -- what files give there is given for the text
+  only_text : (texts : List Text) → HoldsEach holding (files_of device) texts → text ∷ [] ≡ texts
+  only_text [] each = absurd each
+  only_text (one ∷ []) each = ap (λ (t : Text). t ∷ []) (same_text each.0)
+  only_text (one ∷ other ∷ others) each = absurd each.2
 
-  refused_unasked : TellsFault (run_of device_words holding Refused [] [] []) → ⊥
-  refused_unasked tells = let count : 0 ≡ 1 = ap length ((tells.1 device (text ∷ []) (on_text Refused [] [] [])).0 refl).0 in absurd (omega (arith, count))
+  none_long : (file : Wanted) → IsTooLong holding (files_of device) file → ⊥
+  none_long file long =
+      let same : text ≡ long.text = same_text long.holds in
+      let more : file.limit < length text = subst (λ (t : Text). file.limit < length t) (sym same) long.long in
+      let limit : 4194304 ≡ file.limit = by_before long.before long.after file long.are in
+      omega (arith, more, limit, short)
+    where
+      first_limit : List Wanted → ℕ
+      first_limit [] = 0
+      first_limit (first ∷ others) = first.limit
+
+      by_before : (before after : List Wanted) (file : Wanted) → b_file ∷ [] ≡ before ++ file ∷ after → 4194304 ≡ file.limit
+      by_before [] after file are = ap first_limit are
+      by_before (first ∷ before) after file are =
+          let count : 1 ≡ suc (length (before ++ file ∷ after)) = ap length are in
+          let more : length (before ++ file ∷ after) ≡ length before + suc (length after) = length-append before (file ∷ after) in
+          absurd (omega (arith, count, more))
+
+  given_text : (outcome : Result Text Text) → ((texts : List Text) × HoldsEach holding (files_of device) texts × Gives device texts outcome) ⊎ ((file : Wanted) × IsTooLong holding (files_of device) file × (outcome ≡ Err (long_line file.name file.limit))) → Gives device (text ∷ []) outcome
+  given_text outcome (inl (texts, each, gives)) = subst (λ (l : List Text). Gives device l outcome) (sym (only_text texts each)) gives
+  given_text outcome (inr (file, long, is)) = absurd (none_long file long)
+
+  device_gives : (status : Status) (asked : List Text) (out notes : Text) (command : Command) → Asks (run_of device_words holding status asked out notes) command → (outcome : Result Text Text) → FilesGive (run_of device_words holding status asked out notes) command outcome → Gives device (text ∷ []) outcome
+  device_gives status asked out notes command asks outcome gives =
+      given_text outcome (subst (λ (c : Command). FilesGive (run_of device_words holding status asked out notes) c outcome) (is_device (run_of device_words holding status asked out notes) command (refl, refl) asks) gives)
+
+  -- A file with a first fault, whose line is not empty, is refused, and by its line.
 
   refused_without_fault : ((line : Text) → Gives device (text ∷ []) (Err line) → ⊥) → TellsFault (run_of device_words holding Refused b_asked [] (1 ∷ [])) → ⊥
   refused_without_fault sound tells = let told = ((tells.1 device (text ∷ []) (on_text Refused b_asked [] (1 ∷ []))).0 refl).1 in sound told.0 told.1
 
-  refused_without_note : (Gives device (text ∷ []) (Err []) → ⊥) → TellsFault (run_of device_words holding Refused b_asked [] []) → ⊥
-  refused_without_note some tells = let told = ((tells.1 device (text ∷ []) (on_text Refused b_asked [] [])).0 refl).1 in by_note told.0 told.1 told.2
-    where
-      by_note : (line : Text) → Gives device (text ∷ []) (Err line) → Notes (run_of device_words holding Refused b_asked [] []) line → ⊥
-      by_note line gives (inl is) = some (subst (λ (l : Text). Gives device (text ∷ []) (Err l)) (sym is) gives)
-      by_note line gives (inr (rose, cut)) = calm rose
+  module _ (some : Gives device (text ∷ []) (Err []) → ⊥) where
+    some_line : (line : Text) → Gives device (text ∷ []) (Err line) → Notes (run_of device_words holding Refused b_asked [] []) line → ⊥
+    some_line line gives (inl is) = some (subst (λ (l : Text). Gives device (text ∷ []) (Err l)) (sym is) gives)
+    some_line line gives (inr (rose, cut)) = calm rose
+
+    refused_without_note : TellsFault (run_of device_words holding Refused b_asked [] []) → ⊥
+    refused_without_note tells = let told = ((tells.1 device (text ∷ []) (on_text Refused b_asked [] [])).0 refl).1 in some_line told.0 told.1 told.2
+
+    refused_without_line : RestsOnFiles (run_of device_words holding Refused b_asked [] []) → ⊥
+    refused_without_line rests = let told = rests.2 refl in some_line told.2 (device_gives Refused b_asked [] [] told.0 told.1 (Err told.2) told.3) told.4
 
   module _ (line : Text) (gives : Gives device (text ∷ []) (Err line)) where
-    fault_done : TellsFault (run_of device_words holding Done b_asked [] []) → ⊥
-    fault_done tells = ((tells.1 device (text ∷ []) (on_text Done b_asked [] [])).1 line gives).0 refl
+    refused_with_text : TellsFault (run_of device_words holding Refused b_asked (1 ∷ []) line) → ⊥
+    refused_with_text tells = let count : 1 ≡ 0 = ap length (tells.0 refl) in absurd (omega (arith, count))
 
-    fault_unwritten : TellsFault (run_of device_words holding WriteFault b_asked [] []) → ⊥
-    fault_unwritten tells = ((tells.1 device (text ∷ []) (on_text WriteFault b_asked [] [])).1 line gives).1 refl
+    refused_unasked : TellsFault (run_of device_words holding Refused [] [] line) → ⊥
+    refused_unasked tells = let count : 0 ≡ 1 = ap length ((tells.1 device (text ∷ []) (on_text Refused [] [] line)).0 refl).0 in absurd (omega (arith, count))
+
+    -- also where a read of the file failed
+    fault_done : TellsFault (failing (codes "b") (run_of device_words holding Done b_asked [] [])) → ⊥
+    fault_done tells = ((tells.1 device (text ∷ []) ((refl, refl), (refl, short, tt))).1 line gives).0 refl
+
+    fault_unwritten : TellsFault (failing (codes "b") (run_of device_words holding WriteFault b_asked [] [])) → ⊥
+    fault_unwritten tells = ((tells.1 device (text ∷ []) ((refl, refl), (refl, short, tt))).1 line gives).1 refl
 
     fault_as_usage : TellsFault (run_of device_words holding Usage b_asked [] []) → ⊥
     fault_as_usage tells =
@@ -199,7 +299,14 @@ module _ (text : Text) (short : length text ≤ 4194304) where
     fault_as_unread tells =
         neither ReadFault Refused NoMemory (λ e. cc) (λ e. cc) (((tells.1 device (text ∷ []) ((refl, refl), (refl, short, tt))).1 line gives).2 (b_read device_words [] holding ReadFault [] (read_line (codes "x"))))
 
-  -- the output took what is no beginning of the text, or took some where no write failed
+    -- the words ask for nothing
+    refused_without_words : RestsOnFiles (run_of [] holding Refused b_asked [] line) → ⊥
+    refused_without_words rests = let told = rests.2 refl in nothing_asked holding Refused b_asked [] line told.0 told.1
+
+  -- A file that describes a device has its listing printed, or begun where a write of the output failed. Nothing was put, or what no
+  -- listing begins with.
+
+  -- a run in which a write of the output failed
   abbrev cut_after : List Text → Text → Text → Run
   cut_after asked out notes = let run = run_of device_words holding WriteFault asked out notes in record run { new = record run.new { unwritten = 1 } }
 
@@ -208,6 +315,10 @@ module _ (text : Text) (short : length text ≤ 4194304) where
 
   unwritten_without_fault : TellsUnwritten (run_of device_words holding WriteFault b_asked [] write_line) → ⊥
   unwritten_without_fault tells = calm (tells refl).0
+
+  -- only a write of the notes failed
+  unwritten_as_unnoted : TellsUnwritten (unnoted (run_of device_words holding WriteFault b_asked [] write_line)) → ⊥
+  unwritten_as_unnoted tells = calm (tells refl).0
 
   unwritten_without_note : TellsUnwritten (cut_after b_asked [] []) → ⊥
   unwritten_without_note tells = by_note (tells refl).1
@@ -222,18 +333,44 @@ module _ (text : Text) (short : length text ≤ 4194304) where
   unwritten_of_no_text : ((other : Text) → Gives device (text ∷ []) (Ok other) → ⊥) → TellsUnwritten (cut_after b_asked [] write_line) → ⊥
   unwritten_of_no_text none tells = let told = ((tells refl).2 device (text ∷ []) (on_cut b_asked [] write_line)).1 in none told.0 told.1
 
-  other_bytes : ((other : Text) → Gives device (text ∷ []) (Ok other) → other ≡ 1 ∷ 2 ∷ []) → TellsUnwritten (cut_after b_asked (2 ∷ []) write_line) → ⊥
-  other_bytes only tells =
-      let told = ((tells refl).2 device (text ∷ []) (on_cut b_asked (2 ∷ []) write_line)).1 in
-      by_count told.2 (told.3 ∙ ap (take told.2) (only told.0 told.1))
-    where
-      by_count : (count : ℕ) → ◌≡◌ {A = Text} (2 ∷ []) (take count (1 ∷ 2 ∷ [])) → ⊥
-      by_count zero is = let none : 1 ≡ 0 = ap length is in absurd (omega (arith, none))
-      by_count (suc count) is = apart (2 ∷ []) (1 ∷ take count (2 ∷ [])) refl refl is
+  other_bytes : TellsUnwritten (cut_after b_asked (codes "x") write_line) → ⊥
+  other_bytes tells =
+      let told = ((tells refl).2 device (text ∷ []) (on_cut b_asked (codes "x") write_line)).1 in
+      no_listing told.1.0 told.2 (told.3 ∙ ap (take told.2) told.1.2)
 
-  -- nothing is given for the text
-  nothing_given : ((outcome : Result Text Text) → Gives device (text ∷ []) outcome → ⊥) → FindsOutcome (run_of device_words holding NoMemory [] [] []) → ⊥
-  nothing_given none finds = let told = finds.1 device (text ∷ []) (on_text NoMemory [] [] []) in none told.0 told.1
+  done_without_text : RestsOnFiles (run_of device_words holding Done b_asked [] []) → ⊥
+  done_without_text rests =
+      let told = rests.0 refl in
+      let gives = device_gives Done b_asked [] [] told.0 told.1 (Ok told.2) told.3 in
+      some_listing gives.0 (told.4 ∙ gives.2)
+
+  unwritten_past_text : RestsOnFiles (run_of device_words holding WriteFault b_asked (codes "x") []) → ⊥
+  unwritten_past_text rests =
+      let told = rests.1 refl in
+      let gives = device_gives WriteFault b_asked (codes "x") [] told.0 told.1 (Ok told.2) told.3 in
+      no_listing gives.0 told.4 (told.5 ∙ ap (take told.4) gives.2)
+
+  module _ (described : RawDevice) (is : IsDeviceText text (Ok described)) where
+    -- the words ask for nothing
+    done_without_words : RestsOnFiles (run_of [] holding Done b_asked (device_text described) []) → ⊥
+    done_without_words rests = let told = rests.0 refl in nothing_asked holding Done b_asked (device_text described) [] told.0 told.1
+
+    unwritten_without_words : RestsOnFiles (run_of [] holding WriteFault b_asked [] []) → ⊥
+    unwritten_without_words rests = let told = rests.1 refl in nothing_asked holding WriteFault b_asked [] [] told.0 told.1
+
+    -- more was put than the listing, where the text describes one device
+    done_past_text : ((other : RawDevice) → IsDeviceText text (Ok other) → other ≡ described) → RestsOnFiles (run_of device_words holding Done b_asked (device_text described ++ 10 ∷ []) []) → ⊥
+    done_past_text only rests =
+        let told = rests.0 refl in
+        let gives = device_gives Done b_asked (device_text described ++ 10 ∷ []) [] told.0 told.1 (Ok told.2) told.3 in
+        let same : device_text described ++ 10 ∷ [] ≡ device_text described = told.4 ∙ gives.2 ∙ ap device_text (only gives.0 gives.1) in
+        let more : length (device_text described ++ 10 ∷ []) ≡ length (device_text described) + 1 = length-append (device_text described) (10 ∷ []) in
+        let count : length (device_text described ++ 10 ∷ []) ≡ length (device_text described) = ap length same in
+        absurd (omega (arith, more, count))
+
+  -- The text gives an outcome, also where memory ran out.
+  something_given : FindsOutcome (run_of device_words holding NoMemory [] [] []) → (outcome : Result Text Text) × Gives device (text ∷ []) outcome
+  something_given finds = finds.1 device (text ∷ []) (on_text NoMemory [] [] [])
 
 -- A file that is longer than it may be is refused, and by its line.
 module _ (text : Text) (over : 4194304 < length text) where
@@ -256,10 +393,11 @@ module _ (text : Text) (over : 4194304 < length text) where
   long_without_note : TellsLong (run_of device_words too_long Refused b_asked [] []) → ⊥
   long_without_note tells = none_noted device_words too_long Refused b_asked [] (long_line (codes "b") 4194304) refl ((tells device b_file (refl, refl) long_b).0 refl).1
 
-  long_done : TellsLong (run_of device_words too_long Done b_asked [] []) → ⊥
+  -- also where a read of the file failed
+  long_done : TellsLong (failing (codes "b") (run_of device_words too_long Done b_asked [] [])) → ⊥
   long_done tells = (tells device b_file (refl, refl) long_b).1 refl
 
-  long_unwritten : TellsLong (run_of device_words too_long WriteFault b_asked [] []) → ⊥
+  long_unwritten : TellsLong (failing (codes "b") (run_of device_words too_long WriteFault b_asked [] [])) → ⊥
   long_unwritten tells = (tells device b_file (refl, refl) long_b).2 refl
 
   long_as_usage : TellsLong (run_of device_words too_long Usage [] [] []) → ⊥
@@ -269,11 +407,6 @@ module _ (text : Text) (over : 4194304 < length text) where
   long_as_unread tells = neither ReadFault Refused NoMemory (λ e. cc) (λ e. cc) ((tells device b_file (refl, refl) long_b).3 (b_read device_words [] too_long ReadFault [] (read_line (codes "x"))))
 
 -- On a store that holds no file nothing rests on files, but what `make` gives.
-
-is_device : (run : Run) (command : Command) → Asks run device → Asks run command → command ≡ device
-is_device run command one other =
-    let same : ◌≡◌ {A = Option Command} (Some command) (Some device) = sym (command_is run command other) ∙ command_is run device one in
-    cc
 
 no_file_given : (run : Run) → run.old.held ≡ empty → (outcome : Result Text Text) → FilesGive run device outcome → ⊥
 no_file_given run none outcome (inl (texts, each, gives)) = by_texts texts (subst (λ (held : Held). HoldsEach held (files_of device) texts) none each)
@@ -305,45 +438,11 @@ refused_on_no_file rests =
     let told = rests.2 refl in
     rests_on_no_file (run_of device_words empty Refused b_asked [] []) refl (refl, refl) told.0 told.1 (Err told.2) told.3
 
-done_without_words : RestsOnFiles (run_of [] empty Done [] [] []) → ⊥
-done_without_words rests = let told = rests.0 refl in nothing_asked empty Done [] [] [] told.0 told.1
-
-unwritten_without_words : RestsOnFiles (run_of [] empty WriteFault [] [] []) → ⊥
-unwritten_without_words rests = let told = rests.1 refl in nothing_asked empty WriteFault [] [] [] told.0 told.1
-
-refused_without_words : RestsOnFiles (run_of [] empty Refused [] [] []) → ⊥
-refused_without_words rests = let told = rests.2 refl in nothing_asked empty Refused [] [] [] told.0 told.1
-
--- nothing was put, where files give no empty text, or noted, where they give no empty line
-done_without_text : ((command : Command) → FilesGive (run_of device_words empty Done b_asked [] []) command (Ok []) → ⊥) → RestsOnFiles (run_of device_words empty Done b_asked [] []) → ⊥
-done_without_text some rests =
-    let told = rests.0 refl in
-    some told.0 (subst (λ (text : Text). FilesGive (run_of device_words empty Done b_asked [] []) told.0 (Ok text)) (sym told.4) told.3)
-
--- more was put than any text that files give
-unwritten_past_text : ((command : Command) (text : Text) → FilesGive (run_of device_words empty WriteFault b_asked (1 ∷ []) []) command (Ok text) → text ≡ []) → RestsOnFiles (run_of device_words empty WriteFault b_asked (1 ∷ []) []) → ⊥
-unwritten_past_text only rests =
-    let told = rests.1 refl in
-    by_count told.4 (told.5 ∙ ap (take told.4) (only told.0 told.2 told.3))
-  where
-    by_count : (count : ℕ) → ◌≡◌ {A = Text} (1 ∷ []) (take count []) → ⊥
-    by_count zero is = let none : 1 ≡ 0 = ap length is in absurd (omega (arith, none))
-    by_count (suc count) is = let none : 1 ≡ 0 = ap length is in absurd (omega (arith, none))
-
-refused_without_line : ((command : Command) → FilesGive (run_of device_words empty Refused b_asked [] []) command (Err []) → ⊥) → RestsOnFiles (run_of device_words empty Refused b_asked [] []) → ⊥
-refused_without_line some rests =
-    let told = rests.2 refl in
-    by_note told.0 told.2 told.3 told.4
-  where
-    by_note : (command : Command) (line : Text) → FilesGive (run_of device_words empty Refused b_asked [] []) command (Err line) → Notes (run_of device_words empty Refused b_asked [] []) line → ⊥
-    by_note command line gives (inl is) = some command (subst (λ (l : Text). FilesGive (run_of device_words empty Refused b_asked [] []) command (Err l)) (sym is) gives)
-    by_note command line gives (inr (rose, cut)) = calm rose
-
 -- no read of its file failed, and yet no file is held
-nothing_found : FindsOutcome (run_of device_words empty Done b_asked [] []) → ⊥
-nothing_found finds =
-    let told = finds.0 device (refl, refl) (λ name among rose. calm rose) (λ e. cc) in
-    no_file_given (run_of device_words empty Done b_asked [] []) refl told.0 told.1
+nothing_found : (status : Status) → (status ≡ NoMemory → ⊥) → FindsOutcome (run_of device_words empty status b_asked [] []) → ⊥
+nothing_found status other finds =
+    let told = finds.0 device (refl, refl) (λ name among rose. calm rose) other in
+    no_file_given (run_of device_words empty status b_asked [] []) refl told.0 told.1
 
 nothing_found_otherwise : FindsOutcome (failing (codes "x") (run_of device_words empty ReadFault b_asked [] [])) → ⊥
 nothing_found_otherwise finds =
@@ -380,9 +479,16 @@ last_is : (first : Text) (before : List Text) (name : Text) → last_of first (b
 last_is first [] name = refl
 last_is first (other ∷ before) name = last_is other before name
 
+-- what was asked for last
+last_named : (first : Text) (others : List Text) (before : List Wanted) (file : Wanted) → first ∷ others ≡ map (λ f. f.name) before ++ file.name ∷ [] → file.name ≡ last_of first others
+last_named first others before file asked = sym (last_is first (map (λ f. f.name) before) file.name) ∙ sym (ap (last_of first) asked)
+
 -- the read of each name failed
+abbrev none_read : Held → List Text → List Text → Text → Text → Run
+none_read held words asked out notes = let run = run_of words held ReadFault asked out notes in record run { new = record run.new { unread = λ name. 1 } }
+
 abbrev unread : List Text → List Text → Text → Text → Run
-unread words asked out notes = let run = run_of words empty ReadFault asked out notes in record run { new = record run.new { unread = λ name. 1 } }
+unread words asked out notes = none_read empty words asked out notes
 
 unread_with_text : TellsUnread (unread device_words b_asked (1 ∷ []) (read_line (codes "b"))) → ⊥
 unread_with_text tells = let count : 1 ≡ 0 = ap length (tells refl).0 in absurd (omega (arith, count))
@@ -392,6 +498,13 @@ unread_without_words tells = let told = tells refl in none_asked (unread [] b_as
 
 unread_without_fault : TellsUnread (run_of device_words empty ReadFault b_asked [] (read_line (codes "b"))) → ⊥
 unread_without_fault tells = calm (tells refl).7
+
+-- only the read of another name failed, or of another file of the command
+unread_otherwise : TellsUnread (failing (codes "x") (run_of device_words empty ReadFault b_asked [] (read_line (codes "b")))) → ⊥
+unread_otherwise tells = let told = tells refl in was_read (codes "x") (codes "b") refl told.5.name (last_named (codes "b") [] told.3 told.5 told.8) told.7
+
+unread_behind : TellsUnread (failing (codes "n") (run_of svf_words empty ReadFault (codes "c" ∷ []) [] (read_line (codes "c")))) → ⊥
+unread_behind tells = let told = tells refl in was_read (codes "n") (codes "c") refl told.5.name (last_named (codes "c") [] told.3 told.5 told.8) told.7
 
 unread_unasked : TellsUnread (unread device_words [] [] (read_line (codes "b"))) → ⊥
 unread_unasked tells = let told = tells refl in by_before told.3 told.5 told.8
@@ -407,14 +520,14 @@ unread_without_note tells = let told = tells refl in by_note (read_line told.5.n
     by_note line some (inl is) = apart [] line refl some is
     by_note line some (inr (rose, cut)) = calm rose
 
--- the second file was asked for, and the first is named
-first_named : TellsUnread (unread svf_words (codes "c" ∷ codes "n" ∷ []) [] (read_line (codes "c"))) → ⊥
-first_named tells = let told = tells refl in by_note told.5.name (named told.3 told.5 told.8) told.9
-  where
-    named : (before : List Wanted) (file : Wanted) → codes "c" ∷ codes "n" ∷ [] ≡ map (λ f. f.name) before ++ file.name ∷ [] → file.name ≡ codes "n"
-    named before file is = sym (last_is (codes "x") (map (λ f. f.name) before) file.name) ∙ sym (ap (last_of (codes "x")) is)
+-- the second file was asked for, and the first, which is held, is named
+abbrev first_for_second : Run
+first_for_second = none_read (Some (λ name. Some [])) svf_words (codes "c" ∷ codes "n" ∷ []) [] (read_line (codes "c"))
 
-    by_note : (name : Text) → name ≡ codes "n" → Notes (unread svf_words (codes "c" ∷ codes "n" ∷ []) [] (read_line (codes "c"))) (read_line name) → ⊥
+first_named : TellsUnread first_for_second → ⊥
+first_named tells = let told = tells refl in by_note told.5.name (last_named (codes "c") (codes "n" ∷ []) told.3 told.5 told.8) told.9
+  where
+    by_note : (name : Text) → name ≡ codes "n" → Notes first_for_second (read_line name) → ⊥
     by_note name same (inl is) = apart (read_line (codes "c")) (read_line (codes "n")) refl refl (is ∙ ap read_line same)
     by_note name same (inr (rose, cut)) = calm rose
 
