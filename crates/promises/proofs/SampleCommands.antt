@@ -1,6 +1,6 @@
--- What each command promises, seen from the text that a run put: a text that is another one, or worth less, is refused. The files hold any
--- texts of which what is said here holds.
-use Rattle.std.proofs.Common.{◌≡◌, ◌≢◌, ◌↔◌, ◌∙◌, ℕ, ◌+◌, ◌≤◌, Bool, true, false, List, [], ◌∷◌, ◌++◌, length, sum, Option, Some, None, Ok, refl, sym, ap, subst, inl, length-append, arith}
+-- What each command promises, seen from the text that a run put: a text that is another one, or worth less, is refused, and so is one that
+-- was put, or begun, for files that denote no board or hold no log of it. The files hold any texts of which what is said here holds.
+use Rattle.std.proofs.Common.{◌≡◌, ◌≢◌, ◌↔◌, ◌⊎◌, ◌∙◌, ℕ, ◌+◌, ◌≤◌, Bool, true, false, List, [], ◌∷◌, ◌++◌, length, sum, Option, Some, None, Ok, refl, sym, ap, subst, length-append, arith}
 use Rattle.std.specs.Prelude.{codes}
 use Rattle.board_defs.specs.declared.board.RawBoard.{RawBoard}
 use Rattle.board_defs.specs.declared.device.RawDevice.{RawDevice}
@@ -41,7 +41,8 @@ use Rattle.btest_core.specs.BoardRead.{AreChainLengths, AreLengths, Denotes}
 use Rattle.btest_core.specs.IdentsRead.{AreIdents}
 use Rattle.command_line.specs.Words.{Text, ChainNames, BoardNames, Command, Ident, Cover, Walk, Diagnose, Groups, Batch}
 use Rattle.btest_cli.specs.Texts.{Held}
-use Rattle.btest_cli.specs.declared.status.Status.TheVariants.{Done}
+use Rattle.btest_cli.specs.declared.status.Status.{Status}
+use Rattle.btest_cli.specs.declared.status.Status.TheVariants.{Done, WriteFault}
 use Rattle.promises.specs.Runs.{HoldsEach, Run, files_of}
 use Rattle.promises.specs.Gives.{summary}
 use Rattle.promises.specs.Logs.{HoldsBlocks, HoldsLog}
@@ -64,11 +65,31 @@ board_files = codes "c" ∷ codes "n" ∷ codes "b" ∷ []
 abbrev log_files : List Text
 log_files = codes "g" ∷ board_files
 
--- the text and one byte more
-past : (text : Text) → text ++ 1 ∷ [] ≡ text → ⊥
+-- the commands on a log; one worker
+abbrev diagnose : Command
+diagnose = Diagnose 1 (codes "g") board_names
+
+abbrev batch : Command
+batch = Batch 1 (codes "g") board_names
+
+abbrev groups : Command
+groups = Groups (codes "g") board_names
+
+-- the words of these
+abbrev diagnose_words : List Text
+diagnose_words = codes "diagnose" ∷ codes "1" ∷ log_files
+
+abbrev batch_words : List Text
+batch_words = codes "batch" ∷ codes "1" ∷ log_files
+
+abbrev groups_words : List Text
+groups_words = codes "groups" ∷ log_files
+
+-- the text and one more end of a line, which the meaning of a test does not speak of
+past : (text : Text) → text ++ 10 ∷ [] ≡ text → ⊥
 past text same =
-    let more : length (text ++ 1 ∷ []) ≡ length text + 1 = length-append text (1 ∷ []) in
-    let count : length (text ++ 1 ∷ []) ≡ length text = ap length same in
+    let more : length (text ++ 10 ∷ []) ≡ length text + 1 = length-append text (10 ∷ []) in
+    let count : length (text ++ 10 ∷ []) ≡ length text = ap length same in
     omega (arith, more, count)
 
 module _ (held : Held) where
@@ -77,7 +98,7 @@ module _ (held : Held) where
   chain_run text = run_of chain_words held Done chain_files text []
 
   module _ (lines : Text) (bsdl : List Text) (lengths : List ℕ) (each : HoldsEach held (files_of chain) (lines ∷ bsdl)) (are : AreChainLengths lines bsdl (Ok lengths)) where
-    other_chain_test : TestsChain (chain_run (chain_text lengths ++ 1 ∷ [])) → ⊥
+    other_chain_test : TestsChain (chain_run (chain_text lengths ++ 10 ∷ [])) → ⊥
     other_chain_test tests = let told = (tests chain_names lines bsdl lengths (((refl, omega arith), refl), each) are).puts refl in past (chain_text lengths) (told.1 ∙ told.2.0)
 
     chain_lengths : (text : Text) → TestsChain (chain_run text) → AreLengths lengths
@@ -99,7 +120,7 @@ module _ (held : Held) where
   ident_run text = run_of (codes "ident" ∷ chain_files) held Done chain_files text []
 
   module _ (lines : Text) (bsdl : List Text) (patterns : List (Option (List Symbol))) (each : HoldsEach held (files_of (Ident chain_names)) (lines ∷ bsdl)) (are : AreIdents lines bsdl (Ok patterns)) where
-    other_ident_test : TestsIdents (ident_run (ident_text patterns ++ 1 ∷ [])) → ⊥
+    other_ident_test : TestsIdents (ident_run (ident_text patterns ++ 10 ∷ [])) → ⊥
     other_ident_test tests = let told = (tests chain_names lines bsdl patterns (((refl, omega arith), refl), each) are).puts refl in past (ident_text patterns) (told.1 ∙ told.2.0)
 
     ident_patterns : (text : Text) → TestsIdents (ident_run text) → ArePatterns patterns
@@ -116,7 +137,7 @@ module _ (held : Held) where
         (told.2.2, ap meaning told.1 ∙ told.2.3, told.2.5 wiring parts coded unfit)
 
   module _ (file : Text) (described : RawDevice) (each : HoldsEach held (files_of device) (file ∷ [])) (is : IsDeviceText file (Ok described)) where
-    other_listing : ListsDevice (run_of device_words held Done (codes "b" ∷ []) (device_text described ++ 1 ∷ []) []) → ⊥
+    other_listing : ListsDevice (run_of device_words held Done (codes "b" ∷ []) (device_text described ++ 10 ∷ []) []) → ⊥
     other_listing lists = let told = (lists (codes "b") file described ((refl, refl), each) is).puts refl in past (device_text described) (told.1 ∙ told.2.0)
 
     listed_rules : (text : Text) → ListsDevice (run_of device_words held Done (codes "b" ∷ []) text []) → IsDevice described
@@ -127,7 +148,7 @@ module _ (held : Held) where
       abbrev cover_run : Text → Run
       cover_run text = run_of (codes "cover" ∷ board_files) held Done board_files text []
 
-      other_cover_list : ListsCover (cover_run (cover_text board ++ 1 ∷ [])) → ⊥
+      other_cover_list : ListsCover (cover_run (cover_text board ++ 10 ∷ [])) → ⊥
       other_cover_list lists = let told = (lists board_names lines nets bsdl board (((refl, omega arith), refl), each) denotes).puts refl in past (cover_text board) (told.1 ∙ told.2.0)
 
       cover_is_true : (text : Text) → ListsCover (cover_run text) → IsBoard board × IsCoverList board text
@@ -139,7 +160,7 @@ module _ (held : Held) where
       abbrev svf_run : Text → Run
       svf_run text = run_of svf_words held Done board_files text []
 
-      other_test : TestsBoard (svf_run (board_text board ++ 1 ∷ [])) → ⊥
+      other_test : TestsBoard (svf_run (board_text board ++ 10 ∷ [])) → ⊥
       other_test tests = let told = (tests board_names lines nets bsdl board (((refl, omega arith), refl), each) denotes).puts refl in past (board_text board) (told.1 ∙ told.2.0)
 
       test_is_quiet : (text : Text) → TestsBoard (svf_run text) → (clocks : List Clock) × (meaning text ≡ Some clocks) × IsQuiet board clocks × PassOnBoard board no_faults clocks
@@ -156,7 +177,7 @@ module _ (held : Held) where
       abbrev walk_run : Text → Run
       walk_run text = run_of (codes "walk" ∷ board_files) held Done board_files text []
 
-      other_walk : WalksBoard (walk_run (board_walk_text board ++ 1 ∷ [])) → ⊥
+      other_walk : WalksBoard (walk_run (board_walk_text board ++ 10 ∷ [])) → ⊥
       other_walk walks = let told = (walks board_names lines nets bsdl board (((refl, omega arith), refl), each) denotes).puts refl in past (board_walk_text board) (told.1 ∙ told.2.0)
 
       walk_is_quiet : (text : Text) → WalksBoard (walk_run text) → (clocks : List Clock) × (meaning text ≡ Some clocks) × IsQuiet board clocks × PassOnBoard board no_faults clocks
@@ -164,12 +185,8 @@ module _ (held : Held) where
           let told = (walks board_names lines nets bsdl board (((refl, omega arith), refl), each) denotes).puts refl in
           (told.2.1, ap meaning told.1 ∙ told.2.2, told.2.3, told.2.4)
 
-    -- one worker
-    abbrev diagnose : Command
-    diagnose = Diagnose 1 (codes "g") board_names
-
     abbrev diagnose_run : Text → Run
-    diagnose_run text = run_of (codes "diagnose" ∷ codes "1" ∷ log_files) held Done log_files text []
+    diagnose_run text = run_of diagnose_words held Done log_files text []
 
     module _ (log : Text) (each : HoldsEach held (files_of diagnose) (log ∷ lines ∷ nets ∷ bsdl)) where
       diagnosed : (text : Text) (rows : List (List Bool)) → HoldsLog board (svf_row_scans board) log rows → DiagnosesLog (diagnose_run text)
@@ -178,17 +195,8 @@ module _ (held : Held) where
           let told = (diagnoses 1 (codes "g") board_names log lines nets bsdl board rows (((codes "1", refl, (refl, omega arith)), refl), each) denotes holds).puts refl in
           (told.2.0, told.2.1, told.2.2, told.2.3, told.1 ∙ told.2.4)
 
-      -- there is no log on a board that the files denote
-      diagnosed_without_log : (text : Text) → ((other : RawBoard) (rows : List (List Bool)) → Denotes lines nets bsdl other → HoldsLog other (svf_row_scans other) log rows → ⊥) → RestsOnLog (diagnose_run text) → ⊥
-      diagnosed_without_log text none rests =
-          let told = rests 1 (codes "g") board_names log lines nets bsdl (((codes "1", refl, (refl, omega arith)), refl), each) (inl refl) in
-          none told.0 told.2 told.1 told.3
-
-    abbrev batch : Command
-    batch = Batch 1 (codes "g") board_names
-
     abbrev batch_run : Text → Run
-    batch_run text = run_of (codes "batch" ∷ codes "1" ∷ log_files) held Done log_files text []
+    batch_run text = run_of batch_words held Done log_files text []
 
     module _ (logs : Text) (each : HoldsEach held (files_of batch) (logs ∷ lines ∷ nets ∷ bsdl)) where
       blocks_diagnosed : (text : Text) (blocks : List Block) → HoldsBlocks board logs blocks → DiagnosesBlocks (batch_run text)
@@ -197,18 +205,10 @@ module _ (held : Held) where
           let told = (diagnoses 1 (codes "g") board_names logs lines nets bsdl board blocks (((codes "1", refl, (refl, omega arith)), refl), each) denotes holds).puts refl in
           (told.2.0, told.2.1, told.2.2, told.1 ∙ told.2.3)
 
-      diagnosed_without_blocks : (text : Text) → ((other : RawBoard) (blocks : List Block) → Denotes lines nets bsdl other → HoldsBlocks other logs blocks → ⊥) → RestsOnBlocks (batch_run text) → ⊥
-      diagnosed_without_blocks text none rests =
-          let told = rests 1 (codes "g") board_names logs lines nets bsdl (((codes "1", refl, (refl, omega arith)), refl), each) (inl refl) in
-          none told.0 told.2 told.1 told.3
-
-    abbrev groups_command : Command
-    groups_command = Groups (codes "g") board_names
-
     abbrev groups_run : Text → Run
-    groups_run text = run_of (codes "groups" ∷ log_files) held Done log_files text []
+    groups_run text = run_of groups_words held Done log_files text []
 
-    module _ (log : Text) (each : HoldsEach held (files_of groups_command) (log ∷ lines ∷ nets ∷ bsdl)) where
+    module _ (log : Text) (each : HoldsEach held (files_of groups) (log ∷ lines ∷ nets ∷ bsdl)) where
       groups_found : (text : Text) (rows : List (List Bool)) → HoldsLog board (walk_row_list board) log rows → FindsGroups (groups_run text)
           → (meaning (board_walk_text board) ≡ Some (test_clocks (walk_scans board))) × (found : Option (List (List ℕ))) × (text ≡ groups_text board found) × ((groups : List (List ℕ)) → (found ≡ Some groups) ↔ Explain board rows groups)
       groups_found text rows holds finds =
@@ -222,13 +222,44 @@ module _ (held : Held) where
           let one = told.2.4 groups are in
           (one.0, one.1, λ other explains. told.2.5 groups one.0 other one.1 explains)
 
-      grouped_without_log : (text : Text) → ((other : RawBoard) (rows : List (List Bool)) → Denotes lines nets bsdl other → HoldsLog other (walk_row_list other) log rows → ⊥) → RestsOnWalkLog (groups_run text) → ⊥
-      grouped_without_log text none rests =
-          let told = rests (codes "g") board_names log lines nets bsdl (((refl, omega arith), refl), each) (inl refl) in
-          none told.0 told.2 told.1 told.3
-
-  other_summary : (board : RawBoard) → Denotes (made.chain_text 2) (made.net_text 2) (bsdl_text ∷ []) board → SumsUp (run_of (codes "make" ∷ codes "2" ∷ []) None Done [] (summary board ++ 1 ∷ []) []) → ⊥
+  other_summary : (board : RawBoard) → Denotes (made.chain_text 2) (made.net_text 2) (bsdl_text ∷ []) board → SumsUp (run_of (codes "make" ∷ codes "2" ∷ []) None Done [] (summary board ++ 10 ∷ []) []) → ⊥
   other_summary board denotes sums = let told = (sums 2 board (((codes "2", refl, refl), refl), tt) denotes).puts refl in past (summary board) (told.1 ∙ told.2)
+
+-- Runs that put a text, or began one, though the files denote no board, or a board of which this is no log.
+module _ (held : Held) (lines nets : Text) (bsdl : List Text) (status : Status) (ended : (status ≡ Done) ⊎ (status ≡ WriteFault)) (text : Text) where
+  module _ (log : Text) (each : HoldsEach held (files_of diagnose) (log ∷ lines ∷ nets ∷ bsdl)) where
+    -- it may be one of another board
+    diagnosed_without_board : (other : RawBoard) (rows : List (List Bool)) → HoldsLog other (svf_row_scans other) log rows → ((board : RawBoard) → Denotes lines nets bsdl board → ⊥) → RestsOnLog (run_of diagnose_words held status log_files text []) → ⊥
+    diagnosed_without_board other rows holds none rests =
+        let told = rests 1 (codes "g") board_names log lines nets bsdl (((codes "1", refl, (refl, omega arith)), refl), each) ended in
+        none told.0 told.1
+
+    diagnosed_without_log : (board : RawBoard) → Denotes lines nets bsdl board → ((other : RawBoard) (rows : List (List Bool)) → Denotes lines nets bsdl other → HoldsLog other (svf_row_scans other) log rows → ⊥) → RestsOnLog (run_of diagnose_words held status log_files text []) → ⊥
+    diagnosed_without_log board denotes none rests =
+        let told = rests 1 (codes "g") board_names log lines nets bsdl (((codes "1", refl, (refl, omega arith)), refl), each) ended in
+        none told.0 told.2 told.1 told.3
+
+  module _ (logs : Text) (each : HoldsEach held (files_of batch) (logs ∷ lines ∷ nets ∷ bsdl)) where
+    judged_without_board : (other : RawBoard) (blocks : List Block) → HoldsBlocks other logs blocks → ((board : RawBoard) → Denotes lines nets bsdl board → ⊥) → RestsOnBlocks (run_of batch_words held status log_files text []) → ⊥
+    judged_without_board other blocks holds none rests =
+        let told = rests 1 (codes "g") board_names logs lines nets bsdl (((codes "1", refl, (refl, omega arith)), refl), each) ended in
+        none told.0 told.1
+
+    judged_without_blocks : (board : RawBoard) → Denotes lines nets bsdl board → ((other : RawBoard) (blocks : List Block) → Denotes lines nets bsdl other → HoldsBlocks other logs blocks → ⊥) → RestsOnBlocks (run_of batch_words held status log_files text []) → ⊥
+    judged_without_blocks board denotes none rests =
+        let told = rests 1 (codes "g") board_names logs lines nets bsdl (((codes "1", refl, (refl, omega arith)), refl), each) ended in
+        none told.0 told.2 told.1 told.3
+
+  module _ (log : Text) (each : HoldsEach held (files_of groups) (log ∷ lines ∷ nets ∷ bsdl)) where
+    grouped_without_board : (other : RawBoard) (rows : List (List Bool)) → HoldsLog other (walk_row_list other) log rows → ((board : RawBoard) → Denotes lines nets bsdl board → ⊥) → RestsOnWalkLog (run_of groups_words held status log_files text []) → ⊥
+    grouped_without_board other rows holds none rests =
+        let told = rests (codes "g") board_names log lines nets bsdl (((refl, omega arith), refl), each) ended in
+        none told.0 told.1
+
+    grouped_without_log : (board : RawBoard) → Denotes lines nets bsdl board → ((other : RawBoard) (rows : List (List Bool)) → Denotes lines nets bsdl other → HoldsLog other (walk_row_list other) log rows → ⊥) → RestsOnWalkLog (run_of groups_words held status log_files text []) → ⊥
+    grouped_without_log board denotes none rests =
+        let told = rests (codes "g") board_names log lines nets bsdl (((refl, omega arith), refl), each) ended in
+        none told.0 told.2 told.1 told.3
 
 -- Diagnoses that are wrong.
 module _ (board : RawBoard) (log : List (List Bool)) where
