@@ -1,6 +1,6 @@
 -- Runs that break what is promised, one for each thing that a promise says, worked by hand: each breaks that thing alone. And runs of which
--- a promise must speak, since only the read of another name failed, or only a write of the notes. The texts of files are any texts of which
--- what is said here holds.
+-- a promise must speak, since only the read of another name failed, or only a write of the notes; and some that break nothing. The texts of
+-- files are any texts of which what is said here holds.
 use Rattle.std.proofs.Common.{◌≡◌, ◌⊎◌, ◌∙◌, ℕ, zero, suc, ◌+◌, ◌<◌, ◌≤◌, Bool, true, false, List, [], ◌∷◌, ◌++◌, length, map, cond, Option, Some, None, Result, Ok, Err, refl, sym, ap, subst, inl, inr, length-append, arith}
 use Rattle.std.specs.Prelude.{Contains, codes, take}
 use Rattle.std.specs.Str.{bytes_eq}
@@ -299,6 +299,9 @@ module _ (text : Text) (short : length text ≤ 4194304) where
     fault_as_unread tells =
         neither ReadFault Refused NoMemory (λ e. cc) (λ e. cc) (((tells.1 device (text ∷ []) ((refl, refl), (refl, short, tt))).1 line gives).2 (b_read device_words [] holding ReadFault [] (read_line (codes "x"))))
 
+    refused_as_told : RestsOnFiles (run_of device_words holding Refused b_asked [] line)
+    refused_as_told = (λ e. absurd cc, λ e. absurd cc, λ e. (device, (refl, refl), line, inl (text ∷ [], (refl, short, tt), gives), inl refl))
+
     -- the words ask for nothing
     refused_without_words : RestsOnFiles (run_of [] holding Refused b_asked [] line) → ⊥
     refused_without_words rests = let told = rests.2 refl in nothing_asked holding Refused b_asked [] line told.0 told.1
@@ -351,6 +354,12 @@ module _ (text : Text) (short : length text ≤ 4194304) where
       no_listing gives.0 told.4 (told.5 ∙ ap (take told.4) gives.2)
 
   module _ (described : RawDevice) (is : IsDeviceText text (Ok described)) where
+    done_as_told : RestsOnFiles (run_of device_words holding Done b_asked (device_text described) [])
+    done_as_told = (λ e. (device, (refl, refl), device_text described, inl (text ∷ [], (refl, short, tt), (described, is, refl)), refl), λ e. absurd cc, λ e. absurd cc)
+
+    unwritten_as_told : RestsOnFiles (run_of device_words holding WriteFault b_asked (take 3 (device_text described)) [])
+    unwritten_as_told = (λ e. absurd cc, λ e. (device, (refl, refl), device_text described, inl (text ∷ [], (refl, short, tt), (described, is, refl)), 3, refl), λ e. absurd cc)
+
     -- the words ask for nothing
     done_without_words : RestsOnFiles (run_of [] holding Done b_asked (device_text described) []) → ⊥
     done_without_words rests = let told = rests.0 refl in nothing_asked holding Done b_asked (device_text described) [] told.0 told.1

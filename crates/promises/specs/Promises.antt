@@ -174,7 +174,8 @@ TellsFault run =
     (run.status ≡ Refused → AsksFor run (names_of command) × ((line : Text) × Gives command texts (Err line) × Notes run line))
     × ((line : Text) → Gives command texts (Err line) → (run.status ≢ Done) × (run.status ≢ WriteFault) × EndsWith run command Refused))
 
--- so it does where a file is longer than it may be. Where it is refused, no file behind it was asked for
+-- so it does where a file is longer than it may be. Where it is refused, no file behind it was asked for; where memory ran out, some
+-- may have been (`TellsMemory`)
 abbrev pub TellsLong : Run → Type 0
 TellsLong run =
     (command : Command) (file : Wanted) → Asks run command → (long : IsTooLong run.old.held (files_of command) file) →
@@ -216,7 +217,8 @@ TellsUnwritten run =
     run.status ≡ WriteFault → Rose run.old.unwritten run.new.unwritten × Notes run write_line
     × ((command : Command) (texts : List Text) → RunsOn run command texts → AsksFor run (names_of command) × ((text : Text) × Gives command texts (Ok text) × (count : ℕ) × Puts run (take count text)))
 
--- where memory ran out, nothing was put, and some first files were asked for, each once and in order
+-- where memory ran out, nothing was put, and some first files were asked for, each once and in order. Files behind one that is too long
+-- may be among them
 abbrev pub TellsMemory : Run → Type 0
 TellsMemory run =
     run.status ≡ NoMemory → PutsNothing run × Notes run memory_line × ((command : Command) → Asks run command → (count : ℕ) × AsksFor run (take count (names_of command)))

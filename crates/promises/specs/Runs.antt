@@ -6,6 +6,7 @@ use Rattle.bt_base.specs.declared.memory.MemSink.{MemSink}
 use Rattle.bt_base.specs.Counts.{Rose}
 use Rattle.bt_base.specs.Memory.{asked_of, text_of, faults_of as read_faults}
 use Rattle.bt_base.specs.MemSink.{faults_of, taken_of}
+use Rattle.board_defs.specs.Limits.{most_parts}
 use Rattle.command_line.specs.Words.{Text, ChainNames, BoardNames, Command, Chain, Ident, Device, Cover, Svf, Walk, Make, Diagnose, Groups, Batch, is_plain, number_of, names_of, board_names}
 use Rattle.btest_cli.specs.Texts.{Held, Wanted}
 use Rattle.btest_cli.specs.declared.status.Status.{Status}
@@ -59,7 +60,7 @@ AreWords (Device name) words = words ≡ codes "device" ∷ name ∷ []
 AreWords (Cover names) words = ThenBoard (codes "cover" ∷ []) names words
 AreWords (Svf names) words = ThenBoard (codes "svf" ∷ []) names words
 AreWords (Walk names) words = ThenBoard (codes "walk" ∷ []) names words
-AreWords (Make parts) words = (number : Text) × (number_of 255 number ≡ Some parts) × (words ≡ codes "make" ∷ number ∷ [])
+AreWords (Make parts) words = (number : Text) × (number_of most_parts number ≡ Some parts) × (words ≡ codes "make" ∷ number ∷ [])
 AreWords (Diagnose workers log names) words = (number : Text) × (number_of 64 number ≡ Some workers) × ThenBoard (codes "diagnose" ∷ number ∷ log ∷ []) names words
 AreWords (Groups log names) words = ThenBoard (codes "groups" ∷ log ∷ []) names words
 AreWords (Batch workers log names) words = (number : Text) × (number_of 64 number ≡ Some workers) × ThenBoard (codes "batch" ∷ number ∷ log ∷ []) names words
