@@ -1,13 +1,11 @@
 // The board that a chain file, a net file and devices denote.
 ghost use Rattle.std.specs.Prelude.{◌≡◌, ◌<◌, ◌≤◌, ◌^◌, All, IfOk, length, map, true, None, vec_len};
-ghost use Rattle.std.specs.List.{AllByRecursion};
-ghost use Rattle.board_files.specs.ChainLines.{HasLength};
+ghost use Rattle.board_files.specs.Files.{IsNetFile};
 ghost use Rattle.board_defs.specs.BoardRules.{IsBoard, IsPart};
 ghost use Rattle.answers.specs.Gives.{Gives};
 ghost use Rattle.board_lines.specs.Faults.{board_told};
 ghost use Rattle.board_lines.specs.Names.{named, names_of};
 ghost use Rattle.board_lines.specs.declared.names.Naming.TheVariants.{Entity, Part as PartName};
-ghost use Rattle.board_lines.specs.NetWords.{HasFewPins};
 ghost use Rattle.board_lines.specs.ChainParts.{IsChain, chain_parts};
 ghost use Rattle.board_build.specs.BoardRules.{board_answer, board_of};
 ghost use Rattle.board_build.specs.inner.Marked.{board_by, marked_answer, marked_fault};
@@ -25,7 +23,7 @@ use std::alloc::{AllocError, Global};
 /// Otherwise the first rule that fails, of these in their order: Limit 2 to 4, NoPin, PinTwice,
 /// InertInChain, NoSupplyNet, NoPullNet, PullTwice, GuardedDriver and TwoAlwaysOn.
 ///
-/// The chain was selected, and its BYPASS lengths are from 2 to 255. LINK lines are not looked at:
+/// The chain was selected. LINK lines are not looked at:
 /// a board with series parts is built from its joined files.
 pub fn board(
     alloc: Global,
@@ -34,11 +32,7 @@ pub fn board(
     devices: Vec<Device>,
 ) -> Result<Board, BoardFault>
     requires selected { IsChain chain.now }
-    requires lengths { AllByRecursion (λ line. HasLength line.statement) chain.now }
     requires devices { vec_len devices ≡ length (named Entity chain.now) }
-    requires chain_lines { length chain.now < 2 ^ 32 }
-    requires net_lines { length nets.now < 2 ^ 32 }
-    requires net_words { AllByRecursion HasFewPins nets.now }
     ensures { Gives board_told (λ board. board) (λ said. board_of chain.now nets.now devices.items ≡ said) result }
 {
     let lines = chain.lines();
@@ -52,8 +46,7 @@ pub fn parts_of_chain(
     chain: &ChainFile,
     devices: Vec<Device>,
 ) -> Result<Vec<Part>, AllocError>
-    requires lengths { AllByRecursion (λ line. HasLength line.statement) chain.now }
-    requires devices { vec_len devices ≡ length (named Entity chain.now) }
+    requires { vec_len devices ≡ length (named Entity chain.now) }
     ensures parts { IfOk result (λ parts. parts.items ≡ chain_parts chain.now devices.items) }
     ensures names { IfOk result (λ parts. map (λ part. part.name) parts.items ≡ names_of (named PartName chain.now)) }
     ensures kinds { IfOk result (λ parts. All (λ part. IsPart part.kind) parts.items) }
@@ -65,8 +58,7 @@ pub fn parts_of_chain(
 
 /// The board of the chain and these lines, or the first rule that fails.
 fn board_of(alloc: Global, chain: SelectedChain<'_>, nets: &[NetLine]) -> Result<Board, BoardFault>
-    requires lines { length nets.now < 2 ^ 32 }
-    requires words { All HasFewPins nets.now }
+    requires { IsNetFile nets.now }
     ensures { Gives board_told (λ board. board) (λ said. board_answer chain.entry.lines nets.now chain.entry.parts ≡ said) result }
 {
     let _rules = chain.parts();

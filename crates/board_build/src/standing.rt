@@ -2,7 +2,8 @@
 ghost use Rattle.std.specs.Prelude.{◌≡◌, All, map, true, None, IfOk};
 ghost use Rattle.board_lines.specs.Names.{named, names_of};
 ghost use Rattle.board_lines.specs.declared.names.Naming.TheVariants.{Inert};
-ghost use Rattle.board_lines.specs.NetWords.{net_names, net_number, standing_words, HasFewPins};
+ghost use Rattle.board_files.specs.Files.{HasFewPins};
+ghost use Rattle.board_lines.specs.NetWords.{net_names, net_number, standing_words};
 ghost use Rattle.board_lines.specs.ChainParts.{pin_places};
 ghost use Rattle.board_build.specs.inner.Marked.{mark, marked_twice, seen};
 

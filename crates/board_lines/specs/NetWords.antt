@@ -49,10 +49,6 @@ net_names lines = once same_word (line_names lines)
 abbrev pub net_number : List (List ℕ) → List ℕ → ℕ
 net_number names name = unwrap_or (first_place same_word names name) 0
 
--- the words of a line are numbered below 2^32
-abbrev pub HasFewPins : NetLine → Type 0
-HasFewPins line = length line.pins ≤ 2 ^ 32 - 3
-
 -- the pins of a line, from word n on
 abbrev pub line_words : ℕ → ℕ → ℕ → List PinWord → List NetWord
 line_words net line n [] = []

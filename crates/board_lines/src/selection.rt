@@ -16,8 +16,7 @@ use std::alloc::{AllocError, Global};
 
 /// The number of each DEVICE line's entity, or the first fault of the chain.
 pub fn select(alloc: Global, chain: &ChainFile, entities: &[Entity]) -> Result<Vec<u32>, BoardFault>
-    requires chain { length chain.now < 2 ^ 32 }
-    requires entities { length entities.now < 2 ^ 32 }
+    requires { length entities.now < 2 ^ 32 }
     ensures numbers { Gives board_told (λ numbers. numbers.items) (λ said. selection chain.now entities.now ≡ said) result }
     ensures chain { IfOk result (λ numbers. IsChain chain.now) }
     ensures count { IfOk result (λ numbers. vec_len numbers ≡ length (named EntityName chain.now)) }
@@ -31,8 +30,7 @@ fn entity_numbers(
     chain: &ChainFile,
     entities: &[Entity],
 ) -> Result<Vec<u32>, BoardFault>
-    requires chain { length chain.now < 2 ^ 32 }
-    requires entities { length entities.now < 2 ^ 32 }
+    requires { length entities.now < 2 ^ 32 }
     ensures { Gives board_told (λ numbers. numbers.items) (λ said. selection chain.now entities.now ≡ said) result }
 {
     let parts = named(alloc, chain.lines(), Naming::Part)?;

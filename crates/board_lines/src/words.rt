@@ -1,7 +1,8 @@
 // The words of a net file that name pins.
 ghost use Rattle.std.specs.Prelude.{◌≡◌, ◌<◌, ◌≤◌, ◌-◌, ◌^◌, ◌++◌, All, vec_len, length, map, IfOk, OnOk, slice_get, unwrap_or};
 ghost use Rattle.first_places.specs.Places.{once};
-ghost use Rattle.board_lines.specs.NetWords.{lent_word, same_place, net_names, net_number, net_words, line_words, HasFewPins};
+ghost use Rattle.board_files.specs.Files.{HasFewPins};
+ghost use Rattle.board_lines.specs.NetWords.{lent_word, same_place, net_names, net_number, net_words, line_words};
 
 use crate::names::numbered_names;
 use board_defs::Spot;

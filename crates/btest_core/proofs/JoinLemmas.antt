@@ -1,21 +1,18 @@
 -- What joined files keep of the files.
 use Rattle.std.proofs.Common.{◌≡◌, ℕ, List, [], ◌∷◌, map, Option, Some, None, Ok, refl, ap, subst}
-use Rattle.std.specs.List.{AllByRecursion}
-use Rattle.std.proofs.lemmas.List.{length-map}
 use Rattle.board_defs.specs.declared.spot.Spot.{Spot}
 use Rattle.board_files.specs.declared.chain_file.ChainLine.{ChainLine}
 use Rattle.board_files.specs.declared.chain_file.ChainStatement.{ChainStatement}
 use Rattle.board_files.specs.declared.chain_file.ChainStatement.TheVariants.{Device, Bypass, Inert, Supply, Pull, Link}
 use Rattle.board_files.specs.declared.net_file.NetLine.{NetLine}
-use Rattle.board_files.specs.ChainLines.{HasLength}
 use Rattle.board_lines.specs.ChainParts.{IsChain}
 use Rattle.board_lines.specs.Names.{named}
-use Rattle.board_lines.specs.NetWords.{HasFewPins}
 use Rattle.board_lines.specs.declared.names.Naming.TheVariants.{Part as PartName, Entity as EntityName}
 use Rattle.series_parts.specs.declared.joining.Joined.{Joined}
 use Rattle.btest_core.specs.inner.Kept.{Kept}
 use Rattle.series_parts.specs.Nets.{Word}
-use Rattle.series_parts.specs.Joining.{joined_statement, joined_line, joined_net, renaming, joined_chain, joined_nets, joined_files, unless}
+use Rattle.series_parts.proofs.FileLemmas.{same_lengths}
+use Rattle.series_parts.specs.Joining.{joined_line, joined_net, renaming, joined_chain, joined_nets, joined_files, unless}
 
 -- a line keeps its part, its entity and its length
 abbrev renamed : (Word → Word) → List ChainLine → List ChainLine
@@ -48,22 +45,6 @@ same_entities : (rename : Word → Word) (lines : List ChainLine) → named Enti
 same_entities rename [] = refl
 same_entities rename (line ∷ lines) = entities_more rename line.line line.statement lines (same_entities rename lines)
 
-same_length : (rename : Word → Word) (statement : ChainStatement) → HasLength statement → HasLength (joined_statement rename statement)
-same_length rename (Device part entity pack) has = has
-same_length rename (Bypass part bits) has = has
-same_length rename (Inert part) has = has
-same_length rename (Supply net) has = has
-same_length rename (Pull net value) has = has
-same_length rename (Link part first second) has = tt
-
-same_lengths : (rename : Word → Word) (lines : List ChainLine) → AllByRecursion (λ line. HasLength line.statement) lines → AllByRecursion (λ line. HasLength line.statement) (renamed rename lines)
-same_lengths rename [] all = tt
-same_lengths rename (line ∷ lines) all = (same_length rename line.statement all.0, same_lengths rename lines all.1)
-
-same_pins : (rename : Word → Word) (lines : List NetLine) → AllByRecursion HasFewPins lines → AllByRecursion HasFewPins (map (joined_net rename) lines)
-same_pins rename [] all = tt
-same_pins rename (line ∷ lines) all = (all.0, same_pins rename lines all.1)
-
 same_chain : (lines others : List ChainLine) → named PartName others ≡ named PartName lines → IsChain lines → IsChain others
 same_chain lines others same chain = record {
   some = rw same chain.some;
@@ -77,9 +58,6 @@ kept_joined chain nets =
       is_chain = same_chain chain (renamed (renaming chain nets) chain) (same_parts (renaming chain nets) chain);
       lengths = same_lengths (renaming chain nets) chain;
       entities = same_entities (renaming chain nets) chain;
-      chain_count = length-map chain (joined_line (renaming chain nets));
-      net_count = length-map nets (joined_net (renaming chain nets));
-      pins = same_pins (renaming chain nets) nets;
     }
 
 kept_unless : (chain : List ChainLine) (nets : List NetLine) (missing : Option Spot) (whole joined : Joined) → Kept chain nets whole → unless missing whole ≡ Ok joined → Kept chain nets joined

@@ -1,12 +1,9 @@
 // The board of a chain file, a net file and BSDL texts.
 ghost use Rattle.std.specs.Prelude.{◌≡◌, ◌+◌, ◌<◌, ◌≤◌, ◌^◌, All, IfOk, false, length, map, vec_len};
-ghost use Rattle.std.specs.List.{AllByRecursion};
-ghost use Rattle.board_files.specs.ChainLines.{HasLength};
 ghost use Rattle.board_files.specs.NetLines.{net_lines};
 ghost use Rattle.board_build.specs.BoardRules.{board_of};
 ghost use Rattle.board_lines.specs.ChainParts.{IsChain};
 ghost use Rattle.board_lines.specs.Names.{named};
-ghost use Rattle.board_lines.specs.NetWords.{HasFewPins};
 ghost use Rattle.board_lines.specs.declared.names.Naming.TheVariants.{Entity as EntityName};
 ghost use Rattle.series_parts.specs.Joining.{joined_files};
 ghost use Rattle.series_parts.specs.Lines.{has_link, is_link};
@@ -30,9 +27,7 @@ use std::alloc::Global;
 // The net file of a text.
 fn net_file(alloc: Global, text: &[u8]) -> Result<NetFile, InputFault>
     requires { length text.now < 2 ^ 32 }
-    ensures read { Gives input_told (λ file. file) (Is (in_file Nets (net_lines text.now))) result }
-    ensures count { IfOk result (λ file. length file < 2 ^ 32) }
-    ensures pins { IfOk result (AllByRecursion HasFewPins) }
+    ensures { Gives input_told (λ file. file) (Is (in_file Nets (net_lines text.now))) result }
 {
     match nets(alloc, text) {
         Ok(file) => Ok(file),
@@ -56,8 +51,6 @@ fn has_link(chain: &ChainFile) -> bool
 
 // The joined files. The net file is given back before a board is made, since each holds a copy of all names.
 fn joined_files(alloc: Global, chain: &ChainFile, nets: NetFile) -> Result<Joined, InputFault>
-    requires chain { length chain.now < 2 ^ 32 }
-    requires nets { length nets < 2 ^ 32 }
     ensures joined { Gives input_told (λ joined. joined) (Is (in_link (joined_files chain.now nets))) result }
     ensures kept { IfOk result (Kept chain.now nets) }
 {
@@ -76,11 +69,7 @@ fn board_of(
     devices: Vec<Device>,
 ) -> Result<Board, InputFault>
     requires selected { IsChain chain.now }
-    requires lengths { AllByRecursion (λ line. HasLength line.statement) chain.now }
     requires devices { vec_len devices ≡ length (named EntityName chain.now) }
-    requires chain_lines { length chain.now < 2 ^ 32 }
-    requires net_lines { length nets.now < 2 ^ 32 }
-    requires net_words { AllByRecursion HasFewPins nets.now }
     ensures { Gives input_told (λ board. board) (Is (in_board (board_of chain.now nets.now devices.items))) result }
 {
     match board(alloc, chain, nets, devices) {
@@ -99,11 +88,7 @@ fn unlinked_board(
 ) -> Result<Board, InputFault>
     requires unlinked { has_link chain.now ≡ false }
     requires selected { IsChain chain.now }
-    requires lengths { AllByRecursion (λ line. HasLength line.statement) chain.now }
     requires devices { vec_len devices ≡ length (named EntityName chain.now) }
-    requires chain_lines { length chain.now < 2 ^ 32 }
-    requires net_lines { length nets.now < 2 ^ 32 }
-    requires net_words { AllByRecursion HasFewPins nets.now }
     ensures { Gives input_told (λ board. board) (IsJoinedBoard chain.now nets.now devices.items) result }
 {
     unlinked_files();
@@ -118,11 +103,7 @@ fn joined_board(
     devices: Vec<Device>,
 ) -> Result<Board, InputFault>
     requires selected { IsChain chain.now }
-    requires lengths { AllByRecursion (λ line. HasLength line.statement) chain.now }
     requires devices { vec_len devices ≡ length (named EntityName chain.now) }
-    requires chain_lines { length chain.now < 2 ^ 32 }
-    requires net_lines { length nets < 2 ^ 32 }
-    requires net_words { AllByRecursion HasFewPins nets }
     ensures { Gives input_told (λ board. board) (IsJoinedBoard chain.now nets devices.items) result }
 {
     if !has_link(chain) {
@@ -141,10 +122,6 @@ fn files_board(
     nets: NetFile,
     bsdl: &[Vec<u8>],
 ) -> Result<Board, InputFault>
-    requires lengths { AllByRecursion (λ line. HasLength line.statement) chain.now }
-    requires chain_lines { length chain.now < 2 ^ 32 }
-    requires net_lines { length nets < 2 ^ 32 }
-    requires net_words { AllByRecursion HasFewPins nets }
     requires each { All (λ text. length text.items < 2 ^ 32) bsdl.now }
     requires count { length bsdl.now < 2 ^ 32 }
     ensures { Gives input_told (λ board. board) (IsFilesBoard chain.now nets (map (λ text. text.items) bsdl.now)) result }

@@ -1,8 +1,7 @@
 // The instruction lengths of a chain.
-ghost use Rattle.std.specs.Prelude.{◌≡◌, ◌<◌, ◌≤◌, ◌^◌, All, IfOk, length, map, vec_len};
-ghost use Rattle.std.specs.List.{AllByRecursion};
+ghost use Rattle.std.specs.Prelude.{◌≡◌, ◌<◌, ◌^◌, All, IfOk, length, map, vec_len};
 ghost use Rattle.board_defs.specs.Pins.{instruction_length};
-ghost use Rattle.board_files.specs.ChainLines.{chain_lines, HasLength};
+ghost use Rattle.board_files.specs.ChainLines.{chain_lines};
 ghost use Rattle.board_lines.specs.ChainParts.{chain_parts, IsChain};
 ghost use Rattle.board_lines.specs.Names.{named};
 ghost use Rattle.board_lines.specs.declared.names.Naming.TheVariants.{Entity as EntityName};
@@ -22,9 +21,7 @@ use std::alloc::{AllocError, Global};
 /// The chain file of a text.
 pub(crate) fn chain_file(alloc: Global, text: &[u8]) -> Result<ChainFile, InputFault>
     requires { length text.now < 2 ^ 32 }
-    ensures read { Gives input_told (λ file. file) (Is (in_file Chain (chain_lines text.now))) result }
-    ensures lengths { IfOk result (AllByRecursion (λ line. HasLength line.statement)) }
-    ensures count { IfOk result (λ file. length file ≤ length text.now) }
+    ensures { Gives input_told (λ file. file) (Is (in_file Chain (chain_lines text.now))) result }
 {
     match chain(alloc, text) {
         Ok(file) => Ok(file),
@@ -57,7 +54,6 @@ fn instruction_lengths(alloc: Global, parts: &[Part]) -> Result<Vec<u32>, AllocE
 // The instruction lengths of the parts of a chain.
 fn lengths_of(alloc: Global, file: &ChainFile, devices: Vec<Device>) -> Result<Vec<u32>, AllocError>
     requires chain { IsChain file.now }
-    requires lengths { AllByRecursion (λ line. HasLength line.statement) file.now }
     requires devices { vec_len devices ≡ length (named EntityName file.now) }
     ensures lengths { IfOk result (λ lengths. lengths.items ≡ map (λ part. instruction_length part.kind) (chain_parts file.now devices.items)) }
     ensures bounds { IfOk result (λ lengths. AreLengths lengths.items) }
@@ -69,8 +65,6 @@ fn lengths_of(alloc: Global, file: &ChainFile, devices: Vec<Device>) -> Result<V
 
 // The instruction lengths of a chain file.
 fn file_lengths(alloc: Global, file: &ChainFile, bsdl: &[Vec<u8>]) -> Result<Vec<u32>, InputFault>
-    requires lines { length file.now < 2 ^ 32 }
-    requires lengths { AllByRecursion (λ line. HasLength line.statement) file.now }
     requires each { All (λ text. length text.items < 2 ^ 32) bsdl.now }
     requires count { length bsdl.now < 2 ^ 32 }
     ensures read { Gives input_told (λ lengths. lengths.items) (AreFileLengths file.now (map (λ text. text.items) bsdl.now)) result }

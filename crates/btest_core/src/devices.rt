@@ -186,8 +186,7 @@ fn zipped<'a>(
 
 // The numbers of the texts that the DEVICE lines select, in their order.
 fn numbers(alloc: Global, file: &ChainFile, entities: &[Entity]) -> Result<Vec<u32>, InputFault>
-    requires lines { length file.now < 2 ^ 32 }
-    requires entities { length entities.now < 2 ^ 32 }
+    requires { length entities.now < 2 ^ 32 }
     ensures numbers { Gives input_told (λ numbers. numbers.items) (Is (in_board (selection file.now entities.now))) result }
     ensures chain { IfOk result (λ numbers. IsChain file.now) }
     ensures count { IfOk result (λ numbers. vec_len numbers ≡ length (named EntityName file.now)) }
@@ -222,7 +221,6 @@ fn selected_devices(
     file: &ChainFile,
     entities: &[Entity],
 ) -> Result<Vec<Device>, InputFault>
-    requires lines { length file.now < 2 ^ 32 }
     requires entities { length entities.now < 2 ^ 32 }
     requires small { All IsSmall entities.now }
     ensures devices { Gives input_told (λ devices. devices.items) (AreSelected file.now entities.now) result }
@@ -242,7 +240,6 @@ pub(crate) fn devices(
     file: &ChainFile,
     texts: &[Vec<u8>],
 ) -> Result<Vec<Device>, InputFault>
-    requires lines { length file.now < 2 ^ 32 }
     requires each { All (λ text. length text.items < 2 ^ 32) texts.now }
     requires count { length texts.now < 2 ^ 32 }
     ensures devices { Gives input_told (λ devices. devices.items) (AreDevices file.now (map (λ text. text.items) texts.now)) result }

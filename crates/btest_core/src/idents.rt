@@ -81,7 +81,6 @@ fn file_idents(
     file: &ChainFile,
     bsdl: &[Vec<u8>],
 ) -> Result<Vec<Option<Code>>, InputFault>
-    requires lines { length file.now < 2 ^ 32 }
     requires each { All (λ text. length text.items < 2 ^ 32) bsdl.now }
     requires count { length bsdl.now < 2 ^ 32 }
     ensures read { Gives input_told (λ idents. idents.items) (AreFileIdents file.now (map (λ text. text.items) bsdl.now)) result }

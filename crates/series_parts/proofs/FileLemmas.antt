@@ -19,7 +19,7 @@ same_length rename (Supply net) has = has
 same_length rename (Pull net value) has = has
 same_length rename (Link part first second) has = tt
 
-same_lengths : (rename : Word → Word) (lines : List ChainLine) → AllByRecursion (λ line. HasLength line.statement) lines → AllByRecursion (λ line. HasLength line.statement) (map (joined_line rename) lines)
+pub same_lengths : (rename : Word → Word) (lines : List ChainLine) → AllByRecursion (λ line. HasLength line.statement) lines → AllByRecursion (λ line. HasLength line.statement) (map (joined_line rename) lines)
 same_lengths rename [] all = tt
 same_lengths rename (line ∷ lines) all = (same_length rename line.statement all.0, same_lengths rename lines all.1)
 

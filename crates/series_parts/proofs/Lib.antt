@@ -6,4 +6,4 @@ pub mod FindLemmas
 pub mod EdgeLemmas
 pub mod RelationLemmas
 pub mod LineLemmas
-mod FileLemmas
+pub mod FileLemmas

@@ -1,12 +1,11 @@
 -- What joined files keep of the files.
-use Rattle.std.specs.Prelude.{◌≡◌, List, length}
+use Rattle.std.specs.Prelude.{◌≡◌, List}
 use Rattle.std.specs.List.{AllByRecursion}
 use Rattle.board_files.specs.declared.chain_file.ChainLine.{ChainLine}
 use Rattle.board_files.specs.declared.net_file.NetLine.{NetLine}
 use Rattle.board_files.specs.ChainLines.{HasLength}
 use Rattle.board_lines.specs.ChainParts.{IsChain}
 use Rattle.board_lines.specs.Names.{named}
-use Rattle.board_lines.specs.NetWords.{HasFewPins}
 use Rattle.board_lines.specs.declared.names.Naming.TheVariants.{Entity as EntityName}
 use Rattle.series_parts.specs.declared.joining.Joined.{Joined}
 
@@ -15,6 +14,3 @@ pub record Kept (chain : List ChainLine) (nets : List NetLine) (joined : Joined)
   pub is_chain : IsChain chain → IsChain joined.chain
   pub lengths : AllByRecursion (λ line. HasLength line.statement) chain → AllByRecursion (λ line. HasLength line.statement) joined.chain
   pub entities : named EntityName joined.chain ≡ named EntityName chain
-  pub chain_count : length joined.chain ≡ length chain
-  pub net_count : length joined.nets ≡ length nets
-  pub pins : AllByRecursion HasFewPins nets → AllByRecursion HasFewPins joined.nets
