@@ -16,5 +16,5 @@ pub use chain::read_chain;
 pub use devices::read_device;
 pub use fault::InputFault;
 pub use idents::read_idents;
-pub use planning::plan;
+pub use planning::{plan, plan_by};
 pub use texts::read_entity;

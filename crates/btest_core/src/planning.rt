@@ -2,12 +2,14 @@
 ghost use Rattle.std.specs.Prelude.{◌≡◌, IfOk};
 ghost use Rattle.board_defs.specs.Passes.{passes_of};
 ghost use Rattle.net_classes.specs.Kept.{AreClasses};
+ghost use Rattle.net_pins.specs.Tables.{AreNetPins};
 ghost use Rattle.scan_planner.specs.Plans.{IsPlanOf};
 
 use board_defs::Board;
 use board_defs::law::terms_decided;
 use driver_passes::passes;
 use net_classes::Classes;
+use net_pins::NetPins;
 use scan_planner::Plan;
 use scan_planner::law::useful_planned;
 use std::alloc::{AllocError, Global};
@@ -18,10 +20,26 @@ pub fn plan(alloc: Global, board: &Board, classes: &Classes) -> Result<Plan, All
     ensures plan { IfOk result (λ plan. IsPlanOf board.now plan) }
     ensures passes { IfOk result (λ plan. plan.passes ≡ passes_of board.now) }
 {
+    let pins = NetPins::new(alloc, board)?;
+    plan_by(alloc, board, pins, classes)
+}
+
+/// The same, by the pins of the board's nets, which the plan takes over.
+pub fn plan_by(
+    alloc: Global,
+    board: &Board,
+    pins: NetPins,
+    classes: &Classes,
+) -> Result<Plan, AllocError>
+    requires pins { AreNetPins board.now pins }
+    requires classes { AreClasses board.now classes.now }
+    ensures plan { IfOk result (λ plan. IsPlanOf board.now plan) }
+    ensures passes { IfOk result (λ plan. plan.passes ≡ passes_of board.now) }
+{
     let _rules = board.raw();
     useful_planned();
     terms_decided();
     let passes = passes(alloc, board, classes)?;
-    let plan = Plan::new(alloc, board, passes)?;
+    let plan = Plan::of(alloc, board, pins, passes)?;
     Ok(plan)
 }

@@ -4,6 +4,7 @@ ghost use Rattle.bt_base.specs.Counts.{last_count};
 ghost use Rattle.line_printer.specs.Prints.{Prints};
 ghost use Rattle.tap_defs.specs.board.BoardScans.{pass_text};
 ghost use Rattle.net_classes.specs.Kept.{AreClasses};
+ghost use Rattle.net_pins.specs.Tables.{AreNetPins};
 ghost use Rattle.coverage_list.specs.CoverText.{covered};
 ghost use Rattle.scan_planner.specs.Plans.{IsPlanOf, scan_count};
 ghost use Rattle.board_gen.specs.BoardTexts.{chain_text, net_text};
@@ -16,16 +17,18 @@ ghost use Rattle.commands.specs.Answers.{Answers, Nothing};
 ghost use Rattle.commands.specs.inner.Unput.{PutsText};
 
 use crate::board_test::{TestRows, write_test};
+use crate::planned::Classified;
 use crate::unput::{Unput, answer_by, unput_by};
 use board_defs::Board;
 use board_gen::{Made, make};
 use bt_base::{CountSink, PutFault, Sink};
 use bt_bits::Line;
-use btest_core::{InputFault, plan, read_board};
+use btest_core::{InputFault, plan_by, read_board};
 use coverage_list::covered_nets;
 use itoa::Buffer;
 use line_printer::put_line;
-use net_classes::{Classes, classify};
+use net_classes::Classes;
+use net_pins::NetPins;
 use scan_planner::Plan;
 use std::alloc::{AllocError, Global};
 use tap_defs::board_law::scans_placed;
@@ -109,16 +112,22 @@ fn text_bytes(alloc: Global, board: &Board, plan: &Plan) -> Result<u64, AllocErr
 fn board_counts(alloc: Global, board: &Board) -> Result<Counts, AllocError>
     ensures { IfOk result (λ counts. counts_line counts.devices counts.nets counts.covered counts.passes counts.scans counts.bytes ≡ summary_text board.now) }
 {
-    let classes = classify(alloc, board)?;
-    classed_counts(alloc, board, &classes)
+    let Classified { classes, pins } = Classified::of(alloc, board)?;
+    classed_counts(alloc, board, &classes, pins)
 }
 
-// The same by the classes of the board's nets and pins.
-fn classed_counts(alloc: Global, board: &Board, classes: &Classes) -> Result<Counts, AllocError>
-    requires { AreClasses board.now classes.now }
+// The same by the board's classes and the pins of its nets.
+fn classed_counts(
+    alloc: Global,
+    board: &Board,
+    classes: &Classes,
+    pins: NetPins,
+) -> Result<Counts, AllocError>
+    requires classes { AreClasses board.now classes.now }
+    requires pins { AreNetPins board.now pins }
     ensures { IfOk result (λ counts. counts_line counts.devices counts.nets counts.covered counts.passes counts.scans counts.bytes ≡ summary_text board.now) }
 {
-    let plan = plan(alloc, board, classes)?;
+    let plan = plan_by(alloc, board, pins, classes)?;
     let bytes = text_bytes(alloc, board, &plan)?;
     scans_placed();
     Ok(counts_of(board, classes, &plan, bytes))

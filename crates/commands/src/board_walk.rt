@@ -15,14 +15,13 @@ ghost use Rattle.commands.specs.inner.Unput.{NoBoard, PutsText};
 ghost use Rattle.commands.specs.Worth.{WalksBoard};
 
 use crate::board_test::longest_scan;
-use crate::planned::board_of;
+use crate::planned::{Classified, board_of};
 use crate::rows::Rows;
 use crate::texts::BoardTexts;
 use crate::unput::{Unput, answer_by};
 use board_defs::Board;
 use bt_base::{PutFault, Sink};
 use driver_passes::first_pass;
-use net_classes::classify;
 use std::alloc::{AllocError, Global};
 use svf_writer::{write_head, write_scan, write_tail};
 use tap_defs::board_law::{rows_compared, statements_compared};
@@ -66,9 +65,9 @@ pub fn walk_logs_shaped(board: &Board)
 fn walk_of(alloc: Global, board: &Board) -> Result<Walk, AllocError>
     ensures { IfOk result (λ walk. IsWalkOf board.now walk) }
 {
-    let classes = classify(alloc, board)?;
+    let Classified { classes, pins } = Classified::of(alloc, board)?;
     let first = first_pass(alloc, board, &classes)?;
-    Walk::new(alloc, board, &first)
+    Walk::of(alloc, board, pins, &first)
 }
 
 /// Puts the walking test of the board of these texts. All memory is taken before the first put.

@@ -1,6 +1,8 @@
-// The board that texts denote, with the plan of its test.
+// The board that texts denote, with its classes, the pins of its nets and the plan of its test.
 ghost use Rattle.std.specs.Prelude.{◌≡◌, Ok, IfOk, IfErr};
 ghost use Rattle.board_defs.specs.Passes.{passes_of};
+ghost use Rattle.net_classes.specs.Kept.{AreClasses};
+ghost use Rattle.net_pins.specs.Tables.{AreNetPins};
 ghost use Rattle.scan_planner.specs.Plans.{IsPlanOf};
 ghost use Rattle.commands.specs.Answers.{IsBoardOf};
 ghost use Rattle.commands.specs.inner.Unput.{NoBoard};
@@ -8,8 +10,9 @@ ghost use Rattle.commands.specs.inner.Unput.{NoBoard};
 use crate::texts::BoardTexts;
 use crate::unput::{Unput, unput_by};
 use board_defs::Board;
-use btest_core::{plan, read_board};
-use net_classes::classify;
+use btest_core::{plan_by, read_board};
+use net_classes::{Classes, classify_by};
+use net_pins::NetPins;
 use scan_planner::Plan;
 use std::alloc::{AllocError, Global};
 
@@ -18,6 +21,25 @@ use std::alloc::{AllocError, Global};
 pub struct Planned {
     pub board: Board,
     pub plan: Plan,
+}
+
+/// The classes of a board, and what stands on its nets, by the same pin tables.
+#[derive(Drop)]
+pub struct Classified {
+    pub classes: Classes,
+    pub pins: NetPins,
+}
+
+impl Classified {
+    /// The classes of the board, and what stands on its nets.
+    pub fn of(alloc: Global, board: &Board) -> Result<Classified, AllocError>
+        ensures classes { IfOk result (λ known. AreClasses board.now known.classes) }
+        ensures pins { IfOk result (λ known. AreNetPins board.now known.pins) }
+    {
+        let pins = NetPins::new(alloc, board)?;
+        let classes = classify_by(alloc, board, &pins.tables)?;
+        Ok(Classified { classes, pins })
+    }
 }
 
 /// The board of these texts, or why there is none.
@@ -54,6 +76,6 @@ fn board_plan(alloc: Global, board: &Board) -> Result<Plan, AllocError>
     ensures plan { IfOk result (λ plan. IsPlanOf board.now plan) }
     ensures passes { IfOk result (λ plan. plan.passes ≡ passes_of board.now) }
 {
-    let classes = classify(alloc, board)?;
-    plan(alloc, board, &classes)
+    let Classified { classes, pins } = Classified::of(alloc, board)?;
+    plan_by(alloc, board, pins, &classes)
 }
