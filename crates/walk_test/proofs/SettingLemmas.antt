@@ -1,12 +1,14 @@
 -- The walk setting: it is safe, all its controls are useful, and it holds no control of a switching driver.
-use Rattle.std.proofs.Common.{◌≡◌, ◌⊎◌, inl, inr, Result, Ok, Err, ℕ, zero, suc, ◌==◌, Bool, true, false, cond, not, ◌&&◌, ◌||◌, List, [], ◌∷◌, ◌++◌, fold, map, Option, Some, None, refl, sym, ◌∙◌, ap, subst}
-use Rattle.std.specs.Prelude.{slice_get, filter, find, option_map, option_and_then, IfOk}
-use Rattle.std.specs.Option.{option_to_list}
+use Rattle.std.proofs.Common.{◌≡◌, ◌⊎◌, inl, inr, Result, Ok, Err, ℕ, zero, suc, ◌+◌, ◌<◌, ◌==◌, Bool, true, false, cond, not, ◌&&◌, ◌||◌, List, [], ◌∷◌, ◌++◌, length, get_or, take, fold, map, Option, Some, None, refl, sym, ◌∙◌, ap, subst}
+use Rattle.std.specs.Prelude.{slice_get, filter, option_map, option_and_then, IfOk}
 use Rattle.std.specs.List.{list_any, flat_map}
 use Rattle.std.specs.Cmp.{both_ways as same_answer}
 use Rattle.std.proofs.lemmas.Bool.{and_from, or_cases, not-true}
 use Rattle.std.proofs.Math.Bool.{and-false, or-false}
+use Rattle.std.proofs.lemmas.List.{take_more}
 use Rattle.std.proofs.lemmas.List.Elements.{filter_agree}
+use Rattle.std.proofs.lemmas.List.Sums.{fold-append}
+use Rattle.std.proofs.lemmas.Option.{slice_get_within, slice_get-get_or}
 use Rattle.lists.proofs.ListLemmas.{list_any_same}
 use Rattle.board_defs.specs.declared.device.Control.{Control}
 use Rattle.board_defs.specs.declared.device.Cell.{Cell}
@@ -17,10 +19,10 @@ use Rattle.board_defs.specs.declared.board.RawBoard.{RawBoard}
 use Rattle.board_defs.specs.declared.board.Ctl.{Ctl}
 use Rattle.board_defs.specs.declared.board.Drive.{Drive}
 use Rattle.board_defs.specs.declared.board.Drive.TheVariants.{AlwaysOn, OneSided, By}
-use Rattle.board_defs.specs.Pins.{drive, entry_at, guarded, is_pulled_to, drive_by, switches_by, drive_where, switches_entry}
+use Rattle.board_defs.specs.Pins.{drive, entry_at, guarded, guarded_at, guarded_of, is_pulled_to, drive_by, switches_by, drive_where, switches_entry}
 use Rattle.board_defs.specs.Settings.{holds, same_ctl, inserted, precedes, IsInControlOrder, IsSafe}
 use Rattle.board_defs.specs.Decided.{is_by, is_useful, is_safe_alone, tests_by, tests_by_at, are_compatible}
-use Rattle.board_defs.specs.Passes.{all_cells, useful_controls, tested_drivers, drivers_by_net, with_driver, fits, is_new, walk, first_walk, second_walk, driver_pass, add_for_driver, driver_passes, are_shown, pairs_of, pairs_within, first_pair, pair_pass, with_pair, add_for_nets, passes_of, ArePasses}
+use Rattle.board_defs.specs.Passes.{all_cells, useful_controls, tested_drivers, drivers_by_net, with_driver, fits, is_new, walk, first_walk, driver_pass, add_for_driver, driver_passes, are_shown, pairs_of, pairs_within, first_pair, pair_pass, with_pair, add_for_nets, passes_of, ArePasses}
 use Rattle.board_defs.proofs.ControlOrder.{same_equal, same_refl}
 use Rattle.board_defs.proofs.Members.{Has, has_at, has_append, has_any, filter_has, flat_map_has, map_has, find_has, Apart as PairApart, pairs_within_has}
 use Rattle.board_defs.proofs.Ordered.{order_filter, order_pairs}
@@ -127,6 +129,17 @@ nets_held board s (net ∷ nets) c =
 pub switching_is : (board : RawBoard) (c : Ctl) → holds (all_switching board board.nets) c ≡ switches_some board c
 switching_is board c = nets_held board [] board.nets c ∙ or-false (switches_some board c)
 
+-- a net more
+pub net_more : (board : RawBoard) (nets : List Net) (n : ℕ) (net : Net) (old new : List Ctl) → nets ≡ board.nets → n < length nets → net ≡ get_or nets n net → old ≡ all_switching board (take n nets) →
+    new ≡ cond (guarded_at board n) old (with_pins board net.pull old net.pins) → new ≡ all_switching board (take (n + 1) nets)
+net_more board nets n net old new are less net_is old_is new_is =
+    let at : slice_get board.nets n ≡ Some net = ap (λ (l : List Net). slice_get l n) (sym are) ∙ slice_get-get_or nets n net less ∙ ap (λ (x : Net). Some x) (sym net_is) in
+    new_is
+    ∙ ap (λ (o : Option Net). cond (guarded_of board o) old (with_pins board net.pull old net.pins)) at
+    ∙ ap (λ (s : List Ctl). with_net board s net) old_is
+    ∙ ap (λ (x : Net). with_net board (all_switching board (take n nets)) x) net_is
+    ∙ sym (ap (λ (l : List Net). all_switching board l) (take_more nets n net less) ∙ fold-append (with_net board) [] (take n nets) (get_or nets n net ∷ []))
+
 -- what is left of a pass
 pub left_is : (board : RawBoard) (set pass : List Ctl) → set ≡ all_switching board board.nets → filter (λ c. not (holds set c)) pass ≡ without_switching board pass
 left_is board set pass is =
@@ -199,17 +212,17 @@ OfBoard board d = (net : Net) × Has board.nets net × Tested board net d
 driver_useful : (board : RawBoard) (c : Ctl) → OfBoard board (By c) → is_useful board c ≡ true
 driver_useful board c (net, has, t) =
     and_from (is_safe_alone board c) (list_any (tests_by board c) board.nets) (tested_can_drive board net (By c) t)
-    (has_any (tests_by board c) board.nets net has (below_at (Rattle.std.proofs.Common.length net.pins) (tests_by_at board c net) t.place below here))
+    (has_any (tests_by board c) board.nets net has (below_at (length net.pins) (tests_by_at board c net) t.place below here))
   where
     here : tests_by_at board c net t.place ≡ true
     here = and_from (is_by c (Rattle.board_defs.specs.Decided.place_drive board net t.place)) _ (ap (is_by c) t.drives ∙ same_refl c) t.tested
 
-    below : Rattle.std.proofs.Common.◌<◌ t.place (Rattle.std.proofs.Common.length net.pins)
+    below : t.place < length net.pins
     below = by_pin (slice_get net.pins t.place) refl t.drives
       where
-        by_pin : (o : Option NetPin) → slice_get net.pins t.place ≡ o → Rattle.board_defs.specs.Decided.drive_in board net o ≡ Some (By c) → Rattle.std.proofs.Common.◌<◌ t.place (Rattle.std.proofs.Common.length net.pins)
+        by_pin : (o : Option NetPin) → slice_get net.pins t.place ≡ o → Rattle.board_defs.specs.Decided.drive_in board net o ≡ Some (By c) → t.place < length net.pins
         by_pin None e d = cc d
-        by_pin (Some pin) e d = Rattle.std.proofs.lemmas.Option.slice_get_within net.pins t.place pin e
+        by_pin (Some pin) e d = slice_get_within net.pins t.place pin e
 
 with_useful : (board : RawBoard) (s : List Ctl) (d : Drive) → OfBoard board d → HasUseful board s → HasUseful board (with_driver s d)
 with_useful board s AlwaysOn of all = all

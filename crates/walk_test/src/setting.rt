@@ -2,14 +2,14 @@
 ghost use Rattle.std.specs.Prelude.{◌≡◌, ◌<◌, ◌^◌, ◌++◌, ◌∷◌, [], cond, filter, not, length, slice_get, Some, IfOk, OnOk};
 ghost use Rattle.std.specs.Option.{option_to_list};
 ghost use Rattle.board_defs.specs.Passes.{passes_of};
+ghost use Rattle.board_defs.specs.Pins.{guarded_at};
 ghost use Rattle.board_defs.specs.Settings.{holds};
-ghost use Rattle.port_entries.specs.Entries.{AreEntries};
 ghost use Rattle.scan_planner.specs.Plans.{ArePlannable};
 ghost use Rattle.walk_test.specs.WalkTest.{without_switching, walk_setting};
-ghost use Rattle.walk_test.specs.inner.Setting.{own_switch, entry_switch, pin_switch, with_some, with_pins, with_net, all_switching};
+ghost use Rattle.walk_test.specs.inner.Setting.{own_switch, entry_switch, pin_switch, with_some, with_pins, all_switching};
 
-use board_defs::{Board, Cell, Control, Ctl, Items, Net, NetPin, RawBoard, Setting, law};
-use port_entries::{BitEntries, driving_entry, is_guarded, port_entries};
+use board_defs::{Cell, Control, Ctl, Net, NetPin, Setting, law};
+use net_pins::BoardPins;
 use scan_planner::law::useful_planned;
 use std::alloc::{AllocError, Global};
 
@@ -35,19 +35,13 @@ fn entry_switch(part: u32, pull: Option<bool>, entry: Cell) -> Option<Ctl>
     }
 }
 
-// The same of a pin.
-fn pin_switch(
-    rows: &[Items<BitEntries>],
-    board: &RawBoard,
-    pull: Option<bool>,
-    pin: &NetPin,
-) -> Option<Ctl>
-    requires { AreEntries board.now rows.now }
+// The control of a pin on a net with this pull, where the pin is a switching driver.
+fn pin_switch(board: &BoardPins<'_>, pull: Option<bool>, pin: &NetPin) -> Option<Ctl>
     ensures { result ≡ pin_switch board.now pull pin.now.at }
 {
     match pin.at {
         None => None,
-        Some(at) => match driving_entry(rows, board, at) {
+        Some(at) => match board.driving_entry(at) {
             None => None,
             Some(entry) => entry_switch(at.part, pull, entry),
         },
@@ -63,51 +57,44 @@ fn add_some(setting: &mut Setting, control: Option<Ctl>) -> Result<(), AllocErro
     }
 }
 
-// Adds the controls of the switching drivers among the pins of a net that is not guarded.
+// Adds the controls of the switching drivers among the pins of a net with this pull.
 fn add_pins(
-    rows: &[Items<BitEntries>],
-    board: &RawBoard,
+    board: &BoardPins<'_>,
     pull: Option<bool>,
     pins: &[NetPin],
     setting: &mut Setting,
 ) -> Result<(), AllocError>
-    requires { AreEntries board.now rows.now }
     ensures { OnOk result (setting.new ≡ with_pins board.now pull setting.old pins.now) }
 {
     for pin in pins {
-        add_some(setting, pin_switch(rows, board, pull, pin))?;
+        add_some(setting, pin_switch(board, pull, pin))?;
     }
     Ok(())
 }
 
+// The same of net `n`, none of whose pins is a switching driver where it is guarded.
 fn add_net(
-    rows: &[Items<BitEntries>],
-    board: &RawBoard,
+    board: &BoardPins<'_>,
+    n: usize,
     net: &Net,
     setting: &mut Setting,
 ) -> Result<(), AllocError>
-    requires { AreEntries board.now rows.now }
-    ensures { OnOk result (setting.new ≡ with_net board.now setting.old net.now) }
+    ensures { OnOk result (setting.new ≡ cond (guarded_at board.now n) setting.old (with_pins board.now net.now.pull setting.old net.now.pins)) }
 {
-    if is_guarded(rows, board, net) {
+    if board.is_guarded(n) {
         return Ok(());
     }
-    add_pins(rows, board, net.pull, net.pins.as_slice(), setting)
+    add_pins(board, net.pull, net.pins.as_slice(), setting)
 }
 
-// The controls of the switching drivers of these nets.
-fn switching_of(
-    alloc: Global,
-    rows: &[Items<BitEntries>],
-    board: &RawBoard,
-    nets: &[Net],
-) -> Result<Setting, AllocError>
-    requires { AreEntries board.now rows.now }
-    ensures { IfOk result (λ setting. setting ≡ all_switching board.now nets.now) }
+// The controls of all switching drivers.
+fn switching_of(alloc: Global, board: &BoardPins<'_>) -> Result<Setting, AllocError>
+    ensures { IfOk result (λ setting. setting ≡ all_switching board.now board.now.nets) }
 {
+    let nets = board.raw().nets.as_slice();
     let mut setting = Setting::new(alloc);
-    for net in nets {
-        add_net(rows, board, net, &mut setting)?;
+    for n in 0..nets.len() {
+        add_net(board, n, &nets[n], &mut setting)?;
     }
     Ok(setting)
 }
@@ -133,12 +120,14 @@ fn others(alloc: Global, controls: &[Ctl], set: &Setting) -> Result<Vec<Ctl>, Al
 }
 
 // A pass without the controls of switching drivers.
-fn without_switching(alloc: Global, board: &Board, pass: &Setting) -> Result<Setting, AllocError>
+fn without_switching(
+    alloc: Global,
+    board: &BoardPins<'_>,
+    pass: &Setting,
+) -> Result<Setting, AllocError>
     ensures { IfOk result (λ setting. setting ≡ without_switching board.now pass.now) }
 {
-    let raw = board.raw();
-    let rows = port_entries(alloc, raw)?;
-    let switching = switching_of(alloc, rows.as_slice(), raw, raw.nets.as_slice())?;
+    let switching = switching_of(alloc, board)?;
     let left = others(alloc, pass.controls(), &switching)?;
     Ok(Setting::of(left))
 }
@@ -154,7 +143,7 @@ fn only(alloc: Global, setting: Setting) -> Result<Vec<Setting>, AllocError>
 /// The walk setting, where there is a pass, as the passes of a plan.
 pub fn walk_settings(
     alloc: Global,
-    board: &Board,
+    board: &BoardPins<'_>,
     passes: &[Setting],
 ) -> Result<Vec<Setting>, AllocError>
     requires { slice_get passes.now 0 ≡ slice_get (passes_of board.now) 0 }

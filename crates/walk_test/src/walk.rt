@@ -1,6 +1,7 @@
 // A walk, and its scans.
 ghost use Rattle.std.specs.Prelude.{◌≡◌, ◌<◌, slice_get, IfOk};
 ghost use Rattle.board_defs.specs.Passes.{passes_of};
+ghost use Rattle.net_pins.specs.Tables.{AreNetPins};
 ghost use Rattle.scan_planner.specs.Plans.{IsRoom};
 ghost use Rattle.walk_test.specs.Tables.{IsWalkOf, scan_count};
 ghost use Rattle.walk_test.specs.Scans.{FillsWalk};
@@ -11,6 +12,7 @@ use crate::setting::walk_settings;
 use crate::tables::WalkTables;
 use board_defs::{Board, Setting};
 use bt_bits::Row;
+use net_pins::{BoardPins, NetPins};
 use scan_planner::Plan;
 use std::alloc::{AllocError, Global};
 use std::marker::Model;
@@ -42,9 +44,24 @@ impl Walk {
         requires { slice_get passes.now 0 ≡ slice_get (passes_of board.now) 0 }
         ensures { IfOk result (λ walk. IsWalkOf board.now walk) }
     {
+        let pins = NetPins::new(alloc, board)?;
+        Walk::of(alloc, board, pins, passes)
+    }
+
+    /// The same, by the pins of the board's nets, which the walk takes over.
+    pub fn of(
+        alloc: Global,
+        board: &Board,
+        pins: NetPins,
+        passes: &[Setting],
+    ) -> Result<Walk, AllocError>
+        requires pins { AreNetPins board.now pins }
+        requires passes { slice_get passes.now 0 ≡ slice_get (passes_of board.now) 0 }
+        ensures { IfOk result (λ walk. IsWalkOf board.now walk) }
+    {
         let _rules = board.raw();
-        let settings = walk_settings(alloc, board, passes)?;
-        let plan = Plan::new(alloc, board, settings)?;
+        let settings = walk_settings(alloc, &BoardPins::of(board, &pins.tables), passes)?;
+        let plan = Plan::of(alloc, board, pins, settings)?;
         let tables = tables_of(alloc, board, plan)?;
         Ok(Walk { tables })
     }
