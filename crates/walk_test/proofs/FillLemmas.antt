@@ -1,9 +1,9 @@
 -- Which rows a walk keeps, and which it fills in.
 use Rattle.std.proofs.Common.{◌≡◌, ◌⊎◌, inl, inr, ℕ, zero, suc, ◌+◌, ◌<◌, ◌≤◌, ◌==◌, ◌^◌, Bool, true, false, cond, List, [], ◌∷◌, length, take, map, get_or, set, replicate, Option, Some, None, is_some, unwrap_or, refl, sym, ◌∙◌, ap, subst, arith}
-use Rattle.std.specs.Prelude.{slice_get, filter, count_by, nat_lt, option_map, option_and_then, All}
+use Rattle.std.specs.Prelude.{slice_get, filter, count_by, nat_lt, option_map, option_and_then}
 use Rattle.std.specs.Option.{option_to_list}
 use Rattle.std.specs.List.{list_any, range_with_len}
-use Rattle.std.proofs.lemmas.Bool.{lt-ltb, le-ltb, eq-eqb, both_ways}
+use Rattle.std.proofs.lemmas.Bool.{cases_lt, lt-ltb, le-ltb, eq-eqb}
 use Rattle.std.proofs.lemmas.List.{length-map, length-replicate, get_or-replicate}
 use Rattle.std.proofs.lemmas.Option.{slice_get_within, slice_get-get_or, get_or_from_slice_get, slice_get-map}
 use Rattle.lists.proofs.ListLemmas.{item_there, none_of_zeros}
@@ -18,7 +18,7 @@ use Rattle.board_defs.proofs.Places.{any_at}
 use Rattle.tap_defs.specs.declared.scan.Shape.{Shape}
 use Rattle.tap_defs.specs.chain.Scan.{ScanBit, joined, tdi_bits, tdo_bits, mask_bits, scan_bits}
 use Rattle.tap_defs.specs.chain.ScanRows.{AreBitsOf}
-use Rattle.tap_defs.specs.board.TestRows.{TestRow, quiet_row, code_row, code_of_net, code_bit, net_code_bit, observing_driver, observed_count, code_width}
+use Rattle.tap_defs.specs.board.TestRows.{TestRow, quiet_row, code_row, net_code_bit, observing_driver, observed_count, code_width}
 use Rattle.tap_defs.specs.board.BoardScans.{RowScan, row_bits, scan_of_row, board_scans, row_scans, pass_scans, row_now, row_before, is_walked, walk_row, walk_row_scans}
 use Rattle.tap_defs.proofs.chain.ScanRowLemmas.{rows_make, shifted_length, expected_same, marks_same, rows_masked}
 use Rattle.tap_defs.proofs.board.ScanPlaceLemmas.{front_at, length-pass_scans, pass_scan_at}
@@ -39,11 +39,11 @@ use Rattle.walk_test.specs.declared.tables.NetCells.{NetCells}
 use Rattle.walk_test.specs.declared.tables.WalkTables.{WalkTables}
 use Rattle.walk_test.specs.WalkTest.{is_walk_net, walk_setting, walk_nets, scans_by, walk_row_list, walk_scans}
 use Rattle.walk_test.specs.Tables.{tdi_of, mask_of, still_row, AreNetCells, AreWalkTables, IsWalkOf}
-use Rattle.walk_test.specs.inner.Tables.{tdo_of, observer_in, positions_beside, cells_by, cells_in, nets_in, nets_by, cells_of, AreMade, walk_controls, walk_row_of, now_of, before_of}
+use Rattle.walk_test.specs.inner.Tables.{tdo_of, observer_in, positions_beside, cells_by, cells_in, nets_in, nets_by, cells_of, AreMade, board_walk, cells_before, compared_in, expected_in, first_row, shifted_in, walk_controls, walk_row_of, now_of, before_of}
 use Rattle.walk_test.specs.Scans.{FillsWalk}
 use Rattle.walk_test.proofs.CellLemmas.{WalkedBy}
 use Rattle.walk_test.proofs.NetLemmas.{walk_at, place_of_walk, count_is, marked_is, no_nets}
-use Rattle.walk_test.proofs.RowLemmas.{CellsOf, cells_of_plan, one_driver, length-tdi, marked_row, cleared_row, mask_same, ComparedAt, one_at, tdo_here, laid_here, net_cells}
+use Rattle.walk_test.proofs.RowLemmas.{CellsOf, cells_of_plan, one_driver, length-tdi, marked_row, cleared_row, mask_same, one_at, tdo_here, laid_here, net_cells}
 
 -- a width has a bit
 pub some_width : (board : RawBoard) (plan : PlanTables) → IsPlanOf board plan → 1 ≤ plan.width
@@ -58,13 +58,12 @@ some_width board plan p = by_width plan.width p.width_is
 
 -- the rows of a plan that a walk takes its own from
 module _ (board : RawBoard) (plan : PlanTables) (p : IsPlanOf board plan) where
-  pub first_shifted : tdi_bits (joined (row_bits board (scan_of_pass board plan 0 0))) ≡ tdi_of board (code_row board plan.passes (get_or plan.passes 0 []) 0)
+  pub first_shifted : tdi_bits (joined (row_bits board (scan_of_pass board plan 0 0))) ≡ tdi_of board (first_row board plan)
   first_shifted =
-      let row : TestRow = code_row board plan.passes (get_or plan.passes 0 []) 0 in
-      ap (λ (b : Bool). tdi_of board (cond b row quiet_row)) (lt-ltb 0 plan.width (omega (arith, some_width board plan p)))
+      ap (λ (b : Bool). tdi_of board (cond b (first_row board plan) quiet_row)) (lt-ltb 0 plan.width (omega (arith, some_width board plan p)))
 
-  pub first_marked : mask_bits (joined (row_bits board (scan_of_pass board plan 0 1))) ≡ mask_of board (code_row board plan.passes (get_or plan.passes 0 []) 0)
-  first_marked = mask_laid board (scan_of_pass board plan 0 1) ∙ sym (mask_laid board (record { now = quiet_row; before = code_row board plan.passes (get_or plan.passes 0 []) 0 }))
+  pub first_marked : mask_bits (joined (row_bits board (scan_of_pass board plan 0 1))) ≡ mask_of board (first_row board plan)
+  first_marked = mask_laid board (scan_of_pass board plan 0 1) ∙ sym (mask_laid board (record { now = quiet_row; before = first_row board plan }))
 
 -- the nets and the cells of a walk by the tables of its plan
 module _ (board : RawBoard) (rules : IsBoard board) (plan : PlanTables) (p : IsPlanOf board plan) (walk : List Ctl) where
@@ -301,9 +300,6 @@ module _ (board : RawBoard) (rules : IsBoard board) (t : WalkTables) (w : IsWalk
             omega (arith, at.0, r.3),
           )
 
-      pub compared_within : All (λ position. position < data_bits board) c.compared
-      compared_within = Rattle.walk_test.proofs.GroupLemmas.all_from_has (λ (position : ℕ). position < data_bits board) c.compared (λ position has. (reader_in position has).1)
-
       pub compared_row : assigned (λ (position : ℕ). position) (λ position. true) (replicate (data_bits board) false) c.compared ≡ tdo_of board (walk_row board walk j)
       compared_row =
           assigned_is (λ (position : ℕ). position) (λ position. true) c.compared (replicate (data_bits board) false) (tdo_of board (walk_row board walk j)) (length-replicate (data_bits board) false ∙ sym long)
@@ -413,12 +409,12 @@ module _ (board : RawBoard) (rules : IsBoard board) (t : WalkTables) (w : IsWalk
   row_of_walk : walk_row_of board j ≡ walk_row board walk j
   row_of_walk = ap (λ (o : Option (List Ctl)). walk_row board (walk_controls o) j) is
 
-  pub row_shifted : set t.rows.still.bits c.driver true ≡ tdi_of board (now_of board (length t.nets) j)
+  row_shifted : set t.rows.still.bits c.driver true ≡ tdi_of board (now_of board (length t.nets) j)
   row_shifted =
       shifted_row board rules t w walk is j (get_or t.nets j 0) net_is c at
       ∙ sym (ap (λ (b : Bool). tdi_of board (cond b (walk_row_of board j) quiet_row)) (lt-ltb j (length t.nets) less) ∙ ap (λ (r : TestRow). tdi_of board r) row_of_walk)
 
-  pub driver_below : c.driver < length t.rows.still.bits
+  driver_below : c.driver < length t.rows.still.bits
   driver_below =
       let a = (w.tables walk is).cells j (get_or t.nets j 0) c net_is at in
       let d = (driver_is_within a.driver a.is_driver) in
@@ -427,13 +423,10 @@ module _ (board : RawBoard) (rules : IsBoard board) (t : WalkTables) (w : IsWalk
       driver_is_within : (d : DriverCell) → IsDriverCell board walk d → d.position < data_bits board
       driver_is_within d s = Rattle.walk_test.proofs.RowLemmas.driver_within board rules walk d s
 
-  pub positions_below : All (λ position. position < data_bits board) c.compared
-  positions_below = compared_within board rules t w walk is j (get_or t.nets j 0) net_is c at
-
-  pub row_compared : assigned (λ (position : ℕ). position) (λ position. true) (replicate (data_bits board) false) c.compared ≡ tdo_of board (before_of board (suc j))
+  row_compared : assigned (λ (position : ℕ). position) (λ position. true) (replicate (data_bits board) false) c.compared ≡ tdo_of board (before_of board (suc j))
   row_compared = compared_row board rules t w walk is j (get_or t.nets j 0) net_is c at ∙ sym (ap (λ (r : TestRow). tdo_of board r) row_of_walk)
 
-  pub row_masked : t.rows.mask.bits ≡ mask_of board (before_of board (suc j))
+  row_masked : t.rows.mask.bits ≡ mask_of board (before_of board (suc j))
   row_masked = mask_row board rules t w walk is j ∙ sym (ap (λ (r : TestRow). mask_of board r) row_of_walk)
 
   pub row_has_one : list_any (λ bit. bit) (mask_of board (before_of board (suc j))) ≡ true
@@ -488,3 +481,40 @@ nets_few board = at_most (λ n. is_walk_net board (walk_setting board) (slice_ge
         by_test : (b : Bool) → length (filter p (range_with_len (a + 1) n)) ≤ n → length (cond b (a ∷ filter p (range_with_len (a + 1) n)) (filter p (range_with_len (a + 1) n))) ≤ suc n
         by_test true h = omega (arith, h)
         by_test false h = omega (arith, h)
+
+-- the rows of a walk with a pass, by the cells that stand at a place
+module _ (board : RawBoard) (rules : IsBoard board) (t : WalkTables) (w : IsWalkOf board t) (some : 0 < length t.plan.passes) where
+  net_there : (j : ℕ) (c : NetCells) → slice_get t.cells j ≡ Some c → j < length t.nets
+  net_there j c at = omega (arith, slice_get_within t.cells j c at, cells_count board rules t w some)
+
+  none_there : (j : ℕ) → slice_get t.cells j ≡ None → length t.nets ≤ j
+  none_there j none = by_side (cases_lt j (length t.cells))
+    where
+      by_side : (j < length t.cells) ⊎ (length t.cells ≤ j) → length t.nets ≤ j
+      by_side (inl less) = let c = item_there t.cells j less in let bad : None ≡ Some c.0 = sym none ∙ c.1 in cc bad
+      by_side (inr past) = omega (arith, past, cells_count board rules t w some)
+
+  pub driver_there : (j : ℕ) (c : NetCells) → slice_get t.cells j ≡ Some c → c.driver < length t.rows.still.bits
+  driver_there j c at = driver_below board rules t w some j (net_there j c at) c at
+
+  pub net_shifted : (j : ℕ) (c : NetCells) → slice_get t.cells j ≡ Some c → set t.rows.still.bits c.driver true ≡ shifted_in (board_walk board t) j
+  net_shifted j c at = row_shifted board rules t w some j (net_there j c at) c at
+
+  pub quiet_shifted : (j : ℕ) → slice_get t.cells j ≡ None → tdi_of board quiet_row ≡ shifted_in (board_walk board t) j
+  quiet_shifted j none = sym (ap (λ (b : Bool). tdi_of board (cond b (walk_row_of board j) quiet_row)) (le-ltb j (length t.nets) (none_there j none)))
+
+  pub net_expected : (j : ℕ) (c : NetCells) → cells_before t.cells j ≡ Some c → assigned (λ (position : ℕ). position) (λ position. true) (replicate (data_bits board) false) c.compared ≡ expected_in (board_walk board t) j
+  net_expected zero c at = cc at
+  net_expected (suc j) c at = row_compared board rules t w some j (net_there j c at) c at
+
+  pub net_compared : (j : ℕ) (c : NetCells) → cells_before t.cells j ≡ Some c → t.rows.mask.bits ≡ compared_in (board_walk board t) j
+  net_compared zero c at = cc at
+  net_compared (suc j) c at = row_masked board rules t w some j (net_there j c at) c at
+
+  pub nothing_expected : (j : ℕ) → j ≤ length t.nets → cells_before t.cells j ≡ None → replicate (data_bits board) false ≡ expected_in (board_walk board t) j
+  nothing_expected zero le none = first_tdo board
+  nothing_expected (suc j) le none = absurd (omega (arith, le, none_there j none))
+
+  pub nothing_compared : (j : ℕ) → j ≤ length t.nets → cells_before t.cells j ≡ None → replicate (data_bits board) false ≡ compared_in (board_walk board t) j
+  nothing_compared zero le none = first_mask board
+  nothing_compared (suc j) le none = absurd (omega (arith, le, none_there j none))

@@ -1,15 +1,13 @@
 // The tables of a walk.
-ghost use Rattle.std.specs.Prelude.{◌≡◌, ◌<◌, ◌++◌, ◌∷◌, ◌==◌, [], cond, not, false, is_some, map, length, Some, None, slice_get, slice_index_or, IfOk, OnOk};
+ghost use Rattle.std.specs.Prelude.{◌≡◌, ◌++◌, ◌∷◌, ◌==◌, [], cond, not, is_some, map, length, Some, None, slice_get, IfOk, OnOk};
 ghost use Rattle.std.specs.Option.{option_to_list};
 ghost use Rattle.std.specs.List.{list_any};
 ghost use Rattle.board_defs.specs.Settings.{holds};
-ghost use Rattle.plan_tables.specs.Assigned.{assigned};
 ghost use Rattle.plan_tables.specs.Building.{is_on, enabled_in, is_read_beside};
 ghost use Rattle.scan_planner.specs.Plans.{IsPlanOf};
-ghost use Rattle.tap_defs.specs.board.TestRows.{code_row};
 ghost use Rattle.walk_test.specs.WalkTest.{walk_setting};
-ghost use Rattle.walk_test.specs.Tables.{tdi_of, mask_of, IsWalkOf};
-ghost use Rattle.walk_test.specs.inner.Tables.{observer_in, positions_beside, cells_by, cells_in, nets_in, nets_by, cells_of, AreMade};
+ghost use Rattle.walk_test.specs.Tables.{IsWalkOf};
+ghost use Rattle.walk_test.specs.inner.Tables.{observer_in, positions_beside, cells_by, cells_in, nets_in, nets_by, cells_of, cleared, AreMade};
 
 use crate::tables::{NetCells, WalkRows, WalkTables};
 use board_defs::{Board, Ctl, Items, Setting};
@@ -156,42 +154,13 @@ fn all_cells(
 
 // Sets the cells of the drivers of nets to 0.
 fn clear_drivers(cells: &[NetCells], row: &mut Row)
-    ensures { row.new.bits ≡ assigned (λ c. c.driver) (λ c. false) row.old.bits cells.now }
+    ensures { row.new.bits ≡ cleared row.old.bits cells.now }
 {
     for net in cells {
         if net.driver < row.len() {
             row.set(net.driver, false);
         }
     }
-}
-
-// The row in which no walk net carries 1, from the first row of the only pass of a plan.
-fn still_row(
-    alloc: Global,
-    board: &Board,
-    plan: &Plan,
-    cells: &[NetCells],
-) -> Result<Row, AllocError>
-    requires plan { IsPlanOf board.now plan.now }
-    requires some { 0 < length plan.now.passes }
-    ensures { IfOk result (λ row. row.bits ≡ assigned (λ c. c.driver) (λ c. false) (tdi_of board.now (code_row board.now plan.now.passes (slice_index_or plan.now.passes 0 []) 0)) cells.now) }
-{
-    let mut still = Row::with_room(alloc, board.dr_bits())?;
-    plan.fill_shifted(board, 0, 0, &mut still);
-    clear_drivers(cells, &mut still);
-    Ok(still)
-}
-
-// Where something is compared of the first row of the only pass of a plan.
-fn first_mask(alloc: Global, board: &Board, plan: &Plan) -> Result<Row, AllocError>
-    requires plan { IsPlanOf board.now plan.now }
-    requires some { 0 < length plan.now.passes }
-    ensures { IfOk result (λ row. row.bits ≡ mask_of board.now (code_row board.now plan.now.passes (slice_index_or plan.now.passes 0 []) 0)) }
-{
-    let mut expected = Row::with_room(alloc, board.dr_bits())?;
-    let mut mask = Row::with_room(alloc, board.dr_bits())?;
-    plan.fill_compared(board, 0, 0, &mut expected, &mut mask);
-    Ok(mask)
 }
 
 // The nets that the first of these settings observes, of so many, where there is a setting.
@@ -239,41 +208,28 @@ fn walk_cells(alloc: Global, plan: &Plan, nets: &[u32]) -> Result<Items<NetCells
     Ok(Items::of(first_cells(alloc, plan, plan.passes(), nets)?))
 }
 
-// What the rows share, by a plan with a pass.
-fn shared_rows(
-    alloc: Global,
-    board: &Board,
-    plan: &Plan,
-    cells: &[NetCells],
-) -> Result<WalkRows, AllocError>
-    requires plan { IsPlanOf board.now plan.now }
-    requires some { 0 < length plan.now.passes }
-    ensures still { IfOk result (λ rows. rows.still.bits ≡ assigned (λ c. c.driver) (λ c. false) (tdi_of board.now (code_row board.now plan.now.passes (slice_index_or plan.now.passes 0 []) 0)) cells.now) }
-    ensures mask { IfOk result (λ rows. rows.mask.bits ≡ mask_of board.now (code_row board.now plan.now.passes (slice_index_or plan.now.passes 0 []) 0)) }
-{
-    let still = still_row(alloc, board, plan, cells)?;
-    let mask = first_mask(alloc, board, plan)?;
-    Ok(WalkRows { still, mask })
-}
-
-// The rows of a walk, by its plan and the cells of its nets.
+// What the rows of a walk share, by its plan and the cells of its nets: the first row of the pass, in which no walk net carries 1, and
+// where it is compared. Without a pass they are empty.
 fn walk_rows(
     alloc: Global,
     board: &Board,
     plan: &Plan,
     cells: &[NetCells],
 ) -> Result<WalkRows, AllocError>
-    requires plan { IsPlanOf board.now plan.now }
+    requires { IsPlanOf board.now plan.now }
     ensures { IfOk result (λ rows. AreMade board.now plan.now cells.now rows) }
 {
-    if plan.pass_count() > 0 {
-        shared_rows(alloc, board, plan, cells)
-    } else {
-        Ok(WalkRows {
-            still: Row::with_room(alloc, 0)?,
-            mask: Row::with_room(alloc, 0)?,
-        })
+    let len = board.dr_bits();
+    let mut still = Row::with_room(alloc, len)?;
+    let mut expected = Row::with_room(alloc, len)?;
+    let mut mask = Row::with_room(alloc, len)?;
+    if plan.pass_count() == 0 {
+        return Ok(WalkRows { still, mask });
     }
+    plan.fill_shifted(board, 0, 0, &mut still);
+    clear_drivers(cells, &mut still);
+    plan.fill_compared(board, 0, 0, &mut expected, &mut mask);
+    Ok(WalkRows { still, mask })
 }
 
 /// The tables of a walk, from the plan whose passes are the walk setting, where there is one.

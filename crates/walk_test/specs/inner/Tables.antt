@@ -1,5 +1,5 @@
 -- What serves the proofs alone. What a walk keeps of a board: its plan, its nets with their cells, and what all rows share.
-use Rattle.std.specs.Prelude.{◌≡◌, ℕ, ◌<◌, ◌==◌, Bool, false, not, cond, List, [], length, map, filter, Option, Some, None, is_some, option_and_then, slice_index_or}
+use Rattle.std.specs.Prelude.{◌≡◌, ℕ, zero, suc, ◌<◌, ◌==◌, Bool, false, not, cond, List, [], length, map, filter, Option, Some, None, is_some, option_and_then, slice_get, slice_index_or}
 use Rattle.std.specs.List.{range_with_len}
 use Rattle.board_defs.specs.declared.board.RawBoard.{RawBoard}
 use Rattle.board_defs.specs.declared.board.Ctl.{Ctl}
@@ -14,11 +14,20 @@ use Rattle.plan_tables.specs.Assigned.{assigned}
 use Rattle.plan_tables.specs.Building.{enabled_in, is_read_beside}
 use Rattle.walk_test.specs.declared.tables.NetCells.{NetCells}
 use Rattle.walk_test.specs.declared.tables.WalkRows.{WalkRows}
+use Rattle.walk_test.specs.declared.tables.WalkTables.{WalkTables}
 use Rattle.walk_test.specs.WalkTest.{walk_setting}
 use Rattle.walk_test.specs.Tables.{tdi_of, mask_of}
 
 abbrev pub tdo_of : RawBoard → TestRow → List Bool
 tdo_of board row = tdo_bits (joined (row_bits board (record { now = quiet_row; before = row })))
+
+-- the first row of the first pass of a plan
+abbrev pub first_row : RawBoard → PlanTables → TestRow
+first_row board plan = code_row board plan.passes (slice_index_or plan.passes 0 []) 0
+
+-- a row with the cells of the drivers of these nets at 0
+abbrev pub cleared : List Bool → List NetCells → List Bool
+cleared bits cells = assigned (λ c. c.driver) (λ c. false) bits cells
 
 -- the driver by which a setting observes a net, by the tables of a plan
 abbrev pub observer_in : PlanTables → List Ctl → ℕ → Option NetDriver
@@ -53,8 +62,8 @@ cells_of plan (Some walk) nets = map (cells_in plan walk) nets
 
 -- the rows of a walk as they are made from its plan and the cells of its nets
 pub record AreMade (board : RawBoard) (plan : PlanTables) (cells : List NetCells) (rows : WalkRows) : Type 0 where
-  pub still : 0 < length plan.passes → rows.still.bits ≡ assigned (λ c. c.driver) (λ c. false) (tdi_of board (code_row board plan.passes (slice_index_or plan.passes 0 []) 0)) cells
-  pub mask : 0 < length plan.passes → rows.mask.bits ≡ mask_of board (code_row board plan.passes (slice_index_or plan.passes 0 []) 0)
+  pub still : 0 < length plan.passes → rows.still.bits ≡ cleared (tdi_of board (first_row board plan)) cells
+  pub mask : 0 < length plan.passes → rows.mask.bits ≡ mask_of board (first_row board plan)
 
 -- the controls of the walk setting, and none where the board has no pass
 abbrev pub walk_controls : Option (List Ctl) → List Ctl
@@ -71,3 +80,26 @@ now_of board count j = row_now (walk_row_of board) count j
 
 abbrev pub before_of : RawBoard → ℕ → TestRow
 before_of board j = row_before (walk_row_of board) j
+
+-- a board with the tables of its walk
+pub record BoardWalk : Type 0 where
+  pub board : RawBoard
+  pub tables : WalkTables
+
+abbrev pub board_walk : RawBoard → WalkTables → BoardWalk
+board_walk board tables = record { board = board; tables = tables }
+
+-- what scan j after the EXTEST codes shifts in, what it expects, and where it compares that
+abbrev pub shifted_in : BoardWalk → ℕ → List Bool
+shifted_in it j = tdi_of it.board (now_of it.board (length it.tables.nets) j)
+
+abbrev pub expected_in : BoardWalk → ℕ → List Bool
+expected_in it j = tdo_of it.board (before_of it.board j)
+
+abbrev pub compared_in : BoardWalk → ℕ → List Bool
+compared_in it j = mask_of it.board (before_of it.board j)
+
+-- the cells before those at a place, and none before the first
+abbrev pub cells_before : List NetCells → ℕ → Option NetCells
+cells_before cells zero = None
+cells_before cells (suc j) = slice_get cells j
