@@ -90,11 +90,23 @@ module _ (log : List (List Bool)) (mask : List Bool) (marks : List ℕ) (are : m
       let on : get_or mask at false ≡ true = sym (mark_bit mask marks are at) ∙ r.0 in
       (on, sym (row_bit at on) ∙ r.1)
 
+  -- whether a position is compared and reads 1
+  one_read : (at : ℕ) → is_one row marks at ≡ (get_or mask at false && bit_in log j at)
+  one_read at = by_test (get_or mask at false) refl
+    where
+      by_test : (m : Bool) → get_or mask at false ≡ m → is_one row marks at ≡ (m && bit_in log j at)
+      by_test true on = one_is at (bit_in log j at) on refl
+      by_test false off = ap (λ (m : Bool). m && bit_of row at) (mark_bit mask marks are at ∙ off)
+
+  -- without one no group starts
+  pub not_started : (own none : ℕ) (old : List ℕ) (t : Bool) → t ≡ is_one row marks own → t ≡ false → Decides t (StartsGroup log mask j own none old)
+  not_started own none old t is off = (λ e. let bad : true ≡ false = sym e ∙ off in cc bad, λ s. is ∙ one_read own ∙ s.is_read)
+
   -- where positions are marked, the group of a row starts
   module _ (none : ℕ) (old : List ℕ) (count : length old ≡ length mask) where
-    pub starts : (own : ℕ) → bit_in log j own ≡ true → (t : Bool) → Decides t (IsFresh row marks none old (length old)) → Decides t (StartsGroup log mask j own none old)
-    starts own read t d = (
-      λ e. record { is_read = read; fresh = λ at on one. (d.0 e) at (omega (arith, mask_within mask at on, count)) (omega (arith, mask_within mask at on, count)) (one_is at true on one) },
+    pub starts : (own : ℕ) → is_one row marks own ≡ true → (t : Bool) → Decides t (IsFresh row marks none old (length old)) → Decides t (StartsGroup log mask j own none old)
+    starts own one t d = (
+      λ e. record { is_read = sym (one_read own) ∙ one; fresh = λ at on one. (d.0 e) at (omega (arith, mask_within mask at on, count)) (omega (arith, mask_within mask at on, count)) (one_is at true on one) },
       λ s. d.1 (λ at less same one. let r = is_one_on at one in s.fresh at r.0 r.1),
     )
 

@@ -1,9 +1,9 @@
 -- Rows of a log that are read one after the other: what the first ones tell of the next, and all of them of the labels.
-use Rattle.std.proofs.Common.{◌≡◌, ◌⊎◌, inl, inr, ℕ, suc, ◌+◌, ◌<◌, ◌≤◌, ◌==◌, Bool, true, false, cond, List, [], ◌∷◌, length, map, take, get_or, Decides, Some, nat_lt, replicate, refl, sym, ap, ◌∙◌, subst, arith}
+use Rattle.std.proofs.Common.{◌≡◌, ◌⊎◌, inl, inr, ℕ, suc, ◌+◌, ◌<◌, ◌≤◌, ◌==◌, ◌^◌, Bool, true, false, cond, List, [], ◌∷◌, length, map, take, get_or, Decides, Some, nat_lt, replicate, refl, sym, ap, ◌∙◌, subst, arith}
 use Rattle.std.specs.Prelude.{slice_get, All, Contains}
 use Rattle.std.specs.Bool.{OnFalse, OnTrue}
 use Rattle.std.specs.List.{list_all, flat_map}
-use Rattle.std.proofs.lemmas.Bool.{cases_lt, eqb-true, eq-eqb, lt-ltb, ltb-true, ltb-false, ne_eqb, OnFalse_at, OnTrue_at}
+use Rattle.std.proofs.lemmas.Bool.{and_from, and_parts, cases_lt, eqb-true, eq-eqb, lt-ltb, ltb-true, ltb-false, ne_eqb, OnFalse_at, OnTrue_at}
 use Rattle.std.proofs.lemmas.List.{get_or-replicate, get_or_past, length-replicate, take_more}
 use Rattle.std.proofs.lemmas.List.Sums.{fold-append}
 use Rattle.std.proofs.lemmas.Option.{slice_get_within, slice_get-get_or, get_or_from_slice_get}
@@ -12,8 +12,9 @@ use Rattle.board_defs.proofs.Places.{all_from}
 use Rattle.plan_tables.specs.Assigned.{assigned}
 use Rattle.plan_tables.proofs.AssignLemmas.{assigned_groups, has_mark, length-assigned, mark_has}
 use Rattle.tap_defs.proofs.chain.ListLemmas.{cons_path}
+use Rattle.response_log.specs.LogRows.{HasSize}
 use Rattle.walk_test.specs.declared.tables.NetCells.{NetCells}
-use Rattle.walk_test.specs.inner.Reading.{bit_in, compared_bits, with_compared, first_one, label_of, first_at, first_in, is_even, below, AreCompared, AreSameRows, StartsGroup, AreStarted, IsRowRight, AreRead, ShowsAll}
+use Rattle.walk_test.specs.inner.Reading.{bit_in, compared_bits, with_compared, first_one, label_of, logged_nets, first_at, first_in, is_even, below, AreCompared, AreLoggedNets, HasPlaces, AreSameRows, StartsGroup, AreStarted, IsRowRight, AreRead, ShowsAll}
 use Rattle.walk_test.proofs.GroupLemmas.{all_of}
 use Rattle.walk_test.proofs.LabelLemmas.{first_low, first_holds, first_same, label_is, first_compared, each_shows, shows_each}
 
@@ -58,20 +59,20 @@ module _ (len : ℕ) (nets : List NetCells) where
   bits_are : compared_bits len nets ≡ assigned (λ at. at) (λ at. true) (replicate len false) (flat_map (λ (net : NetCells). net.compared) nets)
   bits_are = assigned_groups (λ at. at) (λ at. true) (λ (net : NetCells). net.compared) nets (replicate len false)
 
-  pub compared_length : (mask : List Bool) → mask ≡ compared_bits len nets → length mask ≡ len
+  compared_length : (mask : List Bool) → mask ≡ compared_bits len nets → length mask ≡ len
   compared_length mask is =
       ap length (is ∙ bits_are) ∙ length-assigned (λ at. at) (λ at. true) (replicate len false) (flat_map (λ (net : NetCells). net.compared) nets) ∙ length-replicate len false
 
-  pub compared_are : (mask : List Bool) → mask ≡ compared_bits len nets → All (λ net. All (λ p. p < len) net.compared) nets → All (λ net. 0 < length net.compared) nets → AreCompared nets mask
-  compared_are mask is within some = record {
+  compared_are : (mask : List Bool) → mask ≡ compared_bits len nets → All (HasPlaces len) nets → AreCompared nets mask
+  compared_are mask is places = record {
     all = λ i at net e contains.
         let has = contains_has net.compared at contains in
         let in_nets = has_at nets i net e in
-        let less = all_of (λ p. p < len) net.compared at (all_of (λ (n : NetCells). All (λ p. p < len) n.compared) nets net within in_nets) has in
+        let less = all_of (λ p. p < len) net.compared at (all_of (HasPlaces len) nets net places in_nets).within has in
         ap (λ (l : List Bool). get_or l at false) (is ∙ bits_are)
         ∙ has_mark (λ at. at) (flat_map (λ (n : NetCells). n.compared) nets) (replicate len false) at (has_flat_map (λ (n : NetCells). n.compared) nets net at in_nets has) (omega (arith, less, length-replicate len false));
     only = λ at on. by_mark at (mark_has (λ at. at) (flat_map (λ (n : NetCells). n.compared) nets) (replicate len false) at (sym (ap (λ (l : List Bool). get_or l at false) (is ∙ bits_are)) ∙ on));
-    some = λ i net e. all_of (λ (n : NetCells). 0 < length n.compared) nets net some (has_at nets i net e);
+    some = λ i net e. (all_of (HasPlaces len) nets net places (has_at nets i net e)).some;
   }
     where
       off : (at : ℕ) → get_or (replicate len false) at false ≡ false
@@ -88,6 +89,15 @@ module _ (len : ℕ) (nets : List NetCells) where
           let r = flat_map_has (λ (n : NetCells). n.compared) nets x has in
           let place = has_place nets r.0 r.1 in
           (place.0, r.0, place.1, subst (λ (k : ℕ). Contains r.0.compared k) same (has_contains r.0.compared x r.2))
+
+-- a log with a row for each net
+pub all_logged : (log : List (List Bool)) (nets : List NetCells) (len : ℕ) (mask : List Bool) → length nets < 2 ^ 32 → HasSize (length nets) len log → All (HasPlaces len) nets → mask ≡ compared_bits len nets → AreLoggedNets (logged_nets log nets mask)
+all_logged log nets len mask few size places is = record {
+  few = omega (arith, few, size.rows);
+  rows = size.rows;
+  bits = subst (λ (n : ℕ). All (λ (row : List Bool). length row ≡ n) log) (sym (compared_length len nets mask is)) size.bits;
+  compared = compared_are len nets mask is places;
+}
 
 module _ (log : List (List Bool)) (mask : List Bool) (nets : List NetCells) (none : ℕ) (all : none ≡ length log) (rows : length log ≡ length nets) (compared : AreCompared nets mask) where
   pub first_on : (j : ℕ) (net : NetCells) → slice_get nets j ≡ Some net → get_or mask (first_at net) false ≡ true
@@ -200,7 +210,7 @@ module _ (log : List (List Bool)) (mask : List Bool) (nets : List NetCells) (non
 
       module _ (starts : StartsGroup log mask j own none firsts) where
         own_here : first_one log own ≡ j
-        own_here = omega (arith, late, first_low log own j starts.is_read)
+        own_here = omega (arith, late, first_low log own j (and_parts (get_or mask own false) (bit_in log j own) starts.is_read).1)
 
         here : (at : ℕ) → get_or mask at false ≡ true → bit_in log j at ≡ true → first_one log at ≡ j
         here at on reads = by_side (cases_lt (first_one log at) j)
@@ -232,7 +242,7 @@ module _ (log : List (List Bool)) (mask : List Bool) (nets : List NetCells) (non
 
       pub start_shown : ShowsAll log (map (label_of log) nets) nets → StartsGroup log mask j own none firsts
       start_shown shows = record {
-        is_read = shown shows j j own net net is_net is_net (first_compared net (compared.some j net is_net)) ∙ eq-eqb (first_one log own) (first_one log own) refl;
+        is_read = and_from (get_or mask own false) (bit_in log j own) (first_on j net is_net) (shown shows j j own net net is_net is_net (first_compared net (compared.some j net is_net)) ∙ eq-eqb (first_one log own) (first_one log own) refl);
         fresh = λ at on reads. by_side at on reads (cases_lt (first_one log at) j);
       }
         where

@@ -31,7 +31,7 @@ use Rattle.walk_test.specs.declared.tables.NetCells.{NetCells}
 use Rattle.walk_test.specs.declared.tables.WalkTables.{WalkTables}
 use Rattle.walk_test.specs.WalkTest.{walk_setting, walk_nets, scans_by}
 use Rattle.walk_test.specs.Groups.{Rise, AreGroups, or_shorts, Explain, AreFound, IsNamed, AreNamed}
-use Rattle.walk_test.specs.inner.Reading.{are_joined, bit_in, label_of, ShowsAll, groups_by}
+use Rattle.walk_test.specs.inner.Reading.{are_joined, bit_in, label_of, HasPlaces, LoggedNets, ShowsAll, groups_by}
 use Rattle.walk_test.specs.Tables.{AreNetCells, AreWalkTables, IsWalkOf}
 use Rattle.walk_test.specs.Laws.{WalkSafe}
 use Rattle.walk_test.proofs.GroupLemmas.{AreOrdered, groups_ordered, all_of, all_from_has, joined_self, joined_same, joined_by}
@@ -189,13 +189,19 @@ module _ (board : RawBoard) (rules : IsBoard board) (cells : List NetCells) (w :
       let n : ℕ = get_or (walk_nets board) at.0 0 in
       (n, w.are.are at.0 n c (slice_get-get_or (walk_nets board) at.0 0 (omega (arith, slice_get_within cells at.0 c at.1, w.are.count))) at.1)
 
-  pub all_within : (len : ℕ) → len ≡ data_bits board → All (λ net. All (λ p. p < len) net.compared) cells
-  all_within len is =
-      all_from_has (λ (net : NetCells). All (λ p. p < len) net.compared) cells
-      (λ c h. all_from_has (λ (p : ℕ). p < len) c.compared (λ p k. let a = net_cells_at c h in omega (arith, is, position_within board rules w.walk a.0 c a.1 p k)))
+  pub all_have_places : (len : ℕ) → len ≡ data_bits board → All (HasPlaces len) cells
+  all_have_places len is =
+      all_from_has (HasPlaces len) cells
+      (λ c h.
+      let a = net_cells_at c h in
+      record {
+        some = a.1.some;
+        within = all_from_has (λ (p : ℕ). p < len) c.compared (λ p k. omega (arith, is, position_within board rules w.walk a.0 c a.1 p k));
+      })
 
-  pub all_compared : All (λ net. 0 < length net.compared) cells
-  all_compared = all_from_has (λ (net : NetCells). 0 < length net.compared) cells (λ c h. let a = net_cells_at c h in a.1.some)
+-- what is said of a log with its nets, by each of the two
+pub by_parts : (it : LoggedNets) (log : List (List Bool)) (cells : List NetCells) → it.log ≡ log → it.nets ≡ cells → (P : List (List Bool) → List NetCells → Type 0) → P it.log it.nets → P log cells
+by_parts it log cells log_is nets_are P p = subst (λ (n : List NetCells). P log n) nets_are (subst (λ (l : List (List Bool)). P l it.nets) log_is p)
 
 -- what follows from what is said of a value that may be there
 pub ok_then : {T E : Type 0} (r : Result T E) {P Q : T → Type 0} → IfOk r P → ((x : T) → P x → Q x) → IfOk r Q

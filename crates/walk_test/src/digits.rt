@@ -1,94 +1,108 @@
 // Rows by the values of their digits, compared many at a time.
 ghost use Rattle.std.specs.Prelude.{◌≡◌, ℕ, ◌+◌, ◌*◌, ◌/◌, ◌≤◌, ◌<◌, ◌^◌, false, length, slice_index_or, Decides};
 ghost use Rattle.std.specs.Bool.{OnTrue};
-ghost use Rattle.std.specs.Int.Bits.{bit_and, bit_xor};
-ghost use Rattle.walk_test.specs.inner.Digits.{is_one, differing};
+ghost use Rattle.walk_test.specs.inner.Digits.{is_one, differing, AreClear};
 
 use bt_bits::digit_bit;
 
 // How many digits are gone through before a test ends the loop. Most digits of a row are 0.
 const BLOCK: usize = 64;
 
-/// Whether a position reads 1 in a row and is compared. The digits of what is compared are as many as those of the row.
+/// A row by the values of its digits, beside as many digits with a 1 for each bit of it that is compared.
+#[derive(Clone, Copy)]
+pub struct MaskedRow<'a> {
+    pub digits: &'a [u8],
+    pub mask: &'a [u8],
+    ghost long: { length mask.now ≡ length digits.now },
+}
+
+// The digit at a place, and 0 past the end.
 #[inline]
-pub fn is_one(row: &[u8], mask: &[u8], at: usize) -> bool
-    requires row { at / 4 < length row.now }
-    requires mask { at / 4 < length mask.now }
-    ensures { result ≡ is_one row.now mask.now at }
+fn digit_at(digits: &[u8], place: usize) -> u8
+    ensures { result ≡ slice_index_or digits.now place 0 }
 {
-    let bit = (at % 4) as u32;
-    digit_bit(mask[at / 4], bit) && digit_bit(row[at / 4], bit)
-}
-
-// Whether the digits from one place up to another read no compared 1.
-#[inline]
-fn are_clear(row: &[u8], mask: &[u8], from: usize, to: usize) -> bool
-    requires row { to ≤ length row.now }
-    requires mask { to ≤ length mask.now }
-    ensures { OnTrue result ((k : ℕ) → from ≤ k → k < to → bit_and (slice_index_or row.now k 0) (slice_index_or mask.now k 0) ≡ 0) }
-{
-    let mut ones = 0u8;
-    for k in from..to {
-        ones |= row[k] & mask[k];
-    }
-    ones == 0
-}
-
-// The end of the blocks of digits from a place on that read no compared 1.
-fn blocks_end(row: &[u8], mask: &[u8], from: usize) -> usize
-    requires from { from ≤ length row.now }
-    requires mask { length mask.now ≡ length row.now }
-    ensures past { from ≤ result }
-    ensures within { result ≤ length row.now }
-    ensures clear { (k : ℕ) → from ≤ k → k < result → bit_and (slice_index_or row.now k 0) (slice_index_or mask.now k 0) ≡ 0 }
-{
-    let mut k = from;
-    while row.len() - k >= BLOCK && are_clear(row, mask, k, k + BLOCK) {
-        k += BLOCK;
-    }
-    k
-}
-
-// The first place from one on whose digit reads a compared 1, or the number of digits.
-fn next_marked(row: &[u8], mask: &[u8], from: usize) -> usize
-    requires from { from ≤ length row.now }
-    requires mask { length mask.now ≡ length row.now }
-    ensures past { from ≤ result }
-    ensures within { result ≤ length row.now }
-    ensures clear { (k : ℕ) → from ≤ k → k < result → bit_and (slice_index_or row.now k 0) (slice_index_or mask.now k 0) ≡ 0 }
-{
-    let mut k = blocks_end(row, mask, from);
-    while k < row.len() && row[k] & mask[k] == 0 {
-        k += 1;
-    }
-    k
-}
-
-/// A later position than this one, with no compared 1 between the two.
-#[inline]
-pub fn position_after(row: &[u8], mask: &[u8], at: usize) -> usize
-    requires few { length row.now < 2 ^ 60 }
-    requires at { at / 4 < length row.now }
-    requires mask { length mask.now ≡ length row.now }
-    ensures past { at < result }
-    ensures none { (p : ℕ) → at < p → p < result → is_one row.now mask.now p ≡ false }
-{
-    if at % 4 < 3 {
-        at + 1
-    } else {
-        4 * next_marked(row, mask, at / 4 + 1)
+    match digits.get(place) {
+        None => 0,
+        Some(digit) => *digit,
     }
 }
 
-/// Whether two rows read the same wherever a position is compared. All digits are gone through, as wide as the machine can.
-pub fn are_alike(row: &[u8], other: &[u8], mask: &[u8]) -> bool
-    requires row { length row.now ≡ length mask.now }
-    requires other { length other.now ≡ length mask.now }
-    ensures { Decides result ((k : ℕ) → k < length mask.now → differing row.now other.now mask.now k ≡ 0) }
-{
-    let mut different = 0u8;
-    for k in 0..mask.len() {
-        different |= (row[k] ^ other[k]) & mask[k];
+impl MaskedRow<'_> {
+    /// Whether a position is compared and reads 1; none past the end does.
+    #[inline]
+    pub fn is_one(&self, at: usize) -> bool
+        ensures { result ≡ is_one self.now.digits.now self.now.mask.now at }
+    {
+        let bit = (at % 4) as u32;
+        digit_bit(digit_at(self.mask, at / 4), bit) && digit_bit(digit_at(self.digits, at / 4), bit)
     }
-    different == 0
+
+    // Whether the digits from one place up to another read no compared 1.
+    #[inline]
+    fn are_clear(&self, from: usize, to: usize) -> bool
+        requires { to ≤ length self.now.digits.now }
+        ensures { OnTrue result (AreClear self.now.digits.now self.now.mask.now from to) }
+    {
+        let mut ones = 0u8;
+        for k in from..to {
+            ones |= self.digits[k] & self.mask[k];
+        }
+        ones == 0
+    }
+
+    // The end of the blocks of digits from a place on that read no compared 1.
+    fn blocks_end(&self, from: usize) -> usize
+        requires { from ≤ length self.now.digits.now }
+        ensures past { from ≤ result }
+        ensures within { result ≤ length self.now.digits.now }
+        ensures clear { AreClear self.now.digits.now self.now.mask.now from result }
+    {
+        let mut k = from;
+        while self.digits.len() - k >= BLOCK && self.are_clear(k, k + BLOCK) {
+            k += BLOCK;
+        }
+        k
+    }
+
+    // The first place from one on whose digit reads a compared 1, or the number of digits.
+    fn next_marked(&self, from: usize) -> usize
+        requires { from ≤ length self.now.digits.now }
+        ensures past { from ≤ result }
+        ensures within { result ≤ length self.now.digits.now }
+        ensures clear { AreClear self.now.digits.now self.now.mask.now from result }
+    {
+        let mut k = self.blocks_end(from);
+        while k < self.digits.len() && self.digits[k] & self.mask[k] == 0 {
+            k += 1;
+        }
+        k
+    }
+
+    /// A later position than this one, with no compared 1 between the two.
+    #[inline]
+    pub fn position_after(&self, at: usize) -> usize
+        requires few { length self.now.digits.now < 2 ^ 60 }
+        requires at { at / 4 < length self.now.digits.now }
+        ensures past { at < result }
+        ensures none { (p : ℕ) → at < p → p < result → is_one self.now.digits.now self.now.mask.now p ≡ false }
+    {
+        if at % 4 < 3 {
+            at + 1
+        } else {
+            4 * self.next_marked(at / 4 + 1)
+        }
+    }
+
+    /// Whether another row of as many digits reads the same wherever a position is compared. All digits are gone through, as wide as
+    /// the machine can.
+    pub fn is_alike(&self, other: &[u8]) -> bool
+        requires { length other.now ≡ length self.now.digits.now }
+        ensures { Decides result ((k : ℕ) → k < length self.now.mask.now → differing self.now.digits.now other.now self.now.mask.now k ≡ 0) }
+    {
+        let mut different = 0u8;
+        for k in 0..self.mask.len() {
+            different |= (self.digits[k] ^ other[k]) & self.mask[k];
+        }
+        different == 0
+    }
 }

@@ -1,5 +1,5 @@
 // The groups that explain a log.
-ghost use Rattle.std.specs.Prelude.{◌≡◌, ◌≤◌, ◌<◌, ◌^◌, ◌++◌, ◌∷◌, ◌==◌, [], length, map, All, option_map, IfOk, OnOk};
+ghost use Rattle.std.specs.Prelude.{◌≡◌, ◌<◌, ◌++◌, ◌==◌, length, map, All, option_map, IfOk, OnOk};
 ghost use Rattle.std.specs.List.{flat_map, range_with_len};
 ghost use Rattle.board_defs.specs.Pins.{data_bits};
 ghost use Rattle.walk_test.specs.Groups.{Rise, AreFound, AreNamed};
@@ -10,6 +10,7 @@ use crate::group::Group;
 use crate::labels::shown_labels;
 use crate::law::walk_safe;
 use crate::walk::Walk;
+use crate::walk_log::WalkLog;
 use board_defs::Board;
 use lists::{Items, blank, note};
 use response_log::Log;
@@ -90,7 +91,8 @@ pub fn groups(
     }
     let nets = tables.nets.as_slice();
     let cells = tables.cells.as_slice();
-    match shown_labels(alloc, log, cells, board.dr_bits())? {
+    let logged = WalkLog::of(alloc, log, cells, board.dr_bits())?;
+    match shown_labels(alloc, &logged)? {
         None => Ok(None),
         Some(labels) => Ok(Some(groups_by(alloc, nets, &labels)?)),
     }

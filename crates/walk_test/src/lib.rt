@@ -17,6 +17,7 @@ mod reading;
 mod setting;
 mod tables;
 mod walk;
+mod walk_log;
 
 pub use group::Group;
 pub use grouping::groups;

@@ -1,5 +1,5 @@
 -- Rows by the values of their digits, and what is marked as one is gone through.
-use Rattle.std.specs.Prelude.{◌≡◌, ℕ, ◌/◌, ◌%◌, ◌<◌, Bool, true, false, ◌&&◌, List, length, slice_index_or}
+use Rattle.std.specs.Prelude.{◌≡◌, ℕ, ◌/◌, ◌%◌, ◌<◌, ◌≤◌, Bool, true, false, ◌&&◌, List, length, slice_index_or}
 use Rattle.std.specs.Int.Bits.{bit_and, bit_xor}
 use Rattle.bt_bits.specs.Digits.{digit_bit}
 
@@ -10,6 +10,10 @@ bit_of digits at = digit_bit (slice_index_or digits (at / 4) 0) (at % 4)
 -- a position is compared and reads 1
 abbrev pub is_one : List ℕ → List ℕ → ℕ → Bool
 is_one row mask at = bit_of mask at && bit_of row at
+
+-- the digits from one place up to another read no compared 1
+abbrev pub AreClear : List ℕ → List ℕ → ℕ → ℕ → Type 0
+AreClear row mask from to = (k : ℕ) → from ≤ k → k < to → bit_and (slice_index_or row k 0) (slice_index_or mask k 0) ≡ 0
 
 -- the compared bits of a digit in which two rows differ
 abbrev pub differing : List ℕ → List ℕ → List ℕ → ℕ → ℕ

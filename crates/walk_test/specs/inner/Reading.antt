@@ -1,5 +1,5 @@
 -- How walk nets read one another, and what a log shows of it.
-use Rattle.std.specs.Prelude.{◌≡◌, ℕ, suc, ◌<◌, ◌≤◌, ◌==◌, nat_le, nat_lt, Bool, true, false, cond, ◌||◌, List, [], ◌∷◌, length, fold, replicate, Option, Some, None, slice_get, slice_index_or, Contains}
+use Rattle.std.specs.Prelude.{◌≡◌, ℕ, suc, ◌<◌, ◌≤◌, ◌==◌, nat_le, nat_lt, ◌^◌, Bool, true, false, cond, ◌&&◌, ◌||◌, List, [], ◌∷◌, length, fold, replicate, Option, Some, None, slice_get, slice_index_or, All, Contains}
 use Rattle.std.specs.List.{list_all, flat_map, range_with_len}
 use Rattle.board_defs.specs.Pins.{is_same}
 use Rattle.tap_defs.specs.board.NetBits.{is_in_short}
@@ -54,13 +54,34 @@ pub record AreCompared (nets : List NetCells) (mask : List Bool) : Type 0 where
   pub only : (at : ℕ) → slice_index_or mask at false ≡ true → (i : ℕ) × (net : NetCells) × (slice_get nets i ≡ Some net) × Contains net.compared at
   pub some : (i : ℕ) (net : NetCells) → slice_get nets i ≡ Some net → 0 < length net.compared
 
+-- a net has positions at which it is compared, each within a row of so many bits
+pub record HasPlaces (len : ℕ) (net : NetCells) : Type 0 where
+  pub some : 0 < length net.compared
+  pub within : All (λ at. at < len) net.compared
+
+-- a log, the nets whose rows it has, and where a row is compared
+pub record LoggedNets : Type 0 where
+  pub log : List (List Bool)
+  pub nets : List NetCells
+  pub mask : List Bool
+
+abbrev pub logged_nets : List (List Bool) → List NetCells → List Bool → LoggedNets
+logged_nets log nets mask = record { log = log; nets = nets; mask = mask }
+
+-- each net has a row, and each row is compared at the positions of the nets
+pub record AreLoggedNets (it : LoggedNets) : Type 0 where
+  pub few : length it.log < 2 ^ 32
+  pub rows : length it.log ≡ length it.nets
+  pub bits : All (λ row. length row ≡ length it.mask) it.log
+  pub compared : AreCompared it.nets it.mask
+
 -- two rows read the same wherever a position is compared
 abbrev pub AreSameRows : List (List Bool) → List Bool → ℕ → ℕ → Type 0
 AreSameRows log mask j other = (at : ℕ) → slice_index_or mask at false ≡ true → bit_in log j at ≡ bit_in log other at
 
--- row j starts a group of the net with position own, where each position that has a row has the first one before row j in which it reads 1
+-- row j starts a group of the net with position own: this is compared and reads 1, and no position that does has a row before row j
 pub record StartsGroup (log : List (List Bool)) (mask : List Bool) (j own none : ℕ) (firsts : List ℕ) : Type 0 where
-  pub is_read : bit_in log j own ≡ true
+  pub is_read : (slice_index_or mask own false && bit_in log j own) ≡ true
   pub fresh : (at : ℕ) → slice_index_or mask at false ≡ true → bit_in log j at ≡ true → slice_index_or firsts at none ≡ none
 
 -- the compared positions that read 1 in row j have this row, and the other ones what they had

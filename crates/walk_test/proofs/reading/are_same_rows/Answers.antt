@@ -1,21 +1,12 @@
-use Rattle.std.proofs.Common.{ℕ, [], get_or, subst}
-use Rattle.response_log.specs.Kept.{AreRowDigits}
-use Rattle.walk_test.proofs.MaskLemmas.{row_count, same_rows}
+use Rattle.std.proofs.Common.{ℕ, List, length, ap, sym, ◌∙◌}
+use Rattle.walk_test.proofs.MaskLemmas.{same_rows}
 use Rattle.walk_test.proofs.reading.are_same_rows.Goals as goal
 
-pub are_alike-requires-clause-row : goal.are_alike-requires-clause-row
-are_alike-requires-clause-row c =
-    let digits = subst (λ (k : ℕ). AreRowDigits (get_or c.args.log.now k []) c.digits-row.result.now) c.from.ensures c.digits-row.ensures in
-    row_count c.args.log.now c.args.mask.now.bits c.digits-2.result.now c.digits-2.ensures c.args.j c.digits-row.result.now digits (c.requires.bits c.args.j [] c.requires.row)
-
-pub are_alike-requires-clause-other : goal.are_alike-requires-clause-other
-are_alike-requires-clause-other c =
-    let digits = subst (λ (k : ℕ). AreRowDigits (get_or c.args.log.now k []) c.digits.result.now) c.from-2.ensures c.digits.ensures in
-    row_count c.args.log.now c.args.mask.now.bits c.digits-2.result.now c.digits-2.ensures c.args.other c.digits.result.now digits (c.requires.bits c.args.other [] c.requires.other)
+pub is_alike-requires : goal.is_alike-requires
+is_alike-requires c = sym c.row-2.result.long ∙ ap (λ (l : List ℕ). length l) (c.row-2.ensures.mask ∙ sym c.row.ensures.mask) ∙ c.row.result.long
 
 pub returns : goal.returns
 returns c =
-    let digits = subst (λ (k : ℕ). AreRowDigits (get_or c.args.log.now k []) c.digits-row.result.now) c.from.ensures c.digits-row.ensures in
-    let its = subst (λ (k : ℕ). AreRowDigits (get_or c.args.log.now k []) c.digits.result.now) c.from-2.ensures c.digits.ensures in
-    same_rows c.args.log.now c.args.mask.now.bits c.digits-2.result.now c.digits-2.ensures c.args.j c.args.other c.digits-row.result.now c.digits.result.now digits its
-    (c.requires.bits c.args.j [] c.requires.row) (c.requires.bits c.args.other [] c.requires.other) c.are_alike.result c.are_alike.ensures
+    let log = c.args.log.now in
+    same_rows log.log log.mask c.row.result.mask.now c.row.ensures.mask c.args.j c.args.other c.row.result.digits.now c.row-2.result.digits.now c.row.ensures.digits c.row-2.ensures.digits
+    c.row.ensures.bits c.row-2.ensures.bits c.is_alike.result c.is_alike.ensures

@@ -7,8 +7,8 @@ use Rattle.walk_test.proofs.reading.mark_row.Goals.{then-is_one+else-firsts-at, 
 
 pub loop-at-preserved : goal.loop-at-preserved
 loop-at-preserved c =
-    let row = c.args.row.now in
-    let mask = c.args.mask.now in
+    let row = c.args.row.now.digits.now in
+    let mask = c.args.row.now.mask.now in
     let none = c.args.none in
     let old = c.args.firsts.now in
     let now = c.loop-at.firsts in

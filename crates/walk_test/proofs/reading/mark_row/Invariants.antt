@@ -6,8 +6,8 @@ use Rattle.walk_test.proofs.reading.mark_row.Given as goal
 abbrev pub invariant-loop-at : goal.invariant-loop-at
 invariant-loop-at l = record {
   long : length l.firsts ≡ length l.fn.firsts;
-  fresh : IsFresh l.row l.mask l.none l.fn.firsts l.at;
-  marked : IsMarked l.row l.mask l.j l.none l.fn.firsts l.firsts l.at;
+  fresh : IsFresh l.row.digits.now l.row.mask.now l.none l.fn.firsts l.at;
+  marked : IsMarked l.row.digits.now l.row.mask.now l.j l.none l.fn.firsts l.firsts l.at;
   left : (p : ℕ) → l.at ≤ p → get_or l.firsts p l.none ≡ get_or l.fn.firsts p l.none;
 }
 

@@ -6,5 +6,5 @@ use Rattle.walk_test.proofs.reading.read_rows.Given as goal
 abbrev pub invariant-loop-j : goal.invariant-loop-j
 invariant-loop-j l = record {
   long : length l.firsts ≡ length l.fn.firsts;
-  read : AreRead l.log l.mask.bits l.nets l.none l.j l.firsts;
+  read : AreRead l.log.log l.log.mask l.log.nets l.none l.j l.firsts;
 }

@@ -1,27 +1,31 @@
-use Rattle.std.proofs.Common.{◌≡◌, ℕ, true, [], get_or, sym, subst, ap, ◌∙◌}
+use Rattle.std.proofs.Common.{ℕ, ap, sym, ◌∙◌}
 use Rattle.std.proofs.lemmas.Bool.{OnTrue_at, OnTrue_from}
-use Rattle.response_log.specs.Kept.{AreRowDigits}
-use Rattle.walk_test.specs.inner.Reading.{bit_in, AreStarted}
-use Rattle.walk_test.proofs.MaskLemmas.{row_count, starts, started}
+use Rattle.bt_bits.specs.Hex.{digit_count}
+use Rattle.walk_test.specs.inner.Reading.{AreStarted}
+use Rattle.walk_test.proofs.MaskLemmas.{marks_count, not_started, starts, started}
 use Rattle.walk_test.proofs.reading.start_group.Goals as goal
 
-pub mark_row-requires-clause-mask : goal.mark_row-requires-clause-mask
-mark_row-requires-clause-mask c =
-    let digits = subst (λ (k : ℕ). AreRowDigits (get_or c.args.log.now k []) c.digits.result.now) c.from-row.ensures c.digits.ensures in
-    sym (row_count c.args.log.now c.args.mask.now.bits c.digits-then-bit_in.result.now c.digits-then-bit_in.ensures c.args.j c.digits.result.now digits (c.requires.bits c.args.j [] c.requires.row))
+pub mark_row-requires : goal.mark_row-requires
+mark_row-requires c =
+    let row = c.row-row in
+    sym row.result.long ∙ marks_count c.args.log.now.mask row.result.mask.now row.ensures.mask ∙ ap (λ (n : ℕ). digit_count n) (sym c.requires.firsts)
 
-pub returns-then-bit_in-clause-starts : goal.returns-then-bit_in-clause-starts
-returns-then-bit_in-clause-starts c =
-    let digits = subst (λ (k : ℕ). AreRowDigits (get_or c.args.log.now k []) c.digits.result.now) c.from-row.ensures c.digits.ensures in
-    let read : bit_in c.args.log.now c.args.j c.args.at ≡ true = ap (λ (k : ℕ). bit_in c.args.log.now k c.args.at) (sym c.from-row.ensures) ∙ sym c.bit_in.ensures ∙ c.if-bit_in.true in
-    starts c.args.log.now c.args.mask.now.bits c.digits-then-bit_in.result.now c.digits-then-bit_in.ensures c.args.j c.digits.result.now digits (c.requires.bits c.args.j [] c.requires.row)
-    c.args.none c.args.firsts.now c.requires.firsts c.args.at read c.mark_row.result c.mark_row.ensures.fresh
+pub returns-else-is_one-clause-starts : goal.returns-else-is_one-clause-starts
+returns-else-is_one-clause-starts c =
+    let row = c.row-row in
+    not_started c.args.log.now.log c.args.log.now.mask row.result.mask.now row.ensures.mask c.args.j row.result.digits.now row.ensures.digits row.ensures.bits
+    c.args.at c.args.none c.args.firsts.now c.is_one.result c.is_one.ensures c.if-is_one.false
 
-pub returns-then-bit_in-clause-started : goal.returns-then-bit_in-clause-started
-returns-then-bit_in-clause-started c =
+pub returns-then-is_one-clause-starts : goal.returns-then-is_one-clause-starts
+returns-then-is_one-clause-starts c =
+    let row = c.row-row in
+    starts c.args.log.now.log c.args.log.now.mask row.result.mask.now row.ensures.mask c.args.j row.result.digits.now row.ensures.digits row.ensures.bits
+    c.args.none c.args.firsts.now c.requires.firsts c.args.at (sym c.is_one.ensures ∙ c.if-is_one.true) c.mark_row.result c.mark_row.ensures.fresh
+
+pub returns-then-is_one-clause-started : goal.returns-then-is_one-clause-started
+returns-then-is_one-clause-started c =
+    let row = c.row-row in
     let log = c.args.log.now in
-    let mask = c.args.mask.now.bits in
-    let digits = subst (λ (k : ℕ). AreRowDigits (get_or log k []) c.digits.result.now) c.from-row.ensures c.digits.ensures in
-    OnTrue_from c.mark_row.result (AreStarted log mask c.args.j c.args.none c.args.firsts.now c.mark_row.new.firsts)
-    (λ is. started log mask c.digits-then-bit_in.result.now c.digits-then-bit_in.ensures c.args.j c.digits.result.now digits (c.requires.bits c.args.j [] c.requires.row)
+    OnTrue_from c.mark_row.result (AreStarted log.log log.mask c.args.j c.args.none c.args.firsts.now c.mark_row.new.firsts)
+    (λ is. started log.log log.mask row.result.mask.now row.ensures.mask c.args.j row.result.digits.now row.ensures.digits row.ensures.bits
     c.args.none c.args.firsts.now c.requires.firsts c.mark_row.new.firsts (OnTrue_at is c.mark_row.ensures.marked))

@@ -1,8 +1,9 @@
 use Rattle.std.proofs.Common.{◌/◌, ◌%◌, get_or, arith}
 use Rattle.walk_test.proofs.DigitLemmas.{clear_bit}
-use Rattle.walk_test.proofs.digits.position_after.Goals as goal
+use Rattle.walk_test.proofs.digits.MaskedRow.position_after.Goals as goal
 
 pub returns-else-at-lt3-clause-none : goal.returns-else-at-lt3-clause-none
 returns-else-at-lt3-clause-none c p past before =
-    clear_bit (get_or c.args.row.now (p / 4) 0) (get_or c.args.mask.now (p / 4) 0) (p % 4)
+    let row = c.args.self.now in
+    clear_bit (get_or row.digits.now (p / 4) 0) (get_or row.mask.now (p / 4) 0) (p % 4)
     (c.next_marked.ensures.clear (p / 4) (omega (arith, past, c.if-at-lt3.false)) (omega (arith, before)))

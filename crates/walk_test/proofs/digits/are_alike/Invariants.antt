@@ -1,9 +1,0 @@
-use Rattle.std.proofs.Common.{◌≡◌, ℕ, ◌<◌}
-use Rattle.walk_test.specs.inner.Digits.{differing}
-use Rattle.walk_test.proofs.digits.are_alike.Given as goal
-
-abbrev pub invariant-loop-k : goal.invariant-loop-k
-invariant-loop-k l = record {
-  same : l.different ≡ 0 → (i : ℕ) → i < l.k → differing l.row l.other l.mask i ≡ 0;
-  none : ((i : ℕ) → i < l.k → differing l.row l.other l.mask i ≡ 0) → l.different ≡ 0;
-}

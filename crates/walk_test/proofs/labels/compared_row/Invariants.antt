@@ -1,9 +1,0 @@
-use Rattle.std.proofs.Common.{◌≡◌, length, take}
-use Rattle.walk_test.specs.inner.Reading.{compared_bits}
-use Rattle.walk_test.proofs.labels.compared_row.Given as goal
-
-abbrev pub invariant-loop-net : goal.invariant-loop-net
-invariant-loop-net l = record {
-  bits : l.row.bits ≡ compared_bits l.len (take l.net-index l.nets);
-  long : length l.row.bits ≡ l.len;
-}

@@ -1,0 +1,106 @@
+// A log of the walking test, beside the walk nets whose rows it has.
+ghost use Rattle.std.specs.Prelude.{◌≡◌, ◌<◌, ◌^◌, [], length, slice_index_or, All, IfOk};
+ghost use Rattle.bt_bits.specs.Digits.{digits_of};
+ghost use Rattle.response_log.specs.Kept.{AreRowDigits};
+ghost use Rattle.response_log.specs.LogRows.{HasSize};
+ghost use Rattle.walk_test.specs.inner.Reading.{compared_bits, AreLoggedNets, HasPlaces};
+
+use crate::digits::MaskedRow;
+use crate::filling::set_all;
+use crate::tables::NetCells;
+use bt_bits::Row;
+use response_log::Log;
+use std::alloc::{AllocError, Global};
+use std::marker::Model;
+
+/// A log with the cells of the nets whose rows it has, and what is compared of each row: the bits at the positions of these cells.
+#[derive(Drop)]
+pub struct WalkLog<'a> {
+    log: &'a Log,
+    nets: &'a [NetCells],
+    mask: Row,
+}
+
+impl<'a> Model for WalkLog<'a> {
+    ghost use Rattle.walk_test.specs.inner.Reading.{AreLoggedNets, LoggedNets, logged_nets};
+
+    ghost Value = { LoggedNets };
+
+    ghost view = { λ a. logged_nets a.log.now a.nets.now a.mask.bits };
+
+    ghost invariant = { λ a. AreLoggedNets (logged_nets a.log.now a.nets.now a.mask.bits) };
+}
+
+// A row of so many bits, those of them 1 that are compared.
+fn compared_row(alloc: Global, nets: &[NetCells], len: u32) -> Result<Row, AllocError>
+    ensures { IfOk result (λ row. row.bits ≡ compared_bits len nets.now) }
+{
+    let mut row = Row::with_room(alloc, len)?;
+    row.clear(len);
+    for net in nets {
+        set_all(net.compared.as_slice(), &mut row);
+    }
+    Ok(row)
+}
+
+impl<'a> WalkLog<'a> {
+    /// The log, which has a row of so many bits for each of these nets.
+    pub fn of(
+        alloc: Global,
+        log: &'a Log,
+        nets: &'a [NetCells],
+        len: u32,
+    ) -> Result<WalkLog<'a>, AllocError>
+        requires few { length nets.now < 2 ^ 32 }
+        requires size { HasSize (length nets.now) len log.now }
+        requires places { All (HasPlaces len) nets.now }
+        ensures log { IfOk result (λ logged. logged.log ≡ log.now) }
+        ensures nets { IfOk result (λ logged. logged.nets ≡ nets.now) }
+    {
+        let mask = compared_row(alloc, nets, len)?;
+        Ok(WalkLog { log, nets, mask })
+    }
+
+    /// Does nothing: its clause is what is known of the log.
+    pub fn laws(&self)
+        ensures { AreLoggedNets self.now }
+    {
+        let _known = &self.log;
+    }
+
+    /// The cells of the nets.
+    pub fn nets(&self) -> &[NetCells]
+        ensures { result.now ≡ self.now.nets }
+    {
+        self.nets
+    }
+
+    /// How many rows the log has.
+    #[inline]
+    pub fn rows(&self) -> u32
+        ensures { result ≡ length self.now.log }
+    {
+        self.log.rows() as u32
+    }
+
+    /// How many bits each row has.
+    pub fn len(&self) -> u32
+        ensures { result ≡ length self.now.mask }
+    {
+        self.mask.len()
+    }
+
+    /// Row `j`, with what is compared of it.
+    #[inline]
+    pub fn row(&self, j: u32) -> MaskedRow<'_>
+        requires { j < length self.now.log }
+        ensures digits { AreRowDigits (slice_index_or self.now.log j []) result.digits.now }
+        ensures mask { result.mask.now ≡ digits_of self.now.mask }
+        ensures bits { length (slice_index_or self.now.log j []) ≡ length self.now.mask }
+    {
+        MaskedRow {
+            digits: self.log.digits(u64::from(j)),
+            mask: self.mask.digits(),
+        }
+    }
+}
