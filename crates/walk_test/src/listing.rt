@@ -1,9 +1,9 @@
 // The text of a set of groups.
-ghost use Rattle.std.specs.Prelude.{◌≡◌, ◌++◌, ◌<◌, [], length, All, Some, option_map};
+ghost use Rattle.std.specs.Prelude.{◌≡◌, ◌++◌, [], length, option_map};
 ghost use Rattle.std.specs.List.{flat_map};
 ghost use Rattle.bt_base.specs.Puts.{Puts};
 ghost use Rattle.line_printer.specs.Prints.{Prints};
-ghost use Rattle.walk_test.specs.Groups.{IsNamed, AreNamed};
+ghost use Rattle.walk_test.specs.Groups.{AreNamed};
 ghost use Rattle.walk_test.specs.GroupText.{net_name, net_line, group_text, count_line, groups_text};
 
 use crate::group::Group;
@@ -12,12 +12,14 @@ use board_defs::Board;
 use bt_base::{PutFault, Sink};
 use bt_bits::Line;
 
-// The name of a net.
+// The name of a net; empty for a number that no net has.
 fn net_name(board: &Board, n: u32) -> &[u8]
-    requires { n < length board.now.nets }
     ensures { result.now ≡ net_name board.now n }
 {
-    board.raw().nets.as_slice()[n as usize].name.bytes()
+    match board.raw().nets.as_slice().get(n as usize) {
+        None => &[],
+        Some(net) => net.name.bytes(),
+    }
 }
 
 fn put_numbered<K: Sink>(
@@ -26,7 +28,6 @@ fn put_numbered<K: Sink>(
     line: &mut Line,
     out: &mut K,
 ) -> Result<(), PutFault>
-    requires { n < length board.now.nets }
     ensures { Prints (K.shown out.old) (K.shown out.new) [] [] (net_line board.now n) result }
 {
     put_net(net_name(board, n), line, out)
@@ -38,7 +39,6 @@ fn put_nets<K: Sink>(
     line: &mut Line,
     out: &mut K,
 ) -> Result<(), PutFault>
-    requires { IsNamed board.now nets.now }
     ensures { Prints (K.shown out.old) (K.shown out.new) [] [] (flat_map (net_line board.now) nets.now) result }
 {
     for n in nets {
@@ -54,7 +54,6 @@ fn put_members<K: Sink>(
     line: &mut Line,
     out: &mut K,
 ) -> Result<(), PutFault>
-    requires { IsNamed board.now nets.now }
     ensures { Prints (K.shown out.old) (K.shown out.new) [] [] (group_text board.now nets.now) result }
 {
     put_size(nets.len() as u64, line, out)?;
@@ -67,7 +66,6 @@ fn put_group<K: Sink>(
     line: &mut Line,
     out: &mut K,
 ) -> Result<(), PutFault>
-    requires { IsNamed board.now group.now }
     ensures { Prints (K.shown out.old) (K.shown out.new) [] [] (group_text board.now group.now) result }
 {
     put_members(board, group.nets(), line, out)
@@ -79,7 +77,6 @@ fn put_groups<K: Sink>(
     line: &mut Line,
     out: &mut K,
 ) -> Result<(), PutFault>
-    requires { All (IsNamed board.now) groups.now }
     ensures { Prints (K.shown out.old) (K.shown out.new) [] [] (flat_map (group_text board.now) groups.now) result }
 {
     for group in groups {
@@ -95,7 +92,6 @@ fn put_all<K: Sink>(
     line: &mut Line,
     out: &mut K,
 ) -> Result<(), PutFault>
-    requires { All (IsNamed board.now) groups.now }
     ensures { Prints (K.shown out.old) (K.shown out.new) [] [] (count_line (length groups.now) ++ flat_map (group_text board.now) groups.now) result }
 {
     put_count(groups.len() as u64, line, out)?;
