@@ -1,17 +1,18 @@
 -- What a walk fills in.
 use Rattle.std.specs.Prelude.{◌≡◌, ℕ, ◌<◌, ◌≤◌, Bool, true, false, List, length, Some, slice_get, slice_index_or}
 use Rattle.std.specs.List.{list_any}
+use Rattle.board_defs.specs.Limits.{most_bits}
 use Rattle.board_defs.specs.declared.board.RawBoard.{RawBoard}
 use Rattle.tap_defs.specs.declared.scan.Shape.{Shape}
 use Rattle.tap_defs.specs.chain.Scan.{scan_bits}
 use Rattle.walk_test.specs.WalkTest.{walk_scans}
 
--- the rows are scan k of the walking test, in the form in which it is written: they have one length, from 1 to 65,535; something is
+-- the rows are scan k of the walking test, in the form in which it is written: they have one length, from 1 to the most bits of a board; something is
 -- compared exactly where the mask has a 1; and a bit of TDO is 1 only where that of the mask is 1
 pub record FillsWalk (board : RawBoard) (k : ℕ) (shape : Shape) (tdi tdo mask : List Bool) : Type 0 where
   pub scan : slice_get (walk_scans board) k ≡ Some (record { ir = shape.ir; bits = scan_bits tdi tdo mask })
   pub some : 0 < length tdi
-  pub most : length tdi ≤ 65535
+  pub most : length tdi ≤ most_bits
   pub tdo_length : length tdo ≡ length tdi
   pub mask_length : length mask ≡ length tdi
   pub compare : shape.compare ≡ list_any (λ bit. bit) mask
