@@ -3,7 +3,7 @@ use Rattle.std.proofs.Common.{◌≡◌, ◌⊎◌, inl, inr, Result, Ok, Err, �
 use Rattle.std.specs.Prelude.{slice_get, filter, option_map, option_and_then, IfOk}
 use Rattle.std.specs.List.{list_any, flat_map}
 use Rattle.std.specs.Cmp.{both_ways as same_answer}
-use Rattle.std.proofs.lemmas.Bool.{and_from, or_cases, not-true}
+use Rattle.std.proofs.lemmas.Bool.{and_from, and_parts, or_cases, not-true}
 use Rattle.std.proofs.Math.Bool.{and-false, or-false}
 use Rattle.std.proofs.lemmas.List.{take_more}
 use Rattle.std.proofs.lemmas.List.Elements.{filter_agree}
@@ -29,7 +29,7 @@ use Rattle.board_defs.proofs.Ordered.{order_filter, order_pairs}
 use Rattle.board_defs.proofs.Pairwise.{safe_within}
 use Rattle.board_defs.proofs.PassSettings.{holds_inserted}
 use Rattle.board_defs.proofs.PassesKept.{Tested, tested_has, tested_can_drive, fold_keeps}
-use Rattle.board_defs.proofs.Places.{below_at, any_place}
+use Rattle.board_defs.proofs.Places.{below_at}
 use Rattle.scan_planner.specs.Laws.{PlansUseful}
 use Rattle.scan_planner.specs.Plans.{ArePlannable}
 use Rattle.walk_test.specs.WalkTest.{is_switched_by, switches_some, without_switching, walk_setting}
@@ -150,12 +150,31 @@ left_order p pass order =
     let R : Ctl → Ctl → Type 0 = λ a b. Rattle.std.specs.Prelude.IsTrue (precedes a b) in
     order_pairs R (filter p pass) (order_filter R p pass (pairs_order R pass order))
 
+-- a control is left where the pass holds it and the test keeps it
+held_left : (p : Ctl → Bool) (pass : List Ctl) (c : Ctl) → holds (filter p pass) c ≡ (holds pass c && p c)
+held_left p [] c = refl
+held_left p (d ∷ pass) c = by_tests (p d) (same_ctl c d) refl refl (held_left p pass c)
+  where
+    by_tests : (kept same : Bool) → p d ≡ kept → same_ctl c d ≡ same → holds (filter p pass) c ≡ (holds pass c && p c) → holds (cond kept (d ∷ filter p pass) (filter p pass)) c ≡ ((same || holds pass c) && p c)
+    by_tests true true e f rest = ap (λ (b : Bool). b || holds (filter p pass) c) f ∙ sym (ap p (same_equal c d f) ∙ e)
+    by_tests true false e f rest = ap (λ (b : Bool). b || holds (filter p pass) c) f ∙ rest
+    by_tests false true e f rest =
+        let off : p c ≡ false = ap p (same_equal c d f) ∙ e in
+        rest ∙ ap (λ (b : Bool). holds pass c && b) off ∙ and-false (holds pass c) ∙ sym off
+    by_tests false false e f rest = rest
+
 -- what the setting holds, the pass holds, and it is no control of a switching driver
 pub setting_held : (board : RawBoard) (pass : List Ctl) (c : Ctl) → holds (without_switching board pass) c ≡ true → (holds pass c ≡ true) × (switches_some board c ≡ false)
 setting_held board pass c h =
-    let r = any_place (same_ctl c) (without_switching board pass) h in
-    let f = filter_has (λ d. not (switches_some board d)) pass r.item (has_at (without_switching board pass) r.place r.item r.stands) in
-    (has_any (same_ctl c) pass r.item f.0 r.passes, not-true (switches_some board c) (subst (λ (d : Ctl). not (switches_some board d) ≡ true) (sym (same_equal c r.item r.passes)) f.1))
+    let r = and_parts (holds pass c) (not (switches_some board c)) (sym (held_left (λ d. not (switches_some board d)) pass c) ∙ h) in
+    (r.0, not-true (switches_some board c) r.1)
+
+-- and so it holds all of them
+pub setting_kept : (board : RawBoard) (pass setting : List Ctl) (c : Ctl) → slice_get (passes_of board) 0 ≡ Some pass → walk_setting board ≡ Some setting → holds setting c ≡ (holds pass c && not (switches_some board c))
+setting_kept board pass setting c first is =
+    let made : Some (without_switching board pass) ≡ Some setting = ap (λ (o : Option (List Ctl)). option_map (without_switching board) o) (sym first) ∙ is in
+    let same : without_switching board pass ≡ setting = cc made in
+    ap (λ (s : List Ctl). holds s c) (sym same) ∙ held_left (λ d. not (switches_some board d)) pass c
 
 -- the walk setting is made of the first pass
 pub record FirstPass (board : RawBoard) (setting : List Ctl) : Type 0 where

@@ -1,20 +1,25 @@
 -- The laws of the walking test.
-use Rattle.std.specs.Prelude.{◌≡◌, ℕ, Bool, List, length, Some}
+use Rattle.std.specs.Prelude.{◌≡◌, ℕ, Bool, ◌&&◌, not, List, length, Some, slice_get}
 use Rattle.board_defs.specs.declared.board.RawBoard.{RawBoard}
 use Rattle.board_defs.specs.declared.board.Ctl.{Ctl}
 use Rattle.board_defs.specs.BoardRules.{IsBoard}
+use Rattle.board_defs.specs.Passes.{passes_of}
 use Rattle.board_defs.specs.Settings.{IsSafe, holds}
 use Rattle.tap_defs.specs.board.BoardTest.{IsHarmless}
 use Rattle.tap_defs.specs.board.Explaining.{AgreeOn}
 use Rattle.tap_defs.specs.board.FaultSet.{IsFaultSet}
 use Rattle.walk_test.specs.declared.tables.WalkTables.{WalkTables}
-use Rattle.walk_test.specs.WalkTest.{walk_setting, walk_row_list, walk_scans, board_walk_text}
+use Rattle.walk_test.specs.WalkTest.{switches_some, walk_setting, walk_row_list, walk_scans, board_walk_text}
 use Rattle.walk_test.specs.Groups.{AreGroups, or_shorts, Explain}
 use Rattle.walk_test.specs.Tables.{IsWalkOf, scan_count}
 
 -- the walk setting is safe
 abbrev pub WalkSafe : Type 0
 WalkSafe = (board : RawBoard) (walk : List Ctl) → IsBoard board → walk_setting board ≡ Some walk → IsSafe board (holds walk)
+
+-- the walk setting holds those controls of the first pass that are of no switching driver
+abbrev pub WalkKept : Type 0
+WalkKept = (board : RawBoard) (pass walk : List Ctl) (c : Ctl) → slice_get (passes_of board) 0 ≡ Some pass → walk_setting board ≡ Some walk → holds walk c ≡ (holds pass c && not (switches_some board c))
 
 -- the walk text passes on the board without faults, and is quiet whatever is faulty
 abbrev pub WalkHarmless : Type 0

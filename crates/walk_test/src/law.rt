@@ -3,7 +3,7 @@ ghost use Rattle.std.specs.Prelude.{ℕ, Bool, List, Option};
 ghost use Rattle.board_defs.specs.declared.board.RawBoard.{RawBoard};
 ghost use Rattle.board_defs.specs.BoardRules.{IsBoard};
 ghost use Rattle.walk_test.specs.Groups.{AreFound};
-ghost use Rattle.walk_test.specs.Laws.{WalkSafe, WalkHarmless, ShortsAreFaults, GroupsRespond, OneResponse, OneSet, ScansCounted};
+ghost use Rattle.walk_test.specs.Laws.{WalkSafe, WalkKept, WalkHarmless, ShortsAreFaults, GroupsRespond, OneResponse, OneSet, ScansCounted};
 
 use board_defs::law as board_law;
 use tap_defs::board_law::{
@@ -16,6 +16,11 @@ pub fn walk_safe()
 {
     board_law::passes_kept();
 }
+
+/// The walk setting holds a control exactly where the first pass does and it is of no switching driver.
+pub fn walk_kept()
+    ensures { WalkKept }
+{}
 
 /// The text of the walking test passes on the board without faults, and is quiet whatever is faulty.
 pub fn walk_harmless()
