@@ -1,5 +1,5 @@
 -- Where pieces begin, and how what is said of each piece is said of all items.
-use Rattle.std.proofs.Common.{◌≡◌, ℕ, suc, ◌+◌, ◌*◌, ◌/◌, ◌<◌, ◌≤◌, inl, inr, List, [], ◌∷◌, length, Result, Ok, Err, sym, ap, ◌∙◌, subst, arith}
+use Rattle.std.proofs.Common.{◌≡◌, ℕ, zero, suc, ◌+◌, ◌*◌, ◌/◌, ◌<◌, ◌≤◌, inl, inr, List, [], ◌∷◌, length, Result, Ok, Err, sym, ap, ◌∙◌, refl, append-nil, subst, arith}
 use Rattle.std.specs.Prelude.{slice_index_or}
 use Rattle.std.proofs.Math.Nat.{div-mul-le_self, mul-div_left, mul-le-mul_right}
 use Rattle.std.proofs.lemmas.Nat.{le-div}
@@ -19,6 +19,18 @@ start_first items pieces = grind arith
 
 start_end : (items pieces : ℕ) → 0 < pieces → piece_start items pieces pieces ≡ items
 start_end items pieces some = grind (arith, mul-div_left)
+
+only_answer : {A : Type 0} (P : ℕ → A → Type 0) (answer : A) (number : ℕ) (none : A) → number < 1 → P 0 answer → P number (slice_index_or (answer ∷ []) number none)
+only_answer P answer zero none less holds = holds
+only_answer P answer (suc number) none less holds = absurd (omega (arith, less))
+
+-- what a single piece gives is what all pieces give together
+pub of_one_piece : {V T E : Type 0} (view : V → List T) (Gives : Piece → Result V E → Type 0) (IsRefusal : E → Type 0) (items : ℕ) (answer : Result V E) →
+    Gives (piece_of items 1 0) answer → GivesTogether view Gives IsRefusal items 1 answer
+of_one_piece view Gives IsRefusal items (Ok v) gives =
+    record { answers = Ok v ∷ []; count = refl; each = λ number none less. only_answer (λ n answer. Gives (piece_of items 1 n) answer) (Ok v) number none less gives; is = ap Ok (append-nil (view v)) }
+of_one_piece view Gives IsRefusal items (Err fault) gives =
+    inr (record { answers = Err fault ∷ []; count = refl; each = λ number none less. only_answer (λ n answer. Gives (piece_of items 1 n) answer) (Err fault) number none less gives; is = refl })
 
 -- `Says from to said`: this is said of the items from one up to but without another
 module _ {T E : Type 0} (items : ℕ) (Says : ℕ → ℕ → Result (List T) E → Type 0) where

@@ -58,7 +58,8 @@ fn together<T: Drop, E: From<AllocError> + Drop>(
 /// Has the work done on each of so many pieces of the items, and gives what the pieces give, one behind the other, or the fault of
 /// the first piece that has one. Where memory is refused for this, it may be the fault in place of all others.
 ///
-/// The pieces differ by at most one item. Halves of the pieces run side by side, down to one piece.
+/// The pieces differ by at most one item. Halves of the pieces run side by side, down to one piece. What a single piece gives is given
+/// as it is, with no memory taken for it.
 pub fn in_pieces<
     R: Threads + Sync,
     T: Send + Drop,
@@ -69,6 +70,9 @@ pub fn in_pieces<
     requires work { (piece : Piece) → piece.number < pieces → piece.first ≤ piece.end → piece.end ≤ items → F.pre work.now piece }
     ensures { GivesTogether (λ v. v.items) (F.post work.now) (E.from_gives alloc_error) items pieces result }
 {
+    if pieces == 1 {
+        return work(piece_of(items, 1, 0));
+    }
     let answer_of = move |number: usize| -> Result<Vec<T>, E>
         requires { (number < pieces) × ((piece : Piece) → piece.number < pieces → piece.first ≤ piece.end → piece.end ≤ items → F.pre work.now piece) }
         ensures { F.post work.entry.now (piece_of items pieces number) result }
