@@ -2,6 +2,6 @@ pub mod PlainLemmas
 pub mod WalkLemmas
 pub mod Parses
 pub mod NumberLemmas
-pub mod FewLemmas
+pub mod RangeLemmas
 pub mod RefusedLemmas
 mod Samples

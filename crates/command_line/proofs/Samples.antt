@@ -40,6 +40,10 @@ made : command_of (codes "make" ∷ codes "002" ∷ []) ≡ Some (Make 2)
 unfolding board_called
 made = refl
 
+made_most : map command_of ((codes "make" ∷ codes "255" ∷ []) ∷ (codes "make" ∷ codes "256" ∷ []) ∷ []) ≡ Some (Make 255) ∷ None ∷ []
+unfolding board_called
+made_most = refl
+
 made_twice : command_of (codes "make" ∷ codes "2" ∷ codes "3" ∷ []) ≡ None
 unfolding board_called
 made_twice = refl

@@ -1,16 +1,16 @@
 -- A command and its names without where its words lie in memory.
 use Rattle.std.specs.Prelude.{map, string_bytes}
-use Rattle.command_line.specs.declared.words.Command.{Command as Lent}
-use Rattle.command_line.specs.declared.words.Command.TheVariants as lent
-use Rattle.command_line.specs.declared.words.BoardNames.{BoardNames as LentBoard}
-use Rattle.command_line.specs.declared.words.ChainNames.{ChainNames as LentChain}
+use Rattle.command_line.specs.declared.command.Command.{Command as Lent}
+use Rattle.command_line.specs.declared.command.Command.TheVariants as lent
+use Rattle.command_line.specs.declared.command.BoardNames.{BoardNames as LentBoard}
+use Rattle.command_line.specs.declared.command.ChainNames.{ChainNames as LentChain}
 use Rattle.command_line.specs.Words.{ChainNames, BoardNames, Command, Chain, Ident, Device, Cover, Svf, Walk, Make, Diagnose, Groups, Batch}
 
 abbrev pub chain_view : LentChain → ChainNames
-chain_view names = record { chain = names.chain.now; bsdl = map string_bytes names.bsdl.now }
+chain_view names = record { chain = names.chain.now; bsdl = map string_bytes names.bsdl.names.now }
 
 abbrev pub board_view : LentBoard → BoardNames
-board_view names = record { chain = names.chain.now; nets = names.nets.now; bsdl = map string_bytes names.bsdl.now }
+board_view names = record { chain = names.chain.now; nets = names.nets.now; bsdl = map string_bytes names.bsdl.names.now }
 
 abbrev pub command_view : Lent → Command
 command_view (lent.Chain names) = Chain (chain_view names)

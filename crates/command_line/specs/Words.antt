@@ -8,6 +8,18 @@ use Rattle.std.specs.Str.Parse.{digits_value}
 abbrev pub Text : Type 0
 Text = List ℕ
 
+-- the most names of BSDL texts
+abbrev pub most_names : ℕ
+most_names = 255
+
+-- the most parts of a board that is made
+abbrev pub most_made : ℕ
+most_made = 255
+
+-- the most workers of a diagnosis
+abbrev pub most_workers : ℕ
+most_workers = 64
+
 -- the names of the texts of a chain: a chain file and BSDL texts
 pub record ChainNames : Type 0 where
   pub chain : Text
@@ -41,9 +53,9 @@ abbrev pub is_plain : Text → Bool
 is_plain [] = false
 is_plain (b ∷ bs) = not (b == 45)
 
--- what has these BSDL names, where there are at most 255
+-- what has these BSDL names, where they are not too many
 abbrev pub with_names : {A : Type 0} → List Text → A → Option A
-with_names names value = if nat_le (length names) 255 then Some value else None
+with_names names value = if nat_le (length names) most_names then Some value else None
 
 -- a number is in this range, whose ends belong to it
 abbrev pub is_within : ℕ → ℕ → ℕ → Bool
@@ -71,17 +83,17 @@ board_of [] = None
 board_of (chain ∷ []) = None
 board_of (chain ∷ nets ∷ names) = with_names names (record { chain = chain; nets = nets; bsdl = names })
 
--- one number of parts, from 1 to 255
+-- one number of parts
 abbrev pub make_of : List Text → Option Command
 make_of [] = None
-make_of (number ∷ []) = option_map Make (number_of 255 number)
+make_of (number ∷ []) = option_map Make (number_of most_made number)
 make_of (number ∷ other ∷ others) = None
 
--- a number of workers, from 1 to 64, a response log, a chain file and a net file, then any number of BSDL names
+-- a number of workers, a response log, a chain file and a net file, then any number of BSDL names
 abbrev pub worked_of : (ℕ → Text → BoardNames → Command) → List Text → Option Command
 worked_of command [] = None
 worked_of command (workers ∷ []) = None
-worked_of command (workers ∷ log ∷ names) = option_and_then (λ board. option_map (λ number. command number log board) (number_of 64 workers)) (board_of names)
+worked_of command (workers ∷ log ∷ names) = option_and_then (λ board. option_map (λ number. command number log board) (number_of most_workers workers)) (board_of names)
 
 abbrev pub diagnose_of : List Text → Option Command
 diagnose_of words = worked_of Diagnose words
@@ -141,9 +153,9 @@ names_of (Diagnose workers log names) = log ∷ board_names names
 names_of (Groups log names) = log ∷ board_names names
 names_of (Batch workers log names) = log ∷ board_names names
 
--- the number of a command is in its range: a board that is to be made has 1 to 255 parts, and diagnoses have 1 to 64 workers
+-- the number of a command is in its range: that of the parts of a board that is to be made, or of the workers of diagnoses
 abbrev pub HasNumber : Command → Type 0
-HasNumber (Make parts) = (1 ≤ parts) × (parts ≤ 255)
-HasNumber (Diagnose workers log names) = (1 ≤ workers) × (workers ≤ 64)
-HasNumber (Batch workers log names) = (1 ≤ workers) × (workers ≤ 64)
+HasNumber (Make parts) = (1 ≤ parts) × (parts ≤ most_made)
+HasNumber (Diagnose workers log names) = (1 ≤ workers) × (workers ≤ most_workers)
+HasNumber (Batch workers log names) = (1 ≤ workers) × (workers ≤ most_workers)
 HasNumber other = Unit {0}

@@ -1,7 +1,9 @@
 //! The words of the command line, read by `clap`.
 #![tactic(auto)]
 
+mod command;
 mod number;
 mod words;
 
-pub use words::{BoardNames, ChainNames, Command, command_of};
+pub use command::{BoardNames, BsdlNames, ChainNames, Command};
+pub use words::command_of;

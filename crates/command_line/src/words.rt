@@ -1,97 +1,28 @@
 // The command of the words.
-ghost use Rattle.std.specs.Prelude.{◌≡◌, ◌∷◌, List, map, true, false, string_bytes, IfOk, IfSome, ◌≤◌, length, option_map};
+ghost use Rattle.std.specs.Prelude.{◌≡◌, ◌∷◌, List, map, true, false, string_bytes, IfOk, IfSome, option_map};
 ghost use Rattle.std.specs.List.{list_all};
 ghost use Rattle.clap.specs.Simple.{app_of};
 ghost use Rattle.clap.specs.Walk.{rule_of};
 ghost use Rattle.clap.specs.declared.builder.command.Command.TheViews.{out-Command as fields_of};
-ghost use Rattle.command_line.specs.Words.{is_plain, command_of, parsed, board_called, log_called, chain_of, device_of, board_of, make_of, groups_of, diagnose_of, batch_of, names_of, HasNumber};
+ghost use Rattle.command_line.specs.Words.{is_plain, command_of, parsed, board_called, log_called, chain_of, device_of, board_of, make_of, groups_of, diagnose_of, batch_of, HasNumber};
 ghost use Rattle.command_line.specs.CommandView.{chain_view, board_view, command_view};
 ghost use Rattle.command_line.specs.inner.App.{name_rule, names_rule, chain_app, single_app, with_board, board_app, log_app, groups_app, top_app, parts_app, boards_app, logs_app, btest_app, is_accepted};
 
+use crate::command::{BoardNames, BsdlNames, ChainNames, Command, MOST_NAMES};
 use crate::number::number_of;
 use clap::error::ErrorKind;
 use clap::{Arg, ArgAction};
 use std::alloc::{AllocError, Global};
 
-/// The most names of BSDL texts.
-const MOST_NAMES: usize = 255;
+// The most parts of a board that is made.
+const MOST_MADE: u32 = 255;
 
-/// The most parts of a board that is made.
-const MOST_PARTS: u32 = 255;
-
-/// The most workers of a diagnosis.
+// The most workers of a diagnosis.
 const MOST_WORKERS: u32 = 64;
-
-/// The names of the texts of a chain.
-#[derive(Clone, Copy)]
-pub struct ChainNames<'a> {
-    /// The chain file.
-    pub chain: &'a str,
-    /// The BSDL texts, at most 255.
-    pub bsdl: &'a [String],
-}
-
-/// The names of the texts of a board.
-#[derive(Clone, Copy)]
-pub struct BoardNames<'a> {
-    /// The chain file.
-    pub chain: &'a str,
-    /// The net file.
-    pub nets: &'a str,
-    /// The BSDL texts, at most 255.
-    pub bsdl: &'a [String],
-}
-
-/// What a command line asks for, with the names of its texts.
-#[derive(Clone, Copy)]
-pub enum Command<'a> {
-    /// The text that tests the length of the chain.
-    Chain(ChainNames<'a>),
-    /// The text that tests the identity of the devices in the chain.
-    Ident(ChainNames<'a>),
-    /// The listing of a device.
-    Device {
-        bsdl: &'a str,
-    },
-    /// The coverage list of a board.
-    Cover(BoardNames<'a>),
-    /// The text that tests a board.
-    Svf(BoardNames<'a>),
-    /// The text of the walking test of a board.
-    Walk(BoardNames<'a>),
-    /// The summary of a board that is made, of this many parts, from 1 to 255.
-    Make(u32),
-    /// The diagnosis of a board.
-    Diagnose {
-        /// The number of workers, from 1 to 64.
-        workers: u32,
-        /// The response log.
-        log: &'a str,
-        /// The names of the texts of the board.
-        board: BoardNames<'a>,
-    },
-    /// The groups of shorted nets of a board.
-    Groups {
-        /// The response log of the walking test.
-        log: &'a str,
-        /// The names of the texts of the board.
-        board: BoardNames<'a>,
-    },
-    /// The diagnoses of many boards.
-    Batch {
-        /// The number of workers, from 1 to 64.
-        workers: u32,
-        /// The response logs of the boards, one after the other.
-        log: &'a str,
-        /// The names of the texts that the boards have in common.
-        board: BoardNames<'a>,
-    },
-}
 
 /// The command of the words, where they are in the grammar. It fails only for want of memory.
 pub fn command_of<'a>(alloc: Global, words: &'a [String]) -> Result<Option<Command<'a>>, AllocError>
     ensures command { IfOk result (λ c. option_map command_view c ≡ command_of (map string_bytes words.entry.now)) }
-    ensures few { IfOk result (λ c. IfSome c (λ c. length (names_of (command_view c)) ≤ 258)) }
     ensures number { IfOk result (λ c. IfSome c (λ c. HasNumber (command_view c))) }
 {
     if are_plain(words) && is_accepted(alloc, words)? {
@@ -184,7 +115,10 @@ fn chain_of<'a>(words: &'a [String]) -> Option<ChainNames<'a>>
     ensures { option_map chain_view result ≡ chain_of (map string_bytes words.entry.now) }
 {
     match words {
-        [chain, bsdl @ ..] if bsdl.len() <= MOST_NAMES => Some(ChainNames { chain, bsdl }),
+        [chain, names @ ..] if names.len() <= MOST_NAMES => {
+            let bsdl = BsdlNames { names };
+            Some(ChainNames { chain, bsdl })
+        }
         _ => None,
     }
 }
@@ -204,7 +138,8 @@ fn board_of<'a>(words: &'a [String]) -> Option<BoardNames<'a>>
     ensures { option_map board_view result ≡ board_of (map string_bytes words.entry.now) }
 {
     match words {
-        [chain, nets, bsdl @ ..] if bsdl.len() <= MOST_NAMES => {
+        [chain, nets, names @ ..] if names.len() <= MOST_NAMES => {
+            let bsdl = BsdlNames { names };
             Some(BoardNames { chain, nets, bsdl })
         }
         _ => None,
@@ -216,7 +151,7 @@ fn make_of<'a>(words: &'a [String]) -> Option<Command<'a>>
     ensures { option_map command_view result ≡ make_of (map string_bytes words.entry.now) }
 {
     let [number] = words else { return None };
-    let parts = number_of(MOST_PARTS, number)?;
+    let parts = number_of(MOST_MADE, number)?;
     Some(Command::Make(parts))
 }
 

@@ -1,14 +1,11 @@
 use Rattle.std.proofs.Common.{◌∙◌, map, string_bytes, sym}
-use Rattle.command_line.proofs.FewLemmas.{command_few, command_number}
+use Rattle.command_line.proofs.RangeLemmas.{command_in_range}
 use Rattle.command_line.proofs.RefusedLemmas.{refused_words, unplain_words}
 use Rattle.command_line.proofs.words.command_of.Goals.{else-are_plain-via-then-are_plain+in_ok-is_accepted+else-branch, else-are_plain-via-else-are_plain}
 use Rattle.command_line.proofs.words.command_of.Goals as goal
 
-pub returns-then-branch-clause-few : goal.returns-then-branch-clause-few
-returns-then-branch-clause-few c = command_few (map string_bytes c.args.words.now) c.parsed.result c.parsed.ensures
-
 pub returns-then-branch-clause-number : goal.returns-then-branch-clause-number
-returns-then-branch-clause-number c = command_number (map string_bytes c.args.words.now) c.parsed.result c.parsed.ensures
+returns-then-branch-clause-number c = command_in_range (map string_bytes c.args.words.now) c.parsed.result c.parsed.ensures
 
 pub returns-else-are_plain-clause-command : goal.returns-else-are_plain-clause-command
 returns-else-are_plain-clause-command c =
