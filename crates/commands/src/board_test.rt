@@ -11,11 +11,12 @@ ghost use Rattle.tap_defs.specs.chain.Svf.{meaning};
 ghost use Rattle.tap_defs.specs.chain.Text.{scan_text, svf_text};
 ghost use Rattle.plan_tables.specs.declared.tables.PlanTables.{PlanTables as PlanRecord};
 ghost use Rattle.scan_planner.specs.PassRows.{AreKept};
-ghost use Rattle.scan_planner.specs.Plans.{IsPlanOf, FillsScan, IsRoom, scan_count};
+ghost use Rattle.scan_planner.specs.Plans.{IsPlanOf, IsRoom, scan_count};
 ghost use Rattle.response_log.specs.LogRows.{HasSize};
 ghost use Rattle.commands.specs.LogRead.{test_rows};
 ghost use Rattle.commands.specs.Worth.{RespondOnce, TestsBoard};
 ghost use Rattle.commands.specs.Answers.{BoardAnswers};
+ghost use Rattle.commands.specs.inner.Rows.{HaveRoom, HoldScan};
 ghost use Rattle.commands.specs.inner.Unput.{PutsText};
 
 use crate::planned::{Planned, planned_board};
@@ -28,9 +29,9 @@ use bt_base::{PutFault, Sink};
 use scan_planner::{PassRows, Plan};
 use std::alloc::{AllocError, Global};
 use svf_writer::{write_head, write_scan, write_tail};
-use tap_defs::Shape;
 use tap_defs::board_law::{board_texts_test, one_log, rows_compared, scans_in_turn, scans_placed};
 use tap_defs::chain_law::texts_mean;
+use tap_defs::{Shape, StoredRows};
 
 /// Puts the text that tests the board of these texts. All memory is
 /// taken before the first put.
@@ -52,9 +53,7 @@ fn put_test<K: Sink>(alloc: Global, planned: &Planned, out: &mut K) -> Result<()
     ensures { PutsText (board_text planned.now.board) (K.shown out.old) (K.shown out.new) result }
 {
     let Planned { board, plan } = planned;
-    let Ok(mut rows) = TestRows::for_board(alloc, board) else {
-        return Err(Unput::Memory);
-    };
+    let mut rows = TestRows::for_board(alloc, board)?;
     answer_by(write_test(board, plan, &mut rows, out))
 }
 
@@ -110,9 +109,7 @@ pub struct TestRows {
 impl TestRows {
     /// Rows with room for the scans of a board.
     pub fn for_board(alloc: Global, board: &Board) -> Result<TestRows, AllocError>
-        ensures tdi { IfOk result (λ made. IsRoom board.now made.rows.tdi.room) }
-        ensures tdo { IfOk result (λ made. IsRoom board.now made.rows.tdo.room) }
-        ensures mask { IfOk result (λ made. IsRoom board.now made.rows.mask.room) }
+        ensures room { IfOk result (λ made. HaveRoom (IsRoom board.now) made.rows.scan) }
         ensures kept { IfOk result (λ made. (plan : PlanRecord) → AreKept board.now plan made.kept) }
     {
         Ok(TestRows {
@@ -131,9 +128,7 @@ pub fn write_test<K: Sink>(
 ) -> Result<(), PutFault>
     requires plan { IsPlanOf board.now plan.now }
     requires kept { AreKept board.now plan.now made.old.kept }
-    requires tdi { IsRoom board.now made.old.rows.tdi.room }
-    requires tdo { IsRoom board.now made.old.rows.tdo.room }
-    requires mask { IsRoom board.now made.old.rows.mask.room }
+    requires room { HaveRoom (IsRoom board.now) made.old.rows.scan }
     ensures { Puts (K.shown out.old) (K.shown out.new) (pass_text board.now plan.now.passes plan.now.width) result }
 {
     write_scans(board, plan, &mut made.kept, &mut made.rows, out)
@@ -150,9 +145,7 @@ fn write_scans<K: Sink>(
 ) -> Result<(), PutFault>
     requires plan { IsPlanOf board.now plan.now }
     requires kept { AreKept board.now plan.now kept.old }
-    requires tdi { IsRoom board.now rows.old.tdi.room }
-    requires tdo { IsRoom board.now rows.old.tdo.room }
-    requires mask { IsRoom board.now rows.old.mask.room }
+    requires room { HaveRoom (IsRoom board.now) rows.old.scan }
     ensures { Puts (K.shown out.old) (K.shown out.new) (pass_text board.now plan.now.passes plan.now.width) result }
 {
     scans_placed();
@@ -177,21 +170,18 @@ fn write_scan_at<K: Sink>(
     requires plan { IsPlanOf board.now plan.now }
     requires scan { k < scan_count plan.now }
     requires later { IfSome held.old (λ shape. 0 < k) }
-    requires held { IfSome held.old (λ shape. FillsScan board.now plan.now.passes plan.now.width (k - 1) shape rows.old.tdi.bits rows.old.tdo.bits rows.old.mask.bits) }
+    requires held { IfSome held.old (λ shape. HoldScan board.now plan.now (k - 1) shape rows.old.scan) }
     requires kept { AreKept board.now plan.now kept.old }
-    requires tdi { IsRoom board.now rows.old.tdi.room }
-    requires tdo { IsRoom board.now rows.old.tdo.room }
-    requires mask { IsRoom board.now rows.old.mask.room }
+    requires room { HaveRoom (IsRoom board.now) rows.old.scan }
     ensures text { IfSome (slice_get (test_scans board.now plan.now.passes plan.now.width) k) (λ scan. Puts (K.shown out.old) (K.shown out.new) (scan_text scan) result) }
-    ensures held { IfSome held.new (λ shape. FillsScan board.now plan.now.passes plan.now.width k shape rows.new.tdi.bits rows.new.tdo.bits rows.new.mask.bits) }
+    ensures held { IfSome held.new (λ shape. HoldScan board.now plan.now k shape rows.new.scan) }
     ensures kept { AreKept board.now plan.now kept.new }
-    ensures tdi { rows.new.tdi.room ≡ rows.old.tdi.room }
-    ensures tdo { rows.new.tdo.room ≡ rows.old.tdo.room }
-    ensures mask { rows.new.mask.room ≡ rows.old.mask.room }
+    ensures room { HaveRoom (IsRoom board.now) rows.new.scan }
 {
-    let shape = fill_at(board, plan, k, *held, kept, rows);
+    let Rows { scan, line } = rows;
+    let shape = fill_at(board, plan, k, *held, kept, scan);
     *held = Some(shape);
-    write_scan(shape, &rows.tdi, &rows.tdo, &rows.mask, &mut rows.line, out)
+    write_scan(shape, &scan.tdi, &scan.tdo, &scan.mask, line, out)
 }
 
 // Fills the rows with scan `k` of a plan, from the scan before it where they hold that.
@@ -201,32 +191,21 @@ fn fill_at(
     k: u64,
     before: Option<Shape>,
     kept: &mut PassRows,
-    rows: &mut Rows,
+    rows: &mut StoredRows,
 ) -> Shape
     requires plan { IsPlanOf board.now plan.now }
     requires scan { k < scan_count plan.now }
     requires later { IfSome before (λ shape. 0 < k) }
-    requires held { IfSome before (λ shape. FillsScan board.now plan.now.passes plan.now.width (k - 1) shape rows.old.tdi.bits rows.old.tdo.bits rows.old.mask.bits) }
+    requires held { IfSome before (λ shape. HoldScan board.now plan.now (k - 1) shape rows.old) }
     requires kept { AreKept board.now plan.now kept.old }
-    requires tdi { IsRoom board.now rows.old.tdi.room }
-    requires tdo { IsRoom board.now rows.old.tdo.room }
-    requires mask { IsRoom board.now rows.old.mask.room }
-    ensures filled { FillsScan board.now plan.now.passes plan.now.width k result rows.new.tdi.bits rows.new.tdo.bits rows.new.mask.bits }
+    requires room { HaveRoom (IsRoom board.now) rows.old }
+    ensures filled { HoldScan board.now plan.now k result rows.new }
     ensures kept { AreKept board.now plan.now kept.new }
-    ensures tdi { rows.new.tdi.room ≡ rows.old.tdi.room }
-    ensures tdo { rows.new.tdo.room ≡ rows.old.tdo.room }
-    ensures mask { rows.new.mask.room ≡ rows.old.mask.room }
+    ensures room { HaveRoom (IsRoom board.now) rows.new }
 {
+    let StoredRows { tdi, tdo, mask } = rows;
     match before {
-        None => plan.fill(board, k, &mut rows.tdi, &mut rows.tdo, &mut rows.mask),
-        Some(shape) => plan.fill_next(
-            board,
-            k - 1,
-            shape,
-            kept,
-            &mut rows.tdi,
-            &mut rows.tdo,
-            &mut rows.mask,
-        ),
+        None => plan.fill(board, k, tdi, tdo, mask),
+        Some(shape) => plan.fill_next(board, k - 1, shape, kept, tdi, tdo, mask),
     }
 }

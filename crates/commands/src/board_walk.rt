@@ -1,5 +1,5 @@
 // The command `walk`.
-ghost use Rattle.std.specs.Prelude.{◌≡◌, ◌<◌, Bool, List, Ok, slice_get, IfErr, IfOk, IfSome};
+ghost use Rattle.std.specs.Prelude.{◌<◌, Bool, List, Ok, slice_get, IfErr, IfOk, IfSome};
 ghost use Rattle.bt_base.specs.Puts.{Puts};
 ghost use Rattle.board_defs.specs.Pins.{data_bits};
 ghost use Rattle.tap_defs.specs.board.BoardTest.{IsHarmless};
@@ -11,6 +11,7 @@ ghost use Rattle.walk_test.specs.WalkTest.{board_walk_text, walk_row_list, walk_
 ghost use Rattle.response_log.specs.LogRows.{HasSize};
 ghost use Rattle.commands.specs.Answers.{BoardAnswers, IsBoardOf};
 ghost use Rattle.commands.specs.LogRead.{walk_rows};
+ghost use Rattle.commands.specs.inner.Rows.{HaveRoom};
 ghost use Rattle.commands.specs.inner.Unput.{NoBoard, PutsText};
 ghost use Rattle.commands.specs.Worth.{WalksBoard};
 
@@ -45,10 +46,8 @@ pub fn walked_board(alloc: Global, texts: &BoardTexts) -> Result<Walked, Unput>
         Ok(board) => board,
         Err(failure) => return Err(failure),
     };
-    match walk_of(alloc, &board) {
-        Ok(walk) => Ok(Walked { board, walk }),
-        Err(_) => Err(Unput::Memory),
-    }
+    let walk = walk_of(alloc, &board)?;
+    Ok(Walked { board, walk })
 }
 
 /// A log with the rows and the bits of the board's walking test has a row for each compared SDR statement of it, in their
@@ -87,9 +86,7 @@ fn put_walk<K: Sink>(alloc: Global, walked: &Walked, out: &mut K) -> Result<(), 
     requires { IsWalkOf walked.now.board walked.now.walk }
     ensures { PutsText (board_walk_text walked.now.board) (K.shown out.old) (K.shown out.new) result }
 {
-    let Ok(mut rows) = Rows::with_room(alloc, longest_scan(&walked.board)) else {
-        return Err(Unput::Memory);
-    };
+    let mut rows = Rows::with_room(alloc, longest_scan(&walked.board))?;
     answer_by(write_walk(walked, &mut rows, out))
 }
 
@@ -105,9 +102,7 @@ fn is_harmless(board: &Board)
 #[tactic(auto, unfolding(tap_defs::specs::chain::Text::svf_text))]
 fn write_walk<K: Sink>(walked: &Walked, rows: &mut Rows, out: &mut K) -> Result<(), PutFault>
     requires walk { IsWalkOf walked.now.board walked.now.walk }
-    requires tdi { IsRoom walked.now.board rows.old.tdi.room }
-    requires tdo { IsRoom walked.now.board rows.old.tdo.room }
-    requires mask { IsRoom walked.now.board rows.old.mask.room }
+    requires room { HaveRoom (IsRoom walked.now.board) rows.old.scan }
     ensures { Puts (K.shown out.old) (K.shown out.new) (board_walk_text walked.now.board) result }
 {
     scans_counted();
@@ -127,15 +122,12 @@ fn write_walk_scan<K: Sink>(
 ) -> Result<(), PutFault>
     requires walk { IsWalkOf walked.now.board walked.now.walk }
     requires scan { k < scan_count walked.now.walk }
-    requires tdi { IsRoom walked.now.board rows.old.tdi.room }
-    requires tdo { IsRoom walked.now.board rows.old.tdo.room }
-    requires mask { IsRoom walked.now.board rows.old.mask.room }
+    requires room { HaveRoom (IsRoom walked.now.board) rows.old.scan }
     ensures text { IfSome (slice_get (walk_scans walked.now.board) k) (λ scan. Puts (K.shown out.old) (K.shown out.new) (scan_text scan) result) }
-    ensures tdi { rows.new.tdi.room ≡ rows.old.tdi.room }
-    ensures tdo { rows.new.tdo.room ≡ rows.old.tdo.room }
-    ensures mask { rows.new.mask.room ≡ rows.old.mask.room }
+    ensures room { HaveRoom (IsRoom walked.now.board) rows.new.scan }
 {
     let Walked { board, walk } = walked;
-    let shape = walk.fill(board, k, &mut rows.tdi, &mut rows.tdo, &mut rows.mask);
-    write_scan(shape, &rows.tdi, &rows.tdo, &rows.mask, &mut rows.line, out)
+    let Rows { scan, line } = rows;
+    let shape = walk.fill(board, k, &mut scan.tdi, &mut scan.tdo, &mut scan.mask);
+    write_scan(shape, &scan.tdi, &scan.tdo, &scan.mask, line, out)
 }

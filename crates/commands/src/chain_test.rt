@@ -1,5 +1,5 @@
 // The command `chain`.
-ghost use Rattle.std.specs.Prelude.{◌≡◌, ◌+◌, ◌<◌, ◌≤◌, ◌^◌, ℕ, All, List, length, map, sum};
+ghost use Rattle.std.specs.Prelude.{◌≡◌, ◌<◌, ◌^◌, sum};
 ghost use Rattle.bt_base.specs.Puts.{Puts};
 ghost use Rattle.tap_defs.specs.chain.ChainScans.{chain_text};
 ghost use Rattle.tap_defs.specs.chain.ChainTest.{IsChainTest};
@@ -7,6 +7,7 @@ ghost use Rattle.svf_writer.specs.Rows.{IsRoom};
 ghost use Rattle.btest_core.specs.BoardRead.{AreChainLengths, AreLengths};
 ghost use Rattle.commands.specs.Worth.{TestsChain};
 ghost use Rattle.commands.specs.Answers.{ChainAnswers};
+ghost use Rattle.commands.specs.inner.Rows.{HaveRoom};
 
 use crate::rows::Rows;
 use crate::texts::ChainTexts;
@@ -26,9 +27,7 @@ pub fn chain<K: Sink>(alloc: Global, texts: &ChainTexts, out: &mut K) -> Result<
         Ok(lengths) => lengths,
         Err(fault) => return Err(unput_by(fault)),
     };
-    let Ok(mut rows) = Rows::with_room(alloc, longest_scan(&lengths)) else {
-        return Err(Unput::Memory);
-    };
+    let mut rows = Rows::with_room(alloc, longest_scan(&lengths))?;
     tests_length(&lengths);
     answer_by(write_test(&lengths, &mut rows, out))
 }
@@ -61,18 +60,17 @@ fn instruction_bits(lengths: &[u32]) -> u32
 #[tactic(auto, unfolding(tap_defs::specs::chain::Text::svf_text))]
 fn write_test<K: Sink>(lengths: &[u32], rows: &mut Rows, out: &mut K) -> Result<(), PutFault>
     requires lengths { AreLengths lengths.now }
-    requires tdi { IsRoom lengths.now rows.old.tdi.room }
-    requires tdo { IsRoom lengths.now rows.old.tdo.room }
-    requires mask { IsRoom lengths.now rows.old.mask.room }
+    requires room { HaveRoom (IsRoom lengths.now) rows.old.scan }
     ensures { Puts (K.shown out.old) (K.shown out.new) (chain_text lengths.now) result }
 {
     write_head(out)?;
+    let Rows { scan, line } = rows;
     write_chain(
         lengths,
-        &mut rows.tdi,
-        &mut rows.tdo,
-        &mut rows.mask,
-        &mut rows.line,
+        &mut scan.tdi,
+        &mut scan.tdo,
+        &mut scan.mask,
+        line,
         out,
     )?;
     write_tail(out)

@@ -22,9 +22,7 @@ pub fn device<K: Sink>(alloc: Global, text: &ShortText, out: &mut K) -> Result<(
         Ok(device) => device,
         Err(fault) => return Err(unput_by(fault)),
     };
-    let Ok(mut line) = Line::new(alloc) else {
-        return Err(Unput::Memory);
-    };
+    let mut line = Line::new(alloc)?;
     inputs_keep_rules();
     answer_by(write_device(&device, &mut line, out))
 }

@@ -1,16 +1,19 @@
 // The command `ident`.
-ghost use Rattle.std.specs.Prelude.{◌≡◌, ◌<◌, ◌≤◌, ◌^◌, All, length, map};
+ghost use Rattle.std.specs.Prelude.{◌*◌, ◌≤◌, length};
+ghost use Rattle.board_defs.specs.Limits.{most_parts};
+ghost use Rattle.bt_base.specs.Puts.{Puts};
 ghost use Rattle.ident_test.specs.IdentTest.{ArePatterns, IsIdentTest};
 ghost use Rattle.ident_test.specs.Patterns.{ident_bits, ident_text};
 ghost use Rattle.btest_core.specs.IdentsRead.{AreIdents};
 ghost use Rattle.commands.specs.Worth.{TestsIdents};
 ghost use Rattle.commands.specs.Answers.{ChainAnswers};
+ghost use Rattle.commands.specs.inner.Rows.{HaveRoom};
 
 use crate::rows::Rows;
 use crate::texts::ChainTexts;
 use crate::unput::{Unput, answer_by, unput_by};
 use board_defs::Code;
-use bt_base::Sink;
+use bt_base::{PutFault, Sink};
 use btest_core::read_idents;
 use ident_test::law::ident_tests;
 use ident_test::write_ident;
@@ -28,26 +31,37 @@ pub fn ident<K: Sink>(alloc: Global, texts: &ChainTexts, out: &mut K) -> Result<
         Ok(patterns) => patterns,
         Err(fault) => return Err(unput_by(fault)),
     };
-    let Ok(mut rows) = Rows::with_room(alloc, MOST_BITS) else {
-        return Err(Unput::Memory);
-    };
+    let mut rows = Rows::with_room(alloc, MOST_BITS)?;
     tests_codes(&patterns);
-    let put = write_ident(
-        &patterns,
-        &mut rows.tdi,
-        &mut rows.tdo,
-        &mut rows.mask,
-        &mut rows.line,
+    answer_by(write_test(&patterns, &mut rows, out))
+}
+
+// Puts the identity test.
+fn write_test<K: Sink>(
+    patterns: &[Option<Code>],
+    rows: &mut Rows,
+    out: &mut K,
+) -> Result<(), PutFault>
+    requires patterns { ArePatterns patterns.now }
+    requires room { HaveRoom (λ room. length (ident_bits patterns.now) ≤ room) rows.old.scan }
+    ensures { Puts (K.shown out.old) (K.shown out.new) (ident_text patterns.now) result }
+{
+    let Rows { scan, line } = rows;
+    write_ident(
+        patterns,
+        &mut scan.tdi,
+        &mut scan.tdo,
+        &mut scan.mask,
+        line,
         out,
-    );
-    answer_by(put)
+    )
 }
 
 // What the text of the identity test is worth, and how many bits its scan has at most.
 fn tests_codes(patterns: &[Option<Code>])
     requires { ArePatterns patterns.now }
     ensures tests { IsIdentTest patterns.now (ident_text patterns.now) }
-    ensures room { length (ident_bits patterns.now) ≤ 8160 }
+    ensures room { length (ident_bits patterns.now) ≤ most_parts * 32 }
 {
     let _ = patterns;
     ident_tests();

@@ -1,5 +1,5 @@
 // The command `batch`.
-ghost use Rattle.std.specs.Prelude.{◌≡◌, ◌<◌, ◌≤◌, ◌^◌, length};
+ghost use Rattle.std.specs.Prelude.{◌≡◌, ◌≤◌};
 ghost use Rattle.board_defs.specs.Passes.{passes_of};
 ghost use Rattle.scan_planner.specs.Plans.{IsPlanOf};
 ghost use Rattle.commands.specs.LogRead.{judging_each, verdicts_text};
@@ -67,12 +67,8 @@ fn put_batch<R: Threads + Sync, K: Sink, G: Gate>(
         Ok(blocks) => blocks,
         Err(fault) => return Err(unput_by_batch(plan.rows(), fault)),
     };
-    let Ok(verdicts) = diagnose_all(rt, alloc, board, plan, &blocks, workers, gate) else {
-        return Err(Unput::Memory);
-    };
-    let Ok(mut line) = Line::new(alloc) else {
-        return Err(Unput::Memory);
-    };
+    let verdicts = diagnose_all(rt, alloc, board, plan, &blocks, workers, gate)?;
+    let mut line = Line::new(alloc)?;
     let _rules = board.raw();
     test_means(board);
     test_logs_shaped(board);

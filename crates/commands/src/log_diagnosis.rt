@@ -1,5 +1,5 @@
 // The command `diagnose`.
-ghost use Rattle.std.specs.Prelude.{◌≡◌, ◌<◌, ◌≤◌, ◌^◌, length};
+ghost use Rattle.std.specs.Prelude.{◌≡◌, ◌≤◌};
 ghost use Rattle.board_defs.specs.Passes.{passes_of};
 ghost use Rattle.scan_planner.specs.Plans.{IsPlanOf};
 ghost use Rattle.commands.specs.LogRead.{diagnosing, diagnosis_text};
@@ -62,16 +62,10 @@ fn put_diagnosis<R: Threads + Sync, K: Sink, G: Gate>(
         Ok(log) => log,
         Err(fault) => return Err(unput_by_log(plan.rows(), fault)),
     };
-    let Ok(nets) = differing_nets(alloc, board, plan, &log) else {
-        return Err(Unput::Memory);
-    };
+    let nets = differing_nets(alloc, board, plan, &log)?;
     let pass = none_differs(board, plan, &log, &nets);
-    let Ok(faults) = diagnose_by(rt, alloc, board, plan, &log, &nets, workers, gate) else {
-        return Err(Unput::Memory);
-    };
-    let Ok(mut line) = Line::new(alloc) else {
-        return Err(Unput::Memory);
-    };
+    let faults = diagnose_by(rt, alloc, board, plan, &log, &nets, workers, gate)?;
+    let mut line = Line::new(alloc)?;
     let _rules = board.raw();
     test_means(board);
     test_logs_shaped(board);

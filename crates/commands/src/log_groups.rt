@@ -1,5 +1,5 @@
 // The command `groups`.
-ghost use Rattle.std.specs.Prelude.{◌≡◌, ◌<◌, ◌^◌, length, option_map};
+ghost use Rattle.std.specs.Prelude.{◌≡◌, option_map};
 ghost use Rattle.walk_test.specs.Tables.{IsWalkOf};
 ghost use Rattle.commands.specs.LogRead.{grouping, grouping_text};
 ghost use Rattle.commands.specs.Worth.{FindsGroups};
@@ -54,12 +54,8 @@ fn put_groups<K: Sink>(
         Ok(log) => log,
         Err(fault) => return Err(unput_by_log(rows, fault)),
     };
-    let Ok(found) = walk_test::groups(alloc, board, walk, &log) else {
-        return Err(Unput::Memory);
-    };
-    let Ok(mut line) = Line::new(alloc) else {
-        return Err(Unput::Memory);
-    };
+    let found = walk_test::groups(alloc, board, walk, &log)?;
+    let mut line = Line::new(alloc)?;
     let _rules = board.raw();
     test_means(board);
     walk_logs_shaped(board);

@@ -1,29 +1,29 @@
 // What scans are made in and printed from.
 ghost use Rattle.std.specs.Prelude.{◌≡◌, IfOk};
+ghost use Rattle.commands.specs.inner.Rows.{HaveRoom};
 
 use bt_bits::{Line, Row};
 use std::alloc::{AllocError, Global};
+use tap_defs::StoredRows;
 
-/// The three rows of a scan and the line in which texts are made, taken once for a whole text.
+/// The rows of a scan and the line in which texts are made, taken once for a whole text.
 #[derive(Drop)]
 pub struct Rows {
-    pub tdi: Row,
-    pub tdo: Row,
-    pub mask: Row,
+    pub scan: StoredRows,
     pub line: Line,
 }
 
 impl Rows {
     /// Rows with room for so many bits.
     pub fn with_room(alloc: Global, room: u32) -> Result<Rows, AllocError>
-        ensures tdi { IfOk result (λ rows. rows.tdi.room ≡ room) }
-        ensures tdo { IfOk result (λ rows. rows.tdo.room ≡ room) }
-        ensures mask { IfOk result (λ rows. rows.mask.room ≡ room) }
+        ensures { IfOk result (λ rows. HaveRoom (λ bits. bits ≡ room) rows.scan) }
     {
         Ok(Rows {
-            tdi: Row::with_room(alloc, room)?,
-            tdo: Row::with_room(alloc, room)?,
-            mask: Row::with_room(alloc, room)?,
+            scan: StoredRows {
+                tdi: Row::with_room(alloc, room)?,
+                tdo: Row::with_room(alloc, room)?,
+                mask: Row::with_room(alloc, room)?,
+            },
             line: Line::new(alloc)?,
         })
     }

@@ -2,12 +2,14 @@
 ghost use Rattle.std.specs.Prelude.{◌≡◌};
 ghost use Rattle.bt_base.specs.Puts.{Puts, Shown};
 ghost use Rattle.command_line.specs.Words.{Text};
+ghost use Rattle.commands.specs.declared.unput.Unput.TheVariants.{Memory};
 ghost use Rattle.commands.specs.inner.Unput.{PutsText, unput_batch, unput_log, unput_of};
 
 use batch_diag::BatchFault;
 use bt_base::PutFault;
 use btest_core::InputFault;
 use response_log::LogFault;
+use std::alloc::AllocError;
 
 /// Why a command put no whole text.
 #[derive(Drop)]
@@ -22,6 +24,14 @@ pub enum Unput {
     Write,
     /// There was not enough memory.
     Memory,
+}
+
+impl From<AllocError> for Unput {
+    ghost from_gives = { λ _ unput. unput ≡ Memory };
+
+    fn from(_e: AllocError) -> Unput {
+        Unput::Memory
+    }
 }
 
 /// Why nothing is put where the texts have this fault.

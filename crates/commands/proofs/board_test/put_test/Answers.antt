@@ -5,7 +5,7 @@ use Rattle.commands.proofs.TestLemmas.{plan_text}
 use Rattle.commands.proofs.board_test.put_test.Goals as goal
 
 pub write_test-requires-clause-kept : goal.write_test-requires-clause-kept
-write_test-requires-clause-kept g c = c.in-Ok.ensures.kept c.args.planned.now.plan
+write_test-requires-clause-kept g c = c.in_ok-rows.ensures.kept c.args.planned.now.plan
 
 pub returns : goal.returns
 returns g c =

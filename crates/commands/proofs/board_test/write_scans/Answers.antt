@@ -1,10 +1,10 @@
-use Rattle.std.proofs.Common.{◌≡◌, ℕ, ◌+◌, ◌-◌, ◌<◌, sym, subst, arith}
+use Rattle.std.proofs.Common.{◌≡◌, ℕ, ◌+◌, ◌-◌, ◌<◌, subst, arith}
 use Rattle.std.specs.Prelude.{IfSome}
 use Rattle.std.proofs.lemmas.Option.{IfSome_then}
-use Rattle.scan_planner.specs.Plans.{FillsScan, IsRoom}
 use Rattle.bt_base.proofs.Cuts.{puts_err}
 use Rattle.tap_defs.specs.chain.Text.{svf_text, head_text, tail_text}
 use Rattle.tap_defs.specs.board.BoardScans.{test_scans}
+use Rattle.commands.specs.inner.Rows.{HoldScan}
 use Rattle.commands.proofs.TestLemmas.{below_count, past_count, puts_scan, cut_scan, puts_tail}
 use Rattle.commands.proofs.board_test.write_scans.Goals as goal
 
@@ -31,18 +31,10 @@ loop-k-preserved g c = record {
       puts_scan head_text (test_scans c.args.board.now c.args.plan.now.passes c.args.plan.now.width) c.loop-k.k
       (below_count c.args.board.now c.args.plan.now.passes c.args.plan.now.width c.loop-k.k c.scans-k-end.result (c.scans_placed.ensures c.args.board.now c.args.plan.now.passes c.args.plan.now.width) c.scans-k-end.ensures c.loop-k-test.true)
       c.loop-k.invariant.put c.write_scan_at.ensures.text c.in_ok-write_scan_at.was;
-  later =
-      IfSome_then c.write_scan_at.new.held
-      {P = λ shape. FillsScan c.args.board.now c.args.plan.now.passes c.args.plan.now.width c.loop-k.k shape c.write_scan_at.new.rows.tdi.bits c.write_scan_at.new.rows.tdo.bits c.write_scan_at.new.rows.mask.bits}
-      {Q = λ shape. 0 < c.loop-k.k + 1} c.write_scan_at.ensures.held (λ shape filled. more c.loop-k.k);
-  held =
-      subst (λ n. IfSome c.write_scan_at.new.held (λ shape.
-      FillsScan c.args.board.now c.args.plan.now.passes c.args.plan.now.width n shape c.write_scan_at.new.rows.tdi.bits c.write_scan_at.new.rows.tdo.bits c.write_scan_at.new.rows.mask.bits))
-      (last c.loop-k.k) c.write_scan_at.ensures.held;
+  later = IfSome_then c.write_scan_at.new.held {P = λ shape. HoldScan c.args.board.now c.args.plan.now c.loop-k.k shape c.write_scan_at.new.rows.scan} {Q = λ shape. 0 < c.loop-k.k + 1} c.write_scan_at.ensures.held (λ shape filled. more c.loop-k.k);
+  held = subst (λ n. IfSome c.write_scan_at.new.held (λ shape. HoldScan c.args.board.now c.args.plan.now n shape c.write_scan_at.new.rows.scan)) (last c.loop-k.k) c.write_scan_at.ensures.held;
   kept = c.write_scan_at.ensures.kept;
-  tdi = subst (IsRoom c.args.board.now) (sym c.write_scan_at.ensures.tdi) c.loop-k.invariant.tdi;
-  tdo = subst (IsRoom c.args.board.now) (sym c.write_scan_at.ensures.tdo) c.loop-k.invariant.tdo;
-  mask = subst (IsRoom c.args.board.now) (sym c.write_scan_at.ensures.mask) c.loop-k.invariant.mask;
+  room = c.write_scan_at.ensures.room;
 }
 
 pub returns : goal.returns

@@ -5,7 +5,8 @@ use Rattle.bt_base.specs.declared.sink.PutFault.{PutFault}
 use Rattle.tap_defs.specs.chain.Text.{head_text, scan_texts}
 use Rattle.tap_defs.specs.board.BoardScans.{test_scans}
 use Rattle.scan_planner.specs.PassRows.{AreKept}
-use Rattle.scan_planner.specs.Plans.{FillsScan, IsRoom}
+use Rattle.scan_planner.specs.Plans.{IsRoom}
+use Rattle.commands.specs.inner.Rows.{HaveRoom, HoldScan}
 use Rattle.commands.proofs.board_test.write_scans.Given as goal
 
 -- the head and the scans so far were put; the rows hold the last of these, where there is one, and keep their room
@@ -13,9 +14,7 @@ abbrev pub invariant-loop-k : goal.invariant-loop-k
 invariant-loop-k g l = record {
   put : Puts {T = Unit {0}} {E = PutFault} (g.K.Sink.shown l.fn.out) (g.K.Sink.shown l.out) (head_text ++ scan_texts (take l.k (test_scans l.board l.plan.passes l.plan.width))) (Ok tt);
   later : IfSome l.held (λ shape. 0 < l.k);
-  held : IfSome l.held (λ shape. FillsScan l.board l.plan.passes l.plan.width (l.k - 1) shape l.rows.tdi.bits l.rows.tdo.bits l.rows.mask.bits);
+  held : IfSome l.held (λ shape. HoldScan l.board l.plan (l.k - 1) shape l.rows.scan);
   kept : AreKept l.board l.plan l.kept;
-  tdi : IsRoom l.board l.rows.tdi.room;
-  tdo : IsRoom l.board l.rows.tdo.room;
-  mask : IsRoom l.board l.rows.mask.room;
+  room : HaveRoom (IsRoom l.board) l.rows.scan;
 }

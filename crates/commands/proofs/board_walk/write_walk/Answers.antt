@@ -1,5 +1,4 @@
-use Rattle.std.proofs.Common.{sym, subst, ◌∙◌}
-use Rattle.scan_planner.specs.Plans.{IsRoom}
+use Rattle.std.proofs.Common.{◌∙◌}
 use Rattle.bt_base.proofs.Cuts.{puts_err}
 use Rattle.tap_defs.specs.chain.Text.{svf_text, head_text, tail_text}
 use Rattle.walk_test.specs.WalkTest.{walk_scans}
@@ -28,9 +27,7 @@ loop-k-preserved g c =
       put =
           puts_scan head_text scans c.loop-k.k (below scans c.loop-k.k c.scans-k-end.result counted c.loop-k-test.true)
           c.loop-k.invariant.put c.write_walk_scan.ensures.text c.in_ok-write_walk_scan.was;
-      tdi = subst (IsRoom board) (sym c.write_walk_scan.ensures.tdi) c.loop-k.invariant.tdi;
-      tdo = subst (IsRoom board) (sym c.write_walk_scan.ensures.tdo) c.loop-k.invariant.tdo;
-      mask = subst (IsRoom board) (sym c.write_walk_scan.ensures.mask) c.loop-k.invariant.mask;
+      room = c.write_walk_scan.ensures.room;
     }
 
 pub returns : goal.returns

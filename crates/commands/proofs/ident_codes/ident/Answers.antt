@@ -18,7 +18,7 @@ returns-in-Err g c =
 pub returns : goal.returns
 returns g c =
     let patterns = c.in-Ok.patterns.items in
-    let puts = subst (λ (p : List (Option (List Symbol))). Puts (g.K.Sink.shown c.args.out.now) (g.K.Sink.shown c.write_ident-put.new.out) (ident_text p) c.write_ident-put.result) c.deref-2.ensures.value c.write_ident-put.ensures.text in
+    let puts = subst (λ (p : List (Option (List Symbol))). Puts (g.K.Sink.shown c.args.out.now) (g.K.Sink.shown c.write_test.new.out) (ident_text p) c.write_test.result) c.deref-2.ensures.value c.write_test.ensures in
     let tests = subst (λ (p : List (Option (List Symbol))). IsIdentTest p (ident_text p)) c.deref.ensures.value c.tests_codes.ensures.tests in
     let are = of_two (λ chain bsdl. AreIdents chain bsdl (Ok patterns)) c.as_bytes.ensures.bytes c.as_slice.ensures.texts c.in-Ok.ensures.read in
     text_answers _ _ _ patterns are _ _ _ (c.answer_by.ensures _ _ _ puts)

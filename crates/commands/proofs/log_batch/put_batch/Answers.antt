@@ -31,14 +31,14 @@ pub returns : goal.returns
 returns g c =
     let board = c.args.planned.now.board in
     let blocks = c.in-Ok.blocks.items in
-    let verdicts = c.in-Ok-diagnose_all.verdicts.items in
+    let verdicts = c.in_ok-verdicts.verdicts.items in
     let count = c.rows.ensures ∙ rows_are board c.args.planned.now.plan c.requires.plan c.requires.passes in
     let said = subst (λ (t : List ℕ). batch_of t c.rows.result c.dr_bits.result ≡ Ok blocks) c.as_bytes.ensures.bytes c.in-Ok.ensures.read in
     let counted = subst (λ (n : ℕ). batch_of c.args.text.now n c.dr_bits.result ≡ Ok blocks) count said in
     let read : test_blocks c.args.text.now board ≡ Ok blocks = subst (λ (n : ℕ). batch_of c.args.text.now (test_rows board) n ≡ Ok blocks) c.dr_bits.ensures counted in
     let sized = subst (λ (n : ℕ). All (λ (block : Block). HasSize n c.dr_bits.result block.log) blocks) count c.in-Ok.ensures.size in
     let size = subst (λ (n : ℕ). All (λ (block : Block). HasSize (test_rows board) n block.log) blocks) c.dr_bits.ensures sized in
-    let judged : AreVerdicts board blocks verdicts = subst (λ (b : List Block). AreVerdicts board b verdicts) c.deref.ensures.value c.in-Ok-diagnose_all.ensures.verdicts in
+    let judged : AreVerdicts board blocks verdicts = subst (λ (b : List Block). AreVerdicts board b verdicts) c.deref.ensures.value c.in_ok-verdicts.ensures.verdicts in
     let of_blocks = subst (λ (b : List Block). Puts (g.K.Sink.shown c.args.out.now) (g.K.Sink.shown c.write_batch.new.out) (batch_text board b c.deref-3.result.now) c.write_batch.result) c.deref-2.ensures.value c.write_batch.ensures in
     let puts = subst (λ (v : List Verdict). Puts (g.K.Sink.shown c.args.out.now) (g.K.Sink.shown c.write_batch.new.out) (batch_text board blocks v) c.write_batch.result) c.deref-3.ensures.value of_blocks in
     let right = each_right c.explaining_listed.ensures c.passing_unexplained.ensures board c.raw-rules.ensures.rules blocks verdicts judged in

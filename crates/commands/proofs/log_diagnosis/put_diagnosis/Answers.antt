@@ -15,11 +15,11 @@ use Rattle.commands.proofs.log_diagnosis.put_diagnosis.Goals as goal
 
 pub none_differs-pass-requires-clause-differing : goal.none_differs-pass-requires-clause-differing
 none_differs-pass-requires-clause-differing g c =
-    subst (λ (nets : List ℕ). AreDiffering c.args.planned.now.board c.args.planned.now.plan c.in-Ok.log nets) (sym c.deref.ensures.value) c.in-Ok-differing_nets.ensures
+    subst (λ (nets : List ℕ). AreDiffering c.args.planned.now.board c.args.planned.now.plan c.in-Ok.log nets) (sym c.deref.ensures.value) c.in_ok-nets.ensures
 
 pub diagnose_by-requires-clause-differing : goal.diagnose_by-requires-clause-differing
 diagnose_by-requires-clause-differing g c = λ κs within.
-    subst (λ (nets : List ℕ). AreDiffering c.args.planned.now.board c.args.planned.now.plan c.in-Ok.log nets) (sym c.deref-2.ensures.value) c.in-Ok-differing_nets.ensures
+    subst (λ (nets : List ℕ). AreDiffering c.args.planned.now.board c.args.planned.now.plan c.in-Ok.log nets) (sym c.deref-2.ensures.value) c.in_ok-nets.ensures
 
 pub returns-in-Err : goal.returns-in-Err
 returns-in-Err g c =
@@ -38,9 +38,9 @@ returns g c =
     let board = c.args.planned.now.board in
     let rows = c.in-Ok.log in
     let pass = c.none_differs-pass.result in
-    let faults = c.in-Ok-diagnose_by.faults.items in
+    let faults = c.in_ok-faults.faults.items in
     let passes = c.none_differs-pass.ensures in
-    let explaining = c.in-Ok-diagnose_by.ensures.faults in
+    let explaining = c.in_ok-faults.ensures.faults in
     let count = c.rows.ensures ∙ rows_are board c.args.planned.now.plan c.requires.plan c.requires.passes in
     let said = subst (λ (t : List ℕ). log_rows t c.rows.result c.dr_bits.result ≡ Ok rows) c.into_bytes.ensures.bytes c.in-Ok.ensures.read in
     let counted = subst (λ (n : ℕ). log_rows c.args.text n c.dr_bits.result ≡ Ok rows) count said in

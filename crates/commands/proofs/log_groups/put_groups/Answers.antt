@@ -32,17 +32,17 @@ returns g c =
     let read : walk_log c.args.text board ≡ Ok rows = subst (λ (n : ℕ). log_rows c.args.text (walk_rows board) n ≡ Ok rows) c.dr_bits.ensures counted in
     let sized = subst (λ (n : ℕ). HasSize n c.dr_bits.result rows) count c.in-Ok.ensures.size in
     let size = subst (λ (n : ℕ). HasSize (walk_rows board) n rows) c.dr_bits.ensures sized in
-    let found : Option (List (List ℕ)) = option_map (λ groups. groups.items) c.in-Ok-groups.found in
+    let found : Option (List (List ℕ)) = option_map (λ groups. groups.items) c.in_ok-found.found in
     let puts = subst (λ (o : Option (List (List ℕ))). Puts (g.K.Sink.shown c.args.out.now) (g.K.Sink.shown c.write_groups.new.out) (groups_text board o) c.write_groups.result) c.lent.ensures c.write_groups.ensures in
     text_judged (OnBoard grouping c.args.text board) (λ found. grouping_text (board, found)) (FindsGroups c.args.text board) found
-    (record { contents = rows; holds = read; finds = c.in-Ok-groups.ensures.found }) _ _ _ (c.answer_by.ensures _ _ _ puts)
+    (record { contents = rows; holds = read; finds = c.in_ok-found.ensures.found }) _ _ _ (c.answer_by.ensures _ _ _ puts)
     (record {
       means = c.test_means.ensures (walk_row_list board);
       rows = rows;
       read = read;
       shape = c.walk_logs_shaped.ensures rows size;
       found = found;
-      exactly = exactly_found c.one_set.ensures board rules rows found c.in-Ok-groups.ensures.found;
+      exactly = exactly_found c.one_set.ensures board rules rows found c.in_ok-found.ensures.found;
       respond = λ groups are. c.groups_respond.ensures.some board groups rules are;
       one = λ groups one other first second. c.groups_respond.ensures.one board groups one other rules first second;
       is = refl;
