@@ -1,9 +1,9 @@
 -- Blocks that are read one after the other.
-use Rattle.std.proofs.Common.{◌≡◌, ℕ, ◌+◌, ◌-◌, ◌<◌, ◌≤◌, Bool, true, false, cond, Option, Some, None, Result, Ok, Err, List, [], ◌∷◌, ◌++◌, length, length-drop, suc, get_or, map, take, drop, refl, sym, ap, ◌∙◌, subst, arith, append_assoc, append-nil}
-use Rattle.std.specs.Prelude.{IfSome, alloc_error}
+use Rattle.std.proofs.Common.{◌≡◌, ℕ, ◌+◌, ◌-◌, ◌<◌, ◌≤◌, Bool, true, false, cond, Option, Some, None, Result, Ok, Err, List, [], ◌∷◌, ◌++◌, length, length-drop, suc, map, take, drop, refl, sym, ap, ◌∙◌, subst, arith, append_assoc, append-nil}
+use Rattle.std.specs.Prelude.{IfSome, alloc_error, slice_get}
 use Rattle.std.proofs.lemmas.List.{length-map, length-take-le, length_push, map-append}
 use Rattle.std.proofs.lemmas.List.Elements.{All-nil, All-append}
-use Rattle.std.proofs.lemmas.Option.{IfSome_then}
+use Rattle.std.proofs.lemmas.Option.{IfSome_then, get_or_from_slice_get, slice_get_within}
 use Rattle.answers.specs.Gives.{Gives}
 use Rattle.text_lines.specs.Words.{Word}
 use Rattle.response_log.specs.LogRows.{HasSize, NumberedLine, rows_of_lines, Answer as LogAnswer}
@@ -92,12 +92,15 @@ module _ (r : Reading) where
   pub read_start : (from : ℕ) (none : List Block) → none ≡ [] → said_between r from from ≡ Ok none
   read_start from none is = said_nothing from ∙ ap Ok (sym is)
 
-  module _ (i : ℕ) (block : UnreadBlock) (less : i < length r.unread.items) (is : block ≡ get_or r.unread.items i block) where
+  module _ (i : ℕ) (block : UnreadBlock) (at : slice_get r.unread.items i ≡ Some block) where
+    less : i < length r.unread.items
+    less = slice_get_within r.unread.items i block at
+
     abbrev own : LogAnswer
     own = rows_of_lines r.rows r.len (rows_from (block.line + 1) block.own.now)
 
     said_one : said_between r i (i + 1) ≡ block_then block.id.now (i + 1) own (Ok [])
-    said_one = ap (λ (l : List UnreadBlock). logs_from r.rows r.len (i + 1) (map lines_of_unread l)) (range_one r.unread.items i block less is)
+    said_one = ap (λ (l : List UnreadBlock). logs_from r.rows r.len (i + 1) (map lines_of_unread l)) (range_one r.unread.items i block less (sym (get_or_from_slice_get r.unread.items i block block at)))
 
     -- one block more
     pub read_more : (from board : ℕ) (found more : List Block) (read : Block) → from ≤ i → said_between r from i ≡ Ok found → read.id ≡ block.id.now → in_block board own ≡ Ok read.log → more ≡ found ++ read ∷ [] → said_between r from (i + 1) ≡ Ok more

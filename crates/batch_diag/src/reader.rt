@@ -1,5 +1,5 @@
 // From a text to the logs of boards.
-ghost use Rattle.std.specs.Prelude.{◌≡◌, ◌+◌, ◌<◌, ◌≤◌, ◌^◌, length, get_or, All, IfOk, IfErr, IfSome, MatchResult, Err};
+ghost use Rattle.std.specs.Prelude.{◌≡◌, ◌+◌, ◌<◌, ◌≤◌, ◌^◌, length, slice_get, All, IfOk, IfErr, IfSome, MatchResult, Err, Some};
 ghost use Rattle.answers.specs.Gives.{Gives};
 ghost use Rattle.response_log.specs.LogRows.{HasSize, rows_of_lines};
 ghost use Rattle.batch_diag.specs.Batch.{IsOfLines, batch_of, batch_told};
@@ -36,7 +36,8 @@ pub fn blocks(alloc: Global, bytes: &[u8], rows: u64, len: u32) -> Result<Vec<Bl
 }
 
 /// Reads the same blocks in as many pieces as there are workers, from 1 to 64, which differ by at most one block. Halves of the pieces run
-/// side by side, down to one piece. Where memory is refused in a piece and no earlier block has a fault, it is refused for the whole.
+/// side by side, down to one piece. Where memory is refused for a block and no earlier one has a fault, it is refused for the whole; where
+/// it is refused for putting together what several pieces give, that comes before any fault of a block.
 pub fn blocks_by<R: Threads + Sync>(
     rt: &R,
     alloc: Global,
@@ -96,7 +97,7 @@ fn reading_of(alloc: Global, bytes: &[u8], rows: u64, len: u32) -> Result<Readin
 fn unread_at<'a>(reading: &Reading<'a>, i: usize) -> UnreadBlock<'a>
     requires short { AreShort reading.now.unread.items }
     requires block { i < length reading.now.unread.items }
-    ensures at { result ≡ get_or reading.now.unread.items i result }
+    ensures at { slice_get reading.now.unread.items i ≡ Some result }
     ensures short { result.line + length result.own.now < 2 ^ 32 }
 {
     reading.unread[i]

@@ -45,22 +45,23 @@ fn answer_in<R: Threads + Sync>(
     }
 }
 
-// Whether a text answers this, at once and in pieces of several sizes.
-fn answers<R: Threads + Sync>(
+// What a text answers, in pieces of several sizes and at once: the first answer that is not this one, or else the last.
+fn answer<R: Threads + Sync>(
     rt: &R,
     alloc: Global,
     text: &[u8],
     rows: u64,
     wanted: &str,
-) -> Result<bool, AllocError>
+) -> Result<String, AllocError>
     requires { length text.now < 2 ^ 32 }
 {
-    for pieces in [0, 1, 2, 3, 64] {
-        if answer_in(rt, alloc, text, rows, pieces)?.as_str() != wanted {
-            return Ok(false);
+    for pieces in [1, 2, 3, 64] {
+        let answer = answer_in(rt, alloc, text, rows, pieces)?;
+        if answer.as_str() != wanted {
+            return Ok(answer);
         }
     }
-    Ok(true)
+    answer_in(rt, alloc, text, rows, 0)
 }
 
 #[test]
@@ -108,7 +109,7 @@ fn batches(rt: HostRuntime) -> Result<(), Fail> {
     ];
     for (text, rows, wanted) in cases {
         assert!(rt; text.len() < 1000);
-        assert!(rt; answers(&rt, rt.alloc(), text, rows, wanted)?, "{text:?}");
+        assert_eq!(rt; answer(&rt, rt.alloc(), text, rows, wanted)?.as_str(), wanted, "{text:?}");
     }
     Ok(())
 }
@@ -132,7 +133,7 @@ fn lines_that_can_not_stand(rt: HostRuntime) -> Result<(), Fail> {
     ];
     for (text, wanted) in cases {
         assert!(rt; text.len() < 1000);
-        assert!(rt; answers(&rt, rt.alloc(), text, 2, wanted)?, "{text:?}");
+        assert_eq!(rt; answer(&rt, rt.alloc(), text, 2, wanted)?.as_str(), wanted, "{text:?}");
     }
     Ok(())
 }
@@ -149,9 +150,10 @@ fn title(alloc: Global, len: usize) -> Result<Vec<u8>, AllocError> {
 fn ids_have_up_to_255_bytes(rt: HostRuntime) -> Result<(), Fail> {
     let longest = title(rt.alloc(), 255)?;
     assert!(rt; longest.len() < 1000);
-    assert!(rt; blocks(rt.alloc(), &longest, 0, 2).is_ok());
+    assert_eq!(rt; answer_in(&rt, rt.alloc(), &longest, 0, 0)?.len(), 256);
     let longer = title(rt.alloc(), 256)?;
     assert!(rt; longer.len() < 1000);
-    assert!(rt; answers(&rt, rt.alloc(), &longer, 0, "line 1: board not allowed")?);
+    let wanted = "line 1: board not allowed";
+    assert_eq!(rt; answer(&rt, rt.alloc(), &longer, 0, wanted)?.as_str(), wanted);
     Ok(())
 }

@@ -1,5 +1,5 @@
 -- A block at a time.
-use Rattle.std.proofs.Common.{◌≡◌, ◌+◌, ◌<◌, ◌≤◌, ◌++◌, ◌∷◌, [], List, length, refl, sym, subst, arith}
+use Rattle.std.proofs.Common.{◌≡◌, ◌+◌, ◌≤◌, ◌++◌, ◌∷◌, [], List, refl, sym, subst, arith}
 use Rattle.std.specs.Prelude.{All}
 use Rattle.std.proofs.lemmas.List.Elements.{All-nil, All-push}
 use Rattle.response_log.specs.LogRows.{HasSize}
@@ -21,10 +21,9 @@ loop-i-preserved c =
     let i = c.loop-i.i in
     let block = c.in-Ok.block in
     let found = c.loop-i.found.items in
-    let within : i < length r.unread.items = omega (arith, c.loop-i-test.true, c.requires.within) in
     let items : c.push.new.self.items ≡ found ++ block ∷ [] = c.in_ok-push.ensures.items in
     rw items (record {
-      said = read_more r i c.unread_at-unread.result within c.unread_at-unread.ensures.at c.args.first (i + 1) found (found ++ block ∷ []) block c.loop-i.auto.i c.loop-i.invariant.said c.in-Ok.ensures.id c.in-Ok.ensures.log refl;
+      said = read_more r i c.unread_at-unread.result c.unread_at-unread.ensures.at c.args.first (i + 1) found (found ++ block ∷ []) block c.loop-i.auto.i c.loop-i.invariant.said c.in-Ok.ensures.id c.in-Ok.ensures.log refl;
       size = All-push (λ (b : Block). HasSize r.rows r.len b.log) found block c.loop-i.invariant.size c.in-Ok.ensures.size;
     })
 
@@ -32,8 +31,7 @@ pub returns-in-Err : goal.returns-in-Err
 returns-in-Err c =
     let r = c.args.reading.now in
     let i = c.loop-i.i in
-    let within : i < length r.unread.items = omega (arith, c.loop-i-test.true, c.requires.within) in
-    (read_none r i c.unread_at-unread.result within c.unread_at-unread.ensures.at c.args.first c.args.end c.loop-i.found.items c.in-Err.fault c.loop-i.auto.i c.loop-i-test.true c.requires.within c.loop-i.invariant.said c.in-Err.ensures.log, tt, c.in-Err.ensures.inner)
+    (read_none r i c.unread_at-unread.result c.unread_at-unread.ensures.at c.args.first c.args.end c.loop-i.found.items c.in-Err.fault c.loop-i.auto.i c.loop-i-test.true c.requires.within c.loop-i.invariant.said c.in-Err.ensures.log, tt, c.in-Err.ensures.inner)
 
 pub returns : goal.returns
 returns c =
