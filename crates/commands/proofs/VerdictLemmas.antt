@@ -1,5 +1,5 @@
 -- What diagnoses and groups say of their logs.
-use Rattle.std.proofs.Common.{◌≡◌, ◌↔◌, ℕ, Bool, List, [], ◌∷◌, Option, Some, None, Decides, ap, subst}
+use Rattle.std.proofs.Common.{◌≡◌, ◌↔◌, ℕ, Bool, List, [], ◌∷◌, Option, Some, None, IsTrue, ap, subst}
 use Rattle.board_defs.specs.declared.board.RawBoard.{RawBoard}
 use Rattle.board_defs.specs.declared.fault.Single.{Single}
 use Rattle.board_defs.specs.BoardRules.{IsBoard}
@@ -16,7 +16,7 @@ use Rattle.commands.specs.Worth.{IsRight}
 
 module _ (listed : ExplainingListed) (unexplained : PassingUnexplained) (board : RawBoard) (rules : IsBoard board) where
   -- a diagnosis is right
-  pub is_right : (rows : List (List Bool)) (pass : Bool) (faults : List Single) → Decides pass (IsExpected board (svf_row_scans board) rows) → AreExplaining board rows faults → IsRight board rows pass faults
+  pub is_right : (rows : List (List Bool)) (pass : Bool) (faults : List Single) → (IsTrue pass ↔ IsExpected board (svf_row_scans board) rows) → AreExplaining board rows faults → IsRight board rows pass faults
   is_right rows pass faults passes explaining = record { passes = passes; lists = listed board rows faults rules explaining; none = λ e. unexplained board rows faults rules (passes.0 e) explaining }
 
   -- so is each verdict on a block

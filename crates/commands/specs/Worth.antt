@@ -1,5 +1,5 @@
 -- What a text is worth that a command puts.
-use Rattle.std.specs.Prelude.{◌≡◌, ◌↔◌, ℕ, Bool, true, List, [], Option, Some, Ok, All, Decides}
+use Rattle.std.specs.Prelude.{◌≡◌, ◌↔◌, ℕ, Bool, true, List, [], Option, Some, Ok, All, IsTrue}
 use Rattle.tap_defs.specs.chain.ChainTest.{IsChainTest}
 use Rattle.tap_defs.specs.board.BoardTest.{IsBoardTest, IsHarmless}
 use Rattle.board_defs.specs.declared.board.RawBoard.{RawBoard}
@@ -81,7 +81,7 @@ pub record WalksBoard (texts : BoardTexts) (text : Text) : Type 0 where
 -- the board passes by a log of its test exactly where every compared bit is the expected one, and then no single fault explains the log;
 -- and the faults are exactly the single faults that explain the log, each once and in order
 pub record IsRight (board : RawBoard) (rows : List (List Bool)) (pass : Bool) (faults : List Single) : Type 0 where
-  pub passes : Decides pass (IsExpected board (svf_row_scans board) rows)
+  pub passes : IsTrue pass ↔ (IsExpected board (svf_row_scans board) rows)
   pub lists : ListsExplaining board rows faults
   pub none : pass ≡ true → faults ≡ []
 

@@ -1,5 +1,5 @@
 -- The text of a diagnosis.
-use Rattle.std.specs.Prelude.{◌≡◌, ℕ, Bool, false, true, List, [], ◌∷◌, ◌++◌, length, codes, decimal, Option, None, Some, slice_get, Decides}
+use Rattle.std.specs.Prelude.{◌≡◌, ℕ, Bool, false, true, List, [], ◌∷◌, ◌++◌, length, codes, decimal, Option, None, Some, slice_get, IsTrue, ◌↔◌}
 use Rattle.std.specs.List.{flat_map}
 use Rattle.line_printer.specs.Prints.{line_of}
 use Rattle.board_defs.specs.declared.board.NetPin.{NetPin}
@@ -64,7 +64,7 @@ diag_text board false faults = fail_line (length faults) ++ flat_map (fault_line
 -- faults that explain it
 pub record IsDiagText (board : RawBoard) (log : List (List Bool)) (text : List ℕ) : Type 0 where
   pub pass : Bool
-  pub passes : Decides pass (IsExpected board (svf_row_scans board) log)
+  pub passes : IsTrue pass ↔ (IsExpected board (svf_row_scans board) log)
   pub faults : List Single
   pub explaining : AreExplaining board log faults
   pub is_text : text ≡ diag_text board pass faults
