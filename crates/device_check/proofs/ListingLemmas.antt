@@ -56,7 +56,7 @@ instruction_pieces a b c d e = simp (append_assoc, append-nil)
 pub port_pieces : (a b c d e : List ℕ) → whole (a ∷ b ∷ c ∷ []) ++ (d ++ (e ++ 10 ∷ [])) ≡ line_of (a ∷ b ∷ c ∷ d ∷ e ∷ [])
 port_pieces a b c d e = simp (append_assoc, append-nil)
 
-pub cell_pieces : (a b c d e f g h i : List ℕ) → whole (a ∷ b ∷ (c ++ (d ++ e)) ∷ []) ++ (f ++ ((g ++ h) ++ (i ++ 10 ∷ []))) ≡ line_of (a ∷ b ∷ c ∷ d ∷ e ∷ f ∷ g ∷ h ∷ i ∷ [])
+pub cell_pieces : (a b c d e f g h i : List ℕ) → whole (a ∷ b ∷ c ∷ d ∷ e ∷ []) ++ (f ++ (whole (g ∷ h ∷ []) ++ (i ++ 10 ∷ []))) ≡ line_of (a ∷ b ∷ c ∷ d ∷ e ∷ f ∷ g ∷ h ∷ i ∷ [])
 cell_pieces a b c d e f g h i = simp (append_assoc, append-nil)
 
 pub code_pieces : (a b c d : List ℕ) → (a ++ b) ++ (c ++ d) ≡ whole (a ∷ b ∷ c ∷ d ∷ [])

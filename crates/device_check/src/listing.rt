@@ -5,7 +5,7 @@ ghost use Rattle.board_defs.specs.Limits.{most_bits};
 ghost use Rattle.bt_base.specs.Puts.{Puts};
 ghost use Rattle.line_printer.specs.Prints.{Prints, line_of, whole};
 ghost use Rattle.board_defs.specs.DeviceRules.{IsDevice};
-ghost use Rattle.device_check.specs.DeviceText.{mode_word, role_word, symbol_word, bit_word, code_text, instructions_text, pattern_text, instruction_line, pin_text, pins_text, port_line, port_name, port_lines, index_text, bit_text, place_text, control_text, cell_line, entries_of, cell_lines, device_text};
+ghost use Rattle.device_check.specs.DeviceText.{mode_word, role_word, symbol_word, bit_word, code_text, instructions_text, pattern_text, instruction_line, pin_text, pins_text, port_line, port_name, port_lines, index_text, place_text, control_text, cell_line, entries_of, cell_lines, device_text};
 ghost use Rattle.device_check.specs.inner.ListingForms.{Rises, Climbs, entries_in};
 
 use crate::listing_table::{Entries, fill_entries};
@@ -30,20 +30,19 @@ fn mode_word(mode: Mode) -> &'static [u8]
     }
 }
 
-// The function of an entry, between two blanks.
-fn spaced_role(role: Role) -> &'static [u8]
-    ensures { result.now ≡ codes " " ++ (role_word role ++ codes " ") }
+fn role_word(role: Role) -> &'static [u8]
+    ensures { result.now ≡ role_word role }
 {
     match role {
-        Role::Input => b" INPUT ",
-        Role::Output2 => b" OUTPUT2 ",
-        Role::Output3 => b" OUTPUT3 ",
-        Role::Control => b" CONTROL ",
-        Role::ControlR => b" CONTROLR ",
-        Role::Internal => b" INTERNAL ",
-        Role::Clock => b" CLOCK ",
-        Role::Bidir => b" BIDIR ",
-        Role::ObserveOnly => b" OBSERVE_ONLY ",
+        Role::Input => b"INPUT",
+        Role::Output2 => b"OUTPUT2",
+        Role::Output3 => b"OUTPUT3",
+        Role::Control => b"CONTROL",
+        Role::ControlR => b"CONTROLR",
+        Role::Internal => b"INTERNAL",
+        Role::Clock => b"CLOCK",
+        Role::Bidir => b"BIDIR",
+        Role::ObserveOnly => b"OBSERVE_ONLY",
     }
 }
 
@@ -57,22 +56,10 @@ fn symbol_word(symbol: Symbol) -> &'static [u8]
     }
 }
 
-// A symbol behind a blank.
-fn spaced_symbol(symbol: Symbol) -> &'static [u8]
-    ensures { result.now ≡ codes " " ++ symbol_word symbol }
+fn bit_word(bit: bool) -> &'static [u8]
+    ensures { result.now ≡ bit_word bit }
 {
-    match symbol {
-        Symbol::Zero => b" 0",
-        Symbol::One => b" 1",
-        Symbol::Any => b" X",
-    }
-}
-
-// A bit behind a blank.
-fn spaced_bit(bit: bool) -> &'static [u8]
-    ensures { result.now ≡ codes " " ++ bit_word bit }
-{
-    if bit { b" 1" } else { b" 0" }
+    if bit { b"1" } else { b"0" }
 }
 
 // Prints a code, the symbol nearest TDO last.
@@ -357,25 +344,29 @@ fn print_control<K: Sink>(
     };
     let mut cell = Buffer::new();
     let cell = cell.format(control.cell).as_bytes();
-    let disable = spaced_bit(control.disable);
-    print_all(&[b" ".as_slice(), cell, disable], line, out)
+    let disable = bit_word(control.disable);
+    print_all(&[b" ".as_slice(), cell, b" ", disable], line, out)
 }
 
 // Begins the line of an entry with the number of its cell and its function.
 fn begin_cell<K: Sink>(num: u32, role: Role, line: &mut Line, out: &mut K) -> Result<(), PutFault>
     ensures { Prints (K.shown out.old) (K.shown out.new) [] line.new
-        (whole (codes "CELL " ∷ decimal num ∷ (codes " " ++ (role_word role ++ codes " ")) ∷ [])) result }
+        (whole (codes "CELL " ∷ decimal num ∷ codes " " ∷ role_word role ∷ codes " " ∷ [])) result }
 {
     let mut number = Buffer::new();
     let number = number.format(num).as_bytes();
-    begin_line(&[b"CELL ".as_slice(), number, spaced_role(role)], line, out)
+    begin_line(
+        &[b"CELL ".as_slice(), number, b" ", role_word(role), b" "],
+        line,
+        out,
+    )
 }
 
 // Prints the safe value of an entry.
 fn print_safe<K: Sink>(safe: Symbol, line: &mut Line, out: &mut K) -> Result<(), PutFault>
-    ensures { Prints (K.shown out.old) (K.shown out.new) line.old line.new (codes " " ++ symbol_word safe) result }
+    ensures { Prints (K.shown out.old) (K.shown out.new) line.old line.new (whole (codes " " ∷ symbol_word safe ∷ [])) result }
 {
-    print(spaced_symbol(safe), line, out)
+    print_all(&[b" ".as_slice(), symbol_word(safe)], line, out)
 }
 
 // Puts the line of an entry.
