@@ -1,6 +1,6 @@
 // Reading the texts of a command, by what they hold.
-ghost use Rattle.std.specs.Prelude.{◌<◌, ◌≤◌, ◌^◌, ◌∷◌, length, map};
-ghost use Rattle.command_line.specs.Words.{board_names, chain_names, names_of};
+ghost use Rattle.std.specs.Prelude.{◌∷◌, map};
+ghost use Rattle.command_line.specs.Words.{board_names, chain_names};
 ghost use Rattle.command_line.specs.CommandView.{board_view, chain_view, command_view};
 ghost use Rattle.btest_cli.specs.Texts.{log_called, text_called, wanted_of};
 ghost use Rattle.btest_cli.specs.inner.Reads.{OfBoard, OfChain, OfLog, OfRequest, Reads};
@@ -18,7 +18,6 @@ pub fn read_request<'a, S: Store>(
     command: Command<'a>,
     store: &mut S,
 ) -> Result<Request, Unread<'a>>
-    requires { length (names_of (command_view command)) ≤ 258 }
     ensures { Reads (OfRequest (command_view command.entry)) (wanted_of (command_view command.entry)) (S.held store.old) (S.held store.new) (S.faults store.old) (S.faults store.new) (S.asked store.old) (S.asked store.new) result }
 {
     match command {
@@ -49,7 +48,6 @@ fn read_chain<'a, S: Store>(
     names: ChainNames<'a>,
     store: &mut S,
 ) -> Result<ChainTexts, Unread<'a>>
-    requires { length names.bsdl.now < 2 ^ 32 }
     ensures { Reads OfChain (map text_called (chain_names (chain_view names.entry))) (S.held store.old) (S.held store.new) (S.faults store.old) (S.faults store.new) (S.asked store.old) (S.asked store.new) result }
 {
     let chain = match read_text(alloc, names.chain, store) {
@@ -68,7 +66,6 @@ fn read_board<'a, S: Store>(
     names: BoardNames<'a>,
     store: &mut S,
 ) -> Result<BoardTexts, Unread<'a>>
-    requires { length names.bsdl.now < 2 ^ 32 }
     ensures { Reads OfBoard (map text_called (board_names (board_view names.entry))) (S.held store.old) (S.held store.new) (S.faults store.old) (S.faults store.new) (S.asked store.old) (S.asked store.new) result }
 {
     let chain = match read_text(alloc, names.chain, store) {
@@ -92,7 +89,6 @@ fn read_logs<'a, S: Store>(
     names: BoardNames<'a>,
     store: &mut S,
 ) -> Result<LogTexts, Unread<'a>>
-    requires { length names.bsdl.now < 2 ^ 32 }
     ensures { Reads OfLog (log_called log.entry.now ∷ map text_called (board_names (board_view names.entry))) (S.held store.old) (S.held store.new) (S.faults store.old) (S.faults store.new) (S.asked store.old) (S.asked store.new) result }
 {
     let log = match read_log(alloc, log, store) {

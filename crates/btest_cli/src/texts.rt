@@ -1,11 +1,12 @@
 // Reading texts.
-ghost use Rattle.std.specs.Prelude.{◌≡◌, ◌<◌, ◌^◌, [], ◌∷◌, length, map, string_bytes};
+ghost use Rattle.std.specs.Prelude.{◌≡◌, [], ◌∷◌, map, string_bytes};
 ghost use Rattle.btest_cli.specs.Texts.{log_called, text_called};
 ghost use Rattle.btest_cli.specs.inner.Failures.{wanted_view};
 ghost use Rattle.btest_cli.specs.inner.Reads.{AreAll, IsOne, Reads};
 
 use crate::failure::Unread;
 use bt_base::{FetchFault, Store};
+use command_line::BsdlNames;
 use commands::{ShortText, ShortTexts};
 use std::alloc::Global;
 
@@ -84,12 +85,12 @@ pub fn read_log<'a, S: Store>(
 /// Reads BSDL texts in their order, up to the first that fails or is too long.
 pub fn read_texts<'a, S: Store>(
     alloc: Global,
-    names: &'a [String],
+    names: BsdlNames<'a>,
     store: &mut S,
 ) -> Result<ShortTexts, Unread<'a>>
-    requires { length names.now < 2 ^ 32 }
-    ensures { Reads AreAll (map text_called (map string_bytes names.entry.now)) (S.held store.old) (S.held store.new) (S.faults store.old) (S.faults store.new) (S.asked store.old) (S.asked store.new) result }
+    ensures { Reads AreAll (map text_called (map string_bytes names.entry.names.now)) (S.held store.old) (S.held store.new) (S.faults store.old) (S.faults store.new) (S.asked store.old) (S.asked store.new) result }
 {
+    let names = names.names;
     let mut texts = Vec::new(alloc);
     for name in names {
         let text = match read_text(alloc, name.as_str(), store) {

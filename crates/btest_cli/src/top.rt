@@ -1,5 +1,5 @@
 // The top call.
-ghost use Rattle.std.specs.Prelude.{◌≡◌, ◌≢◌, ◌⊎◌, ◌≤◌, length, map, None, string_bytes};
+ghost use Rattle.std.specs.Prelude.{◌≡◌, ◌≢◌, ◌⊎◌, map, None, string_bytes};
 ghost use Rattle.bt_base.specs.Counts.{Rose};
 ghost use Rattle.command_line.specs.Words.{HasNumber, command_of, names_of};
 ghost use Rattle.command_line.specs.CommandView.{command_view};
@@ -94,7 +94,6 @@ fn run_command<R: Threads + Sync, S: Store, K: Sink, N: Sink, G: Gate>(
     notes: &mut N,
     gate: &G,
 ) -> Status
-    requires few { length (names_of (command_view command)) ≤ 258 }
     requires number { HasNumber (command_view command) }
     ensures { IsRunOf (command_view command.entry) (S.held store.old) (S.faults store.old) (S.faults store.new) (S.asked store.old) (S.asked store.new)
         (K.shown out.old) (K.shown out.new) (N.shown notes.old) (N.shown notes.new) result }
@@ -124,7 +123,7 @@ fn roles_of<'a>(command: Command<'a>) -> Names<'a>
             log: "",
             chain: names.chain,
             nets: "",
-            bsdl: TextNames::Several(names.bsdl),
+            bsdl: TextNames::Several(names.bsdl.names),
         },
         Command::Device { bsdl } => Names {
             log: "",
@@ -136,7 +135,7 @@ fn roles_of<'a>(command: Command<'a>) -> Names<'a>
             log: "",
             chain: names.chain,
             nets: names.nets,
-            bsdl: TextNames::Several(names.bsdl),
+            bsdl: TextNames::Several(names.bsdl.names),
         },
         Command::Make(_) => Names {
             log: "",
@@ -150,7 +149,7 @@ fn roles_of<'a>(command: Command<'a>) -> Names<'a>
             log,
             chain: board.chain,
             nets: board.nets,
-            bsdl: TextNames::Several(board.bsdl),
+            bsdl: TextNames::Several(board.bsdl.names),
         },
     }
 }

@@ -1,7 +1,7 @@
 -- Texts that are read one after the other.
 use Rattle.std.specs.Prelude.{◌≡◌, ℕ, ◌≤◌, List, [], ◌∷◌, ◌++◌, Some, Result, Ok, Err}
 use Rattle.bt_base.specs.Counts.{Rose}
-use Rattle.command_line.specs.Words.{Text, Command}
+use Rattle.command_line.specs.Words.{Text, Command, most_made, most_workers}
 use Rattle.commands.specs.Requests.{request_of}
 use Rattle.commands.specs.declared.request.Request.{Request}
 use Rattle.commands.specs.declared.request.Request.TheVariants.{Make, Diagnose, Batch}
@@ -52,11 +52,11 @@ pub record Reads {A : Type 0} (Of : A → List Text → Type 0) (wanted : List W
   pub later : (name : Text) → before name ≤ now name
   pub told : TellsRead Of wanted held before now asked asked' result
 
--- the number of a request is in its range: a board that is to be made has 1 to 255 parts, and diagnoses have 1 to 64 workers
+-- the number of a request is in its range: that of the parts of a board that is to be made, or of the workers of diagnoses
 abbrev pub IsNumbered : Request → Type 0
-IsNumbered (Make parts) = (1 ≤ parts) × (parts ≤ 255)
-IsNumbered (Diagnose workers texts) = (1 ≤ workers) × (workers ≤ 64)
-IsNumbered (Batch workers texts) = (1 ≤ workers) × (workers ≤ 64)
+IsNumbered (Make parts) = (1 ≤ parts) × (parts ≤ most_made)
+IsNumbered (Diagnose workers texts) = (1 ≤ workers) × (workers ≤ most_workers)
+IsNumbered (Batch workers texts) = (1 ≤ workers) × (workers ≤ most_workers)
 IsNumbered other = Unit {0}
 
 -- what was read, as its texts in order

@@ -1,15 +1,9 @@
 use Rattle.std.proofs.Common.{subst}
-use Rattle.std.specs.Prelude.{Result}
 use Rattle.bt_base.specs.Puts.{Puts}
 use Rattle.command_line.specs.CommandView.{command_view}
-use Rattle.commands.specs.declared.request.Request.{Request}
-use Rattle.commands.specs.declared.unput.Unput.{Unput}
 use Rattle.refusal_lines.specs.Refusals.{Names}
-use Rattle.btest_cli.specs.declared.failure.Unread.{Unread}
 use Rattle.btest_cli.specs.Refusals.{roles_of}
-use Rattle.btest_cli.specs.Texts.{wanted_of}
-use Rattle.btest_cli.specs.inner.Failures.{IsAnswered, unput_line}
-use Rattle.btest_cli.specs.inner.Reads.{OfRequest, Reads}
+use Rattle.btest_cli.specs.inner.Failures.{unput_line}
 use Rattle.btest_cli.proofs.RequestLemmas.{numbered}
 use Rattle.btest_cli.proofs.RunLemmas.{run_put, run_unput, run_unread, took_or_cut, was_read}
 use Rattle.btest_cli.proofs.top.run_command.Goals as goal
@@ -17,28 +11,22 @@ use Rattle.btest_cli.proofs.top.run_command.Goals as goal
 pub answer-requires-clause-number : goal.answer-requires-clause-number
 answer-requires-clause-number g c = λ κs within.
     let command = command_view c.args.command in
-    let read = was_read command (subst (λ (r : Result Request Unread). Reads (OfRequest command) (wanted_of command) (g.S.Store.held c.args.store.now) (g.S.Store.held c.read_request.new.store) (g.S.Store.faults c.args.store.now) (g.S.Store.faults c.read_request.new.store) (g.S.Store.asked c.args.store.now) (g.S.Store.asked c.read_request.new.store) r) c.in-Ok.is c.read_request.ensures) in
+    let read = was_read command c.in-Ok.ensures in
     numbered command read.texts c.in-Ok.request read.made c.requires.number
 
 pub returns-in-Err : goal.returns-in-Err
 returns-in-Err g c =
-    let command = command_view c.args.command in
-    let read = subst (λ (r : Result Request Unread). Reads (OfRequest command) (wanted_of command) (g.S.Store.held c.args.store.now) (g.S.Store.held c.read_request.new.store) (g.S.Store.faults c.args.store.now) (g.S.Store.faults c.read_request.new.store) (g.S.Store.asked c.args.store.now) (g.S.Store.asked c.read_request.new.store) r) c.in-Err.is c.read_request.ensures in
     rw c.unread_status.ensures
-    (run_unread command (g.S.Store.held c.args.store.now) (g.S.Store.faults c.args.store.now) (g.S.Store.faults c.read_request.new.store) (g.S.Store.asked c.args.store.now) (g.S.Store.asked c.read_request.new.store) c.in-Err.failure (g.K.Sink.shown c.args.out.now) (g.N.Sink.shown c.args.notes.now) (g.N.Sink.shown c.put_unread.new.notes) read.told (took_or_cut c.put_unread.result c.put_unread.ensures))
+    (run_unread (command_view c.args.command) (g.S.Store.held c.args.store.now) (g.S.Store.faults c.args.store.now) (g.S.Store.faults c.read_request.new.store) (g.S.Store.asked c.args.store.now) (g.S.Store.asked c.read_request.new.store) c.in-Err.failure (g.K.Sink.shown c.args.out.now) (g.N.Sink.shown c.args.notes.now) (g.N.Sink.shown c.put_unread.new.notes) c.in-Err.ensures.told (took_or_cut c.put_unread.result c.put_unread.ensures))
 
 pub returns-in-Ok-answer : goal.returns-in-Ok-answer
 returns-in-Ok-answer g c =
     let command = command_view c.args.command in
-    let read = was_read command (subst (λ (r : Result Request Unread). Reads (OfRequest command) (wanted_of command) (g.S.Store.held c.args.store.now) (g.S.Store.held c.read_request.new.store) (g.S.Store.faults c.args.store.now) (g.S.Store.faults c.read_request.new.store) (g.S.Store.asked c.args.store.now) (g.S.Store.asked c.read_request.new.store) r) c.in-Ok.is c.read_request.ensures) in
-    let put = subst (λ (r : Result (Unit {0}) Unput). IsAnswered (roles_of command) c.in-Ok.request (g.K.Sink.shown c.args.out.now) (g.K.Sink.shown c.answer.new.out) r) c.in-Ok-answer.is (c.answer.ensures (roles_of command)) in
-    run_put command (g.S.Store.held c.args.store.now) (g.S.Store.faults c.args.store.now) (g.S.Store.faults c.read_request.new.store) (g.S.Store.asked c.args.store.now) (g.S.Store.asked c.read_request.new.store) c.in-Ok.request (g.K.Sink.shown c.args.out.now) (g.K.Sink.shown c.answer.new.out) (g.N.Sink.shown c.args.notes.now) read put
+    run_put command (g.S.Store.held c.args.store.now) (g.S.Store.faults c.args.store.now) (g.S.Store.faults c.read_request.new.store) (g.S.Store.asked c.args.store.now) (g.S.Store.asked c.read_request.new.store) c.in-Ok.request (g.K.Sink.shown c.args.out.now) (g.K.Sink.shown c.answer.new.out) (g.N.Sink.shown c.args.notes.now) (was_read command c.in-Ok.ensures) (c.in-Ok-answer.ensures (roles_of command))
 
 pub returns-in-Err-answer : goal.returns-in-Err-answer
 returns-in-Err-answer g c =
     let command = command_view c.args.command in
-    let read = was_read command (subst (λ (r : Result Request Unread). Reads (OfRequest command) (wanted_of command) (g.S.Store.held c.args.store.now) (g.S.Store.held c.read_request.new.store) (g.S.Store.faults c.args.store.now) (g.S.Store.faults c.read_request.new.store) (g.S.Store.asked c.args.store.now) (g.S.Store.asked c.read_request.new.store) r) c.in-Ok.is c.read_request.ensures) in
-    let unput = subst (λ (r : Result (Unit {0}) Unput). IsAnswered (roles_of command) c.in-Ok.request (g.K.Sink.shown c.args.out.now) (g.K.Sink.shown c.answer.new.out) r) c.in-Err-answer.is (c.answer.ensures (roles_of command)) in
     let put = subst (λ (names : Names). Puts (g.N.Sink.shown c.args.notes.now) (g.N.Sink.shown c.put_unput.new.notes) (unput_line names c.in-Err-answer.failure) c.put_unput.result) c.roles_of.ensures c.put_unput.ensures in
     rw c.unput_status.ensures
-    (run_unput command (g.S.Store.held c.args.store.now) (g.S.Store.faults c.args.store.now) (g.S.Store.faults c.read_request.new.store) (g.S.Store.asked c.args.store.now) (g.S.Store.asked c.read_request.new.store) c.in-Ok.request c.in-Err-answer.failure (g.K.Sink.shown c.args.out.now) (g.K.Sink.shown c.answer.new.out) (g.N.Sink.shown c.args.notes.now) (g.N.Sink.shown c.put_unput.new.notes) read unput (took_or_cut c.put_unput.result put))
+    (run_unput command (g.S.Store.held c.args.store.now) (g.S.Store.faults c.args.store.now) (g.S.Store.faults c.read_request.new.store) (g.S.Store.asked c.args.store.now) (g.S.Store.asked c.read_request.new.store) c.in-Ok.request c.in-Err-answer.failure (g.K.Sink.shown c.args.out.now) (g.K.Sink.shown c.answer.new.out) (g.N.Sink.shown c.args.notes.now) (g.N.Sink.shown c.put_unput.new.notes) (was_read command c.in-Ok.ensures) (c.in-Err-answer.ensures (roles_of command)) (took_or_cut c.put_unput.result put))
