@@ -1,9 +1,9 @@
 -- Which nets differ in a log, and where they stand among the covered nets.
-use Rattle.std.proofs.Common.{◌≡◌, ◌⊎◌, inl, inr, ℕ, zero, suc, ◌+◌, ◌*◌, ◌<◌, ◌==◌, Bool, true, false, cond, not, ◌||◌, List, [], ◌∷◌, length, map, get_or, set, Option, Some, None, is_some, Decides, refl, sym, ap, ◌∙◌, subst, arith}
-use Rattle.std.specs.Prelude.{slice_get, filter, take, count_by, nat_lt, Contains, Result, Ok, Err, IfOk}
-use Rattle.std.specs.List.{enumerate_from, range_with_len}
-use Rattle.std.proofs.lemmas.Bool.{lt-ltb, both_ways, cases_eq, cases_Bool, ne_eqb}
-use Rattle.std.proofs.lemmas.List.{get_or-set_same, get_or-set_other}
+use Rattle.std.proofs.Common.{◌≡◌, ◌⊎◌, inl, inr, ℕ, zero, suc, ◌+◌, ◌*◌, ◌<◌, ◌==◌, Bool, true, false, cond, not, ◌||◌, List, [], ◌∷◌, ◌++◌, length, map, Option, Some, None, is_some, Decides, refl, sym, ap, ◌∙◌, subst, arith}
+use Rattle.std.specs.Prelude.{slice_get, filter, take, count_by, nat_lt, Contains}
+use Rattle.std.specs.List.{enumerate_from}
+use Rattle.std.proofs.lemmas.Bool.{lt-ltb, both_ways, cases_eq, ne_eqb}
+use Rattle.std.proofs.lemmas.List.{append-nil}
 use Rattle.std.proofs.lemmas.List.Sums.{sum_by-cons}
 use Rattle.std.proofs.lemmas.Option.{get_or_from_slice_get}
 use Rattle.lists.proofs.ListLemmas.{item_there}
@@ -14,8 +14,8 @@ use Rattle.board_defs.specs.BoardRules.{IsBoard}
 use Rattle.board_defs.specs.Faults.{Numbered}
 use Rattle.board_defs.specs.Pins.{is_same}
 use Rattle.board_defs.specs.Settings.{holds}
-use Rattle.board_defs.proofs.Members.{has_contains, contains_has, has_filter, filter_has, has_range, range_has}
-use Rattle.board_defs.proofs.Ordered.{order_pairs, order_filter, order_range}
+use Rattle.board_defs.proofs.Members.{Has, has_append, has_contains, has_left, has_right, contains_has}
+use Rattle.board_defs.proofs.Ordered.{InOrder, order_append, order_pairs}
 use Rattle.board_defs.proofs.Places.{all_from, any_at}
 use Rattle.tap_defs.specs.board.TestRows.{is_observed, observing_driver, code_of_net, code_bit}
 use Rattle.net_pins.specs.declared.nets.NetDriver.{NetDriver}
@@ -28,7 +28,7 @@ use Rattle.fault_sim.specs.declared.effect.Effect.TheVariants.{Plain}
 use Rattle.fault_sim.specs.Fits.{bit_in, cell_shows, ShowBy, NetShows, ShowsOn, ShowsAll}
 use Rattle.fault_sim.specs.inner.Tested.{coded_nets}
 use Rattle.fault_sim.specs.Suspects.{AreDiffering}
-use Rattle.fault_sim.specs.inner.Suspects.{AreFlags, flagged_nets, covered_place}
+use Rattle.fault_sim.specs.inner.Suspects.{covered_place}
 use Rattle.fault_sim.proofs.FeedLemmas.{observing_is}
 use Rattle.fault_sim.proofs.TestedLemmas.{filter_numbers, unguarded_by}
 
@@ -36,61 +36,76 @@ module _ (board : RawBoard) (plan : PlanTables) (log : List (List Bool)) where
   abbrev Expected : ℕ → Type 0
   Expected n = ShowsOn board plan None log n
 
-  not_twice : (shown : Bool) → not (not shown) ≡ shown
-  not_twice true = refl
-  not_twice false = refl
+  -- the nets below a number that differ, in net order
+  pub record DifferBelow (count : ℕ) (nets : List ℕ) : Type 0 where
+    pub rising : InOrder (λ (a b : ℕ). a < b) nets
+    pub each : (n : ℕ) → Has nets n → (n < count) × (Expected n → ⊥)
+    pub others : (n : ℕ) → n < count → Has nets n ⊎ Expected n
 
-  pub flag_more : (n : ℕ) (flags : List Bool) (shown : Bool) → Decides shown (Expected n) → n < length flags → AreFlags board plan log n flags → AreFlags board plan log (n + 1) (set flags n (not shown))
-  flag_more n flags shown decides within are net less = by_net (cases_eq net n)
+  pub differ_none : DifferBelow 0 []
+  differ_none = record { rising = tt; each = λ n has. absurd has; others = λ n less. absurd (omega (arith, less)) }
+
+  -- one net more is looked at
+  pub differ_more : (count : ℕ) (nets : List ℕ) (shown : Bool) → Decides shown (Expected count) → DifferBelow count nets → DifferBelow (count + 1) (nets ++ cond (not shown) (count ∷ []) [])
+  differ_more count nets true decides below = subst (λ (l : List ℕ). DifferBelow (count + 1) l) (sym (append-nil nets)) (record {
+    rising = below.rising;
+    each = λ n has. let e = below.each n has in (omega (arith, e.0), e.1);
+    others = λ n less. by_net n less (cases_eq n count);
+  })
     where
-      by_net : (net ≡ n) ⊎ (net ≡ n → ⊥) → Decides (not (get_or (set flags n (not shown)) net false)) (Expected net)
-      by_net (inl same) =
-          let here : shown ≡ not (get_or (set flags n (not shown)) net false) =
-          sym (ap (λ (i : ℕ). not (get_or (set flags n (not shown)) i false)) same ∙ ap not (get_or-set_same flags n (not shown) false within) ∙ not_twice shown) in
-          subst (λ (b : Bool). Decides b (Expected net)) here (subst (λ (i : ℕ). Decides shown (Expected i)) (sym same) decides)
-      by_net (inr differ) =
-          subst (λ (b : Bool). Decides (not b) (Expected net)) (sym (get_or-set_other flags n net (not shown) false differ)) (are net (lower differ))
+      by_net : (n : ℕ) → n < count + 1 → (n ≡ count) ⊎ (n ≡ count → ⊥) → Has nets n ⊎ Expected n
+      by_net n less (inl same) = inr (subst Expected (sym same) (decides.0 refl))
+      by_net n less (inr differ) = below.others n (lower differ)
         where
-          lower : (net ≡ n → ⊥) → net < n
+          lower : (n ≡ count → ⊥) → n < count
+          lower ne = grind arith
+  differ_more count nets false decides below = record {
+    rising = order_append (λ (a b : ℕ). a < b) nets (count ∷ []) below.rising (λ m none. absurd none, tt) last_above;
+    each = λ n has. by_part n (has_append nets (count ∷ []) n has);
+    others = λ n less. by_net n less (cases_eq n count);
+  }
+    where
+      last_above : (a b : ℕ) → Has nets a → Has (count ∷ []) b → a < b
+      last_above a b has (inl same) = omega (arith, (below.each a has).0, same)
+      last_above a b has (inr none) = absurd none
+
+      by_part : (n : ℕ) → Has nets n ⊎ Has (count ∷ []) n → (n < count + 1) × (Expected n → ⊥)
+      by_part n (inl has) = let e = below.each n has in (omega (arith, e.0), e.1)
+      by_part n (inr (inl same)) = (omega (arith, same), λ shows. let bad : false ≡ true = decides.1 (subst Expected (sym same) shows) in cc bad)
+      by_part n (inr (inr none)) = absurd none
+
+      by_net : (n : ℕ) → n < count + 1 → (n ≡ count) ⊎ (n ≡ count → ⊥) → Has (nets ++ count ∷ []) n ⊎ Expected n
+      by_net n less (inl same) = inl (has_right nets (count ∷ []) n (inl (sym same)))
+      by_net n less (inr differ) = by_earlier (below.others n (lower differ))
+        where
+          lower : (n ≡ count → ⊥) → n < count
           lower ne = grind arith
 
-  -- the flagged nets are those that differ
-  pub flagged_differ : (flags : List Bool) → length flags ≡ length board.nets → AreFlags board plan log (length board.nets) flags → AreDiffering board plan log (flagged_nets flags)
-  flagged_differ flags long are = record {
-    rising = order_pairs (λ (a b : ℕ). a < b) (flagged_nets flags) (order_filter (λ (a b : ℕ). a < b) (λ n. get_or flags n false) (range_with_len 0 (length flags)) (order_range 0 (length flags)));
-    others = others;
+          by_earlier : Has nets n ⊎ Expected n → Has (nets ++ count ∷ []) n ⊎ Expected n
+          by_earlier (inl has) = inl (has_left nets (count ∷ []) n has)
+          by_earlier (inr shows) = inr shows
+
+  -- those below the number of nets are those of the board
+  pub differ_all : (count : ℕ) (nets : List ℕ) → count ≡ length board.nets → DifferBelow count nets → AreDiffering board plan log nets
+  differ_all count nets all below = record {
+    rising = order_pairs (λ (a b : ℕ). a < b) nets below.rising;
+    others = λ n within. by_found n (below.others n (omega (arith, within, all)));
     exactly = λ n. (to n, from n);
   }
     where
-      others : (n : ℕ) → n < length board.nets → Contains (flagged_nets flags) n ⊎ ShowsOn board plan None log n
-      others n within = by_flag (cases_Bool (get_or flags n false))
+      by_found : (n : ℕ) → Has nets n ⊎ Expected n → Contains nets n ⊎ Expected n
+      by_found n (inl has) = inl (has_contains nets n has)
+      by_found n (inr shows) = inr shows
+
+      to : (n : ℕ) → Contains nets n → (n < length board.nets) × (Expected n → ⊥)
+      to n h = let e = below.each n (contains_has nets n h) in (omega (arith, e.0, all), e.1)
+
+      from : (n : ℕ) → ((n < length board.nets) × (Expected n → ⊥)) → Contains nets n
+      from n (within, hidden) = by_hidden (below.others n (omega (arith, within, all)))
         where
-          by_flag : (get_or flags n false ≡ true) ⊎ (get_or flags n false ≡ false) → Contains (flagged_nets flags) n ⊎ ShowsOn board plan None log n
-          by_flag (inl e) =
-              inl (has_contains (flagged_nets flags) n (has_filter (λ k. get_or flags k false) (range_with_len 0 (length flags)) n (has_range 0 (length flags) n (omega arith) (omega (arith, within, long))) e))
-          by_flag (inr e) = inr ((are n within).0 (ap not e))
-
-      to : (n : ℕ) → Contains (flagged_nets flags) n → (n < length board.nets) × (ShowsOn board plan None log n → ⊥)
-      to n h =
-          let f = filter_has (λ k. get_or flags k false) (range_with_len 0 (length flags)) n (contains_has (flagged_nets flags) n h) in
-          let w = range_has 0 (length flags) n f.0 in
-          let within : n < length board.nets = omega (arith, w.1, long) in
-          (within, λ shown. both_ways (not (get_or flags n false)) (ap not f.1) ((are n within).1 shown))
-
-      from : (n : ℕ) → ((n < length board.nets) × (ShowsOn board plan None log n → ⊥)) → Contains (flagged_nets flags) n
-      from n (within, hidden) =
-          has_contains (flagged_nets flags) n
-          (has_filter (λ k. get_or flags k false) (range_with_len 0 (length flags)) n (has_range 0 (length flags) n (omega arith) (omega (arith, within, long))) (by_flag (cases_Bool (get_or flags n false))))
-        where
-          by_flag : (get_or flags n false ≡ true) ⊎ (get_or flags n false ≡ false) → get_or flags n false ≡ true
-          by_flag (inl e) = e
-          by_flag (inr e) = absurd (hidden ((are n within).0 (ap not e)))
-
--- so those that were found are
-pub found_differ : {V E : Type 0} (board : RawBoard) (plan : PlanTables) (log : List (List Bool)) (view : V → List ℕ) (result : Result V E) (flags lent : List Bool) → lent ≡ flags → length flags ≡ length board.nets → AreFlags board plan log (length board.nets) flags →
-    IfOk result (λ v. view v ≡ flagged_nets lent) → IfOk result (λ v. AreDiffering board plan log (view v))
-found_differ board plan log view (Err e) flags lent same long are found = tt
-found_differ board plan log view (Ok v) flags lent same long are found = subst (λ (l : List ℕ). AreDiffering board plan log l) (sym (found ∙ ap (λ (l : List Bool). flagged_nets l) same)) (flagged_differ board plan log flags long are)
+          by_hidden : Has nets n ⊎ Expected n → Contains nets n
+          by_hidden (inl has) = has_contains nets n has
+          by_hidden (inr shows) = absurd (hidden shows)
 
 -- a net is none of no nets
 not_among : {P : Type 0} (n : ℕ) (nets : List ℕ) → length nets ≡ 0 → Contains nets n ⊎ P → P

@@ -42,7 +42,7 @@ use Rattle.fault_sim.specs.inner.Tested.{paired_in, coded_nets}
 use Rattle.fault_sim.specs.Places.{placed, number_places, listed_places, place_count, places_of, IsUniverse}
 use Rattle.fault_sim.specs.Starts.{AreStarts}
 use Rattle.fault_sim.specs.Suspects.{suspect_count, AreDiffering, AreSuspects}
-use Rattle.fault_sim.specs.inner.Suspects.{two_from, four_from, first_open, first_short, pair_number, pair_suspects, pin_net, is_net, pin_suspects, net_suspects, covered_place, CanSuspect, suspects_of}
+use Rattle.fault_sim.specs.inner.Suspects.{two_from, four_from, first_open, first_short, pair_number, pair_suspects, pin_net, is_net, pin_suspects, net_suspects, covered_place, suspects_of}
 use Rattle.fault_sim.proofs.PlaceLemmas.{flat_at, length-flat, length-four, stuck_fault, open_fault, short_fault, no_fault, stuck_length, opens_length}
 use Rattle.fault_sim.proofs.MatchLemmas.{explains_is, expected_is}
 use Rattle.fault_sim.proofs.TestedLemmas.{nets_are}
@@ -50,6 +50,13 @@ use Rattle.fault_sim.proofs.UniverseLemmas.{covered_order, listed_are}
 use Rattle.fault_sim.proofs.OrderLemmas.{place_single}
 use Rattle.fault_sim.proofs.DifferLemmas.{differing_observed, covered_there}
 use Rattle.fault_sim.proofs.SuspectLemmas.{PairAt, pair_at, net_order, net_below, has_stuck, has_open, has_earlier, has_later, pair_order, pair_below, has_pair}
+
+-- the nets stand at their places among the covered nets, in order
+abbrev pub CanSuspect : PlanTables → FaultLists → List ℕ → Type 0
+CanSuspect plan lists [] = Unit {0}
+CanSuspect plan lists (n ∷ []) = covered_place plan n < length lists.nets
+CanSuspect plan lists (m ∷ n ∷ []) = (covered_place plan m < covered_place plan n) × (covered_place plan n < length lists.nets)
+CanSuspect plan lists (m ∷ n ∷ o ∷ nets) = Unit {0}
 
 -- where a fault stands
 pub data PlaceOf (lists : FaultLists) (i : ℕ) (single : Single) : Type 0 where
@@ -488,13 +495,6 @@ module _ (board : RawBoard) (rules : IsBoard board) (plan : PlanTables) (p : IsP
       by_others : Contains nets n ⊎ ShowsOn board plan None log n → ShowsOn board plan None log n ⊎ (ShowsOn board plan None log n → ⊥)
       by_others (inl has) = inr ((differ.exactly n).0 has).1
       by_others (inr shown) = inl shown
-
-  pub can_be : CanSuspect plan lists nets
-  can_be =
-      can_suspect board plan lists starts nets_rise log decided there
-      (λ single show explains is. none single is ((expected_is board rules plan p passes log rows bits compared shape expect).1 show) explains)
-      (λ single is explains. (explains_is board rules plan p passes log rows bits compared shape single is (respond single is)).0 explains)
-      (listed_are board rules plan p kept lists universe) (place_single board rules) nets differ
 
   pub all_suspects : AreSuspects board plan lists log (suspects_of plan lists nets)
   all_suspects =

@@ -4,10 +4,10 @@ use Rattle.std.specs.Prelude.{slice_get}
 use Rattle.std.specs.List.{list_all}
 use Rattle.std.specs.Int.{bit_at}
 use Rattle.std.specs.Int.Bits.{bit_and, bit_or, bit_xor}
-use Rattle.std.proofs.lemmas.Bool.{eqb-true, both_ways, cases_eq}
+use Rattle.std.proofs.lemmas.Bool.{eqb-true, both_ways, cases_eq, cases_lt}
 use Rattle.std.proofs.lemmas.Nat.{mul-add-lt}
 use Rattle.std.proofs.lemmas.Nat.Bits.{bit_at-zero, bit_at-lt, bit_at_and, bit_at_or, bit_at_xor, same_from_bits}
-use Rattle.std.proofs.lemmas.List.{get_or-set_same, get_or-set_other}
+use Rattle.std.proofs.lemmas.List.{get_or_past, get_or-set_same, get_or-set_other}
 use Rattle.std.proofs.lemmas.Option.{get_or_from_slice_get}
 use Rattle.bt_bits.specs.Digits.{digit_bit, digits_of}
 use Rattle.bt_bits.proofs.DigitLemmas.{digits_of-get}
@@ -147,8 +147,8 @@ module _ (board : RawBoard) (rules : IsBoard board) (plan : PlanTables) (p : IsP
         by_place y has false e = is_same_of_same (bit_in log (x * plan.width + j) y.position) (code_bit (code_in plan n) j) (bit_is y has e)
 
   -- a net shows the expected bits where none of the digits of its cells has a mark
-  pub unmarked_shows : (n : ℕ) → n < length board.nets → are_marked marks (readers_in plan n) ≡ false → ShowsOn board plan None log n
-  unmarked_shows n within unmarked x less =
+  unmarked_within : (n : ℕ) → n < length board.nets → are_marked marks (readers_in plan n) ≡ false → ShowsOn board plan None log n
+  unmarked_within n within unmarked x less =
       let net = item_there board.nets n within in
       let pass = item_there plan.passes x less in
       subst (λ (q : List Ctl). NetShows board plan None log (x * plan.width) q n) (sym (get_or_from_slice_get plan.passes x pass.0 [] pass.1))
@@ -158,6 +158,20 @@ module _ (board : RawBoard) (rules : IsBoard board) (plan : PlanTables) (p : IsP
           ShowBy log (x * plan.width) plan.width (code_in plan n) (readers_in plan n) Plain (place_of_driver o)
       by_driver net is_net pass stands None e = tt
       by_driver net is_net pass stands (Some d) e = λ j j_less. cells_expected n unmarked x less net is_net pass stands d e j j_less
+
+  -- and so does a number that no net has
+  pub unmarked_shows : (n : ℕ) → are_marked marks (readers_in plan n) ≡ false → ShowsOn board plan None log n
+  unmarked_shows n unmarked = by_side (cases_lt n (length board.nets))
+    where
+      by_side : (n < length board.nets) ⊎ (length board.nets ≤ n) → ShowsOn board plan None log n
+      by_side (inl within) x less = unmarked_within n within unmarked x less
+      by_side (inr past) x less =
+          let none : readers_in plan n ≡ [] = get_or_past plan.readers n [] (omega (arith, past, p.tables.readers_length)) in
+          subst (λ (l : List ReaderCell). ShowBy log (x * plan.width) plan.width (code_in plan n) l Plain (place_of_driver (driver_in plan (get_or plan.passes x []) n))) (sym none) (by_driver x (place_of_driver (driver_in plan (get_or plan.passes x []) n)))
+        where
+          by_driver : (x : ℕ) (o : Option ℕ) → ShowBy log (x * plan.width) plan.width (code_in plan n) [] Plain o
+          by_driver x None = tt
+          by_driver x (Some d) = λ j less. refl
 
 -- one pass more is gone through
 pub pass_more : (board : RawBoard) (plan : PlanTables) (log : List (List Bool)) (x : ℕ) (old new : List ℕ) → AreMarks board plan log x old → MarkRows board plan log x plan.width old new → AreMarks board plan log (x + 1) new

@@ -1,13 +1,15 @@
 -- The places of a board as a list.
 use Rattle.std.proofs.Common.{◌≡◌, ◌≢◌, ◌⊎◌, inl, inr, ℕ, zero, suc, ◌+◌, ◌-◌, ◌*◌, ◌<◌, ◌≤◌, ◌==◌, Bool, true, false, cond, ◌&&◌, List, [], ◌∷◌, ◌++◌, length, map, get_or, Option, Some, None, refl, sym, ap, ◌∙◌, subst, arith, length-append}
-use Rattle.std.specs.Prelude.{slice_get, filter, filter_map, option_map}
+use Rattle.std.specs.Prelude.{slice_get, filter, filter_map, option_and_then, option_map}
 use Rattle.std.specs.List.{flat_map}
 use Rattle.std.proofs.lemmas.Bool.{and_parts, both_ways, cases_lt, false_from_ne_true}
 use Rattle.std.proofs.lemmas.Nat.{mul-le}
-use Rattle.std.proofs.lemmas.List.{length-map, get_or_append_left, get_or-append-add}
+use Rattle.std.proofs.lemmas.List.{length-map, get_or_append_left, get_or-append-add, get_or_past}
 use Rattle.std.proofs.lemmas.List.Elements.{filter_map-append, filter-append}
-use Rattle.std.proofs.lemmas.Option.{slice_get-map, slice_get_within}
+use Rattle.std.proofs.lemmas.Option.{slice_get-map, slice_get_past, slice_get_within}
 use Rattle.std.proofs.Math.Nat.{suc-mul}
+use Rattle.lists.proofs.ListLemmas.{item_there}
+use Rattle.board_defs.specs.Limits.{most_nets}
 use Rattle.board_defs.specs.declared.board.Net.{Net}
 use Rattle.board_defs.specs.declared.board.RawBoard.{RawBoard}
 use Rattle.board_defs.specs.declared.board.PinRef.{PinRef}
@@ -24,7 +26,7 @@ use Rattle.plan_tables.specs.declared.tables.PlanTables.{PlanTables}
 use Rattle.fault_sim.specs.declared.fault_lists.FaultLists.{FaultLists}
 use Rattle.fault_sim.specs.inner.Tested.{paired_in}
 use Rattle.fault_sim.specs.Laws.{PlacesAre}
-use Rattle.fault_sim.specs.Places.{placed, pair_places, stuck_places, open_places, short_places, number_places, listed_places}
+use Rattle.fault_sim.specs.Places.{placed, pair_places, stuck_places, open_places, short_places, number_places, listed_at, listed_places, place_count}
 use Rattle.fault_sim.specs.Starts.{pairs_before, AreStarts}
 
 -- what is at the places of some faults
@@ -147,6 +149,17 @@ pub length-flat : {X Y : Type 0} (f : X → List Y) (w : ℕ) → ((x : X) → l
 length-flat f w each [] = omega arith
 length-flat f w each (x ∷ xs) = omega (arith, length-append (f x) (flat_map f xs), each x, length-flat f w each xs, suc-mul (length xs) w)
 
+-- and past the last of them
+pub past_end : {X : Type 0} (xs : List X) (m : ℕ) → None ≡ slice_get xs m → length xs ≤ m
+past_end xs m none = by_side (cases_lt m (length xs))
+  where
+    by_side : (m < length xs) ⊎ (length xs ≤ m) → length xs ≤ m
+    by_side (inl less) = let item = item_there xs m less in let bad : None ≡ Some item.0 = none ∙ item.1 in cc bad
+    by_side (inr past) = past
+
+pub flat_past : {X Y : Type 0} (f : X → List Y) (w : ℕ) → ((x : X) → length (f x) ≡ w) → (xs : List X) (m i : ℕ) → None ≡ slice_get xs m → m * w ≤ i → slice_get (flat_map f xs) i ≡ None
+flat_past f w each xs m i none low = slice_get_past (flat_map f xs) i (omega (arith, length-flat f w each xs, mul-le (length xs) w m w (past_end xs m none) (omega arith), low))
+
 -- the pairs of a list, by the places of their items
 pub pair_there : {X : Type 0} (xs : List X) (a b k : ℕ) (x y : X) → a < b → slice_get xs a ≡ Some x → slice_get xs b ≡ Some y → k + suc a ≡ pairs_before (length xs) a + b →
     slice_get (pairs_within xs) k ≡ Some (x, y)
@@ -188,11 +201,19 @@ before_most zero a = omega arith
 before_most (suc nets) zero = omega arith
 before_most (suc nets) (suc a) = omega (arith, before_most nets a)
 
-square_most : (n : ℕ) → n ≤ 16382 → n * n ≤ 268369924
-square_most n few = mul-le n n 16382 16382 few few
+square_most : (n : ℕ) → n ≤ most_nets → n * n ≤ most_nets * most_nets
+square_most n few = mul-le n n most_nets most_nets few few
 
-pub before_few : (nets a : ℕ) → nets ≤ 16382 → pairs_before nets a ≤ 268369924
+pub before_few : (nets a : ℕ) → nets ≤ most_nets → pairs_before nets a ≤ most_nets * most_nets
 before_few nets a few = omega (arith, before_most nets a, square_most nets few)
+
+-- a start is one of these numbers, or 0
+pub start_few : (nets : ℕ) (starts : List ℕ) → AreStarts nets starts → nets ≤ most_nets → (a : ℕ) → get_or starts a 0 ≤ most_nets * most_nets
+start_few nets starts are few a = by_side (cases_lt a (length starts))
+  where
+    by_side : (a < length starts) ⊎ (length starts ≤ a) → get_or starts a 0 ≤ most_nets * most_nets
+    by_side (inl less) = omega (arith, are.each a (omega (arith, less, are.count)), before_few nets a few)
+    by_side (inr past) = omega (arith, get_or_past starts a 0 past)
 
 -- one start more
 pub starts_more : (nets a : ℕ) (starts : List ℕ) (next : ℕ) → a < nets → length starts ≡ a + 1 → ((k : ℕ) → k ≤ a → get_or starts k 0 ≡ pairs_before nets k) → next ≡ pairs_before nets (a + 1) →
@@ -256,6 +277,22 @@ length-four plan pair = by_test (paired_in plan pair.0 pair.1)
     by_test true = refl
     by_test false = refl
 
+-- the fault that a place has, which may be none
+abbrev pub at_once : Option (Option Single) → Option Single
+at_once place = option_and_then (λ fault. fault) place
+
+-- it is the one of the list of faults
+placed_there : (faults : List Single) (i : ℕ) → listed_at (placed faults) i ≡ slice_get faults i
+placed_there faults i = ap at_once (slice_get-map (λ f. Some f) faults i) ∙ by_fault (slice_get faults i)
+  where
+    by_fault : (o : Option Single) → at_once (option_map (λ f. Some f) o) ≡ o
+    by_fault None = refl
+    by_fault (Some fault) = refl
+
+-- each place has one or none
+pub listed_there : (places : List (Option Single)) (i : ℕ) (fault : Option Single) → i < length places → fault ≡ listed_at places i → slice_get places i ≡ Some fault
+listed_there places i fault less e = let place = item_there places i less in place.1 ∙ ap Some (sym (e ∙ ap at_once place.1))
+
 -- the places by the lists
 module _ (plan : PlanTables) (lists : FaultLists) where
   abbrev stuck : List (Option Single)
@@ -279,13 +316,31 @@ module _ (plan : PlanTables) (lists : FaultLists) where
       turned : (n : ℕ) → n * 2 ≡ 2 * n
       turned n = omega arith
 
-  pub open_listed : (i k : ℕ) (fault : Single) → i ≡ 2 * length lists.nets + k → k < 2 * length lists.pins → slice_get (flat_map open_faults lists.pins) k ≡ Some fault → slice_get (listed_places plan lists) i ≡ Some (Some fault)
-  open_listed i k fault at less e =
-      rest_at stuck (opens ++ shorts) k i (omega (arith, at, stuck_length))
-      ∙ front_at opens shorts k (omega (arith, less, opens_length))
-      ∙ slice_get-map (λ f. Some f) (flat_map open_faults lists.pins) k ∙ ap (λ (o : Option Single). option_map (λ f. Some f) o) e
+  pub listed_length : length (listed_places plan lists) ≡ place_count lists
+  listed_length =
+      omega (
+        arith,
+        length-append stuck (opens ++ shorts),
+        length-append opens shorts,
+        stuck_length,
+        opens_length,
+        length-flat (number_places plan) 4 (length-four plan) (pairs_within lists.nets),
+        length-pairs lists.nets,
+      )
 
-  pub short_listed : (i k : ℕ) (place : Option Single) → i ≡ 2 * length lists.nets + (2 * length lists.pins + k) → slice_get shorts k ≡ Some place → slice_get (listed_places plan lists) i ≡ Some place
-  short_listed i k place at e =
-      rest_at stuck (opens ++ shorts) (2 * length lists.pins + k) i (omega (arith, at, stuck_length))
-      ∙ rest_at opens shorts k (2 * length lists.pins + k) (omega (arith, opens_length)) ∙ e
+  pub stuck_listed : (i : ℕ) (fault : Option Single) → i < 2 * length lists.nets → fault ≡ slice_get (flat_map stuck_faults lists.nets) i → fault ≡ listed_at (listed_places plan lists) i
+  stuck_listed i fault less e =
+      e
+      ∙ sym (ap at_once (front_at stuck (opens ++ shorts) i (omega (arith, less, stuck_length)))
+      ∙ placed_there (flat_map stuck_faults lists.nets) i)
+
+  pub open_listed : (i k : ℕ) (fault : Option Single) → i ≡ 2 * length lists.nets + k → k < 2 * length lists.pins → fault ≡ slice_get (flat_map open_faults lists.pins) k → fault ≡ listed_at (listed_places plan lists) i
+  open_listed i k fault at less e =
+      e
+      ∙ sym (ap at_once (rest_at stuck (opens ++ shorts) k i (omega (arith, at, stuck_length)) ∙ front_at opens shorts k (omega (arith, less, opens_length)))
+      ∙ placed_there (flat_map open_faults lists.pins) k)
+
+  pub short_listed : (i k : ℕ) (fault : Option Single) → i ≡ 2 * length lists.nets + (2 * length lists.pins + k) → fault ≡ listed_at shorts k → fault ≡ listed_at (listed_places plan lists) i
+  short_listed i k fault at e =
+      e
+      ∙ sym (ap at_once (rest_at stuck (opens ++ shorts) (2 * length lists.pins + k) i (omega (arith, at, stuck_length)) ∙ rest_at opens shorts k (2 * length lists.pins + k) (omega (arith, opens_length))))

@@ -3,6 +3,8 @@ use Rattle.std.proofs.Common.{◌≡◌, ◌≢◌, ◌⊎◌, inl, inr, ℕ, ze
 use Rattle.std.specs.Prelude.{slice_get, option_and_then, All}
 use Rattle.std.specs.List.{list_all}
 use Rattle.std.proofs.lemmas.Bool.{eq-eqb, and_parts, both_ways, cases_lt}
+use Rattle.std.proofs.lemmas.List.{get_or_past}
+use Rattle.std.proofs.lemmas.List.Elements.{All-nil}
 use Rattle.std.proofs.lemmas.Nat.{mul-add-lt}
 use Rattle.std.proofs.lemmas.Option.{get_or_from_slice_get, slice_get-get_or, slice_get_within}
 use Rattle.std.proofs.Math.Nat.{suc-mul}
@@ -36,6 +38,7 @@ use Rattle.plan_tables.specs.declared.tables.PlanTables.{PlanTables}
 use Rattle.plan_tables.specs.Tables.{first_position, IsReaderCell}
 use Rattle.plan_tables.specs.Building.{is_read_beside, enabled_in, drivers_of_pins}
 use Rattle.scan_planner.specs.Plans.{IsPlanOf}
+use Rattle.scan_planner.proofs.FillLemmas.{readers_within}
 use Rattle.plan_tables.proofs.LaidLemmas.{laid_at}
 use Rattle.plan_tables.proofs.PinLemmas.{Standing, standing, on_self, reading_entry_is, Reads, reads_by}
 use Rattle.plan_tables.proofs.TableLemmas.{FirstOn, reader_is, is_reader}
@@ -329,3 +332,11 @@ module _ (board : RawBoard) (rules : IsBoard board) (plan : PlanTables) (p : IsP
           ShowBy log (x * plan.width) plan.width (code_in plan n) (readers_in plan n) (effect_in board plan pass fault n) (place_of_driver o)
       by_driver pass stands v is_v None e = tt
       by_driver pass stands v is_v (Some d) e = λ j less. cells_are_shown x pass stands j less shows n v is_v d e
+
+-- the cells that read a net stand in a scan of data; a number that no net has is read by none
+pub readers_inside : (board : RawBoard) → IsBoard board → (plan : PlanTables) → IsPlanOf board plan → (n : ℕ) → All (λ r. r.position < data_bits board) (readers_in plan n)
+readers_inside board rules plan p n = by_side (cases_lt n (length plan.readers))
+  where
+    by_side : (n < length plan.readers) ⊎ (length plan.readers ≤ n) → All (λ r. r.position < data_bits board) (readers_in plan n)
+    by_side (inl within) = readers_within board rules plan p n [] within
+    by_side (inr past) = subst (λ (l : List ReaderCell). All (λ r. r.position < data_bits board) l) (sym (get_or_past plan.readers n [] past)) (All-nil (λ r. r.position < data_bits board))

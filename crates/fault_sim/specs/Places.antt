@@ -33,9 +33,13 @@ short_places board = flat_map (pair_places board) (pairs_within (covered_nets bo
 abbrev pub places_of : RawBoard → List (Option Single)
 places_of board = stuck_places board ++ (open_places board ++ short_places board)
 
--- the fault at a place, where it has one
+-- the fault at one of some places, where it has one
+abbrev pub listed_at : List (Option Single) → ℕ → Option Single
+listed_at places i = option_and_then (λ place. place) (slice_get places i)
+
+-- and at a place of a board
 abbrev pub fault_at : RawBoard → ℕ → Option Single
-fault_at board i = option_and_then (λ place. place) (slice_get (places_of board) i)
+fault_at board i = listed_at (places_of board) i
 
 -- the covered nets and the tested pins of a board
 pub record IsUniverse (board : RawBoard) (lists : FaultLists) : Type 0 where

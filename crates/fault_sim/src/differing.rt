@@ -1,5 +1,5 @@
 // The nets that differ in a log.
-ghost use Rattle.std.specs.Prelude.{◌≡◌, ◌+◌, ◌*◌, ◌<◌, ◌≤◌, length, All, Decides, IfOk};
+ghost use Rattle.std.specs.Prelude.{◌≡◌, ◌*◌, length, All, Decides, IfOk};
 ghost use Rattle.board_defs.specs.Passes.{passes_of};
 ghost use Rattle.board_defs.specs.Pins.{data_bits};
 ghost use Rattle.scan_planner.specs.Plans.{IsPlanOf};
@@ -9,14 +9,12 @@ ghost use Rattle.fault_sim.specs.Suspects.{AreDiffering};
 ghost use Rattle.fault_sim.specs.Fits.{ShowsOn};
 ghost use Rattle.fault_sim.specs.Kept.{IsLogged};
 ghost use Rattle.fault_sim.specs.inner.Marks.{AreMarks};
-ghost use Rattle.fault_sim.specs.inner.Suspects.{AreFlags, flagged_nets};
 
 use crate::board_test::{BoardTest, LoggedTest};
 use crate::fits::{net_count, shows_on};
 use crate::marks::{are_marked, marks_of};
 use crate::tested::push_if;
 use board_defs::{Board, law};
-use lists::is_set;
 use response_log::Log;
 use scan_planner::Plan;
 use std::alloc::{AllocError, Global};
@@ -25,7 +23,6 @@ use tap_defs::board_law;
 // Whether a net shows the expected bits in each pass. Where none of the digits of its cells has a mark, its cells need not be looked at.
 fn shows_expected(logged: &LoggedTest<'_>, marks: &[u8], n: u32) -> bool
     requires logged { IsLogged logged.now }
-    requires net { n < length logged.now.test.board.now.nets }
     requires marks { AreMarks logged.now.test.board.now logged.now.test.plan.now logged.now.log.now (length logged.now.test.plan.now.passes) marks.now }
     ensures { Decides result (ShowsOn logged.now.test.board.now logged.now.test.plan.now None logged.now.log.now n) }
 {
@@ -36,54 +33,18 @@ fn shows_expected(logged: &LoggedTest<'_>, marks: &[u8], n: u32) -> bool
     shows_on(logged, None, n)
 }
 
-// Flags net `n` where it does not show the expected bits in each pass.
-fn flag_net(flags: &mut [bool], logged: &LoggedTest<'_>, marks: &[u8], n: u32)
-    requires logged { IsLogged logged.now }
-    requires net { n < length logged.now.test.board.now.nets }
-    requires count { length flags.old ≡ length logged.now.test.board.now.nets }
-    requires marks { AreMarks logged.now.test.board.now logged.now.test.plan.now logged.now.log.now (length logged.now.test.plan.now.passes) marks.now }
-    requires flags { AreFlags logged.now.test.board.now logged.now.test.plan.now logged.now.log.now n flags.old }
-    ensures flags { AreFlags logged.now.test.board.now logged.now.test.plan.now logged.now.log.now (n + 1) flags.new }
-    ensures count { length flags.new ≡ length flags.old }
-{
-    flags[n as usize] = !shows_expected(logged, marks, n);
-}
-
-// Flags the nets that differ in a log. Its rows are gone through once, and then the cells of the nets with marks.
-fn flags_of(alloc: Global, logged: &LoggedTest<'_>) -> Result<Vec<bool>, AllocError>
-    requires { IsLogged logged.now }
-    ensures flags { IfOk result (λ flags. AreFlags logged.now.test.board.now logged.now.test.plan.now logged.now.log.now (length logged.now.test.board.now.nets) flags.items) }
-    ensures count { IfOk result (λ flags. length flags.items ≡ length logged.now.test.board.now.nets) }
-{
-    let marks = marks_of(alloc, logged)?;
-    let count = net_count(logged.test.board);
-    let mut flags = vec![in alloc; false; count as usize]?;
-    for n in 0..count {
-        flag_net(&mut flags, logged, &marks, n);
-    }
-    Ok(flags)
-}
-
-fn flagged_nets(alloc: Global, flags: &[bool]) -> Result<Vec<u32>, AllocError>
-    requires { length flags.now ≤ 65535 }
-    ensures { IfOk result (λ nets. nets.items ≡ flagged_nets flags.now) }
-{
-    let mut nets = Vec::new(alloc);
-    for n in 0..flags.len() {
-        push_if(&mut nets, n as u32, is_set(flags, n))?;
-    }
-    Ok(nets)
-}
-
 impl<'a> LoggedTest<'a> {
     /// The nets that differ in the log, as `differing_nets` finds them.
     pub fn differing(&self, alloc: Global) -> Result<Vec<u32>, AllocError>
         requires { IsLogged self.now }
         ensures { IfOk result (λ nets. AreDiffering self.now.test.board.now self.now.test.plan.now self.now.log.now nets.items) }
     {
-        let _rules = self.test.board.raw();
-        let flags = flags_of(alloc, self)?;
-        flagged_nets(alloc, &flags)
+        let marks = marks_of(alloc, self)?;
+        let mut nets = Vec::new(alloc);
+        for n in 0..net_count(self.test.board) {
+            push_if(&mut nets, n, !shows_expected(self, &marks, n))?;
+        }
+        Ok(nets)
     }
 }
 

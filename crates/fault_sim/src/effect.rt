@@ -143,7 +143,6 @@ fn short_bit(
 /// The bit of a compared cell in row `j` of a pass, at the pin at this place of the net.
 #[inline]
 pub fn effect_bit(effect: Effect, j: u32, place: u32, expected: bool) -> bool
-    requires { j < 32 }
     ensures { result ≡ effect_bit effect j place expected }
 {
     match effect {

@@ -1,5 +1,6 @@
 // The lists by which the places of a board are found.
 ghost use Rattle.std.specs.Prelude.{◌≤◌, length};
+ghost use Rattle.board_defs.specs.Limits.{most_nets, most_pins};
 ghost use Rattle.fault_sim.specs.Starts.{AreStarts};
 
 use board_defs::{Items, PinRef};
@@ -11,7 +12,7 @@ pub struct FaultLists {
     pub nets: Items<u32>,
     pub pins: Items<PinRef>,
     pub starts: Items<u64>,
-    ghost few: { length nets ≤ 16382 },
-    ghost few_pins: { length pins ≤ 65535 },
+    ghost few: { length nets ≤ most_nets },
+    ghost few_pins: { length pins ≤ most_pins },
     ghost starts_are: { AreStarts (length nets) starts },
 }

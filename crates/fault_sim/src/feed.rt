@@ -51,14 +51,12 @@ pub fn is_same(a: bool, b: bool) -> bool
 /// Bit `j` of a code, bit 0 the least.
 #[inline]
 pub fn code_bit(code: u32, j: u32) -> bool
-    requires { j < 32 }
     ensures { result ≡ code_bit code j }
 {
-    bit(code, j)
+    j < 32 && bit(code, j)
 }
 
 fn source_bit(source: Source, j: u32) -> bool
-    requires { j < 32 }
     ensures { result ≡ source_bit source j }
 {
     match source {
@@ -78,7 +76,6 @@ fn unless_off(off: Option<bool>, bit: bool) -> Option<bool>
 
 /// The bit that a net is driven to in row `j`, where it is.
 pub fn feed_bit(feed: Option<Feed>, j: u32) -> Option<bool>
-    requires { j < 32 }
     ensures { result ≡ feed_bit feed j }
 {
     match feed {

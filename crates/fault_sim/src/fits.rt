@@ -35,7 +35,6 @@ fn cell_shows(
 ) -> bool
     requires row { row < length log.now }
     requires at { reader.position < length (slice_index_or log.now row []) }
-    requires few { j < 32 }
     ensures { result ≡ cell_shows log.now row driver effect j expected reader }
 {
     if reader.place == driver {
@@ -57,7 +56,6 @@ fn cells_show(
 ) -> bool
     requires row { row < length log.now }
     requires at { All (λ r. r.position < length (slice_index_or log.now row [])) readers.now }
-    requires few { j < 32 }
     ensures { result ≡ list_all (cell_shows log.now row driver effect j expected) readers.now }
 {
     for reader in readers {
@@ -81,7 +79,6 @@ fn rows_show(
     requires rows { first + width ≤ length log.now }
     requires fits { first + width < 2 ^ 64 }
     requires at { All (λ row. All (λ r. r.position < length row) readers.now) log.now }
-    requires few { width ≤ 14 }
     ensures { Decides result (ShowRows log.now first width code readers.now effect driver) }
 {
     for j in 0..width {
@@ -106,7 +103,6 @@ fn driven_shows(
     requires rows { first + width ≤ length log.now }
     requires fits { first + width < 2 ^ 64 }
     requires at { All (λ row. All (λ r. r.position < length row) readers.now) log.now }
-    requires few { width ≤ 14 }
     ensures { Decides result (ShowBy log.now first width code readers.now effect driver) }
 {
     match driver {
@@ -137,7 +133,6 @@ fn first_row(logged: &LoggedTest<'_>, x: u32) -> u64
 fn shows(logged: &LoggedTest<'_>, fault: Option<Single>, x: u32, net: u32) -> bool
     requires logged { IsLogged logged.now }
     requires pass { x < length logged.now.test.plan.now.passes }
-    requires net { net < length logged.now.test.board.now.nets }
     ensures { Decides result (Shows logged.now.test.board.now logged.now.test.plan.now fault logged.now.log.now x net) }
 {
     let test = &logged.test;
@@ -157,8 +152,6 @@ fn shows(logged: &LoggedTest<'_>, fault: Option<Single>, x: u32, net: u32) -> bo
 fn shows_pair(logged: &LoggedTest<'_>, fault: Option<Single>, x: u32, a: u32, b: u32) -> bool
     requires logged { IsLogged logged.now }
     requires pass { x < length logged.now.test.plan.now.passes }
-    requires first { a < length logged.now.test.board.now.nets }
-    requires second { b < length logged.now.test.board.now.nets }
     ensures { Decides result (ShowsPair logged.now.test.board.now logged.now.test.plan.now fault logged.now.log.now x a b) }
 {
     shows(logged, fault, x, a) && shows(logged, fault, x, b)
@@ -168,8 +161,6 @@ fn shows_pair(logged: &LoggedTest<'_>, fault: Option<Single>, x: u32, a: u32, b:
 /// either tells is mostly an early one.
 pub fn shows_both(logged: &LoggedTest<'_>, fault: Option<Single>, a: u32, b: u32) -> bool
     requires logged { IsLogged logged.now }
-    requires first { a < length logged.now.test.board.now.nets }
-    requires second { b < length logged.now.test.board.now.nets }
     ensures { Decides result (ShowsBoth logged.now.test.board.now logged.now.test.plan.now fault logged.now.log.now a b) }
 {
     for x in 0..logged.test.plan.pass_count() {
@@ -183,7 +174,6 @@ pub fn shows_both(logged: &LoggedTest<'_>, fault: Option<Single>, a: u32, b: u32
 /// Whether a log shows the effect of a fault on a net.
 pub fn shows_on(logged: &LoggedTest<'_>, fault: Option<Single>, net: u32) -> bool
     requires logged { IsLogged logged.now }
-    requires net { net < length logged.now.test.board.now.nets }
     ensures { Decides result (ShowsOn logged.now.test.board.now logged.now.test.plan.now fault logged.now.log.now net) }
 {
     for x in 0..logged.test.plan.pass_count() {

@@ -1,17 +1,17 @@
 // The places whose faults may explain a log.
-ghost use Rattle.std.specs.Prelude.{◌≡◌, ◌+◌, ◌-◌, ◌*◌, ◌<◌, ◌≤◌, ◌^◌, ◌++◌, ◌∷◌, [], suc, length, All, IfOk, OnOk, slice_get, Some};
+ghost use Rattle.std.specs.Prelude.{◌≡◌, ◌+◌, ◌-◌, ◌*◌, ◌<◌, ◌^◌, ◌++◌, suc, length, All, IfOk, OnOk, slice_get, Some};
 ghost use Rattle.std.specs.List.{flat_map, range_with_len};
 ghost use Rattle.board_defs.specs.Passes.{passes_of};
 ghost use Rattle.board_defs.specs.Pins.{data_bits};
 ghost use Rattle.scan_planner.specs.Plans.{IsPlanOf};
 ghost use Rattle.fault_sim.specs.Places.{IsUniverse};
 ghost use Rattle.fault_sim.specs.Suspects.{AreDiffering, AreSuspects};
-ghost use Rattle.fault_sim.specs.inner.Suspects.{two_from, four_from, pair_number, pair_suspects, pin_suspects, net_suspects, covered_place, CanSuspect, suspects_of};
+ghost use Rattle.fault_sim.specs.inner.Suspects.{two_from, four_from, pair_number, pair_suspects, pin_net, is_net, pin_suspects, net_suspects, covered_place, suspects_of};
 
 use crate::differing::differing_nets;
 use crate::fault_lists::FaultLists;
-use crate::universe::{Universe, pin_at, start_at};
-use board_defs::{Board, law};
+use crate::universe::{Universe, start_at};
+use board_defs::{Board, PinRef, law};
 use response_log::Log;
 use scan_planner::Plan;
 use std::alloc::{AllocError, Global};
@@ -55,29 +55,34 @@ fn push_four(places: &mut Vec<u64>, place: u64) -> Result<(), AllocError>
 }
 
 // The number of the pair of covered nets `a` and `b`, by their places in the list.
-fn pair_number(lists: &FaultLists, a: u64, b: u64) -> u64
-    requires order { a < b }
-    requires within { b < length lists.now.nets }
+fn pair_number(lists: &FaultLists, a: u32, b: u32) -> u64
     ensures number { result ≡ pair_number lists.now a b }
-    ensures few { result < 2 ^ 30 }
+    ensures few { result < 2 ^ 34 }
 {
-    start_at(lists.starts.as_slice(), a as usize) + (b - a - 1)
+    start_at(lists.starts.as_slice(), a as usize) + u64::from(b.saturating_sub(a).saturating_sub(1))
 }
 
-fn push_pair(places: &mut Vec<u64>, lists: &FaultLists, a: u64, b: u64) -> Result<(), AllocError>
-    requires order { a < b }
-    requires within { b < length lists.now.nets }
+fn push_pair(places: &mut Vec<u64>, lists: &FaultLists, a: u32, b: u32) -> Result<(), AllocError>
     ensures { OnOk result (places.new.items ≡ places.old.items ++ pair_suspects lists.now a b) }
 {
     let first = 2 * lists.nets.len() as u64 + 2 * lists.pins.len() as u64;
     push_four(places, first + 4 * pair_number(lists, a, b))
 }
 
+fn is_pin_of(pins: &[PinRef], i: usize, n: u32) -> bool
+    ensures { result ≡ is_net n (pin_net (slice_get pins.now i)) }
+{
+    match pins.get(i) {
+        None => false,
+        Some(pin) => pin.net == n,
+    }
+}
+
 fn push_pin(places: &mut Vec<u64>, lists: &FaultLists, n: u32, i: usize) -> Result<(), AllocError>
     requires { i < length lists.now.pins }
     ensures { OnOk result (places.new.items ≡ places.old.items ++ pin_suspects lists.now n i) }
 {
-    if pin_at(lists.pins.as_slice(), i).net == n {
+    if is_pin_of(lists.pins.as_slice(), i, n) {
         let first = 2 * lists.nets.len() as u64;
         push_two(places, first + 2 * i as u64)?;
     }
@@ -94,8 +99,7 @@ fn push_pins(places: &mut Vec<u64>, lists: &FaultLists, n: u32) -> Result<(), Al
 }
 
 // The shorts of net `k` with earlier covered nets.
-fn push_earlier(places: &mut Vec<u64>, lists: &FaultLists, k: u64) -> Result<(), AllocError>
-    requires { k < length lists.now.nets }
+fn push_earlier(places: &mut Vec<u64>, lists: &FaultLists, k: u32) -> Result<(), AllocError>
     ensures { OnOk result (places.new.items ≡ places.old.items ++ flat_map (λ a. pair_suspects lists.now a k) (range_with_len 0 k)) }
 {
     for a in 0..k {
@@ -105,21 +109,20 @@ fn push_earlier(places: &mut Vec<u64>, lists: &FaultLists, k: u64) -> Result<(),
 }
 
 // Those with later ones.
-fn push_later(places: &mut Vec<u64>, lists: &FaultLists, k: u64) -> Result<(), AllocError>
-    requires { k < length lists.now.nets }
+fn push_later(places: &mut Vec<u64>, lists: &FaultLists, k: u32) -> Result<(), AllocError>
     ensures { OnOk result (places.new.items ≡ places.old.items ++ flat_map (λ b. pair_suspects lists.now k b) (range_with_len (suc k) (length lists.now.nets - suc k))) }
 {
-    for b in k + 1..lists.nets.len() as u64 {
+    for b in k.saturating_add(1)..lists.nets.len() as u32 {
         push_pair(places, lists, k, b)?;
     }
     Ok(())
 }
 
 // The place of a net that has a code among the covered nets, which the codes number from 1.
-fn covered_place(plan: &Plan, n: u32) -> u64
+fn covered_place(plan: &Plan, n: u32) -> u32
     ensures { result ≡ covered_place plan.now n }
 {
-    u64::from(plan.code(n)).saturating_sub(1)
+    plan.code(n).saturating_sub(1)
 }
 
 // The places of all faults of net `n`.
@@ -129,12 +132,11 @@ fn net_suspects(
     lists: &FaultLists,
     n: u32,
 ) -> Result<Vec<u64>, AllocError>
-    requires { CanSuspect plan.now lists.now (n ∷ []) }
     ensures { IfOk result (λ places. places.items ≡ net_suspects lists.now n (covered_place plan.now n)) }
 {
     let k = covered_place(plan, n);
     let mut places = Vec::new(alloc);
-    push_two(&mut places, 2 * k)?;
+    push_two(&mut places, 2 * u64::from(k))?;
     push_pins(&mut places, lists, n)?;
     push_earlier(&mut places, lists, k)?;
     push_later(&mut places, lists, k)?;
@@ -149,7 +151,6 @@ fn pair_suspects(
     m: u32,
     n: u32,
 ) -> Result<Vec<u64>, AllocError>
-    requires { CanSuspect plan.now lists.now (m ∷ n ∷ []) }
     ensures { IfOk result (λ places. places.items ≡ pair_suspects lists.now (covered_place plan.now m) (covered_place plan.now n)) }
 {
     let mut places = Vec::new(alloc);
@@ -169,7 +170,6 @@ fn suspects_of(
     lists: &FaultLists,
     nets: &[u32],
 ) -> Result<Vec<u64>, AllocError>
-    requires { CanSuspect plan.now lists.now nets.now }
     ensures { IfOk result (λ places. places.items ≡ suspects_of plan.now lists.now nets.now) }
 {
     match nets {

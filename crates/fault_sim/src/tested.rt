@@ -1,6 +1,7 @@
 // The nets and the pins that the passes of a plan test.
 ghost use Rattle.std.specs.Prelude.{◌≡◌, ◌<◌, ◌≤◌, ◌++◌, ◌∷◌, ◌&&◌, [], cond, length, fold, slice_index_or, IfOk, OnOk};
 ghost use Rattle.std.specs.List.{list_all};
+ghost use Rattle.board_defs.specs.Limits.{most_pins};
 ghost use Rattle.fault_sim.specs.Kept.{KeepDrivers};
 ghost use Rattle.fault_sim.specs.inner.Tested.{coded_nets, observes_in, paired_in, marked_readers, marked_by, marked_in, tested_flags, pin_where, flagged_pins, pin_count, net_pins, all_pins};
 
@@ -126,7 +127,7 @@ fn push_pin(pins: &mut Vec<PinRef>, net: u32, place: u32, is_tested: bool) -> Re
 }
 
 fn push_flagged(net: u32, flags: &[bool], pins: &mut Vec<PinRef>) -> Result<(), AllocError>
-    requires { length flags.now ≤ 65535 }
+    requires { length flags.now ≤ most_pins }
     ensures { OnOk result (pins.new.items ≡ pins.old.items ++ flagged_pins net flags.now) }
 {
     for place in 0..flags.len() {

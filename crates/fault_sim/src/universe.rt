@@ -1,13 +1,14 @@
 // The single faults of a board by their places.
-ghost use Rattle.std.specs.Prelude.{◌≡◌, ◌+◌, ◌-◌, ◌*◌, ◌<◌, ◌≤◌, length, slice_get, slice_index_or, IfOk, Some};
+ghost use Rattle.std.specs.Prelude.{◌≡◌, ◌+◌, ◌-◌, ◌<◌, ◌≤◌, length, slice_get, slice_index_or, IfOk, Some};
 ghost use Rattle.std.specs.List.{flat_map};
 ghost use Rattle.board_defs.specs.declared.board.RawBoard.{RawBoard};
 ghost use Rattle.board_defs.specs.BoardRules.{IsBoard};
+ghost use Rattle.board_defs.specs.Limits.{most_nets};
 ghost use Rattle.board_defs.specs.Faults.{stuck_faults, open_faults, kind_rank};
 ghost use Rattle.board_defs.specs.Passes.{passes_of, pairs_within};
 ghost use Rattle.scan_planner.specs.Plans.{IsPlanOf};
 ghost use Rattle.fault_sim.specs.Kept.{IsBoardTest, KeepDrivers};
-ghost use Rattle.fault_sim.specs.Places.{IsUniverse, place_count, number_places, listed_places, places_of};
+ghost use Rattle.fault_sim.specs.Places.{IsUniverse, place_count, number_places, listed_at, listed_places, places_of};
 ghost use Rattle.fault_sim.specs.Starts.{AreStarts, pairs_before};
 
 use crate::board_test::BoardTest;
@@ -38,7 +39,7 @@ impl Model for Universe {
 
 // Where the pairs of each of so many nets with later ones begin, and where all end.
 fn pair_starts(alloc: Global, nets: u32) -> Result<Vec<u64>, AllocError>
-    requires { nets ≤ 16382 }
+    requires { nets ≤ most_nets }
     ensures { IfOk result (λ starts. AreStarts nets starts.items) }
 {
     let mut starts = Vec::new(alloc);
@@ -80,55 +81,75 @@ fn pair_count(lists: &FaultLists) -> u64
     start_at(lists.starts.as_slice(), lists.nets.len())
 }
 
+/// Where the pairs of net `a` with later ones begin; 0 past the last place.
 pub fn start_at(starts: &[u64], a: usize) -> u64
-    requires { a < length starts.now }
     ensures { result ≡ slice_index_or starts.now a 0 }
 {
-    starts[a]
+    match starts.get(a) {
+        None => 0,
+        Some(start) => *start,
+    }
 }
 
-fn net_at(nets: &[u32], k: usize) -> u32
-    requires { k < length nets.now }
-    ensures { slice_get nets.now k ≡ Some result }
+fn net_at(nets: &[u32], k: usize) -> Option<u32>
+    ensures { result ≡ slice_get nets.now k }
 {
-    nets[k]
+    match nets.get(k) {
+        None => None,
+        Some(net) => Some(*net),
+    }
 }
 
-pub fn pin_at(pins: &[PinRef], k: usize) -> PinRef
-    requires { k < length pins.now }
-    ensures { slice_get pins.now k ≡ Some result }
+fn pin_at(pins: &[PinRef], k: usize) -> Option<PinRef>
+    ensures { result ≡ slice_get pins.now k }
 {
-    pins[k]
+    match pins.get(k) {
+        None => None,
+        Some(pin) => Some(*pin),
+    }
 }
 
-fn stuck_at(nets: &[u32], i: u64) -> Single
-    requires { i < 2 * length nets.now }
-    ensures { slice_get (flat_map stuck_faults nets.now) i ≡ Some result }
+// Fault `i` of those of stuck nets.
+fn stuck_at(nets: &[u32], i: u64) -> Option<Single>
+    ensures { result ≡ slice_get (flat_map stuck_faults nets.now) i }
 {
-    let net = net_at(nets, (i / 2) as usize);
-    let value = i % 2 == 1;
-    Single::StuckNet { net, value }
+    match net_at(nets, (i / 2) as usize) {
+        None => None,
+        Some(net) => Some(Single::StuckNet {
+            net,
+            value: i % 2 == 1,
+        }),
+    }
 }
 
-fn open_at(pins: &[PinRef], i: u64) -> Single
-    requires { i < 2 * length pins.now }
-    ensures { slice_get (flat_map open_faults pins.now) i ≡ Some result }
+// Fault `i` of those of open pins.
+fn open_at(pins: &[PinRef], i: u64) -> Option<Single>
+    ensures { result ≡ slice_get (flat_map open_faults pins.now) i }
 {
-    let pin = pin_at(pins, (i / 2) as usize);
-    let value = i % 2 == 1;
-    Single::OpenPin { pin, value }
+    match pin_at(pins, (i / 2) as usize) {
+        None => None,
+        Some(pin) => Some(Single::OpenPin {
+            pin,
+            value: i % 2 == 1,
+        }),
+    }
 }
 
 // Pair `k` of covered nets, the lower net first.
-fn pair_at(lists: &FaultLists, k: u64) -> (u32, u32)
-    requires { k < pairs_before (length lists.now.nets) (length lists.now.nets) }
-    ensures { slice_get (pairs_within lists.now.nets) k ≡ Some result }
+fn pair_at(lists: &FaultLists, k: u64) -> Option<(u32, u32)>
+    ensures { result ≡ slice_get (pairs_within lists.now.nets) k }
 {
+    let count = pair_count(lists);
+    if k >= count {
+        return None;
+    }
     let starts = lists.starts.as_slice();
     let low = row_of(starts, k);
     let high = low + 1 + (k - start_at(starts, low)) as usize;
     let nets = lists.nets.as_slice();
-    (net_at(nets, low), net_at(nets, high))
+    let a = net_at(nets, low)?;
+    let b = net_at(nets, high)?;
+    Some((a, b))
 }
 
 fn kind_at(k: u64) -> Kind
@@ -143,32 +164,32 @@ fn kind_at(k: u64) -> Kind
     }
 }
 
-// Place `k` among those of the pairs of covered nets.
+// The fault at place `k` among those of the pairs of covered nets, where it has one.
 fn short_at(lists: &FaultLists, plan: &Plan, kept: &[KeptPass], k: u64) -> Option<Single>
-    requires kept { KeepDrivers plan.now kept.now }
-    requires place { k < 4 * pairs_before (length lists.now.nets) (length lists.now.nets) }
-    ensures { slice_get (flat_map (number_places plan.now) (pairs_within lists.now.nets)) k ≡ Some result }
+    requires { KeepDrivers plan.now kept.now }
+    ensures { result ≡ listed_at (flat_map (number_places plan.now) (pairs_within lists.now.nets)) k }
 {
-    let (a, b) = pair_at(lists, k / 4);
-    let kind = kind_at(k % 4);
+    let pair = pair_at(lists, k / 4)?;
+    let (a, b) = pair;
     if paired_in(plan, kept, a, b) {
+        let kind = kind_at(k % 4);
         Some(Single::Short { a, b, kind })
     } else {
         None
     }
 }
 
+// The fault at place `i`, where it has one.
 fn place_at(lists: &FaultLists, plan: &Plan, kept: &[KeptPass], i: u64) -> Option<Single>
-    requires kept { KeepDrivers plan.now kept.now }
-    requires place { i < place_count lists.now }
-    ensures { slice_get (listed_places plan.now lists.now) i ≡ Some result }
+    requires { KeepDrivers plan.now kept.now }
+    ensures { result ≡ listed_at (listed_places plan.now lists.now) i }
 {
     let stuck = 2 * lists.nets.len() as u64;
     let open = 2 * lists.pins.len() as u64;
     if i < stuck {
-        Some(stuck_at(lists.nets.as_slice(), i))
+        stuck_at(lists.nets.as_slice(), i)
     } else if i - stuck < open {
-        Some(open_at(lists.pins.as_slice(), i - stuck))
+        open_at(lists.pins.as_slice(), i - stuck)
     } else {
         short_at(lists, plan, kept, i - stuck - open)
     }

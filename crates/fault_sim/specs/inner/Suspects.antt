@@ -1,20 +1,10 @@
 -- What serves the proofs alone. The places whose faults may explain a log.
-use Rattle.std.specs.Prelude.{ℕ, suc, ◌+◌, ◌-◌, ◌*◌, ◌<◌, ◌==◌, Bool, false, cond, not, List, [], ◌∷◌, ◌++◌, length, filter, slice_index_or, slice_get, Option, Some, None, Decides}
+use Rattle.std.specs.Prelude.{ℕ, suc, ◌+◌, ◌-◌, ◌*◌, ◌==◌, Bool, false, cond, List, [], ◌∷◌, ◌++◌, length, slice_index_or, slice_get, Option, Some, None}
 use Rattle.std.specs.List.{flat_map, range_with_len}
 use Rattle.board_defs.specs.declared.board.PinRef.{PinRef}
-use Rattle.board_defs.specs.declared.board.RawBoard.{RawBoard}
 use Rattle.plan_tables.specs.declared.tables.PlanTables.{PlanTables}
 use Rattle.fault_sim.specs.declared.fault_lists.FaultLists.{FaultLists}
 use Rattle.fault_sim.specs.Effects.{code_in}
-use Rattle.fault_sim.specs.Fits.{ShowsOn}
-
--- flags of the nets below a number of which some compared cell has not the expected bit
-abbrev pub AreFlags : RawBoard → PlanTables → List (List Bool) → ℕ → List Bool → Type 0
-AreFlags board plan log count flags = (n : ℕ) → n < count → Decides (not (slice_index_or flags n false)) (ShowsOn board plan None log n)
-
--- the nets that are flagged
-abbrev pub flagged_nets : List Bool → List ℕ
-flagged_nets flags = filter (λ n. slice_index_or flags n false) (range_with_len 0 (length flags))
 
 -- the places of a stuck net, an open pin or a short that begin at this one
 abbrev pub two_from : ℕ → List ℕ
@@ -62,13 +52,6 @@ net_suspects lists n k =
 -- the place of a net among the covered nets: their codes number them from 1
 abbrev pub covered_place : PlanTables → ℕ → ℕ
 covered_place plan n = code_in plan n - 1
-
--- the nets stand at their places among the covered nets, in order
-abbrev pub CanSuspect : PlanTables → FaultLists → List ℕ → Type 0
-CanSuspect plan lists [] = Unit {0}
-CanSuspect plan lists (n ∷ []) = covered_place plan n < length lists.nets
-CanSuspect plan lists (m ∷ n ∷ []) = (covered_place plan m < covered_place plan n) × (covered_place plan n < length lists.nets)
-CanSuspect plan lists (m ∷ n ∷ o ∷ nets) = Unit {0}
 
 -- the suspects where these nets differ
 abbrev pub suspects_of : PlanTables → FaultLists → List ℕ → List ℕ

@@ -4,12 +4,6 @@ use Rattle.tap_defs.specs.board.TestRows.{code_width, observed_count}
 use Rattle.fault_sim.proofs.MatchLemmas.{decides_as, explains_is, nets_there}
 use Rattle.fault_sim.proofs.matching.matches.Goals as goal
 
-pub shows_both-requires-clause-first : goal.shows_both-requires-clause-first
-shows_both-requires-clause-first c = omega (arith, c.first_net.ensures, (nets_there c.args.board.now c.args.fault c.requires.fault).0)
-
-pub shows_both-requires-clause-second : goal.shows_both-requires-clause-second
-shows_both-requires-clause-second c = omega (arith, c.second_net.ensures, (nets_there c.args.board.now c.args.fault c.requires.fault).1)
-
 pub returns-then-not-shows_both : goal.returns-then-not-shows_both
 returns-then-not-shows_both c =
     let board = c.args.board.now in

@@ -1,17 +1,16 @@
-use Rattle.std.proofs.Common.{ℕ, List, ap, ◌∙◌, get_or, arith}
-use Rattle.fault_sim.proofs.PlaceLemmas.{before_few}
+use Rattle.std.proofs.Common.{ℕ, List, length, ap, ◌∙◌, get_or, arith}
+use Rattle.fault_sim.proofs.PlaceLemmas.{start_few}
 use Rattle.fault_sim.proofs.suspects.pair_number.Goals as goal
 
 pub overflow_add-result : goal.overflow_add-result
 overflow_add-result c =
     let lists = c.args.lists.now in
-    let n = Rattle.std.proofs.Common.length lists.nets in
-    let start = c.start_at.ensures ∙ ap (λ (l : List ℕ). get_or l c.args.a 0) c.as_slice.ensures ∙ c.args.lists.now.starts_are.each c.args.a (omega (arith, c.requires.order, c.requires.within)) in
-    omega (arith, start, before_few n c.args.a c.args.lists.now.few, c.requires.within, c.args.lists.now.few)
+    omega (arith, c.start_at.ensures ∙ ap (λ (l : List ℕ). get_or l c.args.a 0) c.as_slice.ensures, start_few (length lists.nets) lists.starts lists.starts_are lists.few c.args.a)
+
+pub returns-clause-number : goal.returns-clause-number
+returns-clause-number c = omega (arith, c.start_at.ensures ∙ ap (λ (l : List ℕ). get_or l c.args.a 0) c.as_slice.ensures)
 
 pub returns-clause-few : goal.returns-clause-few
 returns-clause-few c =
     let lists = c.args.lists.now in
-    let n = Rattle.std.proofs.Common.length lists.nets in
-    let start = c.start_at.ensures ∙ ap (λ (l : List ℕ). get_or l c.args.a 0) c.as_slice.ensures ∙ c.args.lists.now.starts_are.each c.args.a (omega (arith, c.requires.order, c.requires.within)) in
-    omega (arith, start, before_few n c.args.a c.args.lists.now.few, c.requires.within, c.args.lists.now.few)
+    omega (arith, c.start_at.ensures ∙ ap (λ (l : List ℕ). get_or l c.args.a 0) c.as_slice.ensures, start_few (length lists.nets) lists.starts lists.starts_are lists.few c.args.a)

@@ -6,12 +6,6 @@ use Rattle.fault_sim.proofs.MatchLemmas.{decides_as, explains_is, nets_there}
 use Rattle.fault_sim.proofs.ExplainLemmas.{are_own, own_enough}
 use Rattle.fault_sim.proofs.board_test.LoggedTest.matches_by.Goals as goal
 
-pub shows_both-requires-clause-first : goal.shows_both-requires-clause-first
-shows_both-requires-clause-first c = omega (arith, c.first_net-first.ensures, (nets_there c.args.self.now.test.board.now c.args.fault c.requires.fault).0)
-
-pub shows_both-requires-clause-second : goal.shows_both-requires-clause-second
-shows_both-requires-clause-second c = omega (arith, c.second_net-second.ensures, (nets_there c.args.self.now.test.board.now c.args.fault c.requires.fault).1)
-
 pub returns-then-not-are_of : goal.returns-then-not-are_of
 returns-then-not-are_of c =
     let board = c.args.self.now.test.board.now in

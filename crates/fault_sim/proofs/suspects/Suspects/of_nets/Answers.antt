@@ -5,27 +5,9 @@ use Rattle.tap_defs.specs.board.Explaining.{set_of}
 use Rattle.tap_defs.specs.board.TestRows.{code_width, observed_count}
 use Rattle.fault_sim.specs.declared.fault_lists.FaultLists.{FaultLists}
 use Rattle.fault_sim.specs.Suspects.{AreSuspects}
-use Rattle.fault_sim.specs.inner.Suspects.{CanSuspect, suspects_of}
-use Rattle.fault_sim.proofs.ExplainLemmas.{can_be, all_suspects}
+use Rattle.fault_sim.specs.inner.Suspects.{suspects_of}
+use Rattle.fault_sim.proofs.ExplainLemmas.{all_suspects}
 use Rattle.fault_sim.proofs.suspects.Suspects.of_nets.Goals as goal
-
-pub suspects_of-requires : goal.suspects_of-requires
-suspects_of-requires c =
-    let board = c.args.board.now in
-    let plan = c.args.plan.now in
-    let log = c.args.log.now in
-    let rules = c.raw-rules.ensures.rules in
-    let own = (c.passes_kept.ensures board rules).kept in
-    let kept = subst (λ (l : List (List Ctl)). ArePasses board l) (sym c.requires.passes) own in
-    let width = code_width (observed_count board (passes_of board)) in
-    let lists = c.args.universe.now in
-    let nets = c.args.nets.now in
-    let can = can_be board rules plan c.requires.plan c.requires.passes log c.requires.rows c.requires.bits (c.rows_compared.ensures.passes board (passes_of board) width rules own)
-    (c.rows_compared.ensures.shape board (passes_of board) width log rules own) kept (c.codes_number_covered.ensures board rules plan.passes kept) (λ single is. c.singles_respond.ensures.own board single log rules is)
-    (c.expected_bits.ensures.bits board _ log)
-    (λ single is expected explains. c.expected_logs.ensures.own_unexplained board rules log expected (set_of single) (c.singles_observable.ensures.observable board single is) (c.singles_observable.ensures.nonempty single) explains)
-    lists c.requires.universe lists.starts_are nets c.requires.differing in
-    subst (λ (l : FaultLists). CanSuspect plan l nets) (sym c.lists.ensures) can
 
 pub returns : goal.returns
 returns c =
