@@ -64,6 +64,11 @@ module _ (b : Batch) where
   pub judged_one : (i : ℕ) (block : Block) (verdict : Verdict) → i < length b.blocks.now → block ≡ get_or b.blocks.now i block → Judges b block verdict → Judged b i (i + 1) (verdict ∷ [])
   judged_one i block verdict less is judges = subst (λ (l : List Block). EachPair (Judges b) l (verdict ∷ [])) (sym (range_one b.blocks.now i block less is)) (judges, tt)
 
+  pub judged_by : (i : ℕ) (block : Block) → i < length b.blocks.now → block ≡ get_or b.blocks.now i block → {E : Type 0} (result : Result Verdict E) → IfOk result (IsVerdict b.test.now.board block) → IfOk result (λ v. All (IsNamed b.test.now.board) v.faults) →
+      IfOk result (λ v. Judged b i (i + 1) (v ∷ []))
+  judged_by i block less is (Ok verdict) right named = judged_one i block verdict less is (right, named)
+  judged_by i block less is (Err e) right named = tt
+
   -- the verdicts on neighbouring ranges
   judged_ranges : (items : ℕ) {E : Type 0} → IsOfRanges {E = E} items (λ from to said. IfOk said (Judged b from to))
   judged_ranges items = record {

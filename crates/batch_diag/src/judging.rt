@@ -5,7 +5,6 @@ ghost use Rattle.board_defs.specs.Passes.{passes_of};
 ghost use Rattle.scan_planner.specs.Plans.{IsPlanOf};
 ghost use Rattle.diagnoser.specs.Diagnosis.{IsNamed};
 ghost use Rattle.fault_sim.specs.Diagnosis.{IsDiagnosis};
-ghost use Rattle.fault_sim.specs.Kept.{IsBoardTest, IsLogged};
 ghost use Rattle.fault_sim.specs.Places.{IsUniverse};
 ghost use Rattle.batch_diag.specs.Verdicts.{AreLogs, AreVerdicts};
 ghost use Rattle.batch_diag.specs.inner.Judging.{IsBatch, Judged};
@@ -23,8 +22,8 @@ use std::thread::Threads;
 
 /// Blocks whose logs are of a board's test, with the universe of the board.
 #[derive(Clone, Copy)]
-pub struct Batch<'a> {
-    pub test: BoardTest<'a>,
+pub struct Batch<'a, 'b> {
+    pub test: &'a BoardTest<'b>,
     pub universe: &'a Universe,
     pub blocks: &'a [Block],
 }
@@ -55,11 +54,7 @@ pub fn diagnose_all<R: Threads + Sync, G: Gate>(
     ensures named { IfOk result (λ verdicts. All (λ verdict. All (IsNamed board.now) verdict.faults) verdicts.items) }
 {
     let kept = kept_passes(alloc, board, plan, blocks.len())?;
-    let test = BoardTest {
-        board,
-        plan,
-        kept: &kept,
-    };
+    let test = BoardTest::of(board, plan, &kept);
     judge_all(rt, alloc, &test, blocks, workers, gate)
 }
 
@@ -74,16 +69,15 @@ fn judge_all<R: Threads + Sync, G: Gate>(
 ) -> Result<Vec<Verdict>, AllocError>
     requires some { 1 ≤ workers }
     requires few { workers ≤ 64 }
-    requires test { IsBoardTest test.now }
-    requires passes { test.now.plan.now.passes ≡ passes_of test.now.board.now }
-    requires logs { AreLogs test.now.board.now test.now.plan.now blocks.now }
-    ensures verdicts { IfOk result (λ verdicts. AreVerdicts test.now.board.now blocks.now verdicts.items) }
+    requires passes { test.now.plan.passes ≡ passes_of test.now.board }
+    requires logs { AreLogs test.now.board test.now.plan blocks.now }
+    ensures verdicts { IfOk result (λ verdicts. AreVerdicts test.now.board blocks.now verdicts.items) }
     ensures count { IfOk result (λ verdicts. length verdicts.items ≡ length blocks.now) }
-    ensures named { IfOk result (λ verdicts. All (λ verdict. All (IsNamed test.now.board.now) verdict.faults) verdicts.items) }
+    ensures named { IfOk result (λ verdicts. All (λ verdict. All (IsNamed test.now.board) verdict.faults) verdicts.items) }
 {
-    let universe = Universe::new(alloc, test.board, test.plan)?;
+    let universe = Universe::new(alloc, test.board(), test.plan())?;
     let batch = Batch {
-        test: *test,
+        test,
         universe: &universe,
         blocks,
     };
@@ -97,17 +91,15 @@ fn verdict_on<R: Threads + Sync>(
     logged: &LoggedTest<'_>,
     universe: &Universe,
 ) -> Result<Verdict, AllocError>
-    requires logged { IsLogged logged.now }
-    requires passes { logged.now.test.plan.now.passes ≡ passes_of logged.now.test.board.now }
-    requires universe { IsUniverse logged.now.test.board.now universe.now }
-    ensures diagnosis { IfOk result (λ verdict. IsDiagnosis logged.now.test.board.now logged.now.log.now verdict.pass verdict.faults) }
-    ensures named { IfOk result (λ verdict. All (IsNamed logged.now.test.board.now) verdict.faults) }
+    requires passes { logged.now.test.plan.passes ≡ passes_of logged.now.test.board }
+    requires universe { IsUniverse logged.now.test.board universe.now }
+    ensures diagnosis { IfOk result (λ verdict. IsDiagnosis logged.now.test.board logged.now.log verdict.pass verdict.faults) }
+    ensures named { IfOk result (λ verdict. All (IsNamed logged.now.test.board) verdict.faults) }
 {
-    let BoardTest { board, plan, .. } = logged.test;
     let nets = logged.differing(alloc)?;
     let faults = diagnose_logged(rt, alloc, logged, universe, &nets, 1, &OpenGate)?;
     Ok(Verdict {
-        pass: none_differs(board, plan, logged.log, &nets),
+        pass: none_differs(logged.board(), logged.plan(), logged.log(), &nets),
         faults: Items::of(faults),
     })
 }
@@ -116,7 +108,7 @@ fn verdict_on<R: Threads + Sync>(
 fn judge<R: Threads + Sync, G: Gate>(
     rt: &R,
     alloc: Global,
-    batch: Batch<'_>,
+    batch: Batch<'_, '_>,
     piece: u32,
     i: u64,
     gate: &G,
@@ -127,10 +119,7 @@ fn judge<R: Threads + Sync, G: Gate>(
 {
     gate.enter(piece, i);
     let log = &batch.blocks[i as usize].log;
-    let logged = LoggedTest {
-        test: batch.test,
-        log,
-    };
+    let logged = batch.test.with_log(log);
     verdict_on(rt, alloc, &logged, batch.universe)
 }
 
@@ -138,7 +127,7 @@ fn judge<R: Threads + Sync, G: Gate>(
 fn judge_piece<R: Threads + Sync, G: Gate>(
     rt: &R,
     alloc: Global,
-    batch: Batch<'_>,
+    batch: Batch<'_, '_>,
     piece: Piece,
     gate: &G,
 ) -> Result<Vec<Verdict>, AllocError>
@@ -158,7 +147,7 @@ fn judge_piece<R: Threads + Sync, G: Gate>(
 fn judge_pieces<R: Threads + Sync, G: Gate>(
     rt: &R,
     alloc: Global,
-    batch: Batch<'_>,
+    batch: Batch<'_, '_>,
     pieces: u32,
     gate: &G,
 ) -> Result<Vec<Verdict>, AllocError>

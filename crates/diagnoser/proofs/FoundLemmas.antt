@@ -18,36 +18,36 @@ use Rattle.diagnoser.proofs.ThoseLemmas.{those_append}
 
 pub found_append : (s : Search) (from middle to : ℕ) (a b : List Single) → from ≤ middle → middle ≤ to → Found s from middle a → Found s middle to b → Found s from to (a ++ b)
 found_append s from middle to a b low high first second =
-    let f = fault_at s.logged.test.board.now in
+    let f = fault_at s.logged.now.test.board in
     let all : faults_between s from middle ++ faults_between s middle to ≡ faults_between s from to =
     sym (ap (λ (l : List ℕ). filter_map f l) (range_sum s.suspects.now from middle to low high)
     ∙ filter_map-append f (items_between s.suspects.now from middle) (items_between s.suspects.now middle to)) in
-    subst (λ (l : List Single). Picks (λ single. Explains s.logged.test.board.now single s.logged.log.now) l (a ++ b)) all
-    (those_append (λ single. Explains s.logged.test.board.now single s.logged.log.now) (faults_between s from middle) (faults_between s middle to) a b first second)
+    subst (λ (l : List Single). Picks (λ single. Explains s.logged.now.test.board single s.logged.now.log) l (a ++ b)) all
+    (those_append (λ single. Explains s.logged.now.test.board single s.logged.now.log) (faults_between s from middle) (faults_between s middle to) a b first second)
 
 pub found_nothing : (s : Search) (i : ℕ) → Found s i i []
 found_nothing s i =
-    subst (λ (l : List ℕ). Picks (λ single. Explains s.logged.test.board.now single s.logged.log.now) (filter_map (fault_at s.logged.test.board.now) l) []) (sym (range_none s.suspects.now i)) refl
+    subst (λ (l : List ℕ). Picks (λ single. Explains s.logged.now.test.board single s.logged.now.log) (filter_map (fault_at s.logged.now.test.board) l) []) (sym (range_none s.suspects.now i)) refl
 
 -- one candidate
-one_candidate : (s : Search) (i place : ℕ) → slice_get s.suspects.now i ≡ Some place → faults_between s i (i + 1) ≡ cons_option (fault_at s.logged.test.board.now place) []
+one_candidate : (s : Search) (i place : ℕ) → slice_get s.suspects.now i ≡ Some place → faults_between s i (i + 1) ≡ cons_option (fault_at s.logged.now.test.board place) []
 one_candidate s i place at =
-    ap (filter_map (fault_at s.logged.test.board.now)) (range_one s.suspects.now i place (slice_get_within s.suspects.now i place at) (sym (get_or_from_slice_get s.suspects.now i place place at)))
+    ap (filter_map (fault_at s.logged.now.test.board)) (range_one s.suspects.now i place (slice_get_within s.suspects.now i place at) (sym (get_or_from_slice_get s.suspects.now i place place at)))
 
-pub found_none : (s : Search) (i place : ℕ) → slice_get s.suspects.now i ≡ Some place → slice_get (places_of s.logged.test.board.now) place ≡ Some None → Found s i (i + 1) []
+pub found_none : (s : Search) (i place : ℕ) → slice_get s.suspects.now i ≡ Some place → slice_get (places_of s.logged.now.test.board) place ≡ Some None → Found s i (i + 1) []
 found_none s i place at no_fault =
-    let none : fault_at s.logged.test.board.now place ≡ None = ap (λ (o : Option (Option Single)). option_and_then (λ p. p) o) no_fault in
+    let none : fault_at s.logged.now.test.board place ≡ None = ap (λ (o : Option (Option Single)). option_and_then (λ p. p) o) no_fault in
     let empty : [] ≡ faults_between s i (i + 1) = sym (one_candidate s i place at ∙ ap (λ (o : Option Single). cons_option o []) none) in
-    subst (λ (l : List Single). Picks (λ q. Explains s.logged.test.board.now q s.logged.log.now) l []) empty refl
+    subst (λ (l : List Single). Picks (λ q. Explains s.logged.now.test.board q s.logged.now.log) l []) empty refl
 
-pub found_one : (s : Search) (i place : ℕ) (single : Single) (holds : Bool) → slice_get s.suspects.now i ≡ Some place → slice_get (places_of s.logged.test.board.now) place ≡ Some (Some single) →
-    Decides holds (Explains s.logged.test.board.now single s.logged.log.now) → Found s i (i + 1) (cond holds (single ∷ []) [])
+pub found_one : (s : Search) (i place : ℕ) (single : Single) (holds : Bool) → slice_get s.suspects.now i ≡ Some place → slice_get (places_of s.logged.now.test.board) place ≡ Some (Some single) →
+    Decides holds (Explains s.logged.now.test.board single s.logged.now.log) → Found s i (i + 1) (cond holds (single ∷ []) [])
 found_one s i place single holds at fault decides =
-    let some : fault_at s.logged.test.board.now place ≡ Some single = ap (λ (o : Option (Option Single)). option_and_then (λ p. p) o) fault in
+    let some : fault_at s.logged.now.test.board place ≡ Some single = ap (λ (o : Option (Option Single)). option_and_then (λ p. p) o) fault in
     let one : single ∷ [] ≡ faults_between s i (i + 1) = sym (one_candidate s i place at ∙ ap (λ (o : Option Single). cons_option o []) some) in
-    subst (λ (l : List Single). Picks (λ q. Explains s.logged.test.board.now q s.logged.log.now) l (cond holds (single ∷ []) [])) one (by_test holds decides)
+    subst (λ (l : List Single). Picks (λ q. Explains s.logged.now.test.board q s.logged.now.log) l (cond holds (single ∷ []) [])) one (by_test holds decides)
   where
-    by_test : (b : Bool) → Decides b (Explains s.logged.test.board.now single s.logged.log.now) → Picks (λ q. Explains s.logged.test.board.now q s.logged.log.now) (single ∷ []) (cond b (single ∷ []) [])
+    by_test : (b : Bool) → Decides b (Explains s.logged.now.test.board single s.logged.now.log) → Picks (λ q. Explains s.logged.now.test.board q s.logged.now.log) (single ∷ []) (cond b (single ∷ []) [])
     by_test true decides = inl ([], decides.0 refl, refl, refl)
     by_test false decides = inr ((λ explains. let bad : false ≡ true = decides.1 explains in cc bad), refl)
 

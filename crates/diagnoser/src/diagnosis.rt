@@ -3,7 +3,6 @@ ghost use Rattle.std.specs.Prelude.{◌≡◌, ◌*◌, ◌≤◌, length, All, 
 ghost use Rattle.board_defs.specs.Passes.{passes_of};
 ghost use Rattle.board_defs.specs.Pins.{data_bits};
 ghost use Rattle.scan_planner.specs.Plans.{IsPlanOf};
-ghost use Rattle.fault_sim.specs.Kept.{IsLogged};
 ghost use Rattle.fault_sim.specs.Places.{IsUniverse};
 ghost use Rattle.fault_sim.specs.Suspects.{AreDiffering};
 ghost use Rattle.diagnoser.specs.Diagnosis.{AreExplaining, IsNamed};
@@ -94,12 +93,7 @@ pub fn diagnose_in<R: Threads + Sync, G: Gate>(
     ensures faults { IfOk result (λ faults. AreExplaining board.now log.now faults.items) }
     ensures named { IfOk result (λ faults. All (IsNamed board.now) faults.items) }
 {
-    let test = BoardTest {
-        board,
-        plan,
-        kept: &[],
-    };
-    let logged = LoggedTest { test, log };
+    let logged = BoardTest::of(board, plan, &[]).with_log(log);
     diagnose_logged(rt, alloc, &logged, universe, nets, workers, gate)
 }
 
@@ -115,19 +109,20 @@ pub fn diagnose_logged<R: Threads + Sync, G: Gate>(
 ) -> Result<Vec<Single>, AllocError>
     requires some { 1 ≤ workers }
     requires few { workers ≤ 64 }
-    requires logged { IsLogged logged.now }
-    requires passes { logged.now.test.plan.now.passes ≡ passes_of logged.now.test.board.now }
-    requires universe { IsUniverse logged.now.test.board.now universe.now }
-    requires differing { AreDiffering logged.now.test.board.now logged.now.test.plan.now logged.now.log.now nets.now }
-    ensures faults { IfOk result (λ faults. AreExplaining logged.now.test.board.now logged.now.log.now faults.items) }
-    ensures named { IfOk result (λ faults. All (IsNamed logged.now.test.board.now) faults.items) }
+    requires passes { logged.now.test.plan.passes ≡ passes_of logged.now.test.board }
+    requires universe { IsUniverse logged.now.test.board universe.now }
+    requires differing { AreDiffering logged.now.test.board logged.now.test.plan logged.now.log nets.now }
+    ensures faults { IfOk result (λ faults. AreExplaining logged.now.test.board logged.now.log faults.items) }
+    ensures named { IfOk result (λ faults. All (IsNamed logged.now.test.board) faults.items) }
 {
-    let BoardTest { board, plan, .. } = logged.test;
+    let board = logged.board();
+    let plan = logged.plan();
+    let log = logged.log();
     let _rules = board.raw();
     law::suspects_suffice();
-    let suspects = Suspects::of_nets(alloc, board, plan, universe, logged.log, nets)?;
+    let suspects = Suspects::of_nets(alloc, board, plan, universe, log, nets)?;
     let search = Search {
-        logged: *logged,
+        logged,
         nets,
         universe,
         suspects: &suspects,

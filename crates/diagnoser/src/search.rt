@@ -12,23 +12,23 @@ use std::thread::Threads;
 
 /// A log with its test, the nets that differ in it, and its candidates, which are the places of the faults that may explain it.
 #[derive(Clone, Copy)]
-pub struct Search<'a> {
-    pub logged: LoggedTest<'a>,
+pub struct Search<'a, 'b> {
+    pub logged: &'a LoggedTest<'b>,
     pub nets: &'a [u32],
     pub universe: &'a Universe,
     pub suspects: &'a Suspects,
 }
 
 // Tries candidate `i` for a piece: its fault, where it explains the log.
-fn try_candidate<G: Gate>(search: Search<'_>, piece: u32, i: u64, gate: &G) -> Option<Single>
+fn try_candidate<G: Gate>(search: Search<'_, '_>, piece: u32, i: u64, gate: &G) -> Option<Single>
     requires search { IsSearch search }
     requires candidate { i < length search.suspects.now }
     ensures { Found search.entry i (i + 1) (option_to_list result) }
 {
-    let _rules = search.logged.test.board.raw();
+    let _rules = search.logged.board().raw();
     let place = search.suspects.place(i);
     gate.enter(piece, place);
-    let fault = search.universe.at_in(&search.logged.test, place)?;
+    let fault = search.universe.at_in(search.logged.test(), place)?;
     if search.logged.matches_by(fault, search.nets) {
         Some(fault)
     } else {
@@ -48,7 +48,7 @@ fn push_some(faults: &mut Vec<Single>, fault: Option<Single>) -> Result<(), Allo
 // What a piece finds.
 fn search_piece<G: Gate>(
     alloc: Global,
-    search: Search<'_>,
+    search: Search<'_, '_>,
     piece: Piece,
     gate: &G,
 ) -> Result<Vec<Single>, AllocError>
@@ -68,7 +68,7 @@ fn search_piece<G: Gate>(
 pub fn search_pieces<R: Threads + Sync, G: Gate>(
     rt: &R,
     alloc: Global,
-    search: Search<'_>,
+    search: Search<'_, '_>,
     pieces: u32,
     gate: &G,
 ) -> Result<Vec<Single>, AllocError>

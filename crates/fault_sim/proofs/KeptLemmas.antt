@@ -1,6 +1,6 @@
 -- What is kept of the passes of a test, and what is found in it.
-use Rattle.std.proofs.Common.{◌≡◌, ℕ, zero, suc, ◌<◌, Bool, true, false, ◌&&◌, cond, List, [], ◌∷◌, ◌++◌, length, get_or, Option, Some, None, refl, subst}
-use Rattle.std.specs.Prelude.{option_and_then, option_map, slice_get}
+use Rattle.std.proofs.Common.{◌≡◌, ℕ, zero, suc, ◌+◌, ◌<◌, Bool, true, false, ◌&&◌, cond, List, [], ◌∷◌, ◌++◌, length, get_or, Option, Some, None, refl, subst}
+use Rattle.std.specs.Prelude.{option_map, slice_get}
 use Rattle.std.proofs.lemmas.Bool.{both_ways}
 use Rattle.std.proofs.lemmas.Option.{get_or_from_slice_get, slice_get-get_or, slice_get_within}
 use Rattle.board_defs.specs.declared.board.Ctl.{Ctl}
@@ -11,10 +11,11 @@ use Rattle.plan_tables.specs.declared.tables.PlanTables.{PlanTables}
 use Rattle.plan_tables.specs.Building.{is_read_beside}
 use Rattle.fault_sim.specs.declared.feed.EnabledDriver.{EnabledDriver}
 use Rattle.fault_sim.specs.declared.feed.Source.TheVariants.{Code, Fixed}
+use Rattle.fault_sim.specs.declared.kept.ComparedRow.{ComparedRow}
 use Rattle.fault_sim.specs.declared.kept.KeptPass.{KeptPass}
 use Rattle.fault_sim.specs.Effects.{code_in, driver_in, feed_by, feed_in, place_of_driver, readers_in, steady_in}
-use Rattle.fault_sim.specs.Kept.{KeepDrivers, KeepRows, enabled_by, enabled_driver}
-use Rattle.fault_sim.specs.inner.Kept.{feed_of, is_code, kept_driver, observes_coded}
+use Rattle.fault_sim.specs.Kept.{AreDrivers, AreRows, IsRow, KeepDrivers, KeepRows, enabled_by, enabled_driver}
+use Rattle.fault_sim.specs.inner.Kept.{drivers_of, feed_of, is_code, kept_drivers, kept_rows, observes_coded, rows_of}
 use Rattle.fault_sim.specs.inner.Tested.{observes_by, observes_in, paired_in}
 
 -- a list in which each item is right for its place, with one more
@@ -31,13 +32,20 @@ no_rows board plan x pass at = cc at
 pub no_drivers : (plan : PlanTables) → KeepDrivers plan []
 no_drivers plan x pass at = cc at
 
--- a driver that is kept is the one that the pass enables
-pub kept_is : (plan : PlanTables) (kept : List KeptPass) → KeepDrivers plan kept → (x n : ℕ) (driver : Option EnabledDriver) → kept_driver kept x n ≡ Some driver → driver ≡ enabled_driver plan (get_or plan.passes x []) n
-kept_is plan kept keep x n driver found = by_pass (slice_get kept x) refl found
+-- what is kept of a pass is right
+pub drivers_kept : (plan : PlanTables) (kept : List KeptPass) → KeepDrivers plan kept → (x : ℕ) → AreDrivers plan (get_or plan.passes x []) (kept_drivers kept x)
+drivers_kept plan kept keep x n driver = by_pass (slice_get kept x) refl
   where
-    by_pass : (o : Option KeptPass) → slice_get kept x ≡ o → option_and_then (λ pass. slice_get pass.drivers n) o ≡ Some driver → driver ≡ enabled_driver plan (get_or plan.passes x []) n
+    by_pass : (o : Option KeptPass) → slice_get kept x ≡ o → slice_get (drivers_of o) n ≡ Some driver → driver ≡ enabled_driver plan (get_or plan.passes x []) n
     by_pass None at e = cc e
     by_pass (Some pass) at e = keep x pass at n driver e
+
+pub rows_kept : (board : RawBoard) (plan : PlanTables) (kept : List KeptPass) → KeepRows board plan kept → (x : ℕ) → AreRows board plan x (kept_rows kept x)
+rows_kept board plan kept keep x j row = by_pass (slice_get kept x) refl
+  where
+    by_pass : (o : Option KeptPass) → slice_get kept x ≡ o → slice_get (rows_of o) j ≡ Some row → IsRow board plan x j row
+    by_pass None at e = cc e
+    by_pass (Some pass) at e = keep x pass at j row e
 
 module _ (plan : PlanTables) (pass : List Ctl) (n : ℕ) where
   -- the place of its pin, and what it gives its net

@@ -6,6 +6,7 @@ pub mod PlaceLemmas
 pub mod RangeLemmas
 pub mod TestedLemmas
 pub mod KeptLemmas
+pub mod PassLemmas
 pub mod UniverseLemmas
 pub mod SuspectLemmas
 pub mod MarkLemmas

@@ -17,6 +17,7 @@ use Rattle.board_defs.specs.declared.board.Net.{Net}
 use Rattle.board_defs.specs.declared.board.RawBoard.{RawBoard}
 use Rattle.board_defs.specs.declared.board.Ctl.{Ctl}
 use Rattle.board_defs.specs.BoardRules.{IsBoard}
+use Rattle.board_defs.specs.Limits.{most_pins}
 use Rattle.board_defs.specs.Decided.{is_covered, are_paired, is_tested_driver, is_tested_receiver}
 use Rattle.board_defs.specs.DeviceRules.{reads_bit, may_receive}
 use Rattle.board_defs.specs.Faults.{Numbered, is_tested_pin, tested_pins_in, tested_pins, covered_nets}
@@ -268,14 +269,14 @@ module _ (board : RawBoard) (rules : IsBoard board) (plan : PlanTables) (p : IsP
     flag_is = Rattle.std.specs.Cmp.both_ways (get_or flags place false) (is_tested_pin board net place) flag_tested tested_flag
 
 -- a net has few pins
-pub pin_count_most : (board : RawBoard) → IsBoard board → (n : ℕ) → pin_count board n ≤ 65535
+pub pin_count_most : (board : RawBoard) → IsBoard board → (n : ℕ) → pin_count board n ≤ most_pins
 pin_count_most board rules n = by_net (slice_get board.nets n) refl
   where
-    by_net : (o : Option Net) → slice_get board.nets n ≡ o → pins_of_net o ≤ 65535
+    by_net : (o : Option Net) → slice_get board.nets n ≡ o → pins_of_net o ≤ most_pins
     by_net None e = omega arith
     by_net (Some net) e =
         let most = pins_most board rules n net (slice_get_within board.nets n net e) in
-        subst (λ (v : Net). length v.pins ≤ 65535) (get_or_from_slice_get board.nets n net net e) most
+        subst (λ (v : Net). length v.pins ≤ most_pins) (get_or_from_slice_get board.nets n net net e) most
 
 -- and so have all nets
 pins_few : (board : RawBoard) (a : ℕ) (nets : List Net) → length (flat_map (tested_pins_in board) (enumerate_from a nets)) ≤ sum_by (λ net. length net.pins) nets
@@ -290,7 +291,7 @@ pins_few board a (net ∷ nets) =
       sum_by-cons (λ (v : Net). length v.pins) net nets,
     )
 
-pub tested_few : (board : RawBoard) → IsBoard board → length (tested_pins board) ≤ 65535
+pub tested_few : (board : RawBoard) → IsBoard board → length (tested_pins board) ≤ most_pins
 tested_few board rules = omega (arith, pins_few board 0 board.nets, rules.pins_most)
 
 -- what a filter keeps of a range, by tests that agree there

@@ -1,5 +1,5 @@
 -- What is kept of a test for many logs, and a log with its test.
-use Rattle.std.specs.Prelude.{◌≡◌, ℕ, suc, ◌*◌, Bool, List, [], length, Option, Some, option_map, slice_get, slice_index_or, All}
+use Rattle.std.specs.Prelude.{◌≡◌, ℕ, suc, ◌*◌, ◌<◌, Bool, List, [], length, Option, Some, option_map, slice_get, slice_index_or}
 use Rattle.board_defs.specs.declared.board.Ctl.{Ctl}
 use Rattle.board_defs.specs.declared.board.RawBoard.{RawBoard}
 use Rattle.board_defs.specs.Pins.{data_bits}
@@ -8,12 +8,12 @@ use Rattle.tap_defs.specs.board.BoardScans.{row_bits}
 use Rattle.net_pins.specs.declared.nets.NetDriver.{NetDriver}
 use Rattle.plan_tables.specs.declared.tables.PlanTables.{PlanTables}
 use Rattle.scan_planner.specs.Plans.{IsPlanOf, scan_of_pass}
-use Rattle.fault_sim.specs.declared.board_test.BoardTest.{BoardTest}
-use Rattle.fault_sim.specs.declared.board_test.LoggedTest.{LoggedTest}
+use Rattle.response_log.specs.LogRows.{HasSize}
 use Rattle.fault_sim.specs.declared.feed.EnabledDriver.{EnabledDriver}
 use Rattle.fault_sim.specs.declared.kept.ComparedRow.{ComparedRow}
 use Rattle.fault_sim.specs.declared.kept.KeptPass.{KeptPass}
 use Rattle.fault_sim.specs.Effects.{driver_in, source_in, is_own}
+use Rattle.fault_sim.specs.Planned.{PlanPass, PlannedBoard, plan_pass}
 
 -- the bits of TDO and MASK in the scan that compares row j of pass x
 abbrev pub expected_in : RawBoard → PlanTables → ℕ → ℕ → List Bool
@@ -34,28 +34,33 @@ enabled_by plan pass n d = record { place = d.place; source = source_in plan pas
 abbrev pub enabled_driver : PlanTables → List Ctl → ℕ → Option EnabledDriver
 enabled_driver plan pass n = option_map (enabled_by plan pass n) (driver_in plan pass n)
 
--- the rows that are kept of pass x are its first rows, and the drivers those that it enables on the first nets
+-- the rows that are kept of pass x are its first rows, and the drivers of a pass those that it enables on the first nets
 abbrev pub AreRows : RawBoard → PlanTables → ℕ → List ComparedRow → Type 0
 AreRows board plan x rows = (j : ℕ) (row : ComparedRow) → slice_get rows j ≡ Some row → IsRow board plan x j row
 
-abbrev pub AreDrivers : PlanTables → ℕ → List (Option EnabledDriver) → Type 0
-AreDrivers plan x drivers = (n : ℕ) (driver : Option EnabledDriver) → slice_get drivers n ≡ Some driver → driver ≡ enabled_driver plan (slice_index_or plan.passes x []) n
+abbrev pub AreDrivers : PlanTables → List Ctl → List (Option EnabledDriver) → Type 0
+AreDrivers plan pass drivers = (n : ℕ) (driver : Option EnabledDriver) → slice_get drivers n ≡ Some driver → driver ≡ enabled_driver plan pass n
 
 -- what is kept of the first passes, in order, is right
 abbrev pub KeepRows : RawBoard → PlanTables → List KeptPass → Type 0
 KeepRows board plan kept = (x : ℕ) (pass : KeptPass) → slice_get kept x ≡ Some pass → AreRows board plan x pass.rows
 
 abbrev pub KeepDrivers : PlanTables → List KeptPass → Type 0
-KeepDrivers plan kept = (x : ℕ) (pass : KeptPass) → slice_get kept x ≡ Some pass → AreDrivers plan x pass.drivers
+KeepDrivers plan kept = (x : ℕ) (pass : KeptPass) → slice_get kept x ≡ Some pass → AreDrivers plan (slice_index_or plan.passes x []) pass.drivers
 
 -- a plan of the board, and what is kept of its passes
-pub record IsBoardTest (test : BoardTest) : Type 0 where
-  pub plan : IsPlanOf test.board.now test.plan.now
-  pub rows : KeepRows test.board.now test.plan.now test.kept.now
-  pub drivers : KeepDrivers test.plan.now test.kept.now
+pub record IsBoardTest (board : RawBoard) (plan : PlanTables) (kept : List KeptPass) : Type 0 where
+  pub plan_is : IsPlanOf board plan
+  pub rows : KeepRows board plan kept
+  pub drivers : KeepDrivers plan kept
+
+-- pass x of a plan of the board, its drivers and what is kept of its rows
+pub record IsTestPass (board : RawBoard) (plan : PlanTables) (x : ℕ) (drivers : PlanPass) (rows : List ComparedRow) : Type 0 where
+  pub within : x < length plan.passes
+  pub plan_is : IsPlanOf board plan
+  pub drivers_are : drivers ≡ plan_pass plan (slice_index_or plan.passes x [])
+  pub rows_are : AreRows board plan x rows
 
 -- a log with the rows of a test, each as long as a scan of data
-pub record IsLogged (logged : LoggedTest) : Type 0 where
-  pub test : IsBoardTest logged.test
-  pub rows : length logged.log.now ≡ length logged.test.plan.now.passes * logged.test.plan.now.width
-  pub bits : All (λ row. length row ≡ data_bits logged.test.board.now) logged.log.now
+abbrev pub IsLogOf : PlannedBoard → List (List Bool) → Type 0
+IsLogOf test log = HasSize (length test.plan.passes * test.plan.width) (data_bits test.board) log

@@ -1,6 +1,7 @@
 pub mod Effects
 pub mod Fits
 pub mod Kept
+pub mod Planned
 pub mod Starts
 pub mod Places
 pub mod Suspects

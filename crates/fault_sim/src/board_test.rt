@@ -1,74 +1,162 @@
 // A board's test with what is kept of it, and a log of the test.
-ghost use Rattle.std.specs.Prelude.{◌≡◌, ◌<◌, [], length, slice_index_or, IfSome};
-ghost use Rattle.fault_sim.specs.Effects.{driver_in, net_feed, place_of_driver};
-ghost use Rattle.fault_sim.specs.Kept.{IsBoardTest, IsRow, KeepDrivers, enabled_driver};
+ghost use Rattle.std.specs.Prelude.{◌≡◌, ◌<◌, length};
+ghost use Rattle.scan_planner.specs.Plans.{IsPlanOf};
+ghost use Rattle.fault_sim.specs.Kept.{IsLogOf, KeepDrivers, KeepRows};
+ghost use Rattle.fault_sim.specs.Planned.{logged_board, pass_of_log, planned_board, planned_pass};
 
-use crate::feed::{EnabledDriver, Feed, enabled_driver, feed_of, pull_in};
-use crate::kept::{ComparedRow, KeptPass, kept_driver};
+use crate::kept::{KeptPass, kept_rows};
+use crate::passes::{LoggedPass, PassDrivers, TestPass};
 use board_defs::Board;
 use response_log::Log;
 use scan_planner::Plan;
+use std::marker::Model;
 
-/// A board and a plan of it, with what is kept of the passes of the test.
-#[derive(Clone, Copy)]
+/// A board and a plan of it, with what is kept of the passes of the test. Seen as the board and the plan.
+#[derive(Drop)]
 pub struct BoardTest<'a> {
-    pub board: &'a Board,
-    pub plan: &'a Plan,
-    pub kept: &'a [KeptPass],
+    pub(crate) board: &'a Board,
+    pub(crate) plan: &'a Plan,
+    pub(crate) kept: &'a [KeptPass],
 }
 
-/// A test and a log of it.
-#[derive(Clone, Copy)]
+impl<'a> Model for BoardTest<'a> {
+    ghost use Rattle.fault_sim.specs.Kept.{IsBoardTest};
+    ghost use Rattle.fault_sim.specs.Planned.{PlannedBoard, planned_board};
+
+    ghost Value = { PlannedBoard };
+
+    ghost view = { λ a. planned_board a.board.now a.plan.now };
+
+    ghost invariant = { λ a. IsBoardTest a.board.now a.plan.now a.kept.now };
+}
+
+/// A test and a log of it. Seen as both.
+#[derive(Drop)]
 pub struct LoggedTest<'a> {
-    pub test: BoardTest<'a>,
-    pub log: &'a Log,
+    pub(crate) test: BoardTest<'a>,
+    pub(crate) log: &'a Log,
 }
 
-/// The driver that pass `x` enables on a net, by what is kept of the passes of a plan or else by the plan.
-pub fn driver_at(plan: &Plan, kept: &[KeptPass], x: u32, net: u32) -> Option<EnabledDriver>
-    requires kept { KeepDrivers plan.now kept.now }
-    requires pass { x < length plan.now.passes }
-    ensures { result ≡ enabled_driver plan.now (slice_index_or plan.now.passes x []) net }
-{
-    match kept_driver(kept, x, net) {
-        Some(driver) => driver,
-        None => enabled_driver(plan, plan.pass(x), net),
-    }
+impl<'a> Model for LoggedTest<'a> {
+    ghost use Rattle.fault_sim.specs.Kept.{IsLogOf};
+    ghost use Rattle.fault_sim.specs.Planned.{LoggedBoard, logged_board};
+
+    ghost Value = { LoggedBoard };
+
+    ghost view = { λ a. logged_board a.test a.log.now };
+
+    ghost invariant = { λ a. IsLogOf a.test a.log.now };
 }
 
 impl<'a> BoardTest<'a> {
-    /// Row `j` of pass `x`, where it is kept.
-    pub(crate) fn row(&self, x: u32, j: u32) -> Option<&'a ComparedRow>
-        requires { IsBoardTest self.now }
-        ensures { IfSome result (λ row. IsRow self.now.board.now self.now.plan.now x j row.now) }
+    /// The test of a board that its plan makes, by what is kept of its passes.
+    pub fn of(board: &'a Board, plan: &'a Plan, kept: &'a [KeptPass]) -> BoardTest<'a>
+        requires plan { IsPlanOf board.now plan.now }
+        requires rows { KeepRows board.now plan.now kept.now }
+        requires drivers { KeepDrivers plan.now kept.now }
+        ensures { result ≡ planned_board board.now plan.now }
     {
-        match self.kept.get(x as usize) {
-            None => None,
-            Some(pass) => pass.rows.as_slice().get(j as usize),
-        }
+        BoardTest { board, plan, kept }
     }
 
-    /// The place of the pin of the driver that pass `x` enables on a net.
-    pub(crate) fn driver_place(&self, x: u32, net: u32) -> Option<u32>
-        requires test { IsBoardTest self.now }
-        requires pass { x < length self.now.plan.now.passes }
-        ensures { result ≡ place_of_driver (driver_in self.now.plan.now (slice_index_or self.now.plan.now.passes x []) net) }
+    /// The board.
+    pub fn board(&self) -> &'a Board
+        ensures { result.now ≡ self.now.board }
     {
-        match driver_at(self.plan, self.kept, x, net) {
-            None => None,
-            Some(driver) => Some(driver.place),
-        }
+        self.board
     }
 
-    /// How pass `x` drives a net.
-    pub(crate) fn feed(&self, x: u32, net: u32) -> Option<Feed>
-        requires test { IsBoardTest self.now }
-        requires pass { x < length self.now.plan.now.passes }
-        ensures { result ≡ net_feed self.now.board.now self.now.plan.now (slice_index_or self.now.plan.now.passes x []) net }
+    /// The plan.
+    pub fn plan(&self) -> &'a Plan
+        ensures value { result.now ≡ self.now.plan }
+        ensures plan { IsPlanOf self.now.board self.now.plan }
     {
-        match driver_at(self.plan, self.kept, x, net) {
-            None => None,
-            Some(driver) => Some(feed_of(driver, pull_in(self.board, net))),
+        self.plan
+    }
+
+    /// A log of the test, which has its rows, each as long as a scan of data.
+    pub fn with_log(&self, log: &'a Log) -> LoggedTest<'a>
+        requires { IsLogOf self.now log.now }
+        ensures { result ≡ logged_board self.now log.now }
+    {
+        let test = BoardTest {
+            board: self.board,
+            plan: self.plan,
+            kept: self.kept,
+        };
+        LoggedTest { test, log }
+    }
+
+    /// Pass `x`, which is below the number of passes.
+    pub(crate) fn pass(&self, x: u32) -> TestPass<'a>
+        requires { x < length self.now.plan.passes }
+        ensures { result ≡ planned_pass self.now x }
+    {
+        TestPass {
+            board: self.board,
+            plan: self.plan,
+            number: x,
+            drivers: PassDrivers::of(self.plan, self.kept, x),
+            rows: kept_rows(self.kept, x),
+        }
+    }
+}
+
+impl<'a> LoggedTest<'a> {
+    /// The log of a board's test that this plan makes.
+    pub(crate) fn of(board: &'a Board, plan: &'a Plan, log: &'a Log) -> LoggedTest<'a>
+        requires plan { IsPlanOf board.now plan.now }
+        requires log { IsLogOf (planned_board board.now plan.now) log.now }
+        ensures { result ≡ logged_board (planned_board board.now plan.now) log.now }
+    {
+        BoardTest::of(board, plan, &[]).with_log(log)
+    }
+
+    /// The test.
+    pub fn test(&self) -> &BoardTest<'a>
+        ensures { result.now ≡ self.now.test }
+    {
+        &self.test
+    }
+
+    /// The board.
+    pub fn board(&self) -> &'a Board
+        ensures { result.now ≡ self.now.test.board }
+    {
+        self.test.board()
+    }
+
+    /// The plan.
+    pub fn plan(&self) -> &'a Plan
+        ensures value { result.now ≡ self.now.test.plan }
+        ensures plan { IsPlanOf self.now.test.board self.now.test.plan }
+    {
+        self.test.plan()
+    }
+
+    /// The number of passes.
+    pub(crate) fn pass_count(&self) -> u32
+        ensures { result ≡ length self.now.test.plan.passes }
+    {
+        self.test.plan().pass_count()
+    }
+
+    /// The log.
+    pub fn log(&self) -> &'a Log
+        ensures value { result.now ≡ self.now.log }
+        ensures rows { IsLogOf self.now.test self.now.log }
+    {
+        self.log
+    }
+
+    /// Pass `x`, which is below the number of passes.
+    pub(crate) fn pass(&self, x: u32) -> LoggedPass<'a>
+        requires { x < length self.now.test.plan.passes }
+        ensures { result ≡ pass_of_log self.now x }
+    {
+        LoggedPass {
+            pass: self.test.pass(x),
+            log: self.log,
         }
     }
 }

@@ -7,12 +7,11 @@ ghost use Rattle.tap_defs.specs.board.BoardScans.{svf_row_scans};
 ghost use Rattle.tap_defs.specs.board.Explaining.{IsExpected};
 ghost use Rattle.fault_sim.specs.Suspects.{AreDiffering};
 ghost use Rattle.fault_sim.specs.Fits.{ShowsOn};
-ghost use Rattle.fault_sim.specs.Kept.{IsLogged};
 ghost use Rattle.fault_sim.specs.inner.Marks.{AreMarks};
 
-use crate::board_test::{BoardTest, LoggedTest};
-use crate::fits::{net_count, shows_on};
-use crate::marks::{are_marked, marks_of};
+use crate::board_test::LoggedTest;
+use crate::fits::net_count;
+use crate::marks::are_marked;
 use crate::tested::push_if;
 use board_defs::{Board, law};
 use response_log::Log;
@@ -20,29 +19,27 @@ use scan_planner::Plan;
 use std::alloc::{AllocError, Global};
 use tap_defs::board_law;
 
-// Whether a net shows the expected bits in each pass. Where none of the digits of its cells has a mark, its cells need not be looked at.
-fn shows_expected(logged: &LoggedTest<'_>, marks: &[u8], n: u32) -> bool
-    requires logged { IsLogged logged.now }
-    requires marks { AreMarks logged.now.test.board.now logged.now.test.plan.now logged.now.log.now (length logged.now.test.plan.now.passes) marks.now }
-    ensures { Decides result (ShowsOn logged.now.test.board.now logged.now.test.plan.now None logged.now.log.now n) }
-{
-    let _rules = logged.test.board.raw();
-    if !are_marked(marks, logged.test.plan.readers(n)) {
-        return true;
-    }
-    shows_on(logged, None, n)
-}
-
 impl<'a> LoggedTest<'a> {
+    // Whether a net shows the expected bits in each pass. Where none of the digits of its cells has a mark, its cells need not be looked at.
+    fn shows_expected(&self, marks: &[u8], n: u32) -> bool
+        requires { AreMarks self.now.test.board self.now.test.plan self.now.log (length self.now.test.plan.passes) marks.now }
+        ensures { Decides result (ShowsOn self.now.test.board self.now.test.plan None self.now.log n) }
+    {
+        let _rules = self.board().raw();
+        if !are_marked(marks, self.plan().readers(n)) {
+            return true;
+        }
+        self.shows_on(None, n)
+    }
+
     /// The nets that differ in the log, as `differing_nets` finds them.
     pub fn differing(&self, alloc: Global) -> Result<Vec<u32>, AllocError>
-        requires { IsLogged self.now }
-        ensures { IfOk result (λ nets. AreDiffering self.now.test.board.now self.now.test.plan.now self.now.log.now nets.items) }
+        ensures { IfOk result (λ nets. AreDiffering self.now.test.board self.now.test.plan self.now.log nets.items) }
     {
-        let marks = marks_of(alloc, self)?;
+        let marks = self.marks(alloc)?;
         let mut nets = Vec::new(alloc);
-        for n in 0..net_count(self.test.board) {
-            push_if(&mut nets, n, !shows_expected(self, &marks, n))?;
+        for n in 0..net_count(self.board()) {
+            push_if(&mut nets, n, !self.shows_expected(&marks, n))?;
         }
         Ok(nets)
     }
@@ -61,12 +58,7 @@ pub fn differing_nets(
     requires bits { All (λ row. length row ≡ data_bits board.now) log.now }
     ensures { IfOk result (λ nets. AreDiffering board.now plan.now log.now nets.items) }
 {
-    let test = BoardTest {
-        board,
-        plan,
-        kept: &[],
-    };
-    LoggedTest { test, log }.differing(alloc)
+    LoggedTest::of(board, plan, log).differing(alloc)
 }
 
 /// Whether every compared bit of a log is the expected one, where these are the nets that differ in it. The plan is made of the

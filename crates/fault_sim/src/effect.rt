@@ -1,12 +1,12 @@
 // What a single fault makes of the compared cells of a net in the rows of a pass.
-ghost use Rattle.std.specs.Prelude.{◌≡◌, ◌<◌, ◌==◌, ◌||◌, [], length, slice_index_or, unwrap_or};
+ghost use Rattle.std.specs.Prelude.{◌≡◌, ◌==◌, ◌||◌, unwrap_or};
 ghost use Rattle.tap_defs.specs.board.NetBits.{or_else};
 ghost use Rattle.tap_defs.specs.board.SingleBits.{shorted};
 ghost use Rattle.fault_sim.specs.Effects.{open_effect, short_effect, effect_of, effect_in, effect_bit};
-ghost use Rattle.fault_sim.specs.Kept.{IsBoardTest};
+ghost use Rattle.fault_sim.specs.Planned.{controls_of};
 
-use crate::board_test::BoardTest;
-use crate::feed::{Feed, feed_bit, pull_in};
+use crate::feed::{Feed, feed_bit};
+use crate::passes::TestPass;
 use board_defs::{Kind, Single};
 
 /// What is to be seen at the compared cells of a net.
@@ -68,59 +68,55 @@ fn open_effect(driver: Option<u32>, place: u32, value: bool, pull: Option<bool>)
     }
 }
 
-fn short_effect(test: &BoardTest<'_>, x: u32, a: u32, b: u32, kind: Kind) -> Effect
-    requires test { IsBoardTest test.now }
-    requires pass { x < length test.now.plan.now.passes }
-    ensures { result ≡ short_effect test.now.board.now test.now.plan.now (slice_index_or test.now.plan.now.passes x []) a b kind }
-{
-    Effect::Shorted {
-        kind,
-        first: test.feed(x, a),
-        second: test.feed(x, b),
-        pull: shorted(kind, pull_in(test.board, a), pull_in(test.board, b)),
+impl<'a> TestPass<'a> {
+    fn short_effect(&self, a: u32, b: u32, kind: Kind) -> Effect
+        ensures { result ≡ short_effect self.now.test.board self.now.test.plan (controls_of self.now) a b kind }
+    {
+        Effect::Shorted {
+            kind,
+            first: self.feed(a),
+            second: self.feed(b),
+            pull: shorted(kind, self.pull(a), self.pull(b)),
+        }
     }
-}
 
-fn effect_of(test: &BoardTest<'_>, x: u32, fault: Single, n: u32) -> Effect
-    requires test { IsBoardTest test.now }
-    requires pass { x < length test.now.plan.now.passes }
-    ensures { result ≡ effect_of test.now.board.now test.now.plan.now (slice_index_or test.now.plan.now.passes x []) fault n }
-{
-    match fault {
-        Single::StuckNet { net, value } => {
-            if n == net {
-                Effect::Constant(value)
-            } else {
-                Effect::Plain
+    fn effect_of(&self, fault: Single, n: u32) -> Effect
+        ensures { result ≡ effect_of self.now.test.board self.now.test.plan (controls_of self.now) fault n }
+    {
+        match fault {
+            Single::StuckNet { net, value } => {
+                if n == net {
+                    Effect::Constant(value)
+                } else {
+                    Effect::Plain
+                }
             }
-        }
-        Single::OpenPin { pin, value } => {
-            if n == pin.net {
-                let driver = test.driver_place(x, n);
-                open_effect(driver, pin.place, value, pull_in(test.board, n))
-            } else {
-                Effect::Plain
+            Single::OpenPin { pin, value } => {
+                if n == pin.net {
+                    let driver = self.driver_place(n);
+                    open_effect(driver, pin.place, value, self.pull(n))
+                } else {
+                    Effect::Plain
+                }
             }
-        }
-        Single::Short { a, b, kind } => {
-            if n == a || n == b {
-                short_effect(test, x, a, b, kind)
-            } else {
-                Effect::Plain
+            Single::Short { a, b, kind } => {
+                if n == a || n == b {
+                    self.short_effect(a, b, kind)
+                } else {
+                    Effect::Plain
+                }
             }
         }
     }
-}
 
-/// The effect of a fault on net `n` in the rows of pass `x`.
-pub fn effect_in(test: &BoardTest<'_>, x: u32, fault: Option<Single>, n: u32) -> Effect
-    requires test { IsBoardTest test.now }
-    requires pass { x < length test.now.plan.now.passes }
-    ensures { result ≡ effect_in test.now.board.now test.now.plan.now (slice_index_or test.now.plan.now.passes x []) fault n }
-{
-    match fault {
-        None => Effect::Plain,
-        Some(fault) => effect_of(test, x, fault, n),
+    /// The effect of a fault on net `n` in the rows of the pass.
+    pub fn effect(&self, fault: Option<Single>, n: u32) -> Effect
+        ensures { result ≡ effect_in self.now.test.board self.now.test.plan (controls_of self.now) fault n }
+    {
+        match fault {
+            None => Effect::Plain,
+            Some(fault) => self.effect_of(fault, n),
+        }
     }
 }
 

@@ -3,11 +3,11 @@ ghost use Rattle.std.specs.Prelude.{◌≡◌, ◌+◌, ◌*◌, ◌<◌, ◌≤
 ghost use Rattle.std.specs.List.{list_all};
 ghost use Rattle.tap_defs.specs.board.TestRows.{code_bit};
 ghost use Rattle.fault_sim.specs.Fits.{bit_in, cell_shows, ShowRows, ShowBy, Shows, ShowsPair, ShowsBoth, ShowsOn, ShowsIn, ShowsAll};
-ghost use Rattle.fault_sim.specs.Kept.{IsLogged};
 
 use crate::board_test::LoggedTest;
-use crate::effect::{Effect, effect_bit, effect_in};
+use crate::effect::{Effect, effect_bit};
 use crate::feed::{code_bit, is_same};
+use crate::passes::LoggedPass;
 use board_defs::{Board, Single};
 use response_log::Log;
 use scan_planner::ReaderCell;
@@ -118,95 +118,82 @@ pub fn net_count(board: &Board) -> u32
     board.raw().nets.len() as u32
 }
 
-// The number of the first row of pass `x` in a log.
-fn first_row(logged: &LoggedTest<'_>, x: u32) -> u64
-    requires logged { IsLogged logged.now }
-    requires pass { x < length logged.now.test.plan.now.passes }
-    ensures value { result ≡ x * logged.now.test.plan.now.width }
-    ensures within { result + logged.now.test.plan.now.width ≤ length logged.now.log.now }
-    ensures fits { result + logged.now.test.plan.now.width < 2 ^ 64 }
-{
-    u64::from(x) * u64::from(logged.test.plan.width())
-}
-
-// Whether a log shows the effect of a fault on a net in pass `x`.
-fn shows(logged: &LoggedTest<'_>, fault: Option<Single>, x: u32, net: u32) -> bool
-    requires logged { IsLogged logged.now }
-    requires pass { x < length logged.now.test.plan.now.passes }
-    ensures { Decides result (Shows logged.now.test.board.now logged.now.test.plan.now fault logged.now.log.now x net) }
-{
-    let test = &logged.test;
-    let _rules = test.board.raw();
-    driven_shows(
-        logged.log,
-        first_row(logged, x),
-        test.plan.width(),
-        test.plan.code(net),
-        test.plan.readers(net),
-        effect_in(test, x, fault, net),
-        test.driver_place(x, net),
-    )
-}
-
-// The same on two nets, which may be one.
-fn shows_pair(logged: &LoggedTest<'_>, fault: Option<Single>, x: u32, a: u32, b: u32) -> bool
-    requires logged { IsLogged logged.now }
-    requires pass { x < length logged.now.test.plan.now.passes }
-    ensures { Decides result (ShowsPair logged.now.test.board.now logged.now.test.plan.now fault logged.now.log.now x a b) }
-{
-    shows(logged, fault, x, a) && shows(logged, fault, x, b)
-}
-
-/// Whether a log shows the effect of a fault on two nets, which may be one. Both are looked at pass by pass, since the first pass in which
-/// either tells is mostly an early one.
-pub fn shows_both(logged: &LoggedTest<'_>, fault: Option<Single>, a: u32, b: u32) -> bool
-    requires logged { IsLogged logged.now }
-    ensures { Decides result (ShowsBoth logged.now.test.board.now logged.now.test.plan.now fault logged.now.log.now a b) }
-{
-    for x in 0..logged.test.plan.pass_count() {
-        if !shows_pair(logged, fault, x, a, b) {
-            return false;
-        }
+impl<'a> LoggedPass<'a> {
+    // Whether the log shows the effect of a fault on a net.
+    fn shows(&self, fault: Option<Single>, net: u32) -> bool
+        ensures { Decides result (Shows self.now.logged.test.board self.now.logged.test.plan fault self.now.logged.log self.now.number net) }
+    {
+        let plan = self.pass.plan();
+        let _rules = self.pass.board().raw();
+        driven_shows(
+            self.log,
+            self.pass.first_row(),
+            plan.width(),
+            plan.code(net),
+            plan.readers(net),
+            self.pass.effect(fault, net),
+            self.pass.driver_place(net),
+        )
     }
-    true
+
+    // The same on two nets, which may be one.
+    fn shows_pair(&self, fault: Option<Single>, a: u32, b: u32) -> bool
+        ensures { Decides result (ShowsPair self.now.logged.test.board self.now.logged.test.plan fault self.now.logged.log self.now.number a b) }
+    {
+        self.shows(fault, a) && self.shows(fault, b)
+    }
+
+    // The same on each net.
+    fn shows_all(&self, fault: Option<Single>) -> bool
+        ensures { Decides result (ShowsIn self.now.logged.test.board self.now.logged.test.plan fault self.now.logged.log self.now.number) }
+    {
+        for net in 0..net_count(self.pass.board()) {
+            if !self.shows(fault, net) {
+                return false;
+            }
+        }
+        true
+    }
 }
 
-/// Whether a log shows the effect of a fault on a net.
-pub fn shows_on(logged: &LoggedTest<'_>, fault: Option<Single>, net: u32) -> bool
-    requires logged { IsLogged logged.now }
-    ensures { Decides result (ShowsOn logged.now.test.board.now logged.now.test.plan.now fault logged.now.log.now net) }
-{
-    for x in 0..logged.test.plan.pass_count() {
-        if !shows(logged, fault, x, net) {
-            return false;
+impl<'a> LoggedTest<'a> {
+    /// Whether the log shows the effect of a fault on two nets, which may be one. Both are looked at pass by pass, since the first pass in
+    /// which either tells is mostly an early one.
+    pub(crate) fn shows_both(&self, fault: Option<Single>, a: u32, b: u32) -> bool
+        ensures { Decides result (ShowsBoth self.now.test.board self.now.test.plan fault self.now.log a b) }
+    {
+        for x in 0..self.pass_count() {
+            let pass = self.pass(x);
+            if !pass.shows_pair(fault, a, b) {
+                return false;
+            }
         }
+        true
     }
-    true
-}
 
-// Whether a log shows the effect of a fault in pass `x`.
-fn shows_in(logged: &LoggedTest<'_>, fault: Option<Single>, x: u32) -> bool
-    requires logged { IsLogged logged.now }
-    requires pass { x < length logged.now.test.plan.now.passes }
-    ensures { Decides result (ShowsIn logged.now.test.board.now logged.now.test.plan.now fault logged.now.log.now x) }
-{
-    for net in 0..net_count(logged.test.board) {
-        if !shows(logged, fault, x, net) {
-            return false;
+    /// Whether the log shows the effect of a fault on a net.
+    pub(crate) fn shows_on(&self, fault: Option<Single>, net: u32) -> bool
+        ensures { Decides result (ShowsOn self.now.test.board self.now.test.plan fault self.now.log net) }
+    {
+        for x in 0..self.pass_count() {
+            let pass = self.pass(x);
+            if !pass.shows(fault, net) {
+                return false;
+            }
         }
+        true
     }
-    true
-}
 
-/// Whether a log shows the effect of a fault, or the expected bits where there is none.
-pub fn shows_all(logged: &LoggedTest<'_>, fault: Option<Single>) -> bool
-    requires { IsLogged logged.now }
-    ensures { Decides result (ShowsAll logged.now.test.board.now logged.now.test.plan.now fault logged.now.log.now) }
-{
-    for x in 0..logged.test.plan.pass_count() {
-        if !shows_in(logged, fault, x) {
-            return false;
+    /// Whether the log shows the effect of a fault, or the expected bits where there is none.
+    pub(crate) fn shows_all(&self, fault: Option<Single>) -> bool
+        ensures { Decides result (ShowsAll self.now.test.board self.now.test.plan fault self.now.log) }
+    {
+        for x in 0..self.pass_count() {
+            let pass = self.pass(x);
+            if !pass.shows_all(fault) {
+                return false;
+            }
         }
+        true
     }
-    true
 }

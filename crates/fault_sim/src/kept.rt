@@ -1,12 +1,15 @@
 // What is kept of a test, so that many logs of it share it.
-ghost use Rattle.std.specs.Prelude.{◌≡◌, ◌<◌, ◌≤◌, length, IfOk};
+ghost use Rattle.std.specs.Prelude.{◌≡◌, ◌<◌, ◌≤◌, length, slice_get, IfOk};
 ghost use Rattle.scan_planner.specs.Plans.{IsPlanOf};
 ghost use Rattle.fault_sim.specs.Kept.{IsRow, AreRows, AreDrivers, KeepRows, KeepDrivers};
-ghost use Rattle.fault_sim.specs.inner.Kept.{kept_driver};
+ghost use Rattle.fault_sim.specs.Planned.{controls_of};
+ghost use Rattle.fault_sim.specs.inner.Kept.{kept_drivers, kept_rows};
 ghost use Rattle.fault_sim.specs.inner.Marks.{HaveRoom};
 
-use crate::feed::{EnabledDriver, enabled_driver};
+use crate::board_test::BoardTest;
+use crate::feed::EnabledDriver;
 use crate::fits::net_count;
+use crate::passes::TestPass;
 use board_defs::{Board, Items};
 use bt_bits::Row;
 use scan_planner::Plan;
@@ -40,85 +43,51 @@ pub fn empty_row(alloc: Global, board: &Board) -> Result<ComparedRow, AllocError
     })
 }
 
-/// Fills a row with what the test expects and compares of row `j` of pass `x`.
-pub fn fill_row(board: &Board, plan: &Plan, x: u32, j: u32, row: &mut ComparedRow)
-    requires plan { IsPlanOf board.now plan.now }
-    requires pass { x < length plan.now.passes }
-    requires row { j < plan.now.width }
-    requires room { HaveRoom board.now row.old }
-    ensures row { IsRow board.now plan.now x j row.new }
-    ensures room { HaveRoom board.now row.new }
-{
-    plan.fill_compared(board, x, j, &mut row.tdo, &mut row.mask);
-}
-
-// Row `j` of pass `x`.
-fn row_of(
-    alloc: Global,
-    board: &Board,
-    plan: &Plan,
-    x: u32,
-    j: u32,
-) -> Result<ComparedRow, AllocError>
-    requires plan { IsPlanOf board.now plan.now }
-    requires pass { x < length plan.now.passes }
-    requires row { j < plan.now.width }
-    ensures { IfOk result (IsRow board.now plan.now x j) }
-{
-    let mut row = empty_row(alloc, board)?;
-    fill_row(board, plan, x, j, &mut row);
-    Ok(row)
-}
-
-// The rows of pass `x`.
-fn rows_of(
-    alloc: Global,
-    board: &Board,
-    plan: &Plan,
-    x: u32,
-) -> Result<Vec<ComparedRow>, AllocError>
-    requires plan { IsPlanOf board.now plan.now }
-    requires pass { x < length plan.now.passes }
-    ensures { IfOk result (λ rows. AreRows board.now plan.now x rows.items) }
-{
-    let mut rows = Vec::new(alloc);
-    for j in 0..plan.width() {
-        rows.push(row_of(alloc, board, plan, x, j)?)?;
+impl<'a> TestPass<'a> {
+    // Row `j` of the pass, made anew.
+    fn new_row(&self, alloc: Global, j: u32) -> Result<ComparedRow, AllocError>
+        requires { j < self.now.test.plan.width }
+        ensures { IfOk result (IsRow self.now.test.board self.now.test.plan self.now.number j) }
+    {
+        let mut row = empty_row(alloc, self.board())?;
+        self.fill_row(j, &mut row);
+        Ok(row)
     }
-    Ok(rows)
-}
 
-// The drivers that pass `x` enables on so many nets.
-fn drivers_of(
-    alloc: Global,
-    plan: &Plan,
-    x: u32,
-    nets: u32,
-) -> Result<Vec<Option<EnabledDriver>>, AllocError>
-    requires { x < length plan.now.passes }
-    ensures { IfOk result (λ drivers. AreDrivers plan.now x drivers.items) }
-{
-    let pass = plan.pass(x);
-    let mut drivers = Vec::with_capacity(alloc, nets as usize)?;
-    for n in 0..nets {
-        drivers.push(enabled_driver(plan, pass, n))?;
+    // The rows of the pass.
+    fn new_rows(&self, alloc: Global) -> Result<Vec<ComparedRow>, AllocError>
+        ensures { IfOk result (λ rows. AreRows self.now.test.board self.now.test.plan self.now.number rows.items) }
+    {
+        let mut rows = Vec::new(alloc);
+        for j in 0..self.plan().width() {
+            rows.push(self.new_row(alloc, j)?)?;
+        }
+        Ok(rows)
     }
-    Ok(drivers)
-}
 
-// What is kept of pass `x`.
-fn kept_pass(alloc: Global, board: &Board, plan: &Plan, x: u32) -> Result<KeptPass, AllocError>
-    requires plan { IsPlanOf board.now plan.now }
-    requires pass { x < length plan.now.passes }
-    ensures rows { IfOk result (λ pass. AreRows board.now plan.now x pass.rows) }
-    ensures drivers { IfOk result (λ pass. AreDrivers plan.now x pass.drivers) }
-{
-    let rows = rows_of(alloc, board, plan, x)?;
-    let drivers = drivers_of(alloc, plan, x, net_count(board))?;
-    Ok(KeptPass {
-        rows: Items::of(rows),
-        drivers: Items::of(drivers),
-    })
+    // The drivers that the pass enables on so many nets.
+    fn drivers_of(&self, alloc: Global, nets: u32) -> Result<Vec<Option<EnabledDriver>>, AllocError>
+        ensures { IfOk result (λ drivers. AreDrivers self.now.test.plan (controls_of self.now) drivers.items) }
+    {
+        let mut drivers = Vec::with_capacity(alloc, nets as usize)?;
+        for n in 0..nets {
+            drivers.push(self.driver(n))?;
+        }
+        Ok(drivers)
+    }
+
+    // What is kept of the pass.
+    fn keep(&self, alloc: Global) -> Result<KeptPass, AllocError>
+        ensures rows { IfOk result (λ pass. AreRows self.now.test.board self.now.test.plan self.now.number pass.rows) }
+        ensures drivers { IfOk result (λ pass. AreDrivers self.now.test.plan (controls_of self.now) pass.drivers) }
+    {
+        let rows = self.new_rows(alloc)?;
+        let drivers = self.drivers_of(alloc, net_count(self.board()))?;
+        Ok(KeptPass {
+            rows: Items::of(rows),
+            drivers: Items::of(drivers),
+        })
+    }
 }
 
 // About how many bytes are kept of a pass, with what each list and each row takes besides.
@@ -151,22 +120,41 @@ pub fn kept_passes(
     ensures rows { IfOk result (λ kept. KeepRows board.now plan.now kept.items) }
     ensures drivers { IfOk result (λ kept. KeepDrivers plan.now kept.items) }
 {
+    let test = BoardTest::of(board, plan, &[]);
     let mut kept = Vec::new(alloc);
     for x in 0..kept_count(board, plan, logs) {
-        kept.push(kept_pass(alloc, board, plan, x)?)?;
+        let pass = test.pass(x);
+        kept.push(pass.keep(alloc)?)?;
     }
     Ok(kept)
 }
 
-/// The driver that pass `x` enables on a net, where that is kept.
-pub fn kept_driver(kept: &[KeptPass], x: u32, net: u32) -> Option<Option<EnabledDriver>>
-    ensures { result ≡ kept_driver kept.now x net }
+/// The rows that are kept of pass `x`.
+pub fn kept_rows(kept: &[KeptPass], x: u32) -> &[ComparedRow]
+    ensures { result.now ≡ kept_rows kept.now x }
 {
     match kept.get(x as usize) {
+        None => &[],
+        Some(pass) => pass.rows.as_slice(),
+    }
+}
+
+/// The drivers that are kept of pass `x`, net by net.
+pub fn kept_drivers(kept: &[KeptPass], x: u32) -> &[Option<EnabledDriver>]
+    ensures { result.now ≡ kept_drivers kept.now x }
+{
+    match kept.get(x as usize) {
+        None => &[],
+        Some(pass) => pass.drivers.as_slice(),
+    }
+}
+
+/// The driver that is kept of a net, where there is one: that of the pass, if it enables any.
+pub fn kept_driver(kept: &[Option<EnabledDriver>], net: u32) -> Option<Option<EnabledDriver>>
+    ensures { result ≡ slice_get kept.now net }
+{
+    match kept.get(net as usize) {
         None => None,
-        Some(pass) => match pass.drivers.as_slice().get(net as usize) {
-            None => None,
-            Some(driver) => Some(*driver),
-        },
+        Some(driver) => Some(*driver),
     }
 }

@@ -14,6 +14,7 @@ mod kept;
 pub mod law;
 mod marks;
 mod matching;
+mod passes;
 mod suspects;
 mod tested;
 mod universe;

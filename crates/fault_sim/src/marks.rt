@@ -3,11 +3,12 @@ ghost use Rattle.std.specs.Prelude.{◌≡◌, ℕ, ◌<◌, length, slice_index
 ghost use Rattle.std.specs.Int.Bits.{bit_and, bit_xor};
 ghost use Rattle.board_defs.specs.Pins.{data_bits};
 ghost use Rattle.bt_bits.specs.Hex.{digit_count};
-ghost use Rattle.fault_sim.specs.Kept.{IsLogged, IsRow};
+ghost use Rattle.fault_sim.specs.Kept.{IsRow};
 ghost use Rattle.fault_sim.specs.inner.Marks.{HaveRoom, MarkRow, MarkRows, AreMarks, are_marked};
 
 use crate::board_test::LoggedTest;
-use crate::kept::{ComparedRow, empty_row, fill_row};
+use crate::kept::{ComparedRow, empty_row};
+use crate::passes::LoggedPass;
 use scan_planner::ReaderCell;
 use std::alloc::{AllocError, Global};
 
@@ -23,71 +24,75 @@ fn mark_digits(marks: &mut [u8], log: &[u8], expected: &[u8], compared: &[u8])
     }
 }
 
-// The same for row `j` of pass `x`, of which the test expects and compares this.
-fn mark_by(marks: &mut [u8], logged: &LoggedTest<'_>, x: u32, j: u32, row: &ComparedRow)
-    requires logged { IsLogged logged.now }
-    requires pass { x < length logged.now.test.plan.now.passes }
-    requires row { j < logged.now.test.plan.now.width }
-    requires count { length marks.old ≡ digit_count (data_bits logged.now.test.board.now) }
-    requires compared { IsRow logged.now.test.board.now logged.now.test.plan.now x j row.now }
-    ensures { MarkRow logged.now.test.board.now logged.now.test.plan.now logged.now.log.now x j marks.old marks.new }
-{
-    let number = u64::from(x) * u64::from(logged.test.plan.width()) + u64::from(j);
-    mark_digits(
-        marks,
-        logged.log.digits(number),
-        row.tdo.digits(),
-        row.mask.digits(),
-    );
-}
+impl<'a> LoggedPass<'a> {
+    // The same for row `j` of the pass, of which the test expects and compares this.
+    fn mark_by(&self, marks: &mut [u8], j: u32, row: &ComparedRow)
+        requires row { j < self.now.logged.test.plan.width }
+        requires count { length marks.old ≡ digit_count (data_bits self.now.logged.test.board) }
+        requires compared { IsRow self.now.logged.test.board self.now.logged.test.plan self.now.number j row.now }
+        ensures { MarkRow self.now.logged.test.board self.now.logged.test.plan self.now.logged.log self.now.number j marks.old marks.new }
+    {
+        let number = self.pass.first_row() + u64::from(j);
+        mark_digits(
+            marks,
+            self.log.digits(number),
+            row.tdo.digits(),
+            row.mask.digits(),
+        );
+    }
 
-// The same where the row is filled in if it is not kept.
-fn mark_row(marks: &mut [u8], spare: &mut ComparedRow, logged: &LoggedTest<'_>, x: u32, j: u32)
-    requires logged { IsLogged logged.now }
-    requires pass { x < length logged.now.test.plan.now.passes }
-    requires row { j < logged.now.test.plan.now.width }
-    requires count { length marks.old ≡ digit_count (data_bits logged.now.test.board.now) }
-    requires room { HaveRoom logged.now.test.board.now spare.old }
-    ensures marks { MarkRow logged.now.test.board.now logged.now.test.plan.now logged.now.log.now x j marks.old marks.new }
-    ensures room { HaveRoom logged.now.test.board.now spare.new }
-{
-    let test = &logged.test;
-    match test.row(x, j) {
-        Some(row) => mark_by(marks, logged, x, j, row),
-        None => {
-            fill_row(test.board, test.plan, x, j, spare);
-            mark_by(marks, logged, x, j, spare);
+    // The same where the row is filled in if it is not kept.
+    fn mark_row(&self, marks: &mut [u8], spare: &mut ComparedRow, j: u32)
+        requires row { j < self.now.logged.test.plan.width }
+        requires count { length marks.old ≡ digit_count (data_bits self.now.logged.test.board) }
+        requires room { HaveRoom self.now.logged.test.board spare.old }
+        ensures marks { MarkRow self.now.logged.test.board self.now.logged.test.plan self.now.logged.log self.now.number j marks.old marks.new }
+        ensures room { HaveRoom self.now.logged.test.board spare.new }
+    {
+        match self.pass.kept_rows().get(j as usize) {
+            Some(row) => self.mark_by(marks, j, row),
+            None => {
+                self.pass.fill_row(j, spare);
+                self.mark_by(marks, j, spare);
+            }
         }
     }
-}
 
-fn mark_pass(marks: &mut [u8], spare: &mut ComparedRow, logged: &LoggedTest<'_>, x: u32)
-    requires logged { IsLogged logged.now }
-    requires pass { x < length logged.now.test.plan.now.passes }
-    requires count { length marks.old ≡ digit_count (data_bits logged.now.test.board.now) }
-    requires room { HaveRoom logged.now.test.board.now spare.old }
-    ensures marks { MarkRows logged.now.test.board.now logged.now.test.plan.now logged.now.log.now x logged.now.test.plan.now.width marks.old marks.new }
-    ensures room { HaveRoom logged.now.test.board.now spare.new }
-{
-    for j in 0..logged.test.plan.width() {
-        mark_row(marks, spare, logged, x, j);
+    // The same for each row of the pass.
+    fn mark(&self, marks: &mut [u8], spare: &mut ComparedRow)
+        requires count { length marks.old ≡ digit_count (data_bits self.now.logged.test.board) }
+        requires room { HaveRoom self.now.logged.test.board spare.old }
+        ensures marks { MarkRows self.now.logged.test.board self.now.logged.test.plan self.now.logged.log self.now.number self.now.logged.test.plan.width marks.old marks.new }
+        ensures room { HaveRoom self.now.logged.test.board spare.new }
+    {
+        for j in 0..self.width() {
+            self.mark_row(marks, spare, j);
+        }
+    }
+
+    fn width(&self) -> u32
+        ensures { result ≡ self.now.logged.test.plan.width }
+    {
+        self.pass.plan().width()
     }
 }
 
-/// Marks of the digits of a log's rows, which are gone through once: a digit that is 0 here has in each row the expected bits wherever
-/// the row is compared.
-pub fn marks_of(alloc: Global, logged: &LoggedTest<'_>) -> Result<Vec<u8>, AllocError>
-    requires { IsLogged logged.now }
-    ensures { IfOk result (λ marks. AreMarks logged.now.test.board.now logged.now.test.plan.now logged.now.log.now (length logged.now.test.plan.now.passes) marks.items) }
-{
-    let test = &logged.test;
-    let mut spare = empty_row(alloc, test.board)?;
-    let count = (test.board.dr_bits() as usize + 3) / 4;
-    let mut marks = vec![in alloc; 0u8; count]?;
-    for x in 0..test.plan.pass_count() {
-        mark_pass(&mut marks, &mut spare, logged, x);
+impl<'a> LoggedTest<'a> {
+    /// Marks of the digits of the log's rows, which are gone through once: a digit that is 0 here has in each row the expected bits wherever
+    /// the row is compared.
+    pub(crate) fn marks(&self, alloc: Global) -> Result<Vec<u8>, AllocError>
+        ensures { IfOk result (λ marks. AreMarks self.now.test.board self.now.test.plan self.now.log (length self.now.test.plan.passes) marks.items) }
+    {
+        let board = self.board();
+        let mut spare = empty_row(alloc, board)?;
+        let count = (board.dr_bits() as usize + 3) / 4;
+        let mut marks = vec![in alloc; 0u8; count]?;
+        for x in 0..self.pass_count() {
+            let pass = self.pass(x);
+            pass.mark(&mut marks, &mut spare);
+        }
+        Ok(marks)
     }
-    Ok(marks)
 }
 
 fn mark_at(marks: &[u8], place: u32) -> u8

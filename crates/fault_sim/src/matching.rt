@@ -8,11 +8,9 @@ ghost use Rattle.scan_planner.specs.Plans.{IsPlanOf};
 ghost use Rattle.tap_defs.specs.board.BoardScans.{svf_row_scans};
 ghost use Rattle.tap_defs.specs.board.Explaining.{Explains, IsExpected};
 ghost use Rattle.fault_sim.specs.inner.Effects.{first_net, second_net};
-ghost use Rattle.fault_sim.specs.Kept.{IsLogged};
 ghost use Rattle.fault_sim.specs.Suspects.{AreDiffering};
 
-use crate::board_test::{BoardTest, LoggedTest};
-use crate::fits::{shows_all, shows_both};
+use crate::board_test::LoggedTest;
 use board_defs::{Board, Single, law};
 use response_log::Log;
 use scan_planner::Plan;
@@ -31,12 +29,7 @@ pub fn is_pass(board: &Board, plan: &Plan, log: &Log) -> bool
     law::passes_kept();
     board_law::rows_compared();
     board_law::expected_bits();
-    let test = BoardTest {
-        board,
-        plan,
-        kept: &[],
-    };
-    shows_all(&LoggedTest { test, log }, None)
+    LoggedTest::of(board, plan, log).shows_all(None)
 }
 
 // The nets of a fault; a stuck net and an open pin have one.
@@ -75,16 +68,11 @@ pub fn matches(board: &Board, plan: &Plan, fault: Single, log: &Log) -> bool
     law::passes_kept();
     board_law::rows_compared();
     board_law::singles_respond();
-    let test = BoardTest {
-        board,
-        plan,
-        kept: &[],
-    };
-    let logged = LoggedTest { test, log };
-    if !shows_both(&logged, Some(fault), first_net(fault), second_net(fault)) {
+    let logged = LoggedTest::of(board, plan, log);
+    if !logged.shows_both(Some(fault), first_net(fault), second_net(fault)) {
         return false;
     }
-    shows_all(&logged, Some(fault))
+    logged.shows_all(Some(fault))
 }
 
 // Whether each of these nets is one of two.
@@ -104,24 +92,20 @@ pub fn matches_by(board: &Board, plan: &Plan, fault: Single, log: &Log, nets: &[
     requires differing { AreDiffering board.now plan.now log.now nets.now }
     ensures { Decides result (Explains board.now fault log.now) }
 {
-    let test = BoardTest {
-        board,
-        plan,
-        kept: &[],
-    };
-    LoggedTest { test, log }.matches_by(fault, nets)
+    LoggedTest::of(board, plan, log).matches_by(fault, nets)
 }
 
 impl<'a> LoggedTest<'a> {
     /// Whether a single fault of the board explains the log, as `matches_by` tells it.
     pub fn matches_by(&self, fault: Single, nets: &[u32]) -> bool
-        requires logged { IsLogged self.now }
-        requires passes { self.now.test.plan.now.passes ≡ passes_of self.now.test.board.now }
-        requires fault { IsSingle self.now.test.board.now fault }
-        requires differing { AreDiffering self.now.test.board.now self.now.test.plan.now self.now.log.now nets.now }
-        ensures { Decides result (Explains self.now.test.board.now fault self.now.log.now) }
+        requires passes { self.now.test.plan.passes ≡ passes_of self.now.test.board }
+        requires fault { IsSingle self.now.test.board fault }
+        requires differing { AreDiffering self.now.test.board self.now.test.plan self.now.log nets.now }
+        ensures { Decides result (Explains self.now.test.board fault self.now.log) }
     {
-        let _rules = self.test.board.raw();
+        let _plan = self.plan();
+        let _log = self.log();
+        let _rules = self.board().raw();
         law::passes_kept();
         board_law::rows_compared();
         board_law::singles_respond();
@@ -130,6 +114,6 @@ impl<'a> LoggedTest<'a> {
         if !are_of(nets, first, second) {
             return false;
         }
-        shows_both(self, Some(fault), first, second)
+        self.shows_both(Some(fault), first, second)
     }
 }

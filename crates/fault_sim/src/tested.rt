@@ -1,14 +1,14 @@
 // The nets and the pins that the passes of a plan test.
-ghost use Rattle.std.specs.Prelude.{◌≡◌, ◌<◌, ◌≤◌, ◌++◌, ◌∷◌, ◌&&◌, [], cond, length, fold, slice_index_or, IfOk, OnOk};
+ghost use Rattle.std.specs.Prelude.{◌≡◌, ◌≤◌, ◌++◌, ◌∷◌, [], cond, length, fold, IfOk, OnOk};
 ghost use Rattle.std.specs.List.{list_all};
 ghost use Rattle.board_defs.specs.Limits.{most_pins};
 ghost use Rattle.fault_sim.specs.Kept.{KeepDrivers};
-ghost use Rattle.fault_sim.specs.inner.Tested.{coded_nets, observes_in, paired_in, marked_readers, marked_by, marked_in, tested_flags, pin_where, flagged_pins, pin_count, net_pins, all_pins};
+ghost use Rattle.fault_sim.specs.inner.Tested.{coded_nets, paired_in, marked_readers, marked_by, marked_in, tested_flags, pin_where, flagged_pins, pin_count, net_pins, all_pins};
 
-use crate::board_test::driver_at;
-use crate::feed::{driver_in, is_read_beside, observes};
+use crate::feed::{driver_in, is_read_beside};
 use crate::fits::net_count;
 use crate::kept::KeptPass;
+use crate::passes::PassDrivers;
 use board_defs::{Board, PinRef, Setting};
 use lists::{is_set, mark};
 use scan_planner::{NetDriver, Plan, ReaderCell};
@@ -35,30 +35,14 @@ pub fn coded_nets(alloc: Global, plan: &Plan, count: u32) -> Result<Vec<u32>, Al
     Ok(nets)
 }
 
-// Whether pass `x` observes a net.
-fn observes_in(plan: &Plan, kept: &[KeptPass], x: u32, net: u32) -> bool
-    requires kept { KeepDrivers plan.now kept.now }
-    requires pass { x < length plan.now.passes }
-    ensures { result ≡ observes_in plan.now (slice_index_or plan.now.passes x []) net }
-{
-    observes(driver_at(plan, kept, x, net))
-}
-
-fn observes_both(plan: &Plan, kept: &[KeptPass], x: u32, a: u32, b: u32) -> bool
-    requires kept { KeepDrivers plan.now kept.now }
-    requires pass { x < length plan.now.passes }
-    ensures { result ≡ (observes_in plan.now (slice_index_or plan.now.passes x []) a && observes_in plan.now (slice_index_or plan.now.passes x []) b) }
-{
-    observes_in(plan, kept, x, a) && observes_in(plan, kept, x, b)
-}
-
 /// Whether some pass observes both nets, by what is kept of the passes.
 pub fn paired_in(plan: &Plan, kept: &[KeptPass], a: u32, b: u32) -> bool
     requires { KeepDrivers plan.now kept.now }
     ensures { result ≡ paired_in plan.now a b }
 {
     for x in 0..plan.pass_count() {
-        if observes_both(plan, kept, x, a, b) {
+        let pass = PassDrivers::of(plan, kept, x);
+        if pass.observes_both(a, b) {
             return true;
         }
     }

@@ -7,7 +7,7 @@ ghost use Rattle.board_defs.specs.Limits.{most_nets};
 ghost use Rattle.board_defs.specs.Faults.{stuck_faults, open_faults, kind_rank};
 ghost use Rattle.board_defs.specs.Passes.{passes_of, pairs_within};
 ghost use Rattle.scan_planner.specs.Plans.{IsPlanOf};
-ghost use Rattle.fault_sim.specs.Kept.{IsBoardTest, KeepDrivers};
+ghost use Rattle.fault_sim.specs.Kept.{KeepDrivers};
 ghost use Rattle.fault_sim.specs.Places.{IsUniverse, place_count, number_places, listed_at, listed_places, places_of};
 ghost use Rattle.fault_sim.specs.Starts.{AreStarts, pairs_before};
 
@@ -243,14 +243,23 @@ impl Universe {
 
     /// The same by what is kept of the test, which is that of the universe.
     pub fn at_in(&self, test: &BoardTest<'_>, i: u64) -> Option<Single>
-        requires test { IsBoardTest test.now }
-        requires passes { test.now.plan.now.passes ≡ passes_of test.now.board.now }
-        requires universe { IsUniverse test.now.board.now self.now }
+        requires passes { test.now.plan.passes ≡ passes_of test.now.board }
+        requires universe { IsUniverse test.now.board self.now }
         requires place { i < place_count self.now }
-        ensures { slice_get (places_of test.now.board.now) i ≡ Some result }
+        ensures { slice_get (places_of test.now.board) i ≡ Some result }
     {
-        let _rules = test.board.raw();
+        let _plan = test.plan();
+        let _rules = test.board().raw();
         law::passes_kept();
-        place_at(self.lists(), test.plan, test.kept, i)
+        test.place_at(self.lists(), i)
+    }
+}
+
+impl<'a> BoardTest<'a> {
+    // The fault at place `i` of these lists, where it has one.
+    fn place_at(&self, lists: &FaultLists, i: u64) -> Option<Single>
+        ensures { result ≡ listed_at (listed_places self.now.plan lists.now) i }
+    {
+        place_at(lists, self.plan, self.kept, i)
     }
 }

@@ -1,7 +1,6 @@
 -- How the verdicts on the blocks of a batch are found in pieces.
 use Rattle.std.specs.Prelude.{◌≡◌, ℕ, List, All}
 use Rattle.board_defs.specs.Passes.{passes_of}
-use Rattle.fault_sim.specs.Kept.{IsBoardTest}
 use Rattle.fault_sim.specs.Places.{IsUniverse}
 use Rattle.diagnoser.specs.Diagnosis.{IsNamed}
 use Rattle.side_by_side.specs.Pieces.{items_between}
@@ -12,14 +11,13 @@ use Rattle.batch_diag.specs.Verdicts.{EachPair, IsVerdict, AreLogs}
 
 -- logs of the test that the plan makes of the board's passes
 pub record IsBatch (b : Batch) : Type 0 where
-  pub test : IsBoardTest b.test
-  pub passes : b.test.plan.now.passes ≡ passes_of b.test.board.now
-  pub universe : IsUniverse b.test.board.now b.universe.now
-  pub logs : AreLogs b.test.board.now b.test.plan.now b.blocks.now
+  pub passes : b.test.now.plan.passes ≡ passes_of b.test.now.board
+  pub universe : IsUniverse b.test.now.board b.universe.now
+  pub logs : AreLogs b.test.now.board b.test.now.plan b.blocks.now
 
 -- the verdict on a block, whose faults name nets and pins of the board
 abbrev pub Judges : Batch → Block → Verdict → Type 0
-Judges b block verdict = IsVerdict b.test.board.now block verdict × All (IsNamed b.test.board.now) verdict.faults
+Judges b block verdict = IsVerdict b.test.now.board block verdict × All (IsNamed b.test.now.board) verdict.faults
 
 -- the verdicts on the blocks from one up to but without another
 abbrev pub Judged : Batch → ℕ → ℕ → List Verdict → Type 0

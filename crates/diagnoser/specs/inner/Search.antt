@@ -3,7 +3,6 @@ use Rattle.std.specs.Prelude.{◌≡◌, ℕ, List, filter_map}
 use Rattle.board_defs.specs.declared.fault.Single.{Single}
 use Rattle.board_defs.specs.Passes.{passes_of}
 use Rattle.tap_defs.specs.board.Explaining.{Explains}
-use Rattle.fault_sim.specs.Kept.{IsLogged}
 use Rattle.fault_sim.specs.Places.{IsUniverse, fault_at}
 use Rattle.fault_sim.specs.Suspects.{AreDiffering, AreSuspects}
 use Rattle.side_by_side.specs.Pieces.{items_between}
@@ -12,16 +11,15 @@ use Rattle.fault_sim.specs.Diagnosis.{Picks}
 
 -- the candidates are the suspects for a log of the test that the plan makes of the board's passes
 pub record IsSearch (s : Search) : Type 0 where
-  pub logged : IsLogged s.logged
-  pub passes : s.logged.test.plan.now.passes ≡ passes_of s.logged.test.board.now
-  pub differing : AreDiffering s.logged.test.board.now s.logged.test.plan.now s.logged.log.now s.nets.now
-  pub universe : IsUniverse s.logged.test.board.now s.universe.now
-  pub suspects : AreSuspects s.logged.test.board.now s.logged.test.plan.now s.universe.now s.logged.log.now s.suspects.now
+  pub passes : s.logged.now.test.plan.passes ≡ passes_of s.logged.now.test.board
+  pub differing : AreDiffering s.logged.now.test.board s.logged.now.test.plan s.logged.now.log s.nets.now
+  pub universe : IsUniverse s.logged.now.test.board s.universe.now
+  pub suspects : AreSuspects s.logged.now.test.board s.logged.now.test.plan s.universe.now s.logged.now.log s.suspects.now
 
 -- the faults at the candidates from one up to but without another
 abbrev pub faults_between : Search → ℕ → ℕ → List Single
-faults_between s from to = filter_map (fault_at s.logged.test.board.now) (items_between s.suspects.now from to)
+faults_between s from to = filter_map (fault_at s.logged.now.test.board) (items_between s.suspects.now from to)
 
 -- those of them that explain the log, in order
 abbrev pub Found : Search → ℕ → ℕ → List Single → Type 0
-Found s from to faults = Picks (λ single. Explains s.logged.test.board.now single s.logged.log.now) (faults_between s from to) faults
+Found s from to faults = Picks (λ single. Explains s.logged.now.test.board single s.logged.now.log) (faults_between s from to) faults

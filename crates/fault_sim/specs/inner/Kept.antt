@@ -1,14 +1,26 @@
 -- What serves the proofs alone. What is found in the kept passes of a test.
-use Rattle.std.specs.Prelude.{ℕ, Bool, true, false, cond, List, Option, Some, None, option_and_then, slice_get}
+use Rattle.std.specs.Prelude.{ℕ, Bool, true, false, cond, List, [], Option, Some, None, slice_get}
 use Rattle.fault_sim.specs.declared.feed.EnabledDriver.{EnabledDriver}
 use Rattle.fault_sim.specs.declared.feed.Feed.{Feed}
 use Rattle.fault_sim.specs.declared.feed.Source.{Source}
 use Rattle.fault_sim.specs.declared.feed.Source.TheVariants.{Code, Fixed}
+use Rattle.fault_sim.specs.declared.kept.ComparedRow.{ComparedRow}
 use Rattle.fault_sim.specs.declared.kept.KeptPass.{KeptPass}
 
--- the driver that is kept of a net in pass x
-abbrev pub kept_driver : List KeptPass → ℕ → ℕ → Option (Option EnabledDriver)
-kept_driver kept x n = option_and_then (λ pass. slice_get pass.drivers n) (slice_get kept x)
+-- the rows that are kept of pass x, and its drivers
+abbrev pub rows_of : Option KeptPass → List ComparedRow
+rows_of None = []
+rows_of (Some pass) = pass.rows
+
+abbrev pub kept_rows : List KeptPass → ℕ → List ComparedRow
+kept_rows kept x = rows_of (slice_get kept x)
+
+abbrev pub drivers_of : Option KeptPass → List (Option EnabledDriver)
+drivers_of None = []
+drivers_of (Some pass) = pass.drivers
+
+abbrev pub kept_drivers : List KeptPass → ℕ → List (Option EnabledDriver)
+kept_drivers kept x = drivers_of (slice_get kept x)
 
 -- what an enabled driver gives its net, which has this pull
 abbrev pub feed_of : Option Bool → EnabledDriver → Feed

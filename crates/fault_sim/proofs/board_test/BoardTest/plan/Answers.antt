@@ -1,0 +1,5 @@
+use Rattle.std.proofs.Common.{refl}
+use Rattle.fault_sim.proofs.board_test.BoardTest.plan.Goals as goal
+
+pub returns : goal.returns
+returns c = rw (← c.self.view_is) (record { value = refl; plan = c.self.invariant.plan_is })

@@ -1,0 +1,16 @@
+use Rattle.std.proofs.Common.{Decides, sym, subst}
+use Rattle.board_defs.specs.Faults.{IsSingle}
+use Rattle.board_defs.specs.Passes.{passes_of}
+use Rattle.tap_defs.specs.board.Explaining.{Explains}
+use Rattle.fault_sim.specs.Planned.{LoggedBoard}
+use Rattle.fault_sim.specs.Suspects.{AreDiffering}
+use Rattle.fault_sim.proofs.matching.matches_by.Goals as goal
+
+pub of-requires-clause-log : goal.of-requires-clause-log
+of-requires-clause-log c = record { rows = c.requires.rows; bits = c.requires.bits }
+
+pub matches_by-requires : goal.matches_by-requires
+matches_by-requires c = rw c.of.ensures (record { passes = c.requires.passes; fault = c.requires.fault; differing = c.requires.differing })
+
+pub returns : goal.returns
+returns c = rw c.of.ensures at c.matches_by.ensures

@@ -1,0 +1,190 @@
+// The passes of a board's test, and of a log of it.
+ghost use Rattle.std.specs.Prelude.{◌≡◌, ◌*◌, ◌<◌, ◌^◌, ◌&&◌, [], length, slice_index_or};
+ghost use Rattle.scan_planner.specs.Plans.{IsPlanOf};
+ghost use Rattle.fault_sim.specs.Effects.{driver_in, net_feed, place_of_driver, pull_in};
+ghost use Rattle.fault_sim.specs.Kept.{AreRows, IsRow, KeepDrivers, enabled_driver};
+ghost use Rattle.fault_sim.specs.Planned.{controls_of, plan_pass};
+ghost use Rattle.fault_sim.specs.inner.Marks.{HaveRoom};
+ghost use Rattle.fault_sim.specs.inner.Tested.{observes_in};
+
+use crate::feed::{EnabledDriver, Feed, enabled_driver, feed_of, observes, pull_in};
+use crate::kept::{ComparedRow, KeptPass, kept_driver, kept_drivers};
+use board_defs::{Board, Setting};
+use response_log::Log;
+use scan_planner::Plan;
+use std::marker::Model;
+
+/// A pass of a plan, with what is kept of the drivers that it enables. Seen as the plan and the controls that the pass holds.
+#[derive(Drop)]
+pub struct PassDrivers<'a> {
+    plan: &'a Plan,
+    pass: &'a Setting,
+    kept: &'a [Option<EnabledDriver>],
+}
+
+impl<'a> Model for PassDrivers<'a> {
+    ghost use Rattle.fault_sim.specs.Kept.{AreDrivers};
+    ghost use Rattle.fault_sim.specs.Planned.{PlanPass, plan_pass};
+
+    ghost Value = { PlanPass };
+
+    ghost view = { λ a. plan_pass a.plan.now a.pass.now };
+
+    ghost invariant = { λ a. AreDrivers a.plan.now a.pass.now a.kept.now };
+}
+
+impl<'a> PassDrivers<'a> {
+    /// Pass `x` of a plan, by what is kept of its passes.
+    pub fn of(plan: &'a Plan, kept: &'a [KeptPass], x: u32) -> PassDrivers<'a>
+        requires kept { KeepDrivers plan.now kept.now }
+        requires pass { x < length plan.now.passes }
+        ensures { result ≡ plan_pass plan.now (slice_index_or plan.now.passes x []) }
+    {
+        PassDrivers {
+            plan,
+            pass: plan.pass(x),
+            kept: kept_drivers(kept, x),
+        }
+    }
+
+    /// The driver that the pass enables on a net.
+    fn on(&self, net: u32) -> Option<EnabledDriver>
+        ensures { result ≡ enabled_driver self.now.plan self.now.pass net }
+    {
+        match kept_driver(self.kept, net) {
+            Some(driver) => driver,
+            None => enabled_driver(self.plan, self.pass, net),
+        }
+    }
+
+    // Whether the pass observes a net.
+    fn observes(&self, net: u32) -> bool
+        ensures { result ≡ observes_in self.now.plan self.now.pass net }
+    {
+        observes(self.on(net))
+    }
+
+    /// Whether the pass observes both nets.
+    pub fn observes_both(&self, a: u32, b: u32) -> bool
+        ensures { result ≡ (observes_in self.now.plan self.now.pass a && observes_in self.now.plan self.now.pass b) }
+    {
+        self.observes(a) && self.observes(b)
+    }
+}
+
+/// A pass of a board's test, by what is kept of it or else by the plan. Seen as the test and the number of the pass.
+#[derive(Drop)]
+pub struct TestPass<'a> {
+    pub(crate) board: &'a Board,
+    pub(crate) plan: &'a Plan,
+    pub(crate) number: u32,
+    pub(crate) drivers: PassDrivers<'a>,
+    pub(crate) rows: &'a [ComparedRow],
+}
+
+impl<'a> Model for TestPass<'a> {
+    ghost use Rattle.fault_sim.specs.Kept.{IsTestPass};
+    ghost use Rattle.fault_sim.specs.Planned.{PlannedPass, planned_board, planned_pass};
+
+    ghost Value = { PlannedPass };
+
+    ghost view = { λ a. planned_pass (planned_board a.board.now a.plan.now) a.number };
+
+    ghost invariant = { λ a. IsTestPass a.board.now a.plan.now a.number a.drivers a.rows.now };
+}
+
+impl<'a> TestPass<'a> {
+    /// The board.
+    pub fn board(&self) -> &'a Board
+        ensures { result.now ≡ self.now.test.board }
+    {
+        self.board
+    }
+
+    /// The plan.
+    pub fn plan(&self) -> &'a Plan
+        ensures value { result.now ≡ self.now.test.plan }
+        ensures plan { IsPlanOf self.now.test.board self.now.test.plan }
+    {
+        self.plan
+    }
+
+    /// The number of the first row of the pass in a log of the test.
+    pub fn first_row(&self) -> u64
+        ensures value { result ≡ self.now.number * self.now.test.plan.width }
+        ensures pass { self.now.number < length self.now.test.plan.passes }
+        ensures few { result < 2 ^ 40 }
+    {
+        u64::from(self.number) * u64::from(self.plan.width())
+    }
+
+    /// The driver that the pass enables on a net.
+    pub fn driver(&self, net: u32) -> Option<EnabledDriver>
+        ensures { result ≡ enabled_driver self.now.test.plan (controls_of self.now) net }
+    {
+        self.drivers.on(net)
+    }
+
+    /// The place of the pin of that driver.
+    pub fn driver_place(&self, net: u32) -> Option<u32>
+        ensures { result ≡ place_of_driver (driver_in self.now.test.plan (controls_of self.now) net) }
+    {
+        match self.driver(net) {
+            None => None,
+            Some(driver) => Some(driver.place),
+        }
+    }
+
+    /// The value that a net is pulled to.
+    pub fn pull(&self, net: u32) -> Option<bool>
+        ensures { result ≡ pull_in self.now.test.board net }
+    {
+        pull_in(self.board, net)
+    }
+
+    /// How the pass drives a net.
+    pub fn feed(&self, net: u32) -> Option<Feed>
+        ensures { result ≡ net_feed self.now.test.board self.now.test.plan (controls_of self.now) net }
+    {
+        match self.driver(net) {
+            None => None,
+            Some(driver) => Some(feed_of(driver, self.pull(net))),
+        }
+    }
+
+    /// The rows of the pass that are kept, which are its first ones.
+    pub fn kept_rows(&self) -> &'a [ComparedRow]
+        ensures { AreRows self.now.test.board self.now.test.plan self.now.number result.now }
+    {
+        self.rows
+    }
+
+    /// Fills a row with what the test expects and compares of row `j` of the pass.
+    pub fn fill_row(&self, j: u32, row: &mut ComparedRow)
+        requires row { j < self.now.test.plan.width }
+        requires room { HaveRoom self.now.test.board row.old }
+        ensures row { IsRow self.now.test.board self.now.test.plan self.now.number j row.new }
+        ensures room { HaveRoom self.now.test.board row.new }
+    {
+        self.plan
+            .fill_compared(self.board, self.number, j, &mut row.tdo, &mut row.mask);
+    }
+}
+
+/// A pass of a log with its test. Seen as both and the number of the pass.
+#[derive(Drop)]
+pub struct LoggedPass<'a> {
+    pub(crate) pass: TestPass<'a>,
+    pub(crate) log: &'a Log,
+}
+
+impl<'a> Model for LoggedPass<'a> {
+    ghost use Rattle.fault_sim.specs.Kept.{IsLogOf};
+    ghost use Rattle.fault_sim.specs.Planned.{PassOfLog, logged_board, pass_of_log};
+
+    ghost Value = { PassOfLog };
+
+    ghost view = { λ a. pass_of_log (logged_board a.pass.test a.log.now) a.pass.number };
+
+    ghost invariant = { λ a. IsLogOf a.pass.test a.log.now };
+}
