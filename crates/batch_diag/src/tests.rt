@@ -109,7 +109,11 @@ fn batches(rt: HostRuntime) -> Result<(), Fail> {
     ];
     for (text, rows, wanted) in cases {
         assert!(rt; text.len() < 1000);
-        assert_eq!(rt; answer(&rt, rt.alloc(), text, rows, wanted)?.as_str(), wanted, "{text:?}");
+        assert_eq!(rt;
+            answer(&rt, rt.alloc(), text, rows, wanted)?.as_str(),
+            wanted,
+            "{text:?}"
+        );
     }
     Ok(())
 }
@@ -133,7 +137,11 @@ fn lines_that_can_not_stand(rt: HostRuntime) -> Result<(), Fail> {
     ];
     for (text, wanted) in cases {
         assert!(rt; text.len() < 1000);
-        assert_eq!(rt; answer(&rt, rt.alloc(), text, 2, wanted)?.as_str(), wanted, "{text:?}");
+        assert_eq!(rt;
+            answer(&rt, rt.alloc(), text, 2, wanted)?.as_str(),
+            wanted,
+            "{text:?}"
+        );
     }
     Ok(())
 }
@@ -154,6 +162,9 @@ fn ids_have_up_to_255_bytes(rt: HostRuntime) -> Result<(), Fail> {
     let longer = title(rt.alloc(), 256)?;
     assert!(rt; longer.len() < 1000);
     let wanted = "line 1: board not allowed";
-    assert_eq!(rt; answer(&rt, rt.alloc(), &longer, 0, wanted)?.as_str(), wanted);
+    assert_eq!(rt;
+        answer(&rt, rt.alloc(), &longer, 0, wanted)?.as_str(),
+        wanted
+    );
     Ok(())
 }

@@ -64,7 +64,6 @@ pub struct ChainFile {
 impl Model for ChainFile {
     ghost use Rattle.std.specs.Prelude.{List};
     ghost use Rattle.board_files.specs.declared.chain_file.ChainLine.{ChainLine};
-
     ghost use Rattle.board_files.specs.Files.{IsChainFile};
 
     ghost Value = { List ChainLine };

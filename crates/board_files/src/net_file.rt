@@ -37,7 +37,6 @@ pub struct NetFile {
 impl Model for NetFile {
     ghost use Rattle.std.specs.Prelude.{List};
     ghost use Rattle.board_files.specs.declared.net_file.NetLine.{NetLine};
-
     ghost use Rattle.board_files.specs.Files.{IsNetFile};
 
     ghost Value = { List NetLine };
