@@ -4,4 +4,5 @@ pub mod ReaderLemmas
 pub mod ControlLemmas
 pub mod FillLemmas
 pub mod NextLemmas
+pub mod NumberedLemmas
 mod Samples

@@ -1,6 +1,7 @@
 -- The rows of a pass that are kept side by side.
-use Rattle.std.specs.Prelude.{◌≡◌, ℕ, suc, ◌<◌, ◌≤◌, Bool, true, false, List, length, replicate, IfSome}
-use Rattle.bt_bits.specs.Stacks.{stacked}
+use Rattle.std.specs.Prelude.{◌≡◌, ℕ, suc, ◌<◌, ◌≤◌, Bool, true, false, List, Some, length, replicate, slice_get, IfSome}
+use Rattle.bt_bits.specs.Rows.{BitRow}
+use Rattle.bt_bits.specs.Stacks.{Stack, stacked}
 use Rattle.board_defs.specs.declared.board.RawBoard.{RawBoard}
 use Rattle.board_defs.specs.Pins.{data_bits}
 use Rattle.tap_defs.specs.chain.Scan.{joined, mask_bits, tdi_bits, tdo_bits}
@@ -8,6 +9,7 @@ use Rattle.tap_defs.specs.board.BoardScans.{row_bits}
 use Rattle.plan_tables.specs.declared.tables.PlanTables.{PlanTables}
 use Rattle.plan_tables.specs.declared.tables.DriverCell.{DriverCell}
 use Rattle.plan_tables.specs.Assigned.{assigned, driver_bit, set_compared}
+use Rattle.scan_planner.specs.declared.common_rows.CommonRows.{CommonRows}
 use Rattle.scan_planner.specs.declared.pass_rows.PassRows.{PassRows}
 use Rattle.scan_planner.specs.declared.pass_rows.StackedRows.{StackedRows}
 use Rattle.scan_planner.specs.Plans.{scan_of_pass}
@@ -32,11 +34,21 @@ steady_shifted plan j = assigned (λ d. d.position) (driver_bit plan.codes j) pl
 abbrev pub steady_compared : PlanTables → (DriverCell → Bool) → List Bool
 steady_compared plan bit = set_compared bit plan.readers (replicate (length plan.quiet.bits) false) plan.steady
 
--- the rows are what all passes of the plan have in theirs: what they shift in, what is expected of it, and where
-pub record AreCommonRows (plan : PlanTables) (rows : StackedRows) : Type 0 where
+-- side by side, the rows are what all passes of the plan have in theirs: what they shift in, what is expected of it, and where
+pub record AreCommonStacks (plan : PlanTables) (rows : StackedRows) : Type 0 where
   pub shifted : (j : ℕ) → j < 16 → stacked rows.shifted j ≡ steady_shifted plan j
   pub expected : (j : ℕ) → j < 16 → stacked rows.expected j ≡ steady_compared plan (driver_bit plan.codes j)
   pub mask : rows.mask.bits ≡ steady_compared plan (λ d. true)
+
+-- row j of the list is row j of the stack
+abbrev pub AreFirstRows : Stack → List BitRow → Type 0
+AreFirstRows stack rows = (j : ℕ) (row : BitRow) → slice_get rows j ≡ Some row → row.bits ≡ stacked stack j
+
+-- the rows are what all passes of the plan have in theirs, and row j by itself is what is expected of row j in all of them
+pub record AreCommonRows (plan : PlanTables) (rows : CommonRows) : Type 0 where
+  pub stacked : AreCommonStacks plan rows.stacked
+  pub count : length rows.expected ≡ plan.width
+  pub expected : (j : ℕ) (row : BitRow) → slice_get rows.expected j ≡ Some row → row.bits ≡ steady_compared plan (driver_bit plan.codes j)
 
 -- the rows are those of pass x: row j is what its scan j shifts in, and what scan j + 1 expects of it and where
 pub record ArePassRows (board : RawBoard) (plan : PlanTables) (x : ℕ) (rows : StackedRows) : Type 0 where

@@ -104,7 +104,7 @@ pub fn shift_row(board: &Board, plan: &Plan, pass: usize, j: u32, tdi: &mut Row)
     ensures kept { tdi.new.room ≡ tdi.old.room }
 {
     let _ = board.raw();
-    tdi.copy_stacked(&plan.common().shifted, j);
+    tdi.copy_stacked(&plan.common().stacked.shifted, j);
     let mut shifted = RowAt {
         row: tdi,
         number: j,
@@ -133,8 +133,8 @@ pub fn compare_row(board: &Board, plan: &Plan, pass: usize, j: u32, tdo: &mut Ro
 {
     let _ = board.raw();
     let common = plan.common();
-    tdo.copy_stacked(&common.expected, j);
-    mask.copy_row(&common.mask);
+    tdo.copy_row(common.expected_row(j));
+    mask.copy_row(&common.stacked.mask);
     let mut expected = RowAt {
         row: tdo,
         number: j,

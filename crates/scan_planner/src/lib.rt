@@ -6,6 +6,7 @@
 #![tactic(auto)]
 
 mod code_rows;
+mod common_rows;
 mod fill;
 pub mod law;
 mod next;

@@ -5,7 +5,7 @@ ghost use Rattle.board_defs.specs.Pins.{data_bits};
 ghost use Rattle.bt_bits.specs.Stacks.{stacked};
 ghost use Rattle.plan_tables.specs.declared.tables.PlanTables.{PlanTables as PlanRecord};
 ghost use Rattle.plan_tables.specs.Plans.{IsPlanOf};
-ghost use Rattle.scan_planner.specs.PassRows.{AreCommonRows, AreKept, ArePassRows, HaveRoom, KeepRoom};
+ghost use Rattle.scan_planner.specs.PassRows.{AreCommonStacks, AreKept, ArePassRows, HaveRoom, KeepRoom};
 
 use crate::code_rows::RowAt;
 use crate::pass_cells::{drive_nets, walk_pass};
@@ -38,9 +38,9 @@ impl StackedRows {
         })
     }
 
-    /// What all passes of a plan have in their rows.
+    /// What all passes of a plan have in their rows, side by side.
     pub(crate) fn common(alloc: Global, tables: &PlanTables) -> Result<StackedRows, AllocError>
-        ensures { IfOk result (AreCommonRows tables.now) }
+        ensures { IfOk result (AreCommonStacks tables.now) }
     {
         let mut rows = StackedRows::with_room(alloc, tables.quiet.len())?;
         rows.fill_common(tables);
@@ -50,7 +50,7 @@ impl StackedRows {
     // Makes the rows what all passes of a plan have in theirs, for which they have room.
     fn fill_common(&mut self, tables: &PlanTables)
         requires { HaveRoom (length tables.now.quiet.bits) self.old }
-        ensures { AreCommonRows tables.now self.new }
+        ensures { AreCommonStacks tables.now self.new }
     {
         self.shifted.fill_with(&tables.quiet);
         self.mask.clear(tables.quiet.len());
@@ -95,7 +95,7 @@ fn fill_pass_rows(board: &Board, plan: &Plan, pass: usize, rows: &mut StackedRow
 {
     let _ = board.raw();
     let tables = plan.tables();
-    rows.copy_from(plan.common());
+    rows.copy_from(&plan.common().stacked);
     let mut marks = RowAt {
         row: &mut rows.mask,
         number: 0,

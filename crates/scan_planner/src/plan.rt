@@ -8,9 +8,10 @@ ghost use Rattle.plan_tables.specs.Plans.{ArePlannable, IsPlanOf};
 ghost use Rattle.scan_planner.specs.PassRows.{AreCommonRows, AreKept};
 ghost use Rattle.scan_planner.specs.Plans.{IsRoom, FillsScan, scan_count, scan_of_pass};
 
+use crate::common_rows::CommonRows;
 use crate::fill::{compare_row, fill_scan, shift_row};
 use crate::next::fill_after;
-use crate::pass_rows::{PassRows, StackedRows};
+use crate::pass_rows::PassRows;
 use board_defs::{Board, Items, Setting};
 use bt_bits::Row;
 use net_pins::NetPins;
@@ -25,7 +26,7 @@ use tap_defs::{ScanRows, Shape};
 pub struct Plan {
     pub(crate) tables: PlanTables,
     // What all passes have in their rows.
-    common: StackedRows,
+    common: CommonRows,
 }
 
 impl Model for Plan {
@@ -67,7 +68,7 @@ impl Plan {
         ensures passes { IfOk result (λ plan. plan.passes ≡ passes.items) }
     {
         let tables = tables_of(alloc, board, pins, Items::of(passes))?;
-        let common = StackedRows::common(alloc, &tables)?;
+        let common = CommonRows::of(alloc, &tables)?;
         Ok(Plan { tables, common })
     }
 
@@ -79,7 +80,7 @@ impl Plan {
     }
 
     // What all passes have in their rows.
-    pub(crate) fn common(&self) -> &StackedRows
+    pub(crate) fn common(&self) -> &CommonRows
         ensures { AreCommonRows self.now result.now }
     {
         &self.common

@@ -15,7 +15,7 @@ copy_stacked-requires-clause-room c =
     let few = few_rows c.args.board.now c.raw.ensures.rules c.args.plan.now c.requires.plan in
     omega (
       arith,
-      ap length (c.common.ensures.shifted c.args.j (omega (arith, c.requires.row, few))),
+      ap length (c.common.ensures.stacked.shifted c.args.j (omega (arith, c.requires.row, few))),
       steady_shifted_length c.args.board.now c.raw.ensures.rules c.args.plan.now c.requires.plan c.args.j,
       c.requires.room,
     )
@@ -28,6 +28,6 @@ returns-clause-bits c =
     let few = few_rows c.args.board.now c.raw.ensures.rules c.args.plan.now c.requires.plan in
     let shifted =
     c.walk_pass.ensures.shifted c.args.j refl (subst (λ (t : PlanTables). c.args.j < t.width) (sym c.tables.ensures) c.requires.row)
-    (c.copy_stacked.ensures.bits ∙ c.common.ensures.shifted c.args.j (omega (arith, c.requires.row, few)) ∙ ap (λ (t : PlanTables). steady_shifted t c.args.j) (sym c.tables.ensures))
+    (c.copy_stacked.ensures.bits ∙ c.common.ensures.stacked.shifted c.args.j (omega (arith, c.requires.row, few)) ∙ ap (λ (t : PlanTables). steady_shifted t c.args.j) (sym c.tables.ensures))
     ∙ ap (λ (t : PlanTables). tdi_bits (joined (row_bits c.args.board.now (scan_of_pass c.args.board.now t c.args.pass c.args.j)))) c.tables.ensures in
     search rules

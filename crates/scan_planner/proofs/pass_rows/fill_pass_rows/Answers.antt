@@ -12,7 +12,7 @@ pub copy_from-requires-clause-shifted : goal.copy_from-requires-clause-shifted
 copy_from-requires-clause-shifted c =
     omega (
       arith,
-      ap length (c.common.ensures.shifted 0 (omega arith)),
+      ap length (c.common.ensures.stacked.shifted 0 (omega arith)),
       steady_shifted_length c.args.board.now c.raw.ensures.rules c.args.plan.now c.requires.plan 0,
       c.requires.room.shifted,
     )
@@ -21,7 +21,7 @@ pub copy_from-requires-clause-expected : goal.copy_from-requires-clause-expected
 copy_from-requires-clause-expected c =
     omega (
       arith,
-      ap length (c.common.ensures.expected 0 (omega arith)),
+      ap length (c.common.ensures.stacked.expected 0 (omega arith)),
       steady_compared_length c.args.board.now c.raw.ensures.rules c.args.plan.now c.requires.plan (driver_bit c.args.plan.now.codes 0),
       c.requires.room.expected,
     )
@@ -30,7 +30,7 @@ pub copy_from-requires-clause-mask : goal.copy_from-requires-clause-mask
 copy_from-requires-clause-mask c =
     omega (
       arith,
-      ap length c.common.ensures.mask,
+      ap length c.common.ensures.stacked.mask,
       steady_compared_length c.args.board.now c.raw.ensures.rules c.args.plan.now c.requires.plan (λ d. true),
       c.requires.room.mask,
     )
@@ -46,14 +46,14 @@ returns-clause-rows c =
       within = c.requires.pass;
       shifted = λ j row.
           c.walk_pass.ensures.shifted j (stacked_row j row) (subst (λ (t : PlanTables). j < t.width) (sym same) row)
-          (c.copy_from.ensures.shifted j (stacked_row j row) ∙ c.common.ensures.shifted j (stacked_row j row) ∙ ap (λ (t : PlanTables). steady_shifted t j) (sym same))
+          (c.copy_from.ensures.shifted j (stacked_row j row) ∙ c.common.ensures.stacked.shifted j (stacked_row j row) ∙ ap (λ (t : PlanTables). steady_shifted t j) (sym same))
           ∙ ap (λ (t : PlanTables). tdi_bits (joined (row_bits board (scan_of_pass board t c.args.pass j)))) same;
       expected = λ j row.
           c.walk_pass.ensures.expected j (stacked_row j row)
-          (c.copy_from.ensures.expected j (stacked_row j row) ∙ c.common.ensures.expected j (stacked_row j row) ∙ ap (λ (t : PlanTables). steady_compared t (driver_bit t.codes j)) (sym same))
+          (c.copy_from.ensures.expected j (stacked_row j row) ∙ c.common.ensures.stacked.expected j (stacked_row j row) ∙ ap (λ (t : PlanTables). steady_compared t (driver_bit t.codes j)) (sym same))
           ∙ ap (λ (t : PlanTables). tdo_bits (joined (row_bits board (scan_of_pass board t c.args.pass (suc j))))) same;
       mask = λ j row.
-          let marked = c.walk_pass.ensures.mask 0 j refl (c.copy_from.ensures.mask ∙ c.common.ensures.mask ∙ ap (λ (t : PlanTables). steady_compared t (λ d. true)) (sym same))
+          let marked = c.walk_pass.ensures.mask 0 j refl (c.copy_from.ensures.mask ∙ c.common.ensures.stacked.mask ∙ ap (λ (t : PlanTables). steady_compared t (λ d. true)) (sym same))
           ∙ ap (λ (t : PlanTables). mask_bits (joined (row_bits board (scan_of_pass board t c.args.pass (suc j))))) same in
           search rules;
     }
