@@ -4,7 +4,7 @@ use Rattle.std.specs.Prelude.{slice_get, All}
 use Rattle.std.specs.List.{list_any}
 use Rattle.std.proofs.lemmas.Bool.{lt-ltb}
 use Rattle.std.proofs.lemmas.List.{length-map, length-replicate}
-use Rattle.std.proofs.lemmas.List.Sums.{fold-append, count_by-le-length}
+use Rattle.std.proofs.lemmas.List.Sums.{fold-append}
 use Rattle.std.proofs.lemmas.Option.{slice_get-get_or, get_or_from_slice_get}
 use Rattle.board_defs.specs.Limits.{most_bits}
 use Rattle.board_defs.specs.declared.board.RawBoard.{RawBoard}
@@ -19,12 +19,11 @@ use Rattle.tap_defs.specs.declared.scan.Shape.{Shape}
 use Rattle.tap_defs.specs.declared.scan.StoredRows.{StoredRows}
 use Rattle.tap_defs.specs.chain.Scan.{ScanBit, Scan, joined, tdi_bits, tdo_bits, mask_bits, scan_bits}
 use Rattle.tap_defs.specs.chain.ScanRows.{AreBitsOf, AreRowsOf, EachHasRoom, HaveRoomFor}
-use Rattle.tap_defs.specs.board.TestRows.{TestRow, quiet_row, code_row, code_of_net, code_bit, net_code_bit, is_observed, observed_count, observing_driver, row_bit, expect_bit}
+use Rattle.tap_defs.specs.board.TestRows.{TestRow, quiet_row, code_row, code_of_net, code_bit, net_code_bit, is_observed, observing_driver, row_bit, expect_bit}
 use Rattle.tap_defs.specs.board.BoardScans.{RowScan, row_bits, row_now, scan_of_row, first_row_scan, test_scans}
 use Rattle.tap_defs.proofs.chain.ScanRowLemmas.{rows_make, shifted_length, expected_same, marks_same, rows_masked, each_room, room_for}
 use Rattle.tap_defs.proofs.board.EntryLemmas.{row_scan_some, quiet_expects}
 use Rattle.tap_defs.proofs.board.ScanPlaceLemmas.{scans_placed}
-use Rattle.tap_defs.proofs.board.WidthLemmas.{width_is}
 use Rattle.plan_tables.specs.declared.tables.HeldCell.{HeldCell}
 use Rattle.plan_tables.specs.declared.tables.DriverCell.{DriverCell}
 use Rattle.net_pins.specs.declared.nets.ReaderCell.{ReaderCell}
@@ -45,7 +44,6 @@ use Rattle.scan_planner.proofs.DriverLemmas.{drivers_laid}
 use Rattle.plan_tables.proofs.ReaderTableLemmas.{ReadersOf, readers_below}
 use Rattle.scan_planner.proofs.ReaderLemmas.{Pair, pairs, set_compared_is, tdo_compared, mask_compared}
 use Rattle.plan_tables.proofs.PassLemmas.{fold_on}
-use Rattle.plan_tables.proofs.PlanLemmas.{width_most}
 use Rattle.plan_tables.proofs.SizeLemmas.{IsSized}
 
 -- rows that have the bits of scan k fill it in
@@ -123,12 +121,6 @@ module _ (board : RawBoard) (rules : IsBoard board) (plan : PlanTables) (p : IsP
 
   pub readers_within : All (λ cells. All (λ r. r.position < data_bits board) cells) plan.readers
   readers_within = readers_below board rules plan.readers readers_of p.tables.readers_length
-
-  -- the codes have at most 14 bits, so a stack has their rows
-  pub few_rows : plan.width ≤ 14
-  few_rows =
-      let count : ℕ = observed_count board plan.passes in
-      width_most count plan.width (omega (arith, count_by-le-length (is_observed board plan.passes) board.nets, rules.nets_most)) (subst (λ (w : ℕ). (less : ℕ) → less < w → 2 ^ less < count + 2) (sym p.width_is) (width_is count).least)
 
   -- the lengths of the rows of all passes
   pub steady_shifted_length : (j : ℕ) → length (steady_shifted plan j) ≡ data_bits board

@@ -1,3 +1,3 @@
 -- Terms that serve proofs and the contracts of private functions. No public contract cites them.
 pub mod Passes
-pub mod Filled
+pub mod Planned

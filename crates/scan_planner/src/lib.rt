@@ -5,6 +5,7 @@
 //! or in one of them.
 #![tactic(auto)]
 
+mod board_plan;
 mod code_rows;
 mod common_rows;
 mod fill;

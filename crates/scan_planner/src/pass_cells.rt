@@ -3,15 +3,14 @@ ghost use Rattle.std.specs.Prelude.{◌≡◌, ◌<◌, ℕ, [], suc, true, leng
 ghost use Rattle.board_defs.specs.declared.board.Ctl.{Ctl as ControlRecord};
 ghost use Rattle.board_defs.specs.Pins.{device_at, cell_count, data_bits};
 ghost use Rattle.board_defs.specs.Settings.{holds};
-ghost use Rattle.tap_defs.specs.board.BoardScans.{row_bits};
-ghost use Rattle.tap_defs.specs.chain.Scan.{joined, tdi_bits, tdo_bits, mask_bits};
+ghost use Rattle.tap_defs.specs.chain.Scan.{tdi_bits, tdo_bits, mask_bits};
 ghost use Rattle.plan_tables.specs.Assigned.{assigned, driver_bit, set_compared, set_readers};
-ghost use Rattle.plan_tables.specs.Plans.{IsPlanOf};
 ghost use Rattle.plan_tables.specs.Tables.{AreFirsts, held_cell};
 ghost use Rattle.scan_planner.specs.PassRows.{steady_compared, steady_shifted};
-ghost use Rattle.scan_planner.specs.Plans.{scan_of_pass};
 ghost use Rattle.scan_planner.specs.inner.Passes.{compared, driven};
+ghost use Rattle.scan_planner.specs.inner.Planned.{bits_of};
 
+use crate::board_plan::PassOfPlan;
 use crate::code_rows::CodeRows;
 use crate::questions::{code_at, readers_at};
 use board_defs::{Board, Items, Setting};
@@ -133,32 +132,30 @@ fn drive_setting<S: CodeRows, E: CodeRows, M: CodeRows>(
     }
 }
 
-/// Makes of what all passes have in their rows what a pass has in its own: what it shifts in, what is expected of it, and where.
-pub fn walk_pass<S: CodeRows, E: CodeRows, M: CodeRows>(
-    board: &Board,
-    tables: &PlanTables,
-    pass: usize,
-    shifted: &mut S,
-    expected: &mut E,
-    mask: &mut M,
-)
-    requires plan { IsPlanOf board.now tables.now }
-    requires pass { pass < length tables.now.passes }
-    ensures shifted_kind { S.kind shifted.new ≡ S.kind shifted.old }
-    ensures expected_kind { E.kind expected.new ≡ E.kind expected.old }
-    ensures mask_kind { M.kind mask.new ≡ M.kind mask.old }
-    ensures shifted { (j : ℕ) → S.shows (S.kind shifted.old) j → j < tables.now.width → S.bits shifted.old j ≡ steady_shifted tables.now j → S.bits shifted.new j ≡ tdi_bits (joined (row_bits board.now (scan_of_pass board.now tables.now pass j))) }
-    ensures expected { (j : ℕ) → E.shows (E.kind expected.old) j → E.bits expected.old j ≡ steady_compared tables.now (driver_bit tables.now.codes j) → E.bits expected.new j ≡ tdo_bits (joined (row_bits board.now (scan_of_pass board.now tables.now pass (suc j)))) }
-    ensures mask { (i j : ℕ) → M.shows (M.kind mask.old) i → M.bits mask.old i ≡ steady_compared tables.now (λ d. true) → M.bits mask.new i ≡ mask_bits (joined (row_bits board.now (scan_of_pass board.now tables.now pass (suc j)))) }
-{
-    let _ = board.raw();
-    let setting = pass_at(tables.passes.as_slice(), pass);
-    hold_cells(
-        board,
-        tables.firsts.as_slice(),
-        &tables.quiet,
-        setting,
-        shifted,
-    );
-    drive_setting(board, tables, setting, shifted, expected, mask);
+impl<'a> PassOfPlan<'a> {
+    /// Makes of what all passes have in their rows what the pass has in its own: what it shifts in, what is expected of it, and where.
+    pub fn walk<S: CodeRows, E: CodeRows, M: CodeRows>(
+        &self,
+        shifted: &mut S,
+        expected: &mut E,
+        mask: &mut M,
+    )
+        ensures shifted_kind { S.kind shifted.new ≡ S.kind shifted.old }
+        ensures expected_kind { E.kind expected.new ≡ E.kind expected.old }
+        ensures mask_kind { M.kind mask.new ≡ M.kind mask.old }
+        ensures shifted { (j : ℕ) → S.shows (S.kind shifted.old) j → j < self.now.test.plan.width → S.bits shifted.old j ≡ steady_shifted self.now.test.plan j → S.bits shifted.new j ≡ tdi_bits (bits_of self.now j) }
+        ensures expected { (j : ℕ) → E.shows (E.kind expected.old) j → E.bits expected.old j ≡ steady_compared self.now.test.plan (driver_bit self.now.test.plan.codes j) → E.bits expected.new j ≡ tdo_bits (bits_of self.now (suc j)) }
+        ensures mask { (i j : ℕ) → M.shows (M.kind mask.old) i → M.bits mask.old i ≡ steady_compared self.now.test.plan (λ d. true) → M.bits mask.new i ≡ mask_bits (bits_of self.now (suc j)) }
+    {
+        let _ = self.board.raw();
+        let setting = pass_at(self.tables.passes.as_slice(), self.number);
+        hold_cells(
+            self.board,
+            self.tables.firsts.as_slice(),
+            &self.tables.quiet,
+            setting,
+            shifted,
+        );
+        drive_setting(self.board, self.tables, setting, shifted, expected, mask);
+    }
 }

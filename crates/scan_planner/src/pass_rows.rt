@@ -4,13 +4,11 @@ ghost use Rattle.board_defs.specs.declared.board.RawBoard.{RawBoard};
 ghost use Rattle.board_defs.specs.Pins.{data_bits};
 ghost use Rattle.bt_bits.specs.Stacks.{stacked};
 ghost use Rattle.plan_tables.specs.declared.tables.PlanTables.{PlanTables as PlanRecord};
-ghost use Rattle.plan_tables.specs.Plans.{IsPlanOf};
 ghost use Rattle.scan_planner.specs.PassRows.{AreCommonStacks, AreKept, ArePassRows, HaveRoom, KeepRoom};
 
+use crate::board_plan::PassOfPlan;
 use crate::code_rows::RowAt;
-use crate::pass_cells::{drive_nets, walk_pass};
-use crate::plan::Plan;
-use board_defs::Board;
+use crate::pass_cells::drive_nets;
 use bt_bits::{Row, RowStack};
 use plan_tables::PlanTables;
 use std::alloc::{AllocError, Global};
@@ -85,31 +83,6 @@ impl StackedRows {
     }
 }
 
-// Makes the rows those of a pass, over what all passes have.
-fn fill_pass_rows(board: &Board, plan: &Plan, pass: usize, rows: &mut StackedRows)
-    requires plan { IsPlanOf board.now plan.now }
-    requires pass { pass < length plan.now.passes }
-    requires room { HaveRoom (data_bits board.now) rows.old }
-    ensures rows { ArePassRows board.now plan.now pass rows.new }
-    ensures room { KeepRoom rows.old rows.new }
-{
-    let _ = board.raw();
-    let tables = plan.tables();
-    rows.copy_from(&plan.common().stacked);
-    let mut marks = RowAt {
-        row: &mut rows.mask,
-        number: 0,
-    };
-    walk_pass(
-        board,
-        tables,
-        pass,
-        &mut rows.shifted,
-        &mut rows.expected,
-        &mut marks,
-    );
-}
-
 /// The rows of the pass that was filled last.
 #[derive(Drop)]
 pub struct PassRows {
@@ -128,18 +101,33 @@ impl PassRows {
             rows: StackedRows::with_room(alloc, bits)?,
         })
     }
+}
 
-    /// Makes the rows those of a pass.
-    pub(crate) fn take_pass(&mut self, board: &Board, plan: &Plan, pass: usize)
-        requires plan { IsPlanOf board.now plan.now }
-        requires pass { pass < length plan.now.passes }
-        requires kept { AreKept board.now plan.now self.old }
-        ensures kept { AreKept board.now plan.now self.new }
-        ensures rows { ArePassRows board.now plan.now pass self.new.rows }
+impl<'a> PassOfPlan<'a> {
+    // Makes the rows those of the pass, over what all passes have.
+    fn fill_rows(&self, rows: &mut StackedRows)
+        requires { HaveRoom (data_bits self.now.test.board) rows.old }
+        ensures rows { ArePassRows self.now.test.board self.now.test.plan self.now.number rows.new }
+        ensures room { KeepRoom rows.old rows.new }
     {
-        if self.pass != Some(pass) {
-            fill_pass_rows(board, plan, pass, &mut self.rows);
-            self.pass = Some(pass);
+        self.laws();
+        rows.copy_from(&self.common().stacked);
+        let mut marks = RowAt {
+            row: &mut rows.mask,
+            number: 0,
+        };
+        self.walk(&mut rows.shifted, &mut rows.expected, &mut marks);
+    }
+
+    /// Makes the rows that are kept those of the pass.
+    pub fn keep_rows(&self, kept: &mut PassRows)
+        requires { AreKept self.now.test.board self.now.test.plan kept.old }
+        ensures kept { AreKept self.now.test.board self.now.test.plan kept.new }
+        ensures rows { ArePassRows self.now.test.board self.now.test.plan self.now.number kept.new.rows }
+    {
+        if kept.pass != Some(self.number) {
+            self.fill_rows(&mut kept.rows);
+            kept.pass = Some(self.number);
         }
     }
 }

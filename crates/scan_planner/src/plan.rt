@@ -5,12 +5,12 @@ ghost use Rattle.tap_defs.specs.board.BoardScans.{row_bits};
 ghost use Rattle.tap_defs.specs.chain.Scan.{joined, mask_bits, tdi_bits, tdo_bits};
 ghost use Rattle.net_pins.specs.Tables.{AreNetPins};
 ghost use Rattle.plan_tables.specs.Plans.{ArePlannable, IsPlanOf};
-ghost use Rattle.scan_planner.specs.PassRows.{AreCommonRows, AreKept};
+ghost use Rattle.scan_planner.specs.PassRows.{AreKept};
 ghost use Rattle.scan_planner.specs.Plans.{IsRoom, FillsScan, scan_count, scan_of_pass};
+ghost use Rattle.scan_planner.specs.inner.Planned.{planned_board};
 
+use crate::board_plan::BoardPlan;
 use crate::common_rows::CommonRows;
-use crate::fill::{compare_row, fill_scan, shift_row};
-use crate::next::fill_after;
 use crate::pass_rows::PassRows;
 use board_defs::{Board, Items, Setting};
 use bt_bits::Row;
@@ -72,18 +72,12 @@ impl Plan {
         Ok(Plan { tables, common })
     }
 
-    // What the scans are made of.
-    pub(crate) fn tables(&self) -> &PlanTables
-        ensures { result.now ≡ self.now }
+    // The plan on its board.
+    fn on<'a>(&'a self, board: &'a Board) -> BoardPlan<'a>
+        requires { IsPlanOf board.now self.now }
+        ensures { result ≡ planned_board board.now self.now }
     {
-        &self.tables
-    }
-
-    // What all passes have in their rows.
-    pub(crate) fn common(&self) -> &CommonRows
-        ensures { AreCommonRows self.now result.now }
-    {
-        &self.common
+        BoardPlan::of(board, &self.tables, &self.common)
     }
 
     /// The number of scans of the test.
@@ -114,7 +108,7 @@ impl Plan {
         ensures tdo_kept { tdo.new.room ≡ tdo.old.room }
         ensures mask_kept { mask.new.room ≡ mask.old.room }
     {
-        fill_scan(board, self, k, &mut ScanRows { tdi, tdo, mask })
+        self.on(board).fill(k, &mut ScanRows { tdi, tdo, mask })
     }
 
     /// Fills the rows with scan `k + 1` of the test, where they hold scan `k`, which has the shape `before`, and tells its kind. The rows
@@ -145,14 +139,8 @@ impl Plan {
         ensures tdo_kept { tdo.new.room ≡ tdo.old.room }
         ensures mask_kept { mask.new.room ≡ mask.old.room }
     {
-        fill_after(
-            board,
-            self,
-            k,
-            before,
-            rows,
-            &mut ScanRows { tdi, tdo, mask },
-        )
+        self.on(board)
+            .fill_next(k, before, rows, &mut ScanRows { tdi, tdo, mask })
     }
 
     /// Fills a row with what row `row` of a pass shifts in. The board is that of the plan, and the row has room for a scan of data. No
@@ -165,7 +153,7 @@ impl Plan {
         ensures tdi { tdi.new.bits ≡ tdi_bits (joined (row_bits board.now (scan_of_pass board.now self.now pass row))) }
         ensures kept { tdi.new.room ≡ tdi.old.room }
     {
-        shift_row(board, self, pass as usize, row, tdi);
+        self.on(board).pass(pass as usize).shift_row(row, tdi);
     }
 
     /// Fills two rows with what the scan after row `row` of a pass compares: the expected bits, and where they are compared. The board
@@ -181,6 +169,8 @@ impl Plan {
         ensures tdo_kept { tdo.new.room ≡ tdo.old.room }
         ensures mask_kept { mask.new.room ≡ mask.old.room }
     {
-        compare_row(board, self, pass as usize, row, tdo, mask);
+        self.on(board)
+            .pass(pass as usize)
+            .compare_row(row, tdo, mask);
     }
 }

@@ -1,0 +1,112 @@
+// A board with a plan of it, and a pass of the plan.
+ghost use Rattle.std.specs.Prelude.{◌≡◌, ◌<◌, ◌≤◌, length};
+ghost use Rattle.board_defs.specs.BoardRules.{IsBoard};
+ghost use Rattle.plan_tables.specs.Plans.{IsPlanOf};
+ghost use Rattle.scan_planner.specs.PassRows.{AreCommonRows};
+ghost use Rattle.scan_planner.specs.inner.Planned.{IsPlanned, planned_board, planned_pass};
+
+use crate::common_rows::CommonRows;
+use board_defs::Board;
+use plan_tables::PlanTables;
+use std::marker::Model;
+
+/// A board with the tables of a plan of it and with what all passes have in their rows. Seen as the board and the tables.
+#[derive(Drop)]
+pub struct BoardPlan<'a> {
+    pub(crate) board: &'a Board,
+    pub(crate) tables: &'a PlanTables,
+    pub(crate) common: &'a CommonRows,
+}
+
+impl<'a> Model for BoardPlan<'a> {
+    ghost use Rattle.scan_planner.specs.inner.Planned.{IsPlanned, PlannedBoard, planned_board};
+
+    ghost Value = { PlannedBoard };
+
+    ghost view = { λ a. planned_board a.board.now a.tables.now };
+
+    ghost invariant = { λ a. IsPlanned a.board.now a.tables.now a.common.now };
+}
+
+/// A pass of the plan of a board. Seen as both and the number of the pass.
+#[derive(Drop)]
+pub struct PassOfPlan<'a> {
+    pub(crate) board: &'a Board,
+    pub(crate) tables: &'a PlanTables,
+    pub(crate) common: &'a CommonRows,
+    pub(crate) number: usize,
+}
+
+impl<'a> Model for PassOfPlan<'a> {
+    ghost use Rattle.scan_planner.specs.inner.Planned.{IsPass, PlannedPass, planned_board, planned_pass};
+
+    ghost Value = { PlannedPass };
+
+    ghost view = { λ a. planned_pass (planned_board a.board.now a.tables.now) a.number };
+
+    ghost invariant = { λ a. IsPass a.board.now a.tables.now a.common.now a.number };
+}
+
+impl<'a> BoardPlan<'a> {
+    /// A board with these tables, of a plan of it, and with what all passes of the plan have in their rows.
+    pub fn of(board: &'a Board, tables: &'a PlanTables, common: &'a CommonRows) -> BoardPlan<'a>
+        requires { IsPlanned board.now tables.now common.now }
+        ensures { result ≡ planned_board board.now tables.now }
+    {
+        BoardPlan {
+            board,
+            tables,
+            common,
+        }
+    }
+
+    /// The pass with this number, which is below the number of passes.
+    pub fn pass(&self, number: usize) -> PassOfPlan<'a>
+        requires { number < length self.now.plan.passes }
+        ensures { result ≡ planned_pass self.now number }
+    {
+        PassOfPlan {
+            board: self.board,
+            tables: self.tables,
+            common: self.common,
+            number,
+        }
+    }
+}
+
+impl<'a> PassOfPlan<'a> {
+    /// The board with the plan.
+    pub fn test(&self) -> BoardPlan<'a>
+        ensures { result ≡ self.now.test }
+    {
+        BoardPlan {
+            board: self.board,
+            tables: self.tables,
+            common: self.common,
+        }
+    }
+
+    /// The number of rows of the pass.
+    pub fn width(&self) -> u32
+        ensures { result ≡ self.now.test.plan.width }
+    {
+        self.tables.width
+    }
+
+    /// What all passes have in their rows.
+    pub fn common(&self) -> &'a CommonRows
+        ensures { AreCommonRows self.now.test.plan result.now }
+    {
+        self.common
+    }
+
+    /// What is known of a pass: the rules of the board, that the plan is one of it and has the pass, and that its rows lie in one stack.
+    pub fn laws(&self)
+        ensures rules { IsBoard self.now.test.board }
+        ensures plan { IsPlanOf self.now.test.board self.now.test.plan }
+        ensures within { self.now.number < length self.now.test.plan.passes }
+        ensures few { self.now.test.plan.width ≤ 14 }
+    {
+        let _rules = self.board.raw();
+    }
+}
