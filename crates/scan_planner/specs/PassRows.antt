@@ -20,6 +20,12 @@ pub record HaveRoom (bits : ℕ) (rows : StackedRows) : Type 0 where
   pub expected : bits ≤ rows.expected.room
   pub mask : bits ≤ rows.mask.room
 
+-- and so have they for the rows of others
+pub record HaveRoomFor (others rows : StackedRows) : Type 0 where
+  pub shifted : length (stacked others.shifted 0) ≤ rows.shifted.room
+  pub expected : length (stacked others.expected 0) ≤ rows.expected.room
+  pub mask : length others.mask.bits ≤ rows.mask.room
+
 -- the room is as it was
 pub record KeepRoom (old new : StackedRows) : Type 0 where
   pub shifted : new.shifted.room ≡ old.shifted.room

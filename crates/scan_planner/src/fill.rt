@@ -4,13 +4,15 @@ ghost use Rattle.std.specs.List.{list_any};
 ghost use Rattle.board_defs.specs.Pins.{data_bits};
 ghost use Rattle.tap_defs.specs.board.TestRows.{quiet_row};
 ghost use Rattle.tap_defs.specs.board.BoardScans.{RowScan, row_bits};
-ghost use Rattle.tap_defs.specs.chain.Scan.{ScanBit, joined, tdi_bits, tdo_bits, mask_bits};
+ghost use Rattle.tap_defs.specs.chain.Scan.{ScanBit, joined, tdi_bits};
 ghost use Rattle.tap_defs.specs.chain.ScanRows.{AreRowsOf, AreSameRows, EachHasRoom, HaveRoomFor, HoldBits};
 ghost use Rattle.scan_planner.specs.Plans.{IsRoom, scan_count};
+ghost use Rattle.scan_planner.specs.inner.Compared.{AreBothKept, BothHaveRoom, HoldCompared};
 ghost use Rattle.scan_planner.specs.inner.Planned.{FillsRows, bits_of};
 
 use crate::board_plan::{BoardPlan, PassOfPlan};
 use crate::code_rows::{NoRows, RowAt};
+use crate::compared_rows::ComparedRows;
 use bt_bits::Row;
 use tap_defs::{ScanRows, Shape, StoredRows};
 
@@ -41,18 +43,15 @@ impl<'a> BoardPlan<'a> {
     }
 
     /// Compares nothing, as a scan after the quiet row does.
-    pub fn compare_nothing(&self, tdo: &mut Row, mask: &mut Row)
-        requires tdo_room { data_bits self.now.board ≤ tdo.old.room }
-        requires mask_room { data_bits self.now.board ≤ mask.old.room }
-        ensures tdo { (scan : RowScan) → scan.before ≡ quiet_row → tdo.new.bits ≡ tdo_bits (joined (row_bits self.now.board scan)) }
-        ensures mask { (scan : RowScan) → scan.before ≡ quiet_row → mask.new.bits ≡ mask_bits (joined (row_bits self.now.board scan)) }
-        ensures nothing { list_any (λ bit. bit) mask.new.bits ≡ false }
-        ensures tdo_kept { tdo.new.room ≡ tdo.old.room }
-        ensures mask_kept { mask.new.room ≡ mask.old.room }
+    pub fn compare_nothing(&self, rows: &mut ComparedRows)
+        requires { BothHaveRoom (data_bits self.now.board) rows.old }
+        ensures bits { (scan : RowScan) → scan.before ≡ quiet_row → HoldCompared (joined (row_bits self.now.board scan)) rows.new }
+        ensures nothing { list_any (λ bit. bit) rows.new.mask.now.bits ≡ false }
+        ensures kept { AreBothKept rows.old rows.new }
     {
         let len = self.board.dr_bits();
-        tdo.clear(len);
-        mask.clear(len);
+        rows.tdo.clear(len);
+        rows.mask.clear(len);
     }
 
     // The second scan, which shifts the quiet row in and compares nothing.
@@ -63,7 +62,10 @@ impl<'a> BoardPlan<'a> {
     {
         let _ = self.board.raw();
         self.shift_quiet(rows.tdi);
-        self.compare_nothing(rows.tdo, rows.mask);
+        self.compare_nothing(&mut ComparedRows {
+            tdo: rows.tdo,
+            mask: rows.mask,
+        });
         Shape {
             ir: false,
             compare: false,
@@ -122,25 +124,22 @@ impl<'a> PassOfPlan<'a> {
     }
 
     /// Compares row `j`.
-    pub fn compare_row(&self, j: u32, tdo: &mut Row, mask: &mut Row)
+    pub fn compare_row(&self, j: u32, rows: &mut ComparedRows)
         requires row { j < self.now.test.plan.width }
-        requires tdo_room { data_bits self.now.test.board ≤ tdo.old.room }
-        requires mask_room { data_bits self.now.test.board ≤ mask.old.room }
-        ensures tdo { tdo.new.bits ≡ tdo_bits (bits_of self.now (suc j)) }
-        ensures mask { mask.new.bits ≡ mask_bits (bits_of self.now (suc j)) }
-        ensures tdo_kept { tdo.new.room ≡ tdo.old.room }
-        ensures mask_kept { mask.new.room ≡ mask.old.room }
+        requires room { BothHaveRoom (data_bits self.now.test.board) rows.old }
+        ensures bits { HoldCompared (bits_of self.now (suc j)) rows.new }
+        ensures kept { AreBothKept rows.old rows.new }
     {
         self.laws();
         let common = self.common();
-        tdo.copy_row(common.expected_row(j));
-        mask.copy_row(&common.stacked.mask);
+        rows.tdo.copy_row(common.expected_row(j));
+        rows.mask.copy_row(&common.stacked.mask);
         let mut expected = RowAt {
-            row: tdo,
+            row: rows.tdo,
             number: j,
         };
         let mut marks = RowAt {
-            row: mask,
+            row: rows.mask,
             number: 0,
         };
         self.walk(&mut NoRows, &mut expected, &mut marks);
@@ -160,21 +159,18 @@ impl<'a> PassOfPlan<'a> {
     }
 
     // Compares the row before row `j`, and nothing before the first; tells whether anything is compared.
-    fn compare_before(&self, j: u32, tdo: &mut Row, mask: &mut Row) -> bool
+    fn compare_before(&self, j: u32, rows: &mut ComparedRows) -> bool
         requires row { j ≤ self.now.test.plan.width }
-        requires tdo_room { data_bits self.now.test.board ≤ tdo.old.room }
-        requires mask_room { data_bits self.now.test.board ≤ mask.old.room }
-        ensures tdo { tdo.new.bits ≡ tdo_bits (bits_of self.now j) }
-        ensures mask { mask.new.bits ≡ mask_bits (bits_of self.now j) }
-        ensures compare { result ≡ list_any (λ bit. bit) mask.new.bits }
-        ensures tdo_kept { tdo.new.room ≡ tdo.old.room }
-        ensures mask_kept { mask.new.room ≡ mask.old.room }
+        requires room { BothHaveRoom (data_bits self.now.test.board) rows.old }
+        ensures bits { HoldCompared (bits_of self.now j) rows.new }
+        ensures compare { result ≡ list_any (λ bit. bit) rows.new.mask.now.bits }
+        ensures kept { AreBothKept rows.old rows.new }
     {
         if j > 0 {
-            self.compare_row(j - 1, tdo, mask);
-            mask.has_one()
+            self.compare_row(j - 1, rows);
+            rows.mask.has_one()
         } else {
-            self.test().compare_nothing(tdo, mask);
+            self.test().compare_nothing(rows);
             false
         }
     }
@@ -190,7 +186,13 @@ impl<'a> PassOfPlan<'a> {
         self.shift(j, rows.tdi);
         Shape {
             ir: false,
-            compare: self.compare_before(j, rows.tdo, rows.mask),
+            compare: self.compare_before(
+                j,
+                &mut ComparedRows {
+                    tdo: rows.tdo,
+                    mask: rows.mask,
+                },
+            ),
         }
     }
 }

@@ -8,6 +8,7 @@
 mod board_plan;
 mod code_rows;
 mod common_rows;
+mod compared_rows;
 mod fill;
 pub mod law;
 mod next;

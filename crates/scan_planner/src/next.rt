@@ -6,9 +6,11 @@ ghost use Rattle.tap_defs.specs.chain.Scan.{tdi_bits, tdo_bits, mask_bits};
 ghost use Rattle.tap_defs.specs.chain.ScanRows.{AreSameRows, EachHasRoom};
 ghost use Rattle.scan_planner.specs.PassRows.{AreKept};
 ghost use Rattle.scan_planner.specs.Plans.{IsRoom, scan_count};
+ghost use Rattle.scan_planner.specs.inner.Compared.{AreBothKept, BothHaveRoom, HoldCompared};
 ghost use Rattle.scan_planner.specs.inner.Planned.{FillsRows, bits_of};
 
 use crate::board_plan::{BoardPlan, PassOfPlan};
+use crate::compared_rows::ComparedRows;
 use crate::pass_rows::{PassRows, StackedRows};
 use bt_bits::Row;
 use std::marker::Model;
@@ -70,27 +72,24 @@ impl<'a, 'k> PassWithRows<'a, 'k> {
 
     // Compares the row before row `j`, and nothing before the first; tells whether anything is compared. Where a row is compared does not
     // depend on its number, so from the second on the mask stands, and what it told.
-    fn compare_before(&self, j: u32, told: bool, tdo: &mut Row, mask: &mut Row) -> bool
+    fn compare_before(&self, j: u32, told: bool, rows: &mut ComparedRows) -> bool
         requires row { j ≤ self.now.test.plan.width }
-        requires stands { 1 < j → (mask.old.bits ≡ mask_bits (bits_of self.now j)) × (told ≡ list_any (λ bit. bit) mask.old.bits) }
-        requires tdo_room { data_bits self.now.test.board ≤ tdo.old.room }
-        requires mask_room { data_bits self.now.test.board ≤ mask.old.room }
-        ensures tdo { tdo.new.bits ≡ tdo_bits (bits_of self.now j) }
-        ensures mask { mask.new.bits ≡ mask_bits (bits_of self.now j) }
-        ensures compare { result ≡ list_any (λ bit. bit) mask.new.bits }
-        ensures tdo_kept { tdo.new.room ≡ tdo.old.room }
-        ensures mask_kept { mask.new.room ≡ mask.old.room }
+        requires stands { 1 < j → (rows.old.mask.now.bits ≡ mask_bits (bits_of self.now j)) × (told ≡ list_any (λ bit. bit) rows.old.mask.now.bits) }
+        requires room { BothHaveRoom (data_bits self.now.test.board) rows.old }
+        ensures bits { HoldCompared (bits_of self.now j) rows.new }
+        ensures compare { result ≡ list_any (λ bit. bit) rows.new.mask.now.bits }
+        ensures kept { AreBothKept rows.old rows.new }
     {
         if j == 0 {
-            self.pass.test().compare_nothing(tdo, mask);
+            self.pass.test().compare_nothing(rows);
             return false;
         }
-        self.expect(j - 1, tdo);
+        self.expect(j - 1, rows.tdo);
         if j > 1 {
             return told;
         }
-        self.mark(j - 1, mask);
-        mask.has_one()
+        self.mark(j - 1, rows.mask);
+        rows.mask.has_one()
     }
 
     // Scan `j` of the pass, where the rows hold the scan before it.
@@ -105,7 +104,14 @@ impl<'a, 'k> PassWithRows<'a, 'k> {
         self.shift(j, rows.tdi);
         Shape {
             ir: false,
-            compare: self.compare_before(j, before.compare, rows.tdo, rows.mask),
+            compare: self.compare_before(
+                j,
+                before.compare,
+                &mut ComparedRows {
+                    tdo: rows.tdo,
+                    mask: rows.mask,
+                },
+            ),
         }
     }
 }

@@ -14,7 +14,6 @@ use crate::board_plan::PassOfPlan;
 use crate::code_rows::CodeRows;
 use crate::questions::{code_at, readers_at};
 use board_defs::{Board, Items, Setting};
-use bt_bits::Row;
 use plan_tables::{DriverCell, PlanTables, ReaderCell, controlled, held_cell};
 
 /// Pass `x`, counted from 0.
@@ -25,25 +24,15 @@ pub fn pass_at(passes: &[Setting], x: usize) -> &Setting
     &passes[x]
 }
 
-// Shifts what a setting holds into the cells of its controls.
-fn hold_cells<S: CodeRows>(
-    board: &Board,
-    firsts: &[u32],
-    quiet: &Row,
-    setting: &Setting,
-    rows: &mut S,
-)
-    requires firsts { AreFirsts board.now.chain firsts.now }
-    requires quiet { length quiet.now.bits ≡ data_bits board.now }
-    requires cells { (c : ControlRecord) → holds setting.now c ≡ true → c.cell < cell_count (device_at board.now c.part) }
-    ensures kind { S.kind rows.new ≡ S.kind rows.old }
-    ensures bits { (j : ℕ) → S.shows (S.kind rows.old) j → S.bits rows.new j ≡ assigned (λ h. h.position) (λ h. h.bit) (S.bits rows.old j) (map (held_cell board.now quiet.now.bits) setting.now) }
-{
-    for c in setting.controls() {
-        let cell = held_cell(board, firsts, quiet, *c);
-        let bit = rows.same(cell.bit);
-        rows.put(cell.position, bit);
-    }
+// What a pass holds, each a control of a cell that its part of the board has, with the tables that find the cells.
+#[derive(Drop)]
+struct PassControls<'a> {
+    board: &'a Board,
+    tables: &'a PlanTables,
+    setting: &'a Setting,
+    ghost firsts: { AreFirsts board.now.chain tables.now.firsts },
+    ghost quiet: { length tables.now.quiet.bits ≡ data_bits board.now },
+    ghost cells: { (c : ControlRecord) → holds setting.now c ≡ true → c.cell < cell_count (device_at board.now c.part) },
 }
 
 // Expects a code at the cells that read its net, but for those at the driver's place, and marks where.
@@ -99,36 +88,47 @@ pub fn drive_nets<S: CodeRows, E: CodeRows, M: CodeRows>(
     }
 }
 
-// Drives the nets of the drivers that a setting has beside the steady ones: those that are always on, and those of its controls.
-fn drive_setting<S: CodeRows, E: CodeRows, M: CodeRows>(
-    board: &Board,
-    tables: &PlanTables,
-    setting: &Setting,
-    shifted: &mut S,
-    expected: &mut E,
-    mask: &mut M,
-)
-    requires firsts { AreFirsts board.now.chain tables.now.firsts }
-    requires cells { (c : ControlRecord) → holds setting.now c ≡ true → c.cell < cell_count (device_at board.now c.part) }
-    ensures shifted_kind { S.kind shifted.new ≡ S.kind shifted.old }
-    ensures expected_kind { E.kind expected.new ≡ E.kind expected.old }
-    ensures mask_kind { M.kind mask.new ≡ M.kind mask.old }
-    ensures shifted { (j : ℕ) → S.shows (S.kind shifted.old) j → S.bits shifted.new j ≡ driven board.now tables.now (driver_bit tables.now.codes j) (S.bits shifted.old j) setting.now }
-    ensures expected { (j : ℕ) → E.shows (E.kind expected.old) j → E.bits expected.new j ≡ compared board.now tables.now (driver_bit tables.now.codes j) (E.bits expected.old j) setting.now }
-    ensures mask { (j : ℕ) → M.shows (M.kind mask.old) j → M.bits mask.new j ≡ compared board.now tables.now (λ d. true) (M.bits mask.old j) setting.now }
-{
-    let readers = tables.readers.as_slice();
-    let codes = tables.codes.as_slice();
-    let always = tables.by_control.always.as_slice();
-    drive_nets(always, readers, codes, shifted, expected, mask);
-    for c in setting.controls() {
-        let drivers = controlled(
-            board,
-            tables.firsts.as_slice(),
-            tables.by_control.rows.as_slice(),
-            *c,
-        );
-        drive_nets(drivers, readers, codes, shifted, expected, mask);
+impl PassControls<'_> {
+    // Shifts what the pass holds into the cells of its controls.
+    fn hold<S: CodeRows>(&self, rows: &mut S)
+        ensures kind { S.kind rows.new ≡ S.kind rows.old }
+        ensures bits { (j : ℕ) → S.shows (S.kind rows.old) j → S.bits rows.new j ≡ assigned (λ h. h.position) (λ h. h.bit) (S.bits rows.old j) (map (held_cell self.now.board.now self.now.tables.now.quiet.bits) self.now.setting.now) }
+    {
+        let firsts = self.tables.firsts.as_slice();
+        for c in self.setting.controls() {
+            let cell = held_cell(self.board, firsts, &self.tables.quiet, *c);
+            let bit = rows.same(cell.bit);
+            rows.put(cell.position, bit);
+        }
+    }
+
+    // Drives the nets of the drivers that the pass has beside the steady ones: those that are always on, and those of its controls.
+    fn drive<S: CodeRows, E: CodeRows, M: CodeRows>(
+        &self,
+        shifted: &mut S,
+        expected: &mut E,
+        mask: &mut M,
+    )
+        ensures shifted_kind { S.kind shifted.new ≡ S.kind shifted.old }
+        ensures expected_kind { E.kind expected.new ≡ E.kind expected.old }
+        ensures mask_kind { M.kind mask.new ≡ M.kind mask.old }
+        ensures shifted { (j : ℕ) → S.shows (S.kind shifted.old) j → S.bits shifted.new j ≡ driven self.now.board.now self.now.tables.now (driver_bit self.now.tables.now.codes j) (S.bits shifted.old j) self.now.setting.now }
+        ensures expected { (j : ℕ) → E.shows (E.kind expected.old) j → E.bits expected.new j ≡ compared self.now.board.now self.now.tables.now (driver_bit self.now.tables.now.codes j) (E.bits expected.old j) self.now.setting.now }
+        ensures mask { (j : ℕ) → M.shows (M.kind mask.old) j → M.bits mask.new j ≡ compared self.now.board.now self.now.tables.now (λ d. true) (M.bits mask.old j) self.now.setting.now }
+    {
+        let readers = self.tables.readers.as_slice();
+        let codes = self.tables.codes.as_slice();
+        let always = self.tables.by_control.always.as_slice();
+        drive_nets(always, readers, codes, shifted, expected, mask);
+        for c in self.setting.controls() {
+            let drivers = controlled(
+                self.board,
+                self.tables.firsts.as_slice(),
+                self.tables.by_control.rows.as_slice(),
+                *c,
+            );
+            drive_nets(drivers, readers, codes, shifted, expected, mask);
+        }
     }
 }
 
@@ -149,13 +149,12 @@ impl<'a> PassOfPlan<'a> {
     {
         let _ = self.board.raw();
         let setting = pass_at(self.tables.passes.as_slice(), self.number);
-        hold_cells(
-            self.board,
-            self.tables.firsts.as_slice(),
-            &self.tables.quiet,
+        let pass = PassControls {
+            board: self.board,
+            tables: self.tables,
             setting,
-            shifted,
-        );
-        drive_setting(self.board, self.tables, setting, shifted, expected, mask);
+        };
+        pass.hold(shifted);
+        pass.drive(shifted, expected, mask);
     }
 }

@@ -4,7 +4,7 @@ ghost use Rattle.board_defs.specs.declared.board.RawBoard.{RawBoard};
 ghost use Rattle.board_defs.specs.Pins.{data_bits};
 ghost use Rattle.bt_bits.specs.Stacks.{stacked};
 ghost use Rattle.plan_tables.specs.declared.tables.PlanTables.{PlanTables as PlanRecord};
-ghost use Rattle.scan_planner.specs.PassRows.{AreCommonStacks, AreKept, ArePassRows, HaveRoom, KeepRoom};
+ghost use Rattle.scan_planner.specs.PassRows.{AreCommonStacks, AreKept, ArePassRows, HaveRoom, HaveRoomFor, KeepRoom};
 
 use crate::board_plan::PassOfPlan;
 use crate::code_rows::RowAt;
@@ -69,9 +69,7 @@ impl StackedRows {
 
     // Makes the rows those of others, for which they have room.
     fn copy_from(&mut self, rows: &StackedRows)
-        requires shifted { length (stacked rows.now.shifted 0) ≤ self.old.shifted.room }
-        requires expected { length (stacked rows.now.expected 0) ≤ self.old.expected.room }
-        requires mask { length rows.now.mask.bits ≤ self.old.mask.room }
+        requires { HaveRoomFor rows.now self.old }
         ensures shifted { (j : ℕ) → j < 16 → stacked self.new.shifted j ≡ stacked rows.now.shifted j }
         ensures expected { (j : ℕ) → j < 16 → stacked self.new.expected j ≡ stacked rows.now.expected j }
         ensures mask { self.new.mask.bits ≡ rows.now.mask.bits }

@@ -11,6 +11,7 @@ ghost use Rattle.scan_planner.specs.inner.Planned.{planned_board};
 
 use crate::board_plan::BoardPlan;
 use crate::common_rows::CommonRows;
+use crate::compared_rows::ComparedRows;
 use crate::pass_rows::PassRows;
 use board_defs::{Board, Items, Setting};
 use bt_bits::Row;
@@ -171,6 +172,6 @@ impl Plan {
     {
         self.on(board)
             .pass(pass as usize)
-            .compare_row(row, tdo, mask);
+            .compare_row(row, &mut ComparedRows { tdo, mask });
     }
 }

@@ -7,19 +7,17 @@ use Rattle.scan_planner.specs.inner.Planned.{PlannedBoard}
 use Rattle.scan_planner.proofs.FillLemmas.{quiet_tdo, quiet_mask}
 use Rattle.scan_planner.proofs.board_plan.BoardPlan.compare_nothing.Goals as goal
 
-pub returns-clause-tdo : goal.returns-clause-tdo
-returns-clause-tdo c scan quiet =
-    c.clear.ensures.bits
-    ∙ ap (λ n. replicate n false) c.dr_bits-len.ensures
-    ∙ quiet_tdo c.self.inside.board.now scan quiet
-    ∙ ap (λ (t : PlannedBoard). tdo_bits (joined (row_bits t.board scan))) c.self.view_is
-
-pub returns-clause-mask : goal.returns-clause-mask
-returns-clause-mask c scan quiet =
-    c.clear-2.ensures.bits
-    ∙ ap (λ n. replicate n false) c.dr_bits-len.ensures
-    ∙ quiet_mask c.self.inside.board.now scan quiet
-    ∙ ap (λ (t : PlannedBoard). mask_bits (joined (row_bits t.board scan))) c.self.view_is
+pub returns-clause-bits : goal.returns-clause-bits
+returns-clause-bits c scan quiet = record {
+  tdo = c.clear.ensures.bits
+      ∙ ap (λ n. replicate n false) c.dr_bits-len.ensures
+      ∙ quiet_tdo c.self.inside.board.now scan quiet
+      ∙ ap (λ (t : PlannedBoard). tdo_bits (joined (row_bits t.board scan))) c.self.view_is;
+  mask = c.clear-2.ensures.bits
+      ∙ ap (λ n. replicate n false) c.dr_bits-len.ensures
+      ∙ quiet_mask c.self.inside.board.now scan quiet
+      ∙ ap (λ (t : PlannedBoard). mask_bits (joined (row_bits t.board scan))) c.self.view_is;
+}
 
 pub returns-clause-nothing : goal.returns-clause-nothing
 returns-clause-nothing c = ap (λ (l : List Bool). list_any (λ bit. bit) l) c.clear-2.ensures.bits ∙ none_of_zeros c.dr_bits-len.result

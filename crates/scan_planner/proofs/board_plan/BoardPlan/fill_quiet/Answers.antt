@@ -14,7 +14,7 @@ returns-clause-filled c =
     fills board plan.passes plan.width 1 (scan_of_row board first_row_scan) _ _ _ _ (scans_placed board plan.passes plan.width).quiet s.some s.most
     (record {
       tdi = c.shift_quiet.ensures.bits first_row_scan refl;
-      tdo = c.compare_nothing.ensures.tdo first_row_scan refl;
-      mask = c.compare_nothing.ensures.mask first_row_scan refl;
+      tdo = (c.compare_nothing.ensures.bits first_row_scan refl).tdo;
+      mask = (c.compare_nothing.ensures.bits first_row_scan refl).mask;
     })
     refl (sym c.compare_nothing.ensures.nothing)

@@ -13,7 +13,7 @@ copy_row-requires c =
       arith,
       ap length (c.common-common.ensures.expected c.args.j c.expected_row.result.now c.expected_row.ensures),
       steady_compared_length test.board c.laws.ensures.rules test.plan c.laws.ensures.plan (driver_bit test.plan.codes c.args.j),
-      c.requires.tdo_room,
+      c.requires.room.tdo,
     )
 
 pub copy_row-requires-2 : goal.copy_row-requires-2
@@ -23,18 +23,14 @@ copy_row-requires-2 c =
       arith,
       ap length c.common-common.ensures.stacked.mask,
       steady_compared_length test.board c.laws.ensures.rules test.plan c.laws.ensures.plan (λ d. true),
-      c.requires.mask_room,
+      c.requires.room.mask,
     )
 
 pub invariant_of-expected : goal.invariant_of-expected
 invariant_of-expected c = omega (arith, c.requires.row, c.laws.ensures.few)
 
-pub returns-clause-tdo : goal.returns-clause-tdo
-returns-clause-tdo c =
+pub returns-clause-bits : goal.returns-clause-bits
+returns-clause-bits c =
     let expected = c.walk.ensures.expected c.args.j refl (c.copy_row.ensures.bits ∙ c.common-common.ensures.expected c.args.j c.expected_row.result.now c.expected_row.ensures) in
-    search rules
-
-pub returns-clause-mask : goal.returns-clause-mask
-returns-clause-mask c =
     let marked = c.walk.ensures.mask 0 c.args.j refl (c.copy_row-2.ensures.bits ∙ c.common-common.ensures.stacked.mask) in
     search rules

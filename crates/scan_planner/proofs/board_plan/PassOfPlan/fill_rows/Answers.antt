@@ -3,35 +3,18 @@ use Rattle.plan_tables.specs.Assigned.{driver_bit}
 use Rattle.scan_planner.proofs.FillLemmas.{steady_compared_length, steady_shifted_length}
 use Rattle.scan_planner.proofs.board_plan.PassOfPlan.fill_rows.Goals as goal
 
-pub copy_from-requires-clause-shifted : goal.copy_from-requires-clause-shifted
-copy_from-requires-clause-shifted c =
+pub copy_from-requires : goal.copy_from-requires
+copy_from-requires c =
     let test = c.args.self.now.test in
-    omega (
-      arith,
-      ap length (c.common.ensures.stacked.shifted 0 (omega arith)),
-      steady_shifted_length test.board c.laws.ensures.rules test.plan c.laws.ensures.plan 0,
-      c.requires.shifted,
-    )
-
-pub copy_from-requires-clause-expected : goal.copy_from-requires-clause-expected
-copy_from-requires-clause-expected c =
-    let test = c.args.self.now.test in
-    omega (
-      arith,
-      ap length (c.common.ensures.stacked.expected 0 (omega arith)),
-      steady_compared_length test.board c.laws.ensures.rules test.plan c.laws.ensures.plan (driver_bit test.plan.codes 0),
-      c.requires.expected,
-    )
-
-pub copy_from-requires-clause-mask : goal.copy_from-requires-clause-mask
-copy_from-requires-clause-mask c =
-    let test = c.args.self.now.test in
-    omega (
-      arith,
-      ap length c.common.ensures.stacked.mask,
-      steady_compared_length test.board c.laws.ensures.rules test.plan c.laws.ensures.plan (λ d. true),
-      c.requires.mask,
-    )
+    let all = c.common.ensures.stacked in
+    let first : 0 < 16 = omega arith in
+    let shifted = steady_shifted_length test.board c.laws.ensures.rules test.plan c.laws.ensures.plan 0 in
+    let compared = steady_compared_length test.board c.laws.ensures.rules test.plan c.laws.ensures.plan in
+    record {
+      shifted = omega (arith, ap length (all.shifted 0 first), shifted, c.requires.shifted);
+      expected = omega (arith, ap length (all.expected 0 first), compared (driver_bit test.plan.codes 0), c.requires.expected);
+      mask = omega (arith, ap length all.mask, compared (λ d. true), c.requires.mask);
+    }
 
 pub returns-clause-rows : goal.returns-clause-rows
 returns-clause-rows c =

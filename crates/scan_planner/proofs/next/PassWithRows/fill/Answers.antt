@@ -24,5 +24,5 @@ returns-clause-filled c =
     let within = subst (λ (p : PlannedPass). p.number < length p.test.plan.passes) c.self.view_is c.laws.ensures.within in
     fills_row pass.test.board rules pass.test.plan plan pass.number within c.args.j c.requires.row _ _ _ _
     refl
-    (record { tdi = c.shift.ensures.bits; tdo = c.compare_before.ensures.tdo; mask = c.compare_before.ensures.mask })
+    (record { tdi = c.shift.ensures.bits; tdo = c.compare_before.ensures.bits.tdo; mask = c.compare_before.ensures.bits.mask })
     c.compare_before.ensures.compare

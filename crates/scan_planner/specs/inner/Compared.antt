@@ -1,0 +1,22 @@
+-- The two rows of a scan that are compared, for the contracts of private functions: that they have room, what they hold, and that a call
+-- leaves them the rows that they were.
+use Rattle.std.specs.Prelude.{◌≡◌, ℕ, ◌≤◌, List}
+use Rattle.tap_defs.specs.chain.Scan.{ScanBit, mask_bits, tdo_bits}
+use Rattle.scan_planner.specs.declared.compared_rows.ComparedRows.{ComparedRows}
+
+-- both have room for so many bits
+pub record BothHaveRoom (bits : ℕ) (rows : ComparedRows) : Type 0 where
+  pub tdo : bits ≤ rows.tdo.now.room
+  pub mask : bits ≤ rows.mask.now.room
+
+-- they hold what a scan of these bits compares
+pub record HoldCompared (bits : List ScanBit) (rows : ComparedRows) : Type 0 where
+  pub tdo : rows.tdo.now.bits ≡ tdo_bits bits
+  pub mask : rows.mask.now.bits ≡ mask_bits bits
+
+-- they are the two that they were, with the room that each had
+pub record AreBothKept (old new : ComparedRows) : Type 0 where
+  pub tdo : new.tdo.ghost_name ≡ old.tdo.ghost_name
+  pub mask : new.mask.ghost_name ≡ old.mask.ghost_name
+  pub tdo_room : new.tdo.now.room ≡ old.tdo.now.room
+  pub mask_room : new.mask.now.room ≡ old.mask.now.room
