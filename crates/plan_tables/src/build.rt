@@ -1,7 +1,7 @@
 // Makes the tables of a plan.
 ghost use Rattle.std.specs.Prelude.{◌≡◌, ◌<◌, ◌≤◌, ◌^◌, length, IfOk};
 ghost use Rattle.net_pins.specs.Tables.{AreNetPins};
-ghost use Rattle.plan_tables.specs.Tables.{AreFirsts, pass_cells_of};
+ghost use Rattle.plan_tables.specs.Tables.{pass_cells_of};
 ghost use Rattle.plan_tables.specs.inner.Building.{observers};
 ghost use Rattle.plan_tables.specs.inner.Laid.{laid, quiet_bits};
 ghost use Rattle.plan_tables.specs.Plans.{ArePlannable, IsPlanOf};
@@ -11,6 +11,7 @@ use crate::codes::{number_nets, seen_nets};
 use crate::controls::driver_table;
 use crate::instructions::{Instruction, instruction_rows};
 use crate::observers::{Observer, net_observers};
+use crate::placed::PlacedBoard;
 use crate::quiet::quiet_row;
 use crate::rows::row_of;
 use crate::tables::{PassTables, PlanTables};
@@ -24,25 +25,23 @@ use std::alloc::{AllocError, Global};
 // The cells of the passes.
 fn pass_tables(
     alloc: Global,
-    board: &Board,
-    firsts: &[u32],
+    placed: &PlacedBoard,
     quiet: &Row,
     drivers: &[Observer],
     passes: &[Setting],
 ) -> Result<PassTables, AllocError>
-    requires firsts { AreFirsts board.now.chain firsts.now }
-    requires quiet { quiet.now.bits ≡ laid (quiet_bits board.now) board.now }
-    requires drivers { drivers.now ≡ observers board.now board.now.nets }
+    requires quiet { quiet.now.bits ≡ laid (quiet_bits placed.now.board.now) placed.now.board.now }
+    requires drivers { drivers.now ≡ observers placed.now.board.now placed.now.board.now.nets }
     requires few { length passes.now < 2 ^ 32 }
-    requires plannable { ArePlannable board.now passes.now }
-    ensures { IfOk result (λ tables. ArePassTables board.now passes.now tables.steady (pass_cells_of board.now quiet.now.bits tables.by_control)) }
+    requires plannable { ArePlannable placed.now.board.now passes.now }
+    ensures { IfOk result (λ tables. ArePassTables placed.now.board.now passes.now tables.steady (pass_cells_of placed.now.board.now quiet.now.bits tables.by_control)) }
 {
-    let _ = board.raw();
+    let _ = placed.board.raw();
     let count = passes.len() as u32;
-    let uses = uses_of(alloc, board, firsts, quiet, passes)?;
+    let uses = uses_of(alloc, placed, quiet, passes)?;
     let steady = steady_cells(alloc, &uses, count, drivers)?;
     let others = moving(alloc, &uses, count, drivers)?;
-    let by_control = driver_table(alloc, others.as_slice(), board.dr_bits() as usize)?;
+    let by_control = driver_table(alloc, others.as_slice(), placed.board.dr_bits() as usize)?;
     Ok(PassTables { steady, by_control })
 }
 
@@ -67,13 +66,16 @@ pub fn tables_of(
         drivers,
         readers: read,
     } = pins;
-    let firsts = parts.firsts.as_slice();
+    let placed = PlacedBoard {
+        board,
+        firsts: parts.firsts.as_slice(),
+    };
     let bits = quiet_row(alloc, board)?;
     let quiet = row_of(alloc, &bits)?;
     let readers = read.as_slice();
     let settings = passes.as_slice();
-    let tables = pass_tables(alloc, board, firsts, &quiet, observers.as_slice(), settings)?;
-    let seen = seen_nets(alloc, board, firsts, readers.len(), &tables, settings)?;
+    let tables = pass_tables(alloc, &placed, &quiet, observers.as_slice(), settings)?;
+    let seen = seen_nets(alloc, &placed, readers.len(), &tables, settings)?;
     let codes = number_nets(alloc, &seen)?;
     let width = width(codes.count);
     let preload = instruction_rows(alloc, Instruction::Preload, board)?;

@@ -4,12 +4,12 @@ ghost use Rattle.board_defs.specs.Limits.{most_nets};
 ghost use Rattle.board_defs.specs.declared.board.Ctl.{Ctl as ControlRecord};
 ghost use Rattle.board_defs.specs.Pins.{device_at, cell_count};
 ghost use Rattle.board_defs.specs.Settings.{holds};
-ghost use Rattle.plan_tables.specs.Tables.{AreFirsts};
 ghost use Rattle.plan_tables.specs.inner.Codes.{AreCodes, marked, marked_on, seen_in};
 
 use crate::controls::{DriverTable, controlled};
+use crate::placed::PlacedBoard;
 use crate::tables::{DriverCell, PassTables};
-use board_defs::{Board, Items, Setting};
+use board_defs::{Items, Setting};
 use lists::mark;
 use std::alloc::{AllocError, Global};
 
@@ -28,49 +28,42 @@ fn mark_all(flags: &mut [bool], cells: &[DriverCell])
     }
 }
 
-fn mark_pass(board: &Board, firsts: &[u32], table: &DriverTable, pass: &Setting, flags: &mut [bool])
-    requires firsts { AreFirsts board.now.chain firsts.now }
-    requires cells { (c : ControlRecord) → holds pass.now c ≡ true → c.cell < cell_count (device_at board.now c.part) }
-    ensures { flags.new ≡ marked_on board.now table.now flags.old pass.now }
+fn mark_pass(placed: &PlacedBoard, table: &DriverTable, pass: &Setting, flags: &mut [bool])
+    requires { (c : ControlRecord) → holds pass.now c ≡ true → c.cell < cell_count (device_at placed.now.board.now c.part) }
+    ensures { flags.new ≡ marked_on placed.now.board.now table.now flags.old pass.now }
 {
     mark_all(flags, table.always.as_slice());
     for c in pass.controls() {
-        mark_all(flags, controlled(board, firsts, table.rows.as_slice(), *c));
+        mark_all(
+            flags,
+            controlled(placed.board, placed.firsts, table.rows.as_slice(), *c),
+        );
     }
 }
 
-fn mark_passes(
-    board: &Board,
-    firsts: &[u32],
-    table: &DriverTable,
-    passes: &[Setting],
-    flags: &mut [bool],
-)
-    requires firsts { AreFirsts board.now.chain firsts.now }
-    requires cells { All (λ pass. (c : ControlRecord) → holds pass c ≡ true → c.cell < cell_count (device_at board.now c.part)) passes.now }
-    ensures { flags.new ≡ fold (marked_on board.now table.now) flags.old passes.now }
+fn mark_passes(placed: &PlacedBoard, table: &DriverTable, passes: &[Setting], flags: &mut [bool])
+    requires { All (λ pass. (c : ControlRecord) → holds pass c ≡ true → c.cell < cell_count (device_at placed.now.board.now c.part)) passes.now }
+    ensures { flags.new ≡ fold (marked_on placed.now.board.now table.now) flags.old passes.now }
 {
     for pass in passes {
-        mark_pass(board, firsts, table, pass, flags);
+        mark_pass(placed, table, pass, flags);
     }
 }
 
 /// Which of so many nets have a driver cell among the steady ones or those of a pass.
 pub fn seen_nets(
     alloc: Global,
-    board: &Board,
-    firsts: &[u32],
+    placed: &PlacedBoard,
     nets: usize,
     tables: &PassTables,
     passes: &[Setting],
 ) -> Result<Vec<bool>, AllocError>
-    requires firsts { AreFirsts board.now.chain firsts.now }
-    requires cells { All (λ pass. (c : ControlRecord) → holds pass c ≡ true → c.cell < cell_count (device_at board.now c.part)) passes.now }
-    ensures { IfOk result (λ seen. seen.items ≡ seen_in board.now nets tables.now.steady tables.now.by_control passes.now) }
+    requires { All (λ pass. (c : ControlRecord) → holds pass c ≡ true → c.cell < cell_count (device_at placed.now.board.now c.part)) passes.now }
+    ensures { IfOk result (λ seen. seen.items ≡ seen_in placed.now.board.now nets tables.now.steady tables.now.by_control passes.now) }
 {
     let mut seen = vec![in alloc; false; nets]?;
     mark_all(&mut seen, tables.steady.as_slice());
-    mark_passes(board, firsts, &tables.by_control, passes, &mut seen);
+    mark_passes(placed, &tables.by_control, passes, &mut seen);
     Ok(seen)
 }
 

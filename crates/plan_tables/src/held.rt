@@ -5,6 +5,7 @@ ghost use Rattle.board_defs.specs.Pins.{device_at, cell_count, data_bits};
 ghost use Rattle.board_defs.specs.Settings.{holds};
 ghost use Rattle.plan_tables.specs.Tables.{AreFirsts, held_cell};
 
+use crate::placed::PlacedBoard;
 use crate::tables::HeldCell;
 use board_defs::{Board, Ctl, Items, Setting};
 use bt_bits::Row;
@@ -30,19 +31,17 @@ pub fn held_cell(board: &Board, firsts: &[u32], quiet: &Row, c: Ctl) -> HeldCell
 /// The cells of the controls of a pass.
 pub fn held_cells(
     alloc: Global,
-    board: &Board,
-    firsts: &[u32],
+    placed: &PlacedBoard,
     quiet: &Row,
     pass: &Setting,
 ) -> Result<Items<HeldCell>, AllocError>
-    requires firsts { AreFirsts board.now.chain firsts.now }
-    requires quiet { length quiet.now.bits ≡ data_bits board.now }
-    requires cells { (c : ControlRecord) → holds pass.now c ≡ true → c.cell < cell_count (device_at board.now c.part) }
-    ensures { IfOk result (λ cells. cells ≡ map (held_cell board.now quiet.now.bits) pass.now) }
+    requires quiet { length quiet.now.bits ≡ data_bits placed.now.board.now }
+    requires cells { (c : ControlRecord) → holds pass.now c ≡ true → c.cell < cell_count (device_at placed.now.board.now c.part) }
+    ensures { IfOk result (λ cells. cells ≡ map (held_cell placed.now.board.now quiet.now.bits) pass.now) }
 {
     let mut cells = Vec::new(alloc);
     for c in pass.controls() {
-        cells.push(held_cell(board, firsts, quiet, *c))?;
+        cells.push(held_cell(placed.board, placed.firsts, quiet, *c))?;
     }
     Ok(Items::of(cells))
 }

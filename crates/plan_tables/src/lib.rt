@@ -12,6 +12,7 @@ mod controls;
 mod held;
 mod instructions;
 mod observers;
+mod placed;
 mod quiet;
 mod rows;
 mod tables;

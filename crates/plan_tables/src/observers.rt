@@ -5,9 +5,10 @@ ghost use Rattle.board_defs.specs.Limits.{most_nets};
 ghost use Rattle.board_defs.specs.BoardRules.{IsBoard};
 ghost use Rattle.net_pins.specs.NetCells.{drivers_of, readers_of};
 ghost use Rattle.net_pins.specs.Tables.{AreNetPins};
-ghost use Rattle.plan_tables.specs.Tables.{AreFirsts, control_position};
+ghost use Rattle.plan_tables.specs.Tables.{control_position};
 ghost use Rattle.plan_tables.specs.inner.Building.{IsControlThere, observer, observers_of, observers};
 
+use crate::placed::PlacedBoard;
 use crate::tables::DriverCell;
 use board_defs::{Board, Ctl, Items, Net};
 use net_pins::{NetDriver, NetPins, ReaderCell, cell_position};
@@ -21,24 +22,22 @@ pub struct Observer {
     pub cell: DriverCell,
 }
 
-fn control_position(board: &Board, firsts: &[u32], ctl: Option<Ctl>) -> Option<u32>
-    requires firsts { AreFirsts board.now.chain firsts.now }
-    requires there { IsControlThere board.now ctl }
-    ensures { result ≡ option_map (control_position board.now) ctl }
+fn control_position(placed: &PlacedBoard, ctl: Option<Ctl>) -> Option<u32>
+    requires { IsControlThere placed.now.board.now ctl }
+    ensures { result ≡ option_map (control_position placed.now.board.now) ctl }
 {
     match ctl {
         None => None,
-        Some(c) => Some(cell_position(board, firsts, c.part, c.cell)),
+        Some(c) => Some(cell_position(placed.board, placed.firsts, c.part, c.cell)),
     }
 }
 
-fn as_observer(board: &Board, firsts: &[u32], net: u32, driver: NetDriver) -> Observer
-    requires firsts { AreFirsts board.now.chain firsts.now }
-    requires there { IsControlThere board.now driver.ctl }
-    ensures { result ≡ observer board.now net driver }
+fn as_observer(placed: &PlacedBoard, net: u32, driver: NetDriver) -> Observer
+    requires { IsControlThere placed.now.board.now driver.ctl }
+    ensures { result ≡ observer placed.now.board.now net driver }
 {
     Observer {
-        control: control_position(board, firsts, driver.ctl),
+        control: control_position(placed, driver.ctl),
         cell: DriverCell {
             net,
             place: driver.place,
@@ -55,20 +54,18 @@ fn is_read_beside(readers: &[ReaderCell], place: u32) -> bool
 
 // Adds those of the drivers of a net beside which a pin is read.
 fn push_observers(
-    board: &Board,
-    firsts: &[u32],
+    placed: &PlacedBoard,
     net: u32,
     drivers: &[NetDriver],
     readers: &[ReaderCell],
     observers: &mut Vec<Observer>,
 ) -> Result<(), AllocError>
-    requires firsts { AreFirsts board.now.chain firsts.now }
-    requires there { All (λ d. IsControlThere board.now d.ctl) drivers.now }
-    ensures { OnOk result (observers.new.items ≡ observers.old.items ++ observers_of board.now net drivers.now readers.now) }
+    requires { All (λ d. IsControlThere placed.now.board.now d.ctl) drivers.now }
+    ensures { OnOk result (observers.new.items ≡ observers.old.items ++ observers_of placed.now.board.now net drivers.now readers.now) }
 {
     for driver in drivers {
         if is_read_beside(readers, driver.place) {
-            observers.push(as_observer(board, firsts, net, *driver))?;
+            observers.push(as_observer(placed, net, *driver))?;
         }
     }
     Ok(())
@@ -87,24 +84,22 @@ fn items_at<T>(rows: &[Items<T>], net: usize) -> &[T]
 // Those of these nets, which have these drivers and compared cells.
 fn observers_of_nets(
     alloc: Global,
-    board: &Board,
-    firsts: &[u32],
+    placed: &PlacedBoard,
     nets: &[Net],
     drivers: &[Items<NetDriver>],
     readers: &[Items<ReaderCell>],
 ) -> Result<Items<Observer>, AllocError>
-    requires firsts { AreFirsts board.now.chain firsts.now }
-    requires drivers { drivers.now ≡ map (drivers_of board.now) nets.now }
-    requires readers { readers.now ≡ map (λ net. readers_of board.now net.pins) nets.now }
+    requires drivers { drivers.now ≡ map (drivers_of placed.now.board.now) nets.now }
+    requires readers { readers.now ≡ map (λ net. readers_of placed.now.board.now net.pins) nets.now }
     requires count { length nets.now ≤ most_nets }
-    ensures { IfOk result (λ found. found ≡ observers board.now nets.now) }
+    ensures { IfOk result (λ found. found ≡ observers placed.now.board.now nets.now) }
 {
-    let _ = board.raw();
+    let _ = placed.board.raw();
     let mut observers = Vec::new(alloc);
     for n in 0..nets.len() {
         let own = items_at(drivers, n);
         let read = items_at(readers, n);
-        push_observers(board, firsts, n as u32, own, read, &mut observers)?;
+        push_observers(placed, n as u32, own, read, &mut observers)?;
     }
     Ok(Items::of(observers))
 }
@@ -119,7 +114,10 @@ pub fn net_observers(
     ensures { IfOk result (λ found. found ≡ observers board.now board.now.nets) }
 {
     let nets = board.raw().nets.as_slice();
-    let firsts = pins.tables.firsts.as_slice();
+    let placed = PlacedBoard {
+        board,
+        firsts: pins.tables.firsts.as_slice(),
+    };
     let drivers = pins.drivers.as_slice();
-    observers_of_nets(alloc, board, firsts, nets, drivers, pins.readers.as_slice())
+    observers_of_nets(alloc, &placed, nets, drivers, pins.readers.as_slice())
 }

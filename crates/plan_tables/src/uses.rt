@@ -3,13 +3,13 @@ ghost use Rattle.std.specs.Prelude.{◌≡◌, ◌+◌, ◌<◌, ◌^◌, true, 
 ghost use Rattle.board_defs.specs.declared.board.Ctl.{Ctl as ControlRecord};
 ghost use Rattle.board_defs.specs.Pins.{device_at, cell_count, data_bits};
 ghost use Rattle.board_defs.specs.Settings.{holds};
-ghost use Rattle.plan_tables.specs.Tables.{AreFirsts};
 ghost use Rattle.plan_tables.specs.inner.Steady.{marked_held, all_marked, held_by, run_at, all_run, AreRuns, AreUses, is_common, is_steady, steady_cells, moving};
 
 use crate::held::held_cells;
 use crate::observers::Observer;
+use crate::placed::PlacedBoard;
 use crate::tables::{DriverCell, HeldCell};
-use board_defs::{Board, Items, Setting};
+use board_defs::{Items, Setting};
 use bt_bits::Row;
 use lists::{is_set, mark};
 use std::alloc::{AllocError, Global};
@@ -53,23 +53,21 @@ fn run_all(runs: &mut [u32], k: u32, held: &[HeldCell])
 // Notes what these passes hold.
 fn note_passes(
     alloc: Global,
-    board: &Board,
-    firsts: &[u32],
+    placed: &PlacedBoard,
     quiet: &Row,
     passes: &[Setting],
     held: &mut [bool],
     runs: &mut [u32],
 ) -> Result<(), AllocError>
-    requires firsts { AreFirsts board.now.chain firsts.now }
-    requires quiet { length quiet.now.bits ≡ data_bits board.now }
+    requires quiet { length quiet.now.bits ≡ data_bits placed.now.board.now }
     requires few { length passes.now < 2 ^ 32 }
-    requires cells { All (λ pass. (c : ControlRecord) → holds pass c ≡ true → c.cell < cell_count (device_at board.now c.part)) passes.now }
-    requires runs { AreRuns (held_by board.now quiet.now.bits passes.now) runs.old }
-    ensures held { OnOk result (held.new ≡ all_marked board.now quiet.now.bits held.old passes.now) }
-    ensures runs { OnOk result (AreRuns (held_by board.now quiet.now.bits passes.now) runs.new) }
+    requires cells { All (λ pass. (c : ControlRecord) → holds pass c ≡ true → c.cell < cell_count (device_at placed.now.board.now c.part)) passes.now }
+    requires runs { AreRuns (held_by placed.now.board.now quiet.now.bits passes.now) runs.old }
+    ensures held { OnOk result (held.new ≡ all_marked placed.now.board.now quiet.now.bits held.old passes.now) }
+    ensures runs { OnOk result (AreRuns (held_by placed.now.board.now quiet.now.bits passes.now) runs.new) }
 {
     for k in 0..passes.len() {
-        let cells = held_cells(alloc, board, firsts, quiet, &passes[k])?;
+        let cells = held_cells(alloc, placed, quiet, &passes[k])?;
         mark_held(held, cells.as_slice());
         run_all(runs, k as u32, cells.as_slice());
     }
@@ -79,21 +77,19 @@ fn note_passes(
 /// What these passes hold.
 pub fn uses_of(
     alloc: Global,
-    board: &Board,
-    firsts: &[u32],
+    placed: &PlacedBoard,
     quiet: &Row,
     passes: &[Setting],
 ) -> Result<Uses, AllocError>
-    requires firsts { AreFirsts board.now.chain firsts.now }
-    requires quiet { length quiet.now.bits ≡ data_bits board.now }
+    requires quiet { length quiet.now.bits ≡ data_bits placed.now.board.now }
     requires few { length passes.now < 2 ^ 32 }
-    requires cells { All (λ pass. (c : ControlRecord) → holds pass c ≡ true → c.cell < cell_count (device_at board.now c.part)) passes.now }
-    ensures { IfOk result (λ uses. AreUses board.now quiet.now.bits passes.now uses) }
+    requires cells { All (λ pass. (c : ControlRecord) → holds pass c ≡ true → c.cell < cell_count (device_at placed.now.board.now c.part)) passes.now }
+    ensures { IfOk result (λ uses. AreUses placed.now.board.now quiet.now.bits passes.now uses) }
 {
     let bits = quiet.len() as usize;
     let mut held = vec![in alloc; false; bits]?;
     let mut runs = vec![in alloc; 0u32; bits]?;
-    note_passes(alloc, board, firsts, quiet, passes, &mut held, &mut runs)?;
+    note_passes(alloc, placed, quiet, passes, &mut held, &mut runs)?;
     Ok(Uses {
         held: Items::of(held),
         runs: Items::of(runs),

@@ -13,15 +13,15 @@ use Rattle.plan_tables.proofs.SteadyLemmas.{tables_are}
 use Rattle.plan_tables.proofs.build.pass_tables.Goals as goal
 
 pub uses_of-requires-clause-quiet : goal.uses_of-requires-clause-quiet
-uses_of-requires-clause-quiet c = ap (λ l. length l) c.requires.quiet ∙ length-laid (quiet_bits c.args.board.now) c.args.board.now
+uses_of-requires-clause-quiet c = ap (λ l. length l) c.requires.quiet ∙ length-laid (quiet_bits c.args.placed.now.board.now) c.args.placed.now.board.now
 
 pub uses_of-requires-clause-cells : goal.uses_of-requires-clause-cells
 uses_of-requires-clause-cells c k d less x on =
-    control_cells c.args.board.now c.raw.ensures.rules x (c.requires.plannable.controls k (get_or c.args.passes.now k d) x (slice_get-get_or c.args.passes.now k d less) on)
+    control_cells c.args.placed.now.board.now c.raw.ensures.rules x (c.requires.plannable.controls k (get_or c.args.passes.now k d) x (slice_get-get_or c.args.passes.now k d less) on)
 
 pub returns : goal.returns
 returns c =
-    let board = c.args.board.now in
+    let board = c.args.placed.now.board.now in
     let quiet = c.args.quiet.now.bits in
     let passes = c.args.passes.now in
     let uses = c.in_ok-uses.uses in

@@ -14,8 +14,8 @@ use Rattle.plan_tables.proofs.HeldLemmas.{control_cells}
 use Rattle.plan_tables.proofs.PlanLemmas.{is_plan, width_most, seen_most, count_most}
 use Rattle.plan_tables.proofs.build.tables_of.Goals as goal
 
-pub seen_nets-requires-clause-cells : goal.seen_nets-requires-clause-cells
-seen_nets-requires-clause-cells c =
+pub seen_nets-requires : goal.seen_nets-requires
+seen_nets-requires c =
     rw c.as_slice-settings.ensures (λ k d less x on.
     control_cells c.args.board.now c.raw.ensures.rules x (c.requires.plannable.controls k (get_or c.args.passes k d) x (slice_get-get_or c.args.passes k d less) on))
 

@@ -12,16 +12,16 @@ use Rattle.plan_tables.proofs.ListLemmas.{row_is}
 use Rattle.plan_tables.proofs.ObserverLemmas.{controls_there}
 use Rattle.plan_tables.proofs.observers.observers_of_nets.Goals as goal
 
-pub push_observers-requires-clause-there : goal.push_observers-requires-clause-there
-push_observers-requires-clause-there c =
-    let board = c.args.board.now in
+pub push_observers-requires : goal.push_observers-requires
+push_observers-requires c =
+    let board = c.args.placed.now.board.now in
     let net = item_there c.args.nets.now c.loop-n.n c.loop-n-test.true in
     controls_there board c.raw.ensures.rules net.0 c.items_at-own.result.now
     (c.items_at-own.ensures ∙ row_is (drivers_of board) c.args.nets.now c.args.drivers.now c.loop-n.n net.0 c.requires.drivers net.1)
 
 pub loop-n-preserved : goal.loop-n-preserved
 loop-n-preserved c =
-    let board = c.args.board.now in
+    let board = c.args.placed.now.board.now in
     let nets = c.args.nets.now in
     let n = c.loop-n.n in
     let there = item_there nets n c.loop-n-test.true in

@@ -10,7 +10,7 @@ use Rattle.plan_tables.proofs.uses.note_passes.Goals as goal
 
 pub loop-k-preserved : goal.loop-k-preserved
 loop-k-preserved c =
-    let board = c.args.board.now in
+    let board = c.args.placed.now.board.now in
     let quiet = c.args.quiet.now.bits in
     let passes = c.args.passes.now in
     let k = c.loop-k.k in
