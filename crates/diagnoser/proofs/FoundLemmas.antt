@@ -2,18 +2,26 @@
 use Rattle.std.proofs.Common.{◌≡◌, ℕ, ◌+◌, ◌<◌, ◌≤◌, Bool, true, false, cond, List, [], ◌∷◌, ◌++◌, length, Option, Some, None, Result, Ok, Err, refl, sym, ap, ◌∙◌, subst, inl, inr}
 use Rattle.std.specs.Prelude.{filter_map, slice_get, option_and_then, Decides, IfOk}
 use Rattle.std.specs.List.{cons_option}
+use Rattle.std.proofs.lemmas.Bool.{both_ways}
 use Rattle.std.proofs.lemmas.List.Elements.{filter_map-append}
 use Rattle.std.proofs.lemmas.Option.{slice_get_within, get_or_from_slice_get}
 use Rattle.board_defs.specs.declared.fault.Single.{Single}
+use Rattle.board_defs.specs.BoardRules.{IsBoard}
+use Rattle.board_defs.specs.Faults.{IsSingle}
+use Rattle.board_defs.specs.Passes.{ArePasses}
 use Rattle.tap_defs.specs.board.Explaining.{Explains}
-use Rattle.fault_sim.specs.Places.{places_of, fault_at}
+use Rattle.plan_tables.specs.declared.tables.PlanTables.{PlanTables}
+use Rattle.scan_planner.specs.Plans.{IsPlanOf}
+use Rattle.fault_sim.specs.Places.{fault_at, listed_at, listed_places, observes_fault, places_of, where_observed}
+use Rattle.fault_sim.proofs.OrderLemmas.{place_single}
+use Rattle.fault_sim.proofs.UniverseLemmas.{listed_are}
 use Rattle.side_by_side.specs.declared.pieces.Piece.{Piece}
 use Rattle.side_by_side.specs.Pieces.{GivesTogether, items_between, piece_of, piece_start, said_then, seen}
 use Rattle.side_by_side.proofs.PieceLemmas.{IsOfRanges, of_pieces}
 use Rattle.side_by_side.proofs.RangeLemmas.{range_sum, range_none, range_one}
 use Rattle.diagnoser.specs.declared.search.Search.{Search}
 use Rattle.fault_sim.specs.Diagnosis.{Picks}
-use Rattle.diagnoser.specs.inner.Search.{faults_between, Found}
+use Rattle.diagnoser.specs.inner.Search.{faults_between, Found, IsSearch}
 use Rattle.diagnoser.proofs.ThoseLemmas.{those_append}
 
 pub found_append : (s : Search) (from middle to : ℕ) (a b : List Single) → from ≤ middle → middle ≤ to → Found s from middle a → Found s middle to b → Found s from to (a ++ b)
@@ -34,22 +42,58 @@ one_candidate : (s : Search) (i place : ℕ) → slice_get s.suspects.now i ≡ 
 one_candidate s i place at =
     ap (filter_map (fault_at s.logged.now.test.board)) (range_one s.suspects.now i place (slice_get_within s.suspects.now i place at) (sym (get_or_from_slice_get s.suspects.now i place place at)))
 
-pub found_none : (s : Search) (i place : ℕ) → slice_get s.suspects.now i ≡ Some place → slice_get (places_of s.logged.now.test.board) place ≡ Some None → Found s i (i + 1) []
-found_none s i place at no_fault =
-    let none : fault_at s.logged.now.test.board place ≡ None = ap (λ (o : Option (Option Single)). option_and_then (λ p. p) o) no_fault in
+found_none : (s : Search) (i place : ℕ) → slice_get s.suspects.now i ≡ Some place → fault_at s.logged.now.test.board place ≡ None → Found s i (i + 1) []
+found_none s i place at none =
     let empty : [] ≡ faults_between s i (i + 1) = sym (one_candidate s i place at ∙ ap (λ (o : Option Single). cons_option o []) none) in
     subst (λ (l : List Single). Picks (λ q. Explains s.logged.now.test.board q s.logged.now.log) l []) empty refl
 
-pub found_one : (s : Search) (i place : ℕ) (single : Single) (holds : Bool) → slice_get s.suspects.now i ≡ Some place → slice_get (places_of s.logged.now.test.board) place ≡ Some (Some single) →
+found_one : (s : Search) (i place : ℕ) (single : Single) (holds : Bool) → slice_get s.suspects.now i ≡ Some place → fault_at s.logged.now.test.board place ≡ Some single →
     Decides holds (Explains s.logged.now.test.board single s.logged.now.log) → Found s i (i + 1) (cond holds (single ∷ []) [])
-found_one s i place single holds at fault decides =
-    let some : fault_at s.logged.now.test.board place ≡ Some single = ap (λ (o : Option (Option Single)). option_and_then (λ p. p) o) fault in
+found_one s i place single holds at some decides =
     let one : single ∷ [] ≡ faults_between s i (i + 1) = sym (one_candidate s i place at ∙ ap (λ (o : Option Single). cons_option o []) some) in
     subst (λ (l : List Single). Picks (λ q. Explains s.logged.now.test.board q s.logged.now.log) l (cond holds (single ∷ []) [])) one (by_test holds decides)
   where
     by_test : (b : Bool) → Decides b (Explains s.logged.now.test.board single s.logged.now.log) → Picks (λ q. Explains s.logged.now.test.board q s.logged.now.log) (single ∷ []) (cond b (single ∷ []) [])
     by_test true decides = inl ([], decides.0 refl, refl, refl)
     by_test false decides = inr ((λ explains. let bad : false ≡ true = decides.1 explains in cc bad), refl)
+
+-- what a place has whose fault this is if it has one
+module _ (s : Search) (rules : IsBoard s.logged.now.test.board) (p : IsPlanOf s.logged.now.test.board s.logged.now.test.plan) (are : ArePasses s.logged.now.test.board s.logged.now.test.plan.passes) (search : IsSearch s) (place : ℕ) where
+  abbrev plan : PlanTables
+  plan = s.logged.now.test.plan
+
+  place_has : (fault : Option Single) → ((plan : PlanTables) → listed_at (listed_places plan s.universe.now) place ≡ where_observed plan fault) → fault_at s.logged.now.test.board place ≡ where_observed plan fault
+  place_has fault candidate =
+      sym (ap (λ (l : List (Option Single)). listed_at l place) (listed_are s.logged.now.test.board rules plan p are s.universe.now search.universe)) ∙ candidate plan
+
+  -- no fault
+  pub found_no_fault : (i : ℕ) → slice_get s.suspects.now i ≡ Some place → ((plan : PlanTables) → listed_at (listed_places plan s.universe.now) place ≡ None) → Found s i (i + 1) []
+  found_no_fault i at candidate = found_none s i place at (place_has None candidate)
+
+  module _ (fault : Single) (candidate : (plan : PlanTables) → listed_at (listed_places plan s.universe.now) place ≡ where_observed plan (Some fault)) where
+    -- a fault of the board, where some pass observes its nets
+    pub candidate_single : observes_fault plan fault ≡ true → IsSingle s.logged.now.test.board fault
+    candidate_single observed =
+        place_single s.logged.now.test.board rules place fault (there (slice_get (places_of s.logged.now.test.board) place) (place_has (Some fault) candidate ∙ ap (λ (b : Bool). cond b (Some fault) None) observed))
+      where
+        there : (o : Option (Option Single)) → option_and_then (λ p. p) o ≡ Some fault → o ≡ Some (Some fault)
+        there None e = cc e
+        there (Some None) e = cc e
+        there (Some (Some other)) e = ap Some e
+
+    pub found_candidate : (i : ℕ) (holds : Bool) → slice_get s.suspects.now i ≡ Some place →
+        Decides holds ((observes_fault plan fault ≡ true) × Explains s.logged.now.test.board fault s.logged.now.log) → Found s i (i + 1) (cond holds (fault ∷ []) [])
+    found_candidate i holds at decides = by_test (observes_fault plan fault) refl
+      where
+        by_answer : (b : Bool) → holds ≡ b → observes_fault plan fault ≡ false → Found s i (i + 1) (cond b (fault ∷ []) [])
+        by_answer true e off = absurd (both_ways (observes_fault plan fault) off (decides.0 e).0)
+        by_answer false e off = found_none s i place at (place_has (Some fault) candidate ∙ ap (λ (b : Bool). cond b (Some fault) None) off)
+
+        by_test : (t : Bool) → observes_fault plan fault ≡ t → Found s i (i + 1) (cond holds (fault ∷ []) [])
+        by_test true on =
+            found_one s i place fault holds at (place_has (Some fault) candidate ∙ ap (λ (b : Bool). cond b (Some fault) None) on)
+            (λ e. (decides.0 e).1, λ explains. decides.1 (on, explains))
+        by_test false off = by_answer holds refl off
 
 -- what was found of neighbouring ranges
 found_ranges : (s : Search) (items : ℕ) {E : Type 0} → IsOfRanges {E = E} items (λ from to said. IfOk said (Found s from to))

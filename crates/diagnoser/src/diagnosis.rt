@@ -121,9 +121,11 @@ pub fn diagnose_logged<R: Threads + Sync, G: Gate>(
     let _rules = board.raw();
     law::suspects_suffice();
     let suspects = Suspects::of_nets(alloc, board, plan, universe, log, nets)?;
+    let telling = logged.telling_net(nets);
     let search = Search {
         logged,
         nets,
+        telling: &telling,
         universe,
         suspects: &suspects,
     };

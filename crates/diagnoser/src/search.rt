@@ -1,35 +1,75 @@
 // The search for the faults that explain a log, in pieces that run side by side.
-ghost use Rattle.std.specs.Prelude.{◌≡◌, ◌+◌, ◌<◌, ◌≤◌, ◌++◌, length, IfOk, OnOk};
+ghost use Rattle.std.specs.Prelude.{◌≡◌, ◌+◌, ◌<◌, ◌≤◌, ◌++◌, true, length, Decides, IfOk, OnOk};
 ghost use Rattle.std.specs.Option.{option_to_list};
+ghost use Rattle.board_defs.specs.Faults.{IsSingle};
+ghost use Rattle.tap_defs.specs.board.Explaining.{Explains};
+ghost use Rattle.fault_sim.specs.Places.{observes_fault};
 ghost use Rattle.diagnoser.specs.inner.Search.{IsSearch, Found};
 
 use board_defs::Single;
+use board_defs::law::passes_kept;
 use bt_base::Gate;
-use fault_sim::{LoggedTest, Suspects, Universe};
+use fault_sim::{LoggedTest, Suspects, TellingNet, Universe};
 use side_by_side::{Piece, in_pieces};
 use std::alloc::{AllocError, Global};
 use std::thread::Threads;
 
-/// A log with its test, the nets that differ in it, and its candidates, which are the places of the faults that may explain it.
+/// A log with its test, the nets that differ in it and what one of them tells, and its candidates, which are the places of the faults that
+/// may explain it.
 #[derive(Clone, Copy)]
 pub struct Search<'a, 'b> {
     pub logged: &'a LoggedTest<'b>,
     pub nets: &'a [u32],
+    pub telling: &'a Option<TellingNet<'b>>,
     pub universe: &'a Universe,
     pub suspects: &'a Suspects,
 }
 
-// Tries candidate `i` for a piece: its fault, where it explains the log.
-fn try_candidate<G: Gate>(search: Search<'_, '_>, piece: u32, i: u64, gate: &G) -> Option<Single>
+// Whether the net that tells most rules a fault out.
+fn is_ruled_out(search: Search<'_, '_>, fault: Single) -> bool
+    requires { IsSearch search }
+    ensures { result ≡ true → IsSingle search.entry.logged.now.test.board fault → Explains search.entry.logged.now.test.board fault search.entry.logged.now.log → ⊥ }
+{
+    match search.telling {
+        None => false,
+        Some(net) => net.rules_out(fault),
+    }
+}
+
+// Whether the fault of a candidate is one of the board and explains the log. Few are left once the net that tells most was asked.
+fn explains(search: Search<'_, '_>, fault: Single) -> bool
+    requires search { IsSearch search }
+    requires fault { observes_fault search.logged.now.test.plan fault ≡ true → IsSingle search.logged.now.test.board fault }
+    ensures { Decides result ((observes_fault search.entry.logged.now.test.plan fault ≡ true) × Explains search.entry.logged.now.test.board fault search.entry.logged.now.log) }
+{
+    if is_ruled_out(search, fault) {
+        return false;
+    }
+    if !search.logged.test().observes(fault) {
+        return false;
+    }
+    search.logged.matches_by(fault, search.nets)
+}
+
+// Tries candidate `i` for a piece: its fault, where it explains the log. The last look-up of a place ended at `near`.
+fn try_candidate<G: Gate>(
+    search: Search<'_, '_>,
+    piece: u32,
+    i: u64,
+    near: &mut usize,
+    gate: &G,
+) -> Option<Single>
     requires search { IsSearch search }
     requires candidate { i < length search.suspects.now }
     ensures { Found search.entry i (i + 1) (option_to_list result) }
 {
+    let _plan = search.logged.plan();
     let _rules = search.logged.board().raw();
+    passes_kept();
     let place = search.suspects.place(i);
     gate.enter(piece, place);
-    let fault = search.universe.at_in(search.logged.test(), place)?;
-    if search.logged.matches_by(fault, search.nets) {
+    let fault = search.universe.candidate(place, near)?;
+    if explains(search, fault) {
         Some(fault)
     } else {
         None
@@ -58,8 +98,10 @@ fn search_piece<G: Gate>(
     ensures { IfOk result (λ faults. Found search.entry piece.first piece.end faults.items) }
 {
     let mut faults = Vec::new(alloc);
+    let mut near = 0;
     for i in piece.first..piece.end {
-        push_some(&mut faults, try_candidate(search, piece.number, i, gate))?;
+        let fault = try_candidate(search, piece.number, i, &mut near, gate);
+        push_some(&mut faults, fault)?;
     }
     Ok(faults)
 }

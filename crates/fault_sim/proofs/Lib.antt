@@ -7,6 +7,7 @@ pub mod RangeLemmas
 pub mod TestedLemmas
 pub mod KeptLemmas
 pub mod PassLemmas
+mod TellingLemmas
 pub mod UniverseLemmas
 pub mod SuspectLemmas
 pub mod MarkLemmas

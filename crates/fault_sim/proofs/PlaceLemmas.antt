@@ -26,7 +26,7 @@ use Rattle.plan_tables.specs.declared.tables.PlanTables.{PlanTables}
 use Rattle.fault_sim.specs.declared.fault_lists.FaultLists.{FaultLists}
 use Rattle.fault_sim.specs.inner.Tested.{paired_in}
 use Rattle.fault_sim.specs.Laws.{PlacesAre}
-use Rattle.fault_sim.specs.Places.{placed, pair_places, stuck_places, open_places, short_places, number_places, listed_at, listed_places, place_count}
+use Rattle.fault_sim.specs.Places.{placed, pair_places, stuck_places, open_places, short_places, number_places, listed_at, listed_places, place_count, where_observed}
 use Rattle.fault_sim.specs.Starts.{pairs_before, AreStarts}
 
 -- what is at the places of some faults
@@ -289,6 +289,27 @@ placed_there faults i = ap at_once (slice_get-map (λ f. Some f) faults i) ∙ b
     by_fault None = refl
     by_fault (Some fault) = refl
 
+-- the net of a stuck net or an open pin that is at a place is observed
+stuck_observed : (plan : PlanTables) (nets : List ℕ) (i : ℕ) → where_observed plan (slice_get (flat_map stuck_faults nets) i) ≡ slice_get (flat_map stuck_faults nets) i
+stuck_observed plan [] i = refl
+stuck_observed plan (n ∷ nets) zero = refl
+stuck_observed plan (n ∷ nets) (suc zero) = refl
+stuck_observed plan (n ∷ nets) (suc (suc i)) = stuck_observed plan nets i
+
+open_observed : (plan : PlanTables) (pins : List PinRef) (i : ℕ) → where_observed plan (slice_get (flat_map open_faults pins) i) ≡ slice_get (flat_map open_faults pins) i
+open_observed plan [] i = refl
+open_observed plan (pin ∷ pins) zero = refl
+open_observed plan (pin ∷ pins) (suc zero) = refl
+open_observed plan (pin ∷ pins) (suc (suc i)) = open_observed plan pins i
+
+-- two nets have the faults of their short where some pass observes both
+pub short_there : (plan : PlanTables) (a b r : ℕ) (kind : Kind) → r < 4 → kind_rank kind ≡ r → at_once (slice_get (number_places plan (a, b)) r) ≡ where_observed plan (Some (Short a b kind))
+short_there plan a b r kind less rank = by_test (paired_in plan a b)
+  where
+    by_test : (t : Bool) → at_once (slice_get (cond t (placed (short_faults a b)) (None ∷ None ∷ None ∷ None ∷ [])) r) ≡ cond t (Some (Short a b kind)) None
+    by_test true = ap at_once (slice_get-map (λ f. Some f) (short_faults a b) r ∙ ap (λ (o : Option Single). option_map (λ f. Some f) o) (short_fault a b r kind rank))
+    by_test false = ap at_once (no_fault r less)
+
 -- each place has one or none
 pub listed_there : (places : List (Option Single)) (i : ℕ) (fault : Option Single) → i < length places → fault ≡ listed_at places i → slice_get places i ≡ Some fault
 listed_there places i fault less e = let place = item_there places i less in place.1 ∙ ap Some (sym (e ∙ ap at_once place.1))
@@ -328,19 +349,18 @@ module _ (plan : PlanTables) (lists : FaultLists) where
         length-pairs lists.nets,
       )
 
-  pub stuck_listed : (i : ℕ) (fault : Option Single) → i < 2 * length lists.nets → fault ≡ slice_get (flat_map stuck_faults lists.nets) i → fault ≡ listed_at (listed_places plan lists) i
+  pub stuck_listed : (i : ℕ) (fault : Option Single) → i < 2 * length lists.nets → fault ≡ slice_get (flat_map stuck_faults lists.nets) i → listed_at (listed_places plan lists) i ≡ where_observed plan fault
   stuck_listed i fault less e =
-      e
-      ∙ sym (ap at_once (front_at stuck (opens ++ shorts) i (omega (arith, less, stuck_length)))
-      ∙ placed_there (flat_map stuck_faults lists.nets) i)
+      ap at_once (front_at stuck (opens ++ shorts) i (omega (arith, less, stuck_length)))
+      ∙ placed_there (flat_map stuck_faults lists.nets) i
+      ∙ sym (ap (λ (o : Option Single). where_observed plan o) e ∙ stuck_observed plan lists.nets i)
 
-  pub open_listed : (i k : ℕ) (fault : Option Single) → i ≡ 2 * length lists.nets + k → k < 2 * length lists.pins → fault ≡ slice_get (flat_map open_faults lists.pins) k → fault ≡ listed_at (listed_places plan lists) i
+  pub open_listed : (i k : ℕ) (fault : Option Single) → i ≡ 2 * length lists.nets + k → k < 2 * length lists.pins → fault ≡ slice_get (flat_map open_faults lists.pins) k → listed_at (listed_places plan lists) i ≡ where_observed plan fault
   open_listed i k fault at less e =
-      e
-      ∙ sym (ap at_once (rest_at stuck (opens ++ shorts) k i (omega (arith, at, stuck_length)) ∙ front_at opens shorts k (omega (arith, less, opens_length)))
-      ∙ placed_there (flat_map open_faults lists.pins) k)
+      ap at_once (rest_at stuck (opens ++ shorts) k i (omega (arith, at, stuck_length)) ∙ front_at opens shorts k (omega (arith, less, opens_length)))
+      ∙ placed_there (flat_map open_faults lists.pins) k
+      ∙ sym (ap (λ (o : Option Single). where_observed plan o) e ∙ open_observed plan lists.pins k)
 
-  pub short_listed : (i k : ℕ) (fault : Option Single) → i ≡ 2 * length lists.nets + (2 * length lists.pins + k) → fault ≡ listed_at shorts k → fault ≡ listed_at (listed_places plan lists) i
+  pub short_listed : (i k : ℕ) (fault : Option Single) → i ≡ 2 * length lists.nets + (2 * length lists.pins + k) → listed_at shorts k ≡ where_observed plan fault → listed_at (listed_places plan lists) i ≡ where_observed plan fault
   short_listed i k fault at e =
-      e
-      ∙ sym (ap at_once (rest_at stuck (opens ++ shorts) (2 * length lists.pins + k) i (omega (arith, at, stuck_length)) ∙ rest_at opens shorts k (2 * length lists.pins + k) (omega (arith, opens_length))))
+      ap at_once (rest_at stuck (opens ++ shorts) (2 * length lists.pins + k) i (omega (arith, at, stuck_length)) ∙ rest_at opens shorts k (2 * length lists.pins + k) (omega (arith, opens_length))) ∙ e

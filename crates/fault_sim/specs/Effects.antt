@@ -17,6 +17,7 @@ use Rattle.plan_tables.specs.Building.{enabled_in, is_read_beside}
 use Rattle.fault_sim.specs.declared.feed.Source.{Source}
 use Rattle.fault_sim.specs.declared.feed.Source.TheVariants.{Code, Fixed}
 use Rattle.fault_sim.specs.declared.feed.Feed.{Feed}
+use Rattle.fault_sim.specs.declared.feed.FedNet.{FedNet}
 use Rattle.fault_sim.specs.declared.effect.Effect.{Effect}
 use Rattle.fault_sim.specs.declared.effect.Effect.TheVariants.{Plain, Constant, AtPin, Shorted}
 
@@ -83,14 +84,22 @@ pull_in board n = pulled_to (slice_get board.nets n)
 abbrev pub net_feed : RawBoard → PlanTables → List Ctl → ℕ → Option Feed
 net_feed board plan pass n = feed_in plan pass n (pull_in board n)
 
+-- what the net gets from a pass of the board: what drives it and what it is pulled to
+abbrev pub fed_net : RawBoard → PlanTables → List Ctl → ℕ → FedNet
+fed_net board plan pass n = record { feed = net_feed board plan pass n; pull = pull_in board n }
+
 -- the effect on the net of an open pin: on all its cells where the pin is that of the enabled driver, else on those of the pin
 abbrev pub open_effect : Option ℕ → ℕ → Bool → Option Bool → Effect
 open_effect None place value pull = AtPin place value
 open_effect (Some driver) place value pull = cond (driver == place) (Constant (unwrap_or pull value)) (AtPin place value)
 
+-- the effect on two shorted nets of what both get
+abbrev pub shorted_effect : Kind → FedNet → FedNet → Effect
+shorted_effect kind first second = Shorted kind first.feed second.feed (shorted kind first.pull second.pull)
+
 -- the effect on the nets of a short
 abbrev pub short_effect : RawBoard → PlanTables → List Ctl → ℕ → ℕ → Kind → Effect
-short_effect board plan pass a b kind = Shorted kind (net_feed board plan pass a) (net_feed board plan pass b) (shorted kind (pull_in board a) (pull_in board b))
+short_effect board plan pass a b kind = shorted_effect kind (fed_net board plan pass a) (fed_net board plan pass b)
 
 -- the effect of a single fault on net n in the rows of a pass
 abbrev pub effect_of : RawBoard → PlanTables → List Ctl → Single → ℕ → Effect

@@ -29,6 +29,10 @@ abbrev pub ShowBy : List (List Bool) → ℕ → ℕ → ℕ → List ReaderCell
 ShowBy log first width code readers effect None = Unit {0}
 ShowBy log first width code readers effect (Some driver) = ShowRows log first width code readers effect driver
 
+-- the log shows an effect on net n in pass x, in which the pin of its driver, where it has one, stands at this place
+abbrev pub ShowsEffect : PlanTables → List (List Bool) → ℕ → ℕ → Effect → Option ℕ → Type 0
+ShowsEffect plan log x n effect driver = ShowBy log (x * plan.width) plan.width (code_in plan n) (readers_in plan n) effect driver
+
 -- the log shows the effect on net n in a pass whose rows begin at this one
 abbrev pub NetShows : RawBoard → PlanTables → Option Single → List (List Bool) → ℕ → List Ctl → ℕ → Type 0
 NetShows board plan fault log first pass n =

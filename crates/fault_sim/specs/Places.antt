@@ -1,8 +1,9 @@
 -- The places of a board: each has a single fault, or none where two covered nets are not paired.
-use Rattle.std.specs.Prelude.{◌≡◌, ℕ, ◌+◌, ◌*◌, List, [], ◌∷◌, ◌++◌, map, cond, length, slice_get, Option, Some, None, option_and_then}
+use Rattle.std.specs.Prelude.{◌≡◌, ℕ, ◌+◌, ◌*◌, Bool, true, List, [], ◌∷◌, ◌++◌, map, cond, length, slice_get, Option, Some, None, option_and_then}
 use Rattle.std.specs.List.{flat_map}
 use Rattle.board_defs.specs.declared.board.RawBoard.{RawBoard}
 use Rattle.board_defs.specs.declared.fault.Single.{Single}
+use Rattle.board_defs.specs.declared.fault.Single.TheVariants.{StuckNet, OpenPin, Short}
 use Rattle.board_defs.specs.Decided.{are_paired}
 use Rattle.board_defs.specs.Faults.{Numbered, covered_nets, tested_pins, stuck_faults, open_faults, short_faults}
 use Rattle.board_defs.specs.Passes.{pairs_within}
@@ -54,6 +55,17 @@ number_places plan pair = cond (paired_in plan pair.0 pair.1) (placed (short_fau
 abbrev pub listed_places : PlanTables → FaultLists → List (Option Single)
 listed_places plan lists =
     placed (flat_map stuck_faults lists.nets) ++ (placed (flat_map open_faults lists.pins) ++ flat_map (number_places plan) (pairs_within lists.nets))
+
+-- some pass observes all nets of a fault that is at a place: both of a short; the net of a stuck net or of an open pin always is
+abbrev pub observes_fault : PlanTables → Single → Bool
+observes_fault plan (StuckNet net value) = true
+observes_fault plan (OpenPin pin value) = true
+observes_fault plan (Short a b kind) = paired_in plan a b
+
+-- the fault of a place, where it has one that is observed
+abbrev pub where_observed : PlanTables → Option Single → Option Single
+where_observed plan None = None
+where_observed plan (Some fault) = cond (observes_fault plan fault) (Some fault) None
 
 -- two places for each covered net, two for each tested pin and four for each pair of covered nets
 abbrev pub place_count : FaultLists → ℕ

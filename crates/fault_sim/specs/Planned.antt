@@ -40,10 +40,22 @@ planned_pass test number = record { test = test; number = number }
 abbrev pub controls_of : PlannedPass → List Ctl
 controls_of pass = slice_index_or pass.test.plan.passes pass.number []
 
--- the same with a log
+-- a pass of a log, by its number
 pub record PassOfLog : Type 0 where
   pub logged : LoggedBoard
   pub number : ℕ
 
 abbrev pub pass_of_log : LoggedBoard → ℕ → PassOfLog
 pass_of_log logged number = record { logged = logged; number = number }
+
+-- the controls that it holds
+abbrev pub controls_in : PassOfLog → List Ctl
+controls_in pass = slice_index_or pass.logged.test.plan.passes pass.number []
+
+-- a net in a pass of a log
+pub record NetInPass : Type 0 where
+  pub pass : PassOfLog
+  pub net : ℕ
+
+abbrev pub net_in_pass : PassOfLog → ℕ → NetInPass
+net_in_pass pass net = record { pass = pass; net = net }

@@ -4,3 +4,4 @@ pub mod Tested
 pub mod Marks
 pub mod Suspects
 pub mod Kept
+pub mod Telling

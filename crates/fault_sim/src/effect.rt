@@ -2,10 +2,10 @@
 ghost use Rattle.std.specs.Prelude.{◌≡◌, ◌==◌, ◌||◌, unwrap_or};
 ghost use Rattle.tap_defs.specs.board.NetBits.{or_else};
 ghost use Rattle.tap_defs.specs.board.SingleBits.{shorted};
-ghost use Rattle.fault_sim.specs.Effects.{open_effect, short_effect, effect_of, effect_in, effect_bit};
+ghost use Rattle.fault_sim.specs.Effects.{open_effect, shorted_effect, short_effect, effect_of, effect_in, effect_bit};
 ghost use Rattle.fault_sim.specs.Planned.{controls_of};
 
-use crate::feed::{Feed, feed_bit};
+use crate::feed::{FedNet, Feed, feed_bit};
 use crate::passes::TestPass;
 use board_defs::{Kind, Single};
 
@@ -68,16 +68,23 @@ fn open_effect(driver: Option<u32>, place: u32, value: bool, pull: Option<bool>)
     }
 }
 
+/// The effect on two shorted nets of what both get.
+pub fn shorted_effect(kind: Kind, first: FedNet, second: FedNet) -> Effect
+    ensures { result ≡ shorted_effect kind first second }
+{
+    Effect::Shorted {
+        kind,
+        first: first.feed,
+        second: second.feed,
+        pull: shorted(kind, first.pull, second.pull),
+    }
+}
+
 impl<'a> TestPass<'a> {
     fn short_effect(&self, a: u32, b: u32, kind: Kind) -> Effect
         ensures { result ≡ short_effect self.now.test.board self.now.test.plan (controls_of self.now) a b kind }
     {
-        Effect::Shorted {
-            kind,
-            first: self.feed(a),
-            second: self.feed(b),
-            pull: shorted(kind, self.pull(a), self.pull(b)),
-        }
+        shorted_effect(kind, self.fed(a), self.fed(b))
     }
 
     fn effect_of(&self, fault: Single, n: u32) -> Effect

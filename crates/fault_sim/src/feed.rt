@@ -7,7 +7,7 @@ ghost use Rattle.plan_tables.specs.Building.{is_on, enabled_in};
 ghost use Rattle.tap_defs.specs.board.TestRows.{code_bit};
 ghost use Rattle.fault_sim.specs.Effects.{source_bit, unless_off, feed_bit, is_own, driver_in, steady_in, source_in, pull_in};
 ghost use Rattle.fault_sim.specs.Kept.{enabled_by, enabled_driver};
-ghost use Rattle.fault_sim.specs.inner.Kept.{feed_of, observes_coded};
+ghost use Rattle.fault_sim.specs.inner.Kept.{fed_by, feed_of, observes_coded};
 
 use board_defs::{Board, Ctl, Setting};
 use counting_codes::bit;
@@ -38,6 +38,13 @@ pub struct Feed {
     pub source: Source,
     /// The bit at which the driver is off, for one that its own cell switches.
     pub off: Option<bool>,
+}
+
+/// What a net gets from a pass: what drives it, and what it is pulled to.
+#[derive(Clone, Copy, Debug, PartialEq, Eq)]
+pub struct FedNet {
+    pub feed: Option<Feed>,
+    pub pull: Option<bool>,
 }
 
 /// Whether the two bits are equal.
@@ -164,13 +171,26 @@ pub fn enabled_driver(plan: &Plan, pass: &Setting, net: u32) -> Option<EnabledDr
     }
 }
 
-/// What an enabled driver gives its net, which has this pull.
-pub fn feed_of(driver: EnabledDriver, pull: Option<bool>) -> Feed
+// What an enabled driver gives its net, which has this pull.
+fn feed_of(driver: EnabledDriver, pull: Option<bool>) -> Feed
     ensures { result ≡ feed_of pull driver }
 {
     Feed {
         source: driver.source,
         off: if driver.own { pull } else { None },
+    }
+}
+
+/// What a net gets whose enabled driver and whose pull are these.
+pub fn fed_by(driver: Option<EnabledDriver>, pull: Option<bool>) -> FedNet
+    ensures { result ≡ fed_by driver pull }
+{
+    match driver {
+        None => FedNet { feed: None, pull },
+        Some(driver) => FedNet {
+            feed: Some(feed_of(driver, pull)),
+            pull,
+        },
     }
 }
 

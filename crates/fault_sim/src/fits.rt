@@ -2,7 +2,7 @@
 ghost use Rattle.std.specs.Prelude.{◌≡◌, ◌+◌, ◌*◌, ◌<◌, ◌≤◌, ◌^◌, [], length, slice_index_or, All, Decides, true};
 ghost use Rattle.std.specs.List.{list_all};
 ghost use Rattle.tap_defs.specs.board.TestRows.{code_bit};
-ghost use Rattle.fault_sim.specs.Fits.{bit_in, cell_shows, ShowRows, ShowBy, Shows, ShowsPair, ShowsBoth, ShowsOn, ShowsIn, ShowsAll};
+ghost use Rattle.fault_sim.specs.Fits.{bit_in, cell_shows, ShowRows, ShowBy, Shows, ShowsEffect, ShowsPair, ShowsBoth, ShowsOn, ShowsIn, ShowsAll};
 
 use crate::board_test::LoggedTest;
 use crate::effect::{Effect, effect_bit};
@@ -119,9 +119,9 @@ pub fn net_count(board: &Board) -> u32
 }
 
 impl<'a> LoggedPass<'a> {
-    // Whether the log shows the effect of a fault on a net.
-    fn shows(&self, fault: Option<Single>, net: u32) -> bool
-        ensures { Decides result (Shows self.now.logged.test.board self.now.logged.test.plan fault self.now.logged.log self.now.number net) }
+    /// Whether the log shows an effect on a net, the pin of whose driver, where the pass enables one, stands at this place.
+    pub fn shows_effect(&self, effect: Effect, driver: Option<u32>, net: u32) -> bool
+        ensures { Decides result (ShowsEffect self.now.logged.test.plan self.now.logged.log self.now.number net effect driver) }
     {
         let plan = self.pass.plan();
         let _rules = self.pass.board().raw();
@@ -131,9 +131,17 @@ impl<'a> LoggedPass<'a> {
             plan.width(),
             plan.code(net),
             plan.readers(net),
-            self.pass.effect(fault, net),
-            self.pass.driver_place(net),
+            effect,
+            driver,
         )
+    }
+
+    /// Whether the log shows the effect of a fault on a net.
+    pub fn shows(&self, fault: Option<Single>, net: u32) -> bool
+        ensures { Decides result (Shows self.now.logged.test.board self.now.logged.test.plan fault self.now.logged.log self.now.number net) }
+    {
+        let effect = self.pass.effect(fault, net);
+        self.shows_effect(effect, self.pass.driver_place(net), net)
     }
 
     // The same on two nets, which may be one.

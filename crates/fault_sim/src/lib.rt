@@ -16,6 +16,7 @@ mod marks;
 mod matching;
 mod passes;
 mod suspects;
+mod telling;
 mod tested;
 mod universe;
 
@@ -24,4 +25,5 @@ pub use differing::{differing_nets, none_differs};
 pub use kept::{ComparedRow, KeptPass, kept_passes};
 pub use matching::{is_pass, matches, matches_by};
 pub use suspects::Suspects;
+pub use telling::TellingNet;
 pub use universe::Universe;

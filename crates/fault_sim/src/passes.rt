@@ -1,13 +1,13 @@
 // The passes of a board's test, and of a log of it.
 ghost use Rattle.std.specs.Prelude.{◌≡◌, ◌*◌, ◌<◌, ◌^◌, ◌&&◌, [], length, slice_index_or};
 ghost use Rattle.scan_planner.specs.Plans.{IsPlanOf};
-ghost use Rattle.fault_sim.specs.Effects.{driver_in, net_feed, place_of_driver, pull_in};
-ghost use Rattle.fault_sim.specs.Kept.{AreRows, IsRow, KeepDrivers, enabled_driver};
-ghost use Rattle.fault_sim.specs.Planned.{controls_of, plan_pass};
+ghost use Rattle.fault_sim.specs.Effects.{driver_in, fed_net, place_of_driver, pull_in};
+ghost use Rattle.fault_sim.specs.Kept.{AreRows, IsLogOf, IsRow, KeepDrivers, enabled_driver};
+ghost use Rattle.fault_sim.specs.Planned.{controls_in, controls_of, plan_pass};
 ghost use Rattle.fault_sim.specs.inner.Marks.{HaveRoom};
 ghost use Rattle.fault_sim.specs.inner.Tested.{observes_in};
 
-use crate::feed::{EnabledDriver, Feed, enabled_driver, feed_of, observes, pull_in};
+use crate::feed::{EnabledDriver, FedNet, enabled_driver, fed_by, observes, pull_in};
 use crate::kept::{ComparedRow, KeptPass, kept_driver, kept_drivers};
 use board_defs::{Board, Setting};
 use response_log::Log;
@@ -142,14 +142,11 @@ impl<'a> TestPass<'a> {
         pull_in(self.board, net)
     }
 
-    /// How the pass drives a net.
-    pub fn feed(&self, net: u32) -> Option<Feed>
-        ensures { result ≡ net_feed self.now.test.board self.now.test.plan (controls_of self.now) net }
+    /// What a net gets from the pass.
+    pub fn fed(&self, net: u32) -> FedNet
+        ensures { result ≡ fed_net self.now.test.board self.now.test.plan (controls_of self.now) net }
     {
-        match self.driver(net) {
-            None => None,
-            Some(driver) => Some(feed_of(driver, self.pull(net))),
-        }
+        fed_by(self.driver(net), self.pull(net))
     }
 
     /// The rows of the pass that are kept, which are its first ones.
@@ -187,4 +184,37 @@ impl<'a> Model for LoggedPass<'a> {
     ghost view = { λ a. pass_of_log (logged_board a.pass.test a.log.now) a.pass.number };
 
     ghost invariant = { λ a. IsLogOf a.pass.test a.log.now };
+}
+
+impl<'a> LoggedPass<'a> {
+    /// What is known of the pass: it is one of the plan, which is one of the board, and the log has the rows of the test.
+    pub fn laws(&self)
+        ensures pass { self.now.number < length self.now.logged.test.plan.passes }
+        ensures plan { IsPlanOf self.now.logged.test.board self.now.logged.test.plan }
+        ensures log { IsLogOf self.now.logged.test self.now.logged.log }
+    {
+        let _plan = self.pass.plan();
+        let _row = self.pass.first_row();
+    }
+
+    /// The board.
+    pub fn board(&self) -> &'a Board
+        ensures { result.now ≡ self.now.logged.test.board }
+    {
+        self.pass.board()
+    }
+
+    /// What a net gets from the pass.
+    pub fn fed(&self, net: u32) -> FedNet
+        ensures { result ≡ fed_net self.now.logged.test.board self.now.logged.test.plan (controls_in self.now) net }
+    {
+        self.pass.fed(net)
+    }
+
+    /// The place of the pin of the driver that the pass enables on a net.
+    pub fn driver_place(&self, net: u32) -> Option<u32>
+        ensures { result ≡ place_of_driver (driver_in self.now.logged.test.plan (controls_in self.now) net) }
+    {
+        self.pass.driver_place(net)
+    }
 }

@@ -3,13 +3,14 @@ ghost use Rattle.std.specs.Prelude.{◌≡◌, ◌≤◌, ◌++◌, ◌∷◌, [
 ghost use Rattle.std.specs.List.{list_all};
 ghost use Rattle.board_defs.specs.Limits.{most_pins};
 ghost use Rattle.fault_sim.specs.Kept.{KeepDrivers};
+ghost use Rattle.fault_sim.specs.Places.{observes_fault};
 ghost use Rattle.fault_sim.specs.inner.Tested.{coded_nets, paired_in, marked_readers, marked_by, marked_in, tested_flags, pin_where, flagged_pins, pin_count, net_pins, all_pins};
 
 use crate::feed::{driver_in, is_read_beside};
 use crate::fits::net_count;
 use crate::kept::KeptPass;
 use crate::passes::PassDrivers;
-use board_defs::{Board, PinRef, Setting};
+use board_defs::{Board, PinRef, Setting, Single};
 use lists::{is_set, mark};
 use scan_planner::{NetDriver, Plan, ReaderCell};
 use std::alloc::{AllocError, Global};
@@ -35,8 +36,8 @@ pub fn coded_nets(alloc: Global, plan: &Plan, count: u32) -> Result<Vec<u32>, Al
     Ok(nets)
 }
 
-/// Whether some pass observes both nets, by what is kept of the passes.
-pub fn paired_in(plan: &Plan, kept: &[KeptPass], a: u32, b: u32) -> bool
+// Whether some pass observes both nets, by what is kept of the passes.
+fn paired_in(plan: &Plan, kept: &[KeptPass], a: u32, b: u32) -> bool
     requires { KeepDrivers plan.now kept.now }
     ensures { result ≡ paired_in plan.now a b }
 {
@@ -47,6 +48,18 @@ pub fn paired_in(plan: &Plan, kept: &[KeptPass], a: u32, b: u32) -> bool
         }
     }
     false
+}
+
+/// Whether some pass observes both nets of a short, by what is kept of the passes; true of a fault of one net.
+pub fn observes_fault(plan: &Plan, kept: &[KeptPass], fault: Single) -> bool
+    requires { KeepDrivers plan.now kept.now }
+    ensures { result ≡ observes_fault plan.now fault }
+{
+    match fault {
+        Single::StuckNet { .. } => true,
+        Single::OpenPin { .. } => true,
+        Single::Short { a, b, .. } => paired_in(plan, kept, a, b),
+    }
 }
 
 fn mark_readers(flags: &mut [bool], readers: &[ReaderCell])

@@ -1,5 +1,5 @@
 // The single faults of a board by their places.
-ghost use Rattle.std.specs.Prelude.{◌≡◌, ◌+◌, ◌-◌, ◌<◌, ◌≤◌, length, slice_get, slice_index_or, IfOk, Some};
+ghost use Rattle.std.specs.Prelude.{◌≡◌, ◌+◌, ◌-◌, ◌<◌, ◌≤◌, true, length, slice_get, slice_index_or, IfOk, Some};
 ghost use Rattle.std.specs.List.{flat_map};
 ghost use Rattle.board_defs.specs.declared.board.RawBoard.{RawBoard};
 ghost use Rattle.board_defs.specs.BoardRules.{IsBoard};
@@ -7,15 +7,14 @@ ghost use Rattle.board_defs.specs.Limits.{most_nets};
 ghost use Rattle.board_defs.specs.Faults.{stuck_faults, open_faults, kind_rank};
 ghost use Rattle.board_defs.specs.Passes.{passes_of, pairs_within};
 ghost use Rattle.scan_planner.specs.Plans.{IsPlanOf};
-ghost use Rattle.fault_sim.specs.Kept.{KeepDrivers};
-ghost use Rattle.fault_sim.specs.Places.{IsUniverse, place_count, number_places, listed_at, listed_places, places_of};
+ghost use Rattle.plan_tables.specs.declared.tables.PlanTables.{PlanTables};
+ghost use Rattle.fault_sim.specs.Places.{IsUniverse, place_count, number_places, listed_at, listed_places, observes_fault, places_of, where_observed};
 ghost use Rattle.fault_sim.specs.Starts.{AreStarts, pairs_before};
 
 use crate::board_test::BoardTest;
 use crate::fault_lists::FaultLists;
 use crate::fits::net_count;
-use crate::kept::KeptPass;
-use crate::tested::{coded_nets, paired_in, tested_pins};
+use crate::tested::{coded_nets, observes_fault, tested_pins};
 use board_defs::{Board, Items, Kind, PinRef, Single, law};
 use scan_planner::Plan;
 use std::alloc::{AllocError, Global};
@@ -52,8 +51,20 @@ fn pair_starts(alloc: Global, nets: u32) -> Result<Vec<u64>, AllocError>
     Ok(starts)
 }
 
-// The net whose pairs with later ones hold pair `k`.
-fn row_of(starts: &[u64], k: u64) -> usize
+// Whether the pairs of net `row` with later ones hold pair `k`.
+fn holds_pair(starts: &[u64], row: usize, k: u64) -> bool
+    ensures within { result ≡ true → row + 1 < length starts.now }
+    ensures low { result ≡ true → slice_index_or starts.now row 0 ≤ k }
+    ensures high { result ≡ true → k < slice_index_or starts.now (row + 1) 0 }
+{
+    if k < start_at(starts, row) {
+        return false;
+    }
+    k < start_at(starts, row.saturating_add(1))
+}
+
+// The net whose pairs with later ones hold pair `k`, by halving.
+fn halved_row(starts: &[u64], k: u64) -> usize
     requires some { 0 < length starts.now }
     requires first { slice_index_or starts.now 0 0 ≤ k }
     requires last { k < slice_index_or starts.now (length starts.now - 1) 0 }
@@ -72,6 +83,25 @@ fn row_of(starts: &[u64], k: u64) -> usize
         }
     }
     low
+}
+
+// The same where the last look-up ended at net `near`: of places that rise it is mostly that net or the next one.
+fn row_of(starts: &[u64], k: u64, near: usize) -> usize
+    requires some { 0 < length starts.now }
+    requires first { slice_index_or starts.now 0 0 ≤ k }
+    requires last { k < slice_index_or starts.now (length starts.now - 1) 0 }
+    ensures within { result + 1 < length starts.now }
+    ensures low { slice_index_or starts.now result 0 ≤ k }
+    ensures high { k < slice_index_or starts.now (result + 1) 0 }
+{
+    let next = near.saturating_add(1);
+    if holds_pair(starts, near, k) {
+        near
+    } else if holds_pair(starts, next, k) {
+        next
+    } else {
+        halved_row(starts, k)
+    }
 }
 
 // How many pairs of covered nets there are.
@@ -135,8 +165,8 @@ fn open_at(pins: &[PinRef], i: u64) -> Option<Single>
     }
 }
 
-// Pair `k` of covered nets, the lower net first.
-fn pair_at(lists: &FaultLists, k: u64) -> Option<(u32, u32)>
+// Pair `k` of covered nets, the lower net first. The last look-up ended at net `near`, and this one at what it becomes.
+fn pair_at(lists: &FaultLists, k: u64, near: &mut usize) -> Option<(u32, u32)>
     ensures { result ≡ slice_get (pairs_within lists.now.nets) k }
 {
     let count = pair_count(lists);
@@ -144,7 +174,8 @@ fn pair_at(lists: &FaultLists, k: u64) -> Option<(u32, u32)>
         return None;
     }
     let starts = lists.starts.as_slice();
-    let low = row_of(starts, k);
+    let low = row_of(starts, k, *near);
+    *near = low;
     let high = low + 1 + (k - start_at(starts, low)) as usize;
     let nets = lists.nets.as_slice();
     let a = net_at(nets, low)?;
@@ -164,25 +195,19 @@ fn kind_at(k: u64) -> Kind
     }
 }
 
-// The fault at place `k` among those of the pairs of covered nets, where it has one.
-fn short_at(lists: &FaultLists, plan: &Plan, kept: &[KeptPass], k: u64) -> Option<Single>
-    requires { KeepDrivers plan.now kept.now }
-    ensures { result ≡ listed_at (flat_map (number_places plan.now) (pairs_within lists.now.nets)) k }
+// The fault at place `k` among those of the pairs of covered nets, whether or not some pass observes both.
+fn short_at(lists: &FaultLists, k: u64, near: &mut usize) -> Option<Single>
+    ensures { (plan : PlanTables) → listed_at (flat_map (number_places plan) (pairs_within lists.now.nets)) k ≡ where_observed plan result }
 {
-    let pair = pair_at(lists, k / 4)?;
+    let pair = pair_at(lists, k / 4, near)?;
     let (a, b) = pair;
-    if paired_in(plan, kept, a, b) {
-        let kind = kind_at(k % 4);
-        Some(Single::Short { a, b, kind })
-    } else {
-        None
-    }
+    let kind = kind_at(k % 4);
+    Some(Single::Short { a, b, kind })
 }
 
-// The fault at place `i`, where it has one.
-fn place_at(lists: &FaultLists, plan: &Plan, kept: &[KeptPass], i: u64) -> Option<Single>
-    requires { KeepDrivers plan.now kept.now }
-    ensures { result ≡ listed_at (listed_places plan.now lists.now) i }
+// The fault at place `i`, whether or not some pass observes both nets of a short.
+fn place_at(lists: &FaultLists, i: u64, near: &mut usize) -> Option<Single>
+    ensures { (plan : PlanTables) → listed_at (listed_places plan lists.now) i ≡ where_observed plan result }
 {
     let stuck = 2 * lists.nets.len() as u64;
     let open = 2 * lists.pins.len() as u64;
@@ -191,7 +216,23 @@ fn place_at(lists: &FaultLists, plan: &Plan, kept: &[KeptPass], i: u64) -> Optio
     } else if i - stuck < open {
         open_at(lists.pins.as_slice(), i - stuck)
     } else {
-        short_at(lists, plan, kept, i - stuck - open)
+        short_at(lists, i - stuck - open, near)
+    }
+}
+
+// A fault, where some pass observes all its nets.
+fn where_observed(plan: &Plan, fault: Option<Single>) -> Option<Single>
+    ensures { result ≡ where_observed plan.now fault }
+{
+    match fault {
+        None => None,
+        Some(fault) => {
+            if observes_fault(plan, &[], fault) {
+                Some(fault)
+            } else {
+                None
+            }
+        }
     }
 }
 
@@ -238,28 +279,26 @@ impl Universe {
         ensures { (board : RawBoard) → IsBoard board → IsPlanOf board plan.now → plan.now.passes ≡ passes_of board → IsUniverse board self.now → slice_get (places_of board) i ≡ Some result }
     {
         law::passes_kept();
-        place_at(self.lists(), plan, &[], i)
+        let mut near = 0;
+        where_observed(plan, self.candidate(i, &mut near))
     }
 
-    /// The same by what is kept of the test, which is that of the universe.
-    pub fn at_in(&self, test: &BoardTest<'_>, i: u64) -> Option<Single>
-        requires passes { test.now.plan.passes ≡ passes_of test.now.board }
-        requires universe { IsUniverse test.now.board self.now }
-        requires place { i < place_count self.now }
-        ensures { slice_get (places_of test.now.board) i ≡ Some result }
+    /// The fault that place `i` has if it has one: where the place is one of two covered nets, their short, whether or not they are
+    /// paired. `near` only makes the look-up quicker: it is the net at which the last one ended, at first 0, and becomes that at which this
+    /// one does, so that of places that rise nearly each is found at once. No memory is taken.
+    pub fn candidate(&self, i: u64, near: &mut usize) -> Option<Single>
+        ensures { (plan : PlanTables) → listed_at (listed_places plan self.now) i ≡ where_observed plan result }
     {
-        let _plan = test.plan();
-        let _rules = test.board().raw();
-        law::passes_kept();
-        test.place_at(self.lists(), i)
+        place_at(self.lists(), i, near)
     }
 }
 
 impl<'a> BoardTest<'a> {
-    // The fault at place `i` of these lists, where it has one.
-    fn place_at(&self, lists: &FaultLists, i: u64) -> Option<Single>
-        ensures { result ≡ listed_at (listed_places self.now.plan lists.now) i }
+    /// Whether some pass observes all nets of a fault at a place: both nets of a short. The one net of any other fault at a place is
+    /// always observed.
+    pub fn observes(&self, fault: Single) -> bool
+        ensures { result ≡ observes_fault self.now.plan fault }
     {
-        place_at(lists, self.plan, self.kept, i)
+        observes_fault(self.plan, self.kept, fault)
     }
 }

@@ -1,6 +1,7 @@
 -- What serves the proofs alone. What is found in the kept passes of a test.
-use Rattle.std.specs.Prelude.{ℕ, Bool, true, false, cond, List, [], Option, Some, None, slice_get}
+use Rattle.std.specs.Prelude.{ℕ, Bool, true, false, cond, List, [], Option, Some, None, option_map, slice_get}
 use Rattle.fault_sim.specs.declared.feed.EnabledDriver.{EnabledDriver}
+use Rattle.fault_sim.specs.declared.feed.FedNet.{FedNet}
 use Rattle.fault_sim.specs.declared.feed.Feed.{Feed}
 use Rattle.fault_sim.specs.declared.feed.Source.{Source}
 use Rattle.fault_sim.specs.declared.feed.Source.TheVariants.{Code, Fixed}
@@ -25,6 +26,10 @@ kept_drivers kept x = drivers_of (slice_get kept x)
 -- what an enabled driver gives its net, which has this pull
 abbrev pub feed_of : Option Bool → EnabledDriver → Feed
 feed_of pull d = record { source = d.source; off = cond d.own pull None }
+
+-- what a net gets whose enabled driver and whose pull are these
+abbrev pub fed_by : Option EnabledDriver → Option Bool → FedNet
+fed_by driver pull = record { feed = option_map (feed_of pull) driver; pull = pull }
 
 -- the cell has the code of its net
 abbrev pub is_code : Source → Bool

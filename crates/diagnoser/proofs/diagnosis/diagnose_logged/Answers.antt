@@ -29,6 +29,7 @@ pub search_pieces-requires-clause-search : goal.search_pieces-requires-clause-se
 search_pieces-requires-clause-search g c = λ κs within. record {
   passes = c.requires.passes;
   differing = c.requires.differing;
+  telling = c.telling_net-telling.ensures;
   universe = c.requires.universe;
   suspects = rw (c.board-board.ensures, c.plan-plan.ensures.value, c.log-log.ensures.value) at c.in_ok-suspects.ensures;
 }

@@ -14,7 +14,7 @@ loop-i-preserved g c =
     let from = c.args.piece.first in
     let i = c.loop-i.i in
     subst (λ (l : List Single). Found s from (i + 1) l) (sym {A = List Single} c.in_ok-push_some.ensures)
-    (found_append s from i (i + 1) c.loop-i.faults.items (option_to_list c.try_candidate.result) c.loop-i.auto.i (omega arith) c.loop-i.invariant c.try_candidate.ensures)
+    (found_append s from i (i + 1) c.loop-i.faults.items (option_to_list c.try_candidate-fault.result) c.loop-i.auto.i (omega arith) c.loop-i.invariant c.try_candidate-fault.ensures)
 
 pub returns : goal.returns
 returns g c =

@@ -1,9 +1,3 @@
-use Rattle.std.proofs.Common.{Decides, sym, subst}
-use Rattle.board_defs.specs.Faults.{IsSingle}
-use Rattle.board_defs.specs.Passes.{passes_of}
-use Rattle.tap_defs.specs.board.Explaining.{Explains}
-use Rattle.fault_sim.specs.Planned.{LoggedBoard}
-use Rattle.fault_sim.specs.Suspects.{AreDiffering}
 use Rattle.fault_sim.proofs.matching.matches_by.Goals as goal
 
 pub of-requires-clause-log : goal.of-requires-clause-log

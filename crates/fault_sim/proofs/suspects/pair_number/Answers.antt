@@ -1,5 +1,4 @@
-use Rattle.std.proofs.Common.{◌≤◌, ◌*◌, ℕ, List, length, ap, ◌∙◌, get_or, subst, sym, arith}
-use Rattle.board_defs.specs.Limits.{most_nets}
+use Rattle.std.proofs.Common.{ℕ, List, length, ap, ◌∙◌, get_or, arith}
 use Rattle.fault_sim.proofs.PlaceLemmas.{start_few}
 use Rattle.fault_sim.proofs.suspects.pair_number.Goals as goal
 

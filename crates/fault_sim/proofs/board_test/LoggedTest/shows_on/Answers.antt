@@ -1,4 +1,4 @@
-use Rattle.std.proofs.Common.{◌<◌, ℕ, refl, sym, subst, arith}
+use Rattle.std.proofs.Common.{refl, sym, subst, arith}
 use Rattle.fault_sim.specs.Fits.{Shows}
 use Rattle.fault_sim.specs.Planned.{PassOfLog}
 use Rattle.fault_sim.proofs.PassLemmas.{passes_more}
