@@ -1,5 +1,5 @@
 -- Groups of walk nets, and which set of them explains a log of the walking test.
-use Rattle.std.specs.Prelude.{ℕ, suc, ◌<◌, ◌≤◌, ◌==◌, Bool, cond, List, [], ◌∷◌, length, Option, Some, None, slice_index_or, All, AllPairs, Contains, MatchOption}
+use Rattle.std.specs.Prelude.{ℕ, suc, ◌<◌, ◌≤◌, ◌==◌, Bool, if◌then◌else◌, List, [], ◌∷◌, length, Option, Some, None, slice_index_or, All, AllPairs, Contains, MatchOption}
 use Rattle.std.specs.List.{list_any}
 use Rattle.board_defs.specs.declared.board.RawBoard.{RawBoard}
 use Rattle.tap_defs.specs.board.FaultSet.{Or, FaultSet, no_faults}
@@ -26,7 +26,7 @@ pub record AreGroups (board : RawBoard) (groups : List (List ℕ)) : Type 0 wher
 -- the number of the group that the net is in, where it is in one; the first of these groups has this number
 abbrev pub group_from : ℕ → List (List ℕ) → ℕ → Option ℕ
 group_from k [] n = None
-group_from k (group ∷ groups) n = cond (list_any (λ m. m == n) group) (Some k) (group_from (suc k) groups n)
+group_from k (group ∷ groups) n = if list_any (λ m. m == n) group then Some k else group_from (suc k) groups n
 
 abbrev pub group_of : List (List ℕ) → ℕ → Option ℕ
 group_of groups n = group_from 0 groups n

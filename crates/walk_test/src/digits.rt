@@ -1,5 +1,5 @@
 // Rows by the values of their digits, compared many at a time.
-ghost use Rattle.std.specs.Prelude.{◌≡◌, ℕ, ◌+◌, ◌*◌, ◌/◌, ◌≤◌, ◌<◌, ◌^◌, false, length, slice_index_or, Decides};
+ghost use Rattle.std.specs.Prelude.{◌≡◌, ℕ, ◌+◌, ◌*◌, ◌/◌, ◌≤◌, ◌<◌, ◌^◌, false, length, slice_index_or, ◌↔◌, IsTrue};
 ghost use Rattle.std.specs.Bool.{OnTrue};
 ghost use Rattle.walk_test.specs.inner.Digits.{is_one, differing, AreClear};
 
@@ -50,32 +50,31 @@ impl MaskedRow<'_> {
         ones == 0
     }
 
-    // The end of the blocks of digits from a place on that read no compared 1.
-    fn blocks_end(&self, from: usize) -> usize
-        requires { from ≤ length self.now.digits.now }
+    // The end of the blocks of so many digits from a place on that read no compared 1.
+    #[inline]
+    fn blocks_end(&self, from: usize, block: usize) -> usize
+        requires from { from ≤ length self.now.digits.now }
+        requires some { 0 < block }
         ensures past { from ≤ result }
         ensures within { result ≤ length self.now.digits.now }
         ensures clear { AreClear self.now.digits.now self.now.mask.now from result }
     {
         let mut k = from;
-        while self.digits.len() - k >= BLOCK && self.are_clear(k, k + BLOCK) {
-            k += BLOCK;
+        while self.digits.len() - k >= block && self.are_clear(k, k + block) {
+            k += block;
         }
         k
     }
 
-    // The first place from one on whose digit reads a compared 1, or the number of digits.
+    // The first place from one on whose digit reads a compared 1, or the number of digits. It is looked for block by block, and then digit
+    // by digit.
     fn next_marked(&self, from: usize) -> usize
         requires { from ≤ length self.now.digits.now }
         ensures past { from ≤ result }
         ensures within { result ≤ length self.now.digits.now }
         ensures clear { AreClear self.now.digits.now self.now.mask.now from result }
     {
-        let mut k = self.blocks_end(from);
-        while k < self.digits.len() && self.digits[k] & self.mask[k] == 0 {
-            k += 1;
-        }
-        k
+        self.blocks_end(self.blocks_end(from, BLOCK), 1)
     }
 
     /// A later position than this one, with no compared 1 between the two.
@@ -97,7 +96,7 @@ impl MaskedRow<'_> {
     /// the machine can.
     pub fn is_alike(&self, other: &[u8]) -> bool
         requires { length other.now ≡ length self.now.digits.now }
-        ensures { Decides result ((k : ℕ) → k < length self.now.mask.now → differing self.now.digits.now other.now self.now.mask.now k ≡ 0) }
+        ensures { IsTrue result ↔ ((k : ℕ) → k < length self.now.mask.now → differing self.now.digits.now other.now self.now.mask.now k ≡ 0) }
     {
         let mut different = 0u8;
         for k in 0..self.mask.len() {

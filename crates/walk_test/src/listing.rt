@@ -3,7 +3,6 @@ ghost use Rattle.std.specs.Prelude.{◌≡◌, ◌++◌, [], length, option_map}
 ghost use Rattle.std.specs.List.{flat_map};
 ghost use Rattle.bt_base.specs.Puts.{Puts};
 ghost use Rattle.line_printer.specs.Prints.{Prints};
-ghost use Rattle.walk_test.specs.Groups.{AreNamed};
 ghost use Rattle.walk_test.specs.GroupText.{net_name, net_line, group_text, count_line, groups_text};
 
 use crate::group::Group;
@@ -99,16 +98,15 @@ fn put_all<K: Sink>(
 }
 
 /// Puts the groups that explain a log: how many there are, and of each its size and its nets in net order; or that no set of groups
-/// explains the log. The groups name nets of the board. Each line goes out in one put, and one of more than `MAX_LINE` bytes in
-/// pieces of so many and the rest. No memory is taken, and the line serves to write in: nothing is said of what it holds
-/// afterwards. It fails only where the sink does, and then a prefix of the text was put.
+/// explains the log. A number that no net of the board has is put as an empty name. Each line goes out in one put, and one of more
+/// than `MAX_LINE` bytes in pieces of so many and the rest. No memory is taken, and the line serves to write in: nothing is said of
+/// what it holds afterwards. It fails only where the sink does, and then a prefix of the text was put.
 pub fn write_groups<K: Sink>(
     board: &Board,
     groups: Option<&[Group]>,
     line: &mut Line,
     out: &mut K,
 ) -> Result<(), PutFault>
-    requires { AreNamed board.now (option_map (λ groups. groups.now) groups) }
     ensures { Puts (K.shown out.old) (K.shown out.new) (groups_text board.now (option_map (λ groups. groups.now) groups.entry)) result }
 {
     match groups {

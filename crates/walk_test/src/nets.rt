@@ -1,5 +1,5 @@
 // The tables of a walk.
-ghost use Rattle.std.specs.Prelude.{◌≡◌, ◌++◌, ◌∷◌, ◌==◌, [], cond, not, is_some, map, length, Some, None, slice_get, IfOk, OnOk};
+ghost use Rattle.std.specs.Prelude.{◌≡◌, ◌++◌, ◌∷◌, ◌==◌, [], if◌then◌else◌, not, is_some, map, length, Some, None, slice_get, IfOk, OnOk};
 ghost use Rattle.std.specs.Option.{option_to_list};
 ghost use Rattle.std.specs.List.{list_any};
 ghost use Rattle.board_defs.specs.Settings.{holds};
@@ -43,7 +43,7 @@ fn is_read_beside(readers: &[ReaderCell], place: u32) -> bool
 
 // The driver, where some of these cells reads another pin.
 fn where_read(driver: NetDriver, readers: &[ReaderCell]) -> Option<NetDriver>
-    ensures { result ≡ cond (is_read_beside readers.now driver) (Some driver) None }
+    ensures { result ≡ (if is_read_beside readers.now driver then Some driver else None) }
 {
     if is_read_beside(readers, driver.place) {
         Some(driver)
@@ -69,7 +69,7 @@ fn observes(plan: &Plan, walk: &Setting, net: u32) -> bool
 }
 
 fn push_beside(positions: &mut Vec<u32>, reader: ReaderCell, place: u32) -> Result<(), AllocError>
-    ensures { OnOk result (positions.new.items ≡ positions.old.items ++ cond (reader.place == place) [] (reader.position ∷ [])) }
+    ensures { OnOk result (positions.new.items ≡ positions.old.items ++ (if reader.place == place then [] else reader.position ∷ [])) }
 {
     if reader.place != place {
         positions.push(reader.position)?;
@@ -117,7 +117,7 @@ fn net_cells(
 
 // Adds a number where it is one of those that are wanted.
 fn push_if(nets: &mut Vec<u32>, n: u32, is_one: bool) -> Result<(), AllocError>
-    ensures { OnOk result (nets.new.items ≡ nets.old.items ++ cond is_one (n ∷ []) []) }
+    ensures { OnOk result (nets.new.items ≡ nets.old.items ++ (if is_one then n ∷ [] else [])) }
 {
     if is_one {
         nets.push(n)?;

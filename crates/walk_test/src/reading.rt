@@ -1,5 +1,5 @@
 // The rows of a log, read one after the other for the first one in which each compared position reads 1.
-ghost use Rattle.std.specs.Prelude.{◌≡◌, ℕ, ◌<◌, nat_lt, length, map, slice_index_or, Decides, MatchBool};
+ghost use Rattle.std.specs.Prelude.{◌≡◌, ℕ, ◌<◌, nat_lt, length, map, slice_index_or, ◌↔◌, IsTrue, MatchBool};
 ghost use Rattle.std.specs.Bool.{OnFalse, OnTrue};
 ghost use Rattle.bt_bits.specs.Hex.{digit_count};
 ghost use Rattle.walk_test.specs.inner.Digits.{IsFresh, IsMarked};
@@ -13,7 +13,7 @@ use crate::walk_log::WalkLog;
 // row has `none` in its place. Where one had a row, nothing is said of what is given.
 fn mark_row(firsts: &mut [u32], row: &MaskedRow<'_>, j: u32, none: u32) -> bool
     requires { length row.now.digits.now ≡ digit_count (length firsts.old) }
-    ensures fresh { Decides result (IsFresh row.now.digits.now row.now.mask.now none firsts.old (length firsts.old)) }
+    ensures fresh { IsTrue result ↔ IsFresh row.now.digits.now row.now.mask.now none firsts.old (length firsts.old) }
     ensures marked { OnTrue result (IsMarked row.now.digits.now row.now.mask.now j none firsts.old firsts.new (length firsts.old)) }
 {
     let mut at = 0;
@@ -33,7 +33,7 @@ fn mark_row(firsts: &mut [u32], row: &MaskedRow<'_>, j: u32, none: u32) -> bool
 fn start_group(log: &WalkLog<'_>, firsts: &mut [u32], at: u32, j: u32, none: u32) -> bool
     requires row { j < length log.now.log }
     requires firsts { length firsts.old ≡ length log.now.mask }
-    ensures starts { Decides result (StartsGroup log.now.log log.now.mask j at none firsts.old) }
+    ensures starts { IsTrue result ↔ StartsGroup log.now.log log.now.mask j at none firsts.old }
     ensures started { OnTrue result (AreStarted log.now.log log.now.mask j none firsts.old firsts.new) }
 {
     let row = log.row(j);
@@ -44,7 +44,7 @@ fn start_group(log: &WalkLog<'_>, firsts: &mut [u32], at: u32, j: u32, none: u32
 fn are_same_rows(log: &WalkLog<'_>, j: u32, other: u32) -> bool
     requires row { j < length log.now.log }
     requires other { other < length log.now.log }
-    ensures { Decides result (AreSameRows log.now.log log.now.mask j other) }
+    ensures { IsTrue result ↔ AreSameRows log.now.log log.now.mask j other }
 {
     log.row(j).is_alike(log.row(other).digits)
 }
@@ -54,8 +54,8 @@ fn are_same_rows(log: &WalkLog<'_>, j: u32, other: u32) -> bool
 fn read_row(log: &WalkLog<'_>, firsts: &mut [u32], at: u32, j: u32, none: u32) -> bool
     requires row { j < length log.now.log }
     requires firsts { length firsts.old ≡ length log.now.mask }
-    ensures again { OnTrue (nat_lt (slice_index_or firsts.old at none) j) (Decides result (AreSameRows log.now.log log.now.mask j (slice_index_or firsts.old at none)) × (firsts.new ≡ firsts.old)) }
-    ensures starts { OnFalse (nat_lt (slice_index_or firsts.old at none) j) (Decides result (StartsGroup log.now.log log.now.mask j at none firsts.old) × OnTrue result (AreStarted log.now.log log.now.mask j none firsts.old firsts.new)) }
+    ensures again { OnTrue (nat_lt (slice_index_or firsts.old at none) j) ((IsTrue result ↔ AreSameRows log.now.log log.now.mask j (slice_index_or firsts.old at none)) × (firsts.new ≡ firsts.old)) }
+    ensures starts { OnFalse (nat_lt (slice_index_or firsts.old at none) j) ((IsTrue result ↔ StartsGroup log.now.log log.now.mask j at none firsts.old) × OnTrue result (AreStarted log.now.log log.now.mask j none firsts.old firsts.new)) }
 {
     let first = row_at(firsts, at, none);
     if first < j {

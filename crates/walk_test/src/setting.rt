@@ -1,5 +1,5 @@
 // The walk setting.
-ghost use Rattle.std.specs.Prelude.{◌≡◌, ◌<◌, ◌^◌, ◌++◌, ◌∷◌, [], cond, filter, not, length, slice_get, Some, IfOk, OnOk};
+ghost use Rattle.std.specs.Prelude.{◌≡◌, ◌<◌, ◌^◌, ◌++◌, ◌∷◌, [], if◌then◌else◌, filter, not, length, slice_get, Some, IfOk, OnOk};
 ghost use Rattle.std.specs.Option.{option_to_list};
 ghost use Rattle.board_defs.specs.Passes.{passes_of};
 ghost use Rattle.board_defs.specs.Pins.{guarded_at};
@@ -79,7 +79,7 @@ fn add_net(
     net: &Net,
     setting: &mut Setting,
 ) -> Result<(), AllocError>
-    ensures { OnOk result (setting.new ≡ cond (guarded_at board.now n) setting.old (with_pins board.now net.now.pull setting.old net.now.pins)) }
+    ensures { OnOk result (setting.new ≡ (if guarded_at board.now n then setting.old else with_pins board.now net.now.pull setting.old net.now.pins)) }
 {
     if board.is_guarded(n) {
         return Ok(());
@@ -100,7 +100,7 @@ fn switching_of(alloc: Global, board: &BoardPins<'_>) -> Result<Setting, AllocEr
 }
 
 fn push_unless(controls: &mut Vec<Ctl>, c: Ctl, is_left_out: bool) -> Result<(), AllocError>
-    ensures { OnOk result (controls.new.items ≡ controls.old.items ++ cond is_left_out [] (c ∷ [])) }
+    ensures { OnOk result (controls.new.items ≡ controls.old.items ++ (if is_left_out then [] else c ∷ [])) }
 {
     if !is_left_out {
         controls.push(c)?;

@@ -1,5 +1,5 @@
 -- How walk nets read one another, and what a log shows of it.
-use Rattle.std.specs.Prelude.{◌≡◌, ℕ, suc, ◌<◌, ◌≤◌, ◌==◌, nat_le, nat_lt, ◌^◌, Bool, true, false, cond, ◌&&◌, ◌||◌, List, [], ◌∷◌, length, fold, replicate, Option, Some, None, slice_get, slice_index_or, All, Contains}
+use Rattle.std.specs.Prelude.{◌≡◌, ℕ, suc, ◌<◌, ◌≤◌, ◌==◌, nat_le, nat_lt, ◌^◌, Bool, true, false, if◌then◌else◌, ◌&&◌, ◌||◌, List, [], ◌∷◌, length, fold, replicate, Option, Some, None, slice_get, slice_index_or, All, Contains}
 use Rattle.std.specs.List.{list_all, flat_map, range_with_len}
 use Rattle.board_defs.specs.Pins.{is_same}
 use Rattle.tap_defs.specs.board.NetBits.{is_in_short}
@@ -23,7 +23,7 @@ bit_in log row at = slice_index_or (slice_index_or log row []) at false
 -- the first row with a 1 at a position, and the number of rows where there is none
 abbrev pub first_one : List (List Bool) → ℕ → ℕ
 first_one [] at = 0
-first_one (row ∷ log) at = cond (slice_index_or row at false) 0 (suc (first_one log at))
+first_one (row ∷ log) at = if slice_index_or row at false then 0 else suc (first_one log at)
 
 -- the label of a walk net: the place of the first walk net whose 1 its first compared cell reads
 abbrev pub label_of : List (List Bool) → NetCells → ℕ
@@ -91,7 +91,7 @@ pub record AreStarted (log : List (List Bool)) (mask : List Bool) (j none : ℕ)
 
 -- a row below row j, or else none
 abbrev pub below : ℕ → ℕ → ℕ → ℕ
-below j none row = cond (nat_lt row j) row none
+below j none row = if nat_lt row j then row else none
 
 -- row k reads 1 at the compared positions that have the first row of its net, whose position this is
 pub record IsRowRight (log : List (List Bool)) (mask : List Bool) (k own : ℕ) : Type 0 where
@@ -118,15 +118,15 @@ ShowsAll log labels cells = (j : ℕ) → j < length cells → ShowsIn log label
 abbrev pub members : List ℕ → List ℕ → ℕ → List ℕ
 members [] labels k = []
 members (n ∷ nets) [] k = []
-members (n ∷ nets) (label ∷ labels) k = cond (label == k) (n ∷ members nets labels k) (members nets labels k)
+members (n ∷ nets) (label ∷ labels) k = if label == k then n ∷ members nets labels k else members nets labels k
 
 -- nets are a group, where they are two or more
 abbrev pub where_several : List ℕ → List (List ℕ)
-where_several nets = cond (nat_le 2 (length nets)) (nets ∷ []) []
+where_several nets = if nat_le 2 (length nets) then nets ∷ [] else []
 
 -- the nets with a label are a group, where they are two or more
 abbrev pub group_at : List ℕ → List ℕ → ℕ → List (List ℕ)
-group_at nets labels k = cond (nat_le 2 (length (members nets labels k))) (members nets labels k ∷ []) []
+group_at nets labels k = if nat_le 2 (length (members nets labels k)) then members nets labels k ∷ [] else []
 
 -- the groups of all labels
 abbrev pub groups_by : List ℕ → List ℕ → List (List ℕ)

@@ -1,5 +1,5 @@
 -- How the controls of switching drivers are found.
-use Rattle.std.specs.Prelude.{ℕ, ◌==◌, Bool, ◌&&◌, cond, List, [], fold, Option, Some, None}
+use Rattle.std.specs.Prelude.{ℕ, ◌==◌, Bool, ◌&&◌, if◌then◌else◌, List, [], fold, Option, Some, None}
 use Rattle.board_defs.specs.declared.device.Control.{Control}
 use Rattle.board_defs.specs.declared.device.Cell.{Cell}
 use Rattle.board_defs.specs.declared.board.PinAt.{PinAt}
@@ -13,7 +13,7 @@ use Rattle.board_defs.specs.Settings.{inserted}
 -- the control of a driver, where it is its own cell and the net is pulled to the disable value
 abbrev pub own_switch : ℕ → ℕ → Option Bool → Option Control → Option Ctl
 own_switch part num pull None = None
-own_switch part num pull (Some control) = cond ((control.cell == num) && is_pulled_to control.disable pull) (Some (record { part = part; cell = control.cell })) None
+own_switch part num pull (Some control) = if (control.cell == num) && is_pulled_to control.disable pull then Some (record { part = part; cell = control.cell }) else None
 
 -- the same by the driving entry, and by the place of the pin
 abbrev pub entry_switch : ℕ → Option Bool → Option Cell → Option Ctl
@@ -35,7 +35,7 @@ with_pins board pull setting pins = fold (λ s pin. with_some s (pin_switch boar
 
 -- with those of a net, which lets no pin switch where it is guarded
 abbrev pub with_net : RawBoard → List Ctl → Net → List Ctl
-with_net board setting net = cond (guarded board net) setting (with_pins board net.pull setting net.pins)
+with_net board setting net = if guarded board net then setting else with_pins board net.pull setting net.pins
 
 -- the controls of all switching drivers
 abbrev pub all_switching : RawBoard → List Net → List Ctl

@@ -1,5 +1,5 @@
 -- What serves the proofs alone. What a walk keeps of a board: its plan, its nets with their cells, and what all rows share.
-use Rattle.std.specs.Prelude.{◌≡◌, ℕ, zero, suc, ◌<◌, ◌==◌, Bool, false, not, cond, List, [], length, map, filter, Option, Some, None, is_some, option_and_then, slice_get, slice_index_or}
+use Rattle.std.specs.Prelude.{◌≡◌, ℕ, zero, suc, ◌<◌, ◌==◌, Bool, false, not, if◌then◌else◌, List, [], length, map, filter, Option, Some, None, is_some, option_and_then, slice_get, slice_index_or}
 use Rattle.std.specs.List.{range_with_len}
 use Rattle.board_defs.specs.declared.board.RawBoard.{RawBoard}
 use Rattle.board_defs.specs.declared.board.Ctl.{Ctl}
@@ -18,6 +18,7 @@ use Rattle.walk_test.specs.declared.tables.WalkTables.{WalkTables}
 use Rattle.walk_test.specs.WalkTest.{walk_setting}
 use Rattle.walk_test.specs.Tables.{tdi_of, mask_of}
 
+-- what the scan behind a row is expected to capture, 0 where nothing is compared
 abbrev pub tdo_of : RawBoard → TestRow → List Bool
 tdo_of board row = tdo_bits (joined (row_bits board (record { now = quiet_row; before = row })))
 
@@ -32,7 +33,7 @@ cleared bits cells = assigned (λ c. c.driver) (λ c. false) bits cells
 -- the driver by which a setting observes a net, by the tables of a plan
 abbrev pub observer_in : PlanTables → List Ctl → ℕ → Option NetDriver
 observer_in plan walk n =
-    option_and_then (λ d. cond (is_read_beside (slice_index_or plan.readers n []) d) (Some d) None) (enabled_in (holds walk) (slice_index_or plan.drivers n []))
+    option_and_then (λ d. if is_read_beside (slice_index_or plan.readers n []) d then Some d else None) (enabled_in (holds walk) (slice_index_or plan.drivers n []))
 
 -- the positions of the cells that read another pin than the one at this place
 abbrev pub positions_beside : ℕ → List ReaderCell → List ℕ
