@@ -146,7 +146,7 @@ fn lines_that_can_not_stand(rt: HostRuntime) -> Result<(), Fail> {
     Ok(())
 }
 
-// An id of so many bytes.
+// A title line whose id has so many bytes.
 fn title(alloc: Global, len: usize) -> Result<Vec<u8>, AllocError> {
     let mut text = Vec::new(alloc);
     text.extend_from_slice(b"BOARD ")?;
@@ -158,6 +158,7 @@ fn title(alloc: Global, len: usize) -> Result<Vec<u8>, AllocError> {
 fn ids_have_up_to_255_bytes(rt: HostRuntime) -> Result<(), Fail> {
     let longest = title(rt.alloc(), 255)?;
     assert!(rt; longest.len() < 1000);
+    // The id, and the colon that is shown behind it.
     assert_eq!(rt; answer_in(&rt, rt.alloc(), &longest, 0, 0)?.len(), 256);
     let longer = title(rt.alloc(), 256)?;
     assert!(rt; longer.len() < 1000);
