@@ -23,12 +23,8 @@ pub fn cover<K: Sink>(alloc: Global, texts: &BoardTexts, out: &mut K) -> Result<
         Ok(board) => board,
         Err(failure) => return Err(failure),
     };
-    let Ok(classes) = classify(alloc, &board) else {
-        return Err(Unput::Memory);
-    };
-    let Ok(mut line) = Line::new(alloc) else {
-        return Err(Unput::Memory);
-    };
+    let classes = classify(alloc, &board)?;
+    let mut line = Line::new(alloc)?;
     inputs_keep_rules();
     lists_are_true();
     answer_by(write_cover(&board, &classes, &mut line, out))

@@ -17,7 +17,7 @@ ghost use Rattle.commands.specs.Answers.{Answers, Nothing};
 ghost use Rattle.commands.specs.inner.Unput.{PutsText};
 
 use crate::board_test::{TestRows, write_test};
-use crate::planned::Classified;
+use crate::planned::ClassesWithPins;
 use crate::unput::{Unput, answer_by, unput_by};
 use board_defs::Board;
 use board_gen::{Made, make};
@@ -61,12 +61,8 @@ pub fn summary<K: Sink>(alloc: Global, number: u32, out: &mut K) -> Result<(), U
 fn put_summary<K: Sink>(alloc: Global, board: &Board, out: &mut K) -> Result<(), Unput>
     ensures { PutsText (summary_text board.now) (K.shown out.old) (K.shown out.new) result }
 {
-    let Ok(counts) = board_counts(alloc, board) else {
-        return Err(Unput::Memory);
-    };
-    let Ok(mut line) = Line::new(alloc) else {
-        return Err(Unput::Memory);
-    };
+    let counts = board_counts(alloc, board)?;
+    let mut line = Line::new(alloc)?;
     answer_by(put_counts(&counts, &mut line, out))
 }
 
@@ -112,7 +108,7 @@ fn text_bytes(alloc: Global, board: &Board, plan: &Plan) -> Result<u64, AllocErr
 fn board_counts(alloc: Global, board: &Board) -> Result<Counts, AllocError>
     ensures { IfOk result (λ counts. counts_line counts.devices counts.nets counts.covered counts.passes counts.scans counts.bytes ≡ summary_text board.now) }
 {
-    let Classified { classes, pins } = Classified::of(alloc, board)?;
+    let ClassesWithPins { classes, pins } = ClassesWithPins::of(alloc, board)?;
     classed_counts(alloc, board, &classes, pins)
 }
 

@@ -16,7 +16,7 @@ ghost use Rattle.response_log.specs.LogRows.{HasSize};
 ghost use Rattle.commands.specs.LogRead.{test_rows};
 ghost use Rattle.commands.specs.Worth.{RespondOnce, TestsBoard};
 ghost use Rattle.commands.specs.Answers.{BoardAnswers};
-ghost use Rattle.commands.specs.inner.Rows.{HaveRoom, HoldScan};
+ghost use Rattle.commands.specs.inner.Rows.{EachStoredHasRoom, HoldScan};
 ghost use Rattle.commands.specs.inner.Unput.{PutsText};
 
 use crate::planned::{Planned, planned_board};
@@ -109,7 +109,7 @@ pub struct TestRows {
 impl TestRows {
     /// Rows with room for the scans of a board.
     pub fn for_board(alloc: Global, board: &Board) -> Result<TestRows, AllocError>
-        ensures room { IfOk result (λ made. HaveRoom (IsRoom board.now) made.rows.scan) }
+        ensures room { IfOk result (λ made. EachStoredHasRoom (IsRoom board.now) made.rows.scan) }
         ensures kept { IfOk result (λ made. (plan : PlanRecord) → AreKept board.now plan made.kept) }
     {
         Ok(TestRows {
@@ -128,7 +128,7 @@ pub fn write_test<K: Sink>(
 ) -> Result<(), PutFault>
     requires plan { IsPlanOf board.now plan.now }
     requires kept { AreKept board.now plan.now made.old.kept }
-    requires room { HaveRoom (IsRoom board.now) made.old.rows.scan }
+    requires room { EachStoredHasRoom (IsRoom board.now) made.old.rows.scan }
     ensures { Puts (K.shown out.old) (K.shown out.new) (pass_text board.now plan.now.passes plan.now.width) result }
 {
     write_scans(board, plan, &mut made.kept, &mut made.rows, out)
@@ -145,7 +145,7 @@ fn write_scans<K: Sink>(
 ) -> Result<(), PutFault>
     requires plan { IsPlanOf board.now plan.now }
     requires kept { AreKept board.now plan.now kept.old }
-    requires room { HaveRoom (IsRoom board.now) rows.old.scan }
+    requires room { EachStoredHasRoom (IsRoom board.now) rows.old.scan }
     ensures { Puts (K.shown out.old) (K.shown out.new) (pass_text board.now plan.now.passes plan.now.width) result }
 {
     scans_placed();
@@ -172,11 +172,11 @@ fn write_scan_at<K: Sink>(
     requires later { IfSome held.old (λ shape. 0 < k) }
     requires held { IfSome held.old (λ shape. HoldScan board.now plan.now (k - 1) shape rows.old.scan) }
     requires kept { AreKept board.now plan.now kept.old }
-    requires room { HaveRoom (IsRoom board.now) rows.old.scan }
+    requires room { EachStoredHasRoom (IsRoom board.now) rows.old.scan }
     ensures text { IfSome (slice_get (test_scans board.now plan.now.passes plan.now.width) k) (λ scan. Puts (K.shown out.old) (K.shown out.new) (scan_text scan) result) }
     ensures held { IfSome held.new (λ shape. HoldScan board.now plan.now k shape rows.new.scan) }
     ensures kept { AreKept board.now plan.now kept.new }
-    ensures room { HaveRoom (IsRoom board.now) rows.new.scan }
+    ensures room { EachStoredHasRoom (IsRoom board.now) rows.new.scan }
 {
     let Rows { scan, line } = rows;
     let shape = fill_at(board, plan, k, *held, kept, scan);
@@ -198,10 +198,10 @@ fn fill_at(
     requires later { IfSome before (λ shape. 0 < k) }
     requires held { IfSome before (λ shape. HoldScan board.now plan.now (k - 1) shape rows.old) }
     requires kept { AreKept board.now plan.now kept.old }
-    requires room { HaveRoom (IsRoom board.now) rows.old }
+    requires room { EachStoredHasRoom (IsRoom board.now) rows.old }
     ensures filled { HoldScan board.now plan.now k result rows.new }
     ensures kept { AreKept board.now plan.now kept.new }
-    ensures room { HaveRoom (IsRoom board.now) rows.new }
+    ensures room { EachStoredHasRoom (IsRoom board.now) rows.new }
 {
     let StoredRows { tdi, tdo, mask } = rows;
     match before {

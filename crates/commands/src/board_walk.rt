@@ -11,12 +11,12 @@ ghost use Rattle.walk_test.specs.WalkTest.{board_walk_text, walk_row_list, walk_
 ghost use Rattle.response_log.specs.LogRows.{HasSize};
 ghost use Rattle.commands.specs.Answers.{BoardAnswers, IsBoardOf};
 ghost use Rattle.commands.specs.LogRead.{walk_rows};
-ghost use Rattle.commands.specs.inner.Rows.{HaveRoom};
+ghost use Rattle.commands.specs.inner.Rows.{EachStoredHasRoom};
 ghost use Rattle.commands.specs.inner.Unput.{NoBoard, PutsText};
 ghost use Rattle.commands.specs.Worth.{WalksBoard};
 
 use crate::board_test::longest_scan;
-use crate::planned::{Classified, board_of};
+use crate::planned::{ClassesWithPins, board_of};
 use crate::rows::Rows;
 use crate::texts::BoardTexts;
 use crate::unput::{Unput, answer_by};
@@ -64,7 +64,7 @@ pub fn walk_logs_shaped(board: &Board)
 fn walk_of(alloc: Global, board: &Board) -> Result<Walk, AllocError>
     ensures { IfOk result (λ walk. IsWalkOf board.now walk) }
 {
-    let Classified { classes, pins } = Classified::of(alloc, board)?;
+    let ClassesWithPins { classes, pins } = ClassesWithPins::of(alloc, board)?;
     let first = first_pass(alloc, board, &classes)?;
     Walk::of(alloc, board, pins, &first)
 }
@@ -102,7 +102,7 @@ fn is_harmless(board: &Board)
 #[tactic(auto, unfolding(tap_defs::specs::chain::Text::svf_text))]
 fn write_walk<K: Sink>(walked: &Walked, rows: &mut Rows, out: &mut K) -> Result<(), PutFault>
     requires walk { IsWalkOf walked.now.board walked.now.walk }
-    requires room { HaveRoom (IsRoom walked.now.board) rows.old.scan }
+    requires room { EachStoredHasRoom (IsRoom walked.now.board) rows.old.scan }
     ensures { Puts (K.shown out.old) (K.shown out.new) (board_walk_text walked.now.board) result }
 {
     scans_counted();
@@ -122,9 +122,9 @@ fn write_walk_scan<K: Sink>(
 ) -> Result<(), PutFault>
     requires walk { IsWalkOf walked.now.board walked.now.walk }
     requires scan { k < scan_count walked.now.walk }
-    requires room { HaveRoom (IsRoom walked.now.board) rows.old.scan }
+    requires room { EachStoredHasRoom (IsRoom walked.now.board) rows.old.scan }
     ensures text { IfSome (slice_get (walk_scans walked.now.board) k) (λ scan. Puts (K.shown out.old) (K.shown out.new) (scan_text scan) result) }
-    ensures room { HaveRoom (IsRoom walked.now.board) rows.new.scan }
+    ensures room { EachStoredHasRoom (IsRoom walked.now.board) rows.new.scan }
 {
     let Walked { board, walk } = walked;
     let Rows { scan, line } = rows;

@@ -7,7 +7,7 @@ ghost use Rattle.svf_writer.specs.Rows.{IsRoom};
 ghost use Rattle.btest_core.specs.BoardRead.{AreChainLengths, AreLengths};
 ghost use Rattle.commands.specs.Worth.{TestsChain};
 ghost use Rattle.commands.specs.Answers.{ChainAnswers};
-ghost use Rattle.commands.specs.inner.Rows.{HaveRoom};
+ghost use Rattle.commands.specs.inner.Rows.{EachStoredHasRoom};
 
 use crate::rows::Rows;
 use crate::texts::ChainTexts;
@@ -60,7 +60,7 @@ fn instruction_bits(lengths: &[u32]) -> u32
 #[tactic(auto, unfolding(tap_defs::specs::chain::Text::svf_text))]
 fn write_test<K: Sink>(lengths: &[u32], rows: &mut Rows, out: &mut K) -> Result<(), PutFault>
     requires lengths { AreLengths lengths.now }
-    requires room { HaveRoom (IsRoom lengths.now) rows.old.scan }
+    requires room { EachStoredHasRoom (IsRoom lengths.now) rows.old.scan }
     ensures { Puts (K.shown out.old) (K.shown out.new) (chain_text lengths.now) result }
 {
     write_head(out)?;

@@ -7,7 +7,7 @@ ghost use Rattle.ident_test.specs.Patterns.{ident_bits, ident_text};
 ghost use Rattle.btest_core.specs.IdentsRead.{AreIdents};
 ghost use Rattle.commands.specs.Worth.{TestsIdents};
 ghost use Rattle.commands.specs.Answers.{ChainAnswers};
-ghost use Rattle.commands.specs.inner.Rows.{HaveRoom};
+ghost use Rattle.commands.specs.inner.Rows.{EachStoredHasRoom};
 
 use crate::rows::Rows;
 use crate::texts::ChainTexts;
@@ -19,8 +19,8 @@ use ident_test::law::ident_tests;
 use ident_test::write_ident;
 use std::alloc::Global;
 
-// The most bits of the scan: 255 parts of 32 bits each (IEEE 1149.1-1990, section 11).
-const MOST_BITS: u32 = 8160;
+// The most bits of the scan that reads the codes: 32 for each of at most 255 parts (IEEE 1149.1-1990, section 11).
+const MOST_CODE_BITS: u32 = 8160;
 
 /// Puts the text that tests the identification codes of the parts of a chain file and BSDL texts. All
 /// memory is taken before the first put.
@@ -31,7 +31,7 @@ pub fn ident<K: Sink>(alloc: Global, texts: &ChainTexts, out: &mut K) -> Result<
         Ok(patterns) => patterns,
         Err(fault) => return Err(unput_by(fault)),
     };
-    let mut rows = Rows::with_room(alloc, MOST_BITS)?;
+    let mut rows = Rows::with_room(alloc, MOST_CODE_BITS)?;
     tests_codes(&patterns);
     answer_by(write_test(&patterns, &mut rows, out))
 }
@@ -43,7 +43,7 @@ fn write_test<K: Sink>(
     out: &mut K,
 ) -> Result<(), PutFault>
     requires patterns { ArePatterns patterns.now }
-    requires room { HaveRoom (λ room. length (ident_bits patterns.now) ≤ room) rows.old.scan }
+    requires room { EachStoredHasRoom (λ room. length (ident_bits patterns.now) ≤ room) rows.old.scan }
     ensures { Puts (K.shown out.old) (K.shown out.new) (ident_text patterns.now) result }
 {
     let Rows { scan, line } = rows;

@@ -25,20 +25,20 @@ pub struct Planned {
 
 /// The classes of a board, and what stands on its nets, by the same pin tables.
 #[derive(Drop)]
-pub struct Classified {
+pub struct ClassesWithPins {
     pub classes: Classes,
     pub pins: NetPins,
 }
 
-impl Classified {
+impl ClassesWithPins {
     /// The classes of the board, and what stands on its nets.
-    pub fn of(alloc: Global, board: &Board) -> Result<Classified, AllocError>
+    pub fn of(alloc: Global, board: &Board) -> Result<ClassesWithPins, AllocError>
         ensures classes { IfOk result (λ known. AreClasses board.now known.classes) }
         ensures pins { IfOk result (λ known. AreNetPins board.now known.pins) }
     {
         let pins = NetPins::new(alloc, board)?;
         let classes = classify_by(alloc, board, &pins.tables)?;
-        Ok(Classified { classes, pins })
+        Ok(ClassesWithPins { classes, pins })
     }
 }
 
@@ -65,10 +65,8 @@ pub fn planned_board(alloc: Global, texts: &BoardTexts) -> Result<Planned, Unput
         Ok(board) => board,
         Err(failure) => return Err(failure),
     };
-    match board_plan(alloc, &board) {
-        Ok(plan) => Ok(Planned { board, plan }),
-        Err(_) => Err(Unput::Memory),
-    }
+    let plan = board_plan(alloc, &board)?;
+    Ok(Planned { board, plan })
 }
 
 // The plan of the board's passes.
@@ -76,6 +74,6 @@ fn board_plan(alloc: Global, board: &Board) -> Result<Plan, AllocError>
     ensures plan { IfOk result (λ plan. IsPlanOf board.now plan) }
     ensures passes { IfOk result (λ plan. plan.passes ≡ passes_of board.now) }
 {
-    let Classified { classes, pins } = Classified::of(alloc, board)?;
+    let ClassesWithPins { classes, pins } = ClassesWithPins::of(alloc, board)?;
     plan_by(alloc, board, pins, &classes)
 }

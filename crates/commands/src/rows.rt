@@ -1,6 +1,6 @@
 // What scans are made in and printed from.
 ghost use Rattle.std.specs.Prelude.{◌≡◌, IfOk};
-ghost use Rattle.commands.specs.inner.Rows.{HaveRoom};
+ghost use Rattle.commands.specs.inner.Rows.{EachStoredHasRoom};
 
 use bt_bits::{Line, Row};
 use std::alloc::{AllocError, Global};
@@ -16,7 +16,7 @@ pub struct Rows {
 impl Rows {
     /// Rows with room for so many bits.
     pub fn with_room(alloc: Global, room: u32) -> Result<Rows, AllocError>
-        ensures { IfOk result (λ rows. HaveRoom (λ bits. bits ≡ room) rows.scan) }
+        ensures { IfOk result (λ rows. EachStoredHasRoom (λ bits. bits ≡ room) rows.scan) }
     {
         Ok(Rows {
             scan: StoredRows {

@@ -7,7 +7,7 @@ use Rattle.plan_tables.specs.declared.tables.PlanTables.{PlanTables}
 use Rattle.scan_planner.specs.Plans.{FillsScan}
 
 -- each of the three has such a room
-pub record HaveRoom (Fits : ℕ → Type 0) (rows : StoredRows) : Type 0 where
+pub record EachStoredHasRoom (Fits : ℕ → Type 0) (rows : StoredRows) : Type 0 where
   pub tdi : Fits rows.tdi.room
   pub tdo : Fits rows.tdo.room
   pub mask : Fits rows.mask.room

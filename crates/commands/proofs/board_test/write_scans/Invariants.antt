@@ -6,7 +6,7 @@ use Rattle.tap_defs.specs.chain.Text.{head_text, scan_texts}
 use Rattle.tap_defs.specs.board.BoardScans.{test_scans}
 use Rattle.scan_planner.specs.PassRows.{AreKept}
 use Rattle.scan_planner.specs.Plans.{IsRoom}
-use Rattle.commands.specs.inner.Rows.{HaveRoom, HoldScan}
+use Rattle.commands.specs.inner.Rows.{EachStoredHasRoom, HoldScan}
 use Rattle.commands.proofs.board_test.write_scans.Given as goal
 
 -- the head and the scans so far were put; the rows hold the last of these, where there is one, and keep their room
@@ -16,5 +16,5 @@ invariant-loop-k g l = record {
   later : IfSome l.held (λ shape. 0 < l.k);
   held : IfSome l.held (λ shape. HoldScan l.board l.plan (l.k - 1) shape l.rows.scan);
   kept : AreKept l.board l.plan l.kept;
-  room : HaveRoom (IsRoom l.board) l.rows.scan;
+  room : EachStoredHasRoom (IsRoom l.board) l.rows.scan;
 }

@@ -4,12 +4,12 @@ use Rattle.bt_base.specs.declared.sink.PutFault.{PutFault}
 use Rattle.tap_defs.specs.chain.Text.{head_text, scan_texts}
 use Rattle.walk_test.specs.WalkTest.{walk_scans}
 use Rattle.scan_planner.specs.Plans.{IsRoom}
-use Rattle.commands.specs.inner.Rows.{HaveRoom}
+use Rattle.commands.specs.inner.Rows.{EachStoredHasRoom}
 use Rattle.commands.proofs.board_walk.write_walk.Given as goal
 
 -- the head and the scans so far were put, and the rows keep their room
 abbrev pub invariant-loop-k : goal.invariant-loop-k
 invariant-loop-k g l = record {
   put : Puts {T = Unit {0}} {E = PutFault} (g.K.Sink.shown l.fn.out) (g.K.Sink.shown l.out) (head_text ++ scan_texts (take l.k (walk_scans l.walked.board))) (Ok tt);
-  room : HaveRoom (IsRoom l.walked.board) l.rows.scan;
+  room : EachStoredHasRoom (IsRoom l.walked.board) l.rows.scan;
 }
