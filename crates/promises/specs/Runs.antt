@@ -6,8 +6,7 @@ use Rattle.bt_base.specs.declared.memory.MemSink.{MemSink}
 use Rattle.bt_base.specs.Counts.{Rose}
 use Rattle.bt_base.specs.Memory.{asked_of, text_of, faults_of as read_faults}
 use Rattle.bt_base.specs.MemSink.{faults_of, taken_of}
-use Rattle.board_defs.specs.Limits.{most_parts}
-use Rattle.command_line.specs.Words.{Text, ChainNames, BoardNames, Command, Chain, Ident, Device, Cover, Svf, Walk, Make, Diagnose, Groups, Batch, is_plain, number_of, names_of, board_names}
+use Rattle.command_line.specs.Words.{Text, ChainNames, BoardNames, Command, Chain, Ident, Device, Cover, Svf, Walk, Make, Diagnose, Groups, Batch, is_plain, most_made, number_of, names_of, board_names}
 use Rattle.btest_cli.specs.Texts.{Held, Wanted}
 use Rattle.btest_cli.specs.declared.status.Status.{Status}
 use Rattle.btest_cli.specs.declared.status.Status.TheVariants.{Done, NoMemory}
@@ -44,6 +43,10 @@ desk_ends desk = ends_of (Some (text_of desk.store)) (asked_of desk.store) (λ n
 abbrev pub desk_run : List (String Global) → Desk → Desk → Status → Run
 desk_run words old new status = run_of words (desk_ends old) (desk_ends new) status
 
+-- The most BSDL files and the most workers stand here as numerals, not by the names that the reader of the words has for them: this is what
+-- the program promises, and a limit that is changed there alone breaks it. The most parts of a board that is made have their name, and samples
+-- hold it to 255.
+
 -- these words, then a chain file and at most 255 BSDL files
 abbrev pub ThenChain : List Text → ChainNames → List Text → Type 0
 ThenChain front names words = (words ≡ front ++ names.chain ∷ names.bsdl) × (length names.bsdl ≤ 255)
@@ -60,7 +63,7 @@ AreWords (Device name) words = words ≡ codes "device" ∷ name ∷ []
 AreWords (Cover names) words = ThenBoard (codes "cover" ∷ []) names words
 AreWords (Svf names) words = ThenBoard (codes "svf" ∷ []) names words
 AreWords (Walk names) words = ThenBoard (codes "walk" ∷ []) names words
-AreWords (Make parts) words = (number : Text) × (number_of most_parts number ≡ Some parts) × (words ≡ codes "make" ∷ number ∷ [])
+AreWords (Make parts) words = (number : Text) × (number_of most_made number ≡ Some parts) × (words ≡ codes "make" ∷ number ∷ [])
 AreWords (Diagnose workers log names) words = (number : Text) × (number_of 64 number ≡ Some workers) × ThenBoard (codes "diagnose" ∷ number ∷ log ∷ []) names words
 AreWords (Groups log names) words = ThenBoard (codes "groups" ∷ log ∷ []) names words
 AreWords (Batch workers log names) words = (number : Text) × (number_of 64 number ≡ Some workers) × ThenBoard (codes "batch" ∷ number ∷ log ∷ []) names words
