@@ -14,7 +14,8 @@ use scan_planner::Plan;
 use scan_planner::law::useful_planned;
 use std::alloc::{AllocError, Global};
 
-/// The plan of the test that the board's passes make. The classes are those of the board.
+/// The plan of the test that the board's passes make. The classes are those of the board. It is `plan_by` with the pins of the board's
+/// nets made here, for callers that have none.
 pub fn plan(alloc: Global, board: &Board, classes: &Classes) -> Result<Plan, AllocError>
     requires { AreClasses board.now classes.now }
     ensures plan { IfOk result (λ plan. IsPlanOf board.now plan) }

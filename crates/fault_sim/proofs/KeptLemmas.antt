@@ -18,13 +18,6 @@ use Rattle.fault_sim.specs.Kept.{AreDrivers, AreRows, IsRow, KeepDrivers, KeepRo
 use Rattle.fault_sim.specs.inner.Kept.{drivers_of, feed_of, is_code, kept_drivers, kept_rows, observes_coded, rows_of}
 use Rattle.fault_sim.specs.inner.Tested.{observes_by, observes_in, paired_in}
 
--- a list in which each item is right for its place, with one more
-pub each_more : {A : Type 0} (P : ℕ → A → Type 0) (xs : List A) (y : A) → ((i : ℕ) (x : A) → slice_get xs i ≡ Some x → P i x) → P (length xs) y → (i : ℕ) (x : A) → slice_get (xs ++ y ∷ []) i ≡ Some x → P i x
-each_more P [] y all last zero x at = subst (P 0) (cc at) last
-each_more P [] y all last (suc i) x at = cc at
-each_more P (z ∷ xs) y all last zero x at = all 0 x at
-each_more P (z ∷ xs) y all last (suc i) x at = each_more (λ k v. P (suc k) v) xs y (λ k v e. all (suc k) v e) last i x at
-
 -- where nothing is kept, what is kept is right
 pub no_rows : (board : RawBoard) (plan : PlanTables) → KeepRows board plan []
 no_rows board plan x pass at = cc at

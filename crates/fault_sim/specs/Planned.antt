@@ -1,8 +1,9 @@
 -- What a board's test, a log of it and the passes of both are seen as.
 use Rattle.std.specs.Prelude.{ℕ, Bool, List, [], slice_index_or}
 use Rattle.board_defs.specs.declared.board.Ctl.{Ctl}
-use Rattle.board_defs.specs.declared.board.RawBoard.{RawBoard}
 use Rattle.plan_tables.specs.declared.tables.PlanTables.{PlanTables}
+-- a board with a plan, and a pass by its number
+pub use Rattle.scan_planner.specs.Planned.{PlannedBoard, planned_board, PlannedPass, planned_pass}
 
 -- a plan with the controls that one of its passes holds
 pub record PlanPass : Type 0 where
@@ -12,29 +13,13 @@ pub record PlanPass : Type 0 where
 abbrev pub plan_pass : PlanTables → List Ctl → PlanPass
 plan_pass plan pass = record { plan = plan; pass = pass }
 
--- a board with a plan
-pub record PlannedBoard : Type 0 where
-  pub board : RawBoard
-  pub plan : PlanTables
-
-abbrev pub planned_board : RawBoard → PlanTables → PlannedBoard
-planned_board board plan = record { board = board; plan = plan }
-
--- the same with a log
+-- a board with a plan, and a log of its test
 pub record LoggedBoard : Type 0 where
   pub test : PlannedBoard
   pub log : List (List Bool)
 
 abbrev pub logged_board : PlannedBoard → List (List Bool) → LoggedBoard
 logged_board test log = record { test = test; log = log }
-
--- a pass by its number, from 0
-pub record PlannedPass : Type 0 where
-  pub test : PlannedBoard
-  pub number : ℕ
-
-abbrev pub planned_pass : PlannedBoard → ℕ → PlannedPass
-planned_pass test number = record { test = test; number = number }
 
 -- the controls that the pass holds
 abbrev pub controls_of : PlannedPass → List Ctl

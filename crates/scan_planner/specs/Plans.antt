@@ -22,8 +22,8 @@ pub record IsRoom (board : RawBoard) (room : ℕ) : Type 0 where
   pub instructions : instruction_bits board ≤ room
   pub data_row : data_bits board ≤ room
 
--- the rows are scan k of the test, in the form in which it is written: they have one length, from 1 to 65,535; something is compared
--- exactly where the mask has a 1; and a bit of TDO is 1 only where that of the mask is 1
+-- the rows are scan k of the test, in the form in which it is written: they have one length, from 1 to the most bits of a board; the scan
+-- compares something exactly if some bit of the mask is 1; and a bit of TDO is 1 only where that of the mask is 1
 pub record FillsScan (board : RawBoard) (passes : List (List Ctl)) (width k : ℕ) (shape : Shape) (tdi tdo mask : List Bool) : Type 0 where
   pub scan : slice_get (test_scans board passes width) k ≡ Some (record { ir = shape.ir; bits = scan_bits tdi tdo mask })
   pub some : 0 < length tdi

@@ -3,7 +3,8 @@ ghost use Rattle.std.specs.Prelude.{◌≡◌, ◌<◌, ◌≤◌, length};
 ghost use Rattle.board_defs.specs.BoardRules.{IsBoard};
 ghost use Rattle.plan_tables.specs.Plans.{IsPlanOf};
 ghost use Rattle.scan_planner.specs.PassRows.{AreCommonRows};
-ghost use Rattle.scan_planner.specs.inner.Planned.{IsPlanned, planned_board, planned_pass};
+ghost use Rattle.scan_planner.specs.Planned.{planned_board, planned_pass};
+ghost use Rattle.scan_planner.specs.inner.Planned.{IsPlanned};
 
 use crate::common_rows::CommonRows;
 use board_defs::Board;
@@ -19,7 +20,8 @@ pub struct BoardPlan<'a> {
 }
 
 impl<'a> Model for BoardPlan<'a> {
-    ghost use Rattle.scan_planner.specs.inner.Planned.{IsPlanned, PlannedBoard, planned_board};
+    ghost use Rattle.scan_planner.specs.Planned.{PlannedBoard, planned_board};
+    ghost use Rattle.scan_planner.specs.inner.Planned.{IsPlanned};
 
     ghost Value = { PlannedBoard };
 
@@ -38,7 +40,8 @@ pub struct PassOfPlan<'a> {
 }
 
 impl<'a> Model for PassOfPlan<'a> {
-    ghost use Rattle.scan_planner.specs.inner.Planned.{IsPass, PlannedPass, planned_board, planned_pass};
+    ghost use Rattle.scan_planner.specs.Planned.{PlannedPass, planned_board, planned_pass};
+    ghost use Rattle.scan_planner.specs.inner.Planned.{IsPass};
 
     ghost Value = { PlannedPass };
 

@@ -25,7 +25,7 @@ struct PassWithRows<'a, 'k> {
 
 impl<'a, 'k> Model for PassWithRows<'a, 'k> {
     ghost use Rattle.scan_planner.specs.PassRows.{ArePassRows};
-    ghost use Rattle.scan_planner.specs.inner.Planned.{PlannedPass};
+    ghost use Rattle.scan_planner.specs.Planned.{PlannedPass};
 
     ghost Value = { PlannedPass };
 

@@ -7,7 +7,7 @@ ghost use Rattle.net_pins.specs.Tables.{AreNetPins};
 ghost use Rattle.plan_tables.specs.Plans.{ArePlannable, IsPlanOf};
 ghost use Rattle.scan_planner.specs.PassRows.{AreKept};
 ghost use Rattle.scan_planner.specs.Plans.{IsRoom, FillsScan, scan_count, scan_of_pass};
-ghost use Rattle.scan_planner.specs.inner.Planned.{planned_board};
+ghost use Rattle.scan_planner.specs.Planned.{planned_board};
 
 use crate::board_plan::BoardPlan;
 use crate::common_rows::CommonRows;
@@ -44,7 +44,8 @@ impl Model for Plan {
 
 impl Plan {
     /// The plan of these passes, each of which is safe and has only controls of drivers of the board. The nets that
-    /// some pass observes are numbered from 1, in net order; these numbers are their codes.
+    /// some pass observes are numbered from 1, in net order; these numbers are their codes. It is `of` with the pins of the
+    /// board's nets made here, for callers that have none.
     pub fn new(alloc: Global, board: &Board, passes: Vec<Setting>) -> Result<Plan, AllocError>
         requires few { length passes.items < 2 ^ 32 }
         requires plannable { ArePlannable board.now passes.items }

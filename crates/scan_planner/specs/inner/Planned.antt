@@ -1,4 +1,4 @@
--- A board with a plan of it, and a pass of the plan: what the inner types are seen as, and what is known of them.
+-- What is known of a board with a plan of it, and of a pass of the plan.
 use Rattle.std.specs.Prelude.{ℕ, ◌<◌, ◌≤◌, List, length}
 use Rattle.board_defs.specs.declared.board.RawBoard.{RawBoard}
 use Rattle.tap_defs.specs.declared.scan.ScanRows.{ScanRows}
@@ -9,23 +9,8 @@ use Rattle.plan_tables.specs.declared.tables.PlanTables.{PlanTables}
 use Rattle.plan_tables.specs.Plans.{IsPlanOf}
 use Rattle.scan_planner.specs.declared.common_rows.CommonRows.{CommonRows}
 use Rattle.scan_planner.specs.PassRows.{AreCommonRows}
+use Rattle.scan_planner.specs.Planned.{PlannedBoard, PlannedPass}
 use Rattle.scan_planner.specs.Plans.{FillsScan, scan_of_pass}
-
--- a board with a plan
-pub record PlannedBoard : Type 0 where
-  pub board : RawBoard
-  pub plan : PlanTables
-
-abbrev pub planned_board : RawBoard → PlanTables → PlannedBoard
-planned_board board plan = record { board = board; plan = plan }
-
--- a pass of the plan by its number, from 0
-pub record PlannedPass : Type 0 where
-  pub test : PlannedBoard
-  pub number : ℕ
-
-abbrev pub planned_pass : PlannedBoard → ℕ → PlannedPass
-planned_pass test number = record { test = test; number = number }
 
 -- the plan is one of the board, with codes of at most 14 bits, and the rows are what all passes have in theirs
 pub record IsPlanned (board : RawBoard) (plan : PlanTables) (common : CommonRows) : Type 0 where

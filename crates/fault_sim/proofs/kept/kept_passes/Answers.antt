@@ -3,7 +3,7 @@ use Rattle.std.proofs.lemmas.List.{length_push}
 use Rattle.fault_sim.specs.declared.kept.KeptPass.{KeptPass}
 use Rattle.fault_sim.specs.Kept.{AreDrivers, AreRows, KeepDrivers, KeepRows}
 use Rattle.fault_sim.specs.Planned.{PlannedBoard, PlannedPass, controls_of, planned_board, planned_pass}
-use Rattle.fault_sim.proofs.KeptLemmas.{each_more}
+use Rattle.scan_planner.proofs.NumberedLemmas.{each_more}
 use Rattle.fault_sim.proofs.kept.kept_passes.Goals as goal
 
 pub loop-x-preserved : goal.loop-x-preserved

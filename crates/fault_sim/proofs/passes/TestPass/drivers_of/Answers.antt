@@ -3,7 +3,7 @@ use Rattle.std.proofs.lemmas.List.{length_push}
 use Rattle.fault_sim.specs.declared.feed.EnabledDriver.{EnabledDriver}
 use Rattle.fault_sim.specs.Kept.{AreDrivers, enabled_driver}
 use Rattle.fault_sim.specs.Planned.{controls_of}
-use Rattle.fault_sim.proofs.KeptLemmas.{each_more}
+use Rattle.scan_planner.proofs.NumberedLemmas.{each_more}
 use Rattle.fault_sim.proofs.passes.TestPass.drivers_of.Goals as goal
 
 pub loop-n-preserved : goal.loop-n-preserved

@@ -2,7 +2,7 @@ use Rattle.std.proofs.Common.{◌∙◌, ◌+◌, ℕ, List, length, ap, sym, su
 use Rattle.std.proofs.lemmas.List.{length_push}
 use Rattle.fault_sim.specs.declared.kept.ComparedRow.{ComparedRow}
 use Rattle.fault_sim.specs.Kept.{AreRows, IsRow}
-use Rattle.fault_sim.proofs.KeptLemmas.{each_more}
+use Rattle.scan_planner.proofs.NumberedLemmas.{each_more}
 use Rattle.fault_sim.proofs.passes.TestPass.new_rows.Goals as goal
 
 pub loop-j-preserved : goal.loop-j-preserved

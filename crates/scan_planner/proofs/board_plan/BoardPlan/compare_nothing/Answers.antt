@@ -3,7 +3,7 @@ use Rattle.std.specs.List.{list_any}
 use Rattle.lists.proofs.ListLemmas.{none_of_zeros}
 use Rattle.tap_defs.specs.board.BoardScans.{row_bits}
 use Rattle.tap_defs.specs.chain.Scan.{joined, mask_bits, tdo_bits}
-use Rattle.scan_planner.specs.inner.Planned.{PlannedBoard}
+use Rattle.scan_planner.specs.Planned.{PlannedBoard}
 use Rattle.scan_planner.proofs.FillLemmas.{quiet_tdo, quiet_mask}
 use Rattle.scan_planner.proofs.board_plan.BoardPlan.compare_nothing.Goals as goal
 

@@ -6,7 +6,7 @@ use Rattle.tap_defs.specs.chain.ScanRows.{AreRowsOf}
 use Rattle.tap_defs.specs.chain.Codes.{instructs}
 use Rattle.tap_defs.specs.board.BoardScans.{extest_code, preload_code, test_scans}
 use Rattle.tap_defs.proofs.board.ScanPlaceLemmas.{scans_placed}
-use Rattle.scan_planner.specs.inner.Planned.{PlannedBoard}
+use Rattle.scan_planner.specs.Planned.{PlannedBoard}
 use Rattle.scan_planner.proofs.FillLemmas.{codes_room, fills}
 use Rattle.plan_tables.proofs.SizeLemmas.{extest_sized, preload_sized}
 use Rattle.scan_planner.proofs.board_plan.BoardPlan.fill_early.Goals as goal

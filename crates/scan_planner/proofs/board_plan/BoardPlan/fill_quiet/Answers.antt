@@ -2,7 +2,7 @@ use Rattle.std.proofs.Common.{sym, refl, subst}
 use Rattle.board_defs.specs.BoardRules.{IsBoard}
 use Rattle.tap_defs.specs.board.BoardScans.{scan_of_row, first_row_scan}
 use Rattle.tap_defs.proofs.board.ScanPlaceLemmas.{scans_placed}
-use Rattle.scan_planner.specs.inner.Planned.{PlannedBoard}
+use Rattle.scan_planner.specs.Planned.{PlannedBoard}
 use Rattle.scan_planner.proofs.FillLemmas.{fills, row_sized}
 use Rattle.scan_planner.proofs.board_plan.BoardPlan.fill_quiet.Goals as goal
 

@@ -2,7 +2,7 @@ use Rattle.std.proofs.Common.{ap, ◌∙◌, arith}
 use Rattle.board_defs.specs.Pins.{data_bits}
 use Rattle.tap_defs.specs.board.BoardScans.{row_bits}
 use Rattle.tap_defs.specs.chain.Scan.{joined, tdi_bits}
-use Rattle.scan_planner.specs.inner.Planned.{PlannedBoard}
+use Rattle.scan_planner.specs.Planned.{PlannedBoard}
 use Rattle.scan_planner.proofs.FillLemmas.{quiet_length, quiet_is}
 use Rattle.scan_planner.proofs.board_plan.BoardPlan.shift_quiet.Goals as goal
 

@@ -5,7 +5,8 @@ use Rattle.plan_tables.specs.Assigned.{assigned, driver_bit}
 use Rattle.plan_tables.specs.Tables.{held_cell}
 use Rattle.scan_planner.specs.PassRows.{steady_compared, steady_shifted}
 use Rattle.scan_planner.specs.inner.Passes.{compared, driven}
-use Rattle.scan_planner.specs.inner.Planned.{PlannedPass, bits_of}
+use Rattle.scan_planner.specs.Planned.{PlannedPass}
+use Rattle.scan_planner.specs.inner.Planned.{bits_of}
 use Rattle.scan_planner.proofs.FillLemmas.{controls_there, expected_is, mask_is, quiet_length, shifted_is}
 use Rattle.scan_planner.proofs.board_plan.PassOfPlan.walk.Goals as goal
 

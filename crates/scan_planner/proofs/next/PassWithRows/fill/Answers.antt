@@ -1,7 +1,7 @@
 use Rattle.std.proofs.Common.{◌<◌, length, refl, subst}
 use Rattle.board_defs.specs.BoardRules.{IsBoard}
 use Rattle.plan_tables.specs.Plans.{IsPlanOf}
-use Rattle.scan_planner.specs.inner.Planned.{PlannedPass}
+use Rattle.scan_planner.specs.Planned.{PlannedPass}
 use Rattle.scan_planner.proofs.FillLemmas.{fills_row}
 use Rattle.scan_planner.proofs.NextLemmas.{mask_stands}
 use Rattle.scan_planner.proofs.next.PassWithRows.fill.Goals as goal
