@@ -25,7 +25,7 @@ pub struct Search<'a, 'b> {
     pub suspects: &'a Suspects,
 }
 
-// Whether the net that tells most rules a fault out.
+// Whether the first net that differs rules a fault out.
 fn is_ruled_out(search: Search<'_, '_>, fault: Single) -> bool
     requires { IsSearch search }
     ensures { result ≡ true → IsSingle search.entry.logged.now.test.board fault → Explains search.entry.logged.now.test.board fault search.entry.logged.now.log → ⊥ }
@@ -36,7 +36,8 @@ fn is_ruled_out(search: Search<'_, '_>, fault: Single) -> bool
     }
 }
 
-// Whether the fault of a candidate is one of the board and explains the log. Few are left once the net that tells most was asked.
+// Whether some pass observes the nets of a candidate's fault, so that it is one of the board, and the fault explains the log. Few are left
+// once the first net that differs was asked.
 fn explains(search: Search<'_, '_>, fault: Single) -> bool
     requires search { IsSearch search }
     requires fault { observes_fault search.logged.now.test.plan fault ≡ true → IsSingle search.logged.now.test.board fault }

@@ -8,11 +8,11 @@ use Rattle.fault_sim.specs.Effects.{effect_in}
 use Rattle.fault_sim.specs.Fits.{ShowsAll, ShowsEffect}
 use Rattle.fault_sim.specs.Planned.{NetInPass, controls_in}
 use Rattle.fault_sim.specs.inner.Effects.{first_net, second_net}
-use Rattle.fault_sim.specs.inner.Telling.{IsShortOf, IsTellingNet}
+use Rattle.fault_sim.specs.inner.Telling.{IsEffectOn, IsTellingNet}
 use Rattle.fault_sim.proofs.MatchLemmas.{nets_there}
 
 -- where a log shows a fault, it shows the effect of it on the net
-pub shown_there : (n : NetInPass) (fault : Single) (effect : Effect) (fed : FedNet) (driver : Option ℕ) (shows : Bool) → IsTellingNet n fed driver → IsShortOf n fault effect → IsSingle n.pass.logged.test.board fault →
+pub shown_there : (n : NetInPass) (fault : Single) (effect : Effect) (fed : FedNet) (driver : Option ℕ) (shows : Bool) → IsTellingNet n fed driver → IsEffectOn n fault effect → IsSingle n.pass.logged.test.board fault →
     n.pass.number < length n.pass.logged.test.plan.passes → ShowsAll n.pass.logged.test.board n.pass.logged.test.plan (Some fault) n.pass.logged.log →
     Decides shows (ShowsEffect n.pass.logged.test.plan n.pass.logged.log n.pass.number n.net effect driver) → shows ≡ true
 shown_there n fault effect fed driver shows telling short single pass all decides =

@@ -4,7 +4,7 @@ ghost use Rattle.board_defs.specs.Faults.{IsSingle};
 ghost use Rattle.board_defs.specs.Passes.{passes_of};
 ghost use Rattle.tap_defs.specs.board.Explaining.{Explains};
 ghost use Rattle.fault_sim.specs.Planned.{net_in_pass};
-ghost use Rattle.fault_sim.specs.inner.Telling.{IsShortOf};
+ghost use Rattle.fault_sim.specs.inner.Telling.{IsEffectOn};
 
 use crate::board_test::LoggedTest;
 use crate::effect::{Effect, shorted_effect};
@@ -53,7 +53,7 @@ impl<'a> TellingNet<'a> {
 
     // The effect on the net of a fault, where it is a short of it with another net.
     fn short_effect(&self, fault: Single) -> Option<Effect>
-        ensures { IfSome result (IsShortOf self.now fault) }
+        ensures { IfSome result (IsEffectOn self.now fault) }
     {
         match fault {
             Single::StuckNet { .. } => None,
@@ -70,8 +70,8 @@ impl<'a> TellingNet<'a> {
         }
     }
 
-    /// Whether the pass shows of a short of the net with another one that it does not explain the log; false of any other fault. The plan is
-    /// made of the board's passes.
+    /// Whether the pass shows that a single fault of the board does not explain the log. It speaks of shorts of the net with another one
+    /// alone: of any other fault nothing is claimed. The plan is made of the board's passes.
     pub fn rules_out(&self, fault: Single) -> bool
         requires { self.now.pass.logged.test.plan.passes ≡ passes_of self.now.pass.logged.test.board }
         ensures { result ≡ true → IsSingle self.now.pass.logged.test.board fault → Explains self.now.pass.logged.test.board fault self.now.pass.logged.log → ⊥ }

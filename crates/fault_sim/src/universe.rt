@@ -85,7 +85,7 @@ fn halved_row(starts: &[u64], k: u64) -> usize
     low
 }
 
-// The same where the last look-up ended at net `near`: of places that rise it is mostly that net or the next one.
+// The same where the last look-up ended at place `near` of the covered nets: of pairs that rise it is mostly that place or the next one.
 fn row_of(starts: &[u64], k: u64, near: usize) -> usize
     requires some { 0 < length starts.now }
     requires first { slice_index_or starts.now 0 0 ≤ k }
@@ -165,7 +165,8 @@ fn open_at(pins: &[PinRef], i: u64) -> Option<Single>
     }
 }
 
-// Pair `k` of covered nets, the lower net first. The last look-up ended at net `near`, and this one at what it becomes.
+// Pair `k` of covered nets, the lower net first. The last look-up of a pair ended at place `near` of these nets, and this one at what it
+// becomes.
 fn pair_at(lists: &FaultLists, k: u64, near: &mut usize) -> Option<(u32, u32)>
     ensures { result ≡ slice_get (pairs_within lists.now.nets) k }
 {
@@ -284,8 +285,8 @@ impl Universe {
     }
 
     /// The fault that place `i` has if it has one: where the place is one of two covered nets, their short, whether or not they are
-    /// paired. `near` only makes the look-up quicker: it is the net at which the last one ended, at first 0, and becomes that at which this
-    /// one does, so that of places that rise nearly each is found at once. No memory is taken.
+    /// paired. `near` only makes the look-up of a pair quicker: it is the place among the covered nets at which the last one ended, at first 0,
+    /// and becomes that at which this one does, so that of places that rise nearly each is found at once. No memory is taken.
     pub fn candidate(&self, i: u64, near: &mut usize) -> Option<Single>
         ensures { (plan : PlanTables) → listed_at (listed_places plan self.now) i ≡ where_observed plan result }
     {

@@ -44,8 +44,8 @@ module _ (old new : Ends) (status : Status) where
   make_asked : Asks (run_with (codes "make" ∷ codes "002" ∷ [])) (Make 2)
   make_asked = ((codes "002", refl, refl), refl)
 
-  most_parts_asked : Asks (run_with (codes "make" ∷ codes "255" ∷ [])) (Make 255)
-  most_parts_asked = ((codes "255", refl, refl), refl)
+  most_made_asked : Asks (run_with (codes "make" ∷ codes "255" ∷ [])) (Make 255)
+  most_made_asked = ((codes "255", refl, refl), refl)
 
   diagnose_asked : Asks (run_with (codes "diagnose" ∷ codes "64" ∷ codes "g" ∷ board_words)) (Diagnose 64 (codes "g") board_names)
   diagnose_asked = ((codes "64", refl, (refl, omega arith)), refl)

@@ -16,11 +16,11 @@ use Rattle.walk_test.specs.declared.tables.NetCells.{NetCells}
 use Rattle.walk_test.specs.declared.tables.WalkTables.{WalkTables}
 use Rattle.walk_test.specs.WalkTest.{walk_setting, walk_nets}
 
--- the bits of the scan that shifts a row in
+-- what the scan that shifts a row in shifts in
 abbrev pub tdi_of : RawBoard → TestRow → List Bool
 tdi_of board row = tdi_bits (joined (row_bits board (record { now = row; before = quiet_row })))
 
--- a bit for each position of the scan behind it: 1 where what that scan captures is compared with the row
+-- a bit for each position of the scan after the one that shifts the row in: 1 where what that scan captures is compared with the row
 abbrev pub mask_of : RawBoard → TestRow → List Bool
 mask_of board row = mask_bits (joined (row_bits board (record { now = quiet_row; before = row })))
 

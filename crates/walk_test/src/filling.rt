@@ -84,8 +84,8 @@ impl<'a> RowFiller<'a> {
         }
     }
 
-    // Compares what scan `j` captures with the row before row `j`: the cells of the walk net that carries 1 in that are to read 1, and
-    // all others that are compared 0. Before row 0 there is none, and nothing is compared.
+    // Compares what scan `j` captures with the row before row `j`: the cells of the walk net that carries 1 in that
+    // row are to read 1, and all others that are compared 0. Before row 0 there is none, and nothing is compared.
     fn compare(&self, j: usize, tdo: &mut Row, mask: &mut Row)
         requires row { j ≤ length self.now.tables.nets }
         requires tdo_room { data_bits self.now.board ≤ tdo.old.room }

@@ -40,7 +40,7 @@ impl Model for Walk {
 
 impl Walk {
     /// The walk of a board, from the first of the passes of its test, where that has one. Whatever follows it is not looked at.
-    /// This is `of` with pin tables that it makes itself, for callers that have none.
+    /// It is `of` with the pins of the board's nets made here, for callers that have none.
     pub fn new(alloc: Global, board: &Board, passes: &[Setting]) -> Result<Walk, AllocError>
         requires { slice_get passes.now 0 ≡ slice_get (passes_of board.now) 0 }
         ensures { IfOk result (λ walk. IsWalkOf board.now walk) }

@@ -9,7 +9,7 @@ use Rattle.side_by_side.specs.Pieces.{items_between}
 use Rattle.diagnoser.specs.declared.search.Search.{Search}
 use Rattle.fault_sim.specs.Diagnosis.{Picks}
 
--- the candidates are the suspects for a log of the test that the plan makes of the board's passes, and the net that tells is one in it
+-- the candidates are the suspects for a log of the test that the plan makes of the board's passes, and the net that tells is one in a pass of it
 pub record IsSearch (s : Search) : Type 0 where
   pub passes : s.logged.now.test.plan.passes ≡ passes_of s.logged.now.test.board
   pub differing : AreDiffering s.logged.now.test.board s.logged.now.test.plan s.logged.now.log s.nets.now

@@ -13,6 +13,6 @@ pub record IsTellingNet (n : NetInPass) (fed : FedNet) (driver : Option ℕ) : T
   pub driver_is : driver ≡ place_of_driver (driver_in n.pass.logged.test.plan (controls_in n.pass) n.net)
 
 -- the net is one of those of a fault, which has this effect on it
-pub record IsShortOf (n : NetInPass) (fault : Single) (effect : Effect) : Type 0 where
+pub record IsEffectOn (n : NetInPass) (fault : Single) (effect : Effect) : Type 0 where
   pub is_own : (n.net ≡ first_net fault) ⊎ (n.net ≡ second_net fault)
   pub effect_is : effect ≡ effect_in n.pass.logged.test.board n.pass.logged.test.plan (controls_in n.pass) (Some fault) n.net
