@@ -1,6 +1,5 @@
 // Where the items of a list that pass a test stand: nowhere, at one place, or at several.
-ghost use Rattle.std.specs.Prelude.{◌≡◌, if◌then◌else◌};
-ghost use Rattle.std.specs.Bool.{Decides};
+ghost use Rattle.std.specs.Prelude.{◌≡◌, ◌↔◌, IsTrue, if◌then◌else◌};
 ghost use Rattle.net_facts.specs.Found.{IsAscending, Meet};
 ghost use Rattle.net_facts.specs.inner.Found.{is_elsewhere_of, with_place};
 
@@ -45,7 +44,7 @@ impl Found {
 pub fn meet(a: &[u32], b: &[u32]) -> bool
     requires first { IsAscending a.now }
     requires second { IsAscending b.now }
-    ensures { Decides result (Meet a.now b.now) }
+    ensures { IsTrue result ↔ Meet a.now b.now }
 {
     let mut i = 0;
     let mut j = 0;

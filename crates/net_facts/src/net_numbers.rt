@@ -1,5 +1,5 @@
 // The numbers of nets.
-ghost use Rattle.std.specs.Prelude.{◌≡◌, ◌++◌, ◌∷◌, [], cond, IfOk, OnOk};
+ghost use Rattle.std.specs.Prelude.{◌≡◌, ◌++◌, ◌∷◌, [], if◌then◌else◌, IfOk, OnOk};
 
 use lists::Items;
 use std::alloc::{AllocError, Global};
@@ -18,7 +18,7 @@ pub fn copy_of(alloc: Global, nets: &[u32]) -> Result<NetNumbers, AllocError>
 
 /// Adds the net, where it passes.
 pub fn push_if(numbers: &mut NetNumbers, net: u32, passes: bool) -> Result<(), AllocError>
-    ensures { OnOk result (numbers.new ≡ numbers.old ++ cond passes (net ∷ []) []) }
+    ensures { OnOk result (numbers.new ≡ numbers.old ++ (if passes then net ∷ [] else [])) }
 {
     if passes {
         numbers.push(net)?;

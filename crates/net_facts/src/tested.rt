@@ -1,5 +1,5 @@
 // What safe settings do with the nets, by their facts and the table of the controls.
-ghost use Rattle.std.specs.Prelude.{◌≡◌, ◌++◌, [], None, cond, length, map, option_copied, is_some, IfOk, OnOk};
+ghost use Rattle.std.specs.Prelude.{◌≡◌, ◌++◌, [], None, if◌then◌else◌, length, map, option_copied, is_some, IfOk, OnOk};
 ghost use Rattle.std.specs.List.{cons_option, list_any, range_with_len};
 ghost use Rattle.net_facts.specs.Cells.{item_of, table};
 ghost use Rattle.net_facts.specs.inner.Answers.{class_in, drive_of, drivers_in, enabled_in, enablers_of, enables_at_place, first_reason_in, pin_class_in, reader_tested_in, readers_of, reads_at, reason_in, safe_in, tested_in, useful_in};
@@ -139,7 +139,7 @@ fn pin_class(
 }
 
 fn tested_drive(pins: &[PinFacts], place: usize, tested: bool) -> Option<Drive>
-    ensures { result ≡ cond tested (drive_of pins.now place) None }
+    ensures { result ≡ (if tested then drive_of pins.now place else None) }
 {
     if tested { drive_of(pins, place) } else { None }
 }
