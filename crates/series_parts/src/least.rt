@@ -1,5 +1,5 @@
 // The new names of the nets on the lines of a net file.
-ghost use Rattle.std.specs.Prelude.{◌≡◌, ◌<◌, ℕ, List, [], All, get_or, length, map, IfOk};
+ghost use Rattle.std.specs.Prelude.{◌≡◌, ◌<◌, ℕ, List, [], All, slice_index_or, length, map, IfOk};
 ghost use Rattle.board_files.specs.Names.{line_names};
 ghost use Rattle.series_parts.specs.inner.Edges.{renamed};
 ghost use Rattle.series_parts.specs.Joining.{joined_name, links};
@@ -18,7 +18,7 @@ fn names_at<'a>(
     places: &[usize],
 ) -> Result<Vec<&'a [u8]>, AllocError>
     requires { All (λ place. place < length names.now) places.now }
-    ensures { IfOk result (λ found. map (λ n. n.now) found.items ≡ map (λ place. get_or names.now place []) places.now) }
+    ensures { IfOk result (λ found. map (λ n. n.now) found.items ≡ map (λ place. slice_index_or names.now place []) places.now) }
 {
     let mut found = Vec::new(alloc);
     for place in places {

@@ -1,5 +1,5 @@
 // The names on the lines of a net file.
-ghost use Rattle.std.specs.Prelude.{◌≡◌, [], ◌<◌, ◌^◌, get_or, length, map, vec_len, IfOk, List, ℕ};
+ghost use Rattle.std.specs.Prelude.{◌≡◌, ◌<◌, ◌^◌, slice_get, Some, length, map, vec_len, IfOk, List, ℕ};
 ghost use Rattle.std.proofs.Common.{Bor};
 ghost use Rattle.indexmap.specs.IndexMap.{get_by};
 ghost use Rattle.first_places.specs.Places.{first_place};
@@ -69,7 +69,7 @@ impl<'a> Names<'a> {
     /// The name on a line.
     pub fn at(&self, place: usize) -> &'a [u8]
         requires { place < length self.now }
-        ensures { result.now ≡ get_or self.now place [] }
+        ensures { slice_get self.now place ≡ Some result.now }
     {
         self.names[place]
     }

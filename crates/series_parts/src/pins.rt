@@ -1,5 +1,5 @@
 // The lines on which the pins of the nets stand first.
-ghost use Rattle.std.specs.Prelude.{◌≡◌, ◌<◌, ◌^◌, ◌&&◌, cond, length, IfOk, OnOk, List, ℕ, Some};
+ghost use Rattle.std.specs.Prelude.{◌≡◌, ◌<◌, ◌^◌, ◌&&◌, if◌then◌else◌, length, IfOk, OnOk, List, ℕ, Some};
 ghost use Rattle.std.proofs.Common.{Bor};
 ghost use Rattle.indexmap.specs.IndexMap.{get_by};
 ghost use Rattle.board_files.specs.Names.{same_word};
@@ -20,7 +20,7 @@ fn put_pins<'a>(
     words: &'a [PinWord],
     place: u32,
 ) -> Result<(), AllocError>
-    ensures { OnOk result ((q : Bor (List ℕ) × Bor (List ℕ)) → get_by (λ p. same_word q.0.now p.0.now && same_word q.1.now p.1.now) places.new ≡ cond (has_word q.0.now q.1.now words.now) (Some place) (get_by (λ p. same_word q.0.now p.0.now && same_word q.1.now p.1.now) places.old)) }
+    ensures { OnOk result ((q : Bor (List ℕ) × Bor (List ℕ)) → get_by (λ p. same_word q.0.now p.0.now && same_word q.1.now p.1.now) places.new ≡ (if has_word q.0.now q.1.now words.now then Some place else get_by (λ p. same_word q.0.now p.0.now && same_word q.1.now p.1.now) places.old)) }
 {
     for word in words {
         places.insert((word.part.bytes(), word.pin.bytes()), place)?;
