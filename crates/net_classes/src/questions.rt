@@ -1,6 +1,5 @@
 // A board with its classes, and the questions that they answer.
-ghost use Rattle.std.specs.Prelude.{◌≡◌, ◌≢◌, ◌<◌, ◌||◌, ℕ, false, true, not, length, All, MatchOption};
-ghost use Rattle.std.specs.Bool.{Decides};
+ghost use Rattle.std.specs.Prelude.{◌≡◌, ◌≢◌, ◌↔◌, ◌<◌, ◌||◌, ℕ, false, true, not, length, All, IsTrue, MatchOption};
 ghost use Rattle.board_defs.specs.BoardRules.{IsBoard};
 ghost use Rattle.board_defs.specs.Pins.{IsCell, IsOnBoard};
 ghost use Rattle.board_defs.specs.Settings.{same_ctl};
@@ -214,7 +213,7 @@ impl Classes {
         requires classes { AreClasses board.now self.now }
         requires cell { IsCell board.now c }
         ensures decided { result ≡ is_useful board.now c }
-        ensures meant { Decides result (IsUseful board.now c) }
+        ensures meant { IsTrue result ↔ IsUseful board.now c }
     {
         law::terms_decided();
         let _rules = board.raw();
@@ -227,7 +226,7 @@ impl Classes {
         requires first { IsCell board.now a }
         requires second { IsCell board.now b }
         ensures decided { result ≡ are_together board.now a b }
-        ensures meant { Decides result (AreTogether board.now a b) }
+        ensures meant { IsTrue result ↔ AreTogether board.now a b }
     {
         law::terms_decided();
         let _rules = board.raw();
@@ -239,7 +238,7 @@ impl Classes {
         requires classes { AreClasses board.now self.now }
         requires pin { IsOnBoard board.now pin }
         ensures decided { OfNet board.now pin.net (λ net. result ≡ is_tested_driver board.now net pin.place) }
-        ensures meant { Decides result (IsTestedDriver board.now pin.net pin.place) }
+        ensures meant { IsTrue result ↔ IsTestedDriver board.now pin.net pin.place }
     {
         law::terms_decided();
         let _rules = board.raw();
@@ -251,7 +250,7 @@ impl Classes {
         requires classes { AreClasses board.now self.now }
         requires pin { IsOnBoard board.now pin }
         ensures decided { OfNet board.now pin.net (λ net. result ≡ is_tested_receiver board.now net pin.place) }
-        ensures meant { Decides result (IsTestedReceiver board.now pin.net pin.place) }
+        ensures meant { IsTrue result ↔ IsTestedReceiver board.now pin.net pin.place }
     {
         law::terms_decided();
         let _rules = board.raw();
@@ -264,7 +263,7 @@ impl Classes {
         requires first { a < length board.now.nets }
         requires second { b < length board.now.nets }
         ensures decided { a ≢ b → OfNet board.now a (λ one. OfNet board.now b (λ two. result ≡ are_paired board.now one two)) }
-        ensures meant { Decides result (ArePaired board.now a b) }
+        ensures meant { IsTrue result ↔ ArePaired board.now a b }
     {
         law::terms_decided();
         let _rules = board.raw();

@@ -1,10 +1,10 @@
 // Words of 64 bits, each bit an answer for one number: bit n % 64 for number n.
-ghost use Rattle.std.specs.Prelude.{◌≡◌, ◌≢◌, ◌<◌, ◌==◌, ◌%◌, ℕ, cond};
+ghost use Rattle.std.specs.Prelude.{◌≡◌, ◌≢◌, ◌<◌, ◌==◌, ◌%◌, ℕ, if◌then◌else◌};
 ghost use Rattle.std.specs.Int.{bit_at};
 
-/// The word with the bit of this number put on or off.
+/// The word with the bit of this number set or cleared.
 pub fn put_bit(word: u64, number: u32, on: bool) -> u64
-    ensures here { bit_at result (number % 64) ≡ cond on 1 0 }
+    ensures here { bit_at result (number % 64) ≡ (if on then 1 else 0) }
     ensures others { (i : ℕ) → i < 64 → i ≢ number % 64 → bit_at result i ≡ bit_at word i }
 {
     let bit = 1 << (number % 64);
