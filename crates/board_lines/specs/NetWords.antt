@@ -1,5 +1,5 @@
 -- The words of a net file that name pins.
-use Rattle.std.specs.Prelude.{ℕ, ◌+◌, ◌-◌, ◌^◌, ◌≤◌, ◌==◌, length, Bool, ◌&&◌, List, [], ◌∷◌, ◌++◌, map, filter, unwrap_or, is_some}
+use Rattle.std.specs.Prelude.{ℕ, ◌+◌, ◌==◌, Bool, ◌&&◌, List, [], ◌∷◌, ◌++◌, map, filter, unwrap_or, is_some}
 use Rattle.std.proofs.Common.{Bor}
 use Rattle.first_places.specs.Places.{first_place, once}
 use Rattle.board_files.specs.declared.net_file.NetLine.{NetLine}

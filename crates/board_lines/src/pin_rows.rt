@@ -1,5 +1,5 @@
 // The pins of a device, each with its port bit: one row serves all parts with the same pins.
-ghost use Rattle.std.specs.Prelude.{◌≡◌, ◌<◌, ◌≤◌, ◌^◌, cond, length, slice_get, true, IfOk, IfSome, List, OnOk, Option, Some, ℕ};
+ghost use Rattle.std.specs.Prelude.{◌≡◌, ◌<◌, ◌≤◌, ◌^◌, if◌then◌else◌, length, slice_get, true, IfOk, IfSome, List, OnOk, Option, Some, ℕ};
 ghost use Rattle.board_defs.specs.Limits.{most_bits};
 ghost use Rattle.std.proofs.Common.{Bor};
 ghost use Rattle.indexmap.specs.IndexMap.{get_by};
@@ -32,7 +32,7 @@ fn put_pin<'a>(
     pin: &'a Option<Name>,
     bit: u32,
 ) -> Result<(), AllocError>
-    ensures { OnOk result ((q : Bor (List ℕ)) → get_by (λ n. same_word q.now n.now) bits.new ≡ cond (is_pin q.now pin.now) (Some bit) (get_by (λ n. same_word q.now n.now) bits.old)) }
+    ensures { OnOk result ((q : Bor (List ℕ)) → get_by (λ n. same_word q.now n.now) bits.new ≡ (if is_pin q.now pin.now then Some bit else get_by (λ n. same_word q.now n.now) bits.old)) }
 {
     if let Some(name) = pin {
         bits.insert(name.bytes(), bit)?;
@@ -57,7 +57,7 @@ fn bits_by_pin<'a>(
     Ok(by_pin)
 }
 
-/// Told only of equal pins, or where there is none on either side.
+/// True only where the names are equal, or where there is none on either side.
 fn is_same_name(a: &Option<Name>, b: &Option<Name>) -> bool
     ensures { result ≡ true → a.now ≡ b.now }
 {
@@ -68,7 +68,7 @@ fn is_same_name(a: &Option<Name>, b: &Option<Name>) -> bool
     }
 }
 
-/// Told only of port bits with the same pins in the same order.
+/// True only where the port bits have the same pins in the same order.
 fn have_same_pins(a: &[PortBit], b: &[PortBit]) -> bool
     ensures { result ≡ true → pins_of_bits a.now ≡ pins_of_bits b.now }
 {
@@ -120,7 +120,7 @@ impl<'a> PinRow<'a> {
         self.by_pin.get(&pin).copied()
     }
 
-    /// Told only where the port bits have the pins of this row.
+    /// True only where the port bits have the pins of this row.
     fn has_pins(&self, bits: &[PortBit]) -> bool
         ensures { result ≡ true → self.now ≡ pins_of_bits bits.now }
     {
