@@ -1,5 +1,5 @@
 // The devices of a chain.
-ghost use Rattle.std.specs.Prelude.{◌≡◌, ℕ, ◌<◌, ◌^◌, All, Decides, IfOk, IfSome, Some, length, map, vec_len, zip, option_copied, option_map, slice_get};
+ghost use Rattle.std.specs.Prelude.{◌≡◌, ◌↔◌, ℕ, ◌<◌, ◌^◌, All, IfOk, IfSome, IsTrue, Some, length, map, vec_len, zip, option_copied, option_map, slice_get};
 ghost use Rattle.std.specs.List.{AllByRecursion, filter_map};
 ghost use Rattle.board_lines.specs.ChainParts.{IsChain};
 ghost use Rattle.board_lines.specs.Names.{named};
@@ -66,7 +66,7 @@ fn device_of(
 }
 
 fn is_same_package(a: Option<&[u8]>, b: Option<&[u8]>) -> bool
-    ensures { Decides result (option_copied a.entry ≡ option_copied b.entry) }
+    ensures { IsTrue result ↔ (option_copied a.entry ≡ option_copied b.entry) }
 {
     match (a, b) {
         (None, None) => true,
@@ -89,7 +89,7 @@ fn earlier(chosen: &[(u32, Option<&[u8]>)], i: usize) -> Option<usize>
     None
 }
 
-// The device of the choice at place `i`, behind these devices of the choices before it: a copy of one of these, where the choice is the
+// The device of the choice at place `i`, after the devices of the choices before it: a copy of one of these, where the choice is the
 // same.
 fn next_device(
     alloc: Global,
