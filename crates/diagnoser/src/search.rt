@@ -1,5 +1,5 @@
 // The search for the faults that explain a log, in pieces that run side by side.
-ghost use Rattle.std.specs.Prelude.{◌≡◌, ◌+◌, ◌<◌, ◌≤◌, ◌++◌, true, length, Decides, IfOk, OnOk};
+ghost use Rattle.std.specs.Prelude.{◌≡◌, ◌↔◌, ◌+◌, ◌<◌, ◌≤◌, ◌++◌, true, length, IsTrue, IfOk, OnOk};
 ghost use Rattle.std.specs.Option.{option_to_list};
 ghost use Rattle.board_defs.specs.Faults.{IsSingle};
 ghost use Rattle.tap_defs.specs.board.Explaining.{Explains};
@@ -41,7 +41,7 @@ fn is_ruled_out(search: Search<'_, '_>, fault: Single) -> bool
 fn explains(search: Search<'_, '_>, fault: Single) -> bool
     requires search { IsSearch search }
     requires fault { observes_fault search.logged.now.test.plan fault ≡ true → IsSingle search.logged.now.test.board fault }
-    ensures { Decides result ((observes_fault search.entry.logged.now.test.plan fault ≡ true) × Explains search.entry.logged.now.test.board fault search.entry.logged.now.log) }
+    ensures { IsTrue result ↔ ((observes_fault search.entry.logged.now.test.plan fault ≡ true) × Explains search.entry.logged.now.test.board fault search.entry.logged.now.log) }
 {
     if is_ruled_out(search, fault) {
         return false;

@@ -1,5 +1,5 @@
 // The nets that differ in a log.
-ghost use Rattle.std.specs.Prelude.{◌≡◌, ◌*◌, length, All, Decides, IfOk};
+ghost use Rattle.std.specs.Prelude.{◌≡◌, ◌↔◌, ◌*◌, length, All, IsTrue, IfOk};
 ghost use Rattle.board_defs.specs.Passes.{passes_of};
 ghost use Rattle.board_defs.specs.Pins.{data_bits};
 ghost use Rattle.scan_planner.specs.Plans.{IsPlanOf};
@@ -23,7 +23,7 @@ impl<'a> LoggedTest<'a> {
     // Whether a net shows the expected bits in each pass. Where none of the digits of its cells has a mark, its cells need not be looked at.
     fn shows_expected(&self, marks: &[u8], n: u32) -> bool
         requires { AreMarks self.now.test.board self.now.test.plan self.now.log (length self.now.test.plan.passes) marks.now }
-        ensures { Decides result (ShowsOn self.now.test.board self.now.test.plan None self.now.log n) }
+        ensures { IsTrue result ↔ ShowsOn self.now.test.board self.now.test.plan None self.now.log n }
     {
         let _rules = self.board().raw();
         if !are_marked(marks, self.plan().readers(n)) {
@@ -69,7 +69,7 @@ pub fn none_differs(board: &Board, plan: &Plan, log: &Log, nets: &[u32]) -> bool
     requires rows { length log.now ≡ length plan.now.passes * plan.now.width }
     requires bits { All (λ row. length row ≡ data_bits board.now) log.now }
     requires differing { AreDiffering board.now plan.now log.now nets.now }
-    ensures { Decides result (IsExpected board.now (svf_row_scans board.now) log.now) }
+    ensures { IsTrue result ↔ IsExpected board.now (svf_row_scans board.now) log.now }
 {
     let _rules = board.raw();
     law::passes_kept();

@@ -1,5 +1,5 @@
 // Whether a log shows what a fault makes of the compared cells.
-ghost use Rattle.std.specs.Prelude.{◌≡◌, ◌+◌, ◌*◌, ◌<◌, ◌≤◌, ◌^◌, [], length, slice_index_or, All, Decides, true};
+ghost use Rattle.std.specs.Prelude.{◌≡◌, ◌↔◌, ◌+◌, ◌*◌, ◌<◌, ◌≤◌, ◌^◌, [], length, slice_index_or, All, IsTrue, true};
 ghost use Rattle.std.specs.List.{list_all};
 ghost use Rattle.tap_defs.specs.board.TestRows.{code_bit};
 ghost use Rattle.fault_sim.specs.Fits.{bit_in, cell_shows, ShowRows, ShowBy, Shows, ShowsEffect, ShowsPair, ShowsBoth, ShowsOn, ShowsIn, ShowsAll};
@@ -79,7 +79,7 @@ fn rows_show(
     requires rows { first + width ≤ length log.now }
     requires fits { first + width < 2 ^ 64 }
     requires at { All (λ row. All (λ r. r.position < length row) readers.now) log.now }
-    ensures { Decides result (ShowRows log.now first width code readers.now effect driver) }
+    ensures { IsTrue result ↔ ShowRows log.now first width code readers.now effect driver }
 {
     for j in 0..width {
         let row = first + u64::from(j);
@@ -103,7 +103,7 @@ fn driven_shows(
     requires rows { first + width ≤ length log.now }
     requires fits { first + width < 2 ^ 64 }
     requires at { All (λ row. All (λ r. r.position < length row) readers.now) log.now }
-    ensures { Decides result (ShowBy log.now first width code readers.now effect driver) }
+    ensures { IsTrue result ↔ ShowBy log.now first width code readers.now effect driver }
 {
     match driver {
         None => true,
@@ -121,7 +121,7 @@ pub fn net_count(board: &Board) -> u32
 impl<'a> LoggedPass<'a> {
     /// Whether the log shows an effect on a net, the pin of whose driver, where the pass enables one, stands at this place.
     pub fn shows_effect(&self, effect: Effect, driver: Option<u32>, net: u32) -> bool
-        ensures { Decides result (ShowsEffect self.now.logged.test.plan self.now.logged.log self.now.number net effect driver) }
+        ensures { IsTrue result ↔ ShowsEffect self.now.logged.test.plan self.now.logged.log self.now.number net effect driver }
     {
         let plan = self.pass.plan();
         let _rules = self.pass.board().raw();
@@ -138,7 +138,7 @@ impl<'a> LoggedPass<'a> {
 
     /// Whether the log shows the effect of a fault on a net.
     pub fn shows(&self, fault: Option<Single>, net: u32) -> bool
-        ensures { Decides result (Shows self.now.logged.test.board self.now.logged.test.plan fault self.now.logged.log self.now.number net) }
+        ensures { IsTrue result ↔ Shows self.now.logged.test.board self.now.logged.test.plan fault self.now.logged.log self.now.number net }
     {
         let effect = self.pass.effect(fault, net);
         self.shows_effect(effect, self.pass.driver_place(net), net)
@@ -146,14 +146,14 @@ impl<'a> LoggedPass<'a> {
 
     // The same on two nets, which may be one.
     fn shows_pair(&self, fault: Option<Single>, a: u32, b: u32) -> bool
-        ensures { Decides result (ShowsPair self.now.logged.test.board self.now.logged.test.plan fault self.now.logged.log self.now.number a b) }
+        ensures { IsTrue result ↔ ShowsPair self.now.logged.test.board self.now.logged.test.plan fault self.now.logged.log self.now.number a b }
     {
         self.shows(fault, a) && self.shows(fault, b)
     }
 
     // The same on each net.
     fn shows_all(&self, fault: Option<Single>) -> bool
-        ensures { Decides result (ShowsIn self.now.logged.test.board self.now.logged.test.plan fault self.now.logged.log self.now.number) }
+        ensures { IsTrue result ↔ ShowsIn self.now.logged.test.board self.now.logged.test.plan fault self.now.logged.log self.now.number }
     {
         for net in 0..net_count(self.pass.board()) {
             if !self.shows(fault, net) {
@@ -168,7 +168,7 @@ impl<'a> LoggedTest<'a> {
     /// Whether the log shows the effect of a fault on two nets, which may be one. Both are looked at pass by pass, since the first pass in
     /// which either tells is mostly an early one.
     pub(crate) fn shows_both(&self, fault: Option<Single>, a: u32, b: u32) -> bool
-        ensures { Decides result (ShowsBoth self.now.test.board self.now.test.plan fault self.now.log a b) }
+        ensures { IsTrue result ↔ ShowsBoth self.now.test.board self.now.test.plan fault self.now.log a b }
     {
         for x in 0..self.pass_count() {
             let pass = self.pass(x);
@@ -181,7 +181,7 @@ impl<'a> LoggedTest<'a> {
 
     /// Whether the log shows the effect of a fault on a net.
     pub(crate) fn shows_on(&self, fault: Option<Single>, net: u32) -> bool
-        ensures { Decides result (ShowsOn self.now.test.board self.now.test.plan fault self.now.log net) }
+        ensures { IsTrue result ↔ ShowsOn self.now.test.board self.now.test.plan fault self.now.log net }
     {
         for x in 0..self.pass_count() {
             let pass = self.pass(x);
@@ -194,7 +194,7 @@ impl<'a> LoggedTest<'a> {
 
     /// Whether the log shows the effect of a fault, or the expected bits where there is none.
     pub(crate) fn shows_all(&self, fault: Option<Single>) -> bool
-        ensures { Decides result (ShowsAll self.now.test.board self.now.test.plan fault self.now.log) }
+        ensures { IsTrue result ↔ ShowsAll self.now.test.board self.now.test.plan fault self.now.log }
     {
         for x in 0..self.pass_count() {
             let pass = self.pass(x);

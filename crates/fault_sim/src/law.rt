@@ -1,5 +1,5 @@
 //! Laws of the places of a board and of diagnoses, each the contract of a function that does nothing.
-ghost use Rattle.std.specs.Prelude.{◌≡◌, Bool, List, filter, Decides};
+ghost use Rattle.std.specs.Prelude.{◌≡◌, ◌↔◌, Bool, List, filter, IsTrue};
 ghost use Rattle.board_defs.specs.declared.board.RawBoard.{RawBoard};
 ghost use Rattle.board_defs.specs.declared.fault.Single.{Single};
 ghost use Rattle.board_defs.specs.BoardRules.{IsBoard};
@@ -41,5 +41,5 @@ pub fn logs_have_one_diagnosis()
 
 /// Where a test decides of each single fault of a board whether it explains a log, those that pass it are those of the diagnosis, in order.
 pub fn filters_pick()
-    ensures { (board : RawBoard) (log : List (List Bool)) (test : Single → Bool) → IsBoard board → ((single : Single) → IsSingle board single → Decides (test single) (Explains board single log)) → Picks (λ single. Explains board single log) (singles board) (filter test (singles board)) }
+    ensures { (board : RawBoard) (log : List (List Bool)) (test : Single → Bool) → IsBoard board → ((single : Single) → IsSingle board single → (IsTrue (test single) ↔ Explains board single log)) → Picks (λ single. Explains board single log) (singles board) (filter test (singles board)) }
 {}

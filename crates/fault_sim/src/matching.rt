@@ -1,5 +1,5 @@
 // Whether a single fault explains a log, and whether a log is the expected one.
-ghost use Rattle.std.specs.Prelude.{◌≡◌, ◌*◌, ◌==◌, ◌||◌, length, All, Decides};
+ghost use Rattle.std.specs.Prelude.{◌≡◌, ◌↔◌, ◌*◌, ◌==◌, ◌||◌, length, All, IsTrue};
 ghost use Rattle.std.specs.List.{list_all};
 ghost use Rattle.board_defs.specs.Faults.{IsSingle};
 ghost use Rattle.board_defs.specs.Passes.{passes_of};
@@ -23,7 +23,7 @@ pub fn is_pass(board: &Board, plan: &Plan, log: &Log) -> bool
     requires passes { plan.now.passes ≡ passes_of board.now }
     requires rows { length log.now ≡ length plan.now.passes * plan.now.width }
     requires bits { All (λ row. length row ≡ data_bits board.now) log.now }
-    ensures { Decides result (IsExpected board.now (svf_row_scans board.now) log.now) }
+    ensures { IsTrue result ↔ IsExpected board.now (svf_row_scans board.now) log.now }
 {
     let _rules = board.raw();
     law::passes_kept();
@@ -62,7 +62,7 @@ pub fn matches(board: &Board, plan: &Plan, fault: Single, log: &Log) -> bool
     requires fault { IsSingle board.now fault }
     requires rows { length log.now ≡ length plan.now.passes * plan.now.width }
     requires bits { All (λ row. length row ≡ data_bits board.now) log.now }
-    ensures { Decides result (Explains board.now fault log.now) }
+    ensures { IsTrue result ↔ Explains board.now fault log.now }
 {
     let _rules = board.raw();
     law::passes_kept();
@@ -90,7 +90,7 @@ pub fn matches_by(board: &Board, plan: &Plan, fault: Single, log: &Log, nets: &[
     requires rows { length log.now ≡ length plan.now.passes * plan.now.width }
     requires bits { All (λ row. length row ≡ data_bits board.now) log.now }
     requires differing { AreDiffering board.now plan.now log.now nets.now }
-    ensures { Decides result (Explains board.now fault log.now) }
+    ensures { IsTrue result ↔ Explains board.now fault log.now }
 {
     LoggedTest::of(board, plan, log).matches_by(fault, nets)
 }
@@ -101,7 +101,7 @@ impl<'a> LoggedTest<'a> {
         requires passes { self.now.test.plan.passes ≡ passes_of self.now.test.board }
         requires fault { IsSingle self.now.test.board fault }
         requires differing { AreDiffering self.now.test.board self.now.test.plan self.now.log nets.now }
-        ensures { Decides result (Explains self.now.test.board fault self.now.log) }
+        ensures { IsTrue result ↔ Explains self.now.test.board fault self.now.log }
     {
         let _plan = self.plan();
         let _log = self.log();

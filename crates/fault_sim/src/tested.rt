@@ -1,5 +1,5 @@
 // The nets and the pins that the passes of a plan test.
-ghost use Rattle.std.specs.Prelude.{◌≡◌, ◌≤◌, ◌++◌, ◌∷◌, [], cond, length, fold, IfOk, OnOk};
+ghost use Rattle.std.specs.Prelude.{◌≡◌, ◌≤◌, ◌++◌, ◌∷◌, [], if◌then◌else◌, length, fold, IfOk, OnOk};
 ghost use Rattle.std.specs.List.{list_all};
 ghost use Rattle.board_defs.specs.Limits.{most_pins};
 ghost use Rattle.fault_sim.specs.Kept.{KeepDrivers};
@@ -17,7 +17,7 @@ use std::alloc::{AllocError, Global};
 
 /// Adds a net where it is one of those that are looked for.
 pub fn push_if(nets: &mut Vec<u32>, n: u32, is_one: bool) -> Result<(), AllocError>
-    ensures { OnOk result (nets.new.items ≡ nets.old.items ++ cond is_one (n ∷ []) []) }
+    ensures { OnOk result (nets.new.items ≡ nets.old.items ++ (if is_one then n ∷ [] else [])) }
 {
     if is_one {
         nets.push(n)?;
