@@ -7,7 +7,7 @@ ghost use Rattle.plan_tables.specs.Building.{is_on, enabled_in};
 ghost use Rattle.tap_defs.specs.board.TestRows.{code_bit};
 ghost use Rattle.fault_sim.specs.Effects.{source_bit, unless_off, feed_bit, is_own, driver_in, steady_in, source_in, pull_in};
 ghost use Rattle.fault_sim.specs.Kept.{enabled_by, enabled_driver};
-ghost use Rattle.fault_sim.specs.inner.Kept.{fed_by, feed_of, observes_coded};
+ghost use Rattle.fault_sim.specs.inner.Kept.{net_fed_by, feed_of, observes_coded};
 
 use board_defs::{Board, Ctl, Setting};
 use counting_codes::bit;
@@ -182,8 +182,8 @@ fn feed_of(driver: EnabledDriver, pull: Option<bool>) -> Feed
 }
 
 /// What a net gets whose enabled driver and whose pull are these.
-pub fn fed_by(driver: Option<EnabledDriver>, pull: Option<bool>) -> FedNet
-    ensures { result ≡ fed_by driver pull }
+pub fn net_fed_by(driver: Option<EnabledDriver>, pull: Option<bool>) -> FedNet
+    ensures { result ≡ net_fed_by driver pull }
 {
     match driver {
         None => FedNet { feed: None, pull },

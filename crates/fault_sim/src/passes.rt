@@ -7,7 +7,7 @@ ghost use Rattle.fault_sim.specs.Planned.{controls_in, controls_of, plan_pass};
 ghost use Rattle.fault_sim.specs.inner.Marks.{HaveRoom};
 ghost use Rattle.fault_sim.specs.inner.Tested.{observes_in};
 
-use crate::feed::{EnabledDriver, FedNet, enabled_driver, fed_by, observes, pull_in};
+use crate::feed::{EnabledDriver, FedNet, enabled_driver, net_fed_by, observes, pull_in};
 use crate::kept::{ComparedRow, KeptPass, kept_driver, kept_drivers};
 use board_defs::{Board, Setting};
 use response_log::Log;
@@ -146,7 +146,7 @@ impl<'a> TestPass<'a> {
     pub fn fed(&self, net: u32) -> FedNet
         ensures { result ≡ fed_net self.now.test.board self.now.test.plan (controls_of self.now) net }
     {
-        fed_by(self.driver(net), self.pull(net))
+        net_fed_by(self.driver(net), self.pull(net))
     }
 
     /// The rows of the pass that are kept, which are its first ones.

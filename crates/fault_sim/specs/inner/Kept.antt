@@ -28,8 +28,8 @@ abbrev pub feed_of : Option Bool → EnabledDriver → Feed
 feed_of pull d = record { source = d.source; off = cond d.own pull None }
 
 -- what a net gets whose enabled driver and whose pull are these
-abbrev pub fed_by : Option EnabledDriver → Option Bool → FedNet
-fed_by driver pull = record { feed = option_map (feed_of pull) driver; pull = pull }
+abbrev pub net_fed_by : Option EnabledDriver → Option Bool → FedNet
+net_fed_by driver pull = record { feed = option_map (feed_of pull) driver; pull = pull }
 
 -- the cell has the code of its net
 abbrev pub is_code : Source → Bool
