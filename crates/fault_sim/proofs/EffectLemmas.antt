@@ -20,7 +20,7 @@ use Rattle.net_pins.specs.declared.nets.NetDriver.{NetDriver}
 use Rattle.plan_tables.specs.declared.tables.PlanTables.{PlanTables}
 use Rattle.scan_planner.specs.Plans.{IsPlanOf}
 use Rattle.fault_sim.specs.declared.effect.Effect.TheVariants.{Plain, Constant, AtPin}
-use Rattle.fault_sim.specs.Effects.{feed_bit, driver_in, place_of_driver, pull_in, net_feed, open_effect, short_effect, effect_of, effect_in, effect_bit}
+use Rattle.fault_sim.specs.Effects.{feed_bit, driver_in, place_of_driver, pull_in, net_feed, open_effect, effect_of_short, effect_of, effect_in, effect_bit}
 use Rattle.fault_sim.specs.inner.Effects.{fault_bit}
 use Rattle.fault_sim.proofs.FeedLemmas.{driven_is, first_place}
 
@@ -106,7 +106,7 @@ module _ (board : RawBoard) (rules : IsBoard board) (plan : PlanTables) (p : IsP
           ap (λ (o : Option Bool). unwrap_or (or_else (shorted kind o (feed_bit (net_feed board plan pass b) j)) pulls) expected) first_driven
           ∙ ap (λ (o : Option Bool). unwrap_or (or_else (shorted kind (driven_to board row (slice_get board.nets a)) o) pulls) expected) second_driven
 
-      by_test : (t : Bool) → effect_bit (cond t (short_effect board plan pass a b kind) Plain) j place expected
+      by_test : (t : Bool) → effect_bit (cond t (effect_of_short board plan pass a b kind) Plain) j place expected
           ≡ cond t (unwrap_or (shorted_nets_bit board row kind (slice_get board.nets a) (slice_get board.nets b)) expected) expected
       by_test true = here
       by_test false = refl

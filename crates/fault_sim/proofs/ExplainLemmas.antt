@@ -35,7 +35,7 @@ use Rattle.plan_tables.proofs.ListLemmas.{all_has}
 use Rattle.fault_sim.specs.declared.effect.Effect.{Effect}
 use Rattle.fault_sim.specs.declared.effect.Effect.TheVariants.{Plain, Constant}
 use Rattle.fault_sim.specs.declared.fault_lists.FaultLists.{FaultLists}
-use Rattle.fault_sim.specs.Effects.{driver_in, place_of_driver, readers_in, code_in, open_effect, short_effect, effect_of, pull_in}
+use Rattle.fault_sim.specs.Effects.{driver_in, place_of_driver, readers_in, code_in, open_effect, effect_of_short, effect_of, pull_in}
 use Rattle.fault_sim.specs.inner.Effects.{first_net, second_net}
 use Rattle.fault_sim.specs.Fits.{ShowBy, Shows, ShowsOn, ShowsBoth, ShowsAll}
 use Rattle.fault_sim.specs.inner.Tested.{paired_in, coded_nets}
@@ -166,8 +166,8 @@ plain_effect : (board : RawBoard) (plan : PlanTables) (pass : List Ctl) (single 
 plain_effect board plan pass (StuckNet net value) n a b = ap (λ (t : Bool). cond t (Constant value) Plain) (ne_eqb n net a)
 plain_effect board plan pass (OpenPin pin value) n a b = ap (λ (t : Bool). cond t (open_effect (place_of_driver (driver_in plan pass n)) pin.place value (pull_in board n)) Plain) (ne_eqb n pin.net a)
 plain_effect board plan pass (Short x y kind) n a b =
-    ap (λ (t : Bool). cond (t || (n == y)) (short_effect board plan pass x y kind) Plain) (ne_eqb n x a)
-    ∙ ap (λ (t : Bool). cond t (short_effect board plan pass x y kind) Plain) (ne_eqb n y b)
+    ap (λ (t : Bool). cond (t || (n == y)) (effect_of_short board plan pass x y kind) Plain) (ne_eqb n x a)
+    ∙ ap (λ (t : Bool). cond t (effect_of_short board plan pass x y kind) Plain) (ne_eqb n y b)
 
 pub others_show : (board : RawBoard) (plan : PlanTables) (log : List (List Bool)) (single : Single) (n : ℕ) → n < length board.nets → ShowsAll board plan (Some single) log → n ≢ first_net single → n ≢ second_net single →
     ShowsOn board plan None log n

@@ -98,14 +98,14 @@ abbrev pub shorted_effect : Kind → FedNet → FedNet → Effect
 shorted_effect kind first second = Shorted kind first.feed second.feed (shorted kind first.pull second.pull)
 
 -- the effect on the nets of a short
-abbrev pub short_effect : RawBoard → PlanTables → List Ctl → ℕ → ℕ → Kind → Effect
-short_effect board plan pass a b kind = shorted_effect kind (fed_net board plan pass a) (fed_net board plan pass b)
+abbrev pub effect_of_short : RawBoard → PlanTables → List Ctl → ℕ → ℕ → Kind → Effect
+effect_of_short board plan pass a b kind = shorted_effect kind (fed_net board plan pass a) (fed_net board plan pass b)
 
 -- the effect of a single fault on net n in the rows of a pass
 abbrev pub effect_of : RawBoard → PlanTables → List Ctl → Single → ℕ → Effect
 effect_of board plan pass (StuckNet net value) n = cond (n == net) (Constant value) Plain
 effect_of board plan pass (OpenPin pin value) n = cond (n == pin.net) (open_effect (place_of_driver (driver_in plan pass n)) pin.place value (pull_in board n)) Plain
-effect_of board plan pass (Short a b kind) n = cond ((n == a) || (n == b)) (short_effect board plan pass a b kind) Plain
+effect_of board plan pass (Short a b kind) n = cond ((n == a) || (n == b)) (effect_of_short board plan pass a b kind) Plain
 
 -- the same where there is a fault
 abbrev pub effect_in : RawBoard → PlanTables → List Ctl → Option Single → ℕ → Effect

@@ -2,7 +2,7 @@
 ghost use Rattle.std.specs.Prelude.{◌≡◌, ◌==◌, ◌||◌, unwrap_or};
 ghost use Rattle.tap_defs.specs.board.NetBits.{or_else};
 ghost use Rattle.tap_defs.specs.board.SingleBits.{shorted};
-ghost use Rattle.fault_sim.specs.Effects.{open_effect, shorted_effect, short_effect, effect_of, effect_in, effect_bit};
+ghost use Rattle.fault_sim.specs.Effects.{open_effect, shorted_effect, effect_of_short, effect_of, effect_in, effect_bit};
 ghost use Rattle.fault_sim.specs.Planned.{controls_of};
 
 use crate::feed::{FedNet, Feed, feed_bit};
@@ -81,8 +81,8 @@ pub fn shorted_effect(kind: Kind, first: FedNet, second: FedNet) -> Effect
 }
 
 impl<'a> TestPass<'a> {
-    fn short_effect(&self, a: u32, b: u32, kind: Kind) -> Effect
-        ensures { result ≡ short_effect self.now.test.board self.now.test.plan (controls_of self.now) a b kind }
+    fn effect_of_short(&self, a: u32, b: u32, kind: Kind) -> Effect
+        ensures { result ≡ effect_of_short self.now.test.board self.now.test.plan (controls_of self.now) a b kind }
     {
         shorted_effect(kind, self.fed(a), self.fed(b))
     }
@@ -108,7 +108,7 @@ impl<'a> TestPass<'a> {
             }
             Single::Short { a, b, kind } => {
                 if n == a || n == b {
-                    self.short_effect(a, b, kind)
+                    self.effect_of_short(a, b, kind)
                 } else {
                     Effect::Plain
                 }
