@@ -2,7 +2,7 @@
 use Rattle.std.proofs.Common.{◌≡◌, ◌≢◌, ◌⊎◌, inl, inr, ℕ, zero, suc, ◌+◌, ◌-◌, ◌*◌, ◌/◌, ◌%◌, ◌<◌, ◌≤◌, ◌==◌, Bool, true, false, cond, ◌||◌, List, [], ◌∷◌, ◌++◌, length, drop, get_or, Option, Some, None, refl, sym, ap, ◌∙◌, subst, arith, length-append}
 use Rattle.std.specs.Prelude.{◌↔◌, slice_get, count_by, All, Contains}
 use Rattle.std.specs.List.{flat_map, list_all, range_with_len}
-use Rattle.std.proofs.lemmas.Bool.{both_ways, eq-eqb, cases_lt, cases_eq, ne_eqb}
+use Rattle.std.proofs.lemmas.Bool.{both_ways, eq-eqb, cases_lt, cases_eq, ne_eqb, or_right}
 use Rattle.std.proofs.lemmas.List.{drop_all}
 use Rattle.std.proofs.lemmas.List.Sums.{sum_by-cons}
 use Rattle.std.proofs.lemmas.Option.{slice_get_within, get_or_from_slice_get}
@@ -37,7 +37,7 @@ use Rattle.fault_sim.specs.declared.effect.Effect.TheVariants.{Plain, Constant}
 use Rattle.fault_sim.specs.declared.fault_lists.FaultLists.{FaultLists}
 use Rattle.fault_sim.specs.Effects.{driver_in, place_of_driver, readers_in, code_in, open_effect, effect_of_short, effect_of, pull_in}
 use Rattle.fault_sim.specs.inner.Effects.{first_net, second_net}
-use Rattle.fault_sim.specs.Fits.{ShowBy, Shows, ShowsOn, ShowsBoth, ShowsAll}
+use Rattle.fault_sim.specs.Fits.{ShowBy, Shows, ShowsOn, ShowsOwn, ShowsAll}
 use Rattle.fault_sim.specs.inner.Tested.{paired_in, coded_nets}
 use Rattle.fault_sim.specs.Places.{placed, number_places, listed_places, place_count, places_of, IsUniverse}
 use Rattle.fault_sim.specs.Starts.{AreStarts}
@@ -185,11 +185,7 @@ module _ (board : RawBoard) (plan : PlanTables) (log : List (List Bool)) (single
   are_own show = all_from (λ n. (n == a) || (n == b)) nets (λ i n at. by_first n (has_contains nets n (has_at nets i n at)) (cases_eq n a))
     where
       by_second : (n : ℕ) → Contains nets n → n ≢ a → (n ≡ b) ⊎ (n ≡ b → ⊥) → ((n == a) || (n == b)) ≡ true
-      by_second n has not_a (inl e) = ap (λ (t : Bool). (n == a) || t) (eq-eqb n b e) ∙ or_true (n == a)
-        where
-          or_true : (t : Bool) → (t || true) ≡ true
-          or_true true = refl
-          or_true false = refl
+      by_second n has not_a (inl e) = or_right (n == a) (n == b) (eq-eqb n b e)
       by_second n has not_a (inr not_b) =
           let d = (differ.exactly n).0 has in
           absurd (d.1 (others_show board plan log single n d.0 show (λ e. not_a (e ∙ sym first)) (λ e. not_b (e ∙ sym second))))
@@ -198,8 +194,8 @@ module _ (board : RawBoard) (plan : PlanTables) (log : List (List Bool)) (single
       by_first n has (inl e) = ap (λ (t : Bool). t || (n == b)) (eq-eqb n a e)
       by_first n has (inr not_a) = by_second n has not_a (cases_eq n b)
 
-  pub own_enough : list_all (λ n. (n == a) || (n == b)) nets ≡ true → ShowsBoth board plan (Some single) log a b → ShowsAll board plan (Some single) log
-  own_enough own both x less n within = by_first (cases_eq n a)
+  pub own_enough : list_all (λ n. (n == a) || (n == b)) nets ≡ true → ShowsOwn board plan single log → ShowsAll board plan (Some single) log
+  own_enough own shown_own x less n within = by_first (cases_eq n a)
     where
       shown : n ≢ a → n ≢ b → Contains nets n ⊎ ShowsOn board plan None log n → Shows board plan (Some single) log x n
       shown not_a not_b (inl has) =
@@ -209,11 +205,11 @@ module _ (board : RawBoard) (plan : PlanTables) (log : List (List Bool)) (single
           (sym (plain_effect board plan (get_or plan.passes x []) single n (λ e. not_a (e ∙ sym first)) (λ e. not_b (e ∙ sym second)))) (shows x less)
 
       by_second : n ≢ a → (n ≡ b) ⊎ (n ≡ b → ⊥) → Shows board plan (Some single) log x n
-      by_second not_a (inl e) = subst (λ (m : ℕ). Shows board plan (Some single) log x m) (sym e) (both x less).1
+      by_second not_a (inl e) = subst (λ (m : ℕ). Shows board plan (Some single) log x m) (sym (e ∙ second)) (shown_own x less).1
       by_second not_a (inr not_b) = shown not_a not_b (differ.others n within)
 
       by_first : (n ≡ a) ⊎ (n ≡ a → ⊥) → Shows board plan (Some single) log x n
-      by_first (inl e) = subst (λ (m : ℕ). Shows board plan (Some single) log x m) (sym e) (both x less).0
+      by_first (inl e) = subst (λ (m : ℕ). Shows board plan (Some single) log x m) (sym (e ∙ first)) (shown_own x less).0
       by_first (inr not_a) = by_second not_a (cases_eq n b)
 
 module _ (board : RawBoard) (plan : PlanTables) (lists : FaultLists) (starts : AreStarts (length lists.nets) lists.starts) (rising : InOrder (λ (x y : ℕ). x < y) lists.nets) (log : List (List Bool))

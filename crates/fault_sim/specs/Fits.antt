@@ -10,6 +10,7 @@ use Rattle.net_pins.specs.declared.nets.ReaderCell.{ReaderCell}
 use Rattle.plan_tables.specs.declared.tables.PlanTables.{PlanTables}
 use Rattle.fault_sim.specs.declared.effect.Effect.{Effect}
 use Rattle.fault_sim.specs.Effects.{driver_in, place_of_driver, readers_in, code_in, effect_in, effect_bit}
+use Rattle.fault_sim.specs.inner.Effects.{first_net, second_net}
 
 -- the bit of a log at a position of a row
 abbrev pub bit_in : List (List Bool) → ℕ → ℕ → Bool
@@ -42,13 +43,13 @@ NetShows board plan fault log first pass n =
 abbrev pub Shows : RawBoard → PlanTables → Option Single → List (List Bool) → ℕ → ℕ → Type 0
 Shows board plan fault log x n = NetShows board plan fault log (x * plan.width) (slice_index_or plan.passes x []) n
 
--- on nets a and b in pass x
-abbrev pub ShowsPair : RawBoard → PlanTables → Option Single → List (List Bool) → ℕ → ℕ → ℕ → Type 0
-ShowsPair board plan fault log x a b = Shows board plan fault log x a × Shows board plan fault log x b
+-- the effect of a single fault on its own nets in pass x
+abbrev pub ShowsOwnIn : RawBoard → PlanTables → Single → List (List Bool) → ℕ → Type 0
+ShowsOwnIn board plan single log x = Shows board plan (Some single) log x (first_net single) × Shows board plan (Some single) log x (second_net single)
 
--- on both in each pass
-abbrev pub ShowsBoth : RawBoard → PlanTables → Option Single → List (List Bool) → ℕ → ℕ → Type 0
-ShowsBoth board plan fault log a b = (x : ℕ) → x < length plan.passes → ShowsPair board plan fault log x a b
+-- in each pass
+abbrev pub ShowsOwn : RawBoard → PlanTables → Single → List (List Bool) → Type 0
+ShowsOwn board plan single log = (x : ℕ) → x < length plan.passes → ShowsOwnIn board plan single log x
 
 -- on net n in each pass
 abbrev pub ShowsOn : RawBoard → PlanTables → Option Single → List (List Bool) → ℕ → Type 0

@@ -4,6 +4,7 @@ ghost use Rattle.tap_defs.specs.board.NetBits.{or_else};
 ghost use Rattle.tap_defs.specs.board.SingleBits.{shorted};
 ghost use Rattle.fault_sim.specs.Effects.{open_effect, shorted_effect, effect_of_short, effect_of, effect_in, effect_bit};
 ghost use Rattle.fault_sim.specs.Planned.{controls_of};
+ghost use Rattle.fault_sim.specs.inner.Effects.{first_net, second_net};
 
 use crate::feed::{FedNet, Feed, feed_bit};
 use crate::passes::TestPass;
@@ -28,6 +29,27 @@ pub enum Effect {
         second: Option<Feed>,
         pull: Option<bool>,
     },
+}
+
+/// The nets of a fault; a stuck net and an open pin have one.
+pub fn first_net(fault: Single) -> u32
+    ensures { result ≡ first_net fault }
+{
+    match fault {
+        Single::StuckNet { net, .. } => net,
+        Single::OpenPin { pin, .. } => pin.net,
+        Single::Short { a, .. } => a,
+    }
+}
+
+pub fn second_net(fault: Single) -> u32
+    ensures { result ≡ second_net fault }
+{
+    match fault {
+        Single::StuckNet { net, .. } => net,
+        Single::OpenPin { pin, .. } => pin.net,
+        Single::Short { b, .. } => b,
+    }
 }
 
 fn combined(kind: Kind, first: bool, second: bool) -> bool

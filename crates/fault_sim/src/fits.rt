@@ -2,10 +2,10 @@
 ghost use Rattle.std.specs.Prelude.{◌≡◌, ◌↔◌, ◌+◌, ◌*◌, ◌<◌, ◌≤◌, ◌^◌, [], length, slice_index_or, All, IsTrue, true};
 ghost use Rattle.std.specs.List.{list_all};
 ghost use Rattle.tap_defs.specs.board.TestRows.{code_bit};
-ghost use Rattle.fault_sim.specs.Fits.{bit_in, cell_shows, ShowRows, ShowBy, Shows, ShowsEffect, ShowsPair, ShowsBoth, ShowsOn, ShowsIn, ShowsAll};
+ghost use Rattle.fault_sim.specs.Fits.{bit_in, cell_shows, ShowRows, ShowBy, Shows, ShowsEffect, ShowsOwnIn, ShowsOwn, ShowsOn, ShowsIn, ShowsAll};
 
 use crate::board_test::LoggedTest;
-use crate::effect::{Effect, effect_bit};
+use crate::effect::{Effect, effect_bit, first_net, second_net};
 use crate::feed::{code_bit, is_same};
 use crate::passes::LoggedPass;
 use board_defs::{Board, Single};
@@ -144,11 +144,11 @@ impl<'a> LoggedPass<'a> {
         self.shows_effect(effect, self.pass.driver_place(net), net)
     }
 
-    // The same on two nets, which may be one.
-    fn shows_pair(&self, fault: Option<Single>, a: u32, b: u32) -> bool
-        ensures { IsTrue result ↔ ShowsPair self.now.logged.test.board self.now.logged.test.plan fault self.now.logged.log self.now.number a b }
+    // The same on the fault's own nets.
+    fn shows_own(&self, fault: Single) -> bool
+        ensures { IsTrue result ↔ ShowsOwnIn self.now.logged.test.board self.now.logged.test.plan fault self.now.logged.log self.now.number }
     {
-        self.shows(fault, a) && self.shows(fault, b)
+        self.shows(Some(fault), first_net(fault)) && self.shows(Some(fault), second_net(fault))
     }
 
     // The same on each net.
@@ -165,14 +165,14 @@ impl<'a> LoggedPass<'a> {
 }
 
 impl<'a> LoggedTest<'a> {
-    /// Whether the log shows the effect of a fault on two nets, which may be one. Both are looked at pass by pass, since the first pass in
-    /// which either tells is mostly an early one.
-    pub(crate) fn shows_both(&self, fault: Option<Single>, a: u32, b: u32) -> bool
-        ensures { IsTrue result ↔ ShowsBoth self.now.test.board self.now.test.plan fault self.now.log a b }
+    /// Whether the log shows the effect of a fault on its own nets. Both are looked at pass by pass, since the first pass in which either
+    /// tells is mostly an early one.
+    pub(crate) fn shows_own(&self, fault: Single) -> bool
+        ensures { IsTrue result ↔ ShowsOwn self.now.test.board self.now.test.plan fault self.now.log }
     {
         for x in 0..self.pass_count() {
             let pass = self.pass(x);
-            if !pass.shows_pair(fault, a, b) {
+            if !pass.shows_own(fault) {
                 return false;
             }
         }

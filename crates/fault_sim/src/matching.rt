@@ -7,10 +7,10 @@ ghost use Rattle.board_defs.specs.Pins.{data_bits};
 ghost use Rattle.scan_planner.specs.Plans.{IsPlanOf};
 ghost use Rattle.tap_defs.specs.board.BoardScans.{svf_row_scans};
 ghost use Rattle.tap_defs.specs.board.Explaining.{Explains, IsExpected};
-ghost use Rattle.fault_sim.specs.inner.Effects.{first_net, second_net};
 ghost use Rattle.fault_sim.specs.Suspects.{AreDiffering};
 
 use crate::board_test::LoggedTest;
+use crate::effect::{first_net, second_net};
 use board_defs::{Board, Single, law};
 use response_log::Log;
 use scan_planner::Plan;
@@ -32,27 +32,6 @@ pub fn is_pass(board: &Board, plan: &Plan, log: &Log) -> bool
     LoggedTest::of(board, plan, log).shows_all(None)
 }
 
-// The nets of a fault; a stuck net and an open pin have one.
-fn first_net(fault: Single) -> u32
-    ensures { result ≡ first_net fault }
-{
-    match fault {
-        Single::StuckNet { net, .. } => net,
-        Single::OpenPin { pin, .. } => pin.net,
-        Single::Short { a, .. } => a,
-    }
-}
-
-fn second_net(fault: Single) -> u32
-    ensures { result ≡ second_net fault }
-{
-    match fault {
-        Single::StuckNet { net, .. } => net,
-        Single::OpenPin { pin, .. } => pin.net,
-        Single::Short { b, .. } => b,
-    }
-}
-
 /// Whether a single fault of the board explains a log: in every run of the test with this fault alone each compared bit is
 /// the log's. The plan is made of the board's passes, and the log has its rows, each as long as a scan of data. The cells of
 /// the fault's own nets are looked at first, so that a fault that explains nothing is mostly known by them.
@@ -69,7 +48,7 @@ pub fn matches(board: &Board, plan: &Plan, fault: Single, log: &Log) -> bool
     board_law::rows_compared();
     board_law::singles_respond();
     let logged = LoggedTest::of(board, plan, log);
-    if !logged.shows_both(Some(fault), first_net(fault), second_net(fault)) {
+    if !logged.shows_own(fault) {
         return false;
     }
     logged.shows_all(Some(fault))
@@ -109,11 +88,9 @@ impl<'a> LoggedTest<'a> {
         law::passes_kept();
         board_law::rows_compared();
         board_law::singles_respond();
-        let first = first_net(fault);
-        let second = second_net(fault);
-        if !are_of(nets, first, second) {
+        if !are_of(nets, first_net(fault), second_net(fault)) {
             return false;
         }
-        self.shows_both(Some(fault), first, second)
+        self.shows_own(fault)
     }
 }
