@@ -7,6 +7,8 @@ pub mod RangeLemmas
 pub mod TestedLemmas
 pub mod KeptLemmas
 pub mod PassLemmas
+mod WordLemmas
+mod ShownLemmas
 mod TellingLemmas
 pub mod UniverseLemmas
 pub mod SuspectLemmas

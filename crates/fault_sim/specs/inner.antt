@@ -4,4 +4,5 @@ pub mod Tested
 pub mod Marks
 pub mod Suspects
 pub mod Kept
+pub mod Words
 pub mod Telling

@@ -63,7 +63,8 @@ fn combined(kind: Kind, first: bool, second: bool) -> bool
     }
 }
 
-fn shorted(kind: Kind, first: Option<bool>, second: Option<bool>) -> Option<bool>
+/// The bits of two shorted nets as one, where both have one; else that of the net that has one.
+pub fn shorted(kind: Kind, first: Option<bool>, second: Option<bool>) -> Option<bool>
     ensures { result ≡ shorted kind first second }
 {
     match first {
@@ -90,8 +91,8 @@ fn open_effect(driver: Option<u32>, place: u32, value: bool, pull: Option<bool>)
     }
 }
 
-/// The effect on two shorted nets of what both get.
-pub fn shorted_effect(kind: Kind, first: FedNet, second: FedNet) -> Effect
+// The effect on two shorted nets of what both get.
+fn shorted_effect(kind: Kind, first: FedNet, second: FedNet) -> Effect
     ensures { result ≡ shorted_effect kind first second }
 {
     Effect::Shorted {

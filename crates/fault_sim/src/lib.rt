@@ -15,10 +15,12 @@ pub mod law;
 mod marks;
 mod matching;
 mod passes;
+mod shown;
 mod suspects;
 mod telling;
 mod tested;
 mod universe;
+mod words;
 
 pub use board_test::{BoardTest, LoggedTest};
 pub use differing::{differing_nets, none_differs};

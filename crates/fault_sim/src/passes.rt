@@ -1,14 +1,16 @@
 // The passes of a board's test, and of a log of it.
 ghost use Rattle.std.specs.Prelude.{◌≡◌, ◌*◌, ◌<◌, ◌^◌, ◌&&◌, [], length, slice_index_or};
 ghost use Rattle.scan_planner.specs.Plans.{IsPlanOf};
-ghost use Rattle.fault_sim.specs.Effects.{driver_in, fed_net, place_of_driver, pull_in};
+ghost use Rattle.fault_sim.specs.Effects.{code_in, driver_in, fed_net, place_of_driver, pull_in};
 ghost use Rattle.fault_sim.specs.Kept.{AreRows, IsLogOf, IsRow, KeepDrivers, enabled_driver};
-ghost use Rattle.fault_sim.specs.Planned.{controls_in, controls_of, plan_pass};
+ghost use Rattle.fault_sim.specs.Planned.{controls_of, plan_pass};
 ghost use Rattle.fault_sim.specs.inner.Marks.{HaveRoom};
+ghost use Rattle.fault_sim.specs.inner.Telling.{AreWordsIn};
 ghost use Rattle.fault_sim.specs.inner.Tested.{observes_in};
 
 use crate::feed::{EnabledDriver, FedNet, enabled_driver, net_fed_by, observes, pull_in};
 use crate::kept::{ComparedRow, KeptPass, kept_driver, kept_drivers};
+use crate::words::{FedWords, fed_words};
 use board_defs::{Board, Setting};
 use response_log::Log;
 use scan_planner::Plan;
@@ -204,17 +206,17 @@ impl<'a> LoggedPass<'a> {
         self.pass.board()
     }
 
-    /// What a net gets from the pass.
-    pub fn fed(&self, net: u32) -> FedNet
-        ensures { result ≡ fed_net self.now.logged.test.board self.now.logged.test.plan (controls_in self.now) net }
+    /// The code of a net.
+    pub fn code(&self, net: u32) -> u32
+        ensures { result ≡ code_in self.now.logged.test.plan net }
     {
-        self.pass.fed(net)
+        self.pass.plan().code(net)
     }
 
-    /// The place of the pin of the driver that the pass enables on a net.
-    pub fn driver_place(&self, net: u32) -> Option<u32>
-        ensures { result ≡ place_of_driver (driver_in self.now.logged.test.plan (controls_in self.now) net) }
+    /// What a net gets from the pass, as words.
+    pub fn fed(&self, net: u32) -> FedWords
+        ensures { AreWordsIn self.now net result }
     {
-        self.pass.driver_place(net)
+        fed_words(self.pass.fed(net))
     }
 }

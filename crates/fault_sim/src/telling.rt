@@ -1,28 +1,28 @@
 // A net that differs in a log, in a pass that tells of it.
-ghost use Rattle.std.specs.Prelude.{◌≡◌, Decides, IfSome, Some, true};
+ghost use Rattle.std.specs.Prelude.{◌≡◌, IfSome, true};
 ghost use Rattle.board_defs.specs.Faults.{IsSingle};
 ghost use Rattle.board_defs.specs.Passes.{passes_of};
 ghost use Rattle.tap_defs.specs.board.Explaining.{Explains};
 ghost use Rattle.fault_sim.specs.Planned.{net_in_pass};
-ghost use Rattle.fault_sim.specs.inner.Telling.{IsEffectOn};
+ghost use Rattle.fault_sim.specs.inner.Telling.{IsWordOn};
 
 use crate::board_test::LoggedTest;
-use crate::effect::{Effect, shorted_effect};
-use crate::feed::FedNet;
 use crate::passes::LoggedPass;
+use crate::shown::ShownWords;
+use crate::words::{FedWords, short_word};
 use board_defs::{Single, law};
 use std::marker::Model;
 use tap_defs::board_law;
 
-/// A net in a pass of a log, with what the net gets from the pass, which is asked once for all faults that are tried. Seen as the pass and
-/// the net.
+/// A net in a pass of a log, with what the net gets from the pass and what its cells show, which is asked once for all faults that are
+/// tried. Seen as the pass and the net.
 #[derive(Drop)]
 pub struct TellingNet<'a> {
     pass: LoggedPass<'a>,
     net: u32,
-    fed: FedNet,
-    // The place of the pin of its driver.
-    driver: Option<u32>,
+    code: u32,
+    fed: FedWords,
+    shown: ShownWords,
 }
 
 impl<'a> Model for TellingNet<'a> {
@@ -33,7 +33,7 @@ impl<'a> Model for TellingNet<'a> {
 
     ghost view = { λ a. net_in_pass a.pass a.net };
 
-    ghost invariant = { λ a. IsTellingNet (net_in_pass a.pass a.net) a.fed a.driver };
+    ghost invariant = { λ a. IsTellingNet (net_in_pass a.pass a.net) a.code a.fed a.shown };
 }
 
 impl<'a> TellingNet<'a> {
@@ -41,28 +41,30 @@ impl<'a> TellingNet<'a> {
     fn of(pass: LoggedPass<'a>, net: u32) -> TellingNet<'a>
         ensures { result ≡ net_in_pass pass.entry net }
     {
+        let code = pass.code(net);
         let fed = pass.fed(net);
-        let driver = pass.driver_place(net);
+        let shown = pass.shown(net);
         TellingNet {
             pass,
             net,
+            code,
             fed,
-            driver,
+            shown,
         }
     }
 
-    // The effect on the net of a fault, where it is a short of it with another net.
-    fn short_effect(&self, fault: Single) -> Option<Effect>
-        ensures { IfSome result (IsEffectOn self.now fault) }
+    // The bits of the net under a fault, where it is a short of it with another net.
+    fn short_word(&self, fault: Single) -> Option<u32>
+        ensures { IfSome result (IsWordOn self.now fault) }
     {
         match fault {
             Single::StuckNet { .. } => None,
             Single::OpenPin { .. } => None,
             Single::Short { a, b, kind } => {
                 if a == self.net {
-                    Some(shorted_effect(kind, self.fed, self.pass.fed(b)))
+                    Some(short_word(kind, self.fed, self.pass.fed(b), self.code))
                 } else if b == self.net {
-                    Some(shorted_effect(kind, self.pass.fed(a), self.fed))
+                    Some(short_word(kind, self.pass.fed(a), self.fed, self.code))
                 } else {
                     None
                 }
@@ -81,9 +83,9 @@ impl<'a> TellingNet<'a> {
         law::passes_kept();
         board_law::rows_compared();
         board_law::singles_respond();
-        match self.short_effect(fault) {
+        match self.short_word(fault) {
             None => false,
-            Some(effect) => !self.pass.shows_effect(effect, self.driver, self.net),
+            Some(word) => !self.shown.agree_with(word),
         }
     }
 }

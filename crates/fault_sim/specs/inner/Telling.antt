@@ -1,18 +1,32 @@
 -- What serves the proofs alone. What a pass of a log says of a net and of its shorts.
-use Rattle.std.specs.Prelude.{◌≡◌, ◌⊎◌, ℕ, Option, Some}
+use Rattle.std.specs.Prelude.{◌≡◌, ◌⊎◌, ℕ, ◌*◌, ◌<◌, Some}
 use Rattle.board_defs.specs.declared.fault.Single.{Single}
-use Rattle.fault_sim.specs.declared.effect.Effect.{Effect}
-use Rattle.fault_sim.specs.declared.feed.FedNet.{FedNet}
-use Rattle.fault_sim.specs.Effects.{driver_in, effect_in, fed_net, place_of_driver}
-use Rattle.fault_sim.specs.Planned.{NetInPass, controls_in}
+use Rattle.tap_defs.specs.board.TestRows.{code_bit}
+use Rattle.fault_sim.specs.declared.shown.ShownWords.{ShownWords}
+use Rattle.fault_sim.specs.declared.words.FedWords.{FedWords}
+use Rattle.fault_sim.specs.Effects.{code_in, driver_in, effect_bit, effect_in, fed_net, place_of_driver, readers_in}
+use Rattle.fault_sim.specs.Planned.{NetInPass, PassOfLog, controls_in}
 use Rattle.fault_sim.specs.inner.Effects.{first_net, second_net}
+use Rattle.fault_sim.specs.inner.Words.{AreShown, AreWordsOf, word_bit}
 
--- what the net gets from the pass, and the place of the pin of its driver
-pub record IsTellingNet (n : NetInPass) (fed : FedNet) (driver : Option ℕ) : Type 0 where
-  pub fed_is : fed ≡ fed_net n.pass.logged.test.board n.pass.logged.test.plan (controls_in n.pass) n.net
-  pub driver_is : driver ≡ place_of_driver (driver_in n.pass.logged.test.plan (controls_in n.pass) n.net)
+-- what the log shows of the net in the rows of the pass
+abbrev pub IsShownIn : NetInPass → ShownWords → Type 0
+IsShownIn n shown =
+    AreShown n.pass.logged.log (n.pass.number * n.pass.logged.test.plan.width) n.pass.logged.test.plan.width (readers_in n.pass.logged.test.plan n.net)
+    (place_of_driver (driver_in n.pass.logged.test.plan (controls_in n.pass) n.net)) shown
 
--- the net is one of those of a fault, which has this effect on it
-pub record IsEffectOn (n : NetInPass) (fault : Single) (effect : Effect) : Type 0 where
+-- the words of what a net gets from the pass
+abbrev pub AreWordsIn : PassOfLog → ℕ → FedWords → Type 0
+AreWordsIn pass net words = AreWordsOf (fed_net pass.logged.test.board pass.logged.test.plan (controls_in pass) net) words
+
+-- the code of the net, what it gets from the pass, and what the log shows of it
+pub record IsTellingNet (n : NetInPass) (code : ℕ) (fed : FedWords) (shown : ShownWords) : Type 0 where
+  pub code_is : code ≡ code_in n.pass.logged.test.plan n.net
+  pub fed_is : AreWordsIn n.pass n.net fed
+  pub shown_is : IsShownIn n shown
+
+-- the net is one of those of a fault, which gives each compared cell of it the bits of this word
+pub record IsWordOn (n : NetInPass) (fault : Single) (word : ℕ) : Type 0 where
   pub is_own : (n.net ≡ first_net fault) ⊎ (n.net ≡ second_net fault)
-  pub effect_is : effect ≡ effect_in n.pass.logged.test.board n.pass.logged.test.plan (controls_in n.pass) (Some fault) n.net
+  pub bits : (j : ℕ) → j < 32 → (place : ℕ) →
+      word_bit word j ≡ effect_bit (effect_in n.pass.logged.test.board n.pass.logged.test.plan (controls_in n.pass) (Some fault) n.net) j place (code_bit (code_in n.pass.logged.test.plan n.net) j)

@@ -6,7 +6,7 @@ use Rattle.board_defs.specs.Passes.{passes_of}
 use Rattle.tap_defs.specs.board.TestRows.{code_width, observed_count}
 use Rattle.fault_sim.specs.Planned.{net_in_pass}
 use Rattle.fault_sim.proofs.MatchLemmas.{explains_is}
-use Rattle.fault_sim.proofs.TellingLemmas.{shown_there}
+use Rattle.fault_sim.proofs.TellingLemmas.{agrees_there}
 use Rattle.fault_sim.proofs.telling.TellingNet.rules_out.Goals as goal
 
 pub returns-in-Some : goal.returns-in-Some
@@ -24,5 +24,6 @@ returns-in-Some c =
     (λ hidden single explains.
     let law = explains_is board rules plan c.laws.ensures.plan passes log c.laws.ensures.log.rows c.laws.ensures.log.bits (c.rows_compared.ensures.passes board (passes_of board) width rules kept)
     (c.rows_compared.ensures.shape board (passes_of board) width log rules kept) c.args.fault single (c.singles_respond.ensures.own board c.args.fault log rules single) in
-    both_ways c.shows_effect.result (not-true c.shows_effect.result hidden)
-    (shown_there (net_in_pass pass c.self.inside.net) c.args.fault c.in-Some.effect c.self.inside.fed c.self.inside.driver c.shows_effect.result c.self.invariant short single c.laws.ensures.pass (law.0 explains) c.shows_effect.ensures))
+    both_ways c.agree_with.result (not-true c.agree_with.result hidden)
+    (c.agree_with.ensures.1
+    (agrees_there (net_in_pass pass c.self.inside.net) c.args.fault c.self.inside.code c.self.inside.fed c.self.inside.shown c.in-Some.word c.self.invariant short single c.laws.ensures.pass (law.0 explains))))

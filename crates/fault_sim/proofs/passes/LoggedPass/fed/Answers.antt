@@ -1,4 +1,0 @@
-use Rattle.fault_sim.proofs.passes.LoggedPass.fed.Goals as goal
-
-pub returns : goal.returns
-returns c = rw (← c.self.view_is) c.fed.ensures

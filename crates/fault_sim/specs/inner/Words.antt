@@ -1,0 +1,54 @@
+-- What serves the proofs alone. Words of 32 bits, bit j of which stands for row j of a pass.
+use Rattle.std.specs.Prelude.{◌≡◌, ℕ, ◌+◌, ◌<◌, ◌==◌, nat_lt, Bool, true, false, cond, not, ◌&&◌, List, Option, Some, None, unwrap_or}
+use Rattle.std.specs.Int.{bit_at}
+use Rattle.std.specs.List.{list_any}
+use Rattle.board_defs.specs.declared.fault.Kind.{Kind}
+use Rattle.board_defs.specs.Pins.{is_same}
+use Rattle.tap_defs.specs.board.NetBits.{or_else}
+use Rattle.tap_defs.specs.board.SingleBits.{shorted}
+use Rattle.net_pins.specs.declared.nets.ReaderCell.{ReaderCell}
+use Rattle.fault_sim.specs.declared.feed.FedNet.{FedNet}
+use Rattle.fault_sim.specs.declared.shown.ShownWords.{ShownWords}
+use Rattle.fault_sim.specs.declared.words.FeedWords.{FeedWords}
+use Rattle.fault_sim.specs.declared.words.FedWords.{FedWords}
+use Rattle.fault_sim.specs.Effects.{feed_bit}
+use Rattle.fault_sim.specs.Fits.{bit_in}
+
+-- bit j of a word is on
+abbrev pub word_bit : ℕ → ℕ → Bool
+word_bit word j = bit_at word j == 1
+
+-- the bit that a net is driven to in row j, where it is
+abbrev pub driven_bit : FeedWords → ℕ → Option Bool
+driven_bit words j = cond (word_bit words.driven j) (Some (word_bit words.value j)) None
+
+-- the bit of two shorted nets in row j, in which that of the code is expected
+abbrev pub short_bit : Kind → FedWords → FedWords → ℕ → ℕ → Bool
+short_bit kind first second code j =
+    unwrap_or (or_else (shorted kind (driven_bit first.feed j) (driven_bit second.feed j)) (shorted kind first.pull second.pull)) (word_bit code j)
+
+-- these are the words of what a net gets
+pub record AreWordsOf (fed : FedNet) (words : FedWords) : Type 0 where
+  pub feed_is : (j : ℕ) → j < 32 → driven_bit words.feed j ≡ feed_bit fed.feed j
+  pub pull_is : words.pull ≡ fed.pull
+
+-- a cell has this bit in a row of a log, and does not read the pin of the driver at this place
+abbrev pub shows_beside : List (List Bool) → ℕ → Bool → ℕ → ReaderCell → Bool
+shows_beside log row bit driver r = not (r.place == driver) && is_same (bit_in log row r.position) bit
+
+-- some cell of a net does, where there is a driver
+abbrev pub some_shows : List (List Bool) → ℕ → Bool → List ReaderCell → Option ℕ → Bool
+some_shows log row bit readers None = false
+some_shows log row bit readers (Some driver) = list_any (shows_beside log row bit driver) readers
+
+-- these are the rows of a pass, which begins at this row of the log, in which some cell of a net has this bit
+abbrev pub AreRowsOf : List (List Bool) → ℕ → ℕ → Bool → List ReaderCell → Option ℕ → ℕ → Type 0
+AreRowsOf log first width bit readers driver word = (j : ℕ) → j < 32 → word_bit word j ≡ (nat_lt j width && some_shows log (first + j) bit readers driver)
+
+pub record AreShown (log : List (List Bool)) (first width : ℕ) (readers : List ReaderCell) (driver : Option ℕ) (shown : ShownWords) : Type 0 where
+  pub ones : AreRowsOf log first width true readers driver shown.ones
+  pub zeros : AreRowsOf log first width false readers driver shown.zeros
+
+-- no other bit is shown than that of a word
+abbrev pub AgreesWith : ShownWords → ℕ → Type 0
+AgreesWith shown word = (j : ℕ) → j < 32 → (word_bit shown.ones j ≡ true → word_bit word j ≡ true) × (word_bit shown.zeros j ≡ true → word_bit word j ≡ false)

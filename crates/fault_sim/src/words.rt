@@ -1,0 +1,138 @@
+// What two nets get from a pass, as words of 32 bits: bit j of a word stands for row j of the pass.
+ghost use Rattle.std.specs.Prelude.{◌≡◌, ◌<◌, ℕ, cond, ◌||◌, None, Some, unwrap_or};
+ghost use Rattle.tap_defs.specs.board.SingleBits.{shorted};
+ghost use Rattle.fault_sim.specs.Effects.{feed_bit, source_bit, unless_off};
+ghost use Rattle.fault_sim.specs.inner.Words.{AreWordsOf, driven_bit, short_bit, word_bit};
+
+use crate::effect::shorted;
+use crate::feed::{FedNet, Feed, Source};
+use board_defs::Kind;
+
+/// What a net is driven to: the rows in which it is driven, and its bits in these.
+#[derive(Clone, Copy, Debug, PartialEq, Eq)]
+pub struct FeedWords {
+    pub driven: u32,
+    pub value: u32,
+}
+
+/// What a net gets from a pass.
+#[derive(Clone, Copy, Debug, PartialEq, Eq)]
+pub struct FedWords {
+    pub feed: FeedWords,
+    pub pull: Option<bool>,
+}
+
+// One bit in all rows.
+#[inline]
+fn all_rows(bit: bool) -> u32
+    ensures { (j : ℕ) → j < 32 → word_bit result j ≡ bit }
+{
+    if bit { u32::MAX } else { 0 }
+}
+
+// The bits of one word in these rows, and those of another one elsewhere.
+#[inline]
+fn choose(rows: u32, inside: u32, outside: u32) -> u32
+    ensures { (j : ℕ) → j < 32 → word_bit result j ≡ cond (word_bit rows j) (word_bit inside j) (word_bit outside j) }
+{
+    inside & rows | outside & !rows
+}
+
+// The bits of a driver's cell.
+#[inline]
+fn source_word(source: Source) -> u32
+    ensures { (j : ℕ) → j < 32 → word_bit result j ≡ source_bit source j }
+{
+    match source {
+        Source::Code(code) => code,
+        Source::Fixed(bit) => all_rows(bit),
+    }
+}
+
+// The rows in which a driver is on whose cell has these bits, and that is off at this one.
+#[inline]
+fn rows_on(off: Option<bool>, value: u32) -> u32
+    ensures { (j : ℕ) → j < 32 → cond (word_bit result j) (Some (word_bit value j)) None ≡ unless_off off (word_bit value j) }
+{
+    match off {
+        None => u32::MAX,
+        Some(off) => { if off { !value } else { value } }
+    }
+}
+
+// What a pass drives a net to.
+#[inline]
+fn feed_words(feed: Option<Feed>) -> FeedWords
+    ensures { (j : ℕ) → j < 32 → driven_bit result j ≡ feed_bit feed j }
+{
+    match feed {
+        None => FeedWords {
+            driven: 0,
+            value: 0,
+        },
+        Some(feed) => {
+            let value = source_word(feed.source);
+            FeedWords {
+                driven: rows_on(feed.off, value),
+                value,
+            }
+        }
+    }
+}
+
+/// What a net gets from a pass, as words.
+#[inline]
+pub fn fed_words(fed: FedNet) -> FedWords
+    ensures { AreWordsOf fed result }
+{
+    FedWords {
+        feed: feed_words(fed.feed),
+        pull: fed.pull,
+    }
+}
+
+// The bits of two shorted nets in the rows in which either is driven.
+#[inline]
+fn shorted_value(kind: Kind, first: FeedWords, second: FeedWords) -> u32
+    ensures { (j : ℕ) → j < 32 → cond (word_bit first.driven j || word_bit second.driven j) (Some (word_bit result j)) None ≡ shorted kind (driven_bit first j) (driven_bit second j) }
+{
+    match kind {
+        Kind::And => choose(first.driven, first.value, u32::MAX)
+            & choose(second.driven, second.value, u32::MAX),
+        Kind::Or => first.value & first.driven | second.value & second.driven,
+        Kind::First => choose(first.driven, first.value, second.value),
+        Kind::Second => choose(second.driven, second.value, first.value),
+    }
+}
+
+// What two shorted nets are driven to.
+#[inline]
+fn shorted_words(kind: Kind, first: FeedWords, second: FeedWords) -> FeedWords
+    ensures { (j : ℕ) → j < 32 → driven_bit result j ≡ shorted kind (driven_bit first j) (driven_bit second j) }
+{
+    FeedWords {
+        driven: first.driven | second.driven,
+        value: shorted_value(kind, first, second),
+    }
+}
+
+// What a net shows where nothing drives it: the value that it is pulled to, else the expected bits.
+#[inline]
+fn undriven_word(pull: Option<bool>, code: u32) -> u32
+    ensures { (j : ℕ) → j < 32 → word_bit result j ≡ unwrap_or pull (word_bit code j) }
+{
+    match pull {
+        None => code,
+        Some(bit) => all_rows(bit),
+    }
+}
+
+/// The bits of two shorted nets in the rows of a pass, where those of this code are expected.
+#[inline]
+pub fn short_word(kind: Kind, first: FedWords, second: FedWords, code: u32) -> u32
+    ensures { (j : ℕ) → j < 32 → word_bit result j ≡ short_bit kind first second code j }
+{
+    let short = shorted_words(kind, first.feed, second.feed);
+    let undriven = undriven_word(shorted(kind, first.pull, second.pull), code);
+    choose(short.driven, short.value, undriven)
+}
