@@ -1,5 +1,5 @@
 -- The faults at the suspects' places that explain a log are all that do.
-use Rattle.std.proofs.Common.{◌≡◌, ℕ, zero, suc, ◌-◌, ◌*◌, ◌/◌, ◌≤◌, Bool, true, false, ◌==◌, ◌&&◌, List, length, take, drop, Result, Ok, Err, Some, ◌⊎◌, inl, inr, get_or, ◌<◌, refl, sym, ap, ◌∙◌, subst, arith}
+use Rattle.std.proofs.Common.{◌≡◌, ℕ, zero, suc, Bool, true, false, ◌==◌, ◌&&◌, List, length, Result, Ok, Err, Some, ◌⊎◌, inl, inr, get_or, ◌<◌, refl, sym, ap, ◌∙◌, subst}
 use Rattle.std.specs.Prelude.{filter, filter_map, slice_get, All, IfOk}
 use Rattle.std.specs.List.{list_any}
 use Rattle.std.proofs.lemmas.Option.{slice_get_within, slice_get-get_or}
