@@ -1,13 +1,8 @@
 -- What the functions of a pass give, put together.
-use Rattle.std.proofs.Common.{◌≡◌, ◌⊎◌, inl, inr, ℕ, suc, ◌+◌, ◌*◌, ◌<◌, ◌≤◌, Bool, List, length, Option, Decides, sym, subst, arith}
+use Rattle.std.proofs.Common.{◌≡◌, ◌⊎◌, inl, inr, ℕ, suc, ◌+◌, ◌*◌, ◌<◌, ◌≤◌, Bool, List, length, sym, subst, arith}
 use Rattle.std.proofs.lemmas.Bool.{cases_eq}
 use Rattle.std.proofs.lemmas.Nat.{mul-le}
 use Rattle.std.proofs.Math.Nat.{suc-mul}
-use Rattle.net_pins.specs.declared.nets.ReaderCell.{ReaderCell}
-use Rattle.plan_tables.specs.declared.tables.PlanTables.{PlanTables}
-use Rattle.fault_sim.specs.declared.effect.Effect.{Effect}
-use Rattle.fault_sim.specs.Effects.{code_in, readers_in}
-use Rattle.fault_sim.specs.Fits.{ShowBy, ShowsEffect}
 use Rattle.fault_sim.specs.Kept.{IsLogOf}
 use Rattle.fault_sim.specs.Planned.{PlannedBoard}
 
@@ -25,12 +20,3 @@ passes_more P x before here k less = by_pass (cases_eq k x)
 -- the rows of a pass are in the log
 pub rows_within : (test : PlannedBoard) (log : List (List Bool)) (x : ℕ) → IsLogOf test log → x < length test.plan.passes → x * test.plan.width + test.plan.width ≤ length log
 rows_within test log x is less = omega (arith, is.rows, suc-mul x test.plan.width, mul-le (suc x) test.plan.width (length test.plan.passes) test.plan.width less (omega arith))
-
--- what is decided of the cells of a net
-pub shown_by : (plan : PlanTables) (log : List (List Bool)) (x n first width code : ℕ) (readers : List ReaderCell) (effect : Effect) (driver : Option ℕ) (r : Bool) →
-    first ≡ x * plan.width → width ≡ plan.width → code ≡ code_in plan n → readers ≡ readers_in plan n → Decides r (ShowBy log first width code readers effect driver) → Decides r (ShowsEffect plan log x n effect driver)
-shown_by plan log x n first width code readers effect driver r first_is width_is code_is readers_are decides =
-    subst (λ (v : List ReaderCell). Decides r (ShowBy log (x * plan.width) plan.width (code_in plan n) v effect driver)) readers_are
-    (subst (λ (v : ℕ). Decides r (ShowBy log (x * plan.width) plan.width v readers effect driver)) code_is
-    (subst (λ (v : ℕ). Decides r (ShowBy log (x * plan.width) v code readers effect driver)) width_is
-    (subst (λ (v : ℕ). Decides r (ShowBy log v width code readers effect driver)) first_is decides)))

@@ -1,5 +1,5 @@
 -- What the compared cells of a net show, as words.
-use Rattle.std.proofs.Common.{◌≡◌, ◌⊎◌, inl, inr, ℕ, zero, suc, ◌+◌, ◌-◌, ◌*◌, ◌<◌, ◌≤◌, ◌^◌, ◌==◌, ltb, Bool, true, false, not, ◌&&◌, ◌||◌, List, [], get_or, Option, Some, None, refl, sym, ap, ◌∙◌, subst, arith}
+use Rattle.std.proofs.Common.{◌≡◌, ◌⊎◌, inl, inr, ℕ, zero, suc, ◌+◌, ◌-◌, ◌<◌, ◌≤◌, ◌^◌, ◌==◌, ltb, Bool, true, false, not, ◌&&◌, ◌||◌, List, [], get_or, Option, Some, None, refl, sym, ap, ◌∙◌, arith}
 use Rattle.std.specs.Prelude.{bit_and, bit_or, option_and_then, slice_get}
 use Rattle.std.specs.Int.{bit_at}
 use Rattle.std.proofs.Math.Bool.{or-false}
@@ -7,13 +7,10 @@ use Rattle.std.proofs.lemmas.Bool.{both_ways, cases_eq, cases_lt, eq-eqb, le-ltb
 use Rattle.std.proofs.lemmas.Nat.Bits.{bit_at-lt, bit_at-zero, bit_at_above, same_from_bits}
 use Rattle.std.proofs.lemmas.Option.{get_or_from_slice_get}
 use Rattle.board_defs.specs.Pins.{is_same}
-use Rattle.net_pins.specs.declared.nets.ReaderCell.{ReaderCell}
-use Rattle.plan_tables.specs.declared.tables.PlanTables.{PlanTables}
 use Rattle.response_log.specs.LogRows.{log_bit}
 use Rattle.fault_sim.specs.declared.shown.ShownWords.{ShownWords}
-use Rattle.fault_sim.specs.Effects.{readers_in}
 use Rattle.fault_sim.specs.Fits.{bit_in}
-use Rattle.fault_sim.specs.inner.Words.{AgreesWith, AreShown, word_bit}
+use Rattle.fault_sim.specs.inner.Words.{AgreesWith, word_bit}
 use Rattle.fault_sim.proofs.WordLemmas.{and_word, not_word, or_word}
 
 -- the rows in which another bit is shown than that of a word
@@ -116,12 +113,3 @@ zero_shown false same bit p = refl
 zero_shown true true bit p = absurd (both_ways true p refl)
 zero_shown true false true p = refl
 zero_shown true false false p = refl
-
--- what is shown in the rows of a pass
-pub shown_in : (plan : PlanTables) (log : List (List Bool)) (x n first width : ℕ) (readers : List ReaderCell) (driver mine : Option ℕ) (shown : ShownWords) → first ≡ x * plan.width → width ≡ plan.width → readers ≡ readers_in plan n → driver ≡ mine →
-    AreShown log first width readers driver shown → AreShown log (x * plan.width) plan.width (readers_in plan n) mine shown
-shown_in plan log x n first width readers driver mine shown first_is width_is readers_are driver_is are =
-    subst (λ (d : Option ℕ). AreShown log (x * plan.width) plan.width (readers_in plan n) d shown) driver_is
-    (subst (λ (l : List ReaderCell). AreShown log (x * plan.width) plan.width l driver shown) readers_are
-    (subst (λ (w : ℕ). AreShown log (x * plan.width) w readers driver shown) width_is
-    (subst (λ (f : ℕ). AreShown log f width readers driver shown) first_is are)))

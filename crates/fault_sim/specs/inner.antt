@@ -4,5 +4,6 @@ pub mod Tested
 pub mod Marks
 pub mod Suspects
 pub mod Kept
+pub mod NetRows
 pub mod Words
 pub mod Telling

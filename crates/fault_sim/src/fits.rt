@@ -7,6 +7,7 @@ ghost use Rattle.fault_sim.specs.Fits.{bit_in, cell_shows, ShowRows, ShowBy, Sho
 use crate::board_test::LoggedTest;
 use crate::effect::{Effect, effect_bit, first_net, second_net};
 use crate::feed::{code_bit, is_same};
+use crate::net_rows::NetRows;
 use crate::passes::LoggedPass;
 use board_defs::{Board, Single};
 use response_log::Log;
@@ -66,48 +67,29 @@ fn cells_show(
     true
 }
 
-// The same in each row of a pass, whose rows begin at this one.
-fn rows_show(
-    log: &Log,
-    first: u64,
-    width: u32,
-    code: u32,
-    readers: &[ReaderCell],
-    effect: Effect,
-    driver: u32,
-) -> bool
-    requires rows { first + width ≤ length log.now }
-    requires fits { first + width < 2 ^ 64 }
-    requires at { All (λ row. All (λ r. r.position < length row) readers.now) log.now }
-    ensures { IsTrue result ↔ ShowRows log.now first width code readers.now effect driver }
-{
-    for j in 0..width {
-        let row = first + u64::from(j);
-        if !cells_show(log, row, driver, effect, j, code_bit(code, j), readers) {
-            return false;
+impl<'a> NetRows<'a> {
+    // Whether the cells have the bits of an effect in each row, or read the pin at the driver's place.
+    fn show(&self, code: u32, effect: Effect, driver: u32) -> bool
+        ensures { IsTrue result ↔ ShowRows self.now.log self.now.first self.now.width code self.now.readers effect driver }
+    {
+        for j in 0..self.width {
+            let row = self.first + u64::from(j);
+            let expected = code_bit(code, j);
+            if !cells_show(self.log, row, driver, effect, j, expected, self.readers) {
+                return false;
+            }
         }
+        true
     }
-    true
-}
 
-// The same where a pass enables a driver, the pin of which stands at this place.
-fn driven_shows(
-    log: &Log,
-    first: u64,
-    width: u32,
-    code: u32,
-    readers: &[ReaderCell],
-    effect: Effect,
-    driver: Option<u32>,
-) -> bool
-    requires rows { first + width ≤ length log.now }
-    requires fits { first + width < 2 ^ 64 }
-    requires at { All (λ row. All (λ r. r.position < length row) readers.now) log.now }
-    ensures { IsTrue result ↔ ShowBy log.now first width code readers.now effect driver }
-{
-    match driver {
-        None => true,
-        Some(place) => rows_show(log, first, width, code, readers, effect, place),
+    // The same where a pass enables a driver, the pin of which stands at this place.
+    fn show_by(&self, code: u32, effect: Effect, driver: Option<u32>) -> bool
+        ensures { IsTrue result ↔ ShowBy self.now.log self.now.first self.now.width code self.now.readers effect driver }
+    {
+        match driver {
+            None => true,
+            Some(place) => self.show(code, effect, place),
+        }
     }
 }
 
@@ -123,17 +105,7 @@ impl<'a> LoggedPass<'a> {
     pub fn shows_effect(&self, effect: Effect, driver: Option<u32>, net: u32) -> bool
         ensures { IsTrue result ↔ ShowsEffect self.now.logged.test.plan self.now.logged.log self.now.number net effect driver }
     {
-        let plan = self.pass.plan();
-        let _rules = self.pass.board().raw();
-        driven_shows(
-            self.log,
-            self.pass.first_row(),
-            plan.width(),
-            plan.code(net),
-            plan.readers(net),
-            effect,
-            driver,
-        )
+        self.net_rows(net).show_by(self.code(net), effect, driver)
     }
 
     /// Whether the log shows the effect of a fault on a net.

@@ -14,6 +14,7 @@ mod kept;
 pub mod law;
 mod marks;
 mod matching;
+mod net_rows;
 mod passes;
 mod shown;
 mod suspects;

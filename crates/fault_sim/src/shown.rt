@@ -5,8 +5,8 @@ ghost use Rattle.fault_sim.specs.Planned.{net_in_pass};
 ghost use Rattle.fault_sim.specs.inner.Telling.{IsShownIn};
 ghost use Rattle.fault_sim.specs.inner.Words.{AgreesWith, AreShown, word_bit};
 
+use crate::net_rows::NetRows;
 use crate::passes::LoggedPass;
-use response_log::Log;
 use scan_planner::ReaderCell;
 
 /// The rows in which some compared cell of a net shows 1, and those in which one shows 0. No cell of the driver's own pin is looked at.
@@ -43,39 +43,6 @@ fn with_row(word: u32, j: u32, bit: bool) -> u32
     if bit { word | 1 << j } else { word }
 }
 
-// The bits of a log at a position of the rows of a pass, which begin at this one.
-fn cell_word(log: &Log, first: u64, width: u32, at: u32) -> u32
-    requires rows { first + width ≤ length log.now }
-    requires fits { first + width < 2 ^ 64 }
-    requires width { width < 32 }
-    requires at { All (λ row. at < length row) log.now }
-    ensures { (j : ℕ) → j < 32 → word_bit result j ≡ (nat_lt j width && bit_in log.now (first + j) at) }
-{
-    let mut word = 0;
-    for j in 0..width {
-        word = with_row(word, j, log.bit(first + u64::from(j), at));
-    }
-    word
-}
-
-// What one cell that reads a net shows: nothing, where it reads the pin of the net's driver.
-fn cell_words(log: &Log, first: u64, width: u32, reader: ReaderCell, driver: u32) -> ShownWords
-    requires rows { first + width ≤ length log.now }
-    requires fits { first + width < 2 ^ 64 }
-    requires width { width < 32 }
-    requires at { All (λ row. reader.position < length row) log.now }
-    ensures { AreShown log.now first width (reader ∷ []) (Some driver) result }
-{
-    if reader.place == driver {
-        return ShownWords { ones: 0, zeros: 0 };
-    }
-    let word = cell_word(log, first, width, reader.position);
-    ShownWords {
-        ones: word,
-        zeros: first_rows(width) & !word,
-    }
-}
-
 // What some cells show, and others.
 fn joined(one: ShownWords, other: ShownWords) -> ShownWords
     ensures ones { (j : ℕ) → word_bit result.ones j ≡ (word_bit one.ones j || word_bit other.ones j) }
@@ -87,45 +54,54 @@ fn joined(one: ShownWords, other: ShownWords) -> ShownWords
     }
 }
 
-// What the cells that read a net at other pins than that of its driver show.
-fn shown_beside(
-    log: &Log,
-    first: u64,
-    width: u32,
-    readers: &[ReaderCell],
-    driver: u32,
-) -> ShownWords
-    requires rows { first + width ≤ length log.now }
-    requires fits { first + width < 2 ^ 64 }
-    requires width { width < 32 }
-    requires at { All (λ row. All (λ r. r.position < length row) readers.now) log.now }
-    ensures { AreShown log.now first width readers.now (Some driver) result }
-{
-    let mut shown = ShownWords { ones: 0, zeros: 0 };
-    for reader in readers {
-        shown = joined(shown, cell_words(log, first, width, *reader, driver));
+impl<'a> NetRows<'a> {
+    // The bits of a cell in the rows.
+    fn cell_word(&self, at: u32) -> u32
+        requires { All (λ row. at < length row) self.now.log }
+        ensures { (j : ℕ) → j < 32 → word_bit result j ≡ (nat_lt j self.now.width && bit_in self.now.log (self.now.first + j) at) }
+    {
+        let mut word = 0;
+        for j in 0..self.width {
+            word = with_row(word, j, self.log.bit(self.first + u64::from(j), at));
+        }
+        word
     }
-    shown
-}
 
-// What the cells that read a net show in the rows of a pass, which begin at this one of the log. Nothing is claimed of a net on which the
-// pass enables no driver; where it does, the pin of the driver stands at this place.
-fn shown_words(
-    log: &Log,
-    first: u64,
-    width: u32,
-    readers: &[ReaderCell],
-    driver: Option<u32>,
-) -> ShownWords
-    requires rows { first + width ≤ length log.now }
-    requires fits { first + width < 2 ^ 64 }
-    requires width { width < 32 }
-    requires at { All (λ row. All (λ r. r.position < length row) readers.now) log.now }
-    ensures { AreShown log.now first width readers.now driver result }
-{
-    match driver {
-        None => ShownWords { ones: 0, zeros: 0 },
-        Some(place) => shown_beside(log, first, width, readers, place),
+    // What one cell shows: nothing, where it reads the pin of the net's driver.
+    fn cell_words(&self, reader: ReaderCell, driver: u32) -> ShownWords
+        requires { All (λ row. reader.position < length row) self.now.log }
+        ensures { AreShown self.now.log self.now.first self.now.width (reader ∷ []) (Some driver) result }
+    {
+        if reader.place == driver {
+            return ShownWords { ones: 0, zeros: 0 };
+        }
+        let word = self.cell_word(reader.position);
+        ShownWords {
+            ones: word,
+            zeros: first_rows(self.width) & !word,
+        }
+    }
+
+    // What the cells at other pins than that of the driver show.
+    fn shown_beside(&self, driver: u32) -> ShownWords
+        ensures { AreShown self.now.log self.now.first self.now.width self.now.readers (Some driver) result }
+    {
+        let mut shown = ShownWords { ones: 0, zeros: 0 };
+        for reader in self.readers {
+            shown = joined(shown, self.cell_words(*reader, driver));
+        }
+        shown
+    }
+
+    // What the cells show. Nothing is claimed of a net on which the pass enables no driver; where it does, the pin of the driver stands at
+    // this place.
+    fn shown(&self, driver: Option<u32>) -> ShownWords
+        ensures { AreShown self.now.log self.now.first self.now.width self.now.readers driver result }
+    {
+        match driver {
+            None => ShownWords { ones: 0, zeros: 0 },
+            Some(place) => self.shown_beside(place),
+        }
     }
 }
 
@@ -134,14 +110,6 @@ impl<'a> LoggedPass<'a> {
     pub fn shown(&self, net: u32) -> ShownWords
         ensures { IsShownIn (net_in_pass self.now net) result }
     {
-        let plan = self.pass.plan();
-        let _rules = self.pass.board().raw();
-        shown_words(
-            self.log,
-            self.pass.first_row(),
-            plan.width(),
-            plan.readers(net),
-            self.pass.driver_place(net),
-        )
+        self.net_rows(net).shown(self.pass.driver_place(net))
     }
 }

@@ -1,5 +1,5 @@
 // What two nets get from a pass, as words of 32 bits: bit j of a word stands for row j of the pass.
-ghost use Rattle.std.specs.Prelude.{◌≡◌, ◌<◌, ℕ, cond, ◌||◌, None, Some, unwrap_or};
+ghost use Rattle.std.specs.Prelude.{◌≡◌, ◌<◌, ℕ, if◌then◌else◌, ◌||◌, None, Some, unwrap_or};
 ghost use Rattle.tap_defs.specs.board.SingleBits.{shorted};
 ghost use Rattle.fault_sim.specs.Effects.{feed_bit, source_bit, unless_off};
 ghost use Rattle.fault_sim.specs.inner.Words.{AreWordsOf, driven_bit, short_bit, word_bit};
@@ -33,7 +33,7 @@ fn all_rows(bit: bool) -> u32
 // The bits of one word in these rows, and those of another one elsewhere.
 #[inline]
 fn choose(rows: u32, inside: u32, outside: u32) -> u32
-    ensures { (j : ℕ) → j < 32 → word_bit result j ≡ cond (word_bit rows j) (word_bit inside j) (word_bit outside j) }
+    ensures { (j : ℕ) → j < 32 → word_bit result j ≡ (if word_bit rows j then word_bit inside j else word_bit outside j) }
 {
     inside & rows | outside & !rows
 }
@@ -52,7 +52,7 @@ fn source_word(source: Source) -> u32
 // The rows in which a driver is on whose cell has these bits, and that is off at this one.
 #[inline]
 fn rows_on(off: Option<bool>, value: u32) -> u32
-    ensures { (j : ℕ) → j < 32 → cond (word_bit result j) (Some (word_bit value j)) None ≡ unless_off off (word_bit value j) }
+    ensures { (j : ℕ) → j < 32 → (if word_bit result j then Some (word_bit value j) else None) ≡ unless_off off (word_bit value j) }
 {
     match off {
         None => u32::MAX,
@@ -94,7 +94,7 @@ pub fn fed_words(fed: FedNet) -> FedWords
 // The bits of two shorted nets in the rows in which either is driven.
 #[inline]
 fn shorted_value(kind: Kind, first: FeedWords, second: FeedWords) -> u32
-    ensures { (j : ℕ) → j < 32 → cond (word_bit first.driven j || word_bit second.driven j) (Some (word_bit result j)) None ≡ shorted kind (driven_bit first j) (driven_bit second j) }
+    ensures { (j : ℕ) → j < 32 → (if word_bit first.driven j || word_bit second.driven j then Some (word_bit result j) else None) ≡ shorted kind (driven_bit first j) (driven_bit second j) }
 {
     match kind {
         Kind::And => choose(first.driven, first.value, u32::MAX)

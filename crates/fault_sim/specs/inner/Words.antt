@@ -1,5 +1,5 @@
 -- What serves the proofs alone. Words of 32 bits, bit j of which stands for row j of a pass.
-use Rattle.std.specs.Prelude.{◌≡◌, ℕ, ◌+◌, ◌<◌, ◌==◌, nat_lt, Bool, true, false, cond, not, ◌&&◌, List, Option, Some, None, unwrap_or}
+use Rattle.std.specs.Prelude.{◌≡◌, ℕ, ◌+◌, ◌<◌, ◌==◌, nat_lt, Bool, true, false, if◌then◌else◌, not, ◌&&◌, List, Option, Some, None, unwrap_or}
 use Rattle.std.specs.Int.{bit_at}
 use Rattle.std.specs.List.{list_any}
 use Rattle.board_defs.specs.declared.fault.Kind.{Kind}
@@ -20,7 +20,7 @@ word_bit word j = bit_at word j == 1
 
 -- the bit that a net is driven to in row j, where it is
 abbrev pub driven_bit : FeedWords → ℕ → Option Bool
-driven_bit words j = cond (word_bit words.driven j) (Some (word_bit words.value j)) None
+driven_bit words j = if word_bit words.driven j then Some (word_bit words.value j) else None
 
 -- the bit of two shorted nets in row j, in which that of the code is expected
 abbrev pub short_bit : Kind → FedWords → FedWords → ℕ → ℕ → Bool

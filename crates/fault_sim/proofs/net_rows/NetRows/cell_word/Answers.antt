@@ -1,12 +1,12 @@
 use Rattle.std.proofs.Common.{◌+◌, ◌==◌, ◌&&◌, ◌||◌, Bool, ap, sym, ◌∙◌}
 use Rattle.fault_sim.specs.Fits.{bit_in}
 use Rattle.fault_sim.proofs.ShownLemmas.{bit_is, row_more}
-use Rattle.fault_sim.proofs.shown.cell_word.Goals as goal
+use Rattle.fault_sim.proofs.net_rows.NetRows.cell_word.Goals as goal
 
 pub loop-j-preserved : goal.loop-j-preserved
 loop-j-preserved c i less =
-    let log = c.args.log.now in
-    let first = c.args.first in
+    let log = c.self.inside.log.now in
+    let first = c.self.inside.first in
     let at = c.args.at in
     let j = c.loop-j.j in
     c.with_row-word.ensures i less

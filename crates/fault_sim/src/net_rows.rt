@@ -1,0 +1,43 @@
+// The rows of a log in a pass, with the compared cells of a net.
+ghost use Rattle.std.specs.Prelude.{◌≡◌};
+ghost use Rattle.fault_sim.specs.inner.NetRows.{net_rows_in};
+
+use crate::passes::LoggedPass;
+use response_log::Log;
+use scan_planner::ReaderCell;
+use std::marker::Model;
+
+/// The rows of a log in a pass, from row `first` of the log on, and the compared cells of a net, each of which has a bit in each row.
+#[derive(Drop)]
+pub struct NetRows<'a> {
+    pub(crate) log: &'a Log,
+    pub(crate) first: u64,
+    pub(crate) width: u32,
+    pub(crate) readers: &'a [ReaderCell],
+}
+
+impl<'a> Model for NetRows<'a> {
+    ghost use Rattle.fault_sim.specs.inner.NetRows.{AreNetRows, RowsOfNet, rows_of_net};
+
+    ghost Value = { RowsOfNet };
+
+    ghost view = { λ a. rows_of_net a.log.now a.first a.width a.readers.now };
+
+    ghost invariant = { λ a. AreNetRows (rows_of_net a.log.now a.first a.width a.readers.now) };
+}
+
+impl<'a> LoggedPass<'a> {
+    /// The rows of the log in the pass, with the compared cells of a net.
+    pub fn net_rows(&self, net: u32) -> NetRows<'a>
+        ensures { result ≡ net_rows_in self.now net }
+    {
+        let plan = self.pass.plan();
+        let _rules = self.pass.board().raw();
+        NetRows {
+            log: self.log,
+            first: self.pass.first_row(),
+            width: plan.width(),
+            readers: plan.readers(net),
+        }
+    }
+}
