@@ -1,7 +1,6 @@
 // The command `svf`.
 ghost use Rattle.std.specs.Prelude.{◌≡◌, ◌-◌, ◌<◌, Bool, IfOk, IfSome, List, slice_get};
 ghost use Rattle.bt_base.specs.Puts.{Puts};
-ghost use Rattle.board_defs.specs.Passes.{passes_of};
 ghost use Rattle.board_defs.specs.Pins.{data_bits};
 ghost use Rattle.tap_defs.specs.board.BoardScans.{RowScan, board_scans, board_text, pass_text, svf_row_scans, test_scans};
 ghost use Rattle.tap_defs.specs.board.BoardTest.{IsBoardTest};
@@ -42,14 +41,12 @@ pub fn svf<K: Sink>(alloc: Global, texts: &BoardTexts, out: &mut K) -> Result<()
         Ok(planned) => planned,
         Err(failure) => return Err(failure),
     };
-    tests_board(&planned.board);
+    tests_board(planned.board());
     put_test(alloc, &planned, out)
 }
 
 // Puts the test of a board by its plan.
 fn put_test<K: Sink>(alloc: Global, planned: &Planned, out: &mut K) -> Result<(), Unput>
-    requires plan { IsPlanOf planned.now.board planned.now.plan }
-    requires passes { planned.now.plan.passes ≡ passes_of planned.now.board }
     ensures { PutsText (board_text planned.now.board) (K.shown out.old) (K.shown out.new) result }
 {
     let Planned { board, plan } = planned;

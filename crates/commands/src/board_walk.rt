@@ -1,5 +1,5 @@
 // The command `walk`.
-ghost use Rattle.std.specs.Prelude.{◌<◌, Bool, List, Ok, slice_get, IfErr, IfOk, IfSome};
+ghost use Rattle.std.specs.Prelude.{◌≡◌, ◌<◌, Bool, List, length, Ok, slice_get, IfErr, IfOk, IfSome};
 ghost use Rattle.bt_base.specs.Puts.{Puts};
 ghost use Rattle.board_defs.specs.Pins.{data_bits};
 ghost use Rattle.tap_defs.specs.board.BoardTest.{IsHarmless};
@@ -24,22 +24,51 @@ use board_defs::Board;
 use bt_base::{PutFault, Sink};
 use driver_passes::first_pass;
 use std::alloc::{AllocError, Global};
+use std::marker::Model;
 use svf_writer::{write_head, write_scan, write_tail};
 use tap_defs::board_law::{rows_compared, statements_compared};
 use walk_test::Walk;
 use walk_test::law::{scans_counted, walk_harmless};
 
-/// A board, and its walking test.
+/// A board, and its walking test. Seen as both.
 #[derive(Drop)]
 pub struct Walked {
     pub board: Board,
     pub walk: Walk,
 }
 
+impl Model for Walked {
+    ghost use Rattle.walk_test.specs.Tables.{IsWalkOf};
+    ghost use Rattle.commands.specs.inner.Boards.{WalkedBoard, walked_board};
+
+    ghost Value = { WalkedBoard };
+
+    ghost view = { λ w. walked_board w.board w.walk };
+
+    ghost invariant = { λ w. IsWalkOf w.board w.walk };
+}
+
+impl Walked {
+    /// The board.
+    pub fn board(&self) -> &Board
+        ensures { result.now ≡ self.now.board }
+    {
+        &self.board
+    }
+
+    // How many scans the walking test has.
+    fn scans(&self) -> u64
+        ensures count { result ≡ scan_count self.now.walk }
+        ensures scans { result ≡ length (walk_scans self.now.board) }
+    {
+        scans_counted();
+        self.walk.scans()
+    }
+}
+
 /// The board of these texts with its walking test, or why there is none.
 pub fn walked_board(alloc: Global, texts: &BoardTexts) -> Result<Walked, Unput>
     ensures denoted { IfOk result (λ walked. IsBoardOf texts.now (Ok walked.board)) }
-    ensures walk { IfOk result (λ walked. IsWalkOf walked.board walked.walk) }
     ensures none { IfErr result (NoBoard texts.now) }
 {
     let board = match board_of(alloc, texts) {
@@ -77,16 +106,15 @@ pub fn walk<K: Sink>(alloc: Global, texts: &BoardTexts, out: &mut K) -> Result<(
         Ok(walked) => walked,
         Err(failure) => return Err(failure),
     };
-    is_harmless(&walked.board);
+    is_harmless(walked.board());
     put_walk(alloc, &walked, out)
 }
 
 // Puts the walking test of a board.
 fn put_walk<K: Sink>(alloc: Global, walked: &Walked, out: &mut K) -> Result<(), Unput>
-    requires { IsWalkOf walked.now.board walked.now.walk }
     ensures { PutsText (board_walk_text walked.now.board) (K.shown out.old) (K.shown out.new) result }
 {
-    let mut rows = Rows::with_room(alloc, longest_scan(&walked.board))?;
+    let mut rows = Rows::with_room(alloc, longest_scan(walked.board()))?;
     answer_by(write_walk(walked, &mut rows, out))
 }
 
@@ -101,13 +129,11 @@ fn is_harmless(board: &Board)
 // Puts a walking test.
 #[tactic(auto, unfolding(tap_defs::specs::chain::Text::svf_text))]
 fn write_walk<K: Sink>(walked: &Walked, rows: &mut Rows, out: &mut K) -> Result<(), PutFault>
-    requires walk { IsWalkOf walked.now.board walked.now.walk }
-    requires room { EachStoredHasRoom (IsRoom walked.now.board) rows.old.scan }
+    requires { EachStoredHasRoom (IsRoom walked.now.board) rows.old.scan }
     ensures { Puts (K.shown out.old) (K.shown out.new) (board_walk_text walked.now.board) result }
 {
-    scans_counted();
     write_head(out)?;
-    for k in 0..walked.walk.scans() {
+    for k in 0..walked.scans() {
         write_walk_scan(walked, k, rows, out)?;
     }
     write_tail(out)
@@ -120,7 +146,6 @@ fn write_walk_scan<K: Sink>(
     rows: &mut Rows,
     out: &mut K,
 ) -> Result<(), PutFault>
-    requires walk { IsWalkOf walked.now.board walked.now.walk }
     requires scan { k < scan_count walked.now.walk }
     requires room { EachStoredHasRoom (IsRoom walked.now.board) rows.old.scan }
     ensures text { IfSome (slice_get (walk_scans walked.now.board) k) (λ scan. Puts (K.shown out.old) (K.shown out.new) (scan_text scan) result) }

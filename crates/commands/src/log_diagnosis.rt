@@ -1,7 +1,5 @@
 // The command `diagnose`.
-ghost use Rattle.std.specs.Prelude.{◌≡◌, ◌≤◌};
-ghost use Rattle.board_defs.specs.Passes.{passes_of};
-ghost use Rattle.scan_planner.specs.Plans.{IsPlanOf};
+ghost use Rattle.std.specs.Prelude.{◌≤◌};
 ghost use Rattle.commands.specs.LogRead.{diagnosing, diagnosis_text};
 ghost use Rattle.commands.specs.Worth.{Diagnoses};
 ghost use Rattle.commands.specs.Answers.{AnswersOn, JudgedAnswers};
@@ -51,8 +49,6 @@ fn put_diagnosis<R: Threads + Sync, K: Sink, G: Gate>(
     gate: &G,
     out: &mut K,
 ) -> Result<(), Unput>
-    requires plan { IsPlanOf planned.now.board planned.now.plan }
-    requires passes { planned.now.plan.passes ≡ passes_of planned.now.board }
     requires some { 1 ≤ workers }
     requires few { workers ≤ 64 }
     ensures { AnswersOn diagnosing diagnosis_text Diagnoses text planned.now.board (K.shown out.old) (K.shown out.new) result }

@@ -1,6 +1,5 @@
 // The command `groups`.
 ghost use Rattle.std.specs.Prelude.{◌≡◌, option_map};
-ghost use Rattle.walk_test.specs.Tables.{IsWalkOf};
 ghost use Rattle.commands.specs.LogRead.{grouping, grouping_text};
 ghost use Rattle.commands.specs.Worth.{FindsGroups};
 ghost use Rattle.commands.specs.Answers.{AnswersOn, JudgedAnswers};
@@ -45,7 +44,6 @@ fn put_groups<K: Sink>(
     text: ShortText,
     out: &mut K,
 ) -> Result<(), Unput>
-    requires walk { IsWalkOf walked.now.board walked.now.walk }
     ensures { AnswersOn grouping grouping_text FindsGroups text walked.now.board (K.shown out.old) (K.shown out.new) result }
 {
     let Walked { board, walk } = walked;

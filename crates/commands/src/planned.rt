@@ -15,12 +15,33 @@ use net_classes::{Classes, classify_by};
 use net_pins::NetPins;
 use scan_planner::Plan;
 use std::alloc::{AllocError, Global};
+use std::marker::Model;
 
-/// A board, and the plan that its passes make of its test.
+/// A board, and the plan that its passes make of its test. Seen as both.
 #[derive(Drop)]
 pub struct Planned {
     pub board: Board,
     pub plan: Plan,
+}
+
+impl Model for Planned {
+    ghost use Rattle.scan_planner.specs.Planned.{PlannedBoard, planned_board};
+    ghost use Rattle.commands.specs.inner.Boards.{IsPlanned};
+
+    ghost Value = { PlannedBoard };
+
+    ghost view = { λ p. planned_board p.board p.plan };
+
+    ghost invariant = { λ p. IsPlanned (planned_board p.board p.plan) };
+}
+
+impl Planned {
+    /// The board.
+    pub fn board(&self) -> &Board
+        ensures { result.now ≡ self.now.board }
+    {
+        &self.board
+    }
 }
 
 /// The classes of a board, and what stands on its nets, by the same pin tables.
@@ -57,8 +78,6 @@ pub fn board_of(alloc: Global, texts: &BoardTexts) -> Result<Board, Unput>
 /// The board of these texts with the plan of its test, or why there is none.
 pub fn planned_board(alloc: Global, texts: &BoardTexts) -> Result<Planned, Unput>
     ensures denoted { IfOk result (λ planned. IsBoardOf texts.now (Ok planned.board)) }
-    ensures plan { IfOk result (λ planned. IsPlanOf planned.board planned.plan) }
-    ensures passes { IfOk result (λ planned. planned.plan.passes ≡ passes_of planned.board) }
     ensures none { IfErr result (NoBoard texts.now) }
 {
     let board = match board_of(alloc, texts) {

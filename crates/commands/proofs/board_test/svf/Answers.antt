@@ -1,4 +1,7 @@
+use Rattle.std.proofs.Common.{subst}
+use Rattle.board_defs.specs.declared.board.RawBoard.{RawBoard}
 use Rattle.tap_defs.specs.board.BoardScans.{board_text}
+use Rattle.tap_defs.specs.board.BoardTest.{IsBoardTest}
 use Rattle.commands.specs.Answers.{IsBoardOf}
 use Rattle.commands.specs.Worth.{TestsBoard}
 use Rattle.commands.proofs.AnswerLemmas.{no_board_answers, text_answers}
@@ -12,4 +15,4 @@ pub returns : goal.returns
 returns g c =
     let board = c.in-Ok.planned.board in
     text_answers (IsBoardOf c.args.texts.now) board_text (TestsBoard c.args.texts.now) board c.in-Ok.ensures.denoted (g.K.Sink.shown c.args.out.now) (g.K.Sink.shown c.put_test.new.out) c.put_test.result c.put_test.ensures
-    (record { board = board; denoted = c.in-Ok.ensures.denoted; tests = c.tests_board.ensures })
+    (record { board = board; denoted = c.in-Ok.ensures.denoted; tests = subst (λ (b : RawBoard). IsBoardTest b (board_text b)) c.board.ensures c.tests_board.ensures })

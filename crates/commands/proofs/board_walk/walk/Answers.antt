@@ -1,3 +1,6 @@
+use Rattle.std.proofs.Common.{subst}
+use Rattle.board_defs.specs.declared.board.RawBoard.{RawBoard}
+use Rattle.tap_defs.specs.board.BoardTest.{IsHarmless}
 use Rattle.walk_test.specs.WalkTest.{board_walk_text}
 use Rattle.commands.specs.Answers.{IsBoardOf}
 use Rattle.commands.specs.Worth.{WalksBoard}
@@ -12,4 +15,4 @@ pub returns : goal.returns
 returns g c =
     let board = c.in-Ok.walked.board in
     text_answers (IsBoardOf c.args.texts.now) board_walk_text (WalksBoard c.args.texts.now) board c.in-Ok.ensures.denoted (g.K.Sink.shown c.args.out.now) (g.K.Sink.shown c.put_walk.new.out) c.put_walk.result c.put_walk.ensures
-    (record { board = board; denoted = c.in-Ok.ensures.denoted; harmless = c.is_harmless.ensures })
+    (record { board = board; denoted = c.in-Ok.ensures.denoted; harmless = subst (λ (b : RawBoard). IsHarmless b (board_walk_text b)) c.board.ensures c.is_harmless.ensures })
