@@ -1,12 +1,12 @@
 pub mod WordLemmas
 mod SampleWords
 mod SampleLogs
-mod SampleRuns
 mod SampleCommands
 pub mod ReadLemmas
 pub mod GiveLemmas
 pub mod RowLemmas
 pub mod LogLemmas
 pub mod RunLemmas
+mod SampleRuns
 pub mod CommandLemmas
 pub mod StatusLemmas

@@ -21,7 +21,7 @@ use Rattle.promises.proofs.WordLemmas.{command_is}
 use Rattle.promises.proofs.ReadLemmas.{files_are, reads, some_rose}
 use Rattle.promises.proofs.GiveLemmas.{is_gives, not_both}
 
-same_some : {x y : Text} → ◌≡◌ {A = Option Text} (Some x) (Some y) → x ≡ y
+pub same_some : {x y : Text} → ◌≡◌ {A = Option Text} (Some x) (Some y) → x ≡ y
 same_some e = cc
 
 -- the bytes that a sink in memory took

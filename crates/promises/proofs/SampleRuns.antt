@@ -17,6 +17,7 @@ use Rattle.promises.specs.Runs.{Asks, AsksNothing, Ends, HoldsEach, IsTooLong, N
 use Rattle.promises.specs.Gives.{Gives}
 use Rattle.promises.specs.Promises.{FilesGive, FindsOutcome, RestsOnFiles, TellsFault, TellsLong, TellsMemory, TellsUnread, TellsUnwritten, TellsUsage}
 use Rattle.promises.proofs.WordLemmas.{command_is, none_asked}
+use Rattle.promises.proofs.RunLemmas.{same_some}
 
 -- ends of a store that tells this, with what was asked for, put and noted; no read and no write failed
 abbrev pub ends : Held → List Text → Text → Text → Ends
@@ -208,9 +209,6 @@ is_device run command one other =
     let same : ◌≡◌ {A = Option Command} (Some command) (Some device) = sym (command_is run command other) ∙ command_is run device one in
     cc
 
-same_text : {x y : Text} → ◌≡◌ {A = Option Text} (Some x) (Some y) → x ≡ y
-same_text e = cc
-
 -- a listing has bytes, and does not begin with this one
 some_listing : (described : RawDevice) → ◌≡◌ {A = Text} [] (device_text described) → ⊥
 unfolding device_text
@@ -231,12 +229,12 @@ module _ (text : Text) (short : length text ≤ 4194304) where
   -- what files give there is given for the text
   only_text : (texts : List Text) → HoldsEach holding (files_of device) texts → text ∷ [] ≡ texts
   only_text [] each = absurd each
-  only_text (one ∷ []) each = ap (λ (t : Text). t ∷ []) (same_text each.0)
+  only_text (one ∷ []) each = ap (λ (t : Text). t ∷ []) (same_some each.0)
   only_text (one ∷ other ∷ others) each = absurd each.2
 
   none_long : (file : Wanted) → IsTooLong holding (files_of device) file → ⊥
   none_long file long =
-      let same : text ≡ long.text = same_text long.holds in
+      let same : text ≡ long.text = same_some long.holds in
       let more : file.limit < length text = subst (λ (t : Text). file.limit < length t) (sym same) long.long in
       let limit : 4194304 ≡ file.limit = by_before long.before long.after file long.are in
       omega (arith, more, limit, short)
