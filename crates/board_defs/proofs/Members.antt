@@ -1,10 +1,11 @@
 -- Which items a list has, after the functions that make one.
-use Rattle.std.proofs.Common.{◌≡◌, ℕ, zero, suc, ◌+◌, ◌<◌, ◌≤◌, Bool, true, false, List, [], ◌∷◌, ◌++◌, map, Option, Some, None, refl, sym, ◌∙◌, ap, subst, arith, cond, ◌⊎◌, inl, inr}
-use Rattle.std.specs.Prelude.{slice_get, filter, filter_map, find, Contains}
+use Rattle.std.proofs.Common.{◌≡◌, ℕ, zero, suc, ◌+◌, ◌<◌, ◌≤◌, Bool, true, false, List, [], ◌∷◌, ◌++◌, map, get_or, Option, Some, None, refl, sym, ◌∙◌, ap, subst, arith, cond, ◌⊎◌, inl, inr}
+use Rattle.std.specs.Prelude.{slice_get, filter, filter_map, find, All, Contains}
 use Rattle.std.specs.List.{list_any, list_all, cons_option, flat_map, enumerate_from, range_with_len}
-use Rattle.std.proofs.lemmas.Bool.{and_parts, or_cases, or_left, or_right, cases_eq}
+use Rattle.std.proofs.lemmas.Bool.{and_from, and_parts, or_cases, or_left, or_right, cases_eq}
 use Rattle.std.proofs.lemmas.Option.{slice_get_within, get_or_from_slice_get, slice_get-get_or}
 use Rattle.board_defs.specs.Passes.{pairs_of, pairs_within}
+use Rattle.board_defs.proofs.Places.{all_stands}
 
 -- the list has the item
 abbrev pub Has : {X : Type 0} → List X → X → Type 0
@@ -184,6 +185,17 @@ pub all_has : {X : Type 0} (p : X → Bool) (xs : List X) (x : X) → list_all p
 all_has p [] x t h = absurd h
 all_has p (z ∷ xs) x t (inl e) = sym (ap p e) ∙ (and_parts (p z) (list_all p xs) t).0
 all_has p (z ∷ xs) x t (inr h) = all_has p xs x (and_parts (p z) (list_all p xs) t).1 h
+
+pub has_all : {X : Type 0} (p : X → Bool) (xs : List X) → ((x : X) → Has xs x → p x ≡ true) → list_all p xs ≡ true
+has_all p [] h = refl
+has_all p (x ∷ xs) h = and_from (p x) (list_all p xs) (h x (inl refl)) (has_all p xs (λ y m. h y (inr m)))
+
+-- what holds of all items holds of each that the list has, and the other way round
+pub has_from_all : {X : Type 0} (P : X → Type 0) (xs : List X) (x : X) → All P xs → Has xs x → P x
+has_from_all P xs x all has = let at = has_place xs x has in all_stands P xs at.0 x at.1 all
+
+pub all_from_has : {X : Type 0} (P : X → Type 0) (xs : List X) → ((x : X) → Has xs x → P x) → All P xs
+all_from_has P xs each k d less = each (get_or xs k d) (has_at xs k (get_or xs k d) (slice_get-get_or xs k d less))
 
 pub find_has : {X : Type 0} (p : X → Bool) (xs : List X) (x : X) → find p xs ≡ Some x → Has xs x × (p x ≡ true)
 find_has p [] x h = cc h

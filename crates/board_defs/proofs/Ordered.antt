@@ -1,21 +1,31 @@
 -- Lists in some order: each item stands before each later one.
-use Rattle.std.proofs.Common.{◌≡◌, ℕ, zero, suc, ◌+◌, ◌<◌, ◌≤◌, Bool, true, false, List, [], ◌∷◌, ◌++◌, length, get_or, map, refl, ap, subst, arith, cond, ◌⊎◌, inl, inr}
-use Rattle.std.specs.Prelude.{filter, AllPairs}
+use Rattle.std.proofs.Common.{◌≡◌, ℕ, zero, suc, ◌+◌, ◌<◌, ◌≤◌, Bool, true, false, List, [], ◌∷◌, ◌++◌, length, get_or, map, Some, refl, ap, subst, arith, cond, ◌⊎◌, inl, inr}
+use Rattle.std.specs.Prelude.{slice_get, filter, AllPairs}
 use Rattle.std.specs.List.{flat_map, enumerate_from, range_with_len}
-use Rattle.std.proofs.lemmas.Option.{slice_get-get_or}
+use Rattle.std.proofs.lemmas.Option.{get_or_from_slice_get, slice_get-get_or, slice_get_within}
 use Rattle.board_defs.specs.Passes.{pairs_within}
-use Rattle.board_defs.proofs.Members.{Has, has_at, has_append, map_has, flat_map_has, filter_has, range_has, enumerate_has}
+use Rattle.board_defs.proofs.Members.{Has, has_at, has_place, has_append, map_has, flat_map_has, filter_has, range_has, enumerate_has}
 
 -- each item stands before each later one
 abbrev pub InOrder : {X : Type 0} → (X → X → Type 0) → List X → Type 0
 InOrder R [] = Unit {0}
 InOrder {X} R (x ∷ xs) = ((y : X) → Has xs y → R x y) × InOrder R xs
 
+-- then it holds of any two places, the earlier first
 pub order_pairs : {X : Type 0} (R : X → X → Type 0) (xs : List X) → InOrder R xs → AllPairs R xs
 order_pairs R [] h i j d less within = absurd (omega arith)
 order_pairs R (x ∷ xs) h i zero d less within = absurd (omega arith)
 order_pairs {X} R (x ∷ xs) h zero (suc j) d less within = let inside : j < length xs = omega arith in h.0 (get_or xs j d) (has_at xs j (get_or xs j d) (slice_get-get_or xs j d inside))
 order_pairs R (x ∷ xs) h (suc i) (suc j) d less within = order_pairs R xs h.1 i j d (omega arith) (omega arith)
+
+-- and the other way round
+pub pairs_order : {X : Type 0} (R : X → X → Type 0) (xs : List X) → AllPairs R xs → InOrder R xs
+pairs_order R [] pairs = tt
+pairs_order {X} R (x ∷ xs) pairs =
+    (λ y has. let at = has_place xs y has in before y at.0 at.1, pairs_order R xs (λ i j d less within. pairs (suc i) (suc j) d (omega (arith, less)) (omega (arith, within))))
+  where
+    before : (y : X) (k : ℕ) → slice_get xs k ≡ Some y → R x y
+    before y k at = subst (λ (z : X). R x z) (get_or_from_slice_get xs k y y at) (pairs 0 (suc k) y (omega arith) (omega (arith, slice_get_within xs k y at)))
 
 pub order_append : {X : Type 0} (R : X → X → Type 0) (xs ys : List X) → InOrder R xs → InOrder R ys → ((x y : X) → Has xs x → Has ys y → R x y) → InOrder R (xs ++ ys)
 order_append R [] ys h k across = k

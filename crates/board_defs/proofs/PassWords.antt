@@ -1,8 +1,8 @@
 -- The words in which the passes are made say what they name.
-use Rattle.std.proofs.Common.{◌≡◌, ℕ, ◌+◌, ◌<◌, ◌==◌, Bool, true, false, ◌&&◌, List, [], ◌∷◌, Option, Some, None, refl, sym, ◌∙◌, ap, subst, arith, inl, inr}
+use Rattle.std.proofs.Common.{◌≡◌, ℕ, ◌+◌, ◌<◌, ◌==◌, true, false, ◌&&◌, List, [], Option, Some, None, refl, sym, ◌∙◌, ap, subst, arith}
 use Rattle.std.specs.Prelude.{slice_get, option_and_then, IsTrue, nat_lt, Contains, ◌↔◌}
 use Rattle.std.specs.Bool.{Decides}
-use Rattle.std.specs.List.{list_any, list_all, enumerate_from, range_with_len}
+use Rattle.std.specs.List.{list_any, enumerate_from, range_with_len}
 use Rattle.std.proofs.lemmas.Bool.{both_ways, not-true, not_from_false, false_from_ne_true, and_from, or_left, or_right, eq-eqb, lt-ltb}
 use Rattle.board_defs.specs.declared.board.PartKind.{PartKind}
 use Rattle.board_defs.specs.declared.board.PartKind.TheVariants.{Described, Bypass}
@@ -20,7 +20,7 @@ use Rattle.board_defs.specs.Coverage.{IsTestedDriver, IsUseful, AreTogether}
 use Rattle.board_defs.specs.Decided.{can_enable, is_useful, are_together, are_compatible, place_drive, drive_in}
 use Rattle.board_defs.specs.Passes.{cells_of, all_cells, useful_controls, tested_drivers, is_enabled, with_driver, fits, is_new, SomePass}
 use Rattle.board_defs.specs.Laws.{HasTestedDriver, ControlsNew, SaysPasses}
-use Rattle.board_defs.proofs.Members.{Has, has_at, has_place, has_contains, contains_has, has_map, map_has, has_flat_map, has_filter, filter_has, has_range, has_enumerate, any_has, has_any, all_has}
+use Rattle.board_defs.proofs.Members.{Has, has_at, has_place, has_contains, contains_has, has_map, map_has, has_flat_map, has_filter, filter_has, has_range, has_enumerate, any_has, has_any, all_has, has_all}
 use Rattle.board_defs.proofs.Ordered.{InOrder, order_pairs, order_flat_map, order_filter, order_map, order_range, order_enumerate}
 use Rattle.board_defs.proofs.ControlOrder.{same_equal, same_refl}
 use Rattle.board_defs.proofs.BoardLemmas.{control_is_cell}
@@ -112,14 +112,10 @@ driver_enabled board rules n net place pin OneSided pass st t e =
     cc wrong
 
 -- a control that is together with all of a setting
-all_from_has : (test : Ctl → Bool) (cs : List Ctl) → ((c : Ctl) → Has cs c → test c ≡ true) → list_all test cs ≡ true
-all_from_has test [] h = refl
-all_from_has test (c ∷ cs) h = and_from (test c) (list_all test cs) (h c (inl refl)) (all_from_has test cs (λ d m. h d (inr m)))
-
 fits_setting : (board : RawBoard) → IsBoard board → (setting : List Ctl) (c : Ctl) → Decides (fits board setting c) ((d : Ctl) → holds setting d ≡ true → AreTogether board c d)
 fits_setting board rules setting c = (
   λ h d k. let r = any_has (same_ctl d) setting k in let P : Ctl → Type 0 = λ v. AreTogether board c v in subst P (sym (same_equal d r.0 r.2)) (together_safe board c r.0 rules (all_has (are_together board c) setting r.0 h r.1)),
-  λ all. all_from_has (are_together board c) setting (λ d m. safe_together board c d (all d (has_any (same_ctl d) setting d m (same_refl d)))),
+  λ all. has_all (are_together board c) setting (λ d m. safe_together board c d (all d (has_any (same_ctl d) setting d m (same_refl d)))),
 )
 
 -- a control of a driver that no earlier pass enables

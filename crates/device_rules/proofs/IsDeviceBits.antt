@@ -8,7 +8,7 @@ use Rattle.std.proofs.lemmas.List.Elements.{All-cons, All-nil, filter-append}
 use Rattle.std.proofs.lemmas.Option.{slice_get_within, slice_get-get_or}
 use Rattle.board_defs.specs.declared.device.PortBit.{PortBit}
 use Rattle.board_defs.specs.DeviceRules.{AreIndexed, ArePort, AreOfPorts}
-use Rattle.board_defs.proofs.Members.{Has, map_has, filter_has}
+use Rattle.board_defs.proofs.Members.{Has, map_has, filter_has, all_from_has}
 use Rattle.bsdl_parser.specs.declared.entity.Port.{Port}
 use Rattle.bsdl_parser.specs.declared.entity.Range.{Range}
 use Rattle.bsdl_strings.specs.declared.values.MapEntry.{MapEntry}
@@ -18,7 +18,7 @@ use Rattle.device_rules.specs.declared.draft.TapPorts.{TapPorts}
 use Rattle.device_rules.specs.Ports.{Bit, indexes, bits_along, bits_of_port, bits_from, port_bits}
 use Rattle.device_rules.specs.PinMap.{maps_port, v4}
 use Rattle.device_rules.specs.Raw.{port_bit, raw_bits, raw_device}
-use Rattle.device_rules.proofs.IsDeviceLists.{all_from_has, all_alike, made_at}
+use Rattle.device_rules.proofs.IsDeviceLists.{all_alike, made_at}
 use Rattle.device_rules.proofs.IsDevicePorts.{PortsStand, IsBitOf, is_bit_of, is_of_port}
 use Rattle.device_rules.proofs.IsDevicePins.{is_mapped}
 

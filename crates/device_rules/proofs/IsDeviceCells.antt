@@ -11,7 +11,7 @@ use Rattle.board_defs.specs.declared.device.Role.TheVariants.{Input, Output2, Ou
 use Rattle.board_defs.specs.declared.device.Control.{Control}
 use Rattle.board_defs.specs.declared.device.Cell.{Cell}
 use Rattle.board_defs.specs.DeviceRules.{is_loading, is_writing, is_controlling, is_driving, is_control_entry, MayHaveControl, ControlsStand, OneDisable, OneOf}
-use Rattle.board_defs.proofs.Members.{Has, has_at, has_place, has_map, has_any, any_has, has_contains}
+use Rattle.board_defs.proofs.Members.{Has, has_at, has_place, has_map, has_any, any_has, has_contains, all_from_has, has_from_all}
 use Rattle.bsdl_strings.specs.declared.values.Entry.{Entry}
 use Rattle.device_rules.specs.declared.draft.Draft.{Draft}
 use Rattle.first_places.specs.Items.{or_else}
@@ -21,7 +21,7 @@ use Rattle.device_rules.specs.Raw.{cell_of, raw_cells, raw_device}
 use Rattle.device_rules.proofs.RuleLemmas.{holds, none_below}
 use Rattle.device_rules.proofs.CellLemmas.{all_below, counts_here}
 use Rattle.device_rules.proofs.IsDeviceCodes.{same_bits}
-use Rattle.device_rules.proofs.IsDeviceLists.{holds_at, all_from_has, has_from_all, Made, made_at, counted_once}
+use Rattle.device_rules.proofs.IsDeviceLists.{holds_at, Made, made_at, counted_once}
 
 -- numbers
 pub cells_below : (draft : Draft) → v8 draft.boundary draft.entries ≡ None → All (λ entry. entry.num < draft.boundary) (raw_device draft).cells

@@ -11,14 +11,14 @@ use Rattle.board_defs.specs.declared.device.Symbol.TheVariants.{Zero, One, Any}
 use Rattle.board_defs.specs.declared.device.Edition.{Edition}
 use Rattle.board_defs.specs.declared.device.Edition.TheVariants.{Old, Of2001}
 use Rattle.board_defs.specs.DeviceRules.{bit_of, HasCodes}
-use Rattle.board_defs.proofs.Members.{Has, has_place, map_has, find_has}
+use Rattle.board_defs.proofs.Members.{Has, has_place, map_has, find_has, all_from_has}
 use Rattle.bsdl_strings.specs.declared.values.Opcode.{Opcode}
 use Rattle.device_rules.specs.declared.draft.Draft.{Draft}
 use Rattle.first_places.specs.Items.{or_else}
 use Rattle.instruction_rules.specs.Instructions.{has_length, is_called, breaks_opcode, v5, first_of, opcode, first_code, preload_code, is_all_ones, is_all_zeros, may_preload, same_bit, same_code, is_same, may_extest, has_code, fits_one, extest_holds, v6, ends_in_01, may_be_idcode, v7, settled, settled_code, preload, extest}
 use Rattle.device_rules.specs.Raw.{raw_device, HasLengths}
 use Rattle.device_rules.proofs.RuleLemmas.{holds}
-use Rattle.device_rules.proofs.IsDeviceLists.{holds_at, all_from_has}
+use Rattle.device_rules.proofs.IsDeviceLists.{holds_at}
 
 -- lengths of codes
 abbrev AreLong : ℕ → List Opcode → Type 0

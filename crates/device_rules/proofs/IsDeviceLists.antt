@@ -4,10 +4,9 @@ use Rattle.std.specs.Prelude.{slice_get, All, AllPairs, count_by, is_some}
 use Rattle.std.specs.List.{list_any, position_from}
 use Rattle.std.specs.Str.{bytes_eq}
 use Rattle.std.proofs.lemmas.Bool.{or_parts, cases_order}
-use Rattle.std.proofs.lemmas.List.Elements.{All-nil, All-cons, All-contains}
 use Rattle.std.proofs.lemmas.List.Sums.{sum_by-cons}
 use Rattle.std.proofs.lemmas.Slice.Eq.{bytes_eq-Decides}
-use Rattle.board_defs.proofs.Members.{Has, has_at, has_place, has_append, has_contains}
+use Rattle.board_defs.proofs.Members.{Has, has_at, has_place, has_append}
 use Rattle.first_places.specs.Items.{Holds}
 
 -- names
@@ -37,14 +36,6 @@ pub none_has : {X : Type 0} (p : X → Bool) (xs : List X) (x : X) → list_any 
 none_has p [] x e h = absurd h
 none_has p (y ∷ ys) x e (inl same) = sym (ap p same) ∙ (or_parts (p y) (list_any p ys) e).0
 none_has p (y ∷ ys) x e (inr h) = none_has p ys x (or_parts (p y) (list_any p ys) e).1 h
-
--- what holds of each item that the list has
-pub all_from_has : {X : Type 0} (P : X → Type 0) (xs : List X) → ((x : X) → Has xs x → P x) → All P xs
-all_from_has P [] h = All-nil P
-all_from_has P (x ∷ xs) h = All-cons P x xs (h x (inl refl)) (all_from_has P xs (λ y k. h y (inr k)))
-
-pub has_from_all : {X : Type 0} (P : X → Type 0) (xs : List X) (x : X) → All P xs → Has xs x → P x
-has_from_all P xs x h k = All-contains P xs x h (has_contains xs x k)
 
 -- all items have one value of a function
 pub all_alike : {X K : Type 0} (key : X → K) (v : K) (xs : List X) → All (λ x. key x ≡ v) xs → AllPairs (λ a b. key a ≡ key b) xs

@@ -11,7 +11,7 @@ use Rattle.board_defs.specs.declared.device.Role.{Role}
 use Rattle.board_defs.specs.declared.device.Cell.{Cell}
 use Rattle.board_defs.specs.declared.device.PortBit.{PortBit}
 use Rattle.board_defs.specs.DeviceRules.{is_inner, is_driving, may_drive, is_on, drives_bit, HasPlace, OneDriver, EntriesFitPorts}
-use Rattle.board_defs.proofs.Members.{Has, has_at, has_place}
+use Rattle.board_defs.proofs.Members.{Has, has_at, has_place, all_from_has}
 use Rattle.board_defs.proofs.CellLemmas.{on_is}
 use Rattle.bsdl_parser.specs.declared.entity.Port.{Port}
 use Rattle.bsdl_strings.specs.declared.values.Entry.{Entry}
@@ -24,7 +24,7 @@ use Rattle.device_rules.specs.Taps.{is_among, tap_names}
 use Rattle.device_rules.specs.Places.{is_star, breaks_place, v9, driven_bit, is_driven, breaks_driver, v13, misfits, breaks_mode, v14}
 use Rattle.device_rules.specs.Raw.{cell_of, port_bit, raw_cells, raw_bits, raw_device}
 use Rattle.device_rules.proofs.RuleLemmas.{holds}
-use Rattle.device_rules.proofs.IsDeviceLists.{same_name, earlier, holds_at, none_has, all_from_has, Made, made_at, Found, found_at, never_found}
+use Rattle.device_rules.proofs.IsDeviceLists.{same_name, earlier, holds_at, none_has, Made, made_at, Found, found_at, never_found}
 use Rattle.device_rules.proofs.IsDevicePorts.{PortsStand, IsBitOf, is_bit_of}
 use Rattle.device_rules.proofs.IsDevicePins.{port_is}
 

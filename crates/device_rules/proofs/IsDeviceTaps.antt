@@ -10,7 +10,7 @@ use Rattle.board_defs.specs.declared.device.Mode.{Mode}
 use Rattle.board_defs.specs.declared.device.Mode.TheVariants.{Inward, Outward, Both, Buffer, Linkage}
 use Rattle.board_defs.specs.declared.device.PortBit.{PortBit}
 use Rattle.board_defs.specs.DeviceRules.{may_drive, may_receive, IsTapBit, HasTap}
-use Rattle.board_defs.proofs.Members.{Has, has_at, has_append, map_has, any_has, all_has, find_has}
+use Rattle.board_defs.proofs.Members.{Has, has_at, has_append, map_has, any_has, all_has, find_has, all_from_has}
 use Rattle.bsdl_parser.specs.declared.entity.Port.{Port}
 use Rattle.bsdl_parser.specs.declared.entity.Range.{Range}
 use Rattle.bsdl_strings.specs.declared.values.Compliance.{Compliance}
@@ -20,7 +20,7 @@ use Rattle.first_places.specs.Items.{or_else, broken_by}
 use Rattle.device_rules.specs.Ports.{port_named, port_of, Bit, indexes, bits_along, bits_of_port, bits_from, port_bits}
 use Rattle.device_rules.specs.Taps.{is_inward, is_outward, is_plain, is_among, breaks_tap, reset_breaks, four_taps, listed, tap_names, wrong_tap, complies, v3}
 use Rattle.device_rules.specs.Raw.{port_bit, raw_bits, raw_device}
-use Rattle.device_rules.proofs.IsDeviceLists.{same_name, name_same, all_from_has, Once, once_tail, once_head, once_item}
+use Rattle.device_rules.proofs.IsDeviceLists.{same_name, name_same, Once, once_tail, once_head, once_item}
 use Rattle.device_rules.proofs.IsDevicePorts.{PortsStand, IsBitOf, is_bit_of, is_of_port}
 
 -- a name is that of a plain port of this mode

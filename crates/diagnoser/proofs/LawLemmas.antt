@@ -1,15 +1,13 @@
 -- What the definitions of diagnoses say.
-use Rattle.std.proofs.Common.{◌≡◌, ℕ, suc, Bool, List, [], ◌∷◌, sym, ap, ◌∙◌, subst, arith}
-use Rattle.std.specs.Prelude.{AllPairs, Some, slice_get}
+use Rattle.std.proofs.Common.{◌≡◌, Bool, List, [], sym, ap, ◌∙◌}
 use Rattle.std.specs.Bool.{one_answer}
-use Rattle.std.proofs.lemmas.Option.{slice_get_within, get_or_from_slice_get}
 use Rattle.board_defs.specs.declared.board.RawBoard.{RawBoard}
 use Rattle.board_defs.specs.declared.fault.Single.{Single}
 use Rattle.board_defs.specs.Faults.{singles, IsSingle, SinglePrecedes}
 use Rattle.board_defs.specs.Laws.{SinglesListed}
 use Rattle.board_defs.specs.BoardRules.{IsBoard}
-use Rattle.board_defs.proofs.Members.{has_place, has_contains, contains_has}
-use Rattle.board_defs.proofs.Ordered.{InOrder, order_pairs}
+use Rattle.board_defs.proofs.Members.{has_contains, contains_has}
+use Rattle.board_defs.proofs.Ordered.{order_pairs, pairs_order}
 use Rattle.tap_defs.specs.board.BoardScans.{svf_row_scans}
 use Rattle.tap_defs.specs.board.Explaining.{set_of, ExplainedBy, Explains}
 use Rattle.tap_defs.specs.board.FaultSet.{FaultSet, IsObservable, IsNonempty}
@@ -26,14 +24,6 @@ one_diagnosis board log text other first second =
     first.is_text
     ∙ (ap (λ (b : Bool). diag_text board b first.faults) (one_answer first.pass second.pass first.passes second.passes)
     ∙ (ap (λ (l : List Single). diag_text board second.pass l) (one_list board log first.faults second.faults first.explaining second.explaining) ∙ sym second.is_text))
-
-pairs_order : {X : Type 0} (R : X → X → Type 0) (xs : List X) → AllPairs R xs → InOrder R xs
-pairs_order R [] pairs = tt
-pairs_order {X} R (x ∷ xs) pairs =
-    (λ y has. let at = has_place xs y has in before y at.0 at.1, pairs_order R xs (λ i j d less within. pairs (suc i) (suc j) d (omega (arith, less)) (omega (arith, within))))
-  where
-    before : (y : X) (k : ℕ) → slice_get xs k ≡ Some y → R x y
-    before y k at = subst (λ (z : X). R x z) (get_or_from_slice_get xs k y y at) (pairs 0 (suc k) y (omega arith) (omega (arith, slice_get_within xs k y at)))
 
 module _ (listed : SinglesListed) (board : RawBoard) (log : List (List Bool)) (faults : List Single) (rules : IsBoard board) (explaining : AreExplaining board log faults) where
   abbrev Explaining : Single → Type 0

@@ -21,7 +21,7 @@ use Rattle.board_defs.specs.declared.board.Net.{Net}
 use Rattle.board_defs.specs.Decided.{is_covered}
 use Rattle.board_defs.specs.Passes.{ArePasses, pairs_within, passes_of}
 use Rattle.board_defs.specs.Pins.{data_bits}
-use Rattle.board_defs.proofs.Members.{Has, has_at, has_contains, contains_has, all_has as all_holds}
+use Rattle.board_defs.proofs.Members.{Has, has_at, has_contains, contains_has, all_from_has, all_has}
 use Rattle.board_defs.proofs.Places.{all_from}
 use Rattle.board_defs.proofs.Ordered.{InOrder, order_map, order_pairs}
 use Rattle.tap_defs.specs.board.BoardScans.{svf_row_scans}
@@ -31,7 +31,6 @@ use Rattle.tap_defs.specs.board.TestRows.{code_row, code_width, observed_count, 
 use Rattle.tap_defs.proofs.board.ScanPlaceLemmas.{front_at, rest_at}
 use Rattle.plan_tables.specs.declared.tables.PlanTables.{PlanTables}
 use Rattle.scan_planner.specs.Plans.{IsPlanOf}
-use Rattle.plan_tables.proofs.ListLemmas.{all_has}
 use Rattle.fault_sim.specs.declared.effect.Effect.{Effect}
 use Rattle.fault_sim.specs.declared.effect.Effect.TheVariants.{Plain, Constant}
 use Rattle.fault_sim.specs.declared.fault_lists.FaultLists.{FaultLists}
@@ -199,7 +198,7 @@ module _ (board : RawBoard) (plan : PlanTables) (log : List (List Bool)) (single
     where
       shown : n ≢ a → n ≢ b → Contains nets n ⊎ ShowsOn board plan None log n → Shows board plan (Some single) log x n
       shown not_a not_b (inl has) =
-          absurd (both_ways ((n == a) || (n == b)) (ap (λ (t : Bool). t || (n == b)) (ne_eqb n a not_a) ∙ ne_eqb n b not_b) (all_holds (λ (m : ℕ). (m == a) || (m == b)) nets n own (contains_has nets n has)))
+          absurd (both_ways ((n == a) || (n == b)) (ap (λ (t : Bool). t || (n == b)) (ne_eqb n a not_a) ∙ ne_eqb n b not_b) (all_has (λ (m : ℕ). (m == a) || (m == b)) nets n own (contains_has nets n has)))
       shown not_a not_b (inr shows) =
           subst (λ (effect : Effect). ShowBy log (x * plan.width) plan.width (code_in plan n) (readers_in plan n) effect (place_of_driver (driver_in plan (get_or plan.passes x []) n)))
           (sym (plain_effect board plan (get_or plan.passes x []) single n (λ e. not_a (e ∙ sym first)) (λ e. not_b (e ∙ sym second)))) (shows x less)
@@ -453,7 +452,7 @@ module _ (board : RawBoard) (plan : PlanTables) (lists : FaultLists) (starts : A
       let can = can_suspect nets differ in
       record {
         rising = order_pairs (λ (x y : ℕ). x < y) (suspects_of plan lists nets) (suspects_rise nets can);
-        below = all_has (λ i. i < place_count lists) (suspects_of plan lists nets) (suspects_below nets can);
+        below = all_from_has (λ i. i < place_count lists) (suspects_of plan lists nets) (suspects_below nets can);
         complete = λ i single at explains. has_contains (suspects_of plan lists nets) i (is_suspect i single at explains nets differ);
         differing = nets;
         are_differing = differ;

@@ -1,18 +1,17 @@
 -- What rising places that leave out nothing give of a list of places.
 use Rattle.std.proofs.Common.{◌≡◌, ◌⊎◌, inl, inr, ℕ, zero, suc, ◌+◌, ◌-◌, ◌<◌, ◌≤◌, Bool, true, false, cond, List, [], ◌∷◌, ◌++◌, length, Option, Some, None, refl, sym, ap, ◌∙◌, subst, arith, length-append}
-use Rattle.std.specs.Prelude.{slice_get, filter, filter_map, option_and_then, AllPairs}
+use Rattle.std.specs.Prelude.{slice_get, filter, filter_map, option_and_then}
 use Rattle.std.specs.List.{flat_map, cons_option}
 use Rattle.std.proofs.lemmas.Bool.{cases_eq}
 use Rattle.std.proofs.lemmas.List.{length-map}
-use Rattle.std.proofs.lemmas.Option.{slice_get_within, get_or_from_slice_get}
 use Rattle.board_defs.specs.declared.board.RawBoard.{RawBoard}
 use Rattle.board_defs.specs.declared.fault.Single.{Single}
 use Rattle.board_defs.specs.BoardRules.{IsBoard}
 use Rattle.board_defs.specs.Decided.{are_paired}
 use Rattle.board_defs.specs.Faults.{Numbered, covered_nets, tested_pins, stuck_faults, open_faults, short_faults, singles, IsSingle}
 use Rattle.board_defs.specs.Passes.{pairs_within}
-use Rattle.board_defs.proofs.Members.{Has, has_place, has_contains, contains_has}
-use Rattle.board_defs.proofs.Ordered.{InOrder}
+use Rattle.board_defs.proofs.Members.{Has, has_contains, contains_has}
+use Rattle.board_defs.proofs.Ordered.{InOrder, pairs_order}
 use Rattle.board_defs.proofs.SingleFaults.{single_is}
 use Rattle.fault_sim.specs.Places.{placed, pair_places, stuck_places, open_places, short_places, places_of, fault_at}
 use Rattle.fault_sim.specs.Starts.{pairs_before}
@@ -145,17 +144,6 @@ module _ (test : Single → Bool) where
           left_out ne place refl ∙ without ne
           ∙ ap (λ (l : List Single). filter test l) (sym (moved place places first (i ∷ numbers) (λ j has. above_more ne j has)))
 
--- rising places are in order
-in_order : (numbers : List ℕ) → AllPairs (λ i j. i < j) numbers → InOrder (λ (i j : ℕ). i < j) numbers
-in_order [] rising = tt
-in_order (i ∷ numbers) rising =
-    (λ j h. let at = has_place numbers j h in first_below j at.0 at.1, in_order numbers (λ a b d less within. rising (suc a) (suc b) d (omega (arith, less)) (omega (arith, within))))
-  where
-    first_below : (j k : ℕ) → slice_get numbers k ≡ Some j → i < j
-    first_below j k at =
-        let less = rising 0 (suc k) j (omega arith) (omega (arith, slice_get_within numbers k j at)) in
-        omega (arith, less, get_or_from_slice_get numbers k j j at)
-
 from_first : (board : RawBoard) (numbers : List ℕ) → faults_from (places_of board) 0 numbers ≡ filter_map (fault_at board) numbers
 from_first board [] = refl
 from_first board (i ∷ numbers) =
@@ -167,7 +155,7 @@ from_first board (i ∷ numbers) =
 pub suffice : SuspectsSuffice
 suffice board plan lists log suspects rules are test only =
     sym (ap (λ (l : List Single). filter test l) (places_are board))
-    ∙ same_passing test (places_of board) 0 suspects (in_order suspects are.rising) (λ i h. omega arith) complete
+    ∙ same_passing test (places_of board) 0 suspects (pairs_order (λ (i j : ℕ). i < j) suspects are.rising) (λ i h. omega arith) complete
     ∙ ap (λ (l : List Single). filter test l) (from_first board suspects)
   where
     complete : (j : ℕ) (single : Single) → slice_get (places_of board) j ≡ Some (Some single) → test single ≡ true → Has suspects (0 + j)

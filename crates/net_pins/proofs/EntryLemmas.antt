@@ -11,10 +11,10 @@ use Rattle.board_defs.specs.declared.board.RawBoard.{RawBoard}
 use Rattle.board_defs.specs.BoardRules.{IsBoard}
 use Rattle.board_defs.specs.DeviceRules.{is_on, is_receiving, may_receive, reads_bit, IsDevice}
 use Rattle.board_defs.specs.Pins.{device_at, bit_at, cell_count, receives_in, receives_bit}
+use Rattle.board_defs.proofs.BoardLemmas.{device_rules}
 use Rattle.port_entries.specs.Entries.{entries_on, entries_of}
 use Rattle.net_pins.specs.NetCells.{reader_of, readers_in, readers_at}
 use Rattle.net_pins.specs.inner.Receiving.{receives_by}
-use Rattle.net_pins.proofs.PositionLemmas.{rules_of}
 
 -- the entries on a port bit that a test of roles chooses
 filter_on : (roles : Cell → Bool) (k : ℕ) (cells : List Cell) → filter roles (entries_on cells k) ≡ filter (λ cell. is_on k cell.bit && roles cell) cells
@@ -70,5 +70,5 @@ module _ (board : RawBoard) (at : PinAt) where
       by_device : (o : Option RawDevice) → device_at board at.part ≡ o → All (λ cell. cell.num < cell_count o) (entries_of o at.bit)
       by_device None e = λ i d less. absurd (omega (arith, less))
       by_device (Some device) e =
-          let is : IsDevice device = rules_of board rules at.part device e in
+          let is : IsDevice device = device_rules board at.part device rules e in
           All-filter (λ (cell : Cell). is_on at.bit cell.bit) (λ (cell : Cell). cell.num < device.boundary) device.cells is.cells_below

@@ -1,5 +1,5 @@
 -- Where cells stand in a scan of data, and the steps of the loops that gather what pins have.
-use Rattle.std.proofs.Common.{◌≡◌, ℕ, zero, suc, ◌+◌, ◌<◌, ◌≤◌, List, [], ◌∷◌, ◌++◌, length, take, drop, get_or, Option, Some, None, refl, sym, ap, ◌∙◌, subst, arith, append_assoc}
+use Rattle.std.proofs.Common.{◌≡◌, ℕ, zero, suc, ◌+◌, ◌<◌, ◌≤◌, List, [], ◌∷◌, ◌++◌, length, take, drop, get_or, Option, Some, None, refl, sym, ap, ◌∙◌, arith, append_assoc}
 use Rattle.std.specs.Prelude.{option_and_then, slice_get, sum_by}
 use Rattle.std.proofs.lemmas.List.{append-nil, take_more, length-take-le}
 use Rattle.std.proofs.lemmas.List.Sums.{sum_by-cons}
@@ -10,11 +10,11 @@ use Rattle.board_defs.specs.declared.board.PartKind.TheVariants.{Described, Bypa
 use Rattle.board_defs.specs.declared.board.Part.{Part}
 use Rattle.board_defs.specs.declared.board.PinAt.{PinAt}
 use Rattle.board_defs.specs.declared.board.RawBoard.{RawBoard}
-use Rattle.board_defs.specs.BoardRules.{IsBoard, IsPart}
-use Rattle.board_defs.specs.DeviceRules.{IsDevice, driving_entry, drives_bit}
+use Rattle.board_defs.specs.BoardRules.{IsBoard}
+use Rattle.board_defs.specs.DeviceRules.{driving_entry, drives_bit}
 use Rattle.board_defs.specs.Pins.{described, device_at, cell_count, entry_at, data_bits, data_length}
-use Rattle.board_defs.proofs.Members.{find_has, has_place}
-use Rattle.board_defs.proofs.Places.{all_stands}
+use Rattle.board_defs.proofs.BoardLemmas.{device_rules}
+use Rattle.board_defs.proofs.Members.{find_has, has_from_all}
 use Rattle.net_pins.specs.Positions.{first_position, AreFirsts}
 use Rattle.net_pins.specs.NetCells.{gathered}
 
@@ -47,18 +47,6 @@ first_is board firsts are part cell less =
     let next : part + 1 ≡ suc part = omega arith in
     (omega (arith, within, are.count), are.each part within ∙ ap (λ (n : ℕ). bits_of (drop n board.chain)) next)
 
--- a device of the chain keeps the rules of a device
-pub rules_of : (board : RawBoard) → IsBoard board → (part : ℕ) (device : RawDevice) → device_at board part ≡ Some device → IsDevice device
-rules_of board rules part device e = by_there (slice_get board.chain part) refl e
-  where
-    by_kind : (kind : PartKind) → IsPart kind → described kind ≡ Some device → IsDevice device
-    by_kind (Described other) is d = let same : other ≡ device = cc d in subst (λ (x : RawDevice). IsDevice x) same is
-    by_kind (Bypass n) is d = cc d
-
-    by_there : (o : Option Part) → slice_get board.chain part ≡ o → option_and_then (λ (p : Part). described p.kind) o ≡ Some device → IsDevice device
-    by_there None k d = cc d
-    by_there (Some p) k d = by_kind p.kind (all_stands (λ (q : Part). IsPart q.kind) board.chain part p k rules.parts) d
-
 -- a driving entry's cell
 pub entry_below : (board : RawBoard) → IsBoard board → (at : PinAt) (cell : Cell) → entry_at board at ≡ Some cell → cell.num < cell_count (device_at board at.part)
 entry_below board rules at cell e = by_device (device_at board at.part) refl e
@@ -66,9 +54,7 @@ entry_below board rules at cell e = by_device (device_at board at.part) refl e
     by_device : (o : Option RawDevice) → device_at board at.part ≡ o → option_and_then (λ d. driving_entry d at.bit) o ≡ Some cell → cell.num < cell_count o
     by_device None d f = cc f
     by_device (Some device) d f =
-        let has = find_has (drives_bit at.bit) device.cells cell f in
-        let place = has_place device.cells cell has.0 in
-        all_stands (λ (c : Cell). c.num < device.boundary) device.cells place.0 cell place.1 (rules_of board rules at.part device d).cells_below
+        has_from_all (λ (c : Cell). c.num < device.boundary) device.cells cell (device_rules board at.part device rules d).cells_below (find_has (drives_bit at.bit) device.cells cell f).0
 
 -- one item more is looked at
 gathered-append : {X Y : Type 0} (f : ℕ → X → List Y) (k : ℕ) (xs : List X) (x : X) (n : ℕ) → n ≡ k + length xs → gathered f k (xs ++ x ∷ []) ≡ gathered f k xs ++ f n x

@@ -1,13 +1,8 @@
 -- The items of a list.
 use Rattle.std.proofs.Common.{◌≡◌, ℕ, List, [], map, get_or, Some, ap, ◌∙◌}
-use Rattle.std.specs.Prelude.{slice_get, All}
+use Rattle.std.specs.Prelude.{slice_get}
 use Rattle.std.proofs.lemmas.List.{get_or-map}
-use Rattle.std.proofs.lemmas.Option.{slice_get-get_or, slice_get_within, get_or_from_slice_get}
-use Rattle.board_defs.proofs.Members.{Has, has_at}
-
--- what holds of each item of a list
-pub all_has : {X : Type 0} (P : X → Type 0) (xs : List X) → ((x : X) → Has xs x → P x) → All P xs
-all_has P xs each k d less = each (get_or xs k d) (has_at xs k (get_or xs k d) (slice_get-get_or xs k d less))
+use Rattle.std.proofs.lemmas.Option.{slice_get_within, get_or_from_slice_get}
 
 -- the row of an item, in a list that has a row for each
 pub row_is : {X Y : Type 0} (f : X → List Y) (xs : List X) (rows : List (List Y)) (k : ℕ) (x : X) → rows ≡ map f xs → slice_get xs k ≡ Some x → get_or rows k [] ≡ f x

@@ -7,13 +7,12 @@ use Rattle.board_defs.specs.declared.board.Net.{Net}
 use Rattle.board_defs.specs.declared.board.RawBoard.{RawBoard}
 use Rattle.board_defs.specs.BoardRules.{IsBoard}
 use Rattle.board_defs.specs.Pins.{data_bits}
-use Rattle.board_defs.proofs.Members.{Has, has_place, contains_has}
+use Rattle.board_defs.proofs.Members.{Has, has_place, contains_has, all_from_has}
 use Rattle.net_pins.specs.declared.nets.ReaderCell.{ReaderCell}
 use Rattle.plan_tables.specs.Tables.{IsReaderCell}
 use Rattle.plan_tables.specs.inner.Laid.{steady}
 use Rattle.plan_tables.proofs.LaidLemmas.{laid_at}
 use Rattle.plan_tables.proofs.PinLemmas.{read_at}
-use Rattle.plan_tables.proofs.ListLemmas.{all_has}
 
 -- tables of readers
 abbrev pub ReadersOf : RawBoard → List (List ReaderCell) → Type 0
@@ -32,4 +31,4 @@ readers_below board rules readers are long k d less =
     let net = item_there board.nets k (omega (arith, less, long)) in
     let same : get_or readers k [] ≡ get_or readers k d = get_or_from_slice_get readers k (get_or readers k d) [] (slice_get-get_or readers k d less) in
     subst (λ (l : List ReaderCell). All (λ r. r.position < data_bits board) l) same
-    (all_has (λ r. r.position < data_bits board) (get_or readers k []) (λ r has. reader_within board rules net.0 r ((are k net.0 net.1).0 r has)))
+    (all_from_has (λ r. r.position < data_bits board) (get_or readers k []) (λ r has. reader_within board rules net.0 r ((are k net.0 net.1).0 r has)))

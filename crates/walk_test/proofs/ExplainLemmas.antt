@@ -10,7 +10,7 @@ use Rattle.board_defs.specs.BoardRules.{IsBoard}
 use Rattle.board_defs.specs.Coverage.{IsCovered}
 use Rattle.board_defs.specs.Pins.{data_bits}
 use Rattle.board_defs.specs.Settings.{holds, IsSafe}
-use Rattle.board_defs.proofs.Members.{Has, has_at, contains_has}
+use Rattle.board_defs.proofs.Members.{Has, has_at, contains_has, has_from_all}
 use Rattle.board_defs.proofs.Places.{all_stands}
 use Rattle.tap_defs.specs.board.FaultSet.{FaultSet, IsFaultSet}
 use Rattle.tap_defs.specs.chain.Run.{Choice}
@@ -30,7 +30,7 @@ use Rattle.walk_test.specs.WalkTest.{walk_setting, walk_nets}
 use Rattle.walk_test.specs.Groups.{AreGroups, group_of, or_shorts}
 use Rattle.walk_test.specs.inner.Reading.{are_joined}
 use Rattle.walk_test.specs.Tables.{mask_of}
-use Rattle.walk_test.proofs.GroupLemmas.{Rises, AreOrdered, groups_ordered, all_of, group_found, group_is}
+use Rattle.walk_test.proofs.GroupLemmas.{Rises, AreOrdered, groups_ordered, group_found, group_is}
 use Rattle.walk_test.proofs.CellLemmas.{IsWalkSetting, WalkedBy, compared_of, captured_is, cell_is}
 use Rattle.walk_test.proofs.NetLemmas.{walk_has, count_is, marked_is, no_nets}
 use Rattle.walk_test.proofs.RowLemmas.{CellsOf, ComparedAt, compared_at, laid_here, mask_here}
@@ -43,8 +43,8 @@ walked_covered board walk n safe w = (holds walk, safe, (w.net, w.is_net, (w.dri
 pub group_nets : (board : RawBoard) (groups : List (List ℕ)) → AreGroups board groups → (n k : ℕ) → group_of groups n ≡ Some k → Contains (walk_nets board) n
 group_nets board groups are n k e =
     let g = group_found 0 groups n k e in
-    all_of (λ (m : ℕ). Contains (walk_nets board) m) g.group n
-    (all_of (λ (group : List ℕ). All (λ m. Contains (walk_nets board) m) group) groups g.group are.walked (has_at groups g.index g.group g.stands)) g.member
+    has_from_all (λ (m : ℕ). Contains (walk_nets board) m) g.group n
+    (has_from_all (λ (group : List ℕ). All (λ m. Contains (walk_nets board) m) group) groups g.group are.walked (has_at groups g.index g.group g.stands)) g.member
 
 -- a group has another net
 pub another : (group : List ℕ) (n : ℕ) → 2 ≤ length group → Rises group → (m : ℕ) × Has group m × (m ≢ n)

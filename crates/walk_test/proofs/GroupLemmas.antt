@@ -1,37 +1,18 @@
 -- Groups as lists: who is together in one, and that this says which list they are.
-use Rattle.std.proofs.Common.{◌≡◌, ◌⊎◌, inl, inr, ℕ, zero, suc, ◌+◌, ◌<◌, ◌≤◌, ◌==◌, Bool, true, false, cond, List, [], ◌∷◌, length, get_or, Option, Some, None, refl, sym, ◌∙◌, ap, subst, arith}
-use Rattle.std.specs.Prelude.{slice_get, All, AllPairs, Contains}
+use Rattle.std.proofs.Common.{◌≡◌, ◌⊎◌, inl, inr, ℕ, zero, suc, ◌+◌, ◌<◌, ◌≤◌, ◌==◌, Bool, true, false, cond, List, [], ◌∷◌, length, Option, Some, None, refl, sym, ◌∙◌, ap, subst, arith}
+use Rattle.std.specs.Prelude.{slice_get, Contains}
 use Rattle.std.specs.List.{list_any}
 use Rattle.std.specs.Cmp.{both_ways as same_answer}
 use Rattle.std.proofs.lemmas.Bool.{eqb-true, eq-eqb, or_cases, or_left, or_right}
-use Rattle.std.proofs.lemmas.Option.{slice_get_within, slice_get-get_or, get_or_from_slice_get}
 use Rattle.board_defs.specs.declared.board.RawBoard.{RawBoard}
-use Rattle.board_defs.proofs.Members.{Has, has_at, has_place, any_has, has_any, has_contains}
-use Rattle.board_defs.proofs.Ordered.{InOrder}
-use Rattle.board_defs.proofs.Places.{all_stands}
+use Rattle.board_defs.proofs.Members.{Has, has_at, has_place, any_has, has_any, has_contains, has_from_all}
+use Rattle.board_defs.proofs.Ordered.{InOrder, pairs_order}
 use Rattle.tap_defs.proofs.chain.ListLemmas.{cons_path}
 use Rattle.walk_test.specs.Groups.{Rise, least_of, AreGroups, group_from, group_of}
 use Rattle.walk_test.specs.inner.Reading.{is_one_group, are_joined}
 
 abbrev pub Rises : List ℕ → Type 0
 Rises xs = InOrder (λ a b. a < b) xs
-
--- an order of pairs of places is one of items
-pub pairs_order : {X : Type 0} (R : X → X → Type 0) (xs : List X) → AllPairs R xs → InOrder R xs
-pairs_order R [] pairs = tt
-pairs_order {X} R (x ∷ xs) pairs =
-    (λ y has. let at = has_place xs y has in before y at.0 at.1, pairs_order R xs (λ i j d less within. pairs (suc i) (suc j) d (omega (arith, less)) (omega (arith, within))))
-  where
-    before : (y : X) (k : ℕ) → slice_get xs k ≡ Some y → R x y
-    before y k at = subst (λ (z : X). R x z) (get_or_from_slice_get xs k y y at) (pairs 0 (suc k) y (omega arith) (omega (arith, slice_get_within xs k y at)))
-
--- what holds of all items holds of each
-pub all_of : {X : Type 0} (P : X → Type 0) (xs : List X) (x : X) → All P xs → Has xs x → P x
-all_of P xs x all has = let at = has_place xs x has in all_stands P xs at.0 x at.1 all
-
--- and the other way
-pub all_from_has : {X : Type 0} (P : X → Type 0) (xs : List X) → ((x : X) → Has xs x → P x) → All P xs
-all_from_has P xs each k d less = each (get_or xs k d) (has_at xs k (get_or xs k d) (slice_get-get_or xs k d less))
 
 -- rising numbers
 le_first : (x : ℕ) (xs : List ℕ) (y : ℕ) → Rises (x ∷ xs) → Has (x ∷ xs) y → x ≤ y
@@ -93,8 +74,8 @@ apart_of (group ∷ groups) p = (λ other has n a b. p.0 other has n (has_contai
 
 pub groups_ordered : (board : RawBoard) (groups : List (List ℕ)) → AreGroups board groups → AreOrdered groups
 groups_ordered board groups are = record {
-  several = λ group has. all_of (λ (g : List ℕ). 2 ≤ length g) groups group are.several has;
-  rise = λ group has. pairs_order (λ a b. a < b) group (all_of Rise groups group are.rise has);
+  several = λ group has. has_from_all (λ (g : List ℕ). 2 ≤ length g) groups group are.several has;
+  rise = λ group has. pairs_order (λ a b. a < b) group (has_from_all Rise groups group are.rise has);
   apart = apart_of groups (pairs_order (λ one other. (n : ℕ) → Contains one n → Contains other n → ⊥) groups are.disjoint);
   order = pairs_order Before groups are.order;
 }

@@ -11,15 +11,15 @@ use Rattle.std.proofs.lemmas.Option.{slice_get_within, slice_get-get_or, slice_g
 use Rattle.lists.proofs.ListLemmas.{range_with_len_more}
 use Rattle.board_defs.specs.declared.board.RawBoard.{RawBoard}
 use Rattle.board_defs.specs.Pins.{is_same}
-use Rattle.board_defs.proofs.Members.{Has, has_at, has_contains, contains_has, has_flat_map, flat_map_has, has_range, all_has}
-use Rattle.board_defs.proofs.Ordered.{InOrder, order_pairs, order_flat_map, order_range}
+use Rattle.board_defs.proofs.Members.{Has, has_at, has_contains, contains_has, has_flat_map, flat_map_has, has_range, all_has, all_from_has}
+use Rattle.board_defs.proofs.Ordered.{InOrder, order_pairs, order_flat_map, order_range, pairs_order}
 use Rattle.board_defs.proofs.Places.{all_from}
 use Rattle.board_defs.proofs.SameBits.{same_of_is_same, is_same_of_same}
 use Rattle.walk_test.specs.declared.tables.NetCells.{NetCells}
 use Rattle.walk_test.specs.WalkTest.{walk_nets}
 use Rattle.walk_test.specs.Groups.{Rise, least_of, AreGroups}
 use Rattle.walk_test.specs.inner.Reading.{are_joined, bit_in, first_one, label_of, net_shows, ShowsIn, ShowsAll, members, group_at, groups_by}
-use Rattle.walk_test.proofs.GroupLemmas.{Rises, pairs_order, all_from_has, least_has, least_le, Before, AreOrdered, Together, joined_cases, joined_self, joined_in}
+use Rattle.walk_test.proofs.GroupLemmas.{Rises, least_has, least_le, Before, AreOrdered, Together, joined_cases, joined_self, joined_in}
 
 -- the first row with a 1 at a position
 pub first_low : (log : List (List Bool)) (at j : ℕ) → bit_in log j at ≡ true → first_one log at ≤ j

@@ -9,7 +9,7 @@ use Rattle.board_defs.specs.declared.board.RawBoard.{RawBoard}
 use Rattle.board_defs.specs.declared.board.Ctl.{Ctl}
 use Rattle.board_defs.specs.BoardRules.{IsBoard}
 use Rattle.board_defs.specs.Settings.{holds, IsSafe}
-use Rattle.board_defs.proofs.Members.{Has, has_at, has_place, has_contains, contains_has}
+use Rattle.board_defs.proofs.Members.{Has, has_at, has_place, has_contains, contains_has, has_from_all}
 use Rattle.tap_defs.specs.board.BoardScans.{RowScan, scan_of_row, board_scans, pass_scans, is_walked, walk_row, walk_row_scans, pass_text, walk_text}
 use Rattle.tap_defs.specs.board.BoardTest.{IsHarmless}
 use Rattle.tap_defs.specs.board.Explaining.{compared_scans, CompareRows, HasShape, ExplainedBy, AreInTurn, IsCapturedBy}
@@ -22,7 +22,7 @@ use Rattle.walk_test.specs.Groups.{AreGroups, group_of, or_shorts, Explain}
 use Rattle.walk_test.specs.inner.Reading.{are_joined}
 use Rattle.walk_test.specs.Tables.{AreNetCells, rows_count, scan_count}
 use Rattle.walk_test.specs.Laws.{WalkSafe, WalkHarmless, ShortsAreFaults, OneSet, ScansCounted}
-use Rattle.walk_test.proofs.GroupLemmas.{AreOrdered, groups_ordered, all_of, Together, joined_cases, joined_in, one_list}
+use Rattle.walk_test.proofs.GroupLemmas.{AreOrdered, groups_ordered, Together, joined_cases, joined_in, one_list}
 use Rattle.walk_test.proofs.SettingLemmas.{none_switches}
 use Rattle.walk_test.proofs.CellLemmas.{IsWalkSetting}
 use Rattle.walk_test.proofs.NetLemmas.{walk_has, count_is, no_nets}
@@ -78,7 +78,7 @@ no_groups board [] none are = refl
 no_groups board (group ∷ groups) none are =
     let ordered = groups_ordered board (group ∷ groups) are in
     let least = Rattle.walk_test.proofs.GroupLemmas.least_has group (ordered.several group (inl refl)) in
-    let walked = all_of (λ (n : ℕ). Contains (walk_nets board) n) group _ (all_of (λ (g : List ℕ). Rattle.std.specs.Prelude.All (λ n. Contains (walk_nets board) n) g) (group ∷ groups) group are.walked (inl refl)) least in
+    let walked = has_from_all (λ (n : ℕ). Contains (walk_nets board) n) group _ (has_from_all (λ (g : List ℕ). Rattle.std.specs.Prelude.All (λ n. Contains (walk_nets board) n) g) (group ∷ groups) group are.walked (inl refl)) least in
     absurd (contains_has [] _ (subst (λ (l : List ℕ). Contains l (Rattle.walk_test.specs.Groups.least_of group)) (no_nets board none) walked))
 
 module _ (safe : WalkSafe) (by_rows : (board : RawBoard) (faults : FaultSet) (scans : List RowScan) (log : List (List Bool)) → IsBoard board → AreInTurn board scans → ExplainedBy board faults scans log ↔ (HasShape board scans log × IsCapturedBy board faults scans log))
@@ -118,8 +118,8 @@ module _ (safe : WalkSafe) (by_rows : (board : RawBoard) (faults : FaultSet) (sc
 
     net_of : (list : List (List ℕ)) → AreGroups board list → (a b : ℕ) → Together list a b → Contains (walk_nets board) a × Contains (walk_nets board) b
     net_of list are a b (group, has, in_a, in_b) =
-        let all = all_of (λ (g : List ℕ). Rattle.std.specs.Prelude.All (λ n. Contains (walk_nets board) n) g) list group are.walked has in
-        (all_of (λ (n : ℕ). Contains (walk_nets board) n) group a all in_a, all_of (λ (n : ℕ). Contains (walk_nets board) n) group b all in_b)
+        let all = has_from_all (λ (g : List ℕ). Rattle.std.specs.Prelude.All (λ n. Contains (walk_nets board) n) g) list group are.walked has in
+        (has_from_all (λ (n : ℕ). Contains (walk_nets board) n) group a all in_a, has_from_all (λ (n : ℕ). Contains (walk_nets board) n) group b all in_b)
 
   together_in : (board : RawBoard) (list other : List (List ℕ)) → AreGroups board list → ((a b : ℕ) → Contains (walk_nets board) a → Contains (walk_nets board) b → are_joined list a b ≡ are_joined other a b) →
       ((a b : ℕ) → Together list a b → Contains (walk_nets board) a × Contains (walk_nets board) b) → (a b : ℕ) → Together list a b → Together other a b

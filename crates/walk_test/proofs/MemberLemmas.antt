@@ -3,12 +3,11 @@ use Rattle.std.proofs.Common.{◌≡◌, ℕ, zero, suc, ◌+◌, ◌<◌, ◌==
 use Rattle.std.specs.Prelude.{slice_get, All}
 use Rattle.std.specs.List.{flat_map, range_with_len}
 use Rattle.std.proofs.lemmas.Bool.{eq-eqb, ne_eqb}
-use Rattle.board_defs.proofs.Members.{map_has}
+use Rattle.board_defs.proofs.Members.{map_has, all_from_has}
 use Rattle.tap_defs.proofs.chain.ListLemmas.{cons_path}
 use Rattle.lists.specs.Rows.{noted}
 use Rattle.walk_test.specs.Groups.{Rise}
 use Rattle.walk_test.specs.inner.Reading.{members, where_several, group_at, groups_by}
-use Rattle.walk_test.proofs.GroupLemmas.{all_from_has}
 use Rattle.walk_test.proofs.LabelLemmas.{members_more, rise_members}
 
 -- lists by numbers, of which number l has an item more

@@ -7,7 +7,7 @@ use Rattle.std.proofs.lemmas.Bool.{and_from, and_parts, cases_lt, eqb-true, eq-e
 use Rattle.std.proofs.lemmas.List.{get_or-replicate, get_or_past, length-replicate, take_more}
 use Rattle.std.proofs.lemmas.List.Sums.{fold-append}
 use Rattle.std.proofs.lemmas.Option.{slice_get_within, slice_get-get_or, get_or_from_slice_get}
-use Rattle.board_defs.proofs.Members.{Has, has_at, has_place, has_contains, contains_has, all_has, has_flat_map, flat_map_has}
+use Rattle.board_defs.proofs.Members.{Has, has_at, has_place, has_contains, contains_has, all_has, has_flat_map, flat_map_has, has_from_all}
 use Rattle.board_defs.proofs.Places.{all_from}
 use Rattle.plan_tables.specs.Assigned.{assigned}
 use Rattle.plan_tables.proofs.AssignLemmas.{assigned_groups, has_mark, length-assigned, mark_has}
@@ -15,7 +15,6 @@ use Rattle.tap_defs.proofs.chain.ListLemmas.{cons_path}
 use Rattle.response_log.specs.LogRows.{HasSize}
 use Rattle.walk_test.specs.declared.tables.NetCells.{NetCells}
 use Rattle.walk_test.specs.inner.Reading.{bit_in, compared_bits, with_compared, first_one, label_of, logged_nets, first_at, first_in, is_even, below, AreCompared, AreLoggedNets, HasPlaces, AreSameRows, StartsGroup, AreStarted, IsRowRight, AreRead, ShowsAll}
-use Rattle.walk_test.proofs.GroupLemmas.{all_of}
 use Rattle.walk_test.proofs.LabelLemmas.{first_low, first_holds, first_same, label_is, first_compared, each_shows, shows_each}
 
 -- a row that is kept where it is below another
@@ -68,11 +67,11 @@ module _ (len : ℕ) (nets : List NetCells) where
     all = λ i at net e contains.
         let has = contains_has net.compared at contains in
         let in_nets = has_at nets i net e in
-        let less = all_of (λ p. p < len) net.compared at (all_of (HasPlaces len) nets net places in_nets).within has in
+        let less = has_from_all (λ p. p < len) net.compared at (has_from_all (HasPlaces len) nets net places in_nets).within has in
         ap (λ (l : List Bool). get_or l at false) (is ∙ bits_are)
         ∙ has_mark (λ at. at) (flat_map (λ (n : NetCells). n.compared) nets) (replicate len false) at (has_flat_map (λ (n : NetCells). n.compared) nets net at in_nets has) (omega (arith, less, length-replicate len false));
     only = λ at on. by_mark at (mark_has (λ at. at) (flat_map (λ (n : NetCells). n.compared) nets) (replicate len false) at (sym (ap (λ (l : List Bool). get_or l at false) (is ∙ bits_are)) ∙ on));
-    some = λ i net e. (all_of (HasPlaces len) nets net places (has_at nets i net e)).some;
+    some = λ i net e. (has_from_all (HasPlaces len) nets net places (has_at nets i net e)).some;
   }
     where
       off : (at : ℕ) → get_or (replicate len false) at false ≡ false

@@ -15,7 +15,7 @@ use Rattle.board_defs.specs.declared.board.Ctl.{Ctl}
 use Rattle.board_defs.specs.BoardRules.{IsBoard}
 use Rattle.board_defs.specs.Pins.{data_bits}
 use Rattle.board_defs.specs.Settings.{holds, IsSafe}
-use Rattle.board_defs.proofs.Members.{Has, has_at, has_place, has_contains, contains_has}
+use Rattle.board_defs.proofs.Members.{Has, has_at, has_place, has_contains, contains_has, has_from_all, all_from_has}
 use Rattle.board_defs.proofs.Ordered.{order_pairs}
 use Rattle.tap_defs.specs.board.BoardScans.{RowScan, board_scans, is_walked, walk_row, walk_row_scans}
 use Rattle.tap_defs.specs.board.Explaining.{is_compared, compared_scans, CompareRows, HasShape, ExplainedBy, AreInTurn, IsCapturedBy}
@@ -34,7 +34,7 @@ use Rattle.walk_test.specs.Groups.{Rise, AreGroups, or_shorts, Explain, AreFound
 use Rattle.walk_test.specs.inner.Reading.{are_joined, bit_in, label_of, HasPlaces, LoggedNets, ShowsAll, groups_by}
 use Rattle.walk_test.specs.Tables.{AreNetCells, AreWalkTables, IsWalkOf}
 use Rattle.walk_test.specs.Laws.{WalkSafe}
-use Rattle.walk_test.proofs.GroupLemmas.{AreOrdered, groups_ordered, all_of, all_from_has, joined_self, joined_same, joined_by}
+use Rattle.walk_test.proofs.GroupLemmas.{AreOrdered, groups_ordered, joined_self, joined_same, joined_by}
 use Rattle.walk_test.proofs.CellLemmas.{IsWalkSetting, WalkedBy}
 use Rattle.walk_test.proofs.NetLemmas.{walk_has, place_of_walk, count_is, nets_rise, no_nets}
 use Rattle.walk_test.proofs.RowLemmas.{CellsOf, one_driver, laid_here, cells_there}
@@ -241,8 +241,8 @@ found_named board log None h = tt
 found_named board log (Some groups) h =
     all_from_has (IsNamed board) groups
     (λ g has.
-    let walked = all_of (λ (x : List ℕ). All (λ n. Contains (walk_nets board) n) x) groups g h.are.walked has in
-    all_from_has (λ (n : ℕ). n < length board.nets) g (λ n in_g. below n (all_of (λ (m : ℕ). Contains (walk_nets board) m) g n walked in_g)))
+    let walked = has_from_all (λ (x : List ℕ). All (λ n. Contains (walk_nets board) n) x) groups g h.are.walked has in
+    all_from_has (λ (n : ℕ). n < length board.nets) g (λ n in_g. below n (has_from_all (λ (m : ℕ). Contains (walk_nets board) m) g n walked in_g)))
   where
     below : (n : ℕ) → Contains (walk_nets board) n → n < length board.nets
     below n has = by_setting (walk_setting board) refl

@@ -25,7 +25,7 @@ use Rattle.board_defs.specs.Decided.{is_by, is_useful, is_safe_alone, tests_by, 
 use Rattle.board_defs.specs.Passes.{all_cells, useful_controls, tested_drivers, drivers_by_net, with_driver, fits, is_new, walk, first_walk, driver_pass, add_for_driver, driver_passes, are_shown, pairs_of, pairs_within, first_pair, pair_pass, with_pair, add_for_nets, passes_of, ArePasses}
 use Rattle.board_defs.proofs.ControlOrder.{same_equal, same_refl}
 use Rattle.board_defs.proofs.Members.{Has, has_at, has_append, has_any, filter_has, flat_map_has, map_has, find_has, Apart as PairApart, pairs_within_has}
-use Rattle.board_defs.proofs.Ordered.{order_filter, order_pairs}
+use Rattle.board_defs.proofs.Ordered.{order_filter, order_pairs, pairs_order}
 use Rattle.board_defs.proofs.Pairwise.{safe_within}
 use Rattle.board_defs.proofs.PassSettings.{holds_inserted}
 use Rattle.board_defs.proofs.PassesKept.{Tested, tested_has, tested_can_drive, fold_keeps}
@@ -34,7 +34,6 @@ use Rattle.scan_planner.specs.Laws.{PlansUseful}
 use Rattle.scan_planner.specs.Plans.{ArePlannable}
 use Rattle.walk_test.specs.WalkTest.{is_switched_by, switches_some, without_switching, walk_setting}
 use Rattle.walk_test.specs.inner.Setting.{own_switch, entry_switch, pin_switch, with_some, with_pins, with_net, all_switching}
-use Rattle.walk_test.proofs.GroupLemmas.{pairs_order}
 
 -- the controls of switching drivers
 abbrev is_ctl : Option Ctl → Ctl → Bool

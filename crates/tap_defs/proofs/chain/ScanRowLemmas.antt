@@ -1,20 +1,11 @@
 -- What is known of rows that have the bits of a scan.
-use Rattle.std.proofs.Common.{◌≡◌, ℕ, zero, suc, ◌≤◌, Bool, true, false, List, [], ◌∷◌, length, get_or, Option, None, Some, is_some, unwrap_or, refl, sym, ap, ◌∙◌, arith}
+use Rattle.std.proofs.Common.{◌≡◌, ℕ, ◌≤◌, Bool, true, false, List, length, get_or, is_some, unwrap_or, sym, ap, ◌∙◌, arith}
 use Rattle.std.proofs.lemmas.List.{length-map}
 use Rattle.tap_defs.specs.declared.scan.ScanRows.{ScanRows}
 use Rattle.tap_defs.specs.declared.scan.StoredRows.{StoredRows}
-use Rattle.tap_defs.specs.chain.Scan.{ScanBit, scan_bits, tdi_bits, tdo_bits, mask_bits}
+use Rattle.tap_defs.specs.chain.Scan.{ScanBit, scan_bits, tdi_bits, tdo_bits}
 use Rattle.tap_defs.specs.chain.ScanRows.{AreBitsOf, AreRowsOf, EachHasRoom, HaveRoomFor}
-use Rattle.tap_defs.proofs.chain.RowLemmas.{scan_bits-rows}
-
-one_expected : (expect : Option Bool) → unwrap_or expect false ≡ true → is_some expect ≡ true
-one_expected None one = one
-one_expected (Some o) one = refl
-
-one_compared : (bits : List ScanBit) (i : ℕ) → get_or (tdo_bits bits) i false ≡ true → get_or (mask_bits bits) i false ≡ true
-one_compared [] i one = one
-one_compared (b ∷ bits) zero one = one_expected b.expect one
-one_compared (b ∷ bits) (suc i) one = one_compared bits i one
+use Rattle.tap_defs.proofs.chain.RowLemmas.{one_masked, scan_bits-rows}
 
 module _ {bits : List ScanBit} {shifted expected marks : List Bool} (are : AreBitsOf bits shifted expected marks) where
   -- they make the scan
@@ -44,7 +35,7 @@ module _ {bits : List ScanBit} {shifted expected marks : List Bool} (are : AreBi
 
   -- a 1 is expected only where it is compared
   pub rows_masked : (i : ℕ) → get_or expected i false ≡ true → get_or marks i false ≡ true
-  rows_masked i one = ap (λ (l : List Bool). get_or l i false) are.mask ∙ one_compared bits i (sym (ap (λ (l : List Bool). get_or l i false) are.tdo) ∙ one)
+  rows_masked i one = ap (λ (l : List Bool). get_or l i false) are.mask ∙ one_masked bits i (sym (ap (λ (l : List Bool). get_or l i false) are.tdo) ∙ one)
 
 -- room of one kind is room of another
 pub each_room : {Fits Holds : ℕ → Type 0} {rows : ScanRows} → ((room : ℕ) → Fits room → Holds room) → EachHasRoom Fits rows → EachHasRoom Holds rows
