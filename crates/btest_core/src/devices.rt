@@ -89,7 +89,7 @@ fn earlier(chosen: &[(u32, Option<&[u8]>)], i: usize) -> Option<usize>
     None
 }
 
-// The device of the choice at place `i`, after the devices of the choices before it: a copy of one of these, where the choice is the
+// The device of the choice at place `i`, given the devices of the choices before it: a copy of one of these, where the choice is the
 // same.
 fn next_device(
     alloc: Global,

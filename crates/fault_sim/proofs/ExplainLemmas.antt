@@ -34,8 +34,7 @@ use Rattle.scan_planner.specs.Plans.{IsPlanOf}
 use Rattle.fault_sim.specs.declared.effect.Effect.{Effect}
 use Rattle.fault_sim.specs.declared.effect.Effect.TheVariants.{Plain, Constant}
 use Rattle.fault_sim.specs.declared.fault_lists.FaultLists.{FaultLists}
-use Rattle.fault_sim.specs.Effects.{driver_in, place_of_driver, readers_in, code_in, open_effect, effect_of_short, effect_of, pull_in}
-use Rattle.fault_sim.specs.inner.Effects.{first_net, second_net}
+use Rattle.fault_sim.specs.Effects.{driver_in, place_of_driver, readers_in, code_in, open_effect, effect_of_short, effect_of, pull_in, first_net, second_net}
 use Rattle.fault_sim.specs.Fits.{ShowBy, Shows, ShowsOn, ShowsOwn, ShowsAll}
 use Rattle.fault_sim.specs.inner.Tested.{paired_in, coded_nets}
 use Rattle.fault_sim.specs.Places.{placed, number_places, listed_places, place_count, places_of, IsUniverse}

@@ -16,13 +16,6 @@ use Rattle.fault_sim.specs.Kept.{AreDrivers, AreRows, IsRow, KeepDrivers, KeepRo
 use Rattle.fault_sim.specs.inner.Kept.{drivers_of, feed_of, is_code, kept_drivers, kept_rows, observes_coded, rows_of}
 use Rattle.fault_sim.specs.inner.Tested.{observes_by, observes_in, paired_in}
 
--- where nothing is kept, what is kept is right
-pub no_rows : (board : RawBoard) (plan : PlanTables) → KeepRows board plan []
-no_rows board plan x pass at = cc at
-
-pub no_drivers : (plan : PlanTables) → KeepDrivers plan []
-no_drivers plan x pass at = cc at
-
 -- what is kept of a pass is right
 pub drivers_kept : (plan : PlanTables) (kept : List KeptPass) → KeepDrivers plan kept → (x : ℕ) → AreDrivers plan (get_or plan.passes x []) (kept_drivers kept x)
 drivers_kept plan kept keep x n driver = by_pass (slice_get kept x) refl

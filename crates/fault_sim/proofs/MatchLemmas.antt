@@ -16,7 +16,8 @@ use Rattle.tap_defs.specs.board.Explaining.{CompareRows, HasShape, Explains, IsE
 use Rattle.tap_defs.specs.board.SingleBits.{single_bit}
 use Rattle.plan_tables.specs.declared.tables.PlanTables.{PlanTables}
 use Rattle.scan_planner.specs.Plans.{IsPlanOf}
-use Rattle.fault_sim.specs.inner.Effects.{fault_bit, first_net, second_net}
+use Rattle.fault_sim.specs.Effects.{first_net, second_net}
+use Rattle.fault_sim.specs.inner.Effects.{fault_bit}
 use Rattle.fault_sim.specs.Fits.{ShowsAll}
 use Rattle.fault_sim.proofs.EffectLemmas.{IsFault}
 use Rattle.fault_sim.proofs.ShowLemmas.{bits_shown, all_shown}

@@ -1,5 +1,5 @@
 -- What a pass of a log shows of a net of a fault that explains the log.
-use Rattle.std.proofs.Common.{◌≡◌, ◌⊎◌, inl, inr, ℕ, ◌+◌, ◌*◌, ◌<◌, ◌==◌, ltb, Bool, true, false, not, ◌&&◌, ◌||◌, List, [], ◌∷◌, length, Option, Some, None, refl, sym, ◌∙◌, arith}
+use Rattle.std.proofs.Common.{◌≡◌, ◌⊎◌, inl, inr, ℕ, ◌+◌, ◌<◌, ◌==◌, ltb, Bool, true, false, not, ◌&&◌, ◌||◌, List, [], ◌∷◌, length, Option, Some, None, refl, sym, ◌∙◌, arith}
 use Rattle.std.specs.List.{list_all, list_any}
 use Rattle.std.proofs.lemmas.Bool.{and_parts, both_ways, ltb-true}
 use Rattle.board_defs.specs.declared.fault.Single.{Single}
@@ -10,20 +10,20 @@ use Rattle.net_pins.specs.declared.nets.ReaderCell.{ReaderCell}
 use Rattle.fault_sim.specs.declared.effect.Effect.{Effect}
 use Rattle.fault_sim.specs.declared.shown.ShownWords.{ShownWords}
 use Rattle.fault_sim.specs.declared.words.FedWords.{FedWords}
-use Rattle.fault_sim.specs.Effects.{code_in, driver_in, effect_bit, effect_in, place_of_driver, readers_in}
+use Rattle.fault_sim.specs.Effects.{code_in, driver_in, effect_bit, effect_in, first_net, place_of_driver, second_net}
 use Rattle.fault_sim.specs.Fits.{ShowBy, ShowsAll, bit_in, cell_shows}
 use Rattle.fault_sim.specs.Planned.{NetInPass, controls_in}
-use Rattle.fault_sim.specs.inner.Effects.{first_net, second_net}
+use Rattle.fault_sim.specs.inner.NetRows.{RowsOfNet, net_rows_in}
 use Rattle.fault_sim.specs.inner.Telling.{IsTellingNet, IsWordOn}
 use Rattle.fault_sim.specs.inner.Words.{AgreesWith, AreRowsOf, AreShown, shows_beside, some_shows, word_bit}
 use Rattle.fault_sim.proofs.MatchLemmas.{nets_there}
 
 -- a row that is on among those in which some cell has a bit is one of the pass, and some cell has the bit in it
-row_there : (log : List (List Bool)) (first width : ℕ) (bit : Bool) (readers : List ReaderCell) (driver : Option ℕ) (word : ℕ) → AreRowsOf log first width bit readers driver word →
-    (j : ℕ) → j < 32 → word_bit word j ≡ true → (j < width) × (some_shows log (first + j) bit readers driver ≡ true)
-row_there log first width bit readers driver word are j less on =
-    let parts = and_parts (ltb j width) (some_shows log (first + j) bit readers driver) (sym (are j less) ∙ on) in
-    (ltb-true j width parts.0, parts.1)
+row_there : (rows : RowsOfNet) (bit : Bool) (driver : Option ℕ) (word : ℕ) → AreRowsOf rows bit driver word → (j : ℕ) → j < 32 → word_bit word j ≡ true →
+    (j < rows.width) × (some_shows rows.log (rows.first + j) bit rows.readers driver ≡ true)
+row_there rows bit driver word are j less on =
+    let parts = and_parts (ltb j rows.width) (some_shows rows.log (rows.first + j) bit rows.readers driver) (sym (are j less) ∙ on) in
+    (ltb-true j rows.width parts.0, parts.1)
 
 -- where some cell has a bit, and all have that of an effect, the two are one
 bit_shown : (log : List (List Bool)) (row driver j : ℕ) (effect : Effect) (expected bit value : Bool) → ((place : ℕ) → value ≡ effect_bit effect j place expected) → (readers : List ReaderCell) →
@@ -49,15 +49,15 @@ bit_shown log row driver j effect expected bit value gives (r ∷ readers) some 
     by_first false e some others = others some
 
 -- where the cells have the bits of an effect, they show those of its word
-shown_agrees : (log : List (List Bool)) (first width code : ℕ) (readers : List ReaderCell) (effect : Effect) (driver : Option ℕ) (shown : ShownWords) (word : ℕ) → AreShown log first width readers driver shown →
-    ((j : ℕ) → j < 32 → (place : ℕ) → word_bit word j ≡ effect_bit effect j place (code_bit code j)) → ShowBy log first width code readers effect driver → AgreesWith shown word
-shown_agrees log first width code readers effect None shown word are gives show j less =
-    (λ on. absurd (both_ways false refl (row_there log first width true readers None shown.ones are.ones j less on).1), λ on. absurd (both_ways false refl (row_there log first width false readers None shown.zeros are.zeros j less on).1))
-shown_agrees log first width code readers effect (Some driver) shown word are gives show j less = (
-  λ on. let there = row_there log first width true readers (Some driver) shown.ones are.ones j less on in
-      bit_shown log (first + j) driver j effect (code_bit code j) true (word_bit word j) (gives j less) readers there.1 (show j there.0),
-  λ on. let there = row_there log first width false readers (Some driver) shown.zeros are.zeros j less on in
-      bit_shown log (first + j) driver j effect (code_bit code j) false (word_bit word j) (gives j less) readers there.1 (show j there.0),
+shown_agrees : (rows : RowsOfNet) (code : ℕ) (effect : Effect) (driver : Option ℕ) (shown : ShownWords) (word : ℕ) → AreShown rows driver shown →
+    ((j : ℕ) → j < 32 → (place : ℕ) → word_bit word j ≡ effect_bit effect j place (code_bit code j)) → ShowBy rows.log rows.first rows.width code rows.readers effect driver → AgreesWith shown word
+shown_agrees rows code effect None shown word are gives show j less =
+    (λ on. absurd (both_ways false refl (row_there rows true None shown.ones are.ones j less on).1), λ on. absurd (both_ways false refl (row_there rows false None shown.zeros are.zeros j less on).1))
+shown_agrees rows code effect (Some driver) shown word are gives show j less = (
+  λ on. let there = row_there rows true (Some driver) shown.ones are.ones j less on in
+      bit_shown rows.log (rows.first + j) driver j effect (code_bit code j) true (word_bit word j) (gives j less) rows.readers there.1 (show j there.0),
+  λ on. let there = row_there rows false (Some driver) shown.zeros are.zeros j less on in
+      bit_shown rows.log (rows.first + j) driver j effect (code_bit code j) false (word_bit word j) (gives j less) rows.readers there.1 (show j there.0),
 )
 
 -- where a log shows a fault, what it shows of the net agrees with the bits that the fault gives the net
@@ -66,7 +66,7 @@ pub agrees_there : (n : NetInPass) (fault : Single) (code : ℕ) (fed : FedWords
 agrees_there n fault code fed shown word telling short single pass all =
     let plan = n.pass.logged.test.plan in
     let board = n.pass.logged.test.board in
-    shown_agrees n.pass.logged.log (n.pass.number * plan.width) plan.width (code_in plan n.net) (readers_in plan n.net) (effect_in board plan (controls_in n.pass) (Some fault) n.net) (place_of_driver (driver_in plan (controls_in n.pass) n.net)) shown word telling.shown_is short.bits
+    shown_agrees (net_rows_in n.pass n.net) (code_in plan n.net) (effect_in board plan (controls_in n.pass) (Some fault) n.net) (place_of_driver (driver_in plan (controls_in n.pass) n.net)) shown word telling.shown_is short.bits
     (all n.pass.number pass n.net (there short.is_own))
   where
     there : (n.net ≡ first_net fault) ⊎ (n.net ≡ second_net fault) → n.net < length n.pass.logged.test.board.nets

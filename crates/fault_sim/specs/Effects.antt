@@ -21,6 +21,18 @@ use Rattle.fault_sim.specs.declared.feed.FedNet.{FedNet}
 use Rattle.fault_sim.specs.declared.effect.Effect.{Effect}
 use Rattle.fault_sim.specs.declared.effect.Effect.TheVariants.{Plain, Constant, AtPin, Shorted}
 
+-- the first net of a fault; a stuck net or an open pin has only one
+abbrev pub first_net : Single → ℕ
+first_net (StuckNet net value) = net
+first_net (OpenPin pin value) = pin.net
+first_net (Short a b kind) = a
+
+-- the second net of a short, or the only net of any other fault
+abbrev pub second_net : Single → ℕ
+second_net (StuckNet net value) = net
+second_net (OpenPin pin value) = pin.net
+second_net (Short a b kind) = b
+
 -- the bit in row j
 abbrev pub source_bit : Source → ℕ → Bool
 source_bit (Code code) j = code_bit code j

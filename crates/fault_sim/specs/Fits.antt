@@ -9,8 +9,7 @@ use Rattle.tap_defs.specs.board.TestRows.{code_bit}
 use Rattle.net_pins.specs.declared.nets.ReaderCell.{ReaderCell}
 use Rattle.plan_tables.specs.declared.tables.PlanTables.{PlanTables}
 use Rattle.fault_sim.specs.declared.effect.Effect.{Effect}
-use Rattle.fault_sim.specs.Effects.{driver_in, place_of_driver, readers_in, code_in, effect_in, effect_bit}
-use Rattle.fault_sim.specs.inner.Effects.{first_net, second_net}
+use Rattle.fault_sim.specs.Effects.{driver_in, place_of_driver, readers_in, code_in, effect_in, effect_bit, first_net, second_net}
 
 -- the bit of a log at a position of a row
 abbrev pub bit_in : List (List Bool) → ℕ → ℕ → Bool

@@ -2,9 +2,8 @@
 ghost use Rattle.std.specs.Prelude.{◌≡◌, ◌==◌, ◌||◌, unwrap_or};
 ghost use Rattle.tap_defs.specs.board.NetBits.{or_else};
 ghost use Rattle.tap_defs.specs.board.SingleBits.{shorted};
-ghost use Rattle.fault_sim.specs.Effects.{open_effect, shorted_effect, effect_of_short, effect_of, effect_in, effect_bit};
+ghost use Rattle.fault_sim.specs.Effects.{open_effect, shorted_effect, effect_of_short, effect_of, effect_in, effect_bit, first_net, second_net};
 ghost use Rattle.fault_sim.specs.Planned.{controls_of};
-ghost use Rattle.fault_sim.specs.inner.Effects.{first_net, second_net};
 
 use crate::feed::{FedNet, Feed, feed_bit};
 use crate::passes::TestPass;
@@ -31,7 +30,7 @@ pub enum Effect {
     },
 }
 
-/// The nets of a fault; a stuck net and an open pin have one.
+/// The first net of a fault; a stuck net or an open pin has only one.
 pub fn first_net(fault: Single) -> u32
     ensures { result ≡ first_net fault }
 {
@@ -42,6 +41,7 @@ pub fn first_net(fault: Single) -> u32
     }
 }
 
+/// The second net of a short, or the only net of any other fault.
 pub fn second_net(fault: Single) -> u32
     ensures { result ≡ second_net fault }
 {

@@ -1,5 +1,5 @@
 // Whether a log shows what a fault makes of the compared cells.
-ghost use Rattle.std.specs.Prelude.{◌≡◌, ◌↔◌, ◌+◌, ◌*◌, ◌<◌, ◌≤◌, ◌^◌, [], length, slice_index_or, All, IsTrue, true};
+ghost use Rattle.std.specs.Prelude.{◌≡◌, ◌↔◌, ◌<◌, [], length, slice_index_or, All, IsTrue};
 ghost use Rattle.std.specs.List.{list_all};
 ghost use Rattle.tap_defs.specs.board.TestRows.{code_bit};
 ghost use Rattle.fault_sim.specs.Fits.{bit_in, cell_shows, ShowRows, ShowBy, Shows, ShowsEffect, ShowsOwnIn, ShowsOwn, ShowsOn, ShowsIn, ShowsAll};
@@ -101,8 +101,8 @@ pub fn net_count(board: &Board) -> u32
 }
 
 impl<'a> LoggedPass<'a> {
-    /// Whether the log shows an effect on a net, the pin of whose driver, where the pass enables one, stands at this place.
-    pub fn shows_effect(&self, effect: Effect, driver: Option<u32>, net: u32) -> bool
+    // Whether the log shows an effect on a net, the pin of whose driver, where the pass enables one, stands at this place.
+    fn shows_effect(&self, effect: Effect, driver: Option<u32>, net: u32) -> bool
         ensures { IsTrue result ↔ ShowsEffect self.now.logged.test.plan self.now.logged.log self.now.number net effect driver }
     {
         self.net_rows(net).show_by(self.code(net), effect, driver)

@@ -214,7 +214,7 @@ impl<'a> LoggedPass<'a> {
     }
 
     /// What a net gets from the pass, as words.
-    pub fn fed(&self, net: u32) -> FedWords
+    pub fn fed_words(&self, net: u32) -> FedWords
         ensures { AreWordsIn self.now net result }
     {
         fed_words(self.pass.fed(net))

@@ -1,7 +1,8 @@
 // What the compared cells of a net show in the rows of a pass of a log, as words of 32 bits: bit j of a word stands for row j.
-ghost use Rattle.std.specs.Prelude.{◌≡◌, ◌↔◌, ℕ, ◌+◌, ◌<◌, ◌≤◌, ◌^◌, ◌==◌, ◌&&◌, ◌||◌, nat_lt, Some, [], ◌∷◌, length, All, IsTrue};
+ghost use Rattle.std.specs.Prelude.{◌≡◌, ◌↔◌, ℕ, ◌+◌, ◌<◌, ◌==◌, ◌&&◌, ◌||◌, nat_lt, Some, [], ◌∷◌, length, All, IsTrue};
 ghost use Rattle.fault_sim.specs.Fits.{bit_in};
 ghost use Rattle.fault_sim.specs.Planned.{net_in_pass};
+ghost use Rattle.fault_sim.specs.inner.NetRows.{rows_of_net};
 ghost use Rattle.fault_sim.specs.inner.Telling.{IsShownIn};
 ghost use Rattle.fault_sim.specs.inner.Words.{AgreesWith, AreShown, word_bit};
 
@@ -70,7 +71,7 @@ impl<'a> NetRows<'a> {
     // What one cell shows: nothing, where it reads the pin of the net's driver.
     fn cell_words(&self, reader: ReaderCell, driver: u32) -> ShownWords
         requires { All (λ row. reader.position < length row) self.now.log }
-        ensures { AreShown self.now.log self.now.first self.now.width (reader ∷ []) (Some driver) result }
+        ensures { AreShown (rows_of_net self.now.log self.now.first self.now.width (reader ∷ [])) (Some driver) result }
     {
         if reader.place == driver {
             return ShownWords { ones: 0, zeros: 0 };
@@ -84,7 +85,7 @@ impl<'a> NetRows<'a> {
 
     // What the cells at other pins than that of the driver show.
     fn shown_beside(&self, driver: u32) -> ShownWords
-        ensures { AreShown self.now.log self.now.first self.now.width self.now.readers (Some driver) result }
+        ensures { AreShown self.now (Some driver) result }
     {
         let mut shown = ShownWords { ones: 0, zeros: 0 };
         for reader in self.readers {
@@ -93,10 +94,9 @@ impl<'a> NetRows<'a> {
         shown
     }
 
-    // What the cells show. Nothing is claimed of a net on which the pass enables no driver; where it does, the pin of the driver stands at
-    // this place.
+    // What the cells show, given the place of the pin of the driver that the pass enables on the net: nothing, where it enables none.
     fn shown(&self, driver: Option<u32>) -> ShownWords
-        ensures { AreShown self.now.log self.now.first self.now.width self.now.readers driver result }
+        ensures { AreShown self.now driver result }
     {
         match driver {
             None => ShownWords { ones: 0, zeros: 0 },

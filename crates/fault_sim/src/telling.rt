@@ -42,7 +42,7 @@ impl<'a> TellingNet<'a> {
         ensures { result ≡ net_in_pass pass.entry net }
     {
         let code = pass.code(net);
-        let fed = pass.fed(net);
+        let fed = pass.fed_words(net);
         let shown = pass.shown(net);
         TellingNet {
             pass,
@@ -62,9 +62,9 @@ impl<'a> TellingNet<'a> {
             Single::OpenPin { .. } => None,
             Single::Short { a, b, kind } => {
                 if a == self.net {
-                    Some(short_word(kind, self.fed, self.pass.fed(b), self.code))
+                    Some(short_word(kind, self.fed, self.pass.fed_words(b), self.code))
                 } else if b == self.net {
-                    Some(short_word(kind, self.pass.fed(a), self.fed, self.code))
+                    Some(short_word(kind, self.pass.fed_words(a), self.fed, self.code))
                 } else {
                     None
                 }

@@ -2,7 +2,7 @@
 ghost use Rattle.std.specs.Prelude.{◌≡◌, ◌<◌, ℕ, if◌then◌else◌, ◌||◌, None, Some, unwrap_or};
 ghost use Rattle.tap_defs.specs.board.SingleBits.{shorted};
 ghost use Rattle.fault_sim.specs.Effects.{feed_bit, source_bit, unless_off};
-ghost use Rattle.fault_sim.specs.inner.Words.{AreWordsOf, driven_bit, short_bit, word_bit};
+ghost use Rattle.fault_sim.specs.inner.Words.{AreWordsOf, driven_bit, short_word_bit, word_bit};
 
 use crate::effect::shorted;
 use crate::feed::{FedNet, Feed, Source};
@@ -49,7 +49,7 @@ fn source_word(source: Source) -> u32
     }
 }
 
-// The rows in which a driver is on whose cell has these bits, and that is off at this one.
+// The rows in which a driver is on, by the bits of its cell: all, or, where it is off at one bit, those in which its cell has the other.
 #[inline]
 fn rows_on(off: Option<bool>, value: u32) -> u32
     ensures { (j : ℕ) → j < 32 → (if word_bit result j then Some (word_bit value j) else None) ≡ unless_off off (word_bit value j) }
@@ -130,7 +130,7 @@ fn undriven_word(pull: Option<bool>, code: u32) -> u32
 /// The bits of two shorted nets in the rows of a pass, where those of this code are expected.
 #[inline]
 pub fn short_word(kind: Kind, first: FedWords, second: FedWords, code: u32) -> u32
-    ensures { (j : ℕ) → j < 32 → word_bit result j ≡ short_bit kind first second code j }
+    ensures { (j : ℕ) → j < 32 → word_bit result j ≡ short_word_bit kind first second code j }
 {
     let short = shorted_words(kind, first.feed, second.feed);
     let undriven = undriven_word(shorted(kind, first.pull, second.pull), code);

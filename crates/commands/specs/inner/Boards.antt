@@ -6,7 +6,7 @@ use Rattle.scan_planner.specs.Planned.{PlannedBoard}
 use Rattle.scan_planner.specs.Plans.{IsPlanOf}
 use Rattle.walk_test.specs.declared.tables.WalkTables.{WalkTables}
 
--- the plan is one of the board's passes
+-- a plan of the board, with the board's own passes
 pub record IsPlanned (p : PlannedBoard) : Type 0 where
   pub plan : IsPlanOf p.board p.plan
   pub passes : p.plan.passes ≡ passes_of p.board

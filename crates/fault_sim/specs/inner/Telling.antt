@@ -1,19 +1,17 @@
 -- What serves the proofs alone. What a pass of a log says of a net and of its shorts.
-use Rattle.std.specs.Prelude.{◌≡◌, ◌⊎◌, ℕ, ◌*◌, ◌<◌, Some}
+use Rattle.std.specs.Prelude.{◌≡◌, ◌⊎◌, ℕ, ◌<◌, Some}
 use Rattle.board_defs.specs.declared.fault.Single.{Single}
 use Rattle.tap_defs.specs.board.TestRows.{code_bit}
 use Rattle.fault_sim.specs.declared.shown.ShownWords.{ShownWords}
 use Rattle.fault_sim.specs.declared.words.FedWords.{FedWords}
-use Rattle.fault_sim.specs.Effects.{code_in, driver_in, effect_bit, effect_in, fed_net, place_of_driver, readers_in}
+use Rattle.fault_sim.specs.Effects.{code_in, driver_in, effect_bit, effect_in, fed_net, first_net, place_of_driver, second_net}
 use Rattle.fault_sim.specs.Planned.{NetInPass, PassOfLog, controls_in}
-use Rattle.fault_sim.specs.inner.Effects.{first_net, second_net}
+use Rattle.fault_sim.specs.inner.NetRows.{net_rows_in}
 use Rattle.fault_sim.specs.inner.Words.{AreShown, AreWordsOf, word_bit}
 
 -- what the log shows of the net in the rows of the pass
 abbrev pub IsShownIn : NetInPass → ShownWords → Type 0
-IsShownIn n shown =
-    AreShown n.pass.logged.log (n.pass.number * n.pass.logged.test.plan.width) n.pass.logged.test.plan.width (readers_in n.pass.logged.test.plan n.net)
-    (place_of_driver (driver_in n.pass.logged.test.plan (controls_in n.pass) n.net)) shown
+IsShownIn n shown = AreShown (net_rows_in n.pass n.net) (place_of_driver (driver_in n.pass.logged.test.plan (controls_in n.pass) n.net)) shown
 
 -- the words of what a net gets from the pass
 abbrev pub AreWordsIn : PassOfLog → ℕ → FedWords → Type 0

@@ -13,6 +13,7 @@ use Rattle.fault_sim.specs.declared.words.FeedWords.{FeedWords}
 use Rattle.fault_sim.specs.declared.words.FedWords.{FedWords}
 use Rattle.fault_sim.specs.Effects.{feed_bit}
 use Rattle.fault_sim.specs.Fits.{bit_in}
+use Rattle.fault_sim.specs.inner.NetRows.{RowsOfNet}
 
 -- bit j of a word is on
 abbrev pub word_bit : ℕ → ℕ → Bool
@@ -23,8 +24,8 @@ abbrev pub driven_bit : FeedWords → ℕ → Option Bool
 driven_bit words j = if word_bit words.driven j then Some (word_bit words.value j) else None
 
 -- the bit of two shorted nets in row j, in which that of the code is expected
-abbrev pub short_bit : Kind → FedWords → FedWords → ℕ → ℕ → Bool
-short_bit kind first second code j =
+abbrev pub short_word_bit : Kind → FedWords → FedWords → ℕ → ℕ → Bool
+short_word_bit kind first second code j =
     unwrap_or (or_else (shorted kind (driven_bit first.feed j) (driven_bit second.feed j)) (shorted kind first.pull second.pull)) (word_bit code j)
 
 -- these are the words of what a net gets
@@ -41,13 +42,14 @@ abbrev pub some_shows : List (List Bool) → ℕ → Bool → List ReaderCell �
 some_shows log row bit readers None = false
 some_shows log row bit readers (Some driver) = list_any (shows_beside log row bit driver) readers
 
--- these are the rows of a pass, which begins at this row of the log, in which some cell of a net has this bit
-abbrev pub AreRowsOf : List (List Bool) → ℕ → ℕ → Bool → List ReaderCell → Option ℕ → ℕ → Type 0
-AreRowsOf log first width bit readers driver word = (j : ℕ) → j < 32 → word_bit word j ≡ (nat_lt j width && some_shows log (first + j) bit readers driver)
+-- these are the rows of a pass in which some cell of a net, not at the pin of the driver, has this bit; none where there is no driver
+abbrev pub AreRowsOf : RowsOfNet → Bool → Option ℕ → ℕ → Type 0
+AreRowsOf rows bit driver word = (j : ℕ) → j < 32 → word_bit word j ≡ (nat_lt j rows.width && some_shows rows.log (rows.first + j) bit rows.readers driver)
 
-pub record AreShown (log : List (List Bool)) (first width : ℕ) (readers : List ReaderCell) (driver : Option ℕ) (shown : ShownWords) : Type 0 where
-  pub ones : AreRowsOf log first width true readers driver shown.ones
-  pub zeros : AreRowsOf log first width false readers driver shown.zeros
+-- the rows in which the cells show a 1, and those in which they show a 0
+pub record AreShown (rows : RowsOfNet) (driver : Option ℕ) (shown : ShownWords) : Type 0 where
+  pub ones : AreRowsOf rows true driver shown.ones
+  pub zeros : AreRowsOf rows false driver shown.zeros
 
 -- no other bit is shown than that of a word
 abbrev pub AgreesWith : ShownWords → ℕ → Type 0

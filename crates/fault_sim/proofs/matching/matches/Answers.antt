@@ -1,9 +1,9 @@
 use Rattle.std.proofs.Common.{Some, Decides, sym, subst}
 use Rattle.board_defs.specs.Passes.{passes_of}
 use Rattle.tap_defs.specs.board.TestRows.{code_width, observed_count}
+use Rattle.fault_sim.specs.Effects.{first_net, second_net}
 use Rattle.fault_sim.specs.Fits.{ShowsAll, ShowsOwn}
 use Rattle.fault_sim.specs.Planned.{LoggedBoard}
-use Rattle.fault_sim.specs.inner.Effects.{first_net, second_net}
 use Rattle.fault_sim.proofs.MatchLemmas.{decides_as, explains_is, nets_there}
 use Rattle.fault_sim.proofs.matching.matches.Goals as goal
 

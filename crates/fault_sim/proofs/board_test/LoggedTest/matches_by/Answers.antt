@@ -4,7 +4,7 @@ use Rattle.board_defs.specs.declared.board.RawBoard.{RawBoard}
 use Rattle.board_defs.specs.BoardRules.{IsBoard}
 use Rattle.board_defs.specs.Passes.{passes_of}
 use Rattle.tap_defs.specs.board.TestRows.{code_width, observed_count}
-use Rattle.fault_sim.specs.inner.Effects.{first_net, second_net}
+use Rattle.fault_sim.specs.Effects.{first_net, second_net}
 use Rattle.fault_sim.proofs.MatchLemmas.{decides_as, explains_is, nets_there}
 use Rattle.fault_sim.proofs.ExplainLemmas.{are_own, own_enough}
 use Rattle.fault_sim.proofs.board_test.LoggedTest.matches_by.Goals as goal
