@@ -2,7 +2,7 @@
 PREFIX ?= /usr/local
 PROGRAM := crates/btest/out/btest
 
-.PHONY: help demo build test check check-tools bench stress figures install package
+.PHONY: help demo build test check profile check-tools bench stress figures install package
 
 help:
 	@echo 'make demo                runs the program on an example board and shows what it prints: one to three minutes'
@@ -11,6 +11,7 @@ help:
 	@echo 'make install PREFIX=DIR  copies the proved program with its man page, guide, examples and tools to DIR'
 	@echo 'make package             makes a Debian package and a tar.gz of them, in out/'
 	@echo 'make check CRATE=NAME    proves one crate, and those below it where they have changed'
+	@echo 'make profile CRATE=NAME  lists the functions of a crate by the seconds that their proofs take'
 	@echo 'make check-tools         tries the programs of tools/ and the examples of the documents: seconds'
 	@echo 'make bench               prints times of the proved program on large inputs'
 	@echo 'make stress              puts the proved program to hostile use: ten minutes. docs/RELIABILITY.md says what it tries'
@@ -44,6 +45,11 @@ test:
 check:
 	@test -n '$(CRATE)' || { echo 'make check CRATE=NAME, with a name of crates.txt'; exit 2; }
 	@cd crates/$(CRATE) && rt check
+
+# Where the time of one crate goes. The crates below it are proved first, and nothing else should run meanwhile.
+profile:
+	@test -n '$(CRATE)' || { echo 'make profile CRATE=NAME, with a name of crates.txt'; exit 2; }
+	@python3 -B scripts/profile-crate.py $(CRATE)
 
 # The programs beside btest and the examples of the documents; those of btest where the proved program is there.
 check-tools:

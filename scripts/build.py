@@ -24,11 +24,11 @@ ENDED = re.compile(r"rt: (\w+)(: its tests)?(?: are)? (proved|NOT PROVED|is kept
 WAITS = re.compile(r"rt: (\w+)(: its tests)?: another run on this machine is proving the same")
 
 
-def needed():
-    """Returns the lines of crates.txt for the program and all below it, by the names of the crates."""
+def needed(top=PROGRAM):
+    """Returns the lines of crates.txt for a crate and all crates below it, by their names."""
     with open(f"{TOP}/crates.txt", encoding="utf-8") as it:
         lines = {line.split(":")[0].split()[0]: line for line in it if ":" in line and not line.startswith("#")}
-    found, left = {}, [PROGRAM]
+    found, left = {}, [top]
     while left:
         name = left.pop()
         if name in lines and name not in found:
@@ -44,7 +44,18 @@ def copy_to(root, crates):
         it.writelines(crates.values())
     shutil.copyfile(f"{TOP}/HANDLES", f"{root}/HANDLES")
     for name in crates:
-        shutil.copytree(f"{TOP}/crates/{name}", f"{root}/crates/{name}", ignore=shutil.ignore_patterns("out", "must-fail"))
+        copy_crate(root, name)
+
+
+def copy_crate(root, name):
+    shutil.copytree(f"{TOP}/crates/{name}", f"{root}/crates/{name}", ignore=shutil.ignore_patterns("out", "must-fail"))
+
+
+def add_to(root, name, line):
+    """Adds a crate to such a copy."""
+    with open(f"{root}/crates.txt", "a", encoding="utf-8") as it:
+        it.write(line)
+    copy_crate(root, name)
 
 
 def begin(root):

@@ -11,5 +11,4 @@ fi
 need_rt
 begun=$SECONDS
 python3 -B scripts/build.py
-spent=$((SECONDS - begun))
-printf 'The proved program is there after %d:%02d minutes: %s\n' $((spent / 60)) $((spent % 60)) "$PROGRAM"
+echo "The proved program is there after $(minutes_since "$begun"): $PROGRAM"

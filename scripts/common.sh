@@ -13,3 +13,9 @@ need_rt() {
     echo "and put its bin folder on the PATH. README.md names the kit's version." >&2
     exit 1
 }
+
+# How many minutes a script has run since a moment of SECONDS, and on how many processors.
+minutes_since() {
+    local spent=$((SECONDS - $1))
+    printf '%d:%02d minutes on %d processors' $((spent / 60)) $((spent % 60)) "$(nproc)"
+}
