@@ -1,3 +1,4 @@
+pub mod NameBytes
 pub mod Limits
 pub mod DeviceRules
 pub mod Pins

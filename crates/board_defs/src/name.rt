@@ -1,59 +1,93 @@
 // Names that contracts see as lists of bytes.
 ghost use Rattle.std.specs.Prelude.{◌≡◌, ℕ, List, IfOk, map};
 ghost use Rattle.std.specs.Char.{to_ascii_uppercase};
+ghost use Rattle.board_defs.specs.NameBytes.{kept_bytes};
 
-use smallvec::SmallVec;
 use std::alloc::{AllocError, Global};
 use std::marker::Model;
 
-/// The bytes that a name holds without memory of its own: most names of nets, parts and pins are no longer, and a board
-/// has many of them.
+/// The number of bytes that a name holds without memory of its own: most names of nets, parts and pins are no longer, and a
+/// board has many of them.
 const SHORT: usize = 24;
+
+// Where the bytes of a name are: in the value itself, of which the first `length` bytes count, or in memory of their own.
+#[derive(Debug, Drop)]
+enum Kept {
+    Short { bytes: [u8; SHORT], length: u8 },
+    Long(Vec<u8>),
+}
 
 /// A name, seen as the list of its bytes.
 #[derive(Debug, Drop)]
 pub struct Name {
-    bytes: SmallVec<u8, SHORT>,
+    kept: Kept,
 }
 
 impl Model for Name {
+    ghost use Rattle.std.specs.Prelude.{List, ℕ};
+    ghost use Rattle.board_defs.specs.NameBytes.{kept_bytes, HasLength};
+
     ghost Value = { List ℕ };
 
-    ghost view = { λ a. a.bytes.items };
+    ghost view = { λ a. kept_bytes a.kept };
+
+    ghost invariant = { λ a. HasLength a.kept };
 }
 
 impl Name {
-    /// The name with these bytes.
+    /// Returns the name with these bytes.
     pub fn of(alloc: Global, bytes: &[u8]) -> Result<Name, AllocError>
         ensures { IfOk result (λ name. name ≡ bytes.now) }
     {
+        if bytes.len() > SHORT {
+            return Ok(Name::from_vec(Vec::from_slice(alloc, bytes)?));
+        }
+        let mut short = [0; SHORT];
+        short[..bytes.len()].copy_from_slice(bytes);
         Ok(Name {
-            bytes: SmallVec::from_slice(alloc, bytes)?,
+            kept: Kept::Short {
+                bytes: short,
+                length: bytes.len() as u8,
+            },
         })
     }
 
-    /// The name with these bytes, the small letters of ASCII among them as capitals.
+    /// Returns the name with these bytes, with the small letters of ASCII as capitals.
     pub fn in_upper_case(alloc: Global, bytes: &[u8]) -> Result<Name, AllocError>
         ensures { IfOk result (λ name. name ≡ map to_ascii_uppercase bytes.now) }
     {
-        let mut bytes = SmallVec::from_slice(alloc, bytes)?;
-        bytes.as_mut_slice().make_ascii_uppercase();
-        Ok(Name { bytes })
+        if bytes.len() > SHORT {
+            let mut long = Vec::from_slice(alloc, bytes)?;
+            long.as_mut_slice().make_ascii_uppercase();
+            return Ok(Name::from_vec(long));
+        }
+        let mut short = [0; SHORT];
+        short[..bytes.len()].copy_from_slice(bytes);
+        short[..bytes.len()].make_ascii_uppercase();
+        Ok(Name {
+            kept: Kept::Short {
+                bytes: short,
+                length: bytes.len() as u8,
+            },
+        })
     }
 
-    /// The name of these bytes, which it takes over.
+    /// Returns the name with these bytes, which it takes over.
     pub fn from_vec(bytes: Vec<u8>) -> Name
         ensures { result ≡ bytes.items }
     {
         Name {
-            bytes: SmallVec::from_vec(bytes),
+            kept: Kept::Long(bytes),
         }
     }
 
-    /// The bytes of the name.
+    /// Returns the bytes of the name.
     pub fn bytes(&self) -> &[u8]
         ensures { result.now ≡ self.now }
     {
-        self.bytes.as_slice()
+        match &self.kept {
+            Kept::Short { bytes, length } => &bytes[..usize::from(*length)],
+            Kept::Long(bytes) => bytes.as_slice(),
+        }
     }
 }

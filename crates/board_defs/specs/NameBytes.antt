@@ -1,0 +1,13 @@
+-- The bytes of a name, wherever it keeps them.
+use Rattle.std.specs.Prelude.{List, ℕ, take, ◌≤◌, ⊤}
+use Rattle.board_defs.specs.declared.name.Kept.{Kept}
+use Rattle.board_defs.specs.declared.name.Kept.TheVariants.{Short, Long}
+
+abbrev pub kept_bytes : Kept → List ℕ
+kept_bytes (Short bytes count) = take count bytes
+kept_bytes (Long bytes) = bytes.items
+
+-- No more bytes count than there are.
+abbrev pub HasLength : Kept → Type 0
+HasLength (Short bytes count) = count ≤ 24
+HasLength (Long bytes) = ⊤
