@@ -1,5 +1,5 @@
-//! What an answer of code says beside a definition: its value, or its fault where the fault is not
-//! that memory was refused. No definition speaks of memory.
+//! What the answer of a function says beside a definition: its value, or its fault. A refusal of
+//! memory says nothing, since no definition speaks of memory.
 //!
-//! The crate has definitions (`specs/`) alone.
+//! The crate has only definitions (`specs/`).
 #![tactic(auto)]

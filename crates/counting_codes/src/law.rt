@@ -1,9 +1,8 @@
-//! What the codes are worth, as the contract of a function that does nothing: a caller knows the law after the call.
+//! What the codes can tell apart, as the contract of a function that does nothing: a caller knows the law after the call.
 ghost use Rattle.std.specs.Prelude.{◌≡◌, ◌≢◌, ℕ, ◌+◌, ◌^◌, ◌<◌, ◌≤◌};
 ghost use Rattle.std.specs.Int.{bit_at};
 
-/// Below a width that is enough for n codes, each code from 1 to n has a bit 0 and a bit 1, and two different codes differ in
-/// some bit.
+/// Within the width for `n` codes, each code from 1 to `n` has a 0 bit and a 1 bit, and two different codes differ in some bit.
 pub fn codes_tell()
     ensures zero { (n width : ℕ) → n + 2 ≤ 2 ^ width → (c : ℕ) → 1 ≤ c → c ≤ n → (j : ℕ) × (j < width) × (bit_at c j ≡ 0) }
     ensures one { (n width : ℕ) → n + 2 ≤ 2 ^ width → (c : ℕ) → 1 ≤ c → c ≤ n → (j : ℕ) × (j < width) × (bit_at c j ≡ 1) }

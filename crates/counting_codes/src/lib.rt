@@ -1,4 +1,4 @@
-//! Counting codes: the number of a net, from 1, written in just enough bits that no code is all zeros or all ones.
+//! Counting codes: each net has its number, from 1, as its code, in just enough bits that no code is all zeros or all ones.
 #![tactic(auto)]
 
 ghost use Rattle.std.specs.Prelude.{◌≡◌, ◌==◌, ℕ, ◌+◌, ◌^◌, ◌<◌, ◌≤◌};
@@ -6,7 +6,7 @@ ghost use Rattle.std.specs.Int.{bit_at};
 
 pub mod law;
 
-/// The number of bits of the codes from 1 to n: the least that leaves the words of all zeros and all ones unused.
+/// Returns the number of bits of the codes from 1 to `n`: the smallest for which no code is all zeros or all ones.
 pub fn width(n: u32) -> u32
     requires { n ≤ 16382 }
     ensures enough { n + 2 ≤ 2 ^ result }
@@ -21,7 +21,7 @@ pub fn width(n: u32) -> u32
     width
 }
 
-/// Bit `j` of a code, bit 0 the least.
+/// Returns bit `j` of a code. Bit 0 is the least significant.
 pub fn bit(code: u32, j: u32) -> bool
     requires { j < 32 }
     ensures { result ≡ (bit_at code j == 1) }

@@ -1,4 +1,4 @@
--- The items of a list, however they are kept.
+-- The items of a list, wherever it keeps them.
 use Rattle.std.specs.Prelude.{List, [], ◌∷◌}
 use Rattle.few_items.specs.declared.few.Kept.{Kept}
 use Rattle.few_items.specs.declared.few.Kept.TheVariants.{Nothing, One, Two, More}

@@ -5,7 +5,7 @@ use std::alloc::{AllocError, Global};
 use std::marker::Model;
 use std::slice;
 
-// Where the items are kept.
+// Where the items are: in the value itself, or in a vector.
 #[derive(Debug, Drop)]
 enum Kept<T> {
     Nothing,
@@ -14,7 +14,7 @@ enum Kept<T> {
     More(Vec<T>),
 }
 
-/// A list that takes no memory of its own for up to two items.
+/// A list that needs no memory of its own for up to two items.
 #[derive(Debug, Drop)]
 pub struct Few<T> {
     kept: Kept<T>,
@@ -64,7 +64,7 @@ impl<T: Copy> Kept<T> {
 }
 
 impl<T: Copy> Few<T> {
-    /// No items.
+    /// Returns an empty list.
     pub fn none() -> Few<T>
         ensures { result ≡ [] }
     {
@@ -73,7 +73,7 @@ impl<T: Copy> Few<T> {
         }
     }
 
-    /// No items yet, with room for so many.
+    /// Returns an empty list with room for `count` items.
     pub fn with_capacity(alloc: Global, count: usize) -> Result<Few<T>, AllocError>
         ensures { IfOk result (λ few. few ≡ []) }
     {
@@ -85,21 +85,21 @@ impl<T: Copy> Few<T> {
         })
     }
 
-    /// The items in order.
+    /// Returns the items in order.
     pub fn as_slice(&self) -> &[T]
         ensures { result.now ≡ self.now }
     {
         self.kept.as_slice()
     }
 
-    /// How many items there are.
+    /// Returns the number of items.
     pub fn len(&self) -> usize
         ensures { result ≡ length self.now }
     {
         self.kept.as_slice().len()
     }
 
-    /// Adds an item at the end.
+    /// Appends an item.
     pub fn push(&mut self, alloc: Global, item: T) -> Result<(), AllocError>
         ensures { OnOk result (self.new ≡ self.old ++ item ∷ []) }
     {

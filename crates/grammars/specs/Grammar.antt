@@ -1,4 +1,4 @@
--- Grammars over tokens T, each with the values of what it derives.
+-- Grammars over tokens T. Each derives token lists, and gives each of them a value.
 use Rattle.std.specs.Prelude.{Option}
 use Rattle.grammars.specs.Turn.{Turn}
 use Rattle.grammars.specs.Production.{Production}
@@ -7,23 +7,23 @@ use Rattle.grammars.specs.inner.Reader.{Reader}
 use Rattle.grammars.specs.inner.Reader as reader
 
 pub data Grammar (T : Type 0) : Type 0 → Type 1 where
-  -- one token, which fits where it has a value
+  -- one token, which fits if it has a value
   place : {A : Type 0} → (T → Option A) → Grammar T A
-  -- no token, and this value
+  -- no token; the value is given
   done : {A : Type 0} → A → Grammar T A
-  -- a part, and then the part that its value tells
+  -- a part, and then the part that its value selects
   in_turn : {A B : Type 0} → Grammar T A → (A → Grammar T B) → Grammar T B
-  -- any number of turns, each of which knows what came before
+  -- any number of turns, each with the state that the turns before it left
   turns : {S A : Type 0} → (S → Grammar T (Turn S A)) → S → Grammar T A
 
--- what the grammar derives
+-- the token lists that the grammar derives
 abbrev pub production_of : {T A : Type 0} → Grammar T A → Production T A
 production_of (place value) = production.place value
 production_of (done a) = production.done a
 production_of (in_turn p q) = production.in_turn (production_of p) (λ a. production_of (q a))
 production_of (turns turn before) = production.turns (λ s. production_of (turn s)) before
 
--- how it is read
+-- the reader of the grammar
 abbrev pub reader_of : {T A : Type 0} → Grammar T A → Reader T A
 reader_of (place value) = reader.place value
 reader_of (done a) = reader.done a

@@ -1,4 +1,4 @@
-//! What the bytes of one token tell. Letters have no case.
+//! What the bytes of one token mean. The case of letters does not matter.
 ghost use Rattle.std.specs.Prelude.{◌≡◌, IsTrue, nat_eq, zip};
 ghost use Rattle.std.specs.List.{list_all};
 ghost use Rattle.std.specs.Str.{bytes_eq};
@@ -11,14 +11,14 @@ fn are_digits(bytes: &[u8]) -> bool
     bytes.iter().all(|byte| byte.is_ascii_digit())
 }
 
-/// Whether the bytes are 1 to 9 digits.
+/// Returns whether the bytes are 1 to 9 decimal digits.
 pub fn is_short_number(bytes: &[u8]) -> bool
     ensures { result ≡ is_integer bytes.now }
 {
     !bytes.is_empty() && bytes.len() <= 9 && are_digits(bytes)
 }
 
-/// What 1 to 9 digits mean.
+/// Returns the number that 1 to 9 decimal digits mean.
 pub fn decimal_of(digits: &[u8]) -> u32
     requires { IsTrue (is_integer digits.now) }
     ensures { result ≡ digits_value digits.now }
@@ -39,7 +39,7 @@ fn each_agrees(bytes: &[u8], name: &[u8]) -> bool
         .all(|(byte, letter)| byte.to_ascii_uppercase() == *letter)
 }
 
-/// Whether the bytes in upper case are the name.
+/// Returns whether the bytes, in upper case, are the name.
 #[tactic(auto, using(crate::proofs::Spelled::differs))]
 pub fn spells(bytes: &[u8], name: &[u8]) -> bool
     ensures { result ≡ bytes_eq (upper bytes.now) name.now }

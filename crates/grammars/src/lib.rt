@@ -1,8 +1,8 @@
-//! Grammars as data: which token lists they derive with which values, which lists begin such a
-//! list, and the law that reading from left to right decides both.
+//! Grammars as data: which token lists they derive, with which values, and which lists are
+//! prefixes of one. A law says that reading from left to right decides both.
 //!
-//! The crate has definitions (`specs/`) and their laws (`proofs/`), and functions on the bytes of
-//! one token (`bytes`).
+//! The crate has definitions (`specs/`), their laws (`proofs/`), and functions on the bytes of one
+//! token (`bytes`).
 #![tactic(auto)]
 
 mod bytes;

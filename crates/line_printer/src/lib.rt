@@ -1,4 +1,4 @@
-//! Text that goes out line by line, a line of any length through a `Line`.
+//! Writing text line by line. A line of any length goes through a `Line`.
 #![tactic(auto)]
 
 mod printing;

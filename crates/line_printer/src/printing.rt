@@ -6,7 +6,7 @@ ghost use Rattle.line_printer.specs.Prints.{Prints, line_of, whole};
 use bt_base::{PutFault, Sink};
 use bt_bits::{Line, MAX_LINE};
 
-// Puts the line if it is full, and leaves it empty then.
+// Puts and empties the line if it is full.
 fn make_room<K: Sink>(line: &mut Line, out: &mut K) -> Result<(), PutFault>
     ensures text { Prints (K.shown out.old) (K.shown out.new) line.old line.new [] result }
     ensures room { OnOk result (length line.new < 1024) }
@@ -19,7 +19,7 @@ fn make_room<K: Sink>(line: &mut Line, out: &mut K) -> Result<(), PutFault>
     Ok(())
 }
 
-// Prints a text at the end of the line, as `print` does, of any length.
+// Like `print`, for a text that may not fit into the line.
 fn print_parts<K: Sink>(text: &[u8], line: &mut Line, out: &mut K) -> Result<(), PutFault>
     ensures { Prints (K.shown out.old) (K.shown out.new) line.old line.new text.now result }
 {
@@ -33,13 +33,13 @@ fn print_parts<K: Sink>(text: &[u8], line: &mut Line, out: &mut K) -> Result<(),
     Ok(())
 }
 
-/// Prints a text at the end of the line. Each time that the line is full and more is to come, it is put. It fails only
-/// where the sink does, and then a prefix of what the line held and the text was put.
+/// Appends a text to the line, which it puts each time the line is full and more bytes follow. It fails only if the sink
+/// does. Then a prefix of the line and the text was put.
 #[inline]
 pub fn print<K: Sink>(text: &[u8], line: &mut Line, out: &mut K) -> Result<(), PutFault>
     ensures { Prints (K.shown out.old) (K.shown out.new) line.old line.new text.now result }
 {
-    // Most texts have room as they are.
+    // Most texts fit into the line.
     if text.len() <= MAX_LINE - line.len() {
         line.push(text);
         return Ok(());
@@ -47,7 +47,7 @@ pub fn print<K: Sink>(text: &[u8], line: &mut Line, out: &mut K) -> Result<(), P
     print_parts(text, line, out)
 }
 
-/// Prints pieces in order at the end of the line, as `print` does.
+/// Appends pieces to the line in order, like `print`.
 pub fn print_all<K: Sink>(pieces: &[&[u8]], line: &mut Line, out: &mut K) -> Result<(), PutFault>
     ensures { Prints (K.shown out.old) (K.shown out.new) line.old line.new (whole (map (λ p. p.now) pieces.now)) result }
 {
@@ -57,7 +57,7 @@ pub fn print_all<K: Sink>(pieces: &[&[u8]], line: &mut Line, out: &mut K) -> Res
     Ok(())
 }
 
-/// Begins a line with pieces. What the line held is dropped.
+/// Begins a new line with pieces. What the line held is lost.
 pub fn begin_line<K: Sink>(pieces: &[&[u8]], line: &mut Line, out: &mut K) -> Result<(), PutFault>
     ensures { Prints (K.shown out.old) (K.shown out.new) [] line.new (whole (map (λ p. p.now) pieces.now)) result }
 {
@@ -65,7 +65,7 @@ pub fn begin_line<K: Sink>(pieces: &[&[u8]], line: &mut Line, out: &mut K) -> Re
     print_all(pieces, line, out)
 }
 
-/// Ends the line and puts it.
+/// Ends the line with a line feed and puts it.
 pub fn end_line<K: Sink>(line: &mut Line, out: &mut K) -> Result<(), PutFault>
     ensures { Prints (K.shown out.old) (K.shown out.new) line.old [] (10 ∷ []) result }
 {
@@ -74,7 +74,7 @@ pub fn end_line<K: Sink>(line: &mut Line, out: &mut K) -> Result<(), PutFault>
     out.put(line.bytes())
 }
 
-/// Puts the line of these pieces: at once, where it has at most `MAX_LINE` bytes. What the line held is dropped.
+/// Puts the line of these pieces, in one put if it has at most `MAX_LINE` bytes. What the line held is lost.
 pub fn put_line<K: Sink>(pieces: &[&[u8]], line: &mut Line, out: &mut K) -> Result<(), PutFault>
     ensures { Prints (K.shown out.old) (K.shown out.new) [] [] (line_of (map (λ p. p.now) pieces.now)) result }
 {

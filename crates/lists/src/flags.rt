@@ -1,7 +1,7 @@
-// Flags that are read and set by place.
+// Flags that are read and set by their places.
 ghost use Rattle.std.specs.Prelude.{◌≡◌, true, false, slice_set, slice_index_or};
 
-/// Whether the flag at a place is set; none past the end is.
+/// Returns whether the flag at a place is set. Past the end no flag is set.
 pub fn is_set(flags: &[bool], place: usize) -> bool
     ensures { result ≡ slice_index_or flags.now place false }
 {
@@ -11,7 +11,7 @@ pub fn is_set(flags: &[bool], place: usize) -> bool
     }
 }
 
-/// Sets the flag at a place, where there is one.
+/// Sets the flag at a place. Past the end it does nothing.
 pub fn mark(flags: &mut [bool], place: usize)
     ensures { flags.new ≡ slice_set flags.old place true }
 {

@@ -1,4 +1,4 @@
-//! Lists that contracts see as lists, flags by place, and lists by place.
+//! Vectors that contracts see as lists, flags by place, and tables of lists.
 #![tactic(auto)]
 
 mod flags;

@@ -1,11 +1,11 @@
-// Lists by place, which a walk fills.
+// Tables of lists, which a walk fills.
 ghost use Rattle.std.specs.Prelude.{◌≡◌, [], Some, replicate, IfOk, OnOk};
 ghost use Rattle.lists.specs.Rows.{noted};
 
 use crate::items::Items;
 use std::alloc::{AllocError, Global};
 
-/// So many empty lists.
+/// Returns `count` empty lists.
 pub fn blank<T: Drop>(alloc: Global, count: usize) -> Result<Vec<Items<T>>, AllocError>
     ensures { IfOk result (λ rows. rows.items ≡ replicate count []) }
 {
@@ -16,7 +16,7 @@ pub fn blank<T: Drop>(alloc: Global, count: usize) -> Result<Vec<Items<T>>, Allo
     Ok(rows)
 }
 
-/// Adds the item to the list at a place, where there is one.
+/// Appends the item to the list at a place. Past the end it does nothing.
 pub fn note<T: Drop>(rows: &mut [Items<T>], place: usize, item: T) -> Result<(), AllocError>
     ensures { OnOk result (rows.new ≡ noted rows.old (Some place) item) }
 {
@@ -26,7 +26,7 @@ pub fn note<T: Drop>(rows: &mut [Items<T>], place: usize, item: T) -> Result<(),
     Ok(())
 }
 
-/// Adds the item to the list at its place, where it has one.
+/// Appends the item to the list at its place. Without a place it does nothing.
 pub fn note_where<T: Drop>(
     rows: &mut [Items<T>],
     place: Option<u32>,

@@ -1,4 +1,4 @@
-//! Work on many items that is cut into pieces, which run side by side.
+//! Work on many items, cut into pieces that run side by side.
 #![tactic(auto)]
 
 mod pieces;

@@ -1,11 +1,11 @@
-// Pieces of items, and what they give together.
+// The pieces of a list of items, and what they give together.
 ghost use Rattle.std.specs.Prelude.{◌≡◌, ◌⊎◌, ◌<◌, ◌≤◌, Ok, Err, MatchResult, alloc_error};
 ghost use Rattle.side_by_side.specs.Pieces.{GivesTogether, piece_of, piece_start, together};
 
 use std::alloc::{AllocError, Global};
 use std::thread::{Threads, map_indices};
 
-/// A piece of many items: its number, and the items from `first` up to but without `end`. All are counted from 0.
+/// A piece of a list of items: the number of the piece, and its items `first..end`. All count from 0.
 #[derive(Clone, Copy)]
 pub struct Piece {
     pub number: u32,
@@ -13,7 +13,7 @@ pub struct Piece {
     pub end: u64,
 }
 
-// The first item of a piece, and the number of items for the piece after the last.
+// Returns the first item of a piece, and the number of items for the number after the last piece.
 fn piece_start(items: u64, pieces: u32, number: u32) -> u64
     requires some { 0 < pieces }
     requires number { number ≤ pieces }
@@ -24,7 +24,7 @@ fn piece_start(items: u64, pieces: u32, number: u32) -> u64
     (sum / u128::from(pieces)) as u64
 }
 
-// The piece with this number.
+// Returns the piece with this number.
 fn piece_of(items: u64, pieces: u32, number: u32) -> Piece
     requires { number < pieces }
     ensures piece { result ≡ piece_of items pieces number }
@@ -38,7 +38,7 @@ fn piece_of(items: u64, pieces: u32, number: u32) -> Piece
     }
 }
 
-// The lists of some answers, one behind the other, or the fault of the first answer that has one.
+// Joins the lists of the answers in order, or returns the first fault.
 fn together<T: Drop, E: From<AllocError> + Drop>(
     alloc: Global,
     answers: Vec<Result<Vec<T>, E>>,
@@ -55,11 +55,11 @@ fn together<T: Drop, E: From<AllocError> + Drop>(
     Ok(all)
 }
 
-/// Has the work done on each of so many pieces of the items, and gives what the pieces give, one behind the other, or the fault of
-/// the first piece that has one. Where memory is refused for this, it may be the fault in place of all others.
+/// Cuts the items into `pieces` pieces, does the work on each, and joins their lists in order. Returns the fault of the first piece that
+/// has one. A refusal of memory for the pieces themselves may take the place of any other fault.
 ///
-/// The pieces differ by at most one item. Halves of the pieces run side by side, down to one piece. What a single piece gives is given
-/// as it is, with no memory taken for it.
+/// The numbers of items of two pieces differ by at most one. Halves of the pieces run side by side, down to one piece. The list of a
+/// single piece is returned as it is and needs no more memory.
 pub fn in_pieces<
     R: Threads + Sync,
     T: Send + Drop,

@@ -21,11 +21,11 @@ abbrev pub begins_no_comment : Word → Bool
 begins_no_comment [] = true
 begins_no_comment (b ∷ bs) = not (b == 35)
 
--- the pieces between blanks that hold something, up to the first that begins with `#`
+-- the nonempty pieces between blanks, up to the first that begins with `#`
 unfoldable pub words_of : List ℕ → List Word
 words_of line = take_while begins_no_comment (filter is_filled (slice_split is_blank line))
 
--- the bytes of a word
+-- the most bytes of a word
 abbrev pub most_word_bytes : ℕ
 most_word_bytes = 255
 
@@ -33,12 +33,12 @@ most_word_bytes = 255
 abbrev pub is_word : Word → Bool
 is_word word = is_filled word && nat_le (length word) most_word_bytes && list_all is_ascii_graphic word
 
--- the lines of a text, where there is one
+-- the lines of a text, if there is a text
 abbrev pub lines_of : Option (List ℕ) → List (List ℕ)
 lines_of None = []
 lines_of (Some text) = slice_split is_newline text
 
--- what stands before and behind the first byte that passes, or nothing where none does
+-- what is before and after the first byte that passes the test, or None if no byte passes
 abbrev pub IsCut : (ℕ → Bool) → List ℕ → Option (List ℕ × List ℕ) → Type 0
 IsCut p text None = position_or_len p text ≡ length text
 IsCut p text (Some (before, behind)) = (position_or_len p text < length text) × (before ≡ before_first p text) × (behind ≡ after_first p text)

@@ -1,7 +1,7 @@
 //! The lines of a text and the words of a line.
 //!
-//! A text is cut into lines at byte 10. Words are separated by carriage returns, tabs and spaces, and one that begins
-//! with `#` begins a comment to the end of its line.
+//! A text is cut into lines at byte 10. Words are separated by carriage returns, tabs and spaces. A word that begins
+//! with `#` begins a comment, which ends with its line.
 #![tactic(auto)]
 
 ghost use Rattle.std.specs.Prelude.{◌≡◌, ◌==◌, [], ◌∷◌, true, false, MatchOption, map, IfOk, IfSome, IfNone, option_map, option_copied, length, drop, ◌+◌, ◌≤◌};
@@ -13,21 +13,21 @@ ghost use Rattle.text_lines.specs.Words.{words_of, is_newline, is_blank, is_word
 use memchr::{memchr, memchr3};
 use std::alloc::{AllocError, Global};
 
-/// Whether the byte is a carriage return, a tab or a space.
+/// Returns whether the byte is a carriage return, a tab or a space.
 pub fn is_blank(b: u8) -> bool
     ensures { result ≡ is_blank b }
 {
     b == b'\r' || b == b'\t' || b == b' '
 }
 
-/// Whether the word has a byte.
+/// Returns whether the word has a byte.
 pub fn is_filled(word: &[u8]) -> bool
     ensures { result ≡ is_filled word.now }
 {
     !word.is_empty()
 }
 
-/// Whether the word begins no comment.
+/// Returns whether the word does not begin a comment.
 pub fn begins_no_comment(word: &[u8]) -> bool
     ensures { result ≡ begins_no_comment word.now }
 {
@@ -37,7 +37,7 @@ pub fn begins_no_comment(word: &[u8]) -> bool
     }
 }
 
-/// The words of a line, up to a comment.
+/// Returns the words of a line, up to a comment.
 #[tactic(auto, unfolding(crate::specs::Words::words_of))]
 pub fn words(alloc: Global, line: &[u8]) -> Result<Vec<&[u8]>, AllocError>
     ensures { IfOk result (λ words. map (λ w. w.now) words.items ≡ words_of line.now) }
@@ -54,18 +54,18 @@ fn is_graphic(word: &[u8]) -> bool
     word.iter().all(|b| b.is_ascii_graphic())
 }
 
-/// The most bytes of a word.
+/// The most bytes that a word may have.
 const MOST_WORD_BYTES: usize = 255;
 
-/// The word rule: 1 to 255 bytes, each from 33 to 126.
+/// Returns whether the word keeps the word rule: 1 to 255 bytes, each from 33 to 126.
 pub fn is_word(word: &[u8]) -> bool
     ensures { result ≡ is_word word.now }
 {
     is_filled(word) && word.len() <= MOST_WORD_BYTES && is_graphic(word)
 }
 
-// Where the byte stands first. A text may have millions of lines without a byte, so the first byte is looked at before
-// a search is begun.
+// Returns the first place of the byte. A text may have millions of empty lines, so the first byte is compared before a
+// search begins.
 fn place_of(text: &[u8], byte: u8) -> Option<usize>
     ensures { IsFirstByte (is_byte byte) text.now result }
 {
@@ -75,7 +75,7 @@ fn place_of(text: &[u8], byte: u8) -> Option<usize>
     }
 }
 
-/// What stands before and behind the first such byte.
+/// Returns what is before and after the first such byte, or None if there is none.
 pub fn cut_at(text: &[u8], byte: u8) -> Option<(&[u8], &[u8])>
     ensures { IsCut (λ b. b == byte) text.now (option_map (λ cut. (cut.0.now, cut.1.now)) result) }
 {
@@ -85,7 +85,7 @@ pub fn cut_at(text: &[u8], byte: u8) -> Option<(&[u8], &[u8])>
     }
 }
 
-/// The first line, and the text behind it, where a line follows.
+/// Returns the first line, and the text after it if another line follows.
 pub fn first_line(text: &[u8]) -> (&[u8], Option<&[u8]>)
     ensures lines { slice_split is_newline text.now ≡ result.0.now ∷ lines_of (option_copied result.1) }
     ensures shorter { IfSome result.1 (λ rest. length result.0.now + length rest.now + 1 ≡ length text.now) }
@@ -98,7 +98,7 @@ pub fn first_line(text: &[u8]) -> (&[u8], Option<&[u8]>)
     }
 }
 
-// The line from its first byte on that is no blank.
+// Returns the line from its first byte that is not a blank.
 fn behind_blanks(line: &[u8]) -> &[u8]
     ensures words { words_of result.now ≡ words_of line.now }
     ensures first { begins_blank result.now ≡ false }
@@ -118,7 +118,7 @@ fn begins_word(line: &[u8]) -> bool
     is_filled(line) && begins_no_comment(line)
 }
 
-// What stands before and behind the first blank.
+// Returns what is before and after the first blank, or None if there is none.
 fn cut_at_blank(text: &[u8]) -> Option<(&[u8], &[u8])>
     ensures { IsCut is_blank text.now (option_map (λ cut. (cut.0.now, cut.1.now)) result) }
 {
@@ -128,7 +128,7 @@ fn cut_at_blank(text: &[u8]) -> Option<(&[u8], &[u8])>
     }
 }
 
-// The word that the text begins with, and what stands behind it.
+// Returns the word at the start of the text, and what comes after it.
 fn cut_word(text: &[u8]) -> (&[u8], &[u8])
     requires first { begins_blank text.now ≡ false }
     requires word { begins_word text.now ≡ true }
@@ -141,7 +141,7 @@ fn cut_word(text: &[u8]) -> (&[u8], &[u8])
     }
 }
 
-/// The first word of a line and the text behind it, or nothing where the line has no word.
+/// Returns the first word of a line and the text after it, or None if the line has no word.
 pub fn next_word(line: &[u8]) -> Option<(&[u8], &[u8])>
     ensures words { MatchOption result (words_of line.now ≡ []) (λ cut. words_of line.now ≡ cut.0.now ∷ words_of cut.1.now) }
     ensures within { IfSome result (λ cut. length cut.0.now + length cut.1.now ≤ length line.now) }
