@@ -1,16 +1,16 @@
--- Bits by fours, each four the value of a digit, as a row keeps them.
+-- Bits in groups of four, each the value of a digit, as a row keeps them.
 use Rattle.std.specs.Prelude.{ℕ, ◌+◌, ◌*◌, ◌/◌, ◌%◌, ◌^◌, ◌==◌, Bool, true, false, List, [], ◌∷◌, take}
 
--- what a bit counts
+-- the number of a bit, 0 or 1
 abbrev pub bit_value : Bool → ℕ
 bit_value false = 0
 bit_value true = 1
 
--- the value of the digit of four bits, the lowest first
+-- the value of a digit from its four bits, the lowest first
 abbrev pub digit_value : Bool → Bool → Bool → Bool → ℕ
 digit_value a b c d = bit_value a + 2 * bit_value b + 4 * bit_value c + 8 * bit_value d
 
--- the values of the digits of bits, of which the first four make the first; bits past the end are 0
+-- the digits of bits; the first four bits make the first digit, and missing bits are 0
 abbrev pub digits_of : List Bool → List ℕ
 digits_of [] = []
 digits_of (a ∷ []) = digit_value a false false false ∷ []
@@ -18,7 +18,7 @@ digits_of (a ∷ b ∷ []) = digit_value a b false false ∷ []
 digits_of (a ∷ b ∷ c ∷ []) = digit_value a b c false ∷ []
 digits_of (a ∷ b ∷ c ∷ d ∷ bits) = digit_value a b c d ∷ digits_of bits
 
--- bit k of a number, the lowest at 0
+-- bit `k` of a number; bit 0 is the lowest
 abbrev pub digit_bit : ℕ → ℕ → Bool
 digit_bit value k = value / 2 ^ k % 2 == 1
 
@@ -27,6 +27,6 @@ abbrev pub bits_of : List ℕ → List Bool
 bits_of [] = []
 bits_of (x ∷ xs) = digit_bit x 0 ∷ digit_bit x 1 ∷ digit_bit x 2 ∷ digit_bit x 3 ∷ bits_of xs
 
--- the first len bits of digits
+-- the first `len` bits of digits
 unfoldable pub row_bits : ℕ → List ℕ → List Bool
 row_bits len digits = take len (bits_of digits)

@@ -1,8 +1,8 @@
--- Bits as hexadecimal text, as SVF writes them: the rightmost digit holds the bits that are shifted first.
+-- Bits as hexadecimal text in the order of SVF: the rightmost digit holds the bits that are shifted first.
 use Rattle.std.specs.Prelude.{ℕ, ◌+◌, ◌/◌, ◌==◌, Bool, true, false, not, ◌||◌, List, [], ◌∷◌, ◌++◌, length, take, drop, Option, Some, None, option_and_then, if◌then◌else◌}
 use Rattle.std.specs.List.{list_all}
 
--- the digit of four bits, the lowest first, in upper case
+-- the digit of four bits, the lowest bit first, in upper case
 abbrev pub hex_digit : Bool → Bool → Bool → Bool → ℕ
 hex_digit false false false false = 48
 hex_digit true false false false = 49
@@ -21,7 +21,7 @@ hex_digit true false true true = 68
 hex_digit false true true true = 69
 hex_digit true true true true = 70
 
--- the digits of bits, of which the first four make the rightmost digit; bits past the end are 0
+-- the digits of bits; the first four bits make the rightmost digit, and missing bits are 0
 abbrev pub hex_text : List Bool → List ℕ
 hex_text [] = []
 hex_text (a ∷ []) = hex_digit a false false false ∷ []
@@ -29,7 +29,7 @@ hex_text (a ∷ b ∷ []) = hex_digit a b false false ∷ []
 hex_text (a ∷ b ∷ c ∷ []) = hex_digit a b c false ∷ []
 hex_text (a ∷ b ∷ c ∷ d ∷ bits) = hex_text bits ++ hex_digit a b c d ∷ []
 
--- how many digits n bits have
+-- the number of digits for `n` bits
 abbrev pub digit_count : ℕ → ℕ
 digit_count n = (n + 3) / 4
 
@@ -58,15 +58,15 @@ joined_bits None b = None
 joined_bits (Some a) None = None
 joined_bits (Some a) (Some b) = Some (a ++ b)
 
--- the bits of digits, where all are digits
+-- the bits of digits, or None if a byte is not a digit
 abbrev pub text_bits : List ℕ → Option (List Bool)
 text_bits [] = Some []
 text_bits (c ∷ cs) = joined_bits (text_bits cs) (digit_bits c)
 
--- the first n bits, where no bit above them is 1
+-- the first `n` bits, or None if a bit above them is 1
 abbrev pub cut_to : ℕ → List Bool → Option (List Bool)
 cut_to n bits = if list_all not (drop n bits) then Some (take n bits) else None
 
--- the n bits of a field: it has as many digits as they need, and no bit above them
+-- the `n` bits of a field, which has just as many digits as they need and no 1 above them
 abbrev pub field_bits : ℕ → List ℕ → Option (List Bool)
 field_bits n digits = if length digits == digit_count n then option_and_then (cut_to n) (text_bits digits) else None

@@ -1,12 +1,12 @@
--- Rows of one length that are kept side by side.
+-- Rows of equal length, kept side by side.
 use Rattle.std.specs.Prelude.{ℕ, ◌*◌, ◌/◌, ◌%◌, ◌^◌, ◌<◌, Bool, List, map, refl}
 use Rattle.std.specs.Coded.{Coded, code_by, coded×, coded_ℕ, coded_list}
 use Rattle.bt_bits.specs.Digits.{digit_bit, row_bits}
 use Rattle.bt_bits.specs.Rows.{AreDigitsOf}
 use Rattle.bt_bits.specs.declared.stack.Column.{Column}
 
--- words of 64 bits, each with the digits that 16 rows have at one place, that of row 0 lowest; how many bits each row has, and how many it
--- has room for
+-- words of 64 bits, each with the digits of 16 rows at one place, row 0 in the lowest digit; the number of bits of each row; and the number
+-- that it has room for
 pub record Stack : Type 0 where
   pub words : List ℕ
   pub len : ℕ
@@ -15,18 +15,18 @@ pub record Stack : Type 0 where
 abbrev pub stack_code : Coded Stack
 stack_code = code_by (List ℕ × (ℕ × ℕ)) (coded× (coded_list coded_ℕ) (coded× coded_ℕ coded_ℕ)) (λ s. (s.words, (s.len, s.room))) (λ p. record { words = p.0; len = p.1.0; room = p.1.1 }) (λ _. refl)
 
--- the digit of row j in a word
+-- the digit of row `j` in a word
 abbrev pub digit_in : ℕ → ℕ → ℕ
 digit_in j word = word / 2 ^ (4 * j) % 16
 
--- row j
+-- row `j`
 abbrev pub stacked : Stack → ℕ → List Bool
 stacked stack j = row_bits stack.len (map (digit_in j) stack.words)
 
--- the words have the digits of 16 rows of so many bits
+-- there are as many words as 16 rows of this length have digits
 abbrev pub AreStacked : ℕ → List ℕ → Type 0
 AreStacked len words = (j : ℕ) → j < 16 → AreDigitsOf (row_bits len (map (digit_in j) words)) len (map (digit_in j) words)
 
--- the bit that a column has for row j: the lowest one of its digit
+-- the bit of a column for row `j`: the lowest bit of digit `j`
 abbrev pub column_bit : Column → ℕ → Bool
 column_bit column j = digit_bit column.word (4 * j)

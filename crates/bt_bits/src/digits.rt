@@ -1,4 +1,4 @@
-// Bits kept by fours, each four the value of a digit, and the hexadecimal text of digits.
+// Bits in groups of four, each the value of a digit, and the hexadecimal text of digits.
 ghost use Rattle.std.specs.Prelude.{◌≡◌, ◌+◌, ◌-◌, ◌*◌, ◌/◌, ◌<◌, ◌≤◌, ◌^◌, ◌%◌, ◌==◌, Bool, List, ℕ, [], ◌∷◌, ◌++◌, length, take, drop, replicate, false, not, Some, None, MatchOption, MatchBool, vec_capacity, All};
 ghost use Rattle.std.specs.Bool.{OnTrue, OnFalse};
 ghost use Rattle.std.specs.List.{list_all, list_any};
@@ -9,10 +9,10 @@ ghost use Rattle.bt_bits.specs.Rows.{AreDigitsOf};
 
 use crate::Line;
 
-// What stands for the value of a byte that is no digit.
+// The value that marks a byte that is not a digit.
 const NO_VALUE: u8 = 16;
 
-// How many digits so many bits have.
+// Returns the number of digits for `len` bits.
 #[inline]
 pub fn digit_count(bits: usize) -> usize
     requires { bits < 2 ^ 63 }
@@ -21,7 +21,7 @@ pub fn digit_count(bits: usize) -> usize
     (bits + 3) / 4
 }
 
-/// Bit `k` of the value of a digit, the lowest at 0.
+/// Returns bit `k` of a digit. Bit 0 is the lowest.
 #[inline]
 pub fn digit_bit(digit: u8, k: u32) -> bool
     requires { k < 8 }
@@ -30,14 +30,14 @@ pub fn digit_bit(digit: u8, k: u32) -> bool
     (digit >> k) & 1 == 1
 }
 
-// Whether some digit has a bit that is 1.
+// Returns whether some bit of some digit is 1.
 pub fn has_one(digits: &[u8]) -> bool
     ensures { result ≡ list_any (λ x. not (x == 0)) digits.now }
 {
     digits.iter().any(|digit| *digit != 0)
 }
 
-// A digit with its bit `k` changed.
+// Returns a digit with its bit `k` changed.
 #[inline]
 pub fn with_bit(digit: u8, k: u32, bit: bool) -> u8
     requires { k < 4 }
@@ -46,7 +46,7 @@ pub fn with_bit(digit: u8, k: u32, bit: bool) -> u8
     digit - (digit & (1 << k)) + (u8::from(bit) << k)
 }
 
-// The value of the digit of four bits, the lowest first.
+// Returns the value of a digit from its four bits, the lowest first.
 #[inline]
 fn value(a: bool, b: bool, c: bool, d: bool) -> u8
     ensures { result ≡ digit_value a b c d }
@@ -56,7 +56,7 @@ fn value(a: bool, b: bool, c: bool, d: bool) -> u8
     low + 4 * high
 }
 
-// The value of the digit of the bits above the last whole digit.
+// Returns the digit of the bits after the last whole group of four.
 fn top_value(bits: &[bool]) -> u8
     requires some { 0 < length bits.now }
     requires few { length bits.now < 4 }
@@ -70,7 +70,7 @@ fn top_value(bits: &[bool]) -> u8
     }
 }
 
-// Fills a place for each digit of the bits.
+// Fills `digits` with the digits of the bits.
 #[inline]
 fn fill_values(bits: &[bool], digits: &mut [u8])
     requires { length digits.old ≡ digit_count (length bits.now) }
@@ -86,7 +86,7 @@ fn fill_values(bits: &[bool], digits: &mut [u8])
     }
 }
 
-// Makes digits those of so many zeros, for which they have room.
+// Replaces the digits by those of `len` zeros. There must be room for them.
 pub fn make_zeros(len: usize, digits: &mut Vec<u8>)
     requires few { len < 2 ^ 63 }
     requires room { digit_count len ≤ vec_capacity digits.old }
@@ -97,7 +97,7 @@ pub fn make_zeros(len: usize, digits: &mut Vec<u8>)
     digits.resize(digit_count(len), 0).unwrap();
 }
 
-// Makes digits those of bits, for which they have room.
+// Replaces the digits by those of the bits. There must be room for them.
 pub fn copy_bits(bits: &[bool], digits: &mut Vec<u8>)
     requires few { length bits.now < 2 ^ 63 }
     requires room { digit_count (length bits.now) ≤ vec_capacity digits.old }
@@ -108,7 +108,7 @@ pub fn copy_bits(bits: &[bool], digits: &mut Vec<u8>)
     fill_values(bits, digits);
 }
 
-// The hexadecimal digit of a value, in upper case.
+// Returns the hexadecimal digit with a value, in upper case.
 #[inline]
 fn digit_char(value: u8) -> u8
     requires { value < 16 }
@@ -121,7 +121,7 @@ fn digit_char(value: u8) -> u8
     }
 }
 
-// Fills a place for each digit with its text.
+// Writes the text of each digit to its place.
 #[inline]
 pub fn fill_text(digits: &[u8], text: &mut [u8])
     requires below { All (λ x. x < 16) digits.now }
@@ -134,7 +134,7 @@ pub fn fill_text(digits: &[u8], text: &mut [u8])
     }
 }
 
-// Pushes so much of the text of the digits, from one digit on from the left.
+// Appends `count` characters of the text of the digits to the line, from character `from` on.
 pub fn push_text(digits: &[u8], from: usize, count: usize, line: &mut Line)
     requires below { All (λ x. x < 16) digits.now }
     requires digits { from + count ≤ length digits.now }
@@ -145,8 +145,8 @@ pub fn push_text(digits: &[u8], from: usize, count: usize, line: &mut Line)
     line.push_digits(&digits[low..low + count]);
 }
 
-// The value of a hexadecimal digit of either case, or 16 for another byte. Ranges, and not a table or one digit after
-// the other, let the compiler take many bytes at once.
+// Returns the value of a hexadecimal digit of either case, or 16 for any other byte. The compiler vectorizes ranges, and would
+// not vectorize a table.
 #[inline]
 fn value_of(c: u8) -> u8
     ensures { IsValueOf c result }
@@ -159,8 +159,8 @@ fn value_of(c: u8) -> u8
     }
 }
 
-// Fills a place for each byte with its value, from the right, and says whether all bytes are digits. It does not stop
-// at one that is none, so that the loop has one way out.
+// Fills `digits` with the values of the bytes, from the right, and returns whether all bytes are digits. It does not stop at a
+// byte that is not a digit, so that the loop has one exit.
 fn fill_digits(text: &[u8], digits: &mut [u8]) -> bool
     requires { length digits.old ≡ length text.now }
     ensures { AreRead text.now 0 digits.new result }
@@ -175,7 +175,7 @@ fn fill_digits(text: &[u8], digits: &mut [u8]) -> bool
     most < NO_VALUE
 }
 
-// Whether no bit of a digit from bit `count` on is 1.
+// Returns whether all bits of a digit from bit `count` on are 0.
 fn is_digit_cut(digit: u8, count: usize) -> bool
     requires some { 0 < count }
     requires few { count < 4 }
@@ -189,7 +189,7 @@ fn is_digit_cut(digit: u8, count: usize) -> bool
     }
 }
 
-// Whether no bit from `len` on is 1.
+// Returns whether all bits from `len` on are 0.
 fn is_cut(digits: &[u8], len: usize) -> bool
     requires { length digits.now ≡ digit_count len }
     ensures { result ≡ list_all not (drop len (bits_of digits.now)) }
@@ -198,7 +198,7 @@ fn is_cut(digits: &[u8], len: usize) -> bool
     count == 0 || is_digit_cut(digits[len / 4], count)
 }
 
-// Reads the field of so many bits into places for its digits, and says whether there is one.
+// Reads the field of `len` bits into `digits`, and returns whether the text is such a field.
 pub fn fill_field(text: &[u8], len: usize, digits: &mut [u8]) -> bool
     requires text { length text.now ≡ digit_count len }
     requires places { length digits.old ≡ digit_count len }
@@ -208,8 +208,8 @@ pub fn fill_field(text: &[u8], len: usize, digits: &mut [u8]) -> bool
     fill_digits(text, digits) && is_cut(digits, len)
 }
 
-// Reads the field of so many bits into a vector with room for its digits, and says whether there is one. Where there
-// is none, the digits are those of as many zeros.
+// Reads the field of `len` bits into a vector with room for its digits, and returns whether the text is such a field. If it
+// isn't, the digits become those of `len` zeros.
 pub fn read_field(text: &[u8], len: usize, digits: &mut Vec<u8>) -> bool
     requires few { len < 2 ^ 63 }
     requires digits { length text.now ≡ digit_count len }

@@ -15,22 +15,22 @@ use std::alloc::{AllocError, Global};
 use std::marker::Model;
 use thiserror::Error;
 
-/// Why a text is not the hexadecimal field of a row.
+/// The reason why a text is not the hexadecimal field of a row.
 #[derive(Clone, Copy, Debug, PartialEq, Eq, Error)]
 pub enum HexFault {
     /// The text has more or fewer digits than the bits need.
     #[error("wrong number of digits")]
     Length,
-    /// A byte is no hexadecimal digit, or a bit above the row's bits is 1.
+    /// A byte is not a hexadecimal digit, or a bit above the bits of the row is 1.
     #[error("wrong digit")]
     Digit,
 }
 
-/// The bits of one register, the one that is shifted first at place 0, and a room that is never left. Its memory, a
-/// byte for each four bits of the room, is taken when it is made.
+/// The bits of a register, with the bit that is shifted first at place 0, and a room that the row never exceeds. The row takes
+/// its memory, one byte for each four bits of the room, when it is made.
 #[derive(Drop)]
 pub struct Row {
-    // The values of the digits of the bits, the first bit lowest in the first.
+    // The digits of the bits. The first bit is the lowest bit of the first digit.
     digits: Vec<u8>,
     len: u32,
     room: u32,
@@ -52,7 +52,7 @@ impl Model for Row {
 }
 
 impl Row {
-    /// An empty row with room for so many bits.
+    /// Returns an empty row with room for `room` bits.
     pub fn with_room(alloc: Global, room: u32) -> Result<Row, AllocError>
         ensures bits { IfOk result (λ r. r.bits ≡ []) }
         ensures room { IfOk result (λ r. r.room ≡ room) }
@@ -64,7 +64,7 @@ impl Row {
         })
     }
 
-    /// Makes the row so many zeros.
+    /// Replaces the row by `len` zeros.
     pub fn clear(&mut self, len: u32)
         requires { len ≤ self.old.room }
         ensures bits { self.new.bits ≡ replicate len false }
@@ -74,7 +74,7 @@ impl Row {
         self.len = len;
     }
 
-    /// Makes the row these bits, for which it has room.
+    /// Replaces the row by these bits. There must be room for them.
     pub fn copy_from(&mut self, bits: &[bool])
         requires { length bits.now ≤ self.old.room }
         ensures bits { self.new.bits ≡ bits.now }
@@ -84,7 +84,7 @@ impl Row {
         self.len = bits.len() as u32;
     }
 
-    /// Makes the row the bits of another, for which it has room.
+    /// Replaces the row by the bits of another one. There must be room for them.
     pub fn copy_row(&mut self, row: &Row)
         requires { length row.now.bits ≤ self.old.room }
         ensures bits { self.new.bits ≡ row.now.bits }
@@ -95,7 +95,7 @@ impl Row {
         self.len = row.len;
     }
 
-    /// Makes the row the one with this number of a stack, for which it has room.
+    /// Replaces the row by row `number` of a stack. There must be room for it.
     pub fn copy_stacked(&mut self, rows: &RowStack, number: u32)
         requires number { number < 16 }
         requires room { length (stacked rows.now number) ≤ self.old.room }
@@ -106,7 +106,7 @@ impl Row {
         self.len = rows.len();
     }
 
-    /// The values of the row's hexadecimal digits, of which the first has the first four bits.
+    /// Returns the values of the hexadecimal digits of the row. The first one has the first four bits.
     #[inline]
     pub fn digits(&self) -> &[u8]
         ensures { result.now ≡ digits_of self.now.bits }
@@ -114,7 +114,7 @@ impl Row {
         &self.digits
     }
 
-    /// How many bits the row has.
+    /// Returns the number of bits of the row.
     #[inline]
     pub fn len(&self) -> u32
         ensures value { result ≡ length self.now.bits }
@@ -123,7 +123,7 @@ impl Row {
         self.len
     }
 
-    /// One bit.
+    /// Returns one bit.
     #[inline]
     pub fn get(&self, i: u32) -> bool
         requires { i < length self.now.bits }
@@ -132,7 +132,7 @@ impl Row {
         digit_bit(self.digits[(i / 4) as usize], i % 4)
     }
 
-    /// Whether some bit is 1.
+    /// Returns whether some bit is 1.
     pub fn has_one(&self) -> bool
         ensures { result ≡ list_any (λ bit. bit) self.now.bits }
     {
@@ -150,8 +150,8 @@ impl Row {
         self.digits[place] = with_bit(self.digits[place], i % 4, bit);
     }
 
-    /// Appends `count` digits of the row's field in upper case, beginning at digit `from` from the left. The
-    /// rightmost digit holds the first four bits.
+    /// Appends `count` digits of the field of the row to the line, in upper case, from digit `from` on from the left. The rightmost
+    /// digit holds the first four bits.
     pub fn put_hex(&self, from: u32, count: u32, line: &mut Line)
         requires digits { from + count ≤ digit_count (length self.now.bits) }
         requires room { length line.old + count ≤ 1024 }
@@ -160,9 +160,9 @@ impl Row {
         push_text(&self.digits, from as usize, count as usize, line);
     }
 
-    /// Takes the row's `len` bits from a field of hexadecimal digits of either case. It is refused with `Length`
-    /// where it has not one digit for each four bits, the last ones rounded up, and then with `Digit` where a byte
-    /// is no digit or a bit at `len` or above is 1. After a refusal the row is `len` zeros.
+    /// Reads `len` bits from a field of hexadecimal digits of either case. Refuses the field with `Length` if it doesn't have one
+    /// digit for each four bits, rounded up; otherwise with `Digit` if a byte is not a digit or a bit from `len` on is 1. After a
+    /// refusal the row is `len` zeros.
     pub fn read_hex(&mut self, text: &[u8], len: u32) -> Result<(), HexFault>
         requires { len ≤ self.old.room }
         ensures ok { OnOk result (field_bits len text.now ≡ Some self.new.bits) }
@@ -186,8 +186,8 @@ impl Row {
     }
 }
 
-/// Fills a place for each digit of a row of `len` bits from a field, as `Row::read_hex` reads it. The first place has the
-/// first four bits. What the places hold after a refusal is not said.
+/// Reads the field of a row of `len` bits into `digits`, by the rules of `Row::read_hex`. The first digit has the first four
+/// bits. After a refusal the digits may be any.
 pub fn read_digits(text: &[u8], len: u32, digits: &mut [u8]) -> Result<(), HexFault>
     requires { length digits.old ≡ digit_count len }
     ensures ok { OnOk result (field_bits len text.now ≡ Some (row_bits len digits.new)) }

@@ -1,4 +1,4 @@
-// Rows of one length that are kept side by side, so that one place of all of them is set at once.
+// Rows of equal length, kept side by side, so that one store sets a place in all of them.
 ghost use Rattle.std.specs.Prelude.{◌≡◌, ◌<◌, ◌≤◌, ◌*◌, ℕ, [], All, length, map, vec_capacity, IfOk, slice_set};
 ghost use Rattle.bt_bits.specs.Digits.{digit_bit};
 ghost use Rattle.bt_bits.specs.Stacks.{AreStacked, column_bit, digit_in, stacked};
@@ -12,20 +12,20 @@ use std::marker::Model;
 // The lowest bit of each digit of a word.
 const LOWEST: u64 = 0x1111_1111_1111_1111;
 
-// The bits of a digit, each as the lowest bit of a digit of its own.
+// The four bits of each digit, spread to the lowest bits of four digits.
 const SPREAD: [u64; 16] = [
     0x0000, 0x0001, 0x0010, 0x0011, 0x0100, 0x0101, 0x0110, 0x0111, 0x1000, 0x1001, 0x1010, 0x1011,
     0x1100, 0x1101, 0x1110, 0x1111,
 ];
 
-/// What 16 rows have at one place: a bit for each row.
+/// The bits of 16 rows at one place.
 #[derive(Clone, Copy, Debug)]
 pub struct Column {
     word: u64,
 }
 
 impl Column {
-    /// The column that has bit `j` of a number, the lowest at 0, for row `j`.
+    /// Returns the column that has bit `j` of a number for row `j`. Bit 0 is the lowest.
     #[inline]
     pub fn of(number: u32) -> Column
         ensures { (j : ℕ) → j < 16 → column_bit result j ≡ digit_bit number j }
@@ -41,7 +41,7 @@ impl Column {
         }
     }
 
-    /// The column that has this bit for each row.
+    /// Returns the column that has this bit for every row.
     #[inline]
     pub fn of_bit(bit: bool) -> Column
         ensures { (j : ℕ) → j < 16 → column_bit result j ≡ bit }
@@ -52,7 +52,7 @@ impl Column {
     }
 }
 
-// Fills a place for each word with its digit of row `number`. Slices, and no vectors, let the compiler take many words at once.
+// Fills `digits` with the digits of row `number`. The compiler vectorizes the loop over slices, and not one over vectors.
 fn fill_digits(words: &[u64], number: u32, digits: &mut [u8])
     requires number { number < 16 }
     requires places { length digits.old ≡ length words.now }
@@ -64,7 +64,7 @@ fn fill_digits(words: &[u64], number: u32, digits: &mut [u8])
     }
 }
 
-// Makes digits those of row `number`, for which they have room.
+// Replaces the digits by those of row `number`. There must be room for them.
 pub fn copy_digits(words: &[u64], number: u32, digits: &mut Vec<u8>)
     requires number { number < 16 }
     requires room { length words.now ≤ vec_capacity digits.old }
@@ -75,7 +75,7 @@ pub fn copy_digits(words: &[u64], number: u32, digits: &mut Vec<u8>)
     fill_digits(words, number, digits);
 }
 
-// Makes words that have these digits in each row, for which they have room.
+// Replaces the words by those that have these digits in each row. There must be room for them.
 fn spread_digits(digits: &[u8], words: &mut Vec<u64>)
     requires below { All (λ x. x < 16) digits.now }
     requires room { length digits.now ≤ vec_capacity words.old }
@@ -88,7 +88,7 @@ fn spread_digits(digits: &[u8], words: &mut Vec<u64>)
     }
 }
 
-// A word with bit `k` of each digit taken from a column.
+// Returns a word with bit `k` of each digit taken from a column.
 #[inline]
 fn with_column(word: u64, k: u32, column: Column) -> u64
     requires { k < 4 }
@@ -98,11 +98,11 @@ fn with_column(word: u64, k: u32, column: Column) -> u64
     (word & !mask) | ((column.word << k) & mask)
 }
 
-/// 16 rows of one length, numbered from 0, and a room that they never leave. Its memory, eight bytes for each four bits of the room,
-/// is taken when it is made.
+/// 16 rows of equal length, numbered from 0, and a room that they never exceed. The stack takes its memory, eight bytes for each four
+/// bits of the room, when it is made.
 #[derive(Drop)]
 pub struct RowStack {
-    // For each place of a digit the digits of all rows, that of row 0 lowest.
+    // For each place, the digits of all rows, row 0 in the lowest digit.
     words: Vec<u64>,
     len: u32,
     room: u32,
@@ -123,7 +123,7 @@ impl Model for RowStack {
 }
 
 impl RowStack {
-    /// Empty rows with room for so many bits each.
+    /// Returns empty rows with room for `room` bits each.
     pub fn with_room(alloc: Global, room: u32) -> Result<RowStack, AllocError>
         ensures rows { IfOk result (λ stack. (j : ℕ) → j < 16 → stacked stack j ≡ []) }
         ensures room { IfOk result (λ stack. stack.room ≡ room) }
@@ -135,7 +135,7 @@ impl RowStack {
         })
     }
 
-    /// How many bits each row has.
+    /// Returns the number of bits of each row.
     #[inline]
     pub fn len(&self) -> u32
         ensures value { result ≡ self.now.len }
@@ -144,7 +144,7 @@ impl RowStack {
         self.len
     }
 
-    // For each place of a digit the digits of all rows.
+    // Returns, for each place, the digits of all rows.
     pub(crate) fn words(&self) -> &[u64]
         ensures words { result.now ≡ self.now.words }
         ensures stacked { AreStacked self.now.len self.now.words }
@@ -152,7 +152,7 @@ impl RowStack {
         &self.words
     }
 
-    /// Makes each of the rows this one, for which they have room.
+    /// Replaces each of the rows by this one. There must be room for it.
     pub fn fill_with(&mut self, row: &Row)
         requires { length row.now.bits ≤ self.old.room }
         ensures rows { (j : ℕ) → j < 16 → stacked self.new j ≡ row.now.bits }
@@ -162,7 +162,7 @@ impl RowStack {
         self.len = row.len();
     }
 
-    /// Makes the rows those of another stack, for which they have room.
+    /// Replaces the rows by those of another stack. There must be room for them.
     pub fn copy_from(&mut self, rows: &RowStack)
         requires { length (stacked rows.now 0) ≤ self.old.room }
         ensures rows { (j : ℕ) → j < 16 → stacked self.new j ≡ stacked rows.now j }
@@ -173,7 +173,7 @@ impl RowStack {
         self.len = rows.len;
     }
 
-    /// Changes one bit of each row. A place past the end is passed over.
+    /// Sets one place in all rows. Past the end it does nothing.
     #[inline]
     pub fn set(&mut self, i: u32, column: Column)
         ensures rows { (j : ℕ) → j < 16 → stacked self.new j ≡ slice_set (stacked self.old j) i (column_bit column j) }

@@ -14,10 +14,10 @@ use bt_base::{PutFault, Sink};
 use bt_bits::{Line, Row};
 use tap_defs::{ScanRows, Shape};
 
-// How many bits the marks of the data scan have.
+// The number of bits of the marks in the data scan.
 const MARKS: u32 = 8;
 
-// Makes a row so many ones.
+// Replaces a row by `len` ones.
 fn fill_ones(len: u32, row: &mut Row)
     requires { len ≤ row.old.room }
     ensures bits { row.new.bits ≡ replicate len true }
@@ -29,7 +29,7 @@ fn fill_ones(len: u32, row: &mut Row)
     }
 }
 
-// Sets the marks, A5, from a place on.
+// Sets the marks, the bits of A5, from a place on.
 fn set_marks(at: u32, row: &mut Row)
     requires few { at ≤ most_parts }
     requires bits { at + 8 ≤ length row.old.bits }
@@ -42,7 +42,7 @@ fn set_marks(at: u32, row: &mut Row)
     row.set(at + 7, true);
 }
 
-// Fills the rows of the data scan of so many parts: the marks are shifted in, and come out as many places later.
+// Fills the rows of the data scan of `parts` parts: the marks are shifted in and come out `parts` bits later.
 fn fill_marks(parts: u32, rows: &mut ScanRows)
     requires few { parts ≤ most_parts }
     requires room { EachHasRoom (λ room. parts + 8 ≤ room) rows.old }
@@ -56,7 +56,7 @@ fn fill_marks(parts: u32, rows: &mut ScanRows)
     fill_ones(parts + MARKS, rows.mask);
 }
 
-// Sets what is compared of one part's instruction, whose lowest bit has this position: 01 in the two lowest bits.
+// Sets what is compared of one part's instruction register: 01 at its two lowest bits, the lowest of which has position `at`.
 fn set_capture(at: u32, tdo: &mut Row, mask: &mut Row)
     requires few { at ≤ most_bits }
     requires tdo { at + 2 ≤ length tdo.old.bits }
@@ -71,7 +71,7 @@ fn set_capture(at: u32, tdo: &mut Row, mask: &mut Row)
     mask.set(at + 1, true);
 }
 
-// Sets what is compared of the parts' instructions, the last part's first.
+// Sets what is compared of all instruction registers, the last part's first.
 fn set_captures(lengths: &[u32], tdo: &mut Row, mask: &mut Row)
     requires each { All (λ n. 2 ≤ n) lengths.now }
     requires total { sum lengths.now ≤ most_bits }
@@ -89,7 +89,7 @@ fn set_captures(lengths: &[u32], tdo: &mut Row, mask: &mut Row)
     }
 }
 
-// How many instruction bits the parts have.
+// Returns the number of instruction bits of all parts.
 fn bits_of(lengths: &[u32]) -> u32
     requires { sum lengths.now ≤ most_bits }
     ensures { result ≡ sum lengths.now }
@@ -97,7 +97,7 @@ fn bits_of(lengths: &[u32]) -> u32
     lengths.iter().sum()
 }
 
-// Fills the rows of the instruction scan: ones are shifted in, and 01 comes out of each part.
+// Fills the rows of the instruction scan: ones are shifted in, and 01 is expected of each part.
 fn fill_codes(lengths: &[u32], rows: &mut ScanRows)
     requires each { All (λ n. 2 ≤ n) lengths.now }
     requires total { sum lengths.now ≤ most_bits }
@@ -135,7 +135,7 @@ fn write_codes<K: Sink>(
     write_scan(shape, rows.tdi, rows.tdo, rows.mask, line, out)
 }
 
-// Puts the data scan of so many parts.
+// Puts the data scan of `parts` parts.
 fn write_marks<K: Sink>(
     parts: u32,
     rows: &mut ScanRows,
@@ -174,12 +174,12 @@ fn write_scans<K: Sink>(
     write_marks(lengths.len() as u32, rows, line, out)
 }
 
-/// Puts the two scans of the chain test of parts with these instruction lengths, in the order from TDI to TDO. The
-/// first shifts ones, BYPASS, into every instruction register and compares the 01 that each loads in Capture-IR. The
-/// second shifts A5 through the bypass registers and compares it as many positions later as there are parts. There are
-/// 1 to 255 parts with lengths from 2 to 255, and the rows have room for both scans. No memory is taken, and the rows
-/// and the line serve to write in: nothing is said of what they hold afterwards. It fails only where the sink does, and
-/// then a prefix of the text was put.
+/// Puts the two scans of the chain test of parts with these instruction lengths, in the order from TDI to TDO. The first scan
+/// shifts ones, which are BYPASS, into every instruction register and compares the 01 that each of them loads in Capture-IR
+/// (IEEE 1149.1-1990, section 6). The second one shifts A5 through the bypass registers and compares it as many bits later as
+/// there are parts. There must be 1 to 255 parts with lengths from 2 to 255, and room for both scans. It takes no memory. The
+/// rows and the line are scratch space and may hold anything afterwards. It fails only if the sink does; then a prefix of the
+/// text was put.
 pub fn write_chain<K: Sink>(
     lengths: &[u32],
     tdi: &mut Row,

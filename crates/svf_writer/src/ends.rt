@@ -4,8 +4,8 @@ ghost use Rattle.tap_defs.specs.chain.Text.{head_text, tail_text};
 
 use bt_base::{PutFault, Sink};
 
-/// Puts the lines that stand before the scans: TRST* is inactive, a scan ends in Run-Test/Idle, and the test begins
-/// there after a reset. It fails only where the sink does, and then a prefix of the text was put.
+/// Puts the lines before the scans: TRST* is inactive, scans end in Run-Test/Idle, and the test begins there after a reset. It
+/// fails only if the sink does; then a prefix of the text was put.
 pub fn write_head<K: Sink>(out: &mut K) -> Result<(), PutFault>
     ensures { Puts (K.shown out.old) (K.shown out.new) head_text result }
 {
@@ -16,7 +16,7 @@ pub fn write_head<K: Sink>(out: &mut K) -> Result<(), PutFault>
     out.put(b"STATE IDLE;\n")
 }
 
-/// Puts the line that stands after the scans: a reset. It fails only where the sink does.
+/// Puts the line after the scans: a reset. It fails only if the sink does.
 pub fn write_tail<K: Sink>(out: &mut K) -> Result<(), PutFault>
     ensures { Puts (K.shown out.old) (K.shown out.new) tail_text result }
 {

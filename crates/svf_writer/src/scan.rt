@@ -13,10 +13,10 @@ use bt_base::{PutFault, Sink};
 use bt_bits::{Line, Row};
 use tap_defs::Shape;
 
-// How many characters a scan in one line has at most.
+// The most characters of a scan that is written in one line.
 const MAX_SHORT: usize = 80;
 
-// How many digits a line of a longer scan has at most.
+// The most digits in a line of a longer scan.
 const LINE_DIGITS: u32 = 64;
 
 // Begins a line with the command and the length of a scan.
@@ -30,7 +30,7 @@ fn begin(ir: bool, tdi: &Row, line: &mut Line)
     line.push_number(u64::from(tdi.len()));
 }
 
-// How many digits a row's field has.
+// Returns the number of digits of a row's field.
 fn digit_count(row: &Row) -> u32
     requires { length row.now.bits ≤ most_bits }
     ensures { result ≡ digit_count (length row.now.bits) }
@@ -49,7 +49,7 @@ fn push_field(label: &[u8], row: &Row, line: &mut Line)
     row.put_hex(0, digit_count(row), line);
 }
 
-// Ends the line of a scan with its fields.
+// Appends the fields of a scan to its line and ends it.
 fn push_fields(compare: bool, tdi: &Row, tdo: &Row, mask: &Row, line: &mut Line)
     requires bits { length tdi.now.bits ≤ most_bits }
     requires tdo { length tdo.now.bits ≡ length tdi.now.bits }
@@ -65,7 +65,7 @@ fn push_fields(compare: bool, tdi: &Row, tdo: &Row, mask: &Row, line: &mut Line)
     line.push(b");\n");
 }
 
-// How long the fields of a scan are in one line.
+// Returns the length of the fields of a scan in one line.
 fn fields_length(compare: bool, digits: u32) -> usize
     requires { digits ≤ most_bits }
     ensures { result ≡ fields_length compare digits }
@@ -78,7 +78,7 @@ fn fields_length(compare: bool, digits: u32) -> usize
     }
 }
 
-// Ends a line with as many digits as it has room for, puts it, and leaves it empty.
+// Fills a line with digits, puts it, and empties it.
 fn put_full_line<K: Sink>(
     row: &Row,
     from: u32,
@@ -98,7 +98,7 @@ fn put_full_line<K: Sink>(
     done
 }
 
-// Whether the fields of a scan have room in the line that its command begins.
+// Returns whether the fields of a scan fit into the line that its command begins.
 fn has_room(compare: bool, tdi: &Row, line: &Line) -> bool
     requires { length tdi.now.bits ≤ most_bits }
     ensures { IsTrue result ↔ (length line.now + fields_length compare (digit_count (length tdi.now.bits)) ≤ 80) }
@@ -106,7 +106,7 @@ fn has_room(compare: bool, tdi: &Row, line: &Line) -> bool
     line.len() + fields_length(compare, digit_count(tdi)) <= MAX_SHORT
 }
 
-// Puts a field in lines: a label, digits in lines of 64, and an end.
+// Puts a field in lines of its own: a label, digits in lines of 64, and an end.
 fn put_field<K: Sink>(
     label: &[u8],
     row: &Row,
@@ -132,7 +132,7 @@ fn put_field<K: Sink>(
     out.put(line.bytes())
 }
 
-// Puts the fields of a scan that is compared, each in lines of its own.
+// Puts the fields of a scan with compared bits, each in lines of its own.
 fn put_compared<K: Sink>(
     tdi: &Row,
     tdo: &Row,
@@ -173,7 +173,7 @@ fn put_fields<K: Sink>(
     }
 }
 
-// Puts the line of a longer scan's command, and then its fields.
+// Puts the line of the command of a longer scan, and then its fields.
 fn put_lines<K: Sink>(
     compare: bool,
     tdi: &Row,
@@ -194,11 +194,10 @@ fn put_lines<K: Sink>(
     put_fields(compare, tdi, tdo, mask, line, out)
 }
 
-/// Puts the statement of a scan, in one line where that has at most 80 characters, and else each field in lines of
-/// at most 64 digits (SVF Revision E, SIR and SDR). The rows have one length, from 1 to 65,535, and `shape.compare`
-/// says whether the mask has a 1; a bit of TDO is 1 only where that of the mask is 1. Each line goes out in one put. No
-/// memory is taken, and the line serves to write in. It fails only where the sink does, and then a prefix of the text
-/// was put.
+/// Puts the statement of a scan (SVF Revision E, SIR and SDR): in one line if that has at most 80 characters, otherwise with
+/// each field in lines of at most 64 digits. The rows must have one length, from 1 to 65,535; `shape.compare` must say whether
+/// the mask has a 1; and each bit of TDO that is 1 must have a 1 in the mask. Each line goes out in one put. It takes no
+/// memory, and the line is scratch space. It fails only if the sink does; then a prefix of the text was put.
 pub fn write_scan<K: Sink>(
     shape: Shape,
     tdi: &Row,

@@ -7,7 +7,7 @@ use Rattle.tap_defs.specs.chain.Text.{command_word, gap, laid, broken}
 abbrev pub command_text : Bool → List Bool → List ℕ
 command_text ir tdi = command_word ir ++ 32 ∷ decimal (length tdi)
 
--- from the end of TDI on: TDO and MASK, where something is compared
+-- what follows TDI: TDO and MASK, if a bit is compared
 abbrev pub rest_text : Bool → List Bool → List Bool → Bool → List ℕ
 rest_text long tdo mask false = codes ");"
 rest_text long tdo mask true =
@@ -17,12 +17,12 @@ rest_text long tdo mask true =
 abbrev pub fields_text : Bool → List Bool → List Bool → List Bool → Bool → List ℕ
 fields_text long tdi tdo mask compare = gap long ∷ codes "TDI (" ++ (laid long (hex_text tdi) ++ rest_text long tdo mask compare)
 
--- how long the fields are in one line
+-- the length of the fields in one line
 abbrev pub fields_length : Bool → ℕ → ℕ
 fields_length true digits = 3 * digits + 23
 fields_length false digits = digits + 8
 
--- the fields in lines of their own
+-- the fields, each in lines of its own
 abbrev pub fields_lines : List Bool → List Bool → List Bool → Bool → List ℕ
 fields_lines tdi tdo mask false = codes "TDI (" ++ (broken 64 (hex_text tdi) ++ codes ");\n")
 fields_lines tdi tdo mask true =
