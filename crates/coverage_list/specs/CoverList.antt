@@ -1,4 +1,4 @@
--- The coverage list of a board, said by what its safe settings do.
+-- The coverage list of a board, by what its safe settings do.
 use Rattle.std.specs.Prelude.{◌≡◌, ◌≢◌, ℕ, Bool, not, ◌&&◌, List, ◌∷◌, [], ◌++◌, length, codes, decimal, filter, Option, Some, is_some, slice_get, MatchOption}
 use Rattle.std.specs.Bool.{Decides}
 use Rattle.std.specs.List.{flat_map, range_with_len}
@@ -14,20 +14,20 @@ use Rattle.coverage_list.specs.declared.lines.PinUse.{PinUse}
 use Rattle.coverage_list.specs.declared.lines.PinUse.TheVariants.{Driver, Receiver}
 use Rattle.coverage_list.specs.CoverText.{reason_line, pin_line, pair_line}
 
--- answers to what the list asks: of a net, whether it is covered, and else why not; whether the pin at a place of it is tested as a
--- driver or as a receiver; and of two nets, whether they are paired
+-- the answers that the list needs: whether a net is covered, and if not, why; whether the pin at a place of a net is tested as a driver or
+-- as a receiver; and whether two nets are paired
 pub record Answers : Type 0 where
   pub covered : Net → Bool
   pub reason : Net → Option Reason
   pub tested : PinUse → Net → ℕ → Bool
   pub paired : Net → Net → Bool
 
--- the pin at this place of net n is tested, as a driver or as a receiver
+-- the pin at this place of net `n` is tested as a driver, or as a receiver
 abbrev pub IsTestedAs : RawBoard → PinUse → ℕ → ℕ → Type 0
 IsTestedAs board Driver n place = IsTestedDriver board n place
 IsTestedAs board Receiver n place = IsTestedReceiver board n place
 
--- the answers are true of the nets of the board
+-- the answers are true for the board
 pub record AreTrue (board : RawBoard) (answers : Answers) : Type 0 where
   pub covered : (n : ℕ) (net : Net) → slice_get board.nets n ≡ Some net → Decides (answers.covered net) (IsCovered board n)
   pub reason : (n : ℕ) (net : Net) → slice_get board.nets n ≡ Some net → MatchOption (answers.reason net) (IsCovered board n) (λ reason. IsReason board n net reason)
@@ -39,15 +39,15 @@ abbrev pub serves : RawBoard → PinUse → Net → ℕ → Bool
 serves board Driver net place = is_some (place_drive board net place)
 serves board Receiver net place = receives_of board (slice_get net.pins place)
 
--- how many nets there are, and how many are covered
+-- the number of nets, and the number of covered nets
 abbrev pub counts : Answers → RawBoard → List ℕ
 counts answers board = line_of (codes "NETS " ∷ decimal (length board.nets) ∷ codes " COVERED " ∷ decimal (length (filter answers.covered board.nets)) ∷ [])
 
--- the nets that are not covered, each with the reason
+-- the nets that are not covered, each with its reason
 abbrev pub reasons : Answers → RawBoard → List ℕ
 reasons answers board = flat_map (λ net. reason_line net.name (answers.reason net)) board.nets
 
--- the drivers, or the receivers, of a net that are not tested
+-- the untested drivers, or receivers, of a net
 abbrev pub untested_in : Answers → RawBoard → PinUse → Net → List ℕ
 untested_in answers board pin_use net =
     flat_map (λ place. pin_line pin_use (slice_get net.pins place)) (filter (λ place. serves board pin_use net place && not (answers.tested pin_use net place)) (range_with_len 0 (length net.pins)))
@@ -60,11 +60,11 @@ untested_pins answers board pin_use = flat_map (untested_in answers board pin_us
 abbrev pub unpaired_nets : Answers → RawBoard → List ℕ
 unpaired_nets answers board = flat_map (λ pair. pair_line pair.0 pair.1) (filter (λ pair. not (answers.paired pair.0 pair.1)) (pairs_within (filter answers.covered board.nets)))
 
--- the list by these answers, in the order of the nets and of their pins
+-- the list from these answers, in net order and pin order
 abbrev pub listed_by : Answers → RawBoard → List ℕ
 listed_by answers board = counts answers board ++ (reasons answers board ++ (untested_pins answers board Driver ++ (untested_pins answers board Receiver ++ unpaired_nets answers board)))
 
--- the text is the coverage list of the board: it is the list by true answers
+-- the text is the coverage list of the board: the list from true answers
 pub record IsCoverList (board : RawBoard) (text : List ℕ) : Type 0 where
   pub answers : Answers
   pub truth : AreTrue board answers

@@ -1,4 +1,4 @@
--- The coverage list of a board: how many of its nets are covered, and what of it no safe setting tests.
+-- The coverage list of a board: the number of covered nets, and everything that no safe setting tests.
 use Rattle.std.specs.Prelude.{ℕ, Bool, not, ◌&&◌, List, [], ◌∷◌, ◌++◌, length, codes, decimal, filter, Option, None, Some, is_some, slice_get}
 use Rattle.std.specs.List.{flat_map, range_with_len}
 use Rattle.line_printer.specs.Prints.{line_of}
@@ -30,11 +30,11 @@ use_word Receiver = codes "RECEIVER "
 abbrev pub covered : RawBoard → List Net
 covered board = filter (is_covered board) board.nets
 
--- how many nets there are, and how many are covered
+-- the number of nets, and the number of covered nets
 abbrev pub count_line : RawBoard → List ℕ
 count_line board = line_of (codes "NETS " ∷ decimal (length board.nets) ∷ codes " COVERED " ∷ decimal (length (covered board)) ∷ [])
 
--- a net that is not covered, with the reason
+-- a net that is not covered, with its reason
 abbrev pub reason_line : List ℕ → Option Reason → List ℕ
 reason_line name None = []
 reason_line name (Some reason) = line_of (codes "NET " ∷ name ∷ codes " " ∷ reason_word reason ∷ [])
@@ -51,7 +51,7 @@ is_untested board Receiver net place = receives_of board (slice_get net.pins pla
 abbrev pub untested : RawBoard → PinUse → Net → List ℕ
 untested board pin_use net = filter (is_untested board pin_use net) (range_with_len 0 (length net.pins))
 
--- the pin at a place, where there is one
+-- the pin at a place, if there is one
 abbrev pub pin_line : PinUse → Option NetPin → List ℕ
 pin_line pin_use None = []
 pin_line pin_use (Some pin) = line_of (use_word pin_use ∷ pin.part ∷ codes "." ∷ pin.pin ∷ [])

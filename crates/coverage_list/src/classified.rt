@@ -1,4 +1,4 @@
-// A board with its classes, and what the list asks of the two.
+// A board with its classes, and the questions of the coverage list.
 ghost use Rattle.std.specs.Prelude.{◌≡◌, ◌<◌, ◌≤◌, [], length, Some, true, false, slice_get};
 ghost use Rattle.board_defs.specs.Limits.{most_nets};
 ghost use Rattle.board_defs.specs.Pins.{IsOnBoard};
@@ -29,7 +29,7 @@ impl<'a> Model for ClassifiedBoard<'a> {
 }
 
 impl<'a> ClassifiedBoard<'a> {
-    /// The board with these classes, which are its own.
+    /// Returns the board with these classes, which must be its own.
     pub fn of(board: &'a Board, classes: &'a Classes) -> ClassifiedBoard<'a>
         requires { AreClasses board.now classes.now }
         ensures { result ≡ board.now }
@@ -39,7 +39,7 @@ impl<'a> ClassifiedBoard<'a> {
         }
     }
 
-    /// How many nets the board has.
+    /// Returns the number of nets of the board.
     pub fn net_count(&self) -> u32
         ensures value { result ≡ length self.now.nets }
         ensures most { result ≤ most_nets }
@@ -47,7 +47,7 @@ impl<'a> ClassifiedBoard<'a> {
         self.classes.raw().nets.len() as u32
     }
 
-    /// The net of a number.
+    /// Returns a net by its number.
     pub fn net(&self, n: u32) -> &'a Net
         requires { n < length self.now.nets }
         ensures { slice_get self.now.nets n ≡ Some result.now }
@@ -55,7 +55,7 @@ impl<'a> ClassifiedBoard<'a> {
         &self.classes.raw().nets.as_slice()[n as usize]
     }
 
-    /// How many pins the net of a number has.
+    /// Returns the number of pins of a net.
     pub fn pin_count(&self, net: &Net, n: u32) -> u32
         requires { slice_get self.now.nets n ≡ Some net.now }
         ensures { result ≡ length net.now.pins }
@@ -64,7 +64,7 @@ impl<'a> ClassifiedBoard<'a> {
         net.pins.len() as u32
     }
 
-    /// Why a net is not covered, where it is not.
+    /// Returns the reason why a net is not covered, or None if it is.
     pub fn reason(&self, n: u32) -> Option<Reason>
         requires { n < length self.now.nets }
         ensures { OfNet self.now n (λ net. result ≡ reason_of self.now net) }
@@ -72,7 +72,7 @@ impl<'a> ClassifiedBoard<'a> {
         self.classes.reason(n)
     }
 
-    /// Whether the net is covered.
+    /// Returns whether a net is covered.
     pub fn is_covered(&self, n: u32) -> bool
         requires { n < length self.now.nets }
         ensures { OfNet self.now n (λ net. result ≡ is_covered self.now net) }
@@ -80,7 +80,7 @@ impl<'a> ClassifiedBoard<'a> {
         self.reason(n).is_none()
     }
 
-    /// How many nets are covered.
+    /// Returns the number of covered nets.
     pub fn covered_count(&self) -> u32
         ensures { result ≡ length (covered self.now) }
     {
@@ -93,7 +93,7 @@ impl<'a> ClassifiedBoard<'a> {
         covered
     }
 
-    /// Whether a pin is a driver, or a receiver, that is not tested as such.
+    /// Returns whether a pin is a driver, or a receiver, and is not tested as such.
     pub fn is_untested(&self, pin_use: PinUse, pin: PinRef) -> bool
         requires { IsOnBoard self.now pin }
         ensures { OfNet self.now pin.net (λ net. result ≡ is_untested self.now pin_use net pin.place) }
@@ -105,7 +105,7 @@ impl<'a> ClassifiedBoard<'a> {
         }
     }
 
-    /// Whether a net is covered and may be unpaired with another covered net.
+    /// Returns whether a net is covered and may be unpaired with another covered net.
     pub fn may_be_unpaired(&self, n: u32) -> bool
         requires { n < length self.now.nets }
         ensures free { result ≡ false → OfNet self.now n (λ net. net_pairs self.now n net ≡ []) }
@@ -114,7 +114,7 @@ impl<'a> ClassifiedBoard<'a> {
         self.is_covered(n) && !self.classes.is_paired_with_all(n as usize)
     }
 
-    /// Of the 64 nets from net 64 * word on, those that are covered and not paired with the net.
+    /// Returns a word of 64 bits, one for each net from `64 * word` on: those that are covered and not paired with the net.
     pub fn unpaired_word(&self, n: u32, word: u32) -> u64
         ensures { AreBitsOf (unpaired_with self.now n) word result }
     {

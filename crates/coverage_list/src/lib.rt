@@ -1,4 +1,4 @@
-//! The coverage list of a board: what of it a test can cover, and what it cannot.
+//! The coverage list of a board: what a test can cover, and what it can't.
 #![tactic(auto)]
 
 mod classified;

@@ -9,19 +9,19 @@ use bt_bits::Line;
 use itoa::Buffer;
 use line_printer::put_line;
 
-/// What a pin is tested as.
+/// The role in which a pin is tested.
 #[derive(Clone, Copy, Debug, PartialEq, Eq)]
 pub enum PinUse {
     Driver,
     Receiver,
 }
 
-/// A part of the list that goes through the nets.
+/// A section of the list, which goes through the nets.
 #[derive(Clone, Copy, Debug, PartialEq, Eq)]
 pub enum Section {
-    /// The nets that are not covered, each with the reason.
+    /// The nets that are not covered, each with its reason.
     Reasons,
-    /// The drivers, or the receivers, of covered nets that are not tested.
+    /// The untested drivers, or receivers, of covered nets.
     Untested(PinUse),
     /// The pairs of covered nets that are not paired.
     Pairs,
@@ -49,7 +49,7 @@ fn use_word(pin_use: PinUse) -> &'static [u8]
     }
 }
 
-/// Puts how many nets there are, and how many of them are covered.
+/// Puts the number of nets and the number of covered nets.
 pub fn put_counts<K: Sink>(
     nets: u32,
     covered: u32,
@@ -81,7 +81,7 @@ fn put_uncovered<K: Sink>(
     put_line(&[b"NET ".as_slice(), name, b" ", word], line, out)
 }
 
-/// Puts why a net is not covered, and nothing where it is.
+/// Puts the reason why a net is not covered, or nothing if it is.
 pub fn put_reason<K: Sink>(
     name: &Name,
     reason: Option<Reason>,
@@ -107,7 +107,7 @@ fn put_word_and_pin<K: Sink>(
     put_line(&[word, pin.part.bytes(), b".", pin.pin.bytes()], line, out)
 }
 
-/// Puts a pin that is not tested.
+/// Puts an untested pin.
 pub fn put_pin<K: Sink>(
     pin_use: PinUse,
     pin: &NetPin,
@@ -119,7 +119,7 @@ pub fn put_pin<K: Sink>(
     put_word_and_pin(use_word(pin_use), pin, line, out)
 }
 
-/// Puts two nets that are not paired.
+/// Puts a pair of nets that are not paired.
 pub fn put_pair<K: Sink>(
     low: &Net,
     high: &Net,

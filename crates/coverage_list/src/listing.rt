@@ -16,7 +16,7 @@ use bt_base::{PutFault, Sink};
 use bt_bits::Line;
 use net_classes::Classes;
 
-// The pin at a place of a net.
+// Returns the pin at a place of a net.
 fn pin_at(net: &Net, place: u32) -> &NetPin
     requires { place < length net.now.pins }
     ensures { slice_get net.now.pins place ≡ Some result.now }
@@ -24,7 +24,7 @@ fn pin_at(net: &Net, place: u32) -> &NetPin
     &net.pins.as_slice()[place as usize]
 }
 
-/// How many nets of the board are covered, at most 16,382. The classes are those of the board.
+/// Returns the number of covered nets of the board, at most 16,382. The classes must be those of the board.
 pub fn covered_nets(board: &Board, classes: &Classes) -> u32
     requires { AreClasses board.now classes.now }
     ensures { result ≡ length (covered board.now) }
@@ -32,7 +32,7 @@ pub fn covered_nets(board: &Board, classes: &Classes) -> u32
     ClassifiedBoard::of(board, classes).covered_count()
 }
 
-// Puts how many nets there are and how many are covered.
+// Puts the number of nets and the number of covered nets.
 fn put_count<K: Sink>(
     board: &ClassifiedBoard<'_>,
     line: &mut Line,
@@ -43,7 +43,7 @@ fn put_count<K: Sink>(
     put_counts(board.net_count(), board.covered_count(), line, out)
 }
 
-// Puts why a net is not covered, where it is not.
+// Puts the reason why a net is not covered, or nothing if it is.
 fn put_reason_at<K: Sink>(
     board: &ClassifiedBoard<'_>,
     n: u32,
@@ -57,7 +57,7 @@ fn put_reason_at<K: Sink>(
     put_reason(&net.name, board.reason(n), line, out)
 }
 
-// Puts the pin at a place of a net, where it is not tested.
+// Puts the pin at a place of a net if it is untested.
 fn put_place<K: Sink>(
     board: &ClassifiedBoard<'_>,
     pin_use: PinUse,
@@ -77,7 +77,7 @@ fn put_place<K: Sink>(
     }
 }
 
-// Puts the pins of a net that are not tested.
+// Puts the untested pins of a net.
 fn put_net_pins<K: Sink>(
     board: &ClassifiedBoard<'_>,
     pin_use: PinUse,
@@ -96,7 +96,7 @@ fn put_net_pins<K: Sink>(
     Ok(())
 }
 
-// Puts the pins of a net that are not tested, where the net is covered.
+// Puts the untested pins of a net if the net is covered.
 fn put_pins_at<K: Sink>(
     board: &ClassifiedBoard<'_>,
     pin_use: PinUse,
@@ -114,7 +114,7 @@ fn put_pins_at<K: Sink>(
     }
 }
 
-// Whether a bit of the word is set.
+// Returns whether a bit of the word is set.
 fn has_bit(word: u64, place: u32) -> bool
     requires { place < 64 }
     ensures { result ≡ (bit_at word place == 1) }
@@ -122,7 +122,7 @@ fn has_bit(word: u64, place: u32) -> bool
     word >> place & 1 == 1
 }
 
-// Whether net `high` is covered and not paired with net `low`, by the word that says which nets are.
+// Returns whether net `high` is covered and not paired with net `low`, from the word of such nets.
 fn is_unpaired(board: &ClassifiedBoard<'_>, unpaired: u64, low: u32, high: u32) -> bool
     requires { AreBitsOf (unpaired_with board.now low) (high / 64) unpaired }
     ensures { OfNet board.now low (λ one. OfNet board.now high (λ two. result ≡ is_unpaired board.now one two)) }
@@ -130,7 +130,7 @@ fn is_unpaired(board: &ClassifiedBoard<'_>, unpaired: u64, low: u32, high: u32) 
     has_bit(unpaired, high % 64)
 }
 
-// Puts two nets, where the second is covered and not paired with the first.
+// Puts two nets if the second is covered and not paired with the first.
 fn put_pair_at<K: Sink>(
     board: &ClassifiedBoard<'_>,
     unpaired: u64,
@@ -151,7 +151,7 @@ fn put_pair_at<K: Sink>(
     }
 }
 
-// Puts the pairs of a net and of those from net `from` to net `end`, whose bits stand in one word.
+// Puts the pairs of a net with the nets `from..end`, whose bits are in one word.
 fn put_word<K: Sink>(
     board: &ClassifiedBoard<'_>,
     low: u32,
@@ -175,7 +175,7 @@ fn put_word<K: Sink>(
     Ok(())
 }
 
-// Puts the pairs of a net and a later one that are not paired, where the later one is covered.
+// Puts the unpaired pairs of a net with a later, covered net.
 fn put_later<K: Sink>(
     board: &ClassifiedBoard<'_>,
     low: u32,
@@ -195,7 +195,7 @@ fn put_later<K: Sink>(
     Ok(())
 }
 
-// Puts the pairs of a net and a later one that are covered and not paired.
+// Puts the unpaired pairs of a net with a later net, if both are covered.
 fn put_pairs_at<K: Sink>(
     board: &ClassifiedBoard<'_>,
     low: u32,
@@ -212,7 +212,7 @@ fn put_pairs_at<K: Sink>(
     }
 }
 
-// Puts what a section lists of a net.
+// Puts the lines of a section for a net.
 fn put_at<K: Sink>(
     board: &ClassifiedBoard<'_>,
     section: Section,
@@ -230,7 +230,7 @@ fn put_at<K: Sink>(
     }
 }
 
-// Puts a section, net by net.
+// Puts a section of the list.
 fn put_section<K: Sink>(
     board: &ClassifiedBoard<'_>,
     section: Section,
@@ -260,12 +260,11 @@ fn put_list<K: Sink>(
     put_section(board, Section::Pairs, line, out)
 }
 
-/// Puts the coverage list of a board: how many nets it has and how many are covered, each net that
-/// is not covered with the reason, the drivers and then the receivers of covered nets that are not
-/// tested, and the pairs of covered nets that are not paired. Each line goes out in one put, and
-/// one of more than `MAX_LINE` bytes in pieces of so many and the rest. No memory is taken, and the
-/// line serves to write in: nothing is said of what it holds afterwards. It fails only where the
-/// sink does, and then a prefix of the list was put.
+/// Puts the coverage list of a board: the number of nets and of covered nets; each net that is not covered,
+/// with its reason; the untested drivers and then the untested receivers of covered nets; and the pairs of
+/// covered nets that are not paired. Each line goes out in one put, or in pieces of `MAX_LINE` bytes if it is
+/// longer. It takes no memory. The line is scratch space and may hold anything afterwards. It fails only if
+/// the sink does; then a prefix of the list was put.
 pub fn write_cover<K: Sink>(
     board: &Board,
     classes: &Classes,

@@ -1,27 +1,27 @@
--- The scan of the identity test, and its text. After a reset the register of a part with IDCODE is its identification register, and that
--- of any other described part is its bypass register (IEEE 1149.1-1990, sections 6 and 11).
+-- The scan of the identity test, and its text. After a reset a part with IDCODE has its identification register between TDI and TDO, and
+-- any other described part its bypass register (IEEE 1149.1-1990, sections 6 and 11).
 use Rattle.std.specs.Prelude.{ℕ, Bool, true, false, List, [], ◌∷◌, map, Option, Some, None}
 use Rattle.board_defs.specs.declared.device.Symbol.{Symbol}
 use Rattle.board_defs.specs.declared.device.Symbol.TheVariants.{Zero, One, Any}
 use Rattle.tap_defs.specs.chain.Scan.{ScanBit, Scan, joined}
 use Rattle.tap_defs.specs.chain.Text.{svf_text}
 
--- what a symbol of a pattern wants: X nothing
+-- the bit that a symbol of a pattern expects; X expects none
 abbrev pub wanted : Symbol → Option Bool
 wanted Zero = Some false
 wanted One = Some true
 wanted Any = None
 
--- a 0 is shifted in, and the bit that leaves is compared with the symbol
+-- a 0 is shifted in, and the bit that comes out is compared with the symbol
 abbrev pub symbol_bit : Symbol → ScanBit
 symbol_bit symbol = record { tdi = false; expect = wanted symbol }
 
--- what leaves a part's register: a code that fits the pattern, or the 0 that the bypass register loads in Capture-DR
+-- what comes out of a part's register: a code that fits the pattern, or the 0 that the bypass register loads in Capture-DR
 abbrev pub register_pattern : Option (List Symbol) → List Symbol
 register_pattern (Some pattern) = pattern
 register_pattern None = Zero ∷ []
 
--- the bits of all parts, which stand in the order from TDI to TDO
+-- the bits of all parts, in the order from TDI to TDO
 abbrev pub ident_bits : List (Option (List Symbol)) → List ScanBit
 ident_bits patterns = joined (map (λ part. map symbol_bit (register_pattern part)) patterns)
 

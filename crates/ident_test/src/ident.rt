@@ -14,7 +14,7 @@ use bt_bits::{Line, Row};
 use svf_writer::{write_head, write_scan, write_tail};
 use tap_defs::{ScanRows, Shape};
 
-// What leaves a part's register: its code, where it has a pattern, else the 0 of the bypass register.
+// What comes out of a part's register: its code if it has a pattern, otherwise the 0 of the bypass register.
 fn register_pattern(part: &Option<Code>) -> &[Symbol]
     ensures { result.now ≡ register_pattern part.now }
 {
@@ -24,7 +24,7 @@ fn register_pattern(part: &Option<Code>) -> &[Symbol]
     }
 }
 
-// How many bits a part's register has: an identification code has 32 (IEEE 1149.1-1990, section 11).
+// Returns the number of bits of a part's register. An identification code has 32 (IEEE 1149.1-1990, section 11).
 fn register_bits(part: &Option<Code>) -> u32
     requires { IfSome part.now (λ code. length code ≡ 32) }
     ensures value { result ≡ length (register_pattern part.now) }
@@ -36,7 +36,7 @@ fn register_bits(part: &Option<Code>) -> u32
     }
 }
 
-// How many bits the scan has.
+// Returns the number of bits of the scan.
 fn scan_length(parts: &[Option<Code>]) -> u32
     requires few { length parts.now ≤ most_parts }
     requires whole { All (λ part. IfSome part (λ code. length code ≡ 32)) parts.now }
@@ -49,21 +49,21 @@ fn scan_length(parts: &[Option<Code>]) -> u32
     bits
 }
 
-// Whether a bit is expected to be 1.
+// Returns whether a bit is expected to be 1.
 fn expects_one(symbol: Symbol) -> bool
     ensures { result ≡ unwrap_or (wanted symbol) false }
 {
     matches!(symbol, Symbol::One)
 }
 
-// Whether a bit is compared.
+// Returns whether a bit is compared.
 fn is_compared(symbol: Symbol) -> bool
     ensures { result ≡ is_some (wanted symbol) }
 {
     !matches!(symbol, Symbol::Any)
 }
 
-// Writes what is compared of a register, whose lowest bit has this position.
+// Writes what is compared of a register whose lowest bit has position `at`.
 fn set_register(at: u32, pattern: &[Symbol], tdo: &mut Row, mask: &mut Row)
     requires few { at + length pattern.now ≤ most_bits }
     requires tdo { at + length pattern.now ≤ length tdo.old.bits }
@@ -81,7 +81,7 @@ fn set_register(at: u32, pattern: &[Symbol], tdo: &mut Row, mask: &mut Row)
     }
 }
 
-// Writes what is compared of all parts, the last part's register first.
+// Writes what is compared of all registers, the last part's first.
 fn set_registers(parts: &[Option<Code>], tdo: &mut Row, mask: &mut Row)
     requires few { length (ident_bits parts.now) ≤ most_bits }
     requires tdo { tdo.old.bits ≡ replicate (length (ident_bits parts.now)) false }
@@ -137,12 +137,11 @@ fn put_scan<K: Sink>(
     write_scan(shape, rows.tdi, rows.tdo, rows.mask, line, out)
 }
 
-/// Puts the text of the identity test of described parts with these IDCODE patterns, in the order from TDI to TDO: a
-/// reset, one scan of data, a reset. A part with a pattern has 32 bits in the scan, compared where the pattern is 0 or
-/// 1, and each other part has one bit, compared with the 0 of its bypass register. There are 1 to 255 parts, each
-/// pattern has 32 symbols, and the rows have room for the scan. No memory is taken, and the rows and the line serve to
-/// write in: nothing is said of what they hold afterwards. It fails only where the sink does, and then a prefix of the
-/// text was put.
+/// Puts the text of the identity test of described parts with these IDCODE patterns, in the order from TDI to TDO: a reset, one
+/// scan of data, a reset. A part with a pattern has 32 bits in the scan; those with a 0 or 1 in the pattern are compared. Each
+/// other part has one bit, which is compared with the 0 of its bypass register. There must be 1 to 255 parts, 32 symbols in
+/// each pattern, and room for the scan. It takes no memory. The rows and the line are scratch space and may hold anything
+/// afterwards. It fails only if the sink does; then a prefix of the text was put.
 pub fn write_ident<K: Sink>(
     parts: &[Option<Code>],
     tdi: &mut Row,

@@ -7,23 +7,23 @@ ghost use Rattle.ident_test.specs.CodedParts.{AreCoded, HasCode, coded_parts};
 ghost use Rattle.ident_test.specs.IdentTest.{ArePatterns, EachRunTells, IsIdentTest};
 ghost use Rattle.ident_test.specs.Patterns.{ident_text};
 
-/// The text of the identity test passes on every chain of parts whose codes fit their patterns, and fails on every one on
-/// which some code does not, from any state and whatever the pins capture.
+/// The text of the identity test passes on every chain of parts whose codes fit their patterns, and fails on every chain with
+/// a code that does not, from any state and whatever the pins capture.
 pub fn ident_tests()
     ensures { (patterns : List (Option (List Symbol))) → ArePatterns patterns → IsIdentTest patterns (ident_text patterns) }
 {}
 
-/// Described devices under an assignment of codes of 32 bits are parts with the devices' patterns.
+/// Described devices under an assignment of codes of 32 bits are parts with the patterns of the devices.
 pub fn parts_coded()
     ensures { (devices : List RawDevice) (codes : ℕ → List Bool) → ((k : ℕ) → length (codes k) ≡ 32) → AreCoded (map (λ device. device.idcode) devices) (coded_parts devices codes) }
 {}
 
-/// A text that is an identity test of such patterns tells in each run whether the codes fit: the run passes exactly where each does.
+/// If a text is an identity test of such patterns, each run of it passes exactly if all codes fit.
 pub fn each_run_tells()
     ensures { (patterns : List (Option (List Symbol))) (text : List ℕ) → IsIdentTest patterns text → EachRunTells patterns text }
 {}
 
-/// Under an assignment of codes each part has its own, and the registers and the instruction codes that its device says.
+/// Under an assignment of codes, each part has its own code and the registers and instruction codes of its device.
 pub fn codes_assigned()
     ensures { (devices : List RawDevice) (codes : ℕ → List Bool) (k : ℕ) (device : RawDevice) → slice_get devices k ≡ Some device → (part : TestLogic) × (slice_get (coded_parts devices codes) k ≡ Some part) × HasCode device (codes k) part }
 {}

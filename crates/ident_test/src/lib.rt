@@ -1,5 +1,5 @@
-//! The identity test: right after a reset, the identification codes of a chain's parts are read and compared with what
-//! the descriptions say of them.
+//! The identity test: right after a reset, it reads the identification codes of the parts of a chain and compares them with
+//! their descriptions.
 #![tactic(auto)]
 
 mod ident;

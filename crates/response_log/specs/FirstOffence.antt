@@ -1,4 +1,4 @@
--- How a text offends that is no log: the one fault that is told of it.
+-- The one fault that is reported of a text that is not a log.
 use Rattle.std.specs.Prelude.{◌≡◌, ◌↔◌, ℕ, ◌<◌, Bool, List, [], ◌∷◌, ◌++◌, length, All, Some, Err}
 use Rattle.bt_bits.specs.Hex.{digit_count}
 use Rattle.text_lines.specs.Words.{Word}
@@ -6,15 +6,15 @@ use Rattle.response_log.specs.declared.fault.LogFault.{LogFault}
 use Rattle.response_log.specs.declared.fault.LogFault.TheVariants.{Digit, Length, Missing, Extra, Memory}
 use Rattle.response_log.specs.LogRows.{NumberedLine, bits_of_line, row_lines, log_rows, IsLogOf}
 
--- the line is a row of so many bits
+-- the line is a row of `len` bits
 abbrev pub IsRow : ℕ → NumberedLine → Type 0
 IsRow len line = (bits : List Bool) × (bits_of_line len line ≡ Some bits)
 
--- the line is one word of as many digits as so many bits need
+-- the line is one word with as many digits as `len` bits need
 abbrev pub HasLength : ℕ → NumberedLine → Type 0
 HasLength len line = (word : Word) × (line.words ≡ word ∷ []) × (length word ≡ digit_count len)
 
--- the line stands behind so many lines, each of which is a row
+-- the line comes after `count` lines, each of which is a row
 pub record StandsBehind (len : ℕ) (lines : List NumberedLine) (line : NumberedLine) (found : ℕ) : Type 0 where
   pub before : List NumberedLine
   pub later : List NumberedLine
@@ -22,9 +22,9 @@ pub record StandsBehind (len : ℕ) (lines : List NumberedLine) (line : Numbered
   pub rows : All (IsRow len) before
   pub count : length before ≡ found
 
--- Of lines with words, so many of which are to be rows of so many bits, the one fault: the first line that is to be a row and is none, of a
--- wrong length or else with a wrong digit; or the first line behind as many rows as are wanted; or, where every line is a row, that there
--- are too few
+-- The one fault of lines with words, of which `rows` must be rows of `len` bits: the first line that must be a row and is not, with a wrong
+-- length or otherwise with a wrong digit; or the first line after the last row that is wanted; or, if every line is a row, that there are too
+-- few
 abbrev pub IsFirstOffence : ℕ → ℕ → List NumberedLine → LogFault → Type 0
 IsFirstOffence rows len lines (Length n) = (line : NumberedLine) × (found : ℕ) × StandsBehind len lines line found × (found < rows) × (line.number ≡ n) × ¬ HasLength len line
 IsFirstOffence rows len lines (Digit n) = (line : NumberedLine) × (found : ℕ) × StandsBehind len lines line found × (found < rows) × (line.number ≡ n) × HasLength len line × ¬ IsRow len line
@@ -32,16 +32,16 @@ IsFirstOffence rows len lines (Extra n) = (line : NumberedLine) × StandsBehind 
 IsFirstOffence rows len lines (Missing found) = All (IsRow len) lines × (length lines ≡ found) × (found < rows)
 IsFirstOffence rows len lines (Memory e) = ⊥
 
--- a fault is told of a text exactly where it is the first offence
+-- a fault is reported of a text exactly if it is the first offence
 abbrev pub FirstOffenceIsTold : Type 0
 FirstOffenceIsTold = (text : List ℕ) (rows len : ℕ) (fault : LogFault) → (log_rows text rows len ≡ Err fault) ↔ IsFirstOffence rows len (row_lines text) fault
 
--- a text has one first offence
+-- a text has at most one first offence
 pub record HasOneOffence (text : List ℕ) (rows len : ℕ) : Type 0 where
   pub fault : LogFault
   pub is : IsFirstOffence rows len (row_lines text) fault
   pub one : (other : LogFault) → IsFirstOffence rows len (row_lines text) other → other ≡ fault
 
--- it has one exactly where it holds no log
+-- it has one exactly if it is not a log
 abbrev pub OneOffenceOrLog : Type 0
 OneOffenceOrLog = (text : List ℕ) (rows len : ℕ) → HasOneOffence text rows len ↔ ((log : List (List Bool)) → ¬ IsLogOf text rows len log)

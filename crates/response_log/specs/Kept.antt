@@ -1,14 +1,14 @@
--- How the rows of a log are kept: the values of the digits of each row, one row after the other.
+-- How a log keeps its rows: the values of the digits of each row, row after row.
 use Rattle.std.specs.Prelude.{◌≡◌, ℕ, zero, suc, ◌/◌, ◌%◌, ◌<◌, Bool, false, List, [], ◌∷◌, take, drop, length, slice_index_or, Option, Some, None}
 use Rattle.bt_bits.specs.Digits.{digit_bit, digits_of, row_bits}
 use Rattle.bt_bits.specs.Hex.{digit_count}
 
--- so many rows of so many bits each
+-- `count` rows of `len` bits each
 abbrev pub kept_rows : ℕ → ℕ → List ℕ → List (List Bool)
 kept_rows len zero digits = []
 kept_rows len (suc rows) digits = row_bits len (take (digit_count len) digits) ∷ kept_rows len rows (drop (digit_count len) digits)
 
--- the digits of each row hold its bits and nothing else
+-- the digits of each row hold the bits of the row, and 0 above them
 abbrev pub AreWhole : ℕ → ℕ → List ℕ → Type 0
 AreWhole len zero digits = Unit {0}
 AreWhole len (suc rows) digits = (take (digit_count len) digits ≡ digits_of (row_bits len (take (digit_count len) digits))) × AreWhole len rows (drop (digit_count len) digits)
@@ -19,7 +19,7 @@ pub record AreRowDigits (row : List Bool) (digits : List ℕ) : Type 0 where
   pub count : length digits ≡ digit_count (length row)
   pub bits : (at : ℕ) → at < length row → slice_index_or row at false ≡ digit_bit (slice_index_or digits (at / 4) 0) (at % 4)
 
--- the text from a place on, where there is one
+-- the text from a place on, if there is a place
 abbrev pub text_at : List ℕ → Option ℕ → Option (List ℕ)
 text_at text None = None
 text_at text (Some from) = Some (drop from text)

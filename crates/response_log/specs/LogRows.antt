@@ -6,16 +6,16 @@ use Rattle.text_lines.specs.Words.{Word, is_newline, words_of}
 use Rattle.response_log.specs.declared.fault.LogFault.{LogFault}
 use Rattle.response_log.specs.declared.fault.LogFault.TheVariants.{Digit, Length, Missing, Extra, Memory}
 
--- a line with its number and its words
+-- a line, with its number and its words
 pub record NumberedLine : Type 0 where
   pub number : ℕ
   pub words : List Word
 
--- the line of this number that has a first word, with what stands behind it
+-- the line with this number, its first word, and what comes after that
 abbrev pub line_of : ℕ → Word → List ℕ → NumberedLine
 line_of n word behind = record { number = n; words = word ∷ words_of behind }
 
--- lines one after the other, of which the first has this number
+-- consecutive lines, the first of which has this number
 abbrev pub numbered : ℕ → List (List ℕ) → List NumberedLine
 numbered n [] = []
 numbered n (line ∷ lines) = record { number = n; words = words_of line } ∷ numbered (n + 1) lines
@@ -27,17 +27,17 @@ holds_word (word ∷ words) = true
 abbrev pub has_words : NumberedLine → Bool
 has_words line = holds_word line.words
 
--- the lines of a text that have words. Lines are numbered from 1, and every line counts
+-- the lines of a text that have words. Lines are numbered from 1, and lines without words count
 abbrev pub row_lines : List ℕ → List NumberedLine
 row_lines text = filter has_words (numbered 1 (slice_split is_newline text))
 
--- the word of a line that has one word
+-- the word of a line that has just one
 abbrev pub only_word : List Word → Option Word
 only_word [] = None
 only_word (word ∷ []) = Some word
 only_word (word ∷ other ∷ words) = None
 
--- the bits of a line that is a row: one word, the hexadecimal field of so many bits
+-- the bits of a line that is a row: one word, the hexadecimal field of `len` bits
 abbrev pub bits_of_line : ℕ → NumberedLine → Option (List Bool)
 bits_of_line len line = option_and_then (field_bits len) (only_word line.words)
 
@@ -46,20 +46,20 @@ word_fault len n None = Some (Length n)
 word_fault len n (Some word) =
     if length word == digit_count len then (if is_some (field_bits len word) then None else Some (Digit n)) else Some (Length n)
 
--- how a line offends where a row of so many bits is wanted, if it does: it is not one word of as many digits as the bits need, or else a
--- byte is no digit or a bit above them is 1
+-- the offence of a line that must be a row of `len` bits, if it has one: it is not one word of as many digits as the bits need; otherwise a
+-- byte is not a digit, or a bit above the bits is 1
 abbrev pub row_fault : ℕ → NumberedLine → Option LogFault
 row_fault len line = word_fault len line.number (only_word line.words)
 
--- the offences of lines, in their order, where so many rows are wanted: of the first lines, those that are no rows; of the later lines,
--- each, whatever it holds
+-- the offences of lines, in order, if `rows` rows are wanted: those of the first `rows` lines that are not rows, and every later line,
+-- whatever it holds
 abbrev pub offences : ℕ → ℕ → List NumberedLine → List LogFault
 offences rows len lines = filter_map (row_fault len) (take rows lines) ++ map (λ line. Extra line.number) (drop rows lines)
 
 abbrev pub Answer : Type 0
 Answer = Result (List (List Bool)) LogFault
 
--- the rows of lines that do not offend, or that there are fewer than are wanted
+-- the rows of lines without an offence, or that there are fewer than are wanted
 abbrev pub wanted_rows : ℕ → ℕ → List NumberedLine → Answer
 wanted_rows rows len lines = if nat_lt (length lines) rows then Err (Missing (length lines)) else Ok (filter_map (bits_of_line len) lines)
 
@@ -71,21 +71,21 @@ first_or answer (fault ∷ faults) = Err fault
 abbrev pub rows_of_lines : ℕ → ℕ → List NumberedLine → Answer
 rows_of_lines rows len lines = first_or (wanted_rows rows len lines) (offences rows len lines)
 
--- the rows of a text, of which so many are wanted with so many bits each, or why it is no such log
+-- the `rows` rows of a text with `len` bits each, or the reason why it is not such a log
 abbrev pub log_rows : List ℕ → ℕ → ℕ → Answer
 log_rows text rows len = rows_of_lines rows len (row_lines text)
 
--- the log that a text holds: each line with words is a row, and there are as many rows as are wanted
+-- the log in a text: each line with words is a row, and there are as many rows as are wanted
 pub record IsLogOf (text : List ℕ) (rows len : ℕ) (log : List (List Bool)) : Type 0 where
   pub lines : map (bits_of_line len) (row_lines text) ≡ map Some log
   pub count : length log ≡ rows
 
--- what a fault tells
+-- what a fault says
 abbrev pub log_told : LogFault → Option LogFault
 log_told (Memory e) = None
 log_told fault = Some fault
 
--- a log of so many rows with so many bits each
+-- a log of `rows` rows with `len` bits each
 pub record HasSize (count len : ℕ) (log : List (List Bool)) : Type 0 where
   pub rows : length log ≡ count
   pub bits : All (λ row. length row ≡ len) log

@@ -1,23 +1,23 @@
-// Why a text is no log.
+// The reasons why a text is not a log.
 ghost use Rattle.std.specs.Prelude.{◌≡◌};
 ghost use Rattle.response_log.specs.declared.fault.LogFault.TheVariants.{Memory};
 
 use std::alloc::AllocError;
 use thiserror::Error;
 
-/// The first line that offends, or that there are too few rows, or want of memory. Lines are numbered from 1.
+/// The first line with an offence, or too few rows, or a refusal of memory. Lines are numbered from 1.
 #[derive(Debug, Drop, Error)]
 pub enum LogFault {
-    /// A byte of the row is no hexadecimal digit, or a bit above the row's bits is 1.
+    /// A byte of the row is not a hexadecimal digit, or a bit above the bits of the row is 1.
     #[error("line {0}: digit not allowed")]
     Digit(u32),
-    /// The row has more or fewer digits than its bits need, or the line has several words.
+    /// The row has more or fewer digits than its bits need, or the line has more than one word.
     #[error("line {0}: wrong length")]
     Length(u32),
-    /// No line offends, but there are only so many rows.
+    /// No line has an offence, but there are only this many rows.
     #[error("only {0} rows")]
     Missing(u64),
-    /// The line of the first row too many, whatever that row holds.
+    /// The line of the first row too many, whatever it holds.
     #[error("line {0}: row too many")]
     Extra(u32),
     #[error("out of memory")]

@@ -7,7 +7,7 @@ ghost use Rattle.response_log.specs.LogRows.{HasSize, log_bit};
 use bt_bits::digit_bit;
 use std::marker::Model;
 
-// How many hexadecimal digits a row of so many bits has.
+// Returns the number of hexadecimal digits of a row of `len` bits.
 #[inline]
 pub(crate) fn digit_count(len: u32) -> usize
     ensures { result ≡ digit_count len }
@@ -15,7 +15,7 @@ pub(crate) fn digit_count(len: u32) -> usize
     (len as usize + 3) / 4
 }
 
-// So many digits, from the one at this place on.
+// Returns `count` digits from a place on.
 #[inline]
 fn digits_from(digits: &[u8], first: usize, count: usize) -> &[u8]
     requires { first + count ≤ length digits.now }
@@ -24,11 +24,11 @@ fn digits_from(digits: &[u8], first: usize, count: usize) -> &[u8]
     &digits[first..first + count]
 }
 
-/// A response log, seen as the list of its rows. Each row is the list of its bits, the one that left the chain first
-/// at place 0.
+/// A response log, seen as the list of its rows. Each row is the list of its bits, with the bit that left the chain first at
+/// place 0.
 #[derive(Drop)]
 pub struct Log {
-    // The values of the digits of each row, the lowest first, one row after the other.
+    // The values of the digits of each row, the lowest digit first, row after row.
     digits: Vec<u8>,
     rows: u64,
     len: u32,
@@ -47,7 +47,7 @@ impl Model for Log {
 }
 
 impl Log {
-    // The log of so many rows of `len` bits each, whose digits are these.
+    // Returns the log of `count` rows of `len` bits each, with these digits.
     pub(crate) fn of(digits: Vec<u8>, rows: u64, len: u32) -> Log
         requires count { length digits.items ≡ rows * digit_count len }
         requires whole { AreWhole len rows digits.items }
@@ -57,7 +57,7 @@ impl Log {
         Log { digits, rows, len }
     }
 
-    /// How many rows the log has.
+    /// Returns the number of rows of the log.
     #[inline]
     pub fn rows(&self) -> u64
         ensures { result ≡ length self.now }
@@ -65,7 +65,7 @@ impl Log {
         self.rows
     }
 
-    /// How many bits each row has.
+    /// Returns the number of bits of each row.
     #[inline]
     pub fn len(&self) -> u32
         ensures { All (λ bits. length bits ≡ result) self.now }
@@ -73,7 +73,7 @@ impl Log {
         self.len
     }
 
-    /// Bit `at` of a row, the one that left the chain first at 0.
+    /// Returns bit `at` of a row. Bit 0 left the chain first.
     #[inline]
     pub fn bit(&self, row: u64, at: u32) -> bool
         requires row { row < length self.now }
@@ -83,8 +83,8 @@ impl Log {
         let first = row as usize * digit_count(self.len);
         digit_bit(self.digits[first + (at / 4) as usize], at % 4)
     }
-    /// The values of the digits of a row, which is below their number. Each has four bits, and the one that left the chain first is the
-    /// lowest of the first digit.
+    /// Returns the values of the digits of a row. The row must be one of the log's. Each digit has four bits, and the lowest bit of the
+    /// first digit left the chain first.
     #[inline]
     pub fn digits(&self, row: u64) -> &[u8]
         requires { row < length self.now }

@@ -15,10 +15,10 @@ use bt_bits::{HexFault, read_digits};
 use std::alloc::Global;
 use text_lines::{first_line, next_word};
 
-/// Reads a log of `rows` rows with `len` bits each. Any bytes may stand in the text. The first line that offends is
-/// named: with `Length` or else `Digit` where it is to be a row and is none, with `Extra` where it has words behind the
-/// last row that is wanted. Where no line offends and there are fewer rows, the answer is `Missing`. The log takes a byte
-/// for each byte of the text.
+/// Reads a log of `rows` rows with `len` bits each from any bytes. A refusal names the first line with an offence: `Length`, or
+/// otherwise `Digit`, if the line must be a row and is not; `Extra` if it has words and comes after the last row that is wanted.
+/// If no line has an offence and there are fewer rows, the answer is `Missing`. The log takes one byte of memory for each byte
+/// of the text.
 pub fn log(alloc: Global, bytes: &[u8], rows: u64, len: u32) -> Result<Log, LogFault>
     requires { length bytes.now < 2 ^ 32 }
     ensures read { Gives log_told (λ log. log) (λ said. log_rows bytes.now rows len ≡ said) result }
@@ -27,8 +27,8 @@ pub fn log(alloc: Global, bytes: &[u8], rows: u64, len: u32) -> Result<Log, LogF
     log_of(alloc, Vec::from_slice(alloc, bytes)?, rows, len)
 }
 
-/// Reads a log as `log` does, from a text that it takes over: it writes the digits over the text. So beside the text it
-/// takes memory for one row, and for none that is longer than the text.
+/// Like `log`, but takes over the text and writes the digits over it. Beside the text it only takes memory for one row, and never
+/// more than the text has.
 pub fn log_of(alloc: Global, mut text: Vec<u8>, rows: u64, len: u32) -> Result<Log, LogFault>
     requires { length text.items < 2 ^ 32 }
     ensures read { Gives log_told (λ log. log) (λ said. log_rows text.items rows len ≡ said) result }
@@ -39,9 +39,9 @@ pub fn log_of(alloc: Global, mut text: Vec<u8>, rows: u64, len: u32) -> Result<L
     Ok(Log::of(text, rows, len))
 }
 
-// Writes the digits of all rows, one row after the other, over the text from its start on, and returns how many they
-// are. A row has no more digits than its line has bytes, so they never reach a line that is still to be read. They pass
-// through a row of their own, since a word's last digit is the first of its row.
+// Writes the digits of all rows, row after row, over the text from its start on, and returns their number. A row has no more
+// digits than its line has bytes, so they never reach a line that is still to be read. They go through a row of their own,
+// since the last digit of a word is the first digit of its row.
 fn keep_rows(alloc: Global, text: &mut [u8], rows: u64, len: u32) -> Result<usize, LogFault>
     requires { length text.old < 2 ^ 32 }
     ensures read { Gives log_told (λ kept. kept_rows len rows (take kept text.new)) (λ said. log_rows text.old rows len ≡ said) result }
@@ -75,7 +75,7 @@ fn keep_rows(alloc: Global, text: &mut [u8], rows: u64, len: u32) -> Result<usiz
     Ok(kept)
 }
 
-// The line that begins at a place, and where the next line begins, if one follows.
+// Returns the line that begins at a place, and the place of the next line if there is one.
 fn line_at(text: &[u8], from: usize) -> (&[u8], Option<usize>)
     requires { from ≤ length text.now }
     ensures lines { slice_split is_newline (drop from text.now) ≡ result.0.now ∷ lines_of (text_at text.now result.1) }
@@ -97,8 +97,8 @@ fn put_row(text: &mut [u8], at: usize, row: &[u8])
     text[at..at + row.len()].copy_from_slice(row);
 }
 
-// Reads a line that is to be a row into places for its digits, by its first word and what stands behind it. Where the
-// word has fewer digits than a row, there may be fewer places.
+// Reads a line that must be a row into `digits`, from its first word and what comes after it. If the word has fewer digits than
+// a row, there may be fewer places.
 fn read_row(
     line: u32,
     word: &[u8],
