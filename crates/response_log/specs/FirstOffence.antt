@@ -36,7 +36,7 @@ IsFirstOffence rows len lines (Memory e) = ⊥
 abbrev pub FirstOffenceIsTold : Type 0
 FirstOffenceIsTold = (text : List ℕ) (rows len : ℕ) (fault : LogFault) → (log_rows text rows len ≡ Err fault) ↔ IsFirstOffence rows len (row_lines text) fault
 
--- a text has at most one first offence
+-- a text has exactly one first offence
 pub record HasOneOffence (text : List ℕ) (rows len : ℕ) : Type 0 where
   pub fault : LogFault
   pub is : IsFirstOffence rows len (row_lines text) fault

@@ -1,4 +1,5 @@
--- The board round its chain: nets under faults, quiet, the scans of a board's test and what it is worth, which faults explain a log.
+-- The board around its chain: nets under faults, quiet texts, the scans of a board's test and what the test finds, and which faults explain a
+-- log.
 pub mod FaultSet
 pub mod NetBits
 pub mod OnBoard

@@ -1,4 +1,4 @@
--- The chain: TAP controllers, scans, the meaning of SVF text, the chain test. Nothing here knows of boards.
+-- The chain: TAP controllers, scans, the meaning of SVF text, and the chain test. Nothing here knows about boards.
 pub mod Scan
 pub mod ScanRows
 pub mod Codes

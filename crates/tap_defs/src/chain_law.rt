@@ -9,21 +9,21 @@ ghost use Rattle.tap_defs.specs.chain.Svf.{meaning};
 ghost use Rattle.tap_defs.specs.chain.Text.{svf_text, AllSized};
 ghost use Rattle.tap_defs.specs.chain.Transport.{DataTransport, LongDataTransport, CodeTransport, LongCodeTransport};
 
-/// A scan of data, whatever the pins capture: what was captured leaves, place by place, and what is shifted in is held
+/// A scan of data, for everything that the pins may capture: the captured bits come out in order, and the shifted bits are held
 /// (IEEE 1149.1-1990, section 8).
 pub fn data_scans()
     ensures transport { DataTransport }
     ensures any_length { LongDataTransport }
 {}
 
-/// The same of a scan of instructions, under any current instructions. Each part then has the instruction that its code means
+/// A scan of instructions, under any current instructions: like a scan of data, and each part then has the instruction with its code
 /// (IEEE 1149.1-1990, section 6).
 pub fn code_scans()
     ensures transport { CodeTransport }
     ensures any_length { LongCodeTransport }
 {}
 
-/// The text of a head, of any scans and of a tail means the clocks of these scans, with the stated bits compared, and no others
+/// The text of a head, any scans and a tail means the clocks of these scans, with the given bits compared and no others
 /// (SVF Revision E).
 pub fn texts_mean()
     ensures { (scans : List Scan) → AllSized scans → meaning (svf_text scans) ≡ Some (test_clocks scans) }

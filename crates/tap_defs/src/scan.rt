@@ -4,14 +4,14 @@ ghost use Rattle.tap_defs.specs.chain.ScanRows.{AreSameRows, HaveRoomFor};
 
 use bt_bits::Row;
 
-/// The kind of a scan: of instructions (SIR) or of data (SDR), and whether some bit of it is compared.
+/// The kind of a scan: whether it is one of instructions (SIR) or of data (SDR), and whether it compares some bit.
 #[derive(Clone, Copy, Debug, PartialEq, Eq)]
 pub struct Shape {
     pub ir: bool,
     pub compare: bool,
 }
 
-/// The three rows of a scan, stored: what is shifted in, what is expected to come out, and where that is compared.
+/// The three rows of a scan, stored: what is shifted in, what is expected to come out, and what is compared.
 #[derive(Drop)]
 pub struct StoredRows {
     pub tdi: Row,
@@ -19,7 +19,7 @@ pub struct StoredRows {
     pub mask: Row,
 }
 
-/// The three rows of a scan, lent together, so that what fills them has one thing to fill.
+/// The three rows of a scan, lent together, so that a function that fills them takes one argument.
 #[derive(Drop)]
 pub struct ScanRows<'a> {
     pub tdi: &'a mut Row,
@@ -28,7 +28,7 @@ pub struct ScanRows<'a> {
 }
 
 impl ScanRows<'_> {
-    /// Makes the rows those that are stored, for which they have room.
+    /// Copies the stored rows. There must be room for them.
     pub fn copy_from(&mut self, stored: &StoredRows)
         requires { HaveRoomFor stored.now self.old }
         ensures tdi { self.new.tdi.now.bits ≡ stored.now.tdi.bits }

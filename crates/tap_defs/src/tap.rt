@@ -24,7 +24,7 @@ pub enum TapState {
 }
 
 impl TapState {
-    /// The state after one TCK cycle with this TMS.
+    /// Returns the state after one TCK cycle with this TMS.
     pub fn next(self, tms: bool) -> TapState
         ensures { result ≡ next_state self tms }
     {

@@ -3,14 +3,14 @@ use Rattle.std.specs.Prelude.{◌≡◌, ◌≢◌, ◌⊎◌, ℕ, Bool, Option
 use Rattle.board_defs.specs.declared.board.RawBoard.{RawBoard}
 use Rattle.board_defs.specs.Coverage.{IsCovered, ArePaired, IsTestedDriver, IsTestedReceiver}
 
--- how the nets of a short read: as the And or as the Or of what they are driven to, or as one of them, the dominant net
+-- how the nets of a short read: as the And or the Or of the bits that they are driven to, or as the bit of one of them, the dominant net
 pub data ShortKind : Type 0 where
   And : ShortKind
   Or : ShortKind
   Dominant : ℕ → ShortKind
 
--- the constant of each stuck net, the constant of each open pin (a net, and a place in it), the short that each net is in, and the
--- kind of each short. So a net is stuck at most once, a pin is open at most once, and shorts share no net
+-- the constant of each stuck net; the constant of each open pin, by its net and its place there; the short of each shorted net; and the kind of
+-- each short. So a net is stuck at one constant, a pin is open at one constant, and shorts share no net
 pub record FaultSet : Type 0 where
   pub stuck : ℕ → Option Bool
   pub opened : ℕ → ℕ → Option Bool
@@ -21,14 +21,14 @@ pub record FaultSet : Type 0 where
 abbrev pub no_faults : FaultSet
 no_faults = record { stuck = λ n. None; opened = λ n i. None; short = λ n. None; kind = λ k. And }
 
--- no stuck net is in a short; each short has two or more nets, all covered; and a dominant net is one of them
+-- no stuck net is in a short; each short has two or more nets, all covered; and a dominant net is one of the nets of its short
 pub record IsFaultSet (board : RawBoard) (faults : FaultSet) : Type 0 where
   pub disjoint : (n : ℕ) (v : Bool) → faults.stuck n ≡ Some v → faults.short n ≡ None
   pub several : (n k : ℕ) → faults.short n ≡ Some k → (m : ℕ) × (m ≢ n) × (faults.short m ≡ Some k)
   pub covered : (n k : ℕ) → faults.short n ≡ Some k → IsCovered board n
   pub dominant : (n k d : ℕ) → faults.short n ≡ Some k → faults.kind k ≡ Dominant d → faults.short d ≡ Some k
 
--- each stuck net is covered, each open pin is tested as driver or as receiver, and each short has two nets that are paired
+-- each stuck net is covered, each open pin is tested as a driver or as a receiver, and each short has two nets that are paired
 pub record IsObservable (board : RawBoard) (faults : FaultSet) : Type 0 where
   pub is_set : IsFaultSet board faults
   pub stuck : (n : ℕ) (v : Bool) → faults.stuck n ≡ Some v → IsCovered board n

@@ -1,4 +1,4 @@
--- The bits that the nets of a board have at one moment, and what the boundary cells capture of them, whatever is faulty.
+-- The bits of the nets of a board at one moment, under any faults, and what the boundary cells capture.
 use Rattle.std.specs.Prelude.{ℕ, suc, ◌==◌, Bool, true, false, cond, not, ◌&&◌, List, [], ◌∷◌, Option, Some, None, slice_get, unwrap_or, option_and_then, option_map}
 use Rattle.std.specs.List.{list_any, list_all, filter_map}
 use Rattle.board_defs.specs.declared.device.Control.{Control}
@@ -33,22 +33,22 @@ in_extest states part = unwrap_or (option_map (λ state. is_extest state.current
 abbrev pub latch : List PinState → ℕ → ℕ → Bool
 latch states part cell = unwrap_or (option_and_then (λ state. slice_get state.latches cell) (slice_get states part)) false
 
--- there is no control, or its latch differs from the disable value
+-- there is no control, or the latch of the control differs from the disable value
 abbrev pub is_on_by : List PinState → ℕ → Option Control → Bool
 is_on_by states part None = true
 is_on_by states part (Some control) = not (is_same (latch states part control.cell) control.disable)
 
--- the same of a driver by its driving entry: its part is under Extest, and it is on
+-- the driver with this driving entry is live: its part has the instruction Extest, and it is on
 abbrev pub live_entry : List PinState → ℕ → Option Cell → Bool
 live_entry states part None = false
 live_entry states part (Some cell) = in_extest states part && is_on_by states part cell.ctl
 
--- the same of the pin at a port bit; a pin of no described part drives nothing that the model knows
+-- the pin at this port bit is a live driver; a pin without a described part drives nothing that the model knows
 abbrev pub live_where : RawBoard → List PinState → Option PinAt → Bool
 live_where board states None = false
 live_where board states (Some at) = live_entry states at.part (entry_at board at)
 
--- the pin is a live driver: its part has the instruction Extest, and it has no control or its control is on
+-- the pin is a live driver: its part has the instruction Extest, and the driver has no control or its control is on
 abbrev pub live : RawBoard → List PinState → NetPin → Bool
 live board states pin = live_where board states pin.at
 
@@ -57,7 +57,7 @@ abbrev pub driver_bit : RawBoard → List PinState → Option PinAt → Bool
 driver_bit board states None = false
 driver_bit board states (Some at) = unwrap_or (option_map (λ cell. latch states at.part cell.num) (entry_at board at)) false
 
--- the part of the pin has the instruction Extest, where it is a described part
+-- the part of the pin has the instruction Extest or is not described
 abbrev pub extest_where : List PinState → Option PinAt → Bool
 extest_where states None = true
 extest_where states (Some at) = in_extest states at.part
@@ -66,14 +66,14 @@ extest_where states (Some at) = in_extest states at.part
 abbrev pub ruled : RawBoard → List PinState → Net → Bool
 ruled board states net = not (guarded board net) && list_all (λ pin. extest_where states pin.at) net.pins
 
--- who drives a net: nobody knows, since it is not ruled; nobody; one live driver, at a place and with a bit; or several
+-- who drives a net: unknown, since the net is not ruled; nobody; one live driver, at a place and with a bit; or several drivers
 pub data Feeding : Type 0 where
   Unruled : Feeding
   Undriven : Feeding
   Driven : ℕ → Bool → Feeding
   Contended : Feeding
 
--- with one more pin, which may be live
+-- who drives a net with one more pin, which may be live
 abbrev pub counted : Bool → ℕ → Bool → Feeding → Feeding
 counted false place bit feeding = feeding
 counted true place bit Undriven = Driven place bit
@@ -81,7 +81,7 @@ counted true place bit Unruled = Unruled
 counted true place bit (Driven other value) = Contended
 counted true place bit Contended = Contended
 
--- who drives these pins, of which the first stands at this place
+-- who drives the net among these pins, the first of which is at this place
 abbrev pub feeding_from : RawBoard → List PinState → ℕ → List NetPin → Feeding
 feeding_from board states place [] = Undriven
 feeding_from board states place (pin ∷ pins) = counted (live board states pin) place (driver_bit board states pin.at) (feeding_from board states (suc place) pins)
@@ -90,71 +90,71 @@ feeding_from board states place (pin ∷ pins) = counted (live board states pin)
 abbrev pub feeding : RawBoard → List PinState → Net → Feeding
 feeding board states net = cond (ruled board states net) (feeding_from board states 0 net.pins) Unruled
 
--- the bit, unless the pin is open
+-- the bit, or None if the pin is open
 abbrev pub fed_unless : Option Bool → Bool → Option Bool
 fed_unless None bit = Some bit
 fed_unless (Some constant) bit = None
 
--- the bit that the net is fed, where it is: it has exactly one live driver, which is not open
+-- the bit that the net is fed: it has exactly one live driver, which is not open
 abbrev pub fed : FaultSet → ℕ → Feeding → Option Bool
 fed faults n Unruled = None
 fed faults n Undriven = None
 fed faults n (Driven place bit) = fed_unless (faults.opened n place) bit
 fed faults n Contended = None
 
--- the pull, if the pin is open
+-- the pull if the pin is open, otherwise None
 abbrev pub held_if : Option Bool → Option Bool → Option Bool
 held_if None pull = None
 held_if (Some constant) pull = pull
 
--- the pull that the net is held at, where it is: it has no live driver, or exactly one, which is open
+-- the pull that holds the net: it has no live driver, or exactly one, which is open
 abbrev pub held : FaultSet → ℕ → Option Bool → Feeding → Option Bool
 held faults n pull Unruled = None
 held faults n pull Undriven = pull
 held faults n pull (Driven place bit) = held_if (faults.opened n place) pull
 held faults n pull Contended = None
 
--- the constant of the net's one live driver, where that is open
+-- the constant of the net's one live driver, if that is open
 abbrev pub cut : FaultSet → ℕ → Feeding → Option Bool
 cut faults n Unruled = None
 cut faults n Undriven = None
 cut faults n (Driven place bit) = faults.opened n place
 cut faults n Contended = None
 
--- the first of two bits that is there
+-- the first bit if there is one, otherwise the second
 abbrev pub or_else : Option Bool → Option Bool → Option Bool
 or_else None second = second
 or_else (Some first) second = Some first
 
--- the bit of a net that is neither stuck nor shorted: what it is fed, else what it is held at, else the constant of its open driver
+-- the bit of a net that is neither stuck nor shorted: the bit that it is fed, else the pull that holds it, else the constant of its open driver
 abbrev pub unshorted_bit : FaultSet → ℕ → Option Bool → Feeding → Option Bool
 unshorted_bit faults n pull feeding = or_else (fed faults n feeding) (or_else (held faults n pull feeding) (cut faults n feeding))
 
--- a net's number, and something of the net
+-- the number of a net, with something that belongs to the net
 abbrev pub OfNet : Type 0 → Type 0
 OfNet A = ℕ × A
 
--- the And of some nets' bits
+-- the And of the bits of some nets
 abbrev pub all_bits : List (OfNet Bool) → Bool
 all_bits bits = list_all (λ bit. bit.1) bits
 
--- the bit of net d among them
+-- the bit of net `d`, if it is among them
 abbrev pub bit_at_net : ℕ → List (OfNet Bool) → Option Bool
 bit_at_net d [] = None
 bit_at_net d (bit ∷ bits) = cond (bit.0 == d) (Some bit.1) (bit_at_net d bits)
 
--- the bits of some nets together, by the kind of their short. Where the dominant net is not among them it is their And
+-- the bits of some nets, combined by the kind of their short. If the dominant net is not among them, it is their And
 abbrev pub combined : ShortKind → List (OfNet Bool) → Bool
 combined And bits = all_bits bits
 combined Or bits = list_any (λ bit. bit.1) bits
 combined (Dominant d) bits = unwrap_or (bit_at_net d bits) (all_bits bits)
 
--- the net is in the short k
+-- the net is in short `k`
 abbrev pub is_in_short : Option ℕ → ℕ → Bool
 is_in_short None k = false
 is_in_short (Some j) k = j == k
 
--- the nets of the short k, from net n on
+-- the nets of short `k`, from net `n` on
 abbrev pub shorted_nets : FaultSet → ℕ → ℕ → List Net → List (OfNet Net)
 shorted_nets faults k n [] = []
 shorted_nets faults k n (net ∷ nets) =
@@ -167,7 +167,7 @@ is_decided Undriven = true
 is_decided (Driven place bit) = true
 is_decided Contended = false
 
--- a net's number with what is there of the net
+-- the number of a net with what belongs to it, if there is something
 abbrev pub numbered : {A : Type 0} → ℕ → Option A → Option (ℕ × A)
 numbered n None = None
 numbered n (Some a) = Some (n, a)
@@ -180,13 +180,13 @@ bits_fed board faults states nets = filter_map (λ net. numbered net.0 (fed faul
 abbrev pub bits_held : RawBoard → FaultSet → List PinState → List (OfNet Net) → List (OfNet Bool)
 bits_held board faults states nets = filter_map (λ net. numbered net.0 (held faults net.0 net.1.pull (feeding board states net.1))) nets
 
--- the fed bits together; where none is fed, the pulls together; where none is held either, a free bit
+-- the fed bits, combined; if no net is fed, the pulls, combined; if none is held either, a free bit
 abbrev pub first_combined : ShortKind → List (OfNet Bool) → List (OfNet Bool) → Bool → Bool
 first_combined kind [] [] free = free
 first_combined kind [] (pull ∷ pulls) free = combined kind (pull ∷ pulls)
 first_combined kind (bit ∷ bits) pulls free = combined kind (bit ∷ bits)
 
--- the one bit of the short k: free where one of its nets is not ruled or has two live drivers
+-- the bit of short `k`: a free bit if one of its nets is not ruled or has two live drivers
 abbrev pub short_bit : RawBoard → FaultSet → List PinState → Bool → ℕ → Bool
 short_bit board faults states free k =
     let nets : List (OfNet Net) = shorted_nets faults k 0 board.nets in
@@ -194,18 +194,18 @@ short_bit board faults states free k =
     (first_combined (faults.kind k) (bits_fed board faults states nets) (bits_held board faults states nets) free)
     free
 
--- the bit of a net by its constant where it is stuck, and by its short where it is in one
+-- the bit of a net: its constant if it is stuck, the bit of its short if it is in one, otherwise its own
 abbrev pub net_bit_by : RawBoard → FaultSet → List PinState → (ℕ → Bool) → ℕ → Net → Option Bool → Option ℕ → Option Bool
 net_bit_by board faults states shorts n net (Some constant) short = Some constant
 net_bit_by board faults states shorts n net None (Some k) = Some (short_bit board faults states (shorts k) k)
 net_bit_by board faults states shorts n net None None = unshorted_bit faults n net.pull (feeding board states net)
 
--- the bit of net n: its constant where it is stuck, that of its short where it is in one, else what its driver and its pull give.
--- None means a free bit for each cell that captures. shorts k is what the short k gives where nothing decides it
+-- the bit of net `n`: its constant if it is stuck, the bit of its short if it is in one, otherwise what its driver and its pull give.
+-- None means a free bit for each cell that captures. `shorts k` is the bit of short `k` if nothing decides it
 abbrev pub net_bit : RawBoard → FaultSet → List PinState → (ℕ → Bool) → ℕ → Net → Option Bool
 net_bit board faults states shorts n net = net_bit_by board faults states shorts n net (faults.stuck n) (faults.short n)
 
--- the place of a pin among these pins, of which the first stands at this place
+-- the place of a pin among these pins, the first of which is at this place
 abbrev pub place_in : PinAt → ℕ → List NetPin → Option ℕ
 place_in at place [] = None
 place_in at place (pin ∷ pins) = cond (is_at at pin.at) (Some place) (place_in at (suc place) pins)
@@ -216,40 +216,40 @@ pub record Place : Type 0 where
   pub net : Net
   pub place : ℕ
 
--- this place of net n, where there is one, else the next
+-- this place in net `n` if there is one, otherwise the other place
 abbrev pub or_next : ℕ → Net → Option ℕ → Option Place → Option Place
 or_next n net None next = next
 or_next n net (Some place) next = Some (record { number = n; net = net; place = place })
 
--- where a pin stands in the nets, from net n on
+-- the place of a pin in the nets, from net `n` on
 abbrev pub place_of : PinAt → ℕ → List Net → Option Place
 place_of at n [] = None
 place_of at n (net ∷ nets) = or_next n net (place_in at 0 net.pins) (place_of at (suc n) nets)
 
--- what a cell captures of a pin that stands there: the constant of the pin where it is open, else the net's bit, else a free bit
+-- what a cell captures of a pin at this place: the constant of the pin if it is open, else the bit of the net, else a free bit
 abbrev pub read_at : RawBoard → FaultSet → List PinState → (ℕ → Bool) → Bool → Option Place → Bool
 read_at board faults states shorts free None = free
 read_at board faults states shorts free (Some p) =
     unwrap_or (faults.opened p.number p.place) (unwrap_or (net_bit board faults states shorts p.number p.net) free)
 
--- the pin is a receiver, and no live driver
+-- the pin is a receiver and not a live driver
 abbrev pub reads_pin : RawBoard → List PinState → PinAt → Bool
 reads_pin board states at = receives_where board (Some at) && not (live_where board states (Some at))
 
--- what a cell captures of the pin at a port bit, where the entry has one
+-- what a cell captures of the pin at the port bit of its entry
 abbrev pub read_bit : RawBoard → FaultSet → List PinState → (ℕ → Bool) → Bool → ℕ → Option ℕ → Bool
 read_bit board faults states shorts free part None = free
 read_bit board faults states shorts free part (Some b) =
     let at : PinAt = record { part = part; bit = b } in
     cond (reads_pin board states at) (read_at board faults states shorts free (place_of at 0 board.nets)) free
 
--- what a cell with this reading entry captures: an INPUT, CLOCK or BIDIR entry reads its pin, every other cell captures a free bit
+-- what a cell with this reading entry captures: an INPUT, CLOCK or BIDIR entry reads its pin; any other cell captures a free bit
 abbrev pub read_entry : RawBoard → FaultSet → List PinState → (ℕ → Bool) → Bool → ℕ → Option Cell → Bool
 read_entry board faults states shorts free part None = free
 read_entry board faults states shorts free part (Some cell) =
     cond (is_receiving cell.role) (read_bit board faults states shorts free part cell.bit) free
 
--- the same by what the part is; a part without a description has no boundary cells
+-- what a cell of a part of this kind captures; a part without a description has no boundary cells
 abbrev pub captured_by : RawBoard → FaultSet → List PinState → (ℕ → Bool) → (ℕ → Bool) → ℕ → PartKind → List Bool
 captured_by board faults states shorts free part (WithoutDescription n) = []
 captured_by board faults states shorts free part (Described device) =

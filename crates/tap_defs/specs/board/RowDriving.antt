@@ -1,4 +1,4 @@
--- Who drives a net while a row is in the latches, by the enabled driver and the bit of its cell.
+-- Who drives a net while a row is in the latches, from the enabled driver and the bit of its cell.
 use Rattle.std.specs.Prelude.{ℕ, ◌==◌, Bool, false, cond, ◌&&◌, Option, Some, None, slice_get}
 use Rattle.board_defs.specs.declared.device.Control.{Control}
 use Rattle.board_defs.specs.declared.device.Cell.{Cell}
@@ -21,25 +21,24 @@ abbrev pub is_switched_off : Bool → Cell → Option Control → Bool
 is_switched_off bit cell None = false
 is_switched_off bit cell (Some control) = (control.cell == cell.num) && is_same bit control.disable
 
--- what the enabled driver at this place gives its net: the bit of its cell, and nothing where it is a switching driver that holds its
--- disable value
+-- what the enabled driver at this place gives its net: the bit of its cell, or nothing if it is a switching driver with its disable value
 abbrev pub entry_feeds : RawBoard → TestRow → PinAt → ℕ → Option Cell → Feeding
 entry_feeds board row at place None = Undriven
 entry_feeds board row at place (Some cell) =
     let bit : Bool = cell_bit board row at.part (device_at board at.part) cell.num in
     cond (is_switched_off bit cell cell.ctl) Undriven (Driven place bit)
 
--- the same of the pin at a port bit
+-- what the enabled driver at this place and port bit gives its net
 abbrev pub at_feeds : RawBoard → TestRow → ℕ → Option PinAt → Feeding
 at_feeds board row place None = Undriven
 at_feeds board row place (Some at) = entry_feeds board row at place (entry_at board at)
 
--- the same of a pin
+-- what the pin at this place gives its net if it is the enabled driver
 abbrev pub pin_feeds : RawBoard → TestRow → ℕ → Option NetPin → Feeding
 pin_feeds board row place None = Undriven
 pin_feeds board row place (Some pin) = at_feeds board row place pin.at
 
--- the same of the enabled driver, where there is one
+-- what the enabled driver of the net gives it, if there is one
 abbrev pub driver_feeds : RawBoard → TestRow → Net → Option ℕ → Feeding
 driver_feeds board row net None = Undriven
 driver_feeds board row net (Some place) = pin_feeds board row place (slice_get net.pins place)

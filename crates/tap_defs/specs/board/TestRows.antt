@@ -1,4 +1,4 @@
--- The rows of a test: what each boundary cell of a board holds in a row, and what it is to capture.
+-- The rows of a test: what each boundary cell of a board holds in a row, and what it is expected to capture.
 use Rattle.std.specs.Prelude.{◌≡◌, ◌≢◌, ℕ, suc, ◌+◌, ◌/◌, ◌%◌, ◌^◌, ◌<◌, ◌≤◌, ◌==◌, nat_le, Bool, true, false, cond, not, ◌&&◌, ◌||◌, List, [], ◌∷◌, take, Option, Some, None, find, is_some, option_and_then, unwrap_or, count_by}
 use Rattle.std.specs.List.{list_any, range_with_len}
 use Rattle.board_defs.specs.declared.device.Cell.{Cell}
@@ -13,22 +13,22 @@ use Rattle.board_defs.specs.Settings.{Enabling, holds, enables}
 use Rattle.tap_defs.specs.board.NetBits.{Place, place_of}
 use Rattle.tap_defs.specs.board.Quiet.{controls_driver, safe_bit}
 
--- the place of the first enabled driver of some pins; in a safe setting it is the only one
+-- the place of the first enabled driver among some pins; in a safe setting it is the only one
 abbrev pub first_enabled : RawBoard → Enabling → ℕ → List NetPin → Option ℕ
 first_enabled board setting place [] = None
 first_enabled board setting place (pin ∷ pins) = cond (enables board setting pin) (Some place) (first_enabled board setting (suc place) pins)
 
--- some pin receives, at another place than the driver's
+-- some pin at another place than the driver's is a receiver
 abbrev pub reads_beside : RawBoard → ℕ → ℕ → List NetPin → Bool
 reads_beside board driver place [] = false
 reads_beside board driver place (pin ∷ pins) = (not (place == driver) && receives board pin) || reads_beside board driver (suc place) pins
 
--- the place of the enabled driver, where some pin at another place receives
+-- the place of the enabled driver, if some pin at another place is a receiver
 abbrev pub observing_driver_by : RawBoard → Net → Option ℕ → Option ℕ
 observing_driver_by board net None = None
 observing_driver_by board net (Some place) = cond (reads_beside board place 0 net.pins) (Some place) None
 
--- the place of the driver by which the setting observes the net, where it does
+-- the place of the driver by which the setting observes the net, if it does
 abbrev pub observing_driver : RawBoard → Enabling → Net → Option ℕ
 observing_driver board setting net =
     cond (guarded board net) None (observing_driver_by board net (first_enabled board setting 0 net.pins))
@@ -37,37 +37,37 @@ observing_driver board setting net =
 abbrev pub is_observed : RawBoard → List (List Ctl) → Net → Bool
 is_observed board passes net = list_any (λ pass. is_some (observing_driver board (holds pass) net)) passes
 
--- the code of a net: the nets that some pass observes are numbered from 1, in net order
+-- the code of a net: its number, from 1 and in net order, among the nets that some pass observes
 abbrev pub code_of_net : RawBoard → List (List Ctl) → ℕ → ℕ
 code_of_net board passes n = suc (count_by (is_observed board passes) (take n board.nets))
 
--- how many nets some pass observes
+-- the number of nets that some pass observes
 abbrev pub observed_count : RawBoard → List (List Ctl) → ℕ
 observed_count board passes = count_by (is_observed board passes) board.nets
 
--- the width of n codes: the least w with n + 2 ≤ 2 ^ w, so that no code is all zeros or all ones
+-- the width of `n` codes: the smallest `w` with n + 2 ≤ 2 ^ w, so that no code is all zeros or all ones
 abbrev pub code_width : ℕ → ℕ
 code_width n = unwrap_or (find (λ w. nat_le (n + 2) (2 ^ w)) (range_with_len 0 (n + 2))) 0
 
--- the width is enough for codes from 1 to n, none of all zeros or all ones, and no less width is
+-- this width is enough for the codes from 1 to `n` without a code of all zeros or all ones, and no smaller width is
 pub record IsCodeWidth (n width : ℕ) : Type 0 where
   pub enough : n + 2 ≤ 2 ^ width
   pub least : (less : ℕ) → less < width → 2 ^ less < n + 2
 
--- bit j of a code, bit 0 the least
+-- bit `j` of a code; bit 0 is the least significant
 abbrev pub code_bit : ℕ → ℕ → Bool
 code_bit c j = ((c / 2 ^ j) % 2) == 1
 
--- what codes from 1 to n are worth below a width: each has both bits, and each two differ in some
+-- what the codes from 1 to `n` can tell within a width: each has a 0 bit and a 1 bit, and each two differ in some bit
 pub record CodesTell (n width : ℕ) : Type 0 where
   pub has : (c : ℕ) (v : Bool) → 1 ≤ c → c ≤ n → (j : ℕ) × (j < width) × (code_bit c j ≡ v)
   pub differ : (c d : ℕ) → 1 ≤ c → c ≤ n → 1 ≤ d → d ≤ n → c ≢ d → (j : ℕ) × (j < width) × (code_bit c j ≡ not (code_bit d j))
 
--- what net n carries in row j
+-- the bit that net `n` carries in row `j`
 abbrev pub net_code_bit : RawBoard → List (List Ctl) → ℕ → ℕ → Bool
 net_code_bit board passes j n = code_bit (code_of_net board passes n) j
 
--- a row: the setting that is on, and the bit that each net carries, if it carries one
+-- a row: the setting that is on, and the bit of each net that carries one
 pub record TestRow : Type 0 where
   pub setting : Enabling
   pub carried : ℕ → Option Bool
@@ -76,12 +76,12 @@ pub record TestRow : Type 0 where
 abbrev pub quiet_row : TestRow
 quiet_row = record { setting = λ c. false; carried = λ n. None }
 
--- row j of a pass
+-- row `j` of a pass
 abbrev pub code_row : RawBoard → List (List Ctl) → List Ctl → ℕ → TestRow
 code_row board passes pass j = record { setting = holds pass; carried = λ n. Some (net_code_bit board passes j n) }
 
--- a cell that carries no net's bit: where it controls a driver, the opposite of the disable value if the setting holds it, else the
--- disable value; any other cell has its safe value, X as 0
+-- the bit of a cell that carries no net's bit: if it controls a driver, the opposite of the disable value if it is in the setting, otherwise the
+-- disable value; for any other cell its safe value, with X as 0
 abbrev pub steady_bit : RawBoard → Enabling → ℕ → RawDevice → ℕ → Bool
 steady_bit board setting part device cell =
     let off : Bool = unwrap_or (disable_of device cell) false in
@@ -89,31 +89,31 @@ steady_bit board setting part device cell =
     (cond (setting (record { part = part; cell = cell })) (not off) off)
     (unwrap_or (safe_bit device cell) false)
 
--- the bit, where the test holds
+-- the bit if the test holds
 abbrev pub only_if : Bool → Option Bool → Option Bool
 only_if true bit = bit
 only_if false bit = None
 
--- the net's bit, where the driver by which the net is observed stands at this place
+-- the bit of the net, if the driver by which the net is observed is at this place
 abbrev pub data_observed : Option Bool → ℕ → Option ℕ → Option Bool
 data_observed bit place None = None
 data_observed bit place (Some driver) = only_if (driver == place) bit
 
--- the same of a pin that stands there
+-- the bit of the net of a pin at this place, if the pin is the driver by which it is observed
 abbrev pub data_place : RawBoard → TestRow → Option Place → Option Bool
 data_place board row None = None
 data_place board row (Some p) = data_observed (row.carried p.number) p.place (observing_driver board row.setting p.net)
 
--- the same of the pin at a port bit
+-- the bit of the net of the pin at this port bit, under the same condition
 abbrev pub data_pin : RawBoard → TestRow → ℕ → Option ℕ → Option Bool
 data_pin board row part None = None
 data_pin board row part (Some b) = data_place board row (place_of (record { part = part; bit = b }) 0 board.nets)
 
--- the driving entry of a cell; there is at most one
+-- the driving entry of a cell, of which there is at most one
 abbrev pub driving_cell : RawDevice → ℕ → Option Cell
 driving_cell device cell = find (λ e. (e.num == cell) && is_driving e.role) device.cells
 
--- the bit of an observed net, in the cell of the enabled driver on it
+-- the bit of an observed net, in the cell of its enabled driver
 abbrev pub data_bit : RawBoard → TestRow → ℕ → RawDevice → ℕ → Option Bool
 data_bit board row part device cell = option_and_then (λ e. data_pin board row part e.bit) (driving_cell device cell)
 
@@ -121,28 +121,28 @@ data_bit board row part device cell = option_and_then (λ e. data_pin board row 
 abbrev pub row_bit : RawBoard → TestRow → ℕ → RawDevice → ℕ → Bool
 row_bit board row part device cell = unwrap_or (data_bit board row part device cell) (steady_bit board row.setting part device cell)
 
--- the net's bit, where the driver by which the net is observed stands at another place
+-- the bit of the net, if the driver by which the net is observed is at another place
 abbrev pub expect_observed : Option Bool → ℕ → Option ℕ → Option Bool
 expect_observed bit place None = None
 expect_observed bit place (Some driver) = only_if (not (driver == place)) bit
 
--- the same of a pin that stands there
+-- the expected bit of a pin at this place, if another pin is the driver by which its net is observed
 abbrev pub expect_place : RawBoard → TestRow → Option Place → Option Bool
 expect_place board row None = None
 expect_place board row (Some p) = expect_observed (row.carried p.number) p.place (observing_driver board row.setting p.net)
 
--- the same of the pin at a port bit, where it is a receiver
+-- the expected bit of the pin at this port bit, if it is a receiver and another pin drives its net
 abbrev pub expect_pin : RawBoard → TestRow → ℕ → Option ℕ → Option Bool
 expect_pin board row part None = None
 expect_pin board row part (Some b) =
     cond (receives_where board (Some (record { part = part; bit = b }))) (expect_place board row (place_of (record { part = part; bit = b }) 0 board.nets)) None
 
--- the same of a cell by its reading entry, where that is INPUT, CLOCK or BIDIR
+-- the expected bit of a cell with this reading entry, if that is INPUT, CLOCK or BIDIR
 abbrev pub expect_entry : RawBoard → TestRow → ℕ → Option Cell → Option Bool
 expect_entry board row part None = None
 expect_entry board row part (Some e) = cond (is_receiving e.role) (expect_pin board row part e.bit) None
 
--- what a cell is to capture while the row is in the latches, where it is compared: every INPUT, CLOCK and BIDIR cell of a receiver on
--- an observed net, at a pin other than the enabled driver's
+-- what a compared cell is expected to capture while the row is in the latches. Compared is every INPUT, CLOCK and BIDIR cell of a receiver on an
+-- observed net, at a pin other than the enabled driver's
 abbrev pub expect_bit : RawBoard → TestRow → ℕ → RawDevice → ℕ → Option Bool
 expect_bit board row part device cell = expect_entry board row part (reading_entry device cell)

@@ -1,4 +1,4 @@
--- The registers of a chain that a scan goes through, and what the capture states load in them (IEEE 1149.1-1990, sections 6 and 8).
+-- The registers of a chain through which a scan goes, and what the capture states load into them (IEEE 1149.1-1990, sections 6 and 8).
 use Rattle.std.specs.Prelude.{◌≡◌, ◌≢◌, ℕ, suc, Bool, false, List, [], ◌∷◌, length, map}
 use Rattle.tap_defs.specs.declared.tap.TapState.{TapState}
 use Rattle.tap_defs.specs.chain.TestLogic.{TestLogic, Instruction, Extest, Sample, Bypass, Idcode, Other}
@@ -7,7 +7,7 @@ use Rattle.tap_defs.specs.chain.Part.{PartState, FreeBits}
 use Rattle.tap_defs.specs.chain.Chain.{ChainPart, pin_states}
 use Rattle.tap_defs.specs.chain.Run.{Wiring, Choice, Choices}
 
--- of these registers the one that an instruction puts between TDI and TDO
+-- the register that an instruction puts between TDI and TDO
 abbrev pub selected_by : Instruction → List Bool → Bool → List Bool → List Bool
 selected_by Extest boundary bypass identification = boundary
 selected_by Sample boundary bypass identification = boundary
@@ -19,11 +19,11 @@ selected_by Other boundary bypass identification = []
 abbrev pub data_register : PartState → List Bool
 data_register s = selected_by s.current s.boundary s.bypass s.identification
 
--- those of all parts
+-- the registers between TDI and TDO of all parts
 abbrev pub data_registers : List ChainPart → List (List Bool)
 data_registers parts = map (λ p. data_register p.state) parts
 
--- what a part holds after Update-DR: its latches, its bypass bit or its identification register
+-- what a part holds after Update-DR: its latches, its bypass bit, or its identification register
 abbrev pub held_bits : PartState → List Bool
 held_bits s = selected_by s.current s.latches s.bypass s.identification
 
@@ -35,7 +35,7 @@ all_held parts = map (λ p. held_bits p.state) parts
 abbrev pub ir_registers : List ChainPart → List (List Bool)
 ir_registers parts = map (λ p. p.state.ir) parts
 
--- what Capture-DR loads in the register that an instruction selects, where the boundary register has n cells
+-- what Capture-DR loads into the register that an instruction selects, for a boundary register of `n` cells
 abbrev pub dr_capture : TestLogic → List Bool → FreeBits → Instruction → ℕ → List Bool
 dr_capture logic pins free Extest n = pins
 dr_capture logic pins free Sample n = filled n free.cells
@@ -43,36 +43,36 @@ dr_capture logic pins free Bypass n = false ∷ []
 dr_capture logic pins free Idcode n = logic.idcode
 dr_capture logic pins free Other n = []
 
--- what Capture-DR loads in all parts
+-- what Capture-DR loads into the registers of all parts
 abbrev pub dr_captures : (ℕ → List Bool) → (ℕ → FreeBits) → List ChainPart → List (List Bool)
 dr_captures pins free [] = []
 dr_captures pins free (p ∷ parts) =
     dr_capture p.logic (pins 0) (free 0) p.state.current (length p.state.boundary)
     ∷ dr_captures (λ k. pins (suc k)) (λ k. free (suc k)) parts
 
--- what Capture-IR loads in all parts
+-- what Capture-IR loads into the registers of all parts
 abbrev pub ir_captures : (ℕ → FreeBits) → List ChainPart → List (List Bool)
 ir_captures free [] = []
 ir_captures free (p ∷ parts) = captured_ir p.state.ir (free 0).ir ∷ ir_captures (λ k. free (suc k)) parts
 
--- what the pins give the boundary cells, part by part
+-- what the pins give the boundary cells of each part
 abbrev pub pins_at : Wiring → Choice → List ChainPart → ℕ → List Bool
 pins_at wiring choice parts = wiring (pin_states parts) choice
 
--- what a scan of data captures: Capture-DR is the old state of its third clock
+-- what a scan of data captures; Capture-DR is the old state of its third clock
 abbrev pub data_captured : Wiring → Choices → List ChainPart → List (List Bool)
 data_captured wiring choices parts = dr_captures (pins_at wiring (choices 2) parts) (choices 2).parts parts
 
--- what a scan of instructions captures: Capture-IR is the old state of its fourth clock
+-- what a scan of instructions captures; Capture-IR is the old state of its fourth clock
 abbrev pub codes_captured : Choices → List ChainPart → List (List Bool)
 codes_captured choices parts = ir_captures (choices 3).parts parts
 
--- every part is in this state
+-- every part is in this TAP state
 abbrev pub AllIn : TapState → List ChainPart → Type 0
 AllIn t [] = Unit {0}
 AllIn t (p ∷ parts) = (p.state.tap ≡ t) × AllIn t parts
 
--- every part is in this state, under an instruction that selects a register of the model
+-- every part is in this TAP state, with an instruction that selects a register of the model
 abbrev pub AllSelectingIn : TapState → List ChainPart → Type 0
 AllSelectingIn t [] = Unit {0}
 AllSelectingIn t (p ∷ parts) = ((p.state.tap ≡ t) × (p.state.current ≢ Other)) × AllSelectingIn t parts

@@ -4,17 +4,17 @@ use Rattle.tap_defs.specs.chain.Scan.{ScanBit, Scan}
 use Rattle.tap_defs.specs.chain.Codes.{instructs}
 use Rattle.tap_defs.specs.chain.Text.{svf_text}
 
--- A5, the lowest bit first
+-- the bits of A5, the lowest first
 abbrev pub marks : List Bool
 marks = true ∷ false ∷ true ∷ false ∷ false ∷ true ∷ false ∷ true ∷ []
 
--- bits that are shifted in, each compared with the bit that leaves
+-- bits to shift in, each with the bit that must come out
 abbrev pub compared : List Bool → List Bool → List ScanBit
 compared [] out = []
 compared (i ∷ ins) [] = []
 compared (i ∷ ins) (o ∷ out) = record { tdi = i; expect = Some o } ∷ compared ins out
 
--- the code of ones, BYPASS, for each part; then the marks, which leave as many positions later as there are parts
+-- the code of ones, which is BYPASS, for each part; then the marks, which come out after as many bits as there are parts
 abbrev pub chain_scans : List ℕ → List Scan
 chain_scans lengths =
     let zeros : List Bool = replicate (length lengths) false in

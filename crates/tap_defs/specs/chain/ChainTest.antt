@@ -1,4 +1,4 @@
--- What the chain test is worth: it counts the parts.
+-- What the chain test finds out: the number of parts.
 use Rattle.std.specs.Prelude.{◌≡◌, ◌≢◌, ℕ, ◌≤◌, List, length, map, sum, All, Some}
 use Rattle.tap_defs.specs.chain.TestLogic.{TestLogic}
 use Rattle.tap_defs.specs.chain.Run.{Clock, Wiring, PassesOn, FailsOn}
@@ -13,8 +13,8 @@ pub record AreIrLengths (lengths : List ℕ) : Type 0 where
   pub some : 1 ≤ length lengths
   pub wide : All (λ n. 2 ≤ n) lengths
 
--- the text has a meaning. It passes on every chain of parts with these lengths, described or not. It fails on every chain of one or
--- more parts that has another number of parts and no more instruction bits in total. Both hold whatever the pins capture
+-- the text has a meaning. It passes on every chain of parts with these lengths, described or not. It fails on every chain of one or more
+-- parts that has another number of parts and no more instruction bits in total. Both hold for everything that the pins may capture
 pub record IsChainTest (lengths : List ℕ) (text : List ℕ) : Type 0 where
   pub clocks : List Clock
   pub means : meaning text ≡ Some clocks

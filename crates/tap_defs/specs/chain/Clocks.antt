@@ -1,4 +1,4 @@
--- The clocks of scans (SVF Revision E, SIR, SDR and STATE; the way of the controllers is that of IEEE 1149.1-1990, section 5).
+-- The clocks of scans (SVF Revision E, SIR, SDR and STATE; the path of the controllers is that of IEEE 1149.1-1990, section 5).
 use Rattle.std.specs.Prelude.{Bool, true, false, List, [], ◌∷◌, ◌++◌, Some, None}
 use Rattle.tap_defs.specs.chain.Scan.{ScanBit, Scan}
 use Rattle.tap_defs.specs.chain.Run.{Clock}
@@ -11,21 +11,21 @@ plain tms = record { tms = tms; tdi = None; expect = None }
 abbrev pub shift_clock : Bool → ScanBit → Clock
 shift_clock tms bit = record { tms = tms; tdi = Some bit.tdi; expect = bit.expect }
 
--- the clocks that shift these bits in: TMS is 0, but 1 in the last
+-- the clocks that shift these bits in: TMS is 1 in the last clock and 0 in the others
 abbrev pub shift_clocks : List ScanBit → List Clock
 shift_clocks [] = []
 shift_clocks (b ∷ []) = shift_clock true b ∷ []
 shift_clocks (b ∷ c ∷ bits) = shift_clock false b ∷ shift_clocks (c ∷ bits)
 
--- from Run-Test/Idle to Shift-DR, the shifts, and back through Update-DR
+-- from Run-Test/Idle to Shift-DR, the shifts, and through Update-DR back to Run-Test/Idle
 abbrev pub sdr_clocks : List ScanBit → List Clock
 sdr_clocks bits = plain true ∷ plain false ∷ plain false ∷ (shift_clocks bits ++ plain true ∷ plain false ∷ [])
 
--- from Run-Test/Idle to Shift-IR, the shifts, and back through Update-IR
+-- from Run-Test/Idle to Shift-IR, the shifts, and through Update-IR back to Run-Test/Idle
 abbrev pub sir_clocks : List ScanBit → List Clock
 sir_clocks bits = plain true ∷ plain true ∷ plain false ∷ plain false ∷ (shift_clocks bits ++ plain true ∷ plain false ∷ [])
 
--- those of SIR or of SDR
+-- the clocks of an SIR or of an SDR statement
 abbrev pub clocks_by : Bool → List ScanBit → List Clock
 clocks_by true bits = sir_clocks bits
 clocks_by false bits = sdr_clocks bits
@@ -34,7 +34,7 @@ clocks_by false bits = sdr_clocks bits
 abbrev pub scan_clocks : Scan → List Clock
 scan_clocks scan = clocks_by scan.ir scan.bits
 
--- the clocks of scans, one after another
+-- the clocks of scans, in order
 abbrev pub all_clocks : List Scan → List Clock
 all_clocks [] = []
 all_clocks (s ∷ scans) = scan_clocks s ++ all_clocks scans

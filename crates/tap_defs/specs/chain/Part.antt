@@ -1,4 +1,4 @@
--- One part in one TCK cycle: its old TAP state acts, the TAP moves, and the new state acts (IEEE 1149.1-1990, sections 5 to 11).
+-- One part in one TCK cycle: the old TAP state acts, the TAP moves, and the new state acts (IEEE 1149.1-1990, sections 5 to 11).
 use Rattle.std.specs.Prelude.{◌≡◌, ℕ, Bool, false, List, length}
 use Rattle.tap_defs.specs.declared.tap.TapState.{TapState}
 use Rattle.tap_defs.specs.declared.tap.TapState.TheVariants.{TestLogicReset, CaptureDR, ShiftDR, UpdateDR, CaptureIR, ShiftIR, UpdateIR}
@@ -6,7 +6,7 @@ use Rattle.tap_defs.specs.chain.Tap.{next_state}
 use Rattle.tap_defs.specs.chain.TestLogic.{Instruction, Extest, Sample, Bypass, Idcode, Other, TestLogic, instruction_of, reset_instruction}
 use Rattle.tap_defs.specs.chain.ShiftRegister.{shifted_out, shifted, filled, captured_ir}
 
--- the state of a part's test logic: its controller, its registers, the current instruction, and the update latches of the boundary cells
+-- the state of the test logic of a part: the controller, the registers, the current instruction, and the update latches of the boundary cells
 pub record PartState : Type 0 where
   pub tap : TapState
   pub ir : List Bool
@@ -16,7 +16,7 @@ pub record PartState : Type 0 where
   pub identification : List Bool
   pub latches : List Bool
 
--- what a part shows at its pins: they follow the current instruction and the update latches
+-- what the pins of a part follow: the current instruction and the update latches
 pub record PinState : Type 0 where
   pub current : Instruction
   pub latches : List Bool
@@ -25,15 +25,15 @@ pub record PinState : Type 0 where
 abbrev pub pin_state : PartState → PinState
 pin_state s = record { current = s.current; latches = s.latches }
 
--- what one cycle leaves open: whatever these bits are, the part may do so
+-- what one cycle leaves open: a part may behave by any of these bits
 pub record FreeBits : Type 0 where
-  -- what Capture-IR and Capture-DR load where nothing decides it, and what the latches become
+  -- what Capture-IR and Capture-DR load if nothing decides it, and what the latches become
   pub ir : ℕ → Bool
   pub cells : ℕ → Bool
   pub latches : ℕ → Bool
   -- TDO outside the shift states
   pub tdo : Bool
-  -- whether Test-Logic-Reset selects another instruction than BYPASS, where that is not known
+  -- whether Test-Logic-Reset selects an instruction other than BYPASS, if that is not known
   pub other : Bool
 
 -- what the old state does to the registers. Under EXTEST Capture-DR loads what the pins give the boundary cells
@@ -69,17 +69,17 @@ new_state_acts TestLogicReset i logic free s =
     record s { current = reset_instruction logic.at_reset free.other; latches = filled (length s.latches) free.latches }
 new_state_acts _ _ logic free s = s
 
--- the part after one cycle with this TMS and TDI, where its pins give the boundary cells these bits
+-- the part after one cycle with this TMS and TDI, while its pins give the boundary cells these bits
 abbrev pub part_after : TestLogic → List Bool → FreeBits → Bool → Bool → PartState → PartState
 part_after logic pins free tms tdi s =
     new_state_acts (next_state s.tap tms) s.current logic free
     (record (old_state_acts s.tap s.current logic pins free tdi s) { tap = next_state s.tap tms })
 
--- the part's TDO in the cycle
+-- TDO of the part in the cycle
 abbrev pub part_tdo : FreeBits → Bool → PartState → Bool
 part_tdo free tdi s = tdo_in s.tap s.current free tdi s
 
--- each register is as long as the part has it
+-- each register has the length that the part says
 pub record IsStateOf (logic : TestLogic) (s : PartState) : Type 0 where
   pub ir : length s.ir ≡ logic.ir_length
   pub boundary : length s.boundary ≡ logic.boundary_length

@@ -5,7 +5,7 @@ use Rattle.tap_defs.specs.chain.TestLogic.{TestLogic}
 use Rattle.tap_defs.specs.chain.Part.{PinState, FreeBits}
 use Rattle.tap_defs.specs.chain.Chain.{ChainPart, pin_states, chain_after, chain_tdo, IsChainOf}
 
--- a clock: its TMS, its TDI where that is given, and the bit that TDO is compared with, where it is compared
+-- a clock: TMS, TDI if it is given, and the bit that TDO is compared with, if it is compared
 pub record Clock : Type 0 where
   pub tms : Bool
   pub tdi : Option Bool
@@ -17,11 +17,11 @@ pub record Choice : Type 0 where
   pub shorts : ℕ → Bool
   pub tdi : Bool
 
--- the choices of a run, cycle by cycle
+-- the choices of a run, for each cycle
 abbrev pub Choices : Type 0
 Choices = ℕ → Choice
 
--- the board round a chain: from what all pins show, what the pins of part k give its boundary cells
+-- the board around a chain: from what all pins show, the bits that the pins of part `k` give its boundary cells
 abbrev pub Wiring : Type 0
 Wiring = List PinState → Choice → ℕ → List Bool
 
@@ -33,7 +33,7 @@ clock_tdi c choice = unwrap_or c.tdi choice.tdi
 abbrev pub clock_after : Wiring → Clock → Choice → List ChainPart → List ChainPart
 clock_after wiring c choice parts = chain_after parts (wiring (pin_states parts) choice) choice.parts c.tms (clock_tdi c choice)
 
--- its TDO in the clock
+-- TDO of the chain in the clock
 abbrev pub clock_tdo : Clock → Choice → List ChainPart → Bool
 clock_tdo c choice parts = chain_tdo parts choice.parts (clock_tdi c choice)
 
@@ -41,7 +41,7 @@ clock_tdo c choice parts = chain_tdo parts choice.parts (clock_tdi c choice)
 abbrev pub later : Choices → Choices
 later choices k = choices (suc k)
 
--- the choices that are left after these clocks
+-- the choices that remain after these clocks
 abbrev pub choices_after : List Clock → Choices → Choices
 choices_after [] choices = choices
 choices_after (c ∷ clocks) choices = choices_after clocks (later choices)
@@ -51,13 +51,13 @@ unfoldable pub run : Wiring → List Clock → Choices → List ChainPart → Li
 run wiring [] choices parts = parts
 run wiring (c ∷ clocks) choices parts = run wiring clocks (later choices) (clock_after wiring c (choices 0) parts)
 
--- its TDO in each of them
+-- TDO of the chain in each of these clocks
 unfoldable pub tdos : Wiring → List Clock → Choices → List ChainPart → List Bool
 tdos wiring [] choices parts = []
 tdos wiring (c ∷ clocks) choices parts =
     clock_tdo c (choices 0) parts ∷ tdos wiring clocks (later choices) (clock_after wiring c (choices 0) parts)
 
--- what the pins show after each of them
+-- what the pins show after each of these clocks
 unfoldable pub shown : Wiring → List Clock → Choices → List ChainPart → List (List PinState)
 shown wiring [] choices parts = []
 shown wiring (c ∷ clocks) choices parts =

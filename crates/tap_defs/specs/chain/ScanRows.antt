@@ -1,36 +1,36 @@
--- The three rows of a scan in code: what they hold, that they have room, and that a call leaves them the rows that they were.
+-- The three rows of a scan in code: what they hold, that they have room, and that a call leaves the same rows behind.
 use Rattle.std.specs.Prelude.{◌≡◌, ℕ, ◌≤◌, Bool, List, length}
 use Rattle.tap_defs.specs.declared.scan.ScanRows.{ScanRows}
 use Rattle.tap_defs.specs.declared.scan.StoredRows.{StoredRows}
 use Rattle.tap_defs.specs.chain.Scan.{ScanBit, tdi_bits, tdo_bits, mask_bits}
 
--- three lists have the bits of a scan: what is shifted in, what is expected, and where it is compared
+-- three lists have the bits of a scan: what is shifted in, what is expected, and what is compared
 pub record AreBitsOf (bits : List ScanBit) (shifted expected marks : List Bool) : Type 0 where
   pub tdi : shifted ≡ tdi_bits bits
   pub tdo : expected ≡ tdo_bits bits
   pub mask : marks ≡ mask_bits bits
 
--- rows that are stored have the bits of a scan
+-- stored rows have the bits of a scan
 abbrev pub AreRowsOf : List ScanBit → StoredRows → Type 0
 AreRowsOf bits stored = AreBitsOf bits stored.tdi.bits stored.tdo.bits stored.mask.bits
 
--- and so do rows that are lent
+-- lent rows have the bits of a scan
 abbrev pub HoldBits : List ScanBit → ScanRows → Type 0
 HoldBits bits rows = AreBitsOf bits rows.tdi.now.bits rows.tdo.now.bits rows.mask.now.bits
 
--- each of the three has such a room
+-- each of the three rows has this room
 pub record EachHasRoom (Fits : ℕ → Type 0) (rows : ScanRows) : Type 0 where
   pub tdi : Fits rows.tdi.now.room
   pub tdo : Fits rows.tdo.now.room
   pub mask : Fits rows.mask.now.room
 
--- each has room for the one that is stored
+-- each row has room for its stored counterpart
 pub record HaveRoomFor (stored : StoredRows) (rows : ScanRows) : Type 0 where
   pub tdi : length stored.tdi.bits ≤ rows.tdi.now.room
   pub tdo : length stored.tdo.bits ≤ rows.tdo.now.room
   pub mask : length stored.mask.bits ≤ rows.mask.now.room
 
--- they are the three that they were, with the room that each had
+-- they are the same three rows, each with the room that it had
 pub record AreSameRows (old new : ScanRows) : Type 0 where
   pub tdi : new.tdi.ghost_name ≡ old.tdi.ghost_name
   pub tdo : new.tdo.ghost_name ≡ old.tdo.ghost_name

@@ -1,26 +1,26 @@
--- The meaning of an SVF text (SVF Revision E): a list of clocks, where it has a meaning.
+-- The meaning of an SVF text (SVF Revision E): a list of clocks, if the text has a meaning.
 use Rattle.std.specs.Prelude.{ℕ, Bool, true, false, ◌&&◌, List, [], ◌∷◌, ◌++◌, Option, Some, None, option_map, option_and_then, if◌then◌else◌}
 use Rattle.tap_defs.specs.chain.Run.{Clock}
 use Rattle.tap_defs.specs.chain.Clocks.{scan_clocks, reset_clocks, head_clocks}
 use Rattle.tap_defs.specs.chain.SvfTokens.{without_comments, tokens_from, pieces_from}
 use Rattle.tap_defs.specs.chain.SvfStatements.{Statement, TrstOff, EndIrIdle, EndDrIdle, StateReset, StateIdle, ScanOf, statements_of}
 
--- what holds before a statement: the controllers are in Run-Test/Idle, and ENDIR IDLE and ENDDR IDLE came before
+-- what is known before a statement: whether the controllers are in Run-Test/Idle, and whether ENDIR IDLE and ENDDR IDLE came before
 pub record Standing : Type 0 where
   pub idle : Bool
   pub ends_ir : Bool
   pub ends_dr : Bool
 
--- whether a scan of this kind may follow: it begins in Run-Test/Idle, and it has been said that it ends there
+-- whether a scan of this kind may follow: it begins in Run-Test/Idle, and an earlier statement said that it ends there
 abbrev pub may_scan : Standing → Bool → Bool
 may_scan standing true = standing.idle && standing.ends_ir
 may_scan standing false = standing.idle && standing.ends_dr
 
--- these clocks, and more where there are more
+-- these clocks, followed by the others if those have a meaning
 abbrev pub followed_by : List Clock → Option (List Clock) → Option (List Clock)
 followed_by clocks more = option_map (λ cs. clocks ++ cs) more
 
--- the clocks of statements. STATE IDLE stands right after STATE RESET
+-- the clocks of statements. STATE IDLE must come right after STATE RESET
 abbrev pub clocks_of : Standing → List Statement → Option (List Clock)
 clocks_of standing [] = Some []
 clocks_of standing (TrstOff ∷ more) = clocks_of standing more
@@ -36,7 +36,7 @@ clocks_of standing (ScanOf scan ∷ more) =
 abbrev pub at_start : Standing
 at_start = record { idle = false; ends_ir = false; ends_dr = false }
 
--- the statements of a text, where it has statements alone
+-- the statements of a text, or None if something else is in it
 unfoldable pub text_statements : List ℕ → Option (List Statement)
 text_statements text = option_and_then statements_of (pieces_from [] (tokens_from [] (without_comments false text)))
 

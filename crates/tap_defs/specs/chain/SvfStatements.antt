@@ -1,4 +1,4 @@
--- The statements of an SVF text (SVF Revision E), as far as this product writes them; any other statement has no meaning.
+-- The statements of an SVF text (SVF Revision E) that this product writes. Any other statement has no meaning here.
 use Rattle.std.specs.Prelude.{ℕ, Bool, true, false, ◌&&◌, List, [], ◌∷◌, ◌++◌, map, Option, Some, None, option_map, option_and_then, codes, bytes_eq}
 use Rattle.std.specs.Prelude.{if◌then◌else◌, nat_lt}
 use Rattle.std.specs.Char.{is_ascii_digit}
@@ -24,7 +24,7 @@ pub record Field : Type 0 where
   pub name : List ℕ
   pub digits : List ℕ
 
--- the fields that these tokens are, after some of a field that has begun. Between the digits of a field there may be blanks
+-- the fields in these tokens, after the part of a field that has begun. Between the digits of a field there may be blanks
 abbrev pub fields_from : Option Field → List Token → Option (List Field)
 fields_from None [] = Some []
 fields_from None (Word name ∷ Open ∷ tokens) = fields_from (Some (record { name = name; digits = [] })) tokens
@@ -33,7 +33,7 @@ fields_from (Some f) (Word more ∷ tokens) = fields_from (Some (record f { digi
 fields_from (Some f) (Close ∷ tokens) = option_map (λ fields. f ∷ fields) (fields_from None tokens)
 fields_from (Some f) _ = None
 
--- the n bits of a field of this name
+-- the `n` bits of the field with this name
 abbrev pub bits_of : List ℕ → ℕ → Field → Option (List Bool)
 bits_of name n field = if bytes_eq field.name name then field_bits n field.digits else None
 
@@ -42,24 +42,24 @@ abbrev pub compared_bits : Option (List Bool) → Option (List Bool) → Option 
 compared_bits (Some tdi) (Some tdo) (Some mask) = Some (scan_bits tdi tdo mask)
 compared_bits _ _ _ = None
 
--- the bits of a scan of n bits: TDI alone, or TDI, TDO and MASK
+-- the bits of a scan of `n` bits: TDI alone, or TDI, TDO and MASK
 abbrev pub bits_of_fields : ℕ → List Field → Option (List ScanBit)
 bits_of_fields n (tdi ∷ []) = option_map (map sent) (bits_of (codes "TDI") n tdi)
 bits_of_fields n (tdi ∷ tdo ∷ mask ∷ []) =
     compared_bits (bits_of (codes "TDI") n tdi) (bits_of (codes "TDO") n tdo) (bits_of (codes "MASK") n mask)
 bits_of_fields n _ = None
 
--- the length of a scan: a decimal number, and not 0
+-- the length of a scan: a decimal number that is not 0
 abbrev pub length_of : List ℕ → Option ℕ
 length_of word = if list_all is_ascii_digit word && nat_lt 0 (digits_value 10 word) then Some (digits_value 10 word) else None
 
--- whether the word is SIR, where it is SIR or SDR
+-- whether the word is SIR, or None if it is neither SIR nor SDR
 abbrev pub scan_command : List ℕ → Option Bool
 scan_command word =
     if bytes_eq word (command_word true) then Some true else (
     if bytes_eq word (command_word false) then Some false else None)
 
--- a scan of this kind with these bits
+-- the scan of this kind with these bits
 abbrev pub scan_by : Option Bool → Option (List ScanBit) → Option Statement
 scan_by (Some ir) (Some bits) = Some (ScanOf (record { ir = ir; bits = bits }))
 scan_by _ _ = None
@@ -73,14 +73,14 @@ two_words a b =
     if bytes_eq a (codes "STATE") && bytes_eq b (codes "RESET") then Some StateReset else (
     if bytes_eq a (codes "STATE") && bytes_eq b (codes "IDLE") then Some StateIdle else None))))
 
--- the statement that the tokens before a semicolon are
+-- the statement of the tokens before a semicolon
 abbrev pub statement_of : List Token → Option Statement
 statement_of (Word a ∷ Word b ∷ []) = two_words a b
 statement_of (Word command ∷ Word n ∷ t ∷ tokens) =
     scan_by (scan_command command) (option_and_then (λ m. option_and_then (bits_of_fields m) (fields_from None (t ∷ tokens))) (length_of n))
 statement_of _ = None
 
--- the statements that these are, where each is one
+-- the statements of these lists of tokens, or None if one of them is not a statement
 abbrev pub statements_of : List (List Token) → Option (List Statement)
 statements_of [] = Some []
 statements_of (piece ∷ pieces) = option_and_then (λ s. option_map (λ more. s ∷ more) (statements_of pieces)) (statement_of piece)

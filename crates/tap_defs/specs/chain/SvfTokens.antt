@@ -1,8 +1,8 @@
--- The tokens of an SVF text (SVF Revision E): words, parentheses and semicolons. Blanks and line ends separate words;
--- beside a parenthesis or a semicolon they may stand or be left out.
+-- The tokens of an SVF text (SVF Revision E): words, parentheses and semicolons. Blanks and line ends separate words. Next to a
+-- parenthesis or a semicolon they are optional.
 use Rattle.std.specs.Prelude.{ℕ, ◌==◌, Bool, true, false, cond, ◌&&◌, ◌||◌, List, [], ◌∷◌, ◌++◌, Option, Some, None, option_map, if◌then◌else◌}
 
--- the text without comments: ! and // begin one, and it ends with its line. The Bool says whether a comment has begun
+-- the text without comments. A comment begins with ! or // and ends with its line. The Bool says whether a comment has begun
 abbrev pub without_comments : Bool → List ℕ → List ℕ
 without_comments comment [] = []
 without_comments true (b ∷ bytes) = cond (b == 10) (10 ∷ without_comments false bytes) (without_comments true bytes)
@@ -21,12 +21,12 @@ pub data Token : Type 0 where
 abbrev pub is_blank : ℕ → Bool
 is_blank b = (b == 32) || (b == 9) || (b == 10) || (b == 13)
 
--- a word that ends here, where one has begun
+-- the word that ends here, if one has begun
 abbrev pub ended : List ℕ → List Token → List Token
 ended [] tokens = tokens
 ended (b ∷ word) tokens = Word (b ∷ word) ∷ tokens
 
--- the tokens of a text without comments, after a word that has begun
+-- the tokens of a text without comments, after the part of a word that has begun
 unfoldable pub tokens_from : List ℕ → List ℕ → List Token
 tokens_from word [] = ended word []
 tokens_from word (b ∷ bytes) =
@@ -38,7 +38,7 @@ tokens_from word (b ∷ bytes) =
     then ended word (Close ∷ tokens_from [] bytes)
     else (if b == 59 then ended word (End ∷ tokens_from [] bytes) else tokens_from (word ++ b ∷ []) bytes)))
 
--- the tokens up to each semicolon, after some of a statement that has begun; None where the last is not closed
+-- the tokens up to each semicolon, after the part of a statement that has begun; None if the last statement has no semicolon
 abbrev pub pieces_from : List Token → List Token → Option (List (List Token))
 pieces_from piece (End ∷ tokens) = option_map (λ pieces. piece ∷ pieces) (pieces_from [] tokens)
 pieces_from piece (Word w ∷ tokens) = pieces_from (piece ++ Word w ∷ []) tokens

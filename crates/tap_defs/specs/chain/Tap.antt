@@ -4,7 +4,7 @@ use Rattle.tap_defs.specs.declared.tap.TapState.{TapState}
 use Rattle.tap_defs.specs.declared.tap.TapState.TheVariants.{TestLogicReset, RunTestIdle, SelectDR, CaptureDR, ShiftDR, Exit1DR, PauseDR, Exit2DR}
 use Rattle.tap_defs.specs.declared.tap.TapState.TheVariants.{UpdateDR, SelectIR, CaptureIR, ShiftIR, Exit1IR, PauseIR, Exit2IR, UpdateIR}
 
--- the table: where TMS 1 leads, and where TMS 0
+-- the table: the next state for TMS 1, and for TMS 0
 abbrev pub next_state : TapState → Bool → TapState
 next_state TestLogicReset tms = cond tms TestLogicReset RunTestIdle
 next_state RunTestIdle tms = cond tms SelectDR RunTestIdle

@@ -7,12 +7,12 @@ abbrev pub command_word : Bool → List ℕ
 command_word true = codes "SIR"
 command_word false = codes "SDR"
 
--- what stands before a field: a line end in the form of several lines, else a space
+-- what comes before a field: a line end in the form of several lines, otherwise a space
 abbrev pub gap : Bool → ℕ
 gap true = 10
 gap false = 32
 
--- digits, with a line end before each that has no room in its line; lines after the first hold 64
+-- digits, with a line end before each digit that does not fit into its line; lines after the first have room for 64
 abbrev pub broken : ℕ → List ℕ → List ℕ
 broken room [] = []
 broken zero (d ∷ ds) = 10 ∷ d ∷ broken 63 ds
@@ -23,7 +23,7 @@ abbrev pub laid : Bool → List ℕ → List ℕ
 laid true digits = broken 64 digits
 laid false digits = digits
 
--- from the end of TDI on: TDO and MASK, where something is compared
+-- what follows TDI: TDO and MASK, if a bit is compared
 abbrev pub compare_text : Bool → List ScanBit → Bool → List ℕ
 compare_text long bits false = codes ");"
 compare_text long bits true =
@@ -34,7 +34,7 @@ abbrev pub form : Bool → Scan → List ℕ
 form long scan =
     command_word scan.ir ++ (32 ∷ decimal (length scan.bits) ++ (gap long ∷ codes "TDI (" ++ (laid long (hex_text (tdi_bits scan.bits)) ++ compare_text long scan.bits (compares scan.bits))))
 
--- one line, where that has at most 80 characters
+-- a scan in one line if that has at most 80 characters, otherwise in several lines
 abbrev pub scan_text : Scan → List ℕ
 scan_text scan = form (nat_lt 80 (length (form false scan))) scan ++ 10 ∷ []
 
@@ -55,7 +55,7 @@ tail_text = line (codes "STATE RESET;")
 unfoldable pub svf_text : List Scan → List ℕ
 svf_text scans = head_text ++ (scan_texts scans ++ tail_text)
 
--- each scan has some bits, and no more than a number in the text can say
+-- each scan has at least one bit, and no more bits than the number in a text can say
 abbrev pub AllSized : List Scan → Type 0
 AllSized [] = Unit {0}
 AllSized (s ∷ scans) = ((0 < length s.bits) × (length s.bits < 2 ^ 64)) × AllSized scans
