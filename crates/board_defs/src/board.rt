@@ -12,28 +12,28 @@ use std::marker::Model;
 
 /// What a part of the chain is: a described device, or a part of which only the length of its
 /// instruction register is known, and which stays in BYPASS.
-#[derive(Debug, Drop)]
+#[derive(Drop)]
 pub enum PartKind {
     Described(Device),
     Bypass(u32),
 }
 
 /// A part of the chain.
-#[derive(Debug, Drop)]
+#[derive(Drop)]
 pub struct Part {
     pub name: Name,
     pub kind: PartKind,
 }
 
 /// The part of the chain and the port bit that have a pin, each by its number.
-#[derive(Clone, Copy, Debug, PartialEq, Eq)]
+#[derive(Clone, Copy)]
 pub struct PinAt {
     pub part: u32,
     pub bit: u32,
 }
 
 /// A pin of a net.
-#[derive(Debug, Drop)]
+#[derive(Drop)]
 pub struct NetPin {
     pub part: Name,
     pub pin: Name,
@@ -44,7 +44,7 @@ pub struct NetPin {
 }
 
 /// A net, with its pins in pin order.
-#[derive(Debug, Drop)]
+#[derive(Drop)]
 pub struct Net {
     pub name: Name,
     /// Whether the net carries a supply.
@@ -55,21 +55,21 @@ pub struct Net {
 }
 
 /// A board as the plain record of its chain, in the order from TDI to TDO, and its nets.
-#[derive(Debug, Drop)]
+#[derive(Drop)]
 pub struct RawBoard {
     pub chain: Items<Part>,
     pub nets: Items<Net>,
 }
 
 /// A pin by the number of its net and its place in the net.
-#[derive(Clone, Copy, Debug, PartialEq, Eq)]
+#[derive(Clone, Copy)]
 pub struct PinRef {
     pub net: u32,
     pub place: u32,
 }
 
 /// A control: a part of the chain and a cell of its boundary register, each by its number.
-#[derive(Clone, Copy, Debug, PartialEq, Eq)]
+#[derive(Clone, Copy, PartialEq, Eq)]
 pub struct Ctl {
     pub part: u32,
     pub cell: u32,
@@ -85,7 +85,7 @@ impl Ctl {
 }
 
 /// How a driver is enabled.
-#[derive(Clone, Copy, Debug, PartialEq, Eq)]
+#[derive(Clone, Copy, PartialEq, Eq)]
 pub enum Drive {
     AlwaysOn,
     /// By its own cell, where the net is guarded or not pulled to the value at which the cell
@@ -97,7 +97,7 @@ pub enum Drive {
 }
 
 /// A board that keeps the rules of a board.
-#[derive(Debug, Drop)]
+#[derive(Drop)]
 pub struct Board {
     raw: RawBoard,
 }

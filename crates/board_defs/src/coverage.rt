@@ -1,7 +1,7 @@
 // Why a net is not covered.
 
 /// Why a net is not covered. The first that holds is the reason.
-#[derive(Clone, Copy, Debug, PartialEq, Eq)]
+#[derive(Clone, Copy)]
 pub enum Reason {
     /// The net carries a supply.
     Supply,

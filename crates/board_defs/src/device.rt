@@ -8,7 +8,7 @@ use std::alloc::{AllocError, Global};
 use std::marker::Model;
 
 /// A bit of a pattern: 0, 1, or X, which fits both.
-#[derive(Clone, Copy, Debug, PartialEq, Eq)]
+#[derive(Clone, Copy, Debug)]
 pub enum Symbol {
     Zero,
     One,
@@ -83,7 +83,7 @@ impl Code {
 }
 
 /// The mode of a port: in, out, inout, buffer or linkage.
-#[derive(Clone, Copy, Debug, PartialEq, Eq)]
+#[derive(Clone, Copy, Debug)]
 pub enum Mode {
     Inward,
     Outward,
@@ -93,7 +93,7 @@ pub enum Mode {
 }
 
 /// The function of an entry of the boundary register (IEEE 1149.1-2001, annex B).
-#[derive(Clone, Copy, Debug, PartialEq, Eq)]
+#[derive(Clone, Copy, Debug)]
 pub enum Role {
     Input,
     Output2,
@@ -108,14 +108,14 @@ pub enum Role {
 
 /// The edition of IEEE 1149.1 that a description follows. That of 2001 splits SAMPLE/PRELOAD
 /// in two, and no longer requires that EXTEST be all zeros.
-#[derive(Clone, Copy, Debug, PartialEq, Eq)]
+#[derive(Clone, Copy, Debug)]
 pub enum Edition {
     Old,
     Of2001,
 }
 
 /// The control cell of a driver, and the value at which it disables the driver.
-#[derive(Clone, Copy, Debug, PartialEq, Eq)]
+#[derive(Clone, Copy, Debug)]
 pub struct Control {
     pub cell: u32,
     pub disable: bool,
@@ -123,7 +123,7 @@ pub struct Control {
 
 /// An entry of the boundary register. A cell of the register may have two: one that reads and
 /// one that the update latch is for.
-#[derive(Clone, Copy, Debug, PartialEq, Eq)]
+#[derive(Clone, Copy)]
 pub struct Cell {
     /// The number of the boundary cell, 0 nearest TDO.
     pub num: u32,
@@ -137,7 +137,7 @@ pub struct Cell {
 }
 
 /// A bit of a port.
-#[derive(Debug, Drop)]
+#[derive(Drop)]
 pub struct PortBit {
     /// The number of the port.
     pub port: u32,
@@ -153,7 +153,7 @@ pub struct PortBit {
 }
 
 /// A device as the plain record of its description.
-#[derive(Debug, Drop)]
+#[derive(Drop)]
 pub struct RawDevice {
     pub entity: Name,
     pub package: Name,
@@ -174,7 +174,7 @@ pub struct RawDevice {
 }
 
 /// A device that keeps the rules of a device.
-#[derive(Debug, Drop)]
+#[derive(Drop)]
 pub struct Device {
     raw: RawDevice,
 }

@@ -2,7 +2,7 @@
 use crate::board::PinRef;
 
 /// How two shorted nets read.
-#[derive(Clone, Copy, Debug, PartialEq, Eq)]
+#[derive(Clone, Copy)]
 pub enum Kind {
     And,
     Or,
@@ -13,7 +13,7 @@ pub enum Kind {
 }
 
 /// A single fault. Nets are given by their numbers.
-#[derive(Clone, Copy, Debug, PartialEq, Eq)]
+#[derive(Clone, Copy)]
 pub enum Single {
     StuckNet { net: u32, value: bool },
     OpenPin { pin: PinRef, value: bool },

@@ -8,7 +8,7 @@ use std::alloc::{AllocError, Global};
 use std::marker::Model;
 
 /// A set of controls, seen as the list of them in control order without repeats.
-#[derive(Debug, Drop)]
+#[derive(Drop)]
 pub struct Setting {
     controls: Vec<Ctl>,
 }

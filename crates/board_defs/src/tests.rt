@@ -41,14 +41,16 @@ fn settings_keep_control_order(rt: HostRuntime) -> Result<(), Fail> {
     let mut setting = Setting::new(rt.alloc());
     for c in [ctl(1, 5), ctl(0, 9), ctl(1, 2), ctl(0, 9), ctl(1, 5)] {
         setting.add(c)?;
-        assert!(rt; setting.has(c), "{c:?}");
+        assert!(rt; setting.has(c), "{} {}", c.part, c.cell);
     }
-    assert_eq!(rt;
-        setting.controls(),
-        [ctl(0, 9), ctl(1, 2), ctl(1, 5)].as_slice()
-    );
+    let kept = setting.controls();
+    let wanted = [ctl(0, 9), ctl(1, 2), ctl(1, 5)];
+    assert_eq!(rt; kept.len(), wanted.len());
+    for (c, other) in kept.iter().zip(wanted) {
+        assert!(rt; c.is_same(other), "{} {}", c.part, c.cell);
+    }
     for c in [ctl(0, 5), ctl(0, 10), ctl(1, 3), ctl(2, 2)] {
-        assert!(rt; !setting.has(c), "{c:?}");
+        assert!(rt; !setting.has(c), "{} {}", c.part, c.cell);
     }
     Ok(())
 }
@@ -59,6 +61,6 @@ fn names_and_codes_keep_what_they_are_given(rt: HostRuntime) -> Result<(), Fail>
     assert_eq!(rt; name.bytes(), b"U1".as_slice());
     let code = Code::of(rt.alloc(), &[Symbol::Zero, Symbol::One])?;
     assert_eq!(rt; code.len(), 2);
-    assert_eq!(rt; code.at(1), Symbol::One);
+    assert!(rt; matches!(code.at(1), Symbol::One));
     Ok(())
 }

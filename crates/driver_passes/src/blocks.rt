@@ -7,7 +7,7 @@ use lists::Items;
 use std::alloc::{AllocError, Global};
 
 /// The places of a set that have one word: place n has bit n % 64 of word n / 64.
-#[derive(Debug, Clone, Copy, Drop)]
+#[derive(Clone, Copy, Drop)]
 pub struct Block {
     pub word: usize,
     pub bits: u64,

@@ -7,7 +7,7 @@ use std::alloc::{AllocError, Global};
 
 /// Of the row of each pass, the word with this number. The words lie side by side, so it is quick to
 /// ask each of them for a net; the rows themselves lie far apart in memory.
-#[derive(Debug, Drop)]
+#[derive(Drop)]
 pub struct Column {
     pub number: usize,
     pub words: Vec<u64>,

@@ -14,7 +14,7 @@ use board_defs::{Ctl, Drive, Setting};
 use std::alloc::{AllocError, Global};
 
 /// The passes so far.
-#[derive(Debug, Drop)]
+#[derive(Drop)]
 pub struct Progress {
     pub passes: Vec<Setting>,
     /// For each pass, the nets that it shows.

@@ -8,7 +8,7 @@ use std::alloc::{AllocError, Global};
 use std::marker::Model;
 
 /// A set of numbers, seen as its words: number n has bit n % 64 of word n / 64.
-#[derive(Debug, Drop)]
+#[derive(Drop)]
 pub struct NumberSet {
     words: Vec<u64>,
 }

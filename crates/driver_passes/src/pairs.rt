@@ -20,7 +20,7 @@ use std::alloc::{AllocError, Global};
 
 /// The passes so far, for each of them the nets that it shows, and what these show of the net that
 /// is looked at.
-#[derive(Debug, Drop)]
+#[derive(Drop)]
 pub struct Pairing {
     pub passes: Vec<Setting>,
     pub rows: Vec<NumberSet>,

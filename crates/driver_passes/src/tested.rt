@@ -14,7 +14,7 @@ use net_classes::NetNumbers;
 use std::alloc::{AllocError, Global};
 
 /// Which nets the useful controls test.
-#[derive(Debug, Drop)]
+#[derive(Drop)]
 pub struct TestedNets {
     /// The nets with a tested driver that is always on, which each pass shows.
     pub steady: NumberSet,

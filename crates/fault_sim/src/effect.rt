@@ -10,7 +10,7 @@ use crate::passes::TestPass;
 use board_defs::{Kind, Single};
 
 /// What is to be seen at the compared cells of a net.
-#[derive(Clone, Copy, Debug, PartialEq, Eq)]
+#[derive(Clone, Copy)]
 pub enum Effect {
     /// The expected bits.
     Plain,

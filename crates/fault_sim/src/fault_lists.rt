@@ -7,7 +7,7 @@ use board_defs::{Items, PinRef};
 
 /// The covered nets and the tested pins of a board, and how many pairs of covered nets come before those of each net
 /// with later ones.
-#[derive(Debug, Drop)]
+#[derive(Drop)]
 pub struct FaultLists {
     pub nets: Items<u32>,
     pub pins: Items<PinRef>,

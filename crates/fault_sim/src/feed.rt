@@ -14,7 +14,7 @@ use counting_codes::bit;
 use scan_planner::{NetDriver, Plan, ReaderCell};
 
 /// The bits of a driver's cell in the rows of a pass.
-#[derive(Clone, Copy, Debug, PartialEq, Eq)]
+#[derive(Clone, Copy)]
 pub enum Source {
     /// Those of the code of its net.
     Code(u32),
@@ -23,7 +23,7 @@ pub enum Source {
 }
 
 /// The driver that a pass enables on a net.
-#[derive(Clone, Copy, Debug, PartialEq, Eq)]
+#[derive(Clone, Copy)]
 pub struct EnabledDriver {
     /// The place of its pin in the net.
     pub place: u32,
@@ -33,7 +33,7 @@ pub struct EnabledDriver {
 }
 
 /// What the enabled driver of a net gives it in the rows of a pass.
-#[derive(Clone, Copy, Debug, PartialEq, Eq)]
+#[derive(Clone, Copy)]
 pub struct Feed {
     pub source: Source,
     /// The bit at which the driver is off, for one that its own cell switches.
@@ -41,7 +41,7 @@ pub struct Feed {
 }
 
 /// What a net gets from a pass: what drives it, and what it is pulled to.
-#[derive(Clone, Copy, Debug, PartialEq, Eq)]
+#[derive(Clone, Copy)]
 pub struct FedNet {
     pub feed: Option<Feed>,
     pub pull: Option<bool>,

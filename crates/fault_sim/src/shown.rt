@@ -11,7 +11,7 @@ use crate::passes::LoggedPass;
 use scan_planner::ReaderCell;
 
 /// The rows in which some compared cell of a net shows 1, and those in which one shows 0. No cell of the driver's own pin is looked at.
-#[derive(Clone, Copy, Debug, PartialEq, Eq)]
+#[derive(Clone, Copy)]
 pub struct ShownWords {
     pub ones: u32,
     pub zeros: u32,

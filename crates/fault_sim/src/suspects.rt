@@ -21,7 +21,7 @@ use tap_defs::board_law::{codes_number_covered, singles_observable};
 
 /// The places of a universe whose faults may explain a log, seen as the list of them. A single fault changes compared
 /// cells of its own net or of its two nets alone, so they are those of the faults on all nets that differ in the log.
-#[derive(Debug, Drop)]
+#[derive(Drop)]
 pub struct Suspects {
     places: Vec<u64>,
 }

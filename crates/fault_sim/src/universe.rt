@@ -23,7 +23,7 @@ use tap_defs::board_law::codes_number_covered;
 
 /// The places of a board: two for each covered net, two for each tested pin and four for each pair of covered nets, in
 /// the order of the single faults.
-#[derive(Debug, Drop)]
+#[derive(Drop)]
 pub struct Universe {
     lists: FaultLists,
 }

@@ -9,14 +9,14 @@ use crate::feed::{FedNet, Feed, Source};
 use board_defs::Kind;
 
 /// What a net is driven to: the rows in which it is driven, and its bits in these.
-#[derive(Clone, Copy, Debug, PartialEq, Eq)]
+#[derive(Clone, Copy)]
 pub struct FeedWords {
     pub driven: u32,
     pub value: u32,
 }
 
 /// What a net gets from a pass.
-#[derive(Clone, Copy, Debug, PartialEq, Eq)]
+#[derive(Clone, Copy)]
 pub struct FedWords {
     pub feed: FeedWords,
     pub pull: Option<bool>,

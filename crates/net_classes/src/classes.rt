@@ -12,7 +12,7 @@ use std::alloc::{AllocError, Global};
 
 /// The classes of a board: its nets, the cells of its parts as controls, the useful controls, the
 /// nets that each control shares with another one, and the rows of bits by which pairs are known.
-#[derive(Debug, Drop)]
+#[derive(Drop)]
 pub struct Classes {
     pub(crate) nets: Vec<NetClass>,
     pub(crate) controls: Vec<Vec<ControlClass>>,

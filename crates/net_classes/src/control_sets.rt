@@ -12,7 +12,7 @@ use net_facts::{filled_table, item_at, put_at};
 use std::alloc::{AllocError, Global};
 
 /// Controls, as a mark at each of their cells and as a list.
-#[derive(Debug, Drop)]
+#[derive(Drop)]
 pub struct ControlSet {
     pub(crate) marks: Vec<Vec<bool>>,
     pub(crate) members: Vec<Ctl>,

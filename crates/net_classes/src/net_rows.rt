@@ -7,7 +7,7 @@ use std::alloc::{AllocError, Global};
 use std::marker::Model;
 
 /// A bit for each net, 64 to a word, seen as the list of the words.
-#[derive(Debug, Drop)]
+#[derive(Drop)]
 pub struct NetRow {
     words: Vec<u64>,
 }

@@ -22,7 +22,7 @@ use net_facts::{NetNumbers, filled_table, item_at, push_if, put_at};
 use std::alloc::{AllocError, Global};
 
 /// For each useful control the nets that some safe setting observes with the control on.
-#[derive(Debug, Drop)]
+#[derive(Drop)]
 pub struct PairRows {
     /// The first has all covered nets.
     pub(crate) rows: Vec<NetRow>,

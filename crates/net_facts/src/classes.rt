@@ -15,7 +15,7 @@ use net_pins::BoardPins;
 use std::alloc::{AllocError, Global};
 
 /// What a pin of a net is, and what some safe setting does with it.
-#[derive(Clone, Copy, Debug, PartialEq, Eq)]
+#[derive(Clone, Copy)]
 pub struct PinClass {
     /// Whether the pin is a tested driver.
     pub driver_tested: bool,
@@ -28,7 +28,7 @@ pub struct PinClass {
 }
 
 /// What safe settings do with a net.
-#[derive(Debug, Drop)]
+#[derive(Drop)]
 pub struct NetClass {
     /// Why the net is not covered, where it is not.
     pub reason: Option<Reason>,
@@ -39,7 +39,7 @@ pub struct NetClass {
 }
 
 /// What is known of a control.
-#[derive(Debug, Drop)]
+#[derive(Drop)]
 pub struct ControlClass {
     /// The nets with a driver that the control controls, in net order.
     pub nets: NetNumbers,
@@ -51,7 +51,7 @@ pub struct ControlClass {
 
 /// What is known of the nets, the pins and the controls of a board. Tables of controls have a row for
 /// each part of the chain and an item for each of its cells.
-#[derive(Debug, Drop)]
+#[derive(Drop)]
 pub struct BoardFacts {
     /// The nets before anything is known of settings, in their order.
     pub facts: Vec<NetFacts>,

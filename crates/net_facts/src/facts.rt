@@ -12,7 +12,7 @@ use net_pins::BoardPins;
 use std::alloc::{AllocError, Global};
 
 /// Where a pin is in the chain, how it drives its net, and whether it receives.
-#[derive(Clone, Copy, Debug)]
+#[derive(Clone, Copy)]
 pub struct PinFacts {
     /// Where the pin's port bit is, where the pin is of a part of the chain.
     pub at: Option<PinAt>,
@@ -23,7 +23,7 @@ pub struct PinFacts {
 }
 
 /// What is known of a net before anything is known of settings.
-#[derive(Debug, Drop)]
+#[derive(Drop)]
 pub struct NetFacts {
     /// Whether the net is a supply.
     pub supply: bool,

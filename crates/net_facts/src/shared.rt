@@ -12,7 +12,7 @@ use lists::{Items, is_set};
 use std::alloc::{AllocError, Global};
 
 /// The controls of the drivers seen so far.
-#[derive(Clone, Copy, Debug)]
+#[derive(Clone, Copy)]
 pub enum Controls {
     Nobody,
     One(Ctl),

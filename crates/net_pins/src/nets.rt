@@ -12,7 +12,7 @@ use std::alloc::{AllocError, Global};
 
 /// A driver of a net: the place of its pin in the net, its control, if it has one, and its own cell with the position
 /// of that cell in scans of data.
-#[derive(Clone, Copy, Debug, PartialEq, Eq)]
+#[derive(Clone, Copy)]
 pub struct NetDriver {
     pub place: u32,
     pub ctl: Option<Ctl>,
@@ -21,7 +21,7 @@ pub struct NetDriver {
 }
 
 /// A cell that reads a net: the place of its pin in the net, and the cell's position.
-#[derive(Clone, Copy, Debug, PartialEq, Eq)]
+#[derive(Clone, Copy)]
 pub struct ReaderCell {
     pub place: u32,
     pub position: u32,

@@ -9,7 +9,7 @@ use port_entries::{BitEntries, port_entries};
 use std::alloc::{AllocError, Global};
 
 /// What finds the cells of the pins of a board, and which of its nets are guarded.
-#[derive(Debug, Drop)]
+#[derive(Drop)]
 pub struct PinTables {
     /// The position of each part's first bit in a scan of data.
     pub firsts: Items<u32>,

@@ -11,7 +11,7 @@ use board_defs::{Board, Items};
 use std::alloc::{AllocError, Global};
 
 /// What finds the cells of the pins of a board, and what stands on each of its nets.
-#[derive(Debug, Drop)]
+#[derive(Drop)]
 pub struct NetPins {
     /// The positions and the entries of the parts, and which nets are guarded.
     pub tables: PinTables,

@@ -14,7 +14,7 @@ use lists::mark;
 use std::alloc::{AllocError, Global};
 
 /// The codes of nets, net by net, and how many are not 0.
-#[derive(Debug, Drop)]
+#[derive(Drop)]
 pub struct NetCodes {
     pub codes: Items<u32>,
     pub count: u32,

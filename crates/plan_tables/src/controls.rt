@@ -16,7 +16,7 @@ pub type ControlCells = Items<DriverCell>;
 
 /// The driver cells by which passes observe nets: those of the drivers that are always on, and those of each control,
 /// at the position of its cell.
-#[derive(Debug, Drop)]
+#[derive(Drop)]
 pub struct DriverTable {
     pub always: Items<DriverCell>,
     pub rows: Items<ControlCells>,

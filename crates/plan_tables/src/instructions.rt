@@ -16,7 +16,7 @@ use std::alloc::{AllocError, Global};
 use tap_defs::StoredRows;
 
 /// The instruction of a scan: the one that preloads the boundary register, or EXTEST.
-#[derive(Clone, Copy, Debug, PartialEq, Eq)]
+#[derive(Clone, Copy)]
 pub enum Instruction {
     Preload,
     Extest,

@@ -16,7 +16,7 @@ use std::alloc::{AllocError, Global};
 
 /// A driver beside which some pin of its net is read: the position of its control's cell, if it has a control, and its
 /// own cell.
-#[derive(Clone, Copy, Debug, PartialEq, Eq)]
+#[derive(Clone, Copy)]
 pub struct Observer {
     pub control: Option<u32>,
     pub cell: DriverCell,

@@ -11,7 +11,7 @@ use board_defs::{Board, Cell, Part, PartKind, PinAt, RawBoard, RawDevice};
 use std::alloc::{AllocError, Global};
 
 /// A bit of a cell of a device.
-#[derive(Clone, Copy, Debug, PartialEq, Eq)]
+#[derive(Clone, Copy)]
 pub struct CellBit {
     pub cell: u32,
     pub bit: bool,

@@ -6,7 +6,7 @@ use net_pins::{NetDriver, ReaderCell};
 use tap_defs::StoredRows;
 
 /// The cell of a control of a setting: its position, and the bit that enables what it controls.
-#[derive(Clone, Copy, Debug, PartialEq, Eq)]
+#[derive(Clone, Copy)]
 pub struct HeldCell {
     pub position: u32,
     pub bit: bool,
@@ -14,7 +14,7 @@ pub struct HeldCell {
 
 /// The cell of the driver by which a pass observes a net: the net, the place of the driver's pin in it, and the cell's
 /// position.
-#[derive(Clone, Copy, Debug, PartialEq, Eq)]
+#[derive(Clone, Copy)]
 pub struct DriverCell {
     pub net: u32,
     pub place: u32,
@@ -22,7 +22,7 @@ pub struct DriverCell {
 }
 
 /// The driver cells that are the same in all passes, and those that a pass has by its controls.
-#[derive(Debug, Drop)]
+#[derive(Drop)]
 pub struct PassTables {
     pub steady: Items<DriverCell>,
     pub by_control: DriverTable,

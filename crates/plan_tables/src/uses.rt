@@ -15,7 +15,7 @@ use lists::{is_set, mark};
 use std::alloc::{AllocError, Global};
 
 /// For each position, whether some pass holds the cell there, and how many passes from the first on all do.
-#[derive(Debug, Drop)]
+#[derive(Drop)]
 pub struct Uses {
     pub held: Items<bool>,
     pub runs: Items<u32>,

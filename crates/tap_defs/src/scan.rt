@@ -5,7 +5,7 @@ ghost use Rattle.tap_defs.specs.chain.ScanRows.{AreSameRows, HaveRoomFor};
 use bt_bits::Row;
 
 /// The kind of a scan: whether it is one of instructions (SIR) or of data (SDR), and whether it compares some bit.
-#[derive(Clone, Copy, Debug, PartialEq, Eq)]
+#[derive(Clone, Copy)]
 pub struct Shape {
     pub ir: bool,
     pub compare: bool,

@@ -3,7 +3,7 @@ ghost use Rattle.std.specs.Prelude.{◌≡◌};
 ghost use Rattle.tap_defs.specs.chain.Tap.{next_state};
 
 /// A state of a TAP controller (IEEE 1149.1-1990, section 5).
-#[derive(Clone, Copy, Debug, PartialEq, Eq)]
+#[derive(Clone, Copy)]
 pub enum TapState {
     TestLogicReset,
     RunTestIdle,
