@@ -5,6 +5,7 @@ ghost use Rattle.board_defs.specs.DeviceRules.{IsDevice};
 ghost use Rattle.device_rules.specs.Ports.{in_order, width, bits_of_port};
 ghost use Rattle.device_rules.specs.Rules.{HasShortLists, first_rule};
 ghost use Rattle.device_rules.specs.inner.Index.{index_at};
+ghost use Rattle.instruction_rules.specs.Instructions.{preload as preload_code, extest as extest_code};
 ghost use Rattle.device_rules.specs.Raw.{port_bit, cell_of, raw_bits, raw_cells, raw_device, HasLengths};
 
 use crate::compliance::NamedBits;
@@ -167,23 +168,47 @@ fn copied_code(alloc: Global, code: &Option<Code>) -> Result<Option<Code>, Alloc
     }
 }
 
+/// Copies of the names of the entity, of its package and of its ports.
+fn copied_names(alloc: Global, text: &Draft) -> Result<(Name, Name, Items<Name>), AllocError>
+    ensures { IfOk result (λ names. names ≡ (text.now.entity, text.now.«package», map (λ port. port.name) text.now.ports)) }
+{
+    let entity = copied_name(alloc, &text.entity)?;
+    let package = copied_name(alloc, &text.package)?;
+    let ports = port_names(alloc, text.ports.as_slice())?;
+    Ok((entity, package, Items::of(ports)))
+}
+
+/// The codes of SAMPLE or PRELOAD and of EXTEST, and a copy of the IDCODE pattern.
+fn codes_of(alloc: Global, text: &Draft) -> Result<(Code, Code, Option<Code>), AllocError>
+    ensures { IfOk result (λ codes. codes ≡ (preload_code text.now.edition text.now.opcodes, extest_code text.now.edition text.now.ir text.now.opcodes, text.now.idcode)) }
+{
+    let opcodes = text.opcodes.as_slice();
+    let sample = preload(alloc, text.edition, opcodes)?;
+    let extest = extest(alloc, text.edition, text.ir, opcodes)?;
+    let idcode = copied_code(alloc, &text.idcode)?;
+    Ok((sample, extest, idcode))
+}
+
 fn described(alloc: Global, draft: &IndexedDraft) -> Result<RawDevice, AllocError>
     ensures { IfOk result (λ raw. raw ≡ raw_device draft.now) }
 {
     let text = draft.text();
-    let opcodes = text.opcodes.as_slice();
+    let bits = described_bits(alloc, draft)?;
+    let cells = all_cells(alloc, draft.ports(), text.entries.as_slice())?;
+    let (entity, package, ports) = copied_names(alloc, text)?;
+    let (sample, extest, idcode) = codes_of(alloc, text)?;
     Ok(RawDevice {
-        entity: copied_name(alloc, &text.entity)?,
-        package: copied_name(alloc, &text.package)?,
+        entity,
+        package,
         edition: text.edition,
-        ports: Items::of(port_names(alloc, text.ports.as_slice())?),
+        ports,
         ir: text.ir,
-        sample: preload(alloc, text.edition, opcodes)?,
-        extest: extest(alloc, text.edition, text.ir, opcodes)?,
-        idcode: copied_code(alloc, &text.idcode)?,
+        sample,
+        extest,
+        idcode,
         boundary: text.boundary,
-        bits: Items::of(described_bits(alloc, draft)?),
-        cells: Items::of(all_cells(alloc, draft.ports(), text.entries.as_slice())?),
+        bits: Items::of(bits),
+        cells: Items::of(cells),
     })
 }
 
