@@ -4,6 +4,7 @@
 mod building;
 mod drivers;
 pub mod law;
+mod lookups;
 mod marked;
 mod nets;
 mod rules;

@@ -9,11 +9,10 @@ ghost use Rattle.board_lines.specs.ChainParts.{pin_places, place_of_pin};
 ghost use Rattle.board_build.specs.inner.Marked.{is_free_at, mark, mark_by, marks_after, seen};
 
 use crate::drivers::{PartDrivers, drivers_of, is_free_at};
+use crate::lookups::{described_by_place, names_by_place};
 use crate::selected_chain::SelectedChain;
 use board_defs::{Part, PinAt, Spot};
-use board_lines::{
-    Naming, NetWord, PinPlaces, described_names, first_places_of, names_in, place_of,
-};
+use board_lines::{Naming, NetWord, PinPlaces, place_of};
 use indexmap::IndexMap;
 use std::alloc::{AllocError, Global};
 
@@ -116,6 +115,22 @@ fn mark_all<'a>(
     mark_each(alloc, words, &drivers, places, described, inerts)
 }
 
+fn mark_known<'a>(
+    alloc: Global,
+    chain: &SelectedChain<'_>,
+    words: &[NetWord<'a>],
+    places: &PinPlaces<'_>,
+) -> Result<Vec<MarkedWord<'a>>, AllocError>
+    requires { places.now ≡ chain.now.parts }
+    ensures { IfOk result (λ marked. map seen marked.items ≡ map (mark chain.now.parts (pin_places chain.now.parts) (names_of (named Inert chain.now.lines))) (map lent_word words.now)) }
+{
+    let parts = chain.parts();
+    let lines = chain.lines();
+    let described = described_by_place(alloc, parts)?;
+    let inerts = names_by_place(alloc, lines, Naming::Inert)?;
+    mark_all(alloc, words, parts, places, &described, &inerts)
+}
+
 /// The words, each with what is known of its pin.
 pub fn marked_words<'a>(
     alloc: Global,
@@ -124,12 +139,6 @@ pub fn marked_words<'a>(
 ) -> Result<Vec<MarkedWord<'a>>, AllocError>
     ensures { IfOk result (λ marked. map seen marked.items ≡ map (mark chain.now.parts (pin_places chain.now.parts) (names_of (named Inert chain.now.lines))) (map lent_word words.now)) }
 {
-    let lines = chain.lines();
-    let parts = chain.parts();
-    let places = PinPlaces::of(alloc, parts)?;
-    let names = described_names(alloc, parts)?;
-    let by_name = first_places_of(alloc, &names)?;
-    let inerts = names_in(alloc, lines, Naming::Inert)?;
-    let by_inert = first_places_of(alloc, &inerts)?;
-    mark_all(alloc, words, parts, &places, &by_name, &by_inert)
+    let places = PinPlaces::of(alloc, chain.parts())?;
+    mark_known(alloc, chain, words, &places)
 }

@@ -9,11 +9,12 @@ ghost use Rattle.board_lines.specs.declared.names.Naming.TheVariants.{Supply};
 ghost use Rattle.board_lines.specs.LineRules.{pulls_of};
 ghost use Rattle.board_build.specs.inner.Marked.{board_by, group_of, groups_after, net_by, nets_after, nets_with, pin_with, seen};
 
+use crate::lookups::{names_by_place, pulls_in};
 use crate::marked::{MarkedWord, is_known};
 use crate::selected_chain::SelectedChain;
 use crate::standing::StandingWords;
 use board_defs::{Items, Name, Net, NetPin, RawBoard};
-use board_lines::{Naming, first_places_of, names_in, pull_of_net, pulls_by_net, pulls_of};
+use board_lines::{Naming, pull_of_net};
 use indexmap::IndexMap;
 use std::alloc::{AllocError, Global};
 use std::vec::IntoIter;
@@ -207,12 +208,10 @@ fn board_nets(
     ensures { IfOk result (λ nets. nets.items ≡ nets_with (names_of (named Supply chain.now.lines)) (pulls_of chain.now.lines) words.now 0 (map (λ n. n.now) names.now)) }
 {
     let lines = chain.lines();
-    let supplies = names_in(alloc, lines, Naming::Supply)?;
-    let by_supply = first_places_of(alloc, &supplies)?;
-    let pulls = pulls_of(alloc, lines)?;
-    let by_pull = pulls_by_net(alloc, &pulls)?;
+    let supplies = names_by_place(alloc, lines, Naming::Supply)?;
+    let pulls = pulls_in(alloc, lines)?;
     let groups = groups(alloc, names.len(), words.words())?;
-    nets_by(alloc, names, &by_supply, &by_pull, groups)
+    nets_by(alloc, names, &supplies, &pulls, groups)
 }
 
 /// The board of the chain's parts and these words.

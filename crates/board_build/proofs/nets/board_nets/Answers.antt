@@ -3,11 +3,9 @@ use Rattle.std.proofs.Common.{◌≡◌, ◌+◌, length, map, ap, ◌∙◌, ar
 use Rattle.std.specs.Prelude.{is_some}
 use Rattle.std.proofs.lemmas.List.{length-map}
 use Rattle.std.proofs.lemmas.Result.{IfOk-weaker}
-use Rattle.first_places.specs.Places.{first_place}
 use Rattle.board_lines.specs.declared.names.Naming.TheVariants.{Supply}
-use Rattle.board_files.specs.Names.{same_word}
 use Rattle.board_lines.specs.Names.{named, names_of}
-use Rattle.board_lines.specs.LineRules.{pulls_of, pull_of_net}
+use Rattle.board_lines.specs.LineRules.{pulls_of}
 use Rattle.board_build.specs.inner.Marked.{group_of, nets_with, seen}
 use Rattle.board_build.proofs.GroupLemmas.{nets_zip}
 use Rattle.board_build.proofs.nets.board_nets.Goals as goal
@@ -22,8 +20,7 @@ returns c =
     let size : length (map (λ g. g.items) c.in_ok-groups.groups.items) ≡ length c.args.names.now = length-map c.in_ok-groups.groups.items (λ g. g.items) ∙ count in
     IfOk-weaker c.nets_by.result _ _
     (λ nets e. e ∙ nets_zip _ _ (names_of (named Supply lines)) (pulls_of lines) words
-    (λ q. ap is_some (c.in_ok-by_supply.ensures q ∙ ap (λ v. first_place same_word (map (λ n. n.now) v) q.now) c.deref.ensures.value ∙ ap (λ v. first_place same_word v q.now) c.in_ok-supplies.ensures.names))
-    (λ q. c.in_ok-by_pull.ensures q ∙ ap (λ v. pull_of_net (map (λ p. (p.0.now, p.1)) v) q.now) c.deref-2.ensures.value ∙ ap (λ v. pull_of_net v q.now) c.in_ok-pulls.ensures)
+    (λ q. ap is_some (c.in_ok-supplies.ensures q)) c.in_ok-pulls.ensures
     c.args.names.now (map (λ g. g.items) c.in_ok-groups.groups.items) 0 size
     (λ k less. let here : k ≡ 0 + k = omega arith in c.in_ok-groups.ensures.groups k less ∙ ap (group_of words) here)
     ∙ ap (λ v. nets_with (names_of (named Supply v)) (pulls_of v) words 0 names) c.lines-lines.ensures.lines

@@ -1,11 +1,9 @@
 -- The look-ups answer for the words of the definitions.
-use Rattle.std.proofs.Common.{map, ap, ◌∙◌}
+use Rattle.std.proofs.Common.{map, ap, sym, ◌∙◌}
 use Rattle.std.specs.Prelude.{is_some}
 use Rattle.std.proofs.lemmas.Result.{IfOk-weaker}
 use Rattle.lists.proofs.ListLemmas.{map-map}
-use Rattle.first_places.specs.Places.{first_place}
 use Rattle.board_lines.specs.declared.names.Naming.TheVariants.{Inert}
-use Rattle.board_files.specs.Names.{same_word}
 use Rattle.board_lines.specs.Names.{named, names_of}
 use Rattle.board_lines.specs.NetWords.{lent_word, lent_pin}
 use Rattle.board_lines.specs.ChainParts.{pin_places, place_of_pin}
@@ -13,7 +11,7 @@ use Rattle.board_build.specs.inner.Marked.{mark, seen}
 use Rattle.board_lines.proofs.MapLemmas.{map_seen}
 use Rattle.board_build.proofs.GroupLemmas.{mark_cong}
 use Rattle.board_build.proofs.KnownLemmas.{known_same}
-use Rattle.board_build.proofs.marked.marked_words.Goals as goal
+use Rattle.board_build.proofs.marked.mark_known.Goals as goal
 
 pub returns : goal.returns
 returns c =
@@ -24,11 +22,8 @@ returns c =
     IfOk-weaker c.mark_all.result _ _
     (λ marked e. ap (map seen) e ∙ map-map _ seen words ∙ map_seen _ lent_word (mark parts (pin_places parts) (names_of (named Inert lines)))
     (λ w.
-    let place = ap (λ v. place_of_pin (pin_places v) (lent_pin w.0.1)) c.in_ok-places.ensures in
-    mark_cong parts (lent_word w) _ _ _ _ _ _
-    (known_same parts (lent_pin w.0.1) _ _ (ap is_some (c.in_ok-by_name.ensures w.0.1.0 ∙ ap (λ v. first_place same_word (map (λ n. n.now) v) w.0.1.0.now) c.deref.ensures.value ∙ ap (λ v. first_place same_word v w.0.1.0.now) c.in_ok-names.ensures.names)) place)
-    place
-    (ap is_some (c.in_ok-by_inert.ensures w.0.1.0 ∙ ap (λ v. first_place same_word (map (λ n. n.now) v) w.0.1.0.now) c.deref-2.ensures.value ∙ ap (λ v. first_place same_word v w.0.1.0.now) c.in_ok-inerts.ensures.names)))
+    let place = ap (λ v. place_of_pin (pin_places v) (lent_pin w.0.1)) (c.requires ∙ sym c.parts-parts.ensures.parts) in
+    mark_cong parts (lent_word w) _ _ _ _ _ _ (known_same parts (lent_pin w.0.1) _ _ (ap is_some (c.in_ok-described.ensures w.0.1.0)) place) place (ap is_some (c.in_ok-inerts.ensures w.0.1.0)))
     words
     ∙ ap (λ v. map (mark v (pin_places v) (names_of (named Inert lines))) (map lent_word words)) c.parts-parts.ensures.parts
     ∙ ap (λ v. map (mark chain.parts (pin_places chain.parts) (names_of (named Inert v))) (map lent_word words)) c.lines-lines.ensures.lines)
