@@ -115,6 +115,7 @@ fn mark_all<'a>(
     mark_each(alloc, words, &drivers, places, described, inerts)
 }
 
+/// The words, each with what is known of its pin, where the places of the pins are known.
 fn mark_known<'a>(
     alloc: Global,
     chain: &SelectedChain<'_>,

@@ -6,7 +6,9 @@ ghost use Rattle.indexmap.specs.IndexMap.{get_by};
 ghost use Rattle.board_files.specs.Names.{same_word};
 ghost use Rattle.board_lines.specs.Names.{named, names_of};
 ghost use Rattle.board_lines.specs.declared.names.Naming.TheVariants.{Supply};
-ghost use Rattle.board_lines.specs.LineRules.{pulls_of};
+ghost use Rattle.board_lines.specs.LineRules.{Pulled, pull_of_net as pulled_to, pulls_of};
+ghost use Rattle.board_lines.specs.NetWords.{is_among};
+ghost use Rattle.std.specs.Borrow.{Bor};
 ghost use Rattle.board_build.specs.inner.Marked.{board_by, group_of, groups_after, net_by, nets_after, nets_with, pin_with, seen};
 
 use crate::lookups::{names_by_place, pulls_in};
@@ -199,6 +201,21 @@ fn nets_by(
     Ok(nets)
 }
 
+/// The nets of these names, each with the pins of its words. What the two maps know is what a list
+/// of supplies and one of pulls know.
+fn nets_of(
+    alloc: Global,
+    names: &[&[u8]],
+    words: &StandingWords<'_>,
+    supplies: &IndexMap<&[u8], u32>,
+    pulls: &IndexMap<&[u8], bool>,
+) -> Result<Vec<Net>, AllocError>
+    ensures { IfOk result (λ nets. (known : List (List ℕ)) (pulled : List Pulled) → ((q : Bor (List ℕ)) → is_some (get_by (λ n. same_word q.now n.now) supplies.now) ≡ is_among known q.now) → ((q : Bor (List ℕ)) → get_by (λ n. same_word q.now n.now) pulls.now ≡ pulled_to pulled q.now) → nets.items ≡ nets_with known pulled words.now 0 (map (λ n. n.now) names.now)) }
+{
+    let groups = groups(alloc, names.len(), words.words())?;
+    nets_by(alloc, names, supplies, pulls, groups)
+}
+
 fn board_nets(
     alloc: Global,
     chain: &SelectedChain<'_>,
@@ -210,8 +227,7 @@ fn board_nets(
     let lines = chain.lines();
     let supplies = names_by_place(alloc, lines, Naming::Supply)?;
     let pulls = pulls_in(alloc, lines)?;
-    let groups = groups(alloc, names.len(), words.words())?;
-    nets_by(alloc, names, &supplies, &pulls, groups)
+    nets_of(alloc, names, words, &supplies, &pulls)
 }
 
 /// The board of the chain's parts and these words.
