@@ -1,7 +1,7 @@
 // The command of the words.
 ghost use Rattle.std.specs.Prelude.{◌≡◌, ◌∷◌, List, map, true, false, string_bytes, IfOk, IfSome, option_map};
 ghost use Rattle.std.specs.List.{list_all};
-ghost use Rattle.clap.specs.Simple.{app_of};
+ghost use Rattle.clap.specs.Simple.{App, app_of, with_rule, with_subcommand};
 ghost use Rattle.clap.specs.Walk.{rule_of};
 ghost use Rattle.clap.specs.declared.builder.command.Command.TheViews.{out-Command as fields_of};
 ghost use Rattle.command_line.specs.Words.{is_plain, command_of, parsed, board_called, log_called, chain_of, device_of, board_of, make_of, groups_of, diagnose_of, batch_of, HasNumber};
@@ -214,15 +214,40 @@ fn names_arg<'a>(alloc: Global) -> Arg<'a>
     Arg::new(alloc, "BSDL").action(ArgAction::Append)
 }
 
+// Adds a required name to a command.
+fn with_name<'a>(
+    alloc: Global,
+    command: clap::Command<'a>,
+    id: &'a str,
+) -> Result<clap::Command<'a>, AllocError>
+    requires { (fields_of command).has_globals ≡ false }
+    ensures app { IfOk result (λ c. app_of c ≡ with_rule (app_of command.entry) (name_rule id.entry.now)) }
+    ensures local { IfOk result (λ c. (fields_of c).has_globals ≡ false) }
+{
+    let command = command.arg(name_arg(alloc, id))?;
+    Ok(command)
+}
+
+// Adds any number of names of BSDL texts after the other arguments of a command.
+fn with_names<'a>(
+    alloc: Global,
+    command: clap::Command<'a>,
+) -> Result<clap::Command<'a>, AllocError>
+    requires { (fields_of command).has_globals ≡ false }
+    ensures app { IfOk result (λ c. app_of c ≡ with_rule (app_of command.entry) names_rule) }
+    ensures local { IfOk result (λ c. (fields_of c).has_globals ≡ false) }
+{
+    let command = command.arg(names_arg(alloc))?;
+    Ok(command)
+}
+
 // A command that is about a chain.
 fn chain_command<'a>(alloc: Global, name: &'a str) -> Result<clap::Command<'a>, AllocError>
     ensures app { IfOk result (λ c. app_of c ≡ chain_app name.entry.now) }
     ensures local { IfOk result (λ c. (fields_of c).has_globals ≡ false) }
 {
-    let command = clap::Command::new(alloc, name)
-        .arg(name_arg(alloc, "CHAIN"))?
-        .arg(names_arg(alloc))?;
-    Ok(command)
+    let command = with_name(alloc, clap::Command::new(alloc, name), "CHAIN")?;
+    with_names(alloc, command)
 }
 
 // A command that takes one word.
@@ -234,8 +259,7 @@ fn single_command<'a>(
     ensures app { IfOk result (λ c. app_of c ≡ single_app name.entry.now id.entry.now) }
     ensures local { IfOk result (λ c. (fields_of c).has_globals ≡ false) }
 {
-    let command = clap::Command::new(alloc, name).arg(name_arg(alloc, id))?;
-    Ok(command)
+    with_name(alloc, clap::Command::new(alloc, name), id)
 }
 
 // The command with the arguments that name the texts of a board behind its own.
@@ -247,11 +271,9 @@ fn with_board<'a>(
     ensures app { IfOk result (λ c. app_of c ≡ with_board (app_of command.entry)) }
     ensures local { IfOk result (λ c. (fields_of c).has_globals ≡ false) }
 {
-    let command = command
-        .arg(name_arg(alloc, "CHAIN"))?
-        .arg(name_arg(alloc, "NETS"))?
-        .arg(names_arg(alloc))?;
-    Ok(command)
+    let command = with_name(alloc, command, "CHAIN")?;
+    let command = with_name(alloc, command, "NETS")?;
+    with_names(alloc, command)
 }
 
 // A command that is about a board.
@@ -267,9 +289,8 @@ fn log_command<'a>(alloc: Global, name: &'a str) -> Result<clap::Command<'a>, Al
     ensures app { IfOk result (λ c. app_of c ≡ log_app name.entry.now) }
     ensures local { IfOk result (λ c. (fields_of c).has_globals ≡ false) }
 {
-    let command = clap::Command::new(alloc, name)
-        .arg(name_arg(alloc, "WORKERS"))?
-        .arg(name_arg(alloc, "LOG"))?;
+    let command = with_name(alloc, clap::Command::new(alloc, name), "WORKERS")?;
+    let command = with_name(alloc, command, "LOG")?;
     with_board(alloc, command)
 }
 
@@ -278,7 +299,7 @@ fn groups_command<'a>(alloc: Global, name: &'a str) -> Result<clap::Command<'a>,
     ensures app { IfOk result (λ c. app_of c ≡ groups_app name.entry.now) }
     ensures local { IfOk result (λ c. (fields_of c).has_globals ≡ false) }
 {
-    let command = clap::Command::new(alloc, name).arg(name_arg(alloc, "LOG"))?;
+    let command = with_name(alloc, clap::Command::new(alloc, name), "LOG")?;
     with_board(alloc, command)
 }
 
@@ -294,15 +315,29 @@ fn top_command<'a>(alloc: Global) -> clap::Command<'a>
         .disable_help_subcommand(true)
 }
 
+// Adds a subcommand, or passes on that it was not made. It takes the result, so that no other function drops a command at an exit.
+fn with_made<'a>(
+    command: clap::Command<'a>,
+    made: Result<clap::Command<'a>, AllocError>,
+) -> Result<clap::Command<'a>, AllocError>
+    requires top { (fields_of command).has_globals ≡ false }
+    requires made { IfOk made (λ s. (fields_of s).has_globals ≡ false) }
+    ensures app { IfOk result (λ c. (app : App) → IfOk made.entry (λ s. app_of s ≡ app) → app_of c ≡ with_subcommand (app_of command.entry) app.top) }
+    ensures local { IfOk result (λ c. (fields_of c).has_globals ≡ false) }
+{
+    let subcommand = made?;
+    let command = command.subcommand(subcommand)?;
+    Ok(command)
+}
+
 // The command with the subcommands that are about a chain or a device.
 fn part_commands<'a>(alloc: Global) -> Result<clap::Command<'a>, AllocError>
     ensures app { IfOk result (λ c. app_of c ≡ parts_app) }
     ensures local { IfOk result (λ c. (fields_of c).has_globals ≡ false) }
 {
-    let parts = top_command(alloc)
-        .subcommand(chain_command(alloc, "chain")?)?
-        .subcommand(chain_command(alloc, "ident")?)?
-        .subcommand(single_command(alloc, "device", "BSDL")?)?;
+    let command = with_made(top_command(alloc), chain_command(alloc, "chain"))?;
+    let command = with_made(command, chain_command(alloc, "ident"))?;
+    let parts = with_made(command, single_command(alloc, "device", "BSDL"))?;
     Ok(parts)
 }
 
@@ -311,10 +346,10 @@ fn board_commands<'a>(alloc: Global) -> Result<clap::Command<'a>, AllocError>
     ensures app { IfOk result (λ c. app_of c ≡ boards_app) }
     ensures local { IfOk result (λ c. (fields_of c).has_globals ≡ false) }
 {
-    let boards = part_commands(alloc)?
-        .subcommand(board_command(alloc, "cover")?)?
-        .subcommand(board_command(alloc, "svf")?)?
-        .subcommand(board_command(alloc, "walk")?)?;
+    let parts = part_commands(alloc)?;
+    let command = with_made(parts, board_command(alloc, "cover"))?;
+    let command = with_made(command, board_command(alloc, "svf"))?;
+    let boards = with_made(command, board_command(alloc, "walk"))?;
     Ok(boards)
 }
 
@@ -323,10 +358,10 @@ fn log_commands<'a>(alloc: Global) -> Result<clap::Command<'a>, AllocError>
     ensures app { IfOk result (λ c. app_of c ≡ logs_app) }
     ensures local { IfOk result (λ c. (fields_of c).has_globals ≡ false) }
 {
-    let logs = board_commands(alloc)?
-        .subcommand(log_command(alloc, "diagnose")?)?
-        .subcommand(groups_command(alloc, "groups")?)?
-        .subcommand(log_command(alloc, "batch")?)?;
+    let boards = board_commands(alloc)?;
+    let command = with_made(boards, log_command(alloc, "diagnose"))?;
+    let command = with_made(command, groups_command(alloc, "groups"))?;
+    let logs = with_made(command, log_command(alloc, "batch"))?;
     Ok(logs)
 }
 
@@ -334,7 +369,8 @@ fn log_commands<'a>(alloc: Global) -> Result<clap::Command<'a>, AllocError>
 fn whole_command<'a>(alloc: Global) -> Result<clap::Command<'a>, AllocError>
     ensures { IfOk result (λ c. app_of c ≡ btest_app) }
 {
-    let whole = log_commands(alloc)?.subcommand(single_command(alloc, "make", "NUMBER")?)?;
+    let logs = log_commands(alloc)?;
+    let whole = with_made(logs, single_command(alloc, "make", "NUMBER"))?;
     Ok(whole)
 }
 
