@@ -9,7 +9,7 @@ ghost use Rattle.walk_test.specs.WalkTest.{walk_setting};
 ghost use Rattle.walk_test.specs.Tables.{IsWalkOf};
 ghost use Rattle.walk_test.specs.inner.Tables.{observer_in, positions_beside, cells_by, cells_in, nets_in, nets_by, cells_of, cleared, AreMade};
 
-use crate::tables::{NetCells, WalkRows, WalkTables};
+use crate::tables::{NetCells, WalkParts, WalkRows, WalkTables};
 use board_defs::{Board, Ctl, Items, Setting};
 use bt_bits::Row;
 use scan_planner::{NetDriver, Plan, ReaderCell};
@@ -232,6 +232,19 @@ fn walk_rows(
     Ok(WalkRows { still, mask })
 }
 
+// The walk nets, their cells, and the rows that all scans are made from. The plan is lent, so no exit here lets it go.
+fn walk_parts(alloc: Global, board: &Board, plan: &Plan) -> Result<WalkParts, AllocError>
+    requires { IsPlanOf board.now plan.now }
+    ensures nets { IfOk result (λ parts. parts.nets ≡ nets_by plan.now (slice_get plan.now.passes 0) (length board.now.nets)) }
+    ensures cells { IfOk result (λ parts. parts.cells ≡ cells_of plan.now (slice_get plan.now.passes 0) parts.nets) }
+    ensures rows { IfOk result (λ parts. AreMade board.now plan.now parts.cells parts.rows) }
+{
+    let nets = walk_nets(alloc, board, plan)?;
+    let cells = walk_cells(alloc, plan, nets.as_slice())?;
+    let rows = walk_rows(alloc, board, plan, cells.as_slice())?;
+    Ok(WalkParts { nets, cells, rows })
+}
+
 /// The tables of a walk, from the plan whose passes are the walk setting, where there is one.
 pub fn tables_of(alloc: Global, board: &Board, plan: Plan) -> Result<WalkTables, AllocError>
     requires plan { IsPlanOf board.now plan }
@@ -239,13 +252,11 @@ pub fn tables_of(alloc: Global, board: &Board, plan: Plan) -> Result<WalkTables,
     ensures { IfOk result (λ tables. IsWalkOf board.now tables) }
 {
     let _rules = board.raw();
-    let nets = walk_nets(alloc, board, &plan)?;
-    let cells = walk_cells(alloc, &plan, nets.as_slice())?;
-    let rows = walk_rows(alloc, board, &plan, cells.as_slice())?;
+    let parts = walk_parts(alloc, board, &plan)?;
     Ok(WalkTables {
         plan,
-        nets,
-        cells,
-        rows,
+        nets: parts.nets,
+        cells: parts.cells,
+        rows: parts.rows,
     })
 }

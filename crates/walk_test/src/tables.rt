@@ -18,6 +18,14 @@ pub struct WalkRows {
     pub mask: Row,
 }
 
+/// What a walk keeps beside its plan: the walk nets and the cells of each, and the rows that all scans are made from.
+#[derive(Drop)]
+pub struct WalkParts {
+    pub nets: Items<u32>,
+    pub cells: Items<NetCells>,
+    pub rows: WalkRows,
+}
+
 /// The tables of a walk: the plan whose one pass is the walk setting, or that has no pass; the walk nets and the cells of each;
 /// and the rows that all scans are made from.
 #[derive(Drop)]
