@@ -3,7 +3,7 @@ ghost use Rattle.std.specs.Prelude.{◌≡◌, ◌<◌, ◌^◌, All, map, lengt
 ghost use Rattle.answers.specs.Gives.{Gives};
 ghost use Rattle.board_lines.specs.Faults.{board_told};
 ghost use Rattle.board_lines.specs.Names.{named};
-ghost use Rattle.board_lines.specs.declared.names.Naming.TheVariants.{Entity as EntityName};
+ghost use Rattle.board_lines.specs.declared.names.Naming.TheVariants.{Entity as EntityName, Part as PartName};
 ghost use Rattle.board_lines.specs.ChainParts.{IsChain};
 ghost use Rattle.board_lines.specs.Selection.{spot_at, no_chain, part_twice, no_entity, entity_twice, chain_limit, first_fault, entity_names, entity_places, answer, selection};
 
@@ -33,11 +33,23 @@ fn entity_numbers(
     requires { length entities.now < 2 ^ 32 }
     ensures { Gives board_told (λ numbers. numbers.items) (λ said. selection chain.now entities.now ≡ said) result }
 {
+    let names = entity_names(alloc, entities)?;
+    numbers_among(alloc, chain, &names)
+}
+
+/// The number of each DEVICE line's entity among these names, or the first fault of the chain.
+fn numbers_among(
+    alloc: Global,
+    chain: &ChainFile,
+    entities: &[&[u8]],
+) -> Result<Vec<u32>, BoardFault>
+    requires { length entities.now < 2 ^ 32 }
+    ensures { Gives board_told (λ numbers. numbers.items) (λ said. answer (named PartName chain.now) (named EntityName chain.now) (entity_places (named EntityName chain.now) (map (λ n. n.now) entities.now)) (map (λ n. n.now) entities.now) ≡ said) result }
+{
     let parts = named(alloc, chain.lines(), Naming::Part)?;
     let devices = named(alloc, chain.lines(), Naming::Entity)?;
-    let entities = entity_names(alloc, entities)?;
-    let places = entity_places(alloc, &devices, &entities)?;
-    answer(alloc, &parts, &devices, &places, &entities)
+    let places = entity_places(alloc, &devices, entities)?;
+    answer(alloc, &parts, &devices, &places, entities)
 }
 
 /// The number of each described part's entity, or the first fault.
