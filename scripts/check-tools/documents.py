@@ -14,7 +14,7 @@ BLOCK = re.compile(r'^```[a-z]*\n(.*?)^```$', re.M | re.S)
 RUN = ('btest', 'python3', 'awk', 'cat')     # a block is run where its first command is one of these
 OTHERS = ('CABLE.cfg',)                      # what the reader has to bring
 PORT = '5555'                                # the port of the guide; another is taken in its place
-STORED = ROOT / 'crates/stored_test/data'    # the files of the small board of README.md
+STORED = ROOT / 'crates/btest/data'    # the files of the small board of README.md
 
 
 def is_whole(command):

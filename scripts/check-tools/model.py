@@ -41,7 +41,7 @@ REFUSED = [
 # file, and a PULL line that names the net by the name that is gone.
 CHAIN = 'DEVICE U1 DRV -\nBYPASS U9 3\nDEVICE U2 RCV -\nLINK R1 1 2\nPULL LATE 1\n'
 NETS = 'NET N1 U1.1 R1.2\nNET N2 U1.2 U2.2\nNET LATE R1.1 U2.1  # of N1\n'
-STORED = cases.ROOT / 'crates/stored_test/data'
+STORED = cases.ROOT / 'crates/btest/data'
 
 
 def read_board(words):

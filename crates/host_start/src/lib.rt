@@ -1,5 +1,5 @@
 //! What a program over the real files and streams does: the words of its command line go to `run`, and the number of the status that
-//! comes back is its exit status. It stands apart from the program, so that several programs can be run with words of their own.
+//! comes back is its exit status. It stands apart from the program, which is one call of it.
 #![tactic(auto)]
 
 ghost use Rattle.std.specs.Prelude.{◌≡◌, ◌≢◌, IfErr, IfOk, IsErr};

@@ -1,0 +1,67 @@
+"""How btest ends, as a shell sees it: standard output, standard error and the exit status, each in full.
+
+A gate runs the program once on each compiler's build, on the files of README.md. This tries the rest: every exit status, files, words
+and streams that fail. It takes the given program and the one that the kit's own compiler made of the same sources, if that is beside
+it.
+"""
+import os
+import pathlib
+import shutil
+import subprocess
+import tempfile
+
+from cases import ROOT, SECONDS, need, same
+
+HERE = ROOT / 'crates/btest'
+SVF = 'btest svf board.chain board.nets driver.bsd receiver.bsd'
+USAGE = 'usage: btest chain, device, cover, svf, diagnose, make, ident, walk, groups or batch\n'
+TWO_DRIVERS = r"printf 'DEVICE U1 DRV -\nDEVICE U2 DRV -\n' >board.chain; printf 'NET N U1.1 U2.1\n' >board.nets; "
+# 4,000,000 bytes that are a comment, so the text is read whole, and an address space that is too small for it.
+LARGE = r"printf 'BYPASS U1 4\n' >small; { cat small; head -c 4000000 /dev/zero | tr '\0' '#'; } >large; ulimit -v 5000; "
+CHAIN_TEST = (HERE / 'stdout').read_text().split('SIR')[0] + 'SIR 4 TDI (F) TDO (1) MASK (3);\nSDR 9 TDI (0A5) TDO (14A) MASK (1FF);\nSTATE RESET;\n'
+
+# What is tried, the commands, the exit status, standard output and standard error. They run in a folder with the files of README.md,
+# of which driver.bsd is longer than one read of a file takes.
+ROWS = [
+    ('the test of a board', SVF, 0, (HERE / 'stdout').read_text(), ''),
+    ('what the test of a board reaches', SVF.replace('svf', 'cover', 1), 0, 'NETS 2 COVERED 2\n', ''),
+    ('a generated board', 'btest make 2', 0, 'DEVICES 2 NETS 72 COVERED 72 PASSES 2 SCANS 19 BYTES 2373\n', ''),
+    ('a text without a byte', SVF.replace('svf', 'batch 1 /dev/null', 1), 0, '', ''),
+    ('two drivers that are always on', TWO_DRIVERS + 'btest svf board.chain board.nets driver.bsd', 1, '',
+     'board.nets line 1 word 4: two drivers always on\n'),
+    ('no words', 'btest', 2, '', USAGE),
+    ('words that are no command', 'btest svf board.chain', 2, '', USAGE),
+    ('a word that is not UTF-8', r'btest chain "$(printf "\377")"', 2, '', USAGE),
+    ('a file that is not there', 'rm receiver.bsd; ' + SVF, 3, '', 'cannot read receiver.bsd\n'),
+    ('a folder in place of a file', 'btest chain .', 3, '', 'cannot read .\n'),
+    ('a full standard output', SVF + ' >/dev/full', 4, '', 'cannot write\n'),
+    ('a closed standard output', SVF + ' >&-', 4, '', 'cannot write\n'),
+    ('too little memory', LARGE + 'btest chain large', 5, '', 'out of memory\n'),
+    ('a small file in as little memory', LARGE + 'btest chain small', 0, CHAIN_TEST, ''),
+    ('a closed standard error', 'btest chain . 2>&-', 3, '', ''),
+]
+
+
+def ends(program, command, status, out, err):
+    """Runs the commands in a folder of their own, where `btest` is the program."""
+    need(program)
+    with tempfile.TemporaryDirectory() as room:
+        folder = pathlib.Path(room, 'files')
+        shutil.copytree(HERE / 'data', folder)
+        os.mkdir(f'{room}/bin')
+        os.symlink(program, f'{room}/bin/btest')
+        setting = {**os.environ, 'PATH': f'{room}/bin:{os.environ["PATH"]}'}
+        answer = subprocess.run(['sh', '-c', command], cwd=folder, env=setting, stdin=subprocess.DEVNULL, capture_output=True, timeout=SECONDS)
+    same(answer.stdout.decode(), out, 'standard output')
+    same(answer.stderr.decode(), err, 'standard error')
+    same(answer.returncode, status, 'the exit status')
+
+
+def check(program):
+    builds = {'': program}
+    other = f'{program}.by-rattle'
+    if program and os.path.exists(other):
+        builds[", built by the kit's own compiler"] = other
+    for ending, build in builds.items():
+        for what, *row in ROWS:
+            yield what + ending, lambda: ends(build, *row)
