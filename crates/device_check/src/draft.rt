@@ -1,6 +1,6 @@
 //! What an entity says of a device, taken together.
 ghost use Rattle.std.specs.Prelude.{◌≡◌, IfOk, option_copied};
-ghost use Rattle.device_check.specs.Attributes.{needed_port, port_of};
+ghost use Rattle.device_check.specs.Attributes.{needed_port, package_name, port_of};
 ghost use Rattle.device_check.specs.SoundDevice.{taps_of, draft_of};
 
 use crate::attributes::{edition, needed_number, needed_port, package_name, port_of};
@@ -39,17 +39,52 @@ fn reset_port(alloc: Global, entity: &Entity) -> Result<Option<Name>, AllocError
     }
 }
 
+/// The ports that two attributes name.
+fn two_ports(
+    alloc: Global,
+    entity: &Entity,
+    first: u32,
+    second: u32,
+) -> Result<(Name, Name), AllocError>
+    ensures { IfOk result (λ ports. ports ≡ (needed_port entity.now first, needed_port entity.now second)) }
+{
+    let port = Name::of(alloc, needed_port(entity, first))?;
+    let other = Name::of(alloc, needed_port(entity, second))?;
+    Ok((port, other))
+}
+
 /// The ports that the TAP attributes name.
 fn taps_of(alloc: Global, entity: &Entity) -> Result<TapPorts, AllocError>
     ensures { IfOk result (λ taps. taps ≡ taps_of entity.now) }
 {
+    let (scan_in, scan_out) = two_ports(alloc, entity, 2, 3)?;
+    let (mode, clock) = two_ports(alloc, entity, 4, 5)?;
+    let reset = reset_port(alloc, entity)?;
     Ok(TapPorts {
-        scan_in: Name::of(alloc, needed_port(entity, 2))?,
-        scan_out: Name::of(alloc, needed_port(entity, 3))?,
-        mode: Name::of(alloc, needed_port(entity, 4))?,
-        clock: Name::of(alloc, needed_port(entity, 5))?,
-        reset: reset_port(alloc, entity)?,
+        scan_in,
+        scan_out,
+        mode,
+        clock,
+        reset,
     })
+}
+
+/// What an entity says of its names and its ports: copies of its name, of the package's and of its
+/// ports, and the ports that the TAP attributes name.
+type EntityParts = (Name, Name, Items<Port>, TapPorts);
+
+fn parts_of(
+    alloc: Global,
+    entity: &Entity,
+    package: Option<&[u8]>,
+) -> Result<EntityParts, AllocError>
+    ensures { IfOk result (λ parts. parts ≡ (entity.now.name, package_name entity.now (option_copied «package».entry), entity.now.ports, taps_of entity.now)) }
+{
+    let name = Name::of(alloc, entity.name.bytes())?;
+    let package = Name::of(alloc, package_name(entity, package))?;
+    let ports = copied_ports(alloc, entity.ports.as_slice())?;
+    let taps = taps_of(alloc, entity)?;
+    Ok((name, package, Items::of(ports), taps))
 }
 
 /// What the entity says, with the package and the values of its strings.
@@ -61,15 +96,12 @@ pub(crate) fn draft_of(
 ) -> Result<Draft, AllocError>
     ensures { IfOk result (λ draft. draft ≡ draft_of entity.now (option_copied «package».entry) strings) }
 {
-    let name = Name::of(alloc, entity.name.bytes())?;
-    let package = Name::of(alloc, package_name(entity, package))?;
-    let ports = copied_ports(alloc, entity.ports.as_slice())?;
-    let taps = taps_of(alloc, entity)?;
+    let (name, package, ports, taps) = parts_of(alloc, entity, package)?;
     Ok(Draft {
         entity: name,
         package,
         edition: edition(entity),
-        ports: Items::of(ports),
+        ports,
         taps,
         ir: needed_number(entity, 6),
         opcodes: strings.opcodes,
