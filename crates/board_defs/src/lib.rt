@@ -22,6 +22,3 @@ pub use lists::Items;
 pub use name::Name;
 pub use setting::Setting;
 pub use spot::Spot;
-
-#[cfg(test)]
-mod tests;

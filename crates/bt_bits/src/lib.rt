@@ -10,6 +10,3 @@ pub use digits::digit_bit;
 pub use line::{Line, MAX_LINE};
 pub use row::{HexFault, Row, read_digits};
 pub use stack::{Column, RowStack};
-
-#[cfg(test)]
-mod tests;

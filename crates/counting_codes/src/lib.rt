@@ -28,6 +28,3 @@ pub fn bit(code: u32, j: u32) -> bool
 {
     (code >> j) & 1 == 1
 }
-
-#[cfg(test)]
-mod tests;

@@ -4,6 +4,3 @@
 mod printing;
 
 pub use printing::{begin_line, end_line, print, print_all, put_line};
-
-#[cfg(test)]
-mod tests;

@@ -9,6 +9,3 @@ mod table;
 pub use bit_entries::BitEntries;
 pub use pins::{driving_entry, has_dark_pin, is_guarded, receives};
 pub use table::{entries_at, port_entries};
-
-#[cfg(test)]
-mod tests;

@@ -153,6 +153,3 @@ pub fn next_word(line: &[u8]) -> Option<(&[u8], &[u8])>
         None
     }
 }
-
-#[cfg(test)]
-mod tests;

@@ -1,9 +1,17 @@
 //! That values may go to another thread and be shared between threads.
 use batch_diag::{BatchFault, Block, Verdict};
-use board_build::{BoardFault, Spot};
+use board_build::BoardFault;
+use board_defs::{
+    Board, Cell, Code, Control, Ctl, Device, Drive, Edition, Items, Kind, Mode, Name, Net, NetPin,
+    Part, PartKind, PinAt, PinRef, PortBit, RawBoard, RawDevice, Reason, Role, Setting, Single,
+    Spot, Symbol,
+};
+use bt_base::{CountSink, FailingPut, FetchFault, MemSink, MemStore, OpenGate, PutFault};
+use bt_bits::{HexFault, Line, Row, RowStack};
 use command_line::Command;
 use fault_sim::{Suspects, Universe};
 use net_classes::{Classes, ControlClass, NetClass, PinClass};
+use port_entries::BitEntries;
 use scan_planner::Plan;
 use series_parts::{Joined, LinkFault};
 use walk_test::{Group, Walk};
@@ -16,9 +24,63 @@ fn a_command_may_be_shared() {
 }
 
 #[test]
+fn stores_sinks_rows_and_lines_may_be_shared() {
+    is_shared::<MemStore>();
+    is_shared::<MemSink>();
+    is_shared::<CountSink>();
+    is_shared::<OpenGate>();
+    is_shared::<FailingPut>();
+    is_shared::<FetchFault>();
+    is_shared::<PutFault>();
+    is_shared::<Row>();
+    is_shared::<RowStack>();
+    is_shared::<Line>();
+    is_shared::<HexFault>();
+}
+
+#[test]
+fn devices_may_be_shared() {
+    is_shared::<Name>();
+    is_shared::<Items<Name>>();
+    is_shared::<Symbol>();
+    is_shared::<Code>();
+    is_shared::<Mode>();
+    is_shared::<Role>();
+    is_shared::<Edition>();
+    is_shared::<Control>();
+    is_shared::<Cell>();
+    is_shared::<PortBit>();
+    is_shared::<BitEntries>();
+    is_shared::<RawDevice>();
+    is_shared::<Device>();
+}
+
+#[test]
+fn boards_may_be_shared() {
+    is_shared::<PartKind>();
+    is_shared::<Part>();
+    is_shared::<PinAt>();
+    is_shared::<NetPin>();
+    is_shared::<Net>();
+    is_shared::<RawBoard>();
+    is_shared::<Board>();
+    is_shared::<PinRef>();
+}
+
+#[test]
+fn settings_and_faults_may_be_shared() {
+    is_shared::<Ctl>();
+    is_shared::<Drive>();
+    is_shared::<Setting>();
+    is_shared::<Reason>();
+    is_shared::<Kind>();
+    is_shared::<Single>();
+    is_shared::<Spot>();
+}
+
+#[test]
 fn what_is_known_of_a_board_may_be_shared() {
     is_shared::<BoardFault>();
-    is_shared::<Spot>();
     is_shared::<Joined>();
     is_shared::<LinkFault>();
     is_shared::<Classes>();

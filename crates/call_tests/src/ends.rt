@@ -1,0 +1,161 @@
+// Files of the system, writers to them, and sinks in memory.
+use crate::missed::{Missed, expect};
+use bt_base::{
+    CountSink, FetchFault, Gate, HostSink, HostStore, MemSink, OpenGate, PutFault, Sink, Store,
+};
+use std::alloc::{AllocError, Global};
+use std::fs;
+use std::fs::File;
+use std::io::{BufWriter, Write};
+use std::rt::Files;
+
+// The name of a text, the most bytes that it may have, the answer, and the bytes that come.
+type Fetch = (&'static str, u32, Result<(), FetchFault>, &'static [u8]);
+
+static FETCHES: [Fetch; 5] = [
+    ("text", 4, Ok(()), b"abc"),
+    ("text", 3, Ok(()), b"abc"),
+    ("text", 2, Err(FetchFault::TooLong), b"abc"),
+    ("none", 3, Err(FetchFault::Failed), b""),
+    (".", 3, Err(FetchFault::Failed), b""),
+];
+
+// Whether the store gives this answer and these bytes.
+fn gives(
+    store: &mut impl Store,
+    alloc: Global,
+    name: &str,
+    cap: u32,
+    answer: &Result<(), FetchFault>,
+    bytes: &[u8],
+) -> bool {
+    let mut text = Vec::new(alloc);
+    let got = store.fetch(name, &mut text, cap);
+    got == *answer && text.as_slice() == bytes
+}
+
+fn all_give(store: &mut impl Store, alloc: Global) -> Result<(), Missed> {
+    for (row, (name, cap, answer, bytes)) in FETCHES.iter().enumerate() {
+        expect(row, gives(store, alloc, name, *cap, answer, bytes))?;
+    }
+    Ok(())
+}
+
+#[test]
+fn reads_files(rt: HostRuntime) -> Result<(), Missed> {
+    fs::write(&rt, "text", "abc")?;
+    let given = all_give(&mut HostStore::over(&rt), rt.alloc());
+    fs::remove_file(&rt, "text")?;
+    given
+}
+
+fn long_text(alloc: Global) -> Result<Vec<u8>, AllocError> {
+    let mut text = Vec::new(alloc);
+    for number in 0..20_000u32 {
+        text.push((number % 251) as u8)?;
+    }
+    Ok(text)
+}
+
+// The most bytes that a text of 20,000 may have, the answer, and the number of bytes that come.
+static LONG: [(u32, Result<(), FetchFault>, usize); 2] = [
+    (20_000, Ok(()), 20_000),
+    (19_998, Err(FetchFault::TooLong), 19_999),
+];
+
+fn gives_long(store: &mut impl Store, alloc: Global, text: &[u8]) -> Result<(), Missed> {
+    for (row, (cap, answer, count)) in LONG.iter().enumerate() {
+        let start = text.get(..*count).unwrap_or(b"");
+        expect(row, gives(store, alloc, "long", *cap, answer, start))?;
+    }
+    Ok(())
+}
+
+#[test]
+fn reads_a_file_in_many_chunks(rt: HostRuntime) -> Result<(), Missed> {
+    let text = long_text(rt.alloc())?;
+    fs::write(&rt, "long", text.as_slice())?;
+    let given = gives_long(&mut HostStore::over(&rt), rt.alloc(), text.as_slice());
+    fs::remove_file(&rt, "long")?;
+    given
+}
+
+// Bytes that are put, and the answer.
+type Put = (&'static [u8], Result<(), PutFault>);
+
+// Whether the sink answers so to these puts, one after the other.
+fn takes(sink: &mut impl Sink, puts: &[Put]) -> bool {
+    for (bytes, answer) in puts {
+        if sink.put(bytes) != *answer {
+            return false;
+        }
+    }
+    true
+}
+
+static FLUSHED: [Put; 1] = [(b"ab", Ok(()))];
+
+static WRITTEN: [Put; 3] = [(b"ab", Ok(())), (b"", Ok(())), (b"c", Ok(()))];
+
+static REFUSED: [Put; 1] = [(b"abc", Err(PutFault::Failed))];
+
+// Whether a file has this text while a sink over its writer, which took these puts, still stands.
+fn shows<W: Write + Drop>(
+    rt: &impl Files,
+    alloc: Global,
+    to: W,
+    puts: &[Put],
+    name: &str,
+    text: &[u8],
+) -> bool {
+    let mut sink = HostSink::over(to);
+    takes(&mut sink, puts) && gives(&mut HostStore::over(rt), alloc, name, 9, &Ok(()), text)
+}
+
+#[test]
+fn each_put_is_flushed(rt: HostRuntime) -> Result<(), Missed> {
+    let to = BufWriter::new(rt.alloc(), File::create(&rt, "flushed")?)?;
+    let shown = shows(&rt, rt.alloc(), to, &FLUSHED, "flushed", b"ab");
+    fs::remove_file(&rt, "flushed")?;
+    expect(0, shown)
+}
+
+#[test]
+fn writes_to_a_writer(rt: HostRuntime) -> Result<(), Missed> {
+    let to = File::create(&rt, "written")?;
+    let shown = shows(&rt, rt.alloc(), to, &WRITTEN, "written", b"abc");
+    fs::remove_file(&rt, "written")?;
+    expect(0, shown)?;
+    expect(1, is_full(File::create(&rt, "/dev/full")?))
+}
+
+fn is_full<W: Write + Drop>(to: W) -> bool {
+    takes(&mut HostSink::over(to), &REFUSED)
+}
+
+static CUT: [Put; 3] = [
+    (b"abc", Ok(())),
+    (b"def", Err(PutFault::Failed)),
+    (b"ghijklm", Err(PutFault::Failed)),
+];
+
+// Whether a sink with room for eight bytes, whose second put fails after one byte, takes what it should.
+fn is_cut(alloc: Global) -> Result<bool, AllocError> {
+    let mut sink = MemSink::with_room(alloc, 8)?;
+    sink.fail_at(2, 1)?;
+    Ok(takes(&mut sink, &CUT) && sink.bytes() == b"abcdghij".as_slice())
+}
+
+static COUNTED: [Put; 1] = [(b"abc", Ok(()))];
+
+fn is_counted() -> bool {
+    let mut count = CountSink::new();
+    takes(&mut count, &COUNTED) && count.count() == 3
+}
+
+#[test]
+fn a_sink_in_memory_fails_where_it_is_told(rt: HostRuntime) -> Result<(), Missed> {
+    expect(0, is_cut(rt.alloc())?)?;
+    OpenGate.enter(0, 0);
+    expect(1, is_counted())
+}

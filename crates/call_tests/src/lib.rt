@@ -1,0 +1,13 @@
+//! Tests of what the lower crates have public: tables, and the calls that go through them.
+#![tactic(auto)]
+
+#[cfg(test)]
+mod ends;
+#[cfg(test)]
+mod missed;
+#[cfg(test)]
+mod printing;
+#[cfg(test)]
+mod rows;
+#[cfg(test)]
+mod words;

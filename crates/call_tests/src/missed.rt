@@ -1,0 +1,33 @@
+// Why a test fails.
+use std::alloc::AllocError;
+use std::io;
+use thiserror::Error;
+
+/// Why a table does not hold.
+#[derive(Debug, Drop, Error)]
+pub enum Missed {
+    /// The row with this number, from 0, gives something else.
+    #[error("row {0} gives something else")]
+    Row(usize),
+    #[error("out of memory")]
+    Memory(AllocError),
+    #[error("a file of the system: {0:?}")]
+    File(io::Error),
+}
+
+impl From<AllocError> for Missed {
+    fn from(error: AllocError) -> Missed {
+        Missed::Memory(error)
+    }
+}
+
+impl From<io::Error> for Missed {
+    fn from(error: io::Error) -> Missed {
+        Missed::File(error)
+    }
+}
+
+/// Returns the row's number as the error, unless the row holds.
+pub fn expect(row: usize, holds: bool) -> Result<(), Missed> {
+    if holds { Ok(()) } else { Err(Missed::Row(row)) }
+}
