@@ -19,6 +19,3 @@ pub use judging::diagnose_all;
 pub use listing::write_batch;
 pub use reader::{blocks, blocks_by};
 pub use verdict::Verdict;
-
-#[cfg(test)]
-mod tests;

@@ -38,6 +38,3 @@ pub fn make(alloc: Global, number: u32) -> Result<Made, AllocError>
     let bsdl = device::bsdl(alloc)?;
     Ok(Made { chain, nets, bsdl })
 }
-
-#[cfg(test)]
-mod tests;

@@ -2,12 +2,20 @@
 #![tactic(auto)]
 
 #[cfg(test)]
+mod chains;
+#[cfg(test)]
 mod ends;
+#[cfg(test)]
+mod files;
+#[cfg(test)]
+mod logs;
 #[cfg(test)]
 mod missed;
 #[cfg(test)]
 mod printing;
 #[cfg(test)]
 mod rows;
+#[cfg(test)]
+mod scans;
 #[cfg(test)]
 mod words;

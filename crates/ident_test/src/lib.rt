@@ -6,6 +6,3 @@ mod ident;
 pub mod law;
 
 pub use ident::write_ident;
-
-#[cfg(test)]
-mod tests;

@@ -13,6 +13,3 @@ mod reader;
 pub use fault::LogFault;
 pub use kept::Log;
 pub use reader::{log, log_of};
-
-#[cfg(test)]
-mod tests;

@@ -14,6 +14,3 @@ mod pins;
 
 pub use fault::LinkFault;
 pub use joining::{Joined, join};
-
-#[cfg(test)]
-mod tests;

@@ -8,6 +8,3 @@ mod scan;
 pub use chain::write_chain;
 pub use ends::{write_head, write_tail};
 pub use scan::write_scan;
-
-#[cfg(test)]
-mod tests;

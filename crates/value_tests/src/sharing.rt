@@ -6,12 +6,15 @@ use board_defs::{
     Part, PartKind, PinAt, PinRef, PortBit, RawBoard, RawDevice, Reason, Role, Setting, Single,
     Spot, Symbol,
 };
+use board_files::{ChainFile, ChainLine, LineFault, NetFile, NetLine};
+use board_gen::Made;
 use bt_base::{CountSink, FailingPut, FetchFault, MemSink, MemStore, OpenGate, PutFault};
 use bt_bits::{HexFault, Line, Row, RowStack};
 use command_line::Command;
 use fault_sim::{Suspects, Universe};
 use net_classes::{Classes, ControlClass, NetClass, PinClass};
 use port_entries::BitEntries;
+use response_log::{Log, LogFault};
 use scan_planner::Plan;
 use series_parts::{Joined, LinkFault};
 use walk_test::{Group, Walk};
@@ -79,6 +82,16 @@ fn settings_and_faults_may_be_shared() {
 }
 
 #[test]
+fn files_of_boards_may_be_shared() {
+    is_shared::<ChainFile>();
+    is_shared::<ChainLine>();
+    is_shared::<NetFile>();
+    is_shared::<NetLine>();
+    is_shared::<LineFault>();
+    is_shared::<Made>();
+}
+
+#[test]
 fn what_is_known_of_a_board_may_be_shared() {
     is_shared::<BoardFault>();
     is_shared::<Joined>();
@@ -96,6 +109,8 @@ fn tests_and_what_explains_their_logs_may_be_shared() {
     is_shared::<Group>();
     is_shared::<Universe>();
     is_shared::<Suspects>();
+    is_shared::<Log>();
+    is_shared::<LogFault>();
     is_shared::<Block>();
     is_shared::<BatchFault>();
     is_shared::<Verdict>();

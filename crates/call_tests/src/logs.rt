@@ -1,0 +1,225 @@
+// Logs and batches of them, as texts. The values are worked by hand.
+ghost use Rattle.std.specs.Prelude.{◌<◌, ◌^◌, length};
+
+use crate::missed::{Missed, expect};
+use batch_diag::{Block, blocks, blocks_by};
+use response_log::{Log, log};
+use std::alloc::{AllocError, Global};
+use std::thread::Threads;
+
+// Appends the bits of each row, the first one to the left, with a space behind each row.
+fn push_bits(text: &mut String, log: &Log) -> Result<(), AllocError> {
+    for row in 0..log.rows() {
+        for at in 0..log.len() {
+            text.push(if log.bit(row, at) { '1' } else { '0' })?;
+        }
+        text.push(' ')?;
+    }
+    Ok(())
+}
+
+fn bits_of(alloc: Global, log: &Log) -> Result<String, AllocError> {
+    let mut text = String::new(alloc);
+    push_bits(&mut text, log)?;
+    Ok(text)
+}
+
+// A text, the number of its rows and of the bits of each, and its bits or its fault.
+type LogText = (&'static [u8], u64, u32, &'static str);
+
+static LOGS: [LogText; 20] = [
+    (b"", 0, 10, ""),
+    (b"# 3FF\n\r\n\t ", 0, 10, ""),
+    (b"3FF\n2A5", 2, 10, "1111111111 1010010101 "),
+    (
+        b"# log\r\n\n \t2a5 # row\r\n#3FF\n001 #",
+        2,
+        10,
+        "1010010101 1000000000 ",
+    ),
+    (b"1\n0\n1\n", 3, 1, "1 0 1 "),
+    (b"3F", 1, 10, "line 1: wrong length"),
+    (b"\n# row\n03FF", 1, 10, "line 3: wrong length"),
+    (b"3FF\n3 F", 2, 10, "line 2: wrong length"),
+    (b"3FF 3FF", 2, 10, "line 1: wrong length"),
+    (b"ZZZ ZZZ", 1, 10, "line 1: wrong length"),
+    (b"3FF\n\n400", 2, 10, "line 3: digit not allowed"),
+    (b"0G0", 1, 10, "line 1: digit not allowed"),
+    (b"3F#\n3F", 2, 10, "line 1: digit not allowed"),
+    (b"3F\n3F#", 2, 10, "line 1: wrong length"),
+    (b"", 2, 10, "only 0 rows"),
+    (b"3FF\n# 3FF\n", 2, 10, "only 1 rows"),
+    (b"\n3FF", 0, 10, "line 2: row too many"),
+    (b"3FF\n#\n3FF\n3FF", 1, 10, "line 3: row too many"),
+    (b"3FF\nzz zz", 1, 10, "line 2: row too many"),
+    (b"3FF\n4FF\n3FF", 1, 10, "line 2: row too many"),
+];
+
+// What a text answers.
+fn log_answer(alloc: Global, text: &[u8], rows: u64, len: u32) -> Result<String, AllocError>
+    requires { length text.now < 2 ^ 32 }
+{
+    match log(alloc, text, rows, len) {
+        Ok(log) => bits_of(alloc, &log),
+        Err(fault) => fault.to_string(alloc),
+    }
+}
+
+#[test]
+fn logs(rt: HostRuntime) -> Result<(), Missed> {
+    for (row, (text, rows, len, wanted)) in LOGS.iter().enumerate() {
+        expect(row, text.len() < 1000)?;
+        let answer = log_answer(rt.alloc(), text, *rows, *len)?;
+        expect(row, answer.as_str() == *wanted)?;
+    }
+    Ok(())
+}
+
+// The id of each block, and its bits.
+fn shown(alloc: Global, blocks: &[Block]) -> Result<String, AllocError> {
+    let mut text = String::new(alloc);
+    for block in blocks {
+        for byte in block.id.bytes() {
+            text.push(*byte as char)?;
+        }
+        text.push(':')?;
+        push_bits(&mut text, &block.log)?;
+    }
+    Ok(text)
+}
+
+// What a text answers that is read in so many pieces, or at once where there is none.
+fn answer_in<R: Threads + Sync>(
+    rt: &R,
+    alloc: Global,
+    text: &[u8],
+    rows: u64,
+    pieces: u32,
+) -> Result<String, AllocError>
+    requires { length text.now < 2 ^ 32 }
+{
+    let read = if pieces == 0 {
+        blocks(alloc, text, rows, 2)
+    } else {
+        blocks_by(rt, alloc, text, rows, 2, pieces)
+    };
+    match read {
+        Ok(blocks) => shown(alloc, &blocks),
+        Err(fault) => fault.to_string(alloc),
+    }
+}
+
+// Whether a text answers so in pieces of several sizes, and at once.
+fn answers<R: Threads + Sync>(
+    rt: &R,
+    alloc: Global,
+    text: &[u8],
+    rows: u64,
+    wanted: &str,
+) -> Result<bool, AllocError> {
+    if text.len() >= 1000 {
+        return Ok(false);
+    }
+    for pieces in [0, 1, 2, 3, 64] {
+        if answer_in(rt, alloc, text, rows, pieces)?.as_str() != wanted {
+            return Ok(false);
+        }
+    }
+    Ok(true)
+}
+
+// A text, the number of rows of each log, and its blocks or its fault.
+type BatchText = (&'static [u8], u64, &'static str);
+
+static BATCHES: [BatchText; 29] = [
+    (b"", 2, ""),
+    (b"# no board\n\n\t\r\n", 2, ""),
+    (b"BOARD A\n1\n2\nBOARD B\n0\n2", 2, "A:10 01 B:00 01 "),
+    (b"# log\n\nBOARD A\n1\n2\n", 2, "A:10 01 "),
+    (
+        b"BOARD A\r\n1\r\n2\r\nBOARD B\r\n3\r\n3\r\n",
+        2,
+        "A:10 01 B:11 11 ",
+    ),
+    (b"\t BOARD A # BOARD B\n\n1 # 2\n2", 2, "A:10 01 "),
+    (b"BOARD A\n1\n1\nBOARD A\n2\n2\n", 2, "A:10 10 A:01 01 "),
+    (b"BOARD A\nBOARD B", 0, "A:B:"),
+    (
+        b"BOARD A\n1\nBOARD B\n2\nBOARD C\n3\nBOARD D\n0\nBOARD E\n1",
+        1,
+        "A:10 B:01 C:11 D:00 E:10 ",
+    ),
+    (b"BOARD A\n\nBOARD B\n1", 1, "board 1: only 0 rows"),
+    (b"BOARD A\n1\nBOARD B\n2\n", 1, "A:10 B:01 "),
+    (b"BOARD A\n1\nBOARD B\n1\n2", 2, "board 1: only 1 rows"),
+    (b"BOARD A\n1\nBOARD B\nzz\nzz", 2, "board 1: only 1 rows"),
+    (b"BOARD A\n1\n11\n", 2, "board 1: line 3: wrong length"),
+    (b"BOARD A\n1 2\n", 2, "board 1: line 2: wrong length"),
+    (
+        b"BOARD A\n1\n2\n3\nBOARD B",
+        2,
+        "board 1: line 4: row too many",
+    ),
+    (
+        b"#\nBOARD A\n1\n2\n\nBOARD B\n#\n1\n4\n",
+        2,
+        "board 2: line 9: digit not allowed",
+    ),
+    (
+        b"BOARD A\n1\n2\nboard B\n",
+        2,
+        "board 1: line 4: row too many",
+    ),
+    (b"BOARD #\nBOARD A", 0, "line 1: board not allowed"),
+    // Lines that can not stand.
+    (b"1\nBOARD A", 2, "line 1: no board yet"),
+    (b"\n# log\nboard A\nBOARD A", 2, "line 3: no board yet"),
+    (b"1 # log\nBOARD\n", 2, "line 1: no board yet"),
+    (b"BOARD", 2, "line 1: board not allowed"),
+    (b"BOARD #x\n1\n2", 2, "line 1: board not allowed"),
+    (b"BOARD A B\n1\n2", 2, "line 1: board not allowed"),
+    (
+        b"BOARD A #\n1\n2\nBOARD \x7F",
+        2,
+        "line 4: board not allowed",
+    ),
+    (b"BOARD A\nzz\n\nBOARD", 2, "line 4: board not allowed"),
+    (
+        b"BOARD A\n1\nBOARD\n2\nBOARD B C",
+        2,
+        "line 3: board not allowed",
+    ),
+    (b"BOARDS A", 2, "line 1: no board yet"),
+];
+
+#[test]
+fn batches(rt: HostRuntime) -> Result<(), Missed> {
+    for (row, (text, rows, wanted)) in BATCHES.iter().enumerate() {
+        expect(row, answers(&rt, rt.alloc(), text, *rows, wanted)?)?;
+    }
+    Ok(())
+}
+
+// A title line whose id has so many bytes.
+fn title(alloc: Global, len: usize) -> Result<Vec<u8>, AllocError> {
+    let mut text = b"BOARD ".to_vec(alloc)?;
+    text.resize(len.saturating_add(6), b'A')?;
+    Ok(text)
+}
+
+// The id of so many bytes, and the colon that is shown behind it.
+fn shown_title(alloc: Global, len: usize) -> Result<String, AllocError> {
+    let mut text = "A".repeat(alloc, len)?;
+    text.push(':')?;
+    Ok(text)
+}
+
+#[test]
+fn ids_have_up_to_255_bytes(rt: HostRuntime) -> Result<(), Missed> {
+    let longest = title(rt.alloc(), 255)?;
+    let shown = shown_title(rt.alloc(), 255)?;
+    expect(0, answers(&rt, rt.alloc(), &longest, 0, &shown)?)?;
+    let longer = title(rt.alloc(), 256)?;
+    let refused = "line 1: board not allowed";
+    expect(1, answers(&rt, rt.alloc(), &longer, 0, refused)?)
+}
