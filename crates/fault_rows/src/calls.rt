@@ -1,5 +1,6 @@
 // A run of each command, on a board of a driver and a receiver.
-use run_bench::{Bench, CHAIN, NETS};
+use run_bench::Text::Plain;
+use run_bench::{Bench, CHAIN, NETS, Named};
 use std::alloc::{AllocError, Global};
 
 /// A run that puts a text.
@@ -76,13 +77,16 @@ pub static COMMANDS: [Command; 10] = [
     },
 ];
 
-/// The texts of all commands: beside those of the board a log of its test, one of its walking test, and a batch.
+/// Logs beside the board: one of its test, one of its walking test, and a batch.
+pub static LOGS: [Named; 3] = [
+    ("g", Plain("0\n2\n")),
+    ("w", Plain("3\n3\n")),
+    ("b", Plain("BOARD A\n1\n2\nBOARD B\n0\n2\n")),
+];
+
+/// The texts of all commands.
 pub fn bench_of(alloc: Global) -> Result<Bench, AllocError> {
     let mut bench = Bench::with_board(alloc, CHAIN, NETS)?;
-    bench.add(&[
-        ("g", "0\n2\n"),
-        ("w", "3\n3\n"),
-        ("b", "BOARD A\n1\n2\nBOARD B\n0\n2\n"),
-    ])?;
+    bench.add(&LOGS)?;
     Ok(bench)
 }

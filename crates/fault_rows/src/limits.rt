@@ -1,119 +1,121 @@
 // Texts that are too long.
-use crate::calls::{COMMANDS, Command, bench_of};
+use crate::calls::{COMMANDS, Command, LOGS, bench_of};
 use bt_base::Store;
-use run_bench::{Ending, RowFault};
+use run_bench::Text::Repeated;
+use run_bench::{Ending, Row, RowFault, Rows, Table, tables_hold};
 use std::alloc::Global;
 use std::thread::Threads;
 
-// Tries a text of this name that is too long.
+// The most bytes of a text, and of a log.
+const MOST: usize = 4_194_304;
+
+const MOST_OF_LOG: usize = 67_108_864;
+
+// The most bytes of the text of this name.
+fn limit(name: &str) -> usize {
+    if name == "g" || name == "w" || name == "b" {
+        MOST_OF_LOG
+    } else {
+        MOST
+    }
+}
+
+// Tries a command whose text of this name has one byte too many.
 fn is_too_long(
     rt: &(impl Threads + Sync),
     alloc: Global,
     line: &str,
-    name: &str,
-    text: &[u8],
-    limit: u32,
+    name: &'static str,
+    blanks: &[u8],
+) -> Result<(), RowFault> {
+    let limit = limit(name);
+    let mut bench = bench_of(alloc)?;
+    bench.store.add(name, blanks.get(..=limit).unwrap_or(b""))?;
+    let note = format!(in alloc; "{name}: longer than {limit} bytes\n")?;
+    bench.ends(rt, name, 0, line, Ending::Refused(&note))
+}
+
+// Tries a command whose text of this name has blanks behind it, as many as it may have.
+fn may_be_as_long(
+    rt: &(impl Threads + Sync),
+    alloc: Global,
+    command: &Command,
+    name: &'static str,
+    blanks: &[u8],
 ) -> Result<(), RowFault> {
     let mut bench = bench_of(alloc)?;
-    bench.store.add(name, text)?;
-    let status = bench.run(rt, line)?;
-    let note = format!(in alloc; "{name}: longer than {limit} bytes\n")?;
-    bench.expect(0, status, Ending::Refused(&note))
+    let mut text = Vec::new(alloc);
+    let _ = bench.store.fetch(name, &mut text, 1_000_000);
+    let rest = blanks.get(text.len()..limit(name)).unwrap_or(b"");
+    text.extend_from_slice(rest)?;
+    bench.store.add(name, &text)?;
+    bench.ends(rt, name, 1, command.line, Ending::Puts(command.text))
 }
 
-// Whether the text of this name is a log, which has a limit of its own.
-fn is_log(name: &str) -> bool {
-    name == "g" || name == "w" || name == "b"
-}
-
-// Tries each text of a command that is no log.
 fn are_too_long(
     rt: &(impl Threads + Sync),
     alloc: Global,
     command: &Command,
-    text: &[u8],
+    blanks: &[u8],
 ) -> Result<(), RowFault> {
     for name in command.names {
-        if !is_log(name) {
-            is_too_long(rt, alloc, command.line, name, text, 4_194_304)?;
-        }
+        is_too_long(rt, alloc, command.line, name, blanks)?;
     }
     Ok(())
 }
 
 #[test]
 fn a_text_that_is_too_long_is_refused_by_every_command(rt: HostRuntime) -> Result<(), RowFault> {
-    let alloc = rt.alloc();
-    let text = " ".repeat(alloc, 4_194_305)?;
+    let blanks = " ".repeat(rt.alloc(), MOST_OF_LOG + 1)?;
     for command in &COMMANDS {
-        are_too_long(&rt, alloc, command, text.as_bytes())?;
+        are_too_long(&rt, rt.alloc(), command, blanks.as_bytes())?;
     }
     Ok(())
 }
 
-#[test]
-fn a_log_that_is_too_long_is_refused(rt: HostRuntime) -> Result<(), RowFault> {
-    let alloc = rt.alloc();
-    let text = " ".repeat(alloc, 67_108_865)?;
-    for command in &COMMANDS {
-        for name in command.names {
-            if is_log(name) {
-                is_too_long(&rt, alloc, command.line, name, text.as_bytes(), 67_108_864)?;
-            }
-        }
-    }
-    Ok(())
-}
-
-// Tries a command whose text of this name has blanks behind it, as many bytes with them as these blanks have.
-fn may_be_as_long(
+fn may_be_long(
     rt: &(impl Threads + Sync),
     alloc: Global,
     command: &Command,
-    name: &str,
     blanks: &[u8],
 ) -> Result<(), RowFault> {
-    let mut bench = bench_of(alloc)?;
-    let mut text = Vec::new(alloc);
-    let _ = bench.store.fetch(name, &mut text, 1_000_000);
-    let rest = blanks.get(text.len()..).unwrap_or(b"");
-    text.extend_from_slice(rest)?;
-    bench.store.add(name, &text)?;
-    let status = bench.run(rt, command.line)?;
-    bench.expect(0, status, Ending::Puts(command.text))
+    for name in command.names {
+        may_be_as_long(rt, alloc, command, name, blanks)?;
+    }
+    Ok(())
 }
 
 #[test]
 fn every_text_may_have_its_limit(rt: HostRuntime) -> Result<(), RowFault> {
-    let alloc = rt.alloc();
-    let blanks = " ".repeat(alloc, 67_108_864)?;
-    let fewer = " ".repeat(alloc, 4_194_304)?;
+    let blanks = " ".repeat(rt.alloc(), MOST_OF_LOG)?;
     for command in &COMMANDS {
-        for name in command.names {
-            let all = if is_log(name) { &blanks } else { &fewer };
-            may_be_as_long(&rt, alloc, command, name, all.as_bytes())?;
-        }
+        may_be_long(&rt, rt.alloc(), command, blanks.as_bytes())?;
     }
     Ok(())
 }
 
-// A log may be longer than any other text.
-#[test]
-fn a_log_has_a_limit_of_its_own(rt: HostRuntime) -> Result<(), RowFault> {
-    let alloc = rt.alloc();
-    let text = " ".repeat(alloc, 4_194_305)?;
-    let mut bench = bench_of(alloc)?;
-    bench.store.add("w", text.as_bytes())?;
-    let status = bench.run(&rt, "groups w c n drv rcv")?;
-    bench.expect(0, status, Ending::Refused("w: 0 rows of 2\n"))
-}
+static BLANKS: [Row; 2] = [
+    // A log may be longer than any other text.
+    Row {
+        texts: &[("w", Repeated(" ", MOST + 1))],
+        line: "groups w c n drv rcv",
+        ending: Ending::Refused("w: 0 rows of 2\n"),
+    },
+    // A batch of blanks has no block.
+    Row {
+        texts: &[("b", Repeated(" ", MOST + 1))],
+        line: "batch 2 b c n drv rcv",
+        ending: Ending::Puts(""),
+    },
+];
+
+static TABLES: [Table; 1] = [Table {
+    name: "a log has a limit of its own",
+    texts: &LOGS,
+    rows: Rows::Runs(&BLANKS),
+}];
 
 #[test]
-fn a_batch_of_blanks_has_no_block(rt: HostRuntime) -> Result<(), RowFault> {
-    let alloc = rt.alloc();
-    let text = " ".repeat(alloc, 4_194_305)?;
-    let mut bench = bench_of(alloc)?;
-    bench.store.add("b", text.as_bytes())?;
-    let status = bench.run(&rt, "batch 2 b c n drv rcv")?;
-    bench.expect(0, status, Ending::Puts(""))
+fn a_log_has_a_limit_of_its_own(rt: HostRuntime) -> Result<(), RowFault> {
+    tables_hold(&rt, rt.alloc(), &TABLES)
 }

@@ -1,15 +1,20 @@
 // The fault of each text, told by the name of that text.
-use run_bench::{Ending, Named, Row, RowFault, rows_hold};
+use run_bench::Text::Plain;
+use run_bench::{Ending, Named, Row, RowFault, Rows, Table, tables_hold};
 
 // A log of the board's test, one of its walking test, and a batch.
-static LOGS: [Named; 3] = [("g", "1\n2\n"), ("w", "3\n3\n"), ("b", "BOARD A\n1\n2\n")];
+static LOGS: [Named; 3] = [
+    ("g", Plain("1\n2\n")),
+    ("w", Plain("3\n3\n")),
+    ("b", Plain("BOARD A\n1\n2\n")),
+];
 
 // A chain file, a net file and a BSDL text that are none.
-const CHAIN: Named = ("c", "DEVICE U1 DRV\n");
+const CHAIN: Named = ("c", Plain("DEVICE U1 DRV\n"));
 
-const NETS: Named = ("n", "NETS N1 U1.1\n");
+const NETS: Named = ("n", Plain("NETS N1 U1.1\n"));
 
-const THIRD: Named = ("third", "x\n");
+const THIRD: Named = ("third", Plain("x\n"));
 
 const IN_CHAIN: Ending<'static> = Ending::Refused("c line 1: no statement\n");
 
@@ -74,7 +79,7 @@ static ROWS: [Row; 16] = [
         ending: IN_THIRD,
     },
     Row {
-        texts: &[("w", "zz\n")],
+        texts: &[("w", Plain("zz\n"))],
         line: "groups w c n drv rcv",
         ending: Ending::Refused("w line 1: wrong length\n"),
     },
@@ -94,13 +99,19 @@ static ROWS: [Row; 16] = [
         ending: IN_THIRD,
     },
     Row {
-        texts: &[("b", "zz\n")],
+        texts: &[("b", Plain("zz\n"))],
         line: "batch 2 b c n drv rcv",
         ending: Ending::Refused("b line 1: no board yet\n"),
     },
 ];
 
+static TABLES: [Table; 1] = [Table {
+    name: "a fault is told with the name of its text",
+    texts: &LOGS,
+    rows: Rows::Runs(&ROWS),
+}];
+
 #[test]
 fn a_fault_is_told_with_the_name_of_its_text(rt: HostRuntime) -> Result<(), RowFault> {
-    rows_hold(&rt, rt.alloc(), &LOGS, &ROWS)
+    tables_hold(&rt, rt.alloc(), &TABLES)
 }

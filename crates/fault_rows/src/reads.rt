@@ -10,14 +10,13 @@ fn ends_at(
     alloc: Global,
     line: &str,
     call: u32,
-    name: &str,
+    name: &'static str,
 ) -> Result<(), RowFault> {
     let mut bench = bench_of(alloc)?;
     bench.store.fail_at(call)?;
     bench.out.fail_at(1, 0)?;
-    let status = bench.run(rt, line)?;
     let note = format!(in alloc; "cannot read {name}\n")?;
-    bench.expect(call as usize, status, Ending::NotRead(&note))
+    bench.ends(rt, name, call as usize, line, Ending::NotRead(&note))
 }
 
 // Tries a failure of each of a command's reads.

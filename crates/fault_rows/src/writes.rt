@@ -1,19 +1,10 @@
 // Writes that fail.
-use crate::calls::{COMMANDS, Command, bench_of};
+use crate::calls::{COMMANDS, Command, LOGS, bench_of};
 use bt_base::MemSink;
-use run_bench::{Ending, RowFault};
+use run_bench::Text::Plain;
+use run_bench::{Ending, Row, RowFault, Rows, Table, Trouble, tables_hold};
 use std::alloc::Global;
 use std::thread::Threads;
-
-#[test]
-fn every_command_puts_its_text(rt: HostRuntime) -> Result<(), RowFault> {
-    for (i, command) in COMMANDS.iter().enumerate() {
-        let mut bench = bench_of(rt.alloc())?;
-        let status = bench.run(&rt, command.line)?;
-        bench.expect(i, status, Ending::Puts(command.text))?;
-    }
-    Ok(())
-}
 
 // The first characters of a text, so many or all that it has.
 fn first(text: &str, count: usize) -> &str {
@@ -31,13 +22,9 @@ fn is_cut(
 ) -> Result<(), RowFault> {
     let mut bench = bench_of(alloc)?;
     bench.out.fail_at(call, taken)?;
-    let status = bench.run(rt, command.line)?;
     let text = first(command.text, before.saturating_add(taken as usize));
-    bench.expect(
-        call as usize,
-        status,
-        Ending::NotPut(text, "cannot write\n"),
-    )
+    let ending = Ending::NotPut(text, "cannot write\n");
+    bench.ends(rt, command.line, call as usize, command.line, ending)
 }
 
 // Tries a failure of the put of each line of a command's text after so many bytes.
@@ -57,42 +44,67 @@ fn is_cut_at_each(
     Ok(())
 }
 
+// A write that fails leaves the lines before it, and may take a part of its own.
 #[test]
 fn a_write_that_fails_leaves_the_lines_before_it(rt: HostRuntime) -> Result<(), RowFault> {
     for command in &COMMANDS {
-        is_cut_at_each(&rt, rt.alloc(), command, 0)?;
+        for taken in [0, 2] {
+            is_cut_at_each(&rt, rt.alloc(), command, taken)?;
+        }
     }
     Ok(())
 }
 
+fn puts_text(rt: &(impl Threads + Sync), alloc: Global, command: &Command) -> Result<(), RowFault> {
+    let mut bench = bench_of(alloc)?;
+    bench.ends(
+        rt,
+        command.line,
+        0,
+        command.line,
+        Ending::Puts(command.text),
+    )
+}
+
+// The status stays where the notes take only a part of the line.
+fn has_short_note(
+    rt: &(impl Threads + Sync),
+    alloc: Global,
+    command: &Command,
+) -> Result<(), RowFault> {
+    let mut bench = bench_of(alloc)?;
+    bench.out = MemSink::with_room(alloc, 4)?;
+    bench.notes = MemSink::with_room(alloc, 6)?;
+    let ending = Ending::NotPut(first(command.text, 4), "cannot");
+    bench.ends(rt, command.line, 1, command.line, ending)
+}
+
 #[test]
-fn a_write_that_fails_may_take_a_part_of_its_line(rt: HostRuntime) -> Result<(), RowFault> {
+fn every_command_puts_its_text_or_keeps_its_status(rt: HostRuntime) -> Result<(), RowFault> {
     for command in &COMMANDS {
-        is_cut_at_each(&rt, rt.alloc(), command, 2)?;
+        puts_text(&rt, rt.alloc(), command)?;
+        has_short_note(&rt, rt.alloc(), command)?;
     }
     Ok(())
 }
 
 // A batch without a block has an empty text, which is put too.
+static EMPTY: [(Trouble, Row); 1] = [(
+    Trouble::Put(1, 0),
+    Row {
+        texts: &[("b", Plain(""))],
+        line: "batch 2 b c n drv rcv",
+        ending: Ending::NotPut("", "cannot write\n"),
+    },
+)];
+
+static TABLES: [Table; 1] = [Table {
+    name: "an empty text may fail",
+    texts: &LOGS,
+    rows: Rows::Failing(&EMPTY),
+}];
+
 #[test]
 fn an_empty_text_may_fail(rt: HostRuntime) -> Result<(), RowFault> {
-    let mut bench = bench_of(rt.alloc())?;
-    bench.store.add("b", b"")?;
-    bench.out.fail_at(1, 0)?;
-    let status = bench.run(&rt, "batch 2 b c n drv rcv")?;
-    bench.expect(0, status, Ending::NotPut("", "cannot write\n"))
-}
-
-// The status stays where the notes take only a part of the line.
-#[test]
-fn notes_that_fail_change_no_status(rt: HostRuntime) -> Result<(), RowFault> {
-    let alloc = rt.alloc();
-    for (i, command) in COMMANDS.iter().enumerate() {
-        let mut bench = bench_of(alloc)?;
-        bench.out = MemSink::with_room(alloc, 4)?;
-        bench.notes = MemSink::with_room(alloc, 6)?;
-        let status = bench.run(&rt, command.line)?;
-        bench.expect(i, status, Ending::NotPut(first(command.text, 4), "cannot"))?;
-    }
-    Ok(())
+    tables_hold(&rt, rt.alloc(), &TABLES)
 }

@@ -1,5 +1,7 @@
 // The diagnoses of many logs in one text.
-use run_bench::{Bench, CHAIN, Ending, NETS, Row, RowFault, logs_hold, rows_hold};
+use run_bench::Text::Plain;
+use run_bench::{Bench, CHAIN, Ending, Line, NETS, Row, RowFault, Rows, Table, tables_hold};
+use std::alloc::{AllocError, Global};
 
 const LINE: &str = "batch 2 g c n drv rcv";
 
@@ -7,7 +9,7 @@ const TWO_BLOCKS: &str = "BOARD A\n1\n2\nBOARD B\n0\n2\n";
 
 const TWO_VERDICTS: &str = "BOARD A\nPASS\nBOARD B\nFAIL 3\nstuck N1 0\nopen U1.1 0\nopen U2.1 0\n";
 
-static LOGS: [(&str, Ending<'static>); 15] = [
+static LOGS: [Line; 15] = [
     (TWO_BLOCKS, Ending::Puts(TWO_VERDICTS)),
     ("", Ending::Puts("")),
     ("# no board today\r\n\r\n", Ending::Puts("")),
@@ -62,11 +64,6 @@ static LOGS: [(&str, Ending<'static>); 15] = [
     ),
 ];
 
-#[test]
-fn each_block_is_diagnosed_by_itself(rt: HostRuntime) -> Result<(), RowFault> {
-    logs_hold(&rt, rt.alloc(), &[], LINE, &LOGS)
-}
-
 static ROWS: [Row; 9] = [
     Row {
         texts: &[],
@@ -106,43 +103,64 @@ static ROWS: [Row; 9] = [
     // Without a pass a log has no row.
     Row {
         texts: &[
-            ("c", "DEVICE U2 RCV -\n"),
-            ("n", "NET N1 U2.1\n"),
-            ("g", "BOARD A\nBOARD A\n"),
+            ("c", Plain("DEVICE U2 RCV -\n")),
+            ("n", Plain("NET N1 U2.1\n")),
+            ("g", Plain("BOARD A\nBOARD A\n")),
         ],
         line: LINE,
         ending: Ending::Puts("BOARD A\nPASS\nBOARD A\nPASS\n"),
     },
     Row {
         texts: &[
-            ("c", "DEVICE U2 RCV -\n"),
-            ("n", "NET N1 U2.1\n"),
-            ("g", "BOARD A\nBOARD B\n0\n"),
+            ("c", Plain("DEVICE U2 RCV -\n")),
+            ("n", Plain("NET N1 U2.1\n")),
+            ("g", Plain("BOARD A\nBOARD B\n0\n")),
         ],
         line: LINE,
         ending: Ending::Refused("g line 3: row too many\n"),
     },
 ];
 
-#[test]
-fn any_number_of_workers_gives_the_same(rt: HostRuntime) -> Result<(), RowFault> {
-    let texts = [("g", TWO_BLOCKS)];
-    rows_hold(&rt, rt.alloc(), &texts, &ROWS)
-}
+static TABLES: [Table; 2] = [
+    Table {
+        name: "each block is diagnosed by itself",
+        texts: &[],
+        rows: Rows::Logs(LINE, &LOGS),
+    },
+    Table {
+        name: "any number of workers gives the same",
+        texts: &[("g", Plain(TWO_BLOCKS))],
+        rows: Rows::Runs(&ROWS),
+    },
+];
 
 #[test]
-fn ten_thousand_blocks_are_kept_in_order(rt: HostRuntime) -> Result<(), RowFault> {
-    let alloc = rt.alloc();
-    let mut logs = String::new(alloc);
-    let mut text = String::new(alloc);
+fn each_block_is_diagnosed_by_itself(rt: HostRuntime) -> Result<(), RowFault> {
+    tables_hold(&rt, rt.alloc(), &TABLES)
+}
+
+// 10,000 blocks, and the text. Every second board has a net that stays at 0.
+fn push_blocks(logs: &mut String, text: &mut String) -> Result<(), AllocError> {
     for number in 0..5_000 {
-        // Every second board has a net that stays at 0.
         write!(logs, "BOARD A{number}\n1\n2\nBOARD B{number}\n0\n2\n")?;
         write!(text, "BOARD A{number}\nPASS\nBOARD B{number}\nFAIL 3\n")?;
         text.push_str("stuck N1 0\nopen U1.1 0\nopen U2.1 0\n")?;
     }
+    Ok(())
+}
+
+fn bench_of(alloc: Global, logs: &str) -> Result<Bench, AllocError> {
     let mut bench = Bench::with_board(alloc, CHAIN, NETS)?;
     bench.store.add("g", logs.as_bytes())?;
-    let status = bench.run(&rt, "batch 4 g c n drv rcv")?;
-    bench.expect(0, status, Ending::Puts(&text))
+    Ok(bench)
+}
+
+#[test]
+fn ten_thousand_blocks_are_kept_in_order(rt: HostRuntime) -> Result<(), RowFault> {
+    let mut logs = String::new(rt.alloc());
+    let mut text = String::new(rt.alloc());
+    push_blocks(&mut logs, &mut text)?;
+    let mut bench = bench_of(rt.alloc(), &logs)?;
+    let ending = Ending::Puts(&text);
+    bench.ends(&rt, "10,000 blocks", 0, "batch 4 g c n drv rcv", ending)
 }

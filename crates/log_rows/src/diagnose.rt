@@ -1,12 +1,13 @@
 // The diagnosis of a log.
 use crate::groups::{LINKED, LINKED_NETS, PULLED, PULLED_NETS};
-use run_bench::{Bench, CHAIN, Ending, NETS, Row, RowFault, logs_hold, rows_hold};
+use run_bench::Text::{Plain, Repeated};
+use run_bench::{Ending, Line, Named, Row, RowFault, Rows, Table, tables_hold};
 
 const STUCK: &str = "FAIL 3\nstuck N1 0\nopen U1.1 0\nopen U2.1 0\n";
 
 const LINE: &str = "diagnose 2 g c n drv rcv od rcv1";
 
-static LOGS: [(&str, Ending<'static>); 19] = [
+static LOGS: [Line; 19] = [
     ("1\n2\n", Ending::Puts("PASS\n")),
     (
         "# first board\r\n\r\n1\r\n2 # last\r\n",
@@ -38,11 +39,6 @@ static LOGS: [(&str, Ending<'static>); 19] = [
     ),
     ("1\n22\n2\n", Ending::Refused("g line 2: wrong length\n")),
 ];
-
-#[test]
-fn lists_the_single_faults_that_explain_a_log(rt: HostRuntime) -> Result<(), RowFault> {
-    logs_hold(&rt, rt.alloc(), &[], LINE, &LOGS)
-}
 
 static WORKERS: [Row; 10] = [
     Row {
@@ -87,55 +83,51 @@ static WORKERS: [Row; 10] = [
     },
     // A fault of the other texts comes before one of the log, and a text that isn't there before both.
     Row {
-        texts: &[("g", "zz\n"), ("c", "DEVICE U1 DRV\n")],
+        texts: &[("g", Plain("zz\n")), ("c", Plain("DEVICE U1 DRV\n"))],
         line: "diagnose 1 g c n drv rcv",
         ending: Ending::Refused("c line 1: no statement\n"),
     },
     Row {
-        texts: &[("c", "DEVICE U1 DRV\n")],
+        texts: &[("c", Plain("DEVICE U1 DRV\n"))],
         line: "diagnose 1 other c n drv rcv",
         ending: Ending::NotRead("cannot read other\n"),
     },
 ];
 
-#[test]
-fn any_number_of_workers_lists_the_same(rt: HostRuntime) -> Result<(), RowFault> {
-    let texts = [("g", "0\n2\n")];
-    rows_hold(&rt, rt.alloc(), &texts, &WORKERS)
-}
-
-#[test]
-fn a_log_has_a_limit_of_its_own(rt: HostRuntime) -> Result<(), RowFault> {
-    let alloc = rt.alloc();
-    let blanks = " ".repeat(alloc, 4_194_305)?;
-    let mut bench = Bench::with_board(alloc, CHAIN, NETS)?;
-    bench.store.add("g", blanks.as_bytes())?;
-    let status = bench.run(&rt, "diagnose 1 g c n drv rcv")?;
-    bench.expect(0, status, Ending::Refused("g: 0 rows of 2\n"))
-}
-
 static BOARDS: [Row; 4] = [
     Row {
-        texts: &[("c", PULLED), ("n", PULLED_NETS), ("g", "1\n1\n")],
+        texts: &[
+            ("c", Plain(PULLED)),
+            ("n", Plain(PULLED_NETS)),
+            ("g", Plain("1\n1\n")),
+        ],
         line: LINE,
         ending: Ending::Puts("FAIL 4\nstuck N 1\nopen U1.1 0\nopen U1.1 1\nopen U2.1 1\n"),
     },
     Row {
-        texts: &[("c", PULLED), ("n", PULLED_NETS), ("g", "0\n0\n")],
+        texts: &[
+            ("c", Plain(PULLED)),
+            ("n", Plain(PULLED_NETS)),
+            ("g", Plain("0\n0\n")),
+        ],
         line: LINE,
         ending: Ending::Puts("FAIL 2\nstuck N 0\nopen U2.1 0\n"),
     },
     Row {
-        texts: &[("c", LINKED), ("n", LINKED_NETS), ("g", "0\n2\n")],
+        texts: &[
+            ("c", Plain(LINKED)),
+            ("n", Plain(LINKED_NETS)),
+            ("g", Plain("0\n2\n")),
+        ],
         line: LINE,
         ending: Ending::Puts("FAIL 3\nstuck N1A 0\nopen U1.1 0\nopen U2.1 0\n"),
     },
     // A board without a pass.
     Row {
         texts: &[
-            ("c", "DEVICE U2 RCV -\n"),
-            ("n", "NET N1 U2.1\n"),
-            ("g", ""),
+            ("c", Plain("DEVICE U2 RCV -\n")),
+            ("n", Plain("NET N1 U2.1\n")),
+            ("g", Plain("")),
         ],
         line: LINE,
         ending: Ending::Puts("PASS\n"),
@@ -145,7 +137,7 @@ static BOARDS: [Row; 4] = [
 // A bus of two drivers, which two passes enable one after the other.
 const BUS: &str = "DEVICE U1 TS -\nDEVICE U2 TS -\nDEVICE U3 RCV1 -\n";
 
-static BUS_LOGS: [(&str, Ending<'static>); 5] = [
+static BUS_LOGS: [Line; 5] = [
     ("01\n00\n01\n00\n", Ending::Puts("PASS\n")),
     // One driver alone is open, and its pass shows it.
     ("00\n00\n01\n00\n", Ending::Puts("FAIL 1\nopen U1.1 0\n")),
@@ -162,7 +154,7 @@ const APART: &str = "DEVICE U1 TWO -\nDEVICE U2 RCV -\nDEVICE U3 RCV -\n";
 
 const APART_NETS: &str = "NET A U1.1 U2.1\nNET X U1.2 U1.3 U2.2\nNET B U1.4 U3.1\n";
 
-static APART_LOGS: [(&str, Ending<'static>); 4] = [
+static APART_LOGS: [Line; 4] = [
     ("004\n008\n000\n001\n009\n000\n", Ending::Puts("PASS\n")),
     (
         "000\n008\n000\n001\n009\n000\n",
@@ -176,21 +168,50 @@ static APART_LOGS: [(&str, Ending<'static>); 4] = [
     ("000\n008\n000\n000\n008\n000\n", Ending::Puts("FAIL 0\n")),
 ];
 
-#[test]
-fn a_net_is_judged_by_each_pass_that_shows_it(rt: HostRuntime) -> Result<(), RowFault> {
-    let bus = [("c", BUS), ("n", "NET BUS U1.1 U2.1 U3.1\n")];
-    logs_hold(&rt, rt.alloc(), &bus, "diagnose 2 g c n ts rcv1", &BUS_LOGS)?;
-    let apart = [("c", APART), ("n", APART_NETS)];
-    logs_hold(
-        &rt,
-        rt.alloc(),
-        &apart,
-        "diagnose 2 g c n two rcv",
-        &APART_LOGS,
-    )
-}
+static BUS_TEXTS: [Named; 2] = [("c", Plain(BUS)), ("n", Plain("NET BUS U1.1 U2.1 U3.1\n"))];
+
+static APART_TEXTS: [Named; 2] = [("c", Plain(APART)), ("n", Plain(APART_NETS))];
+
+static BLANKS: [Row; 1] = [Row {
+    texts: &[("g", Repeated(" ", 4_194_305))],
+    line: "diagnose 1 g c n drv rcv",
+    ending: Ending::Refused("g: 0 rows of 2\n"),
+}];
+
+static TABLES: [Table; 6] = [
+    Table {
+        name: "the single faults that explain a log are listed",
+        texts: &[],
+        rows: Rows::Logs(LINE, &LOGS),
+    },
+    Table {
+        name: "any number of workers lists the same",
+        texts: &[("g", Plain("0\n2\n"))],
+        rows: Rows::Runs(&WORKERS),
+    },
+    Table {
+        name: "a log has a limit of its own",
+        texts: &[],
+        rows: Rows::Runs(&BLANKS),
+    },
+    Table {
+        name: "a net is judged by each pass that shows it, of a bus",
+        texts: &BUS_TEXTS,
+        rows: Rows::Logs("diagnose 2 g c n ts rcv1", &BUS_LOGS),
+    },
+    Table {
+        name: "a net is judged by each pass that shows it, of controls that exclude each other",
+        texts: &APART_TEXTS,
+        rows: Rows::Logs("diagnose 2 g c n two rcv", &APART_LOGS),
+    },
+    Table {
+        name: "pulls and links are read as the test has them",
+        texts: &[],
+        rows: Rows::Runs(&BOARDS),
+    },
+];
 
 #[test]
-fn pulls_and_links_are_read_as_the_test_has_them(rt: HostRuntime) -> Result<(), RowFault> {
-    rows_hold(&rt, rt.alloc(), &[], &BOARDS)
+fn lists_the_single_faults_that_explain_a_log(rt: HostRuntime) -> Result<(), RowFault> {
+    tables_hold(&rt, rt.alloc(), &TABLES)
 }

@@ -1,10 +1,10 @@
 // Gates that watch how the work on a log is shared out.
 use bt_base::Gate;
-use run_bench::{Bench, CHAIN, Ending, NETS};
+use run_bench::{Bench, CHAIN, Ending, NETS, RowFault, expect};
 use std::alloc::{AllocError, Global};
 use std::sync::atomic::Ordering::SeqCst;
 use std::sync::atomic::{AtomicBool, AtomicU64};
-use std::test::Fail;
+use std::thread::Threads;
 
 // How often an entry looks for the other piece before it gives up.
 const TURNS: u32 = 100_000_000;
@@ -121,57 +121,69 @@ const STUCK: &str = "0\n2\n";
 
 const STUCK_TEXT: &str = "FAIL 3\nstuck N1 0\nopen U1.1 0\nopen U2.1 0\n";
 
-#[test]
-fn two_pieces_try_their_candidates_in_step(rt: HostRuntime) -> Result<(), Fail> {
-    let mut bench = bench_of(rt.alloc(), STUCK)?;
+// A line, a log, the text that is put, and how often each of the two pieces enters.
+type Step = (&'static str, &'static str, &'static str, u64);
+
+// The pieces try their candidates in step, or take their blocks.
+static STEPS: [Step; 2] = [
+    (LINE, STUCK, STUCK_TEXT, 5),
+    (
+        "batch 2 g c n drv rcv",
+        "BOARD A\n1\n2\nBOARD B\n0\n2\n",
+        "BOARD A\nPASS\nBOARD B\nFAIL 3\nstuck N1 0\nopen U1.1 0\nopen U2.1 0\n",
+        1,
+    ),
+];
+
+fn is_in_step(
+    rt: &(impl Threads + Sync),
+    alloc: Global,
+    row: usize,
+    (line, log, text, entries): &Step,
+) -> Result<(), RowFault> {
+    let mut bench = bench_of(alloc, log)?;
     let gate = InStep::new();
-    let status = bench.run_watched(&rt, LINE, &gate)?;
-    bench.expect(0, status, Ending::Puts(STUCK_TEXT))?;
-    assert!(rt; gate.has_met(5));
-    Ok(())
+    let status = bench.run_watched(rt, line, &gate)?;
+    bench.expect("in step", row, status, Ending::Puts(text))?;
+    expect("in step", row, gate.has_met(*entries))
 }
 
 #[test]
-fn two_pieces_take_their_blocks_in_step(rt: HostRuntime) -> Result<(), Fail> {
-    let mut bench = bench_of(rt.alloc(), "BOARD A\n1\n2\nBOARD B\n0\n2\n")?;
-    let gate = InStep::new();
-    let status = bench.run_watched(&rt, "batch 2 g c n drv rcv", &gate)?;
-    let text = "BOARD A\nPASS\nBOARD B\nFAIL 3\nstuck N1 0\nopen U1.1 0\nopen U2.1 0\n";
-    bench.expect(0, status, Ending::Puts(text))?;
-    assert!(rt; gate.has_met(1));
+fn two_pieces_work_in_step(rt: HostRuntime) -> Result<(), RowFault> {
+    for (row, step) in STEPS.iter().enumerate() {
+        is_in_step(&rt, rt.alloc(), row, step)?;
+    }
     Ok(())
 }
 
-// The stuck net, its two pins, and the shorts of its one pair are tried.
-#[test]
-fn each_candidate_is_tried_once(rt: HostRuntime) -> Result<(), Fail> {
-    let alloc = rt.alloc();
-    let mut bench = bench_of(alloc, STUCK)?;
+// A log, the text that is put, and the places with which each of the two pieces enters.
+type Try = (&'static str, &'static str, &'static [u64], &'static [u64]);
+
+// The stuck net, its two pins, and the shorts of its one pair are tried; of a log that passes nothing; and where two nets differ their
+// shorts.
+static TRIES: [Try; 3] = [
+    (STUCK, STUCK_TEXT, &[0, 1, 4, 5, 6], &[7, 12, 13, 14, 15]),
+    ("1\n2\n", "PASS\n", &[], &[]),
+    ("0\n0\n", "FAIL 1\nshort AND N1 N2\n", &[12, 13], &[14, 15]),
+];
+
+fn are_tried_once(
+    rt: &(impl Threads + Sync),
+    alloc: Global,
+    row: usize,
+    (log, text, first, second): &Try,
+) -> Result<(), RowFault> {
+    let mut bench = bench_of(alloc, log)?;
     let gate = Entries::new(alloc)?;
-    let status = bench.run_watched(&rt, LINE, &gate)?;
-    bench.expect(0, status, Ending::Puts(STUCK_TEXT))?;
-    assert!(rt; gate.are_of(&[0, 1, 4, 5, 6], &[7, 12, 13, 14, 15]));
-    Ok(())
+    let status = bench.run_watched(rt, LINE, &gate)?;
+    bench.expect("candidates", row, status, Ending::Puts(text))?;
+    expect("candidates", row, gate.are_of(first, second))
 }
 
 #[test]
-fn a_log_that_passes_has_no_candidate(rt: HostRuntime) -> Result<(), Fail> {
-    let alloc = rt.alloc();
-    let mut bench = bench_of(alloc, "1\n2\n")?;
-    let gate = Entries::new(alloc)?;
-    let status = bench.run_watched(&rt, LINE, &gate)?;
-    bench.expect(0, status, Ending::Puts("PASS\n"))?;
-    assert!(rt; gate.are_of(&[], &[]));
-    Ok(())
-}
-
-#[test]
-fn where_two_nets_differ_their_shorts_are_tried(rt: HostRuntime) -> Result<(), Fail> {
-    let alloc = rt.alloc();
-    let mut bench = bench_of(alloc, "0\n0\n")?;
-    let gate = Entries::new(alloc)?;
-    let status = bench.run_watched(&rt, LINE, &gate)?;
-    bench.expect(0, status, Ending::Puts("FAIL 1\nshort AND N1 N2\n"))?;
-    assert!(rt; gate.are_of(&[12, 13], &[14, 15]));
+fn each_candidate_is_tried_once(rt: HostRuntime) -> Result<(), RowFault> {
+    for (row, tries) in TRIES.iter().enumerate() {
+        are_tried_once(&rt, rt.alloc(), row, tries)?;
+    }
     Ok(())
 }

@@ -1,7 +1,6 @@
 // Logs of a generated board of 60 devices, in which some nets read 0 in every row.
 use run_bench::{Ending, RowFault, sixty_devices_hold};
 use std::alloc::{AllocError, Global};
-use std::thread::Threads;
 
 const DEVICES: u32 = 60;
 
@@ -72,31 +71,23 @@ fn log(alloc: Global, silent: u32) -> Result<String, AllocError> {
     rows.repeat(alloc, DEVICES as usize)
 }
 
-// Tries the log in which so many first nets read 0.
-fn is_diagnosed(
-    rt: &(impl Threads + Sync),
-    alloc: Global,
-    silent: u32,
-    text: &'static str,
-) -> Result<(), RowFault> {
-    let log = log(alloc, silent)?;
-    let lines = [("diagnose 4 g c n gen", Ending::Puts(text))];
-    sixty_devices_hold(rt, alloc, &log, &lines)
-}
+// How many first nets read 0, and the diagnosis.
+static SILENT: [(u32, &str); 5] = [
+    (0, "PASS\n"),
+    (1, "FAIL 3\nstuck R1_0 0\nopen U1.1 0\nopen U2.33 0\n"),
+    // Their codes, 1 and 2, have no common 1.
+    (2, "FAIL 1\nshort AND R1_0 R1_1\n"),
+    // No single fault changes three nets.
+    (3, "FAIL 0\n"),
+    (1_928, "FAIL 0\n"),
+];
 
 #[test]
 fn memory_is_there_however_many_nets_differ(rt: HostRuntime) -> Result<(), RowFault> {
-    let alloc = rt.alloc();
-    is_diagnosed(&rt, alloc, 0, "PASS\n")?;
-    is_diagnosed(
-        &rt,
-        alloc,
-        1,
-        "FAIL 3\nstuck R1_0 0\nopen U1.1 0\nopen U2.33 0\n",
-    )?;
-    // Their codes, 1 and 2, have no common 1.
-    is_diagnosed(&rt, alloc, 2, "FAIL 1\nshort AND R1_0 R1_1\n")?;
-    // No single fault changes three nets.
-    is_diagnosed(&rt, alloc, 3, "FAIL 0\n")?;
-    is_diagnosed(&rt, alloc, 1_928, "FAIL 0\n")
+    for (silent, text) in &SILENT {
+        let log = log(rt.alloc(), *silent)?;
+        let lines = [("diagnose 4 g c n gen", Ending::Puts(text))];
+        sixty_devices_hold(&rt, rt.alloc(), &log, &lines)?;
+    }
+    Ok(())
 }

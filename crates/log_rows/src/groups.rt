@@ -1,5 +1,6 @@
 // The groups of nets that the log of a walking test shows.
-use run_bench::{Ending, Row, RowFault, logs_hold, rows_hold};
+use run_bench::Text::Plain;
+use run_bench::{Ending, Line, Named, Row, RowFault, Rows, Table, tables_hold};
 
 /// Two drivers and two receivers.
 pub const WALK: &str = "DEVICE U1 DRV -\nDEVICE U2 DRV -\nDEVICE U3 RCV -\nDEVICE U4 RCV -\n";
@@ -28,7 +29,7 @@ pub const LINKED_NETS: &str = "NET N1A U1.1 R1.1\nNET N1B R1.2 U2.1\nNET N2 U1.2
 
 const LINE: &str = "groups g c n drv rcv od rcv1";
 
-static THREE_NETS: [(&str, Ending<'static>); 16] = [
+static THREE_NETS: [Line; 16] = [
     (
         "05\n08\n05\n",
         Ending::Puts("GROUPS 1\nGROUP 2\nNET N1\nNET N3\n"),
@@ -71,14 +72,8 @@ static THREE_NETS: [(&str, Ending<'static>); 16] = [
     ),
 ];
 
-#[test]
-fn nets_that_read_one_another_are_a_group(rt: HostRuntime) -> Result<(), RowFault> {
-    let texts = [("c", WALK), ("n", WALK_NETS)];
-    logs_hold(&rt, rt.alloc(), &texts, LINE, &THREE_NETS)
-}
-
 // The net with the pull does not walk, and its bit is not compared.
-static MIXED_LOGS: [(&str, Ending<'static>); 4] = [
+static MIXED_LOGS: [Line; 4] = [
     (
         "03\n03\n",
         Ending::Puts("GROUPS 1\nGROUP 2\nNET N1\nNET N2\n"),
@@ -88,12 +83,6 @@ static MIXED_LOGS: [(&str, Ending<'static>); 4] = [
     ("01\n03\n", Ending::Puts("GROUPS none\n")),
 ];
 
-#[test]
-fn groups_are_of_the_nets_that_walk(rt: HostRuntime) -> Result<(), RowFault> {
-    let texts = [("c", MIXED), ("n", MIXED_NETS)];
-    logs_hold(&rt, rt.alloc(), &texts, LINE, &MIXED_LOGS)
-}
-
 // Two cells read the first net.
 const READ_TWICE: &str = "DEVICE U1 DRV -\nDEVICE U2 RCV -\nDEVICE U3 RCV1 -\n";
 
@@ -101,40 +90,68 @@ const TWICE_NETS: &str = "NET N1 U1.1 U2.1 U3.1\nNET N2 U1.2 U2.2\n";
 
 static ROWS: [Row; 8] = [
     Row {
-        texts: &[("c", READ_TWICE), ("n", TWICE_NETS), ("g", "03\n04\n")],
+        texts: &[
+            ("c", Plain(READ_TWICE)),
+            ("n", Plain(TWICE_NETS)),
+            ("g", Plain("03\n04\n")),
+        ],
         line: LINE,
         ending: Ending::Puts("GROUPS 0\n"),
     },
     Row {
-        texts: &[("c", READ_TWICE), ("n", TWICE_NETS), ("g", "07\n07\n")],
+        texts: &[
+            ("c", Plain(READ_TWICE)),
+            ("n", Plain(TWICE_NETS)),
+            ("g", Plain("07\n07\n")),
+        ],
         line: LINE,
         ending: Ending::Puts("GROUPS 1\nGROUP 2\nNET N1\nNET N2\n"),
     },
     // They do not agree.
     Row {
-        texts: &[("c", READ_TWICE), ("n", TWICE_NETS), ("g", "02\n04\n")],
+        texts: &[
+            ("c", Plain(READ_TWICE)),
+            ("n", Plain(TWICE_NETS)),
+            ("g", Plain("02\n04\n")),
+        ],
         line: LINE,
         ending: Ending::Puts("GROUPS none\n"),
     },
     // Joined nets are in a group by the first of their names.
     Row {
-        texts: &[("c", LINKED), ("n", LINKED_NETS), ("g", "3\n3\n")],
+        texts: &[
+            ("c", Plain(LINKED)),
+            ("n", Plain(LINKED_NETS)),
+            ("g", Plain("3\n3\n")),
+        ],
         line: LINE,
         ending: Ending::Puts("GROUPS 1\nGROUP 2\nNET N1A\nNET N2\n"),
     },
     Row {
-        texts: &[("c", LINKED), ("n", LINKED_NETS), ("g", "1\n2\n")],
+        texts: &[
+            ("c", Plain(LINKED)),
+            ("n", Plain(LINKED_NETS)),
+            ("g", Plain("1\n2\n")),
+        ],
         line: LINE,
         ending: Ending::Puts("GROUPS 0\n"),
     },
     // Without a net that walks, and without a pass, a log has no row.
     Row {
-        texts: &[("c", PULLED), ("n", PULLED_NETS), ("g", "")],
+        texts: &[
+            ("c", Plain(PULLED)),
+            ("n", Plain(PULLED_NETS)),
+            ("g", Plain("")),
+        ],
         line: LINE,
         ending: Ending::Puts("GROUPS 0\n"),
     },
     Row {
-        texts: &[("c", "DEVICE U1 RCV -\n"), ("n", "NET N U1.1\n"), ("g", "")],
+        texts: &[
+            ("c", Plain("DEVICE U1 RCV -\n")),
+            ("n", Plain("NET N U1.1\n")),
+            ("g", Plain("")),
+        ],
         line: LINE,
         ending: Ending::Puts("GROUPS 0\n"),
     },
@@ -145,7 +162,29 @@ static ROWS: [Row; 8] = [
     },
 ];
 
+static WALK_TEXTS: [Named; 2] = [("c", Plain(WALK)), ("n", Plain(WALK_NETS))];
+
+static MIXED_TEXTS: [Named; 2] = [("c", Plain(MIXED)), ("n", Plain(MIXED_NETS))];
+
+static TABLES: [Table; 3] = [
+    Table {
+        name: "nets that read one another are a group",
+        texts: &WALK_TEXTS,
+        rows: Rows::Logs(LINE, &THREE_NETS),
+    },
+    Table {
+        name: "groups are of the nets that walk",
+        texts: &MIXED_TEXTS,
+        rows: Rows::Logs(LINE, &MIXED_LOGS),
+    },
+    Table {
+        name: "links and pulls are read as the walking test has them",
+        texts: &[],
+        rows: Rows::Runs(&ROWS),
+    },
+];
+
 #[test]
-fn links_and_pulls_are_read_as_the_walking_test_has_them(rt: HostRuntime) -> Result<(), RowFault> {
-    rows_hold(&rt, rt.alloc(), &[], &ROWS)
+fn nets_that_read_one_another_are_a_group(rt: HostRuntime) -> Result<(), RowFault> {
+    tables_hold(&rt, rt.alloc(), &TABLES)
 }

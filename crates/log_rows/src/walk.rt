@@ -1,12 +1,13 @@
 // The walking test of a board.
 use crate::groups::{LINKED, LINKED_NETS, MIXED, MIXED_NETS, PULLED, PULLED_NETS, WALK, WALK_NETS};
-use run_bench::{Ending, Row, RowFault, SCANS, rows_hold};
+use run_bench::Text::Plain;
+use run_bench::{Ending, Row, RowFault, Rows, SCANS, Table, tables_hold};
 
 const LINE: &str = "walk c n drv rcv od rcv1";
 
 static ROWS: [Row; 7] = [
     Row {
-        texts: &[("c", WALK), ("n", WALK_NETS)],
+        texts: &[("c", Plain(WALK)), ("n", Plain(WALK_NETS))],
         line: "walk c n drv rcv",
         ending: Ending::Scans(
             "SIR 8 TDI (AA) TDO (55) MASK (FF);\nSDR 8 TDI (00);\nSIR 8 TDI (00) TDO (55) MASK (FF);\n\
@@ -16,7 +17,7 @@ static ROWS: [Row; 7] = [
     },
     // A net whose driver reaches its pull by turning off takes no part.
     Row {
-        texts: &[("c", MIXED), ("n", MIXED_NETS)],
+        texts: &[("c", Plain(MIXED)), ("n", Plain(MIXED_NETS))],
         line: LINE,
         ending: Ending::Scans(
             "SIR 8 TDI (AA) TDO (55) MASK (FF);\nSDR 6 TDI (20);\nSIR 8 TDI (00) TDO (55) MASK (FF);\n\
@@ -25,13 +26,13 @@ static ROWS: [Row; 7] = [
     },
     // Joined nets walk as one, and the codes of two nets each have one 1, as here.
     Row {
-        texts: &[("c", LINKED), ("n", LINKED_NETS)],
+        texts: &[("c", Plain(LINKED)), ("n", Plain(LINKED_NETS))],
         line: LINE,
         ending: Ending::Scans(SCANS),
     },
     // Where no net walks there is one quiet row, and without a pass none.
     Row {
-        texts: &[("c", PULLED), ("n", PULLED_NETS)],
+        texts: &[("c", Plain(PULLED)), ("n", Plain(PULLED_NETS))],
         line: LINE,
         ending: Ending::Scans(
             "SIR 4 TDI (A) TDO (5) MASK (F);\nSDR 2 TDI (2);\nSIR 4 TDI (0) TDO (5) MASK (F);\n\
@@ -39,14 +40,17 @@ static ROWS: [Row; 7] = [
         ),
     },
     Row {
-        texts: &[("c", "DEVICE U1 RCV -\n"), ("n", "NET N U1.1\n")],
+        texts: &[
+            ("c", Plain("DEVICE U1 RCV -\n")),
+            ("n", Plain("NET N U1.1\n")),
+        ],
         line: LINE,
         ending: Ending::Scans(
             "SIR 2 TDI (2) TDO (1) MASK (3);\nSDR 2 TDI (0);\nSIR 2 TDI (0) TDO (1) MASK (3);\n",
         ),
     },
     Row {
-        texts: &[("c", WALK), ("n", WALK_NETS)],
+        texts: &[("c", Plain(WALK)), ("n", Plain(WALK_NETS))],
         line: "walk c n drv",
         ending: Ending::Refused("c line 3: entity not given\n"),
     },
@@ -57,7 +61,13 @@ static ROWS: [Row; 7] = [
     },
 ];
 
+static TABLES: [Table; 1] = [Table {
+    name: "one net after another carries 1",
+    texts: &[],
+    rows: Rows::Runs(&ROWS),
+}];
+
 #[test]
 fn one_net_after_another_carries_1(rt: HostRuntime) -> Result<(), RowFault> {
-    rows_hold(&rt, rt.alloc(), &[], &ROWS)
+    tables_hold(&rt, rt.alloc(), &TABLES)
 }

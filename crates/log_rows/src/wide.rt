@@ -1,5 +1,5 @@
 // A board of 4,096 nets, each of a driver and a receiver.
-use run_bench::{Bench, Ending, RowFault};
+use run_bench::{Bench, Ending, RowFault, Text};
 use std::alloc::{AllocError, Global};
 
 // So many parts drive, as many receive, and each of them has as many pins.
@@ -10,36 +10,43 @@ const DRIVER_DIGITS: usize = 1024;
 
 const RECEIVER_DIGITS: usize = 1024;
 
-// The BSDL text of a part with a cell for each pin.
+// The BSDL text of a part with a cell for each pin: what stands before the numbers of the pins. `%` stands for the mode of the pins,
+// `@` for the function of the cells, and `^` for the name.
+const FRONT: &str = r#"entity ^ is
+generic (PHYSICAL_PIN_MAP : string := "P");
+port (TDI, TMS, TCK : in bit; TDO : out bit; B : % bit_vector(1 to 64));
+use STD_1149_1_1994.all;
+attribute PIN_MAP of ^ : entity is PHYSICAL_PIN_MAP;
+constant P : PIN_MAP_STRING := "TDI:T1, TDO:T2, TMS:T3, TCK:T4, B:(1"#;
+
+// What stands between them and the second cell.
+const MIDDLE: &str = r#")";
+attribute TAP_SCAN_IN of TDI : signal is true;
+attribute TAP_SCAN_OUT of TDO : signal is true;
+attribute TAP_SCAN_MODE of TMS : signal is true;
+attribute TAP_SCAN_CLOCK of TCK : signal is (10.0e6, BOTH);
+attribute INSTRUCTION_LENGTH of ^ : entity is 2;
+attribute INSTRUCTION_OPCODE of ^ : entity is "BYPASS (11), EXTEST (00), SAMPLE (10)";
+attribute INSTRUCTION_CAPTURE of ^ : entity is "01";
+attribute BOUNDARY_LENGTH of ^ : entity is 64;
+attribute BOUNDARY_REGISTER of ^ : entity is
+"0 (BC_1, B(1), @, X)"#;
+
+// The text with words in place of its signs.
 fn device(alloc: Global, name: &str, mode: &str, function: &str) -> Result<String, AllocError> {
-    let mut text = format!(in alloc;
-        "entity {name} is\ngeneric (PHYSICAL_PIN_MAP : string := \"P\");\n\
-         port (TDI, TMS, TCK : in bit; TDO : out bit; B : {mode} bit_vector(1 to 64));\n\
-         use STD_1149_1_1994.all;\nattribute PIN_MAP of {name} : entity is PHYSICAL_PIN_MAP;\n\
-         constant P : PIN_MAP_STRING := \"TDI:T1, TDO:T2, TMS:T3, TCK:T4, B:(1"
-    )?;
+    let mut text = String::from_str(alloc, FRONT)?;
     for pin in 2..=PARTS {
-        text.push_str(&format!(in alloc; ",{pin}")?)?;
+        write!(text, ",{pin}")?;
     }
-    text.push_str(
-        ")\";\nattribute TAP_SCAN_IN of TDI : signal is true;\n\
-         attribute TAP_SCAN_OUT of TDO : signal is true;\n\
-         attribute TAP_SCAN_MODE of TMS : signal is true;\n\
-         attribute TAP_SCAN_CLOCK of TCK : signal is (10.0e6, BOTH);\n",
-    )?;
-    text.push_str(&format!(in alloc;
-        "attribute INSTRUCTION_LENGTH of {name} : entity is 2;\n\
-         attribute INSTRUCTION_OPCODE of {name} : entity is \"BYPASS (11), EXTEST (00), SAMPLE (10)\";\n\
-         attribute INSTRUCTION_CAPTURE of {name} : entity is \"01\";\n\
-         attribute BOUNDARY_LENGTH of {name} : entity is 64;\n\
-         attribute BOUNDARY_REGISTER of {name} : entity is\n\"0 (BC_1, B(1), {function}, X)"
-    )?)?;
+    text.push_str(MIDDLE)?;
     for cell in 1..PARTS {
         let pin = cell + 1;
-        text.push_str(&format!(in alloc; ",\" &\n\"{cell} (BC_1, B({pin}), {function}, X)")?)?;
+        write!(text, ",\" &\n\"{cell} (BC_1, B({pin}), @, X)")?;
     }
-    text.push_str(&format!(in alloc; "\";\nend {name};\n")?)?;
-    Ok(text)
+    text.push_str("\";\nend ^;\n")?;
+    let named = text.as_str().replace(alloc, '^', name)?;
+    let moded = named.as_str().replace(alloc, '%', mode)?;
+    moded.as_str().replace(alloc, '@', function)
 }
 
 // The net of pin `pin` of driver and receiver `part`, both from 0.
@@ -47,52 +54,75 @@ fn net_number(part: u32, pin: u32) -> u32 {
     part.saturating_mul(PARTS).saturating_add(pin)
 }
 
-// A run on this board and this log.
-fn bench_of(alloc: Global, log: &str) -> Result<Bench, AllocError> {
-    let mut chain = String::new(alloc);
+// The lines of the nets, in the order of their numbers.
+fn net_lines(alloc: Global) -> Result<String, AllocError> {
     let mut nets = String::new(alloc);
     for part in 0..PARTS {
-        chain.push_str(&format!(in alloc; "DEVICE D{part} DRIVERS -\n")?)?;
         for pin in 0..PARTS {
             let net = net_number(part, pin);
             let name = pin + 1;
-            nets.push_str(&format!(in alloc; "NET N{net} D{part}.{name} R{part}.{name}\n")?)?;
+            write!(nets, "NET N{net} D{part}.{name} R{part}.{name}\n")?;
         }
     }
-    for part in 0..PARTS {
-        chain.push_str(&format!(in alloc; "DEVICE R{part} RECEIVERS -\n")?)?;
+    Ok(nets)
+}
+
+// The lines of a number of parts.
+fn part_lines(piece: &'static str) -> Text {
+    Text::Numbered {
+        head: "",
+        piece,
+        first: 0,
+        end: PARTS,
     }
-    let drivers = device(alloc, "DRIVERS", "out", "output2")?;
-    let receivers = device(alloc, "RECEIVERS", "in", "input")?;
-    let mut bench = Bench::with_texts(
-        alloc,
-        &[
-            ("c", chain.as_bytes()),
-            ("n", nets.as_bytes()),
-            ("drivers", drivers.as_bytes()),
-            ("receivers", receivers.as_bytes()),
-        ],
-    )?;
+}
+
+fn chain_lines(alloc: Global) -> Result<Vec<u8>, AllocError> {
+    let mut chain = part_lines("DEVICE D# DRIVERS -\n").bytes(alloc)?;
+    chain.extend_from_slice(&part_lines("DEVICE R# RECEIVERS -\n").bytes(alloc)?)?;
+    Ok(chain)
+}
+
+// The texts of this board, and this log.
+fn bench_of(alloc: Global, log: &str) -> Result<Bench, AllocError> {
+    let mut bench = Bench::empty(alloc)?;
+    bench.store.add("c", &chain_lines(alloc)?)?;
+    bench.store.add("n", net_lines(alloc)?.as_bytes())?;
+    add_devices(alloc, &mut bench)?;
     bench.store.add("g", log.as_bytes())?;
     Ok(bench)
 }
 
-#[test]
-fn all_nets_may_be_one_group(rt: HostRuntime) -> Result<(), RowFault> {
-    let alloc = rt.alloc();
+fn add_devices(alloc: Global, bench: &mut Bench) -> Result<(), AllocError> {
+    let drivers = device(alloc, "DRIVERS", "out", "output2")?;
+    bench.store.add("drivers", drivers.as_bytes())?;
+    let receivers = device(alloc, "RECEIVERS", "in", "input")?;
+    bench.store.add("receivers", receivers.as_bytes())
+}
+
+const LINE: &str = "groups g c n drivers receivers";
+
+// The row in which all receivers read 1.
+fn full_row(alloc: Global) -> Result<String, AllocError> {
     let mut row = "0".repeat(alloc, DRIVER_DIGITS)?;
     row.push_str(&"F".repeat(alloc, RECEIVER_DIGITS)?)?;
     row.push_str("\n")?;
-    let mut log = String::new(alloc);
-    let mut text = String::from_str(alloc, "GROUPS 1\nGROUP 4096\n")?;
-    for net in 0..PARTS * PARTS {
-        log.push_str(&row)?;
-        text.push_str(&format!(in alloc; "NET N{net}\n")?)?;
-    }
-    let mut bench = bench_of(alloc, &log)?;
-    let line = "groups g c n drivers receivers";
-    let status = bench.run(&rt, line)?;
-    bench.expect(0, status, Ending::Puts(&text))
+    Ok(row)
+}
+
+static ONE_GROUP: Text = Text::Numbered {
+    head: "GROUPS 1\nGROUP 4096\n",
+    piece: "NET N#\n",
+    first: 0,
+    end: PARTS * PARTS,
+};
+
+#[test]
+fn all_nets_may_be_one_group(rt: HostRuntime) -> Result<(), RowFault> {
+    let row = full_row(rt.alloc())?;
+    let log = row.repeat(rt.alloc(), (PARTS * PARTS) as usize)?;
+    let mut bench = bench_of(rt.alloc(), &log)?;
+    bench.ends(&rt, "4,096 nets", 0, LINE, Ending::PutsAll(ONE_GROUP))
 }
 
 // The row in which an even net of a receiver and the next one read 1, and all others 0. The last receiver is the rightmost, and the
@@ -109,25 +139,38 @@ fn pair_row(alloc: Global, part: u32, pin: u32) -> Result<String, AllocError> {
     Ok(row)
 }
 
-#[test]
-fn nets_may_be_shorted_in_pairs(rt: HostRuntime) -> Result<(), RowFault> {
-    let alloc = rt.alloc();
-    let mut log = String::new(alloc);
-    let mut text = String::from_str(alloc, "GROUPS 2048\n")?;
+// The rows of an even net and the next one, one in which each of them carries 1, and their group.
+fn push_pair(
+    alloc: Global,
+    part: u32,
+    half: u32,
+    log: &mut String,
+    text: &mut String,
+) -> Result<(), AllocError> {
+    let pin = half.saturating_mul(2);
+    let row = pair_row(alloc, part, pin)?;
+    log.push_str(&row)?;
+    log.push_str(&row)?;
+    let net = net_number(part, pin);
+    let next = net_number(part, pin.saturating_add(1));
+    write!(text, "GROUP 2\nNET N{net}\nNET N{next}\n")?;
+    Ok(())
+}
+
+fn push_pairs(alloc: Global, log: &mut String, text: &mut String) -> Result<(), AllocError> {
     for part in 0..PARTS {
         for half in 0..PARTS / 2 {
-            let pin = half * 2;
-            let row = pair_row(alloc, part, pin)?;
-            // One row in which the even net carries 1, and one for the other.
-            log.push_str(&row)?;
-            log.push_str(&row)?;
-            let net = net_number(part, pin);
-            let next = net_number(part, pin + 1);
-            text.push_str(&format!(in alloc; "GROUP 2\nNET N{net}\nNET N{next}\n")?)?;
+            push_pair(alloc, part, half, log, text)?;
         }
     }
-    let mut bench = bench_of(alloc, &log)?;
-    let line = "groups g c n drivers receivers";
-    let status = bench.run(&rt, line)?;
-    bench.expect(0, status, Ending::Puts(&text))
+    Ok(())
+}
+
+#[test]
+fn nets_may_be_shorted_in_pairs(rt: HostRuntime) -> Result<(), RowFault> {
+    let mut log = String::new(rt.alloc());
+    let mut text = String::from_str(rt.alloc(), "GROUPS 2048\n")?;
+    push_pairs(rt.alloc(), &mut log, &mut text)?;
+    let mut bench = bench_of(rt.alloc(), &log)?;
+    bench.ends(&rt, "4,096 nets", 1, LINE, Ending::Puts(&text))
 }

@@ -1,7 +1,7 @@
 // One run on texts and sinks in memory, and what it left.
 use crate::board::{HEAD, TAIL};
 use crate::devices::DEVICES;
-use crate::row::{Ending, RowFault};
+use crate::row::{Ending, Named, RowFault};
 use board_gen::make;
 use bt_base::{Gate, MemSink, MemStore, OpenGate};
 use btest_cli::{Status, run};
@@ -47,7 +47,9 @@ impl Bench {
     /// A store with a chain file `c`, a net file `n`, and the texts of the worked devices by their names.
     pub fn with_board(alloc: Global, chain: &str, nets: &str) -> Result<Bench, AllocError> {
         let mut bench = Bench::empty(alloc)?;
-        bench.add(&DEVICES)?;
+        for (name, text) in &DEVICES {
+            bench.store.add(name, text.as_bytes())?;
+        }
         bench.store.add("c", chain.as_bytes())?;
         bench.store.add("n", nets.as_bytes())?;
         Ok(bench)
@@ -65,14 +67,14 @@ impl Bench {
     }
 
     /// Adds texts to the store, or puts them in the place of those of their names.
-    pub fn add(&mut self, texts: &[(&str, &str)]) -> Result<(), AllocError> {
+    pub fn add(&mut self, texts: &[Named]) -> Result<(), AllocError> {
         for (name, text) in texts {
-            self.store.add(name, text.as_bytes())?;
+            text.add_to(self.alloc, &mut self.store, name)?;
         }
         Ok(())
     }
 
-    /// Runs a command line, whose words are separated by spaces.
+    /// Runs a command line, whose words are separated by spaces. An empty line has no word.
     pub fn run(&mut self, rt: &(impl Threads + Sync), line: &str) -> Result<Status, AllocError> {
         self.run_watched(rt, line, &OpenGate)
     }
@@ -85,8 +87,10 @@ impl Bench {
         gate: &impl Gate,
     ) -> Result<Status, AllocError> {
         let mut words = Vec::new(self.alloc);
-        for word in line.split(' ') {
-            words.push(String::from_str(self.alloc, word)?)?;
+        if !line.is_empty() {
+            for word in line.split(' ') {
+                words.push(String::from_str(self.alloc, word)?)?;
+            }
         }
         Ok(self.run_words(rt, &words, gate))
     }
@@ -110,35 +114,61 @@ impl Bench {
     }
 
     // Whether this is all that the sinks took.
-    fn took(&self, out: &str, notes: &str) -> bool {
-        self.out.bytes() == out.as_bytes() && self.notes.bytes() == notes.as_bytes()
+    fn took(&self, out: &[u8], notes: &str) -> bool {
+        self.out.bytes() == out && self.notes.bytes() == notes.as_bytes()
+    }
+
+    /// Runs a command line, and compares what it left with how the row of a table is to end.
+    pub fn ends(
+        &mut self,
+        rt: &(impl Threads + Sync),
+        table: &'static str,
+        row: usize,
+        line: &str,
+        ending: Ending,
+    ) -> Result<(), RowFault> {
+        let status = self.run(rt, line)?;
+        self.expect(table, row, status, ending)
     }
 
     /// Compares what the run of a row left with how it is to end.
-    pub fn expect(&self, row: usize, status: Status, ending: Ending) -> Result<(), RowFault> {
+    pub fn expect(
+        &self,
+        table: &'static str,
+        row: usize,
+        status: Status,
+        ending: Ending,
+    ) -> Result<(), RowFault> {
         if self.has_ended(status, ending)? {
             Ok(())
         } else {
-            Err(RowFault::Ended { row, status })
+            Err(RowFault::Ended { table, row, status })
         }
     }
 
     // Whether a run with this status left what it should.
     fn has_ended(&self, status: Status, ending: Ending) -> Result<bool, AllocError> {
         match ending {
-            Ending::Puts(text) => Ok(status == Status::Done && self.took(text, "")),
+            Ending::Puts(text) => Ok(status == Status::Done && self.took(text.as_bytes(), "")),
+            Ending::PutsAll(text) => {
+                let text = text.bytes(self.alloc)?;
+                Ok(status == Status::Done && self.took(&text, ""))
+            }
             Ending::Scans(scans) => {
                 let text = format!(in self.alloc; "{HEAD}{scans}{TAIL}")?;
-                Ok(status == Status::Done && self.took(&text, ""))
+                Ok(status == Status::Done && self.took(text.as_bytes(), ""))
             }
             Ending::Long(bytes) => {
                 let lengths = (self.out.bytes().len(), self.notes.bytes().len());
                 Ok(status == Status::Done && lengths == (bytes, 0))
             }
-            Ending::Refused(line) => Ok(status == Status::Refused && self.took("", line)),
-            Ending::NotRead(line) => Ok(status == Status::ReadFault && self.took("", line)),
-            Ending::NotPut(text, line) => Ok(status == Status::WriteFault && self.took(text, line)),
-            Ending::Usage => Ok(status == Status::Usage && self.took("", USAGE)),
+            Ending::Done => Ok(status == Status::Done),
+            Ending::Refused(line) => Ok(status == Status::Refused && self.took(b"", line)),
+            Ending::NotRead(line) => Ok(status == Status::ReadFault && self.took(b"", line)),
+            Ending::NotPut(text, line) => {
+                Ok(status == Status::WriteFault && self.took(text.as_bytes(), line))
+            }
+            Ending::Usage => Ok(status == Status::Usage && self.took(b"", USAGE)),
         }
     }
 }

@@ -1,14 +1,4 @@
 // The BSDL texts of the worked devices.
-use std::alloc::{AllocError, Global};
-
-/// The text with each of these places changed.
-pub fn edited(alloc: Global, text: &str, edits: &[(&str, &str)]) -> Result<String, AllocError> {
-    let mut edited = String::from_str(alloc, text)?;
-    for (old, new) in edits {
-        edited = edited.as_str().replace(alloc, *old, new)?;
-    }
-    Ok(edited)
-}
 
 /// A driver of two outputs that are always on.
 pub const DRV: &str = r#"entity DRV is

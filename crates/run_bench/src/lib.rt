@@ -6,8 +6,13 @@ mod bench;
 mod board;
 mod devices;
 mod row;
+mod text;
 
 pub use bench::Bench;
 pub use board::{CHAIN, NETS, SCANS};
-pub use devices::{BI, BUF2, BUF2_LISTING, DRV, DRV1, RCV, RCV1, TS, edited};
-pub use row::{Ending, Named, Row, RowFault, lines_hold, logs_hold, rows_hold, sixty_devices_hold};
+pub use devices::{BI, BUF2, BUF2_LISTING, DRV, DRV1, RCV, RCV1, TS};
+pub use row::{
+    Case, Change, Ending, Line, Named, Row, RowFault, Rows, Run, Table, Trouble,
+    sixty_devices_hold, tables_hold,
+};
+pub use text::Text;

@@ -1,6 +1,8 @@
 // Runs with how they end, in tables.
 use crate::bench::Bench;
 use crate::board::{CHAIN, NETS};
+use crate::text::Text;
+use bt_base::MemSink;
 use btest_cli::Status;
 use std::alloc::{AllocError, Global};
 use std::thread::Threads;
@@ -11,10 +13,14 @@ use thiserror::Error;
 pub enum Ending<'a> {
     /// This text was put.
     Puts(&'a str),
+    /// This text was put, which is large.
+    PutsAll(Text),
     /// An SVF text of these scans was put.
     Scans(&'a str),
     /// A text of so many bytes was put.
     Long(usize),
+    /// Some text was put.
+    Done,
     /// The texts are refused with this line.
     Refused(&'a str),
     /// A text was not read, and this is the line.
@@ -26,7 +32,7 @@ pub enum Ending<'a> {
 }
 
 /// A text by its name.
-pub type Named = (&'static str, &'static str);
+pub type Named = (&'static str, Text);
 
 /// A run and how it ends.
 #[derive(Clone, Copy)]
@@ -39,16 +45,85 @@ pub struct Row {
     pub ending: Ending<'static>,
 }
 
+/// What fails in a run.
+#[derive(Clone, Copy)]
+pub enum Trouble {
+    /// This read, counted from 1.
+    Read(u32),
+    /// This put, counted from 1, after so many bytes.
+    Put(u32, u32),
+    /// Standard output, after so many bytes.
+    Out(u32),
+    /// Standard error, after so many bytes.
+    Notes(u32),
+}
+
+/// A text and how a run on it ends.
+pub type Run = (Text, Ending<'static>);
+
+/// A line or a log, and how the run ends.
+pub type Line = (&'static str, Ending<'static>);
+
+/// What a text has, what comes in its place, and the line of refusal behind the text's name.
+pub type Change = (&'static str, &'static str, &'static str);
+
+/// A chain file, a net file, the words behind their names, and the line of refusal.
+pub type Case = (&'static str, &'static str, &'static str, &'static str);
+
+/// The rows of a table.
+#[derive(Clone, Copy)]
+pub enum Rows {
+    /// Runs, each with texts of its own.
+    Runs(&'static [Row]),
+    /// Runs in which something fails.
+    Failing(&'static [(Trouble, Row)]),
+    /// Lines.
+    Lines(&'static [Line]),
+    /// A line with each of these logs, which is the text `g`.
+    Logs(&'static str, &'static [Line]),
+    /// A line with each of these texts, by the name.
+    Texts(&'static str, &'static str, &'static [Run]),
+    /// The listing of a device with a place of its text changed.
+    Devices(&'static str, &'static [Change]),
+    /// Boards that each command of a board refuses with the same line.
+    Boards(&'static [Case]),
+    /// Lines that are no command, so nothing is read: the first read would fail.
+    NoCommands(&'static [&'static str]),
+    /// A line, and how often a word, with a space before it, follows.
+    Words(&'static str, &'static str, &'static [(usize, Ending<'static>)]),
+}
+
+/// Rows of one kind.
+#[derive(Clone, Copy)]
+pub struct Table {
+    /// What the rows show.
+    pub name: &'static str,
+    /// Texts that the store holds beside a board of a driver and a receiver and the worked devices, or in their place.
+    pub texts: &'static [Named],
+    /// The rows.
+    pub rows: Rows,
+}
+
 /// Why a table does not hold.
 #[derive(Debug, Drop, Error)]
 pub enum RowFault {
-    /// The first row that does not end as it says, from 0, and the status that its run had.
-    #[error("row {row} ended otherwise, with {status:?}")]
+    /// The first row that does not end as it says, from 0, with its table and the status that its run had.
+    #[error("{table}: row {row} ended otherwise, with {status:?}")]
     Ended {
+        /// The name of the table.
+        table: &'static str,
         /// The number of the row.
         row: usize,
         /// How its run ended.
         status: Status,
+    },
+    /// What a row compares beside how its run ends is something else.
+    #[error("{table}: row {row} gives something else")]
+    Other {
+        /// The name of the table.
+        table: &'static str,
+        /// The number of the row.
+        row: usize,
     },
     #[error("out of memory")]
     Memory(AllocError),
@@ -60,50 +135,213 @@ impl From<AllocError> for RowFault {
     }
 }
 
-/// Tries each row. The store holds a board of a driver and a receiver, the texts of the worked devices, and these texts.
-pub fn rows_hold(
+/// Returns the row as the error, unless it holds.
+pub fn expect(table: &'static str, row: usize, holds: bool) -> Result<(), RowFault> {
+    if holds {
+        Ok(())
+    } else {
+        Err(RowFault::Other { table, row })
+    }
+}
+
+/// Tries each row of each table.
+pub fn tables_hold(
     rt: &(impl Threads + Sync),
     alloc: Global,
-    texts: &[Named],
+    tables: &[Table],
+) -> Result<(), RowFault> {
+    for table in tables {
+        table_holds(rt, alloc, table)?;
+    }
+    Ok(())
+}
+
+fn table_holds(rt: &(impl Threads + Sync), alloc: Global, table: &Table) -> Result<(), RowFault> {
+    match &table.rows {
+        Rows::Runs(rows) => runs_hold(rt, alloc, table, rows),
+        Rows::Failing(rows) => failing_hold(rt, alloc, table, rows),
+        Rows::Lines(rows) => lines_hold(rt, alloc, table, rows),
+        Rows::Logs(line, rows) => logs_hold(rt, alloc, table, line, rows),
+        Rows::Texts(line, name, rows) => texts_hold(rt, alloc, table, line, name, rows),
+        Rows::Devices(text, rows) => devices_hold(rt, alloc, table, text, rows),
+        Rows::Boards(rows) => boards_hold(rt, alloc, table, rows),
+        Rows::NoCommands(lines) => no_commands_hold(rt, alloc, table, lines),
+        Rows::Words(line, word, rows) => words_hold(rt, alloc, table, line, word, rows),
+    }
+}
+
+fn bench_of(alloc: Global, table: &Table) -> Result<Bench, AllocError> {
+    let mut bench = Bench::with_board(alloc, CHAIN, NETS)?;
+    bench.add(table.texts)?;
+    Ok(bench)
+}
+
+fn runs_hold(
+    rt: &(impl Threads + Sync),
+    alloc: Global,
+    table: &Table,
     rows: &[Row],
 ) -> Result<(), RowFault> {
     for (i, row) in rows.iter().enumerate() {
-        let mut bench = bench_of(alloc, texts)?;
+        let mut bench = bench_of(alloc, table)?;
         bench.add(row.texts)?;
-        let status = bench.run(rt, row.line)?;
-        bench.expect(i, status, row.ending)?;
+        bench.ends(rt, table.name, i, row.line, row.ending)?;
     }
     Ok(())
 }
 
-/// Tries each line on these texts.
-pub fn lines_hold(
+fn make_trouble(bench: &mut Bench, alloc: Global, trouble: Trouble) -> Result<(), AllocError> {
+    match trouble {
+        Trouble::Read(call) => bench.store.fail_at(call)?,
+        Trouble::Put(call, taken) => bench.out.fail_at(call, taken)?,
+        Trouble::Out(room) => bench.out = MemSink::with_room(alloc, room)?,
+        Trouble::Notes(room) => bench.notes = MemSink::with_room(alloc, room)?,
+    }
+    Ok(())
+}
+
+fn failing_hold(
     rt: &(impl Threads + Sync),
     alloc: Global,
-    texts: &[Named],
-    lines: &[(&'static str, Ending<'static>)],
+    table: &Table,
+    rows: &[(Trouble, Row)],
+) -> Result<(), RowFault> {
+    for (i, (what, row)) in rows.iter().enumerate() {
+        let mut bench = bench_of(alloc, table)?;
+        bench.add(row.texts)?;
+        make_trouble(&mut bench, alloc, *what)?;
+        bench.ends(rt, table.name, i, row.line, row.ending)?;
+    }
+    Ok(())
+}
+
+fn lines_hold(
+    rt: &(impl Threads + Sync),
+    alloc: Global,
+    table: &Table,
+    lines: &[Line],
 ) -> Result<(), RowFault> {
     for (i, (line, ending)) in lines.iter().enumerate() {
-        let mut bench = bench_of(alloc, texts)?;
-        let status = bench.run(rt, line)?;
-        bench.expect(i, status, *ending)?;
+        let mut bench = bench_of(alloc, table)?;
+        bench.ends(rt, table.name, i, line, *ending)?;
     }
     Ok(())
 }
 
-/// Tries a line with each of these logs, which is the text `g`.
-pub fn logs_hold(
+fn logs_hold(
     rt: &(impl Threads + Sync),
     alloc: Global,
-    texts: &[Named],
+    table: &Table,
     line: &str,
-    logs: &[(&'static str, Ending<'static>)],
+    logs: &[Line],
 ) -> Result<(), RowFault> {
     for (i, (log, ending)) in logs.iter().enumerate() {
-        let mut bench = bench_of(alloc, texts)?;
+        let mut bench = bench_of(alloc, table)?;
         bench.store.add("g", log.as_bytes())?;
-        let status = bench.run(rt, line)?;
-        bench.expect(i, status, *ending)?;
+        bench.ends(rt, table.name, i, line, *ending)?;
+    }
+    Ok(())
+}
+
+fn texts_hold(
+    rt: &(impl Threads + Sync),
+    alloc: Global,
+    table: &Table,
+    line: &str,
+    name: &str,
+    texts: &[Run],
+) -> Result<(), RowFault> {
+    for (i, (text, ending)) in texts.iter().enumerate() {
+        let mut bench = bench_of(alloc, table)?;
+        text.add_to(alloc, &mut bench.store, name)?;
+        bench.ends(rt, table.name, i, line, *ending)?;
+    }
+    Ok(())
+}
+
+// Changes are of the text `drv`.
+fn devices_hold(
+    rt: &(impl Threads + Sync),
+    alloc: Global,
+    table: &Table,
+    text: &str,
+    changes: &[Change],
+) -> Result<(), RowFault> {
+    for (i, (old, new, line)) in changes.iter().enumerate() {
+        let mut bench = bench_of(alloc, table)?;
+        let changed = text.replace(alloc, *old, new)?;
+        bench.store.add("drv", changed.as_bytes())?;
+        let note = format!(in alloc; "drv{line}\n")?;
+        bench.ends(rt, table.name, i, "device drv", Ending::Refused(&note))?;
+    }
+    Ok(())
+}
+
+// The commands of a board, with the names of its files. Where they read a log it comes after the board, so it makes no difference that
+// this one is wrong.
+const COMMANDS: [&str; 6] = [
+    "cover c n",
+    "svf c n",
+    "walk c n",
+    "diagnose 2 g c n",
+    "groups g c n",
+    "batch 2 g c n",
+];
+
+fn boards_hold(
+    rt: &(impl Threads + Sync),
+    alloc: Global,
+    table: &Table,
+    cases: &[Case],
+) -> Result<(), RowFault> {
+    for (i, case) in cases.iter().enumerate() {
+        board_is_refused(rt, alloc, table.name, i, case)?;
+    }
+    Ok(())
+}
+
+fn board_is_refused(
+    rt: &(impl Threads + Sync),
+    alloc: Global,
+    table: &'static str,
+    row: usize,
+    (chain, nets, words, note): &Case,
+) -> Result<(), RowFault> {
+    for command in &COMMANDS {
+        let mut bench = Bench::with_board(alloc, chain, nets)?;
+        bench.store.add("g", b"zz\n")?;
+        let line = format!(in alloc; "{command} {words}")?;
+        bench.ends(rt, table, row, &line, Ending::Refused(note))?;
+    }
+    Ok(())
+}
+
+fn no_commands_hold(
+    rt: &(impl Threads + Sync),
+    alloc: Global,
+    table: &Table,
+    lines: &[&'static str],
+) -> Result<(), RowFault> {
+    for (i, line) in lines.iter().enumerate() {
+        let mut bench = bench_of(alloc, table)?;
+        bench.store.fail_at(1)?;
+        bench.ends(rt, table.name, i, line, Ending::Usage)?;
+    }
+    Ok(())
+}
+
+fn words_hold(
+    rt: &(impl Threads + Sync),
+    alloc: Global,
+    table: &Table,
+    line: &str,
+    word: &str,
+    rows: &[(usize, Ending<'static>)],
+) -> Result<(), RowFault> {
+    for (i, (count, ending)) in rows.iter().enumerate() {
+        let mut bench = bench_of(alloc, table)?;
+        let words = format!(in alloc; "{line}{}", word.repeat(alloc, *count)?)?;
+        bench.ends(rt, table.name, i, &words, *ending)?;
     }
     Ok(())
 }
@@ -113,19 +351,12 @@ pub fn sixty_devices_hold(
     rt: &(impl Threads + Sync),
     alloc: Global,
     log: &str,
-    lines: &[(&'static str, Ending<'static>)],
+    lines: &[Line],
 ) -> Result<(), RowFault> {
     for (i, (line, ending)) in lines.iter().enumerate() {
         let mut bench = Bench::with_sixty_devices(alloc)?;
         bench.store.add("g", log.as_bytes())?;
-        let status = bench.run(rt, line)?;
-        bench.expect(i, status, *ending)?;
+        bench.ends(rt, "60 devices", i, line, *ending)?;
     }
     Ok(())
-}
-
-fn bench_of(alloc: Global, texts: &[Named]) -> Result<Bench, AllocError> {
-    let mut bench = Bench::with_board(alloc, CHAIN, NETS)?;
-    bench.add(texts)?;
-    Ok(bench)
 }

@@ -1,47 +1,6 @@
 // Texts that denote no board, each by its first fault.
-use run_bench::{Bench, CHAIN, Ending, NETS, RowFault};
-use std::alloc::Global;
-use std::thread::Threads;
-
-// The commands of a board, with the names of its files. Where they read a log it comes after the board, so it makes no difference that
-// this one is wrong.
-const COMMANDS: [&str; 6] = [
-    "cover c n",
-    "svf c n",
-    "walk c n",
-    "diagnose 2 g c n",
-    "groups g c n",
-    "batch 2 g c n",
-];
-
-// Tries the line of refusal that each command of a board gives, which has the words behind the names of its files.
-fn is_refused(
-    rt: &(impl Threads + Sync),
-    alloc: Global,
-    words: &str,
-    chain: &str,
-    nets: &str,
-    note: &str,
-) -> Result<(), RowFault> {
-    for (i, command) in COMMANDS.iter().enumerate() {
-        let mut bench = Bench::with_board(alloc, chain, nets)?;
-        bench.store.add("g", b"zz\n")?;
-        let line = format!(in alloc; "{command} {words}")?;
-        let status = bench.run(rt, &line)?;
-        bench.expect(i, status, Ending::Refused(note))?;
-    }
-    Ok(())
-}
-
-// A chain file, a net file, the names of the BSDL texts, and the line of refusal.
-type Case = (&'static str, &'static str, &'static str, &'static str);
-
-fn are_refused(rt: &(impl Threads + Sync), alloc: Global, cases: &[Case]) -> Result<(), RowFault> {
-    for (chain, nets, words, note) in cases {
-        is_refused(rt, alloc, words, chain, nets, note)?;
-    }
-    Ok(())
-}
+use run_bench::Text::{Numbered, Plain};
+use run_bench::{CHAIN, Case, Ending, NETS, RowFault, Rows, Run, Table, tables_hold};
 
 static CHAINS: [Case; 8] = [
     ("", NETS, "drv rcv", "c: no part in the chain\n"),
@@ -84,11 +43,6 @@ static CHAINS: [Case; 8] = [
     ),
 ];
 
-#[test]
-fn the_first_board_rule_that_fails_is_told(rt: HostRuntime) -> Result<(), RowFault> {
-    are_refused(&rt, rt.alloc(), &CHAINS)
-}
-
 static NET_FILES: [Case; 7] = [
     (
         CHAIN,
@@ -129,11 +83,6 @@ static NET_FILES: [Case; 7] = [
     ),
 ];
 
-#[test]
-fn the_first_fault_of_a_net_file_is_told(rt: HostRuntime) -> Result<(), RowFault> {
-    are_refused(&rt, rt.alloc(), &NET_FILES)
-}
-
 static LINKS_AND_PULLS: [Case; 3] = [
     (
         "DEVICE U1 DRV -\nDEVICE U2 RCV -\nLINK R1 1 9",
@@ -155,40 +104,56 @@ static LINKS_AND_PULLS: [Case; 3] = [
     ),
 ];
 
-#[test]
-fn links_and_pulls_that_name_nothing_are_told(rt: HostRuntime) -> Result<(), RowFault> {
-    are_refused(&rt, rt.alloc(), &LINKS_AND_PULLS)
-}
+// Net files that are too large.
+static MANY_NETS: [Run; 1] = [(
+    Numbered {
+        head: "",
+        piece: "NET N# X.#\n",
+        first: 0,
+        end: 16_383,
+    },
+    Ending::Refused("limit: nets\n"),
+)];
 
-// Tries a net file that is too large.
-fn is_too_large(
-    rt: &(impl Threads + Sync),
-    alloc: Global,
-    line: &str,
-    nets: &str,
-    note: &str,
-) -> Result<(), RowFault> {
-    let mut bench = Bench::with_board(alloc, "BYPASS U1 2", nets)?;
-    let status = bench.run(rt, line)?;
-    bench.expect(0, status, Ending::Refused(note))
-}
+static MANY_PINS: [Run; 1] = [(
+    Numbered {
+        head: "NET N",
+        piece: " X.#",
+        first: 0,
+        end: 65_536,
+    },
+    Ending::Refused("limit: pins\n"),
+)];
+
+static TABLES: [Table; 5] = [
+    Table {
+        name: "the first board rule that fails is told",
+        texts: &[],
+        rows: Rows::Boards(&CHAINS),
+    },
+    Table {
+        name: "the first fault of a net file is told",
+        texts: &[],
+        rows: Rows::Boards(&NET_FILES),
+    },
+    Table {
+        name: "links and pulls that name nothing are told",
+        texts: &[],
+        rows: Rows::Boards(&LINKS_AND_PULLS),
+    },
+    Table {
+        name: "a board has at most 16,382 nets",
+        texts: &[("c", Plain("BYPASS U1 2"))],
+        rows: Rows::Texts("cover c n drv", "n", &MANY_NETS),
+    },
+    Table {
+        name: "a board has at most 65,535 pins",
+        texts: &[("c", Plain("BYPASS U1 2"))],
+        rows: Rows::Texts("svf c n drv", "n", &MANY_PINS),
+    },
+];
 
 #[test]
-fn a_board_has_at_most_16382_nets(rt: HostRuntime) -> Result<(), RowFault> {
-    let alloc = rt.alloc();
-    let mut nets = String::new(alloc);
-    for i in 0..16_383 {
-        write!(nets, "NET N{i} X.{i}\n")?;
-    }
-    is_too_large(&rt, alloc, "cover c n drv", &nets, "limit: nets\n")
-}
-
-#[test]
-fn a_board_has_at_most_65535_pins(rt: HostRuntime) -> Result<(), RowFault> {
-    let alloc = rt.alloc();
-    let mut pins = String::from_str(alloc, "NET N")?;
-    for i in 0..65_536 {
-        write!(pins, " X.{i}")?;
-    }
-    is_too_large(&rt, alloc, "svf c n drv", &pins, "limit: pins\n")
+fn texts_that_denote_no_board_are_refused(rt: HostRuntime) -> Result<(), RowFault> {
+    tables_hold(&rt, rt.alloc(), &TABLES)
 }

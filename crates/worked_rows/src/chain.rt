@@ -1,38 +1,22 @@
 // The chain test of parts that are known by their length.
-use bt_base::{MemSink, OpenGate};
-use btest_cli::Status;
-use run_bench::{Bench, DRV, Ending, Row, RowFault, lines_hold, rows_hold};
-use std::alloc::Global;
-use std::thread::Threads;
+use run_bench::Text::{Bytes, Numbered, Plain, Repeated};
+use run_bench::{DRV, Ending, Line, Named, Row, RowFault, Rows, Run, Table, Trouble, tables_hold};
 
 const TWO_PARTS: &str = "BYPASS U1 4\nBYPASS U2 2";
 
 const TWO_PARTS_SCANS: &str =
     "SIR 6 TDI (3F) TDO (05) MASK (0F);\nSDR 10 TDI (0A5) TDO (294) MASK (3FF);\n";
 
-// Tries `chain c` with this chain file.
-fn chain_ends(
-    rt: &(impl Threads + Sync),
-    alloc: Global,
-    file: &[u8],
-    ending: Ending,
-) -> Result<(), RowFault> {
-    let mut bench = Bench::with_texts(alloc, &[])?;
-    bench.store.add("c", file)?;
-    let status = bench.run(rt, "chain c")?;
-    bench.expect(0, status, ending)
-}
-
 static CHAINS: [Row; 5] = [
     Row {
-        texts: &[("c", TWO_PARTS)],
+        texts: &[("c", Plain(TWO_PARTS))],
         line: "chain c",
         ending: Ending::Scans(TWO_PARTS_SCANS),
     },
     Row {
         texts: &[(
             "c",
-            "# ours\r\n\tBYPASS  U1\t4 # first\n\nBYPASS U2 002\n\n",
+            Plain("# ours\r\n\tBYPASS  U1\t4 # first\n\nBYPASS U2 002\n\n"),
         )],
         line: "chain c",
         ending: Ending::Scans(TWO_PARTS_SCANS),
@@ -40,7 +24,7 @@ static CHAINS: [Row; 5] = [
     Row {
         texts: &[(
             "c",
-            "BYPASS U1 2\nSUPPLY V.CC\nPULL N 1\nINERT R1\nLINK R2 1 a_2",
+            Plain("BYPASS U1 2\nSUPPLY V.CC\nPULL N 1\nINERT R1\nLINK R2 1 a_2"),
         )],
         line: "chain c",
         ending: Ending::Scans(
@@ -49,12 +33,12 @@ static CHAINS: [Row; 5] = [
     },
     // A name may be any word.
     Row {
-        texts: &[("help", TWO_PARTS)],
+        texts: &[("help", Plain(TWO_PARTS))],
         line: "chain help",
         ending: Ending::Scans(TWO_PARTS_SCANS),
     },
     Row {
-        texts: &[("c", "DEVICE U1 DRV -\nBYPASS U9 3")],
+        texts: &[("c", Plain("DEVICE U1 DRV -\nBYPASS U9 3"))],
         line: "chain c drv",
         ending: Ending::Scans(
             "SIR 5 TDI (1F) TDO (09) MASK (1B);\nSDR 10 TDI (0A5) TDO (294) MASK (3FF);\n",
@@ -62,25 +46,20 @@ static CHAINS: [Row; 5] = [
     },
 ];
 
-#[test]
-fn writes_the_two_scans(rt: HostRuntime) -> Result<(), RowFault> {
-    rows_hold(&rt, rt.alloc(), &[], &CHAINS)
-}
-
-#[test]
-fn a_scan_of_more_than_one_line_is_printed_by_fields(rt: HostRuntime) -> Result<(), RowFault> {
-    let alloc = rt.alloc();
-    let mut forty = String::new(alloc);
-    for i in 0..40 {
-        write!(forty, "BYPASS U{i} 2\n")?;
-    }
-    let scans =
+static FORTY_PARTS: [Run; 1] = [(
+    Numbered {
+        head: "",
+        piece: "BYPASS U# 2\n",
+        first: 0,
+        end: 40,
+    },
+    Ending::Scans(
         "SIR 80\nTDI (FFFFFFFFFFFFFFFFFFFF)\nTDO (55555555555555555555)\nMASK (FFFFFFFFFFFFFFFFFFFF);\n\
-                 SDR 48 TDI (0000000000A5) TDO (A50000000000) MASK (FFFFFFFFFFFF);\n";
-    chain_ends(&rt, alloc, forty.as_bytes(), Ending::Scans(scans))
-}
+         SDR 48 TDI (0000000000A5) TDO (A50000000000) MASK (FFFFFFFFFFFF);\n",
+    ),
+)];
 
-static DESCRIBED: [(&str, Ending<'static>); 4] = [
+static DESCRIBED: [Line; 4] = [
     ("chain c", Ending::Refused("c line 1: entity not given\n")),
     ("chain c d", Ending::NotRead("cannot read d\n")),
     (
@@ -93,102 +72,101 @@ static DESCRIBED: [(&str, Ending<'static>); 4] = [
     ),
 ];
 
-#[test]
-fn each_entity_is_given_once(rt: HostRuntime) -> Result<(), RowFault> {
-    let texts = [("c", "DEVICE U1 DRV -\nBYPASS U9 3"), ("again", DRV)];
-    lines_hold(&rt, rt.alloc(), &texts, &DESCRIBED)
-}
-
-// A run of so many BSDL texts, of which none has the entity of the chain.
-fn texts_end(
-    rt: &(impl Threads + Sync),
-    alloc: Global,
-    count: usize,
-    ending: Ending,
-) -> Result<(), RowFault> {
-    let line = format!(in alloc; "chain c{}", " drv".repeat(alloc, count)?)?;
-    let mut bench = Bench::with_board(alloc, "DEVICE U1 RCV -", "")?;
-    let status = bench.run(rt, &line)?;
-    bench.expect(count, status, ending)
-}
-
-#[test]
-fn a_command_takes_at_most_255_bsdl_texts(rt: HostRuntime) -> Result<(), RowFault> {
-    let alloc = rt.alloc();
-    texts_end(
-        &rt,
-        alloc,
-        255,
+// Chain files, and how `chain c` ends.
+static FILES: [Run; 21] = [
+    (Plain(""), Ending::Refused("c: no part in the chain\n")),
+    (
+        Plain("# BYPASS U1 4"),
+        Ending::Refused("c: no part in the chain\n"),
+    ),
+    (
+        Plain("SUPPLY VCC\n"),
+        Ending::Refused("c: no part in the chain\n"),
+    ),
+    (
+        Plain("BYPASS U1 1"),
+        Ending::Refused("c line 1: number not allowed\n"),
+    ),
+    (
+        Plain("BYPASS U1 256"),
+        Ending::Refused("c line 1: number not allowed\n"),
+    ),
+    (
+        Plain("BYPASS U1 0002"),
+        Ending::Refused("c line 1: number not allowed\n"),
+    ),
+    (
+        Plain("BYPASS U\0 2"),
+        Ending::Refused("c line 1: word not allowed\n"),
+    ),
+    (
+        Plain("\n\nBYPASS U.1 2"),
+        Ending::Refused("c line 3: word not allowed\n"),
+    ),
+    (
+        Plain("BYPASS U1 2 3"),
+        Ending::Refused("c line 1: no statement\n"),
+    ),
+    (
+        Plain("bypass U1 2"),
+        Ending::Refused("c line 1: no statement\n"),
+    ),
+    (
+        Plain("PULL N 2"),
+        Ending::Refused("c line 1: number not allowed\n"),
+    ),
+    (
+        Plain("LINK R1 1 2-"),
+        Ending::Refused("c line 1: word not allowed\n"),
+    ),
+    (
+        Plain("DEVICE U1 DRV"),
+        Ending::Refused("c line 1: no statement\n"),
+    ),
+    (
+        Plain("BYPASS U1 2\nBYPASS U2 2\nBYPASS U1 3"),
+        Ending::Refused("c line 3: part twice\n"),
+    ),
+    (
+        Plain("BYPASS U1 2\nDEVICE U1 DRV -"),
+        Ending::Refused("c line 2: part twice\n"),
+    ),
+    (
+        Plain("DEVICE U1 DRV -"),
         Ending::Refused("c line 1: entity not given\n"),
-    )?;
-    texts_end(&rt, alloc, 256, Ending::Usage)
-}
-
-const REFUSED: [(&str, &str); 18] = [
-    ("", "c: no part in the chain\n"),
-    ("# BYPASS U1 4", "c: no part in the chain\n"),
-    ("SUPPLY VCC\n", "c: no part in the chain\n"),
-    ("BYPASS U1 1", "c line 1: number not allowed\n"),
-    ("BYPASS U1 256", "c line 1: number not allowed\n"),
-    ("BYPASS U1 0002", "c line 1: number not allowed\n"),
-    ("BYPASS U\0 2", "c line 1: word not allowed\n"),
-    ("\n\nBYPASS U.1 2", "c line 3: word not allowed\n"),
-    ("BYPASS U1 2 3", "c line 1: no statement\n"),
-    ("bypass U1 2", "c line 1: no statement\n"),
-    ("PULL N 2", "c line 1: number not allowed\n"),
-    ("LINK R1 1 2-", "c line 1: word not allowed\n"),
-    ("DEVICE U1 DRV", "c line 1: no statement\n"),
-    (
-        "BYPASS U1 2\nBYPASS U2 2\nBYPASS U1 3",
-        "c line 3: part twice\n",
-    ),
-    ("BYPASS U1 2\nDEVICE U1 DRV -", "c line 2: part twice\n"),
-    ("DEVICE U1 DRV -", "c line 1: entity not given\n"),
-    (
-        "DEVICE U1 DRV -\nBYPASS U9 3\nBYPASS U9 3",
-        "c line 3: part twice\n",
     ),
     (
-        "DEVICE U1 DRV -\nBYPASS U9 1",
-        "c line 2: number not allowed\n",
+        Plain("DEVICE U1 DRV -\nBYPASS U9 3\nBYPASS U9 3"),
+        Ending::Refused("c line 3: part twice\n"),
+    ),
+    (
+        Plain("DEVICE U1 DRV -\nBYPASS U9 1"),
+        Ending::Refused("c line 2: number not allowed\n"),
+    ),
+    // A byte that is no character.
+    (
+        Bytes(b"BYPASS U1 \xff"),
+        Ending::Refused("c line 1: word not allowed\n"),
+    ),
+    // A chain has at most 255 parts.
+    (
+        Numbered {
+            head: "",
+            piece: "BYPASS U# 2\n",
+            first: 0,
+            end: 256,
+        },
+        Ending::Refused("limit: chain parts\n"),
+    ),
+    // A text may have 4,194,304 bytes.
+    (
+        Repeated(" ", 4_194_304),
+        Ending::Refused("c: no part in the chain\n"),
     ),
 ];
 
-#[test]
-fn refuses_the_first_fault(rt: HostRuntime) -> Result<(), RowFault> {
-    let alloc = rt.alloc();
-    for (file, line) in &REFUSED {
-        chain_ends(&rt, alloc, file.as_bytes(), Ending::Refused(line))?;
-    }
-    Ok(())
-}
-
-#[test]
-fn a_byte_that_is_no_character_is_not_allowed(rt: HostRuntime) -> Result<(), RowFault> {
-    let line = Ending::Refused("c line 1: word not allowed\n");
-    chain_ends(&rt, rt.alloc(), b"BYPASS U1 \xff", line)
-}
-
-#[test]
-fn a_chain_has_at_most_255_parts(rt: HostRuntime) -> Result<(), RowFault> {
-    let alloc = rt.alloc();
-    let mut many = String::new(alloc);
-    for i in 0..256 {
-        write!(many, "BYPASS U{i} 2\n")?;
-    }
-    let line = Ending::Refused("limit: chain parts\n");
-    chain_ends(&rt, alloc, many.as_bytes(), line)
-}
-
-#[test]
-fn a_text_has_a_limit(rt: HostRuntime) -> Result<(), RowFault> {
-    let alloc = rt.alloc();
-    let text = " ".repeat(alloc, 4_194_304)?;
-    let line = Ending::Refused("c: no part in the chain\n");
-    chain_ends(&rt, alloc, text.as_bytes(), line)
-}
-
-const NO_COMMANDS: [&str; 23] = [
+static NO_COMMANDS: [&str; 24] = [
+    "",
     "chain",
     "help",
     "chain -c",
@@ -214,58 +192,84 @@ const NO_COMMANDS: [&str; 23] = [
     "-h",
 ];
 
-#[test]
-fn words_that_are_no_command_fetch_nothing(rt: HostRuntime) -> Result<(), RowFault> {
-    let alloc = rt.alloc();
-    for line in &NO_COMMANDS {
-        let mut bench = Bench::with_board(alloc, TWO_PARTS, "")?;
-        bench.store.fail_at(1)?;
-        let status = bench.run(&rt, line)?;
-        bench.expect(0, status, Ending::Usage)?;
-    }
-    Ok(())
-}
+static FAILING: [(Trouble, Row); 3] = [
+    // The text isn't tried again, though its name stands twice among the words.
+    (
+        Trouble::Read(1),
+        Row {
+            texts: &[("c", Plain(TWO_PARTS))],
+            line: "chain c c",
+            ending: Ending::NotRead("cannot read c\n"),
+        },
+    ),
+    (
+        Trouble::Out(20),
+        Row {
+            texts: &[("c", Plain(TWO_PARTS))],
+            line: "chain c",
+            ending: Ending::NotPut("TRST OFF;\nENDIR IDLE", "cannot write\n"),
+        },
+    ),
+    // A refusal stays if its line is cut.
+    (
+        Trouble::Notes(5),
+        Row {
+            texts: &[("c", Plain(""))],
+            line: "chain c",
+            ending: Ending::Refused("c: no"),
+        },
+    ),
+];
+
+static MANY_WORDS: [(usize, Ending<'static>); 2] = [
+    (255, Ending::Refused("c line 1: entity not given\n")),
+    (256, Ending::Usage),
+];
+
+static ONE_DESCRIBED: [Named; 2] = [
+    ("c", Plain("DEVICE U1 DRV -\nBYPASS U9 3")),
+    ("again", Plain(DRV)),
+];
+
+static TABLES: [Table; 7] = [
+    Table {
+        name: "the two scans are written",
+        texts: &[],
+        rows: Rows::Runs(&CHAINS),
+    },
+    Table {
+        name: "a scan of more than one line is printed by fields",
+        texts: &[],
+        rows: Rows::Texts("chain c", "c", &FORTY_PARTS),
+    },
+    Table {
+        name: "each entity is given once",
+        texts: &ONE_DESCRIBED,
+        rows: Rows::Lines(&DESCRIBED),
+    },
+    Table {
+        name: "a command takes at most 255 BSDL texts",
+        texts: &[("c", Plain("DEVICE U1 RCV -"))],
+        rows: Rows::Words("chain c", " drv", &MANY_WORDS),
+    },
+    Table {
+        name: "the first fault is told",
+        texts: &[],
+        rows: Rows::Texts("chain c", "c", &FILES),
+    },
+    Table {
+        name: "words that are no command fetch nothing",
+        texts: &[("c", Plain(TWO_PARTS))],
+        rows: Rows::NoCommands(&NO_COMMANDS),
+    },
+    Table {
+        name: "a read or a write fails",
+        texts: &[],
+        rows: Rows::Failing(&FAILING),
+    },
+];
 
 #[test]
-fn no_words_are_no_command(rt: HostRuntime) -> Result<(), RowFault> {
-    let alloc = rt.alloc();
-    let mut bench = Bench::with_texts(alloc, &[])?;
-    let words = Vec::new(alloc);
-    let status = bench.run_words(&rt, &words, &OpenGate);
-    bench.expect(0, status, Ending::Usage)
-}
-
-// The text isn't tried again, though its name stands twice among the words.
-#[test]
-fn a_text_that_is_not_read_is_not_tried_again(rt: HostRuntime) -> Result<(), RowFault> {
-    let mut bench = Bench::with_board(rt.alloc(), TWO_PARTS, "")?;
-    bench.store.fail_at(1)?;
-    let status = bench.run(&rt, "chain c c")?;
-    bench.expect(0, status, Ending::NotRead("cannot read c\n"))
-}
-
-#[test]
-fn a_sink_without_room_fails(rt: HostRuntime) -> Result<(), RowFault> {
-    let alloc = rt.alloc();
-    let mut bench = Bench::with_board(alloc, TWO_PARTS, "")?;
-    bench.out = MemSink::with_room(alloc, 20)?;
-    let status = bench.run(&rt, "chain c")?;
-    let taken = "TRST OFF;\nENDIR IDLE";
-    bench.expect(0, status, Ending::NotPut(taken, "cannot write\n"))
-}
-
-#[test]
-fn a_refusal_stays_where_its_line_is_cut(rt: HostRuntime) -> Result<(), RowFault> {
-    let alloc = rt.alloc();
-    let mut bench = Bench::with_board(alloc, "", "")?;
-    bench.notes = MemSink::with_room(alloc, 5)?;
-    let status = bench.run(&rt, "chain c")?;
-    bench.expect(0, status, Ending::Refused("c: no"))
-}
-
-fn is_shared<T: Send + Sync>() {}
-
-#[test]
-fn a_status_may_be_shared() {
-    is_shared::<Status>();
+fn chains_end_as_they_should(rt: HostRuntime) -> Result<(), RowFault> {
+    tables_hold(&rt, rt.alloc(), &TABLES)
 }

@@ -1,84 +1,62 @@
 // The listing of a device, and why a text describes none.
-use run_bench::{BUF2, BUF2_LISTING, Bench, DRV, DRV1, Ending, RCV, RCV1, RowFault, edited};
-use std::alloc::Global;
-use std::thread::Threads;
+use run_bench::Text::{Edited, Filled, Front, Plain, Repeated};
+use run_bench::{
+    BUF2, BUF2_LISTING, Change, DRV, DRV1, Ending, RCV, RCV1, RowFault, Rows, Run, Table,
+    tables_hold,
+};
 
 const DRV_LISTING: &str =
     "ENTITY DRV\nPACKAGE P\nIR 2 SAMPLE 10 IDCODE -\nPORT TDI IN T1\nPORT TMS IN T3\nPORT TCK IN T4\n\
                            PORT TDO OUT T2\nPORT Q OUT 1 2\nCELL 0 OUTPUT2 Q(1) X\nCELL 1 OUTPUT2 Q(2) X\n";
 
-// Tries the listing of a device.
-fn device_ends(
-    rt: &(impl Threads + Sync),
-    alloc: Global,
-    text: &str,
-    ending: Ending,
-) -> Result<(), RowFault> {
-    let mut bench = Bench::with_texts(alloc, &[])?;
-    bench.store.add("drv", text.as_bytes())?;
-    let status = bench.run(rt, "device drv")?;
-    bench.expect(0, status, ending)
-}
-
-#[test]
-fn lists_a_device(rt: HostRuntime) -> Result<(), RowFault> {
-    let alloc = rt.alloc();
-    device_ends(&rt, alloc, DRV, Ending::Puts(DRV_LISTING))?;
-    device_ends(&rt, alloc, BUF2, Ending::Puts(BUF2_LISTING))
-}
-
-const EDITION: [(&str, &str); 2] = [
+// What differs in the listing of the driver of 2001.
+static EDITION: [(&str, &str); 2] = [
     ("ENTITY DRV", "ENTITY DRV1"),
     ("SAMPLE 10 IDCODE", "PRELOAD 00 EXTEST 01 IDCODE"),
 ];
 
-#[test]
-fn lists_a_device_of_2001(rt: HostRuntime) -> Result<(), RowFault> {
-    let alloc = rt.alloc();
-    let listing = edited(alloc, DRV_LISTING, &EDITION)?;
-    device_ends(&rt, alloc, DRV1, Ending::Puts(&listing))
-}
+const DRV1_LISTING: Ending<'static> = Ending::PutsAll(Edited(DRV_LISTING, &EDITION));
 
-const EXCHANGED: [(&str, &str); 1] = [(
+// Generics may follow ports, in any case.
+static EXCHANGED: [(&str, &str); 1] = [(
     "generic (PHYSICAL_PIN_MAP : string := \"P\");\nport (TDI, TMS, TCK : in bit; TDO : out bit; Q : out bit_vector(1 to 2));\n",
     "port (tdi, tms, tck : in bit; tdo : out bit; q : out bit_vector(1 to 2));\ngeneric (physical_pin_map : string := \"p\");\n",
 )];
 
-#[test]
-fn generics_may_follow_ports_in_any_case(rt: HostRuntime) -> Result<(), RowFault> {
-    let alloc = rt.alloc();
-    let text = edited(alloc, DRV, &EXCHANGED)?;
-    device_ends(&rt, alloc, &text, Ending::Puts(DRV_LISTING))
-}
+static LISTED: [Run; 7] = [
+    (Plain(DRV), Ending::Puts(DRV_LISTING)),
+    (Plain(BUF2), Ending::Puts(BUF2_LISTING)),
+    (Plain(DRV1), DRV1_LISTING),
+    (Edited(DRV, &EXCHANGED), Ending::Puts(DRV_LISTING)),
+    // An attribute that is not read may nest deep.
+    (
+        Filled {
+            of: DRV,
+            lines: 17,
+            head: "attribute FOO",
+            piece: "(",
+            count: 100_000,
+            tail: ";\nend DRV;\n",
+        },
+        Ending::Puts(DRV_LISTING),
+    ),
+    // Either makes a text of 2001: its use or its conformance.
+    (
+        Edited(
+            DRV1,
+            &[("use STD_1149_1_2001.all;", "use STD_1149_1_1994.all;")],
+        ),
+        DRV1_LISTING,
+    ),
+    (
+        Edited(DRV1, &[("\"STD_1149_1_2001\"", "\"STD_1149_1_1993\"")]),
+        DRV1_LISTING,
+    ),
+];
 
-#[test]
-fn an_attribute_that_is_not_read_may_nest_deep(rt: HostRuntime) -> Result<(), RowFault> {
-    let alloc = rt.alloc();
-    let deep = "(".repeat(alloc, 100_000)?;
-    let last = format!(in alloc; "attribute FOO{deep};\nend DRV;\n")?;
-    let text = edited(alloc, DRV, &[(LAST, last.as_str())])?;
-    device_ends(&rt, alloc, &text, Ending::Puts(DRV_LISTING))
-}
+const LAST: &str = "end DRV;\n";
 
-// Tries changes of a text, each with the line by which the text is refused.
-fn refuses(
-    rt: &(impl Threads + Sync),
-    alloc: Global,
-    text: &str,
-    cases: &[(&str, &str, &str)],
-) -> Result<(), RowFault> {
-    for (i, (old, new, line)) in cases.iter().enumerate() {
-        let changed = edited(alloc, text, &[(*old, *new)])?;
-        let mut bench = Bench::with_texts(alloc, &[])?;
-        bench.store.add("drv", changed.as_bytes())?;
-        let status = bench.run(rt, "device drv")?;
-        let line = format!(in alloc; "drv{line}\n")?;
-        bench.expect(i, status, Ending::Refused(&line))?;
-    }
-    Ok(())
-}
-
-static OUTSIDE: [(&str, &str, &str); 5] = [
+static OUTSIDE: [Change; 5] = [
     (
         "generic (PHYSICAL_PIN_MAP : string := \"P\");\n",
         "generic (PHYSICAL_PIN_MAP : string := \"P\");\ngeneric (PHYSICAL_PIN_MAP : string := \"P\");\n",
@@ -98,49 +76,45 @@ static OUTSIDE: [(&str, &str, &str); 5] = [
     (LAST, "end DRV;\npackage X is\n", " line 19: package text"),
 ];
 
-#[test]
-fn refuses_texts_outside_the_grammar(rt: HostRuntime) -> Result<(), RowFault> {
-    refuses(&rt, rt.alloc(), DRV, &OUTSIDE)
-}
-
-#[test]
-fn refuses_texts_of_which_all_or_much_is_missing(rt: HostRuntime) -> Result<(), RowFault> {
-    let alloc = rt.alloc();
-    let mut front = String::new(alloc);
-    for line in DRV.split_inclusive('\n').take(10) {
-        front.push_str(line)?;
-    }
-    device_ends(
-        &rt,
-        alloc,
-        &front,
+// Texts of which all or much is missing, or which are no entity.
+static PARTS: [Run; 6] = [
+    (
+        Front(DRV, 10, ""),
         Ending::Refused("drv line 10: not in the grammar\n"),
-    )?;
-    let cut = DRV.split_once("\"0 (BC_1,").map_or("", |parts| parts.0);
-    let open = format!(in alloc; "{cut}\"0 (BC_1,")?;
-    device_ends(
-        &rt,
-        alloc,
-        &open,
+    ),
+    (
+        Front(DRV, 15, "\"0 (BC_1,"),
         Ending::Refused("drv line 16: string not closed\n"),
-    )
-}
+    ),
+    (
+        Plain(""),
+        Ending::Refused("drv line 1: not in the grammar\n"),
+    ),
+    (
+        Plain("package body X is\n"),
+        Ending::Refused("drv line 1: package text\n"),
+    ),
+    (
+        Repeated(",", 1_048_577),
+        Ending::Refused("drv line 1: too many tokens\n"),
+    ),
+    // A text that is of 2001 neither by its use nor by its conformance.
+    (
+        Edited(
+            DRV1,
+            &[
+                ("use STD_1149_1_2001.all;", "use STD_1149_1_1994.all;"),
+                (
+                    "attribute COMPONENT_CONFORMANCE of DRV1 : entity is \"STD_1149_1_2001\";\n",
+                    "",
+                ),
+            ],
+        ),
+        Ending::Refused("drv: rule V6 item 2\n"),
+    ),
+];
 
-#[test]
-fn refuses_texts_that_are_no_entity(rt: HostRuntime) -> Result<(), RowFault> {
-    let alloc = rt.alloc();
-    let empty = Ending::Refused("drv line 1: not in the grammar\n");
-    device_ends(&rt, alloc, "", empty)?;
-    let package = Ending::Refused("drv line 1: package text\n");
-    device_ends(&rt, alloc, "package body X is\n", package)?;
-    let commas = ",".repeat(alloc, 1_048_577)?;
-    let many = Ending::Refused("drv line 1: too many tokens\n");
-    device_ends(&rt, alloc, &commas, many)
-}
-
-const LAST: &str = "end DRV;\n";
-
-static ATTRIBUTES: [(&str, &str, &str); 24] = [
+static ATTRIBUTES: [Change; 24] = [
     (
         "attribute PIN_MAP of DRV : entity is PHYSICAL_PIN_MAP;\n",
         "",
@@ -256,12 +230,7 @@ static ATTRIBUTES: [(&str, &str, &str); 24] = [
     ),
 ];
 
-#[test]
-fn each_attribute_is_given_as_often_as_it_should_be(rt: HostRuntime) -> Result<(), RowFault> {
-    refuses(&rt, rt.alloc(), DRV, &ATTRIBUTES)
-}
-
-static STRINGS: [(&str, &str, &str); 11] = [
+static STRINGS: [Change; 11] = [
     ("Q:(1,2)\"", "Q:(1,2\"", ": PIN_MAP_STRING entry 5"),
     ("TCK:T4, Q", "TCK:T4,, Q", ": PIN_MAP_STRING entry 5"),
     ("SAMPLE (10)", "SAMPLE (12)", ": INSTRUCTION_OPCODE entry 3"),
@@ -300,12 +269,7 @@ static STRINGS: [(&str, &str, &str); 11] = [
     ("(1 to 2)", "(2 to 1)", ": rule V2 item 5"),
 ];
 
-#[test]
-fn each_string_is_in_its_grammar(rt: HostRuntime) -> Result<(), RowFault> {
-    refuses(&rt, rt.alloc(), DRV, &STRINGS)
-}
-
-static PORTS_AND_PINS: [(&str, &str, &str); 21] = [
+static PORTS_AND_PINS: [Change; 21] = [
     (
         "Q : out bit_vector(1 to 2)",
         "TDI : out bit",
@@ -353,12 +317,7 @@ static PORTS_AND_PINS: [(&str, &str, &str); 21] = [
     ("Q:(1,2)", "Q:(1,2), TDI:3", ": rule V4 item 6"),
 ];
 
-#[test]
-fn ports_and_pins_keep_their_rules(rt: HostRuntime) -> Result<(), RowFault> {
-    refuses(&rt, rt.alloc(), DRV, &PORTS_AND_PINS)
-}
-
-static INSTRUCTIONS: [(&str, &str, &str); 12] = [
+static INSTRUCTIONS: [Change; 12] = [
     ("SAMPLE (10)", "SAMPLE (100)", ": rule V5 item 3"),
     (
         "SAMPLE (10)",
@@ -381,7 +340,7 @@ static INSTRUCTIONS: [(&str, &str, &str); 12] = [
     ),
 ];
 
-static INSTRUCTIONS_OF_2001: [(&str, &str, &str); 7] = [
+static INSTRUCTIONS_OF_2001: [Change; 7] = [
     ("PRELOAD (00)", "PRELOAD (11)", ": rule V6 item 1"),
     (
         "SAMPLE (10), PRELOAD (00)",
@@ -399,51 +358,7 @@ static INSTRUCTIONS_OF_2001: [(&str, &str, &str); 7] = [
     ("BYPASS (11)", "BYPASS (01)", ": rule V6 item 3"),
 ];
 
-#[test]
-fn instructions_keep_their_rules(rt: HostRuntime) -> Result<(), RowFault> {
-    refuses(&rt, rt.alloc(), DRV, &INSTRUCTIONS)?;
-    refuses(&rt, rt.alloc(), DRV1, &INSTRUCTIONS_OF_2001)
-}
-
-#[test]
-fn a_text_is_of_2001_by_its_use_or_its_conformance(rt: HostRuntime) -> Result<(), RowFault> {
-    let alloc = rt.alloc();
-    let by_neither = edited(
-        alloc,
-        DRV1,
-        &[
-            ("use STD_1149_1_2001.all;", "use STD_1149_1_1994.all;"),
-            (
-                "attribute COMPONENT_CONFORMANCE of DRV1 : entity is \"STD_1149_1_2001\";\n",
-                "",
-            ),
-        ],
-    )?;
-    device_ends(
-        &rt,
-        alloc,
-        &by_neither,
-        Ending::Refused("drv: rule V6 item 2\n"),
-    )
-}
-
-const BY_ONE: [(&str, &str); 2] = [
-    ("use STD_1149_1_2001.all;", "use STD_1149_1_1994.all;"),
-    ("\"STD_1149_1_2001\"", "\"STD_1149_1_1993\""),
-];
-
-#[test]
-fn either_makes_a_text_of_2001(rt: HostRuntime) -> Result<(), RowFault> {
-    let alloc = rt.alloc();
-    let listing = edited(alloc, DRV_LISTING, &EDITION)?;
-    for (old, new) in &BY_ONE {
-        let text = edited(alloc, DRV1, &[(*old, *new)])?;
-        device_ends(&rt, alloc, &text, Ending::Puts(&listing))?;
-    }
-    Ok(())
-}
-
-static CELLS: [(&str, &str, &str); 16] = [
+static CELLS: [Change; 16] = [
     (
         "BOUNDARY_LENGTH of DRV : entity is 2",
         "BOUNDARY_LENGTH of DRV : entity is 3",
@@ -490,7 +405,7 @@ static CELLS: [(&str, &str, &str); 16] = [
     ("Q(2), output2, X", "TDI, input, X", ": rule V14 item 2"),
 ];
 
-static CELLS_OF_A_RECEIVER: [(&str, &str, &str); 2] = [
+static CELLS_OF_A_RECEIVER: [Change; 2] = [
     ("D(1), input, X", "D(1), output2, X", ": rule V14 item 1"),
     (
         "2;\nattribute BOUNDARY_REGISTER of RCV : entity is\n\"0 (BC_1, D(1), input, X),\" &\n\"1 (BC",
@@ -499,15 +414,67 @@ static CELLS_OF_A_RECEIVER: [(&str, &str, &str); 2] = [
     ),
 ];
 
-static CELLS_OF_A_BIT: [(&str, &str, &str); 1] = [(
-    "D, input, X",
-    "D(0), input, X",
-    ": rule V9 item 1",
-)];
+static CELLS_OF_A_BIT: [Change; 1] = [("D, input, X", "D(0), input, X", ": rule V9 item 1")];
+
+static TABLES: [Table; 11] = [
+    Table {
+        name: "a device is listed",
+        texts: &[],
+        rows: Rows::Texts("device drv", "drv", &LISTED),
+    },
+    Table {
+        name: "texts outside the grammar are refused",
+        texts: &[],
+        rows: Rows::Devices(DRV, &OUTSIDE),
+    },
+    Table {
+        name: "texts of which much is missing, or which are no entity, are refused",
+        texts: &[],
+        rows: Rows::Texts("device drv", "drv", &PARTS),
+    },
+    Table {
+        name: "each attribute is given as often as it should be",
+        texts: &[],
+        rows: Rows::Devices(DRV, &ATTRIBUTES),
+    },
+    Table {
+        name: "each string is in its grammar",
+        texts: &[],
+        rows: Rows::Devices(DRV, &STRINGS),
+    },
+    Table {
+        name: "ports and pins keep their rules",
+        texts: &[],
+        rows: Rows::Devices(DRV, &PORTS_AND_PINS),
+    },
+    Table {
+        name: "instructions keep their rules",
+        texts: &[],
+        rows: Rows::Devices(DRV, &INSTRUCTIONS),
+    },
+    Table {
+        name: "instructions of 2001 keep their rules",
+        texts: &[],
+        rows: Rows::Devices(DRV1, &INSTRUCTIONS_OF_2001),
+    },
+    Table {
+        name: "cells keep their rules",
+        texts: &[],
+        rows: Rows::Devices(DRV, &CELLS),
+    },
+    Table {
+        name: "cells of a receiver keep their rules",
+        texts: &[],
+        rows: Rows::Devices(RCV, &CELLS_OF_A_RECEIVER),
+    },
+    Table {
+        name: "cells of a bit keep their rules",
+        texts: &[],
+        rows: Rows::Devices(RCV1, &CELLS_OF_A_BIT),
+    },
+];
 
 #[test]
-fn cells_keep_their_rules(rt: HostRuntime) -> Result<(), RowFault> {
-    refuses(&rt, rt.alloc(), DRV, &CELLS)?;
-    refuses(&rt, rt.alloc(), RCV, &CELLS_OF_A_RECEIVER)?;
-    refuses(&rt, rt.alloc(), RCV1, &CELLS_OF_A_BIT)
+fn devices_are_listed_or_refused(rt: HostRuntime) -> Result<(), RowFault> {
+    tables_hold(&rt, rt.alloc(), &TABLES)
 }

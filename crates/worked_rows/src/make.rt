@@ -1,12 +1,11 @@
 // The summary of generated boards.
-use bt_base::MemSink;
-use run_bench::{Bench, Ending, RowFault, lines_hold};
+use run_bench::{Ending, Line, Row, RowFault, Rows, Table, Trouble, tables_hold};
 
 const TWO: Ending<'static> = Ending::Puts(
     "DEVICES 2 NETS 72 COVERED 72 PASSES 2 SCANS 19 BYTES 2373\n",
 );
 
-static SUMMARIES: [(&str, Ending<'static>); 7] = [
+static SUMMARIES: [Line; 7] = [
     ("make 2", TWO),
     ("make 002", TWO),
     ("make 00000000000000000002", TWO),
@@ -29,12 +28,7 @@ static SUMMARIES: [(&str, Ending<'static>); 7] = [
     ),
 ];
 
-#[test]
-fn tells_the_counts_of_a_board(rt: HostRuntime) -> Result<(), RowFault> {
-    lines_hold(&rt, rt.alloc(), &[], &SUMMARIES)
-}
-
-static NUMBERS: [(&str, Ending<'static>); 9] = [
+static NUMBERS: [Line; 9] = [
     ("make", Ending::Usage),
     ("make 0", Ending::Usage),
     ("make 256", Ending::Usage),
@@ -46,16 +40,34 @@ static NUMBERS: [(&str, Ending<'static>); 9] = [
     ("make 99999999999999999999", Ending::Usage),
 ];
 
-#[test]
-fn numbers_go_from_1_to_255(rt: HostRuntime) -> Result<(), RowFault> {
-    lines_hold(&rt, rt.alloc(), &[], &NUMBERS)
-}
+static CUT: [(Trouble, Row); 1] = [(
+    Trouble::Out(9),
+    Row {
+        texts: &[],
+        line: "make 2",
+        ending: Ending::NotPut("DEVICES 2", "cannot write\n"),
+    },
+)];
+
+static TABLES: [Table; 3] = [
+    Table {
+        name: "the counts of a board are told",
+        texts: &[],
+        rows: Rows::Lines(&SUMMARIES),
+    },
+    Table {
+        name: "numbers go from 1 to 255",
+        texts: &[],
+        rows: Rows::Lines(&NUMBERS),
+    },
+    Table {
+        name: "a summary may be cut short",
+        texts: &[],
+        rows: Rows::Failing(&CUT),
+    },
+];
 
 #[test]
-fn a_summary_may_be_cut_short(rt: HostRuntime) -> Result<(), RowFault> {
-    let alloc = rt.alloc();
-    let mut bench = Bench::with_texts(alloc, &[])?;
-    bench.out = MemSink::with_room(alloc, 9)?;
-    let status = bench.run(&rt, "make 2")?;
-    bench.expect(0, status, Ending::NotPut("DEVICES 2", "cannot write\n"))
+fn summaries_are_as_they_should_be(rt: HostRuntime) -> Result<(), RowFault> {
+    tables_hold(&rt, rt.alloc(), &TABLES)
 }
