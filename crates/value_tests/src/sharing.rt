@@ -10,6 +10,8 @@ use board_files::{ChainFile, ChainLine, LineFault, NetFile, NetLine};
 use board_gen::Made;
 use bt_base::{CountSink, FailingPut, FetchFault, MemSink, MemStore, OpenGate, PutFault};
 use bt_bits::{HexFault, Line, Row, RowStack};
+use btest_cli::Status;
+use btest_core::InputFault;
 use command_line::Command;
 use fault_sim::{Suspects, Universe};
 use net_classes::{Classes, ControlClass, NetClass, PinClass};
@@ -22,8 +24,10 @@ use walk_test::{Group, Walk};
 fn is_shared<T: Send + Sync>() {}
 
 #[test]
-fn a_command_may_be_shared() {
+fn a_command_and_how_it_ends_may_be_shared() {
     is_shared::<Command<'static>>();
+    is_shared::<Status>();
+    is_shared::<InputFault>();
 }
 
 #[test]
