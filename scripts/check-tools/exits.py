@@ -16,16 +16,16 @@ HERE = ROOT / 'crates/btest'
 SVF = 'btest svf board.chain board.nets driver.bsd receiver.bsd'
 USAGE = 'usage: btest chain, device, cover, svf, diagnose, make, ident, walk, groups or batch\n'
 TWO_DRIVERS = r"printf 'DEVICE U1 DRV -\nDEVICE U2 DRV -\n' >board.chain; printf 'NET N U1.1 U2.1\n' >board.nets; "
-# 4,000,000 bytes that are a comment, so the text is read whole, and an address space that is too small for it.
-LARGE = r"printf 'BYPASS U1 4\n' >small; { cat small; head -c 4000000 /dev/zero | tr '\0' '#'; } >large; ulimit -v 5000; "
-CHAIN_TEST = (HERE / 'stdout').read_text().split('SIR')[0] + 'SIR 4 TDI (F) TDO (1) MASK (3);\nSDR 9 TDI (0A5) TDO (14A) MASK (1FF);\nSTATE RESET;\n'
+# A log of 60,000,000 bytes, which are a comment, and an address space that holds the program many times and the log not once.
+LARGE = r"head -c 60000000 /dev/zero | tr '\0' '#' >large; ulimit -v 40000; "
+COUNTS = 'DEVICES 2 NETS 72 COVERED 72 PASSES 2 SCANS 19 BYTES 2373\n'
 
 # What is tried, the commands, the exit status, standard output and standard error. They run in a folder with the files of README.md,
 # of which driver.bsd is longer than one read of a file takes.
 ROWS = [
     ('the test of a board', SVF, 0, (HERE / 'stdout').read_text(), ''),
     ('what the test of a board reaches', SVF.replace('svf', 'cover', 1), 0, 'NETS 2 COVERED 2\n', ''),
-    ('a generated board', 'btest make 2', 0, 'DEVICES 2 NETS 72 COVERED 72 PASSES 2 SCANS 19 BYTES 2373\n', ''),
+    ('a generated board', 'btest make 2', 0, COUNTS, ''),
     ('a text without a byte', SVF.replace('svf', 'batch 1 /dev/null', 1), 0, '', ''),
     ('two drivers that are always on', TWO_DRIVERS + 'btest svf board.chain board.nets driver.bsd', 1, '',
      'board.nets line 1 word 4: two drivers always on\n'),
@@ -36,8 +36,8 @@ ROWS = [
     ('a folder in place of a file', 'btest chain .', 3, '', 'cannot read .\n'),
     ('a full standard output', SVF + ' >/dev/full', 4, '', 'cannot write\n'),
     ('a closed standard output', SVF + ' >&-', 4, '', 'cannot write\n'),
-    ('too little memory', LARGE + 'btest chain large', 5, '', 'out of memory\n'),
-    ('a small file in as little memory', LARGE + 'btest chain small', 0, CHAIN_TEST, ''),
+    ('too little memory', LARGE + SVF.replace('svf', 'groups large', 1), 5, '', 'out of memory\n'),
+    ('as little memory, and no log', LARGE + 'btest make 2', 0, COUNTS, ''),
     ('a closed standard error', 'btest chain . 2>&-', 3, '', ''),
 ]
 
