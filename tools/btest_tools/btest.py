@@ -1,0 +1,51 @@
+"""Calling the program btest."""
+
+from __future__ import annotations
+
+import pathlib
+import shutil
+import subprocess
+from typing import Optional, Union
+
+from btest_tools.files import BadInput, Text
+
+BUILT = pathlib.Path(__file__).resolve().parents[2] / "crates/btest/out/btest"
+LOG = "/dev/stdin"  # the word for a log that was read already
+
+
+def default_program() -> str:
+    """Returns the btest on the PATH, else the one of make build."""
+    return shutil.which("btest") or str(BUILT)
+
+
+class Btest:
+    """A program that answers as btest does."""
+
+    def __init__(self, program: str) -> None:
+        self.program = program
+
+    def run(
+        self,
+        command: str,
+        *words: str,
+        begin: Union[str, tuple[str, ...]] = "",
+        log: Optional[Text] = None,
+    ) -> str:
+        """Returns what a command prints. Its refusal is a BadInput. The word LOG among `words`
+        stands for `log`, a text that was read once, as from a pipe."""
+        content = log.text.encode("latin-1") if log else b""
+        try:
+            done = subprocess.run(
+                [self.program, command, *words], input=content, capture_output=True, check=False
+            )
+        except (OSError, ValueError) as error:
+            why = error.strerror if isinstance(error, OSError) else str(error)
+            line = f"cannot run {self.program} as btest, --btest names another: {why}"
+            raise BadInput(line) from None
+        text = done.stdout.decode("utf-8", "replace")
+        lines = done.stderr.decode("utf-8", "replace").splitlines()
+        if done.returncode or not text.startswith(begin):
+            answer = f"{self.program} is not btest, by what it answers to {command}"
+            line = lines[-1] if lines else answer
+            raise BadInput(line.replace(LOG, log.name) if log and LOG in words else line)
+        return text
