@@ -90,6 +90,7 @@ class Board:
     net_of: dict[str, Net]  # by the pins
     names: dict[str, str]  # of each name of the net file the name of the net that LINK lines make
     size: int  # how many bits a row has under EXTEST
+    inert: set[str]  # the parts of the INERT lines
 
     def entities(self) -> dict[str, str]:
         """Returns the entity of each part of the chain, or an empty name."""
@@ -211,6 +212,7 @@ class Files:
         self.links: list[tuple[str, str]] = []  # the series parts, each with a pin
         self.named: list[tuple[str, list[str]]] = []  # the words of the PULL and SUPPLY lines
         self.parts: list[Part] = []
+        self.inert: set[str] = set()
         self.read_nets()
         self.order = {name: place for place, name in enumerate(self.root_of)}
         for number, words in statements(chain):
@@ -241,7 +243,9 @@ class Files:
             self.parts.append(Part(words[0], number_of(where, words[1], range(2, 256))))
         elif kind == "LINK":
             self.link(where, *words)
-        elif kind != "INERT":
+        elif kind == "INERT":
+            self.inert.add(words[0])
+        else:
             self.named.append((where, words))
 
     def root(self, name: str) -> str:
@@ -270,7 +274,9 @@ class Files:
             nets.setdefault(root, Net(root)).joined.append(name)
         net_of = {pin: nets[names[name]] for pin, name in self.pins.items()}
         size = sum(part.cells or 1 for part in self.parts)
-        board = Board(self.chain.name, self.nets.name, self.parts, nets, net_of, names, size)
+        board = Board(
+            self.chain.name, self.nets.name, self.parts, nets, net_of, names, size, self.inert
+        )
         for part, pin in self.links:
             net_of[pin].links.append(part)
         self.name_nets(board)

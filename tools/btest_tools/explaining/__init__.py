@@ -1,0 +1,1 @@
+"""Sets of faults that explain a log, ranked as a technician would."""

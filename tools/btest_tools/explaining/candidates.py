@@ -1,0 +1,281 @@
+"""What may be wrong with one net, or with nets that are tied together.
+
+A component is a list of nets with all smallest sets of faults that give every compared bit of
+them. The bits of the logs are given by a set of components that don't share a net, if every net
+that differs is in one.
+"""
+
+from __future__ import annotations
+
+import itertools
+from collections.abc import Iterable, Iterator, Sequence
+from dataclasses import dataclass, field
+from typing import NamedTuple, Optional
+
+from btest_tools.explaining.faults import Choice, Fault, faults_of
+from btest_tools.explaining.rows import Mismatch, Rows, Wire
+
+FEW = 24  # nets that differ, up to which every two of them are tried for every tie
+DEEP = 3  # faults of one net that are looked for
+WITH_OPENS = 2  # open pins beside a short
+
+
+@dataclass(frozen=True)
+class Component:
+    """Nets, and the choices of faults of which each gives all their bits. All choices have
+    `count` faults."""
+
+    nets: tuple[str, ...]
+    count: int
+    choices: tuple[Choice, ...] = field(compare=False)
+
+
+class View(NamedTuple):
+    """What cells of a net that agree read, in the rows in which one of them is compared."""
+
+    mask: int
+    got: int
+
+    def is_constant(self) -> bool:
+        """Returns whether the cells read one bit in all rows."""
+        return self.got in (0, self.mask)
+
+    def agrees(self, mask: int, bits: int) -> bool:
+        """Returns whether it has these bits in all rows of another mask, and one such row is
+        compared."""
+        common = self.mask & mask
+        return bool(common) and not (self.got ^ bits) & common
+
+
+def views(wire: Wire) -> list[View]:
+    """Returns what the cells of a net read: all that agree together, and each by itself."""
+    merged: list[View] = []
+    for probe in wire.probes:
+        view = View(probe.mask, probe.got)
+        for at, one in enumerate(merged):
+            if not (one.got ^ view.got) & one.mask & view.mask:
+                merged[at] = View(one.mask | view.mask, one.got | view.got)
+                break
+        else:
+            merged.append(view)
+    return list(dict.fromkeys([*merged, *(View(probe.mask, probe.got) for probe in wire.probes)]))
+
+
+class Search:
+    """Looks for components."""
+
+    def __init__(self, rows: Rows) -> None:
+        self.rows = rows
+        self.tried = 0
+
+    # Sets of faults with the same nets
+
+    def mismatch(self, nets: Sequence[str], choice: Choice) -> Optional[Mismatch]:
+        """Returns a cell of these nets that a choice doesn't explain."""
+        self.tried += 1
+        return self.rows.first_mismatch(nets, faults_of(choice))
+
+    def with_opens(self, nets: Sequence[str], choice: Choice, depth: int) -> Iterator[Choice]:
+        """Yields the choice with up to `depth` open pins more, if all bits of the nets follow."""
+        found = self.mismatch(nets, choice)
+        if found is None:
+            yield choice
+        elif depth:
+            for fault in self.remedies(nets, choice, found):
+                yield from self.with_opens(nets, (*choice, fault), depth - 1)
+
+    def remedies(self, nets: Sequence[str], choice: Choice, found: Mismatch) -> Iterator[Fault]:
+        """Yields the open pins that may give a cell the bit that it has in the first row that
+        isn't explained."""
+        probe, row = found.probe, found.rows & -found.rows
+        is_open = {fault.names[0] for fault in choice if fault.kind == "open"}
+        if probe.pin not in is_open and probe.got in (0, probe.mask):
+            yield Fault("open", (probe.pin,), int(bool(probe.got)))
+        for name in nets:
+            for source in self.rows.wires[name].sources:
+                if not source.live & row or source.pin in is_open or source.pin == probe.pin:
+                    continue
+                for value in (0, 1):
+                    fault = Fault("open", (source.pin,), value)
+                    if self.mends(nets, (*choice, fault), found, row):
+                        yield fault
+
+    def mends(self, nets: Sequence[str], choice: Choice, found: Mismatch, row: int) -> bool:
+        """Returns whether a choice gives a cell the bit of a row."""
+        self.tried += 1
+        for one in self.rows.mismatches(nets, faults_of(choice)):
+            if one.probe == found.probe and one.net == found.net:
+                return not one.rows & row
+        return True
+
+    def smallest(
+        self, nets: Sequence[str], bases: Sequence[Choice], most: int
+    ) -> Optional[Component]:
+        """Returns the component of the smallest choices that extend one of the bases."""
+        for count in range(1, most + 1):
+            seen: dict[frozenset[Fault], Choice] = {}
+            for base in bases:
+                if len(base) <= count:
+                    for choice in self.with_opens(nets, base, count - len(base)):
+                        seen.setdefault(frozenset(choice), choice)
+            if seen:
+                return Component(tuple(nets), count, tuple(seen.values()))
+        return None
+
+    # One net
+
+    def single(self, wire: Wire) -> Optional[Component]:
+        """Returns the component of a net by itself."""
+        stuck: list[Choice] = [(Fault("stuck", (wire.name,), value),) for value in (0, 1)]
+        bases: list[Choice] = [(), *stuck]
+        if wire.net.pull is not None:
+            bases.append((Fault("pull", (wire.name,), 1 - wire.net.pull),))
+        return self.smallest([wire.name], bases, DEEP) or self.all_open(wire)
+
+    def all_open(self, wire: Wire) -> Optional[Component]:
+        """Returns the component in which every pin of a net that is wrong is open."""
+        choice: Choice = ()
+        while True:
+            found = self.mismatch([wire.name], choice)
+            if found is None:
+                return Component((wire.name,), len(choice), (choice,))
+            if found.probe.got not in (0, found.probe.mask):
+                return None
+            pin = Fault("open", (found.probe.pin,), int(bool(found.probe.got)))
+            if pin in choice:
+                return None
+            choice = (*choice, pin)
+
+    # Nets that are tied together
+
+    def tie(self, nets: Sequence[str], opens: int) -> Optional[Component]:
+        """Returns the component of a short of these nets."""
+        bases = [(Fault(kind, tuple(nets)),) for kind in ("and", "or")]
+        for first in nets:
+            bases.append((Fault("dom", (first, *(name for name in nets if name != first))),))
+        return self.smallest(nets, bases, 1 + opens)
+
+    def swapped(self, one: Wire, other: Wire) -> Optional[Component]:
+        """Returns the component of two nets of which two pins are exchanged."""
+        names = one.name, other.name
+        found = []
+        for pin, more in itertools.product(pins_of(one), pins_of(other)):
+            if self.mismatch(names, (Fault("swap", (pin, more)),)) is None:
+                found.append((Fault("swap", (pin, more)),))
+        return Component(names, 1, tuple(found)) if found else None
+
+
+def pins_of(wire: Wire) -> list[str]:
+    """Returns the pins of a net that a cell drives or reads."""
+    pins = [source.pin for source in wire.sources] + [probe.pin for probe in wire.probes]
+    return list(dict.fromkeys(pins))
+
+
+class Ties:
+    """Finds the shorts and the exchanged pins among nets that differ, with one net that doesn't
+    where it must be."""
+
+    def __init__(self, search: Search, differing: Sequence[Wire], singles: dict[str, int]) -> None:
+        self.search, self.rows, self.differing = search, search.rows, list(differing)
+        self.singles = singles  # of each net the number of faults that explain it by itself
+        self.views = {wire.name: views(wire) for wire in differing}
+        self.is_few = len(self.differing) <= FEW
+        self.found: dict[frozenset[str], Component] = {}
+        self.tried: set[frozenset[str]] = set()
+        self.alike = {wire.name: self.alike_of(wire) for wire in differing}
+        self.silent = {wire.name: self.silent_of(wire) for wire in differing}
+
+    def alike_of(self, wire: Wire) -> set[str]:
+        """Returns the other nets that differ and have a cell that reads as one of this net."""
+        found = set()
+        for other in self.differing:
+            if other is not wire and any(
+                one.agrees(*two) for one in self.views[wire.name] for two in self.views[other.name]
+            ):
+                found.add(other.name)
+        return found
+
+    def silent_of(self, wire: Wire) -> set[str]:
+        """Returns the nets that don't differ, and of which this net reads the bits."""
+        mine = [view for view in self.views[wire.name] if not view.is_constant()]
+        return {
+            other.name
+            for other in self.rows.wires.values()
+            if other.mask and not other.differs
+            for view in mine
+            if view.agrees(other.mask, other.expected)
+        }
+
+    def keep(self, component: Optional[Component]) -> None:
+        """Keeps a component that has fewer faults than its nets have by themselves."""
+        if component is None:
+            return
+        alone = sum(self.singles.get(name, 99) for name in component.nets)
+        key = frozenset(component.nets)
+        before = self.found.get(key)
+        if component.count < alone and (before is None or component.count < before.count):
+            self.found[key] = component
+        elif before is not None and component.count == before.count:
+            choices = tuple(dict.fromkeys((*before.choices, *component.choices)))
+            self.found[key] = Component(before.nets, before.count, choices)
+
+    def attempt(self, nets: Iterable[str], opens: int) -> bool:
+        """Tries the shorts of some nets. Returns whether one explains them."""
+        names = [name for name in self.rows.wires if name in set(nets)]
+        key = frozenset(names)
+        if len(key) > 1 and key not in self.tried:
+            self.tried.add(key)
+            self.keep(self.search.tie(names, opens if self.is_few else 0))
+        return key in self.found
+
+    def all(self) -> list[Component]:
+        """Returns all components of two nets and more."""
+        for wire in self.differing:
+            for other in sorted(self.silent[wire.name]):
+                self.attempt((wire.name, other), WITH_OPENS)
+            for cluster in self.clusters(wire.name):
+                self.attempt_cluster(cluster)
+        pairs = itertools.combinations(self.differing, 2)
+        for one, two in pairs if self.is_few else ():
+            if self.may_predict(one, two):
+                self.attempt((one.name, two.name), WITH_OPENS)
+            self.keep(self.search.swapped(one, two))
+        return list(self.found.values())
+
+    def clusters(self, name: str) -> Iterator[list[str]]:
+        """Yields lists of nets that read alike, with one net."""
+        near = [other for other in self.rows.wires if other in self.alike[name]]
+        clique = [name]
+        for other in near:
+            if all(other in self.alike[member] for member in clique):
+                clique.append(other)
+        yield clique
+        if len(near) <= FEW:
+            yield from ([name, other] for other in near)
+        if len(near) <= 6:
+            yield from ([name, *pair] for pair in itertools.combinations(near, 2))
+
+    def attempt_cluster(self, cluster: Sequence[str]) -> None:
+        """Tries nets that read alike: by themselves, with a net that they read the bits of, and
+        with one that differs and of which all cells read a constant."""
+        if self.attempt(cluster, WITH_OPENS) or len(cluster) < 2:
+            return
+        for silent in sorted(set.intersection(*(self.silent[name] for name in cluster))):
+            self.attempt((*cluster, silent), WITH_OPENS)
+        for wire in self.differing if self.is_few else ():
+            constant = all(view.is_constant() for view in self.views[wire.name])
+            if constant and wire.name not in cluster:
+                self.attempt((*cluster, wire.name), WITH_OPENS)
+
+    def may_predict(self, one: Wire, other: Wire) -> bool:
+        """Returns whether a short of two nets gives a cell of either what it reads."""
+        names = (one.name, other.name)
+        for kind, order in itertools.product(("and", "or", "dom"), (names, names[::-1])):
+            levels = self.rows.levels(names, faults_of([Fault(kind, order)]))
+            for name in names:
+                wire = self.rows.wires[name]
+                for probe in wire.probes:
+                    wrong = (probe.got ^ wire.expected) & probe.mask
+                    if wrong and not (levels[name].bits ^ probe.got) & probe.mask:
+                        return True
+        return False

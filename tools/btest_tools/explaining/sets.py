@@ -1,0 +1,131 @@
+"""Sets of components that explain logs, in ranks."""
+
+from __future__ import annotations
+
+import itertools
+from collections.abc import Iterator, Sequence
+from dataclasses import dataclass, field
+from typing import Optional
+
+from btest_tools.board import Board
+from btest_tools.explaining.candidates import Component, Search, Ties
+from btest_tools.explaining.faults import Choice, faults_of
+from btest_tools.explaining.nearness import Nearness
+from btest_tools.explaining.prices import Prices, Reading
+from btest_tools.explaining.rows import Log, Rows, rows_of
+from btest_tools.explaining.weights import CAUSES, EACH, RANKS
+
+TRIED = 400  # sets of components that are priced
+
+
+@dataclass
+class Explanation:
+    """Components that give every compared bit, with the cheapest choices of faults first."""
+
+    components: tuple[Component, ...]
+    readings: list[Reading]
+
+    @property
+    def price(self) -> float:
+        """What the cheapest choices cost."""
+        return self.readings[0].price
+
+    @property
+    def causes(self) -> int:
+        """How many causes the cheapest choices have."""
+        return self.readings[0].causes
+
+
+@dataclass
+class Explained:
+    """What was found of a board's logs. `left` has the nets that nothing explains. Then the sets
+    explain a part of the logs alone."""
+
+    rows: Rows
+    differing: list[str]
+    ranks: list[list[Explanation]] = field(default_factory=list)
+    more: int = 0  # sets beyond the ranks that are told
+    left: list[str] = field(default_factory=list)
+
+
+class Explainer:
+    """Explains the logs of a board."""
+
+    def __init__(self, board: Board, logs: Sequence[Log], nearness: Optional[Nearness] = None):
+        self.rows = rows_of(board, logs)
+        self.search = Search(self.rows)
+        self.prices = Prices(board, nearness or Nearness(board))
+        self.singles: dict[str, Component] = {}
+        self.ties: list[Component] = []
+
+    def explain(self) -> Explained:
+        """Returns the sets of faults that explain the logs."""
+        differing = self.rows.differing()
+        explained = Explained(self.rows, [wire.name for wire in differing])
+        for wire in differing:
+            single = self.search.single(wire)
+            if single:
+                self.singles[wire.name] = single
+        if 1 < len(differing) <= EACH or len(differing) == 1:
+            counts = {name: single.count for name, single in self.singles.items()}
+            self.ties = Ties(self.search, differing, counts).all()
+        tied = {name for tie in self.ties for name in tie.nets}
+        names = explained.differing
+        explained.left = [name for name in names if name not in self.singles and name not in tied]
+        wanted = [name for name in names if name not in explained.left]
+        self.rank(explained, wanted)
+        return explained
+
+    def rank(self, explained: Explained, wanted: Sequence[str]) -> None:
+        """Puts the sets that explain some nets into ranks."""
+        found = []
+        for components in itertools.islice(self.sets(wanted), TRIED):
+            readings = self.prices.readings(components)
+            if readings and self.gives(explained, readings[0].choices):
+                found.append(Explanation(components, readings))
+        found.sort(key=lambda one: one.price)
+        usual = [one for one in found if one.causes <= CAUSES]
+        levels = [list(group) for _, group in itertools.groupby(usual or found[:1], price_of)]
+        explained.ranks = levels[:RANKS]
+        explained.more = sum(map(len, levels[RANKS:]))
+
+    def gives(self, explained: Explained, choices: Sequence[Choice]) -> bool:
+        """Tries a whole set: returns whether it gives every compared bit, but those of the nets
+        that are left."""
+        faults = faults_of(fault for choice in choices for fault in choice)
+        names = self.rows.touched(faults)
+        away = set(explained.differing) - set(names) - set(explained.left)
+        return not away and self.rows.first_mismatch(names, faults) is None
+
+    def sets(self, wanted: Sequence[str]) -> Iterator[tuple[Component, ...]]:
+        """Yields sets of components that share no net and have all of these nets, first those
+        with the least ties."""
+        for most in range(0, CAUSES + 1):
+            yield from self.with_ties(list(wanted), [], self.ties, most)
+
+    def with_ties(
+        self, wanted: list[str], chosen: list[Component], ties: Sequence[Component], most: int
+    ) -> Iterator[tuple[Component, ...]]:
+        """Yields the sets with `most` more ties."""
+        bare = [name for name in wanted if name not in self.singles]
+        if most == 0:
+            if not bare:
+                yield (*chosen, *(self.singles[name] for name in wanted))
+            return
+        for at, tie in enumerate(ties):
+            if bare and bare[0] not in tie.nets:
+                continue
+            after = ties if bare else ties[at + 1 :]
+            free = [one for one in after if not set(one.nets) & set(tie.nets)]
+            rest = [name for name in wanted if name not in tie.nets]
+            yield from self.with_ties(rest, [*chosen, tie], free, most - 1)
+
+
+def price_of(explanation: Explanation) -> float:
+    """Returns what an explanation costs."""
+    return round(explanation.price, 3)
+
+
+def explain(board: Board, logs: Sequence[Log], nearness: Optional[Nearness] = None) -> Explained:
+    """Returns the sets of faults that explain the logs of a board, in ranks."""
+    return Explainer(board, logs, nearness).explain()
