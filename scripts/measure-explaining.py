@@ -1,0 +1,283 @@
+#!/usr/bin/env python3
+"""Puts faults on simulated boards and counts how often tools/btest_tools/explaining finds them: a table for docs/RELIABILITY.md.
+
+    python3 -B scripts/measure-explaining.py --btest PROGRAM [--count 100] [--seed 1] [ROW..]
+
+Each row has its own boards, from a seed. Every fault of a set can be seen: the log is another one without it. A set is found where its class is: what
+is told ties the same nets together, so that both give the same bits at each of these nets; "itself" counts the boards on which the very
+faults are told. Every set that is told is put into btest_tools.model, which shares no code with what found it, and has to give the log
+bit for bit.
+"""
+import argparse
+import itertools
+import pathlib
+import random
+import sys
+import tempfile
+import time
+
+sys.dont_write_bytecode = True
+ROOT = pathlib.Path(__file__).resolve().parents[1]
+sys.path[:0] = [str(ROOT / 'tools'), str(ROOT / 'scripts'), str(ROOT / 'scripts/check-tools')]
+import measured_boards   # noqa: E402
+import seeded_boards   # noqa: E402
+from btest_tools.board import read_board   # noqa: E402
+from btest_tools.btest import Btest   # noqa: E402
+from btest_tools.explaining.faults import Fault, faults_of   # noqa: E402
+from btest_tools.explaining.sets import explain   # noqa: E402
+from btest_tools.model import Model, play   # noqa: E402
+from btest_tools.scans import LogRow, Test   # noqa: E402
+
+
+class Bench:
+    """A board under its test."""
+
+    def __init__(self, program, files, folder):
+        names = []
+        for name, text in files.items():
+            names.append(f'{folder}/{name}')
+            pathlib.Path(names[-1]).write_text(text, encoding='ascii')
+        self.board = read_board(names[0], names[1], names[2:])
+        self.svf = Btest(program).run('svf', *names)
+        self.test, self.model = Test(self.svf), Model(self.board)
+        out = {line.split()[1] for line in Btest(program).run('cover', *names).splitlines()[1:]}
+        self.covered = [net for name, net in self.board.nets.items() if name not in out]
+        self.drivers = {net.name: [d.pin for d in net.drivers if d.pin not in out] for net in self.covered}
+        self.readers = {net.name: [r.pin for r in net.readers if r.pin not in out] for net in self.covered}
+        self.points = [net for net in self.covered if len(self.drivers[net.name]) == 1 and net.pull is None]
+        self.buses = [net for net in self.covered if len(self.drivers[net.name]) > 1 and net.pull is None]
+        self.pulled = [net for net in self.covered if net.pull is not None]
+
+    def rows(self, faults):
+        self.model.put_faults(faults_of(faults))
+        came = play(self.model, self.svf)
+        return [LogRow(want, (want ^ got) & one.mask) for (one, want), got in zip(self.test.wanted(), came)]
+
+    def is_seen(self, faults):
+        """Whether the log changes where any of the faults is taken away."""
+        rows = self.rows(faults)
+        return all(self.rows([one for one in faults if one is not fault]) != rows for fault in faults)
+
+
+def names(rng, nets, count):
+    return tuple(net.name for net in rng.sample(nets, count))
+
+
+def opened(rng, pins):
+    return Fault('open', (rng.choice(pins),), rng.randrange(2))
+
+
+# Rows: each gives the faults of a board, or None where the board can't have such
+
+def three_shorted(rng, bench):
+    return [Fault(rng.choice(['and', 'or']), names(rng, bench.covered, 3))]
+
+
+def short_and_open(rng, bench):
+    nets = names(rng, bench.covered, 2)
+    return [Fault(rng.choice(['and', 'or', 'dom']), nets), opened(rng, bench.drivers[nets[0]] + bench.readers[nets[0]])]
+
+
+def bus_short_open_driver(rng, bench):
+    net = rng.choice(bench.buses)
+    other = rng.choice([one for one in bench.covered if one is not net])
+    return [Fault(rng.choice(['and', 'or']), (net.name, other.name)), opened(rng, bench.drivers[net.name])]
+
+
+def stuck_and_open(rng, bench):
+    net, value = rng.choice(bench.covered), rng.randrange(2)
+    return [Fault('stuck', (net.name,), value), Fault('open', (rng.choice(bench.readers[net.name]),), 1 - value)]
+
+
+def two_open_drivers(rng, bench):
+    pins = rng.sample(bench.drivers[rng.choice(bench.buses).name], 2)
+    return [Fault('open', (pin,), rng.randrange(2)) for pin in pins]
+
+
+def opens_at_part(count):
+    def faults(rng, bench):
+        by_part = {}
+        for net in bench.covered:
+            for pin in bench.readers[net.name]:
+                if pin not in bench.drivers[net.name]:
+                    by_part.setdefault(pin.split('.')[0], []).append(pin)
+        pins = rng.choice([pins for pins in by_part.values() if len(pins) >= count])
+        return [Fault('open', (pin,), 0) for pin in rng.sample(pins, count)]
+    return faults
+
+
+def two_shorts(rng, bench):
+    nets = names(rng, bench.covered, 4)
+    return [Fault(rng.choice(['and', 'or', 'dom']), nets[:2]), Fault(rng.choice(['and', 'or', 'dom']), nets[2:])]
+
+
+def short_and_stuck(rng, bench):
+    nets = names(rng, bench.covered, 3)
+    return [Fault('and', nets[:2]), Fault('stuck', nets[2:], 0)]
+
+
+def exchanged(rng, bench):
+    one, other = rng.sample(bench.points, 2)
+    return [Fault('swap', (bench.drivers[one.name][0], bench.drivers[other.name][0]))]
+
+
+def exchanged_at_part(rng, bench):
+    """Two pins of one part that read."""
+    part = rng.choice(bench.board.parts).name
+    pins = [pin for net in bench.covered for pin in bench.readers[net.name] if pin.split('.')[0] == part]
+    return [Fault('swap', tuple(rng.sample(pins, 2)))]
+
+
+def missing_pull(rng, bench):
+    return [Fault('pull', (rng.choice(bench.pulled).name,), 0)]
+
+
+def missing_pack(rng, bench):
+    pack = [net.name for net in bench.pulled if any(pin.startswith('RN1.') for pin in net.pins)]
+    return [Fault('pull', (name,), 0) for name in pack]
+
+
+def apart(count):
+    """Single faults on nets of their own."""
+    def faults(rng, bench):
+        nets, found = list(bench.covered), []
+        rng.shuffle(nets)
+        for _ in range(count):
+            kind = rng.choice(['stuck', 'open', 'short'])
+            one = nets.pop()
+            if kind == 'stuck':
+                found.append(Fault('stuck', (one.name,), rng.randrange(2)))
+            elif kind == 'open':
+                found.append(opened(rng, bench.drivers[one.name] + bench.readers[one.name]))
+            else:
+                found.append(Fault(rng.choice(['and', 'or', 'dom']), (one.name, nets.pop().name)))
+        return found
+    return faults
+
+
+ROWS = {
+    'short of three nets, AND or OR': three_shorted,
+    'short, and an open pin on one of its nets': short_and_open,
+    'short of a bus net, and an open driver of the bus': bus_short_open_driver,
+    'stuck net with an open pin on it': stuck_and_open,
+    'two open drivers of one bus net': two_open_drivers,
+    '3 open receivers at one part that read 0': opens_at_part(3),
+    '4 open receivers at one part that read 0': opens_at_part(4),
+    '6 open receivers at one part that read 0': opens_at_part(6),
+    '8 open receivers at one part that read 0': opens_at_part(8),
+    'two shorts at once': two_shorts,
+    'short with AND, and a net stuck at 0': short_and_stuck,
+    'two nets exchanged': exchanged,
+    'two receivers of one part exchanged': exchanged_at_part,
+    'a pull resistor that is missing': missing_pull,
+    'a resistor pack that is missing': missing_pack,
+    'two single faults on nets of their own': apart(2),
+    'three single faults on nets of their own': apart(3),
+}
+
+
+def is_told(explanation, faults, board):
+    """Whether a set is, net by net, among the choices of an explanation."""
+    for component in explanation.components:
+        mine = {canonical(fault) for fault in faults if set(fault.nets(board)) <= set(component.nets)}
+        if mine not in [set(map(canonical, choice)) for choice in component.choices]:
+            return False
+    return True
+
+
+def is_class(explanation, faults, board):
+    """Whether an explanation ties the nets of a set together as the set does, and has no other nets. Then both give the same bits at
+    all cells of each of its components, so no reading of the log tells them apart there."""
+    nets = [set(component.nets) for component in explanation.components]
+    of_faults = [set(fault.nets(board)) for fault in faults]
+    return all(any(mine <= one for one in nets) for mine in of_faults) and all(
+        one == set().union(*(mine for mine in of_faults if mine <= one)) and is_tied(one, of_faults) for one in nets)
+
+
+def is_tied(nets, of_faults):
+    """Whether faults tie all of some nets together."""
+    reached = {min(nets)}
+    while True:
+        more = reached.union(*(mine for mine in of_faults if mine & reached))
+        if more == reached:
+            return reached >= nets
+        reached = more
+
+
+def canonical(fault):
+    """A fault with the names whose order tells nothing in one order."""
+    if fault.kind == 'dom':
+        return fault._replace(names=(fault.names[0], *sorted(fault.names[1:])))
+    return fault._replace(names=tuple(sorted(fault.names)))
+
+
+def rank_of(explained, faults, board, judge_one=is_class):
+    """The rank of the first explanation that is the set by a judgement, or 0."""
+    for rank, explanations in enumerate(explained.ranks, 1):
+        if any(judge_one(one, faults, board) for one in explanations):
+            return rank
+    return 0
+
+
+def judge(bench, faults, tally):
+    """Explains a board with these faults."""
+    rows = bench.rows(faults)
+    begun = time.process_time()
+    explained = explain(bench.board, [(bench.test, rows)])
+    tally['seconds'] = max(tally['seconds'], time.process_time() - begun)
+    rank = rank_of(explained, faults, bench.board)
+    tally['first'] += rank == 1
+    tally['third'] += rank > 0
+    tally['itself'] += rank_of(explained, faults, bench.board, is_told) > 0
+    touched = {net for fault in faults for net in fault.nets(bench.board)}
+    for at, explanation in enumerate(itertools.chain(*explained.ranks)):
+        for reading in explanation.readings:
+            told = [fault for choice in reading.choices for fault in choice]
+            tally['told'] += 1
+            if bench.rows(told) != rows:
+                tally['wrong'] += 1
+        if at == 0:
+            tally['sound'] += bool({name for component in explanation.components for name in component.nets} - touched)
+    return rank
+
+
+def measure(program, row, count, seed, verbose):
+    tally = dict.fromkeys(('boards', 'first', 'third', 'itself', 'sound', 'told', 'wrong', 'seconds'), 0)
+    number = 0
+    with tempfile.TemporaryDirectory() as folder:
+        while tally['boards'] < count:
+            number += 1
+            rng = random.Random(f'{seed} {row} {number}')
+            made = seeded_boards if number % 4 == 0 else measured_boards
+            try:
+                bench = Bench(program, made.made(f'{seed}-{row}-{number}'), folder)
+                faults = ROWS[row](rng, bench)
+            except (ValueError, IndexError):   # the board can't have such faults
+                continue
+            if not faults or not bench.is_seen(faults):
+                continue
+            tally['boards'] += 1
+            rank = judge(bench, faults, tally)
+            if verbose and rank != 1:
+                print(f'  {made.__name__} {number}: rank {rank} of {[fault.line() for fault in faults]}', flush=True)
+    return tally
+
+
+def main():
+    words = argparse.ArgumentParser(description=__doc__.split('\n\n')[0])
+    words.add_argument('--btest', metavar='PROGRAM', required=True)
+    words.add_argument('--count', type=int, default=100, help='boards a row (100)')
+    words.add_argument('--seed', default='1')
+    words.add_argument('--verbose', action='store_true', help='tells of each set that is not first')
+    words.add_argument('rows', metavar='ROW', nargs='*', help='a part of the name of a row; all rows if left out')
+    chosen = words.parse_args()
+    print('| what is wrong with the board | boards | first | first three | itself | sound nets first | told | wrong | seconds at most |')
+    print('|---|---:|---:|---:|---:|---:|---:|---:|---:|')
+    for row in ROWS:
+        if not chosen.rows or any(word in row for word in chosen.rows):
+            t = measure(chosen.btest, row, chosen.count, chosen.seed, chosen.verbose)
+            print(f'| {row} | {t["boards"]} | {t["first"]} | {t["third"]} | {t["itself"]} | {t["sound"]} | {t["told"]} | {t["wrong"]} | {t["seconds"]:.2f} |', flush=True)
+
+
+if __name__ == '__main__':
+    main()
