@@ -24,6 +24,7 @@ import seeded_boards   # noqa: E402
 from btest_tools.board import read_board   # noqa: E402
 from btest_tools.btest import Btest   # noqa: E402
 from btest_tools.explaining.faults import Fault, faults_of   # noqa: E402
+from btest_tools.explaining.rows import rows_of   # noqa: E402
 from btest_tools.explaining.sets import explain   # noqa: E402
 from btest_tools.model import Model, play   # noqa: E402
 from btest_tools.scans import LogRow, Test   # noqa: E402
@@ -48,15 +49,30 @@ class Bench:
         self.buses = [net for net in self.covered if len(self.drivers[net.name]) > 1 and net.pull is None]
         self.pulled = [net for net in self.covered if net.pull is not None]
 
+        expected = [LogRow(want, 0) for _, want in self.test.wanted()]
+        self.good = rows_of(self.board, [(self.test, expected)])
+
     def rows(self, faults):
+        """The log of the board with faults, by the model that works scan by scan."""
         self.model.put_faults(faults_of(faults))
+        self.model.fights.clear()
         came = play(self.model, self.svf)
         return [LogRow(want, (want ^ got) & one.mask) for (one, want), got in zip(self.test.wanted(), came)]
 
+    def is_decided(self, faults):
+        """Whether no net has two drivers, and so the model chooses no bit."""
+        self.rows(faults)
+        return not self.model.fights
+
+    def seen(self, faults):
+        """What the test shows of faults, by the quick model: for each cell the rows in which it differs."""
+        model = faults_of(faults)
+        return {(one.net, one.probe.pin, one.rows) for one in self.good.mismatches(self.good.touched(model), model)}
+
     def is_seen(self, faults):
         """Whether the log changes where any of the faults is taken away."""
-        rows = self.rows(faults)
-        return all(self.rows([one for one in faults if one is not fault]) != rows for fault in faults)
+        whole = self.seen(faults)
+        return all(self.seen([one for one in faults if one is not fault]) != whole for fault in faults)
 
 
 def names(rng, nets, count):
@@ -219,15 +235,19 @@ def rank_of(explained, faults, board, judge_one=is_class):
     return 0
 
 
+COUNTS = ('boards', 'first', 'first three', 'itself', 'sound nets first', 'told', 'wrong', 'seconds at most')
+
+
 def judge(bench, faults, tally):
     """Explains a board with these faults."""
+    tally['boards'] += 1
     rows = bench.rows(faults)
     begun = time.process_time()
     explained = explain(bench.board, [(bench.test, rows)])
-    tally['seconds'] = max(tally['seconds'], time.process_time() - begun)
+    tally['seconds at most'] = max(tally['seconds at most'], time.process_time() - begun)
     rank = rank_of(explained, faults, bench.board)
     tally['first'] += rank == 1
-    tally['third'] += rank > 0
+    tally['first three'] += rank > 0
     tally['itself'] += rank_of(explained, faults, bench.board, is_told) > 0
     touched = {net for fault in faults for net in fault.nets(bench.board)}
     for at, explanation in enumerate(itertools.chain(*explained.ranks)):
@@ -237,30 +257,27 @@ def judge(bench, faults, tally):
             if bench.rows(told) != rows:
                 tally['wrong'] += 1
         if at == 0:
-            tally['sound'] += bool({name for component in explanation.components for name in component.nets} - touched)
+            tally['sound nets first'] += bool({name for component in explanation.components for name in component.nets} - touched)
     return rank
 
 
-def measure(program, row, count, seed, verbose):
-    tally = dict.fromkeys(('boards', 'first', 'third', 'itself', 'sound', 'told', 'wrong', 'seconds'), 0)
-    number = 0
-    with tempfile.TemporaryDirectory() as folder:
-        while tally['boards'] < count:
-            number += 1
+def cases(program, rows, count, seed):
+    """Boards, each with a set of faults of each row that still needs one."""
+    left, number = dict.fromkeys(rows, count), 0
+    while any(left.values()):
+        number += 1
+        made = (measured_boards, measured_boards, seeded_boards)[number % 3]
+        with tempfile.TemporaryDirectory() as folder:
+            bench = Bench(program, made.made(f'{seed}-{number}'), folder)
+        for row in (row for row in rows if left[row]):
             rng = random.Random(f'{seed} {row} {number}')
-            made = seeded_boards if number % 4 == 0 else measured_boards
             try:
-                bench = Bench(program, made.made(f'{seed}-{row}-{number}'), folder)
-                faults = ROWS[row](rng, bench)
+                faults = next((faults for faults in (ROWS[row](rng, bench) for _ in range(5)) if faults and bench.is_seen(faults)), None)
             except (ValueError, IndexError):   # the board can't have such faults
                 continue
-            if not faults or not bench.is_seen(faults):
-                continue
-            tally['boards'] += 1
-            rank = judge(bench, faults, tally)
-            if verbose and rank != 1:
-                print(f'  {made.__name__} {number}: rank {rank} of {[fault.line() for fault in faults]}', flush=True)
-    return tally
+            if faults and bench.is_decided(faults):
+                left[row] -= 1
+                yield row, bench, faults, f'{made.__name__} {seed}-{number}'
 
 
 def main():
@@ -271,12 +288,15 @@ def main():
     words.add_argument('--verbose', action='store_true', help='tells of each set that is not first')
     words.add_argument('rows', metavar='ROW', nargs='*', help='a part of the name of a row; all rows if left out')
     chosen = words.parse_args()
-    print('| what is wrong with the board | boards | first | first three | itself | sound nets first | told | wrong | seconds at most |')
-    print('|---|---:|---:|---:|---:|---:|---:|---:|---:|')
-    for row in ROWS:
-        if not chosen.rows or any(word in row for word in chosen.rows):
-            t = measure(chosen.btest, row, chosen.count, chosen.seed, chosen.verbose)
-            print(f'| {row} | {t["boards"]} | {t["first"]} | {t["third"]} | {t["itself"]} | {t["sound"]} | {t["told"]} | {t["wrong"]} | {t["seconds"]:.2f} |', flush=True)
+    rows = [row for row in ROWS if not chosen.rows or any(word in row for word in chosen.rows)]
+    tallies = {row: dict.fromkeys(COUNTS, 0) for row in rows}
+    for row, bench, faults, board in cases(chosen.btest, rows, chosen.count, chosen.seed):
+        rank = judge(bench, faults, tallies[row])
+        if chosen.verbose and rank != 1:
+            print(f'{row}: {board}: rank {rank} of {[fault.line() for fault in faults]}', file=sys.stderr, flush=True)
+    print('| what is wrong with the board | ' + ' | '.join(COUNTS) + ' |\n|---' + '|---:' * len(COUNTS) + '|')
+    for row, tally in tallies.items():
+        print(f'| {row} | ' + ' | '.join(f'{value:.2f}' if isinstance(value, float) else str(value) for value in tally.values()) + ' |')
 
 
 if __name__ == '__main__':

@@ -158,6 +158,9 @@ class State:
 
     def __init__(self, part: Part) -> None:
         self.part = part
+        entries = [(entry, part.pins.get(entry.place, "")) for entry in part.entries]
+        self.reading = [(entry, pin) for entry, pin in entries if entry.function in READING]
+        self.driving = [(entry, pin) for entry, pin in entries if entry.function in DRIVING]
         self.latches = [0] * part.cells
         self.instruction = ""
         self.reset()
@@ -181,9 +184,8 @@ class State:
         if self.instruction not in BOUNDARY:
             return self.part.identity if self.instruction == "IDCODE" else [0]
         row = [0] * len(self.latches)
-        for entry in self.part.entries:
-            if entry.function in READING:
-                row[entry.cell] = levels.bit(self.part.pins.get(entry.place, ""))
+        for entry, pin in self.reading:
+            row[entry.cell] = levels.bit(pin)
         return row
 
     def update(self, register: str, row: list[int]) -> None:
@@ -196,11 +198,9 @@ class State:
 
     def live(self) -> Iterator[tuple[str, int]]:
         """Yields the pins that drive, each with its bit."""
-        for entry in self.part.entries if self.instruction == "EXTEST" else []:
-            if entry.function not in DRIVING:
-                continue
+        for entry, pin in self.driving if self.instruction == "EXTEST" else []:
             if entry.control < 0 or self.latches[entry.control] != entry.disable:
-                yield self.part.pins.get(entry.place, ""), self.latches[entry.cell]
+                yield pin, self.latches[entry.cell]
 
 
 @dataclass
@@ -227,6 +227,8 @@ class Model:
         self.fights: set[str] = set()
         self.faults = Faults()
         self.nets: dict[str, str] = {}
+        nets = board.nets.values()
+        self.pulls = {net.name: net.pull for net in nets if net.pull is not None}
         self.put_faults(Faults())
 
     def set_faults(self, text: str) -> None:
@@ -253,8 +255,7 @@ class Model:
         for net, [(pin, bit), *others] in live.items():
             if not others:
                 (broken if pin in opens else fed)[net] = opens.get(pin, bit)
-        pulls = {net.name: net.pull for net in self.board.nets.values() if net.pull is not None}
-        pulls.update(self.faults.pulls)
+        pulls = {**self.pulls, **self.faults.pulls}
         held = {net: bit for net, bit in pulls.items() if net not in live or net in broken}
         bits = {**broken, **held, **fed}
         for short in self.faults.shorts:

@@ -8,7 +8,7 @@ that differs is in one.
 from __future__ import annotations
 
 import itertools
-from collections.abc import Iterable, Iterator, Sequence
+from collections.abc import Iterable, Iterator, Mapping, Sequence
 from dataclasses import dataclass, field
 from typing import NamedTuple, Optional
 
@@ -28,6 +28,10 @@ class Component:
     nets: tuple[str, ...]
     count: int
     choices: tuple[Choice, ...] = field(compare=False)
+
+
+# Of the names of nets, or of one net, the faults that btest names for them.
+Proved = Mapping[str, Sequence[Fault]]
 
 
 class View(NamedTuple):
@@ -64,15 +68,14 @@ def views(wire: Wire) -> list[View]:
 class Search:
     """Looks for components."""
 
-    def __init__(self, rows: Rows) -> None:
+    def __init__(self, rows: Rows, proved: Optional[Proved] = None) -> None:
         self.rows = rows
-        self.tried = 0
+        self.proved = proved  # what btest says of nets and pairs, if it was asked
 
     # Sets of faults with the same nets
 
     def mismatch(self, nets: Sequence[str], choice: Choice) -> Optional[Mismatch]:
         """Returns a cell of these nets that a choice doesn't explain."""
-        self.tried += 1
         return self.rows.first_mismatch(nets, faults_of(choice))
 
     def with_opens(self, nets: Sequence[str], choice: Choice, depth: int) -> Iterator[Choice]:
@@ -102,7 +105,6 @@ class Search:
 
     def mends(self, nets: Sequence[str], choice: Choice, found: Mismatch, row: int) -> bool:
         """Returns whether a choice gives a cell the bit of a row."""
-        self.tried += 1
         for one in self.rows.mismatches(nets, faults_of(choice)):
             if one.probe == found.probe and one.net == found.net:
                 return not one.rows & row
@@ -127,10 +129,21 @@ class Search:
     def single(self, wire: Wire) -> Optional[Component]:
         """Returns the component of a net by itself."""
         stuck: list[Choice] = [(Fault("stuck", (wire.name,), value),) for value in (0, 1)]
-        bases: list[Choice] = [(), *stuck]
+        pulls: list[Choice] = []
         if wire.net.pull is not None:
-            bases.append((Fault("pull", (wire.name,), 1 - wire.net.pull),))
-        return self.smallest([wire.name], bases, DEEP) or self.all_open(wire)
+            pulls = [(Fault("pull", (wire.name,), 1 - wire.net.pull),)]
+        if self.proved is not None and wire.name in self.proved:
+            named = self.named((wire.name,), self.proved[wire.name])
+            both = [*named, *(one for one in pulls if self.mismatch([wire.name], one) is None)]
+            if both:
+                return Component((wire.name,), 1, tuple(both))
+        return self.smallest([wire.name], [(), *stuck, *pulls], DEEP) or self.all_open(wire)
+
+    def named(self, nets: tuple[str, ...], faults: Iterable[Fault]) -> list[Choice]:
+        """Returns the faults that btest names for just these nets. Each gives the bits of the
+        other logs, too, if there are any."""
+        mine = (fault for fault in faults if set(fault.nets(self.rows.board)) == set(nets))
+        return [(fault,) for fault in mine if self.mismatch(nets, (fault,)) is None]
 
     def all_open(self, wire: Wire) -> Optional[Component]:
         """Returns the component in which every pin of a net that is wrong is open."""
@@ -225,8 +238,15 @@ class Ties:
         key = frozenset(names)
         if len(key) > 1 and key not in self.tried:
             self.tried.add(key)
-            self.keep(self.search.tie(names, opens if self.is_few else 0))
+            self.keep(self.proved(names) or self.search.tie(names, opens if self.is_few else 0))
         return key in self.found
+
+    def proved(self, names: Sequence[str]) -> Optional[Component]:
+        """Returns the component of two nets for which btest named shorts."""
+        known = self.search.proved or {}
+        faults = dict.fromkeys(fault for name in names for fault in known.get(name, ()))
+        named = self.search.named(tuple(names), faults) if len(names) == 2 else []
+        return Component(tuple(names), 1, tuple(named)) if named else None
 
     def all(self) -> list[Component]:
         """Returns all components of two nets and more."""
@@ -258,10 +278,13 @@ class Ties:
     def attempt_cluster(self, cluster: Sequence[str]) -> None:
         """Tries nets that read alike: by themselves, with a net that they read the bits of, and
         with one that differs and of which all cells read a constant."""
-        if self.attempt(cluster, WITH_OPENS) or len(cluster) < 2:
+        done = self.attempt(cluster, WITH_OPENS)
+        if len(cluster) < 2:
             return
-        for silent in sorted(set.intersection(*(self.silent[name] for name in cluster))):
+        for silent in sorted(set.intersection(*(self.silent[name] for name in cluster)))[:3]:
             self.attempt((*cluster, silent), WITH_OPENS)
+        if done:
+            return
         for wire in self.differing if self.is_few else ():
             constant = all(view.is_constant() for view in self.views[wire.name])
             if constant and wire.name not in cluster:

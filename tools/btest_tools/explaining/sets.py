@@ -8,12 +8,13 @@ from dataclasses import dataclass, field
 from typing import Optional
 
 from btest_tools.board import Board
-from btest_tools.explaining.candidates import Component, Search, Ties
+from btest_tools.explaining.candidates import Component, Proved, Search, Ties
 from btest_tools.explaining.faults import Choice, faults_of
 from btest_tools.explaining.nearness import Nearness
 from btest_tools.explaining.prices import Prices, Reading
 from btest_tools.explaining.rows import Log, Rows, rows_of
 from btest_tools.explaining.weights import CAUSES, EACH, RANKS
+from btest_tools.model import Faults
 
 TRIED = 400  # sets of components that are priced
 
@@ -35,6 +36,10 @@ class Explanation:
         """How many causes the cheapest choices have."""
         return self.readings[0].causes
 
+    def faults(self) -> Faults:
+        """Returns the cheapest choices as the models take them."""
+        return faults_of(fault for choice in self.readings[0].choices for fault in choice)
+
 
 @dataclass
 class Explained:
@@ -51,9 +56,15 @@ class Explained:
 class Explainer:
     """Explains the logs of a board."""
 
-    def __init__(self, board: Board, logs: Sequence[Log], nearness: Optional[Nearness] = None):
+    def __init__(
+        self,
+        board: Board,
+        logs: Sequence[Log],
+        nearness: Optional[Nearness] = None,
+        proved: Optional[Proved] = None,
+    ) -> None:
         self.rows = rows_of(board, logs)
-        self.search = Search(self.rows)
+        self.search = Search(self.rows, proved)
         self.prices = Prices(board, nearness or Nearness(board))
         self.singles: dict[str, Component] = {}
         self.ties: list[Component] = []
@@ -73,7 +84,8 @@ class Explainer:
         names = explained.differing
         explained.left = [name for name in names if name not in self.singles and name not in tied]
         wanted = [name for name in names if name not in explained.left]
-        self.rank(explained, wanted)
+        if wanted:
+            self.rank(explained, wanted)
         return explained
 
     def rank(self, explained: Explained, wanted: Sequence[str]) -> None:
@@ -126,6 +138,12 @@ def price_of(explanation: Explanation) -> float:
     return round(explanation.price, 3)
 
 
-def explain(board: Board, logs: Sequence[Log], nearness: Optional[Nearness] = None) -> Explained:
-    """Returns the sets of faults that explain the logs of a board, in ranks."""
-    return Explainer(board, logs, nearness).explain()
+def explain(
+    board: Board,
+    logs: Sequence[Log],
+    nearness: Optional[Nearness] = None,
+    proved: Optional[Proved] = None,
+) -> Explained:
+    """Returns the sets of faults that explain the logs of a board, in ranks. `proved` has what
+    btest says of nets that it was asked about: the single faults of each."""
+    return Explainer(board, logs, nearness, proved).explain()
