@@ -12,7 +12,9 @@ from collections.abc import Iterable, Iterator, Mapping, Sequence
 from dataclasses import dataclass, field
 from typing import NamedTuple, Optional
 
+from btest_tools.board import part_of
 from btest_tools.explaining.faults import Choice, Fault, faults_of
+from btest_tools.explaining.patience import Patience
 from btest_tools.explaining.rows import Mismatch, Rows, Wire
 
 FEW = 24  # nets that differ, up to which every two of them are tried for every tie
@@ -22,8 +24,8 @@ WITH_OPENS = 2  # open pins beside a short
 
 @dataclass(frozen=True)
 class Component:
-    """Nets, and the choices of faults of which each gives all their bits. All choices have
-    `count` faults."""
+    """Nets, and the choices of faults of which each gives all their bits. The smallest choices
+    have `count` faults. Another one is a row of open pins at one part."""
 
     nets: tuple[str, ...]
     count: int
@@ -132,12 +134,24 @@ class Search:
         pulls: list[Choice] = []
         if wire.net.pull is not None:
             pulls = [(Fault("pull", (wire.name,), 1 - wire.net.pull),)]
+        found: Optional[Component] = None
         if self.proved is not None and wire.name in self.proved:
             named = self.named((wire.name,), self.proved[wire.name])
             both = [*named, *(one for one in pulls if self.mismatch([wire.name], one) is None)]
-            if both:
-                return Component((wire.name,), 1, tuple(both))
-        return self.smallest([wire.name], [(), *stuck, *pulls], DEEP) or self.all_open(wire)
+            found = Component((wire.name,), 1, tuple(both)) if both else None
+        found = found or self.smallest([wire.name], [(), *stuck, *pulls], DEEP)
+        return self.with_row(wire, found)
+
+    def with_row(self, wire: Wire, found: Optional[Component]) -> Optional[Component]:
+        """Returns a component with the choice in which every pin that is wrong is open, if all of
+        them are at one part, or if there is no other."""
+        row = self.all_open(wire)
+        if found is None or row is None:
+            return found or row
+        pins = row.choices[0]
+        if len(pins) <= found.count or len({part_of(fault.names[0]) for fault in pins}) > 1:
+            return found
+        return Component(found.nets, found.count, (*found.choices, pins))
 
     def named(self, nets: tuple[str, ...], faults: Iterable[Fault]) -> list[Choice]:
         """Returns the faults that btest names for just these nets. Each gives the bits of the
@@ -188,11 +202,20 @@ class Ties:
     """Finds the shorts and the exchanged pins among nets that differ, with one net that doesn't
     where it must be."""
 
-    def __init__(self, search: Search, differing: Sequence[Wire], singles: dict[str, int]) -> None:
+    def __init__(
+        self,
+        search: Search,
+        differing: Sequence[Wire],
+        singles: Mapping[str, int],
+        patience: Patience,
+    ) -> None:
         self.search, self.rows, self.differing = search, search.rows, list(differing)
         self.singles = singles  # of each net the number of faults that explain it by itself
+        self.patience = patience
         self.views = {wire.name: views(wire) for wire in differing}
         self.is_few = len(self.differing) <= FEW
+        self.order = {name: at for at, name in enumerate(self.rows.wires)}
+        self.cliques: set[frozenset[str]] = set()
         self.found: dict[frozenset[str], Component] = {}
         self.tried: set[frozenset[str]] = set()
         self.alike = {wire.name: self.alike_of(wire) for wire in differing}
@@ -234,10 +257,10 @@ class Ties:
 
     def attempt(self, nets: Iterable[str], opens: int) -> bool:
         """Tries the shorts of some nets. Returns whether one explains them."""
-        names = [name for name in self.rows.wires if name in set(nets)]
-        key = frozenset(names)
+        key = frozenset(nets)
         if len(key) > 1 and key not in self.tried:
             self.tried.add(key)
+            names = sorted(key, key=self.order.__getitem__)
             self.keep(self.proved(names) or self.search.tie(names, opens if self.is_few else 0))
         return key in self.found
 
@@ -250,7 +273,8 @@ class Ties:
 
     def all(self) -> list[Component]:
         """Returns all components of two nets and more."""
-        for wire in self.differing:
+        for number, wire in enumerate(self.differing):
+            self.patience.at(number, len(self.differing), "nets with others")
             for other in sorted(self.silent[wire.name]):
                 self.attempt((wire.name, other), WITH_OPENS)
             for cluster in self.clusters(wire.name):
@@ -264,12 +288,16 @@ class Ties:
 
     def clusters(self, name: str) -> Iterator[list[str]]:
         """Yields lists of nets that read alike, with one net."""
-        near = [other for other in self.rows.wires if other in self.alike[name]]
-        clique = [name]
-        for other in near:
-            if all(other in self.alike[member] for member in clique):
-                clique.append(other)
-        yield clique
+        near = sorted(self.alike[name], key=self.order.__getitem__)
+        reach = frozenset((name, *near))
+        if reach not in self.cliques:
+            self.cliques.add(reach)
+            clique, others = [name], self.alike[name]
+            for other in near:
+                if other in others:
+                    clique.append(other)
+                    others = others & self.alike[other] | {*clique}
+            yield clique
         if len(near) <= FEW:
             yield from ([name, other] for other in near)
         if len(near) <= 6:

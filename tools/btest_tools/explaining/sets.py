@@ -11,6 +11,7 @@ from btest_tools.board import Board
 from btest_tools.explaining.candidates import Component, Proved, Search, Ties
 from btest_tools.explaining.faults import Choice, faults_of
 from btest_tools.explaining.nearness import Nearness
+from btest_tools.explaining.patience import Patience
 from btest_tools.explaining.prices import Prices, Reading
 from btest_tools.explaining.rows import Log, Rows, rows_of
 from btest_tools.explaining.weights import CAUSES, EACH, RANKS
@@ -68,18 +69,20 @@ class Explainer:
         self.prices = Prices(board, nearness or Nearness(board))
         self.singles: dict[str, Component] = {}
         self.ties: list[Component] = []
+        self.patience = Patience()
 
     def explain(self) -> Explained:
         """Returns the sets of faults that explain the logs."""
         differing = self.rows.differing()
         explained = Explained(self.rows, [wire.name for wire in differing])
-        for wire in differing:
+        for number, wire in enumerate(differing):
+            self.patience.at(number, len(differing), "nets")
             single = self.search.single(wire)
             if single:
                 self.singles[wire.name] = single
-        if 1 < len(differing) <= EACH or len(differing) == 1:
+        if len(differing) <= EACH:
             counts = {name: single.count for name, single in self.singles.items()}
-            self.ties = Ties(self.search, differing, counts).all()
+            self.ties = Ties(self.search, differing, counts, self.patience).all()
         tied = {name for tie in self.ties for name in tie.nets}
         names = explained.differing
         explained.left = [name for name in names if name not in self.singles and name not in tied]
@@ -91,7 +94,8 @@ class Explainer:
     def rank(self, explained: Explained, wanted: Sequence[str]) -> None:
         """Puts the sets that explain some nets into ranks."""
         found = []
-        for components in itertools.islice(self.sets(wanted), TRIED):
+        for number, components in enumerate(itertools.islice(self.sets(wanted), TRIED)):
+            self.patience.at(number, TRIED, "sets of faults")
             readings = self.prices.readings(components)
             if readings and self.gives(explained, readings[0].choices):
                 found.append(Explanation(components, readings))
