@@ -29,6 +29,11 @@ class Prices:
     def __init__(self, board: Board, nearness: Nearness) -> None:
         self.board, self.nearness = board, nearness
         self.known: dict[Fault, float] = {}
+        self.packs: dict[str, set[str]] = {}  # of each part that may pull the nets that it pulls
+        for net in board.nets.values():
+            for pin in net.pins if net.pull is not None else ():
+                if self.pulls(pin):
+                    self.packs.setdefault(part_of(pin), set()).add(net.name)
 
     def parts(self, fault: Fault) -> list[str]:
         """Returns the parts at which a fault may be one of many that are one cause."""
@@ -85,13 +90,18 @@ class Prices:
                 rows.setdefault(parts[0], []).append(fault)
             else:
                 price, causes = price + self.alone(fault), causes + 1
-        for row in rows.values():
-            values = {fault.value for fault in row if fault.kind == "open"}
-            price += WEIGHTS.cause + WEIGHTS.pin * (len(row) - 1)
-            price += WEIGHTS.mixed if len(values) > 1 else 0
-            price += WEIGHTS.pull if row[0].kind == "pull" else 0
-            causes += 1
+        for part, row in rows.items():
+            price, causes = price + self.row(part, row), causes + 1
         return price, causes
+
+    def row(self, part: str, row: Sequence[Fault]) -> float:
+        """Returns what faults at one part cost together."""
+        values = {fault.value for fault in row if fault.kind == "open"}
+        price = WEIGHTS.cause + (WEIGHTS.mixed if len(values) > 1 else 0)
+        if row[0].kind != "pull":
+            return price + WEIGHTS.pin * (len(row) - 1)
+        whole = {fault.names[0] for fault in row} >= self.packs.get(part, set())
+        return price + WEIGHTS.pull + (0 if whole else WEIGHTS.pin * (len(row) - 1))
 
     def readings(self, components: Sequence[Component]) -> list[Reading]:
         """Returns the cheapest choices, and others of the same price at other parts."""

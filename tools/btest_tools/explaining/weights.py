@@ -27,7 +27,8 @@ class Weights(NamedTuple):
     # Open pins float to one level at one part.
     mixed: float = 1
     # A resistor that isn't fitted or soldered has few pins, an integrated part has many: of a
-    # stuck net with a pull and a missing pull the first is likelier by little.
+    # stuck net with a pull and a missing pull the first is likelier by little. A pack that isn't
+    # fitted takes all of its nets at once, so that they cost no more than one.
     pull: float = 0.5
 
 

@@ -190,7 +190,7 @@ def signature(walk: Rows, explanation: Explanation) -> frozenset[tuple[str, str,
     return frozenset((one.net, one.probe.pin, one.rows) for one in found)
 
 
-def at_parts(board: Board, explained: Explained) -> str:
+def at_parts(explained: Explained) -> str:
     """Returns at which parts the cells are that differ, with how many each has."""
     count: Counter[str] = Counter()
     for wire in explained.rows.differing():
@@ -206,7 +206,7 @@ def at_parts(board: Board, explained: Explained) -> str:
 def text(board: Board, explained: Explained, nearness: Nearness, walk: str) -> Iterator[str]:
     """Yields what is told of the sets. `walk` says what the walking test can do."""
     if len(explained.differing) > 2:
-        yield at_parts(board, explained)
+        yield at_parts(explained)
     if not explained.ranks:
         yield "No set of faults that is looked for gives the bits of the log."
         yield from left(explained)
