@@ -1,0 +1,275 @@
+"""Sets of faults that explain a log. Which there are is worked by hand from the codes of the demo
+board in docs/GUIDE.md: D0 100, D1 010, D2 110, D3 001, A1 101, IRQ 011 in each pass."""
+
+from __future__ import annotations
+
+import unittest
+
+from tests.support import Bed
+
+from btest_tools.explaining.candidates import Component, Search, View, views
+from btest_tools.explaining.faults import Fault, fault_of, faults_of
+from btest_tools.explaining.nearness import Nearness, grid
+from btest_tools.explaining.prices import Prices
+from btest_tools.explaining.rows import rows_of
+from btest_tools.explaining.sets import Explained, explain
+from btest_tools.explaining.weights import WEIGHTS
+from btest_tools.explaining.words import Teller, at_parts, counted, text
+
+# Faults, and for each rank the sets as the lines of their faults, in the order of the nets.
+RANKS = [
+    ("stuck:D0:0 open:U3.5:1", [["stuck D0 0, open U3.5 1"]]),
+    ("and:D0:D1", [["short AND D0 D1"], ["stuck D0 0, stuck D1 0"]]),
+    ("or:D1:A1", [["short OR D1 A1"], ["stuck D1 1, open U1.5 1"]]),
+    ("or:D0:D1", [["short OR D0 D1"]]),
+    # D3 reads 000, which needs all three: D2 and A1 have a 1 together in the first row.
+    ("dom:D3:D1", [["short DOM D3 D1"]]),
+    ("swap:U1.1:U1.2", [["swap U1.1 U1.2"]]),
+    ("stuck:D0:0 open:U3.1:1", [["stuck D0 0 with open U3.1 1"]]),
+    ("open:U1.1:0 open:U3.1:0", [["open U1.1 0 with open U3.1 0"]]),
+    ("open:U4.1:0 open:U4.2:1 open:U4.3:0", [["open U4.1 0, open U4.2 1, open U4.3 0"]]),
+]
+
+
+def look(fault: str) -> tuple[Bed, Explained]:
+    """Explains the demo board with faults."""
+    bed = Bed()
+    return bed, explain(bed.board, [(bed.test, bed.rows(fault))])
+
+
+def told(explained: Explained) -> list[list[str]]:
+    """Returns the cheapest choices of each set, rank by rank."""
+    return [
+        [
+            ", ".join(" with ".join(f.line() for f in choice) for choice in one.readings[0].choices)
+            for one in rank
+        ]
+        for rank in explained.ranks
+    ]
+
+
+class Ranked(unittest.TestCase):
+    """What is found of several faults at once."""
+
+    def test_ranks(self) -> None:
+        for fault, ranks in RANKS:
+            with self.subTest(fault):
+                _, explained = look(fault)
+                self.assertEqual(told(explained)[: len(ranks)], ranks)
+                self.assertEqual(explained.left, [])
+
+    def test_a_good_board(self) -> None:
+        _, explained = look("good")
+        self.assertEqual((explained.differing, explained.ranks), ([], []))
+
+    def test_each_set_gives_the_log(self) -> None:
+        for fault, _ in RANKS:
+            bed, explained = look(fault)
+            rows = bed.rows(fault)
+            for explanation in (one for rank in explained.ranks for one in rank):
+                for reading in explanation.readings:
+                    faults = faults_of(f for choice in reading.choices for f in choice)
+                    bed.model.put_faults(faults)
+                    self.assertEqual(rows, self.rows(bed), fault)
+
+    def rows(self, bed: Bed) -> list[object]:
+        """Returns the log of the model with the faults that it has."""
+        # pylint: disable-next=import-outside-toplevel
+        from btest_tools.model import play
+        from btest_tools.scans import LogRow  # pylint: disable=import-outside-toplevel
+
+        wanted = bed.test.wanted()
+        came = play(bed.model, bed.svf)
+        return [LogRow(want, (want ^ got) & one.mask) for (one, want), got in zip(wanted, came)]
+
+    def test_choices_of_one_net(self) -> None:
+        _, explained = look("pull:IRQ:0")
+        (component,) = explained.ranks[0][0].components
+        lines = {" with ".join(fault.line() for fault in one) for one in component.choices}
+        self.assertEqual(lines, {"stuck IRQ 0", "open U1.8 0", "pull IRQ 0"})
+
+    def test_a_short_of_three_nets(self) -> None:
+        _, explained = look("or:D0:D1:D3")
+        first = explained.ranks[0][0]
+        self.assertEqual(first.components[0].nets, ("D0", "D1", "D3"))
+        self.assertEqual(first.components[0].choices, ((Fault("or", ("D0", "D1", "D3")),),))
+        # D3 has no pin beside one of the others.
+        price = WEIGHTS.cause + WEIGHTS.net + WEIGHTS.apart
+        self.assertEqual((first.price, first.causes), (price, 1))
+
+    def test_a_net_that_does_not_differ(self) -> None:
+        # D0 reads 100 in any case: D2 AND A1 is 100, too.
+        _, explained = look("and:D2:A1:D0")
+        self.assertEqual(explained.differing, ["D2", "A1"])
+        nets = [sorted(one.components[0].nets) for rank in explained.ranks for one in rank]
+        self.assertIn(["A1", "D0", "D2"], nets)
+        self.assertEqual(nets[0], ["A1", "D2"])
+
+    def test_what_nothing_explains(self) -> None:
+        bed = Bed()
+        rows = bed.rows("stuck:D0:0")
+        place = bed.board.nets["A1"].readers[0].place
+        rows[1] = rows[1]._replace(wrong=rows[1].wrong | 1 << place)  # it came and went
+        explained = explain(bed.board, [(bed.test, rows)])
+        self.assertEqual(explained.left, ["A1"])
+        self.assertEqual(told(explained), [["stuck D0 0"]])
+        lines = list(text(bed.board, explained, Nearness(bed.board), ""))
+        self.assertIn("a part of the log", lines[0])
+        self.assertTrue(lines[-1].startswith("They leave A1: "))
+
+    def test_what_btest_names_comes_first(self) -> None:
+        bed = Bed()
+        named = {"D0": [fault_of("stuck D0 0")]}
+        logs = [(bed.test, bed.rows("stuck:D0:0"))]
+        explained = explain(bed.board, logs, None, named)
+        self.assertEqual(told(explained), [["stuck D0 0"]])
+
+    def test_both_logs(self) -> None:
+        # A short in which a 1 wins and two nets stuck at 1 give the same log of the test, but not
+        # of the walking test: there the shorted nets read 1 in two rows alone.
+        bed, walk = Bed(), Bed()
+        # pylint: disable-next=import-outside-toplevel
+        from tests.support import guide_svf
+        from btest_tools.scans import Test  # pylint: disable=import-outside-toplevel
+
+        walk.svf = guide_svf("walk")
+        walk.test = Test(walk.svf)
+        logs = [(bed.test, bed.rows("or:D1:A1")), (walk.test, walk.rows("or:D1:A1"))]
+        self.assertEqual(len(explain(bed.board, logs[:1]).ranks), 2)
+        self.assertEqual(told(explain(bed.board, logs)), [["short OR D1 A1"]])
+
+
+class Pieces(unittest.TestCase):
+    """Views, nearness and prices."""
+
+    def test_views(self) -> None:
+        bed = Bed()
+        rows = rows_of(bed.board, [(bed.test, bed.rows("open:U3.5:1"))])
+        wire = rows.wires["A1"]
+        self.assertEqual(len(views(wire)), 2)
+        self.assertTrue(views(wire)[0].is_constant() != views(wire)[1].is_constant())
+        self.assertTrue(View(6, 2).agrees(3, 2))
+        self.assertFalse(View(6, 2).agrees(3, 0))
+        self.assertFalse(View(6, 2).agrees(1, 0))
+
+    def test_grid(self) -> None:
+        self.assertEqual(grid("12"), (12, 0))
+        self.assertEqual(grid("A7"), (0, 7))
+        self.assertEqual(grid("J1"), (8, 1))  # there is no row I
+        self.assertEqual(grid("AA3"), (20, 3))
+        self.assertIsNone(grid("VCC"))
+        self.assertIsNone(grid("I7"))
+
+    def test_nearness(self) -> None:
+        near = Nearness(Bed().board)
+        self.assertEqual(near.between("D0", "D1"), ("U1.1", "U1.2"))
+        self.assertEqual(near.between("D1", "D0"), ("U1.2", "U1.1"))
+        self.assertIsNone(near.between("D0", "A1"))
+        self.assertTrue(near.are_joined(["D0", "D2", "D1"]))
+        self.assertFalse(near.are_joined(["D0", "D1", "A1"]))
+
+    def test_places(self) -> None:
+        spots = {"U1.1": (0.0, 0.0), "U1.2": (9.0, 0.0), "U1.5": (1.0, 0.0), "U1.6": (2.0, 0.0)}
+        near = Nearness(Bed().board, spots)
+        self.assertEqual(list(near.beside("U1.5")), ["U1.1", "U1.6"])
+        self.assertEqual(near.between("D0", "A1"), ("U1.1", "U1.5"))
+
+    def test_prices_of_faults(self) -> None:
+        board = Bed().board
+        prices = Prices(board, Nearness(board))
+        for line, price in (
+            ("stuck D0 0", 10),
+            ("open U3.5 1", 10),
+            ("short AND D0 D1", 10),
+            ("short OR D0 A1", 11),
+            ("short DOM D1 D0", 11),
+            ("short AND D0 D1 D2", 14),
+            ("pull IRQ 0", 10.5),
+            ("swap U1.1 U1.2", 14),
+        ):
+            fault = fault_of(line) if "swap" not in line else Fault("swap", ("U1.1", "U1.2"))
+            self.assertEqual(prices.alone(fault), price, line)
+
+    def test_prices_of_rows(self) -> None:
+        board = Bed().board
+        prices = Prices(board, Nearness(board))
+        pins = [Fault("open", (f"U4.{number}",), 0) for number in (1, 2, 3)]
+        self.assertEqual(prices.total([(pin,) for pin in pins]), (15, 1))
+        mixed = [*pins, Fault("open", ("U4.4",), 1)]
+        self.assertEqual(prices.total([tuple(mixed)]), (18.5, 1))
+        two = [*pins, Fault("open", ("U3.5",), 0), Fault("stuck", ("IRQ",), 0)]
+        self.assertEqual(prices.total([tuple(two)]), (35, 3))
+
+    def test_rows_are_chosen_over_single_causes(self) -> None:
+        board = Bed().board
+        prices = Prices(board, Nearness(board))
+        one = Component(("D0",), 1, ((fault_of("stuck D0 0"),), (fault_of("open U4.1 0"),)))
+        two = Component(("D1",), 1, ((fault_of("open U4.2 0"),), (fault_of("stuck D1 0"),)))
+        (reading,) = prices.readings([one, two])
+        self.assertEqual(reading.choices, (one.choices[1], two.choices[0]))
+        self.assertEqual((reading.price, reading.causes), (12.5, 1))
+
+    def test_the_smallest_sets(self) -> None:
+        bed = Bed()
+        rows = rows_of(bed.board, [(bed.test, bed.rows("and:D0:D1 open:U3.1:1"))])
+        component = Search(rows).tie(["D0", "D1"], 2)
+        assert component
+        self.assertEqual(component.count, 2)
+        self.assertEqual({len(choice) for choice in component.choices}, {2})
+        self.assertIn((fault_of("short AND D0 D1"), fault_of("open U3.1 1")), component.choices)
+        self.assertIsNone(Search(rows).tie(["D0", "D2"], 2))
+
+
+class Told(unittest.TestCase):
+    """Words."""
+
+    def lines(self, fault: str) -> list[str]:
+        bed, explained = look(fault)
+        return list(text(bed.board, explained, Nearness(bed.board), ""))
+
+    def test_a_short(self) -> None:
+        lines = self.lines("and:D0:D1")
+        self.assertEqual(
+            lines,
+            [
+                "Sets of faults that give every compared bit, the likeliest first:",
+                "  1. one cause",
+                "       D0, D1: short AND D0 D1",
+                "     Next: measure between U1.1 (D0) and U1.2 (D1).",
+                "  2. two causes",
+                "       D0: stuck D0 0",
+                "       D1: stuck D1 0",
+            ],
+        )
+
+    def test_a_row_of_pins(self) -> None:
+        lines = self.lines("open:U4.1:0 open:U4.2:0 open:U4.3:0 open:U4.4:0")
+        self.assertEqual(lines[0], "Pins that differ are at U1 (4), U3 (4), U4 (4).")
+        row = "U4, 4 open pins: U4.1 0 (D0), U4.2 0 (D1), U4.3 0 (D2), U4.4 0 (D3)"
+        self.assertEqual(lines[2:4], ["  1. one cause", f"       {row}"])
+        self.assertEqual(lines[4], "     Next: look at the pins 1, 2, 3, 4 of U4.")
+
+    def test_a_missing_pull(self) -> None:
+        line = self.lines("pull:IRQ:0")[2]
+        self.assertIn("pull IRQ 0 (at RN1.1)", line)
+
+    def test_parts_and_numbers(self) -> None:
+        _, explained = look("stuck:D0:0 open:U3.5:1")
+        parts = "Pins that differ are at U3 (2), U1 (1), U4 (1)."
+        self.assertEqual(at_parts(explained), parts)
+        self.assertEqual(at_parts(look("open:U3.5:1")[1]), "All pins that differ are at U3.")
+        self.assertEqual(counted(1, "cause"), "one cause")
+        self.assertEqual(counted(0, "cause"), "no causes")
+        self.assertEqual(counted(5, "cause"), "5 causes")
+
+    def test_where_to_measure(self) -> None:
+        board = Bed().board
+        teller = Teller(board, Nearness(board))
+        self.assertEqual(teller.probes(["D0", "D1"]), "U1.1 (D0) and U1.2 (D1)")
+        self.assertEqual(teller.probes(["D0", "A1"]), "U1.1 (D0) and U1.5 (A1)")
+        swap = "see whether U1.1 and U1.2 are exchanged"
+        self.assertEqual(self.lines("swap:U1.1:U1.2")[3], f"     Next: {swap}.")
+
+
+if __name__ == "__main__":
+    unittest.main()

@@ -1,0 +1,103 @@
+"""Reading and writing files, and the frame of a program."""
+
+from __future__ import annotations
+
+import os
+import pathlib
+import subprocess
+import sys
+import unittest
+
+from tests.support import DEMO, EXAMPLES, TOOLS, Folder, need, tool
+
+from btest_tools.files import BadInput, read, write_whole
+
+GOOD = str(EXAMPLES / "good.log")
+
+
+class ReadAndWrite(Folder):
+    """Files in and out."""
+
+    def test_a_file_is_read_byte_by_byte(self) -> None:
+        pathlib.Path(self.folder, "f").write_bytes(b"a\r\n\xb5 b")
+        file = read(f"{self.folder}/f")
+        self.assertEqual(file.text, "a\r\n\xb5 b")
+        self.assertEqual(file.lines(), [b"a", b"\xb5 b"])
+
+    def test_what_cannot_be_read_is_told_in_one_line(self) -> None:
+        for name in (f"{self.folder}/missing", self.folder, "a\0b"):
+            with self.assertRaisesRegex(BadInput, "^cannot read "):
+                read(name)
+
+    def test_a_file_is_written_whole(self) -> None:
+        name = f"{self.folder}/page"
+        write_whole(name, "old")
+        write_whole(name, "µ")
+        self.assertEqual(pathlib.Path(name).read_bytes(), "µ".encode())
+        self.assertEqual(os.listdir(self.folder), ["page"])
+        self.assertEqual(os.stat(name).st_mode & 0o777, 0o644)
+
+    def test_bytes_are_written_unchanged(self) -> None:
+        write_whole(f"{self.folder}/log", b"\xff\0")
+        self.assertEqual(pathlib.Path(self.folder, "log").read_bytes(), b"\xff\0")
+
+    def test_what_cannot_be_written_leaves_nothing(self) -> None:
+        os.mkdir(f"{self.folder}/taken")
+        for name in (f"{self.folder}/none/page", f"{self.folder}/taken"):
+            with self.assertRaisesRegex(BadInput, f"^cannot write {name}: "):
+                write_whole(name, "x")
+        self.assertEqual(os.listdir(self.folder), ["taken"])
+
+
+class Frame(Folder):
+    """Streams that fail: one line, and status 1."""
+
+    def run_with(self, **streams: object) -> subprocess.CompletedProcess[str]:
+        words = [sys.executable, "-B", str(TOOLS / "failing-nets.py"), "--btest", need(), GOOD]
+        how = {"stdin": subprocess.DEVNULL, "stderr": subprocess.PIPE, **streams}
+        return subprocess.run(  # type: ignore[call-overload,no-any-return]
+            [*words, *DEMO], encoding="utf-8", check=False, **how
+        )
+
+    def test_standard_output_is_full(self) -> None:
+        with open("/dev/full", "w", encoding="ascii") as full:
+            answer = self.run_with(stdout=full)
+        line = "failing-nets.py: cannot write standard output: No space left on device\n"
+        self.assertEqual((answer.returncode, answer.stderr), (1, line))
+
+    def test_standard_output_is_closed(self) -> None:
+        answer = self.run_with(stdout=None, preexec_fn=lambda: os.close(1))
+        line = "failing-nets.py: cannot write standard output: it is closed\n"
+        self.assertEqual((answer.returncode, answer.stderr), (1, line))
+
+    def test_help_on_a_full_disk(self) -> None:
+        words = [sys.executable, "-B", str(TOOLS / "failing-nets.py"), "--help"]
+        with open("/dev/full", "w", encoding="ascii") as full:
+            answer = subprocess.run(
+                words, stdout=full, stderr=subprocess.PIPE, encoding="utf-8", check=False
+            )
+        self.assertEqual(answer.returncode, 1)
+        self.assertIn("cannot write standard output", answer.stderr)
+        self.assertEqual(answer.stderr.count("\n"), 1)
+
+    def test_the_reader_leaves(self) -> None:
+        ends = os.pipe()
+        os.close(ends[0])
+        with os.fdopen(ends[1], "w") as broken:
+            answer = self.run_with(stdout=broken)
+        self.assertEqual((answer.returncode, answer.stderr), (1, ""))
+
+    def test_a_log_that_is_a_pipe_is_read_once(self) -> None:
+        log = (EXAMPLES / "shorted.log").read_text(encoding="ascii")
+        answer = tool("failing-nets.py", "--btest", need(), "/dev/stdin", *DEMO, stdin=log)
+        self.assertIn("FAIL 1\n  short AND D0 D1\n", answer.stdout)
+        self.assertIn("NET D0 ", answer.stdout)
+
+    def test_a_refusal_names_the_log(self) -> None:
+        answer = tool("failing-nets.py", "--btest", need(), "/dev/null", *DEMO)
+        line = "failing-nets.py: /dev/null: 0 rows of 12\n"
+        self.assertEqual((answer.returncode, answer.stdout, answer.stderr), (1, "", line))
+
+
+if __name__ == "__main__":
+    unittest.main()
