@@ -10,6 +10,7 @@ bit for bit.
 """
 import argparse
 import itertools
+import json
 import pathlib
 import random
 import sys
@@ -261,39 +262,53 @@ def judge(bench, faults, tally):
     return rank
 
 
-def cases(program, rows, count, seed):
-    """Boards, each with a set of faults of each row that still needs one."""
-    left, number = dict.fromkeys(rows, count), 0
-    while any(left.values()):
-        number += 1
-        made = (measured_boards, measured_boards, seeded_boards)[number % 3]
-        with tempfile.TemporaryDirectory() as folder:
-            bench = Bench(program, made.made(f'{seed}-{number}'), folder)
-        for row in (row for row in rows if left[row]):
-            rng = random.Random(f'{seed} {row} {number}')
-            try:
-                faults = next((faults for faults in (ROWS[row](rng, bench) for _ in range(5)) if faults and bench.is_seen(faults)), None)
-            except (ValueError, IndexError):   # the board can't have such faults
-                continue
-            if faults and bench.is_decided(faults):
-                left[row] -= 1
-                yield row, bench, faults, f'{made.__name__} {seed}-{number}'
+def find_faults(bench, row, name):
+    """Faults of a row that a board can have and its test can see, or None."""
+    rng = random.Random(f'{name} {row}')
+    try:
+        for faults in (ROWS[row](rng, bench) for _ in range(5)):
+            if faults and bench.is_seen(faults) and bench.is_decided(faults):
+                return faults
+    except (ValueError, IndexError):   # the board can't have such faults
+        pass
+    return None
 
 
-def main():
+def try_board(program, name, number, tallies, count, verbose):
+    """Puts the faults of each row that still needs a board on the next one."""
+    made = (measured_boards, measured_boards, seeded_boards)[number % 3]
+    with tempfile.TemporaryDirectory() as folder:
+        bench = Bench(program, made.made(name), folder)
+    for row in (row for row, tally in tallies.items() if tally['boards'] < count):
+        faults = find_faults(bench, row, name)
+        rank = judge(bench, faults, tallies[row]) if faults else 1
+        if verbose and rank != 1:
+            print(f'{row}: {made.__name__} {name}: rank {rank} of {[fault.line() for fault in faults]}', file=sys.stderr, flush=True)
+
+
+def options():
     words = argparse.ArgumentParser(description=__doc__.split('\n\n')[0])
     words.add_argument('--btest', metavar='PROGRAM', required=True)
     words.add_argument('--count', type=int, default=100, help='boards a row (100)')
     words.add_argument('--seed', default='1')
+    words.add_argument('--keep', metavar='FILE', help='keeps the counts after each board, and goes on from those that are there')
+    words.add_argument('--seconds', type=float, default=1e9, help='ends after so long; with --keep the next run goes on')
     words.add_argument('--verbose', action='store_true', help='tells of each set that is not first')
     words.add_argument('rows', metavar='ROW', nargs='*', help='a part of the name of a row; all rows if left out')
-    chosen = words.parse_args()
-    rows = [row for row in ROWS if not chosen.rows or any(word in row for word in chosen.rows)]
-    tallies = {row: dict.fromkeys(COUNTS, 0) for row in rows}
-    for row, bench, faults, board in cases(chosen.btest, rows, chosen.count, chosen.seed):
-        rank = judge(bench, faults, tallies[row])
-        if chosen.verbose and rank != 1:
-            print(f'{row}: {board}: rank {rank} of {[fault.line() for fault in faults]}', file=sys.stderr, flush=True)
+    return words.parse_args()
+
+
+def main():
+    chosen, begun = options(), time.monotonic()
+    keep = pathlib.Path(chosen.keep) if chosen.keep else None
+    number, tallies = 0, {row: dict.fromkeys(COUNTS, 0) for row in ROWS if not chosen.rows or any(word in row for word in chosen.rows)}
+    if keep and keep.exists():
+        number, tallies = json.loads(keep.read_text())
+    while time.monotonic() - begun < chosen.seconds and any(tally['boards'] < chosen.count for tally in tallies.values()):
+        number += 1
+        try_board(chosen.btest, f'{chosen.seed}-{number}', number, tallies, chosen.count, chosen.verbose)
+        if keep:
+            keep.write_text(json.dumps([number, tallies]))
     print('| what is wrong with the board | ' + ' | '.join(COUNTS) + ' |\n|---' + '|---:' * len(COUNTS) + '|')
     for row, tally in tallies.items():
         print(f'| {row} | ' + ' | '.join(f'{value:.2f}' if isinstance(value, float) else str(value) for value in tally.values()) + ' |')
