@@ -19,9 +19,9 @@ import time
 
 sys.dont_write_bytecode = True
 ROOT = pathlib.Path(__file__).resolve().parents[1]
-sys.path[:0] = [str(ROOT / 'tools'), str(ROOT / 'scripts'), str(ROOT / 'scripts/check-tools')]
+sys.path[:0] = [str(ROOT / 'tools'), str(ROOT / 'scripts')]
 import measured_boards   # noqa: E402
-import seeded_boards   # noqa: E402
+from tests import seeded_boards   # noqa: E402
 from btest_tools.board import read_board   # noqa: E402
 from btest_tools.btest import Btest   # noqa: E402
 from btest_tools.explaining.faults import Fault, faults_of   # noqa: E402
@@ -56,14 +56,14 @@ class Bench:
     def rows(self, faults):
         """The log of the board with faults, by the model that works scan by scan."""
         self.model.put_faults(faults_of(faults))
-        self.model.fights.clear()
         came = play(self.model, self.svf)
         return [LogRow(want, (want ^ got) & one.mask) for (one, want), got in zip(self.test.wanted(), came)]
 
-    def is_decided(self, faults):
-        """Whether no net has two drivers, and so the model chooses no bit."""
-        self.rows(faults)
-        return not self.model.fights
+    def decided(self, faults):
+        """The log, or None where the model chooses a bit. It chooses none where no net has two drivers and what nothing decides isn't compared."""
+        rows, self.model.free = self.rows(faults), 1
+        others, self.model.free = self.rows(faults), 0
+        return rows if rows == others else None
 
     def seen(self, faults):
         """What the test shows of faults, by the quick model: for each cell the rows in which it differs."""
@@ -239,10 +239,9 @@ def rank_of(explained, faults, board, judge_one=is_class):
 COUNTS = ('boards', 'first', 'first three', 'itself', 'sound nets first', 'told', 'wrong', 'seconds at most')
 
 
-def judge(bench, faults, tally):
+def judge(bench, faults, rows, tally):
     """Explains a board with these faults."""
     tally['boards'] += 1
-    rows = bench.rows(faults)
     begun = time.process_time()
     explained = explain(bench.board, [(bench.test, rows)])
     tally['seconds at most'] = max(tally['seconds at most'], time.process_time() - begun)
@@ -263,12 +262,13 @@ def judge(bench, faults, tally):
 
 
 def find_faults(bench, row, name):
-    """Faults of a row that a board can have and its test can see, or None."""
+    """Faults of a row that a board can have and its test can see, with the log, or None."""
     rng = random.Random(f'{name} {row}')
     try:
         for faults in (ROWS[row](rng, bench) for _ in range(5)):
-            if faults and bench.is_seen(faults) and bench.is_decided(faults):
-                return faults
+            rows = faults and bench.is_seen(faults) and bench.decided(faults)
+            if rows:
+                return faults, rows
     except (ValueError, IndexError):   # the board can't have such faults
         pass
     return None
@@ -280,10 +280,10 @@ def try_board(program, name, number, tallies, count, verbose):
     with tempfile.TemporaryDirectory() as folder:
         bench = Bench(program, made.made(name), folder)
     for row in (row for row, tally in tallies.items() if tally['boards'] < count):
-        faults = find_faults(bench, row, name)
-        rank = judge(bench, faults, tallies[row]) if faults else 1
+        found = find_faults(bench, row, name)
+        rank = judge(bench, *found, tallies[row]) if found else 1
         if verbose and rank != 1:
-            print(f'{row}: {made.__name__} {name}: rank {rank} of {[fault.line() for fault in faults]}', file=sys.stderr, flush=True)
+            print(f'{row}: {made.__name__} {name}: rank {rank} of {[fault.line() for fault in found[0]]}', file=sys.stderr, flush=True)
 
 
 def options():

@@ -11,7 +11,9 @@ import time
 
 from cases import BOARD, EXAMPLES, SECONDS, TOOLS, Skipped, btest, refused, run, same, tool
 
-import simulated_board
+from btest_tools import scans
+from btest_tools.board import read_board
+from btest_tools.model import Model, play
 
 CHAIN = 'simulated-chain.py'
 SETTING = 'adapter driver remote_bitbang\nremote_bitbang host 127.0.0.1\nremote_bitbang port {port}\n'
@@ -45,7 +47,7 @@ def signs(svf):
     """The clocks of an SVF text as remote_bitbang has them, with an R in front of each shift clock. TCK ends low."""
     def clock(tms, tdi=0, read=''):
         return f'{tms << 1 | tdi}{read}{4 | tms << 1 | tdi}'
-    for scan in simulated_board.scans(svf):
+    for scan in scans.scans(svf):
         if scan is None:
             yield from [clock(1)] * 5 + [clock(0)]
             continue
@@ -70,13 +72,13 @@ def play_clocks(program, fault):
         bits = receive(served.port, ''.join(signs(svf)))
         served.end()
     rows = []
-    for scan in filter(None, simulated_board.scans(svf)):
+    for scan in filter(None, scans.scans(svf)):
         row, bits = bits[:scan.size], bits[scan.size:]
         if scan.register == 'dr' and scan.tdo is not None:
-            rows.append(f'{int(row[::-1], 2):0{(scan.size + 3) // 4}X}')
-    board = simulated_board.Board(*map(simulated_board.read, BOARD[:2]), list(map(simulated_board.read, BOARD[2:])))
-    board.set_faults(fault)
-    same(rows, simulated_board.play(board, svf), 'the rows')
+            rows.append(int(row[::-1], 2))
+    model = Model(read_board(*BOARD[:2], BOARD[2:]))
+    model.set_faults(fault)
+    same(rows, play(model, svf), 'the rows')
 
 
 def take_port():
@@ -120,8 +122,7 @@ class OpenOcd:
         """The log of a board with a fault is a stored one, in the bits that are compared."""
         status, said = self.play(fault, LOG.format(svf=svf, log='board.log'))
         assert status == 0 and 'board.log is written' in said, f'status {status}: {said}'
-        masks = [scan.mask for scan in simulated_board.scans((self.folder / svf).read_text())
-                 if scan and scan.register == 'dr' and scan.tdo is not None]
+        masks = [scan.mask for scan in scans.compared_scans((self.folder / svf).read_text())]
         rows = [(self.folder / 'board.log').read_text().split(), (EXAMPLES / name).read_text().split()]
         same(*[[int(row, 16) & mask for row, mask in zip(log, masks)] + [len(log)] for log in rows], f'the rows of {name}')
 

@@ -6,7 +6,7 @@
 
 Faults behave as docs/MODEL.md says under "What a net has at one moment". What is free there is
 chosen here: a pin that drives reads its net, a cell without a net reads 0, and so does a net that
-nothing drives or pulls or that has two drivers.
+nothing drives or pulls or that has two drivers; `model.free` may be set to 1.
 """
 
 from __future__ import annotations
@@ -159,7 +159,7 @@ class State:
     def __init__(self, part: Part) -> None:
         self.part = part
         entries = [(entry, part.pins.get(entry.place, "")) for entry in part.entries]
-        self.reading = [(entry, pin) for entry, pin in entries if entry.function in READING]
+        self.reading = [(entry.cell, pin) for entry, pin in entries if entry.function in READING]
         self.driving = [(entry, pin) for entry, pin in entries if entry.function in DRIVING]
         self.latches = [0] * part.cells
         self.instruction = ""
@@ -184,8 +184,9 @@ class State:
         if self.instruction not in BOUNDARY:
             return self.part.identity if self.instruction == "IDCODE" else [0]
         row = [0] * len(self.latches)
-        for entry, pin in self.reading:
-            row[entry.cell] = levels.bit(pin)
+        opens, nets, bits = levels.opens, levels.nets, levels.bits
+        for cell, pin in self.reading:
+            row[cell] = opens[pin] if pin in opens else bits.get(nets.get(pin, ""), levels.free)
         return row
 
     def update(self, register: str, row: list[int]) -> None:
@@ -205,26 +206,24 @@ class State:
 
 @dataclass
 class Levels:
-    """What each net has at one moment. `nets` has the net of each pin, with pins exchanged."""
+    """What each net has at one moment: `bits`. `nets` has the net of each pin, with pins
+    exchanged. A pin's cell captures the constant of an open pin, else what its net has."""
 
     nets: Mapping[str, str]
     opens: Mapping[str, int]
-    bits: dict[str, int] = field(default_factory=dict)
-
-    def bit(self, pin: str) -> int:
-        """Returns what a pin's cell captures."""
-        if pin in self.opens:
-            return self.opens[pin]
-        return self.bits.get(self.nets.get(pin, ""), 0)
+    bits: dict[str, int]
+    free: int  # what a pin reads that nothing decides
 
 
 class Model:
-    """A board with its registers and its faults. `fights` has the nets that had two drivers."""
+    """A board with its registers and its faults. `fights` has the nets that had two drivers,
+    `free` is what a pin reads that nothing decides."""
 
     def __init__(self, board: Board) -> None:
         self.board = board
         self.states = [State(part) for part in board.parts]
         self.fights: set[str] = set()
+        self.free = 0
         self.faults = Faults()
         self.nets: dict[str, str] = {}
         nets = board.nets.values()
@@ -259,9 +258,9 @@ class Model:
         held = {net: bit for net, bit in pulls.items() if net not in live or net in broken}
         bits = {**broken, **held, **fed}
         for short in self.faults.shorts:
-            bits.update(dict.fromkeys(short.nets, shorted_bit(short, fed, held)))
+            bits.update(dict.fromkeys(short.nets, shorted_bit(short, fed, held, self.free)))
         bits.update(self.faults.stuck)
-        return Levels(self.nets, opens, bits)
+        return Levels(self.nets, opens, bits, self.free)
 
     def reset(self) -> None:
         """Puts the parts in Test-Logic-Reset."""
@@ -284,11 +283,11 @@ class Model:
             place += size
 
 
-def shorted_bit(short: Short, fed: Mapping[str, int], held: Mapping[str, int]) -> int:
+def shorted_bit(short: Short, fed: Mapping[str, int], held: Mapping[str, int], free: int) -> int:
     """Returns the one bit of the nets of a short: of those that are driven, else of those that
-    are pulled."""
+    are pulled, else the bit of what nothing decides."""
     source = fed if any(net in fed for net in short.nets) else held
-    bits = [source[net] for net in short.nets if net in source] or [0]
+    bits = [source[net] for net in short.nets if net in source] or [free]
     if short.kind == "dom" and short.nets[0] in source:
         return source[short.nets[0]]
     return max(bits) if short.kind == "or" else min(bits)

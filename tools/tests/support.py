@@ -15,7 +15,7 @@ from typing import Optional
 ROOT = pathlib.Path(__file__).resolve().parents[2]
 TOOLS, EXAMPLES = ROOT / "tools", ROOT / "examples"
 STORED = ROOT / "crates/stored_test/data"  # the files of the small board of README.md
-sys.path[:0] = [str(TOOLS), str(ROOT / "scripts/check-tools")]
+sys.path.insert(0, str(TOOLS))
 
 # pylint: disable=wrong-import-position
 from btest_tools.board import Board, read_board  # noqa: E402

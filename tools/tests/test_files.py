@@ -54,9 +54,13 @@ class Frame(Folder):
 
     def run_with(self, **streams: object) -> subprocess.CompletedProcess[str]:
         words = [sys.executable, "-B", str(TOOLS / "failing-nets.py"), "--btest", need(), GOOD]
-        how = {"stdin": subprocess.DEVNULL, "stderr": subprocess.PIPE, **streams}
         return subprocess.run(  # type: ignore[call-overload,no-any-return]
-            [*words, *DEMO], encoding="utf-8", check=False, **how
+            [*words, *DEMO],
+            stdin=subprocess.DEVNULL,
+            stderr=subprocess.PIPE,
+            encoding="utf-8",
+            check=False,
+            **streams,
         )
 
     def test_standard_output_is_full(self) -> None:

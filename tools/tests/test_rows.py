@@ -6,6 +6,7 @@ import random
 import unittest
 from collections.abc import Iterator
 
+from tests import seeded_boards
 from tests.support import PROGRAM, Bed, Folder
 
 from btest_tools.explaining.faults import Fault, fault_of, faults_of
@@ -128,9 +129,6 @@ class Seeded(Folder):
         return False
 
     def test_seeded_boards(self) -> None:
-        # pylint: disable-next=import-outside-toplevel,import-error
-        import seeded_boards
-
         compared = 0
         for seed in range(40):
             rng = random.Random(seed)
