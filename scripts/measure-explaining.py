@@ -245,7 +245,7 @@ def judge(bench, faults, rows, tally):
     begun = time.process_time()
     explained = explain(bench.board, [(bench.test, rows)])
     tally['seconds at most'] = max(tally['seconds at most'], time.process_time() - begun)
-    rank = rank_of(explained, faults, bench.board)
+    rank, sound = rank_of(explained, faults, bench.board), set()
     tally['first'] += rank == 1
     tally['first three'] += rank > 0
     tally['itself'] += rank_of(explained, faults, bench.board, is_told) > 0
@@ -257,8 +257,9 @@ def judge(bench, faults, rows, tally):
             if bench.rows(told) != rows:
                 tally['wrong'] += 1
         if at == 0:
-            tally['sound nets first'] += bool({name for component in explanation.components for name in component.nets} - touched)
-    return rank
+            sound = {name for component in explanation.components for name in component.nets} - touched
+            tally['sound nets first'] += bool(sound)
+    return rank, sorted(sound)
 
 
 def find_faults(bench, row, name):
@@ -281,9 +282,10 @@ def try_board(program, name, number, tallies, count, verbose):
         bench = Bench(program, made.made(name), folder)
     for row in (row for row, tally in tallies.items() if tally['boards'] < count):
         found = find_faults(bench, row, name)
-        rank = judge(bench, *found, tallies[row]) if found else 1
-        if verbose and rank != 1:
-            print(f'{row}: {made.__name__} {name}: rank {rank} of {[fault.line() for fault in found[0]]}', file=sys.stderr, flush=True)
+        rank, sound = judge(bench, *found, tallies[row]) if found else (1, [])
+        if verbose and (rank != 1 or sound):
+            faults = [fault.line() for fault in found[0]]
+            print(f'{row}: {made.__name__} {name}: rank {rank} of {faults}; sound {sound}', file=sys.stderr, flush=True)
 
 
 def options():

@@ -243,13 +243,13 @@ class Ties:
         }
 
     def keep(self, component: Optional[Component]) -> None:
-        """Keeps a component that has fewer faults than its nets have by themselves."""
+        """Keeps a component that has no more faults than its nets have by themselves."""
         if component is None:
             return
         alone = sum(self.singles.get(name, 99) for name in component.nets)
         key = frozenset(component.nets)
         before = self.found.get(key)
-        if component.count < alone and (before is None or component.count < before.count):
+        if component.count <= alone and (before is None or component.count < before.count):
             self.found[key] = component
         elif before is not None and component.count == before.count:
             choices = tuple(dict.fromkeys((*before.choices, *component.choices)))
