@@ -17,7 +17,8 @@ from btest_tools.explaining.faults import Choice, Fault, faults_of
 from btest_tools.explaining.patience import Patience
 from btest_tools.explaining.rows import Mismatch, Rows, Wire
 
-FEW = 24  # nets that differ, up to which every two of them are tried for every tie
+FEW = 12  # nets that differ, up to which every two of them are tried for every tie
+ALIKE = 6  # nets that read alike, of which every two and every three are tried
 DEEP = 3  # faults of one net that are looked for
 WITH_OPENS = 2  # open pins beside a short
 
@@ -298,9 +299,8 @@ class Ties:
                     clique.append(other)
                     others = others & self.alike[other] | {*clique}
             yield clique
-        if len(near) <= FEW:
+        if len(near) < ALIKE:
             yield from ([name, other] for other in near)
-        if len(near) <= 6:
             yield from ([name, *pair] for pair in itertools.combinations(near, 2))
 
     def attempt_cluster(self, cluster: Sequence[str]) -> None:

@@ -14,6 +14,9 @@ from btest_tools.explaining.weights import WEIGHTS
 from btest_tools.model import SHORTS
 
 
+STARTS = 6  # parts from which rows of pins are looked for
+
+
 @dataclass(frozen=True)
 class Reading:
     """One choice for each component of a set, with its price and the number of its causes."""
@@ -106,7 +109,7 @@ class Prices:
     def readings(self, components: Sequence[Component]) -> list[Reading]:
         """Returns the cheapest choices, and others of the same price at other parts."""
         found: dict[tuple[Choice, ...], Reading] = {}
-        for first in ("", *self.shared(components)):
+        for first in ("", *self.shared(components)[:STARTS]):
             reading = self.grown(components, [first] if first else [])
             found.setdefault(reading.choices, reading)
         best = min(reading.price for reading in found.values())

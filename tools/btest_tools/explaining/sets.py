@@ -8,7 +8,7 @@ from dataclasses import dataclass, field
 from typing import Optional
 
 from btest_tools.board import Board
-from btest_tools.explaining.candidates import Component, Proved, Search, Ties
+from btest_tools.explaining.candidates import FEW, Component, Proved, Search, Ties
 from btest_tools.explaining.faults import Choice, faults_of
 from btest_tools.explaining.nearness import Nearness
 from btest_tools.explaining.patience import Patience
@@ -17,7 +17,8 @@ from btest_tools.explaining.rows import Log, Rows, rows_of
 from btest_tools.explaining.weights import CAUSES, EACH, RANKS
 from btest_tools.model import Faults
 
-TRIED = 400  # sets of components that are priced
+TRIED = 200  # sets of components that are priced
+TRIED_OF_MANY = 40  # the same if many nets differ
 
 
 @dataclass
@@ -94,8 +95,9 @@ class Explainer:
     def rank(self, explained: Explained, wanted: Sequence[str]) -> None:
         """Puts the sets that explain some nets into ranks."""
         found = []
-        for number, components in enumerate(itertools.islice(self.sets(wanted), TRIED)):
-            self.patience.at(number, TRIED, "sets of faults")
+        most = TRIED if len(wanted) <= FEW else TRIED_OF_MANY
+        for number, components in enumerate(itertools.islice(self.sets(wanted), most)):
+            self.patience.at(number, most, "sets of faults")
             readings = self.prices.readings(components)
             if readings and self.gives(explained, readings[0].choices):
                 found.append(Explanation(components, readings))
@@ -115,9 +117,34 @@ class Explainer:
 
     def sets(self, wanted: Sequence[str]) -> Iterator[tuple[Component, ...]]:
         """Yields sets of components that share no net and have all of these nets, first those
-        with the least ties."""
+        with the least ties. If there are none of few ties, one of many is made."""
+        some = False
         for most in range(0, CAUSES + 1):
-            yield from self.with_ties(list(wanted), [], self.ties, most)
+            for components in self.with_ties(list(wanted), [], self.ties, most):
+                some = True
+                yield components
+        many = [] if some else self.many_ties(wanted)
+        if many:
+            yield tuple(many)
+
+    def many_ties(self, wanted: Sequence[str]) -> list[Component]:
+        """Returns a set of any number of ties, net by net the smallest that fits, or nothing if
+        some net is left."""
+        chosen: dict[str, Component] = {}
+        # A net that doesn't differ is taken only where it must be.
+        sound = {tie: len(set(tie.nets) - set(wanted)) for tie in self.ties}
+        ties = sorted(self.ties, key=lambda tie: (tie.count, sound[tie], len(tie.nets)))
+        bare = [name for name in wanted if name not in self.singles]
+        for name in sorted(bare, key=lambda name: sum(name in tie.nets for tie in ties)):
+            if name in chosen:
+                continue
+            fits = (tie for tie in ties if name in tie.nets and not chosen.keys() & set(tie.nets))
+            tie = next(fits, None)
+            if tie is None:
+                return []
+            chosen.update(dict.fromkeys(tie.nets, tie))
+        alone = [self.singles[name] for name in wanted if name not in chosen]
+        return [*dict.fromkeys(chosen.values()), *alone]
 
     def with_ties(
         self, wanted: list[str], chosen: list[Component], ties: Sequence[Component], most: int
