@@ -14,7 +14,7 @@ from typing import Optional
 
 ROOT = pathlib.Path(__file__).resolve().parents[2]
 TOOLS, EXAMPLES = ROOT / "tools", ROOT / "examples"
-STORED = ROOT / "crates/stored_test/data"  # the files of the small board of README.md
+STORED = ROOT / "crates/btest/data"  # the files of the small board of README.md
 sys.path.insert(0, str(TOOLS))
 
 # pylint: disable=wrong-import-position
