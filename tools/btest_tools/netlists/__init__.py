@@ -1,0 +1,1 @@
+"""Readers of netlists, one module a format, and what they share."""
