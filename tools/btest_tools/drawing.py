@@ -8,14 +8,14 @@ from typing import Dict, Iterable, List, NamedTuple, Tuple
 
 from btest_tools.places import BOTH, BOTTOM, TOP, Place, Places
 
-UNIT = 20  # units of a picture in a millimetre
+UNIT = 20  # units of a picture in a millimeter
 TITLED = 500  # parts that have their names as titles
 CORNERS = 4000  # points of an outline that is drawn as it is
 DOTS = 20_000  # pins that are drawn as faint dots
 
 
 class Box(NamedTuple):
-    """A rectangle, in units of the picture or in millimetres."""
+    """A rectangle, in units of the picture or in millimeters."""
 
     left: float
     top: float
@@ -29,18 +29,18 @@ class Box(NamedTuple):
 
 
 class Frame(NamedTuple):
-    """What a picture shows: its corner and its size in millimetres, and the size of letters."""
+    """What a picture shows: its corner and its size in millimeters, and the size of letters."""
 
     left: float
     top: float
     width: float
     height: float
     letter: float
-    corner: Tuple[float, float]  # the upper left one of the board, in millimetres
+    corner: Tuple[float, float]  # the upper left one of the board, in millimeters
 
     @property
     def radius(self) -> float:
-        """The radius of a mark, in millimetres."""
+        """The radius of a mark, in millimeters."""
         return self.letter * 0.36
 
     def stroke(self, letters: float) -> int:
@@ -61,7 +61,7 @@ class Frame(NamedTuple):
 
 
 def extent(places: Iterable[Place]) -> Box:
-    """Returns the rectangle around the copper of some pins, in millimetres."""
+    """Returns the rectangle around the copper of some pins, in millimeters."""
     boxes = []
     for place in places:
         angle = math.radians(place.angle)

@@ -253,8 +253,8 @@ def table(places: Places, frame: Frame, nets: Sequence[ShownNet], pairs: Sequenc
     heads = "<tr><th class=number></th><th>net</th><th>failing pins</th><th>other pins</th></tr>"
     lines = [f"<div class=wide><table>{heads}{''.join(rows)}</table></div>"]
     if pairs:
-        words = [measure(places, frame, pair) for pair in pairs]
-        lines.append(f"<p>Measure between {some(words)}.</p>")
+        items = [f"<li>{measure(places, frame, pair)}</li>" for pair in pairs[:ROWS]]
+        lines.append(f"<p>Measure between:</p><ul>{''.join(items)}</ul>")
     return "".join(lines)
 
 

@@ -9,7 +9,7 @@ from btest_tools.places import Line, Point
 
 STEP = math.radians(6)  # of the straight pieces in place of an arc
 PIECES = 24  # straight pieces in place of a curve
-FLAT = 1e-9  # square millimetres; three points with a triangle as small as that are on a line
+FLAT = 1e-9  # square millimeters; three points with a triangle as small as that are on a line
 
 
 def swept(center: Point, begin: Point, angle: float) -> Line:

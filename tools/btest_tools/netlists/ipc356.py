@@ -22,8 +22,8 @@ from btest_tools.netlists.net_file import Net, Nets, decoded, last_line, numbere
 from btest_tools.netlists.net_file import refuse, shown
 from btest_tools.places import BOTH, BOTTOM, TOP, Line, Place, Places
 
-INCH = 25.4  # millimetres
-MOST = 10_000.0  # millimetres on a board
+INCH = 25.4  # millimeters
+MOST = 10_000.0  # millimeters on a board
 
 RECORD = re.compile(rb"[03][0-6]7")
 IGNORED = re.compile(rb"[03][0-9][0-9]")
@@ -35,13 +35,13 @@ REST = re.compile(
     rb"(?:M|E)?\s*(?:D[ \d]{1,6})?\s*[PU]?\s*(?:A\s*(\d{1,2}))?\s*"
     rb"(?:X\s*([+-]?)\s*(\d{1,9})\s*Y\s*([+-]?)\s*(\d{1,9})\s*"
     rb"(?:X\s*(\d{0,6})\s*(?:Y\s*(\d{0,6})\s*)?)?(?:R\s*(\d{0,3})\s*)?)?"
-    rb"(?:S\s*\d?\s*)?(?:\s.*)?"
+    rb"(?:S\s*\d?\s*)?"
 )
-EDGE = re.compile(rb"(?:X\s*([+-]?\d{1,9}))?(?:\s*?Y\s*([+-]?\d{1,9}))?\s*")
+EDGE = re.compile(rb"(?:X([+-]?\d{1,9}))?(?:Y([+-]?\d{1,9}))?\s*")
 
 
 class Scale(NamedTuple):
-    """What the numbers of a file mean: millimetres of the last digit, degrees of an angle's."""
+    """What the numbers of a file mean: millimeters of the last digit, degrees of an angle's."""
 
     length: float
     angle: float
@@ -66,7 +66,7 @@ class Point(NamedTuple):
 
 
 def number(sign: bytes, digits: bytes, scale: float, line: int) -> float:
-    """Returns a length in millimetres."""
+    """Returns a length in millimeters."""
     value = int(digits or b"0") * scale
     if value > MOST:
         refuse(line, f"a number out of range: {digits.decode('ascii')}")
@@ -105,7 +105,7 @@ def point_of(text: bytes, scale: Scale, line: int) -> Point:
         text[3:20].strip(),
         text[20:cut].strip(),
         pin.strip() if text[cut : cut + 1] == b"-" else b"",
-        place_of(text[cut + 5 :].strip(b"\r"), scale, line),
+        place_of(text[cut + 5 : cut + 45], scale, line),
     )
 
 

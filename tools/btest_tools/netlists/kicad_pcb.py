@@ -10,7 +10,7 @@ from btest_tools.netlists.lists import Item, Lines, Reader, Wanted
 from btest_tools.netlists.net_file import Net, Nets, decoded, refuse, shown
 from btest_tools.places import BOTH, BOTTOM, TOP, Place, Places, Point
 
-MOST = 10_000.0  # millimetres on a board
+MOST = 10_000.0  # millimeters on a board
 MOST_POINTS = 1 << 18  # of the outline
 
 ENDS = (b"center", b"start", b"mid", b"end")  # in the order in which a shape has them
