@@ -1,7 +1,9 @@
 """The programs that make a net file of a netlist."""
+import pathlib
+import sys
 import tempfile
 
-from cases import EXAMPLES, inside, refused, same, tool
+from cases import EXAMPLES, TOOLS, inside, refused, run, same, tool
 
 # Each program with the demo board in its form, and with a form of nets: NAME is the name of a net, NODE its nodes.
 FORMS = {
@@ -111,8 +113,47 @@ def compare_demo(program):
     same((answer.returncode, answer.stderr), (0, ''), 'the status')
 
 
+def compare_places(program, file):
+    """The forms that have places give the same nets, in the order of their pins."""
+    answer = tool(program, EXAMPLES / file)
+    lines = [(EXAMPLES / 'controller.nets').read_text().splitlines(), answer.stdout.splitlines()]
+    wanted, seen = (sorted([words[1], *sorted(words[2:])] for words in map(str.split, text) if words[:1] == ['NET']) for text in lines)
+    same(seen, wanted, 'the nets')
+    same((answer.returncode, answer.stderr), (0, ''), 'the status')
+
+
+def write_file(program, file, folder):
+    """With -o the net file is that of standard output. Where it can't be written, there is one line and no file."""
+    printed = tool(program, EXAMPLES / file).stdout
+    path = pathlib.Path(folder) / 'out.nets'
+    answer = tool(program, '-o', path, EXAMPLES / file)
+    same((answer.returncode, answer.stdout, answer.stderr), (0, '', ''), 'the status')
+    same(path.read_text(), printed, 'the file')
+    refused(tool(program, '-o', path, '/dev/null'), 'line 1')
+    same(path.read_text(), printed, 'the file after a netlist that is refused')
+    path.unlink()
+    refused(tool(program, '-o', pathlib.Path(folder) / 'none/out.nets', EXAMPLES / file), 'cannot write')
+    refused(tool(program, '-o', '/dev/full', EXAMPLES / file), 'cannot write /dev/full')
+
+
+def bad_output(program, file):
+    """A full disk, a closed output and a reader that leaves: one line, and no traceback."""
+    command = f'{sys.executable} -B {TOOLS / program} {EXAMPLES / file}'
+    for how in (f'{command} >/dev/full', f'{command} >&-', f'{{ sleep .5; {command}; }} | true'):
+        answer = run(['sh', '-c', how])
+        assert answer.stderr.count('\n') == 1 and 'cannot write' in answer.stderr, f'{how}: it says {answer.stderr!r}'
+
+
+PLACES = {'ipc-356-nets.py': 'controller.ipc', 'kicad-pcb-nets.py': 'controller.kicad_pcb'}
+
+
 def check(_program):
     with tempfile.TemporaryDirectory() as folder:
+        for program, file in PLACES.items():
+            yield f'{program} prints the nets of the demo board', lambda: compare_places(program, file)
+        for program, file in (('pads-nets.py', 'controller-pads.asc'), ('ipc-356-nets.py', 'controller.ipc')):
+            yield f'{program} writes a file', lambda: write_file(program, file, folder)
+            yield f'{program}: output that fails', lambda: bad_output(program, file)
         for program in FORMS:
             yield f'{program} prints the nets of the demo board', lambda: compare_demo(program)
             for what, nets, right, told in ALIKE:

@@ -21,6 +21,7 @@ def stands_in_table(name):
 # Words of which the first file isn't there.
 MISSING = [
     ('kicad-nets.py', 'missing'), ('protel-nets.py', 'missing'), ('pads-nets.py', 'missing'), ('telesis-nets.py', 'missing'),
+    ('ipc-356-nets.py', 'missing'), ('kicad-pcb-nets.py', 'missing'),
     ('simulated-chain.py', '0', 'good', 'missing', *BOARD[1:]), ('simulated-chain.py', '0', 'good', *BOARD[:4], 'missing'),
 ]
 

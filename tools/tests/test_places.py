@@ -136,7 +136,7 @@ class KicadPcb(Boards):
                 12,
                 "pin U1.2 is in net 'A' and, by line 6, in net '/b c'",
             ),
-            ("(" * 100_000, 1, "a bracket is not closed"),
+            ("\n" + "(" * 1_000_000, 2, "nested more than 1000 deep"),
             ('(kicad_pcb (net 1 "A', 1, "a string is not closed"),
             ('(kicad_pcb (net 1 "A\\', 1, "a string is not closed"),
         ):

@@ -7,6 +7,7 @@ from typing import Iterator, List, Mapping, Tuple, Union
 
 from btest_tools.netlists.net_file import last_line, refuse
 
+DEEPEST = 1000  # brackets within each other; KiCad's are about ten deep
 MOST_ITEMS = 1 << 20  # words and lists within a list that is yielded
 
 # The names of the lists wanted within a list, each with those wanted within it.
@@ -86,6 +87,9 @@ def skip(text: bytes, begin: int) -> int:
             sign = found[0]
             if sign == b"(":
                 depth += 1
+                if depth > DEEPEST:
+                    line = Lines(text).of(found.start())
+                    refuse(line, f"brackets are nested more than {DEEPEST} deep")
             elif sign == b")":
                 depth -= 1
                 if not depth:
