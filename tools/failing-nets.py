@@ -13,9 +13,10 @@ sys.dont_write_bytecode = True  # no folder of compiled modules beside the tools
 # pylint: disable=wrong-import-position
 from btest_tools.board import read_board  # noqa: E402
 from btest_tools.btest import Btest, default_program  # noqa: E402
-from btest_tools.explaining.nearness import Nearness  # noqa: E402
+from btest_tools.explaining.placed import Placed, neighbor_lines  # noqa: E402
 from btest_tools.failing import Bench, look, show  # noqa: E402
 from btest_tools.files import frame, put, read  # noqa: E402
+from btest_tools.netlists.layout import read_places  # noqa: E402
 from btest_tools.walks import look_at_walk  # noqa: E402
 
 
@@ -27,6 +28,8 @@ def options() -> argparse.Namespace:
     words.add_argument("--walk", action="store_true", help="LOG is of the walking test")
     both = "the log of the board's walking test; a set of faults must explain both"
     words.add_argument("--with-walk", metavar="WALKLOG", help=both)
+    places = "where the pins are: a .kicad_pcb, or a netlist by IPC-D-356"
+    words.add_argument("--places", metavar="FILE", help=places)
     for name in ("log", "chain", "nets"):
         words.add_argument(name, metavar=name.upper())
     words.add_argument("bsdl", metavar="BSDL", nargs="*")
@@ -38,11 +41,13 @@ def main() -> None:
     chosen = options()
     log, files = read(chosen.log), [chosen.chain, chosen.nets, *chosen.bsdl]
     board = read_board(chosen.chain, chosen.nets, chosen.bsdl)
-    bench = Bench(Btest(chosen.btest), files, board, Nearness(board))
+    nearness = Placed(board, read_places(chosen.places) if chosen.places else None)
+    bench = Bench(Btest(chosen.btest), files, board, nearness)
     if chosen.walk:
-        lines = look_at_walk(bench, log)
+        lines = list(look_at_walk(bench, log))
     else:
-        lines = show(bench, look(bench, log, read(chosen.with_walk) if chosen.with_walk else None))
+        seen = look(bench, log, read(chosen.with_walk) if chosen.with_walk else None)
+        lines = [*show(bench, seen), *neighbor_lines(seen.explained, nearness)]
     put("".join(f"{line}\n" for line in lines))
 
 

@@ -16,15 +16,19 @@ sys.dont_write_bytecode = True  # no folder of compiled modules beside the tools
 # pylint: disable=wrong-import-position
 from btest_tools.board import read_board  # noqa: E402
 from btest_tools.btest import Btest, default_program  # noqa: E402
-from btest_tools.explaining.nearness import Nearness  # noqa: E402
+from btest_tools.explaining.placed import Placed  # noqa: E402
 from btest_tools.failing import Bench, look  # noqa: E402
 from btest_tools.files import Text, frame, put, read  # noqa: E402
+from btest_tools.netlists.layout import read_places  # noqa: E402
 from btest_tools.pages.board import board_section, cover_of  # noqa: E402
 from btest_tools.pages.day import day_section  # noqa: E402
 from btest_tools.pages.failed import log_section, walk_section  # noqa: E402
 from btest_tools.pages.frame import page  # noqa: E402
+from btest_tools.pages.places import places_section  # noqa: E402
+from btest_tools.places import Places  # noqa: E402
 from btest_tools.walks import look_at_walk  # noqa: E402
 
+PLACES = "where the pins are, for pictures: a .kicad_pcb, or a netlist by IPC-D-356"
 ABOUT = __doc__.split("\n\n", maxsplit=1)[0]
 
 
@@ -41,6 +45,7 @@ def options() -> argparse.Namespace:
     words.add_argument(
         "--batch", metavar="LOGS", help="the logs of a day's boards, as of btest batch"
     )
+    words.add_argument("--places", metavar="FILE", help=PLACES)
     for name in ("chain", "nets"):
         words.add_argument(name, metavar=name.upper())
     words.add_argument("bsdl", metavar="BSDL", nargs="*")
@@ -48,12 +53,18 @@ def options() -> argparse.Namespace:
 
 
 def sections(
-    bench: Bench, log: Optional[Text], walk: Optional[Text], batch: Optional[Text]
+    bench: Bench,
+    places: Optional[Places],
+    log: Optional[Text],
+    walk: Optional[Text],
+    batch: Optional[Text],
 ) -> Iterator[str]:
     """Yields the sections of the page."""
     cover = cover_of(bench)
     if log:
-        yield from log_section(bench, look(bench, log, walk))
+        seen = look(bench, log, walk)
+        pictures = places_section(bench.board, seen, places) if places else ""
+        yield from log_section(bench, seen, pictures)
     if walk:
         yield from walk_section(list(look_at_walk(bench, walk)))
     if batch:
@@ -74,9 +85,10 @@ def main() -> None:
     files = [chosen.chain, chosen.nets, *chosen.bsdl]
     logs = [read(name) if name else None for name in (chosen.log, chosen.walk, chosen.batch)]
     board = read_board(chosen.chain, chosen.nets, chosen.bsdl)
-    bench = Bench(Btest(chosen.btest), files, board, Nearness(board))
+    places = read_places(chosen.places) if chosen.places else None
+    bench = Bench(Btest(chosen.btest), files, board, Placed(board, places))
     names = [log.name for log in logs if log] + files
-    put(page(title_of(chosen), names, sections(bench, *logs)))
+    put(page(title_of(chosen), names, sections(bench, places, *logs)))
 
 
 if __name__ == "__main__":

@@ -23,8 +23,8 @@ BITS = (
 )
 
 
-def log_section(bench: Bench, seen: Look) -> Iterator[str]:
-    """Yields what is said of the log of a board."""
+def log_section(bench: Bench, seen: Look, pictures: str = "") -> Iterator[str]:
+    """Yields what is said of the log of a board, with the pictures of it, if there are some."""
     passed = seen.head == "PASS"
     kind, verdict = ("pass", "PASS") if passed else ("fail", "FAIL")
     yield f'<h2>The log</h2>\n<p class="verdict {kind}">{verdict}</p>'
@@ -34,6 +34,7 @@ def log_section(bench: Bench, seen: Look) -> Iterator[str]:
     yield f"<p>{counted(len(seen.found), 'net')} not as expected.</p>"
     yield from explanations(bench, seen)
     yield from named_faults(bench.board, seen)
+    yield pictures
     yield "<h2>Nets that differ</h2>"
     if not seen.is_asked:
         yield items_of(list(by_parts(seen.found)))
