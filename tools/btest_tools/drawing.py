@@ -2,6 +2,7 @@
 
 from __future__ import annotations
 
+import itertools
 import math
 from html import escape
 from typing import Dict, Iterable, List, NamedTuple, Tuple
@@ -11,7 +12,7 @@ from btest_tools.places import BOTH, BOTTOM, TOP, Place, Places
 UNIT = 20  # units of a picture in a millimeter
 TITLED = 500  # parts that have their names as titles
 CORNERS = 4000  # points of an outline that is drawn as it is
-DOTS = 20_000  # pins that are drawn as faint dots
+DOTS = 6000  # pins that are drawn as faint dots
 
 
 class Box(NamedTuple):
@@ -76,6 +77,7 @@ def extent(places: Iterable[Place]) -> Box:
 def frame_of(places: Places) -> Frame:
     """Returns the frame of a board, with a margin and room for the scale."""
     points = [Place(x, y, TOP) for line in places.outline for x, y in line]
+    whole = extent(points or itertools.chain(*places.pins.values()))
     box = extent(points + [place for pin in places.pins.values() for place in pin])
     span = max(box.right - box.left, box.bottom - box.top, 1.0)
     letter = span / 32
@@ -86,7 +88,7 @@ def frame_of(places: Places) -> Frame:
         box.right - box.left + 2 * margin,
         box.bottom - box.top + 2 * margin + 1.6 * letter,
         letter,
-        (box.left, box.top),
+        (whole.left, whole.top),
     )
 
 

@@ -7,12 +7,14 @@ from __future__ import annotations
 
 import math
 from html import escape
-from typing import Iterable, Iterator, List, NamedTuple, Sequence, Tuple
+from typing import Iterable, Iterator, List, NamedTuple, Sequence, Set, Tuple
 
+from btest_tools.closeups import Marked, closeups
 from btest_tools.drawing import UNIT, Box, Frame, Shapes, dots_path, extent, frame_of
 from btest_tools.places import BOTTOM, TOP, Place, Places
 
-MARKS = 400  # pins of a kind that are drawn one by one in a view
+MARKS = 200  # pins of a kind that are drawn one by one in a view
+LINES = 40  # lines in a view
 LISTED = 12  # pins of a net in the table
 ROWS = 60  # nets in the table
 
@@ -22,9 +24,13 @@ COLORS = ("#b03a00", "#005f9e", "#00795a", "#a2407f", "#7a6200", "#2f7fb5", "#c0
 STYLE = """
 .board figure { margin: 0; flex: 1 1 22em; min-width: 0; break-inside: avoid; }
 .board .views { display: flex; flex-wrap: wrap; gap: 1em; }
+.board .close { gap: .6em; }
+.board .close figure { flex: 1 1 10em; max-width: 20em; }
+.board .close svg { max-height: 20em; }
 .board figcaption { font-weight: bold; } .board .legend { margin: .3em 0; }
 .board svg { display: block; width: 100%; height: auto; max-height: 34em; margin: 0; }
-@media print { .board svg { max-height: 7.5cm; } .board .views { flex-wrap: nowrap; } }
+@media print { .board svg { max-height: 7cm; } .board .views { flex-wrap: nowrap; }
+  .board .close svg { max-height: 4.5cm; } }
 """
 
 
@@ -57,14 +63,15 @@ class View:
         self._radius = max(1, round(frame.radius * UNIT))
         self._taken: List[Box] = []  # by marks and letters
 
-    def svg(self, name: str, definitions: str, pairs: Sequence[Pair]) -> str:
+    def svg(self, name: str, definitions: str, pairs: Sequence[Pair], opens: Sequence[str]) -> str:
         """Returns the picture."""
         width, height = round(self._frame.width * UNIT), round(self._frame.height * UNIT)
         mirror = f' transform="matrix(-1 0 0 1 {width} 0)"' if self._side == BOTTOM else ""
         used = "".join(
             f'<use href="#{name}-{what}"{mirror}/>' for what in ("both", self._side, "edge")
         )
-        pieces = [*self._others(), *self._lines(pairs), *self._marks(), *self._letters()]
+        pieces = [*self._others(), *self._marks(), *self._rings(opens), *self._lines(pairs)]
+        pieces += self._letters()
         return (
             f'<svg viewBox="0 0 {width} {height}" role="img" aria-label="{escape(self._says())}" '
             f'font-family="sans-serif">{definitions}{used}{"".join(pieces)}{self._scale()}</svg>'
@@ -127,10 +134,21 @@ class View:
                 yield f'<g fill="{net.color}" stroke="#fff" stroke-width="{width}">'
                 yield "".join(circles) + "</g>"
 
+    def _rings(self, opens: Sequence[str]) -> Iterator[str]:
+        """Yields black rings around the pins that may be open."""
+        width = self._frame.stroke(0.12)
+        yield f'<g fill="none" stroke="#000" stroke-width="{width}">'
+        for pin, x, y in self._spots(opens[:MARKS]):
+            yield (
+                f'<circle cx="{x}" cy="{y}" r="{self._radius + width}"><title>{escape(pin)} may '
+                "be open</title></circle>"
+            )
+        yield "</g>"
+
     def _lines(self, pairs: Sequence[Pair]) -> Iterator[str]:
         """Yields the lines between the pins to measure between, and rings on the other side."""
         width = self._frame.stroke(0.14)
-        for pair in pairs[:MARKS]:
+        for pair in pairs[:LINES]:
             ends = [self._end(pin) for pin in pair]
             if None in ends or not any(self._visible(pin) for pin in pair):
                 continue
@@ -267,27 +285,43 @@ def measure(places: Places, frame: Frame, pair: Pair) -> str:
 
 LEGEND = (
     "<p class=legend>&#9679; a failing pin, with the number of its net in the table; &#9675; another "
-    "pin of such a net; a dashed line joins pins to measure between, and a dashed ring is a pin on "
-    "the other side; a box is a part, as far as its pins reach. Places are in mm from the left "
-    "and the upper edge, as seen from the top.</p>"
+    "pin of such a net; a black ring is a pin that may be open; a dashed line joins pins to measure "
+    "between, and a dashed ring is a pin on the other side; a box is a part, as far as its pins "
+    "reach. A close-up has the pins of a part with their names and, in brackets, the numbers of "
+    "their nets. Places are in mm from the left and the upper edge, as seen from the top.</p>"
 )
 
 
-def board(
-    places: Places, nets: Sequence[ShownNet], pairs: Sequence[Pair] = (), name: str = "board"
-) -> str:
-    """Returns the two pictures and the table, as HTML for a page that has STYLE.
+def marked(nets: Sequence[ShownNet], opens: Set[str]) -> Iterator[Marked]:
+    """Yields the pins that a close-up marks."""
+    for net in nets:
+        failing = set(net.failing)
+        for pin in net.pins:
+            is_open = pin in opens
+            yield Marked(pin, net.name, net.color, net.number, pin in failing, is_open)
 
-    `name` must differ among the boards of a page, since the pictures refer to pieces by it.
+
+def board(
+    places: Places,
+    nets: Sequence[ShownNet],
+    pairs: Sequence[Pair] = (),
+    opens: Sequence[str] = (),
+    name: str = "board",
+) -> str:
+    """Returns the pictures and the table, as HTML for a page that has STYLE.
+
+    `pairs` are pins to measure between, `opens` pins that may be open. `name` must differ among the boards of a page, since the pictures refer to pieces by it.
     """
     frame = frame_of(places)
     definitions = Shapes(places, frame).definitions(name)
     views = []
     for side, says in ((TOP, "from the top"), (BOTTOM, "from the bottom, as one looks at it")):
-        svg = View(places, nets, frame, side).svg(name, definitions, pairs)
+        svg = View(places, nets, frame, side).svg(name, definitions, pairs, opens)
         views.append(f"<figure><figcaption>The board {says}</figcaption>{svg}</figure>")
         definitions = ""  # both views use those of the first
+    close = "".join(closeups(places, list(marked(nets, set(opens)))))
     return (
-        f'<div class=board><div class=views>{"".join(views)}</div>{LEGEND}'
+        f'<div class=board><div class=views>{"".join(views)}</div>'
+        f'<div class="views close">{close}</div>{LEGEND}'
         f"{table(places, frame, nets, pairs)}</div>"
     )

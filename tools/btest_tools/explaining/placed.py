@@ -3,10 +3,11 @@ between."""
 
 from __future__ import annotations
 
+from collections import Counter
 from collections.abc import Iterator
 from typing import Optional
 
-from btest_tools.board import Board
+from btest_tools.board import Board, part_of
 from btest_tools.explaining.faults import Fault
 from btest_tools.explaining.nearness import Nearness
 from btest_tools.explaining.sets import Explained
@@ -70,14 +71,28 @@ def neighbor_lines(explained: Explained, nearness: Placed) -> Iterator[str]:
         yield f"and {len(lines) - MOST} more"
 
 
-def measures(board: Board, explained: Explained, nearness: Placed) -> list[tuple[str, str]]:
-    """Returns the pins to measure between by the first set of faults.
+def first_faults(explained: Explained) -> list[Fault]:
+    """Returns the faults of the set that is told first."""
+    for rank in explained.ranks[:1]:
+        return [fault for choice in rank[0].readings[0].choices for fault in choice]
+    return []
 
-    These are two pins of the nets of a short, and an open pin with another pin of its net.
+
+def opens_of(explained: Explained) -> list[str]:
+    """Returns the pins that are open by the set that is told first."""
+    return [fault.names[0] for fault in first_faults(explained) if fault.kind == "open"]
+
+
+def measures(board: Board, explained: Explained, nearness: Placed) -> list[tuple[str, str]]:
+    """Returns the pins to measure between by the set that is told first.
+
+    These are two pins of the nets of a short, and an open pin with another pin of its net, unless
+    its part has several: then the part is what to look at.
     """
     pairs = []
-    for rank in explained.ranks[:1]:
-        for fault in (fault for choice in rank[0].readings[0].choices for fault in choice):
+    parts = Counter(part_of(pin) for pin in opens_of(explained))
+    for fault in first_faults(explained):
+        if fault.kind != "open" or parts[part_of(fault.names[0])] == 1:
             pairs += list(pairs_of(board, fault, nearness))
     return list(dict.fromkeys(pairs))[:MOST]
 

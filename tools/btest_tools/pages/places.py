@@ -4,7 +4,7 @@ from __future__ import annotations
 
 from btest_tools import pictures
 from btest_tools.board import Board
-from btest_tools.explaining.placed import Placed, measures
+from btest_tools.explaining.placed import Placed, measures, opens_of
 from btest_tools.failing import Look
 from btest_tools.places import Places
 
@@ -21,7 +21,8 @@ def places_section(board: Board, seen: Look, places: Places, name: str = "board"
         for number, one in enumerate(seen.found, 1)
     ]
     pairs = measures(board, seen.explained, Placed(board, places))
+    opens = opens_of(seen.explained)
     return (
         f"<style>{pictures.STYLE}</style>\n<h2>Where on the board</h2>\n"
-        f"{pictures.board(places, nets, pairs, name)}"
+        f"{pictures.board(places, nets, pairs, opens, name)}"
     )

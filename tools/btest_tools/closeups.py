@@ -1,0 +1,167 @@
+"""Close-ups of a board: the pins around those that fail, large enough to tell them apart."""
+
+from __future__ import annotations
+
+import math
+from html import escape
+from typing import Dict, Iterator, List, NamedTuple, Sequence, Tuple
+
+from btest_tools.drawing import Box, extent
+from btest_tools.places import BOTH, BOTTOM, TOP, Place, Places
+
+MOST = 4  # close-ups
+PINS = 400  # in a close-up
+AROUND = 4.5  # pitches around the pins that fail
+WIDTH = 1000  # units of a close-up
+SMALLEST = 4.0  # millimeters of a close-up
+
+
+class Marked(NamedTuple):
+    """A pin with a mark: its name, its net, the color and the number of that, and whether it
+    fails and whether it may be open."""
+
+    pin: str
+    net: str
+    color: str
+    number: int
+    fails: bool
+    is_open: bool
+
+
+class CloseUp:
+    """The pins of one part that are marked on one side, and what is around them."""
+
+    def __init__(self, places: Places, part: str, side: str, marked: Sequence[Marked]) -> None:
+        self._places = places
+        self._part = part
+        self._side = side
+        self._marked = {one.pin: one for one in marked}
+        pitch = places.pitch(part)
+        around = AROUND * pitch if math.isfinite(pitch) else SMALLEST / 2
+        mine = [one.pin for one in marked if one.pin.startswith(part + ".")]
+        spots = [spot for pin in mine for spot in places.of(pin) if spot.is_on(side)]
+        whole = [spot for pin in places.parts[part] for spot in places.of(pin)]
+        self._window = window(extent(spots), extent(whole), around)
+        self._scale = WIDTH / (self._window.right - self._window.left)
+        self._height = (self._window.bottom - self._window.top) * self._scale
+
+    def _visible(self) -> List[Tuple[str, Place]]:
+        """Returns the pins in the window, those of the part first."""
+        box = self._window
+        found = [
+            (pin, spot)
+            for pin, spots in self._places.pins.items()
+            for spot in spots
+            if spot.is_on(self._side)
+            and box.left <= spot.x <= box.right
+            and box.top <= spot.y <= box.bottom
+        ]
+        found.sort(key=lambda item: not item[0].startswith(self._part + "."))
+        return found[:PINS]
+
+    def _at(self, x: float, y: float) -> Tuple[float, float]:
+        across = x - self._window.left if self._side != BOTTOM else self._window.right - x
+        return across * self._scale, (y - self._window.top) * self._scale
+
+    def _corners(self, spot: Place) -> str:
+        """Returns the copper of a pin as a path."""
+        angle = math.radians(spot.angle)
+        cos, sin = math.cos(angle), math.sin(angle)
+        width, height = max(spot.width, 0.1) / 2, max(spot.height, 0.1) / 2
+        points = []
+        for x, y in ((-width, -height), (width, -height), (width, height), (-width, height)):
+            point = self._at(spot.x + x * cos + y * sin, spot.y + y * cos - x * sin)
+            points.append(f"{point[0]:.0f} {point[1]:.0f}")
+        return "M" + "L".join(points) + "z"
+
+    def svg(self) -> str:
+        """Returns the picture."""
+        visible = self._visible()
+        plain = "".join(self._corners(spot) for pin, spot in visible if pin not in self._marked)
+        marks = [
+            self._mark(self._marked[pin], spot) for pin, spot in visible if pin in self._marked
+        ]
+        letters = [
+            self._letter(self._marked[pin], spot) for pin, spot in visible if pin in self._marked
+        ]
+        says = f"The pins of {self._part} from the {self._side}: " + ", ".join(
+            pin for pin, _ in visible if pin in self._marked
+        )
+        return (
+            f'<svg viewBox="0 0 {WIDTH} {self._height:.0f}" role="img" aria-label="{escape(says)}" '
+            f'font-family="sans-serif"><path d="{plain}" fill="#ddd" stroke="#999" '
+            f'stroke-width="3"/>{"".join(marks)}<g font-size="{self._letter_size():.0f}" '
+            f'text-anchor="middle" font-weight="bold" stroke="#fff" stroke-width="12" '
+            f'paint-order="stroke">{"".join(letters)}</g></svg>'
+        )
+
+    def _mark(self, one: Marked, spot: Place) -> str:
+        fill = one.color if one.fails else "#fff"
+        ring = "#000" if one.is_open else one.color
+        width = 14 if one.is_open else 8
+        fails = ", fails" if one.fails else ""
+        return (
+            f'<path d="{self._corners(spot)}" fill="{fill}" stroke="{ring}" '
+            f'stroke-width="{width}"><title>{escape(one.pin)}, net {escape(one.net)}{fails}'
+            "</title></path>"
+        )
+
+    def _letter_size(self) -> float:
+        """Returns the size of letters: that of a pitch, within limits."""
+        pitch = self._places.pitch(self._part)
+        return max(24.0, min(48.0, pitch * self._scale))
+
+    def _letter(self, one: Marked, spot: Place) -> str:
+        """Returns the name of a pin and the number of its net, beyond its end away from the part."""
+        box = extent(s for pin in self._places.parts[self._part] for s in self._places.of(pin))
+        size = self._letter_size()
+        text = f"{one.pin.partition('.')[2]} ({one.number})"
+        if not one.pin.startswith(self._part + "."):
+            text = f"{one.pin} ({one.number})"
+        away = self._at(spot.x, spot.y)
+        middle = self._at((box.left + box.right) / 2, (box.top + box.bottom) / 2)
+        copper = extent([spot])
+        half = (copper.right - copper.left) / 2 * self._scale
+        shift = (half + size * 0.32 * len(text)) * (1 if away[0] >= middle[0] else -1)
+        if abs(away[0] - middle[0]) < abs(away[1] - middle[1]) * 0.6:
+            half = (copper.bottom - copper.top) / 2 * self._scale
+            turn = (half + size * 0.34 * len(text)) * (1 if away[1] >= middle[1] else -1)
+            x, y = away[0], away[1] + turn
+            return (
+                f'<text x="{x:.0f}" y="{y:.0f}" dy=".35em" fill="{one.color}" '
+                f'transform="rotate(-90 {x:.0f} {y:.0f})">{escape(text)}</text>'
+            )
+        x = min(max(away[0] + shift, size * 0.3 * len(text)), WIDTH - size * 0.3 * len(text))
+        return f'<text x="{x:.0f}" y="{away[1]:.0f}" dy=".35em" fill="{one.color}">{escape(text)}</text>'
+
+
+def window(marked: Box, part: Box, around: float) -> Box:
+    """Returns what a close-up shows: the marked pins and what is around, but not far from the part."""
+    edge = max(around, 1.5)
+    box = Box(
+        max(marked.left - around, part.left - edge),
+        max(marked.top - around, part.top - edge),
+        min(marked.right + around, part.right + edge),
+        min(marked.bottom + around, part.bottom + edge),
+    )
+    missing = max(
+        0.0, SMALLEST - (box.right - box.left), box.bottom - box.top - 2.2 * (box.right - box.left)
+    )
+    return Box(box.left - missing / 2, box.top, box.right + missing / 2, box.bottom)
+
+
+def closeups(places: Places, marked: Sequence[Marked]) -> Iterator[str]:
+    """Yields pictures of the parts with the most pins that fail or may be open."""
+    parts: Dict[str, int] = {}
+    for one in marked:
+        part = one.pin.partition(".")[0]
+        if places.of(one.pin) and (one.fails or one.is_open):
+            parts[part] = parts.get(part, 0) + 1 + 3 * one.is_open
+    for part in sorted(parts, key=lambda part: -parts[part])[:MOST]:
+        mine = [one for one in marked if one.pin.startswith(part + ".")]
+        sides = {spot.side for one in mine for spot in places.of(one.pin)} - {BOTH}
+        side = BOTTOM if sides == {BOTTOM} else TOP
+        picture = CloseUp(places, part, side, marked).svg()
+        yield (
+            f"<figure><figcaption>{escape(part)}, from the {side}</figcaption>{picture}</figure>"
+        )
