@@ -5,7 +5,7 @@ from __future__ import annotations
 import re
 from typing import Iterator, List, Mapping, Tuple, Union
 
-from btest_tools.netlists.net_file import last_line, refuse
+from btest_tools.netlists.net_file import LONGEST_LINE, last_line, refuse
 
 DEEPEST = 1000  # brackets within each other; KiCad's are about ten deep
 MOST_ITEMS = 1 << 20  # words and lists within a list that is yielded
@@ -72,6 +72,8 @@ def string_from(text: bytes, begin: int) -> Tuple[bytes, int]:
         at = found.end()
         if text[at : at + 1] == b'"':
             return b"".join(pieces), at + 1
+        if at - begin > LONGEST_LINE:
+            refuse(Lines(text).of(begin), f"a string is longer than {LONGEST_LINE} bytes")
         if at + 1 >= len(text):
             refuse(last_line(text), "a string is not closed: is the file whole?")
         sign = text[at + 1 : at + 2]
