@@ -11,7 +11,9 @@ from btest_tools.places import BOTH, BOTTOM, TOP, Place, Places
 
 MOST = 4  # close-ups
 PINS = 400  # in a close-up
-AROUND = 4.5  # pitches around the pins that fail
+WHOLE = 64  # pins of a part that is shown as a whole
+AROUND = 4.5  # pitches around the marked pins of a larger part
+EDGE = 3.2  # pitches around a part
 WIDTH = 1000  # units of a close-up
 SMALLEST = 4.0  # millimeters of a close-up
 
@@ -37,11 +39,12 @@ class CloseUp:
         self._side = side
         self._marked = {one.pin: one for one in marked}
         pitch = places.pitch(part)
-        around = AROUND * pitch if math.isfinite(pitch) else SMALLEST / 2
+        pitch = pitch if math.isfinite(pitch) else SMALLEST / 4
         mine = [one.pin for one in marked if one.pin.startswith(part + ".")]
         spots = [spot for pin in mine for spot in places.of(pin) if spot.is_on(side)]
         whole = [spot for pin in places.parts[part] for spot in places.of(pin)]
-        self._window = window(extent(spots), extent(whole), around)
+        is_small = len(places.parts[part]) <= WHOLE
+        self._window = window(extent(whole if is_small else spots), extent(whole), pitch)
         self._scale = WIDTH / (self._window.right - self._window.left)
         self._height = (self._window.bottom - self._window.top) * self._scale
 
@@ -135,19 +138,18 @@ class CloseUp:
         return f'<text x="{x:.0f}" y="{away[1]:.0f}" dy=".35em" fill="{one.color}">{escape(text)}</text>'
 
 
-def window(marked: Box, part: Box, around: float) -> Box:
-    """Returns what a close-up shows: the marked pins and what is around, but not far from the part."""
-    edge = max(around, 1.5)
+def window(marked: Box, part: Box, pitch: float) -> Box:
+    """Returns what a close-up shows: some pins and what is around, with room for their names."""
+    around, edge = AROUND * pitch, max(1.0, EDGE * pitch)
     box = Box(
         max(marked.left - around, part.left - edge),
         max(marked.top - around, part.top - edge),
         min(marked.right + around, part.right + edge),
         min(marked.bottom + around, part.bottom + edge),
     )
-    missing = max(
-        0.0, SMALLEST - (box.right - box.left), box.bottom - box.top - 2.2 * (box.right - box.left)
-    )
-    return Box(box.left - missing / 2, box.top, box.right + missing / 2, box.bottom)
+    wide, high = box.right - box.left, box.bottom - box.top
+    more = max(0.0, SMALLEST - wide, 1.2 * high - wide) / 2
+    return Box(box.left - more, box.top, box.right + more, box.bottom)
 
 
 def closeups(places: Places, marked: Sequence[Marked]) -> Iterator[str]:

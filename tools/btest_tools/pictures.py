@@ -25,8 +25,8 @@ STYLE = """
 .board figure { margin: 0; flex: 1 1 22em; min-width: 0; break-inside: avoid; }
 .board .views { display: flex; flex-wrap: wrap; gap: 1em; }
 .board .close { gap: .6em; }
-.board .close figure { flex: 1 1 10em; max-width: 20em; }
-.board .close svg { max-height: 20em; }
+.board .close figure { flex: 1 1 13em; max-width: 20em; }
+.board .close svg { max-height: 20em; border: 1px solid #bbb; }
 .board figcaption { font-weight: bold; } .board .legend { margin: .3em 0; }
 .board svg { display: block; width: 100%; height: auto; max-height: 34em; margin: 0; }
 @media print { .board svg { max-height: 7cm; } .board .views { flex-wrap: nowrap; }
