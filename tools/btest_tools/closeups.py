@@ -13,6 +13,7 @@ MOST = 4  # close-ups
 PINS = 400  # in a close-up
 WHOLE = 64  # pins of a part that is shown as a whole
 AROUND = 4.5  # pitches around the marked pins of a larger part
+WIDEST = 1.6  # millimeters of a pitch, for a part that has a wider one
 EDGE = 3.2  # pitches around a part
 WIDTH = 1000  # units of a close-up
 SMALLEST = 4.0  # millimeters of a close-up
@@ -39,12 +40,13 @@ class CloseUp:
         self._side = side
         self._marked = {one.pin: one for one in marked}
         pitch = places.pitch(part)
-        pitch = pitch if math.isfinite(pitch) else SMALLEST / 4
+        pitch = min(pitch, WIDEST)
         mine = [one.pin for one in marked if one.pin.startswith(part + ".")]
         spots = [spot for pin in mine for spot in places.of(pin) if spot.is_on(side)]
         whole = [spot for pin in places.parts[part] for spot in places.of(pin)]
+        self._extent = extent(whole)
         is_small = len(places.parts[part]) <= WHOLE
-        self._window = window(extent(whole if is_small else spots), extent(whole), pitch)
+        self._window = window(self._extent if is_small else extent(spots), self._extent, pitch)
         self._scale = WIDTH / (self._window.right - self._window.left)
         self._height = (self._window.bottom - self._window.top) * self._scale
 
@@ -85,17 +87,30 @@ class CloseUp:
             self._mark(self._marked[pin], spot) for pin, spot in visible if pin in self._marked
         ]
         letters = [
-            self._letter(self._marked[pin], spot) for pin, spot in visible if pin in self._marked
+            self._letter(self._marked[pin], spot)
+            for pin, spot in visible
+            if pin in self._marked and pin.startswith(self._part + ".")
         ]
         says = f"The pins of {self._part} from the {self._side}: " + ", ".join(
             pin for pin, _ in visible if pin in self._marked
         )
         return (
             f'<svg viewBox="0 0 {WIDTH} {self._height:.0f}" role="img" aria-label="{escape(says)}" '
-            f'font-family="sans-serif"><path d="{plain}" fill="#ddd" stroke="#999" '
+            f'font-family="sans-serif">{self._box()}<path d="{plain}" fill="#ddd" stroke="#999" '
             f'stroke-width="3"/>{"".join(marks)}<g font-size="{self._letter_size():.0f}" '
             f'text-anchor="middle" font-weight="bold" stroke="#fff" stroke-width="12" '
             f'paint-order="stroke">{"".join(letters)}</g></svg>'
+        )
+
+    def _box(self) -> str:
+        """Returns the part, as far as its pins reach."""
+        (x1, y1), (x2, y2) = (
+            self._at(self._extent.left, self._extent.top),
+            self._at(self._extent.right, self._extent.bottom),
+        )
+        return (
+            f'<rect x="{min(x1, x2):.0f}" y="{y1:.0f}" width="{abs(x2 - x1):.0f}" '
+            f'height="{y2 - y1:.0f}" fill="#f3f3ef"/>'
         )
 
     def _mark(self, one: Marked, spot: Place) -> str:
@@ -115,27 +130,28 @@ class CloseUp:
         return max(24.0, min(48.0, pitch * self._scale))
 
     def _letter(self, one: Marked, spot: Place) -> str:
-        """Returns the name of a pin and the number of its net, beyond its end away from the part."""
-        box = extent(s for pin in self._places.parts[self._part] for s in self._places.of(pin))
-        size = self._letter_size()
+        """Returns the name of a pin and the number of its net, beyond the edge that it is near."""
         text = f"{one.pin.partition('.')[2]} ({one.number})"
-        if not one.pin.startswith(self._part + "."):
-            text = f"{one.pin} ({one.number})"
-        away = self._at(spot.x, spot.y)
-        middle = self._at((box.left + box.right) / 2, (box.top + box.bottom) / 2)
-        copper = extent([spot])
-        half = (copper.right - copper.left) / 2 * self._scale
-        shift = (half + size * 0.32 * len(text)) * (1 if away[0] >= middle[0] else -1)
-        if abs(away[0] - middle[0]) < abs(away[1] - middle[1]) * 0.6:
-            half = (copper.bottom - copper.top) / 2 * self._scale
-            turn = (half + size * 0.34 * len(text)) * (1 if away[1] >= middle[1] else -1)
-            x, y = away[0], away[1] + turn
-            return (
-                f'<text x="{x:.0f}" y="{y:.0f}" dy=".35em" fill="{one.color}" '
-                f'transform="rotate(-90 {x:.0f} {y:.0f})">{escape(text)}</text>'
-            )
-        x = min(max(away[0] + shift, size * 0.3 * len(text)), WIDTH - size * 0.3 * len(text))
-        return f'<text x="{x:.0f}" y="{away[1]:.0f}" dy=".35em" fill="{one.color}">{escape(text)}</text>'
+        x, y = self._at(spot.x, spot.y)
+        copper, part = extent([spot]), self._extent
+        gaps = (
+            (copper.left - part.left, -1, 0),
+            (part.right - copper.right, 1, 0),
+            (copper.top - part.top, 0, -1),
+            (part.bottom - copper.bottom, 0, 1),
+        )
+        _, right, down = min(gaps, key=lambda gap: round(gap[0], 2))  # the first of equal ones
+        half = self._letter_size() * 0.32 * len(text)
+        across = half + (copper.right - copper.left) / 2 * self._scale
+        away = half + (copper.bottom - copper.top) / 2 * self._scale
+        x += across * right * (-1 if self._side == BOTTOM else 1)
+        y += away * down
+        turn = f' transform="rotate(-90 {x:.0f} {y:.0f})"' if down else ""
+        x = x if down else min(max(x, half), WIDTH - half)
+        return (
+            f'<text x="{x:.0f}" y="{y:.0f}" dy=".35em" fill="{one.color}"{turn}>'
+            f"{escape(text)}</text>"
+        )
 
 
 def window(marked: Box, part: Box, pitch: float) -> Box:

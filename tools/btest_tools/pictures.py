@@ -214,6 +214,7 @@ class View:
             box = extent(spots)
             middle = self._frame.across((box.left + box.right) / 2, self._side)
             half = size * 0.32 * len(part)
+            middle = round(min(max(middle, half), self._frame.width * UNIT - half))
             rows = (box.top + box.bottom) / 2, box.top, box.bottom
             for row, shift in zip(rows, (0.0, -0.8, 0.8)):
                 y = self._frame.down(row) + shift * size

@@ -18,7 +18,7 @@ import math
 import re
 from typing import Dict, List, NamedTuple, Optional, Tuple
 
-from btest_tools.netlists.net_file import Net, Nets, decoded, last_line, numbered_lines
+from btest_tools.netlists.net_file import MOST_PINS, Net, Nets, decoded, last_line, numbered_lines
 from btest_tools.netlists.net_file import refuse, shown
 from btest_tools.places import BOTH, BOTTOM, TOP, Line, Place, Places
 
@@ -166,6 +166,8 @@ class Reading:
             return  # a via, a hole or a fiducial mark
         if point.net and point.net.upper() != b"N/C":
             self.nets.add(self._net(point.net, line), point.part, point.pin, line)
+        if len(self.places.pins) >= MOST_PINS:
+            refuse(line, f"more than {MOST_PINS} pins")
         if point.place:
             self.places.add(decoded(point.part), decoded(point.pin), point.place)
 

@@ -7,7 +7,7 @@ from typing import Dict, List, Optional, Tuple
 
 from btest_tools.netlists.edges import edge
 from btest_tools.netlists.lists import Item, Lines, Reader, Wanted
-from btest_tools.netlists.net_file import Net, Nets, decoded, refuse, shown
+from btest_tools.netlists.net_file import MOST_PINS, Net, Nets, decoded, refuse, shown
 from btest_tools.places import BOTH, BOTTOM, TOP, Place, Places, Point
 
 MOST = 10_000.0  # millimeters on a board
@@ -155,6 +155,8 @@ class Reading:
         if net:
             self.nets.add(net, part, name, line)
         place = Place(*center, side_of(pad), width, height or width, pad_angle)
+        if len(self.places.pins) >= MOST_PINS:
+            refuse(line, f"more than {MOST_PINS} pins")
         self.places.add(decoded(part), decoded(name), place)
 
     def _drill_offset(self, pad: Item) -> Point:
