@@ -6,9 +6,7 @@ Usage: ipc-356-nets.py BOARD.ipc >BOARD.nets
 import sys
 
 sys.dont_write_bytecode = True  # no folder of compiled modules beside the tools
-from btest_tools.netlists import (
-    ipc356,
-    program,
-)  # noqa: E402  pylint: disable=wrong-import-position
+# pylint: disable=wrong-import-position
+from btest_tools.netlists import ipc356, program  # noqa: E402
 
 program.main("a netlist by IPC-D-356", lambda text: ipc356.read(text)[0])

@@ -6,6 +6,7 @@ Usage: kicad-nets.py BOARD.net >BOARD.nets
 import sys
 
 sys.dont_write_bytecode = True  # no folder of compiled modules beside the tools
-from btest_tools.netlists import kicad, program  # noqa: E402  pylint: disable=wrong-import-position
+# pylint: disable=wrong-import-position
+from btest_tools.netlists import kicad, program  # noqa: E402
 
 program.main("a KiCad netlist", kicad.read)

@@ -6,9 +6,7 @@ Usage: kicad-pcb-nets.py BOARD.kicad_pcb >BOARD.nets
 import sys
 
 sys.dont_write_bytecode = True  # no folder of compiled modules beside the tools
-from btest_tools.netlists import (
-    kicad_pcb,
-    program,
-)  # noqa: E402  pylint: disable=wrong-import-position
+# pylint: disable=wrong-import-position
+from btest_tools.netlists import kicad_pcb, program  # noqa: E402
 
 program.main("a board of KiCad", lambda text: kicad_pcb.read(text)[0])

@@ -6,9 +6,7 @@ Usage: protel-nets.py BOARD.NET >BOARD.nets
 import sys
 
 sys.dont_write_bytecode = True  # no folder of compiled modules beside the tools
-from btest_tools.netlists import (
-    protel,
-    program,
-)  # noqa: E402  pylint: disable=wrong-import-position
+# pylint: disable=wrong-import-position
+from btest_tools.netlists import program, protel  # noqa: E402
 
 program.main("a Protel netlist", protel.read)

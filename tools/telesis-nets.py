@@ -6,9 +6,7 @@ Usage: telesis-nets.py BOARD.tel >BOARD.nets
 import sys
 
 sys.dont_write_bytecode = True  # no folder of compiled modules beside the tools
-from btest_tools.netlists import (
-    telesis,
-    program,
-)  # noqa: E402  pylint: disable=wrong-import-position
+# pylint: disable=wrong-import-position
+from btest_tools.netlists import program, telesis  # noqa: E402
 
 program.main("a Telesis netlist", telesis.read)

@@ -104,13 +104,12 @@ class CloseUp:
 
     def _box(self) -> str:
         """Returns the part, as far as its pins reach."""
-        (x1, y1), (x2, y2) = (
-            self._at(self._extent.left, self._extent.top),
-            self._at(self._extent.right, self._extent.bottom),
-        )
+        box = self._extent
+        x, y = self._at(box.right if self._side == BOTTOM else box.left, box.top)
+        width, height = (box.right - box.left) * self._scale, (box.bottom - box.top) * self._scale
         return (
-            f'<rect x="{min(x1, x2):.0f}" y="{y1:.0f}" width="{abs(x2 - x1):.0f}" '
-            f'height="{y2 - y1:.0f}" fill="#f3f3ef"/>'
+            f'<rect x="{x:.0f}" y="{y:.0f}" width="{width:.0f}" height="{height:.0f}" '
+            'fill="#f3f3ef"/>'
         )
 
     def _mark(self, one: Marked, spot: Place) -> str:

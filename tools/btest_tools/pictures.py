@@ -149,26 +149,23 @@ class View:
         """Yields the lines between the pins to measure between, and rings on the other side."""
         width = self._frame.stroke(0.14)
         for pair in pairs[:LINES]:
-            ends = [self._end(pin) for pin in pair]
-            if None in ends or not any(self._visible(pin) for pin in pair):
+            places = [self._visible(pin) or self._places.of(pin) for pin in pair]
+            if not all(places) or not any(self._visible(pin) for pin in pair):
                 continue
-            (x1, y1), (x2, y2) = [end for end in ends if end]
+            begin, end = (self._frame.at(spots[0], self._side) for spots in places)
             yield (
-                f'<g fill="none" stroke="#000" stroke-width="{width}"><line x1="{x1}" y1="{y1}" '
-                f'x2="{x2}" y2="{y2}" stroke-dasharray="{3 * width} {2 * width}"/>'
+                f'<g fill="none" stroke="#000" stroke-width="{width}"><line x1="{begin[0]}" '
+                f'y1="{begin[1]}" x2="{end[0]}" y2="{end[1]}" '
+                f'stroke-dasharray="{3 * width} {2 * width}"/>'
                 f"<title>measure between {escape(pair[0])} and {escape(pair[1])}</title>"
             )
-            for pin, end in zip(pair, ends):
-                if end and not self._visible(pin):
+            for pin, (x, y) in zip(pair, (begin, end)):
+                if not self._visible(pin):
                     yield (
-                        f'<circle cx="{end[0]}" cy="{end[1]}" r="{self._radius}" '
+                        f'<circle cx="{x}" cy="{y}" r="{self._radius}" '
                         f'stroke-dasharray="{width}"/>'
                     )
             yield "</g>"
-
-    def _end(self, pin: str) -> "Tuple[int, int] | None":
-        places = self._visible(pin) or self._places.of(pin)
-        return self._frame.at(places[0], self._side) if places else None
 
     def _letters(self) -> Iterator[str]:
         """Yields the numbers of the nets beside the failing pins, then the names of their parts."""
@@ -184,8 +181,11 @@ class View:
                 shown += 1
                 if shown > MARKS:
                     break
-                away, up = radius + half + size * 0.1, radius + size * 0.5
-                steps = ((away, 0), (-away, 0), (0, -up), (0, up), (away, -up), (-away, up))
+                aside, above = radius + half + size * 0.1, radius + size * 0.5
+                steps = (
+                    *((aside, 0), (-aside, 0), (0, -above), (0, above)),
+                    *((aside, -above), (-aside, above)),
+                )
                 for across, down in steps:
                     box = Box(x + across - half, y + down - size / 2, x + across + half, 0)
                     box = box._replace(bottom=box.top + size * 0.9)
@@ -285,8 +285,8 @@ def measure(places: Places, frame: Frame, pair: Pair) -> str:
 
 
 LEGEND = (
-    "<p class=legend>&#9679; a failing pin, with the number of its net in the table; &#9675; another "
-    "pin of such a net; a black ring is a pin that may be open; a dashed line joins pins to measure "
+    "<p class=legend>&#9679; a failing pin, with the number of its net in the table; &#9675; "
+    "another pin of such a net; a black ring is a pin that may be open; a dashed line joins pins to measure "
     "between, and a dashed ring is a pin on the other side; a box is a part, as far as its pins "
     "reach. A close-up has the pins of a part with their names and, in brackets, the numbers of "
     "their nets. Places are in mm from the left and the upper edge, as seen from the top.</p>"
@@ -311,7 +311,8 @@ def board(
 ) -> str:
     """Returns the pictures and the table, as HTML for a page that has STYLE.
 
-    `pairs` are pins to measure between, `opens` pins that may be open. `name` must differ among the boards of a page, since the pictures refer to pieces by it.
+    `pairs` are pins to measure between, `opens` pins that may be open. `name` must
+    differ among the boards of a page, since the pictures refer to pieces by it.
     """
     frame = frame_of(places)
     definitions = Shapes(places, frame).definitions(name)

@@ -144,20 +144,23 @@ class Reading:
         return turn[0] if turn else None
 
     def _pad(self, pad: Item, part: bytes, origin: Point, angle: float) -> None:
-        line = self._lines.of(pad.offset)
-        x, y, pad_angle = self._numbers_of(pad, b"at", 2, 3)
-        width, height = self._numbers_of(pad, b"size", 1, 2)
-        offset = self._drill_offset(pad)
-        across, down = turned((x, y), angle)
-        shift = turned(offset, pad_angle)
-        center = origin[0] + across + shift[0], origin[1] + down + shift[1]
-        name, net = pad.words[0], self._net_of(pad, line)
+        line, name = self._lines.of(pad.offset), pad.words[0]
+        place = self._place_of(pad, origin, angle)
+        net = self._net_of(pad, line)
         if net:
             self.nets.add(net, part, name, line)
-        place = Place(*center, side_of(pad), width, height or width, pad_angle)
         if len(self.places.pins) >= MOST_PINS:
             refuse(line, f"more than {MOST_PINS} pins")
         self.places.add(decoded(part), decoded(name), place)
+
+    def _place_of(self, pad: Item, origin: Point, angle: float) -> Place:
+        """Returns where the copper of a pad is. Its hole may be off the center."""
+        x, y, pad_angle = self._numbers_of(pad, b"at", 2, 3)
+        width, height = self._numbers_of(pad, b"size", 1, 2)
+        across, down = turned((x, y), angle)
+        shift = turned(self._drill_offset(pad), pad_angle)
+        center = origin[0] + across + shift[0], origin[1] + down + shift[1]
+        return Place(*center, side_of(pad), width, height or width, pad_angle)
 
     def _drill_offset(self, pad: Item) -> Point:
         for drill in pad.all(b"drill"):

@@ -1,4 +1,4 @@
-"""KiCad's files are lists in brackets. This reads of them what is wanted, and passes over the rest."""
+"""Reads KiCad's files, which are lists in brackets: what is wanted, and passes over the rest."""
 
 from __future__ import annotations
 

@@ -10,9 +10,9 @@ from typing import Callable
 from btest_tools.files import BadInput, frame, put, tell, write_whole
 from btest_tools.netlists.net_file import LIMIT, Nets, Refused, last_line
 
-NOTE = """A byte of a net's name that may not be in a net file, and a # in front, becomes _, and a line on
-standard error says so. What can't be mended so ends the program with one line and status 1, and
-nothing is written."""
+NOTE = """A byte of a net's name that may not be in a net file, and a # in front, becomes _, and a
+line on standard error says so. What can't be mended so ends the program with one line and status
+1, and nothing is written."""
 BYTE_ORDER_MARK = b"\xef\xbb\xbf"
 
 
