@@ -286,10 +286,11 @@ def measure(places: Places, frame: Frame, pair: Pair) -> str:
 
 LEGEND = (
     "<p class=legend>&#9679; a failing pin, with the number of its net in the table; &#9675; "
-    "another pin of such a net; a black ring is a pin that may be open; a dashed line joins pins to measure "
-    "between, and a dashed ring is a pin on the other side; a box is a part, as far as its pins "
-    "reach. A close-up has the pins of a part with their names and, in brackets, the numbers of "
-    "their nets. Places are in mm from the left and the upper edge, as seen from the top.</p>"
+    "another pin of such a net; a black ring is a pin that may be open; a dashed line joins pins "
+    "to measure between, and a dashed ring is a pin on the other side; a box is a part, as far as "
+    "its pins reach. A close-up has the pins of a part with their names and, in brackets, the "
+    "numbers of their nets. Places are in mm from the left and the upper edge, as seen from the "
+    "top.</p>"
 )
 
 

@@ -11,6 +11,7 @@ MOST_PINS = 1 << 18  # four times what btest takes
 LONGEST_WORD = 255  # bytes of a word of a net file
 
 MENDED = re.compile(rb"[^!-~]|^#")
+EMPTY = re.compile(rb"\n+")
 PIN = re.compile(rb"(?!#)[!-~]+")
 
 
@@ -43,10 +44,16 @@ def shown(name: bytes, most: int = 300) -> str:
 
 
 def numbered_lines(text: bytes) -> Iterator[Tuple[int, bytes]]:
-    """Yields each line with its number, from 1, and without its end."""
+    """Yields each line with its number, from 1, and without its end. Of empty lines that follow
+    each other it yields the first."""
     begin, number = 0, 1
     while begin < len(text):
         end = text.find(b"\n", begin)
+        empty = EMPTY.match(text, begin) if end == begin else None
+        if empty:
+            yield number, b""
+            begin, number = empty.end(), number + len(empty[0])
+            continue
         end = len(text) if end < 0 else end
         if end - begin > LONGEST_LINE:
             refuse(number, f"longer than {LONGEST_LINE} bytes")
