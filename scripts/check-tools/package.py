@@ -5,7 +5,7 @@ import sys
 
 from cases import TOOLS, Skipped, run
 
-PROGRAMS = ['failing-nets.py', 'report.py', 'simulated-chain.py']   # those that are formatted and typed as the package is
+PROGRAMS = sorted(path.name for path in TOOLS.glob('*.py'))
 
 
 def unit_tests(name, program):
