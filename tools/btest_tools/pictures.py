@@ -22,6 +22,7 @@ ROWS = 60  # nets in the table
 COLORS = ("#b03a00", "#005f9e", "#00795a", "#a2407f", "#7a6200", "#2f7fb5", "#c07800", "#333333")
 
 STYLE = """
+.board { break-inside: avoid; }
 .board figure { margin: 0; flex: 1 1 22em; min-width: 0; break-inside: avoid; }
 .board .views { display: flex; flex-wrap: wrap; gap: 1em; }
 .board .close { gap: .6em; }
@@ -73,7 +74,7 @@ class View:
         pieces = [*self._others(), *self._marks(), *self._rings(opens), *self._lines(pairs)]
         pieces += self._letters()
         return (
-            f'<svg viewBox="0 0 {width} {height}" role="img" aria-label="{escape(self._says())}" '
+            f'<svg viewBox="0 0 {width} {height}" role="group" aria-label="{escape(self._says())}" '
             f'font-family="sans-serif">{definitions}{used}{"".join(pieces)}{self._scale()}</svg>'
         )
 

@@ -78,8 +78,26 @@ class Demo(unittest.TestCase):
             self.assertIn(f"<title>{pin} may be open</title>", html)
 
 
+SMALL: Dict[str, bytes] = {
+    "controller-kicad.net": b'(export (nets (net (name "A\\"") (node (ref U1) (pin "1")))))',
+    "controller-protel.net": b"[\nU1\nF(1)\n]\n(\nA\nU1-1 P-D0 I/O\n)\n(\nB\nU1-2\n)\n",
+    "controller-pads.asc": b"*PADS-PCB*\n*NET*\n*SIGNAL* A 1 2\nU1.1\n U2.1\n*END*\n",
+    "controller-telesis.net": b"$PACKAGES\nF ! V ; U1\n$NETS\n'A' ; U1.1,\n'U2'.'1'\n$END\n",
+}
+
+
 class Hostile(unittest.TestCase):
     """Netlists that are broken: each is refused in one line, or read."""
+
+    def test_cut_at_every_byte(self) -> None:
+        """Of a netlist that is cut off, all forms but Protel's show it."""
+        for name, text in SMALL.items():
+            READERS[name](text)
+            for end in range(len(text)):
+                self.is_told(name, READERS[name], text[:end])
+                if end < len(text.strip()) and end and "protel" not in name:
+                    with self.assertRaises(Refused, msg=text[:end]):
+                        READERS[name](text[:end])
 
     def test_changed(self) -> None:
         """Bytes are changed, left out, put in and copied."""
