@@ -7,6 +7,7 @@ import select
 import socket
 import stat
 import sys
+from collections.abc import Iterable
 
 from btest_tools.files import BadInput, put, tell
 from btest_tools.model import Model
@@ -36,7 +37,7 @@ class Port:
             if action == "capture":
                 self.capture(register)
             elif action == "shift":
-                self.row = self.row[1:] + [tdi]
+                self.shift(tdi)
             self.state = NEXT[self.state][tms]
         elif clock < self.clock and action == "reset":
             self.model.reset()
@@ -51,6 +52,19 @@ class Port:
         for net in sorted(self.model.fights - told):
             tell(f"two drivers on {net}")
 
+    def shift(self, tdi: int) -> None:
+        """Shifts the register by a bit."""
+        self.row = self.row[1:] + [tdi]
+
+    def tdo(self) -> int:
+        """Returns the bit at TDO."""
+        return self.row[0] if self.row else 0
+
+    @property
+    def is_pulled(self) -> bool:
+        """Whether the cable is pulled, so that the player gets no answer."""
+        return False
+
     def answer(self, request: bytes) -> bytes:
         """Takes the signs of a request, and returns what it asks for."""
         answer = b""
@@ -58,7 +72,7 @@ class Port:
             if 48 <= sign < 56:  # 0 to 7: TCK, TMS and TDI
                 self.pins(sign >> 2 & 1, sign >> 1 & 1, sign & 1)
             elif sign == ord("R"):
-                answer += b"1" if self.row and self.row[0] else b"0"
+                answer += b"1" if self.tdo() else b"0"
         return answer
 
 
@@ -77,8 +91,8 @@ def player(server: socket.socket, seconds: float) -> socket.socket:
     raise BadInput(f"no player came in {seconds:g} s")
 
 
-def serve(number: int, seconds: float, port: Port) -> None:
-    """Answers one player."""
+def serve(number: int, seconds: float, ports: Iterable[Port]) -> None:
+    """Answers one player at each of these ports, in turn."""
     try:
         server = socket.create_server(("127.0.0.1", number))
     except OSError:
@@ -86,10 +100,18 @@ def serve(number: int, seconds: float, port: Port) -> None:
         raise BadInput(f"port {number} {why}") from None
     with server:
         put(f"listening on port {server.getsockname()[1]}\n")
-        client = player(server, seconds)
+        for port in ports:
+            with player(server, seconds) as client:
+                answer_player(client, port)
+
+
+def answer_player(client: socket.socket, port: Port) -> None:
+    """Answers a player until it leaves, or its cable is pulled."""
     try:
-        with client:
-            while request := client.recv(65536):
-                client.sendall(port.answer(request))
+        while request := client.recv(65536):
+            answer = port.answer(request)
+            if port.is_pulled:
+                return
+            client.sendall(answer)
     except ConnectionError:
         raise BadInput("the player broke the connection") from None
