@@ -1,0 +1,275 @@
+"""The record of a station: an SQLite database to which rows are added and in which none is changed.
+
+An attempt has a row when it begins, and a second one when it ends, with its logs, in one
+transaction. So an attempt that was killed has no end, and one that was told has one. Equal logs
+are stored once.
+"""
+
+from __future__ import annotations
+
+import contextlib
+import hashlib
+import json
+import os
+import pathlib
+import sqlite3
+import zlib
+from collections.abc import Iterator, Sequence
+from dataclasses import dataclass
+from typing import NamedTuple, Optional
+
+from btest_tools.files import BadInput
+
+NAME = "record.sqlite"
+FORMAT = 1
+SECONDS = 30.0  # how long a writer waits for who reads
+TABLES = (
+    """CREATE TABLE attempt (number INTEGER PRIMARY KEY AUTOINCREMENT, serial TEXT NOT NULL,
+       utc TEXT NOT NULL, local TEXT NOT NULL, day TEXT NOT NULL, test TEXT NOT NULL,
+       btest TEXT NOT NULL, station TEXT NOT NULL)""",
+    """CREATE TABLE ending (attempt INTEGER PRIMARY KEY REFERENCES attempt, utc TEXT NOT NULL,
+       player TEXT NOT NULL, stage TEXT NOT NULL, verdict TEXT NOT NULL, runs TEXT NOT NULL,
+       says TEXT NOT NULL)""",
+    "CREATE TABLE log_text (fingerprint TEXT PRIMARY KEY, packed BLOB NOT NULL) WITHOUT ROWID",
+    """CREATE TABLE log (attempt INTEGER NOT NULL REFERENCES attempt, place INTEGER NOT NULL,
+       stage TEXT NOT NULL, fingerprint TEXT NOT NULL REFERENCES log_text,
+       PRIMARY KEY (attempt, place)) WITHOUT ROWID""",
+    """CREATE TABLE finding (attempt INTEGER PRIMARY KEY REFERENCES attempt, faults TEXT NOT NULL,
+       lines TEXT NOT NULL)""",
+    "CREATE INDEX attempt_serial ON attempt (serial)",
+    "CREATE INDEX attempt_day ON attempt (day)",
+)
+NEVER = """CREATE TRIGGER {table}_{what} BEFORE {what} ON {table}
+           BEGIN SELECT RAISE(ABORT, 'nothing in the record is changed'); END"""
+COLUMNS = """number, serial, attempt.utc, local, day, test, btest, station, ending.utc, player,
+             stage, verdict, runs, says"""
+
+
+class RecordFailed(BadInput):
+    """Why the record can't be written."""
+
+
+class Log(NamedTuple):
+    """What a board answered in a stage: the text of a response log."""
+
+    stage: str
+    rows: str
+
+
+class Finding(NamedTuple):
+    """What explains a failure: the faults, any of which gives the log, and lines to read."""
+
+    faults: tuple[str, ...]
+    lines: tuple[str, ...]
+
+
+class Beginning(NamedTuple):
+    """What is known of an attempt when it begins."""
+
+    serial: str
+    utc: str
+    local: str
+    test: str
+    btest: str
+    station: str
+
+
+class Ending(NamedTuple):
+    """What is known of an attempt when it has ended."""
+
+    utc: str
+    player: str
+    stage: str
+    verdict: str
+    runs: str
+    says: str
+
+
+@dataclass(frozen=True)
+class Attempt:
+    """An attempt in the record. If it was cut short, `ending` is None."""
+
+    number: int
+    day: str
+    beginning: Beginning
+    ending: Optional[Ending]
+
+    @property
+    def serial(self) -> str:
+        """The serial number of the board."""
+        return self.beginning.serial
+
+    @property
+    def verdict(self) -> str:
+        """The verdict, or CUT for an attempt that was killed."""
+        return self.ending.verdict if self.ending else "CUT"
+
+
+def attempt_of(row: Sequence[object]) -> Attempt:
+    """Returns the attempt of a row of COLUMNS."""
+    number, serial, utc, local, day, test, btest, station, *rest = row
+    beginning = Beginning(*map(str, (serial, utc, local, test, btest, station)))
+    ending = None if rest[0] is None else Ending(*map(str, rest))
+    return Attempt(int(str(number)), str(day), beginning, ending)
+
+
+@contextlib.contextmanager
+def told(path: pathlib.Path, what: str) -> Iterator[None]:
+    """Makes one line of what SQLite says."""
+    try:
+        yield
+    except (sqlite3.Error, OSError) as error:
+        why = error.strerror if isinstance(error, OSError) else str(error)
+        raise RecordFailed(f"the record {path} can't be {what}: {why}") from None
+
+
+def create(path: pathlib.Path, test: str) -> None:
+    """Makes an empty record for a test with this fingerprint."""
+    with told(path, "written"), contextlib.closing(sqlite3.connect(path)) as database:
+        with database:
+            for table in TABLES:
+                database.execute(table)
+            for table in ("attempt", "ending", "log_text", "log", "finding"):
+                for what in ("UPDATE", "DELETE"):
+                    database.execute(NEVER.format(table=table, what=what))
+            database.execute("CREATE TABLE made_for (test TEXT NOT NULL)")
+            database.execute("INSERT INTO made_for VALUES (?)", (test,))
+            database.execute(f"PRAGMA user_version = {FORMAT}")
+
+
+def connect(path: pathlib.Path) -> sqlite3.Connection:
+    """Opens a record. What a killed station left half written is taken back, if that may be."""
+    mode = "rw" if os.access(path, os.W_OK) and os.access(path.parent, os.W_OK) else "ro"
+    database = sqlite3.connect(
+        f"{path.resolve().as_uri()}?mode={mode}", uri=True, timeout=SECONDS, isolation_level=None
+    )
+    try:
+        database.execute("PRAGMA synchronous = FULL")
+        version = database.execute("PRAGMA user_version").fetchone()[0]
+    except sqlite3.Error:
+        database.close()
+        raise
+    if version != FORMAT:
+        database.close()
+        raise sqlite3.DatabaseError(f"it has format {version}, and this program reads {FORMAT}")
+    return database
+
+
+class Record:
+    """A record that is open."""
+
+    def __init__(self, path: pathlib.Path) -> None:
+        self.path = path
+        with told(path, "read"):
+            self.database = connect(path)
+
+    def close(self) -> None:
+        """Closes it."""
+        self.database.close()
+
+    def __enter__(self) -> Record:
+        return self
+
+    def __exit__(self, *_: object) -> None:
+        self.close()
+
+    @contextlib.contextmanager
+    def transaction(self) -> Iterator[sqlite3.Connection]:
+        """Writes all of what is done in it, or nothing."""
+        with told(self.path, "written"):
+            self.database.execute("BEGIN IMMEDIATE")
+            try:
+                yield self.database
+                self.database.execute("COMMIT")
+            except BaseException:
+                if self.database.in_transaction:
+                    self.database.execute("ROLLBACK")
+                raise
+
+    def begin(self, beginning: Beginning) -> int:
+        """Adds an attempt and returns its number."""
+        with self.transaction() as database:
+            row = (*beginning[:3], beginning.local[:10], *beginning[3:])
+            done = database.execute("INSERT INTO attempt VALUES (NULL, ?, ?, ?, ?, ?, ?, ?)", row)
+            return int(done.lastrowid or 0)
+
+    def end(self, number: int, ending: Ending, logs: Sequence[Log]) -> None:
+        """Adds the end of an attempt, with its logs."""
+        with self.transaction() as database:
+            database.execute("INSERT INTO ending VALUES (?, ?, ?, ?, ?, ?, ?)", (number, *ending))
+            for place, log in enumerate(logs):
+                rows = log.rows.encode("ascii")
+                mark = hashlib.sha256(rows).hexdigest()
+                packed = zlib.compress(rows)
+                database.execute("INSERT OR IGNORE INTO log_text VALUES (?, ?)", (mark, packed))
+                row = (number, place, log.stage, mark)
+                database.execute("INSERT INTO log VALUES (?, ?, ?, ?)", row)
+
+    def explain(self, number: int, finding: Finding) -> None:
+        """Adds what explains the failure of an attempt."""
+        with self.transaction() as database:
+            row = (number, json.dumps(finding.faults), json.dumps(finding.lines))
+            database.execute("INSERT INTO finding VALUES (?, ?, ?)", row)
+
+    def query(self, rest: str, *values: object) -> Iterator[Attempt]:
+        """Yields the attempts that the rest of a statement asks for."""
+        statement = f"SELECT {COLUMNS} FROM attempt LEFT JOIN ending ON number = attempt {rest}"
+        with told(self.path, "read"):
+            for row in self.database.execute(statement, values):
+                yield attempt_of(row)
+
+    def attempts(self) -> Iterator[Attempt]:
+        """Yields all attempts, in their order."""
+        return self.query("ORDER BY number")
+
+    def of_serial(self, serial: str) -> list[Attempt]:
+        """Returns the attempts of a board."""
+        return list(self.query("WHERE serial = ? ORDER BY number", serial))
+
+    def of_boards_of(self, day: str) -> list[Attempt]:
+        """Returns all attempts, of any day, of the boards that were tested on a day."""
+        boards = "SELECT serial FROM attempt WHERE day = ?"
+        return list(self.query(f"WHERE serial IN ({boards}) ORDER BY number", day))
+
+    def attempt(self, number: int) -> Optional[Attempt]:
+        """Returns the attempt with a number."""
+        return next(self.query("WHERE number = ?", number), None)
+
+    def last(self) -> Optional[Attempt]:
+        """Returns the last attempt."""
+        return next(self.query("ORDER BY number DESC LIMIT 1"), None)
+
+    def logs(self, number: int) -> list[Log]:
+        """Returns the logs of an attempt."""
+        statement = """SELECT stage, packed FROM log JOIN log_text USING (fingerprint)
+                       WHERE attempt = ? ORDER BY place"""
+        with told(self.path, "read"):
+            try:
+                return [
+                    Log(stage, zlib.decompress(packed).decode("ascii"))
+                    for stage, packed in self.database.execute(statement, (number,))
+                ]
+            except (zlib.error, ValueError, TypeError):
+                raise RecordFailed(f"the log of attempt {number} can't be read") from None
+
+    def marks(self, day: str, stage: str) -> dict[int, str]:
+        """Returns the fingerprints of the logs of a stage, for the attempts of a day."""
+        statement = """SELECT attempt, fingerprint FROM log JOIN attempt ON number = attempt
+                       WHERE day = ? AND stage = ?"""
+        with told(self.path, "read"):
+            return dict(self.database.execute(statement, (day, stage)))
+
+    def findings(self, day: str) -> dict[int, Finding]:
+        """Returns what explains the failures of a day."""
+        statement = """SELECT attempt, faults, lines FROM finding JOIN attempt ON number = attempt
+                       WHERE day = ?"""
+        with told(self.path, "read"):
+            return {
+                number: Finding(tuple(json.loads(faults)), tuple(json.loads(lines)))
+                for number, faults, lines in self.database.execute(statement, (day,))
+            }
+
+    def is_whole(self) -> bool:
+        """Returns whether SQLite finds nothing wrong."""
+        with told(self.path, "read"):
+            return bool(self.database.execute("PRAGMA integrity_check").fetchone()[0] == "ok")

@@ -1,0 +1,42 @@
+"""Ctrl-C, and the signals that ask a program to end, as something to wait for."""
+
+from __future__ import annotations
+
+import os
+import select
+import signal
+from types import FrameType
+from typing import Optional
+
+SIGNALS = (signal.SIGINT, signal.SIGTERM, signal.SIGHUP)
+
+
+class Stop:
+    """`file` can be read as soon as the operator has asked to stop. Nothing is cut off by itself,
+    so the record and the reset of the pins come to their ends."""
+
+    def __init__(self) -> None:
+        self.file, self.writing = os.pipe()
+        os.set_blocking(self.file, False)
+        os.set_blocking(self.writing, False)
+        for number in SIGNALS:
+            signal.signal(number, self.ask)
+
+    def ask(self, _number: int, _frame: Optional[FrameType]) -> None:
+        """Notes that a signal came."""
+        try:
+            os.write(self.writing, b"x")
+        except BlockingIOError:
+            pass  # it is full of them
+
+    def asked(self) -> bool:
+        """Returns whether a signal came."""
+        return bool(select.select([self.file], [], [], 0)[0])
+
+    def clear(self) -> None:
+        """Forgets the signals that came."""
+        try:
+            while os.read(self.file, 4096):
+                pass
+        except BlockingIOError:
+            pass

@@ -1,0 +1,153 @@
+"""What a day's attempts say: the yield by serial number, and the faults by part and by net."""
+
+from __future__ import annotations
+
+import collections
+from collections.abc import Iterable, Mapping
+from dataclasses import dataclass, field
+
+from btest_tools.station.record import Attempt, Finding
+
+JUDGED = ("PASS", "FAIL", "CHAIN", "PART")  # the verdicts about a board; others are about a bench
+
+
+@dataclass
+class Tested:
+    """A board with all its attempts up to the end of a day, in their order."""
+
+    serial: str
+    attempts: list[Attempt] = field(default_factory=list)
+
+    def judged(self) -> list[Attempt]:
+        """Returns the attempts that judge the board."""
+        return [one for one in self.attempts if one.verdict in JUDGED]
+
+    def of_day(self, day: str) -> list[Attempt]:
+        """Returns the attempts of a day."""
+        return [one for one in self.attempts if one.day == day]
+
+    @property
+    def passed_first(self) -> bool:
+        """Whether the first attempt that judges it is a pass."""
+        judged = self.judged()
+        return bool(judged) and judged[0].verdict == "PASS"
+
+    @property
+    def passed(self) -> bool:
+        """Whether the last attempt that judges it is a pass."""
+        judged = self.judged()
+        return bool(judged) and judged[-1].verdict == "PASS"
+
+    @property
+    def needs_page(self) -> bool:
+        """Whether there is more to say than that it passed."""
+        return any(one.verdict != "PASS" for one in self.attempts)
+
+
+@dataclass
+class Yield:
+    """How many boards were tested and judged, and how many of those passed."""
+
+    boards: int
+    judged: int
+    first: int
+    after_repair: int
+
+    @property
+    def failed(self) -> int:
+        """How many boards did not pass in the end."""
+        return self.judged - self.first - self.after_repair
+
+
+def boards_of(attempts: Iterable[Attempt], day: str) -> list[Tested]:
+    """Returns the boards of a day. `attempts` has all attempts of these boards, in their order;
+    what comes after the last attempt of the day isn't counted."""
+    boards: dict[str, Tested] = {}
+    found = list(attempts)
+    last = max((one.number for one in found if one.day == day), default=0)
+    for one in found:
+        if one.number <= last:
+            boards.setdefault(one.serial, Tested(one.serial)).attempts.append(one)
+    return list(boards.values())
+
+
+def yield_of(boards: list[Tested]) -> Yield:
+    """Returns the yield of a day's boards. A board that passed at first and failed later isn't
+    among those that passed."""
+    judged = [one for one in boards if one.judged()]
+    passed = [one for one in judged if one.passed]
+    first = sum(one.passed_first for one in passed)
+    return Yield(len(boards), len(judged), first, len(passed) - first)
+
+
+@dataclass
+class Fault:
+    """What boards had in common: a fault, or several that give the same bits."""
+
+    names: tuple[str, ...]
+    boards: list[Tested] = field(default_factory=list)
+
+
+def faults_of(
+    boards: list[Tested], day: str, findings: Mapping[int, Finding], marks: Mapping[int, str]
+) -> list[Fault]:
+    """Returns the faults of a day, the most frequent first. A board counts once for each."""
+    faults: dict[tuple[str, ...], Fault] = {}
+    for board in boards:
+        keys = dict.fromkeys(
+            key_of(one, findings, marks)
+            for one in board.of_day(day)
+            if one.verdict in JUDGED and one.verdict != "PASS"
+        )
+        for key in keys:
+            faults.setdefault(key, Fault(key)).boards.append(board)
+    return sorted(faults.values(), key=lambda fault: -len(fault.boards))
+
+
+def key_of(
+    attempt: Attempt, findings: Mapping[int, Finding], marks: Mapping[int, str]
+) -> tuple[str, ...]:
+    """Returns what attempts with the same fault have in common."""
+    says = attempt.ending.says if attempt.ending else ""
+    if attempt.verdict != "FAIL":
+        return (f"{attempt.verdict.lower()}: {says}",)
+    finding = findings.get(attempt.number)
+    if finding and finding.faults:
+        return finding.faults
+    return (f"no single fault; log {marks.get(attempt.number, '')[:8]}",)
+
+
+def places_of(fault: Fault, net_of: Mapping[str, str]) -> tuple[set[str], set[str]]:
+    """Returns the parts and the nets that a fault may be at."""
+    parts: set[str] = set()
+    nets: set[str] = set()
+    for name in fault.names:
+        kind, *words = name.split()
+        if kind == "stuck":
+            nets.add(words[0])
+        elif kind == "short":
+            nets.update(words[1:])
+        elif kind == "open":
+            parts.add(words[0].partition(".")[0])
+            nets.update(filter(None, [net_of.get(words[0])]))
+        elif kind == "part:" and "wrong part " in name:
+            parts.update(piece.split(":")[0] for piece in name.split("wrong part ")[1:])
+    return parts, nets
+
+
+def counts(faults: list[Fault], net_of: Mapping[str, str]) -> tuple[list[tuple[str, int]], ...]:
+    """Returns how many boards have a fault at each part and at each net, the most first."""
+    at_parts: dict[str, set[str]] = collections.defaultdict(set)
+    at_nets: dict[str, set[str]] = collections.defaultdict(set)
+    for fault in faults:
+        parts, nets = places_of(fault, net_of)
+        for at, names in ((at_parts, parts), (at_nets, nets)):
+            for name in names:
+                at[name].update(board.serial for board in fault.boards)
+    return tuple(
+        sorted(
+            ((name, len(serials)) for name, serials in at.items()),
+            key=lambda row: (-row[1], row[0]),
+        )
+        for at in (at_parts, at_nets)
+    )
