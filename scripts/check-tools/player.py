@@ -108,28 +108,36 @@ class OpenOcd:
         if not shutil.which('openocd'):
             raise Skipped('OpenOCD is not there')
         self.folder = pathlib.Path(folder)
-        for name, words in (('chain', ('chain', BOARD[0], *BOARD[2:])), ('svf', ('svf', *BOARD)), ('walk', ('walk', *BOARD))):
+        for name, words in (('chain', ('chain', BOARD[0], *BOARD[2:])), ('ident', ('ident', BOARD[0], *BOARD[2:])),
+                            ('svf', ('svf', *BOARD)), ('walk', ('walk', *BOARD))):
             (self.folder / f'{name}.svf').write_text(btest(program, *words))
 
-    def play(self, fault, setting, board=None):
+    def play(self, fault, setting, board=None, **names):
         """The status of OpenOCD with log.tcl, and what it said."""
         with Served(fault, board) as served:
             (self.folder / 'simulated.cfg').write_text(SETTING.format(port=served.port))
-            answer = run(['openocd', '-f', 'simulated.cfg', '-c', setting, '-f', TOOLS / 'log.tcl'], self.folder)
+            answer = run(['openocd', '-f', 'simulated.cfg', '-c', setting, '-f', TOOLS / 'log.tcl'], self.folder,
+                         env={**os.environ, **names})
         return answer.returncode, answer.stdout + answer.stderr
 
     def write_log(self, fault, svf, name):
         """The log of a board with a fault is a stored one, in the bits that are compared."""
         status, said = self.play(fault, LOG.format(svf=svf, log='board.log'))
-        assert status == 0 and 'board.log is written' in said, f'status {status}: {said}'
+        assert status == (fault != 'good') and 'board.log is written' in said, f'status {status}: {said}'
         masks = [scan.mask for scan in scans.compared_scans((self.folder / svf).read_text())]
         rows = [(self.folder / 'board.log').read_text().split(), (EXAMPLES / name).read_text().split()]
         same(*[[int(row, 16) & mask for row, mask in zip(log, masks)] + [len(log)] for log in rows], f'the rows of {name}')
 
-    def refuse(self, setting, line, board=None):
+    def take_names(self):
+        """Names of files with signs of Tcl, by the environment."""
+        log = self.folder / 'board [exit] $x {\\ ".log'
+        status, said = self.play('good', '', CHAIN='chain.svf', IDENT='ident.svf', SVF='svf.svf', LOG=log.name)
+        assert status == 0 and log.exists(), f'status {status}: {said}'
+
+    def refuse(self, setting, line, board=None, fault='good'):
         """A log that can't be written is not there, nor is an old one."""
         (self.folder / 'board.log').write_text('an old one\n')
-        status, said = self.play('good', setting, board)
+        status, said = self.play(fault, setting, board)
         assert status != 0 and line in said and '; there is no log' in said, f'status {status}: {said}'
         assert 'set LOG board.log' not in setting or not (self.folder / 'board.log').exists(), 'the old log stands there'
 
@@ -144,6 +152,11 @@ def check_openocd(program, folder):
     yield 'OpenOCD gets the log of a walking test', lambda: ocd().write_log('or:D0:D1:A1', 'walk.svf', 'three-shorted.log')
     yield 'a chain that is not sound leaves no log', lambda: ocd().refuse(
         LOG.format(svf='svf.svf', log='board.log'), "chain.svf failed, so the scan chain isn't sound", chain)
+    yield 'a part with another code leaves no log', lambda: ocd().refuse(
+        'set IDENT ident.svf; ' + LOG.format(svf='svf.svf', log='board.log'), 'ident.svf failed', fault='code:U1:1012301F')
+    yield 'a chain that breaks in the test leaves no log', lambda: ocd().refuse(
+        LOG.format(svf='svf.svf', log='board.log'), "chain.svf failed after the test", fault='12@chain:U2:1')
+    yield 'names with blanks and signs of Tcl', lambda: ocd().take_names()
     yield 'an SVF text that is missing leaves no log', lambda: ocd().refuse(
         LOG.format(svf='missing.svf', log='board.log'), "missing.svf can't be read")
     yield 'a log that has no name', lambda: ocd().refuse('set CHAIN chain.svf; set SVF svf.svf', "LOG isn't set")
@@ -158,7 +171,8 @@ def check(program):
     yield 'a port that is taken', take_port
     yield 'no player comes', wait_for_none
     yield 'the command that was to start a player fails', end_with_reader
-    for fault, line in (('stuck:D9:0', 'no net D9'), ('and:D0:A1R', 'LINK lines join A1R to A1'), ('xor:D0:D1', 'no such kind')):
+    for fault, line in (('stuck:D9:0', 'no net D9'), ('and:D0:A1R', 'LINK lines join A1R to A1'), ('xor:D0:D1', 'no such kind'),
+                        ('chain:U9:1', 'no part U9'), ('code:U1:12', '8 hexadecimal digits'), ('5@stuck:D9:0', 'no net D9')):
         yield f'the fault {fault} is refused', lambda: refused(tool(CHAIN, 0, fault, *BOARD), line)
     yield 'a port that is no number', lambda: refused(tool(CHAIN, 99999, 'good', *BOARD), 'no number from 0 to 65535')
     yield 'a BSDL text that is missing', lambda: refused(tool(CHAIN, 0, 'good', *BOARD[:4]), 'line 4: entity not given')

@@ -101,8 +101,8 @@ class ChainPort(Port):
         self.chain = [fault for _, fault in found if fault]
         self.model.set_faults(" ".join(word for word, fault in found if not fault) or "good")
         codes = {fault.part: list(fault.code) for fault in self.chain if fault.kind == "code"}
-        for at, (state, part) in enumerate(zip(self.model.states, board.parts)):
-            state.part = dataclasses.replace(part, identity=codes.get(at, part.identity))
+        for place, (state, part) in enumerate(zip(self.model.states, board.parts)):
+            state.part = dataclasses.replace(part, identity=codes.get(place, part.identity))
 
     @property
     def is_pulled(self) -> bool:

@@ -49,8 +49,8 @@ def prepare(words: Words) -> int:
     """Makes a folder, or says whether one is whole."""
     if words.check:
         product = folder.load(words.folder)
-        with Record(product.record) as open_record:
-            if not open_record.is_whole():
+        with Record(product.record) as found:
+            if not found.is_whole():
                 raise folder.NotWhole(f"{product.record} is damaged; the folder isn't whole")
         put(f"{words.folder} is whole: test {product.test}, btest {product.btest}\n")
         return 0
@@ -264,6 +264,6 @@ def status_of(wrong: BadInput, command: str) -> int:
         return 2
     if isinstance(wrong, folder.NotWhole):
         return 6
-    if isinstance(wrong, (record.RecordFailed, day.PageFailed)):
+    if isinstance(wrong, (record.RecordFailed, line.NotTold, day.PageFailed)):
         return 7
     return 5 if command == "test" else 1

@@ -32,6 +32,9 @@ VERSION = pathlib.Path(__file__).resolve().parents[3] / "VERSION"
 UNDESCRIBED = ": part without a description"  # why a chain has no test of identification codes
 
 
+Words = Sequence[str]
+
+
 class NotWhole(BadInput):
     """What is wrong with a folder, in one line."""
 
@@ -91,7 +94,7 @@ def version_of(btest: Btest) -> str:
 # Making one
 
 
-def names_of(words: Sequence[str]) -> list[str]:
+def names_of(words: Words) -> list[str]:
     """Returns a name below the folder for each file: its own, as far as that is plain."""
     names: list[str] = []
     for word in words:
@@ -104,56 +107,55 @@ def names_of(words: Sequence[str]) -> list[str]:
     return names
 
 
-def make_texts(btest: Btest, at: pathlib.Path, names: Sequence[str], words: Sequence[str]) -> None:
+def make_texts(btest: Btest, draft: pathlib.Path, names: Words, words: Words) -> None:
     """Writes what btest makes of the files of a board."""
-
-    def made(command: str) -> str:
-        files = [names[0], *names[2:]] if command in ("chain", "ident") else names
-        try:
-            return btest.run(command, *(str(at / name) for name in files))
-        except BadInput as wrong:
-            line = str(wrong)
-            for name, word in zip(names, words):
-                line = re.sub(
-                    rf"(?<![^ ]){re.escape(str(at / name))}(?![^ :])", lambda _: word, line
-                )
-            raise BadInput(line) from None
-
-    (at / COVER).write_text(made("cover"), "latin-1")
+    (draft / COVER).write_text(made(btest, "cover", draft, names, words), "latin-1")
     for name, command in COMMANDS.items():
         try:
-            (at / name).write_text(made(command), "latin-1")
+            (draft / name).write_text(made(btest, command, draft, names, words), "latin-1")
         except BadInput as wrong:
             if command != "ident" or not str(wrong).endswith(UNDESCRIBED):
                 raise
-    (at / RESET).write_text(RESET_TEXT)
+    (draft / RESET).write_text(RESET_TEXT)
 
 
-def files_below(at: pathlib.Path) -> list[str]:
+def made(btest: Btest, command: str, draft: pathlib.Path, names: Words, words: Words) -> str:
+    """Returns what a command of btest prints. A refusal names the files by `words`."""
+    files = [names[0], *names[2:]] if command in ("chain", "ident") else names
+    try:
+        return btest.run(command, *(str(draft / name) for name in files))
+    except BadInput as wrong:
+        line = str(wrong)
+        for name, word in zip(names, words):
+            line = line.replace(str(draft / name), word)
+        raise BadInput(line) from None
+
+
+def files_below(draft: pathlib.Path) -> list[str]:
     """Returns the files that are fingerprinted."""
-    made = {FINGERPRINTS, record.NAME}
-    paths = (path for path in at.rglob("*") if path.is_file())
-    return sorted({path.relative_to(at).as_posix() for path in paths} - made)
+    others = {FINGERPRINTS, record.NAME}
+    paths = (path for path in draft.rglob("*") if path.is_file())
+    return sorted({path.relative_to(draft).as_posix() for path in paths} - others)
 
 
-def fill(at: pathlib.Path, btest: Btest, words: Sequence[str], cable: str) -> None:
-    """Writes all files of a product into an empty folder. `words` are chain, nets and BSDL texts."""
+def fill(draft: pathlib.Path, btest: Btest, words: Words, cable: str) -> None:
+    """Writes all files of a product into an empty folder. `words` name chain, nets and BSDLs."""
     names = names_of(words)
-    (at / "board").mkdir()
+    (draft / "board").mkdir()
     for name, word in zip(names, words):
-        (at / name).write_bytes(read(word).text.encode("latin-1"))
-    (at / CABLE).write_bytes(read(cable).text.encode("latin-1"))
-    make_texts(btest, at, names, words)
+        (draft / name).write_bytes(read(word).text.encode("latin-1"))
+    (draft / CABLE).write_bytes(read(cable).text.encode("latin-1"))
+    make_texts(btest, draft, names, words)
     about = {"btest": version_of(btest), "chain": names[0], "nets": names[1], "bsdls": names[2:]}
-    (at / PRODUCT).write_text(json.dumps(about, indent=1) + "\n")
-    lines = [f"{mark_of(at / name)}  {name}\n" for name in files_below(at)]
-    (at / FINGERPRINTS).write_text("".join(lines))
-    for path in (at / name for name in (*files_below(at), FINGERPRINTS)):
+    (draft / PRODUCT).write_text(json.dumps(about, indent=1) + "\n")
+    lines = [f"{mark_of(draft / name)}  {name}\n" for name in files_below(draft)]
+    (draft / FINGERPRINTS).write_text("".join(lines))
+    for path in (draft / name for name in (*files_below(draft), FINGERPRINTS)):
         path.chmod(0o444)
-    record.create(at / record.NAME, mark_of(at / FINGERPRINTS))
+    record.create(draft / record.NAME, mark_of(draft / FINGERPRINTS))
 
 
-def prepare(folder: pathlib.Path, btest: Btest, words: Sequence[str], cable: str) -> Product:
+def prepare(folder: pathlib.Path, btest: Btest, words: Words, cable: str) -> Product:
     """Makes the folder of a product, whole or not at all."""
     if os.path.lexists(folder):
         raise BadInput(f"{folder} is there already; a new revision of a board is a new folder")

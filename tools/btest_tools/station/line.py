@@ -20,7 +20,7 @@ from btest_tools.station.folder import Product
 from btest_tools.station.letters import large
 from btest_tools.station.lock import Lock
 from btest_tools.station.openocd import OpenOcd
-from btest_tools.station.record import Beginning, Ending, Record
+from btest_tools.station.record import Beginning, Ending, Record, RecordFailed
 from btest_tools.station.stages import STATUS, Bench, BoardTest, Outcome
 from btest_tools.station.stop import Stop
 
@@ -46,6 +46,18 @@ def serial_of(text: str) -> str:
     return serial
 
 
+class NotTold(BadInput):
+    """Why what became of a board can't be told. It is in the record."""
+
+
+def say(text: str) -> None:
+    """Writes to standard output."""
+    try:
+        put(text)
+    except BadInput as wrong:
+        raise NotTold(str(wrong)) from None
+
+
 class Station:
     """A station with its folder, its record and its player. Only one has a folder at a time."""
 
@@ -53,7 +65,6 @@ class Station:
         self.product, self.btest, self.openocd, self.limit = product, btest, openocd, limit
         self.version = folder.check_btest(product, btest)
         self.bench = Bench(product, btest)
-        self.stop = Stop()
         self.clock: Callable[[], Moment] = moment
         self.lock = Lock(product.folder, self.clock().utc)
         try:
@@ -61,9 +72,11 @@ class Station:
         except BadInput:
             self.lock.release()
             raise
+        self.stop = Stop()
 
     def close(self) -> None:
         """Gives the folder back."""
+        self.stop.close()
         self.record.close()
         self.lock.release()
 
@@ -109,13 +122,16 @@ class Station:
         word = LETTERS.get(outcome.verdict, "STOP")
         runs = f" ({outcome.runs})" if outcome.runs else ""
         head = f"{outcome.verdict}{runs}  {serial}  {self.clock().local}  attempt {number}"
-        put(f"\n{large(word)}\n{head}\n" + "".join(f"{line}\n" for line in outcome.lines))
+        say(f"\n{large(word)}\n{head}\n" + "".join(f"{line}\n" for line in outcome.lines))
 
     def explain(self, number: int, outcome: Outcome) -> None:
         """Tells what explains a failure, and keeps it in the record."""
         finding = explain(self.bench, outcome.logs)
-        put("".join(f"{line}\n" for line in finding.lines))
-        self.record.explain(number, finding)
+        say("".join(f"{line}\n" for line in finding.lines))
+        try:
+            self.record.explain(number, finding)
+        except RecordFailed as wrong:
+            tell(f"{wrong}; the attempt is in it, without what explains it")
 
     # Asking for serial numbers
 
@@ -152,4 +168,4 @@ class Station:
         """Asks for a serial number. What was typed while a board was tested is thrown away."""
         if os.isatty(0):
             termios.tcflush(0, termios.TCIFLUSH)
-        put("\nserial number: ")
+        say("\nserial number: ")

@@ -51,6 +51,7 @@ class OpenOcd:
         self.folder, self.stop, self.program, self.limit = folder, stop, program, limit
         self.version = ""
         self.is_playing = False
+        self.may_stop = True
         self.process: Optional[subprocess.Popen[bytes]] = None
         self.said: Optional[IO[bytes]] = None
         self.pending = b""
@@ -75,20 +76,21 @@ class OpenOcd:
 
     def failed(self) -> PlayerFailed:
         """Returns what OpenOCD said when it ended, after making sure that it has."""
-        self.end()
+        status = self.end()
         said = ""
         if self.said:
             self.said.seek(0)
             said = self.said.read().decode("utf-8", "replace")
         lines = [line[7:] for line in said.splitlines() if line.startswith("Error: ")]
         lines = [line for line in lines if not KNOWN.fullmatch(line)]
-        return PlayerFailed(f"OpenOCD: {lines[0].strip() if lines else 'it ended without a word'}")
+        how = f"it ended by signal {-status}" if status < 0 else f"it ended with status {status}"
+        return PlayerFailed(f"OpenOCD: {lines[0].strip() if lines else how}")
 
-    def lines(self, seconds: float, may_stop: bool = True) -> Iterator[str]:
+    def lines(self, seconds: float) -> Iterator[str]:
         """Yields the lines that it prints until it ends."""
         assert self.process and self.process.stdout
         end, file = time.monotonic() + seconds, self.process.stdout.fileno()
-        watched = [file, self.stop.file] if may_stop else [file]
+        watched = [file, self.stop.file] if self.may_stop else [file]
         while True:
             *whole, self.pending = self.pending.split(b"\n")
             yield from (line.decode("utf-8", "replace") for line in whole)
@@ -103,7 +105,7 @@ class OpenOcd:
                 return
             self.pending += piece
 
-    def ask(self, name: str, seconds: float, may_stop: bool = True) -> str:
+    def ask(self, name: str, seconds: float) -> str:
         """Plays a text, and returns what it said."""
         if not self.process:
             self.start()
@@ -114,16 +116,16 @@ class OpenOcd:
         except OSError:
             raise self.failed() from None
         self.is_playing = True
-        said = self.answer(seconds, may_stop)
+        said = self.answer(seconds)
         wrong = [line for line in said[:-1] if not KNOWN.fullmatch(line) and WRONG.search(line)]
         if wrong or said[-1] != "played 0":
             raise PlayerFailed(f"OpenOCD: {wrong[0] if wrong else f'{name} was not played'}")
         return "\n".join(said)
 
-    def answer(self, seconds: float, may_stop: bool) -> list[str]:
+    def answer(self, seconds: float) -> list[str]:
         """Returns the lines that it prints of a text, the last of which says how that ended."""
         said = []
-        for line in self.lines(seconds, may_stop):
+        for line in self.lines(seconds):
             if line.startswith("ready "):
                 self.version = line[len("ready ") :]
                 continue
@@ -144,16 +146,18 @@ class OpenOcd:
 
     def reset(self) -> None:
         """Brings the TAP controllers to reset. A text in play may come to its end, for a while.
-        What doesn't answer is ended, and another OpenOCD is started for the reset."""
+        What doesn't answer is ended, and another OpenOCD is started for the reset. From then on
+        nothing is stopped any more."""
+        self.may_stop = False
         try:
             if self.process:
                 if self.is_playing:
-                    self.answer(WAIT, may_stop=False)
-                self.ask(RESET, WAIT, may_stop=False)
+                    self.answer(WAIT)
+                self.ask(RESET, WAIT)
                 return
         except PlayerFailed:
             self.kill()
-        self.ask(RESET, START, may_stop=False)
+        self.ask(RESET, START)
 
     def kill(self) -> None:
         """Ends it at once."""
@@ -162,18 +166,23 @@ class OpenOcd:
             self.process.wait()
             self.process = None
 
-    def end(self) -> None:
-        """Lets it end, and gives the cable back."""
-        if self.process:
-            assert self.process.stdin and self.process.stdout
-            try:
-                self.process.stdin.close()
-                self.process.wait(WAIT)
-            except (OSError, subprocess.TimeoutExpired):
-                self.process.kill()
-                self.process.wait()
-            self.process.stdout.close()
-            self.process = None
+    def end(self) -> int:
+        """Lets it end, which gives the cable back, and returns its status."""
+        if not self.process:
+            return 0
+        assert self.process.stdin and self.process.stdout
+        try:
+            self.process.stdin.close()
+        except OSError:
+            pass  # it has ended, and a name was not read
+        try:
+            status = self.process.wait(WAIT)
+        except subprocess.TimeoutExpired:
+            self.process.kill()
+            status = self.process.wait()
+        self.process.stdout.close()
+        self.process = None
+        return status
 
     def close(self) -> None:
         """Ends it."""

@@ -53,7 +53,8 @@ class Player(Protocol):
         came back, or None if all compared bits are the expected ones."""
 
     def reset(self) -> None:
-        """Brings the TAP controllers to reset, whatever the player is at."""
+        """Brings the TAP controllers to reset, whatever the player is at. What is played from then
+        on isn't stopped."""
 
     def close(self) -> None:
         """Ends the player, which leaves the cable free."""

@@ -102,12 +102,16 @@ class BoardTest:
         return outcome
 
     def reset(self) -> list[str]:
-        """Brings the pins to reset, and says what came of it."""
+        """Brings the pins to reset, and says what came of it. The test of the chain, which ends in
+        reset, shows whether anyone listens."""
         try:
             self.player.reset()
-            return ["the pins are in reset"]
+            came = self.player.play("chain.svf", self.bench.compared("chain.svf"))
+            if all(bits is None for bits in came):
+                return ["the pins are in reset"]
         except PlayerFailed:
-            return ["the pins may not be in reset: take the supply off the board"]
+            pass
+        return ["the pins may not be in reset: take the supply off the board"]
 
     def stages(self) -> Outcome:
         """Plays the stages in their order."""

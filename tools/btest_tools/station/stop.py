@@ -19,8 +19,14 @@ class Stop:
         self.file, self.writing = os.pipe()
         os.set_blocking(self.file, False)
         os.set_blocking(self.writing, False)
-        for number in SIGNALS:
-            signal.signal(number, self.ask)
+        self.before = {number: signal.signal(number, self.ask) for number in SIGNALS}
+
+    def close(self) -> None:
+        """Gives the signals back."""
+        for number, handler in self.before.items():
+            signal.signal(number, handler)
+        os.close(self.file)
+        os.close(self.writing)
 
     def ask(self, _number: int, _frame: Optional[FrameType]) -> None:
         """Notes that a signal came."""

@@ -135,19 +135,13 @@ def places_of(fault: Fault, net_of: Mapping[str, str]) -> tuple[set[str], set[st
     return parts, nets
 
 
-def counts(faults: list[Fault], net_of: Mapping[str, str]) -> tuple[list[tuple[str, int]], ...]:
+def counts(faults: list[Fault], net_of: Mapping[str, str]) -> list[list[tuple[str, int]]]:
     """Returns how many boards have a fault at each part and at each net, the most first."""
-    at_parts: dict[str, set[str]] = collections.defaultdict(set)
-    at_nets: dict[str, set[str]] = collections.defaultdict(set)
+    by_part: dict[str, set[str]] = collections.defaultdict(set)
+    by_net: dict[str, set[str]] = collections.defaultdict(set)
     for fault in faults:
-        parts, nets = places_of(fault, net_of)
-        for at, names in ((at_parts, parts), (at_nets, nets)):
+        for found, names in zip((by_part, by_net), places_of(fault, net_of)):
             for name in names:
-                at[name].update(board.serial for board in fault.boards)
-    return tuple(
-        sorted(
-            ((name, len(serials)) for name, serials in at.items()),
-            key=lambda row: (-row[1], row[0]),
-        )
-        for at in (at_parts, at_nets)
-    )
+                found[name].update(board.serial for board in fault.boards)
+    counted = ([(name, len(boards)) for name, boards in one.items()] for one in (by_part, by_net))
+    return [sorted(rows, key=lambda row: (-row[1], row[0])) for rows in counted]

@@ -1,0 +1,527 @@
+"""The station of tools/, with OpenOCD and simulated boards. What needs OpenOCD is skipped where it isn't there."""
+import contextlib
+import csv
+import io
+import os
+import pathlib
+import re
+import shutil
+import signal
+import socket
+import sqlite3
+import subprocess
+import sys
+import tempfile
+import threading
+import time
+
+from cases import BOARD, EXAMPLES, SECONDS, TOOLS, Skipped, btest, inside, need, run, same
+
+from btest_tools.bitbang import answer_player
+from btest_tools.board import read_board
+from btest_tools.chain_faults import ChainPort
+from btest_tools.files import BadInput
+from btest_tools.scans import compared_scans, log_rows
+from btest_tools.station.player import Compared
+from btest_tools.station.parts import Link, open_place, wrong_parts
+from btest_tools.station.record import Beginning, Ending, Log, Record, create
+
+STATION = [sys.executable, '-B', TOOLS / 'station.py']
+CABLE = 'adapter driver remote_bitbang\nremote_bitbang host 127.0.0.1\nremote_bitbang port {port}\n'
+PRINTABLE = ''.join(map(chr, range(32, 127)))
+
+
+class Slow(ChainPort):
+    """A board that answers slowly, so that there is time to stop its test."""
+
+    def capture(self, register):
+        time.sleep(0.03)
+        super().capture(register)
+
+
+class Line:
+    """A folder of the demo board, and a simulated board behind its cable. Each player finds the next of `boards`, and the last of them
+    again."""
+
+    def __init__(self, program, room):
+        self.room, self.folder, self.program = pathlib.Path(room), pathlib.Path(room) / 'folder', program
+        self.board = read_board(*BOARD[:2], BOARD[2:])
+        self.boards = []
+        self.server = socket.create_server(('127.0.0.1', 0))
+        threading.Thread(target=self.serve, daemon=True).start()
+
+    def serve(self):
+        while True:
+            client, _ = self.server.accept()
+            port = self.boards.pop(0) if len(self.boards) > 1 else self.boards[0]
+            with client, contextlib.suppress(BadInput, OSError):
+                answer_player(client, port)
+
+    def plug(self, *faults, kind=ChainPort):
+        self.boards[:] = [kind(self.board, fault) for fault in faults]
+
+    def command(self, *words):
+        """The words of a command of the station, with the program where it is one that calls it."""
+        program = ['--btest', self.program] if words[0] in ('prepare', 'test', 'day') else []
+        return [*STATION, words[0], *program, *words[1:]]
+
+    def station(self, *words):
+        """What a command of the station answers."""
+        here = os.getcwd()
+        os.chdir(self.room)
+        try:
+            return inside('station.py', *self.command(*words)[len(STATION):])
+        finally:
+            os.chdir(here)
+
+    def typed(self, text, *words):
+        """What a command of the station answers to what is typed or scanned."""
+        return subprocess.run(list(map(str, self.command(*words))), cwd=self.room, timeout=SECONDS, input=text, capture_output=True,
+                              encoding='utf-8', check=False)
+
+    def prepare(self, folder='folder', port=None):
+        if not (self.room / folder).exists():
+            need(self.program)
+            (self.room / 'cable.cfg').write_text(CABLE.format(port=port or self.server.getsockname()[1]))
+            answer = self.station('prepare', folder, '--chain', BOARD[0], '--nets', BOARD[1], '--cable', 'cable.cfg', *BOARD[2:])
+            same((answer.returncode, answer.stderr), (0, ''), 'the end of prepare')
+
+    def test(self, fault, serial, kind=ChainPort):
+        """What the station says of a board with a fault."""
+        if not shutil.which('openocd'):
+            raise Skipped('OpenOCD is not there')
+        self.prepare()
+        self.plug(fault, kind=kind)
+        return self.station('test', self.folder, '--', serial)
+
+    def attempts(self, folder=None):
+        with Record((folder or self.folder) / 'record.sqlite') as record:
+            return list(record.attempts())
+
+
+def judged(line, fault, serial, status, verdict, *words):
+    """A board gets a verdict and a status, which are told and are in the record."""
+    answer = line.test(fault, serial)
+    same((answer.returncode, answer.stderr), (status, ''), f'the end, with {answer.stdout!r}')
+    last = line.attempts()[-1]
+    same((last.serial, last.verdict), (serial, verdict), 'the record')
+    for word in (verdict, serial, *words):
+        assert word in answer.stdout, f'it says {answer.stdout!r}, and not {word!r}'
+    large = answer.stdout.splitlines()[1]
+    same(large[:6], '######' if verdict in ('PASS', 'FAIL', 'CHAIN', 'PART') else '  ####', 'the large letters')
+
+
+def has_log(line, fault, serial, name):
+    """The log of an attempt is a stored one, in the bits that are compared, and btest reads it."""
+    line.test(fault, serial)
+    answer = line.station('log', line.folder, serial)
+    same(answer.returncode, 0, 'the status of log')
+    masks = [scan.mask for scan in compared_scans((line.folder / 'board.svf').read_text())]
+    rows = [list(log_rows(text.encode().splitlines())) for text in (answer.stdout, (EXAMPLES / name).read_text())]
+    same(*[[row & mask for row, mask in zip(log, masks)] + [len(log)] for log in rows], f'the rows of {name}')
+    (line.room / 'its.log').write_text(answer.stdout)
+    same(btest(line.program, 'diagnose', '1', line.room / 'its.log', *BOARD), btest(line.program, 'diagnose', '1', EXAMPLES / name, *BOARD))
+
+
+# The folder
+
+
+def is_made(line):
+    line.prepare()
+    files = {'chain.svf': ('chain', BOARD[0], *BOARD[2:]), 'ident.svf': ('ident', BOARD[0], *BOARD[2:]), 'board.svf': ('svf', *BOARD),
+             'walk.svf': ('walk', *BOARD), 'cover.txt': ('cover', *BOARD)}
+    for name, words in files.items():
+        same((line.folder / name).read_text(), btest(line.program, *words), name)
+    answer = run(['sha256sum', '--quiet', '-c', 'fingerprints.sha256'], line.folder)
+    same((answer.returncode, answer.stdout), (0, ''), 'what sha256sum says')
+    answer = line.station('prepare', '--check', line.folder)
+    assert answer.returncode == 0 and ' is whole: test ' in answer.stdout, f'it says {answer.stdout!r}'
+
+
+def is_kept(line):
+    """Nothing is made where a folder is, and none where btest refuses."""
+    line.prepare()
+    words = ['--nets', BOARD[1], '--cable', 'cable.cfg', *BOARD[2:]]
+    answer = line.station('prepare', line.folder, '--chain', BOARD[0], *words)
+    same((answer.returncode, 'is there already' in answer.stderr), (1, True), f'what is said: {answer.stderr!r}')
+    before = sorted(os.listdir(line.room))
+    chain = EXAMPLES / 'part-twice.chain'
+    answer = line.station('prepare', 'other', '--chain', chain, *words)
+    same((answer.returncode, answer.stderr), (1, f'station.py: {chain} line 4: part twice\n'), 'what is said')
+    same(sorted(os.listdir(line.room)), before, 'the files')
+
+
+def is_not_whole(line, change, word):
+    """A changed folder is told of, and no board is tested with it."""
+    line.prepare()
+    copy = line.room / 'copy'
+    shutil.rmtree(copy, ignore_errors=True)
+    shutil.copytree(line.folder, copy)
+    change(copy)
+    for words in (('prepare', '--check', copy), ('test', copy, 'A1')):
+        answer = line.station(*words)
+        assert answer.returncode == 6 and word in answer.stderr and answer.stderr.count('\n') == 1, f'it says {answer.stderr!r}'
+
+
+def change_file(folder):
+    (folder / 'board/controller.chain').chmod(0o644)
+    with open(folder / 'board/controller.chain', 'a') as file:
+        file.write('PULL D0 1\n')
+
+
+def without_codes(line):
+    """A chain with a part that has no description is tested without its codes."""
+    line.prepare()
+    names = ['driver.chain', os.devnull, 'driver.bsd']
+    files = [os.path.join(EXAMPLES, name) for name in names]
+    answer = line.station('prepare', 'bypass', '--chain', files[0], '--nets', files[1], '--cable', 'cable.cfg', files[2])
+    assert answer.returncode == 0 and 'no identification codes' in answer.stdout, f'it says {answer.stdout + answer.stderr!r}'
+    assert not (line.room / 'bypass/ident.svf').exists()
+
+
+# Serial numbers
+
+
+def every_sign(line):
+    """Every printable character, in two serial numbers, and some beyond ASCII, comes back as it was given."""
+    serials = [PRINTABLE[1:65], PRINTABLE[65:] + ' é µ 板', '-1', '--help', "$(touch x) [exit] {a} \\\"';"]
+    for serial in serials:
+        same(line.test('good', serial).returncode, 0, f'the status of {serial!r}')
+    same([one.serial for one in line.attempts()[-len(serials):]], serials, 'the record')
+    answer = line.station('show', line.folder)
+    for serial, told in zip(serials, answer.stdout.splitlines()[-len(serials):]):
+        assert told.endswith(f'PASS     {serial}'), told
+    rows = list(csv.DictReader(io.StringIO(line.station('csv', line.folder).stdout, newline='')))
+    same([row['serial'] for row in rows[-len(serials):]], serials, 'the table')
+    same(line.station('log', line.folder, '--', serials[0]).returncode, 0, 'the status of log')
+
+
+def no_serial(line, serial):
+    """What is no serial number is refused, and no attempt."""
+    line.prepare()
+    before = len(line.attempts())
+    answer = line.station('test', line.folder, '--', serial)
+    assert answer.returncode == 2 and answer.stderr.startswith('station.py: a serial number has '), f'it says {answer.stderr!r}'
+    same(len(line.attempts()), before, 'the attempts')
+
+
+def one_after_another(line):
+    """Without a serial number boards are tested one after another, each as it is plugged in."""
+    line.test('good', 'first')
+    line.plug('good', 'and:D0:D1', 'code:U1:-', 'good')
+    answer = line.typed('B 1\r\nB 2\n\tB\nB 3\n\nB 4', 'test', line.folder)
+    same(answer.returncode, 0, 'the status')
+    found = [(one.serial, one.verdict) for one in line.attempts()[-4:]]
+    same(found, [('B 1', 'PASS'), ('B 2', 'FAIL'), ('B 3', 'PART'), ('B 4', 'PASS')], 'the record')
+    same(len(answer.stderr.splitlines()), 2, f'the lines that refuse a serial number, {answer.stderr!r}')
+
+
+# What goes wrong at a bench
+
+
+def no_cable(line):
+    line.prepare()
+    if not shutil.which('openocd'):
+        raise Skipped('OpenOCD is not there')
+    with socket.create_server(('127.0.0.1', 0)) as closed:
+        port = closed.getsockname()[1]
+    line.prepare('unplugged', port)
+    (line.room / 'cable.cfg').unlink()
+    answer = line.station('test', 'unplugged', 'A1')
+    same((answer.returncode, answer.stderr), (5, ''), 'the end')
+    assert 'STOP' not in answer.stdout and 'Failed to connect' in answer.stdout, f'it says {answer.stdout!r}'
+    same(line.attempts(line.room / 'unplugged')[-1].verdict, 'PLAYER', 'the record')
+
+
+def no_player(line):
+    line.prepare()
+    answer = line.station('test', line.folder, 'A1', '--openocd', 'no-such-player')
+    same(answer.returncode, 5, 'the status')
+    assert 'cannot run no-such-player' in answer.stdout, f'it says {answer.stdout!r}'
+    answer = run([*STATION, 'test', line.folder, 'A1', '--btest', 'no-such-btest'])
+    same((answer.returncode, 'no-such-btest' in answer.stderr), (5, True), f'the end without btest, {answer.stderr!r}')
+
+
+def start(line, serial, kind=Slow):
+    """A station that tests a board."""
+    if not shutil.which('openocd'):
+        raise Skipped('OpenOCD is not there')
+    line.prepare()
+    line.plug('good', kind=kind)
+    words = line.command('test', line.folder, serial)
+    return subprocess.Popen(list(map(str, words)), stdin=subprocess.DEVNULL, stdout=subprocess.PIPE, stderr=subprocess.PIPE,
+                            encoding='utf-8', start_new_session=True)
+
+
+def wait_for_scan(line, number):
+    end = time.monotonic() + SECONDS
+    while line.boards[0].scan < number and time.monotonic() < end:
+        time.sleep(0.005)
+
+
+def stop(line, scan):
+    """Ctrl-C in a scan of a test leaves the pins in reset, and a record that says so."""
+    with start(line, f'stopped in {scan}') as process:
+        wait_for_scan(line, scan)
+        os.killpg(process.pid, signal.SIGINT)
+        out, err = process.communicate(timeout=SECONDS)
+    same((process.returncode, err), (130, ''), f'the end, with {out!r}')
+    last = line.attempts()[-1]
+    same((last.serial, last.verdict), (f'stopped in {scan}', 'STOPPED'), 'the record')
+    assert last.ending.says == 'stopped by the operator; the pins are in reset', last.ending.says
+    is_in_reset(line.boards[0])
+
+
+def is_in_reset(port):
+    same(port.state, 'reset', 'the state of the TAP controllers')
+    same({state.instruction for state in port.model.states} & {'EXTEST', 'SAMPLE'}, set(), 'the instructions')
+
+
+def stop_at_prompt(line):
+    line.prepare()
+    words = list(map(str, line.command('test', line.folder)))
+    with subprocess.Popen(words, stdin=subprocess.PIPE, stdout=subprocess.PIPE, stderr=subprocess.PIPE, encoding='utf-8') as process:
+        process.stdout.read(len('\nserial number: '))
+        process.send_signal(signal.SIGINT)
+        process.wait(SECONDS)
+        same((process.returncode, process.stderr.read()), (0, ''), 'the end')
+
+
+def kill(line, scan):
+    """A station that is killed leaves an attempt without an end; its player comes to the end of its text, and the next test runs."""
+    with start(line, f'killed in {scan}') as process:
+        wait_for_scan(line, scan)
+        process.kill()
+        process.communicate(timeout=SECONDS)
+    same(line.attempts()[-1].verdict, 'CUT', 'the verdict in the record')
+    time.sleep(1.5)   # the player leaves
+    is_in_reset(line.boards[0])
+    judged(line, 'good', 'after', 0, 'PASS')
+
+
+def second_station(line):
+    """A second station on a folder is told so, and the first goes on."""
+    with start(line, 'first') as process:
+        wait_for_scan(line, 2)
+        answer = line.station('test', line.folder, 'second')
+        process.communicate(timeout=SECONDS)
+    same(process.returncode, 0, 'the status of the first')
+    assert answer.returncode == 7 and f'process {process.pid}' in answer.stderr and answer.stderr.count('\n') == 1, answer.stderr
+    same(line.attempts()[-1].serial, 'first', 'the record')
+
+
+def clock_back(line):
+    """A clock that went back is told of, and the attempts stay in their order."""
+    line.prepare()
+    copy = line.room / 'future'
+    shutil.copytree(line.folder, copy)
+    with Record(copy / 'record.sqlite') as record:
+        row = Beginning('A1', '2099-01-01T00:00:00Z', '2099-01-01T00:00:00+00:00', 'test', 'btest', 'here')
+        number = record.begin(row)
+    line.plug('good')
+    answer = line.station('test', copy, 'A2')
+    assert answer.stderr == f'the clock went back: attempt {number} is of 2099-01-01T00:00:00+00:00\n', answer.stderr
+    same([one.serial for one in line.attempts(copy)[-2:]], ['A1', 'A2'], 'the order')
+
+
+def confined(line, script, *words):
+    """Runs a command in a mount namespace of its own, behind a script that changes what `$1`, a copy of the folder, can hold."""
+    if run(['unshare', '-rm', 'true']).returncode if shutil.which('unshare') else True:
+        raise Skipped('no mount namespace can be made here')
+    line.prepare()
+    line.plug('good')
+    copy = line.room / 'mounted'
+    copy.mkdir(exist_ok=True)
+    command = [str(word).replace('FOLDER', str(copy)) for word in line.command(*words)]
+    return run(['unshare', '-rm', 'sh', '-ec', f'{script}; shift 2; exec "$@"', 'sh', copy, line.folder, *command])
+
+
+def full_disk(line):
+    """On a full disk no verdict is told, and the record is whole."""
+    fill = 'mount -t tmpfs -o size=400k none "$1"; cp -r "$2"/. "$1"; dd if=/dev/zero of="$1"/fill bs=4096 2>/dev/null || true'
+    answer = confined(line, fill, 'test', 'FOLDER', 'A1')
+    assert answer.returncode == 7 and answer.stdout == '' and answer.stderr.count('\n') == 1, f'{answer}'
+    assert "can't be written" in answer.stderr and 'full' in answer.stderr.lower() + 'no space', f'{answer}'
+
+
+def unwritable(line):
+    """A folder that can't be written is told of before a pin moves, and its record can be read."""
+    mount = 'mount --bind "$2" "$1"; mount -o remount,bind,ro "$1"'
+    answer = confined(line, mount, 'test', 'FOLDER', 'A1')
+    assert answer.returncode == 7 and answer.stdout == '' and answer.stderr.count('\n') == 1, f'{answer}'
+    same(line.boards[0].scan, 0, 'the scans')
+    same(confined(line, mount, 'show', 'FOLDER').returncode, 0, 'the status of show')
+    answer = confined(line, mount, 'day', 'FOLDER')
+    assert answer.returncode in (1, 7) and answer.stderr.count('\n') == 1, f'{answer}'
+
+
+def no_output(line):
+    """Where standard output is full, the attempt is in the record, and the status is not that of a pass."""
+    line.test('good', 'before')
+    with open('/dev/full', 'w') as full:
+        words = list(map(str, line.command('test', line.folder, 'full')))
+        answer = subprocess.run(words, stdout=full, stderr=subprocess.PIPE, timeout=SECONDS, check=False, stdin=subprocess.DEVNULL)
+    assert answer.returncode == 7 and answer.stderr.count(b'\n') == 1, f'{answer}'
+    same((line.attempts()[-1].serial, line.attempts()[-1].verdict), ('full', 'PASS'), 'the record')
+
+
+# The record
+
+
+def is_never_changed(line):
+    line.test('good', 'kept')
+    database = sqlite3.connect(line.folder / 'record.sqlite')
+    for statement in ('DELETE FROM attempt', "UPDATE ending SET verdict = 'PASS'", 'DELETE FROM log', 'UPDATE log_text SET packed = 0'):
+        try:
+            database.execute(statement)
+        except sqlite3.Error as error:
+            same(str(error), 'nothing in the record is changed', statement)
+        else:
+            raise AssertionError(f'{statement} was done')
+    database.close()
+
+
+def other_test(line):
+    """A log that another test made is not judged, and is a row of the day's page."""
+    line.test('and:D0:D1', 'other')
+    copy = line.room / 'revised'
+    shutil.copytree(line.folder, copy, dirs_exist_ok=True)
+    with Record(copy / 'record.sqlite') as record:
+        old = next(one for one in record.attempts() if one.serial == 'other')
+        logs = record.logs(old.number)
+        number = record.begin(old.beginning._replace(serial='of another', test='0' * 64))
+        record.end(number, old.ending, logs)
+    answer = line.station('log', copy, 'of another')
+    assert answer.returncode == 1 and 'was made by another test' in answer.stderr, f'it says {answer.stderr!r}'
+    answer = line.station('day', copy)
+    same(answer.returncode, 0, f'the status of day, which says {answer.stderr!r}')
+    page = pathlib.Path(line.room / answer.stdout.strip()).read_text()
+    assert re.search('of another</a></td>.*was made by another test', page), 'no row says so'
+
+
+MADE = [   # by hand: what eleven boards did, and their verdicts in turn
+    ('E1', 'PASS'), ('E2', 'PASS'), ('E3', 'FAIL'), ('E3', 'PASS'), ('E4', 'CHAIN'), ('E5', 'PASS'), ('E6', 'PASS'), ('E7', 'PART'),
+    ('E7', 'FAIL'), ('E8', 'PASS'), ('E9', 'PLAYER'), ('E9', 'PASS'), ('E10', 'PASS'), ('E11', 'STOPPED'), ('E3', 'PASS'),
+]
+
+
+def made_day(line):
+    """The yield of eleven boards, counted by hand: ten were judged, seven passed at once and one after repair, two did not pass."""
+    line.prepare()
+    copy = line.room / 'made'
+    shutil.copytree(line.folder, copy)
+    (copy / 'record.sqlite').unlink()
+    test = line.station('prepare', '--check', line.folder).stdout.split('test ')[1].split(',')[0]
+    create(copy / 'record.sqlite', test)
+    with Record(copy / 'record.sqlite') as record:
+        for serial, verdict in MADE:
+            number = record.begin(Beginning(serial, '2026-05-04T08:00:00Z', '2026-05-04T10:00:00+02:00', test, 'btest', 'here'))
+            rows = (EXAMPLES / 'shorted.log').read_text() if verdict == 'FAIL' else ''
+            ending = Ending('2026-05-04T08:00:01Z', 'player', 'board', verdict, '', 'the words')
+            record.end(number, ending, [Log('board', rows)] if rows else [])
+        record.begin(Beginning('E11', '2026-05-04T09:00:00Z', '2026-05-04T11:00:00+02:00', test, 'btest', 'here'))
+    answer = line.station('day', copy, '2026-05-04')
+    same(answer.returncode, 0, f'the status, with {answer.stderr!r}')
+    page = (line.room / answer.stdout.strip()).read_text()
+    for row in ('boards tested</td><td>11<', 'at the first attempt</td><td>7 (70.0 %)<', 'after repair</td><td>1 (10.0 %)<',
+                'not passed</td><td>2 (20.0 %)<', 'not in the shares</td><td>1<', '<td>2</td><td>short AND D0 D1</td>',
+                '<td>D0</td><td>2</td>'):
+        assert row in page, f'the page has no {row}'
+    links = re.findall(r'href="(2026-05-04/\d+\.html)"', page)
+    boards = {name: (copy / 'days' / name).read_text() for name in links}
+    same(len(boards), 5, 'the pages of boards that did not pass at once')
+    assert any('short AND D0 D1' in text and 'Board E3' in text for text in boards.values()), 'no page explains E3'
+
+
+def unread_log(line):
+    """A log that can't be read is a row of the day's page and stops nothing."""
+    line.test('and:D0:D1', 'unread')
+    copy = line.room / 'damaged'
+    shutil.copytree(line.folder, copy)
+    database = sqlite3.connect(copy / 'record.sqlite')
+    with database:
+        database.execute('DROP TRIGGER log_text_UPDATE')
+        database.execute("UPDATE log_text SET packed = x'00' WHERE length(packed) > 0")
+    database.close()
+    answer = line.station('day', copy)
+    same(answer.returncode, 0, f'the status, with {answer.stderr!r}')
+    page = (line.room / answer.stdout.strip()).read_text()
+    assert re.search('unread</a></td>.*can&#x27;t be read', page), 'no row says so'
+
+
+# What the bits of a chain say
+
+
+def read_chain():
+    """By hand: three parts with 2, 3 and 2 instruction bits, U3 at TDO. What the last two load is right, U1 loads ones."""
+    chain = [Link('U1', 2, False), Link('U2', 3, False), Link('U3', 2, False)]
+    statement = Compared('SIR', 7, 0b0100101, 0b1101111, 6)
+    told = open_place(chain, statement, 0b1100101)
+    same(told, "U2, U3 answer, U1 doesn't and all bits behind are 1: look at U1 and the way from its TDO to TDI of U2")
+    told = open_place(chain, statement, 0)
+    assert told.startswith('no part answers as it should and all bits behind are 0'), told
+
+
+def read_codes():
+    """By hand: U1 with a code whose version doesn't matter, U2 without a code; then a part that lost its code."""
+    chain = [Link('U1', 4, True), Link('U2', 4, False)]
+    code = 0x10123017   # version 1, part number 0x0123, maker 0x00B
+    statement = Compared('SDR', 33, code << 1, 0x0FFFFFFF << 1 | 1, 6)
+    same(wrong_parts(chain, statement, 0x2012301F << 1), ['wrong part U1: it has maker 0x00F, part number 0x0123, version 2; '
+                                                          'it should have maker 0x00B, part number 0x0123, version any'])
+    same(wrong_parts(chain, statement, 0b00), ['wrong part U1: it has no code; it should have maker 0x00B, part number 0x0123, '
+                                               'version any'])
+
+
+def check_bench(line):
+    """A call for each way in which the test of a board ends."""
+    yield 'a good board passes', lambda: judged(line, 'good', 'A 1', 0, 'PASS')
+    yield 'a short fails twice', lambda: judged(line, 'and:D0:D1', 'A 2', 1, 'FAIL', '2 of 2', 'short AND D0 D1')
+    yield 'a fault in one run alone', lambda: judged(line, '12-14@stuck:D2:1', 'A 3', 1, 'FAIL', '(1 of 2)')
+    yield 'two runs that differ', lambda: judged(
+        line, '6-27@stuck:D2:1 28@stuck:D3:1', 'A 4', 1, 'FAIL', '(2 of 2, ', ' bits differ)')
+    yield 'several nets in a short', lambda: judged(line, 'or:D0:D1:A1', 'A 5', 1, 'FAIL', 'shorted by the walking test: D0, D1, A1')
+    yield 'a chain that is open behind a part', lambda: judged(line, 'chain:U3:0', 'A 6', 3, 'CHAIN', 'U3', 'TDI of U4')
+    yield 'a chain that is open behind the last part', lambda: judged(line, 'chain:U4:1', 'A 7', 3, 'CHAIN', 'no part answers')
+    yield 'a part that is missing', lambda: judged(line, 'missing:U2', 'A 8', 3, 'CHAIN', "U2 doesn't")
+    yield 'a part with another code', lambda: judged(
+        line, 'code:U1:1012301F', 'A 9', 4, 'PART', 'wrong part U1: it has maker 0x00F, part number 0x0123, version 1; it should have '
+        'maker 0x00B, part number 0x0123, version 1')
+    yield 'a part that has no code', lambda: judged(line, 'code:U1:-', 'A 10', 4, 'PART', 'U1: it has no code')
+    yield 'a chain that breaks in the test', lambda: judged(line, '20@chain:U2:1', 'A 11', 3, 'CHAIN', 'broke during the test')
+    yield 'a cable that is pulled in the test', lambda: judged(line, '12@cable', 'A 12', 5, 'PLAYER', 'may not be in reset')
+    yield 'no cable', lambda: no_cable(line)
+    yield 'no player, and no btest', lambda: no_player(line)
+    yield 'the log of a good board', lambda: has_log(line, 'good', 'A 13', 'good.log')
+    yield 'the log of a short', lambda: has_log(line, 'and:D0:D1', 'A 14', 'shorted.log')
+    for scan in (1, 3, 12, 22):
+        yield f'Ctrl-C in scan {scan}', lambda: stop(line, scan)
+    yield 'Ctrl-C at the question for a serial number', lambda: stop_at_prompt(line)
+    yield 'a station that is killed', lambda: kill(line, 14)
+    yield 'two stations on one folder', lambda: second_station(line)
+    yield 'a clock that went back', lambda: clock_back(line)
+    yield 'a full disk', lambda: full_disk(line)
+    yield 'a folder that cannot be written', lambda: unwritable(line)
+    yield 'standard output is full', lambda: no_output(line)
+
+
+def check(program):
+    yield 'where a chain is open', read_chain
+    yield 'which part has another code', read_codes
+    with tempfile.TemporaryDirectory() as room:
+        line = Line(program, room)
+        yield 'a folder is made', lambda: is_made(line)
+        yield 'a folder is kept', lambda: is_kept(line)
+        yield 'a file that was changed', lambda: is_not_whole(line, change_file, 'controller.chain was changed')
+        yield 'a file that is missing', lambda: is_not_whole(line, lambda folder: (folder / 'walk.svf').unlink(), 'walk.svf is missing')
+        yield 'a record that is missing', lambda: is_not_whole(line, lambda folder: (folder / 'record.sqlite').unlink(), 'is missing')
+        yield 'a part without a description', lambda: without_codes(line)
+        yield from check_bench(line)
+        yield 'serial numbers of every character', lambda: every_sign(line)
+        for name, serial in (('no character', ''), ('a blank', ' '), ('65 characters', 'x' * 65), ('a tab', 'a\tb'), ('no text', '\udcff')):
+            yield f'a serial number of {name}', lambda: no_serial(line, serial)
+        yield 'boards one after another', lambda: one_after_another(line)
+        yield 'nothing in the record is changed', lambda: is_never_changed(line)
+        yield 'a log of another test', lambda: other_test(line)
+        yield 'a log that cannot be read', lambda: unread_log(line)
+        yield 'the yield of a day', lambda: made_day(line)
