@@ -480,7 +480,7 @@ def check_bench(line):
     yield 'a fault in one run alone', lambda: judged(line, '12-14@stuck:D2:1', 'A 3', 1, 'FAIL', '(1 of 2)')
     yield 'two runs that differ', lambda: judged(
         line, '6-27@stuck:D2:1 28@stuck:D3:1', 'A 4', 1, 'FAIL', '(2 of 2, ', ' bits differ)')
-    yield 'several nets in a short', lambda: judged(line, 'or:D0:D1:A1', 'A 5', 1, 'FAIL', 'shorted by the walking test: D0, D1, A1')
+    yield 'several nets in a short', lambda: judged(line, 'or:D0:D1:A1', 'A 5', 1, 'FAIL', 'short OR D0 D1 A1')
     yield 'a chain that is open behind a part', lambda: judged(line, 'chain:U3:0', 'A 6', 3, 'CHAIN', 'U3', 'TDI of U4')
     yield 'a chain that is open behind the last part', lambda: judged(line, 'chain:U4:1', 'A 7', 3, 'CHAIN', 'no part answers')
     yield 'a part that is missing', lambda: judged(line, 'missing:U2', 'A 8', 3, 'CHAIN', "U2 doesn't")

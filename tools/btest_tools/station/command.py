@@ -56,9 +56,8 @@ def prepare(words: Words) -> int:
         return 0
     files = [words.chain or "", words.nets or "", *words.bsdls]
     product = folder.prepare(words.folder, Btest(words.btest), files, words.cable or "")
-    put(
-        f"{words.folder} is made: test {product.test}\n{product.text(folder.COVER).splitlines()[0]}\n"
-    )
+    covered = product.text(folder.COVER).splitlines()[0]
+    put(f"{words.folder} is made: test {product.test}\n{covered}\n")
     if not product.has_ident:
         put("a part of the chain has no description, so no identification codes are read\n")
     return 0

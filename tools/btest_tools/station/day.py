@@ -146,7 +146,7 @@ def board_row(day: Day, board: Tested) -> str:
     says = last.ending.says if last.ending else "the station was ended in this attempt"
     finding = day.findings.get(last.number)
     if last.verdict == "FAIL" and finding:
-        says = "; ".join(finding.lines[:3])
+        says = "; ".join(line.strip() for line in finding.lines)
     says = day.unread.get(last.number, says)
     verdict = last.verdict if last.verdict == "PASS" else f"<span class=bad>{last.verdict}</span>"
     verdicts = " ".join(one.verdict for one in board.attempts[:-1][-4:])
@@ -169,8 +169,7 @@ def fault_tables(day: Day) -> str:
         lines.append(row(str(len(fault.boards)), escape(names), links + more))
     text = "<h2>Faults</h2>\n<p>Faults that give the same bits are one row.</p>\n"
     text += table(("boards", "fault", "serial numbers"), lines) + more_rows(len(faults))
-    net_of = day.net_of if any(fault.names[0].startswith("open") for fault in faults) else {}
-    for name, found in zip(("parts", "nets"), counts(faults, net_of)):
+    for name, found in zip(("parts", "nets"), counts(faults, day.net_of)):
         if found:
             lines = [row(escape(one), str(count)) for one, count in found[:SHOWN]]
             text += f"<h2>Boards by {name} that may be at fault</h2>\n"
@@ -206,6 +205,8 @@ def attempt_section(day: Day, attempt: Attempt, findings: Mapping[int, Finding])
     lines += finding.lines if finding else ()
     lines += filter(None, [day.unread.get(attempt.number)])
     text += "<p>" + "<br>\n".join(map(escape, lines)) + "</p>\n"
+    if finding and finding.details:
+        text += f"<pre>{escape(finding.details)}</pre>\n"
     if attempt.verdict != "PASS":
         text += "".join(log_part(one) for one in logs_of(day.record, attempt))
     return text

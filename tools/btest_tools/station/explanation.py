@@ -1,61 +1,56 @@
-"""What explains the failure of a board: the faults that give its log, and lines to read."""
+"""What explains the failure of a board: the faults that give its logs, and lines to read."""
 
 from __future__ import annotations
 
-import re
 from collections.abc import Sequence
 from typing import Optional
 
-from btest_tools.files import BadInput
+from btest_tools.explaining.sets import Explained
+from btest_tools.explaining.words import Teller
+from btest_tools.failing import Look, look, show
+from btest_tools.files import BadInput, Text
 from btest_tools.station.record import Finding, Log
 from btest_tools.station.stages import Bench
 
-NAMED = 5  # how many faults are told one by one
 
-
-def log_of(logs: Sequence[Log], stage: str) -> Optional[Log]:
+def log_of(logs: Sequence[Log], stage: str) -> Optional[Text]:
     """Returns the log of a stage."""
-    return next((log for log in logs if log.stage == stage), None)
+    found = (Text(f"the log of {stage}", log.rows) for log in logs if log.stage == stage)
+    return next(found, None)
 
 
 def explain(bench: Bench, logs: Sequence[Log]) -> Finding:
-    """Returns what btest says of the logs of a board that failed."""
-    board, walk = log_of(logs, "board"), log_of(logs, "walk")
-    faults: list[str] = []
-    lines: list[str] = []
-    if board:
-        faults, lines = single_faults(bench, board)
-    if walk:
-        lines += groups_of(bench, walk)
-    return Finding(tuple(faults), tuple(lines))
-
-
-def single_faults(bench: Bench, log: Log) -> tuple[list[str], list[str]]:
-    """Returns the single faults that explain a log, and lines about them."""
+    """Returns what explains the logs of a board that failed."""
+    log = log_of(logs, "board")
+    if not log:
+        return Finding((), (), "")
     try:
-        head, *faults = bench.answer(log.rows).splitlines()
+        seen = look(bench.failing, log, log_of(logs, "walk"))
+        details = "".join(f"{line}\n" for line in show(bench.failing, seen))
     except BadInput as wrong:
-        return [], [f"the log can't be read: {wrong}"]
-    if head == "PASS":
-        return [], []
-    if not faults:
-        return [], ["no single fault explains the log: likely several at once"]
-    shown = faults[:NAMED]
-    rest = [f"and {len(faults) - NAMED} more"] if len(faults) > NAMED else []
-    lead = [f"one of {len(faults)}, which give the same bits:"] if len(faults) > 1 else []
-    return faults, [*lead, *shown, *rest]
+        return Finding((), (f"the log can't be explained: {wrong}",), "")
+    return Finding(faults_of(seen), tuple(first_lines(bench, seen)), details)
 
 
-def groups_of(bench: Bench, log: Log) -> list[str]:
-    """Returns the groups of shorted nets that a walking test shows."""
-    try:
-        answer = bench.groups(log.rows)
-    except BadInput as wrong:
-        return [f"the log of the walking test can't be read: {wrong}"]
-    groups = re.split(r"^GROUP \d+\n", answer, flags=re.M)[1:]
-    return [f"shorted by the walking test: {', '.join(nets_of(group))}" for group in groups]
+def faults_of(seen: Look) -> tuple[str, ...]:
+    """Returns the faults any of which gives the bits: the single ones, else the likeliest set."""
+    if seen.faults or not seen.explained.ranks:
+        return tuple(seen.faults)
+    return (" with ".join(lines_of(seen.explained)),)
 
 
-def nets_of(group: str) -> list[str]:
-    """Returns the nets of a group."""
-    return [line[len("NET ") :] for line in group.splitlines()]
+def lines_of(explained: Explained) -> list[str]:
+    """Returns the faults of the likeliest set."""
+    reading = explained.ranks[0][0].readings[0]
+    return [fault.line() for choice in reading.choices for fault in choice]
+
+
+def first_lines(bench: Bench, seen: Look) -> list[str]:
+    """Returns the likeliest explanation, and what to do next."""
+    found = bench.failing
+    rank = next(Teller(found.board, found.nearness).ranks(seen.explained), None)
+    if not rank:
+        return ["no set of faults that is looked for gives the bits: try the contacts"]
+    others = [f"or {'; '.join(lines)}" for lines in rank.equals]
+    step = [f"next: {rank.next}"] if rank.next else []
+    return [f"likely {rank.head}", *(f"  {line}" for line in rank.lines), *others, *step]

@@ -35,7 +35,7 @@ TABLES = (
        stage TEXT NOT NULL, fingerprint TEXT NOT NULL REFERENCES log_text,
        PRIMARY KEY (attempt, place)) WITHOUT ROWID""",
     """CREATE TABLE finding (attempt INTEGER PRIMARY KEY REFERENCES attempt, faults TEXT NOT NULL,
-       lines TEXT NOT NULL)""",
+       lines TEXT NOT NULL, packed BLOB NOT NULL)""",
     "CREATE INDEX attempt_serial ON attempt (serial)",
     "CREATE INDEX attempt_day ON attempt (day)",
 )
@@ -57,10 +57,12 @@ class Log(NamedTuple):
 
 
 class Finding(NamedTuple):
-    """What explains a failure: the faults, any of which gives the log, and lines to read."""
+    """What explains a failure: the faults, any of which gives the log, the first lines to read,
+    and all that is known of the nets."""
 
     faults: tuple[str, ...]
     lines: tuple[str, ...]
+    details: str
 
 
 class Beginning(NamedTuple):
@@ -208,8 +210,9 @@ class Record:
     def explain(self, number: int, finding: Finding) -> None:
         """Adds what explains the failure of an attempt."""
         with self.transaction() as database:
-            row = (number, json.dumps(finding.faults), json.dumps(finding.lines))
-            database.execute("INSERT INTO finding VALUES (?, ?, ?)", row)
+            packed = zlib.compress(finding.details.encode("utf-8"))
+            row = (number, json.dumps(finding.faults), json.dumps(finding.lines), packed)
+            database.execute("INSERT INTO finding VALUES (?, ?, ?, ?)", row)
 
     def query(self, rest: str, *values: object) -> Iterator[Attempt]:
         """Yields the attempts that the rest of a statement asks for."""
@@ -261,13 +264,16 @@ class Record:
 
     def findings(self, day: str) -> dict[int, Finding]:
         """Returns what explains the failures of a day."""
-        statement = """SELECT attempt, faults, lines FROM finding JOIN attempt ON number = attempt
-                       WHERE day = ?"""
+        statement = """SELECT attempt, faults, lines, packed FROM finding
+                       JOIN attempt ON number = attempt WHERE day = ?"""
+        found = {}
         with told(self.path, "read"):
-            return {
-                number: Finding(tuple(json.loads(faults)), tuple(json.loads(lines)))
-                for number, faults, lines in self.database.execute(statement, (day,))
-            }
+            for number, faults, lines, packed in self.database.execute(statement, (day,)):
+                with contextlib.suppress(zlib.error, ValueError, TypeError):
+                    details = zlib.decompress(packed).decode("utf-8")
+                    kept = tuple(json.loads(faults)), tuple(json.loads(lines))
+                    found[number] = Finding(*kept, details)
+        return found
 
     def is_whole(self) -> bool:
         """Returns whether SQLite finds nothing wrong."""

@@ -9,8 +9,10 @@ from dataclasses import dataclass, field
 from functools import cached_property
 from typing import NamedTuple
 
-from btest_tools.board import Files
+from btest_tools import failing
+from btest_tools.board import Files, read_board
 from btest_tools.btest import LOG, Btest
+from btest_tools.explaining.nearness import Nearness
 from btest_tools.files import BadInput, Text, read
 from btest_tools.station.folder import IDENT, Product
 from btest_tools.station.parts import Link, open_place, wrong_parts
@@ -62,6 +64,13 @@ class Bench:
         return self.statements[name]
 
     @cached_property
+    def failing(self) -> failing.Bench:
+        """The board as the explanation of a failure has it."""
+        chain, nets, *bsdls = self.product.files
+        board = read_board(chain, nets, bsdls)
+        return failing.Bench(self.btest, self.product.files, board, Nearness(board))
+
+    @cached_property
     def chain(self) -> list[Link]:
         """The parts of the chain."""
         chain, nets, *bsdls = map(read, self.product.files)
@@ -72,11 +81,6 @@ class Bench:
         """Returns what btest says of a log of the board's test."""
         words = ("1", LOG, *self.product.files)
         return self.btest.run("diagnose", *words, begin=("PASS", "FAIL"), log=Text("the log", log))
-
-    def groups(self, log: str) -> str:
-        """Returns what btest says of a log of the walking test."""
-        words = (LOG, *self.product.files)
-        return self.btest.run("groups", *words, begin="GROUPS", log=Text("the log", log))
 
 
 class BoardTest:

@@ -6,6 +6,7 @@ import collections
 from collections.abc import Iterable, Mapping
 from dataclasses import dataclass, field
 
+from btest_tools.board import part_of
 from btest_tools.station.record import Attempt, Finding
 
 JUDGED = ("PASS", "FAIL", "CHAIN", "PART")  # the verdicts about a board; others are about a bench
@@ -121,15 +122,16 @@ def places_of(fault: Fault, net_of: Mapping[str, str]) -> tuple[set[str], set[st
     """Returns the parts and the nets that a fault may be at."""
     parts: set[str] = set()
     nets: set[str] = set()
-    for name in fault.names:
+    for name in (one for names in fault.names for one in names.split(" with ")):
         kind, *words = name.split()
-        if kind == "stuck":
+        if kind in ("stuck", "pull"):
             nets.add(words[0])
         elif kind == "short":
             nets.update(words[1:])
-        elif kind == "open":
-            parts.add(words[0].partition(".")[0])
-            nets.update(filter(None, [net_of.get(words[0])]))
+        elif kind in ("open", "swap"):
+            pins = [word for word in words if word in net_of]
+            parts.update(part_of(pin) for pin in pins)
+            nets.update(net_of[pin] for pin in pins)
         elif kind == "part:" and "wrong part " in name:
             parts.update(piece.split(":")[0] for piece in name.split("wrong part ")[1:])
     return parts, nets
