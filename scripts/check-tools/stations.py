@@ -268,7 +268,7 @@ def stop(line, scan):
     same((process.returncode, err), (130, ''), f'the end, with {out!r}')
     last = line.attempts()[-1]
     same((last.serial, last.verdict), (f'stopped in {scan}', 'STOPPED'), 'the record')
-    assert last.ending.says == 'stopped by the operator; the pins are in reset', last.ending.says
+    assert last.says == 'stopped by the operator; the pins are in reset', last.says
     is_in_reset(line.boards[0])
 
 
@@ -389,8 +389,8 @@ def other_test(line):
     with Record(copy / 'record.sqlite') as record:
         old = next(one for one in record.attempts() if one.serial == 'other')
         logs = record.logs(old.number)
-        number = record.begin(old.beginning._replace(serial='of another', test='0' * 64))
-        record.end(number, old.ending, logs)
+        number = record.begin(Beginning('of another', old.utc, old.local, '0' * 64, old.btest, old.station))
+        record.end(number, Ending(old.ended_utc, old.player, old.stage, old.verdict, old.runs, old.says), logs)
     answer = line.station('log', copy, 'of another')
     assert answer.returncode == 1 and 'was made by another test' in answer.stderr, f'it says {answer.stderr!r}'
     answer = line.station('day', copy)

@@ -1,4 +1,5 @@
-"""Hostile use of the program: refused memory, failing reads and writes, broken texts, sizes at every limit, odd files and streams."""
+"""Hostile use of the program: refused memory, failing reads and writes, broken texts, sizes at every limit, odd files and streams, and
+stations that are killed."""
 import argparse
 import os
 import shutil
@@ -11,8 +12,10 @@ import files
 import program
 import refusals
 import sizes
+import stations_stress
 
-PARTS = {'refusals': refusals.stress, 'broken': broken.stress, 'sizes': sizes.stress, 'files': files.stress}
+PARTS = {'refusals': refusals.stress, 'broken': broken.stress, 'sizes': sizes.stress, 'files': files.stress,
+         'stations': stations_stress.stress}
 
 
 def show(rows):

@@ -23,7 +23,7 @@ class Inputs(NamedTuple):
 
 def check_test(product: Product, attempt: Attempt) -> None:
     """Refuses an attempt that was made by another test than the folder has."""
-    made = attempt.beginning.test
+    made = attempt.test
     if made != product.test:
         raise BadInput(
             f"attempt {attempt.number} was made by another test: its fingerprint is {made[:12]}.., "
@@ -50,9 +50,9 @@ def log_text(product: Product, attempt: Attempt, log: Log) -> Text:
     """Returns a log as btest reads it, with a comment that says where it is from."""
     check_test(product, attempt)
     serial = attempt.serial.encode("ascii", "backslashreplace").decode("ascii")
-    head = f"# attempt {attempt.number} of {serial}, {log.stage}, {attempt.beginning.local}\n"
+    head = f"# attempt {attempt.number} of {serial}, {log.stage}, {attempt.local}\n"
     name = f"the log {log.stage} of attempt {attempt.number}"
-    return Text(name, f"{head}# test {attempt.beginning.test}\n{log.rows}")
+    return Text(name, f"{head}# test {attempt.test}\n{log.rows}")
 
 
 def log_of(product: Product, record: Record, attempt: Attempt, stage: str) -> Text:

@@ -18,9 +18,6 @@ from btest_tools.station.record import Attempt, Record
 EPILOG = """Exit status of test: 0 the board passes, 1 it fails, 2 the command line, 3 the scan
 chain, 4 a wrong part, 5 no cable, no player or no btest, 6 the folder isn't whole, 7 the record
 can't be written, 130 stopped. Of the others: 0 done, 1 refused, and 2, 6 and 7 as above."""
-HEADS = (
-    "attempt serial utc local day verdict stage runs says test btest player station ended_utc"
-).split()
 FOLDER = "the folder of the product"
 SERIAL = "the serial number of a board; behind -- if it begins with -"
 
@@ -84,22 +81,21 @@ def open_record(words: Words) -> Record:
 
 def told(attempt: Attempt) -> str:
     """Returns the line of an attempt."""
-    end = attempt.ending
-    rest = [end.runs, end.says] if end else ["the station was ended in this attempt"]
-    words = [f"{attempt.number:6}", attempt.beginning.local, f"{attempt.verdict:7}"]
-    return "  ".join([*words, attempt.serial, *filter(None, rest)])
+    known = "".join(f"  {text}" for text in (attempt.runs, attempt.says) if text)
+    verdict = f"{attempt.verdict:7}"
+    return f"{attempt.number:6}  {attempt.local}  {verdict}  {attempt.serial}{known}\n"
 
 
 def show(words: Words) -> int:
     """Lists the attempts."""
     with open_record(words) as found:
         if words.serial is None:
-            put("".join(f"{told(attempt)}\n" for attempt in found.attempts()))
+            put("".join(map(told, found.attempts())))
             return 0
         rows = found.of_serial(line.serial_of(words.serial))
         if not rows:
             raise BadInput(f"there is no attempt of {words.serial}")
-        put("".join(f"{told(attempt)}\n" for attempt in rows))
+        put("".join(map(told, rows)))
     return 0
 
 
@@ -117,16 +113,9 @@ def table(words: Words) -> int:
     """Writes all attempts as comma-separated values."""
     text = io.StringIO()
     rows = csv.writer(text)
-    rows.writerow(HEADS)
+    rows.writerow(Attempt._fields)
     with open_record(words) as found:
-        for one in found.attempts():
-            begin, end = one.beginning, one.ending
-            known = (end.stage, end.runs, end.says) if end else ("", "", "")
-            rows.writerow(
-                [one.number, begin.serial, begin.utc, begin.local, one.day, one.verdict, *known]
-                + [begin.test, begin.btest, end.player if end else "", begin.station]
-                + [end.utc if end else ""]
-            )
+        rows.writerows(found.attempts())
     put(text.getvalue())
     return 0
 

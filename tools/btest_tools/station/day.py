@@ -5,7 +5,7 @@ from __future__ import annotations
 import html
 import pathlib
 import re
-from collections.abc import Iterable, Mapping, Sequence
+from collections.abc import Iterable, Sequence
 from dataclasses import dataclass
 from typing import Optional
 
@@ -141,18 +141,16 @@ def link(day: Day, board: Tested) -> str:
 
 def board_row(day: Day, board: Tested) -> str:
     """Returns the row of a board."""
-    tried = board.of_day(day.name)
-    last = tried[-1]
-    says = last.ending.says if last.ending else "the station was ended in this attempt"
+    last = board.of_day(day.name)[-1]
+    says = last.says
     finding = day.findings.get(last.number)
     if last.verdict == "FAIL" and finding:
         says = "; ".join(line.strip() for line in finding.lines)
     says = day.unread.get(last.number, says)
     verdict = last.verdict if last.verdict == "PASS" else f"<span class=bad>{last.verdict}</span>"
-    verdicts = " ".join(one.verdict for one in board.attempts[:-1][-4:])
-    time = last.beginning.local[11:19]
-    before = f"<span class=quiet>{verdicts}</span>" if verdicts else ""
-    return row(link(day, board), time, verdict, before, escape(says))
+    before = " ".join(one.verdict for one in board.attempts[:-1][-4:])
+    quiet = f"<span class=quiet>{before}</span>" if before else ""
+    return row(link(day, board), last.local[11:19], verdict, quiet, escape(says))
 
 
 def fault_tables(day: Day) -> str:
@@ -195,13 +193,13 @@ def day_page(day: Day) -> str:
     )
 
 
-def attempt_section(day: Day, attempt: Attempt, findings: Mapping[int, Finding]) -> str:
+def attempt_section(day: Day, attempt: Attempt) -> str:
     """Returns what the page of a board says of an attempt."""
-    end = attempt.ending
-    verdict = f"{attempt.verdict}{f' ({end.runs})' if end and end.runs else ''}"
-    text = f"<h2>{escape(verdict)}: attempt {attempt.number}, {attempt.beginning.local}</h2>\n"
-    lines = [f"stage: {end.stage}", *filter(None, [end.says])] if end else ["cut short"]
-    finding = findings.get(attempt.number)
+    verdict = f"{attempt.verdict}{f' ({attempt.runs})' if attempt.runs else ''}"
+    text = f"<h2>{escape(verdict)}: attempt {attempt.number}, {attempt.local}</h2>\n"
+    finding = day.findings.get(attempt.number)
+    lines = [f"stage: {attempt.stage}"] if attempt.stage else []
+    lines += [attempt.says] if attempt.says else []
     lines += finding.lines if finding else ()
     lines += filter(None, [day.unread.get(attempt.number)])
     text += "<p>" + "<br>\n".join(map(escape, lines)) + "</p>\n"
@@ -229,7 +227,7 @@ def log_part(log: Log) -> str:
 def board_page(day: Day, board: Tested) -> str:
     """Returns the page of a board."""
     back = f'<p><a href="../{day.name}.html">{day.name}</a></p>\n'
-    sections = (attempt_section(day, one, day.findings) for one in board.attempts)
+    sections = (attempt_section(day, one) for one in board.attempts)
     return page(f"Board {board.serial}", back + "".join(sections))
 
 

@@ -83,8 +83,8 @@ class Station:
     def begin(self, serial: str) -> int:
         """Writes that an attempt begins. So the record can be written before a pin moves."""
         now, last = self.clock(), self.record.last()
-        if last and last.beginning.utc > now.utc:
-            tell(f"the clock went back: attempt {last.number} is of {last.beginning.local}")
+        if last and last.utc > now.utc:
+            tell(f"the clock went back: attempt {last.number} is of {last.local}")
         where = f"{socket.gethostname()} process {os.getpid()}"
         row = Beginning(serial, now.utc, now.local, self.product.test, self.version, where)
         return self.record.begin(row)

@@ -15,7 +15,6 @@ import pathlib
 import sqlite3
 import zlib
 from collections.abc import Iterator, Sequence
-from dataclasses import dataclass
 from typing import NamedTuple, Optional
 
 from btest_tools.files import BadInput
@@ -41,8 +40,9 @@ TABLES = (
 )
 NEVER = """CREATE TRIGGER {table}_{what} BEFORE {what} ON {table}
            BEGIN SELECT RAISE(ABORT, 'nothing in the record is changed'); END"""
-COLUMNS = """number, serial, attempt.utc, local, day, test, btest, station, ending.utc, player,
-             stage, verdict, runs, says"""
+COLUMNS = """number, serial, attempt.utc, local, day, coalesce(verdict, 'CUT'), coalesce(stage, ''),
+             coalesce(runs, ''), coalesce(says, 'the station was ended in this attempt'), test,
+             btest, coalesce(player, ''), station, coalesce(ending.utc, '')"""
 
 
 class RecordFailed(BadInput):
@@ -87,32 +87,23 @@ class Ending(NamedTuple):
     says: str
 
 
-@dataclass(frozen=True)
-class Attempt:
-    """An attempt in the record. If it was cut short, `ending` is None."""
+class Attempt(NamedTuple):
+    """An attempt in the record. An attempt that was killed has the verdict CUT, and no end."""
 
     number: int
+    serial: str
+    utc: str
+    local: str
     day: str
-    beginning: Beginning
-    ending: Optional[Ending]
-
-    @property
-    def serial(self) -> str:
-        """The serial number of the board."""
-        return self.beginning.serial
-
-    @property
-    def verdict(self) -> str:
-        """The verdict, or CUT for an attempt that was killed."""
-        return self.ending.verdict if self.ending else "CUT"
-
-
-def attempt_of(row: Sequence[object]) -> Attempt:
-    """Returns the attempt of a row of COLUMNS."""
-    number, serial, utc, local, day, test, btest, station, *rest = row
-    beginning = Beginning(*map(str, (serial, utc, local, test, btest, station)))
-    ending = None if rest[0] is None else Ending(*map(str, rest))
-    return Attempt(int(str(number)), str(day), beginning, ending)
+    verdict: str
+    stage: str
+    runs: str
+    says: str
+    test: str
+    btest: str
+    player: str
+    station: str
+    ended_utc: str
 
 
 @contextlib.contextmanager
@@ -218,8 +209,7 @@ class Record:
         """Yields the attempts that the rest of a statement asks for."""
         statement = f"SELECT {COLUMNS} FROM attempt LEFT JOIN ending ON number = attempt {rest}"
         with told(self.path, "read"):
-            for row in self.database.execute(statement, values):
-                yield attempt_of(row)
+            yield from map(Attempt._make, self.database.execute(statement, values))
 
     def attempts(self) -> Iterator[Attempt]:
         """Yields all attempts, in their order."""

@@ -109,9 +109,8 @@ def key_of(
     attempt: Attempt, findings: Mapping[int, Finding], marks: Mapping[int, str]
 ) -> tuple[str, ...]:
     """Returns what attempts with the same fault have in common."""
-    says = attempt.ending.says if attempt.ending else ""
     if attempt.verdict != "FAIL":
-        return (f"{attempt.verdict.lower()}: {says}",)
+        return (f"{attempt.verdict.lower()}: {attempt.says}",)
     finding = findings.get(attempt.number)
     if finding and finding.faults:
         return finding.faults

@@ -1,0 +1,125 @@
+"""A station of tools/ that is killed at random moments, and one whose record has many attempts. Needs OpenOCD."""
+import contextlib
+import hashlib
+import json
+import os
+import pathlib
+import random
+import re
+import shutil
+import sqlite3
+import subprocess
+import sys
+import threading
+import time
+import zlib
+
+ROOT = pathlib.Path(__file__).resolve().parents[2]
+sys.path[:0] = [str(ROOT / 'tools'), str(ROOT / 'scripts/check-tools')]
+import program   # noqa: E402
+from cases import BOARD, EXAMPLES   # noqa: E402
+from stations import Line   # noqa: E402  # the folder and the simulated board of the checks
+from btest_tools.station.record import Record, create   # noqa: E402
+
+KILLS, ATTEMPTS = 200, 100_000
+TOLD = re.compile(r'^(PASS|FAIL)(?: \([^)]*\))?  (\S+)  ', re.M)
+FAULTS = ('good', 'and:D0:D1', 'good', 'open:U1.5:0', '12-14@stuck:D2:1')
+SECONDS = 2.0   # that show and day may take
+
+
+def read_all(stream, told):
+    told.append(stream.read())
+
+
+def run_killed(line, number, rng):
+    """Starts a station that tests board after board, and kills it. Returns what it told, as pairs of a serial number and a verdict."""
+    line.plug(*(rng.choice(FAULTS) for _ in range(40)))
+    words = list(map(str, line.command('test', line.folder)))
+    with subprocess.Popen(words, stdin=subprocess.PIPE, stdout=subprocess.PIPE, stderr=subprocess.DEVNULL, encoding='utf-8') as process:
+        process.stdin.write(''.join(f'K{number}-{board}\n' for board in range(40)))
+        process.stdin.flush()
+        told = []
+        reader = threading.Thread(target=read_all, args=(process.stdout, told))
+        reader.start()
+        time.sleep(rng.uniform(0.1, 3))
+        process.kill()
+        reader.join()
+    return [(serial, verdict) for verdict, serial in TOLD.findall(told[0])]
+
+
+def kills(folder, chosen):
+    rng, told, cut = random.Random(chosen.seed), [], 0
+    os.mkdir(folder)
+    line = Line(program.PROGRAM, folder)
+    line.prepare()
+    for number in range(KILLS):
+        told += run_killed(line, number, rng)
+        with Record(line.folder / 'record.sqlite') as record:
+            if not record.is_whole():
+                raise program.Failure(f'the record is damaged after kill {number}')
+            found = {(one.serial, one.verdict) for one in record.attempts()}
+        missing = set(told) - found
+        if missing:
+            raise program.Failure(f'told and not in the record after kill {number}: {sorted(missing)}')
+    with Record(line.folder / 'record.sqlite') as record:
+        verdicts = [one.verdict for one in record.attempts()]
+    cut = verdicts.count('CUT')
+    return ('killed', KILLS, f'{len(told)} attempts told, none missing; {len(verdicts)} in the record, {cut} of them cut short')
+
+
+def fill(path, test, days):
+    """A record of many attempts, spread over some days, of which one in twenty failed."""
+    path.unlink()
+    create(path, test)
+    texts = [(EXAMPLES / f'{name}.log').read_bytes() for name in ('good', 'shorted')]
+    marks = [hashlib.sha256(text).hexdigest() for text in texts]
+    lines = json.dumps(['likely one cause', '  D0, D1: short AND D0 D1'])
+    finding = (json.dumps(['short AND D0 D1']), lines, zlib.compress(b'D0\nD1\n' * 20))
+    attempts, endings, logs, findings = [], [], [], []
+    for number in range(1, ATTEMPTS + 1):
+        day = time.strftime('%Y-%m-%d', time.gmtime(1_700_000_000 + 86_400 * ((number - 1) * days // ATTEMPTS)))
+        fails = number % 20 == 7
+        attempts.append((number, f'S{number:06}', f'{day}T08:00:00Z', f'{day}T08:00:00+00:00', day, test, 'btest', 'here'))
+        endings.append((number, f'{day}T08:00:01Z', 'player', 'board', 'FAIL' if fails else 'PASS', '2 of 2' * fails, ''))
+        logs.append((number, 0, 'board', marks[fails]))
+        findings += [(number, *finding)] * fails
+    with contextlib.closing(sqlite3.connect(path)) as database, database:
+        for table, rows in (('attempt', attempts), ('ending', endings), ('log_text', zip(marks, map(zlib.compress, texts))), ('log', logs),
+                            ('finding', findings)):
+            rows = list(rows)
+            database.executemany(f'INSERT INTO {table} VALUES ({", ".join("?" * len(rows[0]))})', rows)
+
+
+def timed(line, name, *words):
+    begun = time.monotonic()
+    answer = line.typed('', *words)
+    took = time.monotonic() - begun
+    if answer.returncode:
+        raise program.Failure(f'{name}: {answer.stderr}')
+    return f'{took:.2f} s', took
+
+
+def many(folder, _chosen):
+    """Times of show and of day, with all attempts on a hundred days and on one."""
+    os.mkdir(folder)
+    line = Line(program.PROGRAM, folder)
+    line.prepare()
+    test = line.station('prepare', '--check', line.folder).stdout.split('test ')[1].split(',')[0]
+    for days in (100, 1):
+        fill(line.folder / 'record.sqlite', test, days)
+        for name, words in (('show', ('show', line.folder)), ('show of one board', ('show', line.folder, 'S000107')),
+                            ('day', ('day', line.folder)), ('csv', ('csv', line.folder))):
+            text, took = timed(line, name, *words)
+            if took > SECONDS and name != 'csv':
+                text += f', more than {SECONDS:g} s'
+            yield (f'{ATTEMPTS:,} attempts on {days} days', name, text)
+
+
+def stress(folder, chosen):
+    """Rows of a table, and how many runs there were."""
+    if not shutil.which('openocd'):
+        return [('skipped', '', 'OpenOCD is not there')], 0
+    os.mkdir(folder)
+    rows = [] if chosen.case == 'many' else [kills(f'{folder}/kills', chosen)]
+    rows += list(many(f'{folder}/many', chosen)) if chosen.case != 'kills' else []
+    return rows, KILLS + 8
