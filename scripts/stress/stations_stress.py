@@ -41,7 +41,7 @@ def run_killed(line, number, rng):
         told = []
         reader = threading.Thread(target=read_all, args=(process.stdout, told))
         reader.start()
-        time.sleep(rng.uniform(0.1, 3))
+        time.sleep(rng.uniform(0.3, 2.2))
         process.kill()
         reader.join()
     return [(serial, verdict) for verdict, serial in TOLD.findall(told[0])]

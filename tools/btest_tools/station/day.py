@@ -41,6 +41,7 @@ class Day:
     bench: Bench
     boards: list[Tested]
     findings: dict[int, Finding]
+    logs: dict[int, list[Log]]  # of the attempts that failed
     unread: dict[int, str]  # why the log of an attempt can't be read
 
     @property
@@ -62,9 +63,9 @@ def read_day(product: Product, record: Record, btest: Btest, name: Optional[str]
     if not boards:
         raise BadInput(f"no board was tested on {name}")
     folder.check_btest(product, btest)
-    day = Day(name, product, record, Bench(product, btest), boards, record.findings(name), {})
-    for board in boards:
-        for attempt in board.of_day(name):
+    day = Day(name, product, record, Bench(product, btest), boards, record.findings(name), {}, {})
+    for board in (one for one in boards if one.needs_page):
+        for attempt in board.today:
             if attempt.verdict == "FAIL":
                 read_attempt(day, attempt)
     return day
@@ -74,7 +75,7 @@ def read_attempt(day: Day, attempt: Attempt) -> None:
     """Looks at the log of an attempt that failed, which may be one that can't be read."""
     try:
         attempts.check_test(day.product, attempt)
-        logs = day.record.logs(attempt.number)
+        logs = day.logs[attempt.number] = day.record.logs(attempt.number)
         if not logs:
             raise BadInput(f"attempt {attempt.number} has no log")
         if attempt.number not in day.findings:
@@ -141,7 +142,9 @@ def link(day: Day, board: Tested) -> str:
 
 def board_row(day: Day, board: Tested) -> str:
     """Returns the row of a board."""
-    last = board.of_day(day.name)[-1]
+    last = board.today[-1]
+    if len(board.attempts) == 1 and not board.needs_page:  # most of them
+        return row(escape(board.serial), last.local[11:19], "PASS", "", "")
     says = last.says
     finding = day.findings.get(last.number)
     if last.verdict == "FAIL" and finding:
@@ -156,7 +159,7 @@ def board_row(day: Day, board: Tested) -> str:
 def fault_tables(day: Day) -> str:
     """Returns the tables of the faults, of parts and of nets."""
     marks = day.record.marks(day.name, "board")
-    faults = faults_of(day.boards, day.name, day.findings, marks)
+    faults = faults_of(day.boards, day.findings, marks)
     if not faults:
         return ""
     lines = []
@@ -206,14 +209,16 @@ def attempt_section(day: Day, attempt: Attempt) -> str:
     if finding and finding.details:
         text += f"<pre>{escape(finding.details)}</pre>\n"
     if attempt.verdict != "PASS":
-        text += "".join(log_part(one) for one in logs_of(day.record, attempt))
+        text += "".join(log_part(one) for one in logs_of(day, attempt))
     return text
 
 
-def logs_of(record: Record, attempt: Attempt) -> list[Log]:
+def logs_of(day: Day, attempt: Attempt) -> list[Log]:
     """Returns the logs of an attempt that can be read."""
+    if attempt.number in day.logs:
+        return day.logs[attempt.number]
     try:
-        return record.logs(attempt.number)
+        return day.record.logs(attempt.number)
     except BadInput:
         return []
 

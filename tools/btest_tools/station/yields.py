@@ -12,37 +12,38 @@ from btest_tools.station.record import Attempt, Finding
 JUDGED = ("PASS", "FAIL", "CHAIN", "PART")  # the verdicts about a board; others are about a bench
 
 
-@dataclass
 class Tested:
-    """A board with all its attempts up to the end of a day, in their order."""
+    """A board with all its attempts up to the end of a day, in their order. `judged` has those
+    that judge the board, `today` those of the day."""
 
-    serial: str
-    attempts: list[Attempt] = field(default_factory=list)
+    __slots__ = ("serial", "attempts", "judged", "today", "needs_page")
 
-    def judged(self) -> list[Attempt]:
-        """Returns the attempts that judge the board."""
-        return [one for one in self.attempts if one.verdict in JUDGED]
+    def __init__(self, serial: str) -> None:
+        self.serial = serial
+        self.attempts: list[Attempt] = []
+        self.judged: list[Attempt] = []
+        self.today: list[Attempt] = []
+        self.needs_page = False  # whether there is more to say than that it passed
 
-    def of_day(self, day: str) -> list[Attempt]:
-        """Returns the attempts of a day."""
-        return [one for one in self.attempts if one.day == day]
+    def add(self, attempt: Attempt, day: str) -> None:
+        """Adds the next attempt."""
+        self.attempts.append(attempt)
+        if attempt.verdict in JUDGED:
+            self.judged.append(attempt)
+        if attempt.day == day:
+            self.today.append(attempt)
+        if attempt.verdict != "PASS":
+            self.needs_page = True
 
     @property
     def passed_first(self) -> bool:
         """Whether the first attempt that judges it is a pass."""
-        judged = self.judged()
-        return bool(judged) and judged[0].verdict == "PASS"
+        return bool(self.judged) and self.judged[0].verdict == "PASS"
 
     @property
     def passed(self) -> bool:
         """Whether the last attempt that judges it is a pass."""
-        judged = self.judged()
-        return bool(judged) and judged[-1].verdict == "PASS"
-
-    @property
-    def needs_page(self) -> bool:
-        """Whether there is more to say than that it passed."""
-        return any(one.verdict != "PASS" for one in self.attempts)
+        return bool(self.judged) and self.judged[-1].verdict == "PASS"
 
 
 @dataclass
@@ -67,15 +68,19 @@ def boards_of(attempts: Iterable[Attempt], day: str) -> list[Tested]:
     found = list(attempts)
     last = max((one.number for one in found if one.day == day), default=0)
     for one in found:
-        if one.number <= last:
-            boards.setdefault(one.serial, Tested(one.serial)).attempts.append(one)
+        if one.number > last:
+            break
+        board = boards.get(one.serial)
+        if board is None:
+            board = boards[one.serial] = Tested(one.serial)
+        board.add(one, day)
     return list(boards.values())
 
 
 def yield_of(boards: list[Tested]) -> Yield:
     """Returns the yield of a day's boards. A board that passed at first and failed later isn't
     among those that passed."""
-    judged = [one for one in boards if one.judged()]
+    judged = [one for one in boards if one.judged]
     passed = [one for one in judged if one.passed]
     first = sum(one.passed_first for one in passed)
     return Yield(len(boards), len(judged), first, len(passed) - first)
@@ -90,14 +95,14 @@ class Fault:
 
 
 def faults_of(
-    boards: list[Tested], day: str, findings: Mapping[int, Finding], marks: Mapping[int, str]
+    boards: list[Tested], findings: Mapping[int, Finding], marks: Mapping[int, str]
 ) -> list[Fault]:
     """Returns the faults of a day, the most frequent first. A board counts once for each."""
     faults: dict[tuple[str, ...], Fault] = {}
-    for board in boards:
+    for board in (one for one in boards if one.needs_page):
         keys = dict.fromkeys(
             key_of(one, findings, marks)
-            for one in board.of_day(day)
+            for one in board.today
             if one.verdict in JUDGED and one.verdict != "PASS"
         )
         for key in keys:
