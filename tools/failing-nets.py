@@ -8,6 +8,7 @@ from them and from what btest prints.
 
 import argparse
 import sys
+from typing import Optional
 
 sys.dont_write_bytecode = True  # no folder of compiled modules beside the tools
 # pylint: disable=wrong-import-position
@@ -15,13 +16,14 @@ from btest_tools.board import read_board  # noqa: E402
 from btest_tools.btest import Btest, default_program  # noqa: E402
 from btest_tools.explaining.placed import Placed, neighbor_lines  # noqa: E402
 from btest_tools.failing import Bench, look, show  # noqa: E402
-from btest_tools.files import frame, put, read  # noqa: E402
+from btest_tools.files import Text, frame, put, read  # noqa: E402
 from btest_tools.netlists.layout import read_places  # noqa: E402
+from btest_tools.station.attempts import add_words, chosen_inputs  # noqa: E402
 from btest_tools.walks import look_at_walk  # noqa: E402
 
 
-def options() -> argparse.Namespace:
-    """Returns the words of the command line."""
+def options() -> argparse.ArgumentParser:
+    """Returns the reader of the command line."""
     words = argparse.ArgumentParser(description=__doc__)
     program = "else that on the PATH, else the one of make build"
     words.add_argument("--btest", metavar="PROGRAM", default=default_program(), help=program)
@@ -30,23 +32,31 @@ def options() -> argparse.Namespace:
     words.add_argument("--with-walk", metavar="WALKLOG", help=both)
     places = "where the pins are: a .kicad_pcb, or a netlist by IPC-D-356"
     words.add_argument("--places", metavar="FILE", help=places)
+    add_words(words)
     for name in ("log", "chain", "nets"):
-        words.add_argument(name, metavar=name.upper())
+        words.add_argument(name, metavar=name.upper(), nargs="?")
     words.add_argument("bsdl", metavar="BSDL", nargs="*")
-    return words.parse_args()
+    return words
 
 
 def main() -> None:
     """Prints what is known of a board."""
-    chosen = options()
-    log, files = read(chosen.log), [chosen.chain, chosen.nets, *chosen.bsdl]
-    board = read_board(chosen.chain, chosen.nets, chosen.bsdl)
+    words = options()
+    chosen = words.parse_args()
+    attempt = chosen_inputs(words, chosen)
+    walk: Optional[Text]
+    if attempt:
+        log, walk, files = attempt.log, attempt.walk, attempt.files
+    else:
+        log, files = read(chosen.log), [chosen.chain, chosen.nets, *chosen.bsdl]
+        walk = read(chosen.with_walk) if chosen.with_walk else None
+    board = read_board(files[0], files[1], files[2:])
     nearness = Placed(board, read_places(chosen.places) if chosen.places else None)
     bench = Bench(Btest(chosen.btest), files, board, nearness)
     if chosen.walk:
-        lines = list(look_at_walk(bench, log))
+        lines = list(look_at_walk(bench, attempt.walk_log() if attempt else log))
     else:
-        seen = look(bench, log, read(chosen.with_walk) if chosen.with_walk else None)
+        seen = look(bench, log, walk)
         lines = [*show(bench, seen), *neighbor_lines(seen.explained, nearness)]
     put("".join(f"{line}\n" for line in lines))
 

@@ -10,7 +10,7 @@ import argparse
 import os
 import sys
 from collections.abc import Iterator
-from typing import Optional
+from typing import List, Optional
 
 sys.dont_write_bytecode = True  # no folder of compiled modules beside the tools
 # pylint: disable=wrong-import-position
@@ -26,14 +26,15 @@ from btest_tools.pages.failed import log_section, walk_section  # noqa: E402
 from btest_tools.pages.frame import page  # noqa: E402
 from btest_tools.pages.places import places_section  # noqa: E402
 from btest_tools.places import Places  # noqa: E402
+from btest_tools.station.attempts import add_words, chosen_inputs  # noqa: E402
 from btest_tools.walks import look_at_walk  # noqa: E402
 
 PLACES = "where the pins are, for pictures: a .kicad_pcb, or a netlist by IPC-D-356"
 ABOUT = __doc__.split("\n\n", maxsplit=1)[0]
 
 
-def options() -> argparse.Namespace:
-    """Returns the words of the command line."""
+def options() -> argparse.ArgumentParser:
+    """Returns the reader of the command line."""
     words = argparse.ArgumentParser(description=ABOUT)
     program = "else that on the PATH, else the one of make build"
     words.add_argument("--btest", metavar="PROGRAM", default=default_program(), help=program)
@@ -46,10 +47,11 @@ def options() -> argparse.Namespace:
         "--batch", metavar="LOGS", help="the logs of a day's boards, as of btest batch"
     )
     words.add_argument("--places", metavar="FILE", help=PLACES)
+    add_words(words)
     for name in ("chain", "nets"):
-        words.add_argument(name, metavar=name.upper())
+        words.add_argument(name, metavar=name.upper(), nargs="?")
     words.add_argument("bsdl", metavar="BSDL", nargs="*")
-    return words.parse_args()
+    return words
 
 
 def sections(
@@ -81,14 +83,20 @@ def title_of(chosen: argparse.Namespace) -> str:
 
 def main() -> None:
     """Prints the page."""
-    chosen = options()
-    files = [chosen.chain, chosen.nets, *chosen.bsdl]
-    logs = [read(name) if name else None for name in (chosen.log, chosen.walk, chosen.batch)]
-    board = read_board(chosen.chain, chosen.nets, chosen.bsdl)
+    words = options()
+    chosen = words.parse_args()
+    attempt = chosen_inputs(words, chosen)
+    logs: List[Optional[Text]]
+    if attempt:
+        files, logs, title = attempt.files, [attempt.log, attempt.walk, None], attempt.title
+    else:
+        files, title = [chosen.chain, chosen.nets, *chosen.bsdl], title_of(chosen)
+        logs = [read(name) if name else None for name in (chosen.log, chosen.walk, chosen.batch)]
+    board = read_board(files[0], files[1], files[2:])
     places = read_places(chosen.places) if chosen.places else None
     bench = Bench(Btest(chosen.btest), files, board, Placed(board, places))
     names = [log.name for log in logs if log] + files
-    put(page(title_of(chosen), names, sections(bench, places, *logs)))
+    put(page(chosen.title or title, names, sections(bench, places, *logs)))
 
 
 if __name__ == "__main__":

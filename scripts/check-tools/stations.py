@@ -399,6 +399,30 @@ def other_test(line):
     assert re.search('of another</a></td>.*was made by another test', page), 'no row says so'
 
 
+def take_attempt(line):
+    """failing-nets.py and report.py take an attempt in place of files, and say the same as with them."""
+    line.test('and:D0:D1', 'taken')
+    number = line.attempts()[-1].number
+    for name, words in (('its.log', ()), ('its-walk.log', ('--stage', 'walk'))):
+        (line.room / name).write_text(line.station('log', line.folder, 'taken', *words).stdout)
+    files = [line.folder / 'board' / os.path.basename(name) for name in BOARD]
+    by_files = inside('failing-nets.py', '--btest', line.program, '--with-walk', line.room / 'its-walk.log', line.room / 'its.log', *files)
+    for words in (('--serial', 'taken'), ('--attempt', number)):
+        answer = inside('failing-nets.py', '--btest', line.program, '--station', line.folder, *words)
+        same((answer.returncode, answer.stderr), (0, ''), 'the end')
+        same(answer.stdout, by_files.stdout, 'what is said of the attempt')
+    answer = inside('report.py', '--btest', line.program, '--station', line.folder, '--attempt', number)
+    assert answer.returncode == 0 and f'<h1>taken, attempt {number}</h1>' in answer.stdout, answer.stderr
+    with Record(line.folder / 'record.sqlite') as record:
+        other = record.begin(Beginning('untaken', '', '', '0' * 64, '', ''))
+        record.end(other, Ending('', '', 'board', 'FAIL', '', ''), record.logs(number))
+    for name in ('failing-nets.py', 'report.py'):
+        answer = inside(name, '--btest', line.program, '--station', line.folder, '--attempt', other)
+        assert answer.returncode == 1 and 'was made by another test' in answer.stderr, answer.stderr
+        answer = inside(name, '--station', line.folder, '--attempt', number, *BOARD[:2])
+        assert answer.returncode == 2 and 'takes the place of the files' in answer.stderr, answer.stderr
+
+
 MADE = [   # by hand: what eleven boards did, and their verdicts in turn
     ('E1', 'PASS'), ('E2', 'PASS'), ('E3', 'FAIL'), ('E3', 'PASS'), ('E4', 'CHAIN'), ('E5', 'PASS'), ('E6', 'PASS'), ('E7', 'PART'),
     ('E7', 'FAIL'), ('E8', 'PASS'), ('E9', 'PLAYER'), ('E9', 'PASS'), ('E10', 'PASS'), ('E11', 'STOPPED'), ('E3', 'PASS'),
@@ -523,5 +547,6 @@ def check(program):
         yield 'boards one after another', lambda: one_after_another(line)
         yield 'nothing in the record is changed', lambda: is_never_changed(line)
         yield 'a log of another test', lambda: other_test(line)
+        yield 'an attempt in place of files', lambda: take_attempt(line)
         yield 'a log that cannot be read', lambda: unread_log(line)
         yield 'the yield of a day', lambda: made_day(line)

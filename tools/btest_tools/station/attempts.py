@@ -2,6 +2,7 @@
 
 from __future__ import annotations
 
+import argparse
 import pathlib
 from typing import NamedTuple, Optional
 
@@ -19,6 +20,17 @@ class Inputs(NamedTuple):
     files: list[str]
     log: Text
     walk: Optional[Text]
+
+    def walk_log(self) -> Text:
+        """Returns the log of the walking test."""
+        if not self.walk:
+            raise BadInput(f"attempt {self.attempt.number} has no log of the walking test")
+        return self.walk
+
+    @property
+    def title(self) -> str:
+        """Which board it is."""
+        return f"{self.attempt.serial}, attempt {self.attempt.number}"
 
 
 def check_test(product: Product, attempt: Attempt) -> None:
@@ -73,3 +85,26 @@ def inputs(name: str, serial: Optional[str], number: Optional[int]) -> Inputs:
         has_walk = any(one.stage == "walk" for one in record.logs(attempt.number))
         walk = log_of(product, record, attempt, "walk") if has_walk else None
     return Inputs(attempt, product.files, log, walk)
+
+
+# The words of other programs
+
+
+def add_words(words: argparse.ArgumentParser) -> None:
+    """Adds the words that name an attempt in place of files."""
+    folder_help = "takes an attempt of the folder of a station in place of all files"
+    words.add_argument("--station", metavar="FOLDER", help=folder_help)
+    words.add_argument("--serial", help="the serial number of its board: the last that has a log")
+    words.add_argument("--attempt", metavar="N", type=int, help="the number of the attempt")
+
+
+def chosen_inputs(words: argparse.ArgumentParser, chosen: argparse.Namespace) -> Optional[Inputs]:
+    """Returns the attempt that the words name, or None if they name files."""
+    files = [getattr(chosen, name, None) for name in ("log", "chain", "nets")]
+    if chosen.station:
+        if any(files):
+            words.error("--station FOLDER takes the place of the files")
+        return inputs(chosen.station, chosen.serial, chosen.attempt)
+    if not chosen.nets:
+        words.error("the names of the files are wanted, or --station FOLDER")
+    return None
