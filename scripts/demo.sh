@@ -131,13 +131,44 @@ run_tool() {
     local program log
     program=$(realpath "$1")
     command -v python3 >/dev/null || return 0
-    cd examples
     for log in shorted.log two-faults.log; do
         echo "\$ python3 tools/failing-nets.py $log $board"
         # shellcheck disable=SC2086
-        python3 -B ../tools/failing-nets.py --btest "$program" "$log" $board
+        (cd examples && python3 -B ../tools/failing-nets.py --btest "$program" "$log" $board)
     done
+    run_station "$program"
 }
+
+# A station that tests two boards, which are simulated: a good one, and one on which D0 and D1 are shorted.
+run_station() (
+    program=$1
+    if ! command -v openocd >/dev/null; then
+        echo '--- OpenOCD is not there, so the station of tools/station.py is not shown'
+        return
+    fi
+    line=$(mktemp -d)
+    trap 'rm -rf "$line"' EXIT
+    station=$(realpath tools/station.py)
+    simulated=$(realpath tools/simulated-chain.py)
+    cd examples
+    # shellcheck disable=SC2086
+    python3 -B "$simulated" --next and:D0:D1 0 good $board >"$line/port" &
+    until [ -s "$line/port" ] || ! kill -0 $! 2>/dev/null; do sleep 0.1; done
+    printf 'adapter driver remote_bitbang\nremote_bitbang host 127.0.0.1\nremote_bitbang port %s\n' \
+        "$(sed 's/.* //' "$line/port")" >"$line/simulated.cfg"
+    echo "--- a station: two simulated boards, the second with D0 and D1 shorted"
+    echo "\$ python3 tools/station.py prepare controller --chain controller.chain --nets controller.nets --cable simulated.cfg ${board#* * }"
+    # shellcheck disable=SC2086
+    python3 -B "$station" prepare "$line/controller" --btest "$program" --chain controller.chain --nets controller.nets \
+        --cable "$line/simulated.cfg" ${board#* * }
+    for serial in 2211-0417 2211-0418; do
+        echo "\$ python3 tools/station.py test controller $serial"
+        python3 -B "$station" test "$line/controller" "$serial" --btest "$program" || echo "(exit status $?)"
+    done
+    echo '$ python3 tools/station.py show controller'
+    python3 -B "$station" show "$line/controller"
+    wait
+)
 
 show_board
 if is_current; then

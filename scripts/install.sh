@@ -31,4 +31,4 @@ man_page() {
 install -D -m 755 "$program" "$to/bin/btest"
 install -D -m 644 scripts/package/completion.bash "$to/share/bash-completion/completions/btest"
 man_page
-share VERSION LICEN[CS]E* COPYING* docs/GUIDE.md docs/*.png examples/* tools/* tools/btest_tools/*.py tools/btest_tools/*/*.py
+share VERSION LICEN[CS]E* COPYING* docs/GUIDE.md docs/OPERATOR.md docs/*.png examples/* tools/* tools/btest_tools/*.py tools/btest_tools/*/*.py

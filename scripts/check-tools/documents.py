@@ -12,7 +12,7 @@ from cases import ROOT, SECONDS, Skipped, need, same
 DOCUMENTS = sorted(path.relative_to(ROOT) for folder in ('', 'docs', 'tools', 'examples') for path in (ROOT / folder).glob('*.md'))
 BLOCK = re.compile(r'^```[a-z]*\n(.*?)^```$', re.M | re.S)
 RUN = ('btest', 'python3', 'awk', 'cat')     # a block is run where its first command is one of these
-OTHERS = ('CABLE.cfg',)                      # what the reader has to bring
+OTHERS = ('CABLE.cfg', 'station.py test')    # what the reader has to bring: a cable, and a board at it
 PORT = '5555'                                # the port of the guide; another is taken in its place
 STORED = ROOT / 'crates/btest/data'    # the files of the small board of README.md
 
