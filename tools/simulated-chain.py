@@ -14,9 +14,9 @@ from btest_tools.chain_faults import CHAIN_KINDS, ChainPort  # noqa: E402
 from btest_tools.files import frame  # noqa: E402
 from btest_tools.model import KINDS  # noqa: E402
 
-EPILOG = """It prints a line when it listens. One connection is served, and one more for each --next.
-Two drivers on one net are told of on standard error."""
-FAULT = f"""one of {KINDS}, or of the scan chain {CHAIN_KINDS}, or several in one word with
+EPILOG = """It prints a line when it listens. One connection is served, and one more for each
+--next. Two drivers on one net are told of on standard error."""
+FAULT = f"""one of {KINDS}, or of the chain {CHAIN_KINDS}, or several in one word with
 blanks between them: 'and:D0:D1 open:U1.5:0'. The first net of dom is the one that wins.
 12-20@FAULT is there from scan 12 to scan 20 of the player alone, 12@FAULT from scan 12 on"""
 NEXT = """the fault of the board that the next player finds, or `same` for the board that was there

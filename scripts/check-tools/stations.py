@@ -4,7 +4,9 @@ import csv
 import io
 import os
 import pathlib
+import pty
 import re
+import resource
 import shutil
 import signal
 import socket
@@ -36,6 +38,14 @@ class Slow(ChainPort):
 
     def capture(self, register):
         time.sleep(0.03)
+        super().capture(register)
+
+
+class Hung(ChainPort):
+    """A board behind a cable that doesn't answer for a while."""
+
+    def capture(self, register):
+        time.sleep(2 if self.scan == 5 else 0)
         super().capture(register)
 
 
@@ -275,6 +285,74 @@ def stop(line, scan):
 def is_in_reset(port):
     same(port.state, 'reset', 'the state of the TAP controllers')
     same({state.instruction for state in port.model.states} & {'EXTEST', 'SAMPLE'}, set(), 'the instructions')
+
+
+def no_answer(line):
+    """A player that doesn't answer is ended, and another one brings the pins to reset."""
+    line.test('good', 'before')
+    line.plug('good', kind=Hung)
+    answer = line.station('test', line.folder, 'hung', '--limit', '0.5')
+    same((answer.returncode, answer.stderr), (5, ''), 'the end')
+    assert "OpenOCD didn't answer in 0.5 s\nthe pins are in reset\n" in answer.stdout, answer.stdout
+    is_in_reset(line.boards[0])
+
+
+def is_colored(line):
+    """On a terminal, and there alone, the letters have a colour."""
+    line.test('good', 'plain')
+    assert '\033' not in line.test('good', 'plain').stdout, 'there is a colour'
+    ours, theirs = pty.openpty()
+    words = list(map(str, line.command('test', line.folder, 'colored')))
+    with subprocess.Popen(words, stdin=subprocess.DEVNULL, stdout=theirs, stderr=subprocess.DEVNULL) as process:
+        os.close(theirs)
+        said = b''
+        with contextlib.suppress(OSError):   # which ends a terminal
+            while piece := os.read(ours, 4096):
+                said += piece
+    os.close(ours)
+    same((process.returncode, b'\033[1;32m####' in said), (0, True), 'the status, and a green letter')
+
+
+ENTITY = '''entity RING is
+generic (PHYSICAL_PIN_MAP : string := "P");
+port (TDI, TMS, TCK : in bit; TDO : out bit; I : in bit_vector(1 to 25); O : out bit_vector(1 to 25));
+use STD_1149_1_1994.all;
+attribute PIN_MAP of RING : entity is PHYSICAL_PIN_MAP;
+constant P : PIN_MAP_STRING := "TDI:T1, TDO:T2, TMS:T3, TCK:T4, I:({inputs}), O:({outputs})";
+attribute TAP_SCAN_IN of TDI : signal is true;
+attribute TAP_SCAN_OUT of TDO : signal is true;
+attribute TAP_SCAN_MODE of TMS : signal is true;
+attribute TAP_SCAN_CLOCK of TCK : signal is (10.0e6, BOTH);
+attribute INSTRUCTION_LENGTH of RING : entity is 3;
+attribute INSTRUCTION_OPCODE of RING : entity is "BYPASS (111), EXTEST (000), SAMPLE (010)";
+attribute INSTRUCTION_CAPTURE of RING : entity is "001";
+attribute BOUNDARY_LENGTH of RING : entity is 50;
+attribute BOUNDARY_REGISTER of RING : entity is {cells};
+end RING;
+'''
+
+
+def hundred_nets(line):
+    """A board of 100 nets takes less than two seconds of processor time, the player's own time with it."""
+    line.test('good', 'before')
+    cells = [f'"{at} (BC_1, I({at + 1}), input, X)' for at in range(25)] + [f'"{at + 25} (BC_1, O({at + 1}), output2, X)' for at in range(25)]
+    pins = {'inputs': ','.join(f'I{at}' for at in range(25)), 'outputs': ','.join(f'O{at}' for at in range(25))}
+    (line.room / 'ring.bsd').write_text(ENTITY.format(cells=',"&\n'.join(cells) + '"', **pins))
+    (line.room / 'ring.chain').write_text(''.join(f'DEVICE U{at} RING -\n' for at in range(4)))
+    nets = [f'NET N{part}_{at} U{part}.O{at} U{(part + 1) % 4}.I{at}\n' for part in range(4) for at in range(25)]
+    (line.room / 'ring.nets').write_text(''.join(nets))
+    files = [str(line.room / name) for name in ('ring.chain', 'ring.nets', 'ring.bsd')]
+    (line.room / 'cable.cfg').write_text(CABLE.format(port=line.server.getsockname()[1]))
+    answer = line.station('prepare', 'ring', '--chain', files[0], '--nets', files[1], '--cable', 'cable.cfg', files[2])
+    assert answer.returncode == 0 and 'NETS 100 COVERED 100' in answer.stdout, f'{answer}'
+    board = read_board(*files[:2], files[2:])
+    for fault, status in (('good', 0), ('and:N0_0:N2_7', 1)):
+        line.boards[:] = [ChainPort(board, fault)]
+        before = resource.getrusage(resource.RUSAGE_CHILDREN)
+        same(line.typed('', 'test', 'ring', 'A1').returncode, status, 'the status')
+        after = resource.getrusage(resource.RUSAGE_CHILDREN)
+        took = after.ru_utime + after.ru_stime - before.ru_utime - before.ru_stime
+        assert took < 2, f'it takes {took:.2f} s'
 
 
 def stop_at_prompt(line):
@@ -520,6 +598,9 @@ def check_bench(line):
     yield 'the log of a short', lambda: has_log(line, 'and:D0:D1', 'A 14', 'shorted.log')
     for scan in (1, 3, 12, 22):
         yield f'Ctrl-C in scan {scan}', lambda: stop(line, scan)
+    yield 'a player that does not answer', lambda: no_answer(line)
+    yield 'the colour of the letters', lambda: is_colored(line)
+    yield 'the time of a board of 100 nets', lambda: hundred_nets(line)
     yield 'Ctrl-C at the question for a serial number', lambda: stop_at_prompt(line)
     yield 'a station that is killed', lambda: kill(line, 14)
     yield 'two stations on one folder', lambda: second_station(line)

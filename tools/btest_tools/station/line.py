@@ -136,15 +136,17 @@ class Station:
     # Asking for serial numbers
 
     def test_all(self) -> int:
-        """Tests a board for each serial number that is typed or scanned, until no more come.
-        Returns the exit status of what ended it."""
+        """Tests a board for each serial number that is typed or scanned, until no more come or the
+        station has to end. Returns the exit status of what ended it."""
         for line in self.typed():
             try:
                 self.test(serial_of(line))
             except BadSerial as wrong:
                 tell(str(wrong))
+            if self.stop.has_to_end:
+                break
             self.stop.clear()
-        return 0
+        return STATUS["STOPPED"] if self.stop.has_to_end else 0
 
     def typed(self) -> Iterator[str]:
         """Yields the lines of standard input, until it ends or the operator stops."""

@@ -149,6 +149,7 @@ class OpenOcd:
         What doesn't answer is ended, and another OpenOCD is started for the reset. From then on
         nothing is stopped any more."""
         self.may_stop = False
+        self.limit = max(self.limit, START)
         try:
             if self.process:
                 if self.is_playing:

@@ -3,7 +3,6 @@
 from __future__ import annotations
 
 import os
-import select
 import signal
 from types import FrameType
 from typing import Optional
@@ -19,6 +18,7 @@ class Stop:
         self.file, self.writing = os.pipe()
         os.set_blocking(self.file, False)
         os.set_blocking(self.writing, False)
+        self.has_to_end = False  # by a signal other than Ctrl-C
         self.before = {number: signal.signal(number, self.ask) for number in SIGNALS}
 
     def close(self) -> None:
@@ -28,16 +28,13 @@ class Stop:
         os.close(self.file)
         os.close(self.writing)
 
-    def ask(self, _number: int, _frame: Optional[FrameType]) -> None:
+    def ask(self, number: int, _frame: Optional[FrameType]) -> None:
         """Notes that a signal came."""
+        self.has_to_end = self.has_to_end or number != signal.SIGINT
         try:
             os.write(self.writing, b"x")
         except BlockingIOError:
             pass  # it is full of them
-
-    def asked(self) -> bool:
-        """Returns whether a signal came."""
-        return bool(select.select([self.file], [], [], 0)[0])
 
     def clear(self) -> None:
         """Forgets the signals that came."""
