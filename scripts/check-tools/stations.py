@@ -24,8 +24,6 @@ from btest_tools.board import read_board
 from btest_tools.chain_faults import ChainPort
 from btest_tools.files import BadInput
 from btest_tools.scans import compared_scans, log_rows
-from btest_tools.station.player import Compared
-from btest_tools.station.parts import Link, open_place, wrong_parts
 from btest_tools.station.record import Beginning, Ending, Log, Record, create
 
 STATION = [sys.executable, '-B', TOOLS / 'station.py']
@@ -551,28 +549,7 @@ def unread_log(line):
     assert re.search('unread</a></td>.*can&#x27;t be read', page), 'no row says so'
 
 
-# What the bits of a chain say
-
-
-def read_chain():
-    """By hand: three parts with 2, 3 and 2 instruction bits, U3 at TDO. What the last two load is right, U1 loads ones."""
-    chain = [Link('U1', 2, False), Link('U2', 3, False), Link('U3', 2, False)]
-    statement = Compared('SIR', 7, 0b0100101, 0b1101111, 6)
-    told = open_place(chain, statement, 0b1100101)
-    same(told, "U2, U3 answer, U1 doesn't and all bits behind are 1: look at U1 and the way from its TDO to TDI of U2")
-    told = open_place(chain, statement, 0)
-    assert told.startswith('no part answers as it should and all bits behind are 0'), told
-
-
-def read_codes():
-    """By hand: U1 with a code whose version doesn't matter, U2 without a code; then a part that lost its code."""
-    chain = [Link('U1', 4, True), Link('U2', 4, False)]
-    code = 0x10123017   # version 1, part number 0x0123, maker 0x00B
-    statement = Compared('SDR', 33, code << 1, 0x0FFFFFFF << 1 | 1, 6)
-    same(wrong_parts(chain, statement, 0x2012301F << 1), ['wrong part U1: it has maker 0x00F, part number 0x0123, version 2; '
-                                                          'it should have maker 0x00B, part number 0x0123, version any'])
-    same(wrong_parts(chain, statement, 0b00), ['wrong part U1: it has no code; it should have maker 0x00B, part number 0x0123, '
-                                               'version any'])
+# All of it
 
 
 def check_bench(line):
@@ -591,6 +568,8 @@ def check_bench(line):
         'maker 0x00B, part number 0x0123, version 1')
     yield 'a part that has no code', lambda: judged(line, 'code:U1:-', 'A 10', 4, 'PART', 'U1: it has no code')
     yield 'a chain that breaks in the test', lambda: judged(line, '20@chain:U2:1', 'A 11', 3, 'CHAIN', 'broke during the test')
+    yield 'a chain that breaks while the codes are read', lambda: judged(
+        line, '3@chain:U3:1', 'A 15', 3, 'CHAIN', 'broke during the test', 'U3')
     yield 'a cable that is pulled in the test', lambda: judged(line, '12@cable', 'A 12', 5, 'PLAYER', 'may not be in reset')
     yield 'no cable', lambda: no_cable(line)
     yield 'no player, and no btest', lambda: no_player(line)
@@ -611,8 +590,6 @@ def check_bench(line):
 
 
 def check(program):
-    yield 'where a chain is open', read_chain
-    yield 'which part has another code', read_codes
     with tempfile.TemporaryDirectory() as room:
         line = Line(program, room)
         yield 'a folder is made', lambda: is_made(line)

@@ -105,6 +105,8 @@ def fits(pattern: str, bits: Optional[int]) -> bool:
 
 def wrong_parts(chain: Sequence[Link], statement: Compared, bits: int) -> list[str]:
     """Says which parts have another code than they should."""
+    if bits == (1 << statement.size) - 1:
+        return ["all bits of the codes are 1: look at the scan chain"]
     wanted, lines = patterns(chain, statement), []
     for part, code in codes(chain, statement.size, bits):
         pattern = wanted[part.name]

@@ -118,8 +118,9 @@ def told(path: pathlib.Path, what: str) -> Iterator[None]:
 
 def create(path: pathlib.Path, test: str) -> None:
     """Makes an empty record for a test with this fingerprint."""
-    with told(path, "written"), contextlib.closing(sqlite3.connect(path)) as database:
-        with database:
+    with told(path, "written"):
+        with contextlib.closing(sqlite3.connect(path, isolation_level=None)) as database:
+            database.execute("BEGIN")
             for table in TABLES:
                 database.execute(table)
             for table in ("attempt", "ending", "log_text", "log", "finding"):
@@ -128,6 +129,7 @@ def create(path: pathlib.Path, test: str) -> None:
             database.execute("CREATE TABLE made_for (test TEXT NOT NULL)")
             database.execute("INSERT INTO made_for VALUES (?)", (test,))
             database.execute(f"PRAGMA user_version = {FORMAT}")
+            database.execute("COMMIT")
 
 
 def connect(path: pathlib.Path) -> sqlite3.Connection:

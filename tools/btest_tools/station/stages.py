@@ -158,7 +158,9 @@ class BoardTest:
         statements = self.bench.compared(IDENT)
         for statement, bits in zip(statements, self.player.play(IDENT, statements)):
             if bits is not None:
-                raise Ended("PART", "ident", wrong_parts(self.bench.chain, statement, bits))
+                lines = wrong_parts(self.bench.chain, statement, bits)
+                self.check_chain("chain after the codes")
+                raise Ended("PART", "ident", lines)
 
     def play_board(self, stage: str) -> Came:
         """Plays the board's test."""
