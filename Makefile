@@ -6,13 +6,13 @@ PROGRAM := crates/btest/out/btest
 
 help:
 	@echo 'make demo                runs the program on an example board and shows what it prints: one to three minutes'
-	@echo 'make test                proves everything, tries the edits that must fail and runs the tests: about an hour the first time; what passed is kept'
-	@echo 'make build               proves the program alone and leaves it at $(PROGRAM): about 25 minutes, and nothing is left to prove after make test'
+	@echo 'make test                proves everything, tries the edits that must fail and runs the tests: @GATE@ minutes the first time; what passed is kept'
+	@echo 'make build               proves the program alone and leaves it at $(PROGRAM): @BUILD@ minutes, and nothing is left to prove after make test'
 	@echo 'make install PREFIX=DIR  copies the proved program with its man page, guide, examples and tools to DIR'
 	@echo 'make package             makes a Debian package and a tar.gz of them, in out/'
 	@echo 'make check CRATE=NAME    proves one crate, and those below it where they have changed'
 	@echo 'make profile CRATE=NAME  lists the functions of a crate by the seconds that their proofs take'
-	@echo 'make check-tools         tries the programs of tools/ and the examples of the documents: seconds'
+	@echo 'make check-tools         tries the programs of tools/ and the examples of the documents: about a minute'
 	@echo 'make bench               prints times of the proved program on large inputs'
 	@echo 'make stress              puts the proved program to hostile use: ten minutes. docs/RELIABILITY.md says what it tries'
 	@echo 'make figures             counts clauses, what stands twice, and lines of proof'

@@ -166,7 +166,7 @@ def main():
         print(__doc__, file=sys.stdout if sys.argv[1] in ("-h", "--help") else sys.stderr)
         return 0 if sys.argv[1] in ("-h", "--help") else 2
     crates = needed()
-    print(f"Proving {len(crates)} crates, side by side. From nothing this takes about 25 minutes on four processors; what is proved is kept.")
+    print(f"Proving {len(crates)} crates, side by side. README.md says how long this takes from nothing; what is proved is kept.")
     with tempfile.TemporaryDirectory(prefix="btest-build-") as room:
         since = time.time()
         copy_to(f"{room}/copy", crates)
