@@ -5,16 +5,20 @@ from __future__ import annotations
 
 import unittest
 
-from tests.support import Bed
+from collections.abc import Sequence
+
+from tests.support import Bed, Folder, guide_svf, read_files, small_board
 
 from btest_tools.explaining.candidates import Component, Search, View, views
-from btest_tools.explaining.faults import Fault, fault_of, faults_of
+from btest_tools.explaining.faults import Fault, fault_of, faults_of, parts_of, resistors
 from btest_tools.explaining.nearness import Nearness, grid
-from btest_tools.explaining.prices import Prices
+from btest_tools.explaining.prices import Prices, Reading
 from btest_tools.explaining.rows import rows_of
-from btest_tools.explaining.sets import Explained, explain
+from btest_tools.explaining.sets import Explained, Explainer, Explanation, explain
 from btest_tools.explaining.weights import WEIGHTS
-from btest_tools.explaining.words import Teller, at_parts, counted, text
+from btest_tools.explaining.words import Teller, at_parts, counted, text, walk_tells
+from btest_tools.model import play
+from btest_tools.scans import LogRow, Test
 
 # Faults, and for each rank the sets as the lines of their faults, in the order of the nets.
 RANKS = [
@@ -74,10 +78,6 @@ class Ranked(unittest.TestCase):
 
     def rows(self, bed: Bed) -> list[object]:
         """Returns the log of the model with the faults that it has."""
-        # pylint: disable-next=import-outside-toplevel
-        from btest_tools.model import play
-        from btest_tools.scans import LogRow  # pylint: disable=import-outside-toplevel
-
         wanted = bed.test.wanted()
         came = play(bed.model, bed.svf)
         return [LogRow(want, (want ^ got) & one.mask) for (one, want), got in zip(wanted, came)]
@@ -128,10 +128,6 @@ class Ranked(unittest.TestCase):
         # A short in which a 1 wins and two nets stuck at 1 give the same log of the test, but not
         # of the walking test: there the shorted nets read 1 in two rows alone.
         bed, walk = Bed(), Bed()
-        # pylint: disable-next=import-outside-toplevel
-        from tests.support import guide_svf
-        from btest_tools.scans import Test  # pylint: disable=import-outside-toplevel
-
         walk.svf = guide_svf("walk")
         walk.test = Test(walk.svf)
         logs = [(bed.test, bed.rows("or:D1:A1")), (walk.test, walk.rows("or:D1:A1"))]
@@ -269,6 +265,97 @@ class Told(unittest.TestCase):
         self.assertEqual(teller.probes(["D0", "A1"]), "U1.1 (D0) and U1.5 (A1)")
         swap = "see whether U1.1 and U1.2 are exchanged"
         self.assertEqual(self.lines("swap:U1.1:U1.2")[3], f"     Next: {swap}.")
+
+
+class Pack(Folder):
+    """The small board with a resistor pack at both nets."""
+
+    def setUp(self) -> None:
+        super().setUp()
+        chain = "DEVICE U1 DRV -\nDEVICE U2 RCV -\nINERT RN1\nPULL N1 1\nPULL N2 1\n"
+        nets = "NET N1 U1.1 U2.1 RN1.1\nNET N2 U1.2 U2.2 RN1.2\n"
+        self.board = read_files(small_board(self.folder, chain=chain, nets=nets))
+        self.faults = [Fault("pull", (name,), 0) for name in ("N1", "N2")]
+
+    def test_parts(self) -> None:
+        self.assertEqual(resistors(self.board, "N1"), ["RN1.1"])
+        self.assertEqual(parts_of(self.board, self.faults[0]), ["RN1"])
+        self.assertEqual(parts_of(self.board, fault_of("stuck N1 0")), [])
+        self.assertEqual(parts_of(self.board, fault_of("open U2.1 0")), ["U2"])
+
+    def test_prices(self) -> None:
+        prices = Prices(self.board, Nearness(self.board))
+        self.assertEqual(prices.total([(self.faults[0],)]), (10.5, 1))
+        self.assertEqual(prices.total([tuple(self.faults)]), (10.5, 1))  # the whole pack
+        prices.packs["RN1"].add("N3")
+        self.assertEqual(prices.total([tuple(self.faults)]), (13, 1))
+
+    def test_words(self) -> None:
+        parts = tuple(
+            Component((fault.names[0],), 1, ((fault,), (Fault("stuck", fault.names, 0),)))
+            for fault in self.faults
+        )
+        readings = Prices(self.board, Nearness(self.board)).readings(parts)
+        explanation = Explanation(parts, readings)
+        teller = Teller(self.board, Nearness(self.board))
+        lines = list(teller.causes(explanation, readings[0]))
+        self.assertEqual(lines, ["RN1, 2 pulls that are missing: pull N1 0, pull N2 0"])
+        self.assertEqual(teller.next_step(explanation), "look at the pins 1, 2 of RN1")
+        self.assertEqual((explanation.price, explanation.causes), (10.5, 1))
+        first = Explanation(parts[:1], [Reading((parts[0].choices[1],), 10, 1)])
+        step = "look at RN1.1; measure N1, as at U1.1, against the supplies"
+        self.assertEqual(teller.next_step(first), step)
+        lines = list(teller.causes(first, first.readings[0]))
+        self.assertEqual(lines, ["N1: stuck N1 0 or pull N1 0 (at RN1.1)"])
+
+
+class Sets(unittest.TestCase):
+    """Sets of components that share no net."""
+
+    def explainer(self, singles: Sequence[str], ties: Sequence[str]) -> Explainer:
+        """Returns one that has components with these nets; a + stands between names."""
+        bed = Bed()
+        made = Explainer(bed.board, [(bed.test, bed.rows("good"))])
+        made.singles = {name: Component((name,), 1, ()) for name in singles}
+        made.ties = [Component(tuple(names.split("+")), 1, ()) for names in ties]
+        return made
+
+    def sets(self, wanted: str, singles: str, *ties: str) -> list[list[str]]:
+        found = self.explainer(singles.split(), ties).sets(wanted.split())
+        return [["+".join(component.nets) for component in one] for one in found]
+
+    def test_few(self) -> None:
+        self.assertEqual(self.sets("A B", "A B"), [["A", "B"]])
+        self.assertEqual(self.sets("A B", "A B", "A+B"), [["A", "B"], ["A+B"]])
+        self.assertEqual(self.sets("A B C", "C", "A+B"), [["A+B", "C"]])
+        self.assertEqual(self.sets("A B C", "A C", "A+B", "B+C"), [["A+B", "C"], ["B+C", "A"]])
+        self.assertEqual(
+            self.sets("A B C D", "A B C D", "A+B", "C+D"),
+            [["A", "B", "C", "D"], ["A+B", "C", "D"], ["C+D", "A", "B"], ["A+B", "C+D"]],
+        )
+        self.assertEqual(self.sets("A B", "A"), [])
+        self.assertEqual(self.sets("A B C", "", "A+B", "B+C"), [])
+
+    def test_many(self) -> None:
+        ties = ["A+B", "C+D", "E+F", "G+H", "I+J", "B+X"]
+        wanted = "A B C D E F G H I J K"
+        self.assertEqual(self.sets(wanted, "K", *ties[:5]), [[*ties[:5], "K"]])
+        (one,) = self.sets(wanted, "K", *ties)
+        self.assertEqual(sorted(one), sorted([*ties[:5], "K"]))
+        self.assertEqual(self.sets(wanted, "", *ties), [])
+
+
+class Walk(unittest.TestCase):
+    """Whether the walking test tells sets apart."""
+
+    def test_walk(self) -> None:
+        walk = Bed()
+        walk.svf = guide_svf("walk")
+        walk.test = Test(walk.svf)
+        rows = rows_of(walk.board, [(walk.test, walk.rows("good"))])
+        self.assertTrue(walk_tells(look("or:D1:A1")[1], rows))
+        self.assertFalse(walk_tells(look("and:D0:D1")[1], rows))
+        self.assertFalse(walk_tells(look("stuck:D0:0")[1], rows))  # there is one set alone
 
 
 if __name__ == "__main__":

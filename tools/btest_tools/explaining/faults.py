@@ -5,7 +5,7 @@ from __future__ import annotations
 from collections.abc import Iterable
 from typing import NamedTuple
 
-from btest_tools.board import Board
+from btest_tools.board import Board, part_of
 from btest_tools.model import SHORTS, Faults, Short
 
 
@@ -31,6 +31,20 @@ class Fault(NamedTuple):
 
 
 Choice = tuple[Fault, ...]
+
+
+def resistors(board: Board, net: str) -> list[str]:
+    """Returns the pins of a net that may be those of its pull resistor: of parts that neither
+    drive nor connect."""
+    return [pin for pin in board.nets[net].pins if part_of(pin) in board.inert]
+
+
+def parts_of(board: Board, fault: Fault) -> list[str]:
+    """Returns the parts at which a fault may be one of several that are one cause."""
+    if fault.kind == "open":
+        return [part_of(fault.names[0])]
+    pins = resistors(board, fault.names[0]) if fault.kind == "pull" else []
+    return list(map(part_of, pins))
 
 
 def faults_of(choice: Iterable[Fault]) -> Faults:

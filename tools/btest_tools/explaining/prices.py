@@ -8,7 +8,7 @@ from dataclasses import dataclass
 
 from btest_tools.board import Board, part_of
 from btest_tools.explaining.candidates import Component
-from btest_tools.explaining.faults import Choice, Fault
+from btest_tools.explaining.faults import Choice, Fault, parts_of, resistors
 from btest_tools.explaining.nearness import Nearness
 from btest_tools.explaining.weights import WEIGHTS
 from btest_tools.model import SHORTS
@@ -34,21 +34,12 @@ class Prices:
         self.known: dict[Fault, float] = {}
         self.packs: dict[str, set[str]] = {}  # of each part that may pull the nets that it pulls
         for net in board.nets.values():
-            for pin in net.pins if net.pull is not None else ():
-                if self.pulls(pin):
-                    self.packs.setdefault(part_of(pin), set()).add(net.name)
+            for pin in resistors(board, net.name) if net.pull is not None else ():
+                self.packs.setdefault(part_of(pin), set()).add(net.name)
 
     def parts(self, fault: Fault) -> list[str]:
-        """Returns the parts at which a fault may be one of many that are one cause."""
-        if fault.kind == "open":
-            return [part_of(fault.names[0])]
-        if fault.kind == "pull":
-            return [part_of(pin) for pin in self.board.nets[fault.names[0]].pins if self.pulls(pin)]
-        return []
-
-    def pulls(self, pin: str) -> bool:
-        """Returns whether a pin may be that of a pull resistor."""
-        return part_of(pin) in self.board.inert
+        """Returns the parts at which a fault may be one of several that are one cause."""
+        return parts_of(self.board, fault)
 
     def alone(self, fault: Fault) -> float:
         """Returns what a fault costs by itself."""

@@ -8,7 +8,7 @@ from dataclasses import dataclass, field
 
 from btest_tools.board import Board, part_of
 from btest_tools.explaining.candidates import Component
-from btest_tools.explaining.faults import Choice, Fault
+from btest_tools.explaining.faults import Choice, Fault, parts_of, resistors
 from btest_tools.explaining.nearness import Nearness
 from btest_tools.explaining.prices import Reading
 from btest_tools.explaining.rows import Rows
@@ -55,16 +55,9 @@ class Teller:
         """Returns the open pins, and the missing pulls, of each part that has more than one."""
         rows: dict[str, list[Fault]] = {}
         for fault in (fault for choice in reading.choices for fault in choice):
-            for part in self.parts_of(fault)[:1]:
+            for part in parts_of(self.board, fault)[:1]:
                 rows.setdefault(part, []).append(fault)
         return {part: row for part, row in rows.items() if len(row) > 1}
-
-    def parts_of(self, fault: Fault) -> list[str]:
-        """Returns the parts at which a fault may be one of several."""
-        if fault.kind == "open":
-            return [part_of(fault.names[0])]
-        pins = self.board.nets[fault.names[0]].pins if fault.kind == "pull" else []
-        return [part_of(pin) for pin in pins if part_of(pin) in self.board.inert]
 
     def causes(self, explanation: Explanation, reading: Reading) -> Iterator[str]:
         """Yields a line for each cause."""
@@ -92,12 +85,8 @@ class Teller:
     def choice(self, choice: Choice) -> str:
         """Returns a choice, with the resistors of a missing pull."""
         pulls = [fault for fault in choice if fault.kind == "pull"]
-        pins = [pin for fault in pulls for pin in self.resistors(fault.names[0])]
+        pins = [pin for fault in pulls for pin in resistors(self.board, fault.names[0])]
         return with_faults(choice) + (f" (at {some(pins)})" if pins else "")
-
-    def resistors(self, net: str) -> list[str]:
-        """Returns the pins of a net that may be those of its pull resistor."""
-        return [pin for pin in self.board.nets[net].pins if part_of(pin) in self.board.inert]
 
     # What to do next
 
@@ -116,7 +105,7 @@ class Teller:
         """Returns the names of the pins of a row, without the part's."""
         names = [fault.names[0] for fault in row]
         if row[0].kind == "pull":
-            names = [self.resistors(name)[0] for name in names]
+            names = [resistors(self.board, name)[0] for name in names]
         return "pins " + some([name.partition(".")[2] for name in names], 6)
 
     def step(self, component: Component, choice: Choice) -> str:
@@ -124,7 +113,7 @@ class Teller:
         short = next((fault for fault in choice if fault.kind in SHORTS), None)
         opens = [f.names[0] for one in component.choices for f in one if f.kind == "open"]
         pulls = [f.names[0] for one in component.choices for f in one if f.kind == "pull"]
-        opens += [pin for name in dict.fromkeys(pulls) for pin in self.resistors(name)]
+        opens += [pin for name in dict.fromkeys(pulls) for pin in resistors(self.board, name)]
         if short:
             mine = [fault.names[0] for fault in choice if fault.kind == "open"]
             look = f", then look at {some(mine)}" if mine else ""
