@@ -60,8 +60,12 @@ class Bench:
         return [LogRow(want, (want ^ got) & one.mask) for (one, want), got in zip(self.test.wanted(), came)]
 
     def decided(self, faults):
-        """The log, or None where the model chooses a bit. It chooses none where no net has two drivers and what nothing decides isn't compared."""
-        rows, self.model.free = self.rows(faults), 1
+        """The log, or None where the model chooses a bit. It chooses none where no net has two drivers and what nothing decides isn't
+        compared; only exchanged pins, and open pins beside a short, can bring that about."""
+        rows, kinds = self.rows(faults), {fault.kind for fault in faults}
+        if 'swap' not in kinds and not ('open' in kinds and kinds & {'and', 'or', 'dom'}):
+            return rows
+        self.model.free = 1
         others, self.model.free = self.rows(faults), 0
         return rows if rows == others else None
 
