@@ -286,7 +286,7 @@ class Pack(Folder):
     def test_prices(self) -> None:
         prices = Prices(self.board, Nearness(self.board))
         self.assertEqual(prices.total([(self.faults[0],)]), (10.5, 1))
-        self.assertEqual(prices.total([tuple(self.faults)]), (10.5, 1))  # the whole pack
+        self.assertEqual(prices.total([tuple(self.faults)]), (9.5, 1))  # the whole pack
         prices.packs["RN1"].add("N3")
         self.assertEqual(prices.total([tuple(self.faults)]), (13, 1))
 
@@ -301,7 +301,7 @@ class Pack(Folder):
         lines = list(teller.causes(explanation, readings[0]))
         self.assertEqual(lines, ["RN1, 2 pulls that are missing: pull N1 0, pull N2 0"])
         self.assertEqual(teller.next_step(explanation), "look at the pins 1, 2 of RN1")
-        self.assertEqual((explanation.price, explanation.causes), (10.5, 1))
+        self.assertEqual((explanation.price, explanation.causes), (9.5, 1))
         first = Explanation(parts[:1], [Reading((parts[0].choices[1],), 10, 1)])
         step = "look at RN1.1; measure N1, as at U1.1, against the supplies"
         self.assertEqual(teller.next_step(first), step)

@@ -94,8 +94,8 @@ class Prices:
         price = WEIGHTS.cause + (WEIGHTS.mixed if len(values) > 1 else 0)
         if row[0].kind != "pull":
             return price + WEIGHTS.pin * (len(row) - 1)
-        whole = {fault.names[0] for fault in row} >= self.packs.get(part, set())
-        return price + WEIGHTS.pull + (0 if whole else WEIGHTS.pin * (len(row) - 1))
+        whole = len(row) > 1 and {fault.names[0] for fault in row} >= self.packs.get(part, set())
+        return price + (WEIGHTS.pack if whole else WEIGHTS.pull + WEIGHTS.pin * (len(row) - 1))
 
     def readings(self, components: Sequence[Component]) -> list[Reading]:
         """Returns the cheapest choices, and others of the same price at other parts."""

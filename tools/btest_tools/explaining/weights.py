@@ -27,9 +27,11 @@ class Weights(NamedTuple):
     # Open pins float to one level at one part.
     mixed: float = 1
     # A resistor that isn't fitted or soldered has few pins, an integrated part has many: of a
-    # stuck net with a pull and a missing pull the first is likelier by little. A pack that isn't
-    # fitted takes all of its nets at once, so that they cost no more than one.
+    # stuck net with a pull and a missing pull the first is likelier by little.
     pull: float = 0.5
+    # A pack that isn't fitted takes all of its nets at once. That leaves little doubt, so they
+    # cost less than one cause.
+    pack: float = -0.5
 
 
 WEIGHTS = Weights()
