@@ -62,8 +62,8 @@ class Kind:
 def made(seed, parts=None, outputs=None):
     """The files of a board, as texts by their names."""
     rng = random.Random(f'measured {seed}')
-    kinds = [Kind(f'M{at}', rng, outputs or rng.choice([8, 16, 24])) for at in range(2)]
-    fitted = [(f'U{at}', rng.choice(kinds)) for at in range(1, (parts or rng.randint(3, 6)) + 1)]
+    kinds = [Kind(f'M{at}', rng, outputs or rng.choice([12, 20, 28])) for at in range(2)]
+    fitted = [(f'U{at}', rng.choice(kinds)) for at in range(1, (parts or rng.randint(4, 8)) + 1)]
     inputs = [f'{part}.{pin}' for part, kind in fitted for pin in kind.pins['I']]
     rng.shuffle(inputs)
     nets = [[f'{part}.{pin}'] for part, kind in fitted for pin in kind.pins['O']]
