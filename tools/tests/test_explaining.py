@@ -16,7 +16,7 @@ from btest_tools.explaining.prices import Prices, Reading
 from btest_tools.explaining.rows import rows_of
 from btest_tools.explaining.sets import Explained, Explainer, Explanation, explain
 from btest_tools.explaining.weights import WEIGHTS
-from btest_tools.explaining.words import Teller, at_parts, counted, text, walk_tells
+from btest_tools.explaining.words import SUPPLY, Teller, at_parts, counted, text, walk_tells, where
 from btest_tools.model import play
 from btest_tools.scans import LogRow, Test
 
@@ -257,6 +257,26 @@ class Told(unittest.TestCase):
         self.assertEqual(counted(1, "cause"), "one cause")
         self.assertEqual(counted(0, "cause"), "no causes")
         self.assertEqual(counted(5, "cause"), "5 causes")
+
+    def test_many_nets(self) -> None:
+        bed = Bed()
+        explained = explain(bed.board, [(bed.test, bed.rows("stuck:D0:0"))])
+        explained.differing = explained.differing * 17
+        self.assertNotIn(SUPPLY, list(where(explained)))
+        (first,) = explained.ranks[0]
+        first.readings = [Reading(first.readings[0].choices, 50, 5)]
+        self.assertIn(SUPPLY, list(where(explained)))
+        explained.ranks = []
+        self.assertIn(SUPPLY, list(where(explained)))
+        explained.differing = explained.differing[:16]
+        self.assertNotIn(SUPPLY, list(where(explained)))
+
+    def test_lines_are_cut_off(self) -> None:
+        board = Bed().board
+        parts = (Component(("D0",), 1, ((fault_of("stuck D0 0"),),)),) * 18
+        reading = Reading(tuple(one.choices[0] for one in parts), 180, 18)
+        lines = Teller(board, Nearness(board)).lines(Explanation(parts, [reading]), reading)
+        self.assertEqual(lines[15:], ["D0: stuck D0 0", "and 2 more"])
 
     def test_where_to_measure(self) -> None:
         board = Bed().board

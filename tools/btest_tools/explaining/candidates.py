@@ -18,6 +18,7 @@ from btest_tools.explaining.patience import Patience
 from btest_tools.explaining.rows import Mismatch, Rows, Wire
 
 FEW = 12  # nets that differ, up to which every two of them are tried for every tie
+LARGE = 16  # nets of a short that is looked for; more are a supply or a contact
 ALIKE = 6  # nets that read alike, of which every two and every three are tried
 DEEP = 3  # faults of one net that are looked for
 WITH_OPENS = 2  # open pins beside a short
@@ -259,7 +260,7 @@ class Ties:
     def attempt(self, nets: Iterable[str], opens: int) -> bool:
         """Tries the shorts of some nets. Returns whether one explains them."""
         key = frozenset(nets)
-        if len(key) > 1 and key not in self.tried:
+        if 1 < len(key) <= LARGE and key not in self.tried:
             self.tried.add(key)
             names = sorted(key, key=self.order.__getitem__)
             self.keep(self.proved(names) or self.search.tie(names, opens if self.is_few else 0))

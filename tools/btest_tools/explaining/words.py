@@ -13,12 +13,13 @@ from btest_tools.explaining.nearness import Nearness
 from btest_tools.explaining.prices import Reading
 from btest_tools.explaining.rows import Rows
 from btest_tools.explaining.sets import Explained, Explanation
-from btest_tools.explaining.weights import EQUALS
+from btest_tools.explaining.weights import CAUSES, EQUALS
 from btest_tools.logs import some
 from btest_tools.model import SHORTS
 
 CHOICES = 4  # choices of one component that are told; the others are counted
-MANY = 16  # nets in one line
+MANY = 16  # pins in one line, and lines of one set
+SUPPLY = "So many nets at several parts: look at the supplies and at the contacts first."
 NUMBERS = ("no", "one", "two", "three", "four")
 
 
@@ -69,6 +70,12 @@ class Teller:
         for component, choice in zip(explanation.components, reading.choices):
             if not set(choice) <= in_rows:
                 yield self.component(component, choice)
+
+    def lines(self, explanation: Explanation, reading: Reading) -> list[str]:
+        """Returns the lines of the causes, the first of them if there are many."""
+        lines = list(self.causes(explanation, reading))
+        more = len(lines) - MANY
+        return [*lines[:MANY], *([f"and {more} more"] if more > 0 else [])]
 
     def at_part(self, fault: Fault) -> str:
         """Returns a fault of a row of pins at one part."""
@@ -153,12 +160,12 @@ class Teller:
         for number, explanations in enumerate(explained.ranks, 1):
             first = explanations[0]
             head = counted(first.causes, "cause")
-            rank = Rank(number, head, list(self.causes(first, first.readings[0])))
+            rank = Rank(number, head, self.lines(first, first.readings[0]))
             if number == 1:
                 rank.next = self.next_step(first)
             others = [(first, one) for one in first.readings[1:]]
             others += [(one, one.readings[0]) for one in explanations[1:]]
-            rank.equals = [list(self.causes(*other)) for other in others[:EQUALS]]
+            rank.equals = [self.lines(*other) for other in others[:EQUALS]]
             if len(others) > EQUALS:
                 rank.equals.append([f"{len(others) - EQUALS} more sets"])
             yield rank
@@ -192,10 +199,24 @@ def at_parts(explained: Explained) -> str:
     return f"Pins that differ are at {some(most)}."
 
 
-def text(board: Board, explained: Explained, nearness: Nearness, walk: str) -> Iterator[str]:
-    """Yields what is told of the sets. `walk` says what the walking test can do."""
+def where(explained: Explained) -> Iterator[str]:
+    """Yields at which parts the pins are, if that says something, and whether to look at the
+    supplies before all else."""
     if len(explained.differing) > 2:
         yield at_parts(explained)
+    if len(explained.differing) > MANY and causes_of(explained) > CAUSES:
+        yield SUPPLY
+
+
+def causes_of(explained: Explained) -> int:
+    """Returns the number of causes of the first set, or of the nets if there is no set."""
+    first = explained.ranks[0][0].causes if explained.ranks else 0
+    return first or len(explained.differing)
+
+
+def text(board: Board, explained: Explained, nearness: Nearness, walk: str) -> Iterator[str]:
+    """Yields what is told of the sets. `walk` says what the walking test can do."""
+    yield from where(explained)
     if not explained.ranks:
         yield "No set of faults that is looked for gives the bits of the log."
         yield from left(explained)

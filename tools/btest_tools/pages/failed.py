@@ -8,7 +8,7 @@ from html import escape
 from btest_tools.asking import lines_of
 from btest_tools.board import Board, Net, part_of
 from btest_tools.explaining.faults import fault_of
-from btest_tools.explaining.words import Rank, Teller, at_parts, left
+from btest_tools.explaining.words import Rank, Teller, left, where
 from btest_tools.failing import Bench, Look, by_parts
 from btest_tools.logs import Failing, facts, spans
 from btest_tools.pages.pieces import SHOWN, Row, counted, items_of, listing, table
@@ -47,8 +47,7 @@ def log_section(bench: Bench, seen: Look, pictures: str = "") -> Iterator[str]:
 def explanations(bench: Bench, seen: Look) -> Iterator[str]:
     """Yields the sets of faults that explain the log."""
     explained = seen.explained
-    if len(explained.differing) > 2:
-        yield f"<p>{escape(at_parts(explained))}</p>"
+    yield from (f"<p>{escape(line)}</p>" for line in where(explained))
     whole = "every compared bit" if not explained.left else "a part of the log"
     ranks = list(Teller(bench.board, bench.nearness).ranks(explained))
     if ranks:
