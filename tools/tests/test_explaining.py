@@ -3,6 +3,8 @@ board in docs/GUIDE.md: D0 100, D1 010, D2 110, D3 001, A1 101, IRQ 011 in each 
 
 from __future__ import annotations
 
+import contextlib
+import io
 import unittest
 
 from collections.abc import Sequence
@@ -12,6 +14,7 @@ from tests.support import Bed, Folder, guide_svf, read_files, small_board
 from btest_tools.explaining.candidates import Component, Search, View, views
 from btest_tools.explaining.faults import Fault, fault_of, faults_of, parts_of, resistors
 from btest_tools.explaining.nearness import Nearness, grid
+from btest_tools.explaining.patience import Patience
 from btest_tools.explaining.prices import Prices, Reading
 from btest_tools.explaining.rows import rows_of
 from btest_tools.explaining.sets import Explained, Explainer, Explanation, explain
@@ -363,6 +366,51 @@ class Sets(unittest.TestCase):
         (one,) = self.sets(wanted, "K", *ties)
         self.assertEqual(sorted(one), sorted([*ties[:5], "K"]))
         self.assertEqual(self.sets(wanted, "", *ties), [])
+
+
+class Patient(unittest.TestCase):
+    """Lines of progress."""
+
+    def test_not_before_two_seconds(self) -> None:
+        err = io.StringIO()
+        patience = Patience()
+        with contextlib.redirect_stderr(err):
+            patience.at(0, 4, "nets")
+            self.assertEqual(err.getvalue(), "")
+            patience.told -= 2.1
+            patience.at(1, 4, "nets")
+            patience.at(2, 4, "nets")
+        self.assertEqual(err.getvalue(), "explaining: 1 of 4 nets\n")
+
+
+class Equal(unittest.TestCase):
+    """Sets of one rank."""
+
+    def test_some_are_told(self) -> None:
+        bed, explained = look("and:D0:D1")
+        first = explained.ranks[0][0]
+        explained.ranks = [[first] * 8, explained.ranks[1]]
+        one, two = list(Teller(bed.board, Nearness(bed.board)).ranks(explained))
+        line = "D0, D1: short AND D0 D1"
+        self.assertEqual((one.number, one.head, one.lines), (1, "one cause", [line]))
+        self.assertEqual(one.equals, [[line]] * 6 + [["1 more sets"]])
+        self.assertEqual((two.number, two.next, two.equals), (2, "", []))
+        self.assertTrue(one.next)
+
+    def test_they_are_printed(self) -> None:
+        bed, explained = look("and:D0:D1")
+        explained.ranks = [explained.ranks[0] * 2]
+        explained.more = 3
+        lines = list(text(bed.board, explained, Nearness(bed.board), "hint"))
+        self.assertEqual(lines[3], "     or D0, D1: short AND D0 D1")
+        self.assertEqual(lines[-2:], ["  and three sets with more or rarer causes", "hint"])
+
+    def test_many_choices(self) -> None:
+        board = Bed().board
+        choices = tuple((fault_of(f"open U1.{at} 0"),) for at in range(1, 7))
+        line = Teller(board, Nearness(board)).component(Component(("D0",), 1, choices), choices[2])
+        told = "open U1.3 0 or open U1.1 0 or open U1.2 0 or open U1.4 0 or 2 more"
+        self.assertEqual(line, f"D0: {told}")
 
 
 class Walk(unittest.TestCase):

@@ -12,7 +12,9 @@ from btest_tools.btest import Btest
 from btest_tools.explaining.nearness import Nearness
 from btest_tools.failing import WALK, Bench, Look, by_parts, look, show
 from btest_tools.files import BadInput, Text
-from btest_tools.walks import misfits
+from btest_tools.walks import look_at_walk, misfits
+
+WALKERS = ("D0", "D1", "D2", "D3", "A1")
 
 
 def bench() -> Bench:
@@ -61,6 +63,19 @@ class LookAt(unittest.TestCase):
         seen = look(bench(), *logs)
         self.assertEqual(len(seen.explained.ranks), 1)
         self.assertEqual(seen.walk, "")
+
+    def test_sections(self) -> None:
+        lines = list(show(bench(), look_at("stuck:D0:0 open:U3.5:1")))
+        self.assertEqual(lines[0], "FAIL 0")
+        self.assertTrue(lines[1].startswith("\nBits are in the order of the rows of a pass"))
+        self.assertEqual(lines[2], "\nNET D0                        3 of 3 receivers differ")
+        head = "\nNET A1                        1 of 2 receivers differ; LINK R1 joins A1, A1R"
+        self.assertIn(head, lines)
+        self.assertIn("  explained by itself: open U3.5 1", lines)
+        self.assertEqual(lines[lines.index(head) + 1], "  pin    pass 1-4: expected / got")
+        lines = list(show(bench(), look_at("and:D0:D1")))
+        self.assertEqual(lines[:2], ["FAIL 1", "  short AND D0 D1"])
+        self.assertIn("  explained with another net: short AND D0 D1", lines)
 
     def test_nets_by_parts(self) -> None:
         seen = look_at("stuck:D0:0 open:U3.5:1")
@@ -116,6 +131,39 @@ class Printed(Folder):
                     self.assertEqual((answer.returncode, answer.stdout), (1, ""))
                     self.assertIn(line, answer.stderr)
                     self.assertEqual(answer.stderr.count("\n"), 1)
+
+
+@unittest.skipUnless(PROGRAM, "no btest is given")
+class Walked(unittest.TestCase):
+    """Lines about the log of a walking test, worked by hand: D0, D1, D2, D3 and A1 walk."""
+
+    def lines(self, fault: str) -> list[str]:
+        log = Text("log", Bed(DEMO, "walk").log(fault))
+        return list(look_at_walk(bench(), log))
+
+    def test_a_good_board(self) -> None:
+        rows = [f"{at}     {at}{' ' * 21}{name}" for at, name in enumerate(WALKERS, 1)]
+        own = "5 of 5 nets that walk read 1 in their own row alone."
+        head = ["GROUPS 0", "", "row   reads 1 in the rows   net"]
+        self.assertEqual(self.lines("good"), [*head, *rows, own])
+
+    def test_an_open_receiver(self) -> None:
+        lines = self.lines("open:U3.5:1")
+        self.assertIn("5     1-5                   A1 at U3.5", lines)
+        self.assertIn("5     5                     A1 at U4.5", lines)
+        self.assertEqual(lines[-1], "\nRows that fit no set of groups in which a 1 wins: 5 (A1)")
+
+    def test_a_net_stuck_at_0(self) -> None:
+        lines = self.lines("stuck:D3:0")
+        self.assertIn("4     none                  D3", lines)
+        short = "a short with a net that does not walk fits, if a 0 wins in it"
+        others = "so do open drivers and nets that are stuck at 0."
+        self.assertEqual(lines[-1], f"D3: 0 in every row; {short}; {others}")
+
+    def test_a_net_stuck_at_1(self) -> None:
+        lines = self.lines("stuck:D3:1")
+        why = "1 in every row, as nets that are stuck at 1 or shorted with one that is."
+        self.assertEqual(lines[-1], f"D3: {why}")
 
 
 class Rows(unittest.TestCase):

@@ -10,9 +10,10 @@ import re
 import unittest
 from typing import Optional
 
-from tests.support import DEMO, EXAMPLES, PROGRAM, ROOT, Folder, need, tool
+from tests.support import DEMO, EXAMPLES, PROGRAM, ROOT, Folder, need, read_files, tool
 
 from btest_tools.files import Text
+from btest_tools.pages.board import Cover, board_section, first_pins, reason_section
 from btest_tools.pages.day import Tested, answers_of, blocks_of
 from btest_tools.pages.frame import made_at, page, version
 from btest_tools.pages.pieces import (
@@ -151,6 +152,51 @@ class Frame(unittest.TestCase):
         made = f"Made 1970-01-01 00:00 UTC by report.py of btest {number} from c.chain n.nets"
         self.assertIn(made, text)
         self.assertIn("<p>one</p>\n<p>two</p>\n</body>", text)
+
+
+class OfBoard(unittest.TestCase):
+    """Sections about a board, for coverage lists worked by hand."""
+
+    def text(self, cover: Cover) -> str:
+        return "\n".join(board_section(read_files(), cover))
+
+    def test_untested(self) -> None:
+        cover = Cover({}, ["U2.9"], ["U1.1", "U1.2"], [["D0", "D<1"]], SHOWN + 2)
+        text = self.text(cover)
+        self.assertIn("14 nets, 14 of them covered", text)
+        self.assertIn("<h3>1 driver</h3>\n<p>A receiver on another pin, or a control cell", text)
+        self.assertIn("<h3>2 receivers</h3>\n<p>A driver on another pin.</p>", text)
+        self.assertIn("<p>U1.1 (D0), U1.2 (D1)</p>", text)
+        self.assertIn("<h3>302 pairs of nets</h3>", text)
+        self.assertIn("D0 with D&lt;1 <span class=quiet>and 2 more</span>", text)
+
+    def test_all_is_tested(self) -> None:
+        text = self.text(Cover())
+        self.assertNotIn("not tested", text)
+        self.assertNotIn("<h3>DARK", text)
+
+    def test_reasons(self) -> None:
+        text = self.text(Cover({"VCC": "SUPPLY", "GND": "SUPPLY", "CS": "DARK"}))
+        self.assertIn("<h3>SUPPLY, 2 nets: a SUPPLY line names it</h3>", text)
+        self.assertIn("<h3>DARK, 1 net: a part without a description", text)
+        self.assertIn("14 nets, 11 of them covered", text)
+        self.assertLess(text.index("covered"), text.index("SUPPLY"))
+
+    def test_parts(self) -> None:
+        # U4: four data pins drive and read, IRQ drives, two address pins and MODE read.
+        cover = Cover({"MODE": "NODRIVER"}, ["U4.1"], ["U4.2"])
+        row = "<tr><td>U4</td><td>PORT4</td><td class=number>10</td><td>4 of 5</td><td>4 of 6</td>"
+        self.assertIn(f"{row}<td>2 of 4</td>", self.text(cover))
+
+    def test_long_lists(self) -> None:
+        board = read_files()
+        net = board.nets["D0"]
+        self.assertEqual(first_pins(net), "U1.1 U3.1 U4.1 U2.2")
+        net.pins = net.pins * 4
+        self.assertTrue(first_pins(net).endswith(" and 4 more"))
+        lines = list(reason_section(board, "DARK", ["D1"] * (SHOWN + 1)))
+        self.assertEqual(lines[-1], "<p class=quiet>and 1 more</p>")
+        self.assertEqual(lines[1].count("<tr>"), SHOWN + 1)
 
 
 @unittest.skipUnless(PROGRAM, "no btest is given")
