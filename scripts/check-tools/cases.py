@@ -28,9 +28,8 @@ def need(program):
 
 def run(words, folder=None, **how):
     """Runs a command. What it answers has `returncode`, `stdout` and `stderr`, as texts."""
-    how = {'stdin': subprocess.DEVNULL, **how}
-    return subprocess.run(list(map(str, words)), cwd=folder, timeout=SECONDS, stdout=subprocess.PIPE, stderr=subprocess.PIPE,
-                          encoding='latin-1', **how)
+    how = {'stdin': subprocess.DEVNULL, 'timeout': SECONDS, **how}
+    return subprocess.run(list(map(str, words)), cwd=folder, stdout=subprocess.PIPE, stderr=subprocess.PIPE, encoding='latin-1', **how)
 
 
 def tool(name, *words, folder=None):

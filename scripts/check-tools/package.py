@@ -5,13 +5,14 @@ import sys
 
 from cases import TOOLS, Skipped, run
 
+LONG = 300   # seconds, on a machine that is busy with other work too
 PROGRAMS = sorted(path.name for path in TOOLS.glob('*.py'))
 
 
 def unit_tests(name, program):
     """Runs a module of tools/tests. Tests that need btest are skipped where there is none."""
     setting = {**os.environ, 'BTEST': program or '', 'PYTHONDONTWRITEBYTECODE': '1'}
-    answer = run([sys.executable, '-B', '-m', 'unittest', '-b', f'tests.{name}'], TOOLS, env=setting)
+    answer = run([sys.executable, '-B', '-m', 'unittest', '-b', f'tests.{name}'], TOOLS, env=setting, timeout=LONG)
     assert answer.returncode == 0, '\n'.join(answer.stderr.splitlines()[-30:])
     if 'skipped' in answer.stderr.splitlines()[-1] and not program:
         raise Skipped('some of it needs a program, and none is given')
@@ -21,7 +22,7 @@ def checked(*words):
     """Runs a program of Debian that reads the package."""
     if not shutil.which(words[0]):
         raise Skipped(f'{words[0]} is not there')
-    answer = run(words, TOOLS)
+    answer = run(words, TOOLS, timeout=LONG)
     assert answer.returncode == 0, '\n'.join((answer.stdout + answer.stderr).splitlines()[-30:])
 
 
