@@ -19,6 +19,7 @@ from btest_tools.files import Text
 from btest_tools.logs import Failing, facts, failing, some, table
 from btest_tools.scans import LogRow, Test
 
+WALKING = 2000  # nets of a board whose walking test is looked at
 WALK = "The walking test tells the first set from another; --with-walk takes its log into account."
 
 
@@ -82,12 +83,14 @@ def proved_of(found: Sequence[Failing]) -> Optional[dict[str, list[Fault]]]:
 
 def walk_hint(bench: Bench, explained: Explained) -> str:
     """Returns whether the walking test can tell the sets apart."""
-    test = bench.test("walk")
-    if not test.rows():
+    if len(bench.board.nets) > WALKING:
         return ""
+    test = bench.test("walk")
     good = [LogRow(expected, 0) for _, expected in test.wanted()]
-    walk = rows_of(bench.board, [(test, good)])
-    return WALK if words.walk_tells(explained, walk) else ""
+    told = [one for rank in explained.ranks for one in rank]
+    nets = {name for one in told for name in explained.rows.touched(one.faults())}
+    walk = rows_of(bench.board, [(test, good)], sorted(nets))
+    return WALK if good and words.walk_tells(explained, walk) else ""
 
 
 def show(bench: Bench, seen: Look) -> Iterator[str]:

@@ -4,13 +4,15 @@ from __future__ import annotations
 
 import random
 import unittest
+from unittest import mock
 from collections.abc import Iterator
 
 from tests import seeded_boards
 from tests.support import PROGRAM, Bed, Folder
 
 from btest_tools.explaining.faults import Fault, fault_of, faults_of
-from btest_tools.explaining.rows import Columns, Rows, combined, rows_of
+from btest_tools.explaining.rows import Columns, Rows, combined, places_of, rows_of
+from btest_tools.explaining.sets import explain
 from btest_tools.model import Faults, read_faults
 from btest_tools.scans import LogRow
 
@@ -101,6 +103,22 @@ class Demo(unittest.TestCase):
             ("and:D0:D1 open:U3.5:1 stuck:D2:0", False),
         ):
             self.assertEqual(rows.explains(read_faults(bed.board, text)), right, text)
+
+    def test_a_board_that_is_too_large(self) -> None:
+        bed = Bed()
+        log = bed.rows("stuck:D0:0 open:U3.5:1 stuck:IRQ:0")
+        whole = sum(len(places_of(net)) for net in bed.board.nets.values())
+        with mock.patch("btest_tools.explaining.rows.CELLS", 12 * whole - 1):
+            rows = rows_of_bed(bed, log)
+        self.assertEqual((list(rows.wires), rows.beyond), (["D0", "A1", "IRQ"], []))
+        # D0 has three readers and four drivers, each with two cells.
+        with mock.patch("btest_tools.explaining.rows.CELLS", 12 * 11):
+            rows = rows_of_bed(bed, log)
+            explained = explain(bed.board, [(bed.test, log)])
+        self.assertEqual((list(rows.wires), rows.beyond), (["D0"], ["A1", "IRQ"]))
+        self.assertEqual(explained.differing, ["D0", "A1", "IRQ"])
+        self.assertEqual(explained.left, ["A1", "IRQ"])
+        self.assertEqual(len(explained.ranks), 1)
 
     def test_a_bit_that_nothing_decides_is_not_explained(self) -> None:
         bed = Bed()

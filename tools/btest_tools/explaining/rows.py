@@ -14,6 +14,7 @@ from dataclasses import dataclass, field
 from typing import NamedTuple, Optional
 
 from btest_tools.board import Board, Net
+from btest_tools.logs import differing
 from btest_tools.model import Faults, Short
 from btest_tools.scans import LogRow, Test
 
@@ -80,6 +81,7 @@ class Mismatch(NamedTuple):
     rows: int
 
 
+CELLS = 12_000_000  # bits of cells in all rows that are held at once, some 100 MB
 Log = tuple[Test, Sequence[LogRow]]
 
 
@@ -90,6 +92,7 @@ class Rows:
     board: Board
     size: int  # rows
     wires: dict[str, Wire] = field(default_factory=dict)
+    beyond: list[str] = field(default_factory=list)  # nets that differ for which there was no room
 
     @property
     def all(self) -> int:
@@ -242,8 +245,8 @@ class Columns:
         return self.columns[self.index[place]]
 
 
-def rows_of(board: Board, logs: Sequence[Log]) -> Rows:
-    """Returns the model of a board in the rows of these logs."""
+def rows_of(board: Board, logs: Sequence[Log], only: Sequence[str] = ()) -> Rows:
+    """Returns the model of a board in the rows of these logs, or that of some nets only."""
     wants, masks, latches, gots = [], [], [], []
     for test, rows in logs:
         for one in test.passes:
@@ -251,17 +254,37 @@ def rows_of(board: Board, logs: Sequence[Log]) -> Rows:
             latches += one.shifted
             masks += [one.mask] * len(one.expected)
         gots += [row.got for row in rows]
-    places: set[int] = set()
-    for net in board.nets.values():
-        places.update(reader.place for reader in net.readers)
-        for driver in net.drivers:
-            places.update((driver.place, max(driver.control, 0)))
-    ordered = sorted(places)
-    tables = [Columns(table, ordered, board.size) for table in (latches, masks, wants, gots)]
     result = Rows(board, len(wants))
-    for net in board.nets.values():
+    nets = [board.nets[name] for name in only]
+    nets = nets or taken(result, [row for _, rows in logs for row in rows])
+    ordered = sorted({place for net in nets for place in places_of(net)})
+    tables = [Columns(table, ordered, board.size) for table in (latches, masks, wants, gots)]
+    for net in nets:
         result.wires[net.name] = wire_of(result, net, *tables)
     return result
+
+
+def places_of(net: Net) -> list[int]:
+    """Returns the places of the cells of a net."""
+    places = [reader.place for reader in net.readers]
+    for driver in net.drivers:
+        places += [driver.place, max(driver.control, 0)]
+    return places
+
+
+def taken(rows: Rows, log: Sequence[LogRow]) -> list[Net]:
+    """Returns the nets that there is room for: all, or those that differ, or the first of them."""
+    room = CELLS // max(1, rows.size)
+    nets = list(rows.board.nets.values())
+    if sum(len(places_of(net)) for net in nets) <= room:
+        return nets
+    nets = differing(rows.board, log)
+    some: list[Net] = []
+    while nets and len(places_of(nets[0])) <= room:
+        some.append(nets.pop(0))
+        room -= len(places_of(some[-1]))
+    rows.beyond = [net.name for net in nets]
+    return some
 
 
 def wire_of(

@@ -75,7 +75,8 @@ class Explainer:
     def explain(self) -> Explained:
         """Returns the sets of faults that explain the logs."""
         differing = self.rows.differing()
-        explained = Explained(self.rows, [wire.name for wire in differing])
+        names = [*(wire.name for wire in differing), *self.rows.beyond]
+        explained = Explained(self.rows, names)
         for number, wire in enumerate(differing):
             self.patience.at(number, len(differing), "nets")
             single = self.search.single(wire)
@@ -85,7 +86,6 @@ class Explainer:
             counts = {name: single.count for name, single in self.singles.items()}
             self.ties = Ties(self.search, differing, counts, self.patience).all()
         tied = {name for tie in self.ties for name in tie.nets}
-        names = explained.differing
         explained.left = [name for name in names if name not in self.singles and name not in tied]
         wanted = [name for name in names if name not in explained.left]
         if wanted:
