@@ -12,7 +12,6 @@ from collections.abc import Iterable, Iterator, Mapping, Sequence
 from dataclasses import dataclass, field
 from typing import NamedTuple, Optional
 
-from btest_tools.board import part_of
 from btest_tools.explaining.faults import Choice, Fault, faults_of
 from btest_tools.explaining.patience import Patience
 from btest_tools.explaining.rows import Mismatch, Rows, Wire
@@ -27,7 +26,7 @@ WITH_OPENS = 2  # open pins beside a short
 @dataclass(frozen=True)
 class Component:
     """Nets, and the choices of faults of which each gives all their bits. The smallest choices
-    have `count` faults. Another one is a row of open pins at one part."""
+    have `count` faults. One with more may be there: every pin that is wrong is open."""
 
     nets: tuple[str, ...]
     count: int
@@ -145,15 +144,12 @@ class Search:
         return self.with_row(wire, found)
 
     def with_row(self, wire: Wire, found: Optional[Component]) -> Optional[Component]:
-        """Returns a component with the choice in which every pin that is wrong is open, if all of
-        them are at one part, or if there is no other."""
+        """Returns a component with one choice more: every pin that is wrong is open. It may be
+        the cheapest beside other open pins of their parts."""
         row = self.all_open(wire)
-        if found is None or row is None:
+        if found is None or row is None or row.count <= found.count:
             return found or row
-        pins = row.choices[0]
-        if len(pins) <= found.count or len({part_of(fault.names[0]) for fault in pins}) > 1:
-            return found
-        return Component(found.nets, found.count, (*found.choices, pins))
+        return Component(found.nets, found.count, (*found.choices, *row.choices))
 
     def named(self, nets: tuple[str, ...], faults: Iterable[Fault]) -> list[Choice]:
         """Returns the faults that btest names for just these nets. Each gives the bits of the

@@ -83,8 +83,9 @@ class Teller:
         return f"{fault.names[0]} {fault.value} ({net})" if fault.kind == "open" else fault.line()
 
     def component(self, component: Component, choice: Choice) -> str:
-        """Returns a component with the choices for it, a given one first."""
-        choices = [choice, *(one for one in component.choices if one != choice)]
+        """Returns a component with the smallest choices for it, a given one first."""
+        small = (one for one in component.choices if len(one) <= component.count)
+        choices = [choice, *(one for one in small if one != choice)]
         told = " or ".join(self.choice(one) for one in choices[:CHOICES])
         more = f" or {len(choices) - CHOICES} more" if len(choices) > CHOICES else ""
         return f"{some(component.nets)}: {told}{more}"
@@ -165,6 +166,7 @@ class Teller:
                 rank.next = self.next_step(first)
             others = [(first, one) for one in first.readings[1:]]
             others += [(one, one.readings[0]) for one in explanations[1:]]
+            others = others if first.causes <= CAUSES else []  # too long for what it says
             rank.equals = [self.lines(*other) for other in others[:EQUALS]]
             if len(others) > EQUALS:
                 rank.equals.append([f"{len(others) - EQUALS} more sets"])
