@@ -512,7 +512,7 @@ def made_day(line):
     shutil.copytree(line.folder, copy)
     (copy / 'record.sqlite').unlink()
     test = line.station('prepare', '--check', line.folder).stdout.split('test ')[1].split(',')[0]
-    create(copy / 'record.sqlite', test)
+    create(copy / 'record.sqlite')
     with Record(copy / 'record.sqlite') as record:
         for serial, verdict in MADE:
             number = record.begin(Beginning(serial, '2026-05-04T08:00:00Z', '2026-05-04T10:00:00+02:00', test, 'btest', 'here'))

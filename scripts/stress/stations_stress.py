@@ -6,7 +6,9 @@ import os
 import pathlib
 import random
 import re
+import resource
 import shutil
+import signal
 import sqlite3
 import subprocess
 import sys
@@ -18,10 +20,11 @@ ROOT = pathlib.Path(__file__).resolve().parents[2]
 sys.path[:0] = [str(ROOT / 'tools'), str(ROOT / 'scripts/check-tools')]
 import program   # noqa: E402
 from cases import BOARD, EXAMPLES   # noqa: E402
-from stations import Line   # noqa: E402  # the folder and the simulated board of the checks
+from stations import Line, Slow, is_in_reset   # noqa: E402  # the folder and the simulated board of the checks
+from btest_tools.chain_faults import ChainPort   # noqa: E402
 from btest_tools.station.record import Record, create   # noqa: E402
 
-KILLS, ATTEMPTS = 200, 100_000
+KILLS, INTERRUPTS, ATTEMPTS = 200, 100, 100_000
 TOLD = re.compile(r'^(PASS|FAIL)(?: \([^)]*\))?  (\S+)  ', re.M)
 FAULTS = ('good', 'and:D0:D1', 'good', 'open:U1.5:0', '12-14@stuck:D2:1')
 SECONDS = 2.0   # that show and day may take
@@ -67,10 +70,35 @@ def kills(folder, chosen):
     return ('killed', KILLS, f'{len(told)} attempts told, none missing; {len(verdicts)} in the record, {cut} of them cut short')
 
 
+def interrupts(folder, chosen):
+    """Ctrl-C at random moments of a test: the pins are in reset, and the record has the end of each attempt."""
+    rng, stopped = random.Random(chosen.seed), 0
+    os.mkdir(folder)
+    line = Line(program.PROGRAM, folder)
+    line.prepare()
+    for number in range(chosen.number or INTERRUPTS):
+        line.plug(rng.choice(FAULTS[:4]), kind=rng.choice((ChainPort, Slow)))
+        words = list(map(str, line.command('test', line.folder, f'I{number}')))
+        with subprocess.Popen(words, stdin=subprocess.DEVNULL, stdout=subprocess.PIPE, stderr=subprocess.PIPE, encoding='utf-8') as process:
+            while not line.attempts() or line.attempts()[-1].serial != f'I{number}':   # before that there is no attempt
+                time.sleep(0.01)
+            time.sleep(rng.uniform(0, 1.5))
+            process.send_signal(signal.SIGINT)
+            out, err = process.communicate(timeout=60)
+        verdict = line.attempts()[-1].verdict
+        if err or verdict == 'CUT' or (process.returncode == 130) != (verdict == 'STOPPED'):
+            raise program.Failure(f'interrupt {number}: {verdict}, status {process.returncode}: {out}{err}')
+        if verdict == 'STOPPED' and 'the pins are in reset' not in out:
+            raise program.Failure(f'interrupt {number}: {out}')
+        is_in_reset(line.boards[0])
+        stopped += verdict == 'STOPPED'
+    return ('interrupted', number + 1, f'{stopped} attempts stopped, the others had come to their ends; the pins in reset after each')
+
+
 def fill(path, test, days):
     """A record of many attempts, spread over some days, of which one in twenty failed."""
     path.unlink()
-    create(path, test)
+    create(path)
     texts = [(EXAMPLES / f'{name}.log').read_bytes() for name in ('good', 'shorted')]
     marks = [hashlib.sha256(text).hexdigest() for text in texts]
     lines = json.dumps(['likely one cause', '  D0, D1: short AND D0 D1'])
@@ -91,16 +119,18 @@ def fill(path, test, days):
 
 
 def timed(line, name, *words):
-    begun = time.monotonic()
+    """The processor time of a command of the station."""
+    before = resource.getrusage(resource.RUSAGE_CHILDREN)
     answer = line.typed('', *words)
-    took = time.monotonic() - begun
+    after = resource.getrusage(resource.RUSAGE_CHILDREN)
     if answer.returncode:
         raise program.Failure(f'{name}: {answer.stderr}')
-    return f'{took:.2f} s', took
+    took = after.ru_utime + after.ru_stime - before.ru_utime - before.ru_stime
+    return f'{took:.2f} s{f", more than {SECONDS:g} s" if took > SECONDS else ""}'
 
 
 def many(folder, _chosen):
-    """Times of show and of day, with all attempts on a hundred days and on one."""
+    """Processor times of show and of day, with all attempts on a hundred days and on one."""
     os.mkdir(folder)
     line = Line(program.PROGRAM, folder)
     line.prepare()
@@ -109,10 +139,7 @@ def many(folder, _chosen):
         fill(line.folder / 'record.sqlite', test, days)
         for name, words in (('show', ('show', line.folder)), ('show of one board', ('show', line.folder, 'S000107')),
                             ('day', ('day', line.folder)), ('csv', ('csv', line.folder))):
-            text, took = timed(line, name, *words)
-            if took > SECONDS and name != 'csv':
-                text += f', more than {SECONDS:g} s'
-            yield (f'{ATTEMPTS:,} attempts on {days} days', name, text)
+            yield (f'{ATTEMPTS:,} attempts on {days} days', name, timed(line, name, *words))
 
 
 def stress(folder, chosen):
@@ -120,6 +147,10 @@ def stress(folder, chosen):
     if not shutil.which('openocd'):
         return [('skipped', '', 'OpenOCD is not there')], 0
     os.mkdir(folder)
-    rows = [] if chosen.case == 'many' else [kills(f'{folder}/kills', chosen)]
-    rows += list(many(f'{folder}/many', chosen)) if chosen.case != 'kills' else []
-    return rows, KILLS + 8
+    rows = []
+    for name, part in (('kills', kills), ('interrupts', interrupts)):
+        if chosen.case in ('', name):
+            rows.append(part(f'{folder}/{name}', chosen))
+    if chosen.case in ('', 'many'):
+        rows += many(f'{folder}/many', chosen)
+    return rows, len(rows)

@@ -149,7 +149,7 @@ class RecordTest(unittest.TestCase):
         self.addCleanup(room.cleanup)
         self.folder = pathlib.Path(room.name)
         self.path = self.folder / "a [b] #?% é.sqlite"
-        record.create(self.path, "test")
+        record.create(self.path)
         self.record = Record(self.path)
         self.record.database.execute("PRAGMA synchronous = OFF")  # which is faster
         self.addCleanup(self.record.close)

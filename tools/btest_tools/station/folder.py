@@ -152,7 +152,7 @@ def fill(draft: pathlib.Path, btest: Btest, words: Words, cable: str) -> None:
     (draft / FINGERPRINTS).write_text("".join(lines))
     for path in (draft / name for name in (*files_below(draft), FINGERPRINTS)):
         path.chmod(0o444)
-    record.create(draft / record.NAME, mark_of(draft / FINGERPRINTS))
+    record.create(draft / record.NAME)
 
 
 def prepare(folder: pathlib.Path, btest: Btest, words: Words, cable: str) -> Product:

@@ -116,8 +116,8 @@ def told(path: pathlib.Path, what: str) -> Iterator[None]:
         raise RecordFailed(f"the record {path} can't be {what}: {why}") from None
 
 
-def create(path: pathlib.Path, test: str) -> None:
-    """Makes an empty record for a test with this fingerprint."""
+def create(path: pathlib.Path) -> None:
+    """Makes an empty record."""
     with told(path, "written"):
         with contextlib.closing(sqlite3.connect(path, isolation_level=None)) as database:
             database.execute("BEGIN")
@@ -126,8 +126,6 @@ def create(path: pathlib.Path, test: str) -> None:
             for table in ("attempt", "ending", "log_text", "log", "finding"):
                 for what in ("UPDATE", "DELETE"):
                     database.execute(NEVER.format(table=table, what=what))
-            database.execute("CREATE TABLE made_for (test TEXT NOT NULL)")
-            database.execute("INSERT INTO made_for VALUES (?)", (test,))
             database.execute(f"PRAGMA user_version = {FORMAT}")
             database.execute("COMMIT")
 
