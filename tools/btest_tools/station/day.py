@@ -63,23 +63,24 @@ def read_day(product: Product, record: Record, btest: Btest, name: Optional[str]
     if not boards:
         raise BadInput(f"no board was tested on {name}")
     folder.check_btest(product, btest)
+    logs = record.failed_logs(name)
     day = Day(name, product, record, Bench(product, btest), boards, record.findings(name), {}, {})
     for board in (one for one in boards if one.needs_page):
-        for attempt in board.today:
+        for attempt in board.attempts:
             if attempt.verdict == "FAIL":
-                read_attempt(day, attempt)
+                read_attempt(day, attempt, logs.get(attempt.number, []))
     return day
 
 
-def read_attempt(day: Day, attempt: Attempt) -> None:
-    """Looks at the log of an attempt that failed, which may be one that can't be read."""
+def read_attempt(day: Day, attempt: Attempt, logs: list[Optional[Log]]) -> None:
+    """Looks at the logs of an attempt that failed, which may be some that can't be read."""
+    read = day.logs[attempt.number] = [log for log in logs if log]
     try:
         attempts.check_test(day.product, attempt)
-        logs = day.logs[attempt.number] = day.record.logs(attempt.number)
-        if not logs:
-            raise BadInput(f"attempt {attempt.number} has no log")
+        if len(read) < len(logs) or not logs:
+            raise BadInput(f"the log of attempt {attempt.number} can't be read")
         if attempt.number not in day.findings:
-            day.findings[attempt.number] = explain(day.bench, logs)
+            day.findings[attempt.number] = explain(day.bench, read)
     except BadInput as wrong:
         day.unread[attempt.number] = str(wrong)
         day.findings.pop(attempt.number, None)
@@ -88,9 +89,7 @@ def read_attempt(day: Day, attempt: Attempt) -> None:
 # HTML
 
 
-def escape(text: str) -> str:
-    """Returns a text as HTML."""
-    return html.escape(text)
+escape = html.escape
 
 
 def table(heads: Sequence[str], rows: Iterable[str]) -> str:
@@ -144,7 +143,8 @@ def board_row(day: Day, board: Tested) -> str:
     """Returns the row of a board."""
     last = board.today[-1]
     if len(board.attempts) == 1 and not board.needs_page:  # most of them
-        return row(escape(board.serial), last.local[11:19], "PASS", "", "")
+        name, time = escape(board.serial), last.local[11:19]
+        return f"<tr><td>{name}</td><td>{time}</td><td>PASS</td><td></td><td></td></tr>\n"
     says = last.says
     finding = day.findings.get(last.number)
     if last.verdict == "FAIL" and finding:

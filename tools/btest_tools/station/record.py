@@ -116,6 +116,14 @@ def told(path: pathlib.Path, what: str) -> Iterator[None]:
         raise RecordFailed(f"the record {path} can't be {what}: {why}") from None
 
 
+def unpacked(packed: bytes) -> Optional[str]:
+    """Returns a text that was packed, or None if it can't be read."""
+    try:
+        return zlib.decompress(packed).decode("utf-8")
+    except (zlib.error, ValueError, TypeError):
+        return None
+
+
 def create(path: pathlib.Path) -> None:
     """Makes an empty record."""
     with told(path, "written"):
@@ -236,14 +244,34 @@ class Record:
         """Returns the logs of an attempt."""
         statement = """SELECT stage, packed FROM log JOIN log_text USING (fingerprint)
                        WHERE attempt = ? ORDER BY place"""
+        found = []
         with told(self.path, "read"):
-            try:
-                return [
-                    Log(stage, zlib.decompress(packed).decode("ascii"))
-                    for stage, packed in self.database.execute(statement, (number,))
-                ]
-            except (zlib.error, ValueError, TypeError):
-                raise RecordFailed(f"the log of attempt {number} can't be read") from None
+            for stage, packed in self.database.execute(statement, (number,)):
+                text = unpacked(packed)
+                if text is None:
+                    raise RecordFailed(f"the log of attempt {number} can't be read")
+                found.append(Log(stage, text))
+        return found
+
+    def failed_logs(self, day: str) -> dict[int, list[Optional[Log]]]:
+        """Returns the logs of the failed attempts of the boards of a day, with None for each that
+        can't be read. Equal logs are unpacked once."""
+        statement = """SELECT log.attempt, log.stage, fingerprint, packed FROM attempt
+                       JOIN ending ON number = ending.attempt JOIN log ON number = log.attempt
+                       JOIN log_text USING (fingerprint)
+                       WHERE verdict = 'FAIL'
+                       AND serial IN (SELECT serial FROM attempt WHERE day = ?)
+                       ORDER BY log.attempt, place"""
+        found: dict[int, list[Optional[Log]]] = {}
+        texts: dict[str, Optional[str]] = {}
+        with told(self.path, "read"):
+            for number, stage, mark, packed in self.database.execute(statement, (day,)):
+                if mark not in texts:
+                    texts[mark] = unpacked(packed)
+                text = texts[mark]
+                log = None if text is None else Log(stage, text)
+                found.setdefault(number, []).append(log)
+        return found
 
     def marks(self, day: str, stage: str) -> dict[int, str]:
         """Returns the fingerprints of the logs of a stage, for the attempts of a day."""
@@ -253,16 +281,16 @@ class Record:
             return dict(self.database.execute(statement, (day, stage)))
 
     def findings(self, day: str) -> dict[int, Finding]:
-        """Returns what explains the failures of a day."""
+        """Returns what explains the failures of the boards of a day."""
         statement = """SELECT attempt, faults, lines, packed FROM finding
-                       JOIN attempt ON number = attempt WHERE day = ?"""
+                       JOIN attempt ON number = attempt
+                       WHERE serial IN (SELECT serial FROM attempt WHERE day = ?)"""
         found = {}
         with told(self.path, "read"):
             for number, faults, lines, packed in self.database.execute(statement, (day,)):
-                with contextlib.suppress(zlib.error, ValueError, TypeError):
-                    details = zlib.decompress(packed).decode("utf-8")
+                with contextlib.suppress(ValueError, TypeError):
                     kept = tuple(json.loads(faults)), tuple(json.loads(lines))
-                    found[number] = Finding(*kept, details)
+                    found[number] = Finding(*kept, unpacked(packed) or "")
         return found
 
     def is_whole(self) -> bool:
