@@ -24,7 +24,7 @@ from stations import Line, Slow, is_in_reset   # noqa: E402  # the folder and th
 from btest_tools.chain_faults import ChainPort   # noqa: E402
 from btest_tools.station.record import Record, create   # noqa: E402
 
-KILLS, INTERRUPTS, ATTEMPTS = 200, 100, 100_000
+KILLS, INTERRUPTS, ATTEMPTS = 200, 25, 100_000
 TOLD = re.compile(r'^(PASS|FAIL)(?: \([^)]*\))?  (\S+)  ', re.M)
 FAULTS = ('good', 'and:D0:D1', 'good', 'open:U1.5:0', '12-14@stuck:D2:1')
 SECONDS = 2.0   # that show and day may take
