@@ -67,7 +67,8 @@ class Explainer:
     ) -> None:
         self.rows = rows_of(board, logs)
         self.search = Search(self.rows, proved)
-        self.prices = Prices(board, nearness or Nearness(board))
+        names = (wire.name for wire in self.rows.differing())
+        self.prices = Prices(board, nearness or Nearness(board), names)
         self.singles: dict[str, Component] = {}
         self.ties: list[Component] = []
         self.patience = Patience()
