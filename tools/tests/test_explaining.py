@@ -175,7 +175,7 @@ class Pieces(unittest.TestCase):
 
     def test_prices_of_faults(self) -> None:
         board = Bed().board
-        prices = Prices(board, Nearness(board), board.nets)
+        prices = Prices(board, Nearness(board))
         for line, price in (
             ("stuck D0 0", 10),
             ("open U3.5 1", 10),
@@ -189,15 +189,14 @@ class Pieces(unittest.TestCase):
             fault = fault_of(line) if "swap" not in line else Fault("swap", ("U1.1", "U1.2"))
             self.assertEqual(prices.alone(fault), price, line)
 
-    def test_a_net_that_is_right_costs_more(self) -> None:
-        board = Bed().board
-        prices = Prices(board, Nearness(board), ["D0"])
-        self.assertEqual(prices.alone(fault_of("short AND D0 D1")), 11.5)
-        self.assertEqual(prices.alone(fault_of("short AND D2 D1")), 13)
+    def test_nets_that_read_right(self) -> None:
+        parts = (Component(("D0", "D1"), 1, ()), Component(("A1",), 1, ()))
+        self.assertEqual(Explanation(parts, []).right(["D0"]), 2)
+        self.assertEqual(Explanation(parts, []).right(["D0", "D1", "A1", "D2"]), 0)
 
     def test_prices_of_rows(self) -> None:
         board = Bed().board
-        prices = Prices(board, Nearness(board), board.nets)
+        prices = Prices(board, Nearness(board))
         pins = [Fault("open", (f"U4.{number}",), 0) for number in (1, 2, 3)]
         self.assertEqual(prices.total([(pin,) for pin in pins]), (15, 1))
         mixed = [*pins, Fault("open", ("U4.4",), 1)]
@@ -207,7 +206,7 @@ class Pieces(unittest.TestCase):
 
     def test_rows_are_chosen_over_single_causes(self) -> None:
         board = Bed().board
-        prices = Prices(board, Nearness(board), board.nets)
+        prices = Prices(board, Nearness(board))
         one = Component(("D0",), 1, ((fault_of("stuck D0 0"),), (fault_of("open U4.1 0"),)))
         two = Component(("D1",), 1, ((fault_of("open U4.2 0"),), (fault_of("stuck D1 0"),)))
         (reading,) = prices.readings([one, two])
@@ -313,7 +312,7 @@ class Pack(Folder):
         self.assertEqual(parts_of(self.board, fault_of("open U2.1 0")), ["U2"])
 
     def test_prices(self) -> None:
-        prices = Prices(self.board, Nearness(self.board), self.board.nets)
+        prices = Prices(self.board, Nearness(self.board))
         self.assertEqual(prices.total([(self.faults[0],)]), (10.5, 1))
         self.assertEqual(prices.total([tuple(self.faults)]), (9.5, 1))  # the whole pack
         prices.packs["RN1"].add("N3")
@@ -324,7 +323,7 @@ class Pack(Folder):
             Component((fault.names[0],), 1, ((fault,), (Fault("stuck", fault.names, 0),)))
             for fault in self.faults
         )
-        readings = Prices(self.board, Nearness(self.board), self.board.nets).readings(parts)
+        readings = Prices(self.board, Nearness(self.board)).readings(parts)
         explanation = Explanation(parts, readings)
         teller = Teller(self.board, Nearness(self.board))
         lines = list(teller.causes(explanation, readings[0]))

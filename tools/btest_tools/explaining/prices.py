@@ -29,8 +29,8 @@ class Reading:
 class Prices:
     """Prices of faults on a board."""
 
-    def __init__(self, board: Board, nearness: Nearness, differing: Iterable[str]) -> None:
-        self.board, self.nearness, self.differing = board, nearness, set(differing)
+    def __init__(self, board: Board, nearness: Nearness) -> None:
+        self.board, self.nearness = board, nearness
         self.known: dict[Fault, float] = {}
         self.packs: dict[str, set[str]] = {}  # of each part that may pull the nets that it pulls
         for net in board.nets.values():
@@ -57,7 +57,6 @@ class Prices:
             return 0
         price = WEIGHTS.net * (len(fault.names) - 2)
         price += WEIGHTS.dominating if fault.kind == "dom" else 0
-        price += WEIGHTS.silent * sum(name not in self.differing for name in fault.names)
         return price + (0 if self.nearness.are_joined(fault.names) else WEIGHTS.apart)
 
     def choice(self, choice: Choice, parts: Iterable[str]) -> float:

@@ -38,6 +38,11 @@ class Explanation:
         """How many causes the cheapest choices have."""
         return self.readings[0].causes
 
+    def right(self, differing: Sequence[str]) -> int:
+        """Returns how many of its nets read right."""
+        names = {name for component in self.components for name in component.nets}
+        return len(names - set(differing))
+
     def faults(self) -> Faults:
         """Returns the cheapest choices as the models take them."""
         return faults_of(fault for choice in self.readings[0].choices for fault in choice)
@@ -67,8 +72,7 @@ class Explainer:
     ) -> None:
         self.rows = rows_of(board, logs)
         self.search = Search(self.rows, proved)
-        names = (wire.name for wire in self.rows.differing())
-        self.prices = Prices(board, nearness or Nearness(board), names)
+        self.prices = Prices(board, nearness or Nearness(board))
         self.singles: dict[str, Component] = {}
         self.ties: list[Component] = []
         self.patience = Patience()
@@ -102,7 +106,8 @@ class Explainer:
             readings = self.prices.readings(components)
             if readings and self.gives(explained, readings[0].choices):
                 found.append(Explanation(components, readings))
-        found.sort(key=lambda one: one.price)
+        # Of equal sets those come first in which no net is accused that reads right.
+        found.sort(key=lambda one: (price_of(one), one.right(explained.differing)))
         usual = [one for one in found if one.causes <= CAUSES]
         levels = [list(group) for _, group in itertools.groupby(usual or found[:1], price_of)]
         explained.ranks = levels[:RANKS]

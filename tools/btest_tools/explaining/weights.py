@@ -19,9 +19,6 @@ class Weights(NamedTuple):
     # Bridges are between neighbors. Nets that have no pins side by side may still have
     # tracks side by side, so the price is small.
     apart: float = 1
-    # A net that doesn't differ is in a short only if its bits win. Another short that needs no
-    # such luck is likelier.
-    silent: float = 1.5
     # Mostly the level wins that the drivers of the family pull harder, at both nets alike. One
     # driver that wins against the other both ways is rarer.
     dominating: float = 1
