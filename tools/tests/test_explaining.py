@@ -246,6 +246,10 @@ class Told(unittest.TestCase):
             ],
         )
 
+    def test_a_stuck_net(self) -> None:
+        step = "measure D0, as at U1.1, against the supplies"
+        self.assertEqual(self.lines("stuck:D0:0")[3], f"     Next: {step}.")
+
     def test_a_row_of_pins(self) -> None:
         lines = self.lines("open:U4.1:0 open:U4.2:0 open:U4.3:0 open:U4.4:0")
         self.assertEqual(lines[0], "Pins that differ are at U1 (4), U3 (4), U4 (4).")

@@ -32,6 +32,10 @@ class Component:
     count: int
     choices: tuple[Choice, ...] = field(compare=False)
 
+    def smallest(self) -> list[Choice]:
+        """Returns the choices with the least faults."""
+        return [choice for choice in self.choices if len(choice) <= self.count]
+
 
 # Of the names of nets, or of one net, the faults that btest names for them.
 Proved = Mapping[str, Sequence[Fault]]

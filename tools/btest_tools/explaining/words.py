@@ -84,8 +84,7 @@ class Teller:
 
     def component(self, component: Component, choice: Choice) -> str:
         """Returns a component with the smallest choices for it, a given one first."""
-        small = (one for one in component.choices if len(one) <= component.count)
-        choices = [choice, *(one for one in small if one != choice)]
+        choices = [choice, *(one for one in component.smallest() if one != choice)]
         told = " or ".join(self.choice(one) for one in choices[:CHOICES])
         more = f" or {len(choices) - CHOICES} more" if len(choices) > CHOICES else ""
         return f"{some(component.nets)}: {told}{more}"
@@ -119,8 +118,9 @@ class Teller:
     def step(self, component: Component, choice: Choice) -> str:
         """Returns what to do about one component."""
         short = next((fault for fault in choice if fault.kind in SHORTS), None)
-        opens = [f.names[0] for one in component.choices for f in one if f.kind == "open"]
-        pulls = [f.names[0] for one in component.choices for f in one if f.kind == "pull"]
+        small = [fault for one in component.smallest() for fault in one]
+        opens = [fault.names[0] for fault in small if fault.kind == "open"]
+        pulls = [fault.names[0] for fault in small if fault.kind == "pull"]
         opens += [pin for name in dict.fromkeys(pulls) for pin in resistors(self.board, name)]
         if short:
             mine = [fault.names[0] for fault in choice if fault.kind == "open"]
@@ -128,7 +128,7 @@ class Teller:
             return f"measure between {self.probes(short.names)}{look}"
         if choice[0].kind == "swap":
             return f"see whether {' and '.join(choice[0].names)} are exchanged"
-        stuck = any(fault.kind == "stuck" for one in component.choices for fault in one)
+        stuck = any(fault.kind == "stuck" for fault in small)
         name, pin = component.nets[0], self.board.nets[component.nets[0]].pins[0]
         supply = f"measure {name}, as at {pin}, against the supplies"
         look = f"look at {some(list(dict.fromkeys(opens)), 4)}"
