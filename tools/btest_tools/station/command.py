@@ -239,6 +239,8 @@ def read_words() -> Words:
 def main() -> NoReturn:
     """Does what the command line says, and ends with its status."""
     words = read_words()
+    if isinstance(sys.stdout, io.TextIOWrapper):  # serial numbers have characters of any kind
+        sys.stdout.reconfigure(errors="backslashreplace")
     try:
         sys.exit(COMMANDS[words.command].run(words))
     except BadInput as wrong:
