@@ -60,18 +60,18 @@ def shell(command, folder):
 
 def run_block(block, folder, program):
     for command, lines in commands(block):
-        if any(name in command for name in OTHERS):
+        if any(name in command for name in OTHERS) and 'simulated-chain.py' not in command:
             continue
-        if re.search(r'\b(btest|openocd)\b|failing-nets|report\.py', command):   # they call it, or play what it wrote before
+        if re.search(r'\b(btest|openocd)\b|failing-nets|report\.py|station\.py', command):   # they call it, or play what it wrote before
             need(program)
-        if re.search(r'\bopenocd\b', command) and not shutil.which('openocd'):
+        if re.search(r'\bopenocd\b|station\.py', command) and not shutil.which('openocd'):
             raise Skipped('OpenOCD is not there')
         name = re.fullmatch(r'cat (\S+)', command)
         if name and not (folder / name[1]).exists():
             (folder / name[1]).write_text('\n'.join(lines) + '\n')   # a file that the reader makes
             continue
         answer = shell(command, folder)
-        if 'openocd' in command:   # its words are its own
+        if 'openocd' in command or 'station.py' in command:   # what they say has times and marks of their own
             same(answer.returncode, 0, f'the status of a command that prints {answer.stdout!r}')
         else:
             same(answer.stdout, ''.join(line + '\n' for line in lines), f'what `{command[:40]}..` prints')
