@@ -20,7 +20,7 @@ const BOARD_TEST: &str = "TRST OFF;\nENDIR IDLE;\nENDDR IDLE;\nSTATE RESET;\nSTA
      SDR 4 TDI (4);\nSDR 4 TDI (8) TDO (1) MASK (3);\nSDR 4 TDI (0) TDO (2) MASK (3);\nSTATE RESET;\n";
 
 /// Each command.
-pub static COMMANDS: [Command; 10] = [
+pub const COMMANDS: [Command; 10] = [
     Command {
         line: "chain c drv rcv",
         names: &["c", "drv", "rcv"],
@@ -78,7 +78,7 @@ pub static COMMANDS: [Command; 10] = [
 ];
 
 /// Logs beside the board: one of its test, one of its walking test, and a batch.
-pub static LOGS: [Named; 3] = [
+pub const LOGS: [Named; 3] = [
     ("g", Plain("0\n2\n")),
     ("w", Plain("3\n3\n")),
     ("b", Plain("BOARD A\n1\n2\nBOARD B\n0\n2\n")),

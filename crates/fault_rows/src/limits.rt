@@ -94,7 +94,7 @@ fn every_text_may_have_its_limit(rt: HostRuntime) -> Result<(), RowFault> {
     Ok(())
 }
 
-static BLANKS: [Row; 2] = [
+const BLANKS: [Row; 2] = [
     // A log may be longer than any other text.
     Row {
         texts: &[("w", Repeated(" ", MOST + 1))],

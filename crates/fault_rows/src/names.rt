@@ -3,7 +3,7 @@ use run_bench::Text::Plain;
 use run_bench::{Ending, Named, Row, RowFault, Rows, Table, tables_hold};
 
 // A log of the board's test, one of its walking test, and a batch.
-static LOGS: [Named; 3] = [
+const LOGS: [Named; 3] = [
     ("g", Plain("1\n2\n")),
     ("w", Plain("3\n3\n")),
     ("b", Plain("BOARD A\n1\n2\n")),
@@ -22,7 +22,7 @@ const IN_NETS: Ending<'static> = Ending::Refused("n line 1: no statement\n");
 
 const IN_THIRD: Ending<'static> = Ending::Refused("third line 1: not in the grammar\n");
 
-static ROWS: [Row; 16] = [
+const ROWS: [Row; 16] = [
     Row {
         texts: &[THIRD],
         line: "chain c drv rcv third",

@@ -89,7 +89,7 @@ fn every_command_puts_its_text_or_keeps_its_status(rt: HostRuntime) -> Result<()
 }
 
 // A batch without a block has an empty text, which is put too.
-static EMPTY: [(Trouble, Row); 1] = [(
+const EMPTY: [(Trouble, Row); 1] = [(
     Trouble::Put(1, 0),
     Row {
         texts: &[("b", Plain(""))],

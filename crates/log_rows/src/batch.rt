@@ -9,7 +9,7 @@ const TWO_BLOCKS: &str = "BOARD A\n1\n2\nBOARD B\n0\n2\n";
 
 const TWO_VERDICTS: &str = "BOARD A\nPASS\nBOARD B\nFAIL 3\nstuck N1 0\nopen U1.1 0\nopen U2.1 0\n";
 
-static LOGS: [Line; 15] = [
+const LOGS: [Line; 15] = [
     (TWO_BLOCKS, Ending::Puts(TWO_VERDICTS)),
     ("", Ending::Puts("")),
     ("# no board today\r\n\r\n", Ending::Puts("")),
@@ -64,7 +64,7 @@ static LOGS: [Line; 15] = [
     ),
 ];
 
-static ROWS: [Row; 9] = [
+const ROWS: [Row; 9] = [
     Row {
         texts: &[],
         line: "batch 1 g c n drv rcv",

@@ -7,7 +7,7 @@ const STUCK: &str = "FAIL 3\nstuck N1 0\nopen U1.1 0\nopen U2.1 0\n";
 
 const LINE: &str = "diagnose 2 g c n drv rcv od rcv1";
 
-static LOGS: [Line; 19] = [
+const LOGS: [Line; 19] = [
     ("1\n2\n", Ending::Puts("PASS\n")),
     (
         "# first board\r\n\r\n1\r\n2 # last\r\n",
@@ -40,7 +40,7 @@ static LOGS: [Line; 19] = [
     ("1\n22\n2\n", Ending::Refused("g line 2: wrong length\n")),
 ];
 
-static WORKERS: [Row; 10] = [
+const WORKERS: [Row; 10] = [
     Row {
         texts: &[],
         line: "diagnose 1 g c n drv rcv",
@@ -94,7 +94,7 @@ static WORKERS: [Row; 10] = [
     },
 ];
 
-static BOARDS: [Row; 4] = [
+const BOARDS: [Row; 4] = [
     Row {
         texts: &[
             ("c", Plain(PULLED)),
@@ -137,7 +137,7 @@ static BOARDS: [Row; 4] = [
 // A bus of two drivers, which two passes enable one after the other.
 const BUS: &str = "DEVICE U1 TS -\nDEVICE U2 TS -\nDEVICE U3 RCV1 -\n";
 
-static BUS_LOGS: [Line; 5] = [
+const BUS_LOGS: [Line; 5] = [
     ("01\n00\n01\n00\n", Ending::Puts("PASS\n")),
     // One driver alone is open, and its pass shows it.
     ("00\n00\n01\n00\n", Ending::Puts("FAIL 1\nopen U1.1 0\n")),
@@ -154,7 +154,7 @@ const APART: &str = "DEVICE U1 TWO -\nDEVICE U2 RCV -\nDEVICE U3 RCV -\n";
 
 const APART_NETS: &str = "NET A U1.1 U2.1\nNET X U1.2 U1.3 U2.2\nNET B U1.4 U3.1\n";
 
-static APART_LOGS: [Line; 4] = [
+const APART_LOGS: [Line; 4] = [
     ("004\n008\n000\n001\n009\n000\n", Ending::Puts("PASS\n")),
     (
         "000\n008\n000\n001\n009\n000\n",
@@ -168,11 +168,11 @@ static APART_LOGS: [Line; 4] = [
     ("000\n008\n000\n000\n008\n000\n", Ending::Puts("FAIL 0\n")),
 ];
 
-static BUS_TEXTS: [Named; 2] = [("c", Plain(BUS)), ("n", Plain("NET BUS U1.1 U2.1 U3.1\n"))];
+const BUS_TEXTS: [Named; 2] = [("c", Plain(BUS)), ("n", Plain("NET BUS U1.1 U2.1 U3.1\n"))];
 
-static APART_TEXTS: [Named; 2] = [("c", Plain(APART)), ("n", Plain(APART_NETS))];
+const APART_TEXTS: [Named; 2] = [("c", Plain(APART)), ("n", Plain(APART_NETS))];
 
-static BLANKS: [Row; 1] = [Row {
+const BLANKS: [Row; 1] = [Row {
     texts: &[("g", Repeated(" ", 4_194_305))],
     line: "diagnose 1 g c n drv rcv",
     ending: Ending::Refused("g: 0 rows of 2\n"),

@@ -125,7 +125,7 @@ const STUCK_TEXT: &str = "FAIL 3\nstuck N1 0\nopen U1.1 0\nopen U2.1 0\n";
 type Step = (&'static str, &'static str, &'static str, u64);
 
 // The pieces try their candidates in step, or take their blocks.
-static STEPS: [Step; 2] = [
+const STEPS: [Step; 2] = [
     (LINE, STUCK, STUCK_TEXT, 5),
     (
         "batch 2 g c n drv rcv",
@@ -161,7 +161,7 @@ type Try = (&'static str, &'static str, &'static [u64], &'static [u64]);
 
 // The stuck net, its two pins, and the shorts of its one pair are tried; of a log that passes nothing; and where two nets differ their
 // shorts.
-static TRIES: [Try; 3] = [
+const TRIES: [Try; 3] = [
     (STUCK, STUCK_TEXT, &[0, 1, 4, 5, 6], &[7, 12, 13, 14, 15]),
     ("1\n2\n", "PASS\n", &[], &[]),
     ("0\n0\n", "FAIL 1\nshort AND N1 N2\n", &[12, 13], &[14, 15]),

@@ -72,7 +72,7 @@ fn log(alloc: Global, silent: u32) -> Result<String, AllocError> {
 }
 
 // How many first nets read 0, and the diagnosis.
-static SILENT: [(u32, &str); 5] = [
+const SILENT: [(u32, &str); 5] = [
     (0, "PASS\n"),
     (1, "FAIL 3\nstuck R1_0 0\nopen U1.1 0\nopen U2.33 0\n"),
     // Their codes, 1 and 2, have no common 1.

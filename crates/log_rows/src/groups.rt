@@ -29,7 +29,7 @@ pub const LINKED_NETS: &str = "NET N1A U1.1 R1.1\nNET N1B R1.2 U2.1\nNET N2 U1.2
 
 const LINE: &str = "groups g c n drv rcv od rcv1";
 
-static THREE_NETS: [Line; 16] = [
+const THREE_NETS: [Line; 16] = [
     (
         "05\n08\n05\n",
         Ending::Puts("GROUPS 1\nGROUP 2\nNET N1\nNET N3\n"),
@@ -73,7 +73,7 @@ static THREE_NETS: [Line; 16] = [
 ];
 
 // The net with the pull does not walk, and its bit is not compared.
-static MIXED_LOGS: [Line; 4] = [
+const MIXED_LOGS: [Line; 4] = [
     (
         "03\n03\n",
         Ending::Puts("GROUPS 1\nGROUP 2\nNET N1\nNET N2\n"),
@@ -88,7 +88,7 @@ const READ_TWICE: &str = "DEVICE U1 DRV -\nDEVICE U2 RCV -\nDEVICE U3 RCV1 -\n";
 
 const TWICE_NETS: &str = "NET N1 U1.1 U2.1 U3.1\nNET N2 U1.2 U2.2\n";
 
-static ROWS: [Row; 8] = [
+const ROWS: [Row; 8] = [
     Row {
         texts: &[
             ("c", Plain(READ_TWICE)),
@@ -162,9 +162,9 @@ static ROWS: [Row; 8] = [
     },
 ];
 
-static WALK_TEXTS: [Named; 2] = [("c", Plain(WALK)), ("n", Plain(WALK_NETS))];
+const WALK_TEXTS: [Named; 2] = [("c", Plain(WALK)), ("n", Plain(WALK_NETS))];
 
-static MIXED_TEXTS: [Named; 2] = [("c", Plain(MIXED)), ("n", Plain(MIXED_NETS))];
+const MIXED_TEXTS: [Named; 2] = [("c", Plain(MIXED)), ("n", Plain(MIXED_NETS))];
 
 static TABLES: [Table; 3] = [
     Table {

@@ -5,7 +5,7 @@ use run_bench::{Ending, Row, RowFault, Rows, SCANS, Table, tables_hold};
 
 const LINE: &str = "walk c n drv rcv od rcv1";
 
-static ROWS: [Row; 7] = [
+const ROWS: [Row; 7] = [
     Row {
         texts: &[("c", Plain(WALK)), ("n", Plain(WALK_NETS))],
         line: "walk c n drv rcv",

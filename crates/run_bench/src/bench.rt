@@ -35,15 +35,6 @@ impl Bench {
         })
     }
 
-    /// A store that holds these texts, and sinks with ample room.
-    pub fn with_texts(alloc: Global, texts: &[(&str, &[u8])]) -> Result<Bench, AllocError> {
-        let mut bench = Bench::empty(alloc)?;
-        for (name, bytes) in texts {
-            bench.store.add(name, bytes)?;
-        }
-        Ok(bench)
-    }
-
     /// A store with a chain file `c`, a net file `n`, and the texts of the worked devices by their names.
     pub fn with_board(alloc: Global, chain: &str, nets: &str) -> Result<Bench, AllocError> {
         let mut bench = Bench::empty(alloc)?;

@@ -19,7 +19,7 @@ pub enum Ending<'a> {
     Scans(&'a str),
     /// A text of so many bytes was put.
     Long(usize),
-    /// Some text was put.
+    /// The run is done. What it put is not compared.
     Done,
     /// The texts are refused with this line.
     Refused(&'a str),

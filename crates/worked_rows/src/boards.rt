@@ -2,7 +2,7 @@
 use run_bench::Text::{Numbered, Plain};
 use run_bench::{CHAIN, Case, Ending, NETS, RowFault, Rows, Run, Table, tables_hold};
 
-static CHAINS: [Case; 8] = [
+const CHAINS: [Case; 8] = [
     ("", NETS, "drv rcv", "c: no part in the chain\n"),
     (
         "DEVICE U1 DRV -\nBYPASS U1 3",
@@ -43,7 +43,7 @@ static CHAINS: [Case; 8] = [
     ),
 ];
 
-static NET_FILES: [Case; 7] = [
+const NET_FILES: [Case; 7] = [
     (
         CHAIN,
         "NET N1 U1.9",
@@ -83,7 +83,7 @@ static NET_FILES: [Case; 7] = [
     ),
 ];
 
-static LINKS_AND_PULLS: [Case; 3] = [
+const LINKS_AND_PULLS: [Case; 3] = [
     (
         "DEVICE U1 DRV -\nDEVICE U2 RCV -\nLINK R1 1 9",
         "NET N1A U1.1 R1.1\nNET N1B R1.2 U2.1\nNET N2 U1.2 U2.2",
@@ -105,7 +105,7 @@ static LINKS_AND_PULLS: [Case; 3] = [
 ];
 
 // Net files that are too large.
-static MANY_NETS: [Run; 1] = [(
+const MANY_NETS: [Run; 1] = [(
     Numbered {
         head: "",
         piece: "NET N# X.#\n",
@@ -115,7 +115,7 @@ static MANY_NETS: [Run; 1] = [(
     Ending::Refused("limit: nets\n"),
 )];
 
-static MANY_PINS: [Run; 1] = [(
+const MANY_PINS: [Run; 1] = [(
     Numbered {
         head: "NET N",
         piece: " X.#",

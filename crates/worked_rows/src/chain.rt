@@ -7,7 +7,7 @@ const TWO_PARTS: &str = "BYPASS U1 4\nBYPASS U2 2";
 const TWO_PARTS_SCANS: &str =
     "SIR 6 TDI (3F) TDO (05) MASK (0F);\nSDR 10 TDI (0A5) TDO (294) MASK (3FF);\n";
 
-static CHAINS: [Row; 5] = [
+const CHAINS: [Row; 5] = [
     Row {
         texts: &[("c", Plain(TWO_PARTS))],
         line: "chain c",
@@ -46,7 +46,7 @@ static CHAINS: [Row; 5] = [
     },
 ];
 
-static FORTY_PARTS: [Run; 1] = [(
+const FORTY_PARTS: [Run; 1] = [(
     Numbered {
         head: "",
         piece: "BYPASS U# 2\n",
@@ -59,7 +59,7 @@ static FORTY_PARTS: [Run; 1] = [(
     ),
 )];
 
-static DESCRIBED: [Line; 4] = [
+const DESCRIBED: [Line; 4] = [
     ("chain c", Ending::Refused("c line 1: entity not given\n")),
     ("chain c d", Ending::NotRead("cannot read d\n")),
     (
@@ -73,7 +73,7 @@ static DESCRIBED: [Line; 4] = [
 ];
 
 // Chain files, and how `chain c` ends.
-static FILES: [Run; 21] = [
+const FILES: [Run; 21] = [
     (Plain(""), Ending::Refused("c: no part in the chain\n")),
     (
         Plain("# BYPASS U1 4"),
@@ -165,7 +165,7 @@ static FILES: [Run; 21] = [
     ),
 ];
 
-static NO_COMMANDS: [&str; 24] = [
+const NO_COMMANDS: [&str; 24] = [
     "",
     "chain",
     "help",
@@ -192,7 +192,7 @@ static NO_COMMANDS: [&str; 24] = [
     "-h",
 ];
 
-static FAILING: [(Trouble, Row); 3] = [
+const FAILING: [(Trouble, Row); 3] = [
     // The text isn't tried again, though its name stands twice among the words.
     (
         Trouble::Read(1),
@@ -221,12 +221,12 @@ static FAILING: [(Trouble, Row); 3] = [
     ),
 ];
 
-static MANY_WORDS: [(usize, Ending<'static>); 2] = [
+const MANY_WORDS: [(usize, Ending<'static>); 2] = [
     (255, Ending::Refused("c line 1: entity not given\n")),
     (256, Ending::Usage),
 ];
 
-static ONE_DESCRIBED: [Named; 2] = [
+const ONE_DESCRIBED: [Named; 2] = [
     ("c", Plain("DEVICE U1 DRV -\nBYPASS U9 3")),
     ("again", Plain(DRV)),
 ];

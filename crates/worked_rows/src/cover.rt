@@ -3,7 +3,7 @@ use run_bench::Text::{Edited, Numbered, Plain};
 use run_bench::{CHAIN, Ending, NETS, Named, RCV1, Row, RowFault, Rows, Run, Table, tables_hold};
 
 // A net that is not covered has its first reason.
-static REASONS: [Row; 4] = [
+const REASONS: [Row; 4] = [
     Row {
         texts: &[
             ("c", Plain("DEVICE U1 OCT -")),
@@ -51,7 +51,7 @@ static REASONS: [Row; 4] = [
 ];
 
 // A name of up to 24 bytes stands in its value, a longer one in memory of its own.
-static LONG_NAMES: [Row; 1] = [Row {
+const LONG_NAMES: [Row; 1] = [Row {
     texts: &[
         (
             "c",
@@ -78,7 +78,7 @@ static LONG_NAMES: [Row; 1] = [Row {
 const WITH_RAM: Named = ("n", Plain("NET N1 U1.1 U2.1 RAM.7\nNET N2 U1.2 U2.2"));
 
 // A part without a description darkens its nets.
-static DARKENED: [Row; 3] = [
+const DARKENED: [Row; 3] = [
     Row {
         texts: &[("c", Plain(CHAIN)), WITH_RAM],
         line: "cover c n drv rcv",
@@ -116,7 +116,7 @@ static DARKENED: [Row; 3] = [
 ];
 
 // Drivers and pairs that no safe setting tests are listed.
-static UNTESTED: [Row; 3] = [
+const UNTESTED: [Row; 3] = [
     Row {
         texts: &[
             (
@@ -163,7 +163,7 @@ const LINKED_NETS: Named = (
 );
 
 // A link joins two nets.
-static LINKS: [Row; 2] = [
+const LINKS: [Row; 2] = [
     Row {
         texts: &[
             ("c", Plain("DEVICE U1 DRV -\nDEVICE U2 RCV -\nLINK R1 1 2")),
@@ -180,7 +180,7 @@ static LINKS: [Row; 2] = [
 ];
 
 // A driver and a receiver are covered.
-static COVERED: [Row; 2] = [
+const COVERED: [Row; 2] = [
     Row {
         texts: &[("c", Plain(CHAIN)), ("n", Plain(NETS))],
         line: "cover c n drv rcv",
@@ -198,14 +198,14 @@ static COVERED: [Row; 2] = [
 ];
 
 // A three-state driver and a receiver whose text is changed.
-static BESIDE: [Named; 2] = [
+const BESIDE: [Named; 2] = [
     ("c", Plain("DEVICE U1 TS -\nDEVICE U2 RCV1 -\n")),
     ("n", Plain("NET N U1.1 U2.1")),
 ];
 
 const COVERED_LIST: Ending<'static> = Ending::Puts("NETS 1 COVERED 1\n");
 
-static OBSERVERS: [Run; 3] = [
+const OBSERVERS: [Run; 3] = [
     (Plain(RCV1), COVERED_LIST),
     (Edited(RCV1, &[("D, input", "D, clock")]), COVERED_LIST),
     (
@@ -214,13 +214,13 @@ static OBSERVERS: [Run; 3] = [
     ),
 ];
 
-static SUPPLIED: [Row; 1] = [Row {
+const SUPPLIED: [Row; 1] = [Row {
     texts: &[("c", Plain("DEVICE U1 TS -\nDEVICE U2 RCV1 -\nSUPPLY N"))],
     line: "cover c n ts rcv1",
     ending: Ending::Puts("NETS 1 COVERED 0\nNET N SUPPLY\n"),
 }];
 
-static COMPLIANT: [Run; 1] = [(
+const COMPLIANT: [Run; 1] = [(
     Edited(
         RCV1,
         &[(
@@ -231,7 +231,7 @@ static COMPLIANT: [Run; 1] = [(
     Ending::Puts("NETS 1 COVERED 0\nNET N TESTPORT\n"),
 )];
 
-static BESIDE_TWO_PINS: [Named; 2] = [
+const BESIDE_TWO_PINS: [Named; 2] = [
     ("c", Plain("DEVICE U1 TS -\nDEVICE U2 RCV1 -\n")),
     ("n", Plain("NET N U1.1 U2.1 U2.2")),
 ];
@@ -241,7 +241,7 @@ const DARK: Ending<'static> = Ending::Puts("NETS 1 COVERED 0\nNET N DARK\n");
 const TWO_PINS: (&str, &str) = ("D:1", "D:1, E:2");
 
 // A linkage pin, an input without an entry, and an output that is only read.
-static UNRULED: [Run; 3] = [
+const UNRULED: [Run; 3] = [
     (
         Edited(
             RCV1,

@@ -10,7 +10,7 @@ const DRV_LISTING: &str =
                            PORT TDO OUT T2\nPORT Q OUT 1 2\nCELL 0 OUTPUT2 Q(1) X\nCELL 1 OUTPUT2 Q(2) X\n";
 
 // What differs in the listing of the driver of 2001.
-static EDITION: [(&str, &str); 2] = [
+const EDITION: [(&str, &str); 2] = [
     ("ENTITY DRV", "ENTITY DRV1"),
     ("SAMPLE 10 IDCODE", "PRELOAD 00 EXTEST 01 IDCODE"),
 ];
@@ -18,12 +18,12 @@ static EDITION: [(&str, &str); 2] = [
 const DRV1_LISTING: Ending<'static> = Ending::PutsAll(Edited(DRV_LISTING, &EDITION));
 
 // Generics may follow ports, in any case.
-static EXCHANGED: [(&str, &str); 1] = [(
+const EXCHANGED: [(&str, &str); 1] = [(
     "generic (PHYSICAL_PIN_MAP : string := \"P\");\nport (TDI, TMS, TCK : in bit; TDO : out bit; Q : out bit_vector(1 to 2));\n",
     "port (tdi, tms, tck : in bit; tdo : out bit; q : out bit_vector(1 to 2));\ngeneric (physical_pin_map : string := \"p\");\n",
 )];
 
-static LISTED: [Run; 7] = [
+const LISTED: [Run; 7] = [
     (Plain(DRV), Ending::Puts(DRV_LISTING)),
     (Plain(BUF2), Ending::Puts(BUF2_LISTING)),
     (Plain(DRV1), DRV1_LISTING),
@@ -56,7 +56,7 @@ static LISTED: [Run; 7] = [
 
 const LAST: &str = "end DRV;\n";
 
-static OUTSIDE: [Change; 5] = [
+const OUTSIDE: [Change; 5] = [
     (
         "generic (PHYSICAL_PIN_MAP : string := \"P\");\n",
         "generic (PHYSICAL_PIN_MAP : string := \"P\");\ngeneric (PHYSICAL_PIN_MAP : string := \"P\");\n",
@@ -77,7 +77,7 @@ static OUTSIDE: [Change; 5] = [
 ];
 
 // Texts of which all or much is missing, or which are no entity.
-static PARTS: [Run; 6] = [
+const PARTS: [Run; 6] = [
     (
         Front(DRV, 10, ""),
         Ending::Refused("drv line 10: not in the grammar\n"),
@@ -114,7 +114,7 @@ static PARTS: [Run; 6] = [
     ),
 ];
 
-static ATTRIBUTES: [Change; 24] = [
+const ATTRIBUTES: [Change; 24] = [
     (
         "attribute PIN_MAP of DRV : entity is PHYSICAL_PIN_MAP;\n",
         "",
@@ -230,7 +230,7 @@ static ATTRIBUTES: [Change; 24] = [
     ),
 ];
 
-static STRINGS: [Change; 11] = [
+const STRINGS: [Change; 11] = [
     ("Q:(1,2)\"", "Q:(1,2\"", ": PIN_MAP_STRING entry 5"),
     ("TCK:T4, Q", "TCK:T4,, Q", ": PIN_MAP_STRING entry 5"),
     ("SAMPLE (10)", "SAMPLE (12)", ": INSTRUCTION_OPCODE entry 3"),
@@ -269,7 +269,7 @@ static STRINGS: [Change; 11] = [
     ("(1 to 2)", "(2 to 1)", ": rule V2 item 5"),
 ];
 
-static PORTS_AND_PINS: [Change; 21] = [
+const PORTS_AND_PINS: [Change; 21] = [
     (
         "Q : out bit_vector(1 to 2)",
         "TDI : out bit",
@@ -317,7 +317,7 @@ static PORTS_AND_PINS: [Change; 21] = [
     ("Q:(1,2)", "Q:(1,2), TDI:3", ": rule V4 item 6"),
 ];
 
-static INSTRUCTIONS: [Change; 12] = [
+const INSTRUCTIONS: [Change; 12] = [
     ("SAMPLE (10)", "SAMPLE (100)", ": rule V5 item 3"),
     (
         "SAMPLE (10)",
@@ -340,7 +340,7 @@ static INSTRUCTIONS: [Change; 12] = [
     ),
 ];
 
-static INSTRUCTIONS_OF_2001: [Change; 7] = [
+const INSTRUCTIONS_OF_2001: [Change; 7] = [
     ("PRELOAD (00)", "PRELOAD (11)", ": rule V6 item 1"),
     (
         "SAMPLE (10), PRELOAD (00)",
@@ -358,7 +358,7 @@ static INSTRUCTIONS_OF_2001: [Change; 7] = [
     ("BYPASS (11)", "BYPASS (01)", ": rule V6 item 3"),
 ];
 
-static CELLS: [Change; 16] = [
+const CELLS: [Change; 16] = [
     (
         "BOUNDARY_LENGTH of DRV : entity is 2",
         "BOUNDARY_LENGTH of DRV : entity is 3",
@@ -405,7 +405,7 @@ static CELLS: [Change; 16] = [
     ("Q(2), output2, X", "TDI, input, X", ": rule V14 item 2"),
 ];
 
-static CELLS_OF_A_RECEIVER: [Change; 2] = [
+const CELLS_OF_A_RECEIVER: [Change; 2] = [
     ("D(1), input, X", "D(1), output2, X", ": rule V14 item 1"),
     (
         "2;\nattribute BOUNDARY_REGISTER of RCV : entity is\n\"0 (BC_1, D(1), input, X),\" &\n\"1 (BC",
@@ -414,7 +414,7 @@ static CELLS_OF_A_RECEIVER: [Change; 2] = [
     ),
 ];
 
-static CELLS_OF_A_BIT: [Change; 1] = [("D, input, X", "D(0), input, X", ": rule V9 item 1")];
+const CELLS_OF_A_BIT: [Change; 1] = [("D, input, X", "D(0), input, X", ": rule V9 item 1")];
 
 static TABLES: [Table; 11] = [
     Table {

@@ -38,7 +38,7 @@ const SHORT: Text = Edited(
     ],
 );
 
-static CODES: [Row; 9] = [
+const CODES: [Row; 9] = [
     Row {
         texts: &[
             ("c", Plain("DEVICE U1 IDC -\nDEVICE U2 RCV -\n")),
@@ -139,7 +139,7 @@ fn push_field(text: &mut String, label: &str, digits: &str, end: &str) -> Result
     text.push_str(end)
 }
 
-static FIELDS: [(&str, &str, &str); 3] = [
+const FIELDS: [(&str, &str, &str); 3] = [
     ("TDI (", "00000000", ")\n"),
     ("TDO (", "01234007", ")\n"),
     ("MASK (", "0FFFFFFF", ");\n"),
@@ -153,7 +153,7 @@ fn longest_scan(alloc: Global) -> Result<String, AllocError> {
     Ok(text)
 }
 
-static LONGEST: [Named; 2] = [
+const LONGEST: [Named; 2] = [
     (
         "c",
         Numbered {

@@ -5,7 +5,7 @@ const TWO: Ending<'static> = Ending::Puts(
     "DEVICES 2 NETS 72 COVERED 72 PASSES 2 SCANS 19 BYTES 2373\n",
 );
 
-static SUMMARIES: [Line; 7] = [
+const SUMMARIES: [Line; 7] = [
     ("make 2", TWO),
     ("make 002", TWO),
     ("make 00000000000000000002", TWO),
@@ -28,7 +28,7 @@ static SUMMARIES: [Line; 7] = [
     ),
 ];
 
-static NUMBERS: [Line; 9] = [
+const NUMBERS: [Line; 9] = [
     ("make", Ending::Usage),
     ("make 0", Ending::Usage),
     ("make 256", Ending::Usage),
@@ -40,7 +40,7 @@ static NUMBERS: [Line; 9] = [
     ("make 99999999999999999999", Ending::Usage),
 ];
 
-static CUT: [(Trouble, Row); 1] = [(
+const CUT: [(Trouble, Row); 1] = [(
     Trouble::Out(9),
     Row {
         texts: &[],

@@ -95,7 +95,7 @@ CELL 76 BIDIR B(7) X 4 1
 // A scan of 4,620 bits has 1,155 digits in 19 lines, so an SDR has 1,190 bytes, and 3,551 where it compares; an SIR has 121. The head
 // has 59 bytes and the tail 13, and before the passes there are two SIRs and an SDR. Each of the 60 passes has one SDR that compares
 // nothing and eleven that do, since 1,928 codes want 11 bits. In the walking test each net has a row, and one SDR compares nothing.
-static LINES: [Line; 4] = [
+const LINES: [Line; 4] = [
     ("device gen", Ending::Puts(LISTING)),
     ("svf c n gen", Ending::Long(2_416_564)),
     ("walk c n gen", Ending::Long(6_849_022)),

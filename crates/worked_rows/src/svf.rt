@@ -4,7 +4,7 @@ use run_bench::{
     BI, CHAIN, Ending, NETS, RCV1, Row, RowFault, Rows, SCANS, TS, Table, Trouble, tables_hold,
 };
 
-static CODES: [Row; 5] = [
+const CODES: [Row; 5] = [
     Row {
         texts: &[],
         line: "svf c n drv rcv",
@@ -55,7 +55,7 @@ static CODES: [Row; 5] = [
 const BUS: &str = "DEVICE U1 TS -\nDEVICE U2 TS -\nDEVICE U3 RCV1 -";
 
 // The drivers of a net have their passes in the order of its pins, which need not be that of the parts.
-static BUSES: [Row; 2] = [
+const BUSES: [Row; 2] = [
     Row {
         texts: &[("c", Plain(BUS)), ("n", Plain("NET BUS U1.1 U2.1 U3.1"))],
         line: "svf c n ts rcv1",
@@ -76,7 +76,7 @@ static BUSES: [Row; 2] = [
     },
 ];
 
-static ALONE: [Row; 3] = [
+const ALONE: [Row; 3] = [
     Row {
         texts: &[
             ("c", Plain(CHAIN)),
@@ -113,7 +113,7 @@ static ALONE: [Row; 3] = [
     },
 ];
 
-static PULLED: [Row; 1] = [Row {
+const PULLED: [Row; 1] = [Row {
     texts: &[
         ("c", Plain("DEVICE U1 OD -\nDEVICE U2 RCV1 -\nPULL N 1")),
         ("n", Plain("NET N U1.1 U2.1")),
@@ -125,7 +125,7 @@ static PULLED: [Row; 1] = [Row {
     ),
 }];
 
-static LINKED: [Row; 2] = [
+const LINKED: [Row; 2] = [
     Row {
         texts: &[
             ("c", Plain("DEVICE U1 DRV -\nDEVICE U2 RCV -\nLINK R1 1 2")),
@@ -153,7 +153,7 @@ static LINKED: [Row; 2] = [
 
 // Passes that are made for two nets. On the first board those of A with D and of B with C, in this order. On the second one for A
 // with C: the driver of A is together with the first driver of C, so that is taken, though it is with the second one too.
-static TOGETHER: [Row; 2] = [
+const TOGETHER: [Row; 2] = [
     Row {
         texts: &[
             (
@@ -207,7 +207,7 @@ static TOGETHER: [Row; 2] = [
 ];
 
 // The first board enables the controls of cells 8 and 9, then 10 and 11, then 9 and 10; the second those of cell 4, then 5.
-static APART: [Row; 2] = [
+const APART: [Row; 2] = [
     Row {
         texts: &[
             (
@@ -254,7 +254,7 @@ static APART: [Row; 2] = [
     },
 ];
 
-static FAILING: [(Trouble, Row); 2] = [
+const FAILING: [(Trouble, Row); 2] = [
     // The chain file is too long, and the net file would fail.
     (
         Trouble::Read(2),
@@ -275,7 +275,7 @@ static FAILING: [(Trouble, Row); 2] = [
     ),
 ];
 
-static NOT_HELD: [Row; 1] = [Row {
+const NOT_HELD: [Row; 1] = [Row {
     texts: &[("c", Plain(CHAIN)), ("n", Plain(NETS))],
     line: "svf c n drv none",
     ending: Ending::NotRead("cannot read none\n"),
@@ -287,12 +287,12 @@ const THREE_CELLS: (&str, &str) = (
     "entity is 3;\nattribute BOUNDARY_REGISTER",
 );
 
-static INTERNAL: [(&str, &str); 2] = [
+const INTERNAL: [(&str, &str); 2] = [
     THREE_CELLS,
     ("control, 1)\"", "control, 1), 2 (BC_1, *, internal, 1)\""),
 ];
 
-static SAFE: [Row; 1] = [Row {
+const SAFE: [Row; 1] = [Row {
     texts: &[
         ("c", Plain("DEVICE U1 TS -\nDEVICE U2 RCV1 -")),
         ("n", Plain("NET N U1.1 U2.1")),
@@ -306,7 +306,7 @@ static SAFE: [Row; 1] = [Row {
 }];
 
 // The cell of a bidirectional pin reads while another part drives, and not while its own does.
-static BOTH_WAYS: [Row; 2] = [
+const BOTH_WAYS: [Row; 2] = [
     Row {
         texts: &[
             ("c", Plain("DEVICE U1 BI -\nDEVICE U2 RCV1 -")),
@@ -333,13 +333,13 @@ static BOTH_WAYS: [Row; 2] = [
     },
 ];
 
-static SELF_READING: [(&str, &str); 2] = [
+const SELF_READING: [(&str, &str); 2] = [
     THREE_CELLS,
     ("control, 1)\"", "control, 1), 2 (BC_1, Q, input, X)\""),
 ];
 
 // A cell of function CLOCK reads the net, one of function OBSERVE_ONLY does not, nor does an INPUT cell of an output.
-static READERS: [Row; 3] = [
+const READERS: [Row; 3] = [
     Row {
         texts: &[
             ("c", Plain("DEVICE U1 RCV1 -\nDEVICE U2 TS -")),
@@ -378,7 +378,7 @@ static READERS: [Row; 3] = [
 ];
 
 // Two devices of internal cells alone: a scan has at most 65,535 bits.
-static WIDE: [Row; 2] = [
+const WIDE: [Row; 2] = [
     Row {
         texts: &[
             ("c", Plain("DEVICE U1 A -\nDEVICE U2 B -")),
