@@ -15,6 +15,7 @@ import json
 import os
 import pathlib
 import random
+import shutil
 import subprocess
 import sys
 import tempfile
@@ -161,7 +162,7 @@ def notices(folder, path, text, program):
 
 def lay_out(folder):
     """A copy of tools, with what its tests read beside it."""
-    subprocess.run(['cp', '-r', ROOT / 'tools', folder], check=True)
+    shutil.copytree(ROOT / 'tools', folder / 'tools', ignore=shutil.ignore_patterns('.*_cache', '__pycache__'))
     for name in SEEN:
         os.symlink(ROOT / name, folder / name)
 
