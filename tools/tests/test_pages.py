@@ -262,6 +262,8 @@ class Pages(Folder):
             "<td>2211-0418</td><td><b>FAIL</b></td><td class=number>2</td><td>D0, D1</td>",
             "<td>2211-0417</td><td>PASS</td><td class=number>0</td>",
             'aria-label="1 of 3"',
+            '<td>passed</td><td><svg viewBox="0 0 202 14" role="img" aria-label="2 of 3">',
+            "<td>failed</td>",
         )
         self.assertNotIn("FAIL 1", text)
 
