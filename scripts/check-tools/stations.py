@@ -296,9 +296,9 @@ def no_answer(line):
 
 
 def is_colored(line):
-    """On a terminal, and there alone, the letters have a colour."""
+    """On a terminal, and there alone, the letters have a color."""
     line.test('good', 'plain')
-    assert '\033' not in line.test('good', 'plain').stdout, 'there is a colour'
+    assert '\033' not in line.test('good', 'plain').stdout, 'there is a color'
     ours, theirs = pty.openpty()
     words = list(map(str, line.command('test', line.folder, 'colored')))
     with subprocess.Popen(words, stdin=subprocess.DEVNULL, stdout=theirs, stderr=subprocess.DEVNULL) as process:
@@ -578,7 +578,7 @@ def check_bench(line):
     for scan in (1, 3, 12, 22):
         yield f'Ctrl-C in scan {scan}', lambda: stop(line, scan)
     yield 'a player that does not answer', lambda: no_answer(line)
-    yield 'the colour of the letters', lambda: is_colored(line)
+    yield 'the color of the letters', lambda: is_colored(line)
     yield 'the time of a board of 100 nets', lambda: hundred_nets(line)
     yield 'Ctrl-C at the question for a serial number', lambda: stop_at_prompt(line)
     yield 'a station that is killed', lambda: kill(line, 14)
