@@ -95,7 +95,8 @@ class CloseUp:
             pin for pin, _ in visible if pin in self._marked
         )
         return (
-            f'<svg viewBox="0 0 {WIDTH} {self._height:.0f}" role="group" aria-label="{escape(says)}" '
+            f'<svg viewBox="0 0 {WIDTH} {self._height:.0f}" role="group" '
+            f'aria-label="{escape(says)}" '
             f'font-family="sans-serif">{self._box()}<path d="{plain}" fill="#ddd" stroke="#999" '
             f'stroke-width="3"/>{"".join(marks)}<g font-size="{self._letter_size():.0f}" '
             f'text-anchor="middle" font-weight="bold" stroke="#fff" stroke-width="12" '
