@@ -267,7 +267,7 @@ const UNRULED: [Run; 3] = [
     ),
 ];
 
-static TABLES: [Table; 10] = [
+static REASON_TABLES: [Table; 3] = [
     Table {
         name: "a net that is not covered has its first reason",
         texts: &[],
@@ -283,6 +283,14 @@ static TABLES: [Table; 10] = [
         texts: &[],
         rows: Rows::Runs(&DARKENED),
     },
+];
+
+#[test]
+fn nets_that_are_not_covered_have_their_reasons(rt: HostRuntime) -> Result<(), RowFault> {
+    tables_hold(&rt, rt.alloc(), &REASON_TABLES)
+}
+
+static LIST_TABLES: [Table; 3] = [
     Table {
         name: "drivers and pairs that no safe setting tests are listed",
         texts: &[],
@@ -298,6 +306,14 @@ static TABLES: [Table; 10] = [
         texts: &[],
         rows: Rows::Runs(&COVERED),
     },
+];
+
+#[test]
+fn what_no_safe_setting_tests_is_listed(rt: HostRuntime) -> Result<(), RowFault> {
+    tables_hold(&rt, rt.alloc(), &LIST_TABLES)
+}
+
+static GUARD_TABLES: [Table; 2] = [
     Table {
         name: "a cell that only observes is no receiver",
         texts: &BESIDE,
@@ -308,6 +324,14 @@ static TABLES: [Table; 10] = [
         texts: &BESIDE,
         rows: Rows::Runs(&SUPPLIED),
     },
+];
+
+#[test]
+fn observers_and_supplies_are_no_readers(rt: HostRuntime) -> Result<(), RowFault> {
+    tables_hold(&rt, rt.alloc(), &GUARD_TABLES)
+}
+
+static DARK_TABLES: [Table; 2] = [
     Table {
         name: "compliance pins guard their nets",
         texts: &BESIDE,
@@ -321,6 +345,6 @@ static TABLES: [Table; 10] = [
 ];
 
 #[test]
-fn coverage_lists_are_as_they_should_be(rt: HostRuntime) -> Result<(), RowFault> {
-    tables_hold(&rt, rt.alloc(), &TABLES)
+fn compliance_pins_and_unruled_pins_end_coverage(rt: HostRuntime) -> Result<(), RowFault> {
+    tables_hold(&rt, rt.alloc(), &DARK_TABLES)
 }

@@ -416,7 +416,7 @@ const CELLS_OF_A_RECEIVER: [Change; 2] = [
 
 const CELLS_OF_A_BIT: [Change; 1] = [("D, input, X", "D(0), input, X", ": rule V9 item 1")];
 
-static TABLES: [Table; 11] = [
+static TEXTS: [Table; 3] = [
     Table {
         name: "a device is listed",
         texts: &[],
@@ -432,21 +432,47 @@ static TABLES: [Table; 11] = [
         texts: &[],
         rows: Rows::Texts("device drv", "drv", &PARTS),
     },
-    Table {
-        name: "each attribute is given as often as it should be",
-        texts: &[],
-        rows: Rows::Devices(DRV, &ATTRIBUTES),
-    },
-    Table {
-        name: "each string is in its grammar",
-        texts: &[],
-        rows: Rows::Devices(DRV, &STRINGS),
-    },
-    Table {
-        name: "ports and pins keep their rules",
-        texts: &[],
-        rows: Rows::Devices(DRV, &PORTS_AND_PINS),
-    },
+];
+
+#[test]
+fn texts_are_listed_or_refused(rt: HostRuntime) -> Result<(), RowFault> {
+    tables_hold(&rt, rt.alloc(), &TEXTS)
+}
+
+static ATTRIBUTE_TABLES: [Table; 1] = [Table {
+    name: "each attribute is given as often as it should be",
+    texts: &[],
+    rows: Rows::Devices(DRV, &ATTRIBUTES),
+}];
+
+#[test]
+fn attributes_are_given_as_often_as_they_should_be(rt: HostRuntime) -> Result<(), RowFault> {
+    tables_hold(&rt, rt.alloc(), &ATTRIBUTE_TABLES)
+}
+
+static STRING_TABLES: [Table; 1] = [Table {
+    name: "each string is in its grammar",
+    texts: &[],
+    rows: Rows::Devices(DRV, &STRINGS),
+}];
+
+#[test]
+fn strings_are_in_their_grammars(rt: HostRuntime) -> Result<(), RowFault> {
+    tables_hold(&rt, rt.alloc(), &STRING_TABLES)
+}
+
+static PORT_TABLES: [Table; 1] = [Table {
+    name: "ports and pins keep their rules",
+    texts: &[],
+    rows: Rows::Devices(DRV, &PORTS_AND_PINS),
+}];
+
+#[test]
+fn ports_and_pins_keep_their_rules(rt: HostRuntime) -> Result<(), RowFault> {
+    tables_hold(&rt, rt.alloc(), &PORT_TABLES)
+}
+
+static INSTRUCTION_TABLES: [Table; 2] = [
     Table {
         name: "instructions keep their rules",
         texts: &[],
@@ -457,6 +483,14 @@ static TABLES: [Table; 11] = [
         texts: &[],
         rows: Rows::Devices(DRV1, &INSTRUCTIONS_OF_2001),
     },
+];
+
+#[test]
+fn instructions_keep_their_rules(rt: HostRuntime) -> Result<(), RowFault> {
+    tables_hold(&rt, rt.alloc(), &INSTRUCTION_TABLES)
+}
+
+static CELL_TABLES: [Table; 3] = [
     Table {
         name: "cells keep their rules",
         texts: &[],
@@ -475,6 +509,6 @@ static TABLES: [Table; 11] = [
 ];
 
 #[test]
-fn devices_are_listed_or_refused(rt: HostRuntime) -> Result<(), RowFault> {
-    tables_hold(&rt, rt.alloc(), &TABLES)
+fn cells_keep_their_rules(rt: HostRuntime) -> Result<(), RowFault> {
+    tables_hold(&rt, rt.alloc(), &CELL_TABLES)
 }

@@ -401,7 +401,7 @@ const WIDE: [Row; 2] = [
     },
 ];
 
-static TABLES: [Table; 13] = [
+static CODE_TABLES: [Table; 3] = [
     Table {
         name: "the driver of each net shifts its code",
         texts: &[],
@@ -417,6 +417,14 @@ static TABLES: [Table; 13] = [
         texts: &[],
         rows: Rows::Runs(&ALONE),
     },
+];
+
+#[test]
+fn codes_are_shifted_pass_by_pass(rt: HostRuntime) -> Result<(), RowFault> {
+    tables_hold(&rt, rt.alloc(), &CODE_TABLES)
+}
+
+static NET_TABLES: [Table; 2] = [
     Table {
         name: "a pull gives the bit of a driver that is off",
         texts: &[],
@@ -427,6 +435,14 @@ static TABLES: [Table; 13] = [
         texts: &[],
         rows: Rows::Runs(&LINKED),
     },
+];
+
+#[test]
+fn pulls_and_links_are_tested(rt: HostRuntime) -> Result<(), RowFault> {
+    tables_hold(&rt, rt.alloc(), &NET_TABLES)
+}
+
+static PASS_TABLES: [Table; 2] = [
     Table {
         name: "two nets are observed by the first drivers that are together",
         texts: &[],
@@ -437,6 +453,14 @@ static TABLES: [Table; 13] = [
         texts: &[],
         rows: Rows::Runs(&APART),
     },
+];
+
+#[test]
+fn passes_observe_nets_together(rt: HostRuntime) -> Result<(), RowFault> {
+    tables_hold(&rt, rt.alloc(), &PASS_TABLES)
+}
+
+static END_TABLES: [Table; 3] = [
     Table {
         name: "a text that is too long, or is not read, ends the run",
         texts: &[],
@@ -452,6 +476,14 @@ static TABLES: [Table; 13] = [
         texts: &[],
         rows: Rows::Runs(&SAFE),
     },
+];
+
+#[test]
+fn runs_end_and_cells_are_safe(rt: HostRuntime) -> Result<(), RowFault> {
+    tables_hold(&rt, rt.alloc(), &END_TABLES)
+}
+
+static READER_TABLES: [Table; 3] = [
     Table {
         name: "a driver does not read itself",
         texts: &[],
@@ -470,6 +502,6 @@ static TABLES: [Table; 13] = [
 ];
 
 #[test]
-fn boards_are_tested_as_they_should_be(rt: HostRuntime) -> Result<(), RowFault> {
-    tables_hold(&rt, rt.alloc(), &TABLES)
+fn readers_are_compared_as_they_should_be(rt: HostRuntime) -> Result<(), RowFault> {
+    tables_hold(&rt, rt.alloc(), &READER_TABLES)
 }
