@@ -10,7 +10,7 @@ use std::alloc::{AllocError, Global};
 
 const HEAD: &[u8] = b"TRST OFF;\nENDIR IDLE;\nENDDR IDLE;\nSTATE RESET;\nSTATE IDLE;\n";
 
-// Whether a pattern has 32 symbols.
+// Returns whether a pattern has 32 symbols.
 fn is_whole(part: &Option<Code>) -> bool
     ensures { IsTrue result → IfSome part.now (λ code. length code ≡ 32) }
 {
@@ -20,7 +20,7 @@ fn is_whole(part: &Option<Code>) -> bool
     }
 }
 
-// Whether each pattern has 32 symbols.
+// Returns whether each pattern has 32 symbols.
 fn are_whole(parts: &[Option<Code>]) -> bool
     ensures { IsTrue result → All (λ part. IfSome part (λ code. length code ≡ 32)) parts.now }
 {

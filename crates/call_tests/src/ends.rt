@@ -20,7 +20,7 @@ static FETCHES: [Fetch; 5] = [
     (".", 3, Err(FetchFault::Failed), b""),
 ];
 
-// Whether the store gives this answer and these bytes.
+// Returns whether the store gives this answer and these bytes.
 fn gives(
     store: &mut impl Store,
     alloc: Global,
@@ -83,7 +83,7 @@ fn reads_a_file_in_many_chunks(rt: HostRuntime) -> Result<(), Missed> {
 // Bytes that are put, and the answer.
 type Put = (&'static [u8], Result<(), PutFault>);
 
-// Whether the sink answers so to these puts, one after the other.
+// Returns whether the sink gives the expected answers to these puts, in order.
 fn takes(sink: &mut impl Sink, puts: &[Put]) -> bool {
     for (bytes, answer) in puts {
         if sink.put(bytes) != *answer {
@@ -99,7 +99,7 @@ static WRITTEN: [Put; 3] = [(b"ab", Ok(())), (b"", Ok(())), (b"c", Ok(()))];
 
 static REFUSED: [Put; 1] = [(b"abc", Err(PutFault::Failed))];
 
-// Whether a file has this text while a sink over its writer, which took these puts, still stands.
+// Returns whether a file has this text after these puts, before the sink over its writer is dropped.
 fn shows<W: Write + Drop>(
     rt: &impl Files,
     alloc: Global,
@@ -139,7 +139,7 @@ static CUT: [Put; 3] = [
     (b"ghijklm", Err(PutFault::Failed)),
 ];
 
-// Whether a sink with room for eight bytes, whose second put fails after one byte, takes what it should.
+// Returns whether a sink with room for eight bytes, whose second put fails after one byte, takes what it should.
 fn is_cut(alloc: Global) -> Result<bool, AllocError> {
     let mut sink = MemSink::with_room(alloc, 8)?;
     sink.fail_at(2, 1)?;

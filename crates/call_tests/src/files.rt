@@ -51,7 +51,7 @@ fn nets_of(alloc: Global, text: &[u8]) -> Result<NetFile, LineFault> {
     }
 }
 
-// Whether the fault has this text.
+// Returns whether the fault has this text.
 fn is_told(alloc: Global, fault: &LineFault, wanted: &str) -> Result<bool, AllocError> {
     Ok(fault.to_string(alloc)?.as_str() == wanted)
 }
@@ -84,7 +84,7 @@ fn is_pin(pin: &PinWord) -> bool {
     pin.part.bytes() == b"u1".as_slice() && pin.pin.bytes() == b"A1.B".as_slice()
 }
 
-// Whether this is the file of the one line `NET n1 u1.a1.b`, which is the second of its text.
+// Returns whether the file has just the line `NET n1 u1.a1.b`, the second line of its text.
 fn is_in_upper_case(file: &NetFile) -> bool {
     match file.lines() {
         [line] => match line.pins.as_slice() {
@@ -129,7 +129,7 @@ fn show(shown: &mut Vec<u8>, joined: &Joined) -> Result<(), AllocError> {
     Ok(())
 }
 
-// What comes of a chain file and a net file that are joined: what the files show, or the line and the word of a pin that is missing.
+// The result of joining a chain file and a net file: what the files show, or the line and the word of a missing pin.
 #[derive(Clone, Copy)]
 enum Shown {
     Files(&'static [u8]),
@@ -287,7 +287,7 @@ const BSDL_ENDS: &[u8] = b"
 end GEN;
 ";
 
-// Whether the text has this beginning and this end.
+// Returns whether the text has this beginning and this end.
 fn is_between(text: &[u8], begin: &[u8], end: &[u8]) -> bool {
     text.starts_with(begin) && text.ends_with(end)
 }

@@ -55,7 +55,7 @@ static LOGS: [LogText; 20] = [
     (b"3FF\n4FF\n3FF", 1, 10, "line 2: row too many"),
 ];
 
-// What a text answers.
+// The answer to a text.
 fn log_answer(alloc: Global, text: &[u8], rows: u64, len: u32) -> Result<String, AllocError>
     requires { length text.now < 2 ^ 32 }
 {
@@ -88,7 +88,7 @@ fn shown(alloc: Global, blocks: &[Block]) -> Result<String, AllocError> {
     Ok(text)
 }
 
-// What a text answers that is read in so many pieces, or at once where there is none.
+// Reads a text in `pieces` pieces, or at once if `pieces` is 0, and returns the answer.
 fn answer_in<R: Threads + Sync>(
     rt: &R,
     alloc: Global,
@@ -109,7 +109,7 @@ fn answer_in<R: Threads + Sync>(
     }
 }
 
-// Whether a text answers so in pieces of several sizes, and at once.
+// Returns whether a text has this answer when it is read in several numbers of pieces, and at once.
 fn answers<R: Threads + Sync>(
     rt: &R,
     alloc: Global,

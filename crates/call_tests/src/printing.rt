@@ -64,7 +64,7 @@ fn print_nets<K: Sink>(line: &mut Line, out: &mut K) -> Result<(), PutFault> {
     end_line(line, out)
 }
 
-// Whether the pieces go out in one put, without what the line held before.
+// Returns whether the pieces go out in one put, without what the line held before.
 fn is_one_line(alloc: Global) -> Result<bool, AllocError> {
     let mut line = Line::new(alloc)?;
     line.push(b"dropped");

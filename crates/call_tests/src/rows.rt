@@ -53,7 +53,7 @@ fn prints_digits(rt: HostRuntime) -> Result<(), Missed> {
     Ok(())
 }
 
-// What is put to the end of a line.
+// A piece that is appended to a line.
 #[derive(Clone, Copy)]
 enum Piece {
     Words(&'static [u8]),
@@ -102,7 +102,7 @@ fn a_line_takes_words_digits_and_numbers(rt: HostRuntime) -> Result<(), Missed> 
 
 static BITS: [bool; 5] = [true, false, true, true, true];
 
-// Whether a row takes the bits of a list in place of its own, and another one takes them of it.
+// Returns whether a row takes the bits of a list in place of its own, and another row then takes them from it.
 fn is_copied(alloc: Global) -> Result<bool, AllocError> {
     let mut row = row_of(alloc, 300, &[0, 299])?;
     if row.len() == 300 {
@@ -139,7 +139,7 @@ static STACKED: [[u8; 2]; 16] = [
     [1, 3],
 ];
 
-// Whether a stack has these digits in one of its rows.
+// Returns whether a stack has these digits in row `number`.
 fn has_row(alloc: Global, stack: &RowStack, number: u32, digits: &[u8]) -> Result<bool, AllocError>
     requires { number < 16 }
 {
@@ -238,7 +238,7 @@ fn reads_digits(rt: HostRuntime) -> Result<(), Missed> {
     Ok(())
 }
 
-// Whether the row has this bit at this place.
+// Returns whether the row has this bit at this place.
 fn has_bit(row: &Row, place: u32, bit: bool) -> bool {
     place < row.len() && row.get(place) == bit
 }

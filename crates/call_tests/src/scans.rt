@@ -9,7 +9,7 @@ use std::alloc::{AllocError, Global};
 use svf_writer::{write_chain, write_head, write_scan, write_tail};
 use tap_defs::Shape;
 
-// Whether each is the length of an instruction register.
+// Returns whether each number is the length of an instruction register.
 fn are_lengths(lengths: &[u32]) -> bool
     ensures { IsTrue result → All IsInstructionLength lengths.now }
 {
@@ -197,7 +197,7 @@ fn put_lines(
     }
 }
 
-// Whether these bytes are taken and this is the answer, when a put, counted from 1, fails after four bytes.
+// Returns whether the sink takes these bytes and the answer is this one if a put, counted from 1, fails after four bytes.
 fn is_cut(
     alloc: Global,
     is_chain: bool,
