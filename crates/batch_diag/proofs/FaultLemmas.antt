@@ -7,7 +7,7 @@ use Rattle.text_lines.specs.Words.{Word, words_of, is_newline}
 use Rattle.bt_bits.specs.Hex.{digit_count, field_bits}
 use Rattle.response_log.specs.declared.fault.LogFault.{LogFault}
 use Rattle.response_log.specs.declared.fault.LogFault.TheVariants.{Digit, Length, Missing, Extra, Memory as LogMemory}
-use Rattle.response_log.specs.LogRows.{Answer as LogAnswer, NumberedLine, holds_word, only_word, bits_of_line, word_fault, row_fault, offences, wanted_rows, first_or, rows_of_lines, row_lines, log_rows, log_told}
+use Rattle.response_log.specs.LogRows.{Answer as LogAnswer, NumberedLine, holds_word, only_word, bits_of_line, word_fault, row_fault, offenses, wanted_rows, first_or, rows_of_lines, row_lines, log_rows, log_told}
 use Rattle.batch_diag.specs.Batch.{batch_told}
 use Rattle.batch_diag.specs.OwnTexts.{moved_fault}
 use Rattle.batch_diag.specs.inner.Cutting.{rows_from, in_block, moved_inner, IsUpTo}
@@ -62,19 +62,19 @@ word_moved before len n (Some word) later = by_test (length word == digit_count 
     by_test true false = refl
     by_test false field = refl
 
-faults_moved : (before rows len : ℕ) (answer : LogAnswer) (lines : List NumberedLine) → first_or (moved before answer) (offences rows len (map (moved_line before) lines)) ≡ moved before (first_or answer (offences rows len lines))
+faults_moved : (before rows len : ℕ) (answer : LogAnswer) (lines : List NumberedLine) → first_or (moved before answer) (offenses rows len (map (moved_line before) lines)) ≡ moved before (first_or answer (offenses rows len lines))
 faults_moved before zero len answer [] = refl
 faults_moved before zero len answer (line ∷ lines) = refl
 faults_moved before (suc rows) len answer [] = refl
 faults_moved before (suc rows) len answer (line ∷ lines) =
     first_front (moved before answer) (row_fault len (moved_line before line)) (filter_map (row_fault len) (take rows (map (moved_line before) lines))) (map (λ l. Extra l.number) (drop rows (map (moved_line before) lines)))
     ∙ ap (front (row_fault len (moved_line before line))) (faults_moved before rows len answer lines)
-    ∙ word_moved before len line.number (only_word line.words) (first_or answer (offences rows len lines))
+    ∙ word_moved before len line.number (only_word line.words) (first_or answer (offenses rows len lines))
     ∙ sym (ap (moved before) (first_front answer (row_fault len line) (filter_map (row_fault len) (take rows lines)) (map (λ l. Extra l.number) (drop rows lines))))
 
 lines_moved : (before rows len : ℕ) (lines : List NumberedLine) → rows_of_lines rows len (map (moved_line before) lines) ≡ moved before (rows_of_lines rows len lines)
 lines_moved before rows len lines =
-    ap (λ answer. first_or answer (offences rows len (map (moved_line before) lines))) (wanted_moved before rows len lines)
+    ap (λ answer. first_or answer (offenses rows len (map (moved_line before) lines))) (wanted_moved before rows len lines)
     ∙ faults_moved before rows len (wanted_rows rows len lines) lines
 
 -- a block's lines at their place say what they say by themselves
@@ -110,13 +110,13 @@ word_up_to last len n (Some word) later within below = by_test (length word == d
     by_test true false = within
     by_test false field = within
 
-faults_up_to : (last rows len : ℕ) (answer : LogAnswer) (lines : List NumberedLine) → UpTo last lines → SaysUpTo last answer → SaysUpTo last (first_or answer (offences rows len lines))
+faults_up_to : (last rows len : ℕ) (answer : LogAnswer) (lines : List NumberedLine) → UpTo last lines → SaysUpTo last answer → SaysUpTo last (first_or answer (offenses rows len lines))
 faults_up_to last zero len answer [] up_to own = own
 faults_up_to last zero len answer (line ∷ lines) up_to own = up_to.0
 faults_up_to last (suc rows) len answer [] up_to own = own
 faults_up_to last (suc rows) len answer (line ∷ lines) up_to own =
     subst (SaysUpTo last) (sym (first_front answer (row_fault len line) (filter_map (row_fault len) (take rows lines)) (map (λ l. Extra l.number) (drop rows lines))))
-    (word_up_to last len line.number (only_word line.words) (first_or answer (offences rows len lines)) up_to.0 (faults_up_to last rows len answer lines up_to.1 own))
+    (word_up_to last len line.number (only_word line.words) (first_or answer (offenses rows len lines)) up_to.0 (faults_up_to last rows len answer lines up_to.1 own))
 
 wanted_up_to : (last rows len : ℕ) (lines : List NumberedLine) → SaysUpTo last (wanted_rows rows len lines)
 wanted_up_to last rows len lines = by_test (nat_lt (length lines) rows)

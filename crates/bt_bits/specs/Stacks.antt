@@ -23,7 +23,7 @@ digit_in j word = word / 2 ^ (4 * j) % 16
 abbrev pub stacked : Stack → ℕ → List Bool
 stacked stack j = row_bits stack.len (map (digit_in j) stack.words)
 
--- there are as many words as 16 rows of this length have digits
+-- the words hold the digits of 16 rows of `len` bits each, and 0 above them
 abbrev pub AreStacked : ℕ → List ℕ → Type 0
 AreStacked len words = (j : ℕ) → j < 16 → AreDigitsOf (row_bits len (map (digit_in j) words)) len (map (digit_in j) words)
 

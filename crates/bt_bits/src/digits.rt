@@ -12,7 +12,7 @@ use crate::Line;
 // The value that marks a byte that is not a digit.
 const NO_VALUE: u8 = 16;
 
-// Returns the number of digits for `len` bits.
+// Returns the number of digits for `bits` bits.
 #[inline]
 pub fn digit_count(bits: usize) -> usize
     requires { bits < 2 ^ 63 }

@@ -2,7 +2,7 @@
 ghost use Rattle.std.specs.Prelude.{◌≡◌, ◌≢◌, ℕ, ◌+◌, ◌^◌, ◌<◌, ◌≤◌};
 ghost use Rattle.std.specs.Int.{bit_at};
 
-/// Within the width for `n` codes, each code from 1 to `n` has a 0 bit and a 1 bit, and two different codes differ in some bit.
+/// Where 2 to the power of `width` is at least `n + 2`, each code from 1 to `n` has a 0 bit and a 1 bit, and two different codes differ in some bit.
 pub fn codes_tell()
     ensures zero { (n width : ℕ) → n + 2 ≤ 2 ^ width → (c : ℕ) → 1 ≤ c → c ≤ n → (j : ℕ) × (j < width) × (bit_at c j ≡ 0) }
     ensures one { (n width : ℕ) → n + 2 ≤ 2 ^ width → (c : ℕ) → 1 ≤ c → c ≤ n → (j : ℕ) × (j < width) × (bit_at c j ≡ 1) }

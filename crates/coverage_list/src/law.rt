@@ -6,7 +6,7 @@ ghost use Rattle.coverage_list.specs.CoverList.{IsCoverList};
 
 use board_defs::law::terms_decided;
 
-/// The coverage list of a board says what is true of its nets, pins and pairs under all safe settings.
+/// Each class that the coverage list gives a net, a pin or a pair is the one that the safe settings of the board give it.
 pub fn lists_are_true()
     ensures { (board : RawBoard) → IsBoard board → IsCoverList board (cover_text board) }
 {

@@ -19,7 +19,8 @@ abbrev pub Fronts : {T A : Type 0} → Grammar T A → Grammar T Bool → ℕ �
 Fronts entry goes_on zero tokens = Unit {0}
 Fronts entry goes_on (suc n) tokens = Follows (production_of entry) (λ one mid. Follows (production_of goes_on) (λ more rest. (more ≡ true) × Fronts entry goes_on n rest) mid) tokens
 
--- The tokens are not a list, and the first entry that is not whole has this number.
+-- The tokens are not a list. The number counts the whole entries at their front, each of which is followed by a token that says that
+-- another one follows, and the entry after them.
 pub record GoesWrongAt {T A : Type 0} (entry : Grammar T A) (goes_on : Grammar T Bool) (number : ℕ) (tokens : List T) : Type 0 where
   pub no_value : (values : List A) → (production_of (list_of entry goes_on)).Whole tokens values → ⊥
   pub whole : ℕ

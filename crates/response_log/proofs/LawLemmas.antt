@@ -7,7 +7,7 @@ use Rattle.text_lines.specs.Words.{Word}
 use Rattle.bt_bits.specs.Hex.{digit_count, text_bits, cut_to, field_bits}
 use Rattle.response_log.specs.declared.fault.LogFault.{LogFault}
 use Rattle.response_log.specs.declared.fault.LogFault.TheVariants.{Digit, Length, Missing, Extra}
-use Rattle.response_log.specs.LogRows.{Answer, NumberedLine, only_word, bits_of_line, word_fault, row_fault, offences, first_or, wanted_rows, rows_of_lines, row_lines, log_rows, IsLogOf}
+use Rattle.response_log.specs.LogRows.{Answer, NumberedLine, only_word, bits_of_line, word_fault, row_fault, offenses, first_or, wanted_rows, rows_of_lines, row_lines, log_rows, IsLogOf}
 use Rattle.response_log.proofs.LineLemmas.{counted_all}
 
 field_right : (sized : Bool) (field : Option (List Bool)) (n : ℕ) (bits : List Bool) → cond sized field None ≡ Some bits → cond sized (cond (is_some (cond sized field None)) None (Some (Digit n))) (Some (Length n)) ≡ None
@@ -83,7 +83,7 @@ lines_within rows lines none =
 
 lines_of_log : (len rows : ℕ) (lines : List NumberedLine) (log : List (List Bool)) → rows_of_lines rows len lines ≡ Ok log → (map (bits_of_line len) lines ≡ map Some log) × (length log ≡ rows)
 lines_of_log len rows lines log is =
-    let said = no_fault_said (wanted_rows rows len lines) (offences rows len lines) log is in
+    let said = no_fault_said (wanted_rows rows len lines) (offenses rows len lines) log is in
     let faults = nothing_in (filter_map (row_fault len) (take rows lines)) (map (λ line. Extra line.number) (drop rows lines)) said.0 in
     let answer = counted_said (nat_lt (length lines) rows) (length lines) (filter_map (bits_of_line len) lines) log said.1 in
     let within : length lines ≤ rows = lines_within rows lines faults.1 in
@@ -97,7 +97,7 @@ log_of_lines : (len rows : ℕ) (lines : List NumberedLine) (log : List (List Bo
 log_of_lines len rows lines log is wanted =
     let are = are_rows len lines log is in
     let count : length lines ≡ length log = sym (length-map lines (bits_of_line len)) ∙ ap length is ∙ length-map log Some in
-    let none : offences rows len lines ≡ [] = ap (λ ls. filter_map (row_fault len) ls ++ map (λ line. Extra line.number) (drop rows lines)) (take_all rows lines (omega arith))
+    let none : offenses rows len lines ≡ [] = ap (λ ls. filter_map (row_fault len) ls ++ map (λ line. Extra line.number) (drop rows lines)) (take_all rows lines (omega arith))
     ∙ ap (λ ls. filter_map (row_fault len) lines ++ map (λ line. Extra line.number) ls) (drop_all rows lines (omega arith)) ∙ ap (λ faults. faults ++ []) are.right in
     ap (first_or (wanted_rows rows len lines)) none ∙ counted_all rows (length lines) (filter_map (bits_of_line len) lines) (omega arith) ∙ ap Ok are.rows
 

@@ -1,5 +1,5 @@
 pub mod KeptLemmas
 pub mod LineLemmas
 mod LawLemmas
-mod OffenceLemmas
+mod OffenseLemmas
 mod SampleTests

@@ -7,7 +7,7 @@ use Rattle.text_lines.specs.Words.{Word, words_of, is_newline, lines_of}
 use Rattle.text_lines.proofs.LineLemmas.{words_of_empty, text_left}
 use Rattle.response_log.specs.declared.fault.LogFault.{LogFault}
 use Rattle.response_log.specs.declared.fault.LogFault.TheVariants.{Digit, Length, Missing, Extra, Memory}
-use Rattle.response_log.specs.LogRows.{Answer, NumberedLine, line_of, log_told, numbered, holds_word, has_words, bits_of_line, row_fault, offences, first_or, wanted_rows, rows_of_lines}
+use Rattle.response_log.specs.LogRows.{Answer, NumberedLine, line_of, log_told, numbered, holds_word, has_words, bits_of_line, row_fault, offenses, first_or, wanted_rows, rows_of_lines}
 use Rattle.response_log.specs.Kept.{text_at}
 use Rattle.response_log.proofs.KeptLemmas.{put_behind}
 
@@ -17,7 +17,7 @@ counted rows found log = cond (nat_lt found rows) (Err (Missing found)) (Ok log)
 
 -- what lines say behind rows that were read
 abbrev pub rows_after : ℕ → ℕ → List (List Bool) → List NumberedLine → Answer
-rows_after rows len log lines = first_or (counted rows (length log + length lines) (log ++ filter_map (bits_of_line len) lines)) (offences (rows - length log) len lines)
+rows_after rows len log lines = first_or (counted rows (length log + length lines) (log ++ filter_map (bits_of_line len) lines)) (offenses (rows - length log) len lines)
 
 -- the lines with words that are left, the first line of which has this number
 abbrev pub lines_left : ℕ → Option (List ℕ) → List NumberedLine
@@ -27,8 +27,8 @@ pub rows_after-nil : (rows len : ℕ) (lines : List NumberedLine) → rows_of_li
 rows_after-nil rows len lines =
     let wanted : rows - 0 ≡ rows = omega arith in
     let count : 0 + length lines ≡ length lines = omega arith in
-    sym (ap (λ n. first_or (counted rows n (filter_map (bits_of_line len) lines)) (offences (rows - 0) len lines)) count
-    ∙ ap (λ n. first_or (wanted_rows rows len lines) (offences n len lines)) wanted)
+    sym (ap (λ n. first_or (counted rows n (filter_map (bits_of_line len) lines)) (offenses (rows - 0) len lines)) count
+    ∙ ap (λ n. first_or (wanted_rows rows len lines) (offenses n len lines)) wanted)
 
 -- a line without words
 pub left_blank : (n : ℕ) (left : Option (List ℕ)) (text line : List ℕ) (more : List (List ℕ)) → left ≡ Some text → slice_split is_newline text ≡ line ∷ more → words_of line ≡ [] → lines_left n left ≡ filter has_words (numbered (n + 1) more)
@@ -47,7 +47,7 @@ left_words n left text line more word behind is split some =
 pub after_extra : (rows len : ℕ) (log : List (List Bool)) (line : NumberedLine) (lines : List NumberedLine) → rows ≤ length log → rows_after rows len log (line ∷ lines) ≡ Err (Extra line.number)
 after_extra rows len log line lines full =
     let none : rows - length log ≡ 0 = omega arith in
-    ap (λ n. first_or (counted rows (length log + length (line ∷ lines)) (log ++ filter_map (bits_of_line len) (line ∷ lines))) (offences n len (line ∷ lines))) none
+    ap (λ n. first_or (counted rows (length log + length (line ∷ lines)) (log ++ filter_map (bits_of_line len) (line ∷ lines))) (offenses n len (line ∷ lines))) none
 
 -- a line that is to be a row
 after_wanted : (rows len : ℕ) (log : List (List Bool)) (line : NumberedLine) (lines : List NumberedLine) (fault : Option LogFault) → length log < rows → row_fault len line ≡ fault
@@ -55,7 +55,7 @@ after_wanted : (rows len : ℕ) (log : List (List Bool)) (line : NumberedLine) (
 after_wanted rows len log line lines fault wanted is =
     let answer = counted rows (length log + length (line ∷ lines)) (log ++ filter_map (bits_of_line len) (line ∷ lines)) in
     let more : rows - length log ≡ suc (rows - (length log + 1)) = omega arith in
-    ap (λ n. first_or (counted rows (length log + length (line ∷ lines)) (log ++ filter_map (bits_of_line len) (line ∷ lines))) (offences n len (line ∷ lines))) more
+    ap (λ n. first_or (counted rows (length log + length (line ∷ lines)) (log ++ filter_map (bits_of_line len) (line ∷ lines))) (offenses n len (line ∷ lines))) more
     ∙ ap (λ f. first_or (counted rows (length log + length (line ∷ lines)) (log ++ filter_map (bits_of_line len) (line ∷ lines))) (cons_option f (filter_map (row_fault len) (take (rows - (length log + 1)) lines)) ++ map (λ l. Extra l.number) (drop (rows - (length log + 1)) lines))) is
 
 pub after_fault : (rows len : ℕ) (log : List (List Bool)) (line : NumberedLine) (lines : List NumberedLine) (fault : LogFault) → length log < rows → row_fault len line ≡ Some fault → rows_after rows len log (line ∷ lines) ≡ Err fault
@@ -64,18 +64,18 @@ after_fault rows len log line lines fault wanted is =
 
 pub after_row : (rows len : ℕ) (log : List (List Bool)) (line : NumberedLine) (lines : List NumberedLine) (bits : List Bool) → length log < rows → row_fault len line ≡ None → bits_of_line len line ≡ Some bits → rows_after rows len log (line ∷ lines) ≡ rows_after rows len (log ++ bits ∷ []) lines
 after_row rows len log line lines bits wanted none is =
-    let faults = λ (n : ℕ). offences (rows - n) len lines in
+    let faults = λ (n : ℕ). offenses (rows - n) len lines in
     let count : length log + length (line ∷ lines) ≡ length (log ++ bits ∷ []) + length lines = omega (arith, length_push log bits) in
     let row : log ++ filter_map (bits_of_line len) (line ∷ lines) ≡ (log ++ bits ∷ []) ++ filter_map (bits_of_line len) lines = ap (λ o. log ++ cons_option o (filter_map (bits_of_line len) lines)) is ∙ sym (append_assoc log (bits ∷ []) (filter_map (bits_of_line len) lines)) in
     after_wanted rows len log line lines None wanted none
-    ∙ ap (λ n. first_or (counted rows n (log ++ filter_map (bits_of_line len) (line ∷ lines))) (offences (rows - (length log + 1)) len lines)) count
-    ∙ ap (λ all. first_or (counted rows (length (log ++ bits ∷ []) + length lines) all) (offences (rows - (length log + 1)) len lines)) row
-    ∙ sym (ap (λ n. first_or (counted rows (length (log ++ bits ∷ []) + length lines) ((log ++ bits ∷ []) ++ filter_map (bits_of_line len) lines)) (offences (rows - n) len lines)) (length_push log bits))
+    ∙ ap (λ n. first_or (counted rows n (log ++ filter_map (bits_of_line len) (line ∷ lines))) (offenses (rows - (length log + 1)) len lines)) count
+    ∙ ap (λ all. first_or (counted rows (length (log ++ bits ∷ []) + length lines) all) (offenses (rows - (length log + 1)) len lines)) row
+    ∙ sym (ap (λ n. first_or (counted rows (length (log ++ bits ∷ []) + length lines) ((log ++ bits ∷ []) ++ filter_map (bits_of_line len) lines)) (offenses (rows - n) len lines)) (length_push log bits))
 
 -- no line is left
-no_offences : (n len : ℕ) (answer : Answer) → first_or answer (offences n len []) ≡ answer
-no_offences zero len answer = refl
-no_offences (suc n) len answer = refl
+no_offenses : (n len : ℕ) (answer : Answer) → first_or answer (offenses n len []) ≡ answer
+no_offenses zero len answer = refl
+no_offenses (suc n) len answer = refl
 
 counted_few : (rows found : ℕ) (log : List (List Bool)) → found < rows → counted rows found log ≡ Err (Missing found)
 counted_few rows found log few = grind arith
@@ -86,12 +86,12 @@ counted_all rows found log all = grind arith
 pub after_few : (rows len : ℕ) (log : List (List Bool)) → length log < rows → rows_after rows len log [] ≡ Err (Missing (length log))
 after_few rows len log few =
     let count : length log + 0 ≡ length log = omega arith in
-    no_offences (rows - length log) len (counted rows (length log + 0) (log ++ []))
+    no_offenses (rows - length log) len (counted rows (length log + 0) (log ++ []))
     ∙ ap (λ n. counted rows n (log ++ [])) count ∙ counted_few rows (length log) (log ++ []) few
 
 pub after_all : (rows len : ℕ) (log : List (List Bool)) → rows ≤ length log → rows_after rows len log [] ≡ Ok log
 after_all rows len log all =
-    no_offences (rows - length log) len (counted rows (length log + 0) (log ++ []))
+    no_offenses (rows - length log) len (counted rows (length log + 0) (log ++ []))
     ∙ counted_all rows (length log + 0) (log ++ []) (omega arith) ∙ ap Ok (append-nil log)
 
 -- a line with words has bytes

@@ -1,3 +1,3 @@
 pub mod LogRows
 pub mod Kept
-pub mod FirstOffence
+pub mod FirstOffense

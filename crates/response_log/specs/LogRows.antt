@@ -46,20 +46,20 @@ word_fault len n None = Some (Length n)
 word_fault len n (Some word) =
     if length word == digit_count len then (if is_some (field_bits len word) then None else Some (Digit n)) else Some (Length n)
 
--- the offence of a line that must be a row of `len` bits, if it has one: it is not one word of as many digits as the bits need; otherwise a
+-- the offense of a line that must be a row of `len` bits, if it has one: it is not one word of as many digits as the bits need; otherwise a
 -- byte is not a digit, or a bit above the bits is 1
 abbrev pub row_fault : ℕ → NumberedLine → Option LogFault
 row_fault len line = word_fault len line.number (only_word line.words)
 
--- the offences of lines, in order, if `rows` rows are wanted: those of the first `rows` lines that are not rows, and every later line,
+-- the offenses of lines, in order, if `rows` rows are wanted: those of the first `rows` lines that are not rows, and every later line,
 -- whatever it holds
-abbrev pub offences : ℕ → ℕ → List NumberedLine → List LogFault
-offences rows len lines = filter_map (row_fault len) (take rows lines) ++ map (λ line. Extra line.number) (drop rows lines)
+abbrev pub offenses : ℕ → ℕ → List NumberedLine → List LogFault
+offenses rows len lines = filter_map (row_fault len) (take rows lines) ++ map (λ line. Extra line.number) (drop rows lines)
 
 abbrev pub Answer : Type 0
 Answer = Result (List (List Bool)) LogFault
 
--- the rows of lines without an offence, or that there are fewer than are wanted
+-- the rows of lines without an offense, or that there are fewer than are wanted
 abbrev pub wanted_rows : ℕ → ℕ → List NumberedLine → Answer
 wanted_rows rows len lines = if nat_lt (length lines) rows then Err (Missing (length lines)) else Ok (filter_map (bits_of_line len) lines)
 
@@ -67,9 +67,9 @@ abbrev pub first_or : Answer → List LogFault → Answer
 first_or answer [] = answer
 first_or answer (fault ∷ faults) = Err fault
 
--- the rows of lines, or their first offence
+-- the rows of lines, or their first offense
 abbrev pub rows_of_lines : ℕ → ℕ → List NumberedLine → Answer
-rows_of_lines rows len lines = first_or (wanted_rows rows len lines) (offences rows len lines)
+rows_of_lines rows len lines = first_or (wanted_rows rows len lines) (offenses rows len lines)
 
 -- the `rows` rows of a text with `len` bits each, or the reason why it is not such a log
 abbrev pub log_rows : List ℕ → ℕ → ℕ → Answer
@@ -85,7 +85,7 @@ abbrev pub log_told : LogFault → Option LogFault
 log_told (Memory e) = None
 log_told fault = Some fault
 
--- a log of `rows` rows with `len` bits each
+-- a log of `count` rows with `len` bits each
 pub record HasSize (count len : ℕ) (log : List (List Bool)) : Type 0 where
   pub rows : length log ≡ count
   pub bits : All (λ row. length row ≡ len) log

@@ -5,7 +5,7 @@ ghost use Rattle.response_log.specs.declared.fault.LogFault.TheVariants.{Memory}
 use std::alloc::AllocError;
 use thiserror::Error;
 
-/// The first line with an offence, or too few rows, or a refusal of memory. Lines are numbered from 1.
+/// The first line with an offense, or too few rows, or a refusal of memory. Lines are numbered from 1.
 #[derive(Debug, Drop, Error)]
 pub enum LogFault {
     /// A byte of the row is not a hexadecimal digit, or a bit above the bits of the row is 1.
@@ -14,7 +14,7 @@ pub enum LogFault {
     /// The row has more or fewer digits than its bits need, or the line has more than one word.
     #[error("line {0}: wrong length")]
     Length(u32),
-    /// No line has an offence, but there are only this many rows.
+    /// No line has an offense, but there are only this many rows.
     #[error("only {0} rows")]
     Missing(u64),
     /// The line of the first row too many, whatever it holds.

@@ -47,7 +47,7 @@ impl Model for Log {
 }
 
 impl Log {
-    // Returns the log of `count` rows of `len` bits each, with these digits.
+    // Returns the log of `rows` rows of `len` bits each, with these digits.
     pub(crate) fn of(digits: Vec<u8>, rows: u64, len: u32) -> Log
         requires count { length digits.items ≡ rows * digit_count len }
         requires whole { AreWhole len rows digits.items }

@@ -15,9 +15,9 @@ use bt_bits::{HexFault, read_digits};
 use std::alloc::Global;
 use text_lines::{first_line, next_word};
 
-/// Reads a log of `rows` rows with `len` bits each from any bytes. A refusal names the first line with an offence: `Length`, or
+/// Reads a log of `rows` rows with `len` bits each from any bytes. A refusal names the first line with an offense: `Length`, or
 /// otherwise `Digit`, if the line must be a row and is not; `Extra` if it has words and comes after the last row that is wanted.
-/// If no line has an offence and there are fewer rows, the answer is `Missing`. The log takes one byte of memory for each byte
+/// If no line has an offense and there are fewer rows, the answer is `Missing`. The log takes one byte of memory for each byte
 /// of the text.
 pub fn log(alloc: Global, bytes: &[u8], rows: u64, len: u32) -> Result<Log, LogFault>
     requires { length bytes.now < 2 ^ 32 }

@@ -9,7 +9,7 @@ piece_start items pieces number = number * items / pieces
 abbrev pub piece_of : ℕ → ℕ → ℕ → Piece
 piece_of items pieces number = record { number = number; first = piece_start items pieces number; end = piece_start items pieces (number + 1) }
 
--- the items `first..end`
+-- the items `from..to`
 abbrev pub items_between : {X : Type 0} → List X → ℕ → ℕ → List X
 items_between items from to = take (to - from) (drop from items)
 

@@ -25,7 +25,7 @@ ghost use Rattle.tap_defs.specs.board.TestRows.{TestRow, quiet_row, CodesTell, I
 ghost use Rattle.board_defs.specs.declared.device.RawDevice.{RawDevice};
 ghost use Rattle.tap_defs.specs.board.SingleBits.{single_bit};
 
-/// Within this width, each code from 1 to `n` has a 0 bit and a 1 bit, and each two of them differ in some bit.
+/// Where 2 to the power of `width` is at least `n + 2`, each code from 1 to `n` has a 0 bit and a 1 bit, and each two of them differ in some bit.
 pub fn codes_tell()
     ensures { (n width : ℕ) → n + 2 ≤ 2 ^ width → CodesTell n width }
 {}
@@ -73,7 +73,8 @@ pub fn singles_observable()
     ensures no_open_shorted { (single : Single) → NoOpenShorted (set_of single) }
 {}
 
-/// Faults explain a log in every run exactly if the log is what the cells capture with the rows in the latches.
+/// Clocks that scan the rows of a test and shift out a log pass on the faulty board exactly if the log is what the cells capture with the
+/// row before each in the latches.
 pub fn logs_captured()
     ensures { (board : RawBoard) (faults : FaultSet) (scans : List RowScan) (log : List (List Bool)) → IsBoard board → PassOnBoard board faults (test_clocks (scans_by_log (board_scans board scans) log)) ↔ CapturesPass board faults quiet_row scans (scans_by_log (map (scan_of_row board) scans) log) }
 {}
@@ -127,7 +128,7 @@ pub fn logs_by_rows()
 {}
 
 /// Faults without an open pin on a shorted net explain some log of a test, and any two logs that they explain agree wherever bits are compared.
-/// So each single fault of a board has one response.
+/// So the bits that a single fault answers where bits are compared are decided.
 pub fn one_log()
     ensures some { (board : RawBoard) (faults : FaultSet) (scans : List RowScan) → IsBoard board → IsFaultSet board faults → NoOpenShorted faults → AreInTurn board scans → (log : List (List Bool)) × ExplainedBy board faults scans log }
     ensures one { (board : RawBoard) (faults : FaultSet) (scans : List RowScan) (log other : List (List Bool)) → IsBoard board → AreInTurn board scans → ExplainedBy board faults scans log → ExplainedBy board faults scans other → AgreeOn board scans log other }

@@ -10,7 +10,8 @@ use Rattle.tap_defs.specs.chain.Run.{Clock, Wiring, PassesOn, FailsOn}
 use Rattle.tap_defs.specs.board.FaultSet.{FaultSet}
 use Rattle.tap_defs.specs.board.NetBits.{captured}
 
--- Test-Logic-Reset selects IDCODE where the device has it, else BYPASS (IEEE 1149.1-1990, section 6). What IDCODE shifts is not known
+-- Test-Logic-Reset selects IDCODE where the device declares an identification pattern, else BYPASS (IEEE 1149.1-1990, section 6). What
+-- IDCODE shifts is not known
 abbrev pub reset_by : {A : Type 0} → Option A → Instruction
 reset_by None = Bypass
 reset_by (Some code) = Other

@@ -18,7 +18,7 @@ AreRowsOf bits stored = AreBitsOf bits stored.tdi.bits stored.tdo.bits stored.ma
 abbrev pub HoldBits : List ScanBit → ScanRows → Type 0
 HoldBits bits rows = AreBitsOf bits rows.tdi.now.bits rows.tdo.now.bits rows.mask.now.bits
 
--- each of the three rows has this room
+-- the room of each of the three rows fits
 pub record EachHasRoom (Fits : ℕ → Type 0) (rows : ScanRows) : Type 0 where
   pub tdi : Fits rows.tdi.now.room
   pub tdo : Fits rows.tdo.now.room

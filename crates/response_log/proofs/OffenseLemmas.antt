@@ -1,4 +1,4 @@
--- What is told of a text that is no log is its first offence.
+-- What is told of a text that is no log is its first offense.
 use Rattle.std.proofs.Common.{◌≡◌, ℕ, ◌+◌, ◌<◌, ◌≤◌, ◌==◌, Bool, true, false, cond, Option, Some, None, is_some, option_and_then, Ok, Err, List, [], ◌∷◌, ◌++◌, length, refl, sym, ap, ◌∙◌, subst, arith, append_assoc, append-nil, inl, inr, ◌⊎◌}
 use Rattle.std.specs.Prelude.{All}
 use Rattle.std.proofs.lemmas.Bool.{cases_lt}
@@ -9,7 +9,7 @@ use Rattle.bt_bits.specs.Hex.{digit_count, text_bits, cut_to, field_bits}
 use Rattle.response_log.specs.declared.fault.LogFault.{LogFault}
 use Rattle.response_log.specs.declared.fault.LogFault.TheVariants.{Digit, Length, Missing, Extra, Memory}
 use Rattle.response_log.specs.LogRows.{Answer, NumberedLine, only_word, bits_of_line, word_fault, row_fault, rows_of_lines, row_lines, log_rows, IsLogOf}
-use Rattle.response_log.specs.FirstOffence.{IsRow, HasLength, StandsBehind, IsFirstOffence, FirstOffenceIsTold, HasOneOffence, OneOffenceOrLog}
+use Rattle.response_log.specs.FirstOffense.{IsRow, HasLength, StandsBehind, IsFirstOffense, FirstOffenseIsTold, HasOneOffense, OneOffenseOrLog}
 use Rattle.response_log.proofs.LawLemmas.{rows_are_lines}
 use Rattle.response_log.proofs.LineLemmas.{rows_after, rows_after-nil, after_extra, after_fault, after_row, after_few, after_all}
 
@@ -99,7 +99,7 @@ module _ (len : ℕ) (line : NumberedLine) where
 -- from what is told to the relation: behind lines that are rows
 module _ (rows len : ℕ) where
   abbrev IsFirst : List NumberedLine → LogFault → Type 0
-  IsFirst lines fault = IsFirstOffence rows len lines fault
+  IsFirst lines fault = IsFirstOffense rows len lines fault
 
   stands : (before : List NumberedLine) (line : NumberedLine) (later : List NumberedLine) (found : ℕ) → All (IsRow len) before → length before ≡ found → StandsBehind len (before ++ line ∷ later) line found
   stands before line later found are count = record { before = before; later = later; place = refl; rows = are; count = count }
@@ -190,22 +190,22 @@ module _ (rows len : ℕ) where
       rows_after-nil rows len lines ∙ ap (rows_after rows len []) (sym (append-nil lines)) ∙ p.says ∙ after_few rows len p.passed (omega (arith, passed, few)) ∙ ap (λ n. Err (Missing n)) passed
   from lines (Memory e) is = absurd is
 
-pub first_offence_is_told : FirstOffenceIsTold
-first_offence_is_told text rows len fault = (to rows len (row_lines text) fault, from rows len (row_lines text) fault)
+pub first_offense_is_told : FirstOffenseIsTold
+first_offense_is_told text rows len fault = (to rows len (row_lines text) fault, from rows len (row_lines text) fault)
 
-pub one_offence_or_log : OneOffenceOrLog
-one_offence_or_log text rows len = (no_log, offence (log_rows text rows len) refl)
+pub one_offense_or_log : OneOffenseOrLog
+one_offense_or_log text rows len = (no_log, offense (log_rows text rows len) refl)
   where
-    no_log : HasOneOffence text rows len → (log : List (List Bool)) → ¬ IsLogOf text rows len log
+    no_log : HasOneOffense text rows len → (log : List (List Bool)) → ¬ IsLogOf text rows len log
     no_log has log is =
-        let both : ◌≡◌ {A = Answer} (Ok log) (Err has.fault) = sym ((rows_are_lines text rows len log).1 is) ∙ (first_offence_is_told text rows len has.fault).1 has.is in
+        let both : ◌≡◌ {A = Answer} (Ok log) (Err has.fault) = sym ((rows_are_lines text rows len log).1 is) ∙ (first_offense_is_told text rows len has.fault).1 has.is in
         absurd cc
 
-    offence : (said : Answer) → log_rows text rows len ≡ said → ((log : List (List Bool)) → ¬ IsLogOf text rows len log) → HasOneOffence text rows len
-    offence (Ok log) is none = absurd (none log ((rows_are_lines text rows len log).0 is))
-    offence (Err fault) is none = record { fault = fault; is = (first_offence_is_told text rows len fault).0 is; one = one_of fault is }
+    offense : (said : Answer) → log_rows text rows len ≡ said → ((log : List (List Bool)) → ¬ IsLogOf text rows len log) → HasOneOffense text rows len
+    offense (Ok log) is none = absurd (none log ((rows_are_lines text rows len log).0 is))
+    offense (Err fault) is none = record { fault = fault; is = (first_offense_is_told text rows len fault).0 is; one = one_of fault is }
       where
-        one_of : (fault : LogFault) → log_rows text rows len ≡ Err fault → (other : LogFault) → IsFirstOffence rows len (row_lines text) other → other ≡ fault
+        one_of : (fault : LogFault) → log_rows text rows len ≡ Err fault → (other : LogFault) → IsFirstOffense rows len (row_lines text) other → other ≡ fault
         one_of fault is other first =
-            let both : ◌≡◌ {A = Answer} (Err other) (Err fault) = sym ((first_offence_is_told text rows len other).1 first) ∙ is in
+            let both : ◌≡◌ {A = Answer} (Err other) (Err fault) = sym ((first_offense_is_told text rows len other).1 first) ∙ is in
             cc

@@ -14,7 +14,7 @@ IsRow len line = (bits : List Bool) × (bits_of_line len line ≡ Some bits)
 abbrev pub HasLength : ℕ → NumberedLine → Type 0
 HasLength len line = (word : Word) × (line.words ≡ word ∷ []) × (length word ≡ digit_count len)
 
--- the line comes after `count` lines, each of which is a row
+-- the line comes after `found` lines, each of which is a row
 pub record StandsBehind (len : ℕ) (lines : List NumberedLine) (line : NumberedLine) (found : ℕ) : Type 0 where
   pub before : List NumberedLine
   pub later : List NumberedLine
@@ -25,23 +25,23 @@ pub record StandsBehind (len : ℕ) (lines : List NumberedLine) (line : Numbered
 -- The one fault of lines with words, of which `rows` must be rows of `len` bits: the first line that must be a row and is not, with a wrong
 -- length or otherwise with a wrong digit; or the first line after the last row that is wanted; or, if every line is a row, that there are too
 -- few
-abbrev pub IsFirstOffence : ℕ → ℕ → List NumberedLine → LogFault → Type 0
-IsFirstOffence rows len lines (Length n) = (line : NumberedLine) × (found : ℕ) × StandsBehind len lines line found × (found < rows) × (line.number ≡ n) × ¬ HasLength len line
-IsFirstOffence rows len lines (Digit n) = (line : NumberedLine) × (found : ℕ) × StandsBehind len lines line found × (found < rows) × (line.number ≡ n) × HasLength len line × ¬ IsRow len line
-IsFirstOffence rows len lines (Extra n) = (line : NumberedLine) × StandsBehind len lines line rows × (line.number ≡ n)
-IsFirstOffence rows len lines (Missing found) = All (IsRow len) lines × (length lines ≡ found) × (found < rows)
-IsFirstOffence rows len lines (Memory e) = ⊥
+abbrev pub IsFirstOffense : ℕ → ℕ → List NumberedLine → LogFault → Type 0
+IsFirstOffense rows len lines (Length n) = (line : NumberedLine) × (found : ℕ) × StandsBehind len lines line found × (found < rows) × (line.number ≡ n) × ¬ HasLength len line
+IsFirstOffense rows len lines (Digit n) = (line : NumberedLine) × (found : ℕ) × StandsBehind len lines line found × (found < rows) × (line.number ≡ n) × HasLength len line × ¬ IsRow len line
+IsFirstOffense rows len lines (Extra n) = (line : NumberedLine) × StandsBehind len lines line rows × (line.number ≡ n)
+IsFirstOffense rows len lines (Missing found) = All (IsRow len) lines × (length lines ≡ found) × (found < rows)
+IsFirstOffense rows len lines (Memory e) = ⊥
 
--- a fault is reported of a text exactly if it is the first offence
-abbrev pub FirstOffenceIsTold : Type 0
-FirstOffenceIsTold = (text : List ℕ) (rows len : ℕ) (fault : LogFault) → (log_rows text rows len ≡ Err fault) ↔ IsFirstOffence rows len (row_lines text) fault
+-- a fault is reported of a text exactly if it is the first offense
+abbrev pub FirstOffenseIsTold : Type 0
+FirstOffenseIsTold = (text : List ℕ) (rows len : ℕ) (fault : LogFault) → (log_rows text rows len ≡ Err fault) ↔ IsFirstOffense rows len (row_lines text) fault
 
--- a text has exactly one first offence
-pub record HasOneOffence (text : List ℕ) (rows len : ℕ) : Type 0 where
+-- a text has exactly one first offense
+pub record HasOneOffense (text : List ℕ) (rows len : ℕ) : Type 0 where
   pub fault : LogFault
-  pub is : IsFirstOffence rows len (row_lines text) fault
-  pub one : (other : LogFault) → IsFirstOffence rows len (row_lines text) other → other ≡ fault
+  pub is : IsFirstOffense rows len (row_lines text) fault
+  pub one : (other : LogFault) → IsFirstOffense rows len (row_lines text) other → other ≡ fault
 
 -- it has one exactly if it is not a log
-abbrev pub OneOffenceOrLog : Type 0
-OneOffenceOrLog = (text : List ℕ) (rows len : ℕ) → HasOneOffence text rows len ↔ ((log : List (List Bool)) → ¬ IsLogOf text rows len log)
+abbrev pub OneOffenseOrLog : Type 0
+OneOffenseOrLog = (text : List ℕ) (rows len : ℕ) → HasOneOffense text rows len ↔ ((log : List (List Bool)) → ¬ IsLogOf text rows len log)
