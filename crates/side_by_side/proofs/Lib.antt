@@ -1,3 +1,4 @@
 pub mod PieceLemmas
 pub mod RangeLemmas
+mod ShareLemmas
 mod SampleTests

@@ -14,10 +14,10 @@ start_rises : (items pieces p q : ℕ) → 0 < pieces → p ≤ q → piece_star
 start_rises items pieces p q some less = le-div (p * items / pieces) (q * items) pieces some (omega (arith, div-mul-le_self (p * items) pieces, times_less p q items less))
 
 -- the first piece begins with the first item, and behind the last piece there is none
-start_first : (items pieces : ℕ) → piece_start items pieces 0 ≡ 0
+pub start_first : (items pieces : ℕ) → piece_start items pieces 0 ≡ 0
 start_first items pieces = grind arith
 
-start_end : (items pieces : ℕ) → 0 < pieces → piece_start items pieces pieces ≡ items
+pub start_end : (items pieces : ℕ) → 0 < pieces → piece_start items pieces pieces ≡ items
 start_end items pieces some = grind (arith, mul-div_left)
 
 only_answer : {A : Type 0} (P : ℕ → A → Type 0) (answer : A) (number : ℕ) (none : A) → number < 1 → P 0 answer → P number (slice_index_or (answer ∷ []) number none)

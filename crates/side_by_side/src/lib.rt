@@ -1,6 +1,7 @@
 //! Work on many items, cut into pieces that run side by side.
 #![tactic(auto)]
 
+pub mod law;
 mod pieces;
 
 pub use pieces::{Piece, in_pieces};

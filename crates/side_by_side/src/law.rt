@@ -1,0 +1,15 @@
+//! How items are shared among pieces, as the contract of a function that does nothing: a caller knows the law after the call.
+ghost use Rattle.std.specs.Prelude.{◌≡◌, ℕ, ◌+◌, ◌-◌, ◌*◌, ◌<◌, ◌≤◌};
+ghost use Rattle.side_by_side.specs.Pieces.{piece_of};
+
+/// The pieces follow one another from the first item to the last, and the numbers of items of two pieces differ by at most one. The first
+/// item of a piece is the whole part of `number * items / pieces`.
+pub fn pieces_share()
+    ensures number { (items pieces number : ℕ) → (piece_of items pieces number).number ≡ number }
+    ensures first { (items pieces : ℕ) → (piece_of items pieces 0).first ≡ 0 }
+    ensures next { (items pieces number : ℕ) → (piece_of items pieces (number + 1)).first ≡ (piece_of items pieces number).end }
+    ensures last { (items before : ℕ) → (piece_of items (before + 1) before).end ≡ items }
+    ensures least { (items pieces number : ℕ) → (piece_of items pieces number).first * pieces ≤ number * items }
+    ensures most { (items pieces number : ℕ) → 0 < pieces → number * items < ((piece_of items pieces number).first + 1) * pieces }
+    ensures even { (items pieces one other : ℕ) → 0 < pieces → (piece_of items pieces one).end - (piece_of items pieces one).first ≤ (piece_of items pieces other).end - (piece_of items pieces other).first + 1 }
+{}
