@@ -6,45 +6,63 @@ use std::sync::atomic::Ordering::SeqCst;
 use std::sync::atomic::{AtomicBool, AtomicU64};
 use std::thread::Threads;
 
-// How often an entry looks for the other piece before it gives up.
+// How often an entry looks for the other pieces before it gives up.
 const TURNS: u32 = 100_000_000;
 
-// Holds each entry of one of two pieces until the other piece has made as many.
+// The most pieces that a gate watches. A command has at most as many workers.
+const PIECES: u64 = 64;
+
+// Returns a number of counters, all 0.
+fn counters(alloc: Global, count: u64) -> Result<Vec<AtomicU64>, AllocError> {
+    let mut counters = Vec::new(alloc);
+    for _ in 0..count {
+        counters.push(AtomicU64::new(0))?;
+    }
+    Ok(counters)
+}
+
+// Holds each of the first entries of each piece until all other pieces have made as many.
 #[derive(Drop)]
 struct InStep {
-    first: AtomicU64,
-    second: AtomicU64,
-    // Some entry was held in vain. From then on nobody is held.
+    entries: Vec<AtomicU64>,
+    held: u64,
+    // Some entry was held in vain. From then on none is held.
     late: AtomicBool,
 }
 
 impl InStep {
-    fn new() -> InStep {
-        InStep {
-            first: AtomicU64::new(0),
-            second: AtomicU64::new(0),
+    // Returns a gate for `pieces` pieces that holds the first `held` entries of each.
+    fn new(alloc: Global, pieces: u64, held: u64) -> Result<InStep, AllocError> {
+        Ok(InStep {
+            entries: counters(alloc, pieces)?,
+            held,
             late: AtomicBool::new(false),
-        }
+        })
     }
 
-    // Whether each piece made so many entries, and none was held in vain.
-    fn has_met(&self, entries: u64) -> bool {
-        !self.late.load(SeqCst)
-            && self.first.load(SeqCst) == entries
-            && self.second.load(SeqCst) == entries
+    // Returns whether each piece has made at least this many entries.
+    fn have_made(&self, entries: u64) -> bool {
+        self.entries.iter().all(|own| entries <= own.load(SeqCst))
+    }
+
+    // Returns whether each piece made the entries that are held, and none was held in vain.
+    fn has_met(&self) -> bool {
+        !self.late.load(SeqCst) && self.have_made(self.held)
     }
 }
 
 impl Gate for InStep {
     fn enter(&self, piece: u32, _item: u64) {
-        let (own, other) = if piece == 0 {
-            (&self.first, &self.second)
-        } else {
-            (&self.second, &self.first)
+        let Some(own) = self.entries.get(piece as usize) else {
+            self.late.store(true, SeqCst);
+            return;
         };
         let before = own.fetch_add(1, SeqCst);
+        if self.held <= before {
+            return;
+        }
         for _turn in 0..TURNS {
-            if before < other.load(SeqCst) || self.late.load(SeqCst) {
+            if self.have_made(before + 1) || self.late.load(SeqCst) {
                 return;
             }
         }
@@ -52,58 +70,72 @@ impl Gate for InStep {
     }
 }
 
-// The places of the faults of a driver and a receiver.
-const PLACES: u64 = 16;
+// The most entries of a piece that are recorded.
+const ENTRIES: u64 = 16;
 
-// Counts how often each of two pieces enters with each of these places.
+// A piece, and the item with which it entered.
+type Entry = (u64, u64);
+
+// Records the items with which each piece enters, in turn.
 #[derive(Drop)]
 struct Entries {
     counts: Vec<AtomicU64>,
+    // Entry `i` of piece `p` is in `p * ENTRIES + i`.
+    items: Vec<AtomicU64>,
     others: AtomicU64,
 }
 
 impl Entries {
     fn new(alloc: Global) -> Result<Entries, AllocError> {
-        let mut counts = Vec::new(alloc);
-        for _ in 0..2 * PLACES {
-            counts.push(AtomicU64::new(0))?;
-        }
         Ok(Entries {
-            counts,
+            counts: counters(alloc, PIECES)?,
+            items: counters(alloc, PIECES * ENTRIES)?,
             others: AtomicU64::new(0),
         })
     }
 
-    // Where the entries of a piece with a place are counted.
-    fn counter(&self, piece: u32, place: u64) -> &AtomicU64 {
-        if piece < 2 && place < PLACES {
-            let i = u64::from(piece) * PLACES + place;
-            self.counts.get(i as usize).unwrap_or(&self.others)
+    // Returns the number of entries of a piece.
+    fn count(&self, piece: u64) -> &AtomicU64 {
+        self.counts.get(piece as usize).unwrap_or(&self.others)
+    }
+
+    // Returns the item of entry `number` of a piece.
+    fn item(&self, piece: u64, number: u64) -> &AtomicU64 {
+        if piece < PIECES && number < ENTRIES {
+            let i = piece * ENTRIES + number;
+            self.items.get(i as usize).unwrap_or(&self.others)
         } else {
             &self.others
         }
     }
 
-    // Whether the pieces entered with these places, each once, and with no other.
-    fn are_of(&self, first: &[u64], second: &[u64]) -> bool {
-        for place in 0..PLACES {
-            if !self.is_counted(0, place, first) || !self.is_counted(1, place, second) {
-                return false;
+    // Returns all entries: piece by piece, and those of a piece in turn.
+    fn all(&self, alloc: Global) -> Result<Vec<Entry>, AllocError> {
+        let mut all = Vec::new(alloc);
+        for piece in 0..PIECES {
+            for number in 0..self.count(piece).load(SeqCst) {
+                all.push((piece, self.item(piece, number).load(SeqCst)))?;
             }
         }
-        self.others.load(SeqCst) == 0
+        Ok(all)
     }
 
-    // Whether a piece entered with a place once where it is among these, and else never.
-    fn is_counted(&self, piece: u32, place: u64, places: &[u64]) -> bool {
-        let entries = u64::from(places.contains(&place));
-        self.counter(piece, place).load(SeqCst) == entries
+    // Returns whether these are all entries: the items in turn, each by the piece at its place in `pieces`.
+    fn are_of(&self, alloc: Global, pieces: &[u64], items: &[u64]) -> Result<bool, AllocError> {
+        let all = self.all(alloc)?;
+        let are_equal = all.len() == items.len()
+            && all.iter().zip(pieces.iter().zip(items)).all(|(entry, (piece, item))| entry.0
+                == *piece
+                && entry.1 == *item);
+        Ok(are_equal && self.others.load(SeqCst) == 0)
     }
 }
 
 impl Gate for Entries {
     fn enter(&self, piece: u32, item: u64) {
-        self.counter(piece, item).fetch_add(1, SeqCst);
+        let piece = u64::from(piece);
+        let number = self.count(piece).fetch_add(1, SeqCst);
+        self.item(piece, number).store(item, SeqCst);
     }
 }
 
@@ -114,76 +146,159 @@ fn bench_of(alloc: Global, log: &str) -> Result<Bench, AllocError> {
     Ok(bench)
 }
 
-const LINE: &str = "diagnose 2 g c n drv rcv";
-
 // A log in which one of the two nets stays at 0.
 const STUCK: &str = "0\n2\n";
 
 const STUCK_TEXT: &str = "FAIL 3\nstuck N1 0\nopen U1.1 0\nopen U2.1 0\n";
 
-// A line, a log, the text that is put, and how often each of the two pieces enters.
-type Step = (&'static str, &'static str, &'static str, u64);
+const TWO_BOARDS: &str = "BOARD A\n1\n2\nBOARD B\n0\n2\n";
 
-// The pieces try their candidates in step, or take their blocks.
-const STEPS: [Step; 2] = [
-    (LINE, STUCK, STUCK_TEXT, 5),
-    (
-        "batch 2 g c n drv rcv",
-        "BOARD A\n1\n2\nBOARD B\n0\n2\n",
-        "BOARD A\nPASS\nBOARD B\nFAIL 3\nstuck N1 0\nopen U1.1 0\nopen U2.1 0\n",
-        1,
-    ),
+const TWO_VERDICTS: &str = "BOARD A\nPASS\nBOARD B\nFAIL 3\nstuck N1 0\nopen U1.1 0\nopen U2.1 0\n";
+
+// A line, the number of its workers, a log, the text that is written, and the number of entries of each piece that are held.
+type Step = (&'static str, u64, &'static str, &'static str, u64);
+
+// The pieces try their candidates or take their boards in step: each holds until all others are at work too.
+const STEPS: [Step; 4] = [
+    ("diagnose 2 g c n drv rcv", 2, STUCK, STUCK_TEXT, 5),
+    ("batch 2 g c n drv rcv", 2, TWO_BOARDS, TWO_VERDICTS, 1),
+    ("diagnose 3 g c n drv rcv", 3, STUCK, STUCK_TEXT, 3),
+    ("batch 7 g c n drv rcv", 7, TEN_BOARDS, TEN_VERDICTS, 1),
 ];
 
 fn is_in_step(
     rt: &(impl Threads + Sync),
     alloc: Global,
     row: usize,
-    (line, log, text, entries): &Step,
+    (line, pieces, log, text, held): &Step,
 ) -> Result<(), RowFault> {
     let mut bench = bench_of(alloc, log)?;
-    let gate = InStep::new();
+    let gate = InStep::new(alloc, *pieces, *held)?;
     let status = bench.run_watched(rt, line, &gate)?;
     bench.expect("in step", row, status, Ending::Puts(text))?;
-    expect("in step", row, gate.has_met(*entries))
+    expect("in step", row, gate.has_met())
 }
 
 #[test]
-fn two_pieces_work_in_step(rt: HostRuntime) -> Result<(), RowFault> {
+fn pieces_work_in_step(rt: HostRuntime) -> Result<(), RowFault> {
     for (row, step) in STEPS.iter().enumerate() {
         is_in_step(&rt, rt.alloc(), row, step)?;
     }
     Ok(())
 }
 
-// A log, the text that is put, and the places with which each of the two pieces enters.
-type Try = (&'static str, &'static str, &'static [u64], &'static [u64]);
+const TEN_BOARDS: &str =
+    "BOARD A\n1\n2\nBOARD B\n1\n2\nBOARD C\n1\n2\nBOARD D\n1\n2\nBOARD E\n1\n2\nBOARD F\n1\n2\nBOARD G\n1\n2\nBOARD H\n1\n2\nBOARD I\n1\n2\nBOARD J\n1\n2\n";
 
-// The stuck net, its two pins, and the shorts of its one pair are tried; of a log that passes nothing; and where two nets differ their
-// shorts.
-const TRIES: [Try; 3] = [
-    (STUCK, STUCK_TEXT, &[0, 1, 4, 5, 6], &[7, 12, 13, 14, 15]),
-    ("1\n2\n", "PASS\n", &[], &[]),
-    ("0\n0\n", "FAIL 1\nshort AND N1 N2\n", &[12, 13], &[14, 15]),
+const TEN_VERDICTS: &str =
+    "BOARD A\nPASS\nBOARD B\nPASS\nBOARD C\nPASS\nBOARD D\nPASS\nBOARD E\nPASS\nBOARD F\nPASS\nBOARD G\nPASS\nBOARD H\nPASS\nBOARD I\nPASS\nBOARD J\nPASS\n";
+
+// The candidates of the stuck net: the net itself, its two pins, and the shorts of its one pair.
+const CANDIDATES: [u64; 10] = [0, 1, 4, 5, 6, 7, 12, 13, 14, 15];
+
+const NUMBERS: [u64; 10] = [0, 1, 2, 3, 4, 5, 6, 7, 8, 9];
+
+// The number of workers as a word, and the piece that each of ten items belongs to.
+type Share = (&'static str, [u64; 10]);
+
+// Piece `p` of `w` has the items from the whole part of `10 p / w` to that of `10 (p + 1) / w`, without the latter.
+const SHARES: [Share; 5] = [
+    ("1", [0, 0, 0, 0, 0, 0, 0, 0, 0, 0]),
+    ("2", [0, 0, 0, 0, 0, 1, 1, 1, 1, 1]),
+    ("3", [0, 0, 0, 1, 1, 1, 2, 2, 2, 2]),
+    ("7", [0, 1, 2, 2, 3, 4, 4, 5, 6, 6]),
+    ("64", [6, 12, 19, 25, 31, 38, 44, 51, 57, 63]),
 ];
 
-fn are_tried_once(
+// A command with a number of workers, its log, the text that is written, and the items with which the pieces enter.
+#[derive(Drop)]
+struct Shared {
+    command: &'static str,
+    workers: &'static str,
+    log: &'static str,
+    text: &'static str,
+    pieces: &'static [u64],
+    items: &'static [u64],
+}
+
+// Runs the command, and compares which piece entered with which item.
+fn is_shared(
     rt: &(impl Threads + Sync),
     alloc: Global,
     row: usize,
-    (log, text, first, second): &Try,
+    shared: &Shared,
 ) -> Result<(), RowFault> {
-    let mut bench = bench_of(alloc, log)?;
+    let mut bench = bench_of(alloc, shared.log)?;
+    let mut line = String::new(alloc);
+    write!(line, "{} {} g c n drv rcv", shared.command, shared.workers)?;
     let gate = Entries::new(alloc)?;
-    let status = bench.run_watched(rt, LINE, &gate)?;
-    bench.expect("candidates", row, status, Ending::Puts(text))?;
-    expect("candidates", row, gate.are_of(first, second))
+    let status = bench.run_watched(rt, &line, &gate)?;
+    bench.expect(shared.command, row, status, Ending::Puts(shared.text))?;
+    expect(
+        shared.command,
+        row,
+        gate.are_of(alloc, shared.pieces, shared.items)?,
+    )
 }
 
 #[test]
-fn each_candidate_is_tried_once(rt: HostRuntime) -> Result<(), RowFault> {
-    for (row, tries) in TRIES.iter().enumerate() {
-        are_tried_once(&rt, rt.alloc(), row, tries)?;
+fn candidates_are_shared(rt: HostRuntime) -> Result<(), RowFault> {
+    for (row, (workers, pieces)) in SHARES.iter().enumerate() {
+        let shared = Shared {
+            command: "diagnose",
+            workers,
+            log: STUCK,
+            text: STUCK_TEXT,
+            pieces,
+            items: &CANDIDATES,
+        };
+        is_shared(&rt, rt.alloc(), row, &shared)?;
+    }
+    Ok(())
+}
+
+#[test]
+fn boards_are_shared(rt: HostRuntime) -> Result<(), RowFault> {
+    for (row, (workers, pieces)) in SHARES.iter().enumerate() {
+        let shared = Shared {
+            command: "batch",
+            workers,
+            log: TEN_BOARDS,
+            text: TEN_VERDICTS,
+            pieces,
+            items: &NUMBERS,
+        };
+        is_shared(&rt, rt.alloc(), row, &shared)?;
+    }
+    Ok(())
+}
+
+// A log, the text that is written, the items with which the pieces of two workers enter, and the pieces.
+type Try = (&'static str, &'static str, &'static [u64], &'static [u64]);
+
+// Of a log that passes, no candidate is tried, and of one in which two nets differ their shorts alone.
+const TRIES: [Try; 2] = [
+    ("1\n2\n", "PASS\n", &[], &[]),
+    (
+        "0\n0\n",
+        "FAIL 1\nshort AND N1 N2\n",
+        &[12, 13, 14, 15],
+        &[0, 0, 1, 1],
+    ),
+];
+
+#[test]
+fn few_candidates_are_tried(rt: HostRuntime) -> Result<(), RowFault> {
+    for (row, (log, text, items, pieces)) in TRIES.iter().enumerate() {
+        let shared = Shared {
+            command: "diagnose",
+            workers: "2",
+            log,
+            text,
+            pieces,
+            items,
+        };
+        is_shared(&rt, rt.alloc(), row, &shared)?;
     }
     Ok(())
 }
