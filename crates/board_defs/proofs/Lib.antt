@@ -14,6 +14,7 @@ pub mod Members
 pub mod PassSettings
 pub mod PassesKept
 pub mod PassesReach
+mod PassesDiffer
 pub mod SingleFaults
 mod Checks
 mod DeviceChecks

@@ -1,6 +1,10 @@
 //! Laws of boards: each function does nothing, and its contract is the law. A function calls one
 //! to have the law in its proof.
+ghost use Rattle.std.specs.Prelude.{◌≡◌, ℕ, ◌<◌, List, Some, slice_get};
+ghost use Rattle.board_defs.specs.declared.board.Ctl.{Ctl};
+ghost use Rattle.board_defs.specs.declared.board.RawBoard.{RawBoard};
 ghost use Rattle.board_defs.specs.Laws.{SafeByPairs, TermsDecided, PassesKept, SinglesListed};
+ghost use Rattle.board_defs.specs.Passes.{ArePasses};
 
 /// A setting is safe exactly where each of its controls alone and every two of them are.
 pub fn safe_by_pairs()
@@ -23,4 +27,9 @@ pub fn passes_kept()
 /// paired nets, each once and in order.
 pub fn singles_listed()
     ensures { SinglesListed }
+{}
+
+/// No two passes of a board are the same, since each does something that no earlier one does.
+pub fn passes_differ()
+    ensures { (board : RawBoard) (passes : List (List Ctl)) (x y : ℕ) (pass : List Ctl) → ArePasses board passes → x < y → slice_get passes x ≡ Some pass → slice_get passes y ≡ Some pass → ⊥ }
 {}
