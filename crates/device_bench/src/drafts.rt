@@ -61,11 +61,31 @@ pub enum Change {
 /// Tries each change: the rule that it breaks and the item, or zeros where it breaks none.
 pub fn rules_hold(alloc: Global, cases: &[(Change, (u32, u32))]) -> Result<(), CaseFault> {
     for (case, (change, (rule, item))) in cases.iter().enumerate() {
-        let found = broken(alloc, &changed(&[*change]))?;
-        if found.0 != *rule || found.1 != *item {
-            let found = format!(in alloc; "V{} item {}", found.0, found.1)?;
-            return Err(CaseFault::Ended { case, found });
-        }
+        expect_rule(alloc, case, &changed(&[*change]), *rule, *item)?;
+    }
+    Ok(())
+}
+
+/// Tries two changes at a time: the rule that is named and the item.
+pub fn orders_hold(alloc: Global, cases: &[([Change; 2], (u32, u32))]) -> Result<(), CaseFault> {
+    for (case, (changes, (rule, item))) in cases.iter().enumerate() {
+        expect_rule(alloc, case, &changed(changes), *rule, *item)?;
+    }
+    Ok(())
+}
+
+// Compares the rule that texts break, and its item, with those of a case.
+fn expect_rule(
+    alloc: Global,
+    case: usize,
+    texts: &Texts,
+    rule: u32,
+    item: u32,
+) -> Result<(), CaseFault> {
+    let found = broken(alloc, texts)?;
+    if found.0 != rule || found.1 != item {
+        let found = format!(in alloc; "V{} item {}", found.0, found.1)?;
+        return Err(CaseFault::Ended { case, found });
     }
     Ok(())
 }

@@ -14,7 +14,7 @@ mod strings;
 
 pub use case::CaseFault;
 pub use devices::{devices_hold, packages_hold};
-pub use drafts::{Change, draft_holds, rules_hold};
+pub use drafts::{Change, draft_holds, orders_hold, rules_hold};
 pub use lexing::{lexings_hold, tokens_hold};
 pub use listing::{cuts_hold, listing_ends, listings_hold};
 pub use parsing::{Reading, entities_hold, readings_hold};

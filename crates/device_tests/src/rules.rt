@@ -1,5 +1,5 @@
 //! What texts say of a device, with one broken rule at a time, and the device that a draft describes.
-use device_bench::{CaseFault, Change, draft_holds, rules_hold};
+use device_bench::{CaseFault, Change, draft_holds, orders_hold, rules_hold};
 
 static PORTS_AND_PINS: [(Change, (u32, u32)); 20] = [
     (Change::None, (0, 0)),
@@ -132,6 +132,138 @@ static ENTRIES: [(Change, (u32, u32)); 16] = [
 #[test]
 fn boundary_entries(rt: HostRuntime) -> Result<(), CaseFault> {
     rules_hold(rt.alloc(), &ENTRIES)
+}
+
+// Two rules that follow each other are broken, or two items of one rule: the first one is named.
+static PORT_ORDER: [([Change; 2], (u32, u32)); 7] = [
+    ([Change::Range(2, 1, true), Change::ScanOut("Q")], (2, 5)),
+    ([Change::ScanOut("Q"), Change::Clock("TDI")], (3, 3)),
+    ([Change::Clock("TDI"), Change::Reset("TMS")], (3, 5)),
+    (
+        [Change::Reset("TMS"), Change::Compliance("(Q) (1)")],
+        (3, 11),
+    ),
+    ([Change::Compliance("(Q) (1)"), Change::Map("Q:1")], (3, 13)),
+    (
+        [Change::Map("Q:1"), Change::Opcodes("SAMPLE (100)")],
+        (4, 1),
+    ),
+    ([Change::Map("Q:1, R:T2"), Change::None], (4, 1)),
+];
+
+#[test]
+fn ports_come_before_pins(rt: HostRuntime) -> Result<(), CaseFault> {
+    orders_hold(rt.alloc(), &PORT_ORDER)
+}
+
+static INSTRUCTION_ORDER: [([Change; 2], (u32, u32)); 8] = [
+    (
+        [
+            Change::Opcodes("EXTEST (01), EXTEST (00), SAMPLE (11)"),
+            Change::None,
+        ],
+        (5, 2),
+    ),
+    (
+        [Change::Opcodes("SAMPLE (11), EXTEST (01)"), Change::None],
+        (6, 1),
+    ),
+    (
+        [
+            Change::Opcodes("SAMPLE (10), EXTEST (01), BYPASS (10)"),
+            Change::None,
+        ],
+        (6, 2),
+    ),
+    (
+        [
+            Change::Of2001("PRELOAD (11), EXTEST (11), BYPASS (00)"),
+            Change::None,
+        ],
+        (6, 1),
+    ),
+    (
+        [Change::Opcodes("EXTEST (00)"), Change::Capture("10")],
+        (6, 1),
+    ),
+    (
+        [
+            Change::Opcodes("SAMPLE (10), BYPASS (10)"),
+            Change::Capture("10"),
+        ],
+        (6, 3),
+    ),
+    ([Change::Capture("10"), Change::Idcode("01")], (7, 1)),
+    (
+        [
+            Change::Idcode("01"),
+            Change::Entries(1, "7 (B, Q(1), output2, X)"),
+        ],
+        (7, 2),
+    ),
+];
+
+#[test]
+fn instructions_come_before_entries(rt: HostRuntime) -> Result<(), CaseFault> {
+    orders_hold(rt.alloc(), &INSTRUCTION_ORDER)
+}
+
+static ENTRY_ORDER: [(Change, (u32, u32)); 9] = [
+    // a number that is too large, before one that is missing
+    (
+        Change::Entries(2, "1 (B, Q(1), output2, X), 5 (B, Q(2), output2, X)"),
+        (8, 5),
+    ),
+    (
+        Change::Entries(3, "0 (B, *, output2, X), 1 (B, Q(1), output2, X)"),
+        (8, 2),
+    ),
+    (
+        Change::Entries(2, "0 (B, Q(1), output3, X), 1 (B, *, output2, X)"),
+        (9, 2),
+    ),
+    (
+        Change::Entries(
+            3,
+            "0 (B, Q(1), output3, X, 2, 1, Z), 1 (B, Q(2), output3, X, 2, 0, Z), 2 (B, *, internal, X)",
+        ),
+        (10, 1),
+    ),
+    (
+        Change::Entries(
+            2,
+            "0 (B, Q(1), output3, X, 1, 1, Z), 0 (B, Q(2), output3, X, 1, 0, Z), 1 (B, *, control, 1)",
+        ),
+        (11, 1),
+    ),
+    (
+        Change::Entries(1, "0 (B, Q(1), output2, X), 0 (B, Q(1), output2, X)"),
+        (12, 0),
+    ),
+    // two cells with two entries each
+    (
+        Change::Entries(
+            2,
+            "1 (B, Q(1), input, X), 1 (B, *, internal, X), 0 (B, Q(2), input, X), 0 (B, *, internal, X)",
+        ),
+        (12, 0),
+    ),
+    (
+        Change::Entries(
+            3,
+            "0 (B, TDI, input, X), 1 (B, Q(1), output2, X), 2 (B, Q(1), output2, X)",
+        ),
+        (13, 3),
+    ),
+    (
+        Change::Entries(2, "0 (B, TDI, input, X), 1 (B, TMS, input, X)"),
+        (14, 1),
+    ),
+];
+
+#[test]
+fn entries_in_the_order_of_their_rules(rt: HostRuntime) -> Result<(), CaseFault> {
+    rules_hold(rt.alloc(), &ENTRY_ORDER)
 }
 
 const FALLING: [Change; 3] = [
