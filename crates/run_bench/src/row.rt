@@ -295,7 +295,7 @@ fn boards_hold(
     cases: &[Case],
 ) -> Result<(), RowFault> {
     for (i, case) in cases.iter().enumerate() {
-        board_is_refused(rt, alloc, table.name, i, case)?;
+        board_is_refused(rt, alloc, table, i, case)?;
     }
     Ok(())
 }
@@ -303,15 +303,16 @@ fn boards_hold(
 fn board_is_refused(
     rt: &(impl Threads + Sync),
     alloc: Global,
-    table: &'static str,
+    table: &Table,
     row: usize,
     (chain, nets, words, note): &Case,
 ) -> Result<(), RowFault> {
     for command in &COMMANDS {
         let mut bench = Bench::with_board(alloc, chain, nets)?;
+        bench.add(table.texts)?;
         bench.store.add("g", b"zz\n")?;
         let line = format!(in alloc; "{command} {words}")?;
-        bench.ends(rt, table, row, &line, Ending::Refused(note))?;
+        bench.ends(rt, table.name, row, &line, Ending::Refused(note))?;
     }
     Ok(())
 }

@@ -16,6 +16,8 @@ mod ident;
 #[cfg(test)]
 mod make;
 #[cfg(test)]
+mod orders;
+#[cfg(test)]
 mod sizes;
 #[cfg(test)]
 mod svf;
