@@ -19,7 +19,7 @@ whole_more : (failing : List FailingPut) (call most taken : ℕ) (same : Bool)
 whole_more failing call most taken true none rest = let clash : true ≡ false = none in absurd cc
 whole_more failing call most taken false none rest = rest none
 
--- a put that isn't chosen may take all
+-- a put that is not chosen to fail may take everything
 pub allowed_whole : (failing : List FailingPut) (call most : ℕ) → is_chosen call failing ≡ false → allowed failing call most ≡ most
 allowed_whole [] call most none = refl
 allowed_whole (f ∷ failing) call most none = whole_more failing call most f.taken (nat_eq f.call call) none (λ n. allowed_whole failing call most n)

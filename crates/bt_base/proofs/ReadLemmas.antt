@@ -1,9 +1,9 @@
--- A lemma on what is read of what a reader has left.
+-- A lemma on how much of the remaining bytes was read.
 use Rattle.std.proofs.Common.{◌≡◌, ℕ, List, length, take, Option, None, Some, IfSome, sym, ◌∙◌, ap, subst}
 use Rattle.std.proofs.Math.Seq.{take-append_seam}
 use Rattle.std.specs.Io.KnownBytes.{Consumes}
 
--- what was consumed is the first part of what was left
+-- what was consumed is a prefix of what was left
 pub consumes_first : (left rest : Option (List ℕ)) (xs : List ℕ) (n : ℕ) → Consumes left rest xs → length xs ≡ n → IfSome left (λ l. xs ≡ take n l)
 consumes_first None rest xs n took long = tt
 consumes_first (Some l) None xs n took long = absurd took

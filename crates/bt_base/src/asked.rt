@@ -1,10 +1,11 @@
-//! What a store was asked for. Only proofs see it: it takes no memory, and its methods do nothing at run time.
+//! The names that a store was asked for. Only proofs see them: the list takes no memory, and its methods do
+//! nothing at run time.
 ghost use Rattle.std.specs.Prelude.{◌≡◌, ℕ, List, [], ◌∷◌, ◌++◌};
 ghost use Rattle.std.specs.Borrow.{ftrue};
 
 use std::marker::Model;
 
-/// The names of the fetches so far, in their order.
+/// The names of the fetches so far, in order.
 #[derive(Drop)]
 pub(crate) struct Asked {
     pub ghost names: { List (List ℕ) },
@@ -28,7 +29,7 @@ impl Asked {
     }
 }
 
-// It owns nothing.
+// An `Asked` holds nothing at run time.
 unsafe impl Send for Asked {}
 
 unsafe impl Sync for Asked {}

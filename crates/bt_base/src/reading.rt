@@ -1,4 +1,4 @@
-//! Reads what a reader has left.
+//! Reads the rest of a reader.
 ghost use Rattle.std.specs.Prelude.{◌≡◌, ℕ, ◌+◌, ◌<◌, ◌≤◌, ◌||◌, [], length, take, OnOk, IfOk, IsErrOf, IfSome, is_err, false, Option, List};
 ghost use Rattle.std.specs.Io.{ReadsAtMost};
 ghost use Rattle.std.specs.Io.KnownBytes.{ReadConsumes};
@@ -44,8 +44,8 @@ impl<R: Read> Read for Watched<R> {
     }
 }
 
-/// Puts all that the reader has left into an empty vector, or `cap + 1` bytes where it has more than `cap`.
-/// `Failed` comes exactly where a read fails.
+/// Reads everything that the reader has left into an empty vector, or `cap + 1` bytes if it has more than `cap`.
+/// Returns `Failed` if and only if a read fails.
 pub(crate) fn read_all<R: Read>(
     from: &mut Watched<R>,
     into: &mut Vec<u8>,
@@ -69,7 +69,7 @@ pub(crate) fn read_all<R: Read>(
     Err(FetchFault::TooLong)
 }
 
-// Reads once, and appends what came, at most so many bytes. Nothing comes only at the end.
+// Reads once, at most `most` bytes, and appends them. Returns their number, which is 0 only at the end.
 fn read_some<R: Read>(
     from: &mut Watched<R>,
     into: &mut Vec<u8>,

@@ -1,10 +1,10 @@
-//! Writes and flushes.
+//! Writes a piece to a writer, and flushes it.
 ghost use Rattle.std.specs.Prelude.{◌≡◌, OnOk, true, false};
 ghost use Rattle.std.specs.Io.KnownBytes.{Appends, Keeps};
 
 use std::io;
 
-/// A writer that remembers whether all that it was given was flushed.
+/// A writer that remembers whether everything written to it was flushed.
 #[derive(Drop)]
 pub(crate) struct Flushed<W> {
     to: W,
@@ -38,7 +38,7 @@ impl<W: io::Write> Flushed<W> {
     }
 }
 
-/// Writes all of the piece and flushes. A write that takes nothing of what is left is an error.
+/// Writes the whole piece and flushes the writer. If a write takes none of the remaining bytes, that is an error.
 pub(crate) fn write_whole<W: io::Write>(to: &mut Flushed<W>, piece: &[u8]) -> io::Result<()>
     ensures bytes { OnOk result (Appends (W.contents to.old.to) (W.contents to.new.to) piece.now) }
     ensures flushed { OnOk result (to.new.flushed ≡ true) }

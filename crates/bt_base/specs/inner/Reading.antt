@@ -1,4 +1,4 @@
--- What one read gives, and what an opened file gives.
+-- The result of one read, and of reading an opened file.
 use Rattle.std.specs.Prelude.{◌≡◌, ℕ, ◌+◌, Bool, true, List, ◌++◌, length, take, ⊤, IfSome, IsOkAnd, IsErr, IsErrOf, OnOk, Option, Result, Ok, Err}
 use Rattle.std.specs.Io.KnownBytes.{Consumes, IsAtEnd}
 use Rattle.bt_base.specs.declared.reading.Watched.{Watched}
@@ -6,18 +6,18 @@ use Rattle.bt_base.specs.declared.store.FetchFault.{FetchFault}
 use Rattle.bt_base.specs.declared.store.FetchFault.TheVariants.{Failed, TooLong}
 use Rattle.bt_base.specs.Faults.{is_failed}
 
--- n bytes that the reader had left went to the end of a list, and none only at the reader's end
+-- `n` bytes that the reader had left were appended to the list; `n` is 0 only at the reader's end
 abbrev pub GivesNext : Option (List ℕ) → Option (List ℕ) → List ℕ → List ℕ → ℕ → Type 0
 GivesNext left rest before now n =
     (bytes : List ℕ) × (now ≡ before ++ bytes) × (length bytes ≡ n) × Consumes left rest bytes × (n ≡ 0 → IsAtEnd rest)
 
--- the file was not opened, or a read of it failed
+-- the file could not be opened, or a read of it failed
 abbrev pub has_failed : {F E : Type 0} → Result (Watched F) E → Bool
 has_failed (Ok file) = file.failed
 has_failed (Err e) = true
 
--- What the opened file had left is given, the whole of it at Ok and one byte more than cap where it is too long. Failed comes
--- exactly where the file was not opened or a read failed.
+-- `given` is what the opened file had left: the whole of it on Ok, and its first `cap + 1` bytes if it is too long. The result is
+-- Failed if and only if the file could not be opened or a read failed.
 pub record IsHandedOn {F E : Type 0} (remaining : F → Option (List ℕ)) (cap : ℕ) (opened left : Result (Watched F) E) (given : List ℕ) (result : Result ⊤ FetchFault) : Type 0 where
   pub whole : OnOk result (IsOkAnd opened (λ file. IfSome (remaining file.from) (λ text. given ≡ text)))
   pub too_long : IsErrOf result TooLong → IsOkAnd opened (λ file. IfSome (remaining file.from) (λ text. given ≡ take (cap + 1) text))
