@@ -1,4 +1,4 @@
--- What the rules of a board give: pins by their places in the chain, and bounds.
+-- Consequences of the rules of a board: pins by their places in the chain, and bounds.
 use Rattle.std.proofs.Common.{◌≡◌, ℕ, suc, ◌*◌, ◌^◌, ◌<◌, ◌≤◌, ◌==◌, Bool, true, false, List, [], ◌∷◌, length, Option, Some, None, refl, sym, ◌∙◌, ap, subst, arith, cond}
 use Rattle.std.specs.Prelude.{slice_get, sum_by, All, IfSome, is_some, find, option_map, option_and_then, if◌then◌else◌}
 use Rattle.std.proofs.lemmas.Option.{same_Some}
@@ -22,7 +22,7 @@ use Rattle.board_defs.specs.Pins.{described, instruction_length, instruction_bit
 use Rattle.board_defs.specs.BoardRules.{IsPart, Stands, IsPlaced, IsPlacedAt, IsBoard}
 use Rattle.board_defs.proofs.Places.{all_stands}
 
--- where a pin that stands in the nets is placed
+-- the place of a pin that is in the nets
 pub placed_at : (board : RawBoard) (n : ℕ) (net : Net) (i : ℕ) (pin : NetPin) (at : PinAt) → IsBoard board → Stands board n net i pin → pin.at ≡ Some at → IsPlacedAt board pin at
 placed_at board n net i pin at rules st e =
     let there : IsPlaced board pin pin.at = all_stands (λ (p : NetPin). IsPlaced board p p.at) net.pins i pin st.in_net (all_stands (λ (v : Net). All (λ p. IsPlaced board p p.at) v.pins) board.nets n net st.on_board rules.placed) in
@@ -37,7 +37,7 @@ same_pin board p q at a b =
     let bit : a.bit ≡ b.bit = same_Some a.bit b.bit (sym a.in_device ∙ ap (λ (v : RawDevice). slice_get v.bits at.bit) device ∙ b.in_device) in
     (sym a.named ∙ ap (λ (v : Part). v.name) part ∙ b.named, same_Some p.pin q.pin (sym a.has_pin ∙ ap (λ (v : PortBit). v.pin) bit ∙ b.has_pin))
 
--- no pin of the chain stands twice
+-- no pin of the chain is in the nets twice
 pub pins_once : (board : RawBoard) → IsBoard board → (n m : ℕ) (net other : Net) (i j : ℕ) (p q : NetPin) (at : PinAt) → slice_get board.nets n ≡ Some net → slice_get board.nets m ≡ Some other → slice_get net.pins i ≡ Some p → slice_get other.pins j ≡ Some q → p.at ≡ Some at → q.at ≡ Some at → (n ≡ m) × (i ≡ j)
 pins_once board rules n m net other i j p q at en em ei ej pa qa =
     let s : Stands board n net i p = record { on_board = en; in_net = ei } in
@@ -45,7 +45,7 @@ pins_once board rules n m net other i j p q at en em ei ej pa qa =
     let same : (p.part ≡ q.part) × (p.pin ≡ q.pin) = same_pin board p q at (placed_at board n net i p at rules s pa) (placed_at board m other j q at rules t qa) in
     rules.pins_differ n m i j net other p q s t same.0 same.1
 
--- a pin of the chain is one of the chosen pin map
+-- a pin of the chain is a pin of the chosen pin map
 pub pins_stand : (board : RawBoard) → IsBoard board → (n : ℕ) (net : Net) (i : ℕ) (p : NetPin) (at : PinAt) → slice_get board.nets n ≡ Some net → slice_get net.pins i ≡ Some p → p.at ≡ Some at → is_pinned board at ≡ true
 pins_stand board rules n net i p at en ei pa =
     let w : IsPlacedAt board p at = placed_at board n net i p at rules (record { on_board = en; in_net = ei }) pa in

@@ -42,7 +42,7 @@ order_cons d list before rest i zero e less within = absurd (omega arith)
 order_cons d list before rest zero (suc j) e less within = before j e (omega arith)
 order_cons d list before rest (suc i) (suc j) e less within = rest i j e (omega arith) (omega arith)
 
--- a control that none of those in order after d can be, holds none
+-- if `d` does not precede the control, no list in order after `d` holds it
 none_after : (c d : Ctl) (list : List Ctl) → precedes d c ≡ false → All (λ e. IsTrue (precedes d e)) list → holds list c ≡ false
 none_after c d [] not_before after = refl
 none_after c d (e ∷ list) not_before after = by_same (none_after c d list not_before (All-tail (λ (v : Ctl). IsTrue (precedes d v)) e list after)) (same_ctl c e) refl
@@ -53,7 +53,7 @@ none_after c d (e ∷ list) not_before after = by_same (none_after c d list not_
         absurd (both_ways (precedes d c) not_before (ap (precedes d) (same_equal c e s) ∙ head))
     by_same rest false s = rest
 
--- the place of a control: how many controls precede it
+-- the place of a control: the number of controls that precede it
 abbrev pub place : List Ctl → Ctl → ℕ
 place list c = prefix_len (λ d. precedes d c) list
 
@@ -67,7 +67,7 @@ is_there : Ctl → Option Ctl → Bool
 is_there c None = false
 is_there c (Some d) = same_ctl c d
 
--- a list in order holds a control exactly where it stands at its place
+-- a list in order holds a control if and only if the control is at its place
 holds_at_place : (c : Ctl) (list : List Ctl) → IsInControlOrder list → holds list c ≡ is_there c (slice_get list (place list c))
 unfolding is_there
 holds_at_place c [] h = refl
@@ -85,7 +85,7 @@ pub holds_none : (c : Ctl) (list : List Ctl) → IsInControlOrder list → slice
 unfolding is_there
 holds_none c list h e = holds_at_place c list h ∙ ap (is_there c) e
 
--- what is inserted stands at its place
+-- an inserted control is at its place
 pub inserted_new : (c : Ctl) (list : List Ctl) → IsInControlOrder list → holds list c ≡ false → inserted c list ≡ insert list (place list c) c
 inserted_new c [] h out = refl
 inserted_new c (d ∷ list) h out = by_before (precedes d c) refl (inserted_new c list (order_tail d list h) (parts.1))
@@ -106,7 +106,7 @@ inserted_old c (d ∷ list) h there = by_before (inserted_old c list (order_tail
     by_before rest false b true e = refl
     by_before rest false b false e = absurd (both_ways (holds list c) (none_after c d list b (order_head d list h)) (sym (ap (λ t. t || holds list c) e) ∙ there))
 
--- what precedes the control and all of the list precedes what is inserted
+-- what is true of the control and of the whole list is true of the list with the control inserted
 inserted_all : (P : Ctl → Type 0) (c : Ctl) (list : List Ctl) → P c → All P list → All P (inserted c list)
 inserted_all P c [] here all = All-cons P c [] here all
 inserted_all P c (d ∷ list) here all = by_before (inserted_all P c list here (All-tail P d list all)) (precedes d c) (same_ctl c d)
@@ -148,7 +148,7 @@ point_place c (d ∷ list) (suc i) le h =
 pub same_order : (list new : List Ctl) → new ≡ list → IsInControlOrder list → IsInControlOrder new
 same_order list new e h = let P : List Ctl → Type 0 = λ v. IsInControlOrder v in subst P (sym e) h
 
--- what an insertion of a control makes
+-- the result of inserting a control
 pub added : (c : Ctl) (list new : List Ctl) (k : ℕ) → IsInControlOrder list → holds list c ≡ false → k ≡ place list c → new ≡ insert list k c → new ≡ inserted c list
 added c list new k h out at e = e ∙ ap (λ n. insert list n c) at ∙ sym (inserted_new c list h out)
 

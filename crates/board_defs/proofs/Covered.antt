@@ -41,7 +41,7 @@ needed (Some (By c)) = just c
 abbrev pub either : Enabling → Enabling → Enabling
 either s t c = s c || t c
 
--- what a safe setting enables can be enabled, and by itself
+-- if a safe setting enables a driver, the driver can be enabled, also by itself
 pub can_enable_of : (board : RawBoard) (s : Enabling) (n : ℕ) (net : Net) (i : ℕ) (p : NetPin) → IsBoard board → IsSafe board s → slice_get board.nets n ≡ Some net → slice_get net.pins i ≡ Some p → enables board s p ≡ true →
     (can_enable board (drive board net p) ≡ true) × ((c : Ctl) → needed (drive board net p) c ≡ true → s c ≡ true)
 can_enable_of board s n net i p rules safe en ei e = from (view board net p)
@@ -74,7 +74,7 @@ needed_safe board (Some AlwaysOn) rules h = nothing_safe board rules
 needed_safe board (Some OneSided) rules h = cc h
 needed_safe board (Some (By c)) rules h = alone_safe board c rules h
 
--- a setting that has what a driver needs enables it
+-- a setting that has the control that a driver needs enables it
 pub needed_enables : (board : RawBoard) (net : Net) (p : NetPin) (s : Enabling) → can_enable board (drive board net p) ≡ true → ((c : Ctl) → needed (drive board net p) c ≡ true → s c ≡ true) → enables board s p ≡ true
 needed_enables board net p s h within = from (view board net p)
   where

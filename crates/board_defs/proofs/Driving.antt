@@ -1,4 +1,4 @@
--- How a pin drives its net, with what enables it.
+-- How a pin's driver is enabled, with what enables it.
 use Rattle.std.proofs.Common.{◌≡◌, ◌==◌, Bool, true, false, Option, Some, None, refl, sym, ◌∙◌, ap}
 use Rattle.std.specs.Prelude.{option_map, if◌then◌else◌}
 use Rattle.std.proofs.lemmas.Bool.{eqb-true}

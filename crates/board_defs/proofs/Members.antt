@@ -1,4 +1,4 @@
--- Which items a list has, after the functions that make one.
+-- Which items the result of a list function has.
 use Rattle.std.proofs.Common.{◌≡◌, ℕ, zero, suc, ◌+◌, ◌<◌, ◌≤◌, Bool, true, false, List, [], ◌∷◌, ◌++◌, map, get_or, Option, Some, None, refl, sym, ◌∙◌, ap, subst, arith, cond, ◌⊎◌, inl, inr}
 use Rattle.std.specs.Prelude.{slice_get, filter, filter_map, find, All, Contains}
 use Rattle.std.specs.List.{list_any, list_all, cons_option, flat_map, enumerate_from, range_with_len}
@@ -190,7 +190,7 @@ pub has_all : {X : Type 0} (p : X → Bool) (xs : List X) → ((x : X) → Has x
 has_all p [] h = refl
 has_all p (x ∷ xs) h = and_from (p x) (list_all p xs) (h x (inl refl)) (has_all p xs (λ y m. h y (inr m)))
 
--- what holds of all items holds of each that the list has, and the other way round
+-- what is true of all items is true of each item of the list, and conversely
 pub has_from_all : {X : Type 0} (P : X → Type 0) (xs : List X) (x : X) → All P xs → Has xs x → P x
 has_from_all P xs x all has = let at = has_place xs x has in all_stands P xs at.0 x at.1 all
 

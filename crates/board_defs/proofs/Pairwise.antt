@@ -1,4 +1,4 @@
--- A setting is safe exactly where each of its controls alone and every two of them are.
+-- A setting is safe if and only if each of its controls alone and every two of them are safe.
 use Rattle.std.proofs.Common.{◌≡◌, ◌≢◌, ℕ, true, Option, Some, None, refl, ◌∙◌, ap, ◌⊎◌, inl, inr}
 use Rattle.std.specs.Prelude.{slice_get, option_map}
 use Rattle.std.proofs.lemmas.Bool.{both_ways, false_from_ne_true, or_left, or_right, or_cases}
@@ -64,7 +64,7 @@ safe_from_pairs board setting rule h = record {
       (h.each c s).own at cell control pinned e k same (just_has c);
 }
 
--- and only there: what is in a safe setting is safe
+-- conversely, every part of a safe setting is safe
 pub safe_within : (board : RawBoard) (small big : Enabling) → ((c : Ctl) → small c ≡ true → big c ≡ true) → IsSafe board big → IsSafe board small
 safe_within board small big within h = record {
   one = λ n net i j p q en ei ej ne ep eq. h.one n net i j p q en ei ej ne (grow net p (enabled board small net p ep)) (grow net q (enabled board small net q eq));

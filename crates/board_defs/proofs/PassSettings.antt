@@ -15,7 +15,7 @@ use Rattle.board_defs.proofs.Members.{Has, any_has, all_has}
 use Rattle.board_defs.proofs.Pairwise.{safe_within, safe_from_pairs}
 use Rattle.board_defs.proofs.SafeSettings.{alone_safe, together_safe, safe_together}
 
--- a setting holds what was inserted, and what it held before
+-- a setting holds the inserted control and the controls that it held before
 pub holds_inserted : (c d : Ctl) (list : List Ctl) → holds (inserted c list) d ≡ (same_ctl d c || holds list d)
 holds_inserted c d [] = refl
 holds_inserted c d (x ∷ list) = by_before (holds_inserted c d list) (precedes x c) (same_ctl c x) refl

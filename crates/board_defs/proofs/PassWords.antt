@@ -1,4 +1,4 @@
--- The words in which the passes are made say what they name.
+-- The tests that choose the passes mean what their names say.
 use Rattle.std.proofs.Common.{◌≡◌, ℕ, ◌+◌, ◌<◌, ◌==◌, true, false, ◌&&◌, List, [], Option, Some, None, refl, sym, ◌∙◌, ap, subst, arith}
 use Rattle.std.specs.Prelude.{slice_get, option_and_then, IsTrue, nat_lt, Contains, ◌↔◌}
 use Rattle.std.specs.Bool.{Decides}
@@ -30,7 +30,7 @@ use Rattle.board_defs.proofs.Covered.{tested_can, tested_driver_is, tested_drive
 use Rattle.board_defs.proofs.PassSettings.{safe_setting, both_together, with_enables, with_keeps}
 use Rattle.board_defs.proofs.PassesKept.{Tested, tested_has, has_tested, enabled_needs, shows_observes, observes_shows}
 
--- the cells of the chain stand in control order
+-- the cells of the chain are in control order
 precedes_part : (a b : Ctl) → a.part < b.part → precedes a b ≡ true
 precedes_part a b less = or_left (nat_lt a.part b.part) ((a.part == b.part) && nat_lt a.cell b.cell) (lt-ltb a.part b.part less)
 
@@ -111,7 +111,7 @@ driver_enabled board rules n net place pin OneSided pass st t e =
     let wrong : false ≡ true = sym (ap (can_enable board) (ap (drive_in board net) st.in_net ∙ e)) ∙ can in
     cc wrong
 
--- a control that is together with all of a setting
+-- a control that is together with every control of a setting
 fits_setting : (board : RawBoard) → IsBoard board → (setting : List Ctl) (c : Ctl) → Decides (fits board setting c) ((d : Ctl) → holds setting d ≡ true → AreTogether board c d)
 fits_setting board rules setting c = (
   λ h d k. let r = any_has (same_ctl d) setting k in let P : Ctl → Type 0 = λ v. AreTogether board c v in subst P (sym (same_equal d r.0 r.2)) (together_safe board c r.0 rules (all_has (are_together board c) setting r.0 h r.1)),

@@ -1,4 +1,4 @@
--- The passes of a board do what passes are to do.
+-- The passes of a board do what passes must do.
 use Rattle.std.proofs.Common.{◌≡◌, ◌≢◌, ℕ, zero, suc, ◌<◌, Bool, true, false, ◌&&◌, List, [], ◌∷◌, ◌++◌, length, take, Option, Some, None, refl, sym, ◌∙◌, ap, subst, arith, cond, append_assoc, ◌⊎◌, inl, inr}
 use Rattle.std.specs.Prelude.{slice_get, option_map, fold}
 use Rattle.std.specs.List.{list_any, flat_map, range_with_len}
@@ -54,7 +54,7 @@ tested_drives board net place t = by_drive (place_drive board net place) refl (t
 pub tested_can_drive : (board : RawBoard) (net : Net) (d : Drive) → Tested board net d → can_enable board (Some d) ≡ true
 tested_can_drive board net d t = ap (can_enable board) (sym t.drives) ∙ tested_can board net t.place t.tested
 
--- a setting that enables a driver holds what it needs
+-- a setting that enables a driver holds the control that the driver needs
 pub enabled_needs : (pass : List Ctl) (w : Option Drive) (d : Drive) → w ≡ Some d → is_enabled pass d ≡ true → (c : Ctl) → needed w c ≡ true → holds pass c ≡ true
 enabled_needs pass w d e h c k = by_drive d h (sym (ap (λ (v : Option Drive). needed v c) e) ∙ k)
   where
@@ -66,7 +66,7 @@ enabled_needs pass w d e h c k = by_drive d h (sym (ap (λ (v : Option Drive). n
 pub enabled_observes : (board : RawBoard) (net : Net) (place : ℕ) (d : Drive) (pass : List Ctl) → is_tested_driver board net place ≡ true → place_drive board net place ≡ Some d → is_enabled pass d ≡ true → ObservesBy board (holds pass) net place
 enabled_observes board net place d pass t e h = observes_of board (holds pass) net place t (enabled_needs pass (place_drive board net place) d e h)
 
--- and a setting that observes a net by a driver enables it
+-- a setting that observes a net by a driver enables the driver
 observes_enabled : (board : RawBoard) (net : Net) (place : ℕ) (d : Drive) (pass : List Ctl) → can_enable board (Some d) ≡ true → place_drive board net place ≡ Some d → ObservesBy board (holds pass) net place → is_enabled pass d ≡ true
 observes_enabled board net place AlwaysOn pass can e o = refl
 observes_enabled board net place OneSided pass can e o = can
@@ -74,7 +74,7 @@ observes_enabled board net place (By c) pass can e o =
     let drives : drive board net o.pin ≡ Some (By c) = sym (ap (drive_in board net) o.stands) ∙ e in
     sym (by_enables board net o.pin c drives (holds pass)) ∙ o.enabled
 
--- a safe pass observes a net exactly where it enables one of its tested drivers
+-- a safe pass observes a net if and only if it enables one of the net's tested drivers
 pub shows_observes : (board : RawBoard) (net : Net) (pass : List Ctl) → shows (tested_drivers board net) pass ≡ true → Observes board (holds pass) net
 shows_observes board net pass h =
     let r = any_has (is_enabled pass) (tested_drivers board net) h in
@@ -116,7 +116,7 @@ reason_at board earlier (q ∷ passes) zero pass h e =
     subst P (sym (append_none earlier)) (subst Q same h.0)
 reason_at board earlier (q ∷ passes) (suc x) pass h e = let P : List (List Ctl) → Type 0 = λ v. Reason board v pass in subst P (append_assoc earlier (q ∷ []) (take x passes)) (reason_at board (earlier ++ q ∷ []) passes x pass h.1 e)
 
--- what holds of the passes so far
+-- what is true of the passes so far
 pub record Good (board : RawBoard) (passes : List (List Ctl)) : Type 0 where
   pub together : (pass : List Ctl) → Has passes pass → AllTogether board pass
   pub reasons : Reasons board [] passes
@@ -140,7 +140,7 @@ pub fold_keeps : {X Y : Type 0} (P : Y → Type 0) (Q : X → Type 0) (f : Y →
 fold_keeps P Q f step [] y all h = h
 fold_keeps P Q f step (x ∷ xs) y all h = fold_keeps P Q f step xs (f y x) (λ z k. all z (inr k)) (step y x h (all x (inl refl)))
 
--- what the step at an item makes true, and the other steps keep, is true in the end
+-- what is made true by the step at an item, and kept by the other steps, is true at the end
 pub fold_makes : {X Y : Type 0} (P : Y → Type 0) (f : Y → X → Y) → ((y : Y) (x : X) → P y → P (f y x)) → (xs : List X) (y : Y) (x : X) → Has xs x → ((y : Y) → P (f y x)) → P (fold f y xs)
 fold_makes P f keeps [] y x h makes = absurd h
 fold_makes {X} {Y} P f keeps (z ∷ xs) y x (inl e) makes =

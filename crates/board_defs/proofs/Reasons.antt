@@ -1,4 +1,4 @@
--- The first reason that holds of a net that is not covered.
+-- The first reason that applies to a net that is not covered.
 use Rattle.std.proofs.Common.{◌≡◌, ℕ, ◌<◌, ◌≤◌, Bool, true, false, not, Option, Some, None, refl, ap, arith, cond}
 use Rattle.std.specs.Prelude.{slice_get, is_some, MatchOption}
 use Rattle.std.specs.List.{list_any}
@@ -49,7 +49,7 @@ some_can board n net rules en h blocks =
     (blocks (needed d) r.place r.item (needed_safe board d rules r.passes) (record { on_board = en; in_net = r.stands }))
     (needed_enables board net r.item (needed d) r.passes (λ c k. k))
 
--- none of the reasons below this reason_rank holds
+-- no reason with a rank below this limit applies
 none_below : (board : RawBoard) (n : ℕ) (net : Net) (limit : ℕ) → limit ≤ 5 →
     (0 < limit → net.supply ≡ false) → (1 < limit → list_any (is_test_pin board) net.pins ≡ false) → (2 < limit → list_any (is_dark board) net.pins ≡ false) →
     (3 < limit → HasNoDriver board n net → ⊥) → (4 < limit → IsBlocked board n net → ⊥) →

@@ -31,7 +31,7 @@ not_both true true h = absurd (h refl refl)
 not_both true false h = refl
 not_both false b h = refl
 
--- a setting enables no one-sided driver off or on the nets
+-- a setting enables no one-sided driver, whether or not the driver is on a net
 abbrev pub OwnSwitches : RawBoard → Enabling → Type 0
 OwnSwitches board s = (at : PinAt) (cell : Cell) (control : Control) → is_pinned board at ≡ true → entry_at board at ≡ Some cell → cell.ctl ≡ Some control → control.cell ≡ cell.num → s (record { part = at.part; cell = control.cell }) ≡ true → SwitchesAt board at control.disable
 
@@ -42,7 +42,7 @@ pulled_some : (value : Bool) (pull : Option Bool) → is_pulled_to value pull �
 pulled_some value None h = cc h
 pulled_some value (Some b) h = ap Some (sym (same_of_is_same value b h))
 
--- the one-sided pin that stands there is not enabled
+-- a one-sided pin at this place is not enabled
 pub one_sided_off : (board : RawBoard) (s : Enabling) → IsBoard board → OwnSwitches board s → (n : ℕ) (net : Net) (i : ℕ) (p : NetPin) → Stands board n net i p →
     (at : PinAt) (cell : Cell) (control : Control) → p.at ≡ Some at → entry_at board at ≡ Some cell → cell.ctl ≡ Some control → control.cell ≡ cell.num → lets_switch board net control.disable ≡ false → s (record { part = at.part; cell = control.cell }) ≡ true → ⊥
 one_sided_off board s rules own n net i p st at cell control pa e k o w on =
@@ -170,7 +170,7 @@ test_from_own board c own = false_from_ne_true (enables_one_sided board c) (λ h
     from : FoundBelow (port_bits board c.part) F → ⊥
     from r = let at : PinAt = record { part = c.part; bit = r.number } in by_entry at refl (entry_at board at) refl r.passes
 
--- what safety asks of the nets, for any setting, where no one-sided driver is on
+-- what safety requires of the nets, for any setting that enables no one-sided driver
 pub record NetsAdmit (board : RawBoard) (s : Enabling) : Type 0 where
   pub apart : (n : ℕ) (net : Net) (i j : ℕ) (p q : NetPin) (c d : Ctl) → slice_get board.nets n ≡ Some net → slice_get net.pins i ≡ Some p → slice_get net.pins j ≡ Some q → i ≢ j → drive board net p ≡ Some (By c) → drive board net q ≡ Some (By d) → s c ≡ true → s d ≡ true → ⊥
   pub opened : (n : ℕ) (net : Net) (i : ℕ) (p : NetPin) (c : Ctl) → slice_get board.nets n ≡ Some net → slice_get net.pins i ≡ Some p → drive board net p ≡ Some (By c) → s c ≡ true → is_closed board net ≡ false

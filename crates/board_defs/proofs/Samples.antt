@@ -1,4 +1,4 @@
--- Small boards, and what the definitions say of them.
+-- Small boards, and what the definitions say about them.
 use Rattle.std.proofs.Common.{◌≡◌, ℕ, ◌+◌, Bool, true, false, List, [], ◌∷◌, ◌++◌, map, Option, Some, None, refl}
 use Rattle.std.specs.Prelude.{codes}
 use Rattle.board_defs.specs.declared.device.Symbol.TheVariants.{Zero, One, Any}

@@ -15,22 +15,22 @@ use Rattle.board_defs.specs.Limits.{most_parts, most_bits, most_nets, most_pins,
 use Rattle.board_defs.specs.DeviceRules.{IsDevice}
 use Rattle.board_defs.specs.Pins.{described, is_test_pin, drive, data_bits}
 
--- a described part keeps the rules of a device; a part without a description has an instruction length from 2 to 255
+-- a described part keeps the rules of a device; any other part has an instruction length from 2 to 255
 abbrev pub IsPart : PartKind → Type 0
 IsPart (Described device) = IsDevice device
 IsPart (Bypass n) = IsInstructionLength n
 
--- the pin stands at this place of this net
+-- net number `n` is `net`, and its pin at `place` is `pin`
 pub record Stands (board : RawBoard) (n : ℕ) (net : Net) (place : ℕ) (pin : NetPin) : Type 0 where
   pub on_board : slice_get board.nets n ≡ Some net
   pub in_net : slice_get net.pins place ≡ Some pin
 
--- no pin stands twice in the nets
+-- no pin is in the nets twice
 abbrev pub PinsDiffer : RawBoard → Type 0
 PinsDiffer board =
     (m n i j : ℕ) (first second : Net) (p q : NetPin) → Stands board m first i p → Stands board n second j q → p.part ≡ q.part → p.pin ≡ q.pin → (m ≡ n) × (i ≡ j)
 
--- the part and the port bit that have the pin
+-- `at` is the place of the pin: the part with the name of the pin's part, and that part's port bit with this pin
 pub record IsPlacedAt (board : RawBoard) (pin : NetPin) (at : PinAt) : Type 0 where
   pub part : Part
   pub in_chain : slice_get board.chain at.part ≡ Some part
@@ -41,17 +41,17 @@ pub record IsPlacedAt (board : RawBoard) (pin : NetPin) (at : PinAt) : Type 0 wh
   pub in_device : slice_get device.bits at.bit ≡ Some bit
   pub has_pin : bit.pin ≡ Some pin.pin
 
--- a pin has a place exactly where its part is described
+-- a pin has a place in the chain if and only if its part is described
 abbrev pub IsPlaced : RawBoard → NetPin → Option PinAt → Type 0
 IsPlaced board pin None = All (λ part. part.name ≡ pin.part → described part.kind ≡ None) board.chain
 IsPlaced board pin (Some at) = IsPlacedAt board pin at
 
--- the pins of chain parts are not inert, and the pins of one part agree
+-- no pin of a chain part is inert, and the pins of one part are all inert or all not inert
 pub record AreInertAlike (board : RawBoard) : Type 0 where
   pub in_chain : All (λ net. All (λ pin. pin.inert ≡ true → All (λ part. part.name ≢ pin.part) board.chain) net.pins) board.nets
   pub agree : (m n i j : ℕ) (first second : Net) (p q : NetPin) → Stands board m first i p → Stands board n second j q → p.part ≡ q.part → p.inert ≡ q.inert
 
--- no driver that is always on stands on a supply net or on a net with a TAP or compliance pin
+-- no driver that is always on is on a supply net or on a net with a TAP or compliance pin
 abbrev pub NoGuardedDriver : RawBoard → Type 0
 NoGuardedDriver board =
     (n place : ℕ) (net : Net) (pin : NetPin) → Stands board n net place pin → drive board net pin ≡ Some AlwaysOn → (net.supply ≡ false) × (list_any (is_test_pin board) net.pins ≡ false)
@@ -61,7 +61,7 @@ abbrev pub OneAlwaysOn : RawBoard → Type 0
 OneAlwaysOn board =
     (n : ℕ) (net : Net) (i j : ℕ) (p q : NetPin) → slice_get board.nets n ≡ Some net → slice_get net.pins i ≡ Some p → slice_get net.pins j ≡ Some q → i ≢ j → drive board net p ≡ Some AlwaysOn → drive board net q ≡ Some AlwaysOn → ⊥
 
--- what is known of each board
+-- the rules that every board keeps
 pub record IsBoard (board : RawBoard) : Type 0 where
   pub chain_some : 1 ≤ length board.chain
   pub chain_most : length board.chain ≤ most_parts

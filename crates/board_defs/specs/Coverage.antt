@@ -1,4 +1,4 @@
--- What a test can cover: each term says that some safe setting does it.
+-- What a test can cover. Each term says that some safe setting does something.
 use Rattle.std.specs.Prelude.{◌≡◌, ◌≢◌, ◌<◌, ℕ, true, false, Some, None, slice_get}
 use Rattle.std.specs.List.{list_any}
 use Rattle.board_defs.specs.declared.board.NetPin.{NetPin}
@@ -12,16 +12,16 @@ use Rattle.board_defs.specs.Pins.{drive, receives, is_test_pin, is_dark}
 use Rattle.board_defs.specs.BoardRules.{Stands}
 use Rattle.board_defs.specs.Settings.{Enabling, just, both, enables, IsSafe, ObservesBy, ObservesNet}
 
--- the setting enables the pin at this place of net n, and observes the net
+-- the setting enables the pin at `place` of net `n`, and observes the net by it
 abbrev pub TestsDriver : RawBoard → Enabling → ℕ → ℕ → Type 0
 TestsDriver board setting n place = (net : Net) × (slice_get board.nets n ≡ Some net) × ObservesBy board setting net place
 
--- the pin at this place of net n receives, and the setting observes the net by a driver on another pin
+-- the pin at `place` of net `n` is a receiver, and the setting observes the net by a driver on another pin
 abbrev pub TestsReceiver : RawBoard → Enabling → ℕ → ℕ → Type 0
 TestsReceiver board setting n place =
     (net : Net) × (pin : NetPin) × (driver : ℕ) × (slice_get board.nets n ≡ Some net) × (slice_get net.pins place ≡ Some pin) × (receives board pin ≡ true) × (driver ≢ place) × ObservesBy board setting net driver
 
--- some safe setting does
+-- `P` is true of some safe setting
 abbrev pub SomeSafe : RawBoard → (Enabling → Type 0) → Type 0
 SomeSafe board P = (setting : Enabling) × IsSafe board setting × P setting
 
@@ -57,7 +57,7 @@ HasNoDriver board n net = (place : ℕ) (pin : NetPin) → Stands board n net pl
 abbrev pub IsBlocked : RawBoard → ℕ → Net → Type 0
 IsBlocked board n net = (setting : Enabling) (place : ℕ) (pin : NetPin) → IsSafe board setting → Stands board n net place pin → enables board setting pin ≡ false
 
--- what a reason says of a net that is not covered
+-- what a reason says about a net that is not covered
 abbrev pub ReasonHolds : RawBoard → ℕ → Net → Reason → Type 0
 ReasonHolds board n net Supply = net.supply ≡ true
 ReasonHolds board n net TestPort = list_any (is_test_pin board) net.pins ≡ true
@@ -75,7 +75,7 @@ reason_rank NoDriver = 3
 reason_rank Blocked = 4
 reason_rank NoReceiver = 5
 
--- why a net is not covered: the first reason that holds of it
+-- `reason` is why net `n` is not covered: the first reason that applies
 pub record IsReason (board : RawBoard) (n : ℕ) (net : Net) (reason : Reason) : Type 0 where
   pub uncovered : IsCovered board n → ⊥
   pub holds : ReasonHolds board n net reason

@@ -1,4 +1,5 @@
--- The terms of settings as tests that compute: no setting is listed, only single controls and pairs of them are asked about. That they decide the terms is a law.
+-- Tests that compute the terms of settings and coverage. They go through no settings: they look only at single controls and at
+-- pairs of controls. A law says that they decide the terms.
 use Rattle.std.specs.Prelude.{ℕ, zero, suc, ◌==◌, Bool, true, false, not, ◌&&◌, ◌||◌, List, [], ◌∷◌, length, Option, Some, None, slice_get, is_some, option_and_then, cond}
 use Rattle.std.specs.List.{list_any, list_all}
 use Rattle.board_defs.specs.declared.device.Control.{Control}
@@ -26,7 +27,7 @@ abbrev pub at_most_one : {X : Type 0} → (X → Bool) → List X → Bool
 at_most_one p [] = true
 at_most_one p (x ∷ xs) = cond (p x) (not (list_any p xs)) (at_most_one p xs)
 
--- some item at another place than i passes
+-- some item at a place other than `i` passes
 abbrev pub any_other : {X : Type 0} → (X → Bool) → ℕ → List X → Bool
 any_other p i [] = false
 any_other p zero (x ∷ xs) = list_any p xs
@@ -39,7 +40,7 @@ is_always_on (Some AlwaysOn) = true
 is_always_on (Some OneSided) = false
 is_always_on (Some (By c)) = false
 
--- the driver is controlled by c
+-- the driver is controlled by `c`
 abbrev pub is_by : Ctl → Option Drive → Bool
 is_by c None = false
 is_by c (Some AlwaysOn) = false
@@ -50,37 +51,37 @@ is_by c (Some (By d)) = same_ctl d c
 abbrev pub drives_net : RawBoard → Ctl → Net → Bool
 drives_net board c net = list_any (λ p. is_by c (drive board net p)) net.pins
 
--- no control may enable a driver of the net
+-- no control may enable a driver of the net, because the net is guarded or has a driver that is always on
 abbrev pub is_closed : RawBoard → Net → Bool
 is_closed board net = guarded board net || list_any (λ p. is_always_on (drive board net p)) net.pins
 
--- the net lets the control be on
+-- the net allows the control in a safe setting
 abbrev pub admits : RawBoard → Ctl → Net → Bool
 admits board c net = at_most_one (λ p. is_by c (drive board net p)) net.pins && not (drives_net board c net && is_closed board net)
 
--- the pin is at this place of the chain
+-- the pin is at place `at` of the chain
 abbrev pub is_at : PinAt → Option PinAt → Bool
 is_at at None = false
 is_at at (Some b) = (b.part == at.part) && (b.bit == at.bit)
 
--- the net lets the pin switch, and the pin stands in it
+-- the net lets a driver with disable value `value` switch, and has the pin at `at`
 abbrev pub is_switched : RawBoard → PinAt → Bool → Net → Bool
 is_switched board at value net = lets_switch board net value && list_any (λ p. is_at at p.at) net.pins
 
--- the pin stands in an unguarded net that is pulled to this value
+-- the pin at `at` is in an unguarded net that is pulled to `value`
 abbrev pub is_switching : RawBoard → PinAt → Bool → Bool
 is_switching board at value = list_any (is_switched board at value) board.nets
 
--- the entry's control, where it is the entry's own cell
+-- the entry's control, if it is the entry's own cell
 abbrev pub own_where : Cell → Option Control → Option Control
 own_where cell None = None
 own_where cell (Some control) = cond (control.cell == cell.num) (Some control) None
 
--- the control of the driver there, where it is the entry's own cell
+-- the control of the driver at `at`, if it is the entry's own cell
 abbrev pub own_control : RawBoard → PinAt → Option Control
 own_control board at = option_and_then (λ cell. own_where cell cell.ctl) (entry_at board at)
 
--- a driver there is one-sided, and this is its cell
+-- the driver at `at` is one-sided, and its cell is number `cell`
 abbrev pub is_one_sided_by : RawBoard → ℕ → PinAt → Option Control → Bool
 is_one_sided_by board cell at None = false
 is_one_sided_by board cell at (Some control) = (control.cell == cell) && is_pinned board at && not (is_switching board at control.disable)
@@ -94,7 +95,7 @@ bit_count (Some device) = length device.bits
 abbrev pub port_bits : RawBoard → ℕ → ℕ
 port_bits board part = bit_count (device_at board part)
 
--- the control enables a one-sided driver, on a net or not
+-- the control enables a one-sided driver, whether or not that driver is on a net
 abbrev pub enables_one_sided : RawBoard → Ctl → Bool
 enables_one_sided board c = any_below (port_bits board c.part) (λ bit. let at : PinAt = record { part = c.part; bit = bit } in is_one_sided_by board c.cell at (own_control board at))
 
@@ -110,18 +111,18 @@ share_net board a b = list_any (λ net. drives_net board a net && drives_net boa
 abbrev pub are_together : RawBoard → Ctl → Ctl → Bool
 are_together board a b = is_safe_alone board a && is_safe_alone board b && (same_ctl a b || not (share_net board a b))
 
--- some safe setting enables such a driver
+-- some safe setting enables a driver that is enabled in this way
 abbrev pub can_enable : RawBoard → Option Drive → Bool
 can_enable board None = false
 can_enable board (Some AlwaysOn) = true
 can_enable board (Some OneSided) = false
 can_enable board (Some (By c)) = is_safe_alone board c
 
--- how a pin of the net drives it, where there is one
+-- how the pin's driver on the net is enabled, if there is a pin and it is a driver
 abbrev pub drive_in : RawBoard → Net → Option NetPin → Option Drive
 drive_in board net pin = option_and_then (λ p. drive board net p) pin
 
--- how the pin at this place drives the net
+-- how the driver at `place` of the net is enabled, if there is one
 abbrev pub place_drive : RawBoard → Net → ℕ → Option Drive
 place_drive board net place = drive_in board net (slice_get net.pins place)
 
@@ -129,7 +130,7 @@ place_drive board net place = drive_in board net (slice_get net.pins place)
 abbrev pub is_tested_driver : RawBoard → Net → ℕ → Bool
 is_tested_driver board net place = not (guarded board net) && can_enable board (place_drive board net place) && any_other (receives board) place net.pins
 
--- some safe setting enables a driver on another pin than the receiver at this place, and observes the net
+-- some safe setting observes the net by a driver on a pin other than the receiver at `place`
 abbrev pub is_tested_receiver : RawBoard → Net → ℕ → Bool
 is_tested_receiver board net place = not (guarded board net) && receives_of board (slice_get net.pins place) && any_other (λ p. can_enable board (drive board net p)) place net.pins
 
@@ -155,7 +156,7 @@ pairs_at board a b i j = is_tested_driver board a i && is_tested_driver board b 
 abbrev pub are_paired : RawBoard → Net → Net → Bool
 are_paired board a b = any_below (length a.pins) (λ i. any_below (length b.pins) (pairs_at board a b i))
 
--- the control enables a tested driver of the net
+-- the control enables the driver at `place` of the net, and that driver is tested
 abbrev pub tests_by_at : RawBoard → Ctl → Net → ℕ → Bool
 tests_by_at board c net place = is_by c (place_drive board net place) && is_tested_driver board net place
 
@@ -167,7 +168,7 @@ tests_by board c net = any_below (length net.pins) (tests_by_at board c net)
 abbrev pub is_useful : RawBoard → Ctl → Bool
 is_useful board c = is_safe_alone board c && list_any (tests_by board c) board.nets
 
--- the first reason that holds of a net that is not covered
+-- the first reason that applies to a net that is not covered
 abbrev pub first_reason : RawBoard → Net → Reason
 first_reason board net =
     cond net.supply Supply
@@ -176,6 +177,6 @@ first_reason board net =
     (cond (not (list_any (λ p. is_some (drive board net p)) net.pins)) NoDriver
     (cond (not (list_any (λ p. can_enable board (drive board net p)) net.pins)) Blocked NoReceiver))))
 
--- why the net is not covered, where it is not
+-- why the net is not covered, or None if it is covered
 abbrev pub reason_of : RawBoard → Net → Option Reason
 reason_of board net = cond (is_covered board net) None (Some (first_reason board net))

@@ -51,7 +51,7 @@ is_receiving ControlRole = false
 is_receiving ControlR = false
 is_receiving Internal = false
 
--- what takes its value from the update latch: OUTPUT2, OUTPUT3, BIDIR, CONTROL, CONTROLR and INTERNAL
+-- an entry that takes its value from the update latch: OUTPUT2, OUTPUT3, BIDIR, CONTROL, CONTROLR and INTERNAL
 abbrev pub is_writing : Role → Bool
 is_writing Output2 = true
 is_writing Output3 = true
@@ -63,7 +63,7 @@ is_writing Input = false
 is_writing Clock = false
 is_writing ObserveOnly = false
 
--- what gives the capture its value: a reading entry, or INTERNAL
+-- an entry that defines what its cell captures: a reading entry, or INTERNAL
 abbrev pub is_loading : Role → Bool
 is_loading Internal = true
 is_loading role = is_reading role
@@ -103,42 +103,42 @@ is_linkage Outward = false
 is_linkage Both = false
 is_linkage Buffer = false
 
--- X is taken as 0
+-- the bit that stands for a symbol: 0 for X
 abbrev pub bit_of : Symbol → Bool
 bit_of One = true
 bit_of Zero = false
 bit_of Any = false
 
--- the entry is on this port bit
+-- the entry is on port bit `bit`
 abbrev pub is_on : ℕ → Option ℕ → Bool
 is_on bit None = false
 is_on bit (Some b) = b == bit
 
--- a driving entry of this port bit
+-- the entry is a driving entry of port bit `bit`
 abbrev pub drives_bit : ℕ → Cell → Bool
 drives_bit bit cell = is_on bit cell.bit && is_driving cell.role
 
--- a receiver's entry of this port bit
+-- the entry is a receiver's entry of port bit `bit`
 abbrev pub reads_bit : ℕ → Cell → Bool
 reads_bit bit cell = is_on bit cell.bit && is_receiving cell.role
 
--- the driving entry of a port bit: there is at most one
+-- the driving entry of a port bit, which has at most one
 abbrev pub driving_entry : RawDevice → ℕ → Option Cell
 driving_entry device bit = find (drives_bit bit) device.cells
 
--- the first entry of a cell that has one of these roles
+-- the first entry of a cell with one of these roles
 abbrev pub entry_of : (Role → Bool) → RawDevice → ℕ → Option Cell
 entry_of roles device cell = find (λ entry. (entry.num == cell) && roles entry.role) device.cells
 
--- the reading entry of a cell: there is at most one
+-- the reading entry of a cell, which has at most one
 abbrev pub reading_entry : RawDevice → ℕ → Option Cell
 reading_entry device cell = entry_of is_reading device cell
 
--- the entry that the update latch of a cell is for: there is at most one
+-- the entry for the update latch of a cell, which has at most one
 abbrev pub writing_entry : RawDevice → ℕ → Option Cell
 writing_entry device cell = entry_of is_writing device cell
 
--- the first of two entries that is there
+-- the first entry if it is there, otherwise the second
 abbrev pub or_entry : Option Cell → Option Cell → Option Cell
 or_entry None second = second
 or_entry (Some first) second = Some first
@@ -147,21 +147,21 @@ or_entry (Some first) second = Some first
 abbrev pub safe_value : RawDevice → ℕ → Option Symbol
 safe_value device cell = option_map (λ entry. entry.safe) (or_entry (writing_entry device cell) (reading_entry device cell))
 
--- the control is this cell
+-- the control is cell number `cell`
 abbrev pub is_control_of : ℕ → Option Control → Bool
 is_control_of cell None = false
 is_control_of cell (Some control) = control.cell == cell
 
--- the disable value that an entry gives
+-- the disable value of an entry's control, if the entry has a control
 abbrev pub disable_in : ℕ → Option Cell → Option Bool
 disable_in cell None = None
 disable_in cell (Some entry) = option_map (λ control. control.disable) entry.ctl
 
--- the value at which a cell disables what it controls, if it controls anything
+-- the value at which a cell disables the drivers that it controls, if it controls any
 abbrev pub disable_of : RawDevice → ℕ → Option Bool
 disable_of device cell = disable_in cell (find (λ entry. is_control_of cell entry.ctl) device.cells)
 
--- an entry that makes its cell a control cell
+-- the entry makes cell number `cell` a control cell
 abbrev pub is_control_entry : ℕ → Cell → Bool
 is_control_entry cell entry = (entry.num == cell) && is_controlling entry.role
 
@@ -178,13 +178,13 @@ abbrev pub AreIndexed : List PortBit → Type 0
 AreIndexed bits =
     (map (λ bit. bit.index) bits ≡ None ∷ []) ⊎ ((left : ℕ) × (right : ℕ) × (map (λ bit. bit.index) bits ≡ map Some (range_indexes left right)))
 
--- the bits of one port: of one mode, and all with a pin where the pin map names the port, else all without
+-- the bits of one port have one mode, and the pin map gives all of them a pin or none
 pub record ArePort (bits : List PortBit) : Type 0 where
   pub indexed : AreIndexed bits
   pub one_mode : AllPairs (λ a b. a.mode ≡ b.mode) bits
   pub mapped_whole : AllPairs (λ a b. is_some a.pin ≡ is_some b.pin) bits
 
--- the bits stand in the order of the ports, and each port has bits
+-- the bits are in the order of the ports, ports have different names, and each port has bits
 pub record AreOfPorts (device : RawDevice) : Type 0 where
   pub ports_differ : AllPairs (λ a b. a ≢ b) device.ports
   pub in_order : IsNonDecreasing (map (λ bit. bit.port) device.bits)
@@ -195,18 +195,18 @@ pub record AreOfPorts (device : RawDevice) : Type 0 where
 abbrev pub IsTapBit : PortBit → Type 0
 IsTapBit bit = (bit.index ≡ None) × ((bit.mode ≡ Inward) ⊎ (bit.mode ≡ Outward))
 
--- one TAP port is of mode out: TDO; three or four are of mode in: TDI, TMS, TCK and perhaps TRST*
+-- one TAP port, TDO, has mode out; three or four have mode in: TDI, TMS, TCK and perhaps TRST*
 pub record HasTap (bits : List PortBit) : Type 0 where
   pub plain : All (λ bit. IsTrue bit.tap → IsTapBit bit) bits
   pub outward : count_by (λ bit. bit.tap && may_drive bit.mode) bits ≡ 1
   pub inward : (count_by (λ bit. bit.tap && may_receive bit.mode) bits ≡ 3) ⊎ (count_by (λ bit. bit.tap && may_receive bit.mode) bits ≡ 4)
 
--- no pin stands at two port bits
+-- no pin is at two port bits
 abbrev pub PortPinsDiffer : RawDevice → Type 0
 PortPinsDiffer device =
     (i j : ℕ) (a b : PortBit) (pin : List ℕ) → slice_get device.bits i ≡ Some a → slice_get device.bits j ≡ Some b → a.pin ≡ Some pin → b.pin ≡ Some pin → i ≡ j
 
--- an entry has a place exactly where it is none of CONTROL, CONTROLR and INTERNAL, and the place is a port bit
+-- an entry is on a port bit if and only if it is not CONTROL, CONTROLR or INTERNAL, and that bit exists
 abbrev pub HasPlace : ℕ → Role → Option ℕ → Type 0
 HasPlace bits role None = is_inner role ≡ true
 HasPlace bits role (Some bit) = (is_inner role ≡ false) × (bit < bits)
@@ -218,18 +218,18 @@ MayHaveControl Output3 control = IsSome control
 MayHaveControl Bidir control = IsSome control
 MayHaveControl role control = IsNone control
 
--- a control is the entry's own cell, or a cell with a CONTROL or CONTROLR entry
+-- each control is the entry's own cell, or a cell with a CONTROL or CONTROLR entry
 abbrev pub ControlsStand : RawDevice → Type 0
 ControlsStand device =
     (i : ℕ) (e : Cell) (control : Control) → slice_get device.cells i ≡ Some e → e.ctl ≡ Some control →
     ((control.cell == e.num) || list_any (is_control_entry control.cell) device.cells) ≡ true
 
--- entries with one control cell have one disable value
+-- entries with the same control cell have the same disable value
 abbrev pub OneDisable : RawDevice → Type 0
 OneDisable device =
     (i j : ℕ) (e d : Cell) (a b : Control) → slice_get device.cells i ≡ Some e → slice_get device.cells j ≡ Some d → e.ctl ≡ Some a → d.ctl ≡ Some b → a.cell ≡ b.cell → a.disable ≡ b.disable
 
--- a cell number has at most one entry of these roles
+-- a cell number has at most one entry with one of these roles
 abbrev pub OneOf : (Role → Bool) → RawDevice → Type 0
 OneOf roles device =
     (i j : ℕ) (e d : Cell) → slice_get device.cells i ≡ Some e → slice_get device.cells j ≡ Some d → roles e.role ≡ true → roles d.role ≡ true → e.num ≡ d.num → i ≡ j
@@ -245,7 +245,8 @@ EntriesFitPorts device =
     (i b : ℕ) (e : Cell) (bit : PortBit) → slice_get device.cells i ≡ Some e → e.bit ≡ Some b → slice_get device.bits b ≡ Some bit →
     (bit.tap ≡ false) × (is_driving e.role ≡ true → may_drive bit.mode ≡ true)
 
--- the instruction codes are given bits; the all-ones code is that of BYPASS
+-- The preload and EXTEST codes have the length of the instruction register and no X. Neither is all ones, which is the BYPASS code, and
+-- they differ. In a description older than 2001, EXTEST is all zeros. An identification pattern has 32 bits.
 pub record HasCodes (device : RawDevice) : Type 0 where
   pub sample_length : length device.sample ≡ device.ir
   pub extest_length : length device.extest ≡ device.ir
@@ -257,7 +258,7 @@ pub record HasCodes (device : RawDevice) : Type 0 where
   pub old_extest : device.edition ≡ Old → All (λ s. s ≡ Zero) device.extest
   pub idcode_length : IfSome device.idcode (λ code. length code ≡ 32)
 
--- what is known of each device
+-- the rules that every device keeps
 pub record IsDevice (device : RawDevice) : Type 0 where
   pub ir_least : 2 ≤ device.ir
   pub ir_most : device.ir ≤ most_instruction_bits

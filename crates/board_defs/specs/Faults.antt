@@ -36,7 +36,7 @@ tested_pins_in board net = map (λ place. record { net = net.0; place = place })
 abbrev pub tested_pins : RawBoard → List PinRef
 tested_pins board = flat_map (tested_pins_in board) (numbered_nets board)
 
--- the pairs of nets that one safe setting observes, in pair order
+-- the pairs of nets that one safe setting observes both, in pair order
 abbrev pub paired_nets : RawBoard → List (Numbered × Numbered)
 paired_nets board = filter (λ pair. are_paired board pair.0.1 pair.1.1) (pairs_within (numbered_nets board))
 

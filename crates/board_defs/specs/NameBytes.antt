@@ -1,4 +1,4 @@
--- The bytes of a name, wherever it keeps them.
+-- The bytes of a name, wherever they are kept.
 use Rattle.std.specs.Prelude.{List, ℕ, take, ◌≤◌, ⊤}
 use Rattle.board_defs.specs.declared.name.Kept.{Kept}
 use Rattle.board_defs.specs.declared.name.Kept.TheVariants.{Short, Long}
@@ -7,7 +7,7 @@ abbrev pub kept_bytes : Kept → List ℕ
 kept_bytes (Short bytes count) = take count bytes
 kept_bytes (Long bytes) = bytes.items
 
--- No more bytes count than there are.
+-- A short name uses no more bytes than it has room for.
 abbrev pub HasLength : Kept → Type 0
 HasLength (Short bytes count) = count ≤ 24
 HasLength (Long bytes) = ⊤

@@ -1,4 +1,4 @@
--- The passes of a board: first until each tested driver is enabled, then until each two paired nets are observed by one pass.
+-- The passes of a board. The first ones enable each tested driver; the ones after them observe each two paired nets in one pass.
 use Rattle.std.specs.Prelude.{◌≡◌, ◌⊎◌, ℕ, Bool, true, false, not, ◌&&◌, List, [], ◌∷◌, ◌++◌, map, filter, filter_map, find, fold, take, length, Option, Some, None, slice_get, cond}
 use Rattle.std.specs.List.{list_any, list_all, flat_map, enumerate_from, range_with_len}
 use Rattle.board_defs.specs.declared.board.PartKind.{PartKind}
@@ -25,7 +25,7 @@ all_cells board = flat_map (λ part. cells_of part.0 part.1.kind) (enumerate_fro
 abbrev pub useful_controls : RawBoard → List Ctl
 useful_controls board = filter (is_useful board) (all_cells board)
 
--- how the pin at this place is enabled, where it is a tested driver
+-- how the driver at `place` is enabled, if it is a tested driver
 abbrev pub tested_drive : RawBoard → Net → ℕ → Option Drive
 tested_drive board net place = cond (is_tested_driver board net place) (place_drive board net place) None
 
@@ -39,29 +39,29 @@ is_enabled setting AlwaysOn = true
 is_enabled setting OneSided = false
 is_enabled setting (By c) = holds setting c
 
--- the setting with the control of the driver
+-- the setting with the driver's control added
 abbrev pub with_driver : List Ctl → Drive → List Ctl
 with_driver setting AlwaysOn = setting
 with_driver setting OneSided = setting
 with_driver setting (By c) = inserted c setting
 
--- the control is together with all controls of the setting
+-- the control is together with every control of the setting
 abbrev pub fits : RawBoard → List Ctl → Ctl → Bool
 fits board setting c = list_all (are_together board c) setting
 
--- no earlier pass enables the tested drivers of a useful control
+-- no earlier pass has the control, and so none enables the drivers that it controls
 abbrev pub is_new : List (List Ctl) → Ctl → Bool
 is_new earlier c = not (list_any (λ pass. holds pass c) earlier)
 
--- goes through the controls in order, and adds each that the test accepts for the setting so far
+-- goes through the controls in order, and adds each control that `accepts` takes for the setting so far
 abbrev pub walk : (List Ctl → Ctl → Bool) → List Ctl → List Ctl → List Ctl
 walk accepts controls setting = fold (λ s c. cond (accepts s c) (inserted c s) s) setting controls
 
--- first walk: each useful control that fits and controls a tested driver which no earlier pass enables
+-- First walk: adds each useful control that fits and controls a tested driver that no earlier pass enables.
 abbrev pub first_walk : RawBoard → List Ctl → List (List Ctl) → List Ctl → List Ctl
 first_walk board useful earlier setting = walk (λ s c. is_new earlier c && fits board s c) useful setting
 
--- second walk: each useful control that fits
+-- Second walk: adds each useful control that fits.
 abbrev pub second_walk : RawBoard → List Ctl → List Ctl → List Ctl
 second_walk board useful setting = walk (fits board) useful setting
 
@@ -69,15 +69,15 @@ second_walk board useful setting = walk (fits board) useful setting
 abbrev pub driver_pass : RawBoard → List Ctl → List (List Ctl) → Drive → List Ctl
 driver_pass board useful earlier d = second_walk board useful (first_walk board useful earlier (with_driver [] d))
 
--- the passes, and one more for the driver where none so far enables it
+-- the passes, followed by one for the driver unless one of them enables it
 abbrev pub add_for_driver : RawBoard → List Ctl → List (List Ctl) → Drive → List (List Ctl)
 add_for_driver board useful passes d = cond (list_any (λ pass. is_enabled pass d) passes) passes (passes ++ driver_pass board useful passes d ∷ [])
 
--- the passes until each of the drivers is enabled
+-- the passes that the drivers need in turn, until each is enabled
 abbrev pub driver_passes : RawBoard → List Ctl → List Drive → List (List Ctl)
 driver_passes board useful drivers = fold (add_for_driver board useful) [] drivers
 
--- the pass enables a tested driver of the net, and so observes it
+-- the pass enables one of the net's tested drivers, and so observes the net
 abbrev pub shows : List Drive → List Ctl → Bool
 shows drivers pass = list_any (is_enabled pass) drivers
 
@@ -85,7 +85,7 @@ shows drivers pass = list_any (is_enabled pass) drivers
 abbrev pub are_shown : List (List Ctl) → List Drive → List Drive → Bool
 are_shown passes a b = list_any (λ pass. shows a pass && shows b pass) passes
 
--- the pairs of one of the first list and one of the second, in order
+-- the pairs of an item of the first list and an item of the second, in order
 abbrev pub pairs_of : {X : Type 0} → List X → List X → List (X × X)
 pairs_of xs ys = flat_map (λ x. map (λ y. (x, y)) ys) xs
 
@@ -94,7 +94,7 @@ abbrev pub pairs_within : {X : Type 0} → List X → List (X × X)
 pairs_within [] = []
 pairs_within (x ∷ xs) = map (λ y. (x, y)) xs ++ pairs_within xs
 
--- the first tested drivers of two nets that one safe setting enables
+-- the first pair of tested drivers, one of each net, that one safe setting enables
 abbrev pub first_pair : RawBoard → List Drive → List Drive → Option (Drive × Drive)
 first_pair board a b = find (λ pair. are_compatible board (Some pair.0) (Some pair.1)) (pairs_of a b)
 
@@ -102,16 +102,16 @@ first_pair board a b = find (λ pair. are_compatible board (Some pair.0) (Some p
 abbrev pub pair_pass : RawBoard → List Ctl → Drive × Drive → List Ctl
 pair_pass board useful pair = second_walk board useful (with_driver (with_driver [] pair.0) pair.1)
 
--- the passes, and one more for the two drivers where there are two
+-- the passes, followed by one for the two drivers if there are two
 abbrev pub with_pair : RawBoard → List Ctl → List (List Ctl) → Option (Drive × Drive) → List (List Ctl)
 with_pair board useful passes None = passes
 with_pair board useful passes (Some pair) = passes ++ pair_pass board useful pair ∷ []
 
--- the passes, and one more for the two nets where they are paired and none so far shows both
+-- the passes, followed by one for the two nets if they are paired and no pass so far shows both
 abbrev pub add_for_nets : RawBoard → List Ctl → List (List Ctl) → List Drive × List Drive → List (List Ctl)
 add_for_nets board useful passes nets = cond (are_shown passes nets.0 nets.1) passes (with_pair board useful passes (first_pair board nets.0 nets.1))
 
--- the passes, and more until each two of the nets that are paired are observed by one pass
+-- the passes, followed by those that paired nets need in turn, until one pass observes each two of them
 abbrev pub pair_passes : RawBoard → List Ctl → List (List Ctl) → List (List Drive) → List (List Ctl)
 pair_passes board useful passes nets = fold (add_for_nets board useful) passes (pairs_within nets)
 
@@ -126,11 +126,11 @@ passes_of board =
     let nets : List (List Drive) = drivers_by_net board in
     pair_passes board useful (driver_passes board useful (flat_map (λ drivers. drivers) nets)) nets
 
--- some pass does
+-- `P` is true of some pass
 abbrev pub SomePass : List (List Ctl) → (Enabling → Type 0) → Type 0
 SomePass passes P = (x : ℕ) × (pass : List Ctl) × (slice_get passes x ≡ Some pass) × P (holds pass)
 
--- the pass enables a tested driver that no earlier pass enables, in a net that it observes
+-- the pass enables a tested driver and observes its net, and no earlier pass does that for this driver
 pub record EnablesNew (board : RawBoard) (earlier : List (List Ctl)) (pass : List Ctl) : Type 0 where
   pub net : ℕ
   pub place : ℕ
@@ -146,7 +146,7 @@ pub record ObservesNew (board : RawBoard) (earlier : List (List Ctl)) (pass : Li
   pub observes : ObservesNet board (holds pass) low × ObservesNet board (holds pass) high
   pub first : SomePass earlier (λ setting. ObservesNet board setting low × ObservesNet board setting high) → ⊥
 
--- what passes are to do: each is safe, what some safe setting does, some pass does, and each does something that no earlier one does
+-- What passes must do: each is safe; what some safe setting does, some pass does; and each pass does something that no earlier pass does.
 pub record ArePasses (board : RawBoard) (passes : List (List Ctl)) : Type 0 where
   pub safe : (x : ℕ) (pass : List Ctl) → slice_get passes x ≡ Some pass → IsSafe board (holds pass)
   pub nets : (n : ℕ) → IsCovered board n → SomePass passes (λ setting. ObservesNet board setting n)

@@ -1,4 +1,4 @@
--- Settings: which drivers a set of controls enables, when that is safe, and which nets it observes.
+-- Settings: which drivers a set of controls enables, when that is safe, and which nets the setting observes.
 use Rattle.std.specs.Prelude.{◌≡◌, ◌≢◌, ℕ, nat_lt, cond, ◌==◌, Bool, true, false, ◌&&◌, ◌||◌, List, [], ◌∷◌, Option, Some, None, slice_get, AllPairs, IsTrue}
 use Rattle.std.specs.List.{list_any}
 use Rattle.board_defs.specs.declared.device.Control.{Control}
@@ -11,15 +11,15 @@ use Rattle.board_defs.specs.declared.board.Ctl.{Ctl}
 use Rattle.board_defs.specs.declared.board.Drive.TheVariants.{By}
 use Rattle.board_defs.specs.Pins.{drive, receives, guarded, entry_at, is_pinned}
 
--- a set of controls, as the test of whether it holds one
+-- a set of controls, as the test whether a control is in it
 abbrev pub Enabling : Type 0
 Enabling = Ctl → Bool
 
--- the two controls are one
+-- the two controls are the same
 abbrev pub same_ctl : Ctl → Ctl → Bool
 same_ctl a b = (a.part == b.part) && (a.cell == b.cell)
 
--- the set that a list gives
+-- the set of the controls in a list
 abbrev pub holds : List Ctl → Enabling
 holds list c = list_any (same_ctl c) list
 
@@ -39,26 +39,26 @@ precedes a b = nat_lt a.part b.part || ((a.part == b.part) && nat_lt a.cell b.ce
 abbrev pub IsInControlOrder : List Ctl → Type 0
 IsInControlOrder list = AllPairs (λ a b. IsTrue (precedes a b)) list
 
--- the list with the control at its place in control order, where it is not there
+-- the list with the control inserted at its place in control order, unless it is already there
 abbrev pub inserted : Ctl → List Ctl → List Ctl
 inserted c [] = c ∷ []
 inserted c (d ∷ list) = cond (precedes d c) (d ∷ inserted c list) (cond (same_ctl c d) (d ∷ list) (c ∷ d ∷ list))
 
--- a driver without a control is enabled by every setting, the others by those that hold their control
+-- every setting enables a driver without a control; a setting enables any other driver if it holds the driver's control
 abbrev pub enables_by : Enabling → ℕ → Option Control → Bool
 enables_by setting part None = true
 enables_by setting part (Some control) = setting (record { part = part; cell = control.cell })
 
--- the setting enables a driver by its driving entry
+-- the setting enables the driver with this driving entry, if there is one
 abbrev pub enables_entry : Enabling → ℕ → Option Cell → Bool
 enables_entry setting part None = false
 enables_entry setting part (Some cell) = enables_by setting part cell.ctl
 
--- whether the setting enables a driver there
+-- the setting enables the driver at place `at` of the chain, if there is one
 abbrev pub enables_at : RawBoard → Enabling → PinAt → Bool
 enables_at board setting at = enables_entry setting at.part (entry_at board at)
 
--- the setting enables a driver at this place of the chain
+-- like `enables_at`, for the place of a pin, if it has one
 abbrev pub enables_where : RawBoard → Enabling → Option PinAt → Bool
 enables_where board setting None = false
 enables_where board setting (Some at) = enables_at board setting at
@@ -67,17 +67,18 @@ enables_where board setting (Some at) = enables_at board setting at
 abbrev pub enables : RawBoard → Enabling → NetPin → Bool
 enables board setting pin = enables_where board setting pin.at
 
--- the pin stands in an unguarded net that is pulled to this value
+-- the pin at `at` is in an unguarded net that is pulled to `value`
 abbrev pub SwitchesAt : RawBoard → PinAt → Bool → Type 0
 SwitchesAt board at value = (n : ℕ) × (net : Net) × (i : ℕ) × (pin : NetPin) × (slice_get board.nets n ≡ Some net) × (slice_get net.pins i ≡ Some pin) × (pin.at ≡ Some at) × (guarded board net ≡ false) × (net.pull ≡ Some value)
 
--- each net has at most one enabled driver; no controlled driver on a guarded net is enabled; and no one-sided driver is, on a net or not: a driver that its own cell enables is a switching one
+-- Each net has at most one enabled driver. No controlled driver of a guarded net is enabled. A driver that its own cell enables is a
+-- switching one, so no one-sided driver is enabled, on a net or not.
 pub record IsSafe (board : RawBoard) (setting : Enabling) : Type 0 where
   pub one : (n : ℕ) (net : Net) (i j : ℕ) (p q : NetPin) → slice_get board.nets n ≡ Some net → slice_get net.pins i ≡ Some p → slice_get net.pins j ≡ Some q → i ≢ j → enables board setting p ≡ true → enables board setting q ≡ true → ⊥
   pub free : (n : ℕ) (net : Net) (i : ℕ) (p : NetPin) (c : Ctl) → slice_get board.nets n ≡ Some net → slice_get net.pins i ≡ Some p → guarded board net ≡ true → drive board net p ≡ Some (By c) → setting c ≡ false
   pub own : (at : PinAt) (cell : Cell) (control : Control) → is_pinned board at ≡ true → entry_at board at ≡ Some cell → cell.ctl ≡ Some control → control.cell ≡ cell.num → setting (record { part = at.part; cell = control.cell }) ≡ true → SwitchesAt board at control.disable
 
--- the setting enables the pin at this place of the net, which is not guarded, and another pin of it receives
+-- the setting enables the pin at `place` of the net, the net is not guarded, and another pin of it is a receiver
 pub record ObservesBy (board : RawBoard) (setting : Enabling) (net : Net) (place : ℕ) : Type 0 where
   pub pin : NetPin
   pub stands : slice_get net.pins place ≡ Some pin
@@ -89,15 +90,15 @@ pub record ObservesBy (board : RawBoard) (setting : Enabling) (net : Net) (place
   pub another : other ≢ place
   pub reads : receives board reader ≡ true
 
--- the setting observes the net, by some pin
+-- the setting observes the net by some pin
 abbrev pub Observes : RawBoard → Enabling → Net → Type 0
 Observes board setting net = (place : ℕ) × ObservesBy board setting net place
 
--- the same of a net by its number
+-- like `Observes`, for a net given by its number
 abbrev pub ObservesNet : RawBoard → Enabling → ℕ → Type 0
 ObservesNet board setting n = (net : Net) × (slice_get board.nets n ≡ Some net) × Observes board setting net
 
--- a setting is safe where each of its controls alone and every two of them are
+-- each control of the setting alone is safe, and so are every two of them
 pub record IsPairwiseSafe (board : RawBoard) (setting : Enabling) : Type 0 where
   pub each : (c : Ctl) → setting c ≡ true → IsSafe board (just c)
   pub each_two : (c d : Ctl) → setting c ≡ true → setting d ≡ true → IsSafe board (both c d)

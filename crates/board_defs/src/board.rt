@@ -10,8 +10,8 @@ use crate::name::Name;
 use lists::Items;
 use std::marker::Model;
 
-/// What a part of the chain is: a described device, or a part of which only the length of its
-/// instruction register is known, and which stays in BYPASS.
+/// A part of the chain: a described device, or a part of which only the instruction register's length is known
+/// and which stays in BYPASS.
 #[derive(Drop)]
 pub enum PartKind {
     Described(Device),
@@ -25,7 +25,7 @@ pub struct Part {
     pub kind: PartKind,
 }
 
-/// The part of the chain and the port bit that have a pin, each by its number.
+/// The place of a pin in the chain: the number of the part and the number of the port bit.
 #[derive(Clone, Copy)]
 pub struct PinAt {
     pub part: u32,
@@ -39,7 +39,7 @@ pub struct NetPin {
     pub pin: Name,
     /// Where the pin is in the chain, for a pin of a described part.
     pub at: Option<PinAt>,
-    /// Whether the pin's part neither drives nor connects.
+    /// Whether the pin's part is inert: it neither drives nor connects anything.
     pub inert: bool,
 }
 
@@ -49,26 +49,26 @@ pub struct Net {
     pub name: Name,
     /// Whether the net carries a supply.
     pub supply: bool,
-    /// The value that a resistor pulls the net to.
+    /// The value to which a resistor pulls the net, if one does.
     pub pull: Option<bool>,
     pub pins: Items<NetPin>,
 }
 
-/// A board as the plain record of its chain, in the order from TDI to TDO, and its nets.
+/// A board as a plain record: its chain, in the order from TDI to TDO, and its nets.
 #[derive(Drop)]
 pub struct RawBoard {
     pub chain: Items<Part>,
     pub nets: Items<Net>,
 }
 
-/// A pin by the number of its net and its place in the net.
+/// A pin: the number of its net and its place in that net.
 #[derive(Clone, Copy)]
 pub struct PinRef {
     pub net: u32,
     pub place: u32,
 }
 
-/// A control: a part of the chain and a cell of its boundary register, each by its number.
+/// A control: the number of a part in the chain and the number of a cell in its boundary register.
 #[derive(Clone, Copy, PartialEq, Eq)]
 pub struct Ctl {
     pub part: u32,
@@ -76,7 +76,7 @@ pub struct Ctl {
 }
 
 impl Ctl {
-    /// Whether this control is the other one.
+    /// Returns whether the two controls are the same.
     pub fn is_same(self, other: Ctl) -> bool
         ensures { result ≡ same_ctl self other }
     {
@@ -88,11 +88,11 @@ impl Ctl {
 #[derive(Clone, Copy, PartialEq, Eq)]
 pub enum Drive {
     AlwaysOn,
-    /// By its own cell, where the net is guarded or not pulled to the value at which the cell
-    /// disables it: its data and its enabling cannot be told apart, so no safe setting enables it.
+    /// By its own cell, on a net that is guarded or is not pulled to the cell's disable value. The same bit then
+    /// carries the data and enables the driver, so no safe setting enables it.
     OneSided,
-    /// By a control cell; also by its own cell, where the net is not guarded and is pulled to the
-    /// disable value, so that the pull gives the bit while the driver is off.
+    /// By a control cell. Also by its own cell, if the net is not guarded and is pulled to the disable value: the
+    /// pull then gives the bit while the driver is off.
     By(Ctl),
 }
 
@@ -115,7 +115,7 @@ impl Model for Board {
 }
 
 impl Board {
-    /// The board of a record that keeps the rules.
+    /// Returns the board with this record.
     pub fn new(raw: RawBoard) -> Board
         requires { IsBoard raw }
         ensures { result ≡ raw }
@@ -123,7 +123,7 @@ impl Board {
         Board { raw }
     }
 
-    /// The record, which keeps the rules.
+    /// Returns the record.
     pub fn raw(&self) -> &RawBoard
         ensures value { result.now ≡ self.now }
         ensures rules { IsBoard self.now }
@@ -131,22 +131,22 @@ impl Board {
         &self.raw
     }
 
-    /// The length of an instruction scan of the whole chain.
+    /// Returns the length of an instruction scan of the whole chain, in bits.
     pub fn ir_bits(&self) -> u32
         ensures { result ≡ instruction_bits self.now }
     {
         instruction_bits(self.raw().chain.as_slice())
     }
 
-    /// The length of a data scan of the whole chain with the boundary registers of the
-    /// described parts and the bypass registers of the others.
+    /// Returns the length of a data scan of the whole chain, in bits. A described part takes part with its boundary
+    /// register, any other part with its bypass register.
     pub fn dr_bits(&self) -> u32
         ensures { result ≡ data_bits self.now }
     {
         data_bits(self.raw().chain.as_slice())
     }
 
-    /// Whether the net is guarded: it may have no enabled driver but those that are always on.
+    /// Returns whether the net is guarded: only drivers that are always on may be enabled on it.
     pub fn is_guarded(&self, net: u32) -> bool
         requires { net < length self.now.nets }
         ensures { result ≡ guarded_at self.now net }
@@ -155,7 +155,7 @@ impl Board {
         raw.is_guarded(&raw.nets.as_slice()[net as usize])
     }
 
-    /// How the pin drives its net; None where it is no driver.
+    /// Returns how the pin's driver is enabled, or None if the pin is not a driver.
     pub fn drive(&self, pin: PinRef) -> Option<Drive>
         requires { IsOnBoard self.now pin }
         ensures { result ≡ drive_at self.now pin }
@@ -163,8 +163,8 @@ impl Board {
         self.raw().drive_at(pin)
     }
 
-    /// Whether the pin is a switching driver: one that its own cell enables, on a net that is
-    /// not guarded and is pulled to the disable value.
+    /// Returns whether the pin is a switching driver: its own cell enables it, and its net is not guarded and is
+    /// pulled to the disable value.
     pub fn switches(&self, pin: PinRef) -> bool
         requires { IsOnBoard self.now pin }
         ensures { result ≡ switches_at self.now pin }
@@ -172,7 +172,7 @@ impl Board {
         self.raw().switches_at(pin)
     }
 
-    /// Whether the pin is a receiver.
+    /// Returns whether the pin is a receiver.
     pub fn receives(&self, pin: PinRef) -> bool
         requires { IsOnBoard self.now pin }
         ensures { result ≡ receives_at self.now pin }

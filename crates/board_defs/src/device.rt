@@ -1,4 +1,4 @@
-// A device, as its description gives it.
+// A device, as its BSDL description defines it.
 ghost use Rattle.std.specs.Prelude.{◌≡◌, ◌==◌, ◌<◌, ◌^◌, length, slice_get, Some, IfOk};
 ghost use Rattle.board_defs.specs.DeviceRules.{IsDevice};
 
@@ -7,7 +7,7 @@ use lists::Items;
 use std::alloc::{AllocError, Global};
 use std::marker::Model;
 
-/// A bit of a pattern: 0, 1, or X, which fits both.
+/// A bit of a pattern: 0, 1, or X, which matches both.
 #[derive(Clone, Copy, Debug, PartialEq, Eq)]
 pub enum Symbol {
     Zero,
@@ -15,7 +15,7 @@ pub enum Symbol {
     Any,
 }
 
-/// The pattern of a register, the bit nearest TDO first; fewer than 2^32 symbols.
+/// A register's pattern, starting with the bit nearest TDO. It has fewer than 2^32 symbols.
 #[derive(Debug, Drop)]
 pub struct Code {
     symbols: Vec<Symbol>,
@@ -33,7 +33,7 @@ impl Model for Code {
 }
 
 impl Code {
-    /// The code with these symbols.
+    /// Returns the code with these symbols, which it copies.
     pub fn of(alloc: Global, symbols: &[Symbol]) -> Result<Code, AllocError>
         requires { length symbols.now < 2 ^ 32 }
         ensures { IfOk result (λ code. code ≡ symbols.now) }
@@ -43,7 +43,7 @@ impl Code {
         })
     }
 
-    /// The code of these symbols, which it takes over.
+    /// Returns the code with these symbols, which it takes over.
     pub fn from_vec(symbols: Vec<Symbol>) -> Code
         requires { length symbols.items < 2 ^ 32 }
         ensures { result ≡ symbols.items }
@@ -51,7 +51,7 @@ impl Code {
         Code { symbols }
     }
 
-    /// The symbols, the one nearest TDO first.
+    /// Returns the symbols, starting with the one nearest TDO.
     pub fn symbols(&self) -> &[Symbol]
         ensures value { result.now ≡ self.now }
         ensures short { length self.now < 2 ^ 32 }
@@ -59,21 +59,21 @@ impl Code {
         &self.symbols
     }
 
-    /// How many symbols the code has.
+    /// Returns the number of symbols.
     pub fn len(&self) -> u32
         ensures { result ≡ length self.now }
     {
         self.symbols.len() as u32
     }
 
-    /// Whether the code has no symbol.
+    /// Returns whether the code has no symbols.
     pub fn is_empty(&self) -> bool
         ensures { result ≡ (length self.now == 0) }
     {
         self.symbols.is_empty()
     }
 
-    /// The symbol at this place, counted from the bit nearest TDO.
+    /// Returns the symbol at place `i`, counted from 0 at the bit nearest TDO.
     pub fn at(&self, i: u32) -> Symbol
         requires { i < length self.now }
         ensures { slice_get self.now i ≡ Some result }
@@ -106,8 +106,8 @@ pub enum Role {
     ObserveOnly,
 }
 
-/// The edition of IEEE 1149.1 that a description follows. That of 2001 splits SAMPLE/PRELOAD
-/// in two, and no longer requires that EXTEST be all zeros.
+/// The edition of IEEE 1149.1 that a description follows. The 2001 edition splits SAMPLE/PRELOAD in two, and no
+/// longer requires an EXTEST code of all zeros.
 #[derive(Clone, Copy, Debug)]
 pub enum Edition {
     Old,
@@ -121,17 +121,16 @@ pub struct Control {
     pub disable: bool,
 }
 
-/// An entry of the boundary register. A cell of the register may have two: one that reads and
-/// one that the update latch is for.
+/// An entry of the boundary register. A cell may have two entries: one that reads its pin, and one for its update
+/// latch.
 #[derive(Clone, Copy)]
 pub struct Cell {
     /// The number of the boundary cell, 0 nearest TDO.
     pub num: u32,
     pub role: Role,
-    /// The number of the port bit, among the device's port bits; none for CONTROL, CONTROLR and
-    /// INTERNAL.
+    /// The number of the port bit among the device's port bits. CONTROL, CONTROLR and INTERNAL entries have none.
     pub bit: Option<u32>,
-    /// The value that the designer asks for while the cell is not used.
+    /// The value that the designer wants in the cell while it is not used.
     pub safe: Symbol,
     pub ctl: Option<Control>,
 }
@@ -141,12 +140,12 @@ pub struct Cell {
 pub struct PortBit {
     /// The number of the port.
     pub port: u32,
-    /// The index, for a bit of a vector.
+    /// The bit's index in its vector, if the port is a vector.
     pub index: Option<u32>,
     pub mode: Mode,
-    /// The pin of the chosen pin map, where the map names the port.
+    /// The pin that the chosen pin map gives the bit, if the map names the port.
     pub pin: Option<Name>,
-    /// Whether the port is of the test access port.
+    /// Whether the port belongs to the test access port.
     pub tap: bool,
     /// Whether the compliance patterns name the bit.
     pub compliance: bool,
@@ -161,14 +160,14 @@ pub struct RawDevice {
     pub ports: Items<Name>,
     /// The length of the instruction register, from 2 to 255.
     pub ir: u32,
-    /// The code of the instruction that preloads the boundary register.
+    /// The code of the instruction that preloads the boundary register: SAMPLE/PRELOAD or PRELOAD.
     pub sample: Code,
     pub extest: Code,
-    /// The pattern of the identification code, where there is one.
+    /// The pattern of the identification code, if the device has one.
     pub idcode: Option<Code>,
     /// The length of the boundary register, from 1 to 65,535.
     pub boundary: u32,
-    /// The port bits in the order of the ports, those of a vector from left to right.
+    /// The port bits in the order of the ports. The bits of a vector are in order from left to right.
     pub bits: Items<PortBit>,
     pub cells: Items<Cell>,
 }
@@ -192,7 +191,7 @@ impl Model for Device {
 }
 
 impl Device {
-    /// The device of a record that keeps the rules.
+    /// Returns the device with this record.
     pub fn new(raw: RawDevice) -> Device
         requires { IsDevice raw }
         ensures { result ≡ raw }
@@ -200,7 +199,7 @@ impl Device {
         Device { raw }
     }
 
-    /// The record, which keeps the rules.
+    /// Returns the record.
     pub fn raw(&self) -> &RawDevice
         ensures value { result.now ≡ self.now }
         ensures rules { IsDevice self.now }

@@ -1,7 +1,7 @@
 // Single faults of a board.
 use crate::board::PinRef;
 
-/// How two shorted nets read.
+/// What the two nets of a short read.
 #[derive(Clone, Copy)]
 pub enum Kind {
     And,

@@ -1,30 +1,30 @@
-//! Laws of boards: each function does nothing, and its contract is the law. A function calls one
-//! to have the law in its proof.
+//! Laws of boards. Each function does nothing, and its contract is the law. A function whose proof needs a law
+//! calls the law's function.
 ghost use Rattle.std.specs.Prelude.{◌≡◌, ℕ, ◌<◌, List, Some, slice_get};
 ghost use Rattle.board_defs.specs.declared.board.Ctl.{Ctl};
 ghost use Rattle.board_defs.specs.declared.board.RawBoard.{RawBoard};
 ghost use Rattle.board_defs.specs.Laws.{SafeByPairs, TermsDecided, PassesKept, SinglesListed};
 ghost use Rattle.board_defs.specs.Passes.{ArePasses};
 
-/// A setting is safe exactly where each of its controls alone and every two of them are.
+/// A setting is safe if and only if each of its controls alone and every two of them are safe.
 pub fn safe_by_pairs()
     ensures { SafeByPairs }
 {}
 
-/// Questions about single controls and pairs decide what some safe setting can do.
+/// Tests of single controls and pairs of controls decide what some safe setting can do.
 pub fn terms_decided()
     ensures { TermsDecided }
 {}
 
-/// The passes of a board are safe, together enable each tested driver and observe each paired nets
-/// at once, and each does something of this that no earlier one does; and the words in which they
-/// are made mean what they say.
+/// Every pass of a board is safe. Together the passes enable each tested driver and observe each two paired nets
+/// in one pass. Each pass does one of these things that no earlier pass does. The tests that choose the passes mean
+/// what their names say.
 pub fn passes_kept()
     ensures { PassesKept }
 {}
 
-/// The list of single faults has exactly those of the board's covered nets, tested pins and
-/// paired nets, each once and in order.
+/// The list of single faults has exactly the faults of the board's covered nets, tested pins and paired nets,
+/// each once and in order.
 pub fn singles_listed()
     ensures { SinglesListed }
 {}

@@ -5,7 +5,7 @@ ghost use Rattle.board_defs.specs.Pins.{instruction_length, data_length};
 use crate::board::{Part, PartKind};
 
 impl PartKind {
-    /// The length of the instruction register.
+    /// Returns the length of the part's instruction register.
     pub fn instruction_length(&self) -> u32
         ensures { result ≡ instruction_length self.now }
     {
@@ -15,7 +15,7 @@ impl PartKind {
         }
     }
 
-    /// The length of the boundary register, or of the bypass register of a part that is not
+    /// Returns the length of the part's boundary register, or 1 for the bypass register of a part that is not
     /// described.
     pub fn data_length(&self) -> u32
         ensures { result ≡ data_length self.now }

@@ -6,18 +6,18 @@ ghost use Rattle.board_defs.specs.NameBytes.{kept_bytes};
 use std::alloc::{AllocError, Global};
 use std::marker::Model;
 
-/// The number of bytes that a name holds without memory of its own: most names of nets, parts and pins are no longer, and a
-/// board has many of them.
+/// The number of bytes that a name holds without memory of its own. A board has many names, and most of them are no
+/// longer than this.
 const SHORT: usize = 24;
 
-// Where the bytes of a name are: in the value itself, of which the first `length` bytes count, or in memory of their own.
+// The bytes of a name: in the value itself, whose first `length` bytes count, or in memory of their own.
 #[derive(Debug, Drop)]
 enum Kept {
     Short { bytes: [u8; SHORT], length: u8 },
     Long(Vec<u8>),
 }
 
-/// A name, seen as the list of its bytes.
+/// A name. Contracts see it as the list of its bytes.
 #[derive(Debug, Drop)]
 pub struct Name {
     kept: Kept,
@@ -52,7 +52,7 @@ impl Name {
         })
     }
 
-    /// Returns the name with these bytes, with the small letters of ASCII as capitals.
+    /// Returns the name with these bytes, its lower-case ASCII letters changed to capitals.
     pub fn in_upper_case(alloc: Global, bytes: &[u8]) -> Result<Name, AllocError>
         ensures { IfOk result (λ name. name ≡ map to_ascii_uppercase bytes.now) }
     {

@@ -1,4 +1,4 @@
-// The questions about a board's pins, over the plain records.
+// Queries about a board's pins, on the plain records.
 ghost use Rattle.std.specs.Prelude.{◌≡◌, ◌≤◌, ◌^◌, ◌<◌, ◌&&◌, option_copied, option_and_then, length, slice_get};
 ghost use Rattle.std.specs.List.{list_any};
 ghost use Rattle.board_defs.specs.DeviceRules.{is_driving, is_reading, is_receiving, is_writing, is_loading, is_controlling, is_inner, may_receive, may_drive, is_linkage, bit_of, is_on, drives_bit, reads_bit, driving_entry};
@@ -9,14 +9,14 @@ use crate::board::{Ctl, Drive, Net, NetPin, Part, PartKind, PinAt, PinRef, RawBo
 use crate::device::{Cell, Control, Mode, PortBit, RawDevice, Role, Symbol};
 
 impl Role {
-    /// Whether an entry drives its port: OUTPUT2, OUTPUT3 and BIDIR.
+    /// Returns whether the entry drives its port: OUTPUT2, OUTPUT3 or BIDIR.
     pub fn is_driving(self) -> bool
         ensures { result ≡ is_driving self }
     {
         matches!(self, Role::Output2 | Role::Output3 | Role::Bidir)
     }
 
-    /// Whether an entry reads its port: INPUT, CLOCK, OBSERVE_ONLY and BIDIR.
+    /// Returns whether the entry reads its port: INPUT, CLOCK, OBSERVE_ONLY or BIDIR.
     pub fn is_reading(self) -> bool
         ensures { result ≡ is_reading self }
     {
@@ -26,36 +26,36 @@ impl Role {
         )
     }
 
-    /// Whether an entry is one of a receiver: INPUT, CLOCK and BIDIR.
+    /// Returns whether the entry can belong to a receiver: INPUT, CLOCK or BIDIR.
     pub fn is_receiving(self) -> bool
         ensures { result ≡ is_receiving self }
     {
         matches!(self, Role::Input | Role::Clock | Role::Bidir)
     }
 
-    /// Whether an entry takes its value from the update latch: OUTPUT2, OUTPUT3, BIDIR, CONTROL,
-    /// CONTROLR and INTERNAL.
+    /// Returns whether the entry takes its value from the update latch: OUTPUT2, OUTPUT3, BIDIR, CONTROL, CONTROLR or
+    /// INTERNAL.
     pub fn is_writing(self) -> bool
         ensures { result ≡ is_writing self }
     {
         self.is_driving() || self.is_inner()
     }
 
-    /// Whether an entry gives the capture its value: a reading entry, or INTERNAL.
+    /// Returns whether the entry defines what its cell captures: a reading entry, or INTERNAL.
     pub fn is_loading(self) -> bool
         ensures { result ≡ is_loading self }
     {
         self.is_reading() || matches!(self, Role::Internal)
     }
 
-    /// Whether an entry makes its cell a control cell: CONTROL and CONTROLR.
+    /// Returns whether the entry makes its cell a control cell: CONTROL or CONTROLR.
     pub fn is_controlling(self) -> bool
         ensures { result ≡ is_controlling self }
     {
         matches!(self, Role::Control | Role::ControlR)
     }
 
-    /// Whether an entry is on no port: CONTROL, CONTROLR and INTERNAL.
+    /// Returns whether the entry is on no port: CONTROL, CONTROLR or INTERNAL.
     pub fn is_inner(self) -> bool
         ensures { result ≡ is_inner self }
     {
@@ -64,21 +64,21 @@ impl Role {
 }
 
 impl Mode {
-    /// Whether the part receives from such a pin: in and inout.
+    /// Returns whether the part receives from a pin of this mode: in or inout.
     pub fn may_receive(self) -> bool
         ensures { result ≡ may_receive self }
     {
         matches!(self, Mode::Inward | Mode::Both)
     }
 
-    /// Whether the part may drive such a pin: out, inout and buffer.
+    /// Returns whether the part may drive a pin of this mode: out, inout or buffer.
     pub fn may_drive(self) -> bool
         ensures { result ≡ may_drive self }
     {
         matches!(self, Mode::Outward | Mode::Both | Mode::Buffer)
     }
 
-    /// Whether the port is of power, ground or another connection that is not digital.
+    /// Returns whether the mode is linkage: power, ground or another connection that is not digital.
     pub fn is_linkage(self) -> bool
         ensures { result ≡ is_linkage self }
     {
@@ -87,7 +87,7 @@ impl Mode {
 }
 
 impl Symbol {
-    /// The bit that is used for it: X is taken as 0.
+    /// Returns the bit that stands for the symbol: 0 for X.
     pub fn bit(self) -> bool
         ensures { result ≡ bit_of self }
     {
@@ -96,7 +96,7 @@ impl Symbol {
 }
 
 impl Cell {
-    /// Whether the entry is on this port bit.
+    /// Returns whether the entry is on port bit `bit`.
     pub fn is_on(&self, bit: u32) -> bool
         ensures { result ≡ is_on bit self.now.bit }
     {
@@ -120,7 +120,7 @@ impl Cell {
 }
 
 impl RawDevice {
-    /// The driving entry of a port bit.
+    /// Returns the driving entry of a port bit, if it has one.
     pub fn driving_entry(&self, bit: u32) -> Option<Cell>
         ensures { result ≡ driving_entry self.now bit }
     {
@@ -187,7 +187,7 @@ impl RawDevice {
 }
 
 impl PartKind {
-    /// The device, where the part is described.
+    /// Returns the part's device, or None if the part is not described.
     pub fn device(&self) -> Option<&RawDevice>
         ensures { option_copied result ≡ described self.now }
     {
@@ -199,7 +199,7 @@ impl PartKind {
 }
 
 impl RawBoard {
-    /// The device of a part of the chain, where it is described.
+    /// Returns the device of part `part`, or None if the chain has no such part or the part is not described.
     pub fn device(&self, part: u32) -> Option<&RawDevice>
         ensures { option_copied result ≡ device_at self.now part }
     {
@@ -209,7 +209,7 @@ impl RawBoard {
         }
     }
 
-    /// The driving entry of a port bit of a part.
+    /// Returns the driving entry of the port bit `at`, if it has one.
     pub fn driving_entry(&self, at: PinAt) -> Option<Cell>
         ensures { result ≡ entry_at self.now at }
     {
@@ -219,7 +219,7 @@ impl RawBoard {
         }
     }
 
-    /// A port bit of a part.
+    /// Returns the port bit `at`, if the part is described and has it.
     pub fn port_bit(&self, at: PinAt) -> Option<&PortBit>
         ensures { option_copied result ≡ bit_at self.now at }
     {
@@ -229,7 +229,7 @@ impl RawBoard {
         }
     }
 
-    /// Whether the port bit has a pin of the chosen pin map.
+    /// Returns whether the chosen pin map gives the port bit a pin.
     pub fn is_pinned(&self, at: PinAt) -> bool
         ensures { result ≡ is_pinned self.now at }
     {
@@ -239,7 +239,7 @@ impl RawBoard {
         }
     }
 
-    /// Whether the pin is of the test access port or named in the compliance patterns.
+    /// Returns whether the pin is a TAP pin or is named in the compliance patterns.
     pub fn is_test_pin(&self, pin: &NetPin) -> bool
         ensures { result ≡ is_test_pin self.now pin.now }
     {
@@ -252,7 +252,7 @@ impl RawBoard {
         }
     }
 
-    /// Whether the pin is dark: something that no setting controls may drive it.
+    /// Returns whether the pin is dark: something that no setting controls may drive it.
     pub fn is_dark(&self, pin: &NetPin) -> bool
         ensures { result ≡ is_dark self.now pin.now }
     {
@@ -277,7 +277,7 @@ impl RawBoard {
         pins.iter().any(|pin| self.guards(pin))
     }
 
-    /// Whether the net is guarded: it may have no enabled driver but those that are always on.
+    /// Returns whether the net is guarded: only drivers that are always on may be enabled on it.
     pub fn is_guarded(&self, net: &Net) -> bool
         ensures { result ≡ guarded self.now net.now }
     {
@@ -317,7 +317,7 @@ impl RawBoard {
         }
     }
 
-    /// How the pin drives the net; None where it is no driver.
+    /// Returns how the pin's driver on `net` is enabled, or None if the pin is not a driver.
     pub fn drive(&self, net: &Net, pin: &NetPin) -> Option<Drive>
         ensures { result ≡ drive self.now net.now pin.now }
     {
@@ -339,7 +339,7 @@ impl RawBoard {
         }
     }
 
-    /// Whether the pin is a switching driver of the net.
+    /// Returns whether the pin is a switching driver of the net.
     pub fn switches(&self, net: &Net, pin: &NetPin) -> bool
         ensures { result ≡ switches self.now net.now pin.now }
     {
@@ -352,7 +352,7 @@ impl RawBoard {
         }
     }
 
-    /// Whether the pin is a receiver.
+    /// Returns whether the pin is a receiver.
     pub fn receives(&self, pin: &NetPin) -> bool
         ensures { result ≡ receives self.now pin.now }
     {

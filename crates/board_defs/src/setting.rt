@@ -7,7 +7,7 @@ use crate::board::Ctl;
 use std::alloc::{AllocError, Global};
 use std::marker::Model;
 
-/// A set of controls, seen as the list of them in control order without repeats.
+/// A set of controls. Contracts see it as the list of the controls, in control order without repeats.
 #[derive(Drop)]
 pub struct Setting {
     controls: Vec<Ctl>,
@@ -26,7 +26,7 @@ impl Model for Setting {
 }
 
 impl Setting {
-    /// The setting without controls.
+    /// Returns the setting without controls.
     pub fn new(alloc: Global) -> Setting
         ensures { result ≡ [] }
     {
@@ -35,7 +35,7 @@ impl Setting {
         }
     }
 
-    /// The setting of these controls, which stand in control order without repeats.
+    /// Returns the setting with these controls, which must be in control order without repeats.
     pub fn of(controls: Vec<Ctl>) -> Setting
         requires { IsInControlOrder controls.items }
         ensures { result ≡ controls.items }
@@ -43,7 +43,7 @@ impl Setting {
         Setting { controls }
     }
 
-    /// The controls in control order: by the part's place in the chain, then by the cell.
+    /// Returns the controls in control order: by the part's place in the chain, then by the cell.
     pub fn controls(&self) -> &[Ctl]
         ensures value { result.now ≡ self.now }
         ensures order { IsInControlOrder self.now }
@@ -51,15 +51,15 @@ impl Setting {
         &self.controls
     }
 
-    /// Whether the setting holds the control.
+    /// Returns whether the setting has the control.
     pub fn has(&self, c: Ctl) -> bool
         ensures { result ≡ holds self.now c }
     {
         has_control(&self.controls, c)
     }
 
-    /// Adds the control at its place in control order, where it is not there. A refusal of
-    /// memory changes nothing.
+    /// Adds the control at its place in control order, unless the setting already has it. If memory is refused,
+    /// nothing changes.
     pub fn add(&mut self, c: Ctl) -> Result<(), AllocError>
         ensures added { OnOk result (self.new ≡ inserted c self.old) }
         ensures same { OnErr result (self.new ≡ self.old) }
@@ -74,7 +74,7 @@ fn comes_before(a: Ctl, b: Ctl) -> bool
     a.part < b.part || (a.part == b.part && a.cell < b.cell)
 }
 
-/// How many controls come before this one.
+/// Returns the number of controls that come before `c`.
 fn place_of(controls: &[Ctl], c: Ctl) -> usize
     requires { IsInControlOrder controls.now }
     ensures place { result ≡ prefix_len (λ d. precedes d c) controls.now }

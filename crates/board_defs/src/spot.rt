@@ -1,6 +1,6 @@
 // A place in a text.
 
-/// A word of a text: its line, from 1, and its place among the words of the line, from 1.
+/// A word of a text: the number of its line and its number among the words of that line, both from 1.
 #[derive(Clone, Copy, Debug)]
 pub struct Spot {
     pub line: u32,
