@@ -1,4 +1,4 @@
--- What is found at the front has the form of its kind.
+-- The token that is found at the front has the form of its kind.
 use Rattle.std.proofs.Common.{◌≡◌, ℕ, zero, suc, ◌+◌, ◌<◌, ◌≤◌, List, [], ◌∷◌, ◌++◌, length, take, drop, Bool, true, false, cond, ◌⊎◌, inl, inr, refl, sym, ◌∙◌, ap, subst, arith, length-drop, nat_eq, Option, Some, None, slice_get}
 use Rattle.std.proofs.Math.Seq.{take-add}
 use Rattle.std.proofs.lemmas.Bool.Decides.{nat_tests}
@@ -27,7 +27,7 @@ digits_front [] n e h = absurd (let k : n ≡ 0 = e in grind (arith, nat_tests))
 digits_front (x ∷ xs) zero e h = cc
 digits_front (x ∷ xs) (suc n) e h = subst (λ m. list_all is_ascii_digit (take m (x ∷ xs)) ≡ true) (sym e) (passes is_ascii_digit (x ∷ xs))
 
--- a length with digits, behind one byte or two
+-- a length with digits, after one or two bytes
 fraction_digits : (others : List ℕ) (first : ℕ) (b : Bool) → nat_eq (prefix_len is_ascii_digit others) 0 ≡ b → first ≡ point → IsFraction (take (cond b 0 (1 + prefix_len is_ascii_digit others)) (first ∷ others))
 fraction_digits others first true e p = tt
 fraction_digits others first false e p =

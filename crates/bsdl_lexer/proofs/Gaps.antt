@@ -1,4 +1,4 @@
--- The gap at the front is the longest one, and the only one before what begins no gap.
+-- The gap at the front is the longest one, and the only one that ends where no gap begins.
 use Rattle.std.proofs.Common.{◌≡◌, ℕ, suc, ◌+◌, ◌≤◌, List, [], ◌∷◌, ◌++◌, length, take, drop, Bool, true, false, ◌&&◌, ◌||◌, not, ◌==◌, cond, IsTrue, ◌⊎◌, inl, inr, refl, sym, ◌∙◌, ap, subst, arith, append_assoc, append-nil, length-append, nat_eq}
 use Rattle.std.proofs.lemmas.Bool.Decides.{nat_tests}
 use Rattle.std.specs.List.{list_all}
@@ -89,7 +89,7 @@ fronts (first ∷ others) false = front_false first others (fronts others) (is_b
 pub gap_front : (bytes : List ℕ) → IsGap (drop (gap_len false bytes) bytes) (take (gap_len false bytes) bytes)
 gap_front bytes = fronts bytes false
 
--- behind the gap none begins
+-- no gap begins after the gap at the front
 ends_gap_true : (others : List ℕ) → ((b : Bool) → begins_gap (drop (gap_len b others) others) ≡ false) → (b : Bool) → begins_gap (drop (gap_len (cond b false true) others) others) ≡ false
 ends_gap_true others each true = each false
 ends_gap_true others each false = each true
@@ -123,7 +123,7 @@ gap_len-le-any (first ∷ others) false = cases (is_blank first) (begins_comment
 pub gap_len-le : (bytes : List ℕ) → gap_len false bytes ≤ length bytes
 gap_len-le bytes = gap_len-le-any bytes false
 
--- the only gap before what begins none
+-- the only gap that ends where none begins
 no_gap : (more : List ℕ) → begins_gap more ≡ false → gap_len false more ≡ 0
 no_gap [] e = refl
 no_gap (first ∷ others) e = cases (is_blank first) (begins_comment (first ∷ others)) e

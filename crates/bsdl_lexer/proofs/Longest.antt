@@ -1,4 +1,4 @@
--- What the length of the token at the front says.
+-- A token at the front is no longer than the one that is found.
 use Rattle.std.proofs.Common.{◌≡◌, ℕ, suc, ◌+◌, ◌<◌, ◌≤◌, List, [], ◌∷◌, ◌++◌, length, take, drop, Bool, true, false, cond, IsTrue, inl, inr, refl, sym, ◌∙◌, ap, subst, arith, append_assoc, append-nil, length-append, nat_eq, Some, slice_get}
 use Rattle.std.proofs.lemmas.Bool.Decides.{nat_tests}
 use Rattle.std.specs.List.{prefix_len, list_all}
@@ -9,7 +9,7 @@ use Rattle.bsdl_lexer.specs.declared.token.TokenKind.TheVariants.{Word, Number, 
 use Rattle.bsdl_lexer.specs.Forms.{IsWord, IsDigits, IsFraction, IsSigned, IsExponent, IsNumber, IsText, HasForm, is_word_byte, is_text_byte, is_mark, is_exponent_letter, is_sign, begins_comment, quote, point}
 use Rattle.bsdl_lexer.specs.inner.Lengths.{with_digits, fraction_len, signed_len, exponent_len, number_len, closed_len, token_at}
 
--- a front that passes is within the longest one
+-- a front that passes the test is within the longest one
 at_least : (p : ℕ → Bool) (xs ys : List ℕ) → list_all p xs ≡ true → length xs ≤ prefix_len p (xs ++ ys)
 at_least p [] ys h = omega arith
 at_least p (x ∷ xs) ys h =
@@ -17,7 +17,7 @@ at_least p (x ∷ xs) ys h =
     let others : length xs ≤ prefix_len p (xs ++ ys) = at_least p xs ys k.1 in
     rw k.0 (omega arith)
 
--- and is the longest where the next byte doesn't pass
+-- and it is the longest one if the next byte does not pass
 exactly : (p : ℕ → Bool) (xs : List ℕ) (y : ℕ) (ys : List ℕ) → list_all p xs ≡ true → p y ≡ false → prefix_len p (xs ++ y ∷ ys) ≡ length xs
 exactly p [] y ys h n = rw n
 exactly p (x ∷ xs) y ys h n =
@@ -33,7 +33,7 @@ pub passes : (p : ℕ → Bool) (xs : List ℕ) → list_all p (take (prefix_len
 passes p [] = refl
 passes p (x ∷ xs) = passes_more p x xs (p x) refl (passes p xs)
 
--- digits behind so many other bytes
+-- digits after `front` other bytes
 more_digits : (front n len : ℕ) → 0 < n → n ≤ len → front + n ≤ cond (nat_eq len 0) 0 (front + len)
 more_digits front n len some le = grind (arith, nat_tests)
 
@@ -114,14 +114,14 @@ number_at_least xs more h =
     let P : List ℕ → Type 0 = λ ys. length xs ≤ number_len ys in
     subst P (sym e) (omega arith)
 
--- what the first byte is decides the kind
+-- the first byte decides the kind
 letter_no_digit_quote : (b : ℕ) → is_ascii_digit b ≡ true → is_ascii_alphabetic b ≡ false
 letter_no_digit_quote b h = grind (arith, nat_tests)
 
 mark_kinds : (b : ℕ) → is_mark b ≡ true → (is_ascii_alphabetic b ≡ false) × (is_ascii_digit b ≡ false) × (nat_eq b quote ≡ false)
 mark_kinds b h = (grind (arith, nat_tests), grind (arith, nat_tests), grind (arith, nat_tests))
 
--- the first token is of this kind and no shorter
+-- the token that is found at the front is of this kind and no shorter
 pub record IsWithin (left : List ℕ) (kind : TokenKind) (n : ℕ) : Type 0 where
   pub len : ℕ
   pub found : token_at left ≡ Some (kind, len)

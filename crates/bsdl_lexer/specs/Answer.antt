@@ -1,4 +1,4 @@
--- The answer to a text: all its tokens, or those before the first bad place.
+-- The answer to a text: all its tokens, or those before the first bad place and the fault.
 use Rattle.std.specs.Prelude.{◌≡◌, ◌≢◌, ℕ, ◌≤◌, List, [], ◌∷◌, ◌++◌, length, take, drop, false, ◌⊎◌, IsTrue, Option, Some, None, Result, Ok, Err}
 use Rattle.std.specs.List.{list_all}
 use Rattle.bsdl_lexer.specs.declared.token.Token.{Token}
@@ -15,12 +15,12 @@ pub record BeginsToken (rest : List ℕ) : Type 0 where
   pub form : HasForm kind (take len rest)
   pub no_comment : begins_comment rest ≡ false
 
--- the end of the input, byte 10 or byte 13, none of which a text goes past
+-- the end of the input, byte 10 or byte 13; a string does not extend past any of these
 abbrev pub EndsOpen : List ℕ → Type 0
 EndsOpen [] = Unit {0}
 EndsOpen (byte ∷ others) = (byte ≡ line_feed) ⊎ (byte ≡ carriage_return)
 
--- a quote, and then bytes of a text up to where it ends open
+-- a quote, then bytes that a string may have, up to the place where it ends without a closing quote
 pub record BeginsOpenText (rest : List ℕ) : Type 0 where
   pub inner : List ℕ
   pub more : List ℕ
@@ -28,7 +28,7 @@ pub record BeginsOpenText (rest : List ℕ) : Type 0 where
   pub allowed : IsTrue (list_all is_text_byte inner)
   pub is_open : EndsOpen more
 
--- a byte that begins no blank, comment, token or open text
+-- a byte that begins no blank, comment, token or open string
 pub record BeginsNothing (rest : List ℕ) : Type 0 where
   pub first : ℕ
   pub others : List ℕ
@@ -37,13 +37,13 @@ pub record BeginsNothing (rest : List ℕ) : Type 0 where
   pub no_token : BeginsToken rest → ⊥
   pub no_text : first ≢ quote
 
--- the tokens stand before the place, which is on this line
+-- the tokens and the gaps between them are the text up to `place`, which is on line `line`
 pub record StopsAt (text : List ℕ) (tokens : List Token) (place line : ℕ) : Type 0 where
   pub before : Stand text 0 tokens place
   pub limit : length tokens ≤ token_limit
   pub line_is : line ≡ line_of text place
 
--- the first bad place stands behind the tokens, and it is of this kind
+-- the first bad place comes after the tokens and the gap that follows them, and `fault` says what is wrong there
 abbrev pub IsFault : List ℕ → List Token → LexFault → Type 0
 IsFault text tokens (Byte line) = (place : ℕ) × StopsAt text tokens place line × BeginsNothing (drop place text)
 IsFault text tokens (OpenString line) = (place : ℕ) × StopsAt text tokens place line × BeginsOpenText (drop place text)
@@ -54,13 +54,13 @@ abbrev pub IsAnswer : List ℕ → List Token → Result (Unit {0}) LexFault →
 IsAnswer text tokens (Ok done) = AreTokens text tokens
 IsAnswer text tokens (Err fault) = IsFault text tokens fault
 
--- the front of the tokens that the text's answer has
+-- the tokens are a prefix of the tokens in the text's answer
 pub record AreFirst (text : List ℕ) (tokens : List Token) : Type 0 where
   pub answer : Result (Unit {0}) LexFault
   pub more : List Token
   pub whole : IsAnswer text (tokens ++ more) answer
 
--- what a fault tells
+-- the fault, unless it is a refusal of memory
 abbrev pub lex_told : LexFault → Option LexFault
 lex_told (Memory error) = None
 lex_told fault = Some fault

@@ -1,4 +1,4 @@
--- The forms of the tokens of BSDL, and of what stands between them (IEEE 1149.1-2001, B.5).
+-- The forms of the tokens of BSDL, and of the blanks and comments between them (IEEE 1149.1-2001, B.5).
 use Rattle.std.specs.Prelude.{◌≡◌, ℕ, List, [], ◌∷◌, ◌++◌, Bool, false, ◌&&◌, ◌||◌, not, ◌==◌, IsTrue, ◌⊎◌}
 use Rattle.std.specs.List.{list_all}
 use Rattle.std.specs.Char.{is_ascii_alphabetic, is_ascii_alphanumeric, is_ascii_digit, is_ascii_graphic}
@@ -6,7 +6,7 @@ use Rattle.std.specs.Int.{is_in_range}
 use Rattle.bsdl_lexer.specs.declared.token.TokenKind.{TokenKind}
 use Rattle.bsdl_lexer.specs.declared.token.TokenKind.TheVariants.{Word, Number, Text, Mark}
 
--- the bytes that have names here
+-- names for bytes
 abbrev pub line_feed : ℕ
 line_feed = 10
 
@@ -38,11 +38,11 @@ is_exponent_letter byte = byte == 69 || byte == 101
 abbrev pub is_sign : ℕ → Bool
 is_sign byte = byte == 43 || byte == 45
 
--- what may stand between the quotes of a text: no quote, and no byte 10 or 13
+-- a byte that may be between the quotes of a string: any but a quote, byte 10 and byte 13
 abbrev pub is_text_byte : ℕ → Bool
 is_text_byte byte = not (byte == quote || (byte == line_feed || byte == carriage_return))
 
--- from 33 to 126, and no letter, no digit and no quote
+-- a byte from 33 to 126 that is not a letter, a digit or a quote
 abbrev pub is_mark : ℕ → Bool
 is_mark byte = is_ascii_graphic byte && not (is_ascii_alphanumeric byte || byte == quote)
 
@@ -61,17 +61,17 @@ abbrev pub IsFraction : List ℕ → Type 0
 IsFraction [] = Unit {0}
 IsFraction (first ∷ others) = (first ≡ point) × IsDigits others
 
--- digits, with a sign before them or not
+-- digits, possibly with a sign before them
 abbrev pub IsSigned : List ℕ → Type 0
 IsSigned [] = ⊥
 IsSigned (first ∷ others) = IsDigits (first ∷ others) ⊎ (IsTrue (is_sign first) × IsDigits others)
 
--- nothing, or `e` or `E` and digits, with a sign or not
+-- nothing, or `e` or `E` and digits, possibly with a sign between them
 abbrev pub IsExponent : List ℕ → Type 0
 IsExponent [] = Unit {0}
 IsExponent (first ∷ others) = IsTrue (is_exponent_letter first) × IsSigned others
 
--- digits, then a fraction or none, then an exponent or none
+-- digits, then possibly a fraction, then possibly an exponent
 pub record IsNumber (bytes : List ℕ) : Type 0 where
   pub whole : List ℕ
   pub fraction : List ℕ
@@ -81,7 +81,7 @@ pub record IsNumber (bytes : List ℕ) : Type 0 where
   pub after_point : IsFraction fraction
   pub after_letter : IsExponent exponent
 
--- a quote, bytes that may stand in a text, and a quote
+-- a quote, bytes that a string may have, and a quote
 pub record IsText (bytes : List ℕ) : Type 0 where
   pub inner : List ℕ
   pub quoted : bytes ≡ quote ∷ (inner ++ quote ∷ [])
@@ -106,12 +106,12 @@ begins_comment [] = false
 begins_comment (first ∷ []) = false
 begins_comment (first ∷ second ∷ others) = first == dash && second == dash
 
--- a blank or a comment begins
+-- a blank or a comment begins at the front
 abbrev pub begins_gap : List ℕ → Bool
 begins_gap [] = false
 begins_gap (first ∷ others) = is_blank first || begins_comment (first ∷ others)
 
--- Blanks and whole comments, behind which more stands: a comment goes on to the end of its line, or of the text.
+-- Blanks and whole comments, followed by `more`. A comment extends to the end of its line or of the text.
 pub data IsGap (more : List ℕ) : List ℕ → Type 0 where
   nothing : IsGap more []
   blank : (byte : ℕ) (gap : List ℕ) → IsTrue (is_blank byte) → IsGap more gap → IsGap more (byte ∷ gap)

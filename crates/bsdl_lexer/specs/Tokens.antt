@@ -5,7 +5,7 @@ use Rattle.bsdl_lexer.specs.declared.token.Token.{Token}
 use Rattle.bsdl_lexer.specs.declared.token.TokenKind.{TokenKind}
 use Rattle.bsdl_lexer.specs.Forms.{HasForm, IsGap, begins_comment, line_feed}
 
--- how many lines end in these bytes
+-- the number of lines that end in these bytes
 abbrev pub line_feeds : List ℕ → ℕ
 line_feeds bytes = count_by (λ byte. byte == line_feed) bytes
 
@@ -13,13 +13,13 @@ line_feeds bytes = count_by (λ byte. byte == line_feed) bytes
 abbrev pub line_of : List ℕ → ℕ → ℕ
 line_of text place = 1 + line_feeds (take place text)
 
--- blanks and whole comments take the text from one place up to another
+-- the text between the two places consists of blanks and whole comments
 pub record Separates (text : List ℕ) (from to : ℕ) : Type 0 where
   pub order : from ≤ to
   pub within : to ≤ length text
   pub gap : IsGap (drop to text) (slice_range text from to)
 
--- The token's range has the form of its kind, no longer range from its start has a form, and no comment begins there.
+-- The token's range has the form of its kind, no longer range with the same start has a form, and no comment begins there.
 pub record IsToken (text : List ℕ) (token : Token) : Type 0 where
   pub within : token.end ≤ length text
   pub form : HasForm token.kind (slice_range text token.start token.end)
@@ -27,16 +27,16 @@ pub record IsToken (text : List ℕ) (token : Token) : Type 0 where
   pub no_comment : begins_comment (drop token.start text) ≡ false
   pub line : token.line ≡ line_of text token.start
 
--- From one place of the text up to another stand these tokens, with blanks and comments before, between and after them.
+-- Between the two places, the text has these tokens, with blanks and comments before, between and after them.
 abbrev pub Stand : List ℕ → ℕ → List Token → ℕ → Type 0
 Stand text from [] to = Separates text from to
 Stand text from (token ∷ tokens) to = Separates text from token.start × IsToken text token × Stand text token.end tokens to
 
--- how many tokens a text may have
+-- the most tokens that a text may have
 abbrev pub token_limit : ℕ
 token_limit = 1_048_576
 
--- the token list of the text
+-- `tokens` is the token list of the text
 pub record AreTokens (text : List ℕ) (tokens : List Token) : Type 0 where
   pub whole : Stand text 0 tokens (length text)
   pub limit : length tokens ≤ token_limit

@@ -1,11 +1,11 @@
-//! Laws of the definitions, each the contract of a function that does nothing.
+//! Laws of the definitions. Each is the contract of a function that does nothing.
 ghost use Rattle.std.specs.Prelude.{◌≡◌, ℕ, List, Result};
 ghost use Rattle.bsdl_lexer.specs.declared.token.Token.{Token};
 ghost use Rattle.bsdl_lexer.specs.declared.token.LexFault.{LexFault};
 ghost use Rattle.bsdl_lexer.specs.Tokens.{AreTokens};
 ghost use Rattle.bsdl_lexer.specs.Answer.{IsAnswer};
 
-/// A text has exactly one answer: its tokens, or those before its first bad place.
+/// A text has exactly one answer: all its tokens, or the tokens before its first bad place together with the fault.
 pub fn texts_have_one_answer()
     ensures some { (text : List ℕ) → (tokens : List Token) × (answer : Result (Unit {0}) LexFault) × IsAnswer text tokens answer }
     ensures one { (text : List ℕ) (tokens others : List Token) (answer other : Result (Unit {0}) LexFault) → IsAnswer text tokens answer → IsAnswer text others other → (tokens ≡ others) × (answer ≡ other) }

@@ -1,4 +1,4 @@
-//! How long the gap and the token at the front are.
+//! The lengths of the gap and of the token at the front of some bytes.
 ghost use Rattle.std.specs.Prelude.{◌≡◌, ◌+◌, ◌≤◌, ◌<◌, ◌^◌, length, take, drop, slice_get, MatchOption, IfSome, false};
 ghost use Rattle.std.specs.List.{prefix_len};
 ghost use Rattle.std.specs.Char.{is_ascii_digit};
@@ -56,7 +56,7 @@ fn digits_len(bytes: &[u8]) -> usize
         .count()
 }
 
-// Many bytes are read here, and a loop goes through them faster than a chain.
+// A loop goes through these many bytes faster than a chain of iterators.
 fn word_len(bytes: &[u8]) -> usize
     ensures value { result ≡ prefix_len is_word_byte bytes.now }
     ensures within { result ≤ length bytes.now }
@@ -69,7 +69,7 @@ fn word_len(bytes: &[u8]) -> usize
     bytes.len()
 }
 
-// Texts have most of the bytes, so their ends are searched for many bytes at a time.
+// Strings hold most of the bytes of a description, so their ends are searched for many bytes at a time.
 fn text_len(bytes: &[u8]) -> usize
     ensures value { result ≡ prefix_len is_text_byte bytes.now }
     ensures within { result ≤ length bytes.now }
@@ -80,7 +80,8 @@ fn text_len(bytes: &[u8]) -> usize
     }
 }
 
-/// The digits at the front and the bytes before them, or 0 where there are no digits.
+/// Returns the number of digits at the front plus `front`, the number of bytes before them; or 0 if there are no
+/// digits.
 fn digits_behind(front: usize, bytes: &[u8]) -> usize
     requires { front ≤ 2 }
     ensures value { result ≡ with_digits front bytes.now }
@@ -100,7 +101,7 @@ fn fraction_length(bytes: &[u8]) -> usize
     }
 }
 
-/// An exponent's length, from behind its letter on.
+/// Returns the length of an exponent, given the bytes after its letter; or 0 if there is none.
 fn signed_length(bytes: &[u8]) -> usize
     ensures value { result ≡ signed_len bytes.now }
     ensures within { result ≤ 1 + length bytes.now }
@@ -138,7 +139,7 @@ fn number_length(bytes: &[u8]) -> usize
     whole + (fraction + exponent)
 }
 
-/// The kind and the length of a text, from behind its first quote on.
+/// Returns the kind and the length of a string token, given the bytes after its first quote.
 fn closed_text(bytes: &[u8]) -> Option<(TokenKind, usize)>
     ensures value { result ≡ closed_len (slice_get bytes.now (prefix_len is_text_byte bytes.now)) (prefix_len is_text_byte bytes.now) }
     ensures within { IfSome result (λ found. found.1 ≤ 1 + length bytes.now) }
@@ -150,7 +151,7 @@ fn closed_text(bytes: &[u8]) -> Option<(TokenKind, usize)>
     }
 }
 
-/// The kind and the length of the token at the front.
+/// Returns the kind and the length of the token at the front.
 pub(crate) fn token_found(bytes: &[u8]) -> Option<(TokenKind, usize)>
     ensures value { result ≡ token_at bytes.now }
     ensures within { IfSome result (λ found. found.1 ≤ length bytes.now) }
@@ -175,7 +176,7 @@ pub(crate) fn token_found(bytes: &[u8]) -> Option<(TokenKind, usize)>
     }
 }
 
-/// Whether the first byte goes on the gap, and then whether the next stands in a comment.
+/// Returns None if no gap continues at the front, and otherwise whether the byte after the first is in a comment.
 fn gap_step(in_comment: bool, bytes: &[u8]) -> Option<bool>
     ensures { MatchOption result (gap_len in_comment bytes.now ≡ 0) (λ next. (0 < length bytes.now) × (gap_len in_comment bytes.now ≡ 1 + gap_len next (drop 1 bytes.now))) }
 {
@@ -195,14 +196,14 @@ fn gap_step(in_comment: bool, bytes: &[u8]) -> Option<bool>
     }
 }
 
-/// Blanks and comments: how many bytes they have, and how many lines end in them.
+/// Blanks and comments: their length in bytes, and the number of lines that end in them.
 #[derive(Clone, Copy)]
 pub(crate) struct Gap {
     pub length: usize,
     pub lines: u32,
 }
 
-/// The blanks and comments at the front.
+/// Returns the blanks and comments at the front.
 pub(crate) fn gap_at(bytes: &[u8]) -> Gap
     requires { length bytes.now < 2 ^ 32 }
     ensures length { result.length ≡ gap_len false bytes.now }

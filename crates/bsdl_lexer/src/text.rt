@@ -1,4 +1,4 @@
-//! All tokens of a text.
+//! The tokens of a whole text.
 ghost use Rattle.std.specs.Prelude.{◌≡◌, ◌≤◌, ◌<◌, ◌^◌, ◌+◌, ◌++◌, ◌∷◌, [], List, Result, length, IsTrue, ◌↔◌, OnOk, OnErr, IfErr, alloc_error};
 ghost use Rattle.bsdl_lexer.specs.declared.token.Token.{Token};
 ghost use Rattle.bsdl_lexer.specs.declared.token.LexFault.{LexFault};
@@ -10,7 +10,7 @@ use crate::lengths::{gap_at, token_found};
 use crate::token::{LexFault, Token};
 use std::alloc::AllocError;
 
-/// How many tokens a text may have.
+/// The most tokens that a text may have.
 pub const TOKEN_LIMIT: usize = 1_048_576;
 
 fn fault_at(byte: u8, line: u32) -> LexFault
@@ -23,7 +23,7 @@ fn fault_at(byte: u8, line: u32) -> LexFault
     }
 }
 
-/// The token at the front of the bytes, which stand at this place and on this line.
+/// Returns the token at the front of the bytes, which are at place `start` on line `line`.
 fn token_from(bytes: &[u8], start: usize, line: u32) -> Result<Option<Token>, LexFault>
     requires { start + length bytes.now < 2 ^ 32 }
     ensures { result ≡ step_at start line bytes.now }
@@ -42,7 +42,7 @@ fn token_from(bytes: &[u8], start: usize, line: u32) -> Result<Option<Token>, Le
     }
 }
 
-/// The next token behind the place, which is on this line.
+/// Returns the next token at or after the place, which is on line `line`.
 fn next_token(bytes: &[u8], place: usize, line: u32) -> Result<Option<Token>, LexFault>
     requires short { length bytes.now < 2 ^ 32 }
     requires within { place ≤ length bytes.now }
@@ -93,14 +93,14 @@ fn add_tokens(bytes: &[u8], out: &mut Vec<Token>) -> Result<(), LexFault>
     Ok(())
 }
 
-/// Adds the tokens of the text to an empty list. A text is any bytes.
+/// Appends the tokens of the text to an empty list. A text may have any bytes.
 ///
-/// At the first bad place `out` holds the tokens before it. Where memory is refused, `out`
-/// holds the first of the tokens that it would hold.
+/// On a fault, `out` has the tokens before the first bad place. If memory is refused, `out` has a prefix of the
+/// tokens that it would have.
 pub fn lex(bytes: &[u8], out: &mut Vec<Token>) -> Result<(), LexFault>
     requires short { length bytes.now < 2 ^ 32 }
     requires empty { out.old.items ≡ [] }
-    // All tokens, or those before the first bad place, with its kind and its line.
+    // All tokens, or the tokens before the first bad place with the kind and the line of the fault.
     ensures answer { Gives lex_told (λ done. done) (IsAnswer bytes.now out.new.items) result }
     // There is no other answer.
     ensures only { Gives lex_told (λ done. done) (λ answer. (tokens : List Token) (other : Result (Unit {0}) LexFault) → IsAnswer bytes.now tokens other → (tokens ≡ out.new.items) × (other ≡ answer)) result }

@@ -1,22 +1,22 @@
-//! Tokens, and what is wrong where there is none.
+//! Tokens, and the faults of a text that is not a list of tokens.
 use std::alloc::AllocError;
 use thiserror::Error;
 
-/// What a token is, by its form.
+/// The kind of a token, by its form.
 #[derive(Clone, Copy, Debug, PartialEq, Eq)]
 pub enum TokenKind {
     /// A letter, then letters, digits and `_`. Letters have no case.
     Word,
-    /// Digits, then `.` and digits or not, then an exponent or not.
+    /// Digits, then possibly `.` and digits, then possibly an exponent.
     Number,
-    /// What stands between two quotes of one line, with the quotes.
+    /// A string: two quotes on one line, and the bytes between them.
     Text,
-    /// One byte from 33 to 126 that is no letter, no digit and no quote.
+    /// One byte from 33 to 126 that is not a letter, a digit or a quote.
     Mark,
 }
 
-/// A token: the bytes of the text from `start` up to but without `end`, on this line.
-/// Places count from 0, lines from 1.
+/// A token: the bytes `start..end` of the text. Places count from 0. `line`, from 1, is the line of its first
+/// byte.
 #[derive(Clone, Copy, Debug, PartialEq, Eq)]
 pub struct Token {
     pub kind: TokenKind,
@@ -28,13 +28,14 @@ pub struct Token {
 /// Why a text has no list of tokens, with the line of its first bad place.
 #[derive(Clone, Copy, Debug, PartialEq, Eq, Error)]
 pub enum LexFault {
-    /// A byte begins no blank, comment or token.
+    /// A byte that begins no blank, comment or token.
     #[error("line {0}: byte not allowed")]
     Byte(u32),
-    /// A text meets byte 10, byte 13 or the end of the input. The line is that of its quote.
+    /// A string in which byte 10, byte 13 or the end of the input comes before the closing quote. The line is that of
+    /// its first quote.
     #[error("line {0}: string not closed")]
     OpenString(u32),
-    /// The text goes on behind `TOKEN_LIMIT` tokens. The line is that of the next token.
+    /// Another token follows the first `TOKEN_LIMIT` tokens. The line is that token's.
     #[error("line {0}: too many tokens")]
     TooMany(u32),
     #[error("out of memory")]

@@ -8,27 +8,27 @@ use Rattle.bsdl_lexer.specs.Forms.{quote}
 use Rattle.bsdl_lexer.specs.Tokens.{line_feeds}
 use Rattle.bsdl_lexer.specs.inner.Lengths.{token_at, gap_len}
 
--- what is wrong with a byte that begins no token
+-- the fault of a byte that begins no token
 abbrev pub bad_byte : ℕ → ℕ → LexFault
 bad_byte first line = if first == quote then OpenString line else Byte line
 
 abbrev pub token_of : ℕ → ℕ → TokenKind × ℕ → Token
 token_of start line found = record { kind = found.0; start = start; «end» = start + found.1; line = line }
 
--- from what was found at this place, where this byte stands
+-- the step for what was found at place `start`, where the first byte is `first`
 abbrev pub step_with : ℕ → ℕ → ℕ → Option (TokenKind × ℕ) → Result (Option Token) LexFault
 step_with start line first None = Err (bad_byte first line)
 step_with start line first (Some found) = Ok (Some (token_of start line found))
 
--- the token at the front, which stands at this place and on this line
+-- the token at the front of the bytes, which are at place `start` on line `line`
 abbrev pub step_at : ℕ → ℕ → List ℕ → Result (Option Token) LexFault
 step_at start line [] = Ok None
 step_at start line (first ∷ others) = step_with start line first (token_at (first ∷ others))
 
--- so many bytes of blanks and comments stand behind the place, which is on this line
+-- the step after `gap` bytes of blanks and comments, which begin at `place` on line `line`
 abbrev pub step_past : ℕ → List ℕ → ℕ → ℕ → Result (Option Token) LexFault
 step_past gap text place line = step_at (place + gap) (line + line_feeds (take gap (drop place text))) (drop (place + gap) text)
 
--- the next token behind a place that is on this line; or none at the end, or the fault
+-- the next token at or after `place`, which is on line `line`; None at the end of the text; or the fault
 abbrev pub step : List ℕ → ℕ → ℕ → Result (Option Token) LexFault
 step text place line = step_past (gap_len false (drop place text)) text place line
