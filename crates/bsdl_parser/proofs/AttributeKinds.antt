@@ -1,4 +1,4 @@
--- Each attribute of an entity that is derived has the kind of value of its number.
+-- Each attribute of a derived entity has the kind of value that belongs to its number.
 use Rattle.std.proofs.Common.{◌≡◌, ℕ, List, [], ◌∷◌, Bool, true, false, cond, IsTrue, Option, Some, None, refl, codes}
 use Rattle.std.proofs.lemmas.List.Elements.{All-nil, All-cons, All-append}
 use Rattle.std.specs.List.{All}
@@ -17,7 +17,7 @@ use Rattle.bsdl_parser.specs.Bsdl.{used, plain_value, port_value, clock_value, n
 use Rattle.bsdl_parser.specs.Answer.{Derives}
 use Rattle.bsdl_parser.specs.Entity.{is_among, HasKind, HaveKinds}
 
--- the fact holds of each value of the phrase
+-- the fact is true of each value of the phrase
 abbrev Yields : {A : Type 0} → Phrase A → (A → Type 0) → Type 0
 Yields g Fact = (n : ℕ) → Keeps (λ token. 0) g n (λ m a. Fact a)
 
@@ -105,6 +105,6 @@ file_kinds n =
     keeps_in_turn keeps_nothing (λ _ _ _. keeps_in_turn keeps_nothing (λ name _ _. keeps_in_turn keeps_nothing (λ _ m _.
     keeps_in_turn (keeps_turns item_kind no_items m (All-nil AttrKind)) (λ items _ h. keeps_in_turn keeps_nothing (λ _ _ _. keeps_in_turn keeps_nothing (λ _ _ _. keeps_done h))))))
 
--- of what the tokens derive
+-- the same for the entity that the tokens derive
 pub have_kinds : (tokens : List Lexeme) (entity : Entity) → Derives tokens entity → HaveKinds entity
 have_kinds tokens entity h = (file_kinds 0).kept tokens entity h

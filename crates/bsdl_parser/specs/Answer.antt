@@ -8,26 +8,26 @@ use Rattle.bsdl_parser.specs.Lexeme.{Lexeme}
 use Rattle.bsdl_parser.specs.Places.{is_the_word}
 use Rattle.bsdl_parser.specs.Bsdl.{file}
 
--- the tokens are a whole file, and this is its entity
+-- the tokens are a whole file with this entity
 abbrev pub Derives : List Lexeme → Entity → Type 0
 Derives tokens entity = (production_of file).Whole tokens entity
 
--- the tokens begin some file
+-- the tokens are the beginning of some file
 abbrev pub BeginsFile : List Lexeme → Type 0
 BeginsFile tokens = (production_of file).Cut tokens
 
--- the first token that no file can have behind the tokens before it
+-- the first token that continues no file after the tokens before it
 pub record IsStray (tokens before : List Lexeme) (token : Lexeme) (after : List Lexeme) : Type 0 where
   pub split : tokens ≡ before ++ token ∷ after
   pub begins : BeginsFile before
   pub stray : BeginsFile (before ++ token ∷ []) → ⊥
 
--- the word `package`, at the start of the text or right behind a whole file
+-- the word `package`, at the start of the text or right after a whole file
 pub record StartsPackage (before : List Lexeme) (token : Lexeme) : Type 0 where
   pub word : IsTrue (is_the_word (codes "PACKAGE") token)
   pub place : (before ≡ []) ⊎ ((entity : Entity) × Derives before entity)
 
--- a stray token on this line, of which this holds
+-- a stray token on this line, with the property `IsSuch`
 pub record StraysAt (tokens : List Lexeme) (line : ℕ) (IsSuch : List Lexeme → Lexeme → Type 0) : Type 0 where
   pub before : List Lexeme
   pub token : Lexeme
@@ -36,7 +36,7 @@ pub record StraysAt (tokens : List Lexeme) (line : ℕ) (IsSuch : List Lexeme �
   pub line_is : line ≡ token.line
   pub such : IsSuch before token
 
--- every token can stand, and a file would go on
+-- the tokens are the beginning of a file, but not a whole file
 pub record IsUnfinished (tokens : List Lexeme) : Type 0 where
   pub begins : BeginsFile tokens
   pub no_entity : (entity : Entity) → Derives tokens entity → ⊥
@@ -55,7 +55,7 @@ abbrev pub IsAnswer : List ℕ → List Lexeme → Result Entity ParseFault → 
 IsAnswer text tokens (Ok entity) = Derives tokens entity
 IsAnswer text tokens (Err fault) = IsFault text tokens fault
 
--- what a fault tells
+-- the fault, unless it is a refusal of memory
 abbrev pub parse_told : ParseFault → Option ParseFault
 parse_told (Memory error) = None
 parse_told fault = Some fault

@@ -1,4 +1,4 @@
--- The grammar of a BSDL text (IEEE 1149.1-2001, B.8, as far as it is used). Above each production stands its EBNF line.
+-- The grammar of a BSDL text (IEEE 1149.1-2001, B.8, as far as it is used). The comment above a production is its EBNF line.
 use Rattle.std.specs.Prelude.{ℕ, List, [], ◌∷◌, ◌++◌, map, Bool, true, false, ◌&&◌, not, if◌then◌else◌, Option, Some, None, codes}
 use Rattle.std.specs.Str.{bytes_eq}
 use Rattle.board_defs.specs.declared.device.Mode.{Mode}
@@ -18,7 +18,7 @@ use Rattle.bsdl_parser.specs.declared.draft.AttrForm.TheVariants as forms
 use Rattle.grammars.specs.Values.{some_if}
 use Rattle.bsdl_parser.specs.Places.{Phrase, is_word, keyword, mark, either_word, either_mark, any_word, any_number, any_text, integer, mode, other_than, word_or_mark}
 
--- string = text { "&" text }, with the mark that stands behind it
+-- string = text { "&" text }, and the mark that follows it
 unfoldable pub string_piece : List ℕ → List ℕ → Phrase (Turn (List ℕ) (List ℕ))
 string_piece close before = do
   piece ← any_text
@@ -28,7 +28,7 @@ string_piece close before = do
 abbrev pub string : List ℕ → Phrase (List ℕ)
 string close = turns (string_piece close) []
 
--- [ ":" "=" string ] ")", behind its first mark
+-- [ ":" "=" string ] ")", after its first mark
 abbrev pub fallback : Bool → Phrase (Option (List ℕ))
 fallback false = done None
 fallback true = do
@@ -36,7 +36,7 @@ fallback true = do
   text ← string (codes ")")
   done (Some text)
 
--- generic = "generic" "(" "PHYSICAL_PIN_MAP" ":" "string" [ ":" "=" string ] ")" ";", behind its first word
+-- generic = "generic" "(" "PHYSICAL_PIN_MAP" ":" "string" [ ":" "=" string ] ")" ";", after its first word
 unfoldable pub generic : Phrase (Option (List ℕ))
 generic = do
   _ ← mark (codes "(")
@@ -65,7 +65,7 @@ range = do
   _ ← mark (codes ")")
   done (record { left = left; right = right; up = up })
 
--- type = "bit" | "bit_vector" "(" integer ("to" | "downto") integer ")", behind its word
+-- type = "bit" | "bit_vector" "(" integer ("to" | "downto") integer ")", after its word
 abbrev pub range_of : Bool → Phrase (Option Range)
 range_of false = done None
 range_of true = do
@@ -92,7 +92,7 @@ port_group before = do
   goes_on ← either_mark (codes ";") (codes ")")
   done (turn_of goes_on (before ++ ports))
 
--- port = "port" "(" group { ";" group } ")" ";", behind its first word
+-- port = "port" "(" group { ";" group } ")" ";", after its first word
 unfoldable pub ports : Phrase (List Port)
 ports = do
   _ ← mark (codes "(")
@@ -100,7 +100,7 @@ ports = do
   _ ← mark (codes ";")
   done all
 
--- use = "use" word "." "all" ";", behind its first word
+-- use = "use" word "." "all" ";", after its first word
 unfoldable pub used_package : Phrase (List ℕ)
 used_package = do
   name ← any_word
@@ -109,7 +109,7 @@ used_package = do
   _ ← mark (codes ";")
   done name
 
--- constant = "constant" word ":" "PIN_MAP_STRING" ":" "=" string ";", behind its first word
+-- constant = "constant" word ":" "PIN_MAP_STRING" ":" "=" string ";", after its first word
 unfoldable pub constant : Phrase Constant
 constant = do
   name ← any_word
@@ -191,7 +191,7 @@ text_value = do
   text ← string (codes ";")
   done (values.Text text)
 
--- used ";", behind the attribute's name
+-- used ";", after the attribute's name
 abbrev pub value_of : AttrForm → Phrase AttrValue
 value_of forms.Plain = plain_value
 value_of forms.Port = port_value
@@ -205,7 +205,7 @@ skipped_token before = do
   goes_on ← other_than (codes ";")
   done (turn_of goes_on tt)
 
--- used ";" | other { any token but ";" } ";", behind the attribute's name
+-- used ";" | other { any token but ";" } ";", after the attribute's name
 abbrev pub attribute_of : Option (ℕ × AttrForm) → Phrase (Option Attr)
 attribute_of None = do
   _ ← turns skipped_token tt
@@ -219,7 +219,7 @@ attribute_name = do
   name ← any_word
   done (used name)
 
--- attribute = "attribute" used ";" | "attribute" other { any token but ";" } ";", behind its first word
+-- attribute = "attribute" used ";" | "attribute" other { any token but ";" } ";", after its first word
 unfoldable pub attribute : Phrase (Option Attr)
 attribute = do
   known ← attribute_name
@@ -242,7 +242,7 @@ pub record Items : Type 0 where
 abbrev pub no_items : Items
 no_items = record { has_generic = false; fallback = None; has_port = false; ports = []; uses = []; constants = []; attributes = [] }
 
--- What a word begins behind these items: no second generic or port item, and the end only behind one of each.
+-- The kind of item that a word begins after these items: at most one generic and one port item, and the end only after both.
 abbrev pub item_word : Items → List ℕ → Option ItemWord
 item_word before word =
     if bytes_eq word (codes "GENERIC") then some_if (not before.has_generic) words.Generic else
@@ -280,7 +280,7 @@ item before = do
   first ← item_begin before
   item_of before first
 
--- [ word ] ";", behind its first token
+-- [ word ] ";", after its first token
 abbrev pub close_of : Bool → Phrase (Unit {0})
 close_of true = mark (codes ";")
 close_of false = done tt

@@ -1,4 +1,4 @@
--- What holds of every entity that is read.
+-- Limits that every entity keeps.
 use Rattle.std.specs.Prelude.{◌≡◌, ℕ, ◌^◌, ◌<◌, List, [], ◌∷◌, length, Bool, ◌==◌, IsTrue, All, IfSome}
 use Rattle.std.specs.List.{list_any}
 use Rattle.bsdl_parser.specs.declared.entity.AttrValue.{AttrValue}
@@ -8,14 +8,14 @@ use Rattle.bsdl_parser.specs.declared.entity.Entity.{Entity}
 abbrev pub is_among : List ℕ → ℕ → Bool
 is_among numbers number = list_any (λ k. k == number) numbers
 
--- an attribute with this number has a value of this kind
+-- an attribute with this number may have this value
 abbrev pub HasKind : ℕ → AttrValue → Type 0
 HasKind number values.Plain = number ≡ 1
 HasKind number (values.Port port) = IsTrue (is_among (2 ∷ 3 ∷ 4 ∷ 5 ∷ 11 ∷ []) number)
 HasKind number (values.Number value) = IsTrue (is_among (6 ∷ 9 ∷ []) number)
 HasKind number (values.Text text) = IsTrue (is_among (7 ∷ 8 ∷ 10 ∷ 12 ∷ 13 ∷ 14 ∷ []) number)
 
--- each attribute has a number from 1 to 14, and the kind of value of that number
+-- each attribute has a number from 1 to 14, and the kind of value that belongs to that number
 abbrev pub HaveKinds : Entity → Type 0
 HaveKinds entity = All (λ attribute. HasKind attribute.number attribute.value) entity.attributes
 
@@ -29,7 +29,7 @@ HasShortText (values.Port port) = IsShort port
 HasShortText (values.Number value) = Unit {0}
 HasShortText (values.Text text) = IsShort text
 
--- each list of the entity and each name and text in it are short
+-- each list of the entity, and each name and text in it, is short
 pub record IsSmall (entity : Entity) : Type 0 where
   pub name : IsShort entity.name
   pub fallback : IfSome entity.fallback IsShort

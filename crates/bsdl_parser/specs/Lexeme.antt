@@ -1,4 +1,4 @@
--- What the grammar sees of a token.
+-- The parts of a token that the grammar uses.
 use Rattle.std.specs.Prelude.{ℕ, List, map}
 use Rattle.std.specs.List.{slice_range}
 use Rattle.std.specs.Char.{to_ascii_uppercase}

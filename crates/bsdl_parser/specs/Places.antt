@@ -1,4 +1,4 @@
--- What fits one token's place, and its value.
+-- The grammar of single tokens: which tokens fit, and their values.
 use Rattle.std.specs.Prelude.{ℕ, ◌-◌, List, length, Bool, true, false, ◌&&◌, if◌then◌else◌, Option, Some, None, codes}
 use Rattle.std.specs.List.{slice_range}
 use Rattle.std.specs.Str.{bytes_eq}
@@ -36,19 +36,19 @@ is_the_word name token = is_word token.kind && bytes_eq token.spelled name
 abbrev pub is_the_mark : List ℕ → Lexeme → Bool
 is_the_mark name token = is_mark token.kind && bytes_eq token.spelled name
 
--- this word, of either case
+-- the word `name`, in either case
 abbrev pub keyword : List ℕ → Phrase (Unit {0})
 keyword name = place (λ token. some_if (is_the_word name token) tt)
 
--- this mark
+-- the mark `name`
 abbrev pub mark : List ℕ → Phrase (Unit {0})
 mark name = place (λ token. some_if (is_the_mark name token) tt)
 
--- one of two words: whether it is the first
+-- one of two words; the value is whether it is the first
 abbrev pub either_word : List ℕ → List ℕ → Phrase Bool
 either_word first second = place (λ token. if is_the_word first token then Some true else some_if (is_the_word second token) false)
 
--- one of two marks: whether it is the first
+-- one of two marks; the value is whether it is the first
 abbrev pub either_mark : List ℕ → List ℕ → Phrase Bool
 either_mark first second = place (λ token. if is_the_mark first token then Some true else some_if (is_the_mark second token) false)
 
@@ -65,7 +65,7 @@ contents spelled = slice_range spelled 1 (length spelled - 1)
 abbrev pub any_text : Phrase (List ℕ)
 any_text = place (λ token. some_if (is_text token.kind) (contents token.spelled))
 
--- a number of 1 to 9 digits without point and exponent
+-- a number of 1 to 9 digits without a point or an exponent
 abbrev pub integer : Phrase ℕ
 integer = place (λ token. some_if (is_number token.kind && is_integer token.spelled) (digits_value token.spelled))
 
@@ -81,10 +81,10 @@ mode_of word =
 abbrev pub mode : Phrase Mode
 mode = place (λ token. if is_word token.kind then mode_of token.spelled else None)
 
--- any token: whether it is another than this mark
+-- any token; the value is whether it is not the mark `name`
 abbrev pub other_than : List ℕ → Phrase Bool
 other_than name = place (λ token. Some (if is_the_mark name token then false else true))
 
--- a word, or this mark: whether it is the word
+-- a word or the mark `name`; the value is whether it is a word
 abbrev pub word_or_mark : List ℕ → Phrase Bool
 word_or_mark name = place (λ token. if is_word token.kind then Some true else some_if (is_the_mark name token) false)

@@ -1,4 +1,4 @@
-//! The tokens that are left, read from the front.
+//! The tokens that are left, which are read from the front.
 ghost use Rattle.std.specs.Prelude.{◌≡◌, map, length};
 ghost use Rattle.std.specs.Char.{to_ascii_uppercase};
 ghost use Rattle.grammars.specs.Grammar.{reader_of};
@@ -14,14 +14,14 @@ use grammars::spells;
 use std::alloc::Global;
 use std::marker::Model;
 
-/// Of the next token, whether it is the word `package`, and its line.
+/// Whether the next token is the word `package`, and the token's line.
 #[derive(Clone, Copy)]
 pub(crate) struct Front {
     pub is_package: bool,
     pub line: u32,
 }
 
-/// The tokens of a text that are left, and the allocator for what is made of them.
+/// The tokens of a text that are left, and the allocator for the values that are made from them.
 #[derive(Drop)]
 pub(crate) struct Cursor<'a> {
     alloc: Global,
@@ -82,7 +82,7 @@ fn is_the_mark(text: &[u8], token: &Token, name: &[u8]) -> bool
     is_mark(token.kind) && spells(bytes_at(text, token), name)
 }
 
-/// What stands between the quotes.
+/// Returns the bytes between the quotes.
 fn unquoted(bytes: &[u8]) -> &[u8]
     ensures { map to_ascii_uppercase result.now ≡ places.contents (map to_ascii_uppercase bytes.now) }
 {
@@ -127,7 +127,7 @@ impl<'a> Cursor<'a> {
         self.alloc
     }
 
-    /// How many tokens are left.
+    /// Returns the number of tokens that are left.
     pub(crate) fn len(&self) -> usize
         ensures { result ≡ length self.now }
     {
@@ -146,7 +146,7 @@ impl<'a> Cursor<'a> {
         }
     }
 
-    /// This word, in either case.
+    /// Reads the word `name`, in either case.
     pub(crate) fn keyword(&mut self, name: &[u8]) -> Result<(), Stop>
         ensures { ReadsTokens (reader_of (places.keyword name.now)) self.old self.new result (λ x. x) }
     {
@@ -159,7 +159,7 @@ impl<'a> Cursor<'a> {
         }
     }
 
-    /// This mark.
+    /// Reads the mark `name`.
     pub(crate) fn mark(&mut self, name: &[u8]) -> Result<(), Stop>
         ensures { ReadsTokens (reader_of (places.mark name.now)) self.old self.new result (λ x. x) }
     {
@@ -172,7 +172,7 @@ impl<'a> Cursor<'a> {
         }
     }
 
-    /// One of two words: whether it is the first.
+    /// Reads one of two words, and returns whether it is the first.
     pub(crate) fn either_word(&mut self, first: &[u8], second: &[u8]) -> Result<bool, Stop>
         ensures { ReadsTokens (reader_of (places.either_word first.now second.now)) self.old self.new result (λ x. x) }
     {
@@ -189,7 +189,7 @@ impl<'a> Cursor<'a> {
         }
     }
 
-    /// One of two marks: whether it is the first.
+    /// Reads one of two marks, and returns whether it is the first.
     pub(crate) fn either_mark(&mut self, first: &[u8], second: &[u8]) -> Result<bool, Stop>
         ensures { ReadsTokens (reader_of (places.either_mark first.now second.now)) self.old self.new result (λ x. x) }
     {
@@ -206,7 +206,7 @@ impl<'a> Cursor<'a> {
         }
     }
 
-    /// A word, or this mark: whether it is the word.
+    /// Reads a word or the mark `name`, and returns whether it is a word.
     pub(crate) fn word_or_mark(&mut self, name: &[u8]) -> Result<bool, Stop>
         ensures { ReadsTokens (reader_of (places.word_or_mark name.now)) self.old self.new result (λ x. x) }
     {
@@ -223,7 +223,7 @@ impl<'a> Cursor<'a> {
         }
     }
 
-    /// Any token: whether it is another than this mark.
+    /// Reads any token, and returns whether it is not the mark `name`.
     pub(crate) fn other_than(&mut self, name: &[u8]) -> Result<bool, Stop>
         ensures { ReadsTokens (reader_of (places.other_than name.now)) self.old self.new result (λ x. x) }
     {
@@ -248,7 +248,7 @@ impl<'a> Cursor<'a> {
         }
     }
 
-    /// A number of 1 to 9 digits without point and exponent.
+    /// Reads a number of 1 to 9 digits without a point or an exponent.
     pub(crate) fn integer(&mut self) -> Result<u32, Stop>
         ensures { ReadsTokens (reader_of places.integer) self.old self.new result (λ x. x) }
     {
@@ -262,7 +262,7 @@ impl<'a> Cursor<'a> {
         }
     }
 
-    /// Any word, as it stands in the text.
+    /// Reads any word, and returns its bytes unchanged.
     pub(crate) fn word_bytes(&mut self) -> Result<&'a [u8], Stop>
         ensures { ReadsTokens (reader_of places.any_word) self.old self.new result (λ bytes. map to_ascii_uppercase bytes.now) }
     {
@@ -275,7 +275,7 @@ impl<'a> Cursor<'a> {
         }
     }
 
-    /// Any word, in upper case.
+    /// Reads any word, and returns it in upper case.
     pub(crate) fn word(&mut self) -> Result<Name, Stop>
         ensures { ReadsTokens (reader_of places.any_word) self.old self.new result (λ name. name) }
     {
@@ -283,7 +283,7 @@ impl<'a> Cursor<'a> {
         Ok(Name::in_upper_case(self.alloc, bytes)?)
     }
 
-    /// The contents of any text, as they stand in the text.
+    /// Reads any string token, and returns the bytes between its quotes unchanged.
     pub(crate) fn text_bytes(&mut self) -> Result<&'a [u8], Stop>
         ensures { ReadsTokens (reader_of places.any_text) self.old self.new result (λ bytes. map to_ascii_uppercase bytes.now) }
     {
@@ -296,7 +296,7 @@ impl<'a> Cursor<'a> {
         }
     }
 
-    /// The mode of a port.
+    /// Reads the mode of a port.
     pub(crate) fn mode(&mut self) -> Result<Mode, Stop>
         ensures { ReadsTokens (reader_of places.mode) self.old self.new result (λ mode. mode) }
     {

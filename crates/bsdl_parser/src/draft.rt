@@ -1,8 +1,8 @@
-//! What is read of an entity so far, and the words that its items begin with.
+//! The items of an entity that were read so far, and the kinds of items.
 use crate::entity::{Attr, Constant, Port};
 use board_defs::Name;
 
-/// The items so far.
+/// The items that were read so far.
 #[derive(Drop)]
 pub(crate) struct Draft {
     pub has_generic: bool,
@@ -14,7 +14,7 @@ pub(crate) struct Draft {
     pub attributes: Vec<Attr>,
 }
 
-/// What an item's first word begins.
+/// The kind of item that a word begins.
 #[derive(Clone, Copy)]
 pub(crate) enum ItemWord {
     Generic,

@@ -1,12 +1,12 @@
-//! What a BSDL text says of its entity. All names and texts are in upper case.
+//! The contents of a BSDL text's entity. All names and texts are in upper case.
 use board_defs::{Items, Mode, Name};
 
-/// The bounds of a vector port: from `left` up `to` or down `downto` `right`.
+/// The bounds of a vector port: `left to right` or `left downto right`.
 #[derive(Clone, Copy, Debug, PartialEq, Eq)]
 pub struct Range {
     pub left: u32,
     pub right: u32,
-    /// Whether the bounds are joined by `to`.
+    /// Whether the bounds have `to` between them, not `downto`.
     pub up: bool,
 }
 
@@ -18,19 +18,19 @@ pub struct Port {
     pub range: Option<Range>,
 }
 
-/// A pin map: the constant's name is that of a package.
+/// A pin map. The constant's name is the name of a package.
 #[derive(Drop)]
 pub struct Constant {
     pub name: Name,
     pub text: Name,
 }
 
-/// What an attribute says, as far as it is used.
+/// The value of an attribute, as far as it is used.
 #[derive(Drop)]
 pub enum AttrValue {
-    /// PIN_MAP, which says nothing more.
+    /// PIN_MAP, which has no other value.
     Plain,
-    /// A TAP attribute: the port that it is of.
+    /// A TAP attribute: the port to which it belongs.
     Port(Name),
     /// INSTRUCTION_LENGTH or BOUNDARY_LENGTH.
     Number(u32),
@@ -38,21 +38,20 @@ pub enum AttrValue {
     Text(Name),
 }
 
-/// An attribute that is used. The numbers, from 1 to 14, stand for PIN_MAP, TAP_SCAN_IN,
-/// TAP_SCAN_OUT, TAP_SCAN_MODE, TAP_SCAN_CLOCK, INSTRUCTION_LENGTH, INSTRUCTION_OPCODE,
-/// INSTRUCTION_CAPTURE, BOUNDARY_LENGTH, BOUNDARY_REGISTER, TAP_SCAN_RESET, IDCODE_REGISTER,
-/// COMPLIANCE_PATTERNS and COMPONENT_CONFORMANCE.
+/// An attribute that is used. Its number, from 1 to 14, means: PIN_MAP, TAP_SCAN_IN, TAP_SCAN_OUT, TAP_SCAN_MODE,
+/// TAP_SCAN_CLOCK, INSTRUCTION_LENGTH, INSTRUCTION_OPCODE, INSTRUCTION_CAPTURE, BOUNDARY_LENGTH, BOUNDARY_REGISTER,
+/// TAP_SCAN_RESET, IDCODE_REGISTER, COMPLIANCE_PATTERNS, COMPONENT_CONFORMANCE.
 #[derive(Drop)]
 pub struct Attr {
     pub number: u32,
     pub value: AttrValue,
 }
 
-/// An entity, with its lists in the order of the text.
+/// An entity. Its lists are in the order of the text.
 #[derive(Drop)]
 pub struct Entity {
     pub name: Name,
-    /// The default of PHYSICAL_PIN_MAP: the package that is taken where none is given.
+    /// The default of PHYSICAL_PIN_MAP: the package that is used if the caller names none.
     pub fallback: Option<Name>,
     pub ports: Items<Port>,
     /// The packages that the `use` items name.

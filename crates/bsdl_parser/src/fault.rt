@@ -2,14 +2,14 @@
 use std::alloc::AllocError;
 use thiserror::Error;
 
-/// The first fault of a text that is not in the grammar, with its line.
+/// The first fault of a text that is not in the grammar, with the fault's line.
 #[derive(Clone, Copy, Debug, PartialEq, Eq, Error)]
 pub enum ParseFault {
-    /// No file of the grammar can have the token of this line behind the tokens before it; or
-    /// the text ends before a file does, and this is its last line.
+    /// The token on this line does not continue any file of the grammar; or the text ends inside a file, and this is
+    /// its last line.
     #[error("line {0}: not in the grammar")]
     Expected(u32),
-    /// The word `package` stands first in the text or right behind a whole file.
+    /// The word `package` is the first token of the text or the first token after a whole file.
     #[error("line {0}: package text")]
     Package(u32),
     #[error("out of memory")]

@@ -40,7 +40,7 @@ impl<'a> Cursor<'a> {
         if is_named { self.mark(b";") } else { Ok(()) }
     }
 
-    /// The entity of the file at the front.
+    /// Reads the file at the front, and returns its entity.
     #[tactic(auto, unfolding(crate::specs::Bsdl::file))]
     pub(crate) fn file(&mut self) -> Result<Entity, Stop>
         ensures { ReadsTokens (reader_of file) self.old self.new result (λ entity. entity) }

@@ -1,5 +1,5 @@
-//! The grammar of BSDL texts (IEEE 1149.1b-1994 and IEEE 1149.1-2001, Annex B, as far as an
-//! interconnect test needs them), and what a text says of its entity.
+//! The grammar of BSDL texts (IEEE 1149.1b-1994 and IEEE 1149.1-2001, Annex B, as far as an interconnect test
+//! needs them), and the entity that a text describes.
 #![tactic(auto)]
 
 mod answer;

@@ -11,7 +11,7 @@ use crate::stop::Stop;
 use board_defs::{Mode, Name};
 use std::alloc::AllocError;
 
-/// Adds a port for each name.
+/// Appends a port for each name.
 fn add_ports(
     ports: &mut Vec<Port>,
     names: Vec<Name>,
@@ -27,7 +27,7 @@ fn add_ports(
 }
 
 impl<'a> Cursor<'a> {
-    /// One name, added to those before, and whether another follows.
+    /// Reads one name and adds it to `names`. Returns whether another follows.
     #[tactic(auto, unfolding(crate::specs::Bsdl::port_name))]
     fn port_name(&mut self, names: &mut Vec<Name>) -> Result<bool, Stop>
         ensures { ReadsTokens (reader_of (port_name names.old.items)) self.old self.new result (λ more. turn_of more names.new.items) }
@@ -67,7 +67,7 @@ impl<'a> Cursor<'a> {
         }
     }
 
-    /// One group, added to the ports before, and whether another follows.
+    /// Reads one group and adds its ports to `ports`. Returns whether another group follows.
     #[tactic(auto, unfolding(crate::specs::Bsdl::port_group, crate::specs::Bsdl::group))]
     fn port_group(&mut self, ports: &mut Vec<Port>) -> Result<bool, Stop>
         ensures { ReadsTokens (reader_of (port_group ports.old.items)) self.old self.new result (λ more. turn_of more ports.new.items) }
@@ -88,7 +88,7 @@ impl<'a> Cursor<'a> {
         Ok(ports)
     }
 
-    /// A port item behind its first word.
+    /// Reads a port item after its first word.
     #[tactic(auto, unfolding(crate::specs::Bsdl::ports))]
     pub(crate) fn port_item(&mut self) -> Result<Vec<Port>, Stop>
         ensures { ReadsTokens (reader_of ports) self.old self.new result (λ ports. ports.items) }

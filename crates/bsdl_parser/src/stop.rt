@@ -4,7 +4,7 @@ ghost use Rattle.bsdl_parser.specs.declared.stop.Stop.TheVariants.{Memory};
 
 use std::alloc::{AllocError, AllocFailed};
 
-/// Memory was refused, or the next token cannot stand.
+/// Memory was refused, or the next token does not fit the grammar.
 #[derive(Clone, Copy)]
 pub(crate) enum Stop {
     Memory(AllocError),

@@ -1,4 +1,4 @@
--- What contracts see of the items so far.
+-- The items so far, as contracts see them.
 use Rattle.bsdl_parser.specs.declared.draft.Draft.{Draft}
 use Rattle.bsdl_parser.specs.Bsdl.{Items}
 
