@@ -6,7 +6,7 @@ use Rattle.std.proofs.lemmas.List.Sums.{take_while-cons}
 use Rattle.std.proofs.lemmas.Bool.Decides.{nat_tests}
 use Rattle.bsdl_strings.specs.Pieces.{is_blank, is_word_byte, starts_word, starts_blank, is_end, longer, pieces}
 
--- the list from the first element on that fails
+-- the list from the first item that does not pass the test
 pub dropped : (ℕ → Bool) → List ℕ → List ℕ
 dropped p [] = []
 dropped p (x ∷ xs) = cond (p x) (dropped p xs) (x ∷ xs)
@@ -47,7 +47,7 @@ unfolding dropped
 starts_dropped [] = refl
 starts_dropped (x ∷ xs) = no_blank x xs (is_blank x) refl (starts_dropped xs)
 
--- a byte of a word is no blank
+-- a byte of a word is not a blank
 pub word_is_no_blank : (x : ℕ) → is_word_byte x ≡ true → is_blank x ≡ false
 word_is_no_blank x h = grind (arith, nat_tests)
 
@@ -85,7 +85,7 @@ pub word_is_some : (xs : List ℕ) → starts_word xs ≡ true → is_end (take_
 word_is_some [] e = cc
 word_is_some (x ∷ xs) e = ap is_end (taken_more x xs e)
 
--- a text has a piece, and at most one for each byte and one for the end
+-- a text has at least one piece, and at most one for each byte and one for the end
 sized : (b w : Bool) (x n : ℕ) (ps : List (List ℕ)) → (1 ≤ length ps) × (length ps ≤ n + 1)
     → (1 ≤ length (if b then ps else if w then longer x ps else (x ∷ []) ∷ ps)) × (length (if b then ps else if w then longer x ps else (x ∷ []) ∷ ps) ≤ suc n + 1)
 sized true w x n ps h = (h.0, omega (arith, h.1))

@@ -1,4 +1,4 @@
--- The pieces of an inner string: runs of letters, digits and `_`, single other bytes, and its end.
+-- The pieces of an inner string: runs of letters, digits and `_`, single other bytes, and the end of the string.
 use Rattle.std.specs.Prelude.{ℕ, ◌==◌, List, [], ◌∷◌, Bool, true, false, ◌&&◌, ◌||◌, if◌then◌else◌}
 use Rattle.std.specs.Char.{is_ascii_alphanumeric}
 
@@ -20,17 +20,17 @@ abbrev pub starts_blank : List ℕ → Bool
 starts_blank [] = false
 starts_blank (byte ∷ bytes) = is_blank byte
 
--- the first piece with this byte before it
+-- the pieces, with this byte before the first
 abbrev pub longer : ℕ → List (List ℕ) → List (List ℕ)
 longer byte [] = (byte ∷ []) ∷ []
 longer byte (piece ∷ pieces) = (byte ∷ piece) ∷ pieces
 
--- the empty piece stands for the end
+-- the piece is the end of the string, for which the empty piece stands
 abbrev pub is_end : List ℕ → Bool
 is_end [] = true
 is_end (byte ∷ bytes) = false
 
--- The pieces of a text, with the end as the last. Blanks stand between them and belong to none.
+-- The pieces of a text. The last one is the end. Blanks separate pieces and belong to none.
 unfoldable pub pieces : List ℕ → List (List ℕ)
 pieces [] = [] ∷ []
 pieces (byte ∷ bytes) =

@@ -1,4 +1,5 @@
--- The grammars of the strings inside a BSDL text (IEEE 1149.1b-1994 and IEEE 1149.1-2001, Annex B, as far as an interconnect test needs them), and the value that a string has. Above each production stands its EBNF line.
+-- The grammars of the strings inside a BSDL text (IEEE 1149.1b-1994 and IEEE 1149.1-2001, Annex B, as far as an interconnect test needs
+-- them), and the values of the strings. The comment above a production is its EBNF line.
 use Rattle.std.specs.Prelude.{◌≡◌, ℕ, ◌+◌, List, [], ◌∷◌, ◌++◌, length, Bool, true, false, Option, Some, None, IsTrue, ◌⊎◌}
 use Rattle.std.specs.List.{take_while}
 use Rattle.board_defs.specs.declared.device.Symbol.{Symbol}
@@ -16,11 +17,11 @@ use Rattle.bsdl_strings.specs.declared.values.Compliance.{Compliance}
 use Rattle.bsdl_strings.specs.Pieces.{pieces}
 use Rattle.bsdl_strings.specs.Places.{Part, mark, either_mark, comma_or_end, word, pin, pin_or_open, word_or_star, after_bit, the_end, index, code, safe_value, bit_value, role, result_word, open_mark, close_mark, comma, colon, is_symbol, is_code, code_of}
 
--- a comma, or the parenthesis that closes
+-- a comma or a closing parenthesis
 abbrev pub comma_or_close : Part Bool
 comma_or_close = either_mark comma close_mark
 
--- pin | "(" pin { "," pin } ")", behind the one pin or the first parenthesis
+-- pin | "(" pin { "," pin } ")", after the one pin or the opening parenthesis
 abbrev pub pins_of : Option (List ℕ) → Part (List (List ℕ))
 pins_of (Some name) = done (name ∷ [])
 pins_of None = list_of pin comma_or_close
@@ -42,7 +43,7 @@ opcode = do
   codes ← list_of code comma_or_close
   done (record { name = name; codes = codes })
 
--- what stands behind the word of a place and its first mark: index ")" "," behind a parenthesis, and nothing behind a comma
+-- after the port name of a place and the mark that follows it: index ")" "," after a parenthesis, and nothing after a comma
 abbrev pub indexed : List ℕ → Bool → Part PortWord
 indexed name false = done (Plain name)
 indexed name true = do
@@ -51,7 +52,7 @@ indexed name true = do
   _ ← mark comma
   done (Index name i)
 
--- what stands behind the `*` or the word of a place
+-- what comes after the `*` or the port name of a place
 abbrev pub place_of : Option (List ℕ) → Part PortWord
 place_of None = do
   _ ← mark comma
@@ -60,13 +61,13 @@ place_of (Some name) = do
   opens ← either_mark open_mark comma
   indexed name opens
 
--- place = "*" | word | word "(" index ")", with the comma behind it
+-- place = "*" | word | word "(" index ")", and the comma that follows it
 unfoldable pub port_place : Part PortWord
 port_place = do
   first ← word_or_star
   place_of first
 
--- index "," value "," result ")", behind the comma, where one comes
+-- index "," value "," result ")" after a comma, and nothing after a closing parenthesis
 abbrev pub control_of : Bool → Part (Option Control)
 control_of false = done None
 control_of true = do
@@ -84,7 +85,7 @@ control = do
   more ← comma_or_close
   control_of more
 
--- index "(" word ",", where the word, the name of a cell, is not used
+-- index "(" word ",", where the word is the name of the cell's kind and is not used
 unfoldable pub cell : Part ℕ
 cell = do
   num ← index
@@ -104,7 +105,7 @@ entry = do
   ctl ← control
   done (record { num = num; port = port; role = role; safe = safe; ctl = ctl })
 
--- what stands behind the word of a compliance bit
+-- what comes after the port name of a compliance bit and the mark that follows it
 abbrev pub bit_behind : List ℕ → Option Bool → Part (PortWord × Bool)
 bit_behind name (Some more) = done (Plain name, more)
 bit_behind name None = do
@@ -113,14 +114,14 @@ bit_behind name None = do
   more ← comma_or_close
   done (Index name i, more)
 
--- bit = word | word "(" index ")", with the mark behind it: whether it is a comma, and another bit comes
+-- bit = word | word "(" index ")", and the mark that follows it; the second value is whether that is a comma, so that another bit follows
 unfoldable pub bit : Part (PortWord × Bool)
 bit = do
   name ← word
   next ← after_bit
   bit_behind name next
 
--- one bit, with the comma or the parenthesis behind it
+-- one bit, and the comma or the parenthesis that follows it
 unfoldable pub bit_turn : List PortWord → Part (Turn (List PortWord) (List PortWord))
 bit_turn before = do
   one ← bit
@@ -151,11 +152,11 @@ compliance = do
   patterns ← second_parenthesis
   done (record { ports = ports; patterns = patterns })
 
--- the string is a list of such entries with this value
+-- the string is a list of such entries, and these are their values
 abbrev pub IsListOf : {A : Type 0} → Part A → List ℕ → List A → Type 0
 IsListOf entry text values = (production_of (list_of entry comma_or_end)).Whole (pieces text) values
 
--- the string is no list of such entries, and the entry behind the whole ones at its front, each with its comma, has this number
+-- The string is not a list of such entries. `number` is one more than the number of whole entries, each with its comma, at its front.
 abbrev pub IsNoListOf : {A : Type 0} → Part A → List ℕ → ℕ → Type 0
 IsNoListOf entry text number = GoesWrongAt entry comma_or_end number (pieces text)
 
@@ -163,7 +164,7 @@ IsNoListOf entry text number = GoesWrongAt entry comma_or_end number (pieces tex
 abbrev pub IsPinMap : List ℕ → List MapEntry → Type 0
 IsPinMap text = IsListOf map_entry text
 
--- no pin map, from the entry with this number on
+-- the string is not a pin map: it goes wrong at entry `number`, from 1
 abbrev pub IsNoPinMap : List ℕ → ℕ → Type 0
 IsNoPinMap text = IsNoListOf map_entry text
 
@@ -171,7 +172,7 @@ IsNoPinMap text = IsNoListOf map_entry text
 abbrev pub AreOpcodes : List ℕ → List Opcode → Type 0
 AreOpcodes text = IsListOf opcode text
 
--- no opcode string, from the entry with this number on
+-- the string is not an opcode string: it goes wrong at entry `number`, from 1
 abbrev pub AreNoOpcodes : List ℕ → ℕ → Type 0
 AreNoOpcodes text = IsNoListOf opcode text
 
@@ -179,7 +180,7 @@ AreNoOpcodes text = IsNoListOf opcode text
 abbrev pub IsBoundary : List ℕ → List Entry → Type 0
 IsBoundary text = IsListOf entry text
 
--- no boundary register, from the entry with this number on
+-- the string is not a boundary register: it goes wrong at entry `number`, from 1
 abbrev pub IsNoBoundary : List ℕ → ℕ → Type 0
 IsNoBoundary text = IsNoListOf entry text
 
@@ -187,7 +188,7 @@ IsNoBoundary text = IsNoListOf entry text
 abbrev pub IsPattern : List ℕ → List Symbol → Type 0
 IsPattern text value = IsTrue (is_code text) × (value ≡ code_of text)
 
--- the string is no pattern, and the first character that is not 0, 1 or X has this place, from 1; it is 1 for an empty string
+-- the string is not a pattern; `number` is the place, from 1, of the first character that is not 0, 1 or X, or 1 for an empty string
 pub record IsNoPattern (text : List ℕ) (number : ℕ) : Type 0 where
   pub no_value : (value : List Symbol) → IsPattern text value → ⊥
   pub place : number ≡ length (take_while is_symbol text) + 1
@@ -196,11 +197,11 @@ pub record IsNoPattern (text : List ℕ) (number : ℕ) : Type 0 where
 abbrev pub IsCompliance : List ℕ → Compliance → Type 0
 IsCompliance text value = (production_of compliance).Whole (pieces text) value
 
--- a whole first parenthesis stands at the front
+-- the string begins with a whole first parenthesis
 abbrev pub HasFirstParenthesis : List ℕ → Type 0
 HasFirstParenthesis text = Follows (production_of first_parenthesis) (λ ports rest. Unit {0}) (pieces text)
 
--- the string is no compliance string, and the number is 1 where it has no whole first parenthesis and 2 where it has one
+-- the string is not a compliance string; `number` is 2 if it begins with a whole first parenthesis, and otherwise 1
 pub record IsNoCompliance (text : List ℕ) (number : ℕ) : Type 0 where
   pub no_value : (value : Compliance) → IsCompliance text value → ⊥
   pub place : ((number ≡ 1) × ¬ HasFirstParenthesis text) ⊎ ((number ≡ 2) × HasFirstParenthesis text)

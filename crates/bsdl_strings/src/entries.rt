@@ -17,7 +17,7 @@ use crate::values::{Entry, MapEntry, Opcode, PortWord};
 use board_defs::{Code, Control, Items, Name};
 use std::alloc::{AllocError, Global};
 
-/// Pins up to the parenthesis that closes.
+/// Reads pins up to the closing parenthesis.
 fn pins(alloc: Global, text: &[u8]) -> Result<(Items<Name>, &[u8]), Stop<'_>>
     ensures { ReadsPieces (λ x. found x.0 (pieces x.1.now)) result (reader_of (list_of any_pin comma_or_close) (pieces text.now)) }
 {
@@ -34,7 +34,7 @@ fn pins(alloc: Global, text: &[u8]) -> Result<(Items<Name>, &[u8]), Stop<'_>>
     }
 }
 
-/// Codes up to the parenthesis that closes.
+/// Reads codes up to the closing parenthesis.
 pub(crate) fn codes(alloc: Global, text: &[u8]) -> Result<(Items<Code>, &[u8]), Stop<'_>>
     ensures { ReadsPieces (λ x. found x.0 (pieces x.1.now)) result (reader_of (list_of any_code comma_or_close) (pieces text.now)) }
 {
@@ -62,7 +62,7 @@ pub(crate) fn map_entry(alloc: Global, text: &[u8]) -> Result<(MapEntry, &[u8]),
     Ok((MapEntry { port, pins }, rest))
 }
 
-/// The one pin, or the pins of the group.
+/// Returns the one pin, or reads the pins of the group.
 fn pins_from(
     alloc: Global,
     first: Option<Name>,
@@ -94,7 +94,7 @@ pub(crate) fn opcode(alloc: Global, text: &[u8]) -> Result<(Opcode, &[u8]), Stop
     Ok((Opcode { name, codes }, rest))
 }
 
-/// What follows the word of a place.
+/// Reads what follows the port name of a place and the mark after the name.
 fn indexed(name: Name, opens: bool, text: &[u8]) -> Result<(PortWord, &[u8]), Stop<'_>>
     ensures { ReadsPieces (λ x. found x.0 (pieces x.1.now)) result (reader_of (index_after name opens) (pieces text.now)) }
 {
@@ -120,7 +120,7 @@ fn place_from(first: Option<Name>, text: &[u8]) -> Result<(PortWord, &[u8]), Sto
     }
 }
 
-/// The place of an entry, and the comma after it.
+/// Reads the place of an entry, and the comma after it.
 #[tactic(auto, unfolding(crate::specs::Strings::port_place))]
 fn port_place(alloc: Global, text: &[u8]) -> Result<(PortWord, &[u8]), Stop<'_>>
     ensures { ReadsPieces (λ x. found x.0 (pieces x.1.now)) result (reader_of any_port_place (pieces text.now)) }
@@ -145,7 +145,7 @@ fn control_from(comes: bool, text: &[u8]) -> Result<(Option<Control>, &[u8]), St
     }
 }
 
-/// What stands between the safe value and the parenthesis that closes an entry.
+/// Reads what comes after the safe value, up to the closing parenthesis of the entry.
 #[tactic(auto, unfolding(crate::specs::Strings::control))]
 fn control(text: &[u8]) -> Result<(Option<Control>, &[u8]), Stop<'_>>
     ensures { ReadsPieces (λ x. found x.0 (pieces x.1.now)) result (reader_of any_control (pieces text.now)) }
@@ -154,7 +154,7 @@ fn control(text: &[u8]) -> Result<(Option<Control>, &[u8]), Stop<'_>>
     control_from(comes, rest)
 }
 
-/// A number and the name of a cell, up to the comma after the name.
+/// Reads a cell number and the name of the cell's kind, up to the comma after the name.
 #[tactic(auto, unfolding(crate::specs::Strings::cell))]
 fn cell(text: &[u8]) -> Result<(u32, &[u8]), Stop<'_>>
     ensures { ReadsPieces (λ x. found x.0 (pieces x.1.now)) result (reader_of any_cell (pieces text.now)) }

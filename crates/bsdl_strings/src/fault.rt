@@ -5,13 +5,13 @@ ghost use Rattle.bsdl_strings.specs.declared.fault.StringFault.TheVariants.{Memo
 use std::alloc::{AllocError, AllocFailed};
 use thiserror::Error;
 
-/// The entry at which a string leaves its grammar, or want of memory.
+/// The entry at which a string leaves its grammar, or a refusal of memory.
 #[derive(Clone, Copy, Debug, PartialEq, Eq, Error)]
 pub enum StringFault {
-    /// One more than the number of whole entries, each followed by its comma, at the front of the
-    /// string. In a pattern it is the place, from 1, of the first character that is not 0, 1 or
-    /// X, or 1 where there is no character. In a compliance string it is 1 for the first
-    /// parenthesis and 2 for what follows.
+    /// One more than the number of whole entries, each followed by its comma, at the front of the string. For a
+    /// pattern it is the place, from 1, of the first character that is not 0, 1 or X, or 1 if the pattern is
+    /// empty. For
+    /// a compliance string it is 1 for the first parenthesis and 2 for the rest.
     #[error("entry {0}: not in the grammar")]
     At(u32),
     #[error("out of memory")]

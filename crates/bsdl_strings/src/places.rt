@@ -1,4 +1,4 @@
-//! One piece's place: what stands at the front, and the text after it.
+//! Readers of one piece. Each returns the piece's value and the text after it.
 ghost use Rattle.std.specs.Prelude.{◌≡◌, ◌-◌, ◌*◌, ◌<◌, ◌≤◌, ◌^◌, [], length, IfOk};
 ghost use Rattle.std.specs.List.{list_all, take_while};
 ghost use Rattle.grammars.specs.inner.Reader.{found};
@@ -67,7 +67,7 @@ fn are_symbols(piece: &[u8]) -> bool
     piece.iter().all(|byte| fits_symbol(*byte))
 }
 
-/// How many characters of a code stand at the front.
+/// Returns the number of characters 0, 1 and X at the front.
 pub(crate) fn leading_symbols(text: &[u8]) -> usize
     ensures count { result ≡ length (take_while is_symbol text.now) }
     ensures within { result ≤ length text.now }
@@ -87,7 +87,7 @@ fn symbols_from(alloc: Global, piece: &[u8]) -> Result<Vec<Symbol>, AllocError>
     piece.iter().rev().map(|byte| symbol(*byte)).collect(alloc)
 }
 
-/// The code that these characters spell.
+/// Returns the code that these characters spell.
 pub(crate) fn code_from(alloc: Global, piece: &[u8]) -> Result<Code, AllocError>
     requires { length piece.now < 2 ^ 32 }
     ensures { IfOk result (λ code. code ≡ code_of piece.now) }
@@ -95,8 +95,8 @@ pub(crate) fn code_from(alloc: Global, piece: &[u8]) -> Result<Code, AllocError>
     Ok(Code::from_vec(symbols_from(alloc, piece)?))
 }
 
-/// The same of a piece of any length: one too long for a code is refused as one for which there
-/// is no memory. No text whose length is bounded has such a piece.
+/// Like `code_from`, but for a piece of any length: a piece that is too long for a code is refused like a lack
+/// of memory. A text of bounded length has no such piece.
 fn short_code_from(alloc: Global, piece: &[u8]) -> Result<Code, AllocError>
     ensures { IfOk result (λ code. code ≡ code_of piece.now) }
 {
@@ -107,7 +107,7 @@ fn short_code_from(alloc: Global, piece: &[u8]) -> Result<Code, AllocError>
     }
 }
 
-/// The text after this mark.
+/// Reads the mark `byte`.
 pub(crate) fn mark(text: &[u8], byte: u8) -> Result<&[u8], Stop<'_>>
     ensures { ReadsPieces (λ rest. found tt (pieces rest.now)) result (reader_of (the_mark byte) (pieces text.now)) }
 {
@@ -120,7 +120,7 @@ pub(crate) fn mark(text: &[u8], byte: u8) -> Result<&[u8], Stop<'_>>
     }
 }
 
-/// One of two marks: whether it is the first.
+/// Reads one of two marks, and returns whether it is the first.
 pub(crate) fn either_mark(text: &[u8], first: u8, second: u8) -> Result<(bool, &[u8]), Stop<'_>>
     ensures { ReadsPieces (λ x. found x.0 (pieces x.1.now)) result (reader_of (either_of_marks first second) (pieces text.now)) }
 {
@@ -134,7 +134,7 @@ pub(crate) fn either_mark(text: &[u8], first: u8, second: u8) -> Result<(bool, &
     }
 }
 
-/// A letter, and then letters, digits and `_`.
+/// Reads a word: a letter, then letters, digits and `_`. Returns it in upper case.
 pub(crate) fn word(alloc: Global, text: &[u8]) -> Result<(Name, &[u8]), Stop<'_>>
     ensures { ReadsPieces (λ x. found x.0 (pieces x.1.now)) result (reader_of any_word (pieces text.now)) }
 {
@@ -144,7 +144,7 @@ pub(crate) fn word(alloc: Global, text: &[u8]) -> Result<(Name, &[u8]), Stop<'_>
     }
 }
 
-/// The same with the letters as they stand, so it takes no memory.
+/// Like `word`, but returns the letters unchanged and so takes no memory.
 pub(crate) fn word_as_written(text: &[u8]) -> Result<(&[u8], &[u8]), Stop<'_>>
     ensures { ReadsPieces (λ x. found (upper x.0.now) (pieces x.1.now)) result (reader_of any_word (pieces text.now)) }
 {
@@ -154,7 +154,7 @@ pub(crate) fn word_as_written(text: &[u8]) -> Result<(&[u8], &[u8]), Stop<'_>>
     }
 }
 
-/// Letters, digits and `_`, at least one.
+/// Reads a pin: one or more letters, digits and `_`. Returns it in upper case.
 pub(crate) fn pin(alloc: Global, text: &[u8]) -> Result<(Name, &[u8]), Stop<'_>>
     ensures { ReadsPieces (λ x. found x.0 (pieces x.1.now)) result (reader_of any_pin (pieces text.now)) }
 {
@@ -164,7 +164,7 @@ pub(crate) fn pin(alloc: Global, text: &[u8]) -> Result<(Name, &[u8]), Stop<'_>>
     }
 }
 
-/// A number of 1 to 9 digits.
+/// Reads a number of 1 to 9 digits.
 pub(crate) fn index(text: &[u8]) -> Result<(u32, &[u8]), Stop<'_>>
     ensures { ReadsPieces (λ x. found x.0 (pieces x.1.now)) result (reader_of any_index (pieces text.now)) }
 {
@@ -174,7 +174,7 @@ pub(crate) fn index(text: &[u8]) -> Result<(u32, &[u8]), Stop<'_>>
     }
 }
 
-/// One or more of 0, 1 and X.
+/// Reads a code: one or more of 0, 1 and X.
 pub(crate) fn code(alloc: Global, text: &[u8]) -> Result<(Code, &[u8]), Stop<'_>>
     ensures { ReadsPieces (λ x. found x.0 (pieces x.1.now)) result (reader_of any_code (pieces text.now)) }
 {
@@ -184,7 +184,7 @@ pub(crate) fn code(alloc: Global, text: &[u8]) -> Result<(Code, &[u8]), Stop<'_>
     }
 }
 
-/// A comma, or the end: the text after the comma, or None at the end.
+/// Reads a comma or the end of the string. Returns the text after the comma, or None at the end.
 pub(crate) fn comma(text: &[u8]) -> Result<Option<&[u8]>, Stop<'_>>
     ensures { ReadsPieces (λ x. more_of x) result (reader_of comma_or_end (pieces text.now)) }
 {
@@ -195,7 +195,7 @@ pub(crate) fn comma(text: &[u8]) -> Result<Option<&[u8]>, Stop<'_>>
     }
 }
 
-/// A pin, or None for the parenthesis of several.
+/// Reads a pin, or an opening parenthesis, for which it returns None.
 pub(crate) fn pin_or_group(alloc: Global, text: &[u8]) -> Result<(Option<Name>, &[u8]), Stop<'_>>
     ensures { ReadsPieces (λ x. found x.0 (pieces x.1.now)) result (reader_of pin_or_open (pieces text.now)) }
 {
@@ -209,7 +209,7 @@ pub(crate) fn pin_or_group(alloc: Global, text: &[u8]) -> Result<(Option<Name>, 
     }
 }
 
-/// A word, or None for `*`.
+/// Reads a word, or `*`, for which it returns None.
 pub(crate) fn word_unless_star(
     alloc: Global,
     text: &[u8],
@@ -226,7 +226,7 @@ pub(crate) fn word_unless_star(
     }
 }
 
-/// A safe value: 0, 1 or X.
+/// Reads a safe value: 0, 1 or X.
 pub(crate) fn safe(text: &[u8]) -> Result<(Symbol, &[u8]), Stop<'_>>
     ensures { ReadsPieces (λ x. found x.0 (pieces x.1.now)) result (reader_of safe_value (pieces text.now)) }
 {
@@ -264,7 +264,7 @@ fn role_named(piece: &[u8]) -> Option<Role>
     }
 }
 
-/// The function of a cell.
+/// Reads the function of a cell.
 pub(crate) fn role(text: &[u8]) -> Result<(Role, &[u8]), Stop<'_>>
     ensures { ReadsPieces (λ x. found x.0 (pieces x.1.now)) result (reader_of any_role (pieces text.now)) }
 {
@@ -288,7 +288,7 @@ fn names_result(piece: &[u8]) -> bool
         || spells(piece, b"KEEPER")
 }
 
-/// What a driver gives while it is disabled. In each case it does not drive.
+/// Reads the state of a disabled driver. In none of these states does it drive.
 pub(crate) fn result_of_disabling(text: &[u8]) -> Result<&[u8], Stop<'_>>
     ensures { ReadsPieces (λ rest. found tt (pieces rest.now)) result (reader_of result_word (pieces text.now)) }
 {
@@ -298,7 +298,8 @@ pub(crate) fn result_of_disabling(text: &[u8]) -> Result<&[u8], Stop<'_>>
     }
 }
 
-/// What follows the word of a compliance bit: None for an index, else whether another bit comes.
+/// Reads the mark after the port name of a compliance bit. Returns None if an index follows, and otherwise whether
+/// another bit follows.
 pub(crate) fn mark_after_bit(text: &[u8]) -> Result<(Option<bool>, &[u8]), Stop<'_>>
     ensures { ReadsPieces (λ x. found x.0 (pieces x.1.now)) result (reader_of after_bit (pieces text.now)) }
 {
@@ -310,7 +311,7 @@ pub(crate) fn mark_after_bit(text: &[u8]) -> Result<(Option<bool>, &[u8]), Stop<
     }
 }
 
-/// The end of the string.
+/// Checks that the string ends here.
 pub(crate) fn end(text: &[u8]) -> Result<(), Stop<'_>>
     ensures { ReadsPieces (λ x. found tt []) result (reader_of the_end (pieces text.now)) }
 {

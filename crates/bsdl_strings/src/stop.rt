@@ -4,7 +4,7 @@ ghost use Rattle.bsdl_strings.specs.declared.stop.Stop.TheVariants.{Memory};
 
 use std::alloc::{AllocError, AllocFailed};
 
-/// Memory was refused, or this is the text from the first piece on that cannot stand.
+/// Memory was refused, or a piece does not fit the grammar. `At` has the text from that piece on.
 #[derive(Drop)]
 pub(crate) enum Stop<'a> {
     Memory(AllocError),

@@ -11,7 +11,7 @@ use crate::values::{Entry, MapEntry, Opcode};
 use board_defs::Code;
 use std::alloc::Global;
 
-/// The fault of a list that stopped after so many entries.
+/// Returns the fault of a list that stopped after `entries` whole entries.
 pub(crate) fn fault(stop: Stop<'_>, entries: usize) -> StringFault
     requires { entries < 2 ^ 31 }
     ensures { result ≡ fault_of stop.entry entries }
@@ -22,10 +22,10 @@ pub(crate) fn fault(stop: Stop<'_>, entries: usize) -> StringFault
     }
 }
 
-/// The entries of a pin map, in order: each a port with its pins.
+/// Returns the entries of a pin map in order. Each is a port with its pins.
 ///
-/// `StringFault::At` comes exactly where the text is no pin map, with one more than
-/// the number of whole entries, each with its comma, that stand at its front.
+/// Returns `StringFault::At` if the text is not a pin map, with one more than the number of whole entries, each with
+/// its comma, at its front.
 pub fn pin_map(alloc: Global, text: &[u8]) -> Result<Vec<MapEntry>, StringFault>
     requires { length text.now < 2 ^ 32 }
     ensures value { IfOk result (λ maps. IsPinMap text.now maps.items) }
@@ -51,10 +51,10 @@ pub fn pin_map(alloc: Global, text: &[u8]) -> Result<Vec<MapEntry>, StringFault>
     }
 }
 
-/// The entries of an opcode string, in order: each an instruction with its codes.
+/// Returns the entries of an opcode string in order. Each is an instruction with its codes.
 ///
-/// `StringFault::At` comes exactly where the text is no opcode string, with one more than the
-/// number of whole entries, each with its comma, that stand at its front.
+/// Returns `StringFault::At` if the text is not an opcode string, with one more than the number of whole entries,
+/// each with its comma, at its front.
 pub fn opcodes(alloc: Global, text: &[u8]) -> Result<Vec<Opcode>, StringFault>
     requires { length text.now < 2 ^ 32 }
     ensures value { IfOk result (λ ops. AreOpcodes text.now ops.items) }
@@ -80,10 +80,10 @@ pub fn opcodes(alloc: Global, text: &[u8]) -> Result<Vec<Opcode>, StringFault>
     }
 }
 
-/// The entries of a boundary register, in order.
+/// Returns the entries of a boundary register in order.
 ///
-/// `StringFault::At` comes exactly where the text is no boundary register, with one more than
-/// the number of whole entries, each with its comma, that stand at its front.
+/// Returns `StringFault::At` if the text is not a boundary register, with one more than the number of whole entries,
+/// each with its comma, at its front.
 pub fn boundary(alloc: Global, text: &[u8]) -> Result<Vec<Entry>, StringFault>
     requires { length text.now < 2 ^ 32 }
     ensures value { IfOk result (λ cells. IsBoundary text.now cells.items) }
@@ -109,11 +109,11 @@ pub fn boundary(alloc: Global, text: &[u8]) -> Result<Vec<Entry>, StringFault>
     }
 }
 
-/// The code that a pattern spells: its rightmost character is the bit nearest TDO. A pattern has
-/// no blank, also not at its ends.
+/// Returns the code that a pattern spells. The pattern's rightmost character is the bit nearest TDO. A pattern has
+/// no blanks, not even at its ends.
 ///
-/// `StringFault::At` comes exactly where the text is no pattern, with the place, from 1, of the
-/// first character that is not 0, 1 or X, or 1 for an empty text.
+/// Returns `StringFault::At` if the text is not a pattern, with the place, from 1, of the first character that is not
+/// 0, 1 or X, or 1 for an empty text.
 pub fn pattern(alloc: Global, text: &[u8]) -> Result<Code, StringFault>
     requires { length text.now < 2 ^ 32 }
     ensures value { IfOk result (λ code. IsPattern text.now code) }

@@ -1,29 +1,29 @@
 //! The values of the strings. Names are in upper case, and lists are in the order of the string.
 use board_defs::{Code, Control, Items, Name, Role, Symbol};
 
-/// An entry of a pin map: a port, and its pins.
+/// An entry of a pin map: a port and its pins.
 #[derive(Debug, Drop)]
 pub struct MapEntry {
     pub port: Name,
-    /// One pin for each bit of the port, from left to right of its range.
+    /// One pin for each bit of the port, in the order of the port's range from left to right.
     pub pins: Items<Name>,
 }
 
-/// An entry of an opcode string: an instruction, and its codes.
+/// An entry of an opcode string: an instruction and its codes.
 #[derive(Debug, Drop)]
 pub struct Opcode {
     pub name: Name,
     pub codes: Items<Code>,
 }
 
-/// A port bit as a string names it.
+/// A port bit, as a string names it.
 #[derive(Debug, Drop)]
 pub enum PortWord {
-    /// `*`, in the place of a port where a cell has none.
+    /// `*`, which a cell without a port has in the place of one.
     Star,
     /// A port without an index.
     Plain(Name),
-    /// A port with an index of at most nine digits.
+    /// A port with an index, which has at most nine digits.
     Index(Name, u32),
 }
 
@@ -35,9 +35,9 @@ pub struct Entry {
     pub port: PortWord,
     /// The function of the cell.
     pub role: Role,
-    /// The value that the designer asks for while the cell is not used.
+    /// The value that the designer wants in the cell while it is not used.
     pub safe: Symbol,
-    /// The control cell and the disable value, where the entry has them.
+    /// The control cell and the disable value, if the entry has them.
     pub ctl: Option<Control>,
 }
 

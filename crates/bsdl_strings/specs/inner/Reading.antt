@@ -1,4 +1,4 @@
--- What a function returned is what reading gives.
+-- A reading function returns what the grammar's reader finds.
 use Rattle.std.specs.Prelude.{◌≡◌, ℕ, List, [], Bool, true, false, Option, Some, None, Result, Ok, Err}
 use Rattle.std.specs.Borrow.{Bor}
 use Rattle.grammars.specs.inner.Reader.{Outcome, found, refused}
@@ -6,17 +6,17 @@ use Rattle.bsdl_strings.specs.declared.stop.Stop.{Stop}
 use Rattle.bsdl_strings.specs.declared.stop.Stop.TheVariants.{Memory, At}
 use Rattle.bsdl_strings.specs.Pieces.{pieces}
 
--- unless memory ran out, the text from the first piece on that cannot stand
+-- unless memory was refused, the reader refuses the text from the piece that does not fit
 abbrev pub StopsOn : {A : Type 0} → Stop → Outcome (List ℕ) A → Type 0
 StopsOn (Memory error) outcome = Unit {0}
 StopsOn (At rest) outcome = outcome ≡ refused (pieces rest.now)
 
--- the value and the text after it, seen so, are what reading finds, or it stopped where reading does
+-- the value and the text after it, as `view` sees them, are what the reader finds; or the function stopped where the reader stops
 abbrev pub ReadsPieces : {X A : Type 0} → (X → Outcome (List ℕ) A) → Result X Stop → Outcome (List ℕ) A → Type 0
 ReadsPieces view (Ok x) outcome = outcome ≡ view x
 ReadsPieces view (Err stop) outcome = StopsOn stop outcome
 
--- the text after a comma, or the end
+-- the result of reading a comma or the end: the text after a comma, or nothing at the end
 abbrev pub more_of : Option (Bor (List ℕ)) → Outcome (List ℕ) Bool
 more_of (Some rest) = found true (pieces rest.now)
 more_of None = found false []
