@@ -1,4 +1,4 @@
--- A key is kept and numbered where it is new, and has its number where it is not.
+-- A new key is kept and gets the next number; any other key has its number already.
 use Rattle.std.proofs.Common.{◌≡◌, ◌≤◌, ◌<◌, ◌+◌, ◌^◌, ◌++◌, ◌∷◌, [], length, take, drop, cond, not, sym, ap, ◌∙◌, arith}
 use Rattle.std.specs.List.{list_any, position_or_len}
 use Rattle.std.proofs.lemmas.List.Sums.{prefix_len-le-length}
