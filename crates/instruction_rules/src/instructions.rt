@@ -167,8 +167,8 @@ fn bypass_is_right(ops: &[Opcode]) -> bool
     }
 }
 
-/// The first of the three instructions that a test needs whose code is missing or of no use (V6): 1 for the code of preloading, 2 for
-/// EXTEST, 3 for BYPASS.
+/// Checks rule V6: returns the first instruction for which the opcodes have no usable code: 1 for the preload
+/// instruction, 2 for EXTEST, 3 for BYPASS. BYPASS need not be listed, nor EXTEST in a text older than 2001.
 #[tactic(auto, unfolding(crate::specs::Instructions::v6))]
 pub fn wrong_instruction(edition: Edition, ops: &[Opcode]) -> Option<u32>
     ensures { result ≡ v6 edition ops.now }
@@ -208,8 +208,8 @@ fn can_be_idcode(idcode: &Option<Code>) -> bool
     }
 }
 
-/// The first pattern that can't be one (V7): 1 for the capture pattern, which has the length of an instruction and ends in 01, 2 for the
-/// IDCODE pattern, which has 32 characters.
+/// Checks rule V7: returns the first pattern that is wrong. 1 is the capture pattern, which must have `ir` bits
+/// and end in 01. 2 is the IDCODE pattern, which must have 32 bits if there is one.
 #[tactic(auto, unfolding(crate::specs::Instructions::v7))]
 pub fn wrong_pattern(ir: u32, capture: &Code, idcode: &Option<Code>) -> Option<u32>
     ensures { result ≡ v7 ir capture.now idcode.now }
@@ -229,7 +229,8 @@ fn are_long(length: u32, codes: &[Code]) -> bool
     codes.iter().all(|code| is_long(length, code))
 }
 
-/// The number, from 1, of the first opcode with a name that came before, or with a code that is not as long as an instruction (V5).
+/// Checks rule V5: returns the number, from 1, of the first opcode whose name an earlier one has, or with a code
+/// that does not have `ir` bits.
 #[tactic(auto, unfolding(crate::specs::Instructions::v5))]
 pub fn wrong_opcode(alloc: Global, ir: u32, ops: &[Opcode]) -> Result<Option<u32>, AllocError>
     requires { length ops.now < 2 ^ 32 }
@@ -263,7 +264,7 @@ fn settled_symbols(alloc: Global, symbols: &[Symbol]) -> Result<Vec<Symbol>, All
     symbols.iter().map(|symbol| settle(*symbol)).collect(alloc)
 }
 
-/// A copy of a code with X as 0; without a code no symbol.
+/// Returns a copy of a code with 0 for each X, or no symbols if there is no code.
 fn settled_code(alloc: Global, code: Option<&Code>) -> Result<Code, AllocError>
     ensures { IfOk result (λ copy. copy ≡ settled_code (option_copied code.entry)) }
 {
@@ -273,7 +274,8 @@ fn settled_code(alloc: Global, code: Option<&Code>) -> Result<Code, AllocError>
     }
 }
 
-/// The code of preloading, with X as 0: that of PRELOAD in a text of 2001 that lists it, else that of SAMPLE.
+/// Returns the preload code, with 0 for each X: the first code of PRELOAD if the text is of 2001 and lists it,
+/// otherwise the first code of SAMPLE.
 #[tactic(auto, unfolding(crate::specs::Instructions::preload))]
 pub fn preload(alloc: Global, edition: Edition, ops: &[Opcode]) -> Result<Code, AllocError>
     ensures { IfOk result (λ code. code ≡ preload edition ops.now) }
@@ -281,7 +283,8 @@ pub fn preload(alloc: Global, edition: Edition, ops: &[Opcode]) -> Result<Code, 
     settled_code(alloc, preload_code(edition, ops))
 }
 
-/// The code of EXTEST, with X as 0: all zeros in an old text, and in a text of 2001 the first that is listed.
+/// Returns the EXTEST code, with 0 for each X: all zeros in an old text, the first code that is listed in a text of
+/// 2001.
 #[tactic(auto, unfolding(crate::specs::Instructions::extest))]
 pub fn extest(alloc: Global, edition: Edition, ir: u32, ops: &[Opcode]) -> Result<Code, AllocError>
     ensures { IfOk result (λ code. code ≡ extest edition ir ops.now) }
