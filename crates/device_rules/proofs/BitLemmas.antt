@@ -1,4 +1,4 @@
--- Where the bits of ports stand.
+-- The numbers of port bits.
 use Rattle.std.proofs.Common.{◌≡◌, ℕ, zero, suc, ◌+◌, ◌<◌, ◌≤◌, Bool, true, false, ◌&&◌, ◌||◌, cond, not, List, [], ◌∷◌, ◌++◌, length, take, drop, get_or, Option, Some, None, refl, sym, ap, subst, ◌∙◌, arith, nat_lt}
 use Rattle.std.specs.Prelude.{if◌then◌else◌, option_map, slice_get, find}
 use Rattle.std.specs.List.{list_any, position_from, position_or_len}
@@ -160,7 +160,7 @@ there : (name : List ℕ) (at : Option ℕ) (start n : ℕ) (d : Port) (ports : 
 there name at start n d [] e = cc e
 there name at start n d (port ∷ ports) e = there_by name at start n d port ports (bytes_eq port.name name) (λ m f. there name at (start + width port.range) m d ports f) e
 
--- what V2 says of the ports that are left, after those before
+-- no port that is left has the name of a port in `before`
 abbrev Fresh : List Port → List Port → Type 0
 Fresh before [] = Unit {0}
 Fresh before (port ∷ ports) = (list_any (port_named port.name) before ≡ false) × Fresh before ports
@@ -194,12 +194,12 @@ kept_from : (before ports : List Port) → first_from breaks_port before ports �
 kept_from before [] e = (tt, tt)
 kept_from before (port ∷ ports) e = kept_by before port ports (breaks_port before port) refl (kept_from (before ++ port ∷ []) ports) e
 
--- where V2 holds, names differ and ranges are in order
+-- if V2 holds, names differ and ranges are in order
 pub apart : (ports : List Port) → v2 ports ≡ None → Apart ports
 unfolding v2
 apart ports e = (kept_from [] ports e).1
 
--- where names differ, a port is the first with its name
+-- if names differ, a port is the first with its name
 pub is_first : (name : List ℕ) (ports : List Port) (n : ℕ) (port : Port) → Apart ports → slice_get ports n ≡ Some port → bytes_eq port.name name ≡ true → position_from (port_named name) 0 ports ≡ Some n
 is_first name [] n port h at is = cc at
 is_first name (first ∷ ports) zero port h at is = let same : first ≡ port = cc at in ap (λ b. cond b (Some 0) (position_from (port_named name) 1 ports)) (ap (port_named name) same ∙ is)
@@ -234,7 +234,7 @@ nothing_by p xs false e f = sym (find_at p xs ∙ slice_get_past xs (position_or
 pub nothing_found : {A : Type 0} (p : A → Bool) (xs : List A) → position_from p 0 xs ≡ None → None ≡ find p xs
 nothing_found p xs e = nothing_by p xs (nat_lt (position_or_len p xs) (length xs)) refl (position_from-zero p xs ∙ e)
 
--- the bits before a port and those of the port are few, where V2 holds
+-- if V2 holds, there are few bits up to and with each port
 pub bits_few : (ports : List Port) (i : ℕ) (port : Port) → v2 ports ≡ None → i < length ports → get_or ports i port ≡ port → bits_of (take i ports) + width port.range ≤ most_bits
 unfolding v2
 bits_few ports i port e less is =
@@ -246,7 +246,7 @@ bits_few ports i port e less is =
     few : (n : ℕ) → nat_lt most_bits n ≡ false → n ≤ most_bits
     few n e = grind (arith, nat_tests)
 
--- the bits of one port more
+-- the number of bits with one more port
 pub bits_more : (ports : List Port) (i : ℕ) (port : Port) → i < length ports → get_or ports i port ≡ port → bits_of (take (i + 1) ports) ≡ bits_of (take i ports) + width port.range
 bits_more ports i port less is =
     sum_by_more (λ port. width port.range) ports i port less ∙ ap (λ p. bits_of (take i ports) + width p.range) is

@@ -23,7 +23,7 @@ no_control_there : (cell boundary : ℕ) (entries : List Entry) → boundary ≤
 no_control_there cell boundary entries le below = sym (list_any_none (is_control_of cell) entries
     (All-weaker (λ entry. entry.num < boundary) (λ entry. is_control_of cell entry ≡ false) (λ entry lt. another_cell cell boundary entry le lt) entries below))
 
--- flags of the cells below the length say of every cell whether it has a CONTROL or CONTROLR entry
+-- flags for the cells below the length tell, for every cell, whether it has a CONTROL or CONTROLR entry
 pub controls_known : (boundary : ℕ) (entries : List Entry) (flags : List Bool) → All (λ entry. entry.num < boundary) entries → Marks is_control_of entries boundary flags → (cell : ℕ) → slice_index_or flags cell false ≡ has_control_entry entries cell
 controls_known boundary entries flags below marks cell = elim (cases_lt cell boundary) [
   | inl less ↦ marks.each cell less
@@ -46,7 +46,7 @@ first_none : (a b : Option ℕ) → or_else a b ≡ None → a ≡ None
 first_none None b e = refl
 first_none (Some n) b e = e
 
--- where V8 holds each cell number is below the length
+-- if V8 holds, each cell number is below the length
 pub all_below : (boundary : ℕ) (entries : List Entry) → v8 boundary entries ≡ None → All (λ entry. entry.num < boundary) entries
 unfolding v8
 all_below boundary entries e = none_too_large boundary entries (first_none (too_large boundary entries) _ e)

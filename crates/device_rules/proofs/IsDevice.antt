@@ -29,7 +29,7 @@ pins_differ : (draft : Draft) → PortsStand draft.ports → v4 draft.ports draf
 unfolding raw_bits
 pins_differ draft stand e = pins_apart draft.ports draft.map draft.taps draft.compliance stand e
 
--- where no rule is broken, what the text describes is a device
+-- if no rule is broken, the text describes a device
 pub device_is : (draft : Draft) → HasLengths draft → first_rule draft ≡ None → IsDevice (raw_device draft)
 device_is draft lengths none =
     let kept : KeepsRules draft = keeps_rules draft none in
@@ -57,6 +57,6 @@ device_is draft lengths none =
       fits_ports = fits_ports draft stand kept.v14;
     }
 
--- the same of a value that was made as the text says
+-- like `device_is`, for a record that was made from the text
 pub device_of : (draft : Draft) (raw : RawDevice) → raw ≡ raw_device draft → HasLengths draft → first_rule draft ≡ None → IsDevice raw
 device_of draft raw made lengths none = subst IsDevice (sym made) (device_is draft lengths none)

@@ -1,4 +1,4 @@
--- The bits of the device stand in the order of its ports, and each port has its bits.
+-- The bits of the device are in the order of its ports, and each port has its bits.
 use Rattle.std.proofs.Common.{◌≡◌, ◌≢◌, ℕ, zero, suc, ◌+◌, ◌<◌, ◌≤◌, ◌==◌, Bool, true, false, cond, List, [], ◌∷◌, ◌++◌, map, length, get_or, Option, Some, None, refl, sym, ◌∙◌, ap, subst, arith, inl, inr, append-nil}
 use Rattle.std.specs.Prelude.{slice_get, All, AllPairs, filter, find, is_some}
 use Rattle.std.specs.List.Sorted.{IsNonDecreasing}
@@ -57,7 +57,7 @@ bits_kept k first (suc m) (p ∷ ports) port here at =
     filter-append (is_of k) (bits_of_port first p) (bits_from (first + 1) ports) ∙ (ap (λ v. v ++ filter (is_of k) (bits_from (first + 1) ports)) none
     ∙ bits_kept k (first + 1) m ports port (omega arith) at)
 
--- numbers that rise from a low one on
+-- numbers that do not fall and begin at a low one or above
 abbrev Rises : ℕ → List ℕ → Type 0
 Rises low [] = Unit {0}
 Rises low (x ∷ xs) = (low ≤ x) × Rises x xs

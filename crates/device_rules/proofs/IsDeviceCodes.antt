@@ -75,7 +75,7 @@ any_settled (s ∷ code) = ap (λ b. b || list_any bit_of (map settled code)) (s
 given : (code : List Symbol) → All (λ s. s ≢ Any) (map settled code)
 given code = all_from_has (λ (s : Symbol). s ≢ Any) (map settled code) (λ s has e. let r = map_has settled code s has in settled_given r.0 (r.2 ∙ e))
 
--- codes that are one with X as 0
+-- codes that are equal with 0 for each X
 pub same_bits : (b : Bool) → same_bit b b ≡ true
 same_bits true = refl
 same_bits false = refl
@@ -121,7 +121,7 @@ not_zeros : (o : Option (List Symbol)) (code : List Symbol) → o ≡ Some code 
 not_zeros None code same e = cc e
 not_zeros (Some c) code same e = let one : c ≡ code = cc same in ap (list_any bit_of) (sym one) ∙ not-false (list_any bit_of c) (not-true (is_all_zeros c) (and_parts (not (is_all_zeros c)) (not (is_all_ones c)) e).0)
 
--- the code of EXTEST, where the text is of 2001
+-- the code of EXTEST in a text of 2001
 record Extests (code preload : Option (List Symbol)) : Type 0 where
   own : List Symbol
   is : code ≡ Some own
@@ -134,7 +134,7 @@ extests (Some code) preload e =
     let parts = and_parts (not (is_all_ones code)) (not (is_same code preload)) e in
     record { own = code; is = refl; not_ones = not-true (is_all_ones code) parts.0; apart = not-true (is_same code preload) parts.1 }
 
--- what the rules say of the two codes that are used
+-- what the rules say about the two codes that are used
 record CodesStand (edition : Edition) (ops : List Opcode) : Type 0 where
   may_load : may_preload edition (preload_code edition ops) ≡ true
   may_test : extest_holds edition ops ≡ true

@@ -1,4 +1,4 @@
--- Lists: the places of items, items that a key tells apart, and what a rule that holds says of items by their places.
+-- Lists: the places of items, items with different keys, and what a rule that holds says about items by their places.
 use Rattle.std.proofs.Common.{◌≡◌, ℕ, zero, suc, ◌+◌, ◌<◌, ◌≤◌, Bool, true, false, cond, List, [], ◌∷◌, ◌++◌, map, length, take, drop, Option, Some, None, refl, sym, ◌∙◌, ap, subst, arith, ◌⊎◌, inl, inr}
 use Rattle.std.specs.Prelude.{slice_get, All, AllPairs, count_by, is_some}
 use Rattle.std.specs.List.{list_any, position_from}
@@ -16,7 +16,7 @@ same_name a b = (bytes_eq-Decides a b).0
 pub name_same : (a b : List ℕ) → a ≡ b → bytes_eq a b ≡ true
 name_same a b = (bytes_eq-Decides a b).1
 
--- the list before an item, the item, and the list behind it
+-- the list before an item, the item, and the list after it
 pub cut : {X : Type 0} (xs : List X) (j : ℕ) (x : X) → slice_get xs j ≡ Some x → xs ≡ take j xs ++ x ∷ drop (suc j) xs
 cut [] j x e = cc e
 cut (y ∷ ys) zero x e = let same : y ≡ x = cc e in ap (λ v. v ∷ ys) same
@@ -41,7 +41,7 @@ none_has p (y ∷ ys) x e (inr h) = none_has p ys x (or_parts (p y) (list_any p 
 pub all_alike : {X K : Type 0} (key : X → K) (v : K) (xs : List X) → All (λ x. key x ≡ v) xs → AllPairs (λ a b. key a ≡ key b) xs
 all_alike key v xs h = λ i j d less within. h i d (omega arith) ∙ sym (h j d within)
 
--- no two places have items of one key
+-- no two places have items with the same key
 abbrev pub Once : {X K : Type 0} → (X → K) → List X → Type 0
 Once {X} key xs = (i j : ℕ) (x y : X) → slice_get xs i ≡ Some x → slice_get xs j ≡ Some y → key x ≡ key y → i ≡ j
 
@@ -72,7 +72,7 @@ once_append key (x ∷ xs) ys hx hy new =
     by_part b (inl k) e = once_head key x xs b hx k e
     by_part b (inr k) e = new x b (inl refl) k e
 
--- no key comes back later
+-- no key is repeated later
 pub once_by_order : {X K : Type 0} (key : X → K) (xs : List X) → ((i j : ℕ) (x y : X) → i < j → slice_get xs i ≡ Some x → slice_get xs j ≡ Some y → key x ≡ key y → ⊥) → Once key xs
 once_by_order key xs later i j x y ex ey e = by_order (cases_order i j)
   where
@@ -123,7 +123,7 @@ pub never_found : {X : Type 0} (n : ℕ) (xs : List X) → position_from (λ x. 
 never_found n [] = refl
 never_found n (x ∷ xs) = never_found (n + 1) xs
 
--- one item at most is counted
+-- at most one item is counted
 pub counted : {X : Type 0} (p : X → Bool) (xs : List X) (j : ℕ) (y : X) → slice_get xs j ≡ Some y → p y ≡ true → 1 ≤ count_by p xs
 counted p [] j y e t = cc e
 counted p (x ∷ xs) zero y e t =
@@ -148,7 +148,7 @@ counted_once p (z ∷ xs) (suc i) zero x y most ex ey tx ty =
 counted_once p (z ∷ xs) (suc i) (suc j) x y most ex ey tx ty =
     ap suc (counted_once p xs i j x y (omega (arith, sum_by-cons (λ v. cond (p v) 1 0) z xs)) ex ey tx ty)
 
--- two items of one key are one
+-- two items with the same key are the same
 pub once_item : {X K : Type 0} (key : X → K) (xs : List X) → Once key xs → (x y : X) → Has xs x → Has xs y → key x ≡ key y → x ≡ y
 once_item {X} key xs once x y hx hy e =
     let r = has_place xs x hx in

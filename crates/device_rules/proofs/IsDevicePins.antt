@@ -1,4 +1,4 @@
--- The pins of a text that keeps the rules: no pin stands at two port bits, and the map gives each bit of a port a pin or none.
+-- The pins of a text that keeps the rules: no pin is at two port bits, and the map gives all bits of a port a pin or none of them.
 use Rattle.std.proofs.Common.{◌≡◌, ℕ, ◌<◌, true, false, not, List, [], ◌∷◌, ◌++◌, map, length, take, Option, Some, None, refl, sym, ◌∙◌, ap, subst, arith, ◌⊎◌, inl, inr}
 use Rattle.std.specs.Prelude.{slice_get, find, is_some, option_and_then}
 use Rattle.std.specs.List.{list_any}
@@ -53,14 +53,14 @@ none_seen seen (p ∷ pins) pin e h (inr k) = none_seen (seen ++ p ∷ []) pins 
 abbrev itself : List ℕ → List ℕ
 itself pin = pin
 
--- nor stands twice among them
+-- nor is one of them there twice
 pins_once : (seen pins : List (List ℕ)) → some_repeats seen pins ≡ false → Once itself pins
 pins_once seen [] e = once_nil itself
 pins_once seen (pin ∷ pins) e =
     let rest : some_repeats (seen ++ pin ∷ []) pins ≡ false = (or_parts (is_among seen pin) (some_repeats (seen ++ pin ∷ []) pins) e).1 in
     once_cons itself pin pins (pins_once (seen ++ pin ∷ []) pins rest) (λ p h same. none_seen (seen ++ pin ∷ []) pins p rest (has_right seen (pin ∷ []) p (inl same)) h)
 
--- an entry that has a pin is one, and so is the place of the pin
+-- two entries with the same pin are the same, and so are the places of the pin
 pub record SamePin (e d : MapEntry) (k l : ℕ) : Type 0 where
   pub port : e.port ≡ d.port
   pub place : k ≡ l
@@ -87,7 +87,7 @@ same_pin ports entries h e d has_e has_d k l pin at_e at_d = by_order (has_place
         by_case (inr (inl less)) = absurd (ordered m n e d k l less at_m at_n at_e at_d)
         by_case (inr (inr less)) = absurd (ordered n m d e l k less at_n at_m at_d at_e)
 
--- where a bit has its pin from
+-- the entry that gives a bit its pin
 record PinFrom (entries : List MapEntry) (bit : Bit) (pin : List ℕ) : Type 0 where
   entry : MapEntry
   has : Has entries entry
@@ -103,7 +103,7 @@ pin_from entries bit pin e = by_found (find (maps_port bit.name) entries) refl e
         let r = find_has (maps_port bit.name) entries entry found in
         record { entry = entry; has = r.0; named = same_name entry.port bit.name r.1; at = is }
 
--- no pin stands at two bits
+-- no pin is at two bits
 pub pins_apart : (ports : List Port) (entries : List MapEntry) (taps : TapPorts) (compliance : Option Compliance) → PortsStand ports → v4 ports entries ≡ None
     → (i j : ℕ) (a b : PortBit) (pin : List ℕ) → slice_get (map (port_bit entries taps compliance) (port_bits ports)) i ≡ Some a → slice_get (map (port_bit entries taps compliance) (port_bits ports)) j ≡ Some b → a.pin ≡ Some pin → b.pin ≡ Some pin → i ≡ j
 unfolding v4
@@ -117,7 +117,7 @@ pins_apart ports entries taps compliance stand e i j a b pin at_i at_j pin_a pin
     let one : spot x.from ≡ spot y.from = ap (λ n. let s : List ℕ × ℕ = (n, x.from.place) in s) named ∙ ap (λ k. let s : List ℕ × ℕ = (y.from.name, k) in s) same.place in
     spots_once ports stand i j x.from y.from x.at y.at one
 
--- a bit has a pin exactly where the map names its port
+-- a bit has a pin if and only if the map names its port
 pub is_mapped : (ports : List Port) (entries : List MapEntry) → PortsStand ports → v4 ports entries ≡ None → (bit : Bit) → Has (port_bits ports) bit → is_some (pin_of entries bit) ≡ is_some (find (maps_port bit.name) entries)
 unfolding v4
 is_mapped ports entries stand e bit has = by_found (find (maps_port bit.name) entries) refl

@@ -28,7 +28,7 @@ use Rattle.device_rules.proofs.IsDeviceLists.{same_name, earlier, holds_at, none
 use Rattle.device_rules.proofs.IsDevicePorts.{PortsStand, IsBitOf, is_bit_of}
 use Rattle.device_rules.proofs.IsDevicePins.{port_is}
 
--- an entry has a place exactly where it is none of CONTROL, CONTROLR and INTERNAL
+-- an entry is on a port bit if and only if it is not CONTROL, CONTROLR or INTERNAL
 star_is : (word : PortWord) → is_star word ≡ true → word ≡ Star
 star_is Star e = refl
 star_is (Plain name) e = cc e
@@ -63,7 +63,7 @@ places draft e =
     (all_from_has (λ (entry : Entry). HasPlace (length (map made (port_bits draft.ports))) entry.role (bit_number draft.ports entry.port)) draft.entries (λ entry has.
     subst (λ n. HasPlace n entry.role (bit_number draft.ports entry.port)) (sym many) (place_of draft.ports entry (place_kept draft.ports draft.entries e entry has))))
 
--- a port bit has one driving entry at most
+-- a port bit has at most one driving entry
 driven : (ports : List Port) (bit : ℕ) (entry : Entry) → drives_bit bit (cell_of ports entry) ≡ true → driven_bit ports entry ≡ Some bit
 driven ports bit entry e =
     let parts = and_parts (is_on bit (bit_number ports entry.port)) (is_driving entry.role) e in

@@ -14,7 +14,7 @@ use Rattle.device_rules.proofs.RuleLemmas.{holds}
 use Rattle.device_rules.proofs.BitLemmas.{length_bits}
 use Rattle.device_rules.proofs.IsDeviceLists.{name_same, earlier, holds_at, none_has, Once, once_nil, once_cons, once_tail, once_head, once_append, once_by_order}
 
--- what the rule says of the ports
+-- what rule V2 says about the ports
 pub record PortsStand (ports : List Port) : Type 0 where
   pub once : Once (λ port. port.name) ports
   pub ordered : (port : Port) → Has ports port → in_order port.range ≡ true
@@ -74,7 +74,7 @@ length_all number (port ∷ ports) h =
 pub bits_few : (ports : List Port) → PortsStand ports → length (port_bits ports) ≤ most_bits
 bits_few ports stand = let all : length (port_bits ports) ≡ bits_of ports = length_all 0 ports stand.ordered in omega (arith, all, stand.few)
 
--- a bit of these ports, which are numbered from the first on
+-- a bit of these ports, which are numbered from `first` on
 pub record IsBitOf (ports : List Port) (first : ℕ) (bit : Bit) : Type 0 where
   pub number : ℕ
   pub port : Port
@@ -131,7 +131,7 @@ is_bit_of first (port ∷ ports) bit h = by_part (is_bit_of (first + 1) ports bi
         let r : IsBitOf ports (first + 1) bit = rest k in
         record { number = suc r.number; port = r.port; at = r.at; numbered = omega (arith, r.numbered); named = r.named; of_mode = r.of_mode; indexed = r.indexed }
 
--- a bit is known by the name of its port and its place
+-- a bit is determined by the name of its port and its place
 abbrev pub spot : Bit → List ℕ × ℕ
 spot bit = (bit.name, bit.place)
 

@@ -51,7 +51,7 @@ one_more ports (n ∷ names) (m ∷ modes) name mode h new tap =
     apart other new (inr (inl same)) e = clash (bytes_eq name n) (name_same name n (same ∙ sym e)) new
     apart other new (inr (inr k)) e = absurd k
 
--- what the rule says of one attribute
+-- what the rule says about one attribute
 no_range : (range : Option Range) → is_none range ≡ true → range ≡ None
 no_range None e = refl
 no_range (Some range) e = cc e
@@ -181,7 +181,7 @@ split_test false true false h = refl
 split_test false false true h = refl
 split_test false false false h = refl
 
--- each name is that of one bit
+-- for each test of modes, as many bits with these names pass as modes in the list
 taps_counted : (ports : List Port) → PortsStand ports → (names : List (List ℕ)) (modes : List Mode) → AreTaps ports names modes → (mode : Mode → Bool) → count_by (tapped names mode) (port_bits ports) ≡ count_by mode modes
 taps_counted ports stand [] [] h mode = none_counted (tapped [] mode) (port_bits ports) (λ bit k. refl)
 taps_counted ports stand [] (m ∷ modes) h mode = absurd h

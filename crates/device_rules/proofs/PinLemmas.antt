@@ -11,7 +11,7 @@ use Rattle.bsdl_parser.specs.declared.entity.Port.{Port}
 use Rattle.device_rules.specs.Ports.{port_of}
 use Rattle.device_rules.specs.PinMap.{maps_port, has_width, some_repeats, pins_of, breaks_map}
 
--- the next pin stands among those seen
+-- the next pin is among those seen
 pub repeats_hit : (before pins : List (List ℕ)) (i : ℕ) (pin : List ℕ) → i < length pins → get_or pins i pin ≡ pin → is_among (before ++ take i pins) pin ≡ true → some_repeats (before ++ take i pins) (drop i pins) ≡ true
 repeats_hit before pins i pin less is e =
     let cut : drop i pins ≡ pin ∷ drop (i + 1) pins = drop_more pins i pin less ∙ ap (λ x. x ∷ drop (i + 1) pins) is in
@@ -21,7 +21,7 @@ front_more : (before pins : List (List ℕ)) (i : ℕ) (pin : List ℕ) → i < 
 front_more before pins i pin less is =
     append_assoc before (take i pins) (pin ∷ []) ∙ ap (λ xs. before ++ xs) (ap (λ x. take i pins ++ x ∷ []) (sym is) ∙ sym (take_more pins i pin less))
 
--- it does not
+-- the next pin is not among those seen
 pub repeats_step : (before pins : List (List ℕ)) (i : ℕ) (pin : List ℕ) → i < length pins → get_or pins i pin ≡ pin → is_among (before ++ take i pins) pin ≡ false
     → some_repeats (before ++ take i pins) (drop i pins) ≡ some_repeats (before ++ take (i + 1) pins) (drop (i + 1) pins)
 repeats_step before pins i pin less is e =
@@ -29,13 +29,13 @@ repeats_step before pins i pin less is e =
     ap (some_repeats (before ++ take i pins)) cut ∙ ap (λ b. b || some_repeats ((before ++ take i pins) ++ pin ∷ []) (drop (i + 1) pins)) e
     ∙ ap (λ xs. some_repeats xs (drop (i + 1) pins)) (front_more before pins i pin less is)
 
--- the pins seen are one more
+-- the pins seen, with one more
 pub among_more : (before pins : List (List ℕ)) (i : ℕ) (pin q : List ℕ) → i < length pins → get_or pins i pin ≡ pin → is_among (before ++ take (i + 1) pins) q ≡ (is_among (before ++ take i pins) q || (bytes_eq pin q || false))
 among_more before pins i pin q less is =
     ap (λ xs. is_among xs q) (sym (front_more before pins i pin less is)) ∙ list_any-append (bytes_eq q) (before ++ take i pins) (pin ∷ [])
     ∙ ap (λ b. is_among (before ++ take i pins) q || (b || false)) (bytes_turned q pin)
 
--- the pins of one entry more
+-- the pins with those of one more entry
 pub pins_more : (entries : List MapEntry) (i : ℕ) (entry : MapEntry) → i < length entries → get_or entries i entry ≡ entry → pins_of (take i entries) ++ entry.pins ≡ pins_of (take (i + 1) entries)
 pins_more entries i entry less is =
     flat_map_more (λ entry. entry.pins) [] (take i entries) entry ∙ ap pins_of (ap (λ x. take i entries ++ x ∷ []) (sym is) ∙ sym (take_more entries i entry less))
@@ -55,7 +55,7 @@ one_more true false = refl
 one_more false true = refl
 one_more false false = refl
 
--- the ports named are one more
+-- the ports named, with one more
 pub known_more : (entries : List MapEntry) (i : ℕ) (entry : MapEntry) (name q : List ℕ) (new old : Bool) → i < length entries → get_or entries i entry ≡ entry → name ≡ entry.port → new ≡ cond (bytes_eq name q) true old
     → old ≡ list_any (maps_port q) (take i entries) → new ≡ list_any (maps_port q) (take (i + 1) entries)
 known_more entries i entry name q new old less is same e f =

@@ -58,7 +58,7 @@ ports_step f ports i port before all new less is so_far added =
     so_far ∙ ap (λ ps. before ++ map f (bits_from i ps)) cut ∙ ap (λ bs. before ++ bs) (map-append f (bits_of_port i port) (bits_from (i + 1) (drop (i + 1) ports)))
     ∙ sym (append_assoc before (map f (bits_of_port i port)) (map f (bits_from (i + 1) (drop (i + 1) ports)))) ∙ ap (λ bs. bs ++ map f (bits_from (i + 1) (drop (i + 1) ports))) (sym added)
 
--- the range of a port is in order, where V2 holds
+-- if V2 holds, the range of each port is in order
 ordered_in : (ports : List Port) (i : ℕ) (port : Port) → Apart ports → i < length ports → get_or ports i port ≡ port → in_order port.range ≡ true
 ordered_in [] i port h less is = absurd (omega arith)
 ordered_in (p ∷ ports) zero port h less is = ap (λ q. in_order q.range) (sym is) ∙ h.0

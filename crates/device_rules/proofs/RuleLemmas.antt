@@ -1,4 +1,4 @@
--- A device breaks no rule where each rule finds nothing.
+-- If a draft breaks no rule, each rule finds nothing and so holds.
 use Rattle.std.proofs.Common.{◌≡◌, ℕ, List, Option, Some, None, Bool, refl, subst}
 use Rattle.device_rules.specs.declared.draft.Draft.{Draft}
 use Rattle.device_rules.specs.declared.broken.Broken.{Broken}
@@ -16,7 +16,7 @@ use Rattle.device_rules.proofs.LeastLemmas.{is_least}
 abbrev BothNone : Option ℕ → Option Broken → Type 0
 BothNone item after = (item ≡ None) × (after ≡ None)
 
--- a rule finds nothing, nor does what comes after
+-- the rule finds nothing, and neither do the rules after it
 none_found : (number : ℕ) (item : Option ℕ) (after : Option Broken) → rule number item after ≡ None → BothNone item after
 none_found number None after e = (refl, e)
 none_found number (Some item) after e = cc e
@@ -60,7 +60,7 @@ from_2_none : (draft : Draft) → first_rule draft ≡ None → (v2 draft.ports 
 unfolding first_rule
 from_2_none draft e = none_found 2 _ _ e
 
--- where no rule is broken, each rule finds nothing
+-- if no rule is broken, each rule finds nothing
 pub keeps_rules : (draft : Draft) → first_rule draft ≡ None → KeepsRules draft
 keeps_rules draft e =
     let p = from_2_none draft e in
@@ -85,10 +85,10 @@ keeps_rules draft e =
       v14 = d.3;
     }
 
--- where nothing is found, no item breaks the rule
+-- if nothing is found, no item breaks the rule
 pub holds : {A : Type 0} (breaks : List A → A → Bool) (items : List A) → first_break breaks items ≡ None → Holds breaks items
 holds breaks items e = subst (IsFound breaks items) e (first_is_found breaks items)
 
--- where nothing is found, no number below the bound has the property
+-- if nothing is found, no number below the bound has the property
 pub none_below : (is : ℕ → Bool) (bound : ℕ) → least_below is bound ≡ None → IsLeast is bound None
 none_below is bound e = subst (IsLeast is bound) e (is_least is bound)

@@ -1,4 +1,4 @@
--- Where the bits of ports stand, worked by hand.
+-- The numbers of port bits, worked by hand.
 use Rattle.std.proofs.Common.{◌≡◌, ℕ, zero, suc, ◌≤◌, true, false, List, [], ◌∷◌, Option, Some, None, map, take, refl, arith}
 use Rattle.std.specs.Prelude.{codes, slice_index}
 use Rattle.board_defs.specs.declared.device.Mode.TheVariants.{Inward}
@@ -43,7 +43,7 @@ starts = record {
 no_last : AreStarts ports (0 ∷ 8 ∷ 9 ∷ []) → ⊥
 no_last are = absurd (omega (arith, are.size))
 
--- where there is no port, there is that entry alone
+-- without ports, there is only the last entry
 no_ports : AreStarts [] (0 ∷ [])
 no_ports = record {
   size = refl;
@@ -62,7 +62,7 @@ places = refl
 plain_places : place_in None None ∷ place_in None (Some 0) ∷ place_in rising None ∷ [] ≡ Some 0 ∷ None ∷ None ∷ []
 plain_places = refl
 
--- the bit of a word stands so many places behind the first one of its port
+-- the number of a word's bit is its place within its port plus the number of the port's first bit
 numbers : map (bit_number ports) (Index (codes "D") 7 ∷ Index (codes "D") 0 ∷ Plain (codes "C") ∷ Index (codes "Q") 2 ∷ Index (codes "Q") 4 ∷ [])
     ≡ Some 0 ∷ Some 7 ∷ Some 8 ∷ Some 9 ∷ Some 11 ∷ []
 numbers = refl

@@ -1,4 +1,4 @@
--- The rules about the cells of the boundary register.
+-- The rules on the cells of the boundary register.
 use Rattle.std.specs.Prelude.{ℕ, ◌==◌, List, Bool, true, false, ◌&&◌, ◌||◌, not, if◌then◌else◌, Option, Some, None, nat_lt, nat_le, find, option_map, count_by}
 use Rattle.std.specs.List.{list_any}
 use Rattle.board_defs.specs.declared.device.Role.{Role}
@@ -12,18 +12,18 @@ use Rattle.instruction_rules.specs.Instructions.{same_bit}
 abbrev pub is_entry_of : ℕ → Entry → Bool
 is_entry_of cell entry = entry.num == cell
 
--- the first entry whose cell number is too large
+-- the cell number of the first entry whose number is too large
 abbrev pub too_large : ℕ → List Entry → Option ℕ
 too_large boundary entries = option_map (λ entry. entry.num) (find (λ entry. nat_le boundary entry.num) entries)
 
 abbrev pub is_missing : List Entry → ℕ → Bool
 is_missing entries cell = not (list_any (is_entry_of cell) entries)
 
--- V8: each cell number is below the length of the register, and each number below it occurs
+-- V8: each cell number is below the length of the register, and each number below it has an entry
 unfoldable pub v8 : ℕ → List Entry → Option ℕ
 v8 boundary entries = or_else (too_large boundary entries) (least_below (is_missing entries) boundary)
 
--- OUTPUT3 and BIDIR have a control
+-- OUTPUT3 and BIDIR need a control
 abbrev pub needs_control : Role → Bool
 needs_control Output3 = true
 needs_control Bidir = true
@@ -38,11 +38,11 @@ needs_control ObserveOnly = false
 abbrev pub is_control_of : ℕ → Entry → Bool
 is_control_of cell entry = (entry.num == cell) && is_controlling entry.role
 
--- some entry of the cell is a CONTROL or CONTROLR
+-- the cell has a CONTROL or CONTROLR entry
 abbrev pub has_control_entry : List Entry → ℕ → Bool
 has_control_entry entries cell = list_any (is_control_of cell) entries
 
--- OUTPUT2 may have one, too, and none that is not driving may
+-- an entry with this control breaks rule V10: it lacks one that it needs, or does not drive and has one, or has one that is not allowed
 abbrev pub breaks_control_of : List Entry → Entry → Option Control → Bool
 breaks_control_of entries entry None = needs_control entry.role
 breaks_control_of entries entry (Some control) = if is_driving entry.role then not ((control.cell == entry.num) || has_control_entry entries control.cell) else true
@@ -50,7 +50,8 @@ breaks_control_of entries entry (Some control) = if is_driving entry.role then n
 abbrev pub breaks_control : List Entry → Entry → Bool
 breaks_control entries entry = breaks_control_of entries entry entry.ctl
 
--- V10: OUTPUT3 and BIDIR have a control, the others but OUTPUT2 have none, and a control is the entry's own cell or a cell with a CONTROL or CONTROLR entry
+-- V10: OUTPUT3 and BIDIR have a control, OUTPUT2 may have one, and the others have none. A control is the entry's own cell or a cell with
+-- a CONTROL or CONTROLR entry.
 unfoldable pub v10 : List Entry → Option ℕ
 v10 entries = first_break (λ before entry. breaks_control entries entry) entries
 
@@ -65,21 +66,21 @@ controls_entry value cell entry = is_disabled_by value cell entry.ctl
 abbrev pub has_two_values : List Entry → ℕ → Bool
 has_two_values entries cell = list_any (controls_entry true cell) entries && list_any (controls_entry false cell) entries
 
--- V11: all entries with one control cell have one disable value
+-- V11: all entries with the same control cell have the same disable value
 unfoldable pub v11 : ℕ → List Entry → Option ℕ
 v11 boundary entries = least_below (has_two_values entries) boundary
 
--- INPUT, CLOCK, OBSERVE_ONLY, BIDIR and INTERNAL
+-- an entry of the cell that defines what it captures: INPUT, CLOCK, OBSERVE_ONLY, BIDIR or INTERNAL
 abbrev pub loads_cell : ℕ → Entry → Bool
 loads_cell cell entry = is_entry_of cell entry && is_loading entry.role
 
--- OUTPUT2, OUTPUT3, CONTROL, CONTROLR, BIDIR and INTERNAL
+-- an entry of the cell for its update latch: OUTPUT2, OUTPUT3, CONTROL, CONTROLR, BIDIR or INTERNAL
 abbrev pub writes_cell : ℕ → Entry → Bool
 writes_cell cell entry = is_entry_of cell entry && is_writing entry.role
 
 abbrev pub is_crowded : List Entry → ℕ → Bool
 is_crowded entries cell = nat_lt 1 (count_by (loads_cell cell) entries) || nat_lt 1 (count_by (writes_cell cell) entries)
 
--- V12: a cell has at most one entry that gives its capture a value, and at most one that takes its value from the update latch
+-- V12: a cell has at most one entry that defines what it captures, and at most one for its update latch
 unfoldable pub v12 : ℕ → List Entry → Option ℕ
 v12 boundary entries = least_below (is_crowded entries) boundary

@@ -1,4 +1,4 @@
--- The rule about the pin map.
+-- The rule on the pin map.
 use Rattle.std.specs.Prelude.{ℕ, List, [], ◌∷◌, ◌++◌, length, Bool, false, ◌||◌, ◌==◌, not, Option, Some, None, flat_map}
 use Rattle.std.specs.List.{list_any}
 use Rattle.std.specs.Str.{bytes_eq}
@@ -11,12 +11,12 @@ use Rattle.device_rules.specs.Taps.{is_among}
 abbrev pub maps_port : List ℕ → MapEntry → Bool
 maps_port name entry = bytes_eq entry.port name
 
--- a port is there, and has as many bits
+-- there is a port, and it has `count` bits
 abbrev pub has_width : Option Port → ℕ → Bool
 has_width None count = false
 has_width (Some port) count = width port.range == count
 
--- one of these pins stands among those seen, or earlier among them
+-- one of these pins is among those seen, or is twice among them
 abbrev pub some_repeats : List (List ℕ) → List (List ℕ) → Bool
 some_repeats seen [] = false
 some_repeats seen (pin ∷ pins) = is_among seen pin || some_repeats (seen ++ pin ∷ []) pins
@@ -27,6 +27,6 @@ pins_of entries = flat_map (λ entry. entry.pins) entries
 abbrev pub breaks_map : List Port → List MapEntry → MapEntry → Bool
 breaks_map ports before entry = list_any (maps_port entry.port) before || (not (has_width (port_of ports entry.port) (length entry.pins)) || some_repeats (pins_of before) entry.pins)
 
--- V4: each entry names a port that no earlier entry names, with as many pins as the port has bits, and no pin stands twice
+-- V4: each entry names a port that no earlier entry names, with as many pins as the port has bits, and no pin is in the map twice
 unfoldable pub v4 : List Port → List MapEntry → Option ℕ
 v4 ports entries = first_break (breaks_map ports) entries

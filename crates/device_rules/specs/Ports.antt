@@ -11,12 +11,12 @@ use Rattle.bsdl_strings.specs.declared.values.PortWord.{PortWord}
 use Rattle.bsdl_strings.specs.declared.values.PortWord.TheVariants.{Star, Plain, Index}
 use Rattle.first_places.specs.Items.{first_break}
 
--- a `to` range goes up, and a `downto` range down
+-- a `to` range does not fall, and a `downto` range does not rise
 abbrev pub in_order : Option Range → Bool
 in_order None = true
 in_order (Some range) = if range.up then nat_le range.left range.right else nat_le range.right range.left
 
--- how many bits a port has
+-- the number of bits of a port with this range
 abbrev pub width : Option Range → ℕ
 width None = 1
 width (Some range) = (if range.up then range.right - range.left else range.left - range.right) + 1
@@ -30,18 +30,19 @@ port_named name port = bytes_eq port.name name
 abbrev pub breaks_port : List Port → Port → Bool
 breaks_port before port = list_any (port_named port.name) before || (not (in_order port.range) || nat_lt most_bits (bits_of before + width port.range))
 
--- V2: names differ, ranges are in order, and there are at most 65,535 bits up to and with each port
+-- V2: names differ, ranges are in order, and there are at most 65,535 port bits
 unfoldable pub v2 : List Port → Option ℕ
 v2 ports = first_break breaks_port ports
 
--- the port with this name, and its number from 0
+-- the port with this name; `port_number` is its number, from 0
 abbrev pub port_of : List Port → List ℕ → Option Port
 port_of ports name = find (port_named name) ports
 
 abbrev pub port_number : List Port → List ℕ → Option ℕ
 port_number ports name = position_from (port_named name) 0 ports
 
--- A bit of a port: the number and the name of the port, the index for a bit of a vector, the place among the bits of the port, from left to right, and the mode.
+-- A bit of a port: the number and the name of the port, the index if the port is a vector, the place among the bits of the port from left
+-- to right, and the mode.
 pub record Bit : Type 0 where
   pub port : ℕ
   pub name : List ℕ
@@ -49,12 +50,12 @@ pub record Bit : Type 0 where
   pub place : ℕ
   pub mode : Mode
 
--- a plain port has one bit, without an index; the bits of a vector stand from left to right of its range
+-- a plain port has one bit, without an index; the bits of a vector are in order from left to right of its range
 abbrev pub indexes : Option Range → List (Option ℕ)
 indexes None = None ∷ []
 indexes (Some range) = map Some (range_indexes range.left range.right)
 
--- the bits of a port with these indexes, from this place on
+-- the bits of a port with these indexes, whose places begin at `place`
 abbrev pub bits_along : ℕ → Port → ℕ → List (Option ℕ) → List Bit
 bits_along number port place [] = []
 bits_along number port place (index ∷ indexes) = record { port = number; name = port.name; index = index; place = place; mode = port.mode } ∷ bits_along number port (place + 1) indexes
@@ -70,7 +71,7 @@ bits_from number (port ∷ ports) = bits_of_port number port ++ bits_from (numbe
 abbrev pub port_bits : List Port → List Bit
 port_bits ports = bits_from 0 ports
 
--- no index for a plain port, and this index for a bit of a vector
+-- the index of a bit that a word with this index names: none for a plain port, this one for a bit of a vector
 abbrev pub has_index : Option ℕ → Option ℕ → Bool
 has_index None index = is_none index
 has_index (Some number) index = is_on number index
@@ -78,7 +79,7 @@ has_index (Some number) index = is_on number index
 abbrev pub is_bit : List ℕ → Option ℕ → Bit → Bool
 is_bit name index bit = bytes_eq bit.name name && has_index index bit.index
 
--- a word without an index names the bit of a plain port, and one with an index a bit of a vector
+-- the word names the bit: without an index the bit of a plain port, with an index a bit of a vector
 abbrev pub is_named : PortWord → Bit → Bool
 is_named Star bit = false
 is_named (Plain name) bit = is_bit name None bit

@@ -1,4 +1,4 @@
--- The device that a text without a broken rule describes.
+-- The record of the device that a text without a broken rule describes.
 use Rattle.std.specs.Prelude.{ℕ, ◌≤◌, List, map, Bool, false, Option, Some, None, find, option_and_then, slice_get}
 use Rattle.std.specs.List.{list_any}
 use Rattle.board_defs.specs.Limits.{most_bits, most_instruction_bits}
@@ -16,7 +16,7 @@ use Rattle.device_rules.specs.Taps.{is_among, tap_names}
 use Rattle.device_rules.specs.PinMap.{maps_port}
 use Rattle.instruction_rules.specs.Instructions.{preload, extest}
 
--- the pins of a port follow its range from left to right; a port that the map does not name has none
+-- The pin of a bit. The pins of a port follow its range from left to right. A port that the map does not name has no pins.
 abbrev pub pin_of : List MapEntry → Bit → Option (List ℕ)
 pin_of entries bit = option_and_then (λ entry. slice_get entry.pins bit.place) (find (maps_port bit.name) entries)
 
@@ -35,7 +35,7 @@ port_bit entries taps compliance bit = record {
   compliance = in_compliance compliance bit;
 }
 
--- the bits of the ports in their order, those of a vector from left to right of its range
+-- the bits of the ports in order; the bits of a vector are in order from left to right of its range
 unfoldable pub raw_bits : List Port → List MapEntry → TapPorts → Option Compliance → List PortBit
 raw_bits ports entries taps compliance = map (port_bit entries taps compliance) (port_bits ports)
 

@@ -1,4 +1,4 @@
--- The rule about the test access port and the compliance patterns.
+-- The rule on the test access port and the compliance patterns.
 use Rattle.std.specs.Prelude.{ℕ, List, [], ◌∷◌, ◌++◌, length, Bool, true, false, ◌&&◌, ◌||◌, ◌==◌, not, Option, Some, None, is_none, is_some}
 use Rattle.std.specs.List.{list_any, list_all}
 use Rattle.std.specs.Str.{bytes_eq}
@@ -24,7 +24,7 @@ is_outward Both = false
 is_outward Buffer = false
 is_outward Linkage = false
 
--- a port of type bit, of such a mode
+-- there is a port, and it is of type bit and of such a mode
 abbrev pub is_plain : (Mode → Bool) → Option Port → Bool
 is_plain mode None = false
 is_plain mode (Some port) = is_none port.range && mode port.mode
@@ -32,11 +32,11 @@ is_plain mode (Some port) = is_none port.range && mode port.mode
 abbrev pub is_among : List (List ℕ) → List ℕ → Bool
 is_among names name = list_any (bytes_eq name) names
 
--- a TAP attribute names another port than those before it, of type bit and of such a mode
+-- a TAP attribute breaks the rule: its port is one of `before`, or is not of type bit and of such a mode
 abbrev pub breaks_tap : (Mode → Bool) → List Port → List (List ℕ) → List ℕ → Bool
 breaks_tap mode ports before name = is_among before name || not (is_plain mode (port_of ports name))
 
--- TRST* need not be there
+-- like `breaks_tap`, for TRST*, which is optional
 abbrev pub reset_breaks : List Port → List (List ℕ) → Option (List ℕ) → Bool
 reset_breaks ports before None = false
 reset_breaks ports before (Some name) = breaks_tap is_inward ports before name
@@ -53,7 +53,7 @@ listed (Some name) = name ∷ []
 abbrev pub tap_names : TapPorts → List (List ℕ)
 tap_names taps = four_taps taps ++ listed taps.reset
 
--- the first of TAP_SCAN_IN, TAP_SCAN_OUT, TAP_SCAN_MODE, TAP_SCAN_CLOCK and TAP_SCAN_RESET that breaks the rule, by its number
+-- the number of the first of TAP_SCAN_IN, TAP_SCAN_OUT, TAP_SCAN_MODE, TAP_SCAN_CLOCK and TAP_SCAN_RESET that breaks the rule
 abbrev pub wrong_tap : List Port → TapPorts → Option ℕ
 wrong_tap ports taps =
     or_else (broken_by 2 (breaks_tap is_inward ports [] taps.scan_in))
@@ -67,6 +67,6 @@ abbrev pub complies : List Port → Option Compliance → Bool
 complies ports None = true
 complies ports (Some compliance) = list_all (λ word. is_some (bit_number ports word)) compliance.ports && list_all (λ pattern. length pattern == length compliance.ports) compliance.patterns
 
--- V3: the number of the first TAP attribute that breaks the rule, or that of COMPLIANCE_PATTERNS
+-- V3: the number of the first TAP attribute that breaks the rule, or otherwise that of COMPLIANCE_PATTERNS if it does
 unfoldable pub v3 : List Port → TapPorts → Option Compliance → Option ℕ
 v3 ports taps compliance = or_else (wrong_tap ports taps) (broken_by 13 (not (complies ports compliance)))

@@ -1,4 +1,4 @@
-//! The rules about the cells of the boundary register.
+//! The rules on the cells of the boundary register.
 ghost use Rattle.std.specs.Prelude.{◌≡◌, ◌<◌, ◌+◌, ◌^◌, ◌&&◌, ◌||◌, not, length, IfOk, false, nat_lt, vec_len, slice_index, slice_index_or, slice_set};
 ghost use Rattle.first_places.specs.Items.{least_below};
 ghost use Rattle.device_rules.specs.Cells.{is_entry_of, controls_entry, too_large, v8, v11, v12};
@@ -10,7 +10,7 @@ use bsdl_strings::Entry;
 use lists::is_set;
 use std::alloc::{AllocError, Global};
 
-/// For each cell, whether it has an entry.
+/// Returns, for each cell, whether it has an entry.
 fn cells_with_entry(
     alloc: Global,
     boundary: u32,
@@ -27,7 +27,7 @@ fn cells_with_entry(
     Ok(table)
 }
 
-/// For each cell, whether it controls an entry with this disable value.
+/// Returns, for each cell, whether it controls an entry with this disable value.
 fn cells_disabling_by(
     alloc: Global,
     value: bool,
@@ -50,7 +50,7 @@ fn cells_disabling_by(
     Ok(table)
 }
 
-/// The least cell that has no flag.
+/// Returns the least cell whose flag is not set.
 fn least_clear(boundary: u32, flags: &[bool]) -> Option<u32>
     ensures { result ≡ least_below (λ cell. not (slice_index_or flags.now cell false)) boundary }
 {
@@ -62,7 +62,7 @@ fn least_clear(boundary: u32, flags: &[bool]) -> Option<u32>
     None
 }
 
-/// The first number of an entry that is too large.
+/// Returns the cell number of the first entry whose number is not below `boundary`.
 fn too_large_cell(boundary: u32, entries: &[Entry]) -> Option<u32>
     ensures { result ≡ too_large boundary entries.now }
 {
@@ -72,7 +72,7 @@ fn too_large_cell(boundary: u32, entries: &[Entry]) -> Option<u32>
         .map(|entry| entry.num)
 }
 
-/// V8: the first number too large, or else the least that is missing.
+/// Checks rule V8: returns the first cell number that is too large, or otherwise the least one that is missing.
 #[tactic(auto, unfolding(crate::specs::Cells::v8))]
 pub(crate) fn wrong_cell(
     alloc: Global,
@@ -90,14 +90,14 @@ pub(crate) fn wrong_cell(
     }
 }
 
-/// Whether both tables have a flag at a place.
+/// Returns whether the flag at `place` is set in both tables.
 fn are_set(on: &[bool], off: &[bool], place: usize) -> bool
     ensures { result ≡ (slice_index_or on.now place false && slice_index_or off.now place false) }
 {
     is_set(on, place) && is_set(off, place)
 }
 
-/// The least cell that has both flags.
+/// Returns the least cell with a flag in both tables.
 fn least_with_both(boundary: u32, on: &[bool], off: &[bool]) -> Option<u32>
     ensures { result ≡ least_below (λ cell.
         slice_index_or on.now cell false && slice_index_or off.now cell false) boundary }
@@ -110,7 +110,7 @@ fn least_with_both(boundary: u32, on: &[bool], off: &[bool]) -> Option<u32>
     None
 }
 
-/// V11: the least control cell with two disable values.
+/// Checks rule V11: returns the least control cell with two disable values.
 #[tactic(auto, unfolding(crate::specs::Cells::v11))]
 pub(crate) fn two_valued_control(
     alloc: Global,
@@ -124,15 +124,14 @@ pub(crate) fn two_valued_control(
     Ok(least_with_both(boundary, &on, &off))
 }
 
-/// The two parts of a boundary cell: the flip-flop that captures a value, and the update latch that
-/// drives one.
+/// The two parts of a boundary cell: the flip-flop that captures a value, and the update latch, which drives one.
 #[derive(Clone, Copy, Debug, PartialEq, Eq)]
 pub enum Stage {
     Capture,
     Update,
 }
 
-/// Whether an entry of this function is for the stage.
+/// Returns whether an entry of this function is for the stage.
 fn is_for(stage: Stage, role: Role) -> bool
     ensures { result ≡ is_for stage role }
 {
@@ -151,7 +150,7 @@ fn count_one(table: &mut Vec<u32>, cell: u32)
     table[cell as usize] += 1;
 }
 
-/// For each cell, how many entries of it are for the stage.
+/// Returns, for each cell, the number of its entries for the stage.
 fn counts_of(
     alloc: Global,
     stage: Stage,
@@ -172,7 +171,7 @@ fn counts_of(
     Ok(table)
 }
 
-/// Whether the number at a place is more than 1; there is none past the end.
+/// Returns whether the number at `place` is more than 1. There is no number past the end.
 fn is_several(counts: &[u32], place: usize) -> bool
     ensures { result ≡ nat_lt 1 (slice_index counts.now place) }
 {
@@ -182,7 +181,7 @@ fn is_several(counts: &[u32], place: usize) -> bool
     }
 }
 
-/// The least cell at which one of the two numbers is more than 1.
+/// Returns the least cell for which one of the two numbers is more than 1.
 fn least_several(boundary: u32, loaders: &[u32], writers: &[u32]) -> Option<u32>
     ensures { result ≡ least_below (λ cell.
         nat_lt 1 (slice_index loaders.now cell) || nat_lt 1 (slice_index writers.now cell)) boundary }
@@ -195,7 +194,7 @@ fn least_several(boundary: u32, loaders: &[u32], writers: &[u32]) -> Option<u32>
     None
 }
 
-/// V12: the least cell with two entries for its capture or two for its update latch.
+/// Checks rule V12: returns the least cell with two entries for its capture or two for its update latch.
 #[tactic(auto, unfolding(crate::specs::Cells::v12))]
 pub(crate) fn crowded_cell(
     alloc: Global,

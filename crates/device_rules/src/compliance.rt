@@ -8,10 +8,10 @@ use std::alloc::{AllocError, Global};
 use std::collections::HashSet;
 use std::marker::Model;
 
-/// The name and the index of a bit.
+/// The name of a port and the index of a bit.
 type Key<'a> = (&'a [u8], Option<u32>);
 
-/// The bit that a word names; `*` names none.
+/// Returns the name and the index in a word; `*` has none.
 fn key_of(word: &PortWord) -> Option<Key>
     ensures { option_map (λ key. (key.0.now, key.1)) result ≡ key_of word.now }
 {
@@ -22,7 +22,7 @@ fn key_of(word: &PortWord) -> Option<Key>
     }
 }
 
-/// The words that name the bits of the patterns.
+/// Returns the words that name the bits of the patterns.
 fn words_of(compliance: &Option<Compliance>) -> &[PortWord]
     ensures { result.now ≡ words_of compliance.now }
 {
@@ -32,7 +32,7 @@ fn words_of(compliance: &Option<Compliance>) -> &[PortWord]
     }
 }
 
-/// The bits that these words name.
+/// Returns the set of the bits that these words name.
 fn bits_of<'a>(alloc: Global, words: &'a [PortWord]) -> Result<HashSet<Key<'a>>, AllocError>
     ensures { IfOk result (λ bits. HasBits bits words.now) }
 {
@@ -51,7 +51,7 @@ fn has_key(bits: &HashSet<Key>, name: &[u8], index: Option<u32>) -> bool
     bits.contains(&(name, index))
 }
 
-/// The compliance patterns with the bits that they name, seen as the patterns.
+/// The compliance patterns, with the set of the bits that they name. Contracts see it as the patterns.
 #[derive(Drop)]
 pub struct NamedBits<'a> {
     compliance: &'a Option<Compliance>,
@@ -71,7 +71,7 @@ impl<'a> Model for NamedBits<'a> {
 }
 
 impl<'a> NamedBits<'a> {
-    /// The bits that these patterns name.
+    /// Collects the bits that these patterns name.
     pub fn of(
         alloc: Global,
         compliance: &'a Option<Compliance>,
@@ -82,7 +82,7 @@ impl<'a> NamedBits<'a> {
         Ok(NamedBits { compliance, bits })
     }
 
-    /// Whether the patterns name the bit of this name and index.
+    /// Returns whether the patterns name the bit with this name and index.
     pub fn has(&self, name: &[u8], index: Option<u32>) -> bool
         ensures { result ≡ list_any (names_bit name.now index) (words_of self.now) }
     {

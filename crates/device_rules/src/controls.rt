@@ -1,4 +1,4 @@
-//! The rule about the controls of the entries of the boundary register.
+//! The rule on the controls of the boundary register's entries.
 ghost use Rattle.std.specs.Prelude.{◌≡◌, ◌<◌, ◌^◌, length, All, IfOk};
 ghost use Rattle.device_rules.specs.Cells.{needs_control, is_control_of, has_control_entry, breaks_control, v10};
 ghost use Rattle.device_rules.specs.inner.Tables.{Marks};
@@ -15,7 +15,7 @@ fn wants_control(role: Role) -> bool
     matches!(role, Role::Output3 | Role::Bidir)
 }
 
-/// For each cell, whether it has a CONTROL or CONTROLR entry.
+/// Returns, for each cell, whether it has a CONTROL or CONTROLR entry.
 fn control_cells(alloc: Global, boundary: u32, entries: &[Entry]) -> Result<Vec<bool>, AllocError>
     ensures { IfOk result (λ table. Marks is_control_of entries.now boundary table.items) }
 {
@@ -30,8 +30,8 @@ fn control_cells(alloc: Global, boundary: u32, entries: &[Entry]) -> Result<Vec<
     Ok(table)
 }
 
-/// The entries of a register with the cells that have a CONTROL or CONTROLR entry, seen as the list
-/// of the entries.
+/// The entries of a boundary register, with the cells that have a CONTROL or CONTROLR entry. Contracts see it as the
+/// list of the entries.
 #[derive(Drop)]
 struct Controls<'a> {
     entries: &'a [Entry],
@@ -53,7 +53,7 @@ impl<'a> Model for Controls<'a> {
 }
 
 impl<'a> Controls<'a> {
-    /// The controls of a register of this length, below which each entry has its number.
+    /// Collects the control cells of a register of length `boundary`. The cell number of each entry must be below it.
     fn of(alloc: Global, boundary: u32, entries: &'a [Entry]) -> Result<Controls<'a>, AllocError>
         requires { All (λ entry. entry.num < boundary) entries.now }
         ensures { IfOk result (λ controls. controls ≡ entries.now) }
@@ -68,14 +68,14 @@ impl<'a> Controls<'a> {
         self.entries
     }
 
-    /// Whether the cell has a CONTROL or CONTROLR entry.
+    /// Returns whether the cell has a CONTROL or CONTROLR entry.
     fn has(&self, cell: u32) -> bool
         ensures { result ≡ has_control_entry self.now cell }
     {
         is_set(&self.flags, cell as usize)
     }
 
-    /// Whether an entry has a control that is not allowed, or lacks one.
+    /// Returns whether the entry has a control that is not allowed, or lacks one that it needs.
     fn breaks(&self, entry: &Entry) -> bool
         ensures { result ≡ breaks_control self.now entry.now }
     {
@@ -106,7 +106,8 @@ impl<'a> Controls<'a> {
     }
 }
 
-/// V10: the first entry whose control is not allowed, or is wanted and not there.
+/// Checks rule V10: returns the number, from 1, of the first entry with a control that is not allowed, or without
+/// one that it needs.
 pub(crate) fn wrong_control(
     alloc: Global,
     boundary: u32,

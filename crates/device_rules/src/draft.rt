@@ -1,4 +1,4 @@
-//! What a BSDL text says of a device.
+//! The device in a BSDL text, before its rules are checked.
 use board_defs::{Code, Edition, Items, Name};
 use bsdl_parser::Port;
 use bsdl_strings::{Compliance, Entry, MapEntry, Opcode};
@@ -14,12 +14,12 @@ pub struct TapPorts {
     pub mode: Name,
     /// TAP_SCAN_CLOCK: TCK.
     pub clock: Name,
-    /// TAP_SCAN_RESET: TRST*, where there is one.
+    /// TRST*, the port of TAP_SCAN_RESET, if there is one.
     pub reset: Option<Name>,
 }
 
-/// What a text says of a device, before the rules are tried. Names are in upper case, and lists
-/// are in the order of the text.
+/// A device as its text describes it, before the rules are checked. Names are in upper case, and lists are in the
+/// order of the text.
 #[derive(Drop)]
 pub struct Draft {
     pub entity: Name,

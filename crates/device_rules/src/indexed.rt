@@ -1,4 +1,4 @@
-//! What a text says of a device, with the index of its ports.
+//! A device in a BSDL text, with an index of its ports.
 ghost use Rattle.std.specs.Prelude.{◌≡◌, None, IfOk};
 ghost use Rattle.device_rules.specs.Ports.{v2};
 ghost use Rattle.device_rules.specs.Rules.{HasShortLists};
@@ -8,8 +8,7 @@ use crate::port_index::PortIndex;
 use std::alloc::{AllocError, Global};
 use std::marker::Model;
 
-/// What a text says of a device whose ports keep rule V2, with the index of the ports; seen as what
-/// the text says.
+/// A draft whose ports keep rule V2, with an index of the ports. Contracts see it as the draft.
 #[derive(Drop)]
 pub struct IndexedDraft<'a> {
     text: &'a Draft,
@@ -29,7 +28,7 @@ impl<'a> Model for IndexedDraft<'a> {
 }
 
 impl<'a> IndexedDraft<'a> {
-    /// What the text says, with the index of its ports.
+    /// Makes the index of the ports of `text`.
     pub fn of(alloc: Global, text: &'a Draft) -> Result<IndexedDraft<'a>, AllocError>
         requires short { HasShortLists text.now }
         requires rule { v2 text.now.ports ≡ None }
@@ -39,7 +38,7 @@ impl<'a> IndexedDraft<'a> {
         Ok(IndexedDraft { text, ports })
     }
 
-    /// What the text says.
+    /// Returns the draft.
     pub fn text(&self) -> &Draft
         ensures text { result.now ≡ self.now }
         ensures short { HasShortLists self.now }
@@ -47,7 +46,7 @@ impl<'a> IndexedDraft<'a> {
         self.text
     }
 
-    /// The ports.
+    /// Returns the index of the ports.
     pub fn ports(&self) -> &PortIndex<'a>
         ensures { result.now ≡ self.now.ports }
     {

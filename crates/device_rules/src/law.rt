@@ -1,4 +1,4 @@
-//! Laws of the definitions, each the contract of a function that does nothing.
+//! Laws of the definitions. Each is the contract of a function that does nothing.
 ghost use Rattle.std.specs.Prelude.{◌≡◌, ℕ, List, None};
 ghost use Rattle.bsdl_parser.specs.declared.entity.Port.{Port};
 ghost use Rattle.bsdl_strings.specs.declared.values.Entry.{Entry};
@@ -16,12 +16,12 @@ ghost use Rattle.device_rules.specs.Raw.{raw_device, HasLengths};
 ghost use Rattle.device_rules.specs.Rules.{first_rule, KeepsRules};
 ghost use Rattle.board_defs.specs.DeviceRules.{IsDevice};
 
-/// Where no rule is broken, each rule finds nothing.
+/// If `first_rule` finds no broken rule, then each rule alone finds nothing.
 pub fn all_rules_hold()
     ensures { (draft : Draft) → first_rule draft ≡ None → KeepsRules draft }
 {}
 
-/// Where a rule finds nothing it holds, and else it finds the first item that breaks it.
+/// If a rule finds nothing, it holds; otherwise it finds the first item that breaks it, or the least number.
 pub fn finds_the_first()
     ensures v2 { (ports : List Port) → IsFound breaks_port ports (v2 ports) }
     ensures v4 { (ports : List Port) (entries : List MapEntry) → IsFound (breaks_map ports) entries (v4 ports entries) }
@@ -34,7 +34,7 @@ pub fn finds_the_first()
     ensures v14 { (ports : List Port) (taps : TapPorts) (entries : List Entry) → IsFound (λ before entry. breaks_mode ports taps entry) entries (v14 ports taps entries) }
 {}
 
-/// Where no rule is broken, and the lengths are in bounds, the device keeps the rules of a device.
+/// A draft with lengths in their ranges that breaks no rule describes a record that keeps the rules of a device.
 pub fn devices_keep_rules()
     ensures { (draft : Draft) → HasLengths draft → first_rule draft ≡ None → IsDevice (raw_device draft) }
 {}

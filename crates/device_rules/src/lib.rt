@@ -1,6 +1,5 @@
-//! The rules that what a BSDL text says of a device keeps (IEEE 1149.1b-1994 and
-//! IEEE 1149.1-2001, Annex B, as far as an interconnect test needs them), and the device that it
-//! then describes.
+//! The rules that a device in a BSDL text keeps (IEEE 1149.1b-1994 and IEEE 1149.1-2001, Annex B, as far as an
+//! interconnect test needs them), and the record of the device that the text then describes.
 #![tactic(auto)]
 
 mod broken;

@@ -1,4 +1,4 @@
-//! The pin map of a package, by the names of the ports.
+//! The pin map of a package, indexed by port name.
 ghost use Rattle.std.specs.Prelude.{◌≡◌, ◌<◌, ◌^◌, length, map, vec_len, find, IfOk};
 ghost use Rattle.std.specs.List.{position_from};
 ghost use Rattle.std.specs.Option.{option_copied};
@@ -23,7 +23,7 @@ fn names_of<'a>(alloc: Global, entries: &'a [MapEntry]) -> Result<Vec<&'a [u8]>,
     Ok(names)
 }
 
-/// Where the pin map names each port.
+/// Returns, for each port name, the place of its first entry in the pin map.
 fn places_of<'a>(
     alloc: Global,
     entries: &'a [MapEntry],
@@ -35,7 +35,7 @@ fn places_of<'a>(
     first_places_of(alloc, &names)
 }
 
-/// The pin map of a package, in which each entry is found by its port; seen as the list of the
+/// The pin map of a package, in which the entry of a port can be looked up. Contracts see it as the list of the
 /// entries.
 #[derive(Drop)]
 pub struct PinIndex<'a> {
@@ -56,7 +56,7 @@ impl<'a> Model for PinIndex<'a> {
 }
 
 impl<'a> PinIndex<'a> {
-    /// The index of these entries.
+    /// Makes the index of these entries.
     pub fn of(alloc: Global, entries: &'a [MapEntry]) -> Result<PinIndex<'a>, AllocError>
         requires { length entries.now < 2 ^ 32 }
         ensures { IfOk result (λ index. index ≡ entries.now) }
@@ -77,7 +77,7 @@ impl<'a> PinIndex<'a> {
         self.entries
     }
 
-    /// The entry of a port.
+    /// Returns the entry of the port with this name.
     pub fn entry_of(&self, name: &[u8]) -> Option<&MapEntry>
         ensures { option_copied result ≡ find (maps_port name.now) self.now }
     {

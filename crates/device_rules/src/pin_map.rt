@@ -1,4 +1,4 @@
-//! The rule about the pin map.
+//! The rule on the pin map.
 ghost use Rattle.std.specs.Prelude.{◌≡◌, ◌<◌, ◌^◌, ◌++◌, ◌||◌, not, List, ℕ, false, length, IfOk};
 ghost use Rattle.std.specs.Option.{option_copied};
 ghost use Rattle.device_rules.specs.inner.Seen.{HasNames};
@@ -13,7 +13,7 @@ use bsdl_strings::MapEntry;
 use std::alloc::{AllocError, Global};
 use std::collections::HashSet;
 
-/// Whether there is a port, with so many bits.
+/// Returns whether there is a port and it has `count` bits.
 fn has_width(port: Option<&Port>, count: usize) -> bool
     ensures { result ≡ has_width (option_copied port.entry) count }
 {
@@ -23,7 +23,7 @@ fn has_width(port: Option<&Port>, count: usize) -> bool
     }
 }
 
-/// Whether an entry names a port, and has as many pins as the port has bits.
+/// Returns whether the entry names a port and has as many pins as the port has bits.
 fn fits_port(ports: &PortIndex, entry: &MapEntry) -> bool
     ensures { result ≡ has_width (port_of ports.now entry.now.port) (length entry.now.pins) }
 {
@@ -33,14 +33,14 @@ fn fits_port(ports: &PortIndex, entry: &MapEntry) -> bool
     )
 }
 
-/// An entry that was named before, does not fit its port, or repeats a pin.
+/// Returns whether an entry breaks the rule: its port came before, it does not fit its port, or it repeats a pin.
 fn is_broken(known: bool, fits: bool, repeats: bool) -> bool
     ensures { result ≡ (known || (not fits || repeats)) }
 {
     known || !fits || repeats
 }
 
-/// Whether one of the pins was seen, or stands earlier among them. They are seen from then on.
+/// Returns whether one of the pins was seen before, or is twice among `pins`. If not, adds all of them to `seen`.
 fn some_repeats<'a>(seen: &mut HashSet<&'a [u8]>, pins: &'a [Name]) -> Result<bool, AllocError>
     ensures answer { IfOk result (λ repeats. (before : List (List ℕ))
         → HasNames seen.old before → repeats ≡ some_repeats before pins.now) }
@@ -56,8 +56,8 @@ fn some_repeats<'a>(seen: &mut HashSet<&'a [u8]>, pins: &'a [Name]) -> Result<bo
     Ok(false)
 }
 
-/// V4: the first entry that names no port, one that came before or one with another number of
-/// bits, or that has a pin that came before.
+/// Checks rule V4: returns the number, from 1, of the first wrong entry: it names no port or a port that came
+/// before, its number of pins is not the port's number of bits, or it has a pin that came before.
 #[tactic(auto, unfolding(crate::specs::PinMap::v4))]
 pub(crate) fn wrong_map_entry(
     alloc: Global,

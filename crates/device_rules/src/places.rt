@@ -1,4 +1,4 @@
-//! The rules about the ports on which boundary entries are.
+//! The rules on the ports of boundary entries.
 ghost use Rattle.std.specs.Prelude.{◌≡◌, ◌<◌, ◌^◌, ◌&&◌, not, length, IfOk, IfSome};
 ghost use Rattle.std.specs.Option.{option_copied};
 ghost use Rattle.board_defs.specs.DeviceRules.{is_driving, is_inner, may_drive};
@@ -19,7 +19,8 @@ fn is_star(word: &PortWord) -> bool
     matches!(word, PortWord::Star)
 }
 
-/// Whether an entry is not at `*` and is to be, or names no port bit and is to.
+/// Returns whether the entry is at a wrong place: CONTROL, CONTROLR and INTERNAL belong at `*`, all others on a port
+/// bit.
 fn breaks_place(ports: &PortIndex, near: &mut Near, entry: &Entry) -> bool
     ensures { result ≡ breaks_place ports.now entry.now }
 {
@@ -30,8 +31,8 @@ fn breaks_place(ports: &PortIndex, near: &mut Near, entry: &Entry) -> bool
     }
 }
 
-/// V9: the first entry that is at `*` and is to be on a port bit, or is not at `*` and is to be,
-/// or names no port bit.
+/// Checks rule V9: returns the number, from 1, of the first entry at a wrong place. CONTROL, CONTROLR and INTERNAL
+/// belong at `*`, all others on a port bit.
 #[tactic(auto, unfolding(crate::specs::Places::v9))]
 pub(crate) fn wrong_place(ports: &PortIndex, entries: &[Entry]) -> Option<u32>
     requires { length entries.now < 2 ^ 32 }
@@ -46,7 +47,7 @@ pub(crate) fn wrong_place(ports: &PortIndex, entries: &[Entry]) -> Option<u32>
     None
 }
 
-/// The port bit that an entry drives.
+/// Returns the number of the port bit that the entry drives, if it drives one.
 fn driven_bit(ports: &PortIndex, near: &mut Near, entry: &Entry) -> Option<u32>
     ensures number { result ≡ driven_bit ports.now entry.now }
     ensures few { IfSome result (λ bit. bit < bits_of ports.now) }
@@ -58,7 +59,7 @@ fn driven_bit(ports: &PortIndex, near: &mut Near, entry: &Entry) -> Option<u32>
     }
 }
 
-/// V13: the first entry that drives a port bit which an earlier one drives.
+/// Checks rule V13: returns the number, from 1, of the first entry that drives a port bit that an earlier one drives.
 #[tactic(auto, unfolding(crate::specs::Places::v13))]
 pub(crate) fn second_driver(
     alloc: Global,
@@ -81,7 +82,7 @@ pub(crate) fn second_driver(
     Ok(None)
 }
 
-/// The port that a word names.
+/// Returns the port that a word names.
 fn named_port<'a>(ports: &'a PortIndex, near: &mut Near, word: &PortWord) -> Option<&'a Port>
     ensures { option_copied result ≡ named_port ports.now word.now }
 {
@@ -92,14 +93,14 @@ fn named_port<'a>(ports: &'a PortIndex, near: &mut Near, word: &PortWord) -> Opt
     }
 }
 
-/// Whether an entry of this function drives a port that is not driven.
+/// Returns whether an entry of this function drives and a port of this mode may not be driven.
 fn drives_wrongly(role: Role, mode: Mode) -> bool
     ensures { result ≡ (is_driving role && not (may_drive mode)) }
 {
     role.is_driving() && !mode.may_drive()
 }
 
-/// Whether an entry is on a TAP port, or drives a port of mode in or linkage.
+/// Returns whether the entry is on a TAP port, or drives a port of mode in or linkage.
 fn is_misfit(ports: &PortIndex, near: &mut Near, taps: &TapPorts, entry: &Entry) -> bool
     ensures { result ≡ breaks_mode ports.now taps.now entry.now }
 {
@@ -109,7 +110,8 @@ fn is_misfit(ports: &PortIndex, near: &mut Near, taps: &TapPorts, entry: &Entry)
     }
 }
 
-/// V14: the first entry on a TAP port, or that drives a port of mode in or linkage.
+/// Checks rule V14: returns the number, from 1, of the first entry that is on a TAP port or drives a port of mode in
+/// or linkage.
 #[tactic(auto, unfolding(crate::specs::Places::v14))]
 pub(crate) fn misfit(ports: &PortIndex, taps: &TapPorts, entries: &[Entry]) -> Option<u32>
     requires { length entries.now < 2 ^ 32 }

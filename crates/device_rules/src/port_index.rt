@@ -1,4 +1,4 @@
-//! Where ports and their bits stand, by one map over the names.
+//! An index of ports by name, with the numbers of their bits.
 ghost use Rattle.std.specs.Prelude.{◌≡◌, ◌<◌, ◌^◌, Some, None, true, length, map, take, vec_len, IfOk, IfSome};
 ghost use Rattle.std.specs.Option.{option_copied};
 ghost use Rattle.std.specs.Str.{bytes_eq};
@@ -28,7 +28,7 @@ fn names_of<'a>(alloc: Global, ports: &'a [Port]) -> Result<Vec<&'a [u8]>, Alloc
     Ok(names)
 }
 
-/// Where each name stands first.
+/// Returns the first place of each name.
 pub(crate) fn first_places_of<'a>(
     alloc: Global,
     names: &[&'a [u8]],
@@ -40,7 +40,7 @@ pub(crate) fn first_places_of<'a>(
     first_places(alloc, names)
 }
 
-/// The number of each port by its name.
+/// Returns the number of each port by its name.
 fn places_of<'a>(alloc: Global, ports: &'a [Port]) -> Result<IndexMap<&'a [u8], u32>, AllocError>
     requires { length ports.now < 2 ^ 32 }
     ensures { IfOk result (λ places. Finds places (port_number ports.now)) }
@@ -49,7 +49,7 @@ fn places_of<'a>(alloc: Global, ports: &'a [Port]) -> Result<IndexMap<&'a [u8], 
     first_places_of(alloc, &names)
 }
 
-/// How many bits stand before each port, and how many there are.
+/// Returns the number of bits before each port, and at the end the number of all bits.
 fn starts_of(alloc: Global, ports: &[Port]) -> Result<Vec<u32>, AllocError>
     requires { v2 ports.now ≡ None }
     ensures { IfOk result (λ starts. AreStarts ports.now starts.items) }
@@ -64,14 +64,14 @@ fn starts_of(alloc: Global, ports: &[Port]) -> Result<Vec<u32>, AllocError>
     Ok(starts)
 }
 
-/// What the map has for a name.
+/// Returns the number that the map has for a name.
 pub(crate) fn place_of(places: &IndexMap<&[u8], u32>, name: &[u8]) -> Option<u32>
     ensures { result ≡ get_by (λ n. bytes_eq name.now n.now) places.now }
 {
     places.get(&name).copied()
 }
 
-/// The place of an index within a range, from left to right.
+/// Returns the place of index `number` in the range, from left to right and from 0.
 fn place_in(range: Option<Range>, number: Option<u32>) -> Option<u32>
     ensures { result ≡ place_in range number }
 {
@@ -94,9 +94,8 @@ fn place_in(range: Option<Range>, number: Option<u32>) -> Option<u32>
     }
 }
 
-/// The numbers of the two ports that the map gave last. Names that follow one another are often of
-/// one port, or of two by turns, so these are tried before the map is asked. Any numbers may stand
-/// in it: the answer is the same.
+/// The numbers of the last two ports that were looked up in the map. Successive names often belong to one port, or
+/// to two ports in turn, so these are tried first. The numbers may be any: they never change the answer.
 #[derive(Clone, Copy, Debug, PartialEq, Eq)]
 pub struct Near {
     last: u32,
@@ -104,14 +103,14 @@ pub struct Near {
 }
 
 impl Near {
-    /// The first port, before there was a question.
+    /// Creates the numbers for before the first look-up.
     pub fn new() -> Near {
         Near { last: 0, before: 0 }
     }
 }
 
-/// The ports of a device, which are few and keep rule V2: where each stands, how many bits stand
-/// before it and, at the end, how many there are. Seen as the list of the ports.
+/// The ports of a device, which keep rule V2, with the place of each name, the number of bits before each port,
+/// and the number of all bits. Contracts see it as the list of the ports.
 #[derive(Drop)]
 pub struct PortIndex<'a> {
     ports: &'a [Port],
@@ -132,7 +131,7 @@ impl<'a> Model for PortIndex<'a> {
 }
 
 impl<'a> PortIndex<'a> {
-    /// The index of these ports.
+    /// Makes the index of these ports.
     pub fn of(alloc: Global, ports: &'a [Port]) -> Result<PortIndex<'a>, AllocError>
         requires short { length ports.now < 2 ^ 32 }
         requires rule { v2 ports.now ≡ None }
@@ -147,7 +146,7 @@ impl<'a> PortIndex<'a> {
         })
     }
 
-    /// The ports in order.
+    /// Returns the ports in order.
     pub fn as_slice(&self) -> &[Port]
         ensures ports { result.now ≡ self.now }
         ensures short { length result.now < 2 ^ 32 }
@@ -156,8 +155,9 @@ impl<'a> PortIndex<'a> {
         self.ports
     }
 
-    /// Whether the port at this place has this name. Names differ, so no other port has it then. Only a yes is told of: a wrong no costs
-    /// time alone.
+    /// Returns whether the port at `place` has this name. Port names differ, so no other port has it then. The
+    /// contract
+    /// says nothing about `false`: a wrong `false` would only cost time.
     fn has_name(&self, place: u32, name: &[u8]) -> bool
         ensures { result ≡ true → port_number self.now name.now ≡ Some place }
     {
@@ -167,14 +167,14 @@ impl<'a> PortIndex<'a> {
         }
     }
 
-    /// The number of the port with this name, by the map.
+    /// Looks up the number of the port with this name in the map.
     fn mapped_number(&self, name: &[u8]) -> Option<u32>
         ensures { result ≡ port_number self.now name.now }
     {
         place_of(&self.places, name)
     }
 
-    /// The number of the port with this name.
+    /// Returns the number of the port with this name.
     fn number_of(&self, near: &mut Near, name: &[u8]) -> Option<u32>
         ensures { result ≡ port_number self.now name.now }
     {
@@ -190,7 +190,7 @@ impl<'a> PortIndex<'a> {
         Some(number)
     }
 
-    /// The port with this name.
+    /// Returns the port with this name.
     pub fn port_at(&self, near: &mut Near, name: &[u8]) -> Option<&Port>
         ensures { option_copied result ≡ port_of self.now name.now }
     {
@@ -201,7 +201,7 @@ impl<'a> PortIndex<'a> {
         }
     }
 
-    /// How many bits stand before a port.
+    /// Returns the number of bits before port `number`.
     fn start_of(&self, number: u32) -> u32
         requires { number < length self.now }
         ensures { result ≡ bits_of (take number self.now) }
@@ -209,14 +209,14 @@ impl<'a> PortIndex<'a> {
         self.starts[number as usize]
     }
 
-    /// How many bits all ports have.
+    /// Returns the number of bits of all ports.
     pub fn total_bits(&self) -> u32
         ensures { result ≡ bits_of self.now }
     {
         self.starts[self.ports.len()]
     }
 
-    /// The number of the bit with this index of the port with this name.
+    /// Returns the number of the port bit with this name and index.
     fn bit_in(&self, near: &mut Near, name: &[u8], index: Option<u32>) -> Option<u32>
         ensures number { result ≡ position_from (is_bit name.now index) 0 (port_bits self.now) }
         ensures few { IfSome result (λ bit. bit < bits_of self.now) }
@@ -231,7 +231,7 @@ impl<'a> PortIndex<'a> {
         }
     }
 
-    /// The number of the port bit that a word names.
+    /// Returns the number of the port bit that a word names.
     pub fn bit_at(&self, near: &mut Near, word: &PortWord) -> Option<u32>
         ensures number { result ≡ bit_number self.now word.now }
         ensures few { IfSome result (λ bit. bit < bits_of self.now) }

@@ -1,4 +1,4 @@
-//! The rule about the ports.
+//! The rule on the ports.
 ghost use Rattle.std.specs.Prelude.{◌≡◌, ◌<◌, ◌^◌, length, IfOk};
 ghost use Rattle.device_rules.specs.Ports.{in_order, width, v2};
 
@@ -7,7 +7,7 @@ use bsdl_parser::{Port, Range};
 use std::alloc::{AllocError, Global};
 use std::collections::HashSet;
 
-/// Whether a `to` range goes up, or a `downto` range down.
+/// Returns whether a `to` range does not fall and a `downto` range does not rise.
 fn is_in_order(range: Option<Range>) -> bool
     ensures { result ≡ in_order range }
 {
@@ -23,7 +23,7 @@ fn is_in_order(range: Option<Range>) -> bool
     }
 }
 
-/// How many bits a port with this range has.
+/// Returns the number of bits of a port with this range.
 pub(crate) fn bit_count(range: Option<Range>) -> u64
     ensures count { result ≡ width range }
     ensures fits { result < 2 ^ 33 }
@@ -40,7 +40,8 @@ pub(crate) fn bit_count(range: Option<Range>) -> u64
     }
 }
 
-/// V2: the first port with a name that came before, a range out of order, or a bit too many.
+/// Checks rule V2: returns the number, from 1, of the first port whose name came before, whose range is out of order,
+/// or with which there are more than `MOST_BITS` port bits.
 #[tactic(auto, unfolding(crate::specs::Ports::v2))]
 pub(crate) fn wrong_port(alloc: Global, ports: &[Port]) -> Result<Option<u32>, AllocError>
     requires { length ports.now < 2 ^ 32 }

@@ -1,4 +1,4 @@
-//! The device that a text without a broken rule describes.
+//! The record of the device that a text without a broken rule describes.
 ghost use Rattle.std.specs.Prelude.{◌≡◌, ◌<◌, ◌^◌, ◌++◌, None, true, map, slice_get, option_and_then, IfOk, OnOk};
 ghost use Rattle.std.specs.Option.{option_copied};
 ghost use Rattle.board_defs.specs.DeviceRules.{IsDevice};
@@ -27,7 +27,7 @@ fn copied_name(alloc: Global, name: &Name) -> Result<Name, AllocError>
     Name::of(alloc, name.bytes())
 }
 
-/// The names of the ports in order.
+/// Returns the names of the ports in order.
 fn port_names(alloc: Global, ports: &[Port]) -> Result<Vec<Name>, AllocError>
     ensures { IfOk result (λ names. names.items ≡ map (λ port. port.name) ports.now) }
 {
@@ -38,7 +38,7 @@ fn port_names(alloc: Global, ports: &[Port]) -> Result<Vec<Name>, AllocError>
     Ok(names)
 }
 
-/// The pin at a place of an entry of the pin map, where there is one.
+/// Returns the pin at `place` in the entry of the pin map, if there is an entry and it has that place.
 fn pin_of(alloc: Global, entry: Option<&MapEntry>, place: u32) -> Result<Option<Name>, AllocError>
     ensures { IfOk result (λ pin. pin
         ≡ option_and_then (λ entry. slice_get entry.pins place) (option_copied entry.entry)) }
@@ -52,7 +52,7 @@ fn pin_of(alloc: Global, entry: Option<&MapEntry>, place: u32) -> Result<Option<
     }
 }
 
-/// The index at a place of a range, from left to right.
+/// Returns the index at `place` in the range, from left to right.
 fn index_at(range: Option<Range>, place: u32) -> Option<u32>
     requires { place < width range }
     ensures { result ≡ index_at range place }
@@ -69,7 +69,7 @@ fn index_at(range: Option<Range>, place: u32) -> Option<u32>
     }
 }
 
-/// Adds the bits of a port, from left to right.
+/// Appends the bits of a port, from left to right.
 fn push_bits(
     alloc: Global,
     pins: &PinIndex,
@@ -102,7 +102,7 @@ fn push_bits(
     Ok(())
 }
 
-/// The bits of all ports, port by port.
+/// Returns the bits of all ports, port by port.
 #[tactic(auto, unfolding(crate::specs::Raw::raw_bits))]
 fn all_bits(
     alloc: Global,
@@ -121,7 +121,7 @@ fn all_bits(
     Ok(bits)
 }
 
-/// The bits of the ports that the text describes.
+/// Returns the bits of the ports in the draft.
 fn described_bits(alloc: Global, draft: &IndexedDraft) -> Result<Vec<PortBit>, AllocError>
     ensures { IfOk result (λ bits. bits.items
         ≡ raw_bits draft.now.ports draft.now.map draft.now.taps draft.now.compliance) }
@@ -132,7 +132,7 @@ fn described_bits(alloc: Global, draft: &IndexedDraft) -> Result<Vec<PortBit>, A
     all_bits(alloc, draft.ports(), &pins, &text.taps, &named)
 }
 
-/// The entry with the number of its port bit.
+/// Returns the entry with the number of its port bit.
 fn cell_of(ports: &PortIndex, near: &mut Near, entry: &Entry) -> Cell
     ensures { result ≡ cell_of ports.now entry.now }
 {
@@ -145,7 +145,7 @@ fn cell_of(ports: &PortIndex, near: &mut Near, entry: &Entry) -> Cell
     }
 }
 
-/// The entries in the order of the text, each with the number of its port bit.
+/// Returns the entries in the order of the text, each with the number of its port bit.
 #[tactic(auto, unfolding(crate::specs::Raw::raw_cells))]
 fn all_cells(alloc: Global, ports: &PortIndex, entries: &[Entry]) -> Result<Vec<Cell>, AllocError>
     ensures { IfOk result (λ cells. cells.items ≡ raw_cells ports.now entries.now) }
@@ -158,7 +158,7 @@ fn all_cells(alloc: Global, ports: &PortIndex, entries: &[Entry]) -> Result<Vec<
     Ok(cells)
 }
 
-/// A copy of the IDCODE pattern, where there is one.
+/// Copies the IDCODE pattern, if there is one.
 fn copied_code(alloc: Global, code: &Option<Code>) -> Result<Option<Code>, AllocError>
     ensures { IfOk result (λ copy. copy ≡ code.now) }
 {
@@ -168,7 +168,7 @@ fn copied_code(alloc: Global, code: &Option<Code>) -> Result<Option<Code>, Alloc
     }
 }
 
-/// Copies of the names of the entity, of its package and of its ports.
+/// Copies the names of the entity, its package and its ports.
 fn copied_names(alloc: Global, text: &Draft) -> Result<(Name, Name, Items<Name>), AllocError>
     ensures { IfOk result (λ names. names ≡ (text.now.entity, text.now.«package», map (λ port. port.name) text.now.ports)) }
 {
@@ -178,7 +178,7 @@ fn copied_names(alloc: Global, text: &Draft) -> Result<(Name, Name, Items<Name>)
     Ok((entity, package, Items::of(ports)))
 }
 
-/// The codes of SAMPLE or PRELOAD and of EXTEST, and a copy of the IDCODE pattern.
+/// Returns the preload code, the EXTEST code, and a copy of the IDCODE pattern.
 fn codes_of(alloc: Global, text: &Draft) -> Result<(Code, Code, Option<Code>), AllocError>
     ensures { IfOk result (λ codes. codes ≡ (preload_code text.now.edition text.now.opcodes, extest_code text.now.edition text.now.ir text.now.opcodes, text.now.idcode)) }
 {
@@ -212,9 +212,8 @@ fn described(alloc: Global, draft: &IndexedDraft) -> Result<RawDevice, AllocErro
     })
 }
 
-/// The device that the text describes, where no rule is broken and the registers have lengths in
-/// their ranges: from 2 to 255 for the instruction register, and from 1 to 65,535 for the
-/// boundary register.
+/// Returns the record of the device that the draft describes. The draft must break no rule, and its registers must
+/// have lengths in their ranges: 2 to 255 for the instruction register, 1 to 65,535 for the boundary register.
 pub fn raw_device(alloc: Global, draft: &Draft) -> Result<RawDevice, AllocError>
     requires short { HasShortLists draft.now }
     requires rules { first_rule draft.now ≡ None }

@@ -1,4 +1,4 @@
-//! The rule about the test access port and the compliance patterns.
+//! The rule on the test access port and the compliance patterns.
 ghost use Rattle.std.specs.Prelude.{◌≡◌, length, map, ◌==◌, is_some};
 ghost use Rattle.std.specs.Option.{option_copied};
 ghost use Rattle.std.specs.List.{list_any, list_all};
@@ -12,7 +12,7 @@ use board_defs::{Code, Mode, Name};
 use bsdl_parser::Port;
 use bsdl_strings::{Compliance, PortWord};
 
-/// Whether there is such a port, of type bit and mode in.
+/// Returns whether there is a port and it is of type bit and mode in.
 fn is_plain_in(port: Option<&Port>) -> bool
     ensures { result ≡ is_plain is_inward (option_copied port.entry) }
 {
@@ -22,7 +22,7 @@ fn is_plain_in(port: Option<&Port>) -> bool
     }
 }
 
-/// Whether there is such a port, of type bit and mode out.
+/// Returns whether there is a port and it is of type bit and mode out.
 fn is_plain_out(port: Option<&Port>) -> bool
     ensures { result ≡ is_plain is_outward (option_copied port.entry) }
 {
@@ -44,21 +44,21 @@ fn is_in(names: &[&[u8]], name: &[u8]) -> bool
     is_lent(names, name)
 }
 
-/// Whether a TAP attribute names a port that one before it names, or none of type bit and mode in.
+/// Returns whether the port of a TAP attribute is one of `before`, or is not of type bit and mode in.
 fn breaks_inward(ports: &PortIndex, before: &[&[u8]], name: &[u8]) -> bool
     ensures { result ≡ breaks_tap is_inward ports.now (map (λ n. n.now) before.now) name.now }
 {
     is_in(before, name) || !is_plain_in(ports.port_at(&mut Near::new(), name))
 }
 
-/// The same for mode out.
+/// Like `breaks_inward`, for mode out.
 fn breaks_outward(ports: &PortIndex, before: &[&[u8]], name: &[u8]) -> bool
     ensures { result ≡ breaks_tap is_outward ports.now (map (λ n. n.now) before.now) name.now }
 {
     is_in(before, name) || !is_plain_out(ports.port_at(&mut Near::new(), name))
 }
 
-/// The same for TRST*, which need not be there.
+/// Like `breaks_inward`, for TRST*, which is optional.
 fn breaks_reset(ports: &PortIndex, before: &[&[u8]], reset: &Option<Name>) -> bool
     ensures { result ≡ reset_breaks ports.now (map (λ n. n.now) before.now) reset.now }
 {
@@ -68,7 +68,7 @@ fn breaks_reset(ports: &PortIndex, before: &[&[u8]], reset: &Option<Name>) -> bo
     }
 }
 
-/// The number of the first TAP attribute that names no port of its own, of type bit and of its
+/// Returns the number of the first TAP attribute that does not name a port of its own with type bit and the right
 /// mode.
 fn wrong_tap(ports: &PortIndex, taps: &TapPorts) -> Option<u32>
     ensures { result ≡ wrong_tap ports.now taps.now }
@@ -94,7 +94,7 @@ fn wrong_tap(ports: &PortIndex, taps: &TapPorts) -> Option<u32>
     }
 }
 
-/// Whether a port is of the test access port.
+/// Returns whether `name` is the name of a TAP port.
 pub fn is_tap(taps: &TapPorts, name: &[u8]) -> bool
     ensures { result ≡ is_among (tap_names taps.now) name.now }
 {
@@ -114,7 +114,7 @@ fn is_reset(reset: &Option<Name>, name: &[u8]) -> bool
     }
 }
 
-/// Whether each word names a port bit.
+/// Returns whether each word names a port bit.
 fn are_bits(ports: &PortIndex, words: &[PortWord]) -> bool
     ensures { result ≡ list_all (λ word. is_some (bit_number ports.now word)) words.now }
 {
@@ -127,7 +127,7 @@ fn are_bits(ports: &PortIndex, words: &[PortWord]) -> bool
     true
 }
 
-/// Whether each pattern has so many characters.
+/// Returns whether each pattern has `count` characters.
 fn have_length(count: usize, patterns: &[Code]) -> bool
     ensures { result ≡ list_all (λ pattern. length pattern == count) patterns.now }
 {
@@ -136,7 +136,7 @@ fn have_length(count: usize, patterns: &[Code]) -> bool
         .all(|pattern| pattern.symbols().len() == count)
 }
 
-/// Whether the compliance patterns name port bits and are as long as their number.
+/// Returns whether the compliance patterns name port bits, and each pattern has a character for each of them.
 fn complies(ports: &PortIndex, compliance: &Option<Compliance>) -> bool
     ensures { result ≡ complies ports.now compliance.now }
 {
@@ -149,8 +149,8 @@ fn complies(ports: &PortIndex, compliance: &Option<Compliance>) -> bool
     }
 }
 
-/// V3: the number of the first TAP attribute that breaks the rule, or that of
-/// COMPLIANCE_PATTERNS.
+/// Checks rule V3: returns the number of the first TAP attribute that breaks it, or otherwise that of
+/// COMPLIANCE_PATTERNS if it does.
 #[tactic(auto, unfolding(crate::specs::Taps::v3))]
 pub(crate) fn wrong_attribute(
     ports: &PortIndex,

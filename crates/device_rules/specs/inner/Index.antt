@@ -1,4 +1,4 @@
--- Where ports and their bits stand.
+-- The index of ports by name, and the numbers of their bits.
 use Rattle.std.specs.Prelude.{◌≡◌, ℕ, ◌+◌, ◌-◌, ◌^◌, ◌<◌, ◌≤◌, List, [], length, map, take, nat_eq, Bool, false, ◌&&◌, if◌then◌else◌, Option, Some, None, nat_le, slice_index}
 use Rattle.std.specs.Borrow.{Bor}
 use Rattle.std.specs.Str.{bytes_eq}
@@ -15,31 +15,31 @@ use Rattle.bsdl_strings.specs.declared.values.PortWord.TheVariants.{Star, Plain,
 use Rattle.device_rules.specs.PinMap.{maps_port}
 use Rattle.device_rules.specs.Ports.{Bit, bits_of, port_number, v2}
 
--- the names are lent from these
+-- the lent names are `names`
 abbrev pub AreLent : List (Bor (List ℕ)) → List (List ℕ) → Type 0
 AreLent lent names = map (λ n. n.now) lent ≡ names
 
--- the map tells of each name what this function does
+-- for each name the map has the result of `place`
 abbrev pub Finds : {S : Type 0} → IndexMap (Bor (List ℕ)) ℕ S → (List ℕ → Option ℕ) → Type 0
 Finds places place = (q : Bor (List ℕ)) → get_by (λ n. bytes_eq q.now n.now) places ≡ place q.now
 
--- how many bits stand before each port, and how many there are
+-- the number of bits before each port, and at the end the number of all bits
 pub record AreStarts (ports : List Port) (starts : List ℕ) : Type 0 where
   pub size : length starts ≡ length ports + 1
   pub each : (n : ℕ) → n ≤ length ports → slice_index starts n ≡ bits_of (take n ports)
 
--- the ports are few and keep rule V2, the map finds them by their names, and this is how many bits stand before each
+-- there are fewer than 2^32 ports, they keep rule V2, the map has their numbers by name, and `starts` has the numbers of bits before them
 pub record IsIndex {S : Type 0} (ports : List Port) (places : IndexMap (Bor (List ℕ)) ℕ S) (starts : List ℕ) : Type 0 where
   pub short : length ports < 2 ^ 32
   pub rule : v2 ports ≡ None
   pub found : Finds places (port_number ports)
   pub counted : AreStarts ports starts
 
--- where a pin map names a port
+-- the place of the first entry of the pin map with this port name
 abbrev pub map_place : List MapEntry → List ℕ → Option ℕ
 map_place entries name = position_from (maps_port name) 0 entries
 
--- the place of an index within a range, from left to right
+-- the place of an index in a range, from left to right and from 0
 abbrev pub place_in : Option Range → Option ℕ → Option ℕ
 place_in None None = Some 0
 place_in None (Some number) = None
@@ -53,7 +53,7 @@ abbrev pub index_at : Option Range → ℕ → Option ℕ
 index_at None place = None
 index_at (Some range) place = Some (if range.up then range.left + place else range.left - place)
 
--- the bit at this place of a port
+-- the bit at `place` of a port
 abbrev pub bit_of_port : ℕ → Port → ℕ → Bit
 bit_of_port number port place = record { port = number; name = port.name; index = index_at port.range place; place = place; mode = port.mode }
 
@@ -76,7 +76,7 @@ abbrev pub words_of : Option Compliance → List PortWord
 words_of None = []
 words_of (Some compliance) = compliance.ports
 
--- the set has this bit, by its name and its index
+-- the set has this bit, given by its name and its index
 abbrev pub has_key : {S : Type 0} → HashSet (Bor (List ℕ) × Option ℕ) S → Bor (List ℕ) × Option ℕ → Bool
 has_key bits key = contains (λ x y. bytes_eq x.0.now y.0.now && option_eq nat_eq x.1 y.1) bits key
 

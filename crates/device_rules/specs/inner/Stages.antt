@@ -1,4 +1,4 @@
--- The stages of a boundary cell, and which entries are for them.
+-- The two stages of a boundary cell, and the entries for each.
 use Rattle.std.specs.Prelude.{ℕ, Bool, ◌&&◌}
 use Rattle.board_defs.specs.declared.device.Role.{Role}
 use Rattle.board_defs.specs.DeviceRules.{is_loading, is_writing}
@@ -12,6 +12,6 @@ abbrev pub is_for : Stage → Role → Bool
 is_for Capture role = is_loading role
 is_for Update role = is_writing role
 
--- the entry is of the cell, and for the stage
+-- the entry belongs to the cell, and is for the stage
 abbrev pub is_for_cell : Stage → ℕ → Entry → Bool
 is_for_cell stage cell entry = is_entry_of cell entry && is_for stage entry.role

@@ -1,4 +1,4 @@
--- A word's bit is added where it names one.
+-- The bit of a word is added if the word names one.
 use Rattle.std.proofs.Common.{sym, ap, subst, ◌∙◌, ◌+◌, take}
 use Rattle.std.specs.Prelude.{option_map}
 use Rattle.std.specs.List.{list_any}
