@@ -86,7 +86,7 @@ range-split a n m = by n a
         let at : a + 1 + n ≡ a + suc n = omega arith in
         ap (range_with_len a) same ∙ ap (λ t. a ∷ t) (by n (a + 1) ∙ ap (λ b. range_with_len (a + 1) n ++ range_with_len b m) at)
 
--- bits that stand in the order of their ports
+-- bits in the order of their ports
 none_here : (port : ℕ) (bit : PortBit) (bits : List PortBit) (t : Bool) → (bit.port == port) ≡ t → port < bit.port → filter (λ bit. bit.port == port) bits ≡ [] → cond t (bit ∷ filter (λ bit. bit.port == port) bits) (filter (λ bit. bit.port == port) bits) ≡ []
 none_here port bit bits true same less none = let e : bit.port ≡ port = eqb-true bit.port port same in absurd (omega arith)
 none_here port bit bits false other less none = none
@@ -223,7 +223,7 @@ has_room num cells i d within same few =
     ∙ ap (λ l. entries_of num (take i cells) ++ entries_of num l) (drop_more cells i d within) ∙ ap (λ l. entries_of num (take i cells) ++ l) here in
     omega (arith, ap length cut, length-append (entries_of num (take i cells)) (x ∷ entries_of num (drop (i + 1) cells)))
 
--- a cell has at most two entries: one that gives what is captured, and one that the update latch is for
+-- a cell has at most two entries: one that defines what it captures, and one for its update latch
 none_more : (p : Cell → Bool) (xs : List Cell) → ((j : ℕ) (d : Cell) → slice_get xs j ≡ Some d → p d ≡ true → ⊥) → filter p xs ≡ []
 none_more p [] none = refl
 none_more p (x ∷ xs) none = ap (λ u. cond u (x ∷ filter p xs) (filter p xs)) (fails (p x) refl) ∙ none_more p xs (λ j d is pass. none (suc j) d is pass)
@@ -282,7 +282,7 @@ pub few_entries : (device : RawDevice) → OneOf is_loading device → OneOf is_
 few_entries device loading writing num =
     omega (arith, two_classes num device.cells, one_of is_loading device num loading, one_of is_writing device num writing)
 
--- entries that stand in the order of their cells
+-- entries in the order of their cells
 flat_none : (g : ℕ → List ℕ) (n a : ℕ) → ((k : ℕ) → a ≤ k → k < a + n → g k ≡ []) → flat_map g (range_with_len a n) ≡ []
 flat_none g zero a none = refl
 flat_none g (suc n) a none =

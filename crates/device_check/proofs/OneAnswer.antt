@@ -26,7 +26,7 @@ use Rattle.device_check.specs.DeviceStrings.{MayBe, MayLeave, DeviceString, pin_
 use Rattle.device_check.specs.SoundDevice.{draft_of, IsAnswer, device_told}
 use Rattle.device_check.proofs.StringLemmas.{one_number}
 
--- the place at which a pattern leaves its grammar is one
+-- a pattern leaves its grammar at only one place
 one_place : (text : List ℕ) (n m : ℕ) → IsNoPattern text n → IsNoPattern text m → n ≡ m
 one_place text n m x y = x.place ∙ sym y.place
 
@@ -40,7 +40,7 @@ maybe_once : (IsNo : List ℕ → ℕ → Type 0) → ((text : List ℕ) (n m : 
 maybe_once IsNo once None n m x y = absurd x
 maybe_once IsNo once (Some text) n m x y = once text n m x y
 
--- a string leaves its grammar at one entry
+-- a string leaves its grammar at only one entry
 leaves_once : (entity : Entity) (given : Option (List ℕ)) (string : DeviceString) (n m : ℕ) → Leaves entity given string n → Leaves entity given string m → n ≡ m
 leaves_once entity given pin_map n m x y = one_number (pieces (pin_map_text entity given)) n m x y
 leaves_once entity given opcodes n m x y = one_number (pieces (needed_text entity 7)) n m x y
@@ -63,7 +63,7 @@ read_not_left entity given idcode n x y = maybe_not IsPattern IsNoPattern (λ te
 read_not_left entity given compliance n x y = maybe_not IsCompliance IsNoCompliance (λ text value n a b. b.no_value value a) (text_of entity 13) x.0 n x.1 y
 read_not_left entity given boundary n x y = y.no_value x.0 x.1
 
--- the first string that leaves its grammar is one
+-- only one string is the first that leaves its grammar
 one_first : (entity : Entity) (given : Option (List ℕ)) (strings : List DeviceString) (a n b m : ℕ) → LeavesFirst entity given strings a n → LeavesFirst entity given strings b m → (a ≡ b) × (n ≡ m)
 one_first entity given [] a n b m x y = absurd x
 one_first entity given (string ∷ strings) a n b m x y = by x y (λ u v. one_first entity given strings a n b m u v)
@@ -74,7 +74,7 @@ one_first entity given (string ∷ strings) a n b m x y = by x y (λ u v. one_fi
     by (inr u) (inl v) again = absurd (read_not_left entity given string m u.0 v.1)
     by (inr u) (inr v) again = again u.1 v.1
 
--- where all strings are read none leaves its grammar first
+-- if all strings are read, none is the first that leaves its grammar
 none_first : (entity : Entity) (given : Option (List ℕ)) (strings : List DeviceString) (a n : ℕ) → ((string : DeviceString) → IsRead entity given string) → LeavesFirst entity given strings a n → ⊥
 none_first entity given [] a n read x = x
 none_first entity given (string ∷ strings) a n read x = elim x [ inl u ↦ read_not_left entity given string n (read string) u.1 | inr u ↦ none_first entity given strings a n read u.1 ]
@@ -101,7 +101,7 @@ one_code text a b x y = x.1 ∙ sym y.1
 one_compliance : (text : List ℕ) (a b : Compliance) → IsCompliance text a → IsCompliance text b → a ≡ b
 one_compliance text a b x y = one_value strings_of.compliance compliance_takes (pieces text) a b x y
 
--- the values of the strings are one
+-- the strings have only one list of values
 one_strings : (entity : Entity) (given : Option (List ℕ)) (s t : Strings) → AreStrings entity given s → AreStrings entity given t → s ≡ t
 one_strings entity given s t x y =
     let map = one_value (list_of map_entry comma_or_end) (each_takes can_maps) (pieces (pin_map_text entity given)) s.map t.map x.map_is y.map_is in

@@ -4,7 +4,7 @@ use Rattle.std.specs.Prelude.{cond}
 use Rattle.std.specs.List.{find}
 use Rattle.std.proofs.Math.Numerals.{suc-eq-add-one}
 
--- no item of a list up to some place has it, and that at the place has not
+-- no item before some place has the property, nor has the item at that place
 none_next : (p : ℕ → Bool) (xs : List ℕ) (i : ℕ) → i < length xs → find p (take i xs) ≡ None → p (slice_index_or xs i 0) ≡ false → find p (take (suc i) xs) ≡ None
 none_next p [] i lt none e = absurd (omega arith)
 none_next p (x ∷ xs) zero lt none e = ap (λ b. cond b (Some x) (find p (take zero xs))) e
@@ -17,7 +17,7 @@ none_next p (x ∷ xs) (suc i) lt none e = by (p x) none (λ h. none_next p xs i
 pub none_on : (p : ℕ → Bool) (xs : List ℕ) (i : ℕ) → i < length xs → find p (take i xs) ≡ None → p (slice_index_or xs i 0) ≡ false → find p (take (i + 1) xs) ≡ None
 none_on p xs i lt none e = ap (λ n. find p (take n xs)) (sym (suc-eq-add-one i)) ∙ none_next p xs i lt none e
 
--- no item up to some place has it, and that at the place has
+-- no item before some place has the property, and the item at that place has it
 pub found_at : (p : ℕ → Bool) (xs : List ℕ) (i : ℕ) → i < length xs → find p (take i xs) ≡ None → p (slice_index_or xs i 0) ≡ true → Some (slice_index_or xs i 0) ≡ find p xs
 found_at p [] i lt none e = absurd (omega arith)
 found_at p (x ∷ xs) zero lt none e = sym (ap (λ b. cond b (Some x) (find p xs)) e)
@@ -27,7 +27,7 @@ found_at p (x ∷ xs) (suc i) lt none e = by (p x) none (λ h. found_at p xs i (
     by true h again = absurd (let k : ◌≡◌ {A = Option ℕ} (Some x) None = h in cc k)
     by false h again = again h
 
--- where none is found each has it not
+-- if none is found, no item has the property
 pub none_at : (p : ℕ → Bool) (front : List ℕ) (x : ℕ) (back : List ℕ) → find p (front ++ x ∷ back) ≡ None → p x ≡ false
 none_at p [] x back e = by (p x) e
   where

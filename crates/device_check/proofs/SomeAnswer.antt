@@ -39,7 +39,7 @@ first_takes : EachTurnTakes first_parenthesis
 unfolding grammar.compliance
 first_takes = compliance_takes.0
 
--- whether a whole first parenthesis stands at the front
+-- the string begins with a whole first parenthesis, or it does not
 which_parenthesis : (text : List ℕ) → (n : ℕ) × (((n ≡ 1) × ¬ HasFirstParenthesis text) ⊎ ((n ≡ 2) × HasFirstParenthesis text))
 which_parenthesis text = by_reader (reader_of first_parenthesis (pieces text)) refl
   where

@@ -19,7 +19,7 @@ pub data Answered {T A : Type 0} (entry : Grammar T A) (more : Grammar T Bool) (
   listed : (values : List A) → (production_of (list_of entry more)).Whole tokens values → 2 * length values ≤ length tokens → Answered entry more tokens
   wrong : (number : ℕ) → GoesWrongAt entry more number tokens → Answered entry more tokens
 
--- the list ended, and more comes behind it
+-- the list ended, and tokens are left after it
 ends_early : {T A : Type 0} {entry : Grammar T A} {more : Grammar T Bool} → CanRead entry more → (tokens here mid : List T) (t : T) (rest : List T) (before : List A) (one : A)
     → Progress entry more tokens here before → reader_of entry here ≡ found one mid → reader_of more mid ≡ found false (t ∷ rest) → GoesWrongAt entry more (length before + 1) tokens
 ends_early {T} {A} {entry} {more} can tokens here mid t rest before one so_far e f = record {
@@ -72,7 +72,7 @@ answered_from {T} {A} {entry} {more} can (suc fuel) tokens here before so_far lt
 pub answered : {A : Type 0} {entry : Part A} → CanRead entry comma_or_end → (text : List ℕ) → Answered entry comma_or_end (pieces text)
 answered {A} {entry} can text = answered_from can (suc (length (pieces text))) (pieces text) (pieces text) [] (begins entry comma_or_end (pieces text)) (omega arith)
 
--- fewer whole entries stand at the front too
+-- a text that begins with `n` whole entries also begins with fewer
 fewer_stand : {T A : Type 0} (entry : Grammar T A) (more : Grammar T Bool) (n m : ℕ) (tokens : List T) → m ≤ n → Fronts entry more n tokens → Fronts entry more m tokens
 fewer_stand entry more n zero tokens le h = tt
 fewer_stand entry more zero (suc m) tokens le h = absurd (omega arith)
@@ -85,7 +85,7 @@ fewer_stand entry more (suc n) (suc m) tokens le h = record {
   next = record { front = h.next.front; back = h.next.back; value = h.next.value; split = h.next.split; first = h.next.first; next = (h.next.next.0, fewer_stand entry more n m h.next.back (omega arith) h.next.next.1) };
 }
 
--- the number of the entry is one
+-- only one number is that of the entry at which a list goes wrong
 pub one_number : {T A : Type 0} {entry : Grammar T A} {more : Grammar T Bool} (tokens : List T) (n m : ℕ) → GoesWrongAt entry more n tokens → GoesWrongAt entry more m tokens → n ≡ m
 one_number {T} {A} {entry} {more} tokens n m x y =
     let a : x.whole < suc y.whole = lt_of_not-le (λ le. y.no_more (fewer_stand entry more x.whole (suc y.whole) tokens le x.stand)) in

@@ -11,7 +11,7 @@ use Rattle.bsdl_parser.specs.declared.entity.Entity.{Entity}
 use Rattle.bsdl_parser.specs.Entity.{IsShort, HasShortText}
 use Rattle.device_check.specs.Attributes.{is_numbered, text_in, text_of, needed_text, is_constant, constant_text, chosen, pin_map_text}
 
--- what holds of each item holds of the one that is found
+-- what is true of each item is true of the item that is found
 found_holds : {X : Type 0} (P : X → Type 0) (test : X → Bool) (xs : List X) → All P xs → IfSome (find test xs) P
 found_holds P test [] all = tt
 found_holds P test (x ∷ xs) all = by_x (test x) (found_holds P test xs (All-tail P x xs all))

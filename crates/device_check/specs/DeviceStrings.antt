@@ -1,4 +1,4 @@
--- The strings of an entity, their values, and the first that leaves its grammar.
+-- The strings of an entity, their values, and the first string that leaves its grammar.
 use Rattle.std.specs.Prelude.{◌≡◌, ℕ, List, [], ◌∷◌, Option, Some, None, ◌⊎◌}
 use Rattle.board_defs.specs.declared.device.Symbol.{Symbol}
 use Rattle.bsdl_parser.specs.declared.entity.Entity.{Entity}
@@ -10,19 +10,20 @@ use Rattle.bsdl_strings.specs.Strings.{IsPinMap, IsNoPinMap, AreOpcodes, AreNoOp
 use Rattle.device_check.specs.declared.strings.Strings.{Strings}
 use Rattle.device_check.specs.Attributes.{pin_map_text, needed_text, text_of}
 
--- a string that is there has this value, and one that is not there has none
+-- if there is a string, it has this value; if there is none, there is no value
 abbrev pub MayBe : {A : Type 0} → (List ℕ → A → Type 0) → Option (List ℕ) → Option A → Type 0
 MayBe Is None None = Unit {0}
 MayBe Is None (Some value) = ⊥
 MayBe Is (Some text) None = ⊥
 MayBe Is (Some text) (Some value) = Is text value
 
--- a string is there, and leaves its grammar at this entry
+-- there is a string, and it leaves its grammar at this entry
 abbrev pub MayLeave : (List ℕ → ℕ → Type 0) → Option (List ℕ) → ℕ → Type 0
 MayLeave IsNo None entry = ⊥
 MayLeave IsNo (Some text) entry = IsNo text entry
 
--- the pin map of the package, INSTRUCTION_OPCODE, INSTRUCTION_CAPTURE, IDCODE_REGISTER, COMPLIANCE_PATTERNS and BOUNDARY_REGISTER
+-- the strings, which are those of the package's pin map, INSTRUCTION_OPCODE, INSTRUCTION_CAPTURE, IDCODE_REGISTER, COMPLIANCE_PATTERNS
+-- and BOUNDARY_REGISTER
 pub data DeviceString : Type 0 where
   pin_map : DeviceString
   opcodes : DeviceString
@@ -31,7 +32,7 @@ pub data DeviceString : Type 0 where
   compliance : DeviceString
   boundary : DeviceString
 
--- the number of the attribute
+-- the number of the string's attribute, or 15 for the pin map
 abbrev pub attribute_of : DeviceString → ℕ
 attribute_of pin_map = 15
 attribute_of opcodes = 7
@@ -40,7 +41,7 @@ attribute_of idcode = 12
 attribute_of compliance = 13
 attribute_of boundary = 10
 
--- the string is in its grammar, or is not there
+-- the string is in its grammar, or is optional and not there
 abbrev pub IsRead : Entity → Option (List ℕ) → DeviceString → Type 0
 IsRead entity given pin_map = (entries : List MapEntry) × IsPinMap (pin_map_text entity given) entries
 IsRead entity given opcodes = (ops : List Opcode) × AreOpcodes (needed_text entity 7) ops
@@ -58,11 +59,11 @@ Leaves entity given idcode entry = MayLeave IsNoPattern (text_of entity 12) entr
 Leaves entity given compliance entry = MayLeave IsNoCompliance (text_of entity 13) entry
 Leaves entity given boundary entry = IsNoBoundary (needed_text entity 10) entry
 
--- the string is that of this attribute, and leaves its grammar at this entry
+-- the string belongs to this attribute, and leaves its grammar at this entry
 abbrev pub LeavesBy : Entity → Option (List ℕ) → DeviceString → ℕ → ℕ → Type 0
 LeavesBy entity given string attribute entry = (attribute ≡ attribute_of string) × Leaves entity given string entry
 
--- the first of the strings that leaves its grammar is that of this attribute, and does so at this entry
+-- the first of the strings that leaves its grammar belongs to this attribute, and does so at this entry
 abbrev pub LeavesFirst : Entity → Option (List ℕ) → List DeviceString → ℕ → ℕ → Type 0
 LeavesFirst entity given [] attribute entry = ⊥
 LeavesFirst entity given (string ∷ strings) attribute entry =

@@ -1,4 +1,4 @@
--- The listing of a device, a line for each thing.
+-- The listing of a device: a line for each of its names, its instruction register, each port, and each entry of a cell.
 use Rattle.std.specs.Prelude.{ℕ, ◌==◌, Bool, true, false, List, [], ◌∷◌, ◌++◌, length, codes, decimal, filter, Option, None, Some, is_some, slice_get, slice_index_or, if◌then◌else◌}
 use Rattle.std.specs.List.{flat_map, list_any, range_with_len}
 use Rattle.line_printer.specs.Prints.{whole, line_of}
@@ -43,7 +43,7 @@ abbrev pub bit_word : Bool → List ℕ
 bit_word false = codes "0"
 bit_word true = codes "1"
 
--- a code: the symbol nearest TDO, its first, stands last
+-- a code, ending with the symbol nearest TDO, which is its first
 abbrev pub code_text : List Symbol → List ℕ
 code_text [] = []
 code_text (symbol ∷ symbols) = code_text symbols ++ symbol_word symbol
@@ -69,7 +69,7 @@ pin_text (Some pin) = whole (codes " " ∷ pin ∷ [])
 abbrev pub pins_text : List PortBit → List ℕ
 pins_text bits = if list_any (λ bit. is_some bit.pin) bits then flat_map (λ bit. pin_text bit.pin) bits else codes " -"
 
--- a port has bits, which are of one mode
+-- the line of a port, whose bits have one mode; a port without bits has no line
 abbrev pub port_line : List ℕ → List PortBit → List ℕ
 port_line name [] = []
 port_line name (bit ∷ bits) = line_of (codes "PORT " ∷ name ∷ codes " " ∷ mode_word bit.mode ∷ pins_text (bit ∷ bits) ∷ [])
@@ -81,7 +81,7 @@ abbrev pub port_lines : List (List ℕ) → List PortBit → List ℕ
 port_lines ports bits =
     flat_map (λ port. port_line (port_name ports port) (filter (λ bit. bit.port == port) bits)) (range_with_len 0 (length ports))
 
--- a cell: its number, its function, its port bit, its safe value, and what disables it
+-- the line of an entry: the number of its cell, its function, its port bit, its safe value, and its control with the disable value
 abbrev pub index_text : Option ℕ → List ℕ
 index_text None = []
 index_text (Some index) = whole (codes "(" ∷ decimal index ∷ codes ")" ∷ [])

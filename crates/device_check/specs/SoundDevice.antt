@@ -22,7 +22,7 @@ taps_of entity = record {
   reset = port_of entity 11;
 }
 
--- what the entity says, with the package and the values of its strings
+-- the draft of the entity, with the package and the values of the strings
 abbrev pub draft_of : Entity → Option (List ℕ) → Strings → Draft
 draft_of entity given strings = record {
   entity = entity.name;
@@ -40,7 +40,7 @@ draft_of entity given strings = record {
   entries = strings.entries;
 }
 
--- V1 holds, the strings have values, V2 to V14 hold, and the device is that of these values
+-- V1 holds, the strings have values, V2 to V14 hold, and `device` is made from these values
 pub record IsSound (entity : Entity) (given : Option (List ℕ)) (device : RawDevice) : Type 0 where
   pub needed : v1 entity given ≡ None
   pub strings : Strings
@@ -48,7 +48,7 @@ pub record IsSound (entity : Entity) (given : Option (List ℕ)) (device : RawDe
   pub kept : first_rule (draft_of entity given strings) ≡ None
   pub device_is : device ≡ raw_device (draft_of entity given strings)
 
--- V1 holds, the strings have values, and this is the first of the rules V2 to V14 that fails, with its first item
+-- V1 holds, the strings have values, and rule `number` is the first of V2 to V14 that fails, with its first item
 pub record FailsRule (entity : Entity) (given : Option (List ℕ)) (number item : ℕ) : Type 0 where
   pub needed : v1 entity given ≡ None
   pub strings : Strings
@@ -60,7 +60,7 @@ pub record FailsText (entity : Entity) (given : Option (List ℕ)) (attribute en
   pub needed : v1 entity given ≡ None
   pub leaves : LeavesFirst entity given in_order attribute entry
 
--- V1 fails, with the least attribute that is not as needed
+-- V1 fails, and `item` is the least attribute that is not as needed
 abbrev pub FailsNeed : Entity → Option (List ℕ) → ℕ → ℕ → Type 0
 FailsNeed entity given number item = (number ≡ 1) × (v1 entity given ≡ Some item)
 
@@ -74,7 +74,7 @@ abbrev pub IsAnswer : Entity → Option (List ℕ) → Result RawDevice DeviceFa
 IsAnswer entity given (Ok device) = IsSound entity given device
 IsAnswer entity given (Err fault) = IsFirst entity given fault
 
--- what a fault tells
+-- the fault, unless it is a refusal of memory
 abbrev pub device_told : DeviceFault → Option DeviceFault
 device_told (Memory error) = None
 device_told fault = Some fault

@@ -1,4 +1,4 @@
-//! The device of an entity, or its first fault.
+//! Returns the device of an entity, or its first fault.
 ghost use Rattle.std.specs.Prelude.{◌≡◌, None, Result, IfOk, option_copied};
 ghost use Rattle.answers.specs.Gives.{Gives};
 ghost use Rattle.board_defs.specs.declared.device.RawDevice.{RawDevice};
@@ -20,7 +20,7 @@ use bsdl_parser::Entity;
 use device_rules::{Draft, first_rule, raw_device};
 use std::alloc::Global;
 
-/// The device of a draft, or the first of the rules V2 to V14 that fails.
+/// Returns the device of a draft, or the first broken rule of V2 to V14.
 fn judge(alloc: Global, draft: &Draft) -> Result<Device, DeviceFault>
     requires short { HasShortLists draft.now }
     requires lengths { HasLengths draft.now }
@@ -51,16 +51,15 @@ fn answer(alloc: Global, entity: &Entity, package: Option<&[u8]>) -> Result<Devi
     judge(alloc, &draft)
 }
 
-/// The device that the entity describes in this package, or in that of the generic's default
-/// where none is given.
+/// Returns the device that the entity describes in this package. If no package is given, it is the default of the
+/// generic.
 ///
-/// The rules are tried in the order V1, the strings of the pin map and of INSTRUCTION_OPCODE,
-/// INSTRUCTION_CAPTURE, IDCODE_REGISTER, COMPLIANCE_PATTERNS and BOUNDARY_REGISTER, then V2 to
-/// V14, and the first that fails is the fault. Where memory is refused nothing is made.
+/// The rules are tried in this order: V1; the strings of the pin map and of INSTRUCTION_OPCODE, INSTRUCTION_CAPTURE,
+/// IDCODE_REGISTER, COMPLIANCE_PATTERNS and BOUNDARY_REGISTER; V2 to V14. The first one that fails is the fault.
 #[tactic(auto, using(crate::proofs::OneAnswer::only_answer))]
 pub fn device(alloc: Global, entity: &Entity, package: Option<&[u8]>) -> Result<Device, DeviceFault>
     requires small { IsSmall entity.now }
-    // The device is the sound one of the entity, or the fault is the first step that fails.
+    // The device is the sound device of the entity, or the fault is the first step that fails.
     ensures answer { Gives device_told (λ device. device) (IsAnswer entity.now (option_copied «package».entry)) result }
     // There is no other answer.
     ensures only { Gives device_told (λ device. device) (λ answer. (other : Result RawDevice DeviceFault) → IsAnswer entity.now (option_copied «package».entry) other → other ≡ answer) result }

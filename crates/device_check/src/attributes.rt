@@ -1,4 +1,4 @@
-//! What the attributes and the constants of an entity say.
+//! The values of an entity's attributes and constants.
 ghost use Rattle.std.specs.Prelude.{◌≡◌, find, option_copied};
 ghost use Rattle.std.specs.List.{list_any};
 ghost use Rattle.std.specs.Str.{bytes_eq};
@@ -7,7 +7,7 @@ ghost use Rattle.device_check.specs.Attributes.{times, value_of, port_of, number
 use board_defs::Edition;
 use bsdl_parser::{AttrValue, Constant, Entity};
 
-/// How often the attribute with this number stands in the entity.
+/// Returns how often the entity has the attribute with this number.
 pub(crate) fn times(entity: &Entity, number: u32) -> usize
     ensures { result ≡ times entity.now number }
 {
@@ -30,7 +30,7 @@ fn value_of(entity: &Entity, number: u32) -> Option<&AttrValue>
         .map(|attribute| &attribute.value)
 }
 
-/// The port that the attribute is of.
+/// Returns the port to which the attribute belongs.
 pub(crate) fn port_of(entity: &Entity, number: u32) -> Option<&[u8]>
     ensures { option_copied result ≡ port_of entity.now number }
 {
@@ -40,7 +40,7 @@ pub(crate) fn port_of(entity: &Entity, number: u32) -> Option<&[u8]>
     }
 }
 
-/// The number that the attribute gives.
+/// Returns the number that is the attribute's value.
 pub(crate) fn number_of(entity: &Entity, number: u32) -> Option<u32>
     ensures { result ≡ number_of entity.now number }
 {
@@ -50,7 +50,7 @@ pub(crate) fn number_of(entity: &Entity, number: u32) -> Option<u32>
     }
 }
 
-/// The string of the attribute.
+/// Returns the string that is the attribute's value.
 pub(crate) fn text_of(entity: &Entity, number: u32) -> Option<&[u8]>
     ensures { option_copied result ≡ text_of entity.now number }
 {
@@ -60,28 +60,28 @@ pub(crate) fn text_of(entity: &Entity, number: u32) -> Option<&[u8]>
     }
 }
 
-/// The port of an attribute that is there.
+/// Returns the port of an attribute that must be there.
 pub(crate) fn needed_port(entity: &Entity, number: u32) -> &[u8]
     ensures { result.now ≡ needed_port entity.now number }
 {
     port_of(entity, number).unwrap_or(&[])
 }
 
-/// The number of an attribute that is there.
+/// Returns the number of an attribute that must be there.
 pub(crate) fn needed_number(entity: &Entity, number: u32) -> u32
     ensures { result ≡ needed_number entity.now number }
 {
     number_of(entity, number).unwrap_or(0)
 }
 
-/// The string of an attribute that is there.
+/// Returns the string of an attribute that must be there.
 pub(crate) fn needed_text(entity: &Entity, number: u32) -> &[u8]
     ensures { result.now ≡ needed_text entity.now number }
 {
     text_of(entity, number).unwrap_or(&[])
 }
 
-/// The package that is given, or else the default of the generic.
+/// Returns the package that is given, or otherwise the default of the generic.
 pub(crate) fn chosen<'a>(entity: &'a Entity, package: Option<&'a [u8]>) -> Option<&'a [u8]>
     ensures { option_copied result ≡ chosen entity.now (option_copied «package».entry) }
 {
@@ -94,7 +94,7 @@ pub(crate) fn chosen<'a>(entity: &'a Entity, package: Option<&'a [u8]>) -> Optio
     }
 }
 
-/// How many constants have the name.
+/// Returns the number of constants with this name.
 pub(crate) fn constants_named(entity: &Entity, name: Option<&[u8]>) -> usize
     ensures { result ≡ constants_named entity.now (option_copied name.entry) }
 {
@@ -131,21 +131,21 @@ fn constant_text<'a>(entity: &'a Entity, name: Option<&[u8]>) -> Option<&'a [u8]
     }
 }
 
-/// The package, where it is there.
+/// Returns the name of the package, which must be there.
 pub(crate) fn package_name<'a>(entity: &'a Entity, package: Option<&'a [u8]>) -> &'a [u8]
     ensures { result.now ≡ package_name entity.now (option_copied «package».entry) }
 {
     chosen(entity, package).unwrap_or(&[])
 }
 
-/// The pin map string of the package, where it is there.
+/// Returns the pin map string of the package, which must be there.
 pub(crate) fn pin_map_text<'a>(entity: &'a Entity, package: Option<&[u8]>) -> &'a [u8]
     ensures { result.now ≡ pin_map_text entity.now (option_copied «package».entry) }
 {
     constant_text(entity, chosen(entity, package)).unwrap_or(&[])
 }
 
-/// Whether the text is there and is the one that is wanted.
+/// Returns whether there is a text and it equals `wanted`.
 pub(crate) fn is_text(wanted: &[u8], text: Option<&[u8]>) -> bool
     ensures { result ≡ is_text wanted.now (option_copied text.entry) }
 {
@@ -165,7 +165,7 @@ fn uses(entity: &Entity, name: &[u8]) -> bool
         .any(|used| used.bytes() == name)
 }
 
-/// The edition of the standard that the text follows.
+/// Returns the edition of the standard that the text follows.
 pub(crate) fn edition(entity: &Entity) -> Edition
     ensures { result ≡ edition entity.now }
 {

@@ -1,4 +1,4 @@
-//! What an entity says of a device, taken together.
+//! The draft of a device, made from an entity.
 ghost use Rattle.std.specs.Prelude.{◌≡◌, IfOk, option_copied};
 ghost use Rattle.device_check.specs.Attributes.{needed_port, package_name, port_of};
 ghost use Rattle.device_check.specs.SoundDevice.{taps_of, draft_of};
@@ -39,7 +39,7 @@ fn reset_port(alloc: Global, entity: &Entity) -> Result<Option<Name>, AllocError
     }
 }
 
-/// The ports that two attributes name.
+/// Returns the ports that two attributes name.
 fn two_ports(
     alloc: Global,
     entity: &Entity,
@@ -53,7 +53,7 @@ fn two_ports(
     Ok((port, other))
 }
 
-/// The ports that the TAP attributes name.
+/// Returns the ports that the TAP attributes name.
 fn taps_of(alloc: Global, entity: &Entity) -> Result<TapPorts, AllocError>
     ensures { IfOk result (λ taps. taps ≡ taps_of entity.now) }
 {
@@ -69,8 +69,8 @@ fn taps_of(alloc: Global, entity: &Entity) -> Result<TapPorts, AllocError>
     })
 }
 
-/// What an entity says of its names and its ports: copies of its name, of the package's and of its
-/// ports, and the ports that the TAP attributes name.
+/// The names and the ports of an entity: copies of its name, the package's name and its ports, and the ports that
+/// the TAP attributes name.
 type EntityParts = (Name, Name, Items<Port>, TapPorts);
 
 fn parts_of(
@@ -87,7 +87,7 @@ fn parts_of(
     Ok((name, package, Items::of(ports), taps))
 }
 
-/// What the entity says, with the package and the values of its strings.
+/// Returns the draft of the entity, with the package and the values of the strings.
 pub(crate) fn draft_of(
     alloc: Global,
     entity: &Entity,

@@ -5,17 +5,17 @@ ghost use Rattle.device_check.specs.declared.fault.DeviceFault.TheVariants.{Memo
 use std::alloc::{AllocError, AllocFailed};
 use thiserror::Error;
 
-/// The first rule of a device or string that fails, or want of memory.
+/// The first rule or string of a device that fails, or a refusal of memory.
 #[derive(Clone, Copy, Debug, PartialEq, Eq, Error)]
 pub enum DeviceFault {
     /// A rule, by its number from 1 to 14, and the first item that breaks it.
     ///
-    /// At rule 1 the item is the number of an attribute, or 15 for the pin map of the package.
-    /// At the others it is that of `device_rules::Broken`.
+    /// For rule 1 the item is the number of an attribute, or 15 for the pin map of the package. For the other rules
+    /// it is the item of `device_rules::Broken`.
     #[error("rule V{number} item {item}")]
     Rule { number: u32, item: u32 },
-    /// A string that leaves its grammar: the number of its attribute, or 15 for the pin map of
-    /// the package, and the entry, from 1, at which it does.
+    /// A string that leaves its grammar: the number of its attribute, or 15 for the pin map of the package, and the
+    /// entry at which it does, from 1.
     #[error("attribute {attribute} entry {entry}")]
     Text { attribute: u32, entry: u32 },
     #[error("out of memory")]

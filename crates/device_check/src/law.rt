@@ -1,4 +1,4 @@
-//! Laws of the definitions, each the contract of a function that does nothing.
+//! Laws of the definitions. Each is the contract of a function that does nothing.
 ghost use Rattle.std.specs.Prelude.{◌≡◌, ℕ, List, Option, Result};
 ghost use Rattle.board_defs.specs.declared.device.RawDevice.{RawDevice};
 ghost use Rattle.bsdl_parser.specs.declared.entity.Entity.{Entity};
@@ -14,7 +14,7 @@ pub fn entities_have_one_answer()
     ensures one { (entity : Entity) (given : Option (List ℕ)) (answer other : Result RawDevice DeviceFault) → IsAnswer entity given answer → IsAnswer entity given other → answer ≡ other }
 {}
 
-/// The device of an entity keeps the rules of a device.
+/// The sound device of an entity keeps the rules of a device.
 pub fn sound_devices_keep_rules()
     ensures { (entity : Entity) (given : Option (List ℕ)) (device : RawDevice) → IsSound entity given device → IsDevice device }
 {

@@ -1,5 +1,5 @@
-//! What a BSDL text says of a device, whether the device is one that an interconnect test can use
-//! (IEEE 1149.1b-1994 and IEEE 1149.1-2001, Annex B), and its listing.
+//! Makes the device that a BSDL text describes, if an interconnect test can use it (IEEE 1149.1b-1994 and IEEE
+//! 1149.1-2001, Annex B), and writes its listing.
 #![tactic(auto)]
 
 mod answer;

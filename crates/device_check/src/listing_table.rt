@@ -6,7 +6,7 @@ ghost use Rattle.device_check.specs.inner.ListingForms.{entries_in};
 
 use board_defs::Cell;
 
-/// The entries of a cell: one that reads, one that the update latch is for, or both.
+/// The entries of a cell: none, one or two.
 #[derive(Clone, Copy)]
 pub enum Entries {
     Nothing,
@@ -15,7 +15,7 @@ pub enum Entries {
 }
 
 impl Entries {
-    // With another entry after those that are there.
+    // Returns the entries followed by another one.
     fn and(self, cell: Cell) -> Entries
         requires { length (entries_in self) < 2 }
         ensures { entries_in result ≡ entries_in self ++ cell ∷ [] }
@@ -28,7 +28,7 @@ impl Entries {
     }
 }
 
-// Adds an entry where its cell is one of the block.
+// Adds an entry to those of its cell, if that cell is in the block.
 fn add_entry(cell: Cell, from: u32, table: &mut [Entries])
     requires { (k : ℕ) → k < length table.old → cell.num ≡ from + k → length (entries_in (slice_index_or table.old k Entries.Nothing)) < 2 }
     ensures length { length table.new ≡ length table.old }
@@ -45,7 +45,7 @@ fn add_entry(cell: Cell, from: u32, table: &mut [Entries])
     }
 }
 
-// Makes each place of a table empty.
+// Empties each place of a table.
 fn clear(table: &mut [Entries])
     ensures length { length table.new ≡ length table.old }
     ensures nothing { (k : ℕ) → k < length table.new → slice_index_or table.new k Entries.Nothing ≡ Entries.Nothing }
@@ -55,7 +55,7 @@ fn clear(table: &mut [Entries])
     }
 }
 
-/// Fills a table with the entries of the cells from a number on.
+/// Fills a table with the entries of cells `from`, `from + 1` and so on, one cell for each place.
 pub fn fill_entries(cells: &[Cell], from: u32, table: &mut [Entries])
     requires { (num : ℕ) → length (entries_of num cells.now) ≤ 2 }
     ensures entries { map entries_in table.new ≡ map (λ num. entries_of num cells.now) (range_with_len from (length table.old)) }

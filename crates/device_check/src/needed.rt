@@ -1,4 +1,4 @@
-//! The attributes that an entity needs.
+//! Rule V1: the attributes that an entity needs.
 ghost use Rattle.std.specs.Prelude.{◌≡◌, ◌==◌, ◌||◌, ◌&&◌, not, find, option_copied};
 ghost use Rattle.device_check.specs.Attributes.{times, text_of};
 ghost use Rattle.device_check.specs.Needed.{is_within, is_edition, stands_once, is_as_needed, v1};
@@ -30,7 +30,7 @@ fn stands_once(entity: &Entity, number: u32) -> bool
     times(entity, number) == 1
 }
 
-/// Whether COMPONENT_CONFORMANCE is not there, or stands once and names an edition.
+/// Returns whether COMPONENT_CONFORMANCE is missing, or is there once and names an edition.
 fn conforms(entity: &Entity) -> bool
     ensures { result ≡ ((times entity.now 14 == 0) || (stands_once entity.now 14 && is_edition (text_of entity.now 14))) }
 {
@@ -40,8 +40,8 @@ fn conforms(entity: &Entity) -> bool
     stands_once(entity, 14) && is_edition(text_of(entity, 14))
 }
 
-/// Whether the attribute with this number is as the entity needs it, where so many constants have
-/// the package's name. 15 stands for the pin map.
+/// Returns whether the attribute with this number is there as often as the entity needs, with an allowed value.
+/// Number 15 stands for the pin map. `constants` is the number of constants with the package's name.
 #[tactic(auto, unfolding(crate::specs::Needed::is_as_needed))]
 fn is_as_needed(entity: &Entity, constants: usize, number: u32) -> bool
     ensures { result ≡ is_as_needed entity.now constants number }
@@ -67,7 +67,7 @@ fn first_wrong(entity: &Entity, constants: usize, numbers: &[u32]) -> Option<u32
     None
 }
 
-/// V1: the least number that is not as needed.
+/// Checks rule V1: returns the least number of an attribute that is missing, repeated or has a wrong value.
 #[tactic(auto, unfolding(crate::specs::Needed::v1))]
 pub(crate) fn wrong_attribute(entity: &Entity, package: Option<&[u8]>) -> Option<u32>
     ensures { result ≡ v1 entity.now (option_copied «package».entry) }

@@ -1,4 +1,4 @@
-//! The strings of an entity, read in their order.
+//! Reads the strings of an entity in order.
 ghost use Rattle.std.specs.Prelude.{◌≡◌, ℕ, List, Option, All, IfOk, IfErr, option_copied};
 ghost use Rattle.bsdl_parser.specs.Entity.{IsShort, HasShortText, IsSmall};
 ghost use Rattle.bsdl_strings.specs.Strings.{IsPinMap, AreOpcodes, IsPattern, IsCompliance, IsBoundary};
@@ -24,7 +24,7 @@ pub struct Strings {
     pub entries: Items<Entry>,
 }
 
-/// The fault of the string of this attribute.
+/// Returns the fault for the string of this attribute.
 fn fault(attribute: u32, fault: StringFault) -> DeviceFault
     ensures { result ≡ fault_of attribute fault }
 {
@@ -114,7 +114,7 @@ fn read_boundary(alloc: Global, entity: &Entity) -> Result<Items<Entry>, DeviceF
     }
 }
 
-/// The values of all strings, or the first that leaves its grammar.
+/// Returns the values of all strings, or the fault of the first string that leaves its grammar.
 #[tactic(auto, using(crate::proofs::OrderLemmas::in_pin_map))]
 pub(crate) fn read_strings(
     alloc: Global,

@@ -1,22 +1,22 @@
--- What the listing of a device goes by.
+-- The order of bits and entries in the listing of a device.
 use Rattle.std.specs.Prelude.{ℕ, ◌<◌, ◌≤◌, List, [], ◌∷◌}
 use Rattle.board_defs.specs.declared.device.Cell.{Cell}
 use Rattle.board_defs.specs.declared.device.PortBit.{PortBit}
 use Rattle.device_check.specs.declared.listing_table.Entries.{Entries}
 use Rattle.device_check.specs.declared.listing_table.Entries.TheVariants.{Nothing, One, Two}
 
--- the entries that were found of a cell
+-- the entries that were found for a cell
 abbrev pub entries_in : Entries → List Cell
 entries_in Nothing = []
 entries_in (One first) = first ∷ []
 entries_in (Two first second) = first ∷ second ∷ []
 
--- the bits stand in the order of their ports, which begin with this one or a later one
+-- the bits are in the order of their ports, which are all `port` or later ones
 abbrev pub Rises : ℕ → List PortBit → Type 0
 Rises port [] = Unit {0}
 Rises port (bit ∷ bits) = (port ≤ bit.port) × Rises bit.port bits
 
--- the entries stand in the order of their cells, which begin with this one or a later one and are all below another
+-- the entries are in the order of their cells, whose numbers are all at least `least` and below `most`
 abbrev pub Climbs : ℕ → ℕ → List Cell → Type 0
 Climbs least most [] = Unit {0}
 Climbs least most (cell ∷ cells) = (least ≤ cell.num) × ((cell.num < most) × Climbs cell.num most cells)

@@ -4,7 +4,7 @@ use Rattle.line_printer.specs.Prints.{Prints}
 use Rattle.device_check.specs.DeviceText.{cell_lines}
 use Rattle.device_check.proofs.listing.put_blocks.Given as goal
 
--- the cells below a number were put
+-- the lines of the cells below `from` were written
 abbrev pub invariant-loop-from : goal.invariant-loop-from
 invariant-loop-from g l = record {
   within : l.from ≤ l.device.boundary;

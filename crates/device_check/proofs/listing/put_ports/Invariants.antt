@@ -7,7 +7,7 @@ use Rattle.device_check.specs.DeviceText.{port_line, port_name}
 use Rattle.device_check.specs.inner.ListingForms.{Rises}
 use Rattle.device_check.proofs.listing.put_ports.Given as goal
 
--- the ports so far were put, and the bits of the others are left
+-- the lines of the ports so far were written, and the bits of the other ports are left
 abbrev pub invariant-loop-port : goal.invariant-loop-port
 invariant-loop-port g l = record {
   rises : Rises l.port l.rest;

@@ -5,7 +5,7 @@ use Rattle.device_check.specs.inner.ListingForms.{entries_in}
 use Rattle.device_check.specs.declared.listing_table.Entries.TheVariants.{Nothing}
 use Rattle.device_check.proofs.listing_table.fill_entries.Given as goal
 
--- the entries so far stand in the table
+-- the table has the entries so far
 abbrev pub invariant-loop-cell : goal.invariant-loop-cell
 invariant-loop-cell l = record {
   places : length l.table ≡ length l.fn.table;
