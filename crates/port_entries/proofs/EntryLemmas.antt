@@ -1,4 +1,4 @@
--- The table of the entries has those of each port bit, and says what the board's terms say.
+-- The table has the entries of each port bit, and its facts about pins are those of the board's definitions.
 use Rattle.std.proofs.Common.{◌≡◌, ℕ, suc, ◌<◌, ◌≤◌, ◌==◌, Bool, true, false, not, cond, ◌&&◌, ◌||◌, List, [], ◌∷◌, ◌++◌, length, get_or, replicate, Option, Some, None, unwrap_or, refl, sym, ap, ◌∙◌, arith, append_assoc, ◌⊎◌, inl, inr}
 use Rattle.std.specs.Prelude.{slice_get, option_and_then, option_map, find, All}
 use Rattle.std.specs.List.{list_any}
@@ -74,7 +74,7 @@ are_entries board rules at =
     by_part None e = refl
     by_part (Some part) e = by_kind part.kind (all_stands (λ (p : Part). IsPart p.kind) board.chain at.part part e rules.parts)
 
--- what a test of roles finds among the entries on a port bit
+-- the entry that a test of roles finds among the entries on a port bit
 find_on : (roles : Cell → Bool) (k : ℕ) (cells : List Cell) → find roles (entries_on cells k) ≡ find (λ cell. is_on k cell.bit && roles cell) cells
 find_on roles k [] = refl
 find_on roles k (cell ∷ cells) = by_test (is_on k cell.bit) (find_on roles k cells)

@@ -1,4 +1,4 @@
-// What the entries say of pins and nets: the driving entry, receivers, dark pins and guarded nets.
+// Facts about pins and nets, by the table of entries: driving entries, receivers, dark pins and guarded nets.
 ghost use Rattle.std.specs.Prelude.{◌≡◌, ◌&&◌, ◌||◌, find, Some};
 ghost use Rattle.std.specs.List.{list_any};
 ghost use Rattle.board_defs.specs.DeviceRules.{is_driving, is_receiving, may_receive};
@@ -16,7 +16,7 @@ pub(crate) fn find_driving(entries: &[Cell]) -> Option<Cell>
     entries.iter().copied().find(|cell| cell.role.is_driving())
 }
 
-/// The driving entry of a port bit of a part.
+/// Returns the driving entry of a port bit of a part, if it has one.
 pub fn driving_entry(rows: &[Items<BitEntries>], board: &RawBoard, at: PinAt) -> Option<Cell>
     requires { AreEntries board.now rows.now }
     ensures { result ≡ entry_at board.now at }
@@ -45,7 +45,7 @@ fn receives_there(rows: &[Items<BitEntries>], board: &RawBoard, at: PinAt) -> bo
     }
 }
 
-/// Whether a pin at this place of the chain is a receiver.
+/// Returns whether the pin at this place of the chain is a receiver.
 pub fn receives(rows: &[Items<BitEntries>], board: &RawBoard, at: Option<PinAt>) -> bool
     requires { AreEntries board.now rows.now }
     ensures { result ≡ receives_where board.now at }
@@ -92,7 +92,7 @@ fn any_dark(rows: &[Items<BitEntries>], board: &RawBoard, pins: &[NetPin]) -> bo
     pins.iter().any(|pin| is_dark(rows, board, pin))
 }
 
-/// Whether a pin is dark: something that no setting controls may drive it.
+/// Returns whether one of the pins is dark: something that no setting controls may drive it.
 pub fn has_dark_pin(rows: &[Items<BitEntries>], board: &RawBoard, pins: &[NetPin]) -> bool
     requires { AreEntries board.now rows.now }
     ensures { result ≡ list_any (is_dark board.now) pins.now }
@@ -112,7 +112,8 @@ fn guards_bit(bit: &PortBit, entries: &[Cell]) -> bool
     is_test_bit(bit) || is_dark_bit(bit, entries)
 }
 
-// The port bit is looked up once for both, since each pin of each net is asked.
+// Returns whether a pin guards its net. It looks up the port bit once for both questions, since this is asked of
+// each pin of each net.
 fn guards(rows: &[Items<BitEntries>], board: &RawBoard, pin: &NetPin) -> bool
     ensures { result ≡ guards_in rows.now board.now pin.now }
 {
@@ -131,7 +132,7 @@ fn any_guards(rows: &[Items<BitEntries>], board: &RawBoard, pins: &[NetPin]) -> 
     pins.iter().any(|pin| guards(rows, board, pin))
 }
 
-/// Whether the net is guarded: it may have no enabled driver but those that are always on.
+/// Returns whether the net is guarded: only drivers that are always on may be enabled on it.
 pub fn is_guarded(rows: &[Items<BitEntries>], board: &RawBoard, net: &Net) -> bool
     requires { AreEntries board.now rows.now }
     ensures { result ≡ guarded board.now net.now }

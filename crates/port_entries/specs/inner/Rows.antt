@@ -1,4 +1,4 @@
--- How the table is filled, and what its entries say of a pin.
+-- How the table is filled, and the facts about pins that follow from it.
 use Rattle.std.specs.Prelude.{◌==◌, Bool, true, false, not, ◌&&◌, ◌||◌, List, [], length, map, fold, replicate, Option, Some, None}
 use Rattle.std.specs.List.{list_any}
 use Rattle.board_defs.specs.declared.device.Cell.{Cell}
@@ -13,7 +13,7 @@ use Rattle.board_defs.specs.Pins.{described, bit_at, is_test_pin}
 use Rattle.lists.specs.Rows.{noted}
 use Rattle.port_entries.specs.Entries.{entries_at}
 
--- the rows of a part with these entries more
+-- the rows of a part with these entries added
 abbrev pub all_noted : List (List Cell) → List Cell → List (List Cell)
 all_noted rows cells = fold (λ done cell. noted done cell.bit cell) rows cells
 
@@ -34,15 +34,15 @@ abbrev pub dark_where : List (List (List Cell)) → RawBoard → Option PinAt �
 dark_where rows board None inert = not inert
 dark_where rows board (Some at) inert = dark_by (bit_at board at) (entries_at rows at)
 
--- a pin is dark, by the table
+-- the pin is dark, by the table
 abbrev pub dark_in : List (List (List Cell)) → RawBoard → NetPin → Bool
 dark_in rows board pin = dark_where rows board pin.at pin.inert
 
--- a pin guards its net, by the table
+-- the pin guards its net, by the table
 abbrev pub guards_in : List (List (List Cell)) → RawBoard → NetPin → Bool
 guards_in rows board pin = is_test_pin board pin || dark_in rows board pin
 
--- a port bit with these entries receives
+-- a port bit with these entries is a receiver
 abbrev pub receives_by : Option PortBit → List Cell → Bool
 receives_by None entries = false
 receives_by (Some bit) entries = may_receive bit.mode && list_any (λ cell. is_receiving cell.role) entries
