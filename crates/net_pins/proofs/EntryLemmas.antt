@@ -1,4 +1,4 @@
--- The entries on a port bit are the compared cells there, and of cells of its part.
+-- The entries on a port bit that read it are the compared cells there, and all belong to cells of its part.
 use Rattle.std.proofs.Common.{◌≡◌, ℕ, ◌<◌, Bool, true, false, cond, ◌&&◌, ◌||◌, List, [], ◌∷◌, map, Option, Some, None, refl, ap, ◌∙◌, arith}
 use Rattle.std.specs.Prelude.{slice_get, option_and_then, filter, All}
 use Rattle.std.specs.List.{list_any}
@@ -63,7 +63,7 @@ module _ (board : RawBoard) (at : PinAt) where
           ap (λ (l : List Cell). cond (receives_by (slice_get device.bits at.bit)) (map (reader_of board at.part place) l) []) (filter_on (λ cell. is_receiving cell.role) at.bit device.cells)
           ∙ by_bit device (slice_get device.bits at.bit)
 
-  -- the entries are of cells of the part
+  -- the entries belong to cells of the part
   pub entries_below : IsBoard board → All (λ cell. cell.num < cell_count (device_at board at.part)) (entries_of (device_at board at.part) at.bit)
   entries_below rules = by_device (device_at board at.part) refl
     where

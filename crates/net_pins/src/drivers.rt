@@ -25,7 +25,7 @@ fn drivers_of_nets(
     Ok(Items::of(drivers))
 }
 
-/// The drivers of each net that may be enabled, net by net.
+/// Returns the drivers of each net that may be enabled, net by net.
 pub fn all_drivers(
     alloc: Global,
     board: &BoardPins<'_>,

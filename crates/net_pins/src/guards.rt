@@ -1,4 +1,4 @@
-// Which nets are guarded, by the entries of their pins.
+// The guarded nets, by the entries on their pins.
 ghost use Rattle.std.specs.Prelude.{◌≡◌, map, IfOk};
 ghost use Rattle.board_defs.specs.Pins.{guarded};
 ghost use Rattle.port_entries.specs.Entries.{AreEntries};
@@ -23,7 +23,7 @@ fn guarded_of(
     Ok(flags)
 }
 
-/// Whether each net is guarded: no controlled and no one-sided driver of it may be enabled.
+/// Returns, for each net, whether it is guarded: no controlled and no one-sided driver of it may be enabled.
 pub fn guarded_nets(
     alloc: Global,
     board: &Board,

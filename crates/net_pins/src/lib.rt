@@ -1,7 +1,9 @@
-//! What stands on the nets of a board, made once for its classes and its plan.
+//! The cells on the nets of a board, collected once for its classes and its plan.
 //!
-//! [`PinTables`] finds the entries of each port bit and their positions in scans of data, and says which nets are guarded; [`BoardPins`],
-//! a board with these tables, answers. [`NetPins`] has with them, net by net, the drivers that may be enabled and the compared cells.
+//! [`PinTables`] has the entries on each port bit, the position of each part in scans of data, and which nets are
+//! guarded. [`BoardPins`] is a board with these tables, and answers queries about it. [`NetPins`] adds, net by
+//! net, the
+//! drivers that may be enabled and the compared cells.
 #![tactic(auto)]
 
 mod board_pins;

@@ -10,7 +10,7 @@ use crate::board_pins::BoardPins;
 use board_defs::{Cell, Ctl, Items, Net, NetPin, PinAt, RawBoard};
 use std::alloc::{AllocError, Global};
 
-/// A driver of a net: the place of its pin in the net, its control, if it has one, and its own cell with the position
+/// A driver of a net: the place of its pin in the net, its control, if it has one, its own cell, and the position
 /// of that cell in scans of data.
 #[derive(Clone, Copy)]
 pub struct NetDriver {
@@ -27,7 +27,7 @@ pub struct ReaderCell {
     pub position: u32,
 }
 
-// The driver that a driving entry of a part is.
+// Returns the driver with this driving entry, on the pin at `place`.
 fn net_driver(board: &BoardPins<'_>, part: u32, place: u32, cell: Cell) -> NetDriver
     requires { cell.num < cell_count (device_at board.now part) }
     ensures { result ≡ net_driver board.now part place cell }
@@ -46,7 +46,7 @@ fn net_driver(board: &BoardPins<'_>, part: u32, place: u32, cell: Cell) -> NetDr
     }
 }
 
-// The driver that a pin is, where it is one.
+// Returns the driver on the pin, if the pin is a driver.
 fn driver_of(board: &BoardPins<'_>, place: u32, at: Option<PinAt>) -> Option<NetDriver>
     ensures { result ≡ driver_of board.now place at }
 {
@@ -69,7 +69,7 @@ fn push_some(drivers: &mut Vec<NetDriver>, driver: Option<NetDriver>) -> Result<
     Ok(())
 }
 
-// The drivers among these pins of a net.
+// Returns the drivers among these pins of a net, in pin order.
 fn drivers_of_pins(
     alloc: Global,
     board: &BoardPins<'_>,
@@ -85,7 +85,7 @@ fn drivers_of_pins(
     Ok(Items::of(drivers))
 }
 
-/// The drivers of a net that may be enabled in a test: none, where it is guarded.
+/// Returns the drivers of a net that may be enabled in a test. A guarded net has none.
 pub fn drivers_of(
     alloc: Global,
     board: &BoardPins<'_>,
@@ -102,7 +102,7 @@ pub fn drivers_of(
     drivers_of_pins(alloc, board, net.pins.as_slice())
 }
 
-// Adds the compared cells among these entries on a port bit.
+// Appends the compared cells among these entries on a port bit.
 fn push_readers(
     board: &BoardPins<'_>,
     part: u32,
@@ -122,7 +122,7 @@ fn push_readers(
     Ok(())
 }
 
-// Whether the part may receive from the port bit.
+// Returns whether the part may receive from the port bit.
 fn may_receive(raw: &RawBoard, at: PinAt) -> bool
     ensures { result ≡ receives_by (bit_at raw.now at) }
 {
@@ -132,7 +132,7 @@ fn may_receive(raw: &RawBoard, at: PinAt) -> bool
     }
 }
 
-// Adds the compared cells of a pin there, where it is a receiver.
+// Appends the compared cells of the pin at place `at` of the chain, if the pin is a receiver.
 fn push_at(
     board: &BoardPins<'_>,
     place: u32,
@@ -148,7 +148,7 @@ fn push_at(
     }
 }
 
-// Adds the compared cells of a pin, where it is a receiver.
+// Appends the compared cells of a pin, if it is a receiver.
 fn push_pin(
     board: &BoardPins<'_>,
     place: u32,
@@ -163,7 +163,7 @@ fn push_pin(
     }
 }
 
-/// The compared cells of these pins of a net.
+/// Returns the compared cells of these pins of a net, in pin order.
 pub fn readers_of(
     alloc: Global,
     board: &BoardPins<'_>,

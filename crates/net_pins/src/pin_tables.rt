@@ -1,4 +1,4 @@
-// The first position and the entries of each part, so that no pin goes through the cells of its part, and which nets are guarded.
+// Tables by which no query about a pin goes through all cells of its part, and the guarded nets.
 ghost use Rattle.std.specs.Prelude.{IfOk};
 ghost use Rattle.net_pins.specs.Tables.{ArePinTables};
 
@@ -8,20 +8,21 @@ use board_defs::{Board, Items};
 use port_entries::{BitEntries, port_entries};
 use std::alloc::{AllocError, Global};
 
-/// What finds the cells of the pins of a board, and which of its nets are guarded.
+/// Tables for looking up the cells of a board's pins, and which of its nets are guarded.
 #[derive(Drop)]
 pub struct PinTables {
     /// The position of each part's first bit in a scan of data.
     pub firsts: Items<u32>,
     /// The entries of each port bit of each part.
     pub entries: Items<Items<BitEntries>>,
-    /// Whether each net is guarded: no controlled and no one-sided driver of it may be enabled. No setting observes such a net, so that
-    /// no driver is kept for it, not even one that is always on.
+    /// Whether each net is guarded: no controlled and no one-sided driver of it may be enabled. No setting
+    /// observes such
+    /// a net, so no driver of it is kept, not even one that is always on.
     pub guarded: Items<bool>,
 }
 
 impl PinTables {
-    /// The tables of a board.
+    /// Makes the tables of a board.
     pub fn new(alloc: Global, board: &Board) -> Result<PinTables, AllocError>
         ensures { IfOk result (λ tables. ArePinTables board.now tables) }
     {

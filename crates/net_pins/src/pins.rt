@@ -1,4 +1,4 @@
-// What stands on each net of a board.
+// The cells on each net of a board.
 ghost use Rattle.std.specs.Prelude.{IfOk};
 ghost use Rattle.net_pins.specs.Tables.{AreNetPins, ArePinTables};
 
@@ -10,19 +10,19 @@ use crate::readers::all_readers;
 use board_defs::{Board, Items};
 use std::alloc::{AllocError, Global};
 
-/// What finds the cells of the pins of a board, and what stands on each of its nets.
+/// The pin tables of a board, and the cells on each of its nets.
 #[derive(Drop)]
 pub struct NetPins {
-    /// The positions and the entries of the parts, and which nets are guarded.
+    /// The positions of the parts, their entries, and which nets are guarded.
     pub tables: PinTables,
-    /// The drivers of each net that may be enabled, in pin order; none on a guarded net.
+    /// The drivers of each net that may be enabled, in pin order. A guarded net has none.
     pub drivers: Items<Items<NetDriver>>,
     /// The compared cells of each net, in pin order.
     pub readers: Items<Items<ReaderCell>>,
 }
 
 impl NetPins {
-    /// The pins of a board's nets.
+    /// Collects the cells on a board's nets.
     pub fn new(alloc: Global, board: &Board) -> Result<NetPins, AllocError>
         ensures { IfOk result (λ pins. AreNetPins board.now pins) }
     {
@@ -30,7 +30,7 @@ impl NetPins {
         NetPins::of(alloc, board, tables)
     }
 
-    /// The same, by the tables of the board, which are taken over.
+    /// Like `new`, but takes over the tables of the board.
     pub fn of(alloc: Global, board: &Board, tables: PinTables) -> Result<NetPins, AllocError>
         requires { ArePinTables board.now tables }
         ensures { IfOk result (λ pins. AreNetPins board.now pins) }

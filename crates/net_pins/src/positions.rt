@@ -19,14 +19,14 @@ fn firsts_of(alloc: Global, chain: &[Part], bits: u32) -> Result<Vec<u32>, Alloc
     Ok(firsts)
 }
 
-/// The position of each part's first bit in a scan of data: behind those of the parts after it.
+/// Returns the position of each part's first bit in a scan of data. The bits of all later parts come before it.
 pub fn first_positions(alloc: Global, board: &Board) -> Result<Vec<u32>, AllocError>
     ensures { IfOk result (λ firsts. AreFirsts board.now.chain firsts.items) }
 {
     firsts_of(alloc, board.raw().chain.as_slice(), board.dr_bits())
 }
 
-/// The position of a cell of a described part.
+/// Returns the position of a cell of a described part in scans of data.
 pub fn cell_position(board: &Board, firsts: &[u32], part: u32, cell: u32) -> u32
     requires firsts { AreFirsts board.now.chain firsts.now }
     requires cell { cell < cell_count (device_at board.now part) }

@@ -23,7 +23,7 @@ fn readers_of_nets(
     Ok(Items::of(readers))
 }
 
-/// The compared cells of each net, net by net.
+/// Returns the compared cells of each net, net by net.
 pub fn all_readers(
     alloc: Global,
     board: &BoardPins<'_>,

@@ -1,4 +1,4 @@
--- Which port bits a part may receive from.
+-- The port bits from which a part may receive.
 use Rattle.std.specs.Prelude.{Bool, false, Option, Some, None}
 use Rattle.board_defs.specs.declared.device.PortBit.{PortBit}
 use Rattle.board_defs.specs.DeviceRules.{may_receive}
