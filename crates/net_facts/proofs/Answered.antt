@@ -1,4 +1,4 @@
--- What the facts and the table say of a net is what the board's terms say.
+-- The facts and the table give for each net what the definitions on the board give.
 use Rattle.std.proofs.Common.{◌≡◌, ℕ, ◌==◌, Bool, true, false, not, ◌&&◌, List, [], ◌∷◌, map, length, Option, Some, None, refl, sym, ◌∙◌, ap, subst, cond, inl}
 use Rattle.std.specs.Prelude.{slice_get, option_map, filter_map, is_some}
 use Rattle.std.specs.List.{list_any, range_with_len, cons_option}
@@ -34,7 +34,7 @@ use Rattle.net_facts.specs.Kept.{pin_class_of, net_class_of}
 use Rattle.net_facts.specs.inner.Answers.{safe_in, enabled_in, drive_of_pin, drive_of, reads_in, reads_at, enables_at_place, readers_of, enablers_of, tested_in, reader_tested_in, pin_class_in, tested_drive_in, drivers_in, first_reason_in, reason_in, class_in}
 use Rattle.net_facts.proofs.FoundLemmas.{elsewhere_is, passes_in}
 
--- the table says of each control whether it is safe alone
+-- the table says, for each control, whether it is safe alone
 abbrev pub SaysSafe : RawBoard → List (List ControlClass) → Type 0
 SaysSafe board rows = (c : Ctl) → IsCell board c → safe_in rows c ≡ is_safe_alone board c
 
@@ -123,7 +123,7 @@ drivers_is board rows net rules says =
     ap (λ n. filter_map (tested_drive_in rows (net_facts_of board net)) (range_with_len 0 n)) (length-map net.pins (pin_facts_of board net)) ∙
     filter_map_same (tested_drive_in rows (net_facts_of board net)) (tested_drive board net) (λ k. drive_tested_is board rows net k rules says) (range_with_len 0 (length net.pins))
 
--- a net is covered exactly where it has a tested driver
+-- a net is covered if and only if it has a tested driver
 pub covered_is : (board : RawBoard) (net : Net) → (length (tested_drivers board net) == 0) ≡ not (is_covered board net)
 covered_is board net = by_list (tested_drivers board net) refl
   where

@@ -1,4 +1,4 @@
--- The facts as they are made are those by the terms of the board.
+-- The facts that are made are those by the definitions on the board.
 use Rattle.std.proofs.Common.{◌≡◌, ℕ, ◌+◌, ◌<◌, Bool, true, false, ◌&&◌, ◌||◌, List, [], ◌∷◌, ◌++◌, length, map, take, get_or, Option, Some, None, refl, sym, ◌∙◌, ap}
 use Rattle.std.specs.Prelude.{option_map, slice_get}
 use Rattle.std.specs.List.{list_any}
@@ -81,7 +81,7 @@ facts_are board net =
         let y : NetFacts = record { supply = net.supply; pull = net.pull; test_port = t'; dark = d'; guarded = guarded board net; closed = k'; pins = pins' } in x ≡ y
     same t t' d d' k k' pins pins' e f h i = cc
 
--- the facts of one net more
+-- the facts with those of one more net
 pub facts_more : (board : RawBoard) (nets : List Net) (n : ℕ) (net : Net) (flag : Bool) (before : List NetFacts) → nets ≡ board.nets → n < length nets → net ≡ get_or nets n net → flag ≡ guarded_at board n →
     before ≡ map (net_facts_of board) (take n board.nets) → before ++ net_facts_in board flag net ∷ [] ≡ map (net_facts_of board) (take (n + 1) board.nets)
 facts_more board nets n net flag before same less is guards done =

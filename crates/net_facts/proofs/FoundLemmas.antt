@@ -1,4 +1,4 @@
--- Where the items that pass a test stand.
+-- The places of the items that pass a test.
 use Rattle.std.proofs.Common.{◌≡◌, ◌≢◌, ℕ, zero, suc, ◌+◌, ◌<◌, ◌==◌, Bool, true, false, not, ◌&&◌, List, length, Option, Some, None, refl, sym, ◌∙◌, ap, subst, arith, add-one, cond}
 use Rattle.std.specs.Prelude.{slice_get, if◌then◌else◌}
 use Rattle.std.proofs.lemmas.Option.{slice_get_within}
@@ -10,12 +10,12 @@ use Rattle.net_facts.specs.declared.found.Found.{Found}
 use Rattle.net_facts.specs.declared.found.Found.TheVariants.{Nowhere, At, Several}
 use Rattle.net_facts.specs.inner.Found.{with_place, is_elsewhere_of, found_below}
 
--- one number more
+-- one more number
 pub found_more : (test : ℕ → Bool) (k : ℕ) (found next : Found) (passes : Bool) → found ≡ found_below test k → passes ≡ test k → next ≡ (if passes then with_place found k else found) → next ≡ found_below test (k + 1)
 found_more test k found next passes f p g =
     g ∙ ap (λ v. cond passes (with_place v k) v) f ∙ ap (λ t. cond t (with_place (found_below test k) k) (found_below test k)) p ∙ ap (found_below test) (sym (add-one k))
 
--- what was found, in words
+-- the meaning of the places that were found
 data Places (test : ℕ → Bool) (k : ℕ) (found : Found) : Type 0 where
   none : found ≡ Nowhere → ((j : ℕ) → j < k → test j ≡ false) → Places test k found
   one : (i : ℕ) → found ≡ At i → i < k → test i ≡ true → ((j : ℕ) → j < k → test j ≡ true → j ≡ i) → Places test k found

@@ -1,4 +1,4 @@
--- What the finished table of the controls holds.
+-- The contents of the finished table of the controls.
 use Rattle.std.proofs.Common.{◌≡◌, ℕ, zero, suc, ◌<◌, ◌≤◌, ◌==◌, Bool, true, false, not, ◌&&◌, ◌||◌, List, [], ◌∷◌, ◌++◌, map, length, Option, Some, None, refl, sym, ◌∙◌, ap, subst, arith, cond}
 use Rattle.std.specs.Prelude.{slice_get, option_map, option_and_then, filter}
 use Rattle.std.specs.List.{list_any, list_all, range_with_len}
@@ -73,7 +73,7 @@ none_is_one test (x ∷ xs) h = by_head (test x) h (none_is_one test xs)
     by_head true g rest = cc g
     by_head false g rest = rest g
 
--- one net more
+-- one more net
 abbrev pub refuses : RawBoard → Ctl → Option Net → Bool
 refuses board c None = false
 refuses board c (Some net) = not (admits board c net)
@@ -226,7 +226,7 @@ cell_part board c h = by_part (slice_get board.chain c.part) refl h
     by_part None e g = absurd (omega arith)
     by_part (Some part) e g = slice_get_within board.chain c.part part e
 
--- the control alone is safe exactly where no net refuses it and it enables no one-sided driver
+-- a control alone is safe if and only if no net refuses it and it enables no one-sided driver
 safe_alone_is : (board : RawBoard) (c : Ctl) → (not (enables_one_sided board c) && not (refused board c (length board.nets))) ≡ is_safe_alone board c
 safe_alone_is board c = ap (λ t. not (enables_one_sided board c) && not t) all ∙ turn (enables_one_sided board c) (list_all (admits board c) board.nets)
   where
@@ -253,7 +253,7 @@ safe_alone_is board c = ap (λ t. not (enables_one_sided board c) && not t) all 
             by_refused true k = refl
             by_refused false k = absurd (clash (list_all (admits board c) board.nets) (all_from (admits board c) board.nets (λ i net g. true_from_ne_false (admits board c net) (λ w. clash (refused board c (length board.nets)) (below_at (length board.nets) (λ m. refuses board c (slice_get board.nets m)) i (slice_get_within board.nets i net g) (ap (refuses board c) g ∙ not_from_false (admits board c net) w)) k))) (not-true (list_all (admits board c) board.nets) e))
 
--- what the table holds of a control before the useful ones are marked
+-- the table's item for a control before the useful ones are marked
 abbrev pub row_before : RawBoard → Ctl → ControlClass
 row_before board c = record { nets = driven_nets board c; safe = is_safe_alone board c; useful = false }
 

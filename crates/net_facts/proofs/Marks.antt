@@ -1,4 +1,4 @@
--- What the table of the controls holds once the useful ones are marked.
+-- The contents of the table of the controls after the useful ones are marked.
 use Rattle.std.proofs.Common.{◌≡◌, Bool, true, false, ◌||◌, List, [], ◌∷◌, map, length, Option, Some, None, refl, sym, ◌∙◌, ap}
 use Rattle.std.specs.Prelude.{option_map, filter, fold}
 use Rattle.std.specs.List.{list_any}
@@ -81,7 +81,7 @@ marks_row (net ∷ nets) rows c =
     ap (option_map (mark_if (list_any (by_net c) nets))) (drivers_row net.drivers rows c) ∙
     mark_join (by_net c net) (list_any (by_net c) nets) (item_of rows c)
 
--- the control controls a tested driver, and so is safe alone
+-- the control controls a tested driver if and only if it is useful, since it is then safe alone
 pub useful_is : (board : RawBoard) (c : Ctl) → list_any (λ net. list_any (by_drive c) (tested_drivers board net)) board.nets ≡ is_useful board c
 useful_is board c = same_truth (list_any some board.nets) (is_useful board c) there back
   where
@@ -116,7 +116,7 @@ marked_row board rows c h =
     ap (λ b. Some (let r : ControlClass = record { nets = driven_nets board c; safe = is_safe_alone board c; useful = b } in r))
     (or-false (list_any (by_net c) (map (net_class_of board) board.nets)) ∙ list_any-map (net_class_of board) (by_net c) board.nets ∙ useful_is board c)
 
--- what classify makes
+-- the result of `facts_by`
 pub record Made (board : RawBoard) (nets : List NetClass) (controls : List (List ControlClass)) (useful : List Ctl) : Type 0 where
   pub nets_are : nets ≡ map (net_class_of board) board.nets
   pub controls_are : (c : Ctl) → IsCell board c → item_of controls c ≡ Some (control_class_of board c)

@@ -1,4 +1,4 @@
--- What the table of the controls holds once each net has been noted.
+-- The contents of the table of the controls after each net has been noted.
 use Rattle.std.proofs.Common.{◌≡◌, ◌≢◌, ℕ, zero, suc, ◌-◌, ◌<◌, ◌==◌, Bool, true, false, not, ◌&&◌, ◌||◌, List, [], ◌∷◌, ◌++◌, length, Option, Some, None, refl, sym, ◌∙◌, ap, subst, arith, length-append, cond}
 use Rattle.std.specs.Prelude.{slice_get, option_map, option_and_then}
 use Rattle.std.specs.List.{list_any}
@@ -68,7 +68,7 @@ ends_appended xs n = ap (λ k. is_number n (slice_get (xs ++ n ∷ []) k)) (appe
 pub ends_other : (xs : List ℕ) (m n : ℕ) → m < n → ends_with (xs ++ m ∷ []) n ≡ false
 ends_other xs m n h = ap (λ k. is_number n (slice_get (xs ++ m ∷ []) k)) (appended_length xs m) ∙ ap (is_number n) (get_appended xs m) ∙ false_from_ne_true (m == n) (λ e. let same : m ≡ n = eqb-true m n e in omega arith)
 
--- what the pins of a net make of one row
+-- one row after the pins of a net
 abbrev pub run : ℕ → Bool → Ctl → List PinFacts → ControlClass → ControlClass
 run n closed c [] row = row
 run n closed c (pin ∷ pins) row = run n closed c pins (cond (is_by c pin.drive) (added n closed row) row)
@@ -105,7 +105,7 @@ by_pin c pin = is_by c pin.drive
 abbrev row_with : ControlClass → List ℕ → Bool → ControlClass
 row_with row nets safe = record { nets = nets; safe = safe; useful = row.useful }
 
--- the net stands in the row already
+-- the row already has the net
 pub run_again : (n : ℕ) (closed : Bool) (c : Ctl) (pins : List PinFacts) (row : ControlClass) → ends_with row.nets n ≡ true → run n closed c pins row ≡ row_with row row.nets (row.safe && not (list_any (by_pin c) pins))
 run_again n closed c [] row h = ap (λ b. row_with row row.nets b) (sym (and-true row.safe))
 run_again n closed c (pin ∷ pins) row h = by_head (is_by c pin.drive) refl (run_again n closed c pins row h) (run_again n closed c pins (row_with row row.nets false) h)
@@ -120,7 +120,7 @@ run_again n closed c (pin ∷ pins) row h = by_head (is_by c pin.drive) refl (ru
         ap (λ t. row_with row row.nets t) (sym (and-false row.safe)) ∙
         ap (λ t. row_with row row.nets (row.safe && not (t || list_any (by_pin c) pins))) (sym e)
 
--- the row after the pins of a net that it does not hold yet
+-- the row after the pins of a net that it did not have
 abbrev pub after_net : ℕ → Bool → Ctl → List PinFacts → ControlClass → ControlClass
 after_net n closed c pins row = cond (list_any (by_pin c) pins) (record { nets = row.nets ++ n ∷ []; safe = row.safe && not closed && at_most_one (by_pin c) pins; useful = row.useful }) row
 

@@ -73,7 +73,7 @@ set_value i f [] d new h e = absurd (omega arith)
 set_value zero f (y ∷ xs) d new h e = ap (λ z. z ∷ xs) e
 set_value (suc i) f (y ∷ xs) d new h e = ap (λ ys. y ∷ ys) (set_value i f xs d new (omega arith) e)
 
--- one row more
+-- one more row
 table_end : {Y : Type 0} (made : List (Vec Y Global)) (row : Vec Y Global) → table (made ++ row ∷ []) ≡ table made ++ row.items ∷ []
 table_end [] row = refl
 table_end (first ∷ made) row = ap (λ ys. first.items ∷ ys) (table_end made row)

@@ -47,7 +47,7 @@ joined : (xs ys zs : List Ctl) → (xs ++ ys) ++ zs ≡ xs ++ (ys ++ zs)
 joined [] ys zs = refl
 joined (x ∷ xs) ys zs = ap (λ v. x ∷ v) (joined xs ys zs)
 
--- one cell more of a part
+-- one more cell of a part
 pub cell_more : (p : Ctl → Bool) (part cell : ℕ) (initial before after : List Ctl) (t : Bool) → before ≡ initial ++ filter p (map (cell_in part) (range_with_len 0 cell)) → t ≡ p (cell_in part cell) → after ≡ before ++ cond t (cell_in part cell ∷ []) [] →
     after ≡ initial ++ filter p (map (cell_in part) (range_with_len 0 (cell + 1)))
 cell_more p part cell initial before after t e f g =
@@ -58,7 +58,7 @@ cell_more p part cell initial before after t e f g =
 pub cells_whole : (board : RawBoard) (k : ℕ) → length board.chain ≤ k → cells_upto board.chain k ≡ all_cells board
 cells_whole board k h = ap (λ xs. flat_map (λ (part : ℕ × Part). cells_of part.0 part.1.kind) (enumerate_from 0 xs)) (take_all k board.chain h)
 
--- what stands in the list of all cells is a cell
+-- each item of the list of all cells is a cell
 pub has_cell : (board : RawBoard) (c : Ctl) → Has (all_cells board) c → IsCell board c
 has_cell board c h =
     let f : ℕ × Part → List Ctl = λ q. cells_of q.0 q.1.kind in

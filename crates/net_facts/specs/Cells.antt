@@ -3,30 +3,30 @@ use Rattle.std.specs.Prelude.{ℕ, zero, suc, Bool, false, List, [], ◌∷◌, 
 use Rattle.std.specs.declared.alloc.Global.{Global}
 use Rattle.board_defs.specs.declared.board.Ctl.{Ctl}
 
--- the table as a list for each part of the chain
+-- the table as a list of rows, one for each part of the chain
 abbrev pub table : {X : Type 0} → List (Vec X Global) → List (List X)
 table rows = map (λ row. row.items) rows
 
--- the item of a cell in a table that has one for each cell of each part
+-- the item of a cell, if the table has one
 abbrev pub item_of : {X : Type 0} → List (List X) → Ctl → Option X
 item_of rows c = option_and_then (λ row. slice_get row c.cell) (slice_get rows c.part)
 
--- a mark that is there
+-- there is a mark, and it is set
 abbrev pub holds_there : Option Bool → Bool
 holds_there None = false
 holds_there (Some b) = b
 
--- the item at the place, changed; nothing past the end
+-- the list with the item at this place changed by `f`; past the end nothing changes
 abbrev pub update_at : {X : Type 0} → ℕ → (X → X) → List X → List X
 update_at i f [] = []
 update_at zero f (x ∷ xs) = f x ∷ xs
 update_at (suc i) f (x ∷ xs) = x ∷ update_at i f xs
 
--- the item of the cell, changed
+-- the table with the item of the cell changed by `f`
 abbrev pub at_control : {X : Type 0} → Ctl → (X → X) → List (List X) → List (List X)
 at_control c f rows = update_at c.part (update_at c.cell f) rows
 
--- the item in place of the one before
+-- replaces the item before by `item`
 abbrev pub put : {X : Type 0} → X → X → X
 put item before = item
 

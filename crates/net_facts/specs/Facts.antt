@@ -1,4 +1,4 @@
--- What is known of nets and pins before anything is known of settings.
+-- The facts about nets and pins that do not depend on settings.
 use Rattle.std.specs.Prelude.{map}
 use Rattle.std.specs.List.{list_any}
 use Rattle.board_defs.specs.declared.board.NetPin.{NetPin}
@@ -9,7 +9,7 @@ use Rattle.board_defs.specs.Decided.{is_closed}
 use Rattle.net_facts.specs.declared.facts.PinFacts.{PinFacts}
 use Rattle.net_facts.specs.declared.facts.NetFacts.{NetFacts}
 
--- the facts by the terms of a board
+-- the facts, by the definitions on a board
 abbrev pub pin_facts_of : RawBoard → Net → NetPin → PinFacts
 pin_facts_of board net pin = record { at = pin.at; drive = drive board net pin; receives = receives board pin }
 

@@ -1,4 +1,4 @@
--- Terms that serve proofs, the models of types and the contracts of private functions. No public contract cites them.
+-- Definitions for proofs, for the models of types and for the contracts of private functions. No public contract cites them.
 pub mod Found
 pub mod Facts
 pub mod Switching

@@ -5,7 +5,7 @@ ghost use Rattle.net_facts.specs.Cells.{item_of, table, filled, put, at_control,
 use board_defs::Ctl;
 use std::alloc::{AllocError, Global};
 
-/// The item of the cell, where the table has one.
+/// Returns the item of the cell, if the table has one.
 pub fn item_at<T: Copy>(rows: &[Vec<T>], c: Ctl) -> Option<T>
     ensures { result ≡ item_of (table rows.now) c }
 {
@@ -23,7 +23,7 @@ fn put_in<T: Copy>(row: &mut Vec<T>, cell: u32, item: T)
     }
 }
 
-/// Writes the item of the cell, where the table has one.
+/// Writes the item of the cell, if the table has one.
 pub fn put_at<T: Copy>(rows: &mut [Vec<T>], c: Ctl, item: T)
     ensures { table rows.new ≡ at_control c (put item) (table rows.old) }
 {
@@ -40,7 +40,7 @@ fn filled_row<S, T: Copy>(alloc: Global, row: &[S], item: T) -> Result<Vec<T>, A
     Ok(items)
 }
 
-/// A table of the same shape, with one item everywhere.
+/// Returns a table of the same shape, with `item` everywhere.
 pub fn filled_table<S, T: Copy>(
     alloc: Global,
     rows: &[Vec<S>],

@@ -1,4 +1,4 @@
-// What is known of the nets, the pins and the controls of a board.
+// The facts about the nets, the pins and the controls of a board.
 ghost use Rattle.std.specs.Prelude.{◌≡◌, map, IfOk};
 ghost use Rattle.net_facts.specs.Facts.{net_facts_of};
 ghost use Rattle.net_facts.specs.Kept.{AreBoardFacts};
@@ -14,7 +14,7 @@ use few_items::Few;
 use net_pins::BoardPins;
 use std::alloc::{AllocError, Global};
 
-/// What a pin of a net is, and what some safe setting does with it.
+/// What a pin is on its net, and whether some safe setting tests it.
 #[derive(Clone, Copy)]
 pub struct PinClass {
     /// Whether the pin is a tested driver.
@@ -27,41 +27,41 @@ pub struct PinClass {
     pub receives: bool,
 }
 
-/// What safe settings do with a net.
+/// What safe settings can do with a net.
 #[derive(Drop)]
 pub struct NetClass {
-    /// Why the net is not covered, where it is not.
+    /// Why the net is not covered, or None if it is covered.
     pub reason: Option<Reason>,
     /// How the tested drivers are enabled, in pin order.
     pub drivers: Few<Drive>,
-    /// The pins in their order.
+    /// The pins in order.
     pub pins: Few<PinClass>,
 }
 
-/// What is known of a control.
+/// The facts about a control.
 #[derive(Drop)]
 pub struct ControlClass {
-    /// The nets with a driver that the control controls, in net order.
+    /// The nets with a driver of this control, in net order.
     pub nets: NetNumbers,
     /// Whether the setting of the control alone is safe.
     pub safe: bool,
-    /// Whether it is safe alone and controls a tested driver.
+    /// Whether the control is safe alone and controls a tested driver.
     pub useful: bool,
 }
 
-/// What is known of the nets, the pins and the controls of a board. Tables of controls have a row for
-/// each part of the chain and an item for each of its cells.
+/// The facts about the nets, the pins and the controls of a board. A table of controls has a row for each part of
+/// the chain and an item for each of its cells.
 #[derive(Drop)]
 pub struct BoardFacts {
-    /// The nets before anything is known of settings, in their order.
+    /// The facts about the nets that do not depend on settings, in net order.
     pub facts: Vec<NetFacts>,
-    /// What safe settings do with the nets, in their order.
+    /// What safe settings can do with the nets, in net order.
     pub nets: Vec<NetClass>,
-    /// The cells of the parts as controls.
+    /// The facts about the parts' cells as controls.
     pub controls: Vec<Vec<ControlClass>>,
     /// The useful controls, in control order.
     pub useful: Vec<Ctl>,
-    /// For each control, the nets of which it and another one control drivers, in net order.
+    /// For each control, the nets with a driver of it and a driver of another control, in net order.
     pub shared: Vec<Vec<NetNumbers>>,
 }
 
@@ -89,7 +89,7 @@ fn facts_by(
     })
 }
 
-/// What is known of the nets, the pins and the controls of the board.
+/// Collects the facts about the nets, the pins and the controls of the board.
 pub fn board_facts(alloc: Global, board: &BoardPins<'_>) -> Result<BoardFacts, AllocError>
     ensures { IfOk result (λ known. AreBoardFacts board.now known) }
 {

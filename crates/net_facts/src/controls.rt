@@ -1,4 +1,4 @@
-// The table of the controls: the nets that each drives, and whether it may be on.
+// The table of the controls: the nets that each drives, and whether it may be enabled.
 ghost use Rattle.std.specs.Prelude.{◌≡◌, ◌<◌, ◌≤◌, length, fold, map, OnOk, IfOk};
 ghost use Rattle.board_defs.specs.Limits.{most_bits, most_nets};
 ghost use Rattle.board_defs.specs.Pins.{cell_count, described};
@@ -23,7 +23,7 @@ fn is_last(nets: &[u32], net: u32) -> bool
     }
 }
 
-/// Notes one more driver of the control.
+/// Notes one more driver of the control, on net `net`.
 fn add(row: &mut ControlClass, net: u32, closed: bool) -> Result<(), AllocError>
     ensures { OnOk result (row.new ≡ added net closed row.old) }
 {
@@ -89,7 +89,7 @@ fn note_net(
     Ok(())
 }
 
-/// Notes of each control the nets that it drives.
+/// Notes, for each control, the nets that it drives, and whether one of them makes the control unsafe.
 fn note_all(rows: &mut [Vec<ControlClass>], nets: &[NetFacts]) -> Result<(), AllocError>
     requires { length nets.now ≤ most_nets }
     ensures { OnOk result (table rows.new ≡ note_nets nets.now (length nets.now) (table rows.old)) }
@@ -149,7 +149,7 @@ fn mark_drivers(rows: &mut [Vec<ControlClass>], drivers: &[Drive])
     }
 }
 
-/// Marks the controls of tested drivers.
+/// Marks the controls of tested drivers as useful.
 pub fn mark_useful(rows: &mut [Vec<ControlClass>], nets: &[NetClass])
     ensures { table rows.new ≡ mark_nets (table rows.old) nets.now }
 {
@@ -158,7 +158,7 @@ pub fn mark_useful(rows: &mut [Vec<ControlClass>], nets: &[NetClass])
     }
 }
 
-/// The number of cells of a part, each a control.
+/// Returns the number of cells of a part, each of which is a control. A part without a description has none.
 pub fn cells_of(kind: &PartKind) -> u32
     ensures { result ≡ cell_count (described kind.now) }
 {
@@ -193,7 +193,7 @@ fn fresh_table(alloc: Global, chain: &[Part]) -> Result<Vec<Vec<ControlClass>>, 
     Ok(rows)
 }
 
-/// Notes that the control of a one-sided driver is not safe.
+/// Marks the control of a one-sided driver as unsafe.
 fn block_pin(rows: &mut [Vec<ControlClass>], board: &PulledBoard<'_, '_>, at: PinAt)
     requires { at.bit < port_bits board.now at.part }
     ensures { table rows.new ≡ block_where board.now at (own_control board.now at) (table rows.old) }
@@ -237,7 +237,7 @@ fn block_all(rows: &mut [Vec<ControlClass>], board: &PulledBoard<'_, '_>)
     }
 }
 
-/// The table of the controls, by the facts of the nets.
+/// Makes the table of the controls from the facts of the nets.
 pub fn control_rows(
     alloc: Global,
     board: &BoardPins<'_>,

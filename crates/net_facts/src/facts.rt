@@ -1,4 +1,4 @@
-// What is known of nets and pins before anything is known of settings.
+// The facts about nets and pins that do not depend on settings.
 ghost use Rattle.std.specs.Prelude.{◌≡◌, ◌&&◌, ◌||◌, not, map, IfOk, Some};
 ghost use Rattle.std.specs.List.{list_any};
 ghost use Rattle.board_defs.specs.Pins.{is_dark, is_pulled_to, is_test_pin};
@@ -11,33 +11,33 @@ use few_items::Few;
 use net_pins::BoardPins;
 use std::alloc::{AllocError, Global};
 
-/// Where a pin is in the chain, how it drives its net, and whether it receives.
+/// The place of a pin in the chain, how its driver is enabled, and whether it is a receiver.
 #[derive(Clone, Copy)]
 pub struct PinFacts {
-    /// Where the pin's port bit is, where the pin is of a part of the chain.
+    /// The place of the pin's port bit, if the pin belongs to a described part of the chain.
     pub at: Option<PinAt>,
-    /// How the pin drives its net, where it is a driver.
+    /// How the pin's driver is enabled, if the pin is a driver.
     pub drive: Option<Drive>,
     /// Whether the pin is a receiver.
     pub receives: bool,
 }
 
-/// What is known of a net before anything is known of settings.
+/// The facts about a net that do not depend on settings.
 #[derive(Drop)]
 pub struct NetFacts {
     /// Whether the net is a supply.
     pub supply: bool,
-    /// The value that the net is pulled to, where it is pulled.
+    /// The value to which the net is pulled, if it is pulled.
     pub pull: Option<bool>,
-    /// Whether a pin is of the test access port or named in the compliance patterns.
+    /// Whether a pin of the net is a TAP pin or is named in the compliance patterns.
     pub test_port: bool,
-    /// Whether a pin is dark: something that no setting controls may drive it.
+    /// Whether a pin of the net is dark: something that no setting controls may drive it.
     pub dark: bool,
-    /// Whether the net is a supply or has a pin of the test access port or a dark one.
+    /// Whether the net is a supply, or has a TAP pin, a pin that the compliance patterns name, or a dark pin.
     pub guarded: bool,
     /// Whether no control may enable a driver of the net.
     pub closed: bool,
-    /// The pins in their order.
+    /// The pins in order.
     pub pins: Few<PinFacts>,
 }
 
@@ -47,14 +47,14 @@ fn any_test_pin(board: &RawBoard, pins: &[NetPin]) -> bool
     pins.iter().any(|pin| board.is_test_pin(pin))
 }
 
-// A net that is not guarded has no such pin, so only those of guarded nets are asked.
+// A net that is not guarded has no TAP or compliance pin, so only the pins of guarded nets are looked up.
 fn has_test_pin(board: &BoardPins<'_>, guarded: bool, pins: &[NetPin]) -> bool
     ensures { result ≡ (guarded && list_any (is_test_pin board.now) pins.now) }
 {
     guarded && any_test_pin(board.raw(), pins)
 }
 
-// The same of dark pins.
+// Like `has_test_pin`, for dark pins.
 fn has_dark_pin(board: &BoardPins<'_>, guarded: bool, pins: &[NetPin]) -> bool
     ensures { result ≡ (guarded && list_any (is_dark board.now) pins.now) }
 {
@@ -153,7 +153,7 @@ fn has_always_on(pins: &[PinFacts]) -> bool
     pins.iter().any(|pin| is_always_on(pin.drive))
 }
 
-/// Whether the net is guarded or has a driver that is always on.
+/// Returns whether the net is guarded or has a driver that is always on.
 fn is_closed(guarded: bool, pins: &[PinFacts]) -> bool
     ensures { result ≡ (guarded || list_any (λ pin. is_always_on pin.drive) pins.now) }
 {
@@ -183,7 +183,7 @@ fn net_facts(
     })
 }
 
-/// The facts of the nets of a board, in their order.
+/// Returns the facts of the nets of a board, in net order.
 pub fn all_net_facts(alloc: Global, board: &BoardPins<'_>) -> Result<Vec<NetFacts>, AllocError>
     ensures { IfOk result (λ facts. facts.items ≡ map (net_facts_of board.now) board.now.nets) }
 {

@@ -1,4 +1,4 @@
-// Where the items of a list that pass a test stand: nowhere, at one place, or at several.
+// The places of the items of a list that pass a test: none, one, or several.
 ghost use Rattle.std.specs.Prelude.{◌≡◌, ◌↔◌, IsTrue, if◌then◌else◌};
 ghost use Rattle.net_facts.specs.Found.{IsAscending, Meet};
 ghost use Rattle.net_facts.specs.inner.Found.{is_elsewhere_of, with_place};
@@ -21,14 +21,14 @@ impl Found {
         }
     }
 
-    /// With one more place, where it passes.
+    /// Adds the place if `passes`.
     pub fn with_if(self, place: usize, passes: bool) -> Found
         ensures { result ≡ (if passes then with_place self place else self) }
     {
         if passes { self.with(place) } else { self }
     }
 
-    /// Whether one stands at another place.
+    /// Returns whether one of the places is not `place`.
     pub fn is_elsewhere(self, place: usize) -> bool
         ensures { result ≡ is_elsewhere_of self place }
     {
@@ -40,7 +40,7 @@ impl Found {
     }
 }
 
-/// Whether two ascending lists have a number in common.
+/// Returns whether two ascending lists have a number in common.
 pub fn meet(a: &[u32], b: &[u32]) -> bool
     requires first { IsAscending a.now }
     requires second { IsAscending b.now }

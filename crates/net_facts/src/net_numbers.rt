@@ -7,7 +7,7 @@ use std::alloc::{AllocError, Global};
 /// Numbers of nets.
 pub type NetNumbers = Items<u32>;
 
-/// A copy of the numbers.
+/// Copies the numbers.
 pub fn copy_of(alloc: Global, nets: &[u32]) -> Result<NetNumbers, AllocError>
     ensures { IfOk result (λ numbers. numbers ≡ nets.now) }
 {
@@ -16,7 +16,7 @@ pub fn copy_of(alloc: Global, nets: &[u32]) -> Result<NetNumbers, AllocError>
     Ok(Items::of(numbers))
 }
 
-/// Adds the net, where it passes.
+/// Appends the net if `passes`.
 pub fn push_if(numbers: &mut NetNumbers, net: u32, passes: bool) -> Result<(), AllocError>
     ensures { OnOk result (numbers.new ≡ numbers.old ++ (if passes then net ∷ [] else [])) }
 {

@@ -1,4 +1,4 @@
-// A board with the port bits in pulled nets, by which the controls of one-sided drivers are found.
+// A board with the port bits on pulled nets, by which the controls of one-sided drivers are found.
 ghost use Rattle.std.specs.Prelude.{◌≡◌, ◌<◌, length, map, option_and_then, IfOk};
 ghost use Rattle.board_defs.specs.BoardRules.{IsBoard};
 ghost use Rattle.board_defs.specs.Decided.{is_switching, own_control, own_where, port_bits};
@@ -12,13 +12,13 @@ use net_pins::BoardPins;
 use std::alloc::{AllocError, Global};
 use std::marker::Model;
 
-/// A board with the port bits whose pin stands in an unguarded net that is pulled, seen as the board.
+/// A board with the port bits whose pin is on an unguarded net with a pull. Contracts see it as the board.
 #[derive(Drop)]
 pub struct PulledBoard<'a, 'b> {
     board: &'a BoardPins<'b>,
-    /// The port bits with a pin in an unguarded net that is pulled to 0.
+    /// The port bits with a pin on an unguarded net that is pulled to 0.
     low: Vec<Vec<bool>>,
-    /// The same of a pull to 1.
+    /// The port bits with a pin on an unguarded net that is pulled to 1.
     high: Vec<Vec<bool>>,
 }
 
@@ -61,7 +61,7 @@ fn own_control(entry: Option<Cell>) -> Option<Control>
 }
 
 impl<'a, 'b> PulledBoard<'a, 'b> {
-    /// The board by the facts of its nets.
+    /// Makes the tables of port bits from the facts of the nets.
     pub fn of(
         alloc: Global,
         board: &'a BoardPins<'b>,
@@ -76,7 +76,7 @@ impl<'a, 'b> PulledBoard<'a, 'b> {
         Ok(PulledBoard { board, low, high })
     }
 
-    /// The record of the board, which keeps the rules.
+    /// Returns the record of the board.
     pub fn raw(&self) -> &'b RawBoard
         ensures value { result.now ≡ self.now }
         ensures rules { IsBoard self.now }
@@ -84,14 +84,14 @@ impl<'a, 'b> PulledBoard<'a, 'b> {
         self.board.raw()
     }
 
-    /// How many parts the chain has.
+    /// Returns the number of parts in the chain.
     pub fn parts(&self) -> usize
         ensures { result ≡ length self.now.chain }
     {
         self.board.raw().chain.len()
     }
 
-    /// How many port bits the part has.
+    /// Returns the number of port bits of the part.
     pub fn port_bits(&self, part: u32) -> usize
         ensures { result ≡ port_bits self.now part }
     {
@@ -101,21 +101,21 @@ impl<'a, 'b> PulledBoard<'a, 'b> {
         }
     }
 
-    /// Whether the port bit has a pin of the chosen pin map.
+    /// Returns whether the chosen pin map gives the port bit a pin.
     pub fn is_pinned(&self, at: PinAt) -> bool
         ensures { result ≡ is_pinned self.now at }
     {
         self.board.raw().is_pinned(at)
     }
 
-    /// The control of the driving entry of the port bit, where it is the entry's own cell.
+    /// Returns the control of the port bit's driving entry, if it is the entry's own cell.
     pub fn own_control(&self, at: PinAt) -> Option<Control>
         ensures { result ≡ own_control self.now at }
     {
         own_control(self.board.driving_entry(at))
     }
 
-    /// Whether the pin stands in an unguarded net that is pulled to this value.
+    /// Returns whether the pin is on an unguarded net that is pulled to `value`.
     pub fn is_switching(&self, at: PinAt, value: bool) -> bool
         requires { at.bit < port_bits self.now at.part }
         ensures { result ≡ is_switching self.now at value }

@@ -1,4 +1,4 @@
-// The port bits whose pin stands in an unguarded net that is pulled to a value.
+// The port bits whose pin is on an unguarded net that is pulled to a value.
 ghost use Rattle.std.specs.Prelude.{◌≡◌, false, fold, replicate, IfOk};
 ghost use Rattle.board_defs.specs.Pins.{described};
 ghost use Rattle.board_defs.specs.Decided.{bit_count};
@@ -76,8 +76,7 @@ fn blank_table(alloc: Global, chain: &[Part]) -> Result<Vec<Vec<bool>>, AllocErr
     Ok(rows)
 }
 
-/// For each port bit of each part, whether its pin stands in an unguarded net that is pulled to
-/// the value.
+/// Returns, for each port bit of each part, whether its pin is on an unguarded net that is pulled to `value`.
 pub fn pulled_bits(
     alloc: Global,
     chain: &[Part],
@@ -91,7 +90,7 @@ pub fn pulled_bits(
     Ok(rows)
 }
 
-/// Whether the port bit is marked.
+/// Returns whether the port bit is marked.
 pub fn is_marked(rows: &[Vec<bool>], at: PinAt) -> bool
     ensures { result ≡ is_marked (table rows.now) at }
 {

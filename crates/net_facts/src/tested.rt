@@ -1,4 +1,4 @@
-// What safe settings do with the nets, by their facts and the table of the controls.
+// What safe settings can do with the nets, by the facts of the nets and the table of the controls.
 ghost use Rattle.std.specs.Prelude.{◌≡◌, ◌++◌, [], None, if◌then◌else◌, length, map, option_copied, is_some, IfOk, OnOk};
 ghost use Rattle.std.specs.List.{cons_option, list_any, range_with_len};
 ghost use Rattle.net_facts.specs.Cells.{item_of, table};
@@ -20,7 +20,7 @@ fn row_of(rows: &[Vec<ControlClass>], c: Ctl) -> Option<&ControlClass>
     }
 }
 
-/// Whether the control is in the table and safe alone.
+/// Returns whether the control is in the table and safe alone.
 pub fn is_safe(rows: &[Vec<ControlClass>], c: Ctl) -> bool
     ensures { result ≡ safe_in (table rows.now) c }
 {
@@ -30,7 +30,7 @@ pub fn is_safe(rows: &[Vec<ControlClass>], c: Ctl) -> bool
     }
 }
 
-/// Whether the control is in the table and marked as useful.
+/// Returns whether the control is in the table and marked as useful.
 pub fn is_useful(rows: &[Vec<ControlClass>], c: Ctl) -> bool
     ensures { result ≡ useful_in (table rows.now) c }
 {
@@ -40,7 +40,7 @@ pub fn is_useful(rows: &[Vec<ControlClass>], c: Ctl) -> bool
     }
 }
 
-/// Whether some safe setting enables the driver.
+/// Returns whether there is a driver and some safe setting enables it.
 pub fn can_enable(rows: &[Vec<ControlClass>], drive: Option<Drive>) -> bool
     ensures { result ≡ enabled_in (table rows.now) drive }
 {
@@ -76,7 +76,7 @@ fn enables_at(rows: &[Vec<ControlClass>], pins: &[PinFacts], place: usize) -> bo
     can_enable(rows, drive_of(pins, place))
 }
 
-/// Where the receivers of a net stand.
+/// Returns the places of the receivers of a net.
 fn readers(pins: &[PinFacts]) -> Found
     ensures { result ≡ readers_of pins.now }
 {
@@ -87,7 +87,7 @@ fn readers(pins: &[PinFacts]) -> Found
     found
 }
 
-/// Where the drivers of a net stand that some safe setting enables.
+/// Returns the places of the drivers of a net that some safe setting enables.
 fn enablers(rows: &[Vec<ControlClass>], pins: &[PinFacts]) -> Found
     ensures { result ≡ enablers_of (table rows.now) pins.now }
 {
@@ -197,7 +197,7 @@ fn has_enabled(rows: &[Vec<ControlClass>], pins: &[PinFacts]) -> bool
     pins.iter().any(|pin| can_enable(rows, pin.drive))
 }
 
-/// The first reason that holds of a net that is not covered.
+/// Returns the first reason that applies to a net that is not covered.
 fn first_reason(rows: &[Vec<ControlClass>], net: &NetFacts) -> Reason
     ensures { result ≡ first_reason_in (table rows.now) net.now }
 {
@@ -243,7 +243,7 @@ fn net_class(
     })
 }
 
-/// The classes of the nets, in their order.
+/// Returns the classes of the nets, in net order.
 pub fn net_classes(
     alloc: Global,
     rows: &[Vec<ControlClass>],

@@ -35,7 +35,7 @@ fn add_part(
     Ok(())
 }
 
-/// The useful controls, in control order.
+/// Returns the useful controls, in control order.
 pub fn useful_controls(
     alloc: Global,
     rows: &[Vec<ControlClass>],

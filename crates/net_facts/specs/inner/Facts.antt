@@ -1,4 +1,4 @@
--- What is known of nets and pins, made one after the other.
+-- The facts about nets and pins, as they are made one by one.
 use Rattle.std.specs.Prelude.{ℕ, ◌==◌, Bool, not, ◌&&◌, ◌||◌, map, Option, Some, None, option_map, if◌then◌else◌, List}
 use Rattle.std.specs.List.{list_any}
 use Rattle.board_defs.specs.declared.device.Cell.{Cell}

@@ -1,4 +1,4 @@
--- The table of the controls, as it is filled in.
+-- The table of the controls, while it is filled in.
 use Rattle.std.specs.Prelude.{ℕ, zero, suc, ◌==◌, ◌-◌, length, Bool, true, false, not, ◌&&◌, List, [], ◌∷◌, ◌++◌, map, Option, Some, None, slice_get, cond, fold}
 use Rattle.board_defs.specs.declared.board.Part.{Part}
 use Rattle.board_defs.specs.declared.board.PinAt.{PinAt}
@@ -21,19 +21,20 @@ is_number n (Some x) = x == n
 abbrev pub ends_with : List ℕ → ℕ → Bool
 ends_with nets n = is_number n (slice_get nets (length nets - 1))
 
--- one more driver of the control, on this net: a second one on one net is not safe, nor is one on a net that lets no control be on
+-- The control with one more driver, on net `n`. A second driver on one net makes the control unsafe, and so does a driver on a net that
+-- lets no control enable a driver.
 abbrev pub added : ℕ → Bool → ControlClass → ControlClass
 added n closed row = cond (ends_with row.nets n) (record row { safe = false }) (record row { nets = row.nets ++ n ∷ []; safe = row.safe && not closed })
 
--- the control enables a one-sided driver
+-- the control enables a one-sided driver, so it is unsafe
 abbrev pub unsafe_too : ControlClass → ControlClass
 unsafe_too row = record row { safe = false }
 
--- the control enables a tested driver
+-- the control enables a tested driver, so it is useful
 abbrev pub useful_too : ControlClass → ControlClass
 useful_too row = record row { useful = true }
 
--- what a pin's drive says of its control
+-- the table with a pin's driver noted at its control
 abbrev pub note_drive : ℕ → Bool → Option Drive → List (List ControlClass) → List (List ControlClass)
 note_drive n closed None rows = rows
 note_drive n closed (Some AlwaysOn) rows = rows
@@ -47,7 +48,7 @@ abbrev pub note_net : ℕ → Option NetFacts → List (List ControlClass) → L
 note_net n None rows = rows
 note_net n (Some net) rows = note_pins n net.closed rows net.pins
 
--- what the first k nets say
+-- the table with the first `k` nets noted
 abbrev pub note_nets : List NetFacts → ℕ → List (List ControlClass) → List (List ControlClass)
 note_nets nets zero rows = rows
 note_nets nets (suc k) rows = note_net k (slice_get nets k) (note_nets nets k rows)
@@ -56,7 +57,7 @@ note_nets nets (suc k) rows = note_net k (slice_get nets k) (note_nets nets k ro
 abbrev pub fresh : ControlClass
 fresh = record { nets = []; safe = true; useful = false }
 
--- n items that are one
+-- `n` copies of an item
 abbrev pub copies : {X : Type 0} → X → ℕ → List X
 copies x zero = []
 copies x (suc n) = copies x n ++ x ∷ []
@@ -64,7 +65,7 @@ copies x (suc n) = copies x n ++ x ∷ []
 abbrev pub fresh_rows : List Part → List (List ControlClass)
 fresh_rows chain = map (λ part. copies fresh (cell_count (described part.kind))) chain
 
--- the control of a one-sided driver
+-- the table with the control of the driver at `at` marked as unsafe, if that driver is one-sided
 abbrev pub block_where : RawBoard → PinAt → Option Control → List (List ControlClass) → List (List ControlClass)
 block_where board at None rows = rows
 block_where board at (Some control) rows = cond (is_pinned board at && not (is_switching board at control.disable)) (at_control (record { part = at.part; cell = control.cell }) unsafe_too rows) rows
@@ -80,11 +81,11 @@ abbrev pub block_parts : RawBoard → ℕ → List (List ControlClass) → List 
 block_parts board zero rows = rows
 block_parts board (suc k) rows = block_bits board k (port_bits board k) (block_parts board k rows)
 
--- the table once all nets and all one-sided drivers are noted
+-- the table after all nets and all one-sided drivers are noted
 abbrev pub made_rows : RawBoard → List NetFacts → List (List ControlClass)
 made_rows board nets = block_parts board (length board.chain) (note_nets nets (length nets) (fresh_rows board.chain))
 
--- the controls of tested drivers
+-- the table with the control of a tested driver marked as useful
 abbrev pub mark_drive : List (List ControlClass) → Drive → List (List ControlClass)
 mark_drive rows AlwaysOn = rows
 mark_drive rows OneSided = rows
