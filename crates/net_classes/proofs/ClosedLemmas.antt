@@ -1,4 +1,4 @@
--- Nets whose tested drivers all have controls that drive one of some nets.
+-- Nets whose tested drivers all have a control with a driver on one of some nets.
 use Rattle.std.proofs.Common.{◌≡◌, inl, inr, ℕ, ◌+◌, ◌<◌, Bool, true, false, ◌&&◌, ◌||◌, List, [], ◌∷◌, ◌++◌, Contains, length, get_or, take, Option, Some, None, refl, sym, ◌∙◌, ap, subst}
 use Rattle.std.specs.Prelude.{slice_get, filter}
 use Rattle.std.specs.List.{list_any, list_all}
@@ -38,7 +38,7 @@ use Rattle.net_classes.proofs.ControlSetLemmas.{same_set}
 use Rattle.net_classes.proofs.Paired.{has_cells}
 use Rattle.net_classes.proofs.SharedLemmas.{driven_has}
 
--- one net more
+-- one more net
 pub pins_drive : (board : RawBoard) (c : Ctl) (net : Option Net) → list_any (λ (pin : PinFacts). is_by c pin.drive) (pins_there board net) ≡ drives_there board c net
 pins_drive board c None = refl
 pins_drive board c (Some net) = list_any-map (pin_facts_of board net) (λ (pin : PinFacts). is_by c pin.drive) net.pins
@@ -68,7 +68,7 @@ pub cells_there : (board : RawBoard) (net : Option Net) (d : Drive) → IsBoard 
 cells_there board None d rules h = absurd h
 cells_there board (Some net) d rules h = has_cells board net d rules h
 
--- the nets that are found by a set
+-- the nets that are found by a set are those that it closes
 pub closed_are : (known : KnownBoard) (set : ControlSet) (nets closed : List ℕ) → IsKnown known → IsSet known.board (drives_some known.board nets) set → closed ≡ closed_in known set set.members.items → AreClosed known.board nets closed
 closed_are known set nets closed is in_set e n = (there, back)
   where
@@ -137,7 +137,7 @@ closed_are known set nets closed is in_set e n = (there, back)
     there : is_closed_by board nets n ≡ true → Contains closed n
     there h = has_contains closed n (by_net (slice_get board.nets n) refl h)
 
--- no net closes no net
+-- the empty list of nets closes no net
 nobody : (ds : List Drive) → are_by_some (λ c. false) ds ≡ true → ⊥
 nobody [] h = cc h
 nobody (AlwaysOn ∷ ds) h = cc h

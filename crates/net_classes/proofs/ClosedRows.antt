@@ -1,4 +1,4 @@
--- The row of a control is that of the covered nets without the closed ones that are not its own.
+-- The row of a control is the row of the covered nets without the closed nets on which the control has no tested driver.
 use Rattle.std.proofs.Common.{◌≡◌, inl, inr, ℕ, ◌+◌, ◌/◌, ◌<◌, ◌==◌, Bool, true, false, not, ◌&&◌, ◌||◌, List, [], ◌∷◌, Contains, Decides, length, slice_index_or, nat_lt, Option, Some, None, refl, sym, ◌∙◌, ap, subst, arith, All}
 use Rattle.std.specs.Prelude.{slice_get, filter}
 use Rattle.std.specs.List.{list_any, list_all}
@@ -27,7 +27,7 @@ use Rattle.net_classes.proofs.ContendedLemmas.{has_shares, share_has}
 use Rattle.net_classes.proofs.PairRowLemmas.{covered_bit}
 use Rattle.net_classes.proofs.WordLemmas.{same_row}
 
--- another control drives one of the nets that a control shares exactly where the two share a net
+-- another control has a driver on one of the nets that a control shares if and only if the two share a net
 shares : (board : RawBoard) (c d : Ctl) → same_ctl c d ≡ false → drives_some board (shared_nets board c) d ≡ share_net board c d
 shares board c d differ = same_truth (drives_some board (shared_nets board c) d) (share_net board c d) there back
   where
@@ -125,7 +125,7 @@ can_there : (board : RawBoard) (net : Option Net) (d : Drive) → Has (drivers_t
 can_there board None d has = absurd has
 can_there board (Some net) d has = tested_can_drive board net d (tested_has board net d has)
 
--- the covered nets without those that fail
+-- the covered nets without the closed nets that fail
 row_fits : (board : RawBoard) (c : Ctl) (closed : List ℕ) (n : ℕ) → is_safe_alone board c ≡ true → AreClosed board (shared_nets board c) closed →
     (fits_at board AlwaysOn n && not (stands_in (filter (λ n. not (owns_at board c n)) closed) n)) ≡ fits_at board (By c) n
 row_fits board c closed n safe are =
@@ -161,7 +161,7 @@ room_for board nets closed failing q size are e room k d less =
 pub useful_safe : (board : RawBoard) (c : Ctl) → is_useful board c ≡ true → is_safe_alone board c ≡ true
 useful_safe board c h = and_left (is_safe_alone board c) (list_any (tests_by board c) board.nets) h
 
--- a control that shares no net is on with each covered net
+-- a control that shares no net can be enabled with each covered net
 pub row_free : (board : RawBoard) (c : Ctl) (row : List ℕ) → is_useful board c ≡ true → shared_nets board c ≡ [] → AreRowBits (fits_at board AlwaysOn) row → AreRowBits (fits_at board (By c)) row
 row_free board c row useful e bits =
     let P : List ℕ → Type 0 = λ v. AreClosed board v [] in

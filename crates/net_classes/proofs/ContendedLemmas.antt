@@ -22,7 +22,7 @@ use Rattle.net_facts.specs.Kept.{is_by_other, is_contended, contends_there, shar
 use Rattle.net_classes.proofs.SharedLemmas.{kept_ascend, item_has}
 use Rattle.net_facts.proofs.Contended.{differ_back}
 
--- two different controls share a net exactly where the lists meet
+-- two different controls share a net if and only if the lists have a number in common
 shares_has : (board : RawBoard) (c : Ctl) (n : ℕ) (net : Net) → slice_get board.nets n ≡ Some net → is_contended board c net ≡ true → Has (shared_nets board c) n
 shares_has board c n net e d =
     let less : n < length board.nets = slice_get_within board.nets n net e in

@@ -40,7 +40,7 @@ put_item c d item before rows h = (
   λ differ. at_other c d (put item) rows differ ∙ h,
 )
 
--- the control is in the set already
+-- the control is already in the set
 pub had : (board : RawBoard) (passes : Ctl → Bool) (set : ControlSet) (c : Ctl) → IsSet board passes set → has_control set c ≡ true → IsSet board (λ d. passes d || same_ctl c d) set
 had board passes set c is h = record {
   marks_are = λ d cell. is.marks_are d cell ∙ ap Some (by_same d cell (same_ctl c d) refl);
@@ -73,7 +73,7 @@ added board passes set after c is e f = record {
     by_member d cell false k true g p = has_contains (set.members.items ++ c ∷ []) d (has_right set.members.items (c ∷ []) d (inl (same_equal c d g)))
     by_member d cell false k false g p = cc p
 
--- the marks of a list of controls taken off
+-- the marks of a list of controls cleared
 off : (members : List Ctl) (rows : List (List Bool)) (d : Ctl) (t : Bool) → item_of rows d ≡ Some t → (t ≡ true → Has members d) → item_of (put_all false rows members) d ≡ Some false
 off [] rows d true h listed = absurd (listed refl)
 off [] rows d false h listed = h

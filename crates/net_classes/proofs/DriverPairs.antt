@@ -1,4 +1,4 @@
--- Paired nets by the first of their tested drivers that one safe setting enables.
+-- Paired nets, by the first of their tested drivers that one safe setting enables.
 use Rattle.std.proofs.Common.{◌≡◌, ℕ, zero, suc, Bool, true, List, [], ◌∷◌, slice_index_or, Option, Some, None, refl, sym, ◌∙◌, ap}
 use Rattle.std.specs.Prelude.{slice_get, find, is_some, option_map}
 use Rattle.std.proofs.lemmas.Option.{slice_get-map}
@@ -14,7 +14,7 @@ use Rattle.net_classes.specs.Pairs.{drivers_there, fit, fits_some, pair_there, p
 use Rattle.net_classes.specs.inner.Pairs.{some_fit}
 use Rattle.net_classes.proofs.Paired.{pairs_are}
 
--- two drivers fit where a first pair is found
+-- one safe setting enables two of the drivers if and only if a first pair is found
 pub fit_found : (board : RawBoard) (ds es : List Drive) → some_fit board ds es ≡ is_some (first_pair board ds es)
 fit_found board ds es = by_found (first_pair board ds es) refl
   where

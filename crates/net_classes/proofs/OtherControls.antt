@@ -1,4 +1,4 @@
--- The controls of some nets beside those of one of them, and the nets that all of them close.
+-- The controls on some nets that have no driver on one of these nets, and the nets that all of them close.
 use Rattle.std.proofs.Common.{◌≡◌, ◌⊎◌, inl, inr, ℕ, ◌+◌, ◌<◌, Bool, true, false, not, ◌&&◌, ◌||◌, List, [], ◌∷◌, ◌++◌, Contains, length, get_or, nat_lt, take, Option, Some, None, refl, sym, ◌∙◌, ap, subst, arith}
 use Rattle.std.specs.Prelude.{slice_get}
 use Rattle.std.specs.List.{flat_map, list_all, list_any}
@@ -30,7 +30,7 @@ use Rattle.net_classes.proofs.ClosedLemmas.{all_on, cells_there, pins_drive, tes
 use Rattle.net_classes.proofs.ControlSetLemmas.{same_set}
 use Rattle.net_classes.proofs.SharedLemmas.{driven_has}
 
--- a control that the other set has
+-- a control that is in the other set
 same_outside : (set : ControlSet) (c d : Ctl) (t : Bool) → has_control set c ≡ t → (same_ctl c d && not t) ≡ (same_ctl c d && not (has_control set d))
 same_outside set c d t e = by (same_ctl c d) refl
   where
@@ -49,7 +49,7 @@ inside board passes others set c e is = same_set board passes (λ d. passes d ||
     same : (d : Ctl) → passes d ≡ (passes d || (same_ctl c d && not (has_control set d)))
     same d = nothing (passes d) (same_ctl c d) ∙ ap (λ t. passes d || t) (same_outside set c d true e)
 
--- one that it has not
+-- a control that is not in it
 pub outside : (board : RawBoard) (passes : Ctl → Bool) (after set : ControlSet) (c : Ctl) → has_control set c ≡ false → IsSet board (λ d. passes d || same_ctl c d) after → IsSet board (λ d. passes d || (same_ctl c d && not (has_control set d))) after
 outside board passes after set c e is = same_set board (λ d. passes d || same_ctl c d) (λ d. passes d || (same_ctl c d && not (has_control set d))) after same is
   where
@@ -63,7 +63,7 @@ outside board passes after set c e is = same_set board (λ d. passes d || same_c
 pub no_others : (board : RawBoard) (set others : ControlSet) → IsSet board (λ c. false) others → AreOthers board set [] others
 no_others board set others is = record { passes = λ c. false; are_set = is; drive = λ c h. cc h; all = λ c cell h unset. cc h }
 
--- a net more
+-- one more net
 drives_more : (board : RawBoard) (nets : List ℕ) (i n : ℕ) (c : Ctl) → i < length nets → n ≡ get_or nets i n → drives_some board (take (i + 1) nets) c ≡ (drives_some board (take i nets) c || (drives_there board c (slice_get board.nets n) || false))
 drives_more board nets i n c less at =
     let drives : ℕ → Bool = λ k. drives_there board c (slice_get board.nets k) in

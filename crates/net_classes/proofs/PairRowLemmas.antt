@@ -1,4 +1,4 @@
--- Rows of bits, by which the nets that are paired with a net are known.
+-- Rows of bits that say which nets are paired with a net.
 use Rattle.std.proofs.Common.{◌≡◌, ◌≢◌, inl, ℕ, suc, ◌+◌, ◌<◌, ◌≤◌, ◌==◌, Bool, true, false, not, ◌&&◌, ◌||◌, List, [], ◌∷◌, length, get_or, nat_lt, take, Option, Some, None, refl, sym, ◌∙◌, ap, subst, arith}
 use Rattle.std.specs.Prelude.{slice_get}
 use Rattle.std.specs.List.{list_any}
@@ -20,7 +20,7 @@ use Rattle.net_classes.specs.Pairs.{drivers_at, drivers_there, fits_at, fit}
 use Rattle.net_classes.specs.NetRows.{AreRowBits, stands_in}
 use Rattle.net_classes.proofs.WordLemmas.{same_row}
 
--- a number more is taken out
+-- one more number is taken out
 pub nothing_out : (passes : ℕ → Bool) (row less : List ℕ) → less ≡ row → AreRowBits passes row → AreRowBits (λ n. passes n && not (stands_in [] n)) less
 nothing_out passes row less e are = same_row passes (λ n. passes n && not (stands_in [] n)) (λ n. sym (and-true (passes n))) less (subst (AreRowBits passes) (sym e) are)
 
@@ -44,7 +44,7 @@ pub out_still : (passes : ℕ → Bool) (nets : List ℕ) (i : ℕ) → i < leng
 out_still passes nets i less n other =
     ap (λ t. passes n && not t) (stands_more nets i n less ∙ ap (λ t. stands_in (take i nets) n || (t || false)) (false_from_ne_true (get_or nets i 0 == n) (λ h. other (sym (eqb-true (get_or nets i 0) n h)))) ∙ or_right_false (stands_in (take i nets) n))
 
--- a net is covered where it has a tested driver
+-- a net is covered if and only if it has a tested driver
 pub covered_bit : (board : RawBoard) (n : ℕ) → nat_lt 0 (length (drivers_at board n)) ≡ fits_at board AlwaysOn n
 covered_bit board n = by_net (slice_get board.nets n)
   where
@@ -60,7 +60,7 @@ covered_bit board n = by_net (slice_get board.nets n)
     by_net None = refl
     by_net (Some net) = by_drivers net (tested_drivers board net) refl
 
--- the nets up to a number
+-- the nets below a number
 pub none_below : (passes : ℕ → Bool) (n : ℕ) → false ≡ (nat_lt n 0 && passes n)
 none_below passes n = let least : nat_lt n 0 ≡ false = grind arith in sym (ap (λ t. t && passes n) least)
 

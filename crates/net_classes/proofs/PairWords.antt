@@ -1,4 +1,4 @@
--- The words of the rows of a net's tested drivers say together which nets are paired with it.
+-- Together, the words of the rows of a net's tested drivers say which nets are paired with it.
 use Rattle.std.proofs.Common.{◌≡◌, ℕ, ◌+◌, ◌<◌, ◌≤◌, true, false, ◌||◌, List, [], ◌∷◌, ◌++◌, length, take, get_or, Option, None, Some, refl, sym, ◌∙◌, ap, subst}
 use Rattle.std.specs.Prelude.{slice_get}
 use Rattle.std.specs.List.{list_any}

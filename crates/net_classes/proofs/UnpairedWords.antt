@@ -26,7 +26,7 @@ use Rattle.net_classes.specs.inner.PairRows.{drive_word}
 use Rattle.net_classes.proofs.DriverPairs.{there_are}
 use Rattle.net_classes.proofs.PairWords.{driver_word}
 
--- a net is covered where it has a tested driver
+-- a net is covered if and only if it has a tested driver
 covered_fits : (board : RawBoard) (net : Net) → is_covered board net ≡ list_any (fit board AlwaysOn) (tested_drivers board net)
 covered_fits board net = same_truth (is_covered board net) (list_any (fit board AlwaysOn) (tested_drivers board net)) there back
   where

@@ -1,4 +1,4 @@
--- Rows of words of bits, each bit an answer for one number.
+-- Words of 64 bits that say which numbers pass a test.
 use Rattle.std.proofs.Common.{◌≡◌, ◌≢◌, ◌⊎◌, inl, inr, ℕ, zero, suc, ◌+◌, ◌*◌, ◌/◌, ◌%◌, ◌<◌, Bool, true, false, ◌||◌, List, length, set, replicate, refl, sym, ◌∙◌, ap, arith, cond, max}
 use Rattle.std.specs.Prelude.{slice_index}
 use Rattle.std.specs.Int.{bit_at}
@@ -16,7 +16,7 @@ no_word w i less = bit_at-zero i
 pub same_word : (p q : ℕ → Bool) → ((n : ℕ) → p n ≡ q n) → (w word : ℕ) → AreBitsOf p w word → AreBitsOf q w word
 same_word p q same w word are i less = are i less ∙ ap (λ t. cond t 1 0) (same (64 * w + i))
 
--- the numbers of two words
+-- the numbers of either word
 pub either_word : (p q : ℕ → Bool) (w x y : ℕ) → AreBitsOf p w x → AreBitsOf q w y → AreBitsOf (λ n. p n || q n) w (bit_or x y)
 either_word p q w x y first second i less = bit_at_or x y i ∙ ap (λ k. max k (bit_at y i)) (first i less) ∙ ap (max (cond (p (64 * w + i)) 1 0)) (second i less) ∙ by_bits (p (64 * w + i)) (q (64 * w + i))
   where

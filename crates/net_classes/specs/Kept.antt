@@ -1,4 +1,4 @@
--- What the classes of a board keep, each by the tests that decide the terms of all safe settings.
+-- The contents of a board's classes, each by the test that decides it for all safe settings.
 use Rattle.std.specs.Prelude.{◌≡◌, ℕ, true, List, [], map, Option, Some, None, slice_index_or}
 use Rattle.board_defs.specs.declared.board.Ctl.{Ctl}
 use Rattle.board_defs.specs.declared.board.RawBoard.{RawBoard}
@@ -21,16 +21,16 @@ or_none (Some n) = n
 abbrev pub number_in : PairRows → Ctl → ℕ
 number_in pairs c = or_none (item_of (table pairs.numbers.items) c)
 
--- the words of the row of this number
+-- the words of the row with this number
 abbrev pub row_in : PairRows → ℕ → List ℕ
 row_in pairs k = slice_index_or pairs.rows.items k []
 
--- the first row has the covered nets, and that of a useful control the nets with a tested driver that can be on with it
+-- the first row has the covered nets; the row of a useful control has the nets that some safe setting with this control observes
 pub record ArePairRows (board : RawBoard) (pairs : PairRows) : Type 0 where
   pub covered : AreRowBits (fits_at board AlwaysOn) (row_in pairs 0)
   pub each : (c : Ctl) → IsCell board c → is_useful board c ≡ true → AreRowBits (fits_at board (By c)) (row_in pairs (number_in pairs c))
 
--- the classes are those of the board
+-- these are the classes of the board
 pub record AreClasses (board : RawBoard) (classes : Classes) : Type 0 where
   pub nets_are : classes.nets.items ≡ map (net_class_of board) board.nets
   pub controls_are : (c : Ctl) → IsCell board c → item_of (table classes.controls.items) c ≡ Some (control_class_of board c)

@@ -1,4 +1,4 @@
--- What the lists of driven nets say.
+-- Laws on the lists of driven nets and on the drivers of paired nets.
 use Rattle.std.specs.Prelude.{◌≡◌, ℕ, false, List, [], Contains, slice_index_or, is_some}
 use Rattle.std.specs.Bool.{Decides}
 use Rattle.board_defs.specs.declared.board.Ctl.{Ctl}
@@ -13,7 +13,8 @@ use Rattle.net_classes.specs.Pairs.{pairs_with}
 abbrev pub HaveCommon : List ℕ → List ℕ → Type 0
 HaveCommon xs ys = (n : ℕ) × Contains xs n × Contains ys n
 
--- two controls control drivers of one net exactly where a number is among the driven nets of both; and, where they differ, among the nets that each shares
+-- Two controls control drivers of one net if and only if the lists of their driven nets have a number in common. For two different
+-- controls this is so if and only if the lists of the nets that each shares have one.
 pub record SaysShared (board : RawBoard) (a b : Ctl) : Type 0 where
   pub by_driven : Decides (share_net board a b) (HaveCommon (driven_nets board a) (driven_nets board b))
   pub by_shared : same_ctl a b ≡ false → Decides (share_net board a b) (HaveCommon (shared_nets board a) (shared_nets board b))
@@ -21,6 +22,6 @@ pub record SaysShared (board : RawBoard) (a b : Ctl) : Type 0 where
 abbrev pub NetsAreShared : Type 0
 NetsAreShared = (board : RawBoard) (a b : Ctl) → SaysShared board a b
 
--- the nets of two numbers are paired exactly where two of their tested drivers are enabled by one safe setting
+-- two nets, given by their numbers, are paired if and only if one safe setting enables a tested driver of each
 abbrev pub PairsHaveDrivers : Type 0
 PairsHaveDrivers = (board : RawBoard) (a b : ℕ) → pairs_with board a b ≡ is_some (first_pair board (slice_index_or (drivers_by_net board) a []) (slice_index_or (drivers_by_net board) b []))

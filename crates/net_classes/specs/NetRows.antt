@@ -3,10 +3,10 @@ use Rattle.std.specs.Prelude.{ℕ, ◌==◌, Bool, List, slice_index}
 use Rattle.std.specs.List.{list_any}
 use Rattle.net_classes.specs.Pairs.{AreBitsOf}
 
--- the words of the row say of each number whether it passes
+-- the bits of the row say, for each number, whether it passes
 abbrev pub AreRowBits : (ℕ → Bool) → List ℕ → Type 0
 AreRowBits passes row = (w : ℕ) → AreBitsOf passes w (slice_index row w)
 
--- the number stands in the list
+-- the number is in the list
 abbrev pub stands_in : List ℕ → ℕ → Bool
 stands_in numbers n = list_any (λ k. k == n) numbers

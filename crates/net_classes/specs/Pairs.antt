@@ -1,4 +1,4 @@
--- Which drivers of two nets one safe setting enables.
+-- The drivers that one safe setting enables together, and paired nets.
 use Rattle.std.specs.Prelude.{◌≡◌, ◌<◌, ◌+◌, ◌*◌, ◌&&◌, ℕ, Bool, false, not, List, [], Option, None, Some, slice_get, cond}
 use Rattle.std.specs.Int.{bit_at}
 use Rattle.std.specs.List.{list_any}
@@ -12,42 +12,42 @@ use Rattle.board_defs.specs.Passes.{tested_drivers}
 abbrev pub fit : RawBoard → Drive → Drive → Bool
 fit board d e = are_compatible board (Some d) (Some e)
 
--- one safe setting enables the driver and some driver of the list
+-- one safe setting enables the driver and some driver in the list
 abbrev pub fits_some : RawBoard → List Drive → Drive → Bool
 fits_some board es d = list_any (fit board d) es
 
--- the tested drivers of the net, where it is there
+-- the tested drivers of the net, if there is one
 abbrev pub drivers_there : RawBoard → Option Net → List Drive
 drivers_there board None = []
 drivers_there board (Some net) = tested_drivers board net
 
--- the tested drivers of the net of this number
+-- the tested drivers of net number `n`
 abbrev pub drivers_at : RawBoard → ℕ → List Drive
 drivers_at board n = drivers_there board (slice_get board.nets n)
 
--- one safe setting enables the driver and a tested driver of the net of this number
+-- one safe setting enables the driver and a tested driver of net number `n`
 abbrev pub fits_at : RawBoard → Drive → ℕ → Bool
 fits_at board d n = fits_some board (drivers_at board n) d
 
--- one safe setting observes both nets, where both are there
+-- there are two nets, and one safe setting observes both
 abbrev pub pair_there : RawBoard → Option Net → Option Net → Bool
 pair_there board None b = false
 pair_there board (Some a) None = false
 pair_there board (Some a) (Some b) = are_paired board a b
 
--- one safe setting observes the nets of both numbers; past the last net there is none
+-- there are nets with both numbers, and one safe setting observes both
 abbrev pub pairs_with : RawBoard → ℕ → ℕ → Bool
 pairs_with board a b = pair_there board (slice_get board.nets a) (slice_get board.nets b)
 
--- the net is covered, where it is there
+-- there is a net, and it is covered
 abbrev pub covered_there : RawBoard → Option Net → Bool
 covered_there board None = false
 covered_there board (Some net) = is_covered board net
 
--- the net of number b is covered, and no safe setting observes it together with net a
+-- net number `b` is covered, and no safe setting observes it together with net number `a`
 abbrev pub unpaired_with : RawBoard → ℕ → ℕ → Bool
 unpaired_with board a b = covered_there board (slice_get board.nets b) && not (pairs_with board a b)
 
--- the bits of the word say which of the 64 numbers from 64 * number on pass
+-- the bits of the word say which of the 64 numbers from `64 * number` on pass
 abbrev pub AreBitsOf : (ℕ → Bool) → ℕ → ℕ → Type 0
 AreBitsOf passes number word = (i : ℕ) → i < 64 → bit_at word i ≡ cond (passes (64 * number + i)) 1 0

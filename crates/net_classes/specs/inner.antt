@@ -1,4 +1,5 @@
--- Terms that serve proofs and the contracts of private functions. Public contracts, here and in the crates above, cite Kept and Pairs; the others no public contract cites.
+-- Definitions for proofs and for the contracts of private functions. Public contracts, here and in the crates above, cite Kept and Pairs
+-- alone.
 pub mod Kept
 pub mod Pairs
 pub mod Known

@@ -10,8 +10,8 @@ use net_facts::{BoardFacts, ControlClass, NetClass, NetNumbers, board_facts};
 use net_pins::{BoardPins, PinTables};
 use std::alloc::{AllocError, Global};
 
-/// The classes of a board: its nets, the cells of its parts as controls, the useful controls, the
-/// nets that each control shares with another one, and the rows of bits by which pairs are known.
+/// The classes of a board: its nets, the cells of its parts as controls, the useful controls, the nets that each
+/// control shares with another one, and the rows of bits that say which nets are paired.
 #[derive(Drop)]
 pub struct Classes {
     pub(crate) nets: Vec<NetClass>,
@@ -21,7 +21,7 @@ pub struct Classes {
     pub(crate) pairs: PairRows,
 }
 
-/// The classes of the board, by its pin tables.
+/// Makes the classes of the board from its pin tables.
 pub fn classify_by(alloc: Global, board: &Board, tables: &PinTables) -> Result<Classes, AllocError>
     requires { ArePinTables board.now tables.now }
     ensures { IfOk result (λ classes. AreClasses board.now classes) }
@@ -44,7 +44,7 @@ pub fn classify_by(alloc: Global, board: &Board, tables: &PinTables) -> Result<C
     })
 }
 
-/// The classes of the board.
+/// Makes the classes of the board.
 pub fn classify(alloc: Global, board: &Board) -> Result<Classes, AllocError>
     ensures { IfOk result (λ classes. AreClasses board.now classes) }
 {

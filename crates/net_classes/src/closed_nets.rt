@@ -1,4 +1,4 @@
-// The nets whose tested drivers all have controls that drive one of some nets.
+// The nets whose tested drivers all have a control with a driver on one of some nets.
 ghost use Rattle.std.specs.Prelude.{◌≡◌, ◌<◌, ◌&&◌, ◌||◌, ◌++◌, ◌∷◌, [], Bool, Contains, filter, length, not, IfOk, OnOk};
 ghost use Rattle.std.specs.List.{flat_map, list_all, list_any};
 ghost use Rattle.board_defs.specs.declared.board.Ctl.{Ctl};
@@ -34,7 +34,7 @@ fn add_pins(set: &mut ControlSet, pins: &[PinFacts]) -> Result<(), AllocError>
     Ok(())
 }
 
-/// Makes the set that of the controls with a driver on one of the nets.
+/// Makes `set` the set of the controls with a driver on one of the nets.
 fn gather(set: &mut ControlSet, known: &Known<'_>, nets: &[u32]) -> Result<(), AllocError>
     ensures { (passes : Ctl → Bool) → IsSet known.now.board passes set.old → OnOk result (IsSet known.now.board (drives_some known.now.board nets.now) set.new) }
 {
@@ -73,7 +73,7 @@ fn add_other(
     }
 }
 
-/// Adds the control, where the other set has it not.
+/// Adds the control to `others` unless it is in `set`.
 fn add_outside(others: &mut ControlSet, set: &ControlSet, c: Ctl) -> Result<(), AllocError>
     ensures { (board : RawBoard) (passes : Ctl → Bool) → IsSet board passes others.old → OnOk result (IsSet board (λ d. passes d || (same_ctl c d && not (has_control set.now d))) others.new) }
 {
@@ -97,8 +97,8 @@ fn add_other_pins(
     Ok(())
 }
 
-/// Makes the second set that of the controls with a driver on one of the nets, but for those of the
-/// first, which has the controls with a driver on net `core`.
+/// Makes `others` the set of the controls with a driver on one of the nets, without those in `set`. `set` must
+/// have the controls with a driver on net `core`.
 fn gather_others(
     others: &mut ControlSet,
     set: &ControlSet,
@@ -155,7 +155,8 @@ fn add_closed_by(
     Ok(())
 }
 
-/// The nets that one set closes, and those with a driver of the other set that both close together.
+/// Returns the nets that `set` closes, followed by the nets with a driver of a control in `others` that the two sets
+/// close together.
 fn closed_by_both(
     alloc: Global,
     closed: &[u32],
@@ -172,7 +173,7 @@ fn closed_by_both(
     Ok(nets)
 }
 
-/// Of the nets, one with the most pins.
+/// Returns one of the nets with the most pins.
 fn core_of(known: &Known<'_>, nets: &[u32]) -> u32
     requires { 0 < length nets.now }
     ensures { Contains nets.now result }
@@ -216,7 +217,7 @@ fn all_closed(alloc: Global, set: &ControlSet, known: &Known<'_>) -> Result<NetN
     Ok(nets)
 }
 
-/// The covered nets whose tested drivers all have controls with a driver on one of the nets.
+/// Returns the covered nets whose tested drivers all have a control with a driver on one of the nets.
 fn closed_nets(
     alloc: Global,
     set: &mut ControlSet,
@@ -232,19 +233,19 @@ fn closed_nets(
     Ok(closed)
 }
 
-/// The nets that are closed by some nets, kept until others are asked for: many controls share the
-/// same nets, or a bus.
+/// The nets that some nets close, kept until other nets are asked for. Many controls share the same nets, or a
+/// bus.
 #[derive(Drop)]
 pub struct ClosedNets {
     pub(crate) by: NetNumbers,
     pub(crate) set: ControlSet,
     pub(crate) nets: NetNumbers,
-    /// Room for the controls of other nets.
+    /// Room for the controls of the other nets of a call.
     pub(crate) others: ControlSet,
 }
 
 impl ClosedNets {
-    /// Those that are closed by no net: none.
+    /// Returns the nets that are closed by no net: none.
     pub fn nothing(alloc: Global, known: &Known<'_>) -> Result<ClosedNets, AllocError>
         ensures { IfOk result (λ closed. AreClosedNets known.now.board closed) }
     {
@@ -256,8 +257,8 @@ impl ClosedNets {
         })
     }
 
-    /// Those that are closed by these nets. Where one of them is a bus that has most of the
-    /// controls, what it closes is kept for the next nets.
+    /// Returns the nets that are closed by these nets. If one of them is a bus with most of the controls, the nets
+    /// that the bus closes are kept for the next call.
     pub fn closed_by(
         &mut self,
         alloc: Global,
@@ -298,7 +299,7 @@ impl ClosedNets {
         copy_of(alloc, self.nets.as_slice())
     }
 
-    /// Turns to those that are closed by these nets.
+    /// Makes the kept nets those that are closed by these nets.
     fn turn_to(&mut self, alloc: Global, known: &Known<'_>, nets: &[u32]) -> Result<(), AllocError>
         requires closed { AreClosedNets known.now.board self.old }
         ensures closed { OnOk result (AreClosedNets known.now.board self.new) }

@@ -11,7 +11,7 @@ use board_defs::Ctl;
 use net_facts::{filled_table, item_at, put_at};
 use std::alloc::{AllocError, Global};
 
-/// Controls, as a mark at each of their cells and as a list.
+/// Controls, as a mark for each of their cells and as a list.
 #[derive(Drop)]
 pub struct ControlSet {
     pub(crate) marks: Vec<Vec<bool>>,
@@ -27,7 +27,7 @@ fn unmark(marks: &mut [Vec<bool>], members: &[Ctl])
 }
 
 impl ControlSet {
-    /// The empty set, for the cells of a table.
+    /// Returns the empty set, with a mark for each cell of a table.
     pub(crate) fn new<S>(alloc: Global, rows: &[Vec<S>]) -> Result<ControlSet, AllocError>
         ensures { (board : RawBoard) → ((c : Ctl) → IsCell board c → is_some (item_of (table rows.now) c) ≡ true) → IfOk result (λ set. IsSet board (λ c. false) set) }
     {
@@ -37,7 +37,7 @@ impl ControlSet {
         })
     }
 
-    /// Whether the control is in the set.
+    /// Returns whether the control is in the set.
     pub(crate) fn has(&self, c: Ctl) -> bool
         ensures { result ≡ has_control self.now c }
     {

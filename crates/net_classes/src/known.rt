@@ -1,4 +1,4 @@
-// What is known of a board before its rows.
+// The facts about a board that its rows of bits are made from.
 ghost use Rattle.std.specs.Prelude.{◌≡◌, true, is_some, length, map, slice_get, IfOk};
 ghost use Rattle.board_defs.specs.declared.board.Ctl.{Ctl};
 ghost use Rattle.board_defs.specs.declared.board.RawBoard.{RawBoard};
@@ -15,8 +15,8 @@ use net_facts::{BoardFacts, NetClass, NetNumbers, PinFacts};
 use std::alloc::{AllocError, Global};
 use std::marker::Model;
 
-/// A board with what is known of its nets and controls, and the first tested driver of each net; seen
-/// as the board with the table of what is kept of its controls.
+/// A board with the facts about its nets and controls, and the first tested driver of each net. Contracts see it
+/// as the board with the table of its controls.
 #[derive(Drop)]
 pub struct Known<'a> {
     board: &'a Board,
@@ -38,7 +38,7 @@ impl<'a> Model for Known<'a> {
         × (a.firsts.items ≡ map (λ net. slice_get net.drivers 0) a.facts.now.nets.items) };
 }
 
-/// Whether the driver is controlled by the control.
+/// Returns whether the driver is controlled by the control.
 pub fn is_by(c: Ctl, drive: Option<Drive>) -> bool
     ensures { result ≡ is_by c drive }
 {
@@ -48,7 +48,7 @@ pub fn is_by(c: Ctl, drive: Option<Drive>) -> bool
     }
 }
 
-/// The first tested driver of each net.
+/// Returns the first tested driver of each net.
 fn first_drivers(alloc: Global, nets: &[NetClass]) -> Result<Vec<Option<Drive>>, AllocError>
     ensures { IfOk result (λ firsts. firsts.items ≡ map (λ net. slice_get net.drivers 0) nets.now) }
 {
@@ -59,7 +59,7 @@ fn first_drivers(alloc: Global, nets: &[NetClass]) -> Result<Vec<Option<Drive>>,
     Ok(firsts)
 }
 
-/// How the tested drivers of the net are enabled; none past the last net.
+/// Returns how the tested drivers of the net are enabled. There are none past the last net.
 pub fn drivers_in(nets: &[NetClass], net: usize) -> &[Drive]
     ensures { (board : RawBoard) → nets.now ≡ map (net_class_of board) board.nets →
         result.now ≡ drivers_at board net }
@@ -71,7 +71,7 @@ pub fn drivers_in(nets: &[NetClass], net: usize) -> &[Drive]
 }
 
 impl<'a> Known<'a> {
-    /// The board with these facts, which are its own.
+    /// Returns the board with these facts, which must be its own.
     pub fn of(
         alloc: Global,
         board: &'a Board,
@@ -88,42 +88,42 @@ impl<'a> Known<'a> {
         })
     }
 
-    /// Does nothing: its clause is what is known of the board.
+    /// Does nothing. Its contract has the facts about the board.
     pub fn laws(&self)
         ensures { IsKnown self.now }
     {
         let _rules = self.board.raw();
     }
 
-    /// How many nets the board has.
+    /// Returns the number of nets of the board.
     pub fn net_count(&self) -> u32
         ensures { result ≡ length self.now.board.nets }
     {
         self.board.raw().nets.len() as u32
     }
 
-    /// A table with an item for each cell of the board.
+    /// Returns a table with an item for each cell of the board.
     pub fn cells(&self) -> &[Vec<NetNumbers>]
         ensures { (c : Ctl) → IsCell self.now.board c → is_some (item_of (table result.now) c) ≡ true }
     {
         &self.facts.shared
     }
 
-    /// The useful controls, in control order.
+    /// Returns the useful controls, in control order.
     pub fn useful(&self) -> &[Ctl]
         ensures { result.now ≡ useful_controls self.now.board }
     {
         &self.facts.useful
     }
 
-    /// How the tested drivers of the net are enabled.
+    /// Returns how the tested drivers of the net are enabled.
     pub fn drivers(&self, net: u32) -> &[Drive]
         ensures { result.now ≡ drivers_at self.now.board net }
     {
         drivers_in(&self.facts.nets, net as usize)
     }
 
-    /// The facts of the pins of the net.
+    /// Returns the facts about the pins of the net.
     pub fn pins(&self, net: u32) -> &[PinFacts]
         ensures { result.now ≡ pins_there self.now.board (slice_get self.now.board.nets net) }
     {
@@ -133,7 +133,7 @@ impl<'a> Known<'a> {
         }
     }
 
-    /// The nets with a driver that the control controls.
+    /// Returns the nets with a driver of the control.
     pub fn driven(&self, c: Ctl) -> &[u32]
         ensures { result.now ≡ driven_in self.now c }
     {
@@ -146,7 +146,7 @@ impl<'a> Known<'a> {
         }
     }
 
-    /// The nets that the control shares with another one.
+    /// Returns the nets that the control shares with another one.
     pub fn shared(&self, c: Ctl) -> &[u32]
         requires { IsCell self.now.board c }
         ensures { result.now ≡ shared_nets self.now.board c }
@@ -154,7 +154,7 @@ impl<'a> Known<'a> {
         self.facts.shared[c.part as usize][c.cell as usize].as_slice()
     }
 
-    /// Whether the control is that of the first tested driver of the net.
+    /// Returns whether the control is that of the net's first tested driver.
     pub fn is_first(&self, c: Ctl, net: u32) -> bool
         ensures { result ≡ is_by c (slice_get (drivers_at self.now.board net) 0) }
     {

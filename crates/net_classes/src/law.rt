@@ -1,14 +1,13 @@
-//! Laws of what the classes keep: each function does nothing, and its contract is the law.
+//! Laws of the classes. Each function does nothing, and its contract is the law.
 ghost use Rattle.net_classes.specs.Laws.{NetsAreShared, PairsHaveDrivers};
 
-/// Two controls control drivers of one net exactly where their driven nets have a number in common;
-/// and, where they differ, exactly where the nets that each shares have one.
+/// Two controls control drivers of one net if and only if the lists of their driven nets have a number in common.
+/// For two different controls this is so if and only if the lists of the nets that each shares have one.
 pub fn nets_are_shared()
     ensures { NetsAreShared }
 {}
 
-/// The nets of two numbers are paired exactly where two of their tested drivers are enabled by one
-/// safe setting.
+/// Two nets, given by their numbers, are paired if and only if one safe setting enables a tested driver of each.
 pub fn pairs_have_drivers()
     ensures { PairsHaveDrivers }
 {}

@@ -1,10 +1,9 @@
 //! The classes of a board: what its nets, pins and controls can do in some safe setting.
 //!
-//! [`classify`] makes them once, or [`classify_by`] where the board's pin tables are there, and
-//! [`BoardClasses`], a board with its classes, answers: which nets
-//! are covered, and why one is not; which pins are tested; which controls are useful, and which two
-//! drivers fit; which nets are paired, 64 at a time. What concerns one net, pin or control alone is
-//! found by `net_facts`.
+//! [`classify`] makes the classes once, or [`classify_by`] if the caller has the board's pin tables.
+//! [`BoardClasses`], a board with its classes, answers which nets are covered, and why a net is not; which pins are
+//! tested; which controls are useful; which two drivers one safe setting enables; and which nets are paired, 64 at a
+//! time. `net_facts` finds what concerns one net, pin or control alone.
 #![tactic(auto)]
 
 mod classes;

@@ -6,7 +6,7 @@ use crate::words::put_bit;
 use std::alloc::{AllocError, Global};
 use std::marker::Model;
 
-/// A bit for each net, 64 to a word, seen as the list of the words.
+/// A bit for each net, 64 to a word. Contracts see it as the list of the words.
 #[derive(Drop)]
 pub struct NetRow {
     words: Vec<u64>,
@@ -21,7 +21,7 @@ impl Model for NetRow {
 }
 
 impl NetRow {
-    /// A row with no bit, for so many nets.
+    /// Returns a row for `nets` nets with all bits 0.
     pub(crate) fn blank(alloc: Global, nets: usize) -> Result<NetRow, AllocError>
         ensures { IfOk result (λ row. row ≡ replicate (nets / 64 + 1) 0) }
     {
@@ -36,7 +36,7 @@ impl NetRow {
         Ok(NetRow { words })
     }
 
-    /// The word of this number; none past the last has a bit.
+    /// Returns the word with this number, or 0 past the last word.
     pub(crate) fn word(&self, number: usize) -> u64
         ensures { result ≡ slice_index self.now number }
     {
@@ -46,7 +46,7 @@ impl NetRow {
         }
     }
 
-    /// Puts the bit of a net on or off.
+    /// Sets or clears the bit of a net.
     pub(crate) fn put(&mut self, net: u32, on: bool)
         requires { net / 64 < length self.old }
         ensures bits { (before after : ℕ → Bool) → AreRowBits before self.old → after net ≡ on → ((n : ℕ) → n ≢ net → after n ≡ before n) → AreRowBits after self.new }

@@ -1,4 +1,4 @@
-// Rows of bits, by which the nets that are paired with a net are known 64 at a time.
+// Rows of bits that say which nets are paired with a net, 64 at a time.
 ghost use Rattle.std.specs.Prelude.{◌≡◌, ◌<◌, ◌+◌, ◌/◌, ◌++◌, ℕ, Bool, true, false, not, ◌&&◌, filter, length, slice_index, is_some, All, IfOk, OnOk};
 ghost use Rattle.std.specs.Option.{option_to_list};
 ghost use Rattle.board_defs.specs.declared.board.Drive.TheVariants.{AlwaysOn};
@@ -21,10 +21,10 @@ use lists::Items;
 use net_facts::{NetNumbers, filled_table, item_at, push_if, put_at};
 use std::alloc::{AllocError, Global};
 
-/// For each useful control the nets that some safe setting observes with the control on.
+/// For each useful control, the nets that some safe setting with this control observes.
 #[derive(Drop)]
 pub struct PairRows {
-    /// The first has all covered nets.
+    /// The rows. The first one has all covered nets.
     pub(crate) rows: Vec<NetRow>,
     /// The number of the row of each control.
     pub(crate) numbers: Vec<Vec<usize>>,
@@ -49,7 +49,7 @@ impl PairRows {
         }
     }
 
-    /// Of 64 nets, those with a tested driver that some safe setting enables together with the driver.
+    /// Returns, among 64 nets, those with a tested driver that some safe setting enables together with driver `d`.
     pub(crate) fn word(&self, d: Drive, word: usize) -> u64
         ensures { result ≡ drive_word self.now d word }
     {
@@ -60,7 +60,7 @@ impl PairRows {
         }
     }
 
-    /// Whether the row of the driver is that of the covered nets.
+    /// Returns true only if the driver's row is the row of the covered nets.
     pub(crate) fn fits_all(&self, d: Drive) -> bool
         ensures { result ≡ true → (w : ℕ) → drive_word self.now d w ≡ drive_word self.now AlwaysOn w }
     {
@@ -78,7 +78,7 @@ fn owns(known: &Known<'_>, c: Ctl, net: u32) -> bool
     known.drivers(net).iter().any(|d| is_by(c, Some(*d)))
 }
 
-/// Those of the nets of which the control controls no tested driver.
+/// Returns the nets in `closed` without a tested driver of the control.
 fn failing_nets(
     alloc: Global,
     known: &Known<'_>,
@@ -94,7 +94,7 @@ fn failing_nets(
     Ok(failing)
 }
 
-/// The row without these nets.
+/// Returns the row without these nets.
 fn row_without(row: &NetRow, nets: &[u32]) -> Result<NetRow, AllocError>
     requires { All (λ n. n / 64 < length row.now) nets.now }
     ensures { IfOk result (λ less. (passes : ℕ → Bool) → AreRowBits passes row.now → AreRowBits (λ n. passes n && not (stands_in nets.now n)) less) }
@@ -106,7 +106,7 @@ fn row_without(row: &NetRow, nets: &[u32]) -> Result<NetRow, AllocError>
     Ok(less)
 }
 
-/// The row of the covered nets.
+/// Returns the row of the covered nets.
 fn covered_row(alloc: Global, known: &Known<'_>) -> Result<NetRow, AllocError>
     ensures bits { IfOk result (λ row. AreRowBits (fits_at known.now.board AlwaysOn) row) }
     ensures room { IfOk result (λ row. length row ≡ length known.now.board.nets / 64 + 1) }
@@ -118,8 +118,8 @@ fn covered_row(alloc: Global, known: &Known<'_>) -> Result<NetRow, AllocError>
     Ok(row)
 }
 
-/// The row of a useful control, by the nets that are closed by those that it shares; None where it is
-/// the row of the covered nets.
+/// Returns the row of a useful control, or None if it is the row of the covered nets. `closed` has the nets that
+/// are closed by those that the control shares.
 fn row_for(
     alloc: Global,
     known: &Known<'_>,
@@ -193,7 +193,7 @@ fn add_control(
     put_row(pairs, known, c, row)
 }
 
-/// For each cell of the board, the number of the first row.
+/// Returns the number of the first row, for each cell of the board.
 fn first_numbers(alloc: Global, known: &Known<'_>) -> Result<Vec<Vec<usize>>, AllocError>
     ensures { IfOk result (λ numbers. (c : Ctl) → IsCell known.now.board c →
         is_some (item_of (table numbers.items) c) ≡ true) }
@@ -211,7 +211,7 @@ fn covered_rows(alloc: Global, known: &Known<'_>) -> Result<PairRows, AllocError
     Ok(PairRows { rows, numbers })
 }
 
-/// The rows of a board, by its useful controls.
+/// Returns the rows of a board, one for each useful control whose row differs from the first.
 pub fn pair_rows(alloc: Global, known: &Known<'_>) -> Result<PairRows, AllocError>
     ensures { IfOk result (λ pairs. ArePairRows known.now.board pairs) }
 {

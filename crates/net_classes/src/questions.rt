@@ -1,4 +1,4 @@
-// A board with its classes, and the questions that they answer.
+// A board with its classes, and the queries that they answer.
 ghost use Rattle.std.specs.Prelude.{◌≡◌, ◌≢◌, ◌↔◌, ◌<◌, ◌||◌, ℕ, false, true, not, length, All, IsTrue, MatchOption};
 ghost use Rattle.board_defs.specs.BoardRules.{IsBoard};
 ghost use Rattle.board_defs.specs.Pins.{IsCell, IsOnBoard};
@@ -19,7 +19,7 @@ use board_defs::{Board, Ctl, Drive, PinRef, RawBoard, Reason, law};
 use net_facts::{ControlClass, NetClass, PinClass, meet};
 use std::marker::Model;
 
-/// A board with its classes, seen as the board: what there is to ask of its nets, pins and controls.
+/// A board with its classes, which answer queries about its nets, pins and controls. Contracts see it as the board.
 #[derive(Drop)]
 pub struct BoardClasses<'a> {
     board: &'a Board,
@@ -44,7 +44,7 @@ fn is_same(a: Ctl, b: Ctl) -> bool
 }
 
 impl<'a> BoardClasses<'a> {
-    /// The board with these classes, which are its own.
+    /// Returns the board with these classes, which must be its own.
     pub fn of(board: &'a Board, classes: &'a Classes) -> BoardClasses<'a>
         requires { AreClasses board.now classes.now }
         ensures { result ≡ board.now }
@@ -52,7 +52,7 @@ impl<'a> BoardClasses<'a> {
         BoardClasses { board, classes }
     }
 
-    /// The record of the board, which keeps the rules.
+    /// Returns the record of the board.
     pub fn raw(&self) -> &'a RawBoard
         ensures value { result.now ≡ self.now }
         ensures rules { IsBoard self.now }
@@ -60,7 +60,7 @@ impl<'a> BoardClasses<'a> {
         self.board.raw()
     }
 
-    /// What is kept of the control.
+    /// Returns the class of the control.
     fn control(&self, c: Ctl) -> &'a ControlClass
         requires { IsCell self.now c }
         ensures { result.now ≡ control_class_of self.now c }
@@ -68,7 +68,7 @@ impl<'a> BoardClasses<'a> {
         &self.classes.controls[c.part as usize][c.cell as usize]
     }
 
-    /// What is kept of the net.
+    /// Returns the class of the net.
     fn net(&self, net: u32) -> &'a NetClass
         requires { net < length self.now.nets }
         ensures { OfNet self.now net (λ found. result.now ≡ net_class_of self.now found) }
@@ -76,7 +76,7 @@ impl<'a> BoardClasses<'a> {
         &self.classes.nets[net as usize]
     }
 
-    /// What the pin is, and what some safe setting does with it.
+    /// Returns what the pin is on its net, and whether some safe setting tests it.
     pub fn pin(&self, pin: PinRef) -> PinClass
         requires { IsOnBoard self.now pin }
         ensures { OfNet self.now pin.net (λ net. result ≡ pin_class_of self.now net pin.place) }
@@ -84,7 +84,7 @@ impl<'a> BoardClasses<'a> {
         self.net(pin.net).pins.as_slice()[pin.place as usize]
     }
 
-    /// Why the net is not covered, by the first reason that holds; None where it is covered.
+    /// Returns the first reason why the net is not covered, or None if it is covered.
     pub fn reason(&self, net: u32) -> Option<Reason>
         requires { net < length self.now.nets }
         ensures { OfNet self.now net (λ found. result ≡ reason_of self.now found) }
@@ -92,7 +92,7 @@ impl<'a> BoardClasses<'a> {
         self.net(net).reason
     }
 
-    /// How the tested drivers of the net are enabled, in pin order; none past the last net.
+    /// Returns how the tested drivers of the net are enabled, in pin order. There are none past the last net.
     pub fn tested_drivers(&self, net: usize) -> &'a [Drive]
         ensures drivers { result.now ≡ drivers_at self.now net }
         ensures cells { AreByCells self.now result.now }
@@ -101,7 +101,7 @@ impl<'a> BoardClasses<'a> {
         drivers_in(&self.classes.nets, net)
     }
 
-    /// The useful controls, in control order.
+    /// Returns the useful controls, in control order.
     pub fn useful(&self) -> &'a [Ctl]
         ensures controls { result.now ≡ useful_controls self.now }
         ensures cells { All (IsCell self.now) result.now }
@@ -109,8 +109,7 @@ impl<'a> BoardClasses<'a> {
         &self.classes.useful
     }
 
-    /// The numbers of the nets with a driver that the control controls and one that another control
-    /// controls, in net order.
+    /// Returns the numbers of the nets with a driver of this control and a driver of another one, in net order.
     pub fn shared_nets(&self, c: Ctl) -> &'a [u32]
         requires { IsCell self.now c }
         ensures { result.now ≡ shared_nets self.now c }
@@ -139,7 +138,7 @@ impl<'a> BoardClasses<'a> {
         first && second && self.are_apart(a, b)
     }
 
-    /// Whether one safe setting enables both drivers.
+    /// Returns whether one safe setting enables both drivers.
     pub fn fit(&self, d: Drive, e: Drive) -> bool
         requires first { IsByCell self.now d }
         requires second { IsByCell self.now e }
@@ -156,9 +155,8 @@ impl<'a> BoardClasses<'a> {
         }
     }
 
-    /// Of the 64 nets from net 64 * word on, those that are paired with the net: bit i stands for
-    /// net 64 * word + i. The bit of the net itself is set where it is covered; a bit past the
-    /// last net is not set.
+    /// Returns the nets that are paired with `net` among the 64 nets from `64 * word` on: bit `i` is for net
+    /// `64 * word + i`. The bit of `net` itself is set if it is covered. A bit past the last net is 0.
     pub fn paired_word(&self, net: usize, word: usize) -> u64
         ensures { AreBitsOf (pairs_with self.now net) word result }
     {
@@ -170,7 +168,7 @@ impl<'a> BoardClasses<'a> {
         bits
     }
 
-    /// Of the 64 nets from net 64 * word on, those that are covered and not paired with the net.
+    /// Returns, in the same form, the nets among these 64 that are covered and not paired with `net`.
     pub fn unpaired_word(&self, net: usize, word: usize) -> u64
         ensures { AreBitsOf (unpaired_with self.now net) word result }
     {
@@ -178,8 +176,8 @@ impl<'a> BoardClasses<'a> {
         covered & !self.paired_word(net, word)
     }
 
-    /// Whether one tested driver of the net shows at once that each covered net is paired with it.
-    /// Where it is false, they may all be paired with it too, by several drivers.
+    /// Returns true if one tested driver of the net alone shows that every covered net is paired with it. If it
+    /// returns false, they may still all be paired with it, by several drivers.
     pub fn is_paired_with_all(&self, net: usize) -> bool
         ensures { result ≡ true → (other : ℕ) → unpaired_with self.now net other ≡ false }
     {
@@ -193,10 +191,10 @@ impl<'a> BoardClasses<'a> {
     }
 }
 
-// The six questions that this crate promises to any caller that has a board and its classes, each with what the answer means over all
-// safe settings. The crates above ask `BoardClasses` and call none of the six.
+// The six queries that this crate offers to any caller with a board and its classes. Each contract also says what
+// the answer means over all safe settings. The crates above use `BoardClasses` and call none of the six.
 impl Classes {
-    /// Why the net is not covered, by the first reason that holds; None where it is covered.
+    /// Returns the first reason why the net is not covered, or None if it is covered.
     pub fn reason(&self, board: &Board, net: u32) -> Option<Reason>
         requires classes { AreClasses board.now self.now }
         requires net { net < length board.now.nets }
@@ -208,7 +206,7 @@ impl Classes {
         BoardClasses::of(board, self).reason(net)
     }
 
-    /// Whether the control is useful: the setting of it alone is safe, and it controls a tested driver.
+    /// Returns whether the control is useful: its setting alone is safe, and it controls a tested driver.
     pub fn usable(&self, board: &Board, c: Ctl) -> bool
         requires classes { AreClasses board.now self.now }
         requires cell { IsCell board.now c }
@@ -220,7 +218,7 @@ impl Classes {
         BoardClasses::of(board, self).control(c).useful
     }
 
-    /// Whether the setting of the two controls is safe.
+    /// Returns whether the setting of the two controls is safe.
     pub fn together(&self, board: &Board, a: Ctl, b: Ctl) -> bool
         requires classes { AreClasses board.now self.now }
         requires first { IsCell board.now a }
@@ -233,7 +231,7 @@ impl Classes {
         BoardClasses::of(board, self).are_together(a, b)
     }
 
-    /// Whether some safe setting enables the driver and observes its net.
+    /// Returns whether some safe setting enables the driver and observes its net.
     pub fn driver_tested(&self, board: &Board, pin: PinRef) -> bool
         requires classes { AreClasses board.now self.now }
         requires pin { IsOnBoard board.now pin }
@@ -245,7 +243,7 @@ impl Classes {
         BoardClasses::of(board, self).pin(pin).driver_tested
     }
 
-    /// Whether some safe setting observes the net of the receiver by a driver on another pin.
+    /// Returns whether some safe setting observes the receiver's net by a driver on another pin.
     pub fn receiver_tested(&self, board: &Board, pin: PinRef) -> bool
         requires classes { AreClasses board.now self.now }
         requires pin { IsOnBoard board.now pin }
@@ -257,7 +255,7 @@ impl Classes {
         BoardClasses::of(board, self).pin(pin).receiver_tested
     }
 
-    /// Whether the two nets differ and one safe setting observes both.
+    /// Returns whether the two nets differ and one safe setting observes both.
     pub fn paired(&self, board: &Board, a: u32, b: u32) -> bool
         requires classes { AreClasses board.now self.now }
         requires first { a < length board.now.nets }

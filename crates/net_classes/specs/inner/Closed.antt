@@ -1,4 +1,5 @@
--- Nets whose tested drivers all have controls that drive one of some nets: no control that shares these nets is on together with one of them, but for its own.
+-- A net is closed by some nets if it is covered and each of its tested drivers has a control with a driver on one of them. If those are
+-- the nets that control `c` shares, a safe setting with `c` enables none of these drivers but the ones that `c` controls.
 use Rattle.std.specs.Prelude.{◌≡◌, ℕ, Bool, true, false, ◌&&◌, ◌||◌, List, [], ◌∷◌, filter, length, nat_lt, slice_get, Contains}
 use Rattle.std.specs.Bool.{Decides}
 use Rattle.std.specs.List.{list_any, list_all, flat_map}
@@ -15,33 +16,33 @@ use Rattle.net_classes.specs.inner.ControlSets.{IsSet, has_control}
 use Rattle.net_facts.specs.Kept.{drives_there}
 use Rattle.net_classes.specs.Pairs.{drivers_at}
 
--- the control controls a driver of one of these nets
+-- the control has a driver on one of these nets
 abbrev pub drives_some : RawBoard → List ℕ → Ctl → Bool
 drives_some board nets c = list_any (λ n. drives_there board c (slice_get board.nets n)) nets
 
--- the driver is controlled by a control that passes
+-- the driver has a control, and it passes
 abbrev pub is_by_one : (Ctl → Bool) → Drive → Bool
 is_by_one passes AlwaysOn = false
 is_by_one passes OneSided = false
 is_by_one passes (By c) = passes c
 
--- there are drivers, and each is controlled by a control that passes
+-- there are drivers, and each has a control that passes
 abbrev pub are_by_some : (Ctl → Bool) → List Drive → Bool
 are_by_some passes [] = false
 are_by_some passes (d ∷ ds) = list_all (is_by_one passes) (d ∷ ds)
 
--- the net is covered, and all its tested drivers are controlled by controls with a driver on one of these nets
+-- the net is covered, and all its tested drivers have a control with a driver on one of these nets
 abbrev pub is_closed_by : RawBoard → List ℕ → ℕ → Bool
 is_closed_by board nets n = are_by_some (drives_some board nets) (drivers_at board n)
 
 abbrev pub AreClosed : RawBoard → List ℕ → List ℕ → Type 0
 AreClosed board nets closed = (n : ℕ) → Decides (is_closed_by board nets n) (Contains closed n)
 
--- the control is that of the first tested driver of the net, and all of them are controlled by controls of the set
+-- `c` is the control of the net's first tested driver, and all tested drivers have a control in the set
 abbrev pub closes : RawBoard → ControlSet → Ctl → ℕ → Bool
 closes board set c n = is_by c (slice_get (drivers_at board n) 0) && list_all (is_by_one (has_control set)) (drivers_at board n)
 
--- the nets that are closed by a set, found by the control of the first tested driver
+-- the nets that a set closes, each found by the control of its first tested driver
 abbrev pub closed_in : KnownBoard → ControlSet → List Ctl → List ℕ
 closed_in known set controls = flat_map (λ c. filter (closes known.board set c) (driven_in known c)) controls
 
@@ -49,27 +50,27 @@ closed_in known set controls = flat_map (λ c. filter (closes known.board set c)
 abbrev pub has_either : ControlSet → ControlSet → Ctl → Bool
 has_either set others c = has_control set c || has_control others c
 
--- the net is covered, and all its tested drivers are controlled by controls of the two sets
+-- the net is covered, and all its tested drivers have a control in one of the two sets
 abbrev pub closes_beside : RawBoard → ControlSet → ControlSet → ℕ → Bool
 closes_beside board set others n = nat_lt 0 (length (drivers_at board n)) && list_all (is_by_one (has_either set others)) (drivers_at board n)
 
--- such nets that the control drives
+-- the nets with a driver of this control that the two sets close together
 abbrev pub closed_beside : KnownBoard → ControlSet → ControlSet → Ctl → List ℕ
 closed_beside known set others c = filter (closes_beside known.board set others) (driven_in known c)
 
--- the second set has those controls with a driver on one of the nets that the first one has not
+-- `others` has those controls with a driver on one of the nets that are not in `set`
 pub record AreOthers (board : RawBoard) (set : ControlSet) (nets : List ℕ) (others : ControlSet) : Type 0 where
   pub passes : Ctl → Bool
   pub are_set : IsSet board passes others
   pub drive : (c : Ctl) → passes c ≡ true → drives_some board nets c ≡ true
   pub all : (c : Ctl) → IsCell board c → drives_some board nets c ≡ true → has_control set c ≡ false → passes c ≡ true
 
--- a set of some controls
+-- the set is a set of controls, whichever they are
 pub record IsSomeSet (board : RawBoard) (set : ControlSet) : Type 0 where
   pub passes : Ctl → Bool
   pub is_set : IsSet board passes set
 
--- the closed nets are those by the nets, and the set that of their controls
+-- the kept nets are those that are closed by `by`, and the kept set has the controls with a driver on one of `by`
 pub record AreClosedNets (board : RawBoard) (closed : ClosedNets) : Type 0 where
   pub set_is : IsSet board (drives_some board closed.by) closed.set
   pub nets_are : AreClosed board closed.by closed.nets

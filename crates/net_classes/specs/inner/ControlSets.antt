@@ -6,15 +6,15 @@ use Rattle.board_defs.specs.Pins.{IsCell}
 use Rattle.net_classes.specs.declared.control_sets.ControlSet.{ControlSet}
 use Rattle.net_facts.specs.Cells.{put, item_of, table, at_control, holds_there}
 
--- the control has a mark
+-- the control is marked
 abbrev pub has_control : ControlSet → Ctl → Bool
 has_control set c = holds_there (item_of (table set.marks.items) c)
 
--- the set has those of the board's cells that pass
+-- the set has the cells of the board that pass
 pub record IsSet (board : RawBoard) (passes : Ctl → Bool) (set : ControlSet) : Type 0 where
   pub marks_are : (c : Ctl) → IsCell board c → item_of (table set.marks.items) c ≡ Some (passes c)
   pub members_are : (c : Ctl) → IsCell board c → passes c ≡ true → Contains set.members.items c
 
--- the marks of these controls, put on or off
+-- the marks with those of these controls set or cleared
 abbrev pub put_all : Bool → List (List Bool) → List Ctl → List (List Bool)
 put_all mark rows controls = fold (λ r c. at_control c (put mark) r) rows controls

@@ -1,4 +1,4 @@
--- A board with what is kept of its controls.
+-- A board with the table of its controls.
 use Rattle.std.specs.Prelude.{◌≡◌, ℕ, List, [], Option, None, Some, map}
 use Rattle.board_defs.specs.declared.board.Ctl.{Ctl}
 use Rattle.board_defs.specs.declared.board.Net.{Net}
@@ -19,17 +19,17 @@ pub record KnownBoard : Type 0 where
 abbrev pub known_board : RawBoard → List (List ControlClass) → KnownBoard
 known_board board controls = record { board = board; controls = controls }
 
--- the board keeps the rules, and the table has what is kept of its controls
+-- the board keeps the rules, and the table has the class of each control
 pub record IsKnown (known : KnownBoard) : Type 0 where
   pub rules : IsBoard known.board
   pub controls_are : (c : Ctl) → IsCell known.board c → item_of known.controls c ≡ Some (control_class_of known.board c)
 
--- the facts of the pins of the net, where it is there
+-- the facts about the pins of the net, if there is one
 abbrev pub pins_there : RawBoard → Option Net → List PinFacts
 pins_there board None = []
 pins_there board (Some net) = map (pin_facts_of board net) net.pins
 
--- the numbers of the nets that the table has for a control
+-- the numbers of the nets in a control's class
 abbrev pub nets_of : Option ControlClass → List ℕ
 nets_of None = []
 nets_of (Some class) = class.nets

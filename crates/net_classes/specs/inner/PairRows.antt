@@ -1,4 +1,4 @@
--- Rows of bits, by which the nets that are paired with a net are known.
+-- Rows of bits that say which nets are paired with a net.
 use Rattle.std.specs.Prelude.{◌≡◌, ℕ, ◌<◌, ◌+◌, ◌/◌, Bool, true, false, List, length, Option, None, Some, is_some, slice_index}
 use Rattle.std.specs.List.{list_any}
 use Rattle.board_defs.specs.declared.board.Ctl.{Ctl}
@@ -14,23 +14,23 @@ use Rattle.net_facts.specs.Cells.{item_of, table}
 use Rattle.net_classes.specs.NetRows.{AreRowBits}
 use Rattle.net_classes.specs.Pairs.{drivers_at, fits_at}
 
--- the control enables a tested driver of the net of this number
+-- the control enables a tested driver of net number `n`
 abbrev pub owns_at : RawBoard → Ctl → ℕ → Bool
 owns_at board c n = list_any (λ d. is_by c (Some d)) (drivers_at board n)
 
--- the first row has the covered nets, and each cell has a number
+-- the first row has the covered nets, and each cell has the number of a row
 pub record HasCovered (board : RawBoard) (pairs : PairRows) : Type 0 where
   pub some : 0 < length pairs.rows.items
   pub covered : AreRowBits (fits_at board AlwaysOn) (row_in pairs 0)
   pub room : length (row_in pairs 0) ≡ length board.nets / 64 + 1
   pub cells : (c : Ctl) → IsCell board c → is_some (item_of (table pairs.numbers.items) c) ≡ true
 
--- the row of the control says which nets have a tested driver that can be on with it
+-- the row of the control has the nets that some safe setting with this control observes
 pub record IsRowOf (board : RawBoard) (pairs : PairRows) (c : Ctl) : Type 0 where
   pub there : number_in pairs c < length pairs.rows.items
   pub bits : AreRowBits (fits_at board (By c)) (row_in pairs (number_in pairs c))
 
--- a row for the control, where it is another than that of the covered nets
+-- the row of the control, or None if that is the row of the covered nets
 abbrev pub IsRowFor : RawBoard → Ctl → List ℕ → Option (List ℕ) → Type 0
 IsRowFor board c covered None = AreRowBits (fits_at board (By c)) covered
 IsRowFor board c covered (Some row) = AreRowBits (fits_at board (By c)) row
@@ -39,13 +39,13 @@ abbrev pub number_for : ℕ → Option (List ℕ) → ℕ
 number_for count None = 0
 number_for count (Some row) = count
 
--- the rows with that of one control more: the rows of others stay
+-- the rows with that of one more control; the rows of other controls stay
 pub record AddsRow (board : RawBoard) (before after : PairRows) (c : Ctl) : Type 0 where
   pub covered : HasCovered board after
   pub own : IsRowOf board after c
   pub others : (d : Ctl) → same_ctl c d ≡ false → IsRowOf board before d → IsRowOf board after d
 
--- the word of the row of a driver
+-- the word of a driver's row
 abbrev pub drive_word : PairRows → Drive → ℕ → ℕ
 drive_word pairs AlwaysOn w = slice_index (row_in pairs 0) w
 drive_word pairs OneSided w = 0

@@ -1,4 +1,5 @@
--- Drivers whose control is a cell of the board, which the contracts on pairs of drivers ask for, and which drivers of two nets one safe setting enables.
+-- Drivers whose control is a cell of the board, as the contracts on pairs of drivers require, and drivers of two nets that one safe
+-- setting enables.
 use Rattle.std.specs.Prelude.{◌≡◌, Bool, List, All}
 use Rattle.std.specs.List.{list_any}
 use Rattle.board_defs.specs.declared.board.Ctl.{Ctl}
@@ -8,7 +9,7 @@ use Rattle.board_defs.specs.declared.board.Drive.TheVariants.{By}
 use Rattle.board_defs.specs.Pins.{IsCell}
 use Rattle.net_classes.specs.Pairs.{fits_some}
 
--- the control of the driver, where it has one, is a cell of the board
+-- the control of the driver, if it has one, is a cell of the board
 abbrev pub IsByCell : RawBoard → Drive → Type 0
 IsByCell board d = (c : Ctl) → d ≡ By c → IsCell board c
 
