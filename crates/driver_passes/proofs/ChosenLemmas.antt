@@ -10,7 +10,7 @@ use Rattle.board_defs.proofs.ControlOrder.{same_refl}
 use Rattle.driver_passes.specs.inner.Drafts.{chosen}
 use Rattle.driver_passes.proofs.ControlLemmas.{after_is, ComeAfter, come_after, order_rest, order_with, insert_before, insert_front, insert_behind, none_holds}
 
--- where no place passes, none is chosen
+-- if no place passes, no control is chosen
 pub chosen_none : (p : ℕ → Bool) (place : ℕ) (controls : List Ctl) → ((n : ℕ) → p n ≡ false) → chosen p place controls ≡ []
 chosen_none p place [] none = refl
 chosen_none p place (c ∷ controls) none = ap (λ t. cond t (c ∷ chosen p (suc place) controls) (chosen p (suc place) controls)) (none place) ∙ chosen_none p (suc place) controls none
@@ -31,14 +31,14 @@ chosen_order p place (c ∷ controls) order = by_test (p place) (chosen_order p 
     by_test true rest = order_with c (chosen p (suc place) controls) (chosen_after c p (suc place) controls (come_after c controls order)) rest
     by_test false rest = rest
 
--- tests that say the same from the first place on
+-- tests that agree from the first place on choose the same
 chosen_same : (p q : ℕ → Bool) (place : ℕ) (controls : List Ctl) → ((n : ℕ) → place ≤ n → q n ≡ p n) → chosen q place controls ≡ chosen p place controls
 chosen_same p q place [] same = refl
 chosen_same p q place (c ∷ controls) same =
     ap (λ t. cond t (c ∷ chosen q (suc place) controls) (chosen q (suc place) controls)) (same place (omega arith)) ∙
     ap (λ v. cond (p place) (c ∷ v) v) (chosen_same p q (suc place) controls (λ n least. same n (omega (arith, least))))
 
--- to let one place more pass is to insert its control
+-- if one more place passes, its control is inserted
 pub chosen_set : (p q : ℕ → Bool) (first i place : ℕ) (controls : List Ctl) (c : Ctl) → IsInControlOrder controls → place ≡ first + i → ((n : ℕ) → q n ≡ (n == place || p n)) → slice_get controls i ≡ Some c → chosen q first controls ≡ inserted c (chosen p first controls)
 chosen_set p q first i place [] c order at more e = cc e
 chosen_set p q first zero place (d ∷ controls) c order at more e =
@@ -73,7 +73,7 @@ chosen_set p q first (suc i) place (d ∷ controls) c order at more e =
     by_test true rest = ap (λ v. d ∷ v) rest ∙ sym (insert_behind c d (chosen p (suc first) controls) before)
     by_test false rest = rest
 
--- a control is chosen where its place passes
+-- a control is chosen if and only if its place passes
 pub chosen_holds : (p : ℕ → Bool) (first i place : ℕ) (controls : List Ctl) (c : Ctl) → IsInControlOrder controls → place ≡ first + i → slice_get controls i ≡ Some c → holds (chosen p first controls) c ≡ p place
 chosen_holds p first i place [] c order at e = cc e
 chosen_holds p first zero place (d ∷ controls) c order at e = sym (ap (holds (cond (p first) (d ∷ rest) rest)) same) ∙ by_test (p first) ∙ ap p (omega (arith, at))
@@ -112,7 +112,7 @@ chosen_among p place (d ∷ controls) c h = by_test (p place) (chosen_among p (s
     by_test true more k = by_part more (or_cases (same_ctl c d) (holds rest c) k)
     by_test false more k = or_right (same_ctl c d) (holds controls c) (more k)
 
--- places that do not pass may be left out
+-- a front whose places do not pass may be left out
 
 skip_some : (p : ℕ → Bool) (place next k : ℕ) (controls : List Ctl) → next ≡ place + k → ((n : ℕ) → place ≤ n → n < next → p n ≡ false) → chosen p place controls ≡ chosen p next (drop k controls)
 skip_some p place next zero controls e none = ap (λ m. chosen p m controls) (omega (arith, e))
@@ -126,7 +126,7 @@ chosen_skip p controls place next least none =
     let far : place + (next - place) ≡ next = omega (arith, least) in
     skip_some p place next (next - place) (drop place controls) (sym far) none ∙ ap (chosen p next) (drop-drop (next - place) place controls ∙ ap (λ m. drop m controls) far)
 
--- the control at a place that passes, and then those from the next place on that may pass
+-- the control at a place that passes comes before those from the next place that may pass
 pub chosen_next : (p : ℕ → Bool) (controls : List Ctl) (place next : ℕ) (d : Ctl) → place < length controls → p place ≡ true → place + 1 ≤ next → ((n : ℕ) → place + 1 ≤ n → n < next → p n ≡ false) →
     chosen p place (drop place controls) ≡ get_or controls place d ∷ chosen p next (drop next controls)
 chosen_next p controls place next d within passes least none =

@@ -1,4 +1,4 @@
--- Lists of controls in control order, and what a setting holds.
+-- Lists of controls in control order, and the controls of a setting.
 use Rattle.std.proofs.Common.{◌≡◌, ◌≢◌, ◌⊎◌, inl, inr, ℕ, zero, suc, ◌<◌, Bool, true, false, ◌&&◌, ◌||◌, List, [], ◌∷◌, get_or, Some, refl, sym, ◌∙◌, ap, subst, arith, cond}
 use Rattle.std.specs.Prelude.{slice_get, All, IsTrue}
 use Rattle.std.specs.List.{list_all}
@@ -37,12 +37,12 @@ insert_before c (d ∷ setting) after =
     let r : (precedes d c ≡ false) × (same_ctl c d ≡ false) × (same_ctl d c ≡ false) = after_is c d (after 0 d (omega arith)) in
     ap (λ t. cond t (d ∷ inserted c setting) (cond (same_ctl c d) (d ∷ setting) (c ∷ d ∷ setting))) r.0 ∙ ap (λ t. cond t (d ∷ setting) (c ∷ d ∷ setting)) r.1
 
--- one that is at the front already changes nothing
+-- a control that is already at the front changes nothing
 pub insert_front : (c : Ctl) (setting : List Ctl) → inserted c (c ∷ setting) ≡ c ∷ setting
 insert_front c setting =
     ap (λ t. cond t (c ∷ inserted c setting) (cond (same_ctl c c) (c ∷ setting) (c ∷ c ∷ setting))) (itself_is c) ∙ ap (λ t. cond t (c ∷ setting) (c ∷ c ∷ setting)) (same_refl c)
 
--- one after the first goes behind it
+-- a control that comes after the first goes behind it
 pub insert_behind : (c d : Ctl) (setting : List Ctl) → precedes d c ≡ true → inserted c (d ∷ setting) ≡ d ∷ inserted c setting
 insert_behind c d setting h = ap (λ t. cond t (d ∷ inserted c setting) (cond (same_ctl c d) (d ∷ setting) (c ∷ d ∷ setting))) h
 
@@ -74,7 +74,7 @@ all_inserted p c (d ∷ setting) = by_order (all_inserted p c setting) (precedes
     by_order rest false true e = twice (p c) (p d) (list_all p setting) (ap p (same_equal c d e))
     by_order rest false false e = refl
 
--- what is so of all controls is so of each that is among them
+-- what is true of all controls is true of each that is among them
 pub holds_of : (P : Ctl → Type 0) (controls : List Ctl) (c : Ctl) → All P controls → holds controls c ≡ true → P c
 holds_of P [] c all h = cc h
 holds_of P (d ∷ controls) c all h = by_part (holds_of P controls c (λ k e less. all (suc k) e (omega (arith, less)))) (or_cases (same_ctl c d) (holds controls c) h)

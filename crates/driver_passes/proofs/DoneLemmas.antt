@@ -1,4 +1,4 @@
--- Pairs of nets for which nothing is to be done.
+-- Pairs of nets for which no pass is needed.
 use Rattle.std.proofs.Common.{◌≡◌, ℕ, zero, suc, ◌+◌, ◌-◌, ◌<◌, ◌≤◌, Bool, true, false, ◌&&◌, ◌||◌, Contains, List, [], ◌∷◌, length, map, fold, Option, Some, None, subst, refl, sym, ◌∙◌, ap, arith, cond, ◌⊎◌, inl, inr}
 use Rattle.std.specs.Prelude.{is_some, slice_get}
 use Rattle.std.specs.List.{list_all, list_any}
@@ -30,7 +30,7 @@ done_same board useful passes a b (inr e) = ap (λ w. cond (are_shown passes (dr
     either true = refl
     either false = refl
 
--- what is done stays done where passes are added for other nets
+-- pairs that need no pass need none after passes are added for other nets
 pub done_kept : (board : RawBoard) (useful : List Ctl) (passes after : List (List Ctl)) (nets : List Drive × List Drive) → after ≡ add_for_nets board useful passes nets → StaysDone board passes after
 done_kept board useful passes after nets e m n (inr none) = inr none
 done_kept board useful passes after nets e m n (inl shown) = inl (ap (list_any p) e ∙ by_test (are_shown passes nets.0 nets.1) (first_pair board nets.0 nets.1))
@@ -43,7 +43,7 @@ done_kept board useful passes after nets e m n (inl shown) = inl (ap (list_any p
     by_test false None = shown
     by_test false (Some pair) = list_any_before p passes (pair_pass board useful pair) shown
 
--- once passes are added for two nets, nothing is to be done for them
+-- after passes are added for two nets, the two need no more
 pub done_now : (board : RawBoard) (useful : List Ctl) (passes after : List (List Ctl)) (a b : ℕ) → a < length board.nets → b < length board.nets → after ≡ add_for_nets board useful passes (drivers_at board a, drivers_at board b) → IsDone board after a b
 done_now board useful passes after a b first second e = let P : List (List Ctl) → Type 0 = λ v. IsDone board v a b in subst P (sym e) (by_test (are_shown passes (drivers_at board a) (drivers_at board b)) refl (first_pair board (drivers_at board a) (drivers_at board b)) refl)
   where
@@ -63,7 +63,7 @@ done_now board useful passes after a b first second e = let P : List (List Ctl) 
     by_test false shown None h = inr h
     by_test false shown (Some pair) h = inl (list_any_last p passes (pair_pass board useful pair) (made pair h))
 
--- one net more
+-- one more net
 pub done_next : (board : RawBoard) (passes : List (List Ctl)) (a : ℕ) → AreDone board passes a → IsDoneTo board passes a (length board.nets) → AreDone board passes (a + 1)
 done_next board passes a are done m less = by_net (cases_eq m a)
   where
@@ -71,7 +71,7 @@ done_next board passes a are done m less = by_net (cases_eq m a)
     by_net (inl same) = let P : ℕ → Type 0 = λ k. IsDoneTo board passes k (length board.nets) in subst P (sym same) done
     by_net (inr other) = are m (omega (arith, other, less))
 
--- so of the nets from b on below c, and c itself
+-- this is so for the nets from `b` on below `c`, and for `c` itself
 pub with_last : (board : RawBoard) (before after : List (List Ctl)) (a b c : ℕ) → StaysDone board before after → ((n : ℕ) → b ≤ n → n < c → IsDone board before a n) → IsDone board after a c → (n : ℕ) → b ≤ n → n < c + 1 → IsDone board after a n
 with_last board before after a b c stays earlier last n least below = by_net (cases_eq n c)
   where
@@ -79,7 +79,7 @@ with_last board before after a b c stays earlier last n least below = by_net (ca
     by_net (inl same) = let P : ℕ → Type 0 = λ k. IsDone board after a k in subst P (sym same) last
     by_net (inr other) = stays a n (earlier n least (omega (arith, other, below)))
 
--- so of each net from b on below b + k
+-- this is so for each net from `b` on below `b + k`
 skipped : (board : RawBoard) (useful : List Ctl) (passes : List (List Ctl)) (a b k : ℕ) → b + k ≤ length board.nets → ((n : ℕ) → b ≤ n → n < b + k → IsDone board passes a n) → fold (add_for_nets board useful) passes (pairs_from board a (b + k)) ≡ fold (add_for_nets board useful) passes (pairs_from board a b)
 skipped board useful passes a b zero most done = let same : b + 0 ≡ b = omega arith in ap (λ n. fold (add_for_nets board useful) passes (pairs_from board a n)) same
 skipped board useful passes a b (suc k) most done =
@@ -93,7 +93,7 @@ skipped_to board useful passes a b c least most done =
     let all : b + (c - b) ≡ c = omega (arith, least) in
     sym (ap (λ n. fold (add_for_nets board useful) passes (pairs_from board a n)) all) ∙ skipped board useful passes a b (c - b) (omega (arith, all, most)) (λ n from below. done n from (omega (arith, below, all)))
 
--- the nets that are shown together with net a, or not paired with it
+-- the nets that are shown together with net `a` or not paired with it
 pub none_wanted : (board : RawBoard) (passes : List (List Ctl)) (left : List ℕ) (a from b : ℕ) → PairsHaveDrivers → AreLeft board passes a left → a < from → b ≤ length board.nets → ((n : ℕ) → from ≤ n → n < b → is_wanted board left a n ≡ false) → (n : ℕ) → from ≤ n → n < b → IsDone board passes a n
 none_wanted board passes left a from b law are later most none n least below = by_part (and_cases (is_in left n) (pairs_with board a n) (none n least below))
   where
@@ -113,7 +113,7 @@ unshown board passes left a n are from within e = not-true (are_shown passes (dr
 pub none_left : (board : RawBoard) (useful : List Ctl) (passes : List (List Ctl)) (a b : ℕ) → length board.nets ≤ b → fold (add_for_nets board useful) passes (pairs_from board a b) ≡ passes
 none_left board useful passes a b most = ap (λ v. fold (add_for_nets board useful) passes (map (λ others. (drivers_at board a, others)) v)) (drop_all b (drivers_by_net board) (omega (arith, most, length-map board.nets (tested_drivers board))))
 
--- so of each later net
+-- this is so for each later net
 pub none_later : (board : RawBoard) (useful : List Ctl) (passes : List (List Ctl)) (a : ℕ) → a < length board.nets → IsDoneTo board passes a (length board.nets) → passes ≡ fold (add_for_nets board useful) passes (pairs_from board a (a + 1))
 none_later board useful passes a less done =
     sym (none_left board useful passes a (length board.nets) (omega arith)) ∙ skipped_to board useful passes a (a + 1) (length board.nets) (omega (arith, less)) (omega arith) (λ n least below. done n (omega (arith, least)) below)
@@ -126,7 +126,7 @@ no_others : (board : RawBoard) (drivers : List Drive) → first_pair board drive
 no_others board [] = refl
 no_others board (d ∷ drivers) = no_others board drivers
 
--- where all items pass, one that passes another test passes both
+-- if all items pass a test, an item that passes another test passes both
 all_pass : {X : Type 0} (p q : X → Bool) (xs : List X) → list_all p xs ≡ true → list_any q xs ≡ true → list_any (λ x. p x && q x) xs ≡ true
 all_pass p q [] all h = h
 all_pass {X} p q (x ∷ xs) all h = by_part (and_parts (p x) (list_all p xs) all).0 (all_pass p q xs (and_parts (p x) (list_all p xs) all).1) (or_cases (q x) (list_any q xs) h)
@@ -135,7 +135,7 @@ all_pass {X} p q (x ∷ xs) all h = by_part (and_parts (p x) (list_all p xs) all
     by_part here rest (inl e) = or_left (p x && q x) (list_any (λ (y : X). p y && q y) xs) (and_from (p x) (q x) here e)
     by_part here rest (inr e) = or_right (p x && q x) (list_any (λ (y : X). p y && q y) xs) (rest e)
 
--- a net that each pass shows
+-- a net that every pass shows
 pub all_show : (board : RawBoard) (passes : List (List Ctl)) (a b : ℕ) → EnableTested board passes → list_all (shows (drivers_at board a)) passes ≡ true → b < length board.nets → IsDone board passes a b
 all_show board passes a b are all less = by_drivers (drivers_at board b) (λ d h. are b d less h)
   where

@@ -1,4 +1,4 @@
--- Each tested driver is enabled by some pass once the first step is done.
+-- After the first step, some pass enables each tested driver.
 use Rattle.std.proofs.Common.{◌≡◌, ℕ, ◌++◌, ◌∷◌, [], List, fold, Some, ◌∙◌, ap, sym, subst}
 use Rattle.std.specs.Prelude.{Contains, slice_get}
 use Rattle.std.specs.List.{list_any, flat_map}

@@ -10,7 +10,7 @@ use Rattle.board_defs.specs.declared.board.Drive.{Drive}
 use Rattle.board_defs.specs.Passes.{add_for_driver, add_for_nets, are_shown, driver_pass, driver_passes, drivers_by_net, first_pair, is_enabled, pair_pass, pairs_within, passes_of, useful_controls, with_pair}
 use Rattle.driver_passes.specs.inner.Progress.{drivers_from}
 
--- passes that are put behind others leave the first as it is
+-- passes that are appended leave the first pass unchanged
 behind : (first : List Ctl) (passes more : List (List Ctl)) → take 1 passes ≡ first ∷ [] → take 1 (passes ++ more) ≡ first ∷ []
 behind first [] more e = absurd (omega (arith, ap length e))
 behind first (pass ∷ passes) more e = e

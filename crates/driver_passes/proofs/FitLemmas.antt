@@ -1,4 +1,4 @@
--- Which controls a draft can hold too.
+-- The controls that can be added to a draft.
 use Rattle.std.proofs.Common.{◌≡◌, ◌⊎◌, inl, inr, ℕ, zero, suc, ◌<◌, ◌==◌, Bool, true, false, not, ◌&&◌, ◌||◌, List, [], ◌∷◌, length, get_or, Some, refl, sym, ◌∙◌, ap, arith, cond}
 use Rattle.std.specs.Prelude.{slice_get, Contains}
 use Rattle.std.specs.List.{list_any}
@@ -82,7 +82,7 @@ holds_at (d ∷ controls) (suc i) c e = or_right (same_ctl c d) (holds controls 
 pub useful_safe : (board : RawBoard) (c : Ctl) → PassesAre board → DecidesTerms board → holds (useful_controls board) c ≡ true → is_safe_alone board c ≡ true
 useful_safe board c are decides h = let is : IsUseful board c = (are.said.useful c).0 h in (decides.safe c).1 is.0
 
--- one that it holds changes nothing
+-- a control that is in the draft changes nothing
 pub held_nothing : (board : RawBoard) (held : List ℕ) (place : ℕ) (c : Ctl) (t : Bool) → PassesAre board → slice_get (useful_controls board) place ≡ Some c → is_in held place ≡ true → setting_of board held ≡ cond t (inserted c (setting_of board held)) (setting_of board held)
 held_nothing board held place c true are stands h = chosen_set (is_in held) (is_in held) 0 place place (useful_controls board) c are.said.useful_in_order (omega arith) (λ n. same n (cases_eq n place)) stands
   where
@@ -91,7 +91,7 @@ held_nothing board held place c true are stands h = chosen_set (is_in held) (is_
     same n (inr differ) = sym (ap (λ t. t || is_in held n) (ne_eqb n place differ))
 held_nothing board held place c false are stands h = refl
 
--- one that is closed changes nothing, as it is held or does not fit
+-- a control that cannot be added changes nothing: it is in the draft, or it does not fit
 pub closed_nothing : (board : RawBoard) (held free : List ℕ) (place : ℕ) (c : Ctl) (t : Bool) → PassesAre board → IsDraft board held free → slice_get (useful_controls board) place ≡ Some c → is_in free place ≡ false → (fits board (setting_of board held) c ≡ false → t ≡ false) →
     setting_of board held ≡ cond t (inserted c (setting_of board held)) (setting_of board held)
 closed_nothing board held free place c t are is stands closed only = by_test (is_in held place) refl
@@ -103,6 +103,6 @@ closed_nothing board held free place c t are is stands closed only = by_test (is
     by_test true e = held_nothing board held place c t are stands e
     by_test false e = sym (ap (λ u. cond u (inserted c s) s) (only (ap (λ h. not h && fits board s c) (sym e) ∙ sym (is.free_are place c stands) ∙ closed)))
 
--- one that is free fits
+-- a control that can be added fits
 pub free_fits : (board : RawBoard) (held free : List ℕ) (place : ℕ) (c : Ctl) → IsDraft board held free → slice_get (useful_controls board) place ≡ Some c → is_in free place ≡ true → fits board (setting_of board held) c ≡ true
 free_fits board held free place c is stands can = (and_parts (not (is_in held place)) (fits board (setting_of board held) c) (sym (is.free_are place c stands) ∙ can)).1

@@ -11,7 +11,7 @@ use Rattle.std.proofs.lemmas.List.{get_or_past, get_or-set_same, get_or-set_othe
 use Rattle.net_classes.specs.Pairs.{AreBitsOf}
 use Rattle.driver_passes.specs.inner.NumberSets.{IsFirst, has_bit, is_in, is_of_word}
 
--- a bit is 1 or 0 as a test says
+-- a bit is 1 if and only if a test is true
 pub bit_is : (word i : ℕ) (t : Bool) → bit_at word i ≡ cond t 1 0 → has_bit word i ≡ t
 bit_is word i true e = ap (λ b. b == 1) e
 bit_is word i false e = ap (λ b. b == 1) e
@@ -27,7 +27,7 @@ is_bit word i = by_bit (bit_at word i) (bit_at-lt word i)
 pub no_bit : (i : ℕ) → has_bit 0 i ≡ false
 no_bit i = ap (λ b. b == 1) (bit_at-zero i)
 
--- two bits are put together as a test of both says
+-- an operation on two bits that agrees with a test of two truth values
 two_bits : (f : ℕ → ℕ → ℕ) (t : Bool → Bool → Bool) → (f 0 0 == 1) ≡ t false false → (f 0 1 == 1) ≡ t false true → (f 1 0 == 1) ≡ t true false → (f 1 1 == 1) ≡ t true true → (x y : ℕ) → x < 2 → y < 2 → (f x y == 1) ≡ t (x == 1) (y == 1)
 two_bits f t none second first both zero zero less few = none
 two_bits f t none second first both zero (suc zero) less few = second
@@ -79,7 +79,7 @@ bit_more a b i = ap (λ x. x == 1) (bit_at_or a b i) ∙ two_bits max (λ p q. q
 pub bit_both : (a b i : ℕ) → has_bit (bit_and a b) i ≡ (has_bit a i && has_bit b i)
 bit_both a b i = ap (λ x. x == 1) (bit_at_and a b i) ∙ two_bits min (λ p q. p && q) refl refl refl refl (bit_at a i) (bit_at b i) (bit_at-lt a i) (bit_at-lt b i)
 
--- two lists of words are put together word by word, and so number by number
+-- an operation on two lists of words, word by word and so number by number
 pub words_by : (t : Bool → Bool → Bool) (before after others : List ℕ) (n : ℕ) → (length before ≤ n / 64 → t false (is_in others n) ≡ false) → length after ≡ length before →
     (n / 64 < length before → has_bit (get_or after (n / 64) 0) (n % 64) ≡ t (has_bit (get_or before (n / 64) 0) (n % 64)) (has_bit (get_or others (n / 64) 0) (n % 64))) →
     is_in after n ≡ t (is_in before n) (is_in others n)
@@ -90,7 +90,7 @@ words_by t before after others n none same each = by_place (cases_lt (n / 64) (l
     by_place (inl within) = each within
     by_place (inr past) = none_past after n (omega (arith, past, same)) ∙ sym (none past) ∙ sym (ap (λ b. t b (is_in others n)) (none_past before n past))
 
--- the bits of one word are put together with others
+-- an operation on one word and other bits
 pub word_changed : (t : Bool → Bool → Bool) → ((b : Bool) → t b false ≡ b) → (words : List ℕ) (number word bits n : ℕ) → number < length words →
     has_bit word (n % 64) ≡ t (has_bit (get_or words number 0) (n % 64)) (has_bit bits (n % 64)) → is_in (set words number word) n ≡ t (is_in words n) (is_of_word number bits n)
 unfolding is_in
@@ -217,7 +217,7 @@ no_bits p q number word none are i below =
     let unset : p (64 * number + i) ≡ false = passes_bit p number word i are below ∙ ap (λ w. has_bit w i) none ∙ no_bit i in
     bit_at-zero i ∙ sym (ap (λ t. cond (t && q (64 * number + i)) 1 0) unset)
 
--- none passes from one place on, and none from a later place on
+-- if no number passes up to a place, and none after it up to a later place, none passes up to the later place
 pub passed_more : (p : ℕ → Bool) (from number past : ℕ) → ((n : ℕ) → from ≤ n → n < number → p n ≡ false) → ((n : ℕ) → number ≤ n → n < past → p n ≡ false) → (n : ℕ) → from ≤ n → n < past → p n ≡ false
 passed_more p from number past earlier later n least below = by_place (cases_lt n number)
   where

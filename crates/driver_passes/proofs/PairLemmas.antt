@@ -15,7 +15,7 @@ use Rattle.net_classes.specs.Pairs.{fit}
 use Rattle.driver_passes.specs.inner.Pairs.{pairs_from}
 use Rattle.driver_passes.specs.inner.Shown.{drivers_at}
 
--- the first pair with the first driver, where there is one
+-- the first pair with the first driver, if there is one
 abbrev is_fitting : RawBoard → Drive × Drive → Bool
 is_fitting board pair = are_compatible board (Some pair.0) (Some pair.1)
 

@@ -27,19 +27,19 @@ use Rattle.driver_passes.specs.inner.Shown.{drivers_at}
 use Rattle.driver_passes.specs.inner.NumberSets.{is_in}
 use Rattle.driver_passes.proofs.ControlLemmas.{holds_of}
 
--- one pass more
+-- one more pass
 pub held_more : (board : RawBoard) (passes after : List (List Ctl)) (pass : List Ctl) (held joined : List ℕ) → AreHeld board passes held → length joined ≡ length held → ((i : ℕ) (c : Ctl) → slice_get (useful_controls board) i ≡ Some c → is_in joined i ≡ (holds pass c || is_in held i)) → after ≡ passes ++ pass ∷ [] → AreHeld board after joined
 held_more board passes after pass held joined is len join e = record {
   held_length = len ∙ is.held_length;
   held_are = λ i c h. join i c h ∙ ap (λ v. holds pass c || v) (is.held_are i c h) ∙ or_comm (holds pass c) (is_held passes c) ∙ ap (λ v. is_held passes c || v) (sym (or-false (holds pass c))) ∙ sym (ap (λ v. is_held v c) e ∙ list_any-append (λ pass. holds pass c) passes (pass ∷ []));
 }
 
--- an always-on driver is enabled by each pass
+-- each pass enables a driver that is always on
 pub any_pass : (passes : List (List Ctl)) → list_any (λ pass. true) passes ≡ not (length passes == 0)
 any_pass [] = refl
 any_pass (pass ∷ passes) = sym (ap not (suc-eqb_zero (length passes)))
 
--- the tested drivers of the net of a number
+-- the tested drivers of the net with a number
 pub same_drivers : (board : RawBoard) (n : ℕ) → drivers_there board (slice_get board.nets n) ≡ drivers_at board n
 same_drivers board n = by_place board.nets n
   where

@@ -10,11 +10,11 @@ use Rattle.driver_passes.specs.inner.NumberSets.{is_in}
 use Rattle.driver_passes.specs.inner.Pairs.{AreLeft}
 use Rattle.driver_passes.specs.inner.Shown.{AreRows, AreShownBy, AreShownByAll, drivers_at, shows_both}
 
--- the row of a pass under another name
+-- the row of a pass, given as another equal pass
 pub shown_as : (board : RawBoard) (made pass : List Ctl) (row : List ℕ) → pass ≡ made → AreShownBy board made row → AreShownBy board pass row
 shown_as board made pass row e are = let P : List Ctl → Type 0 = λ v. AreShownBy board v row in subst P (sym e) are
 
--- one row more
+-- one more row
 
 rows_push : (board : RawBoard) (passes : List (List Ctl)) (rows : List (List ℕ)) (pass : List Ctl) (row : List ℕ) → AreRows board passes rows → AreShownBy board pass row → AreRows board (passes ++ pass ∷ []) (rows ++ row ∷ [])
 rows_push board [] [] pass row are shown = (shown, tt)
@@ -44,7 +44,7 @@ all_rows board [] (row ∷ rows) a are first = absurd are
 all_rows board (pass ∷ passes) [] a are first = absurd are
 all_rows board (pass ∷ passes) (row ∷ rows) a are first = ap (λ t. t && list_all (λ (v : List ℕ). is_in v a) rows) (are.0.row_are a first) ∙ ap (λ t. shows (drivers_at board a) pass && t) (all_rows board passes rows a are.1 first)
 
--- one pass more
+-- one more pass
 pub left_more : (board : RawBoard) (passes after : List (List Ctl)) (pass : List Ctl) (row left left_after : List ℕ) (a : ℕ) → AreLeft board passes a left → AreShownBy board pass row → a < length board.nets → after ≡ passes ++ pass ∷ [] →
     ((n : ℕ) → a / 64 ≤ n / 64 → is_in left_after n ≡ (is_in left n && not (shows_both a n row))) → AreLeft board after a left_after
 left_more board passes after pass row left left_after a are shown first e less n from within =
@@ -64,7 +64,7 @@ always_whole board passes rows always size are room same each = record {
   always_are = λ n within. each n (omega (arith, within, room)) ∙ all_rows board passes rows n are within;
 }
 
--- those of them that one pass more shows too
+-- those of them that one more pass also shows
 pub always_more : (board : RawBoard) (passes after : List (List Ctl)) (pass : List Ctl) (row always always_after : List ℕ) → AreShownByAll board passes always → AreShownBy board pass row → after ≡ passes ++ pass ∷ [] → length always_after ≡ length always →
     ((n : ℕ) → is_in always_after n ≡ (is_in always n && is_in row n)) → AreShownByAll board after always_after
 always_more board passes after pass row always always_after are shown e same kept = record {
@@ -74,7 +74,7 @@ always_more board passes after pass row always always_after are shown e same kep
       kept n ∙ ap (λ t. t && is_in row n) (are.always_are n within) ∙ ap (λ t. list_all p passes && t) (shown.row_are n within ∙ sym (and-true (p pass))) ∙ sym (ap (list_all p) e ∙ list_all-append p passes (pass ∷ []));
 }
 
--- of the nets from the word of net a on, those that no row has together with it
+-- those nets, from the word of net `a` on, that no row has together with net `a`
 pub left_whole : (board : RawBoard) (passes : List (List Ctl)) (rows : List (List ℕ)) (left : List ℕ) (a size : ℕ) → AreRows board passes rows → a < length board.nets → size ≡ length board.nets / 64 + 1 →
     ((n : ℕ) → a / 64 ≤ n / 64 → n / 64 < size → is_in left n ≡ not (list_any (shows_both a n) rows)) → AreLeft board passes a left
 left_whole board passes rows left a size are first room each n from within = each n (omega (arith, from)) (omega (arith, within, room)) ∙ ap not (any_rows board passes rows a n are first within)

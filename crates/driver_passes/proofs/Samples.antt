@@ -29,7 +29,7 @@ past_the_words : is_in (1 ∷ 2 ^ 63 ∷ 0 ∷ []) 1000 ≡ false
 unfolding is_in
 past_the_words = refl
 
--- where nets 3 and 66 are taken out of all nets from word 1 on, net 66 alone is missing
+-- if nets 3 and 66 are removed from all nets from word 1 on, only net 66 is missing
 abbrev all : ℕ
 all = 2 ^ 64 - 1
 
@@ -56,7 +56,7 @@ some_blocks = record { word = 0; bits = 3 } ∷ record { word = 1; bits = 0 } �
 of_blocks : filter (has_place some_blocks) (range_with_len 0 192) ≡ 0 ∷ 1 ∷ 130 ∷ 191 ∷ []
 of_blocks = refl
 
--- of three rows, the second has word 0 alone, and is 0 past it
+-- the second of three rows has word 0 alone; past it, its words are 0
 abbrev some_rows : List (List ℕ)
 some_rows = (5 ∷ 6 ∷ []) ∷ (7 ∷ []) ∷ (8 ∷ 9 ∷ 10 ∷ []) ∷ []
 

@@ -1,4 +1,4 @@
--- Which useful controls share each net with another control.
+-- The useful controls that share each net with another control.
 use Rattle.std.proofs.Common.{◌≡◌, ◌⊎◌, inl, inr, ℕ, zero, suc, ◌+◌, ◌<◌, ◌&&◌, ◌||◌, List, [], ◌∷◌, ◌++◌, length, get_or, Some, refl, sym, ◌∙◌, ap, subst, arith, ltb}
 use Rattle.std.specs.Prelude.{◌==◌, slice_get, All}
 use Rattle.std.specs.List.{range_with_len}
@@ -16,7 +16,7 @@ use Rattle.driver_passes.specs.inner.Blocks.{has_place}
 use Rattle.driver_passes.specs.inner.Sharers.{AreSharers, AreSharersBelow}
 use Rattle.driver_passes.proofs.BlockLemmas.{below_more}
 
--- the lists have the place too where the net passes, and else what they had before
+-- the place was added to the lists of those nets that pass, and nothing else changed
 abbrev pub AreMarked : ℕ → List ℕ → List (List ℕ) → List (List ℕ) → Type 0
 AreMarked place nets before after = (n q : ℕ) → has_number (get_or after n []) q ≡ ((q == place && has_number nets n) || has_number (get_or before n []) q)
 
@@ -30,7 +30,7 @@ shared_within board c nets most e f =
     let within : k < count = omega (arith, less, length-range_with_len 0 count) in
     omega (arith, get_or-range_with_len 0 count k d within, within, f)))
 
--- one control more
+-- one more control
 pub sharers_more : (board : RawBoard) (k : ℕ) (d : Ctl) (nets : List ℕ) (before after : List (List ℕ)) → AreSharersBelow board k before → slice_get (useful_controls board) k ≡ Some d → nets ≡ shared_nets board d → length after ≡ length before → AreMarked k nets before after → AreSharersBelow board (k + 1) after
 sharers_more board k d nets before after are stands is size marked = record {
   sharers_length = size ∙ are.sharers_length;

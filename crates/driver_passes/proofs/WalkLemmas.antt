@@ -1,4 +1,4 @@
--- Walks that pass over controls which they would not add.
+-- Walks that skip controls which they would not add.
 use Rattle.std.proofs.Common.{◌≡◌, ℕ, zero, suc, ◌+◌, ◌-◌, ◌≤◌, ◌<◌, Bool, true, false, not, ◌&&◌, List, [], ◌∷◌, length, get_or, drop, drop-cons, drop-drop, Some, refl, sym, ◌∙◌, ap, arith, cond}
 use Rattle.std.specs.Prelude.{slice_get}
 use Rattle.std.proofs.Math.Bool.{and-false}
@@ -50,13 +50,13 @@ walk_adds accepts controls before after place c at fit e =
     sym (walk_next accepts controls before place c (slice_get_within controls place c at) ∙
     ap (walk accepts (drop (place + 1) controls)) (ap (stepped accepts before) (get_or_from_slice_get controls place c c at) ∙ ap (λ t. cond t (inserted c before) before) fit ∙ sym e))
 
--- the second walk passes over controls that are not free
+-- the second walk skips controls that cannot be added
 pub second_passes : (board : RawBoard) (held free : List ℕ) (from next : ℕ) → PassesAre board → IsDraft board held free → from ≤ next → ((n : ℕ) → from ≤ n → n < next → is_in free n ≡ false) →
     second_walk board (drop from (useful_controls board)) (setting_of board held) ≡ second_walk board (drop next (useful_controls board)) (setting_of board held)
 second_passes board held free from next are is least closed =
     walk_passes (fits board) (useful_controls board) (setting_of board held) from next least (λ n c low less at. closed_nothing board held free n c (fits board (setting_of board held) c) are is at (closed n low less) (λ f. f))
 
--- and the first walk also over those that earlier passes hold
+-- the first walk also skips those that are in earlier passes
 pub first_passes : (board : RawBoard) (held free : List ℕ) (passes : List (List Ctl)) (earlier : List ℕ) (from next : ℕ) → PassesAre board → IsDraft board held free → AreHeld board passes earlier → from ≤ next →
     ((n : ℕ) → from ≤ n → n < next → (is_in free n && not (is_in earlier n)) ≡ false) → first_walk board (drop from (useful_controls board)) passes (setting_of board held) ≡ first_walk board (drop next (useful_controls board)) passes (setting_of board held)
 first_passes board held free passes earlier from next are is known least closed = walk_passes accepts (useful_controls board) s from next least (λ n c low less at. by_test n c at (closed n low less) (is_in free n) refl)
@@ -73,13 +73,13 @@ first_passes board held free passes earlier from next are is known least closed 
         let old : not (is_held passes c) ≡ false = ap not (sym (known.held_are n c at)) ∙ sym (ap (λ t. t && not (is_in earlier n)) o) ∙ shut in
         sym (ap (λ t. cond t (inserted c s) s) (ap (λ t. t && fits board s c) old))
 
--- a control that is free and that no earlier pass holds is accepted
+-- a control that can be added and is in no earlier pass is accepted
 pub new_fits : (board : RawBoard) (held free : List ℕ) (passes : List (List Ctl)) (earlier : List ℕ) (place : ℕ) (c : Ctl) → IsDraft board held free → AreHeld board passes earlier → slice_get (useful_controls board) place ≡ Some c → (is_in free place && not (is_in earlier place)) ≡ true → (is_new passes c && fits board (setting_of board held) c) ≡ true
 new_fits board held free passes earlier place c is known at h =
     let both : (is_in free place ≡ true) × (not (is_in earlier place) ≡ true) = and_parts (is_in free place) (not (is_in earlier place)) h in
     and_from (is_new passes c) (fits board (setting_of board held) c) (ap not (sym (known.held_are place c at)) ∙ both.1) (free_fits board held free place c is at both.0)
 
--- so of drafts, which have board and setting together
+-- the same for drafts, which have board and setting together
 
 -- no control between the two places is added, and the one at the second place is
 pub second_adds : (board : RawBoard) (held free : List ℕ) (after : Drafted) (from place : ℕ) (c : Ctl) → PassesAre board → IsDraft board held free → from ≤ place → ((n : ℕ) → from ≤ n → n < place → is_in free n ≡ false) →

@@ -1,4 +1,4 @@
-// Nets with the same tested drivers: what is done for one of them is done for each other.
+// Nets with the same tested drivers. What is done for one of them is done for the others.
 ghost use Rattle.std.specs.Prelude.{◌≡◌, ◌≤◌, ◌<◌, length, true, IfOk, IfSome};
 ghost use Rattle.board_defs.specs.Passes.{useful_controls};
 ghost use Rattle.driver_passes.specs.inner.Alike.{AreAlike};
@@ -14,7 +14,7 @@ fn are_same(drivers: &[Drive], others: &[Drive]) -> bool
     drivers == others
 }
 
-/// Where the control of the first of these drivers stands among the useful controls.
+/// Returns the place, among the useful controls, of the control of the first of these drivers.
 fn first_place(board: &ClassedBoard<'_>, drivers: &[Drive]) -> Option<usize>
     ensures { IfSome result (λ i. i < length (useful_controls board.now)) }
 {
@@ -24,7 +24,7 @@ fn first_place(board: &ClassedBoard<'_>, drivers: &[Drive]) -> Option<usize>
     }
 }
 
-/// The other net, where it is an earlier one with the same tested drivers, else this one.
+/// Returns `other` if it is an earlier net with the same tested drivers, and otherwise `net`.
 fn like_of(board: &ClassedBoard<'_>, other: usize, net: usize) -> usize
     ensures within { result ≤ net }
     ensures alike { drivers_at board.now result ≡ drivers_at board.now net }
@@ -39,8 +39,8 @@ fn like_of(board: &ClassedBoard<'_>, other: usize, net: usize) -> usize
     }
 }
 
-/// For each net an earlier one with the same tested drivers, or the net itself. The earlier one is
-/// looked for among the nets whose first tested driver has the same control.
+/// Returns, for each net, an earlier one with the same tested drivers, or the net itself. Candidates are nets
+/// whose first tested driver has the same control.
 pub fn likes_of(alloc: Global, board: &ClassedBoard<'_>) -> Result<Vec<u32>, AllocError>
     ensures { IfOk result (λ likes. AreAlike board.now likes.items) }
 {

@@ -1,4 +1,4 @@
-// Sets of places, as blocks of those that have one word.
+// Sets of places, as blocks of places that share a word.
 ghost use Rattle.std.specs.Prelude.{◌≡◌, ◌/◌, ◌==◌, ◌||◌, ℕ, IfOk, OnOk};
 ghost use Rattle.driver_passes.specs.inner.Blocks.{block_has, has_place};
 ghost use Rattle.driver_passes.specs.inner.Drafts.{has_number};
@@ -6,18 +6,18 @@ ghost use Rattle.driver_passes.specs.inner.Drafts.{has_number};
 use lists::Items;
 use std::alloc::{AllocError, Global};
 
-/// The places of a set that have one word: place n has bit n % 64 of word n / 64.
+/// Places of a set that share a word: place `n` has bit `n % 64` of word `n / 64`.
 #[derive(Clone, Copy, Drop)]
 pub struct Block {
     pub word: usize,
     pub bits: u64,
 }
 
-/// A set of places. A block is taken out of another set in one step, which makes closing quick where
-/// many controls share a net.
+/// A set of places. A whole block can be removed from another set in one step, which is fast when many controls
+/// share a net.
 pub type Blocks = Items<Block>;
 
-/// The block of this place alone.
+/// Returns the block with this place alone.
 fn block_of(place: usize) -> Block
     ensures { (q : ℕ) → block_has result q ≡ (place == q) }
 {
@@ -27,7 +27,7 @@ fn block_of(place: usize) -> Block
     }
 }
 
-/// The block with the place too, which has the same word.
+/// Returns the block with the place added, which must belong to the same word.
 fn with_place(block: Block, place: usize) -> Block
     requires { place / 64 ≡ block.word }
     ensures { (q : ℕ) → block_has result q ≡ (block_has block q || place == q) }
@@ -38,7 +38,7 @@ fn with_place(block: Block, place: usize) -> Block
     }
 }
 
-/// Adds the block, where it has a place.
+/// Appends the block if it has a place.
 fn push_some(blocks: &mut Blocks, block: Block) -> Result<(), AllocError>
     ensures { OnOk result ((q : ℕ) →
         has_place blocks.new q ≡ (has_place blocks.old q || block_has block q)) }
@@ -49,8 +49,8 @@ fn push_some(blocks: &mut Blocks, block: Block) -> Result<(), AllocError>
     Ok(())
 }
 
-/// Adds the place to a set whose last block stands beside the others. Gives the last block, which is
-/// a new one where the place has another word.
+/// Adds the place to the set of `blocks` and `last`, its last block, which is kept apart. Returns the new last
+/// block, which is another one if the place belongs to another word.
 fn next_block(blocks: &mut Blocks, last: Block, place: usize) -> Result<Block, AllocError>
     ensures { IfOk result (λ block. (q : ℕ) → (has_place blocks.new q || block_has block q)
         ≡ ((has_place blocks.old q || block_has last q) || place == q)) }
@@ -62,7 +62,7 @@ fn next_block(blocks: &mut Blocks, last: Block, place: usize) -> Result<Block, A
     Ok(block_of(place))
 }
 
-/// The set of these places. Where they are in order, it has one block for each word.
+/// Returns the set of these places. If they are in order, it has one block for each word.
 pub fn blocks_of(alloc: Global, places: &[usize]) -> Result<Blocks, AllocError>
     ensures { IfOk result (λ blocks. (q : ℕ) → has_place blocks q ≡ has_number places.now q) }
 {

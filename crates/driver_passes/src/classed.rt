@@ -15,7 +15,7 @@ use board_defs::{Board, Ctl, Drive, law};
 use net_classes::{BoardClasses, Classes};
 use std::marker::Model;
 
-/// A board with its classes, seen as the board.
+/// A board with its classes. Contracts see it as the board.
 #[derive(Drop)]
 pub struct ClassedBoard<'a> {
     pub(crate) classes: BoardClasses<'a>,
@@ -35,7 +35,7 @@ impl<'a> Model for ClassedBoard<'a> {
 }
 
 impl<'a> ClassedBoard<'a> {
-    /// The board with its classes.
+    /// Returns the board with its classes.
     pub fn new(board: &'a Board, classes: &'a Classes) -> ClassedBoard<'a>
         requires { AreClasses board.now classes.now }
         ensures { result ≡ board.now }
@@ -45,7 +45,7 @@ impl<'a> ClassedBoard<'a> {
         ClassedBoard { classes }
     }
 
-    /// Does nothing: its clause is what the laws of boards say of this one.
+    /// Does nothing. Its contract says that the laws of boards are true of this one.
     pub fn laws(&self)
         ensures { KeepsLaws self.now }
     {
@@ -54,7 +54,7 @@ impl<'a> ClassedBoard<'a> {
         let _rules = self.classes.raw();
     }
 
-    /// How many nets the board has.
+    /// Returns the number of nets of the board.
     pub fn nets(&self) -> usize
         ensures count { result ≡ length self.now.nets }
         ensures few { result ≤ most_nets }
@@ -62,14 +62,14 @@ impl<'a> ClassedBoard<'a> {
         self.classes.raw().nets.as_slice().len()
     }
 
-    /// The useful controls, in control order.
+    /// Returns the useful controls, in control order.
     pub fn useful(&self) -> &[Ctl]
         ensures { result.now ≡ useful_controls self.now }
     {
         self.classes.useful()
     }
 
-    /// Where the control stands among the useful controls.
+    /// Returns the place of the control among the useful controls, if it is useful.
     pub fn place_of(&self, c: Ctl) -> Option<usize>
         ensures { MatchOption result (holds (useful_controls self.now) c ≡ false)
             (λ i. slice_get (useful_controls self.now) i ≡ Some c) }
@@ -78,7 +78,7 @@ impl<'a> ClassedBoard<'a> {
         place_in(self.useful(), c)
     }
 
-    /// How the tested drivers of the net are enabled, in pin order; none past the last net.
+    /// Returns how the tested drivers of the net are enabled, in pin order. There are none past the last net.
     pub fn tested_drivers(&self, net: usize) -> &[Drive]
         ensures drivers { result.now ≡ drivers_at self.now net }
         ensures useful { All (IsUsefulDriver self.now) result.now }
@@ -87,7 +87,7 @@ impl<'a> ClassedBoard<'a> {
         self.classes.tested_drivers(net)
     }
 
-    /// The nets that the useful control shares with another control, by their numbers in net order.
+    /// Returns the numbers of the nets that the useful control shares with another control, in net order.
     pub fn shared_nets(&self, c: Ctl) -> &[u32]
         requires { holds (useful_controls self.now) c ≡ true }
         ensures { result.now ≡ shared_nets self.now c }
@@ -95,7 +95,7 @@ impl<'a> ClassedBoard<'a> {
         self.classes.shared_nets(c)
     }
 
-    /// Whether one safe setting enables both drivers.
+    /// Returns whether one safe setting enables both drivers.
     pub fn fit(&self, d: Drive, e: Drive) -> bool
         requires first { IsUsefulDriver self.now d }
         requires second { IsUsefulDriver self.now e }

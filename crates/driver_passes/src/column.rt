@@ -1,19 +1,19 @@
-// One word of each row: which of 64 nets each pass shows.
+// One word of each row, which says which of 64 nets each pass shows.
 ghost use Rattle.std.specs.Prelude.{◌≡◌, ◌∷◌, ◌++◌, List, ℕ, [], IfOk, OnOk};
 ghost use Rattle.driver_passes.specs.inner.Shown.{IsColumn, words_at};
 
 use crate::number_set::NumberSet;
 use std::alloc::{AllocError, Global};
 
-/// Of the row of each pass, the word with this number. The words lie side by side, so it is quick to
-/// ask each of them for a net; the rows themselves lie far apart in memory.
+/// The word with number `number` of each pass's row. These words are next to each other in memory, so looking up a
+/// net in all of them is fast. The rows themselves are far apart.
 #[derive(Drop)]
 pub struct Column {
     pub number: usize,
     pub words: Vec<u64>,
 }
 
-/// The word with this number of each row.
+/// Returns the word with this number of each row.
 fn words_of(alloc: Global, rows: &[NumberSet], number: usize) -> Result<Vec<u64>, AllocError>
     ensures { IfOk result (λ words. words.items ≡ words_at number rows.now) }
 {
@@ -25,7 +25,7 @@ fn words_of(alloc: Global, rows: &[NumberSet], number: usize) -> Result<Vec<u64>
 }
 
 impl Column {
-    /// The first word of each row.
+    /// Returns the column with the first word of each row.
     pub fn new(alloc: Global, rows: &[NumberSet]) -> Result<Column, AllocError>
         ensures { IfOk result (IsColumn rows.now) }
     {
@@ -33,7 +33,7 @@ impl Column {
         Ok(Column { number: 0, words })
     }
 
-    /// Takes the words with this number, where the column has others.
+    /// Reads the words with this number, unless the column already has them.
     pub fn look_at(
         &mut self,
         alloc: Global,
@@ -51,7 +51,7 @@ impl Column {
         Ok(())
     }
 
-    /// Adds the word of one row more.
+    /// Adds the word of one more row.
     pub fn add(&mut self, row: &NumberSet) -> Result<(), AllocError>
         ensures { OnOk result ((rows : List (List ℕ)) → IsColumn rows self.old →
             IsColumn (rows ++ row.now ∷ []) self.new) }

@@ -1,4 +1,4 @@
-// A pass as it is made.
+// A pass while it is made.
 ghost use Rattle.std.specs.Prelude.{◌≡◌, ◌<◌, ◌+◌, ◌/◌, ◌||◌, ℕ, [], true, length, slice_get, IfOk, Some};
 ghost use Rattle.board_defs.specs.declared.board.Ctl.{Ctl};
 ghost use Rattle.board_defs.specs.Coverage.{IsUseful};
@@ -15,13 +15,13 @@ use board_defs::{Ctl, Drive, Setting};
 use std::alloc::{AllocError, Global};
 use std::marker::Model;
 
-/// A pass as it is made, seen as its board and the setting so far.
+/// A pass while it is made. Contracts see it as its board and the setting so far.
 #[derive(Drop)]
 pub struct Draft<'a, 'b> {
     pub(crate) board: &'a BoardTables<'b>,
-    /// The places of the useful controls that the pass holds.
+    /// The places of the useful controls in the pass.
     pub(crate) held: NumberSet,
-    /// The places of those that it can hold too: they are together with each control that it holds.
+    /// The places of the useful controls that can be added: those that are together with each control in the pass.
     pub(crate) free: NumberSet,
 }
 
@@ -35,7 +35,7 @@ impl<'a, 'b> Model for Draft<'a, 'b> {
     ghost invariant = { λ a. IsDraft a.board.now a.held a.free };
 }
 
-/// The set of all places of these controls.
+/// Returns a set with all places of these controls.
 fn all_places(alloc: Global, controls: &[Ctl]) -> Result<NumberSet, AllocError>
     ensures { IfOk result (λ places. (n : ℕ) → n < length controls.now → is_in places n ≡ true) }
 {
@@ -45,7 +45,7 @@ fn all_places(alloc: Global, controls: &[Ctl]) -> Result<NumberSet, AllocError>
 }
 
 impl<'a, 'b> Draft<'a, 'b> {
-    /// The draft without controls.
+    /// Returns the draft without controls.
     pub fn new(alloc: Global, board: &'a BoardTables<'b>) -> Result<Draft<'a, 'b>, AllocError>
         ensures { IfOk result (λ draft. draft ≡ drafted board.now []) }
     {
@@ -55,7 +55,7 @@ impl<'a, 'b> Draft<'a, 'b> {
         Ok(Draft { board, held, free })
     }
 
-    /// Adds the useful control that stands at this place among them.
+    /// Adds the useful control `c`, whose place among the useful controls is `place`.
     pub fn add(&mut self, place: usize, c: Ctl)
         requires { slice_get (useful_controls self.old.board) place ≡ Some c }
         ensures { self.new ≡ with_control self.old c }
@@ -66,7 +66,7 @@ impl<'a, 'b> Draft<'a, 'b> {
         self.free.remove(place);
     }
 
-    /// Adds the control of the driver, where it has one.
+    /// Adds the control of the driver, if it has one.
     pub fn add_driver(&mut self, d: Drive)
         requires { IsUsefulDriver self.old.board d }
         ensures { self.new ≡ drafted self.old.board (with_driver self.old.setting d) }
@@ -85,7 +85,7 @@ impl<'a, 'b> Draft<'a, 'b> {
         }
     }
 
-    /// The setting of the draft.
+    /// Returns the setting of the draft.
     pub fn setting(&self, alloc: Global) -> Result<Setting, AllocError>
         ensures value { IfOk result (λ setting. setting ≡ self.now.setting) }
         ensures useful { IfOk result (λ setting. (c : Ctl) → holds setting c ≡ true →
@@ -96,14 +96,14 @@ impl<'a, 'b> Draft<'a, 'b> {
         Ok(Setting::of(controls))
     }
 
-    /// The nets that the pass shows.
+    /// Returns the nets that the pass shows.
     pub fn shown(&self, alloc: Global) -> Result<NumberSet, AllocError>
         ensures { IfOk result (λ row. AreShownBy self.now.board self.now.setting row) }
     {
         self.board.shown_by(alloc, &self.held)
     }
 
-    /// Adds the places of the controls that the pass holds to a set with room for them.
+    /// Adds the places of the pass's controls to a set with room for them.
     pub fn add_places(&self, places: &mut NumberSet)
         requires { length places.old ≡ length (useful_controls self.now.board) / 64 + 1 }
         ensures room { length places.new ≡ length places.old }
@@ -115,7 +115,7 @@ impl<'a, 'b> Draft<'a, 'b> {
     }
 }
 
-/// The controls whose places are in the set.
+/// Returns the controls whose places are in the set.
 fn controls_at(alloc: Global, controls: &[Ctl], places: &NumberSet) -> Result<Vec<Ctl>, AllocError>
     ensures { IfOk result (λ found. found.items ≡ chosen (is_in places.now) 0 controls.now) }
 {

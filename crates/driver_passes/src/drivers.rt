@@ -1,4 +1,4 @@
-// The passes until each tested driver is enabled.
+// The passes that enable each tested driver.
 ghost use Rattle.std.specs.Prelude.{◌≡◌, ◌<◌, ◌≤◌, ◌++◌, ◌∷◌, [], false, true, fold, length, slice_get, take, All, IfOk, IfSome, OnOk};
 ghost use Rattle.std.specs.List.{flat_map, list_any};
 ghost use Rattle.board_defs.specs.Limits.{most_pins};
@@ -17,13 +17,13 @@ use std::alloc::{AllocError, Global};
 #[derive(Drop)]
 pub struct Progress {
     pub passes: Vec<Setting>,
-    /// For each pass, the nets that it shows.
+    /// The nets that each pass shows.
     pub rows: Vec<NumberSet>,
-    /// The places of the useful controls that some pass holds.
+    /// The places of the useful controls that are in some pass.
     pub held: NumberSet,
 }
 
-/// The pass for a tested driver that no pass so far enables.
+/// Returns the pass for a tested driver that no pass so far enables.
 fn driver_pass<'a, 'b>(
     alloc: Global,
     board: &'a BoardTables<'b>,
@@ -56,7 +56,7 @@ impl Progress {
         })
     }
 
-    /// Whether some pass so far holds the useful control.
+    /// Returns whether the useful control is in some pass so far.
     fn holds(&self, board: &BoardTables<'_>, c: Ctl) -> bool
         requires progress { IsProgress board.now self.now }
         requires useful { holds (useful_controls board.now) c ≡ true }
@@ -68,7 +68,7 @@ impl Progress {
         }
     }
 
-    /// Whether some pass so far enables the tested driver.
+    /// Returns whether some pass so far enables the tested driver.
     fn enables(&self, board: &BoardTables<'_>, d: Drive) -> bool
         requires progress { IsProgress board.now self.now }
         requires driver { IsUsefulDriver board.now d }
@@ -81,7 +81,7 @@ impl Progress {
         }
     }
 
-    /// One more pass.
+    /// Adds a pass.
     fn push(&mut self, alloc: Global, draft: &Draft<'_, '_>) -> Result<(), AllocError>
         requires { IsProgress draft.now.board self.old }
         ensures progress { OnOk result (IsProgress draft.now.board self.new) }
@@ -94,7 +94,7 @@ impl Progress {
         Ok(())
     }
 
-    /// One more pass for the tested driver, where no pass so far enables it.
+    /// Adds a pass for the tested driver, unless a pass so far enables it.
     fn add_for_driver(
         &mut self,
         alloc: Global,
@@ -115,7 +115,7 @@ impl Progress {
         Ok(())
     }
 
-    /// The same for each of these drivers in turn.
+    /// Adds passes for these drivers in turn, as `add_for_driver` does for one.
     fn add_for_drivers(
         &mut self,
         alloc: Global,
@@ -135,7 +135,7 @@ impl Progress {
     }
 }
 
-/// The passes until each tested driver is enabled.
+/// Returns the passes that enable each tested driver.
 pub fn driver_passes(alloc: Global, board: &BoardTables<'_>) -> Result<Progress, AllocError>
     ensures progress { IfOk result (λ progress. IsProgress board.now progress) }
     ensures passes { IfOk result (λ progress. progress.passes.items
@@ -152,7 +152,7 @@ pub fn driver_passes(alloc: Global, board: &BoardTables<'_>) -> Result<Progress,
     Ok(progress)
 }
 
-/// The first tested driver of the first net that has one.
+/// Returns the first tested driver of the first net that has one.
 fn first_driver(board: &BoardTables<'_>) -> Option<Drive>
     ensures first { result
         ≡ slice_get (flat_map (λ drivers. drivers) (drivers_by_net board.now)) 0 }
@@ -166,7 +166,7 @@ fn first_driver(board: &BoardTables<'_>) -> Option<Drive>
     None
 }
 
-/// The pass for a tested driver, where there is no pass so far.
+/// Returns the pass for a tested driver if there is no pass so far.
 fn first_pass_for(alloc: Global, board: &BoardTables<'_>, d: Drive) -> Result<Setting, AllocError>
     requires { IsUsefulDriver board.now d }
     ensures { IfOk result (λ pass. pass
@@ -177,8 +177,8 @@ fn first_pass_for(alloc: Global, board: &BoardTables<'_>, d: Drive) -> Result<Se
     draft.setting(alloc)
 }
 
-/// The first of the board's passes, where it has one. That is the pass for its first tested driver:
-/// a board without tested drivers has no paired nets either.
+/// Returns the first of the board's passes, if it has one. That is the pass for its first tested driver: a board
+/// without tested drivers has no paired nets either.
 pub fn first_pass_by(alloc: Global, board: &BoardTables<'_>) -> Result<Vec<Setting>, AllocError>
     ensures { IfOk result (λ passes. passes.items ≡ take 1 (passes_of board.now)) }
 {

@@ -1,5 +1,5 @@
-//! The passes of a board: safe settings that enable each tested driver, and that observe each two
-//! paired nets together.
+//! The passes of a board: safe settings that together enable each tested driver and observe each two paired nets in
+//! one pass.
 #![tactic(auto)]
 
 mod alike;

@@ -1,4 +1,4 @@
-// The passes of a board, step after step.
+// Makes the passes of a board in two steps.
 ghost use Rattle.std.specs.Prelude.{◌≡◌, ◌<◌, ◌^◌, length, take, IfOk};
 ghost use Rattle.board_defs.specs.Passes.{ArePasses, passes_of};
 ghost use Rattle.net_classes.specs.Kept.{AreClasses};
@@ -12,8 +12,8 @@ use board_defs::{Board, Setting};
 use net_classes::Classes;
 use std::alloc::{AllocError, Global};
 
-/// The passes of a board with its tables, which are lent: a function that owned them would drop them
-/// at each of its exits.
+/// Makes the passes of a board from its tables. The tables are borrowed, since a function that owned them would
+/// drop them at each of its exits.
 fn passes_by(alloc: Global, board: &BoardTables<'_>) -> Result<Vec<Setting>, AllocError>
     ensures made { IfOk result (λ passes. passes.items ≡ passes_of board.now) }
     ensures kept { IfOk result (λ passes. ArePasses board.now passes.items) }
@@ -26,8 +26,8 @@ fn passes_by(alloc: Global, board: &BoardTables<'_>) -> Result<Vec<Setting>, All
     Ok(passes)
 }
 
-/// The passes of the board, in their order: first until each tested driver is enabled, then until
-/// each two paired nets are observed by one pass.
+/// Returns the passes of the board in order. The first ones enable each tested driver; the ones after them observe
+/// each two paired nets in one pass.
 pub fn passes(alloc: Global, board: &Board, classes: &Classes) -> Result<Vec<Setting>, AllocError>
     requires { AreClasses board.now classes.now }
     ensures made { IfOk result (λ passes. passes.items ≡ passes_of board.now) }
@@ -39,7 +39,7 @@ pub fn passes(alloc: Global, board: &Board, classes: &Classes) -> Result<Vec<Set
     passes_by(alloc, &tables)
 }
 
-/// The first of the passes of the board, where it has one, made without the others.
+/// Returns the first of the board's passes, if it has one, without making the others.
 pub fn first_pass(
     alloc: Global,
     board: &Board,

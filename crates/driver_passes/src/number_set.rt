@@ -1,4 +1,4 @@
-// Sets of numbers, of nets or of places, as a bit for each number.
+// Sets of numbers, of nets or of places, with a bit for each number.
 ghost use Rattle.std.specs.Prelude.{◌≡◌, ◌≤◌, ◌<◌, ◌+◌, ◌*◌, ◌/◌, ◌==◌, ◌&&◌, ◌||◌, ℕ, Bool, not, false, true, length, replicate, slice_index_or, All, MatchOption, IfOk};
 ghost use Rattle.net_classes.specs.Pairs.{AreBitsOf};
 ghost use Rattle.driver_passes.specs.inner.Drafts.{has_number};
@@ -7,7 +7,7 @@ ghost use Rattle.driver_passes.specs.inner.NumberSets.{IsFirst, has_bit, is_in, 
 use std::alloc::{AllocError, Global};
 use std::marker::Model;
 
-/// A set of numbers, seen as its words: number n has bit n % 64 of word n / 64.
+/// A set of numbers. Contracts see it as its words: number `n` has bit `n % 64` of word `n / 64`.
 #[derive(Drop)]
 pub struct NumberSet {
     words: Vec<u64>,
@@ -21,7 +21,7 @@ impl Model for NumberSet {
     ghost view = { λ a. a.words.items };
 }
 
-/// That many words without a bit.
+/// Returns `count` words with all bits 0.
 fn blank_words(alloc: Global, count: usize) -> Result<Vec<u64>, AllocError>
     ensures { IfOk result (λ words. words.items ≡ replicate count 0) }
 {
@@ -29,7 +29,7 @@ fn blank_words(alloc: Global, count: usize) -> Result<Vec<u64>, AllocError>
     Ok(words)
 }
 
-/// The word of this number; past the last one there is no bit.
+/// Returns the word with this number, or 0 past the last word.
 fn word_at(words: &[u64], number: usize) -> u64
     ensures { result ≡ slice_index_or words.now number 0 }
 {
@@ -39,7 +39,7 @@ fn word_at(words: &[u64], number: usize) -> u64
     }
 }
 
-/// Whether the bit at this place of the word is set.
+/// Returns whether the bit at this place of the word is set.
 pub fn has_bit(word: u64, place: usize) -> bool
     requires { place < 64 }
     ensures { result ≡ has_bit word place }
@@ -47,7 +47,7 @@ pub fn has_bit(word: u64, place: usize) -> bool
     word >> place & 1 == 1
 }
 
-/// Sets each bit.
+/// Sets all bits.
 fn set_all(words: &mut [u64])
     ensures { (n : ℕ) → n / 64 < length words.old → is_in words.new n ≡ true }
 {
@@ -56,7 +56,7 @@ fn set_all(words: &mut [u64])
     }
 }
 
-/// Clears, from this word on, each bit that is set in the other words.
+/// Clears, from word `first` on, each bit that is set in the other words.
 fn clear_from(words: &mut [u64], others: &[u64], first: usize)
     ensures { (n : ℕ) → first ≤ n / 64 →
         is_in words.new n ≡ (is_in words.old n && not (is_in others.now n)) }
@@ -66,7 +66,7 @@ fn clear_from(words: &mut [u64], others: &[u64], first: usize)
     }
 }
 
-/// Clears these bits of the word with this number, where there is one.
+/// Clears these bits of the word with this number, if there is one.
 fn clear_bits(words: &mut [u64], number: usize, bits: u64)
     ensures { (n : ℕ) → is_in words.new n ≡ (is_in words.old n && not (is_of_word number bits n)) }
 {
@@ -94,7 +94,7 @@ fn clear_others(words: &mut [u64], others: &[u64])
     }
 }
 
-/// Sets the bit of the number, where it is to be in the set.
+/// Sets the bit of the number if `holds`.
 fn set_if(words: &mut [u64], number: usize, holds: bool)
     requires { number / 64 < length words.old }
     ensures { (n : ℕ) → is_in words.new n ≡ ((n == number && holds) || is_in words.old n) }
@@ -105,7 +105,7 @@ fn set_if(words: &mut [u64], number: usize, holds: bool)
 }
 
 impl NumberSet {
-    /// The empty set, with room for so many numbers.
+    /// Returns the empty set, with room for the numbers below `numbers`.
     pub fn new(alloc: Global, numbers: usize) -> Result<NumberSet, AllocError>
         ensures room { IfOk result (λ set. length set ≡ numbers / 64 + 1) }
         ensures none { IfOk result (λ set. (n : ℕ) → is_in set n ≡ false) }
@@ -114,14 +114,14 @@ impl NumberSet {
         Ok(NumberSet { words })
     }
 
-    /// Whether the number is in the set.
+    /// Returns whether the number is in the set.
     pub fn has(&self, number: usize) -> bool
         ensures { result ≡ is_in self.now number }
     {
         has_bit(word_at(&self.words, number / 64), number % 64)
     }
 
-    /// The bits of the 64 numbers from 64 * number on.
+    /// Returns the bits of the 64 numbers from `64 * number` on.
     pub fn word(&self, number: usize) -> u64
         ensures word { result ≡ slice_index_or self.now number 0 }
         ensures bits { AreBitsOf (is_in self.now) number result }
@@ -129,7 +129,7 @@ impl NumberSet {
         word_at(&self.words, number)
     }
 
-    /// Adds the number, where it is to be in the set.
+    /// Adds the number if `holds`.
     pub fn insert_if(&mut self, number: usize, holds: bool)
         requires { number / 64 < length self.old }
         ensures room { length self.new ≡ length self.old }
@@ -139,7 +139,7 @@ impl NumberSet {
         set_if(&mut self.words, number, holds);
     }
 
-    /// The same set once more.
+    /// Copies the set.
     pub fn copy(&self, alloc: Global) -> Result<NumberSet, AllocError>
         ensures { IfOk result (λ set. set ≡ self.now) }
     {
@@ -159,7 +159,7 @@ impl NumberSet {
         }
     }
 
-    /// Adds each number that there is room for.
+    /// Adds every number for which there is room.
     pub fn fill(&mut self)
         ensures room { length self.new ≡ length self.old }
         ensures numbers { (n : ℕ) → n / 64 < length self.old → is_in self.new n ≡ true }
@@ -167,7 +167,7 @@ impl NumberSet {
         set_all(&mut self.words);
     }
 
-    /// Takes out, from 64 * first on, the numbers of the other set.
+    /// Removes, from `64 * first` on, the numbers of the other set.
     pub fn take_out(&mut self, others: &NumberSet, first: usize)
         ensures room { length self.new ≡ length self.old }
         ensures numbers { (n : ℕ) → first ≤ n / 64 →
@@ -176,21 +176,21 @@ impl NumberSet {
         clear_from(&mut self.words, &others.words, first);
     }
 
-    /// Takes out the numbers of this word that have one of these bits.
+    /// Removes the numbers of this word that have one of these bits.
     pub fn take_out_bits(&mut self, word: usize, bits: u64)
         ensures { (n : ℕ) → is_in self.new n ≡ (is_in self.old n && not (is_of_word word bits n)) }
     {
         clear_bits(&mut self.words, word, bits);
     }
 
-    /// Takes out the number.
+    /// Removes the number.
     pub fn remove(&mut self, number: usize)
         ensures { (n : ℕ) → is_in self.new n ≡ (is_in self.old n && not (n == number)) }
     {
         self.take_out_bits(number / 64, 1 << (number % 64));
     }
 
-    /// Adds the numbers of the other set, which has the same room.
+    /// Adds the numbers of the other set, which must have the same room.
     pub fn add_all(&mut self, others: &NumberSet)
         requires { length others.now ≡ length self.old }
         ensures room { length self.new ≡ length self.old }
@@ -199,7 +199,7 @@ impl NumberSet {
         set_from(&mut self.words, &others.words);
     }
 
-    /// Takes out the numbers that are not in the other set.
+    /// Removes the numbers that are not in the other set.
     pub fn keep_only(&mut self, others: &NumberSet)
         ensures room { length self.new ≡ length self.old }
         ensures numbers { (n : ℕ) → is_in self.new n ≡ (is_in self.old n && is_in others.now n) }
@@ -207,8 +207,8 @@ impl NumberSet {
         clear_others(&mut self.words, &others.words);
     }
 
-    /// The first number of the set from this one on, where it is below the end; else a number that
-    /// is not below the end.
+    /// Returns the first number of the set from `from` on if it is below `end`, and otherwise a number that is not
+    /// below `end`.
     pub fn first_from(&self, from: usize, end: usize) -> usize
         ensures passed { (n : ℕ) → from ≤ n → n < result → is_in self.now n ≡ false }
         ensures found { result < end → is_in self.now result ≡ true }
@@ -224,7 +224,7 @@ impl NumberSet {
         number
     }
 
-    /// The same for the numbers of the set that are not in the other one.
+    /// Like `first_from`, for the numbers of the set that are not in `others`.
     pub fn first_outside(&self, others: &NumberSet, from: usize, end: usize) -> usize
         ensures passed { (n : ℕ) → from ≤ n → n < result →
             (is_in self.now n && not (is_in others.now n)) ≡ false }
@@ -242,7 +242,7 @@ impl NumberSet {
         number
     }
 
-    /// The bits of the 64 numbers from 64 * number on that the other set has not.
+    /// Returns the bits of the 64 numbers from `64 * number` on, without those of numbers in `others`.
     fn word_less(&self, others: &NumberSet, number: usize) -> u64
         ensures { AreBitsOf (λ n. is_in self.now n && not (is_in others.now n)) number result }
     {
@@ -250,7 +250,7 @@ impl NumberSet {
     }
 }
 
-/// The first number past the word of this one, where it is below the end; else the end.
+/// Returns the first number after the word of `number`, or `end` if that comes first.
 fn past_word(number: usize, end: usize) -> usize
     requires { number < end }
     ensures further { number < result }
@@ -260,7 +260,7 @@ fn past_word(number: usize, end: usize) -> usize
     if last < end { last + 1 } else { end }
 }
 
-/// The place of the lowest bit of the word, from this place on.
+/// Returns the place of the lowest bit that is set in the word, from `place` on.
 fn lowest_from(word: u64, place: usize) -> Option<usize>
     requires { place < 64 }
     ensures { MatchOption result
@@ -275,7 +275,7 @@ fn lowest_from(word: u64, place: usize) -> Option<usize>
     }
 }
 
-/// Of the 64 numbers whose bits are those of the word, the first from this one on whose bit is set.
+/// Returns the first number from `from` on whose bit is set in `word`, which is the word of `from`.
 pub fn next_in(word: u64, from: usize) -> Option<usize>
     ensures { (passes : ℕ → Bool) → AreBitsOf passes (from / 64) word → MatchOption result
         ((n : ℕ) → from ≤ n → n < 64 * (from / 64 + 1) → passes n ≡ false)

@@ -1,4 +1,4 @@
-// Which nets are paired, and by which of their tested drivers.
+// Paired nets, and the tested drivers by which they are paired.
 ghost use Rattle.std.specs.Prelude.{◌≡◌, ◌<◌, ◌≤◌, ◌+◌, ◌*◌, ◌/◌, ℕ, false, find, length, All, IfSome, MatchOption};
 ghost use Rattle.board_defs.specs.Passes.{first_pair};
 ghost use Rattle.net_classes.specs.Pairs.{AreBitsOf, fit};
@@ -12,7 +12,7 @@ use crate::number_set::{NumberSet, next_in};
 use board_defs::Drive;
 
 impl<'a> ClassedBoard<'a> {
-    /// The first of the drivers that one safe setting enables together with `d`.
+    /// Returns the first of the drivers that one safe setting enables together with `d`.
     fn first_fitting(&self, d: Drive, drivers: &[Drive]) -> Option<Drive>
         requires driver { IsUsefulDriver self.now d }
         requires drivers { All (IsUsefulDriver self.now) drivers.now }
@@ -27,7 +27,7 @@ impl<'a> ClassedBoard<'a> {
         None
     }
 
-    /// The first tested drivers of two nets that one safe setting enables.
+    /// Returns the first two tested drivers, one of each net, that one safe setting enables.
     pub fn first_pair(&self, a: usize, b: usize) -> Option<(Drive, Drive)>
         ensures found { result
             ≡ first_pair self.now (drivers_at self.now a) (drivers_at self.now b) }
@@ -43,7 +43,7 @@ impl<'a> ClassedBoard<'a> {
         None
     }
 
-    /// Of the 64 nets with the word of this net, those of the set that are paired with net `a`.
+    /// Returns, among the 64 nets in the word of `net`, those in `left` that are paired with net `a`.
     fn wanted_word(&self, left: &NumberSet, a: usize, net: usize) -> u64
         ensures { AreBitsOf (is_wanted self.now left.now a) (net / 64) result }
     {
@@ -55,7 +55,7 @@ impl<'a> ClassedBoard<'a> {
         word & paired
     }
 
-    /// The first net of the set, from this net on, that is paired with net `a`.
+    /// Returns the first net in `left`, from `from` on, that is paired with net `a`.
     pub fn next_wanted(&self, left: &NumberSet, a: usize, from: usize) -> Option<usize>
         ensures next { MatchOption result
             ((n : ℕ) → from ≤ n → n < length self.now.nets →

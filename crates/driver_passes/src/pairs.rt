@@ -1,4 +1,4 @@
-// More passes, until each two paired nets are observed by one pass.
+// Adds passes until some pass observes each two paired nets.
 ghost use Rattle.std.specs.Prelude.{◌≡◌, ◌<◌, ◌≤◌, ◌+◌, ◌*◌, ◌^◌, ◌∷◌, ◌++◌, ℕ, [], false, true, fold, length, IfOk, OnOk};
 ghost use Rattle.board_defs.specs.Limits.{most_nets, most_pins};
 ghost use Rattle.board_defs.specs.Passes.{are_shown, drivers_by_net, pair_pass, pair_passes, useful_controls};
@@ -18,22 +18,21 @@ use board_defs::{Drive, Setting};
 use net_classes::law::pairs_have_drivers;
 use std::alloc::{AllocError, Global};
 
-/// The passes so far, for each of them the nets that it shows, and what these show of the net that
-/// is looked at.
+/// The passes so far, the nets that each of them shows, and what they show of the current net.
 #[derive(Drop)]
 pub struct Pairing {
     pub passes: Vec<Setting>,
     pub rows: Vec<NumberSet>,
-    /// Of the rows, the words with the net that is looked at.
+    /// The words of the rows that have the bit of the current net.
     pub column: Column,
-    /// Of the net that is looked at, the later ones which no pass so far shows together with it.
+    /// The nets after the current one that no pass so far shows together with it.
     pub left: NumberSet,
-    /// The nets that each pass so far shows. To ask each row for a net instead would be slow, since
-    /// the rows lie far apart in memory.
+    /// The nets that every pass so far shows. Asking each row for a net instead would be slow, since the rows are far
+    /// apart in memory.
     pub always: NumberSet,
 }
 
-/// The pass for two paired nets that no pass so far observes together.
+/// Returns the pass for two paired nets that no pass so far observes together.
 fn pair_pass<'a, 'b>(
     alloc: Global,
     board: &'a BoardTables<'b>,
@@ -75,7 +74,7 @@ impl Pairing {
         })
     }
 
-    /// One more pass, while net `a` is looked at.
+    /// Adds a pass, while net `a` is the current one.
     fn push(&mut self, alloc: Global, a: usize, draft: &Draft<'_, '_>) -> Result<(), AllocError>
         requires { LooksAt draft.now.board self.old a }
         ensures looks { OnOk result (LooksAt draft.now.board self.new a) }
@@ -92,7 +91,7 @@ impl Pairing {
         Ok(())
     }
 
-    /// One more pass for the two nets, which no pass so far shows together, where they are paired.
+    /// Adds a pass for the two nets, which no pass so far shows together, if they are paired.
     fn add_for_nets(
         &mut self,
         alloc: Global,
@@ -115,8 +114,8 @@ impl Pairing {
         Ok(())
     }
 
-    /// Whether no pass is wanted for this net and any later one, because an earlier net has the
-    /// same tested drivers, because this one has none, or because each pass shows it.
+    /// Returns true if no pass is needed for net `a` and any later net, because an earlier net has the same tested
+    /// drivers, because net `a` has none, or because every pass shows it.
     fn is_done(&self, board: &BoardTables<'_>, a: usize) -> bool
         requires first { a < length board.now.nets }
         requires pairing { ArePairing board.now self.now }
@@ -133,8 +132,8 @@ impl Pairing {
         self.always.has(a)
     }
 
-    /// Goes from this net on to the next one that is paired with net `a` and that no pass shows
-    /// together with it, and adds a pass for the two. Gives the net to go on with.
+    /// Finds the next net, from `from` on, that is paired with net `a` and that no pass shows together with it, and
+    /// adds a pass for the two. Returns the net to continue with.
     fn add_for_next(
         &mut self,
         alloc: Global,
@@ -169,7 +168,7 @@ impl Pairing {
         }
     }
 
-    /// Adds the passes that are wanted for this net and each later one.
+    /// Adds the passes that are needed for net `a` and each later net.
     fn add_for_later(
         &mut self,
         alloc: Global,
@@ -199,7 +198,7 @@ impl Pairing {
         Ok(())
     }
 
-    /// Adds the passes that are wanted for each two nets.
+    /// Adds the passes that are needed for each two nets.
     fn add_for_all(&mut self, alloc: Global, board: &BoardTables<'_>) -> Result<(), AllocError>
         requires pairing { ArePairing board.now self.old }
         requires few { length self.old.passes.items ≤ most_pins }
@@ -216,7 +215,7 @@ impl Pairing {
     }
 }
 
-/// The passes, and more until each two paired nets are observed by one pass.
+/// Returns the passes so far, followed by more until some pass observes each two paired nets.
 pub fn pair_passes(
     alloc: Global,
     board: &BoardTables<'_>,

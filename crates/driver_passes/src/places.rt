@@ -1,4 +1,4 @@
-// Where a control stands in a list of controls.
+// The place of a control in a list of controls.
 ghost use Rattle.std.specs.Prelude.{◌≡◌, false, slice_get, MatchOption, Some};
 ghost use Rattle.std.specs.List.{prefix_len};
 ghost use Rattle.board_defs.specs.Settings.{holds, precedes, IsInControlOrder};
@@ -11,7 +11,7 @@ fn comes_before(a: Ctl, b: Ctl) -> bool
     a.part < b.part || (a.part == b.part && a.cell < b.cell)
 }
 
-/// How many controls come before this one.
+/// Returns the number of controls that come before `c`.
 fn count_before(controls: &[Ctl], c: Ctl) -> usize
     requires { IsInControlOrder controls.now }
     ensures { result ≡ prefix_len (λ d. precedes d c) controls.now }
@@ -25,7 +25,7 @@ fn control_at(controls: &[Ctl], place: usize) -> Option<Ctl>
     controls.get(place).copied()
 }
 
-/// Where the control stands in the list, which is in control order.
+/// Returns the place of the control in the list, if it is there. The list must be in control order.
 pub fn place_in(controls: &[Ctl], c: Ctl) -> Option<usize>
     requires { IsInControlOrder controls.now }
     ensures { MatchOption result (holds controls.now c ≡ false)

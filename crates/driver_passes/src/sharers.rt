@@ -1,4 +1,4 @@
-// Which useful controls share each net with another control.
+// The useful controls that share each net with another control.
 ghost use Rattle.std.specs.Prelude.{◌≡◌, ◌<◌, ◌==◌, ◌&&◌, ◌||◌, ℕ, [], not, length, slice_index_or, All, IfOk, OnOk};
 ghost use Rattle.board_defs.specs.Passes.{useful_controls};
 ghost use Rattle.driver_passes.specs.inner.Blocks.{has_place};
@@ -15,7 +15,7 @@ use std::alloc::{AllocError, Global};
 /// The places of useful controls, in order.
 type Places = Items<usize>;
 
-/// Adds the place to the list of each of these nets.
+/// Appends the place to the list of each of these nets.
 fn list_place(sharers: &mut [Places], nets: &[u32], place: usize) -> Result<(), AllocError>
     requires { All (λ n. n < length sharers.old) nets.now }
     ensures { OnOk result ((n q : ℕ) → has_number (slice_index_or sharers.new n []) q
@@ -28,7 +28,7 @@ fn list_place(sharers: &mut [Places], nets: &[u32], place: usize) -> Result<(), 
     Ok(())
 }
 
-/// For each net, the list of the places of the useful controls that share it with another control.
+/// Returns, for each net, the list of the places of the useful controls that share it with another control.
 fn lists_of(alloc: Global, board: &ClassedBoard<'_>) -> Result<Vec<Places>, AllocError>
     ensures { IfOk result (λ lists.
         AreSharersBelow board.now (length (useful_controls board.now)) lists.items) }
@@ -40,7 +40,7 @@ fn lists_of(alloc: Global, board: &ClassedBoard<'_>) -> Result<Vec<Places>, Allo
     Ok(sharers)
 }
 
-/// For each list, the set of its places.
+/// Returns the set of the places in each list.
 fn sets_of(alloc: Global, lists: &[Places]) -> Result<Vec<Blocks>, AllocError>
     ensures { IfOk result (λ sets. (n q : ℕ) → has_place (slice_index_or sets.items n []) q
         ≡ has_number (slice_index_or lists.now n []) q) }
@@ -52,7 +52,7 @@ fn sets_of(alloc: Global, lists: &[Places]) -> Result<Vec<Blocks>, AllocError>
     Ok(sets)
 }
 
-/// For each net, the places of the useful controls that share it with another control.
+/// Returns, for each net, the places of the useful controls that share it with another control.
 pub fn sharers_of(alloc: Global, board: &ClassedBoard<'_>) -> Result<Vec<Blocks>, AllocError>
     ensures { IfOk result (λ sharers. AreSharers board.now sharers.items) }
 {
@@ -61,7 +61,7 @@ pub fn sharers_of(alloc: Global, board: &ClassedBoard<'_>) -> Result<Vec<Blocks>
     Ok(sharers)
 }
 
-/// The places of the useful controls that share the net.
+/// Returns the places of the useful controls that share the net.
 fn blocks_at(sharers: &[Blocks], net: usize) -> &[Block]
     ensures { result.now ≡ slice_index_or sharers.now net [] }
 {
@@ -71,7 +71,7 @@ fn blocks_at(sharers: &[Blocks], net: usize) -> &[Block]
     }
 }
 
-/// Takes out the places of these blocks.
+/// Removes the places of these blocks.
 fn close(free: &mut NumberSet, blocks: &[Block])
     ensures { (q : ℕ) → is_in free.new q ≡ (is_in free.old q && not (has_place blocks.now q)) }
 {
@@ -80,7 +80,7 @@ fn close(free: &mut NumberSet, blocks: &[Block])
     }
 }
 
-/// Takes out the places that are listed for these nets.
+/// Removes the places that are listed for these nets.
 pub fn close_sharers(free: &mut NumberSet, sharers: &[Blocks], nets: &[u32])
     ensures { (q : ℕ) → is_in free.new q
         ≡ (is_in free.old q && not (is_listed sharers.now nets.now q)) }

@@ -1,4 +1,4 @@
-// What the rows of the passes, the sets of the nets that they show, say of a net and the others.
+// What the rows of the passes say about pairs of nets. A row is the set of the nets that its pass shows.
 ghost use Rattle.std.specs.Prelude.{◌≡◌, ◌<◌, ◌≤◌, ◌/◌, ◌&&◌, ℕ, not, length, slice_index_or};
 ghost use Rattle.std.specs.List.{list_all, list_any};
 ghost use Rattle.driver_passes.specs.inner.NumberSets.{is_in};
@@ -6,7 +6,7 @@ ghost use Rattle.driver_passes.specs.inner.Shown.{shows_both, words_at};
 
 use crate::number_set::{NumberSet, has_bit};
 
-/// Makes the set that of the nets which each pass shows.
+/// Makes `always` the set of the nets that every pass shows.
 pub fn keep_shown(always: &mut NumberSet, rows: &[NumberSet])
     ensures room { length always.new ≡ length always.old }
     ensures nets { (n : ℕ) → n / 64 < length always.old →
@@ -18,8 +18,8 @@ pub fn keep_shown(always: &mut NumberSet, rows: &[NumberSet])
     }
 }
 
-/// Takes out the nets from word `a / 64` on that the pass of this row shows together with net `a`.
-/// The row's own word `a / 64` is given too, so a row without net `a` need not be read.
+/// Removes, from word `a / 64` on, the nets that the pass of this row shows together with net `a`. `word` is the
+/// row's word `a / 64`, so a row without net `a` need not be read.
 pub fn take_shown(left: &mut NumberSet, row: &NumberSet, word: u64, a: usize)
     requires { word ≡ slice_index_or row.now (a / 64) 0 }
     ensures room { length left.new ≡ length left.old }
@@ -31,8 +31,8 @@ pub fn take_shown(left: &mut NumberSet, row: &NumberSet, word: u64, a: usize)
     }
 }
 
-/// Makes the set, from word `a / 64` on, that of the nets which no pass shows together with net `a`.
-/// The word `a / 64` of each row is given too.
+/// Makes `left`, from word `a / 64` on, the set of the nets that no pass shows together with net `a`. `words` has
+/// word `a / 64` of each row.
 pub fn leave_unshown(left: &mut NumberSet, rows: &[NumberSet], words: &[u64], a: usize)
     requires { words.now ≡ words_at (a / 64) rows.now }
     ensures room { length left.new ≡ length left.old }

@@ -1,4 +1,4 @@
-// A board with the tables that its passes are made by.
+// A board with the tables that its passes are made from.
 ghost use Rattle.std.specs.Prelude.{◌≡◌, ◌<◌, ◌≤◌, ℕ, false, true, length, slice_get, All, IfOk, IfSome, MatchOption, Some};
 ghost use Rattle.board_defs.specs.Limits.{most_nets};
 ghost use Rattle.board_defs.specs.Passes.{first_pair, useful_controls};
@@ -22,7 +22,7 @@ use net_classes::law::nets_are_shared;
 use std::alloc::{AllocError, Global};
 use std::marker::Model;
 
-/// A board with its classes and the tables that its passes are made by, seen as the board.
+/// A board with its classes and the tables that its passes are made from. Contracts see it as the board.
 #[derive(Drop)]
 pub struct BoardTables<'a> {
     classed: ClassedBoard<'a>,
@@ -49,7 +49,7 @@ impl<'a> Model for BoardTables<'a> {
 }
 
 impl<'a> BoardTables<'a> {
-    /// The board with its tables.
+    /// Makes the tables of the board.
     pub fn new(alloc: Global, classed: ClassedBoard<'a>) -> Result<BoardTables<'a>, AllocError>
         ensures { IfOk result (λ tables. tables ≡ classed.entry) }
     {
@@ -64,14 +64,14 @@ impl<'a> BoardTables<'a> {
         })
     }
 
-    /// Does nothing: its clause is what the laws of boards say of this one.
+    /// Does nothing. Its contract says that the laws of boards are true of this one.
     pub fn laws(&self)
         ensures { KeepsLaws self.now }
     {
         self.classed.laws();
     }
 
-    /// How many nets the board has.
+    /// Returns the number of nets of the board.
     pub fn nets(&self) -> usize
         ensures count { result ≡ length self.now.nets }
         ensures few { result ≤ most_nets }
@@ -79,14 +79,14 @@ impl<'a> BoardTables<'a> {
         self.classed.nets()
     }
 
-    /// The useful controls, in control order.
+    /// Returns the useful controls, in control order.
     pub fn useful(&self) -> &[Ctl]
         ensures { result.now ≡ useful_controls self.now }
     {
         self.classed.useful()
     }
 
-    /// Where the control stands among the useful controls.
+    /// Returns the place of the control among the useful controls, if it is useful.
     pub fn place_of(&self, c: Ctl) -> Option<usize>
         ensures { MatchOption result (holds (useful_controls self.now) c ≡ false)
             (λ i. slice_get (useful_controls self.now) i ≡ Some c) }
@@ -94,7 +94,7 @@ impl<'a> BoardTables<'a> {
         self.classed.place_of(c)
     }
 
-    /// How the tested drivers of the net are enabled, in pin order; none past the last net.
+    /// Returns how the tested drivers of the net are enabled, in pin order. There are none past the last net.
     pub fn tested_drivers(&self, net: usize) -> &[Drive]
         ensures drivers { result.now ≡ drivers_at self.now net }
         ensures useful { All (IsUsefulDriver self.now) result.now }
@@ -102,7 +102,7 @@ impl<'a> BoardTables<'a> {
         self.classed.tested_drivers(net)
     }
 
-    /// The first tested drivers of two nets that one safe setting enables.
+    /// Returns the first two tested drivers, one of each net, that one safe setting enables.
     pub fn first_pair(&self, a: usize, b: usize) -> Option<(Drive, Drive)>
         ensures found { result
             ≡ first_pair self.now (drivers_at self.now a) (drivers_at self.now b) }
@@ -111,7 +111,7 @@ impl<'a> BoardTables<'a> {
         self.classed.first_pair(a, b)
     }
 
-    /// The first net of the set, from this net on, that is paired with net `a`.
+    /// Returns the first net in `left`, from `from` on, that is paired with net `a`.
     pub fn next_wanted(&self, left: &NumberSet, a: usize, from: usize) -> Option<usize>
         ensures next { MatchOption result
             ((n : ℕ) → from ≤ n → n < length self.now.nets →
@@ -122,7 +122,7 @@ impl<'a> BoardTables<'a> {
         self.classed.next_wanted(left, a, from)
     }
 
-    /// An earlier net with the same tested drivers, or the net itself.
+    /// Returns an earlier net with the same tested drivers, or the net itself.
     pub fn like_of(&self, net: usize) -> usize
         ensures within { result ≤ net }
         ensures alike { drivers_at self.now result ≡ drivers_at self.now net }
@@ -133,8 +133,8 @@ impl<'a> BoardTables<'a> {
         }
     }
 
-    /// Takes out the places of the other useful controls that are not together with this one.
-    /// Whether its own place stays is not said.
+    /// Removes the places of the other useful controls that are not together with `c`. The contract does not say
+    /// whether the place of `c` itself stays.
     pub fn take_out_apart(&self, free: &mut NumberSet, c: Ctl)
         requires { holds (useful_controls self.now) c ≡ true }
         ensures { LosesApart self.now c free.old free.new }
@@ -144,7 +144,7 @@ impl<'a> BoardTables<'a> {
         close_sharers(free, &self.sharers, self.classed.shared_nets(c));
     }
 
-    /// The nets that the pass shows which holds the useful controls at these places.
+    /// Returns the nets that a pass shows if it has the useful controls at these places.
     pub fn shown_by(&self, alloc: Global, held: &NumberSet) -> Result<NumberSet, AllocError>
         ensures { IfOk result (λ row. AreShownBy self.now (setting_of self.now held.now) row) }
     {

@@ -1,4 +1,4 @@
-// Which nets each useful control tests, and so which nets a pass shows.
+// The nets that each useful control tests, and so the nets that a pass shows.
 ghost use Rattle.std.specs.Prelude.{◌≡◌, ◌<◌, ◌/◌, [], true, length, Some, IfOk, OnOk};
 ghost use Rattle.board_defs.specs.Decided.{is_by};
 ghost use Rattle.board_defs.specs.Passes.{shows, useful_controls};
@@ -13,16 +13,16 @@ use lists::blank;
 use net_classes::NetNumbers;
 use std::alloc::{AllocError, Global};
 
-/// Which nets the useful controls test.
+/// The nets that the useful controls test.
 #[derive(Drop)]
 pub struct TestedNets {
-    /// The nets with a tested driver that is always on, which each pass shows.
+    /// The nets with a tested driver that is always on. Every pass shows them.
     pub steady: NumberSet,
-    /// For each useful control, the nets of which it controls a tested driver.
+    /// For each useful control, the nets with a tested driver of this control.
     pub by_control: Vec<NetNumbers>,
 }
 
-/// Whether one of the drivers is always on.
+/// Returns whether one of the drivers is always on.
 fn has_steady(drivers: &[Drive]) -> bool
     ensures { result ≡ shows drivers.now [] }
 {
@@ -34,7 +34,7 @@ fn has_steady(drivers: &[Drive]) -> bool
     false
 }
 
-/// The nets with a tested driver that is always on.
+/// Returns the nets with a tested driver that is always on.
 fn steady_nets(alloc: Global, board: &ClassedBoard<'_>) -> Result<NumberSet, AllocError>
     ensures { IfOk result (λ row. AreShownBy board.now [] row) }
 {
@@ -46,7 +46,7 @@ fn steady_nets(alloc: Global, board: &ClassedBoard<'_>) -> Result<NumberSet, All
     Ok(row)
 }
 
-/// Adds the net to the list of the control of this driver, where it has one.
+/// Appends the net to the list of the driver's control, if it has one.
 fn list_driver(
     lists: &mut [NetNumbers],
     board: &ClassedBoard<'_>,
@@ -65,7 +65,7 @@ fn list_driver(
     Ok(())
 }
 
-/// Adds the net to the list of each control of these drivers.
+/// Appends the net to the list of each control of these drivers.
 fn list_drivers(
     lists: &mut [NetNumbers],
     board: &ClassedBoard<'_>,
@@ -81,7 +81,7 @@ fn list_drivers(
     Ok(())
 }
 
-/// For each useful control, the nets of which it controls a tested driver.
+/// Returns, for each useful control, the nets with a tested driver of this control.
 fn nets_by_control(alloc: Global, board: &ClassedBoard<'_>) -> Result<Vec<NetNumbers>, AllocError>
     ensures { IfOk result (λ lists. AreListed board.now (length board.now.nets) lists.items) }
 {
@@ -93,7 +93,7 @@ fn nets_by_control(alloc: Global, board: &ClassedBoard<'_>) -> Result<Vec<NetNum
 }
 
 impl TestedNets {
-    /// Which nets the useful controls of the board test.
+    /// Collects the nets that the useful controls of the board test.
     pub fn new(alloc: Global, board: &ClassedBoard<'_>) -> Result<TestedNets, AllocError>
         ensures { IfOk result (λ nets. AreTestedNets board.now nets) }
     {
@@ -102,7 +102,7 @@ impl TestedNets {
         Ok(TestedNets { steady, by_control })
     }
 
-    /// The nets that the pass shows which holds the useful controls at these places.
+    /// Returns the nets that a pass shows if it has the useful controls at these places.
     pub fn shown_by(
         &self,
         alloc: Global,

@@ -1,4 +1,4 @@
-// The walks through the useful controls. They pass over those that can't be added, 64 at a time.
+// The walks over the useful controls. They skip those that cannot be added, 64 at a time.
 ghost use Rattle.std.specs.Prelude.{◌≡◌, ◌<◌, length};
 ghost use Rattle.board_defs.specs.Passes.{useful_controls};
 ghost use Rattle.driver_passes.specs.inner.Progress.{IsProgress};
@@ -8,8 +8,8 @@ use crate::draft::Draft;
 use crate::drivers::Progress;
 
 impl<'a, 'b> Draft<'a, 'b> {
-    /// Adds the first useful control from this place on that is together with all controls of the
-    /// draft and that no earlier pass holds, where there is one. Gives the place to go on with.
+    /// Adds the first useful control, from `from` on, that is together with all controls of the draft and in no
+    /// earlier pass, if there is one. Returns the place to continue with.
     fn add_new(&mut self, earlier: &Progress, from: usize) -> usize
         requires earlier { IsProgress self.old.board earlier.now }
         requires from { from < length (useful_controls self.old.board) }
@@ -29,8 +29,8 @@ impl<'a, 'b> Draft<'a, 'b> {
         place + 1
     }
 
-    /// Goes through the useful controls, and adds each that is together with all controls of the
-    /// draft and that controls a tested driver which no earlier pass enables.
+    /// Goes through the useful controls in order, and adds each that is together with all controls of the draft and
+    /// in no earlier pass, so that no earlier pass enables its tested drivers.
     pub fn first_walk(&mut self, earlier: &Progress)
         requires { IsProgress self.old.board earlier.now }
         ensures { self.new ≡ first_walked self.old 0 earlier.now.passes.items }
@@ -41,8 +41,8 @@ impl<'a, 'b> Draft<'a, 'b> {
         }
     }
 
-    /// Adds the first useful control from this place on that is together with all controls of the
-    /// draft, where there is one. Gives the place to go on with.
+    /// Adds the first useful control, from `from` on, that is together with all controls of the draft, if there is
+    /// one. Returns the place to continue with.
     fn add_next(&mut self, from: usize) -> usize
         requires { from < length (useful_controls self.old.board) }
         ensures board { self.new.board ≡ self.old.board }
@@ -60,8 +60,7 @@ impl<'a, 'b> Draft<'a, 'b> {
         place + 1
     }
 
-    /// Goes through the useful controls, and adds each that is together with all controls of the
-    /// draft.
+    /// Goes through the useful controls in order, and adds each that is together with all controls of the draft.
     pub fn second_walk(&mut self)
         ensures { self.new ≡ second_walked self.old 0 }
     {

@@ -3,12 +3,12 @@ use Rattle.std.specs.Prelude.{◌≡◌, ◌≤◌, ◌<◌, ℕ, List, length, 
 use Rattle.board_defs.specs.declared.board.RawBoard.{RawBoard}
 use Rattle.driver_passes.specs.inner.Shown.{drivers_at}
 
--- the table names for each net below this one an earlier net with the same tested drivers, or the net itself
+-- for each net below `most`, the table has an earlier net with the same tested drivers, or the net itself
 pub record AreAlikeBelow (board : RawBoard) (most : ℕ) (likes : List ℕ) : Type 0 where
   pub likes_length : length likes ≡ most
   pub likes_within : (n : ℕ) → n < most → slice_index_or likes n 0 ≤ n
   pub likes_are : (n : ℕ) → n < most → drivers_at board (slice_index_or likes n 0) ≡ drivers_at board n
 
--- so for each net
+-- this is so for each net of the board
 abbrev pub AreAlike : RawBoard → List ℕ → Type 0
 AreAlike board likes = AreAlikeBelow board (length board.nets) likes

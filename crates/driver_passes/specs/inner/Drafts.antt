@@ -1,4 +1,4 @@
--- A pass as it is made: one set has the places of the useful controls that it holds, and another those of the controls that it can hold too.
+-- A pass while it is made. One set has the places of its useful controls; the other has the places of those that can be added.
 use Rattle.std.specs.Prelude.{◌≡◌, ℕ, suc, ◌+◌, ◌/◌, ◌==◌, ◌&&◌, Bool, not, cond, List, [], ◌∷◌, length, Some, slice_get}
 use Rattle.std.specs.List.{list_any}
 use Rattle.board_defs.specs.declared.board.Ctl.{Ctl}
@@ -7,7 +7,7 @@ use Rattle.board_defs.specs.Settings.{inserted}
 use Rattle.board_defs.specs.Passes.{fits, useful_controls}
 use Rattle.driver_passes.specs.inner.NumberSets.{is_in}
 
--- a pass as it is made: its board, and the setting so far
+-- a pass while it is made: its board, and the setting so far
 pub record Drafted : Type 0 where
   pub board : RawBoard
   pub setting : List Ctl
@@ -15,11 +15,11 @@ pub record Drafted : Type 0 where
 abbrev pub drafted : RawBoard → List Ctl → Drafted
 drafted board setting = record { board = board; setting = setting }
 
--- the pass with the control too
+-- the pass with the control added
 abbrev pub with_control : Drafted → Ctl → Drafted
 with_control draft c = drafted draft.board (inserted c draft.setting)
 
--- the controls whose places pass, where the first of them has this place
+-- the controls whose places pass the test; the first control has place `place`
 abbrev pub chosen : (ℕ → Bool) → ℕ → List Ctl → List Ctl
 chosen passes place [] = []
 chosen passes place (c ∷ controls) = cond (passes place) (c ∷ chosen passes (suc place) controls) (chosen passes (suc place) controls)
@@ -32,7 +32,7 @@ has_number numbers n = list_any (λ m. m == n) numbers
 abbrev pub setting_of : RawBoard → List ℕ → List Ctl
 setting_of board held = chosen (is_in held) 0 (useful_controls board)
 
--- the first set has room for each useful control, and the second has the places of those that are not in the first one and are together with all that are
+-- `held` has room for each useful control; `free` has the places of those that are not in `held` and are together with all that are
 pub record IsDraft (board : RawBoard) (held free : List ℕ) : Type 0 where
   pub held_length : length held ≡ length (useful_controls board) / 64 + 1
   pub free_are : (place : ℕ) (c : Ctl) → slice_get (useful_controls board) place ≡ Some c → is_in free place ≡ (not (is_in held place) && fits board (setting_of board held) c)

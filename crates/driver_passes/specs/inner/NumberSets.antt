@@ -1,4 +1,4 @@
--- Sets of numbers, by words that have a bit for each of 64 numbers.
+-- Sets of numbers, as words with a bit for each of 64 numbers.
 use Rattle.std.specs.Prelude.{◌≡◌, ◌≤◌, ◌<◌, ◌/◌, ◌%◌, ◌==◌, ◌&&◌, ℕ, Bool, true, false, List, slice_index_or}
 use Rattle.std.specs.Int.{bit_at}
 
@@ -10,11 +10,11 @@ has_bit word place = bit_at word place == 1
 unfoldable pub is_in : List ℕ → ℕ → Bool
 is_in words n = has_bit (slice_index_or words (n / 64) 0) (n % 64)
 
--- the number has this word, and its bit there is one of these
+-- the number belongs to this word, and its bit there is one of `bits`
 abbrev pub is_of_word : ℕ → ℕ → ℕ → Bool
 is_of_word word bits n = n / 64 == word && has_bit bits (n % 64)
 
--- of the numbers from this one on, the first that passes
+-- `first` is the first number from `from` on that passes
 pub record IsFirst (passes : ℕ → Bool) (from first : ℕ) : Type 0 where
   pub least : from ≤ first
   pub found : passes first ≡ true

@@ -1,4 +1,4 @@
--- For which pairs of nets a pass is wanted.
+-- The pairs of nets for which a pass is needed.
 use Rattle.std.specs.Prelude.{◌≡◌, ◌≤◌, ◌<◌, ◌⊎◌, ◌+◌, ◌/◌, ℕ, Bool, true, not, ◌&&◌, List, drop, length, map, None}
 use Rattle.board_defs.specs.declared.board.Ctl.{Ctl}
 use Rattle.board_defs.specs.declared.board.RawBoard.{RawBoard}
@@ -11,7 +11,8 @@ use Rattle.driver_passes.specs.inner.Progress.{EnableTested, IsUsefulDriver}
 use Rattle.driver_passes.specs.Useful.{HoldUseful}
 use Rattle.driver_passes.specs.inner.Shown.{AreRows, AreShownByAll, IsColumn, drivers_at}
 
--- the rows are those of the passes so far, which enable each tested driver and hold useful controls only, the column is that of the rows, and the last set has the nets that they all show; the first set has room for each net
+-- The rows belong to the passes so far, which enable each tested driver and have useful controls only. The column belongs to the rows.
+-- `always` has the nets that all passes show, and `left` has room for each net.
 pub record ArePairing (board : RawBoard) (pairing : Pairing) : Type 0 where
   pub rows : AreRows board pairing.passes.items pairing.rows.items
   pub column : IsColumn pairing.rows.items pairing.column
@@ -20,44 +21,44 @@ pub record ArePairing (board : RawBoard) (pairing : Pairing) : Type 0 where
   pub left_length : length pairing.left ≡ length board.nets / 64 + 1
   pub always : AreShownByAll board pairing.passes.items pairing.always
 
--- of the nets from net a on, the set has those that none of the passes shows together with net a
+-- `left` has those nets from net `a` on that no pass shows together with net `a`
 abbrev pub AreLeft : RawBoard → List (List Ctl) → ℕ → List ℕ → Type 0
 AreLeft board passes a left = (n : ℕ) → a ≤ n → n < length board.nets → is_in left n ≡ not (are_shown passes (drivers_at board a) (drivers_at board n))
 
--- the pairing looks at net a: of the nets from net a on, its first set has those that none of the passes shows together with net a
+-- net `a` is the current net: `left` has those nets from net `a` on that no pass shows together with it
 pub record LooksAt (board : RawBoard) (pairing : Pairing) (a : ℕ) : Type 0 where
   pub are : ArePairing board pairing
   pub net : a < length board.nets
   pub left : AreLeft board pairing.passes.items a pairing.left
 
--- the net is in the set and paired with net a
+-- the net is in `left` and paired with net `a`
 abbrev pub is_wanted : RawBoard → List ℕ → ℕ → ℕ → Bool
 is_wanted board left a n = is_in left n && pairs_with board a n
 
--- no pass is to be added for the two nets: one shows both, or no safe setting enables a tested driver of each
+-- no pass is needed for the two nets: one shows both, or no safe setting enables a tested driver of each
 abbrev pub IsDone : RawBoard → List (List Ctl) → ℕ → ℕ → Type 0
 IsDone board passes a b = (are_shown passes (drivers_at board a) (drivers_at board b) ≡ true) ⊎ (first_pair board (drivers_at board a) (drivers_at board b) ≡ None)
 
--- so for net a and each later one below b
+-- this is so for net `a` and each later net below `b`
 abbrev pub IsDoneTo : RawBoard → List (List Ctl) → ℕ → ℕ → Type 0
 IsDoneTo board passes a b = (n : ℕ) → a < n → n < b → IsDone board passes a n
 
--- so for each net below a and all later ones
+-- this is so for each net below `a` and all later nets
 abbrev pub AreDone : RawBoard → List (List Ctl) → ℕ → Type 0
 AreDone board passes a = (m : ℕ) → m < a → IsDoneTo board passes m (length board.nets)
 
--- what was done stays done
+-- nets for which no pass was needed need none afterwards
 abbrev pub StaysDone : RawBoard → List (List Ctl) → List (List Ctl) → Type 0
 StaysDone board before after = (m n : ℕ) → IsDone board before m n → IsDone board after m n
 
--- the controls of both drivers, where they have one, are useful
+-- the control of each of the two drivers, if it has one, is useful
 abbrev pub IsUsefulPair : RawBoard → Drive × Drive → Type 0
 IsUsefulPair board pair = IsUsefulDriver board pair.0 × IsUsefulDriver board pair.1
 
--- the tested drivers of net a and those of another net, for each net from b on in order
+-- the tested drivers of net `a` and those of each net from net `b` on, in net order
 abbrev pub pairs_from : RawBoard → ℕ → ℕ → List (List Drive × List Drive)
 pairs_from board a b = map (λ others. (drivers_at board a, others)) (drop b (drivers_by_net board))
 
--- the passes, with one more for the two nets where they are paired and none of them shows both
+-- the passes, followed by one for the two nets if they are paired and no pass shows both
 abbrev pub observing : RawBoard → List (List Ctl) → List Drive × List Drive → List (List Ctl)
 observing board = add_for_nets board (useful_controls board)

@@ -12,33 +12,33 @@ use Rattle.driver_passes.specs.inner.NumberSets.{is_in}
 use Rattle.driver_passes.specs.Useful.{HoldUseful}
 use Rattle.driver_passes.specs.inner.Shown.{AreRows, drivers_at}
 
--- some pass holds the control
+-- the control is in some pass
 abbrev pub is_held : List (List Ctl) → Ctl → Bool
 is_held passes c = list_any (λ pass. holds pass c) passes
 
--- the set has the places of the useful controls that the passes hold
+-- the set has the places of the useful controls that are in some pass
 pub record AreHeld (board : RawBoard) (passes : List (List Ctl)) (held : List ℕ) : Type 0 where
   pub held_length : length held ≡ length (useful_controls board) / 64 + 1
   pub held_are : (i : ℕ) (c : Ctl) → slice_get (useful_controls board) i ≡ Some c → is_in held i ≡ is_held passes c
 
--- the set and the rows are those of the passes so far, which hold useful controls only
+-- `held` and the rows belong to the passes so far, which have useful controls only
 pub record IsProgress (board : RawBoard) (progress : Progress) : Type 0 where
   pub held : AreHeld board progress.passes.items progress.held
   pub useful : HoldUseful board progress.passes.items
   pub rows : AreRows board progress.passes.items progress.rows.items
 
--- the driver's control, where it has one, is useful
+-- the control of the driver, if it has one, is useful
 abbrev pub IsUsefulDriver : RawBoard → Drive → Type 0
 IsUsefulDriver board d = (c : Ctl) → d ≡ By c → holds (useful_controls board) c ≡ true
 
--- each tested driver is enabled by some pass
+-- some pass enables each tested driver
 abbrev pub EnableTested : RawBoard → List (List Ctl) → Type 0
 EnableTested board passes = (n : ℕ) (d : Drive) → n < length board.nets → Contains (drivers_at board n) d → list_any (λ pass. is_enabled pass d) passes ≡ true
 
--- the passes, with one more for the driver where none of them enables it
+-- the passes, followed by one for the driver unless one of them enables it
 abbrev pub enabling : RawBoard → List (List Ctl) → Drive → List (List Ctl)
 enabling board = add_for_driver board (useful_controls board)
 
--- the tested drivers of net n and of each later one, net by net
+-- the tested drivers of net `n` and of each later net, net by net
 abbrev pub drivers_from : RawBoard → ℕ → List Drive
 drivers_from board n = flat_map (λ drivers. drivers) (drop n (drivers_by_net board))

@@ -1,4 +1,4 @@
--- Which useful controls share each net with another control.
+-- The useful controls that share each net with another control.
 use Rattle.std.specs.Prelude.{◌≡◌, ◌&&◌, ℕ, Bool, false, List, [], length, ltb, Some, slice_get, slice_index_or}
 use Rattle.std.specs.List.{list_any}
 use Rattle.board_defs.specs.declared.board.Ctl.{Ctl}
@@ -12,19 +12,19 @@ use Rattle.driver_passes.specs.inner.Blocks.{has_place}
 use Rattle.driver_passes.specs.inner.Drafts.{has_number}
 use Rattle.driver_passes.specs.inner.NumberSets.{is_in}
 
--- the lists, one for each net, have of the places below this one those of the useful controls that share the net
+-- the list of each net has those places below `most` whose useful controls share the net with another control
 pub record AreSharersBelow (board : RawBoard) (most : ℕ) (sharers : List (List ℕ)) : Type 0 where
   pub sharers_length : length sharers ≡ length board.nets
   pub sharers_are : (place : ℕ) (c : Ctl) → slice_get (useful_controls board) place ≡ Some c → (n : ℕ) → has_number (slice_index_or sharers n []) place ≡ (ltb place most && has_number (shared_nets board c) n)
 
--- the sets of places, one for each net, have those of all useful controls that share it
+-- the set of each net has the places of the useful controls that share it with another control
 abbrev pub AreSharers : RawBoard → List (List Block) → Type 0
 AreSharers board sharers = (place : ℕ) (c : Ctl) → slice_get (useful_controls board) place ≡ Some c → (n : ℕ) → has_place (slice_index_or sharers n []) place ≡ has_number (shared_nets board c) n
 
--- the place is in the set of some of these nets
+-- the place is in the set of one of these nets
 abbrev pub is_listed : List (List Block) → List ℕ → ℕ → Bool
 is_listed sharers nets place = list_any (λ n. has_place (slice_index_or sharers n []) place) nets
 
--- of the places of the other useful controls, the set keeps those of controls that are together with c
+-- among the places of the other useful controls, the set loses those of controls that are not together with `c`
 abbrev pub LosesApart : RawBoard → Ctl → List ℕ → List ℕ → Type 0
 LosesApart board c before after = (q : ℕ) (e : Ctl) → slice_get (useful_controls board) q ≡ Some e → same_ctl e c ≡ false → is_in after q ≡ (is_in before q && are_together board e c)

@@ -1,4 +1,4 @@
--- Which nets each pass shows.
+-- The nets that each pass shows.
 use Rattle.std.specs.Prelude.{◌≡◌, ◌<◌, ◌+◌, ◌/◌, ◌&&◌, ℕ, Bool, List, [], length, map, slice_index_or}
 use Rattle.std.specs.List.{AllZip, list_all}
 use Rattle.board_defs.specs.declared.board.Ctl.{Ctl}
@@ -8,7 +8,7 @@ use Rattle.board_defs.specs.Passes.{drivers_by_net, shows}
 use Rattle.driver_passes.specs.declared.column.Column.{Column}
 use Rattle.driver_passes.specs.inner.NumberSets.{is_in}
 
--- the tested drivers of the net of this number
+-- the tested drivers of net number `n`
 abbrev pub drivers_at : RawBoard → ℕ → List Drive
 drivers_at board n = slice_index_or (drivers_by_net board) n []
 
@@ -17,11 +17,11 @@ pub record AreShownBy (board : RawBoard) (pass : List Ctl) (row : List ℕ) : Ty
   pub row_length : length row ≡ length board.nets / 64 + 1
   pub row_are : (n : ℕ) → n < length board.nets → is_in row n ≡ shows (drivers_at board n) pass
 
--- the rows are those of the passes, one for each
+-- the rows are those of the passes, one for each pass
 abbrev pub AreRows : RawBoard → List (List Ctl) → List (List ℕ) → Type 0
 AreRows board passes rows = AllZip (AreShownBy board) passes rows
 
--- the set is that of the nets that each of the passes shows, with room for each net
+-- the set has the nets that every pass shows, with room for each net
 pub record AreShownByAll (board : RawBoard) (passes : List (List Ctl)) (always : List ℕ) : Type 0 where
   pub always_length : length always ≡ length board.nets / 64 + 1
   pub always_are : (n : ℕ) → n < length board.nets → is_in always n ≡ list_all (shows (drivers_at board n)) passes

@@ -1,4 +1,4 @@
--- Which nets each useful control tests.
+-- The nets that each useful control tests.
 use Rattle.std.specs.Prelude.{◌≡◌, ◌==◌, ◌&&◌, ◌||◌, ℕ, Bool, List, [], length, ltb, Some, slice_get, slice_index_or}
 use Rattle.std.specs.List.{list_any}
 use Rattle.board_defs.specs.declared.board.Ctl.{Ctl}
@@ -14,17 +14,17 @@ use Rattle.driver_passes.specs.inner.Shown.{AreShownBy, drivers_at}
 abbrev pub drives : Ctl → List Drive → Bool
 drives c drivers = list_any (λ d. is_by c (Some d)) drivers
 
--- the lists of useful controls have the net too where the control passes, and else what they had before
+-- the net was added to the lists of those useful controls that pass, and nothing else changed
 abbrev pub AreNoted : RawBoard → ℕ → (Ctl → Bool) → List (List ℕ) → List (List ℕ) → Type 0
 AreNoted board net passes before after =
     (place : ℕ) (c : Ctl) → slice_get (useful_controls board) place ≡ Some c → (n : ℕ) → has_number (slice_index_or after place []) n ≡ ((n == net && passes c) || has_number (slice_index_or before place []) n)
 
--- the lists, one for each useful control, have of the nets below this one those of which it controls a tested driver
+-- the list of each useful control has those nets below `most` that have a tested driver of this control
 pub record AreListed (board : RawBoard) (most : ℕ) (lists : List (List ℕ)) : Type 0 where
   pub lists_length : length lists ≡ length (useful_controls board)
   pub lists_are : (place : ℕ) (c : Ctl) → slice_get (useful_controls board) place ≡ Some c → (n : ℕ) → has_number (slice_index_or lists place []) n ≡ (ltb n most && drives c (drivers_at board n))
 
--- the set is that of the nets with a tested driver that is always on, and the lists those of the useful controls
+-- `steady` has the nets with a tested driver that is always on, and `by_control` the nets that each useful control tests
 pub record AreTestedNets (board : RawBoard) (nets : TestedNets) : Type 0 where
   pub steady : AreShownBy board [] nets.steady
   pub by_control : AreListed board (length board.nets) nets.by_control.items

@@ -1,13 +1,13 @@
--- The walks through the useful controls, from a place on.
+-- The walks over the useful controls, from a place on.
 use Rattle.std.specs.Prelude.{ℕ, List, drop}
 use Rattle.board_defs.specs.declared.board.Ctl.{Ctl}
 use Rattle.board_defs.specs.Passes.{first_walk, second_walk, useful_controls}
 use Rattle.driver_passes.specs.inner.Drafts.{Drafted, drafted}
 
--- what the first walk, over the useful controls from this place on, makes of the draft
+-- the draft after the first walk over the useful controls from this place on
 abbrev pub first_walked : Drafted → ℕ → List (List Ctl) → Drafted
 first_walked draft from earlier = drafted draft.board (first_walk draft.board (drop from (useful_controls draft.board)) earlier draft.setting)
 
--- and the second walk
+-- the draft after the second walk over the useful controls from this place on
 abbrev pub second_walked : Drafted → ℕ → Drafted
 second_walked draft from = drafted draft.board (second_walk draft.board (drop from (useful_controls draft.board)) draft.setting)
