@@ -1,4 +1,4 @@
--- What the table of driver cells gives for the controls that a pass holds.
+-- The entries of the table of driver cells for the controls of a pass.
 use Rattle.std.proofs.Common.{◌≡◌, ℕ, ◌<◌, ◌≤◌, true, List, [], ◌∷◌, ◌++◌, length, get_or, set, replicate, Option, Some, None, refl, sym, ap, ◌∙◌, subst, arith, length-set, ◌⊎◌, inl, inr}
 use Rattle.std.specs.Prelude.{filter, is_none}
 use Rattle.std.specs.List.{flat_map}
@@ -94,11 +94,11 @@ has_noted (x ∷ observers) rows p d less h = has_noted observers (noted rows x.
     by_case (inl k) = inl (added x.control (inl k))
     by_case (inr n) = by_in n n.is_in
 
--- a control is held, where there is one
+-- there is no control, or its cell is held
 abbrev pub IsOn : List HeldCell → Option ℕ → Type 0
 IsOn held control = (p : ℕ) → control ≡ Some p → (h : HeldCell) × Has held h × (h.position ≡ p)
 
--- one of these drivers that is always on or has a control that is held
+-- one of these drivers, which is always on or has a control whose cell is held
 pub record OnBy (observers : List Observer) (held : List HeldCell) (cell : DriverCell) : Type 0 where
   pub observer : Observer
   pub is_in : Has observers observer

@@ -1,4 +1,4 @@
--- The quiet row, and the cells of the controls of passes.
+-- The quiet row, and the cells of the passes' controls.
 use Rattle.std.proofs.Common.{◌≡◌, ℕ, ◌<◌, ◌==◌, Bool, true, false, ◌&&◌, Option, Some, None, unwrap_or, refl, sym, ap, ◌∙◌, subst}
 use Rattle.std.specs.Prelude.{option_and_then, option_map}
 use Rattle.std.specs.List.{list_any}
@@ -44,7 +44,7 @@ pub quiet_steady : (board : RawBoard) (part : ℕ) (device : RawDevice) (cell : 
 quiet_steady board part device cell =
     ap (λ (o : Option Bool). unwrap_or o (steady_bit board (λ c. false) part device cell)) (quiet_data board part device cell)
 
--- the cell of a control that controls a driver is one of its device
+-- the cell of a control that controls a driver is a cell of its device
 pub control_below : (board : RawBoard) → IsBoard board → (c : Ctl) (device : RawDevice) → device_at board c.part ≡ Some device →
     list_any (controls_driver board c.part c.cell) device.cells ≡ true → c.cell < device.boundary
 control_below board rules c device e any =
@@ -58,7 +58,7 @@ pub controls_any : (board : RawBoard) (c : Ctl) (device : RawDevice) → device_
     list_any (controls_driver board c.part c.cell) device.cells ≡ true
 controls_any board c device e controls = sym (ap (λ (o : Option RawDevice). controls_in board c o) e) ∙ controls
 
--- its cell is one of its part
+-- the control's cell is a cell of its part
 pub control_cells : (board : RawBoard) → IsBoard board → (c : Ctl) → controls_some board c ≡ true → c.cell < cell_count (device_at board c.part)
 control_cells board rules c controls = by_device (device_at board c.part) refl controls
   where

@@ -1,4 +1,4 @@
--- A row of data as a bit for each boundary cell of each described part, at its position.
+-- A row of data, made from a bit for each boundary cell of each described part at the cell's position.
 use Rattle.std.proofs.Common.{◌≡◌, ℕ, zero, suc, ◌+◌, ◌-◌, ◌<◌, ◌≤◌, Bool, false, List, [], ◌∷◌, ◌++◌, length, map, drop, get_or, replicate, Option, Some, None, is_some, unwrap_or, refl, sym, ap, ◌∙◌, arith, length-append, ◌⊎◌, inl, inr}
 use Rattle.std.specs.Prelude.{slice_get, option_and_then, sum_by}
 use Rattle.std.proofs.lemmas.Bool.{cases_lt}
@@ -63,7 +63,7 @@ length-parts_laid g part (p ∷ parts) =
 pub length-laid : (g : CellBits) (board : RawBoard) → length (laid g board) ≡ data_bits board
 length-laid g board = length-parts_laid g 0 board.chain
 
--- the bit of a cell stands at its position
+-- the bit of a cell is at the cell's position
 part_at : (g : CellBits) (k : ℕ) (parts : List Part) (n : ℕ) (p : Part) (device : RawDevice) (cell : ℕ) → slice_get parts n ≡ Some p → p.kind ≡ Described device → cell < device.boundary →
     (bits_of (drop (suc n) parts) + cell < bits_of parts) × (get_or (joined (parts_laid g k parts)) (bits_of (drop (suc n) parts) + cell) false ≡ g (k + n) device cell)
 part_at g k [] n p device cell e kind below = cc e
@@ -104,7 +104,7 @@ laid_at g board part device cell e below =
     let z : 0 + part ≡ part = omega arith in
     (r.0, r.1 ∙ ap (λ (m : ℕ). g m device cell) z)
 
--- what stands at a position: a cell of a described part, or the bit of another part
+-- what is at a position: a cell of a described part, or the bit of another part
 data Site (parts : List Part) (k i : ℕ) : Type 0 where
   cell_site : (n : ℕ) (p : Part) (device : RawDevice) (cell : ℕ) → slice_get parts n ≡ Some p → p.kind ≡ Described device → cell < device.boundary →
       i ≡ bits_of (drop (suc n) parts) + cell → Site parts k i
@@ -154,7 +154,7 @@ pub record Sets (board : RawBoard) (g : CellBits) (place : ℕ) (bit : Bool) : T
   pub place_is : place ≡ first_position board part + cell
   pub bit_is : g part device cell ≡ bit
 
--- a row made from another by setting bits of cells: each item sets a right bit, and some item sets each cell whose bit differs
+-- if each item sets a right bit, and some item sets each cell whose bit differs, the result is the wanted row
 pub assigned_laid : {X : Type 0} (place : X → ℕ) (bit : X → Bool) (xs : List X) (board : RawBoard) (g h : CellBits) →
     ((x : X) → Has xs x → Sets board h (place x) (bit x)) →
     ((part : ℕ) (device : RawDevice) (cell : ℕ) → CellOf board part device cell → (g part device cell ≡ h part device cell) ⊎ ((x : X) × Has xs x × (place x ≡ first_position board part + cell))) →

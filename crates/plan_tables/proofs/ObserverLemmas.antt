@@ -126,7 +126,7 @@ pin_enabled board s net d k on =
     ∙ ap (λ (x : NetDriver). is_on s x.ctl) k.driver_is
     ∙ on
 
--- a safe setting enables one driver of a net at most
+-- a safe setting enables at most one driver of a net
 one_driver : (board : RawBoard) (s : Enabling) → IsSafe board s → (n : ℕ) (net : Net) → slice_get board.nets n ≡ Some net → (d e : NetDriver) → Has (drivers_of board net) d → Has (drivers_of board net) e →
     is_on s d.ctl ≡ true → is_on s e.ctl ≡ true → d ≡ e
 one_driver board s safe n net is_net d e hd he on_d on_e = by_place (cases_eq d.place e.place)
@@ -152,7 +152,7 @@ one_driver board s safe n net is_net d e hd he on_d on_e = by_place (cases_eq d.
         ∙ b.driver_is
     by_place (inr differ) = absurd (safe.one n net d.place e.place a.pin b.pin is_net a.is_pin b.is_pin differ (pin_enabled board s net d a on_d) (pin_enabled board s net e b on_e))
 
--- so it observes the net by this one, where another pin is read
+-- if another pin has a compared cell, the setting observes the net by this driver
 observing_is : (board : RawBoard) (s : Enabling) → IsSafe board s → (n : ℕ) (net : Net) → slice_get board.nets n ≡ Some net → (d : NetDriver) → Has (drivers_of board net) d → is_on s d.ctl ≡ true →
     is_read_beside (readers_of board net.pins) d ≡ true → observing_of s (drivers_of board net) (readers_of board net.pins) ≡ Some d
 observing_is board s safe n net is_net d h on beside = by_found (find (λ x. is_on s x.ctl) (drivers_of board net)) refl
@@ -167,7 +167,7 @@ observing_is board s safe n net is_net d h on beside = by_found (find (λ x. is_
         let same : e ≡ d = one_driver board s safe n net is_net e d k.0 h k.1 on in
         ap (λ (x : NetDriver). cond (is_read_beside readers x) (Some x) None) same ∙ ap (λ (t : Bool). cond t (Some d) None) beside
 
--- and the driver by which it observes a net is one of the net's that it enables, beside which a pin is read
+-- conversely, the driver by which a setting observes a net is a driver of it that is enabled, with a compared cell on another pin
 pub record Enabled (s : Enabling) (drivers : List NetDriver) (readers : List ReaderCell) (d : NetDriver) : Type 0 where
   pub is_in : Has drivers d
   pub on : is_on s d.ctl ≡ true
@@ -186,7 +186,7 @@ enabled_by s drivers readers d e = by_found (find (λ x. is_on s x.ctl) drivers)
         let k = find_has (λ (y : NetDriver). is_on s y.ctl) drivers x f in
         by_test x k.0 k.1 (is_read_beside readers x) refl e
 
--- what an observer of a board is
+-- the meaning of an observer of a board
 pub record ObserverOf (board : RawBoard) (x : Observer) : Type 0 where
   pub number : ℕ
   pub net : Net
@@ -212,7 +212,7 @@ has_observer board n net d is_net h beside =
     (subst (λ (m : ℕ). Has (observers_at board m net) (observer board n d)) z
     (has_map (observer board n) (filter (is_read_beside (readers_of board net.pins)) (drivers_of board net)) d (has_filter (is_read_beside (readers_of board net.pins)) (drivers_of board net) d h beside)))
 
--- its control stands in a row of data
+-- the observer's control is within a row of data
 pub observer_below : (board : RawBoard) → IsBoard board → (x : Observer) (p : ℕ) → Has (observers board board.nets) x → x.control ≡ Some p → p < data_bits board
 observer_below board rules x p h e = by_control s.driver.ctl refl
   where
@@ -229,7 +229,7 @@ observer_below board rules x p h e = by_control s.driver.ctl refl
         let same : control_position board c ≡ p = cc two in
         subst (λ (n : ℕ). n < data_bits board) same (position_within board c.part c.cell (control_there board rules s.net s.driver s.is_in c k))
 
--- its cell stands in a net and in a row of data
+-- the observer's net and cell are within the board's nets and a row of data
 pub observer_stands : (board : RawBoard) → IsBoard board → (x : Observer) → Has (observers board board.nets) x → (x.cell.net < length board.nets) × (x.cell.position < data_bits board)
 observer_stands board rules x h =
     let s = observer_of board x h in
@@ -247,7 +247,7 @@ holds_has pass c h = let f = any_place (same_ctl c) pass h in has_at pass f.plac
 pub has_holds : (pass : List Ctl) (c : Ctl) → Has pass c → holds pass c ≡ true
 has_holds pass c h = let p = has_place pass c h in any_at (same_ctl c) pass p.0 c p.1 (same_refl c)
 
--- two controls at one position are one
+-- two controls with the same position are the same
 position_once : (board : RawBoard) (c e : Ctl) → c.cell < cell_count (device_at board c.part) → e.cell < cell_count (device_at board e.part) → control_position board e ≡ control_position board c → e ≡ c
 position_once board c e below_c below_e same =
     let g : ℕ → RawDevice → ℕ → Bool = λ part device cell. same_ctl (record { part = part; cell = cell }) c in
@@ -263,7 +263,7 @@ module _ (board : RawBoard) (rules : IsBoard board) (quiet : List Bool) (pass : 
   abbrev held : List HeldCell
   held = map (held_cell board quiet) pass
 
-  -- a pass enables a driver where it holds the cell of its control
+  -- if a pass enables a driver, it holds the cell of the driver's control
   control_on : (ctl : Option Ctl) → is_on (holds pass) ctl ≡ true → IsOn held (option_map (control_position board) ctl)
   control_on None on p e = let bad : None ≡ Some p = e in cc bad
   control_on (Some c) on p e =

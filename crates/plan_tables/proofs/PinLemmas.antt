@@ -1,4 +1,4 @@
--- Where the pins of nets and the entries of cells stand, on a board.
+-- The places of the pins of nets and of the entries of cells on a board.
 use Rattle.std.proofs.Common.{◌≡◌, ℕ, ◌==◌, Bool, true, ◌&&◌, Option, Some, None, refl, sym, ap, ◌∙◌, subst}
 use Rattle.std.specs.Prelude.{slice_get, option_and_then}
 use Rattle.std.proofs.lemmas.Bool.{and_parts, eq-eqb, eqb-true}
@@ -69,7 +69,7 @@ drives_by device bit entry e =
 pub entry_on : (board : RawBoard) (at : PinAt) (device : RawDevice) → device_at board at.part ≡ Some device → entry_at board at ≡ driving_entry device at.bit
 entry_on board at device e = ap (λ (o : Option RawDevice). option_and_then (λ x. driving_entry x at.bit) o) e
 
--- it is the driving entry of its cell
+-- the driving entry of a port bit is the driving entry of its cell
 pub driving_cell_is : (device : RawDevice) → IsWired device → (bit : ℕ) (entry : Cell) → Drives device bit entry → driving_cell device entry.num ≡ Some entry
 driving_cell_is device wired bit entry d =
     let test : Cell → Bool = λ e. (e.num == entry.num) && is_driving e.role in
@@ -83,7 +83,7 @@ driving_cell_is device wired bit entry d =
 pub on_self : (bit : ℕ) (o : Option ℕ) → o ≡ Some bit → is_on bit o ≡ true
 on_self bit o e = ap (λ (x : Option ℕ). is_on bit x) e ∙ eq-eqb bit bit refl
 
--- and the driving entry of a cell is that of its port bit
+-- conversely, the driving entry of a cell is the driving entry of its port bit
 pub driving_entry_is : (device : RawDevice) → IsWired device → (cell : ℕ) (entry : Cell) (bit : ℕ) → driving_cell device cell ≡ Some entry → entry.bit ≡ Some bit →
     (driving_entry device bit ≡ Some entry) × (entry.num ≡ cell)
 driving_entry_is device wired cell entry bit e b =
@@ -108,7 +108,7 @@ reading_entry_is device read index entry stands receiving =
     let same : y.0 ≡ entry = read.one_reader index f.1.0 entry y.0 stands reading f.1.1 p.1 (eqb-true y.0.num entry.num p.0) in
     y.1 ∙ ap (λ (c : Cell). Some c) same
 
--- a reading entry of a cell stands among the entries
+-- a reading entry of a cell is among the entries
 pub record Reads (device : RawDevice) (cell : ℕ) (entry : Cell) : Type 0 where
   pub index : ℕ
   pub stands : slice_get device.cells index ≡ Some entry

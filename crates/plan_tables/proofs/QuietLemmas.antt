@@ -47,7 +47,7 @@ record Gives (gives : Cell → Option CellBit) (entries : List Cell) (cell : ℕ
   is_value : gives entry ≡ Some value
   cell_is : value.cell ≡ cell
 
--- each entry gives a right bit, and some entry gives each bit that is not right before
+-- each entry sets a right bit, and some entry sets each bit that was not right before
 walk_is : (gives : Cell → Option CellBit) (entries : List Cell) (n : ℕ) (g h : ℕ → Bool) →
     ((i : ℕ) (e : Cell) (c : CellBit) → slice_get entries i ≡ Some e → gives e ≡ Some c → (c.cell < n) × (h c.cell ≡ c.bit)) →
     ((cell : ℕ) → cell < n → (g cell ≡ h cell) ⊎ Gives gives entries cell) → set_by gives (filled n g) entries ≡ filled n h
@@ -70,7 +70,7 @@ walk_is gives entries n g h right cover =
     covered i below (inl same) = inl (filled_bit g i below ∙ same ∙ sym (filled_bit h i below))
     covered i below (inr s) = inr (s.value, has_filter_map gives entries s.entry s.value (has_at entries s.index s.entry s.stands) s.is_value, s.cell_is)
 
--- what an entry with one of these roles gives
+-- the cell and bit of an entry with one of these roles
 record Safe (roles : Role → Bool) (e : Cell) (c : CellBit) : Type 0 where
   role : roles e.role ≡ true
   cell_is : c.cell ≡ e.num
@@ -86,7 +86,7 @@ safe_is roles e c k = by_role (roles e.role) refl k
     by_role true r k = let same : value ≡ c = cc k in record { role = r; cell_is = ap (λ (x : CellBit). x.cell) (sym same); bit_is = ap (λ (x : CellBit). x.bit) (sym same) }
     by_role false r k = cc k
 
--- a cell has one entry with these roles at most
+-- a cell has at most one entry with these roles
 abbrev HasOne : (Role → Bool) → RawDevice → Type 0
 HasOne roles device =
     (i j : ℕ) (e d : Cell) → slice_get device.cells i ≡ Some e → roles e.role ≡ true → slice_get device.cells j ≡ Some d → roles d.role ≡ true → d.num ≡ e.num → d ≡ e
@@ -97,7 +97,7 @@ one_writing device one i j e d ei re dj rd num =
     let there : Some d ≡ Some e = sym dj ∙ ap (λ (k : ℕ). slice_get device.cells k) (sym same) ∙ ei in
     cc there
 
--- so it is the first of its cell
+-- so the entry is the first of its cell
 entry_is : (roles : Role → Bool) (device : RawDevice) → HasOne roles device → (i : ℕ) (e : Cell) →
     slice_get device.cells i ≡ Some e → roles e.role ≡ true → entry_of roles device e.num ≡ Some e
 entry_is roles device one i e stands role =
@@ -128,7 +128,7 @@ safe_walk roles device is one g h right rest = walk_is (safe_value_in roles) dev
         let value : CellBit = record { cell = e.num; bit = bit_of e.safe } in
         inr (record { index = f.1.0; entry = e; stands = f.1.1; value = value; is_value = ap (λ (b : Bool). cond b (Some value) None) p.1; cell_is = eqb-true e.num cell p.0 })
 
--- the safe values of the entries of a cell, 0 where there are none
+-- the safe values of the entries of a cell, or 0 if there are none
 abbrev read_value : RawDevice → ℕ → Bool
 read_value device cell = unwrap_or (option_map (λ (e : Cell). bit_of e.safe) (reading_entry device cell)) false
 
@@ -161,7 +161,7 @@ writing_walk device is =
     (λ cell e k. ap (λ (o : Option Cell). unwrap_or (option_map (λ (x : Cell). bit_of x.safe) (or_entry o (reading_entry device cell))) false) k)
     (λ cell k. sym (ap (λ (o : Option Cell). unwrap_or (option_map (λ (x : Cell). bit_of x.safe) (or_entry o (reading_entry device cell))) false) k))
 
--- what the entry of a driver gives its control
+-- the control cell and disable value of a driver's entry
 record Disables (board : RawBoard) (part : ℕ) (e : Cell) (c : CellBit) : Type 0 where
   driver : is_driver board part e ≡ true
   control : Control

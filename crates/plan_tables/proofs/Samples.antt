@@ -70,14 +70,14 @@ table : table_of (driver 0 (Some 4) ∷ driver 1 None ∷ driver 2 (Some 5) ∷ 
     ≡ record { always = cell 1 ∷ []; rows = [] ∷ [] ∷ [] ∷ [] ∷ (cell 0 ∷ cell 3 ∷ []) ∷ (cell 2 ∷ []) ∷ [] }
 table = refl
 
--- two passes hold position 4, one of them position 5, and one position 1, where a driver has its cell
+-- two passes hold position 4, one of them position 5, and one position 1, which is also the cell of a driver
 abbrev uses : Uses
 uses = record { held = false ∷ true ∷ false ∷ false ∷ true ∷ true ∷ []; runs = 0 ∷ 1 ∷ 0 ∷ 0 ∷ 2 ∷ 0 ∷ [] }
 
 abbrev drivers : List Observer
 drivers = driver 0 (Some 4) ∷ driver 1 (Some 4) ∷ driver 2 (Some 5) ∷ driver 3 None ∷ []
 
--- what both passes enable is steady, but for that driver
+-- the drivers that both passes enable are steady, except the one at position 1
 steady : steady_cells uses 2 drivers ≡ cell 0 ∷ cell 3 ∷ []
 steady = refl
 

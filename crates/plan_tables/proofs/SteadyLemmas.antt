@@ -27,7 +27,7 @@ use Rattle.plan_tables.proofs.ObserverLemmas.{observer_below, observer_stands, i
 use Rattle.plan_tables.proofs.PlanLemmas.{held_only, is_held_cell}
 use Rattle.plan_tables.proofs.HeldLemmas.{control_cells}
 
--- runs that go on
+-- runs that get longer
 run_goes_on : (passes : List (List HeldCell)) (runs : List ℕ) (k : ℕ) (h : HeldCell) → Has (get_or passes k []) h → AreRuns passes runs → AreRuns passes (run_at k runs h.position)
 run_goes_on passes runs k h has are position x less = by_test (get_or runs h.position 0 == k) refl less
   where
@@ -138,7 +138,7 @@ module _ (board : RawBoard) (rules : IsBoard board) (quiet : List Bool) (quiet_i
     held_is : get_or (held_by board quiet passes) x [] ≡ held
     held_is = held_at board quiet passes x pass below ∙ ap (λ (l : List Ctl). map (held_cell board quiet) l) (get_or_from_slice_get passes x pass pass e)
 
-    -- a steady driver is on in this pass
+    -- a steady driver is enabled in this pass
     steady_on : (d : DriverCell) → SteadyOf uses (length passes) all d → OnBy all held d
     steady_on d s = record {
       observer = s.observer;
@@ -159,7 +159,7 @@ module _ (board : RawBoard) (rules : IsBoard board) (quiet : List Bool) (quiet_i
     on_all d (inl h) = steady_on d (steady_of uses (length passes) all d h)
     on_all d (inr h) = own_on d (cells_has others bits held d h)
 
-    -- each driver that is on is steady or has its cell among those of the pass
+    -- each enabled driver is steady or has its cell among those of the pass
     all_on : (d : DriverCell) → OnBy all held d → Has (steady ++ own) d
     all_on d o = by_test (is_steady uses (length passes) o.observer) refl
       where
@@ -182,7 +182,7 @@ module _ (board : RawBoard) (rules : IsBoard board) (quiet : List Bool) (quiet_i
               cell_is = o.cell_is;
             }))
 
-    -- no cell that it holds is steady
+    -- no cell of a control of the pass is steady
     apart : (h : HeldCell) (d : DriverCell) → Has held h → SteadyOf uses (length passes) all d → h.position ≡ d.position → ⊥
     apart h d has s same =
         let at : h.position ≡ s.observer.cell.position = same ∙ ap (λ (c : DriverCell). c.position) (sym s.cell_is) in

@@ -1,4 +1,4 @@
--- The tables, as they are made, are those of the plan.
+-- The tables, as they are made, are the tables of the plan.
 use Rattle.std.proofs.Common.{◌≡◌, ℕ, zero, suc, ◌+◌, ◌==◌, Bool, true, false, not, cond, ◌&&◌, ◌||◌, List, [], ◌∷◌, ◌++◌, map, Option, Some, None, refl, sym, ap, ◌∙◌, subst, arith, ◌⊎◌, inl, inr}
 use Rattle.std.specs.Prelude.{slice_get, option_and_then, option_map, filter}
 use Rattle.std.specs.List.{list_any}
@@ -24,7 +24,7 @@ use Rattle.net_pins.specs.declared.nets.ReaderCell.{ReaderCell}
 use Rattle.plan_tables.specs.Tables.{first_position, IsReaderCell}
 use Rattle.plan_tables.specs.Building.{is_on, enabled_in, gathered, optional, net_driver, driver_of, drivers_of_pins, drivers_of, reader_of, readers_in, readers_at, readers_of, is_read_beside}
 
--- what is gathered
+-- an item of a gathered list comes from one of its items
 pub has_gathered : {X Y : Type 0} (f : ℕ → X → List Y) (k : ℕ) (xs : List X) (y : Y) → Has (gathered f k xs) y → (n : ℕ) × (x : X) × (slice_get xs n ≡ Some x) × Has (f (k + n) x) y
 has_gathered f k [] y h = absurd h
 has_gathered {X} {Y} f k (x ∷ xs) y h = by_part (has_gathered f (suc k) xs y) (has_append (f k x) (gathered f (suc k) xs) y h)
@@ -121,7 +121,7 @@ pub on_by : (s : Enabling) (part : ℕ) (o : Option Control) → is_on s (option
 on_by s part None = refl
 on_by s part (Some control) = refl
 
--- the driver by which a setting observes a net with these compared cells: the first that it enables, where another pin is read
+-- the driver by which a setting observes a net with these compared cells: the first one that it enables, if another pin has one of them
 abbrev pub observing_of : Enabling → List NetDriver → List ReaderCell → Option NetDriver
 observing_of setting drivers readers = option_and_then (λ d. cond (is_read_beside readers d) (Some d) None) (enabled_in setting drivers)
 
@@ -179,7 +179,7 @@ first_on board s k (pin ∷ pins) = by_at pin.at refl (enabled_in s (pin_drivers
         subst (λ (x : Option NetDriver). FirstOn board s k (pin ∷ pins) x) (sym w) (later o (ap (λ (x : Option PinAt). enables_where board s x) a) r)
     by_at (Some at) a o w r = by_entry at a (entry_at board at) refl o w r
 
--- another pin is read
+-- another pin has a compared cell
 any_const : {X : Type 0} (t : Bool) (f : X → Bool) (xs : List X) (x : X) → Has xs x → ((y : X) → f y ≡ t) → list_any f xs ≡ t
 any_const t f [] x h same = absurd h
 any_const {X} t f (y ∷ xs) x h same = ap (λ (b : Bool). b || list_any f xs) (same y) ∙ by_test t (rest xs)

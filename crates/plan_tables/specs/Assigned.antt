@@ -1,10 +1,10 @@
--- Bits that are set one after another.
+-- Bits that are set in turn.
 use Rattle.std.specs.Prelude.{ℕ, ◌==◌, Bool, cond, List, [], fold, slice_index_or, slice_set}
 use Rattle.tap_defs.specs.board.TestRows.{code_bit}
 use Rattle.plan_tables.specs.declared.tables.DriverCell.{DriverCell}
 use Rattle.net_pins.specs.declared.nets.ReaderCell.{ReaderCell}
 
--- the bits after each item has set its own
+-- the bits after each item has set its bit in turn
 abbrev pub assigned : {X : Type 0} → (X → ℕ) → (X → Bool) → List Bool → List X → List Bool
 assigned place bit start xs = fold (λ bits x. slice_set bits (place x) (bit x)) start xs
 
@@ -12,10 +12,10 @@ assigned place bit start xs = fold (λ bits x. slice_set bits (place x) (bit x))
 abbrev pub driver_bit : List ℕ → ℕ → DriverCell → Bool
 driver_bit codes j d = code_bit (slice_index_or codes d.net 0) j
 
--- a bit set at the cells of a net that read it at another place than the driver's
+-- the bits after `bit` is set at those cells of a net that read it on a pin other than the driver's
 abbrev pub set_readers : ℕ → Bool → List Bool → List ReaderCell → List Bool
 set_readers place bit bits readers = fold (λ done r. cond (r.place == place) done (slice_set done r.position bit)) bits readers
 
--- the bits of drivers, each set at the cells that read its net at another place than its own
+-- the bits after the bit of each driver is set at those cells of its net that read it on another pin
 abbrev pub set_compared : (DriverCell → Bool) → List (List ReaderCell) → List Bool → List DriverCell → List Bool
 set_compared bit readers bits drivers = fold (λ done d. set_readers d.place (bit d) done (slice_index_or readers d.net [])) bits drivers

@@ -1,4 +1,4 @@
--- How the drivers and the compared cells of a net stand to each other, and to a setting.
+-- How the drivers and the compared cells of a net relate to each other and to a setting.
 use Rattle.std.specs.Prelude.{◌==◌, Bool, true, not, find, List, Option, Some, None}
 use Rattle.std.specs.List.{list_any}
 use Rattle.board_defs.specs.declared.board.Ctl.{Ctl}
@@ -7,7 +7,7 @@ use Rattle.net_pins.specs.declared.nets.NetDriver.{NetDriver}
 use Rattle.net_pins.specs.declared.nets.ReaderCell.{ReaderCell}
 pub use Rattle.net_pins.specs.NetCells.{gathered, optional, net_driver, driver_of, drivers_of_pins, drivers_of, reader_of, readers_in, readers_at, readers_of, all_drivers, all_readers}
 
--- another pin than the driver's is read
+-- a pin other than the driver's has a compared cell
 abbrev pub is_read_beside : List ReaderCell → NetDriver → Bool
 is_read_beside readers d = list_any (λ r. not (r.place == d.place)) readers
 
@@ -16,6 +16,6 @@ abbrev pub is_on : Enabling → Option Ctl → Bool
 is_on setting None = true
 is_on setting (Some c) = setting c
 
--- the driver of a net that a setting enables; a safe setting enables no other
+-- the first driver of a net that a setting enables; a safe setting enables no other
 abbrev pub enabled_in : Enabling → List NetDriver → Option NetDriver
 enabled_in setting drivers = find (λ d. is_on setting d.ctl) drivers

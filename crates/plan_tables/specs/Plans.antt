@@ -13,7 +13,7 @@ use Rattle.plan_tables.specs.declared.tables.PlanTables.{PlanTables}
 use Rattle.plan_tables.specs.Tables.{ArePlanTables}
 use Rattle.plan_tables.specs.Building.{all_drivers, all_readers}
 
--- the cell controls a driver of the device, where there is one
+-- there is a device, and the cell controls a driver of it
 abbrev pub controls_in : RawBoard → Ctl → Option RawDevice → Bool
 controls_in board c None = false
 controls_in board c (Some device) = list_any (controls_driver board c.part c.cell) device.cells
@@ -22,7 +22,7 @@ controls_in board c (Some device) = list_any (controls_driver board c.part c.cel
 abbrev pub controls_some : RawBoard → Ctl → Bool
 controls_some board c = controls_in board c (device_at board c.part)
 
--- passes that a plan can be made of: each is safe, and each of its controls controls a driver of the board
+-- passes from which a plan can be made: each is safe, and each of its controls controls a driver of the board
 pub record ArePlannable (board : RawBoard) (passes : List (List Ctl)) : Type 0 where
   pub safe : (x : ℕ) (pass : List Ctl) → slice_get passes x ≡ Some pass → IsSafe board (holds pass)
   pub controls : (x : ℕ) (pass : List Ctl) (c : Ctl) → slice_get passes x ≡ Some pass → holds pass c ≡ true → controls_some board c ≡ true

@@ -1,4 +1,4 @@
--- What a plan keeps of a board: rows that every test of it has, and the positions at which those of a pass differ from the quiet row.
+-- The tables of a plan: rows that all passes share, and the positions at which the rows of a pass differ from the quiet row.
 use Rattle.std.specs.Prelude.{◌≡◌, ◌≢◌, ◌↔◌, ℕ, ◌+◌, Bool, true, false, not, List, [], ◌++◌, length, map, Some, slice_get, slice_index_or, unwrap_or, Contains}
 use Rattle.std.specs.List.{flat_map}
 use Rattle.board_defs.specs.declared.device.Cell.{Cell}
@@ -49,7 +49,7 @@ pub record IsDriverCell (board : RawBoard) (pass : List Ctl) (d : DriverCell) : 
   pub is_entry : entry_at board at ≡ Some entry
   pub position_is : d.position ≡ first_position board at.part + entry.num
 
--- a cell of a receiver on the net that is compared: INPUT, CLOCK or BIDIR
+-- a compared cell of a receiver on the net: INPUT, CLOCK or BIDIR
 pub record IsReaderCell (board : RawBoard) (net : Net) (r : ReaderCell) : Type 0 where
   pub pin : NetPin
   pub is_pin : slice_get net.pins r.place ≡ Some pin
@@ -63,12 +63,12 @@ pub record IsReaderCell (board : RawBoard) (net : Net) (r : ReaderCell) : Type 0
   pub reads : reads_bit at.bit entry ≡ true
   pub position_is : r.position ≡ first_position board at.part + entry.num
 
--- the cells in which the rows of a pass differ from those that all passes share
+-- the cells in which the rows of a pass differ from what all passes share
 pub record PassCells : Type 0 where
   pub held : List HeldCell
   pub drivers : List DriverCell
 
--- the cell of a control, with the opposite of what it holds in the quiet row
+-- the cell of a control, with the opposite of its bit in the quiet row
 abbrev pub held_cell : RawBoard → List Bool → Ctl → HeldCell
 held_cell board quiet c = record { position = control_position board c; bit = not (slice_index_or quiet (control_position board c) false) }
 
@@ -76,21 +76,22 @@ held_cell board quiet c = record { position = control_position board c; bit = no
 abbrev pub controlled : RawBoard → List (List DriverCell) → Ctl → List DriverCell
 controlled board rows c = slice_index_or rows (control_position board c) []
 
--- the driver cells of a pass that holds these
+-- the driver cells of a pass whose controls have these cells
 abbrev pub cells_on : DriverTable → List HeldCell → List DriverCell
 cells_on table held = table.always ++ flat_map (λ h. slice_index_or table.rows h.position []) held
 
--- the cells of a pass, found by its controls
+-- the cells of a pass, found from its controls
 abbrev pub pass_cells_of : RawBoard → List Bool → DriverTable → List Ctl → PassCells
 pass_cells_of board quiet table pass = let held : List HeldCell = map (held_cell board quiet) pass in record { held = held; drivers = cells_on table held }
 
--- the cells of a pass, each in some place: those of its controls, and with the steady cells those of its drivers. No cell of a control is steady
+-- The cells of a pass, in any order. `held` has those of its controls. `drivers` and the steady cells together have those of its
+-- drivers. No cell of a control is steady.
 pub record ArePassCells (board : RawBoard) (steady : List DriverCell) (pass : List Ctl) (cells : PassCells) : Type 0 where
   pub held : (h : HeldCell) → Contains cells.held h ↔ IsHeldCell board pass h
   pub drivers : (d : DriverCell) → Contains (steady ++ cells.drivers) d ↔ IsDriverCell board pass d
   pub apart : (h : HeldCell) (d : DriverCell) → Contains cells.held h → Contains steady d → h.position ≢ d.position
 
--- the compared cells of a net, each in some place
+-- the compared cells of a net, in any order
 abbrev pub AreReaders : RawBoard → Net → List ReaderCell → Type 0
 AreReaders board net readers = (r : ReaderCell) → Contains readers r ↔ IsReaderCell board net r
 

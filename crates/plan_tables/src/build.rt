@@ -22,7 +22,7 @@ use counting_codes::width;
 use net_pins::NetPins;
 use std::alloc::{AllocError, Global};
 
-// The cells of the passes.
+// Makes the tables of driver cells for the passes.
 fn pass_tables(
     alloc: Global,
     placed: &PlacedBoard,
@@ -45,7 +45,7 @@ fn pass_tables(
     Ok(PassTables { steady, by_control })
 }
 
-/// The tables of the plan of these passes, by the pins of the board's nets.
+/// Makes the tables of the plan of these passes from the pins of the board's nets.
 pub fn tables_of(
     alloc: Global,
     board: &Board,

@@ -13,7 +13,7 @@ use board_defs::{Items, Setting};
 use lists::mark;
 use std::alloc::{AllocError, Global};
 
-/// The codes of nets, net by net, and how many are not 0.
+/// The codes of nets, net by net, and the number of codes that are not 0.
 #[derive(Drop)]
 pub struct NetCodes {
     pub codes: Items<u32>,
@@ -50,7 +50,7 @@ fn mark_passes(placed: &PlacedBoard, table: &DriverTable, passes: &[Setting], fl
     }
 }
 
-/// Which of so many nets have a driver cell among the steady ones or those of a pass.
+/// Returns, for each of the first `nets` nets, whether a driver cell of it is steady or belongs to a pass.
 pub fn seen_nets(
     alloc: Global,
     placed: &PlacedBoard,
@@ -67,7 +67,7 @@ pub fn seen_nets(
     Ok(seen)
 }
 
-/// Numbers the nets that are observed from 1, in net order.
+/// Numbers the nets that are observed, from 1 in net order. Every other net has code 0.
 pub fn number_nets(alloc: Global, seen: &[bool]) -> Result<NetCodes, AllocError>
     requires { length seen.now ≤ most_nets }
     ensures { IfOk result (λ codes. AreCodes seen.now codes) }

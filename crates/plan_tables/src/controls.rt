@@ -1,4 +1,4 @@
-// The driver cells of each control, so that the cells of a pass are found by its controls.
+// The driver cells of each control, by which the driver cells of a pass are found from its controls.
 ghost use Rattle.std.specs.Prelude.{◌≡◌, ◌<◌, [], slice_index_or, IfOk, OnOk};
 ghost use Rattle.board_defs.specs.Pins.{device_at, cell_count};
 ghost use Rattle.plan_tables.specs.Tables.{AreFirsts, controlled};
@@ -14,8 +14,8 @@ use std::alloc::{AllocError, Global};
 /// The driver cells of one control.
 pub type ControlCells = Items<DriverCell>;
 
-/// The driver cells by which passes observe nets: those of the drivers that are always on, and those of each control,
-/// at the position of its cell.
+/// The driver cells by which passes observe nets. `always` has those of the drivers that are always on. `rows` has
+/// those of each control's drivers, at the position of the control's cell.
 #[derive(Drop)]
 pub struct DriverTable {
     pub always: Items<DriverCell>,
@@ -43,7 +43,7 @@ fn always_on(alloc: Global, observers: &[Observer]) -> Result<Vec<DriverCell>, A
     Ok(cells)
 }
 
-/// The table of these drivers, for a row of so many bits.
+/// Makes the table of these drivers, for scans of data of `bits` bits.
 pub fn driver_table(
     alloc: Global,
     observers: &[Observer],
@@ -60,7 +60,7 @@ pub fn driver_table(
     })
 }
 
-/// The driver cells of the control whose cell stands at a position; none where no row has it.
+/// Returns the driver cells of the control whose cell is at position `control`, or none past the last row.
 fn cells_at(rows: &[ControlCells], control: usize) -> &[DriverCell]
     ensures { result.now ≡ slice_index_or rows.now control [] }
 {
@@ -70,7 +70,7 @@ fn cells_at(rows: &[ControlCells], control: usize) -> &[DriverCell]
     }
 }
 
-/// The driver cells of a control.
+/// Returns the driver cells of a control.
 pub fn controlled<'a>(
     board: &Board,
     firsts: &[u32],

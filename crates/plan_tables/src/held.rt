@@ -1,4 +1,4 @@
-// The cells of the controls of a pass.
+// The cells of a pass's controls.
 ghost use Rattle.std.specs.Prelude.{◌≡◌, ◌<◌, true, length, map, IfOk};
 ghost use Rattle.board_defs.specs.declared.board.Ctl.{Ctl as ControlRecord};
 ghost use Rattle.board_defs.specs.Pins.{device_at, cell_count, data_bits};
@@ -12,7 +12,7 @@ use bt_bits::Row;
 use net_pins::cell_position;
 use std::alloc::{AllocError, Global};
 
-/// The cell of a control: its position, and the opposite of what it holds in the quiet row.
+/// Returns the cell of a control: its position, and the opposite of its bit in the quiet row.
 pub fn held_cell(board: &Board, firsts: &[u32], quiet: &Row, c: Ctl) -> HeldCell
     requires firsts { AreFirsts board.now.chain firsts.now }
     requires quiet { length quiet.now.bits ≡ data_bits board.now }
@@ -28,7 +28,7 @@ pub fn held_cell(board: &Board, firsts: &[u32], quiet: &Row, c: Ctl) -> HeldCell
     }
 }
 
-/// The cells of the controls of a pass.
+/// Returns the cells of a pass's controls.
 pub fn held_cells(
     alloc: Global,
     placed: &PlacedBoard,

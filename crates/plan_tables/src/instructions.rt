@@ -54,7 +54,7 @@ fn push_device(
     }
 }
 
-// Adds the code of a part.
+// Appends the code of a part.
 fn push_code(
     instruction: Instruction,
     kind: &PartKind,
@@ -68,7 +68,7 @@ fn push_code(
     }
 }
 
-// Adds what is compared of a part: 01 in its two lowest bits.
+// Appends the captured bits of a part and their mask. Only the two bits nearest TDO, 01, are compared.
 fn push_capture(length: u32, tdo: &mut Vec<bool>, mask: &mut Vec<bool>) -> Result<(), AllocError>
     requires { 2 ≤ length }
     ensures tdo { OnOk result (tdo.new.items ≡ tdo.old.items ++ captured_bits length) }
@@ -104,7 +104,7 @@ fn rows_of(
     })
 }
 
-/// The rows of a scan that gives each described part this instruction, and the others BYPASS.
+/// Returns the rows of a scan that loads this instruction into each described part, and BYPASS into the others.
 pub fn instruction_rows(
     alloc: Global,
     instruction: Instruction,

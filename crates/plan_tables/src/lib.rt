@@ -1,9 +1,10 @@
-//! The tables of a plan: what each scan of a board's test is made of.
+//! The tables of a plan, from which each scan of a board's test is made.
 //!
-//! For a board and passes, each of which is safe and has only controls of drivers of the board, `tables_of` answers with what no scan
-//! needs to look for again: the scans of instructions and the quiet row, the positions of the cells in which the rows of data differ from it,
-//! net by net the drivers and the cells that read it, and its code. The other calls find the cells of a pass in these tables;
-//! `scan_planner` fills the scans with them.
+//! `tables_of` makes them for a board and passes. Each pass must be safe and have only controls of drivers of the
+//! board. The tables have the scans of instructions and the quiet row, the positions of the cells in which the
+//! rows of
+//! data differ from the quiet row, and for each net its code, its drivers and the cells that read it. The other calls
+//! find the cells of a pass in these tables; `scan_planner` fills the scans with them.
 #![tactic(auto)]
 
 mod build;

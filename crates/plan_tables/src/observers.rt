@@ -14,8 +14,8 @@ use board_defs::{Board, Ctl, Items, Net};
 use net_pins::{NetDriver, NetPins, ReaderCell, cell_position};
 use std::alloc::{AllocError, Global};
 
-/// A driver beside which some pin of its net is read: the position of its control's cell, if it has a control, and its
-/// own cell.
+/// A driver whose net has a compared cell on another pin: the position of its control's cell, if it has a control,
+/// and its own cell.
 #[derive(Clone, Copy)]
 pub struct Observer {
     pub control: Option<u32>,
@@ -52,7 +52,7 @@ fn is_read_beside(readers: &[ReaderCell], place: u32) -> bool
     readers.iter().any(|r| r.place != place)
 }
 
-// Adds those of the drivers of a net beside which a pin is read.
+// Appends those drivers of a net that have a compared cell on another pin.
 fn push_observers(
     placed: &PlacedBoard,
     net: u32,
@@ -71,7 +71,7 @@ fn push_observers(
     Ok(())
 }
 
-// The items of a net in a list that has some for each net; none past its end.
+// Returns the items of a net in a list with a row for each net. There are none past its end.
 fn items_at<T>(rows: &[Items<T>], net: usize) -> &[T]
     ensures { result.now ≡ slice_index_or rows.now net [] }
 {
@@ -81,7 +81,7 @@ fn items_at<T>(rows: &[Items<T>], net: usize) -> &[T]
     }
 }
 
-// Those of these nets, which have these drivers and compared cells.
+// Returns the drivers by which these nets can be observed, given their drivers and compared cells.
 fn observers_of_nets(
     alloc: Global,
     placed: &PlacedBoard,
@@ -104,7 +104,7 @@ fn observers_of_nets(
     Ok(Items::of(observers))
 }
 
-/// The drivers by which the nets of a board can be observed, in net order.
+/// Returns the drivers by which the nets of a board can be observed, in net order.
 pub fn net_observers(
     alloc: Global,
     board: &Board,

@@ -1,4 +1,4 @@
-// A board with the places of its parts in scans of data.
+// A board with the positions of its parts in scans of data.
 ghost use Rattle.plan_tables.specs.Tables.{AreFirsts};
 
 use board_defs::Board;

@@ -10,14 +10,14 @@ ghost use Rattle.plan_tables.specs.inner.QuietBits.{safe_value_in, is_driver, di
 use board_defs::{Board, Cell, Part, PartKind, PinAt, RawBoard, RawDevice};
 use std::alloc::{AllocError, Global};
 
-/// A bit of a cell of a device.
+/// A cell of a device, and its bit.
 #[derive(Clone, Copy)]
 pub struct CellBit {
     pub cell: u32,
     pub bit: bool,
 }
 
-// The safe value of a reading entry, X as 0.
+// Returns the safe value of a reading entry, with 0 for X.
 fn reading_value(entry: Cell) -> Option<CellBit>
     ensures { result ≡ safe_value_in is_reading entry }
 {
@@ -31,7 +31,7 @@ fn reading_value(entry: Cell) -> Option<CellBit>
     }
 }
 
-// The safe value of an entry that the update latch is for, X as 0.
+// Returns the safe value of an entry for the update latch, with 0 for X.
 fn writing_value(entry: Cell) -> Option<CellBit>
     ensures { result ≡ safe_value_in is_writing entry }
 {
@@ -60,7 +60,7 @@ fn is_driver(raw: &RawBoard, part: u32, entry: Cell) -> bool
     entry.role.is_driving() && is_pinned(raw, part, entry.bit)
 }
 
-// The disable value that the entry of a driver gives its control.
+// Returns the control cell of a driver's entry and its disable value, if it has a control.
 fn disable_value(raw: &RawBoard, part: u32, entry: Cell) -> Option<CellBit>
     ensures { result ≡ disable_value_in raw.now part entry }
 {
@@ -109,7 +109,7 @@ fn set_disabled(raw: &RawBoard, part: u32, entries: &[Cell], row: &mut [bool])
     }
 }
 
-// The bits of a device, in three walks over its entries.
+// Returns the bits of a device, in three walks over its entries.
 fn device_row(
     alloc: Global,
     raw: &RawBoard,
@@ -171,7 +171,8 @@ fn row_of(alloc: Global, raw: &RawBoard, chain: &[Part]) -> Result<Vec<bool>, Al
     Ok(quiet)
 }
 
-/// The quiet row: each cell that controls a driver holds the disable value, and every other cell its safe value.
+/// Returns the quiet row, in which each cell that controls a driver has the disable value, and every other cell its
+/// safe value.
 pub fn quiet_row(alloc: Global, board: &Board) -> Result<Vec<bool>, AllocError>
     ensures { IfOk result (λ quiet. quiet.items ≡ laid (quiet_bits board.now) board.now) }
 {

@@ -1,19 +1,19 @@
-// What a plan keeps: positions and bits, from which each scan is made.
+// The contents of a plan: positions and bits, from which each scan is made.
 use crate::controls::DriverTable;
 use board_defs::{Items, Setting};
 use bt_bits::Row;
 use net_pins::{NetDriver, ReaderCell};
 use tap_defs::StoredRows;
 
-/// The cell of a control of a setting: its position, and the bit that enables what it controls.
+/// The cell of a setting's control: its position, and the bit that enables the drivers of the control.
 #[derive(Clone, Copy)]
 pub struct HeldCell {
     pub position: u32,
     pub bit: bool,
 }
 
-/// The cell of the driver by which a pass observes a net: the net, the place of the driver's pin in it, and the cell's
-/// position.
+/// The cell of the driver by which a pass observes a net: the net, the place of the driver's pin in it, and the
+/// cell's position.
 #[derive(Clone, Copy)]
 pub struct DriverCell {
     pub net: u32,
@@ -21,16 +21,16 @@ pub struct DriverCell {
     pub position: u32,
 }
 
-/// The driver cells that are the same in all passes, and those that a pass has by its controls.
+/// The driver cells that are the same in all passes, and those that a pass has because of its controls.
 #[derive(Drop)]
 pub struct PassTables {
     pub steady: Items<DriverCell>,
     pub by_control: DriverTable,
 }
 
-/// The tables of a plan: the scans of instructions and the quiet row, the driver cells that are the same in all passes, and
-/// what finds the other cells of a pass by its controls: the position of each part's first bit, and the driver cells of each
-/// control. The codes, the readers and the drivers stand net by net.
+/// The tables of a plan. They have the scans of instructions, the quiet row, and the driver cells that are the same
+/// in all passes. The other cells of a pass are found from its controls, by the position of each part's first bit and
+/// the driver cells of each control. `codes`, `readers` and `drivers` have an item for each net.
 #[derive(Drop)]
 pub struct PlanTables {
     pub passes: Items<Setting>,

@@ -1,4 +1,4 @@
-// Which cells the passes hold, and the driver cells that are the same in all of them.
+// The cells of the passes' controls, and the driver cells that are the same in all passes.
 ghost use Rattle.std.specs.Prelude.{◌≡◌, ◌+◌, ◌<◌, ◌^◌, true, false, length, slice_index_or, IfOk, OnOk, All};
 ghost use Rattle.board_defs.specs.declared.board.Ctl.{Ctl as ControlRecord};
 ghost use Rattle.board_defs.specs.Pins.{device_at, cell_count, data_bits};
@@ -14,7 +14,8 @@ use bt_bits::Row;
 use lists::{is_set, mark};
 use std::alloc::{AllocError, Global};
 
-/// For each position, whether some pass holds the cell there, and how many passes from the first on all do.
+/// For each position, whether some pass has a control with its cell there, and the number of passes, from the first
+/// one on, that all have one.
 #[derive(Drop)]
 pub struct Uses {
     pub held: Items<bool>,
@@ -29,7 +30,7 @@ fn mark_held(flags: &mut [bool], held: &[HeldCell])
     }
 }
 
-// Pass `k` holds the cell at the position, too.
+// Notes that pass `k` also has a control with its cell at the position.
 fn run(runs: &mut [u32], k: u32, position: usize)
     requires { k + 1 < 2 ^ 32 }
     ensures { runs.new ≡ run_at k runs.old position }
@@ -50,7 +51,7 @@ fn run_all(runs: &mut [u32], k: u32, held: &[HeldCell])
     }
 }
 
-// Notes what these passes hold.
+// Notes the cells of these passes' controls.
 fn note_passes(
     alloc: Global,
     placed: &PlacedBoard,
@@ -74,7 +75,7 @@ fn note_passes(
     Ok(())
 }
 
-/// What these passes hold.
+/// Collects the cells of these passes' controls.
 pub fn uses_of(
     alloc: Global,
     placed: &PlacedBoard,
@@ -114,7 +115,7 @@ fn is_common(uses: &Uses, passes: u32, control: Option<u32>) -> bool
     }
 }
 
-// Whether each of so many passes enables the driver, and none holds its cell.
+// Returns whether all of the first `passes` passes enable the driver, and no pass has a control with its cell.
 fn is_steady(uses: &Uses, passes: u32, observer: Observer) -> bool
     ensures { result ≡ is_steady uses.now passes observer }
 {
@@ -124,7 +125,7 @@ fn is_steady(uses: &Uses, passes: u32, observer: Observer) -> bool
     is_common(uses, passes, observer.control)
 }
 
-/// The driver cells that are the same in all of so many passes.
+/// Returns the driver cells that are the same in all of `passes` passes.
 pub fn steady_cells(
     alloc: Global,
     uses: &Uses,
@@ -142,7 +143,7 @@ pub fn steady_cells(
     Ok(Items::of(cells))
 }
 
-/// The other drivers by which nets can be observed.
+/// Returns the other drivers by which nets can be observed.
 pub fn moving(
     alloc: Global,
     uses: &Uses,

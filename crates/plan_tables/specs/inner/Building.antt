@@ -1,4 +1,4 @@
--- What serves the proofs alone. How the tables of a plan are made, item by item.
+-- How the tables of a plan are made, item by item.
 use Rattle.std.specs.Prelude.{◌≡◌, ℕ, ◌<◌, List, [], map, filter, fold, Option, Some, option_map, is_none, replicate}
 use Rattle.lists.specs.Rows.{noted}
 use Rattle.board_defs.specs.declared.board.Net.{Net}
@@ -13,15 +13,15 @@ use Rattle.plan_tables.specs.declared.controls.DriverTable.{DriverTable}
 use Rattle.plan_tables.specs.Tables.{control_position}
 use Rattle.plan_tables.specs.Building.{gathered, drivers_of, readers_of, is_read_beside}
 
--- the driver as one of a net
+-- the cell of a driver of net number `net`
 abbrev pub driver_cell : ℕ → NetDriver → DriverCell
 driver_cell net d = record { net = net; place = d.place; position = d.position }
 
--- a control's cell is one of its part
+-- the control's cell is a cell of its part
 abbrev pub IsControlThere : RawBoard → Option Ctl → Type 0
 IsControlThere board ctl = (c : Ctl) → ctl ≡ Some c → c.cell < cell_count (device_at board c.part)
 
--- the driver as one by which its net can be observed
+-- the driver, as one by which its net can be observed
 abbrev pub observer : RawBoard → ℕ → NetDriver → Observer
 observer board net d = record { control = option_map (control_position board) d.ctl; cell = driver_cell net d }
 
@@ -32,7 +32,7 @@ observers_of board net drivers readers = map (observer board net) (filter (is_re
 abbrev pub observers_at : RawBoard → ℕ → Net → List Observer
 observers_at board n net = observers_of board n (drivers_of board net) (readers_of board net.pins)
 
--- those of these nets, in net order
+-- the drivers by which these nets can be observed, in net order
 abbrev pub observers : RawBoard → List Net → List Observer
 observers board nets = gathered (observers_at board) 0 nets
 
@@ -40,10 +40,10 @@ observers board nets = gathered (observers_at board) 0 nets
 abbrev pub always_on : List Observer → List DriverCell
 always_on observers = map (λ x. x.cell) (filter (λ x. is_none x.control) observers)
 
--- the rows of controls with the cells of these drivers
+-- the rows of controls after the cells of these drivers are added
 abbrev pub all_noted : List (List DriverCell) → List Observer → List (List DriverCell)
 all_noted rows observers = fold (λ done x. noted done x.control x.cell) rows observers
 
--- the table of these drivers, for a row of so many bits
+-- the table of these drivers, for scans of data of `bits` bits
 abbrev pub table_of : List Observer → ℕ → DriverTable
 table_of observers bits = record { always = always_on observers; rows = all_noted (replicate bits []) observers }

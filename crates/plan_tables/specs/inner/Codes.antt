@@ -1,4 +1,4 @@
--- The codes of nets, and the instructions of the scans of instructions.
+-- The codes of nets, and the codes in the scans of instructions.
 use Rattle.std.specs.Prelude.{◌≡◌, ℕ, suc, ◌-◌, ◌<◌, ◌≤◌, Bool, true, false, cond, List, ◌∷◌, All, length, fold, replicate, take, count_by, slice_index_or}
 use Rattle.board_defs.specs.declared.board.PartKind.{PartKind}
 use Rattle.board_defs.specs.declared.board.Part.{Part}
@@ -19,7 +19,7 @@ abbrev pub code_for : Instruction → PartKind → List Bool
 code_for Preload kind = preload_code kind
 code_for Extest kind = extest_code kind
 
--- a code fills the instruction register of each part, which has two bits or more
+-- the code has the length of the part's instruction register, which is at least 2
 pub record IsCoded (instruction : Instruction) (kind : PartKind) : Type 0 where
   pub least : 2 ≤ instruction_length kind
   pub length_is : length (code_for instruction kind) ≡ instruction_length kind
@@ -27,26 +27,26 @@ pub record IsCoded (instruction : Instruction) (kind : PartKind) : Type 0 where
 abbrev pub AreCoded : Instruction → List Part → Type 0
 AreCoded instruction chain = All (λ part. IsCoded instruction part.kind) chain
 
--- what an instruction register of this length gives in a scan, where it is compared, and where it is
+-- the bits that an instruction register of this length captures, as far as they are compared, and the mask of the compared bits
 abbrev pub captured_bits : ℕ → List Bool
 captured_bits length = true ∷ replicate (length - 1) false
 
 abbrev pub compared_bits : ℕ → List Bool
 compared_bits length = true ∷ true ∷ replicate (length - 2) false
 
--- the flags of the nets of these cells set
+-- the flags after those of the nets of these cells are set
 abbrev pub marked : List Bool → List DriverCell → List Bool
 marked flags cells = assigned (λ d. d.net) (λ d. true) flags cells
 
--- the flags of the nets of a pass's cells set
+-- the flags after those of the nets of a pass's cells are set
 abbrev pub marked_on : RawBoard → DriverTable → List Bool → List Ctl → List Bool
 marked_on board table flags pass = fold (λ done c. marked done (controlled board table.rows c)) (marked flags table.always) pass
 
--- which of so many nets have a cell among the steady ones or those of some pass
+-- for each of the first `nets` nets, whether a driver cell of it is steady or belongs to a pass
 abbrev pub seen_in : RawBoard → ℕ → List DriverCell → DriverTable → List (List Ctl) → List Bool
 seen_in board nets steady table passes = fold (marked_on board table) (marked (replicate nets false) steady) passes
 
--- the nets that are observed are numbered from 1, and the others have 0
+-- the nets that are observed have the codes 1, 2 and so on in net order, and the others 0
 pub record AreCodes (seen : List Bool) (codes : NetCodes) : Type 0 where
   pub count_is : codes.count ≡ count_by (λ b. b) seen
   pub length_is : length codes.codes ≡ length seen

@@ -1,4 +1,4 @@
--- A row of data as a bit for each boundary cell of each described part.
+-- A row of data, made from a bit for each boundary cell of each described part.
 use Rattle.std.specs.Prelude.{ℕ, suc, Bool, false, List, [], ◌∷◌}
 use Rattle.board_defs.specs.declared.device.RawDevice.{RawDevice}
 use Rattle.board_defs.specs.declared.board.PartKind.{PartKind}
@@ -23,7 +23,7 @@ abbrev pub parts_laid : CellBits → ℕ → List Part → List (List Bool)
 parts_laid g part [] = []
 parts_laid g part (p ∷ parts) = part_laid g part p.kind ∷ parts_laid g (suc part) parts
 
--- the bits of all parts as they are shifted
+-- the bits of all parts in the order in which they are shifted
 abbrev pub laid : CellBits → RawBoard → List Bool
 laid g board = joined (parts_laid g 0 board.chain)
 

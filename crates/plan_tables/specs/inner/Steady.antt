@@ -1,4 +1,4 @@
--- Which cells the passes hold, and the driver cells that are the same in all of them.
+-- The cells of the passes' controls, and the driver cells that are the same in all passes.
 use Rattle.std.specs.Prelude.{◌≡◌, ℕ, suc, ◌<◌, ◌==◌, nat_lt, Bool, true, false, not, ◌&&◌, cond, List, [], length, map, filter, fold, replicate, Option, Some, None, slice_get, slice_index_or, slice_set, Contains}
 use Rattle.board_defs.specs.declared.board.RawBoard.{RawBoard}
 use Rattle.board_defs.specs.declared.board.Ctl.{Ctl}
@@ -14,40 +14,40 @@ use Rattle.plan_tables.specs.Tables.{PassCells, held_cell, ArePassCells}
 abbrev pub marked_held : List Bool → List HeldCell → List Bool
 marked_held flags held = assigned (λ h. h.position) (λ h. true) flags held
 
--- pass k holds the position, too: a run of the passes before it goes on
+-- pass `k` also has a control with its cell at the position; if all passes before it have one, the run is one longer
 abbrev pub run_at : ℕ → List ℕ → ℕ → List ℕ
 run_at k runs position = cond (slice_index_or runs position 0 == k) (slice_set runs position (suc k)) runs
 
 abbrev pub all_run : ℕ → List ℕ → List HeldCell → List ℕ
 all_run k runs held = fold (λ done h. run_at k done h.position) runs held
 
--- some of these cells stands at the position
+-- one of these cells is at the position
 abbrev pub HoldsAt : List HeldCell → ℕ → Type 0
 HoldsAt held position = (h : HeldCell) × Contains held h × (h.position ≡ position)
 
--- the cells that each pass holds
+-- the cells of each pass's controls
 abbrev pub held_by : RawBoard → List Bool → List (List Ctl) → List (List HeldCell)
 held_by board quiet passes = map (λ pass. map (held_cell board quiet) pass) passes
 
--- the flags of all of them set
+-- the flags after those of all these cells are set
 abbrev pub all_marked : RawBoard → List Bool → List Bool → List (List Ctl) → List Bool
 all_marked board quiet flags passes = fold (λ done pass. marked_held done (map (held_cell board quiet) pass)) flags passes
 
--- each run is of passes that hold its position
+-- each pass in the run of a position has a control with its cell there
 abbrev pub AreRuns : List (List HeldCell) → List ℕ → Type 0
 AreRuns passes runs = (position x : ℕ) → x < slice_index_or runs position 0 → HoldsAt (slice_index_or passes x []) position
 
--- what passes hold: each of their cells is flagged, and runs are of passes that hold their positions
+-- the cells of all controls of the passes are flagged, and each pass in the run of a position has a control with its cell there
 pub record AreUses (board : RawBoard) (quiet : List Bool) (passes : List (List Ctl)) (uses : Uses) : Type 0 where
   pub flags : uses.held ≡ all_marked board quiet (replicate (length quiet) false) passes
   pub runs : AreRuns (held_by board quiet passes) uses.runs
 
--- each of so many passes holds the control, where there is one
+-- there is no control, or each of the first `passes` passes has it
 abbrev pub is_common : Uses → ℕ → Option ℕ → Bool
 is_common uses passes None = true
 is_common uses passes (Some control) = slice_index_or uses.runs control 0 == passes
 
--- each pass enables the driver, and none holds its cell
+-- each pass enables the driver, and none has a control with its cell
 abbrev pub is_steady : Uses → ℕ → Observer → Bool
 is_steady uses passes x = nat_lt 0 passes && (not (slice_index_or uses.held x.cell.position false) && is_common uses passes x.control)
 
@@ -58,7 +58,8 @@ steady_cells uses passes observers = map (λ x. x.cell) (filter (is_steady uses 
 abbrev pub moving : Uses → ℕ → List Observer → List Observer
 moving uses passes observers = filter (λ x. not (is_steady uses passes x)) observers
 
--- the cells of passes: those of each pass, and steady cells that stand in the nets and the rows of the board; without a pass no cell is steady
+-- The cells of the passes: those of each pass, and steady cells within the nets and the rows of the board. Without a pass no cell is
+-- steady.
 pub record ArePassTables (board : RawBoard) (passes : List (List Ctl)) (steady : List DriverCell) (cells : List Ctl → PassCells) : Type 0 where
   pub each : (x : ℕ) (pass : List Ctl) → slice_get passes x ≡ Some pass → ArePassCells board steady pass (cells pass)
   pub some : (d : DriverCell) → Contains steady d → 0 < length passes
