@@ -25,7 +25,7 @@ use Rattle.tap_defs.proofs.board.NetRuleLemmas.{board_rules}
 use Rattle.plan_tables.specs.Plans.{controls_in, controls_some}
 use Rattle.plan_tables.proofs.PinLemmas.{Drives, drives_by, entry_on}
 
--- the entry of a driver that a control drives names it
+-- the control with which the entry of a driver names `c`
 record Names (part : ℕ) (o : Option Control) (c : Ctl) : Type 0 where
   control : Control
   is_control : o ≡ Some control
@@ -64,7 +64,7 @@ controls_entry board at device cell c dev pinned d n =
     has_pin : ℕ → Option ℕ → Bool
     has_pin part o = unwrap_or (option_map (λ bit. is_pinned board (record { part = part; bit = bit })) o) false
 
--- a control of a driver of a net does
+-- a control of a driver of a net controls a driver of the board
 controls_pin : (board : RawBoard) → IsBoard board → (n : ℕ) (net : Net) (place : ℕ) (pin : NetPin) (c : Ctl) → slice_get board.nets n ≡ Some net →
     slice_get net.pins place ≡ Some pin → drive board net pin ≡ Some (By c) → controls_some board c ≡ true
 controls_pin board rules n net place pin c en ep d = by_rules (((board_rules board rules).nets n net en).pins place pin ep)
@@ -90,7 +90,7 @@ net_controls board rules c h =
     let p : Found (λ (q : NetPin). is_by c (drive board n.item q)) n.item.pins = any_place (λ (q : NetPin). is_by c (drive board n.item q)) n.item.pins n.passes in
     controls_pin board rules n.place n.item p.place p.item c n.stands p.stands (by_true c (drive board n.item p.item) p.passes)
 
--- a net that a control tests by has a driver of it
+-- a net with a tested driver of a control has a driver of it
 tests_drives : (board : RawBoard) (c : Ctl) (net : Net) → tests_by board c net ≡ true → drives_net board c net ≡ true
 tests_drives board c net h =
     let t : FoundBelow (length net.pins) (tests_by_at board c net) = below_place (length net.pins) (tests_by_at board c net) h in

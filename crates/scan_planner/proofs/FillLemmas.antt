@@ -1,4 +1,4 @@
--- What a plan's tables fill in is the scan.
+-- The rows that a plan's tables fill are those of the scan.
 use Rattle.std.proofs.Common.{◌≡◌, ℕ, suc, ◌+◌, ◌*◌, ◌<◌, ◌≤◌, Bool, true, false, cond, List, [], ◌++◌, length, get_or, set, replicate, Option, Some, is_some, unwrap_or, sym, ap, ◌∙◌, subst, arith}
 use Rattle.std.specs.Prelude.{slice_get, All}
 use Rattle.std.specs.List.{list_any}
@@ -46,7 +46,7 @@ use Rattle.scan_planner.proofs.ReaderLemmas.{Pair, pairs, set_compared_is, tdo_c
 use Rattle.plan_tables.proofs.PassLemmas.{fold_on}
 use Rattle.plan_tables.proofs.SizeLemmas.{IsSized}
 
--- rows that have the bits of scan k fill it in
+-- rows with the bits of scan `k` are filled with it
 pub fills : (board : RawBoard) (passes : List (List Ctl)) (width k : ℕ) (scan : Scan) (shape : Shape) (tdi tdo mask : List Bool) → slice_get (test_scans board passes width) k ≡ Some scan →
     0 < length scan.bits → length scan.bits ≤ most_bits → AreBitsOf scan.bits tdi tdo mask → shape.ir ≡ scan.ir →
     shape.compare ≡ list_any (λ bit. bit) mask → FillsScan board passes width k shape tdi tdo mask
@@ -83,7 +83,7 @@ expected_size board scan = ap length (tdo_laid board scan) ∙ length-laid (λ p
 pub marked_size : (board : RawBoard) (scan : RowScan) → length (mask_bits (joined (row_bits board scan))) ≡ data_bits board
 marked_size board scan = ap length (mask_laid board scan) ∙ length-laid (λ part device cell. is_some (expect_bit board scan.before part device cell)) board
 
--- nothing is compared after the quiet row
+-- nothing of the quiet row is compared
 pub quiet_tdo : (board : RawBoard) (scan : RowScan) → scan.before ≡ quiet_row → replicate (data_bits board) false ≡ tdo_bits (joined (row_bits board scan))
 quiet_tdo board scan e =
     zeros_laid board
@@ -159,7 +159,7 @@ module _ (board : RawBoard) (rules : IsBoard board) (plan : PlanTables) (p : IsP
     pub controls_there : (setting : List Ctl) → setting ≡ pass → (c : Ctl) → holds setting c ≡ true → c.cell < cell_count (device_at board c.part)
     controls_there setting is c on = control_cells board rules c (p.plannable.controls x pass c stands (sym (ap (λ (q : List Ctl). holds q c) is) ∙ on))
 
-    -- what a net carries is what its code's bit says
+    -- a net carries the bit of its code
     abbrev carried : ℕ → ℕ → Option Bool
     carried j n = Some (net_code_bit board plan.passes j n)
 
@@ -171,7 +171,7 @@ module _ (board : RawBoard) (rules : IsBoard board) (plan : PlanTables) (p : IsP
         p.codes_are d.net s.net s.is_net ∙ ap (λ (b : Bool). cond b (code_of_net board plan.passes d.net) 0) observed in
         sym (ap (λ (n : ℕ). Some (code_bit n j)) code)
 
-    -- what a row of the pass shifts in, over what all passes do
+    -- the bits that a row of the pass shifts in, made from those of all passes
     pub shifted_is : (j : ℕ) → j < plan.width →
         driven board plan (driver_bit plan.codes j) (assigned (λ h. h.position) (λ h. h.bit) (steady_shifted plan j) cells.held) pass ≡ tdi_bits (joined (row_bits board (scan_of_pass board plan x j)))
     shifted_is j within =
@@ -188,7 +188,7 @@ module _ (board : RawBoard) (rules : IsBoard board) (plan : PlanTables) (p : IsP
         ∙ drivers_laid board rules pass (carried j) bit all driver_only every (carries j)
         ∙ sym (tdi_laid board (scan_of_pass board plan x j) ∙ ap (λ (row : TestRow). laid (λ part device cell. row_bit board row part device cell) board) row)
 
-    -- what is compared of it, over what is compared in all passes
+    -- what is compared of it, made from what is compared in all passes
     compared_is : (bit : DriverCell → Bool) →
         compared board plan bit (steady_compared plan bit) pass ≡ assigned (λ (x : Pair). x.1.position) (λ x. bit x.0) (laid (λ part device cell. false) board) (pairs plan.readers all)
     compared_is bit =
@@ -209,7 +209,7 @@ module _ (board : RawBoard) (rules : IsBoard board) (plan : PlanTables) (p : IsP
         ∙ mask_compared board rules pass (carried j) (driver_bit plan.codes j) all driver_only every (carries j) plan.readers readers_of
         ∙ sym (mask_laid board (scan_of_pass board plan x (suc j)))
 
-    -- rows that have the bits of its scan j fill that in
+    -- rows with the bits of scan `j` of the pass are filled with it
     pub fills_row : (j : ℕ) → j ≤ plan.width → (shape : Shape) (tdi tdo mask : List Bool) → shape.ir ≡ false →
         AreBitsOf (joined (row_bits board (scan_of_pass board plan x j))) tdi tdo mask → shape.compare ≡ list_any (λ bit. bit) mask →
         FillsScan board plan.passes plan.width (3 + (x * suc plan.width + j)) shape tdi tdo mask

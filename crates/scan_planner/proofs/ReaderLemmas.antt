@@ -1,4 +1,4 @@
--- What is compared of a row: the cells of the receivers on the nets that the pass observes.
+-- The compared cells of a row: the cells of receivers on the nets that the pass observes.
 use Rattle.std.proofs.Common.{◌≡◌, ℕ, ◌+◌, ◌==◌, Bool, true, false, not, cond, ◌&&◌, List, [], ◌∷◌, Option, Some, None, is_some, unwrap_or, get_or, set, refl, sym, ap, ◌∙◌, subst, arith, ◌⊎◌, inl, inr}
 use Rattle.std.specs.Prelude.{slice_get}
 use Rattle.std.specs.List.{flat_map}
@@ -34,7 +34,7 @@ use Rattle.plan_tables.proofs.SeenLemmas.{driver_cell}
 abbrev pub Pair : Type 0
 Pair = DriverCell × ReaderCell
 
--- the cells that are compared for a net: those at other pins than the driver's
+-- the cells that are compared for a net: those on pins other than the driver's
 abbrev pub pairs_of : DriverCell → List ReaderCell → List Pair
 pairs_of d [] = []
 pairs_of d (r ∷ readers) = cond (r.place == d.place) (pairs_of d readers) ((d, r) ∷ pairs_of d readers)
@@ -51,7 +51,7 @@ has_pair d (s ∷ readers) r (inr h) other = by_test (s.place == d.place) (has_p
     by_test true k = k
     by_test false k = inr k
 
--- what is known of a pair
+-- the facts about a pair
 pub record PairOf (d : DriverCell) (readers : List ReaderCell) (x : Pair) : Type 0 where
   pub driver_is : x.0 ≡ d
   pub reader_in : Has readers (x.1)
@@ -97,7 +97,7 @@ module _ (board : RawBoard) (rules : IsBoard board) (pass : List Ctl) (carried :
   abbrev row : TestRow
   row = pass_row pass carried
 
-  -- a pair is a cell that is compared with the bit of its driver
+  -- each pair is a cell that is compared with the bit of its driver
   record Expects (x : Pair) : Type 0 where
     at : PinAt
     device : RawDevice

@@ -1,4 +1,4 @@
--- What all passes have, worked by hand: a bus with two drivers and a receiver, of which the pass's one driver is steady.
+-- The rows that all passes share, worked by hand for a bus with two drivers and a receiver; the pass's one driver is steady.
 use Rattle.std.proofs.Common.{◌≡◌, Bool, true, false, List, [], ◌∷◌, map, replicate, refl}
 use Rattle.bt_bits.specs.Rows.{BitRow}
 use Rattle.tap_defs.specs.declared.scan.StoredRows.{StoredRows}
@@ -40,14 +40,14 @@ enabled = record { net = 0; place = 0; position = 3 } ∷ []
 shifted : map (steady_shifted (plan enabled)) (0 ∷ 1 ∷ []) ≡ (false ∷ false ∷ true ∷ false ∷ true ∷ []) ∷ (false ∷ false ∷ true ∷ true ∷ true ∷ []) ∷ []
 shifted = refl
 
--- which are expected at the other pin, and not at the driver's own
+-- these bits are expected at the other pin, and not at the driver's own
 expected : map (λ j. steady_compared (plan enabled) (driver_bit (2 ∷ []) j)) (0 ∷ 1 ∷ []) ≡ replicate 5 false ∷ (true ∷ false ∷ false ∷ false ∷ false ∷ []) ∷ []
 expected = refl
 
 mask : steady_compared (plan enabled) (λ d. true) ≡ true ∷ false ∷ false ∷ false ∷ false ∷ []
 mask = refl
 
--- without a steady driver all passes have the quiet row, and compare nothing
+-- without a steady driver, the row that all passes share is the quiet row, and nothing is compared
 none_shifted : steady_shifted (plan []) 0 ≡ quiet
 none_shifted = refl
 

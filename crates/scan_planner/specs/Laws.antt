@@ -1,4 +1,4 @@
--- What makes a plan possible.
+-- Passes from which a plan can be made.
 use Rattle.std.specs.Prelude.{◌≡◌, ℕ, true, List, Some, slice_get}
 use Rattle.std.specs.List.{list_any}
 use Rattle.board_defs.specs.declared.board.RawBoard.{RawBoard}
@@ -16,12 +16,13 @@ AreSafe board passes = (x : ℕ) (pass : List Ctl) → slice_get passes x ≡ So
 abbrev pub AreUseful : RawBoard → List (List Ctl) → Type 0
 AreUseful board passes = (x : ℕ) (pass : List Ctl) (c : Ctl) → slice_get passes x ≡ Some pass → holds pass c ≡ true → is_useful board c ≡ true
 
--- a control that controls a driver of a net controls a driver of the board, as each useful control does; so safe passes of useful controls can be planned
+-- A control of a driver of a net controls a driver of the board, and so does each useful control. So a plan can be made from safe passes
+-- of useful controls.
 pub record PlansUseful (board : RawBoard) : Type 0 where
   pub of_nets : (c : Ctl) → list_any (drives_net board c) board.nets ≡ true → controls_some board c ≡ true
   pub useful : (c : Ctl) → is_useful board c ≡ true → controls_some board c ≡ true
   pub passes : (passes : List (List Ctl)) → AreSafe board passes → AreUseful board passes → ArePlannable board passes
 
--- so of every board
+-- this holds for every board
 abbrev pub UsefulPlanned : Type 0
 UsefulPlanned = (board : RawBoard) → IsBoard board → PlansUseful board

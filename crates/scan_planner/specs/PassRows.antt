@@ -1,4 +1,4 @@
--- The rows of a pass that are kept side by side.
+-- The rows of a pass that are kept side by side, and the rows that all passes share.
 use Rattle.std.specs.Prelude.{◌≡◌, ℕ, suc, ◌<◌, ◌≤◌, Bool, true, false, List, Some, length, replicate, slice_get, IfSome}
 use Rattle.bt_bits.specs.Rows.{BitRow}
 use Rattle.bt_bits.specs.Stacks.{Stack, stacked}
@@ -14,56 +14,56 @@ use Rattle.scan_planner.specs.declared.pass_rows.PassRows.{PassRows}
 use Rattle.scan_planner.specs.declared.pass_rows.StackedRows.{StackedRows}
 use Rattle.scan_planner.specs.Plans.{scan_of_pass}
 
--- the rows have room for so many bits
+-- the rows have room for `bits` bits each
 pub record HaveRoom (bits : ℕ) (rows : StackedRows) : Type 0 where
   pub shifted : bits ≤ rows.shifted.room
   pub expected : bits ≤ rows.expected.room
   pub mask : bits ≤ rows.mask.room
 
--- and so have they for the rows of others
+-- the rows have room for the bits of `others`
 pub record HaveRoomFor (others rows : StackedRows) : Type 0 where
   pub shifted : length (stacked others.shifted 0) ≤ rows.shifted.room
   pub expected : length (stacked others.expected 0) ≤ rows.expected.room
   pub mask : length others.mask.bits ≤ rows.mask.room
 
--- the room is as it was
+-- the room is unchanged
 pub record KeepRoom (old new : StackedRows) : Type 0 where
   pub shifted : new.shifted.room ≡ old.shifted.room
   pub expected : new.expected.room ≡ old.expected.room
   pub mask : new.mask.room ≡ old.mask.room
 
--- what all passes shift in in row j: bit j of the code of each steady driver's net, in its cell over the quiet row
+-- row `j` of what all passes shift in: the quiet row, with bit `j` of the code of each steady driver's net in the driver's cell
 abbrev pub steady_shifted : PlanTables → ℕ → List Bool
 steady_shifted plan j = assigned (λ d. d.position) (driver_bit plan.codes j) plan.quiet.bits plan.steady
 
--- what is compared of it in all passes: a bit of each steady driver where its net is read at another place, over zeros
+-- what is compared of it in all passes: zeros, with a bit of each steady driver at the cells on other pins that read its net
 abbrev pub steady_compared : PlanTables → (DriverCell → Bool) → List Bool
 steady_compared plan bit = set_compared bit plan.readers (replicate (length plan.quiet.bits) false) plan.steady
 
--- side by side, the rows are what all passes of the plan have in theirs: what they shift in, what is expected of it, and where
+-- side by side, these are the rows that all passes of the plan share: the bits that are shifted in, the expected bits, and the mask
 pub record AreCommonStacks (plan : PlanTables) (rows : StackedRows) : Type 0 where
   pub shifted : (j : ℕ) → j < 16 → stacked rows.shifted j ≡ steady_shifted plan j
   pub expected : (j : ℕ) → j < 16 → stacked rows.expected j ≡ steady_compared plan (driver_bit plan.codes j)
   pub mask : rows.mask.bits ≡ steady_compared plan (λ d. true)
 
--- row j of the list is row j of the stack
+-- row `j` of the list is row `j` of the stack
 abbrev pub AreFirstRows : Stack → List BitRow → Type 0
 AreFirstRows stack rows = (j : ℕ) (row : BitRow) → slice_get rows j ≡ Some row → row.bits ≡ stacked stack j
 
--- the rows are what all passes of the plan have in theirs, and row j by itself is what is expected of row j in all of them
+-- these are the rows that all passes of the plan share, and each row of `expected` by itself has the expected bits of that row
 pub record AreCommonRows (plan : PlanTables) (rows : CommonRows) : Type 0 where
   pub stacked : AreCommonStacks plan rows.stacked
   pub count : length rows.expected ≡ plan.width
   pub expected : (j : ℕ) (row : BitRow) → slice_get rows.expected j ≡ Some row → row.bits ≡ steady_compared plan (driver_bit plan.codes j)
 
--- the rows are those of pass x: row j is what its scan j shifts in, and what scan j + 1 expects of it and where
+-- these are the rows of pass `x`: row `j` has what scan `j` of the pass shifts in, and what scan `j + 1` expects and where it compares
 pub record ArePassRows (board : RawBoard) (plan : PlanTables) (x : ℕ) (rows : StackedRows) : Type 0 where
   pub within : x < length plan.passes
   pub shifted : (j : ℕ) → j < plan.width → stacked rows.shifted j ≡ tdi_bits (joined (row_bits board (scan_of_pass board plan x j)))
   pub expected : (j : ℕ) → j < plan.width → stacked rows.expected j ≡ tdo_bits (joined (row_bits board (scan_of_pass board plan x (suc j))))
   pub mask : (j : ℕ) → j < plan.width → rows.mask.bits ≡ mask_bits (joined (row_bits board (scan_of_pass board plan x (suc j))))
 
--- what is kept has room for a scan of data, and where there is a pass, it is that pass of this plan
+-- the kept rows have room for a scan of data; if they belong to a pass, they are the rows of that pass of this plan
 pub record AreKept (board : RawBoard) (plan : PlanTables) (kept : PassRows) : Type 0 where
   pub room : HaveRoom (data_bits board) kept.rows
   pub rows : IfSome kept.pass (λ x. ArePassRows board plan x kept.rows)

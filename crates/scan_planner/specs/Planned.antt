@@ -1,4 +1,4 @@
--- What a board with a plan, and a pass of the plan, are seen as.
+-- A board with a plan, and a pass of the plan, as contracts see them.
 use Rattle.std.specs.Prelude.{ℕ}
 use Rattle.board_defs.specs.declared.board.RawBoard.{RawBoard}
 use Rattle.plan_tables.specs.declared.tables.PlanTables.{PlanTables}
@@ -11,7 +11,7 @@ pub record PlannedBoard : Type 0 where
 abbrev pub planned_board : RawBoard → PlanTables → PlannedBoard
 planned_board board plan = record { board = board; plan = plan }
 
--- a pass of the plan by its number, from 0
+-- a pass of the plan, given by its number from 0
 pub record PlannedPass : Type 0 where
   pub test : PlannedBoard
   pub number : ℕ

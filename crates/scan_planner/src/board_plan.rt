@@ -11,7 +11,8 @@ use board_defs::Board;
 use plan_tables::PlanTables;
 use std::marker::Model;
 
-/// A board with the tables of a plan of it and with what all passes have in their rows. Seen as the board and the tables.
+/// A board with the tables of a plan and the rows that all passes share. Contracts see it as the board and the
+/// tables.
 #[derive(Drop)]
 pub struct BoardPlan<'a> {
     pub(crate) board: &'a Board,
@@ -30,7 +31,7 @@ impl<'a> Model for BoardPlan<'a> {
     ghost invariant = { λ a. IsPlanned a.board.now a.tables.now a.common.now };
 }
 
-/// A pass of the plan of a board. Seen as both and the number of the pass.
+/// A pass of a board's plan. Contracts see it as the board, the tables and the number of the pass.
 #[derive(Drop)]
 pub struct PassOfPlan<'a> {
     pub(crate) board: &'a Board,
@@ -51,7 +52,8 @@ impl<'a> Model for PassOfPlan<'a> {
 }
 
 impl<'a> BoardPlan<'a> {
-    /// A board with these tables, of a plan of it, and with what all passes of the plan have in their rows.
+    /// Returns the board with these tables, which must be those of a plan of it, and with the rows that all
+    /// passes share.
     pub fn of(board: &'a Board, tables: &'a PlanTables, common: &'a CommonRows) -> BoardPlan<'a>
         requires { IsPlanned board.now tables.now common.now }
         ensures { result ≡ planned_board board.now tables.now }
@@ -63,7 +65,7 @@ impl<'a> BoardPlan<'a> {
         }
     }
 
-    /// The pass with this number, which is below the number of passes.
+    /// Returns pass `number`, which must be below the number of passes.
     pub fn pass(&self, number: usize) -> PassOfPlan<'a>
         requires { number < length self.now.plan.passes }
         ensures { result ≡ planned_pass self.now number }
@@ -78,7 +80,7 @@ impl<'a> BoardPlan<'a> {
 }
 
 impl<'a> PassOfPlan<'a> {
-    /// The board with the plan.
+    /// Returns the board with the plan.
     pub fn test(&self) -> BoardPlan<'a>
         ensures { result ≡ self.now.test }
     {
@@ -89,21 +91,23 @@ impl<'a> PassOfPlan<'a> {
         }
     }
 
-    /// The number of rows of the pass.
+    /// Returns the number of rows of the pass.
     pub fn width(&self) -> u32
         ensures { result ≡ self.now.test.plan.width }
     {
         self.tables.width
     }
 
-    /// What all passes have in their rows.
+    /// Returns the rows that all passes share.
     pub fn common(&self) -> &'a CommonRows
         ensures { AreCommonRows self.now.test.plan result.now }
     {
         self.common
     }
 
-    /// What is known of a pass: the rules of the board, that the plan is one of it and has the pass, and that its rows lie in one stack.
+    /// Does nothing. Its contract has the facts about a pass: the board keeps the rules, the plan is a plan of
+    /// it and has
+    /// the pass, and the rows of the pass fit in one stack.
     pub fn laws(&self)
         ensures rules { IsBoard self.now.test.board }
         ensures plan { IsPlanOf self.now.test.board self.now.test.plan }

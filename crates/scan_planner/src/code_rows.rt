@@ -1,4 +1,4 @@
-// Rows in which the codes of nets are written: all rows of a pass side by side, one of them, or none.
+// Rows into which the codes of nets are written: all rows of a pass side by side, a single one, or none.
 ghost use Rattle.std.specs.Prelude.{◌≡◌, ◌<◌, ℕ, Bool, false, List, [], length, slice_set};
 ghost use Rattle.std.specs.Borrow.{GName};
 ghost use Rattle.bt_bits.specs.Stacks.{column_bit, stacked};
@@ -7,17 +7,18 @@ ghost use Rattle.tap_defs.specs.board.TestRows.{code_bit};
 use bt_bits::{Column, Row, RowStack};
 use counting_codes::bit;
 
-/// Rows of one length of which row `j` has bit `j` of the codes of nets. What they have at one position is written at once.
+/// Rows of one length into which the codes of nets are written: row `j` gets bit `j` of each code. One call writes a
+/// position in all rows.
 pub trait CodeRows {
-    /// What the rows have at one position.
+    /// The bits of the rows at one position.
     type Column: Copy;
 
-    // What stays the same while the rows are written to.
+    // What stays the same while the rows are written.
     ghost Kind: { Type 0 };
 
     ghost kind: { Self → Kind };
 
-    // Which rows there are, by their numbers.
+    // The numbers of the rows.
     ghost shows: { Kind → ℕ → Type 0 };
 
     // The bits of a row.
@@ -26,15 +27,15 @@ pub trait CodeRows {
     // The bit of a column in a row.
     ghost bit_in: { Self.Column → ℕ → Bool };
 
-    /// The column that has bit `j` of a code in row `j`, the lowest at 0.
+    /// Returns the column with bit `j` of `number` in row `j`. Bit 0 is the lowest.
     fn code(&self, number: u32) -> Self::Column
         ensures { (j : ℕ) → shows (kind self.now) j → bit_in result j ≡ code_bit number j };
 
-    /// The column that has this bit in each row.
+    /// Returns the column with this bit in each row.
     fn same(&self, bit: bool) -> Self::Column
         ensures { (j : ℕ) → shows (kind self.now) j → bit_in result j ≡ bit };
 
-    /// Writes a column at a position. One past the end is passed over.
+    /// Writes a column at a position. Ignores a position past the end.
     fn put(&mut self, position: u32, column: Self::Column)
         ensures kind { kind self.new ≡ kind self.old }
         ensures bits { (j : ℕ) → shows (kind self.old) j → bits self.new j ≡ slice_set (bits self.old j) position (bit_in column j) };
@@ -69,7 +70,7 @@ impl CodeRows for RowStack {
     }
 }
 
-/// Changes one bit of a row. A place past the end is passed over.
+/// Sets one bit of a row. Ignores a position past the end.
 #[inline]
 pub fn set_within(row: &mut Row, position: u32, bit: bool)
     ensures bits { row.new.bits ≡ slice_set row.old.bits position bit }
@@ -80,7 +81,7 @@ pub fn set_within(row: &mut Row, position: u32, bit: bool)
     }
 }
 
-/// The row with this number, by itself.
+/// A single row, whose number is `number`.
 #[derive(Drop)]
 pub struct RowAt<'a> {
     pub row: &'a mut Row,
@@ -117,7 +118,7 @@ impl CodeRows for RowAt<'_> {
     }
 }
 
-/// No rows: what is written is passed over.
+/// No rows. Whatever is written is ignored.
 #[derive(Drop)]
 pub struct NoRows;
 

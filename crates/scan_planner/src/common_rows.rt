@@ -1,4 +1,4 @@
-// What all passes of a plan have in their rows, made once.
+// The rows that all passes of a plan share, made once.
 ghost use Rattle.std.specs.Prelude.{◌≡◌, ◌<◌, ◌≤◌, Some, length, slice_get, IfOk};
 ghost use Rattle.scan_planner.specs.PassRows.{AreCommonRows, AreFirstRows};
 
@@ -8,17 +8,17 @@ use bt_bits::{Row, RowStack};
 use plan_tables::PlanTables;
 use std::alloc::{AllocError, Global};
 
-/// What all passes of a plan have in their rows.
+/// The rows that all passes of a plan share. A pass sets the bits of its own cells in copies of them.
 #[derive(Drop)]
 pub struct CommonRows {
-    /// The rows side by side, over which the rows of a pass are made at once.
+    /// The rows side by side. All rows of a pass are made from them at once.
     pub stacked: StackedRows,
-    /// What is expected of each row that was shifted in, by its number, since one row out of a stack costs as much to read as all.
+    /// The expected bits of each row, as a row of its own. Reading one row of a stack costs as much as reading all.
     pub expected: Items<Row>,
 }
 
 impl CommonRows {
-    /// What all passes of a plan have in their rows.
+    /// Makes the rows that all passes of a plan share.
     pub fn of(alloc: Global, tables: &PlanTables) -> Result<CommonRows, AllocError>
         requires { tables.now.width ≤ 14 }
         ensures { IfOk result (AreCommonRows tables.now) }
@@ -28,7 +28,7 @@ impl CommonRows {
         Ok(CommonRows { stacked, expected })
     }
 
-    /// What is expected of row `j`, which is below the number of rows of a pass.
+    /// Returns the expected bits of row `j`, which must be below the number of rows of a pass.
     pub fn expected_row(&self, j: u32) -> &Row
         requires { j < length self.now.expected }
         ensures { slice_get self.now.expected j ≡ Some result.now }
@@ -44,7 +44,7 @@ fn row_at(rows: &[Row], j: usize) -> &Row
     &rows[j]
 }
 
-// The first rows of a stack, each by itself.
+// Returns the first `count` rows of a stack, each as a row of its own.
 fn first_rows(alloc: Global, stack: &RowStack, count: u32) -> Result<Items<Row>, AllocError>
     requires { count ≤ 14 }
     ensures count { IfOk result (λ rows. length rows ≡ count) }

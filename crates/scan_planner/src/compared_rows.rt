@@ -1,7 +1,9 @@
-// The two rows of a scan that are compared.
+// The two rows of a scan that concern what is compared.
 use bt_bits::Row;
 
-/// What a scan expects and where that is compared, lent together, so that what compares a row has one thing to fill.
+/// The expected bits of a scan, and the mask of the bits that are compared. They are borrowed together, so that
+/// a call
+/// has one argument to fill.
 #[derive(Drop)]
 pub struct ComparedRows<'a> {
     pub tdo: &'a mut Row,

@@ -16,7 +16,7 @@ use crate::compared_rows::ComparedRows;
 use bt_bits::Row;
 use tap_defs::{ScanRows, Shape, StoredRows};
 
-// Fills the rows with a scan of instructions that is stored.
+// Fills the rows with a stored scan of instructions.
 fn fill_codes(codes: &StoredRows, rows: &mut ScanRows) -> Shape
     requires { HaveRoomFor codes.now rows.old }
     ensures bits { (bits : List ScanBit) → AreRowsOf bits codes.now → HoldBits bits rows.new }
@@ -32,7 +32,7 @@ fn fill_codes(codes: &StoredRows, rows: &mut ScanRows) -> Shape
 }
 
 impl<'a> BoardPlan<'a> {
-    /// Shifts the quiet row in.
+    /// Fills `tdi` with the quiet row.
     pub fn shift_quiet(&self, tdi: &mut Row)
         requires { data_bits self.now.board ≤ tdi.old.room }
         ensures bits { (scan : RowScan) → scan.now ≡ quiet_row → tdi.new.bits ≡ tdi_bits (joined (row_bits self.now.board scan)) }
@@ -42,7 +42,7 @@ impl<'a> BoardPlan<'a> {
         tdi.copy_row(&self.tables.quiet);
     }
 
-    /// Compares nothing, as a scan after the quiet row does.
+    /// Fills the rows with a comparison of nothing, as in a scan after the quiet row.
     pub fn compare_nothing(&self, rows: &mut ComparedRows)
         requires { BothHaveRoom (data_bits self.now.board) rows.old }
         ensures bits { (scan : RowScan) → scan.before ≡ quiet_row → HoldCompared (joined (row_bits self.now.board scan)) rows.new }
@@ -54,7 +54,7 @@ impl<'a> BoardPlan<'a> {
         rows.mask.clear(len);
     }
 
-    // The second scan, which shifts the quiet row in and compares nothing.
+    // Fills the rows with the second scan, which shifts in the quiet row and compares nothing.
     fn fill_quiet(&self, rows: &mut ScanRows) -> Shape
         requires { EachHasRoom (IsRoom self.now.board) rows.old }
         ensures filled { FillsRows self.now 1 result rows.new }
@@ -72,7 +72,9 @@ impl<'a> BoardPlan<'a> {
         }
     }
 
-    // One of the first three scans: it shifts the preload codes in, the quiet row, or the EXTEST codes.
+    // Fills the rows with one of the first three scans, which shift in the preload codes, the quiet row, and
+    // the EXTEST
+    // codes.
     fn fill_early(&self, k: u64, rows: &mut ScanRows) -> Shape
         requires early { k < 3 }
         requires room { EachHasRoom (IsRoom self.now.board) rows.old }
@@ -89,7 +91,7 @@ impl<'a> BoardPlan<'a> {
         }
     }
 
-    /// Fills the rows with scan `k`.
+    /// Fills the rows with scan `k`, and returns its shape.
     pub fn fill(&self, k: u64, rows: &mut ScanRows) -> Shape
         requires scan { k < scan_count self.now.plan }
         requires room { EachHasRoom (IsRoom self.now.board) rows.old }
@@ -107,7 +109,7 @@ impl<'a> BoardPlan<'a> {
 }
 
 impl<'a> PassOfPlan<'a> {
-    /// Shifts row `j` in.
+    /// Fills `tdi` with row `j`.
     pub fn shift_row(&self, j: u32, tdi: &mut Row)
         requires row { j < self.now.test.plan.width }
         requires room { data_bits self.now.test.board ≤ tdi.old.room }
@@ -123,7 +125,7 @@ impl<'a> PassOfPlan<'a> {
         self.walk(&mut shifted, &mut NoRows, &mut NoRows);
     }
 
-    /// Compares row `j`.
+    /// Fills the rows with what is compared of row `j`.
     pub fn compare_row(&self, j: u32, rows: &mut ComparedRows)
         requires row { j < self.now.test.plan.width }
         requires room { BothHaveRoom (data_bits self.now.test.board) rows.old }
@@ -145,7 +147,7 @@ impl<'a> PassOfPlan<'a> {
         self.walk(&mut NoRows, &mut expected, &mut marks);
     }
 
-    // Shifts row `j` in, or the quiet row after the last.
+    // Fills `tdi` with row `j`, or with the quiet row after the last.
     fn shift(&self, j: u32, tdi: &mut Row)
         requires { data_bits self.now.test.board ≤ tdi.old.room }
         ensures bits { tdi.new.bits ≡ tdi_bits (bits_of self.now j) }
@@ -158,7 +160,9 @@ impl<'a> PassOfPlan<'a> {
         }
     }
 
-    // Compares the row before row `j`, and nothing before the first; tells whether anything is compared.
+    // Fills the rows with what is compared of the row before row `j`, which is nothing for the first row.
+    // Returns whether
+    // any bit is compared.
     fn compare_before(&self, j: u32, rows: &mut ComparedRows) -> bool
         requires row { j ≤ self.now.test.plan.width }
         requires room { BothHaveRoom (data_bits self.now.test.board) rows.old }
@@ -175,7 +179,7 @@ impl<'a> PassOfPlan<'a> {
         }
     }
 
-    // Scan `j` of the pass.
+    // Fills the rows with scan `j` of the pass, and returns its shape.
     fn fill(&self, j: u32, rows: &mut ScanRows) -> Shape
         requires row { j ≤ self.now.test.plan.width }
         requires room { EachHasRoom (IsRoom self.now.test.board) rows.old }

@@ -1,8 +1,8 @@
-//! The scans of a board's test, made one at a time from its passes: how the tables of a plan fill the rows of a scan, and what a plan says
-//! of each net and each position. `plan_tables` makes the tables.
+//! Makes the scans of a board's test one at a time. The tables of a plan, which `plan_tables` makes, fill the rows of
+//! each scan. A plan also answers queries about each net and each position.
 //!
-//! What all passes have in their rows is made once. The cells of a pass are set over it by one walk, in all rows of the pass side by side
-//! or in one of them.
+//! The rows that all passes share are made once. One walk over the cells of a pass sets its own bits in copies of
+//! them, in all rows of the pass side by side or in one row.
 #![tactic(auto)]
 
 mod board_plan;

@@ -1,4 +1,4 @@
-// Fills rows that hold a scan with the next one, by the rows of its pass.
+// Fills rows that hold a scan with the next scan, from the rows of its pass.
 ghost use Rattle.std.specs.Prelude.{◌≡◌, ◌+◌, ◌*◌, ◌<◌, ◌≤◌, suc};
 ghost use Rattle.std.specs.List.{list_any};
 ghost use Rattle.board_defs.specs.Pins.{data_bits};
@@ -16,7 +16,7 @@ use bt_bits::Row;
 use std::marker::Model;
 use tap_defs::{ScanRows, Shape};
 
-// A pass with its rows, out of which each of its scans is copied. Seen as the pass.
+// A pass with its rows, from which each of its scans is copied. Contracts see it as the pass.
 #[derive(Drop)]
 struct PassWithRows<'a, 'k> {
     pass: PassOfPlan<'a>,
@@ -35,7 +35,7 @@ impl<'a, 'k> Model for PassWithRows<'a, 'k> {
 }
 
 impl<'a, 'k> PassWithRows<'a, 'k> {
-    // Shifts row `j` in, or the quiet row after the last.
+    // Fills `tdi` with row `j`, or with the quiet row after the last.
     fn shift(&self, j: u32, tdi: &mut Row)
         requires { data_bits self.now.test.board ≤ tdi.old.room }
         ensures bits { tdi.new.bits ≡ tdi_bits (bits_of self.now j) }
@@ -49,7 +49,7 @@ impl<'a, 'k> PassWithRows<'a, 'k> {
         }
     }
 
-    // Expects what row `j` shifted in.
+    // Fills `tdo` with the expected bits of row `j`.
     fn expect(&self, j: u32, tdo: &mut Row)
         requires row { j < self.now.test.plan.width }
         requires room { data_bits self.now.test.board ≤ tdo.old.room }
@@ -60,7 +60,7 @@ impl<'a, 'k> PassWithRows<'a, 'k> {
         tdo.copy_stacked(&self.rows.expected, j);
     }
 
-    // Marks where row `j` is compared.
+    // Fills `mask` with the mask of row `j`.
     fn mark(&self, j: u32, mask: &mut Row)
         requires row { j < self.now.test.plan.width }
         requires room { data_bits self.now.test.board ≤ mask.old.room }
@@ -70,8 +70,10 @@ impl<'a, 'k> PassWithRows<'a, 'k> {
         mask.copy_row(&self.rows.mask);
     }
 
-    // Compares the row before row `j`, and nothing before the first; tells whether anything is compared. Where a row is compared does not
-    // depend on its number, so from the second on the mask stands, and what it told.
+    // Fills the rows with what is compared of the row before row `j`, which is nothing for the first row. Returns
+    // whether any bit is compared. The mask is the same for all rows of a pass. So from the second row on the
+    // mask stays,
+    // and so does the answer, `told`.
     fn compare_before(&self, j: u32, told: bool, rows: &mut ComparedRows) -> bool
         requires row { j ≤ self.now.test.plan.width }
         requires stands { 1 < j → (rows.old.mask.now.bits ≡ mask_bits (bits_of self.now j)) × (told ≡ list_any (λ bit. bit) rows.old.mask.now.bits) }
@@ -92,7 +94,7 @@ impl<'a, 'k> PassWithRows<'a, 'k> {
         rows.mask.has_one()
     }
 
-    // Scan `j` of the pass, where the rows hold the scan before it.
+    // Fills the rows with scan `j` of the pass. They must hold the scan before it.
     fn fill(&self, j: u32, before: Shape, rows: &mut ScanRows) -> Shape
         requires row { j ≤ self.now.test.plan.width }
         requires before { FillsRows self.now.test (2 + (self.now.number * suc self.now.test.plan.width + j)) before rows.old }
@@ -117,8 +119,8 @@ impl<'a, 'k> PassWithRows<'a, 'k> {
 }
 
 impl<'a> BoardPlan<'a> {
-    /// Fills the rows with scan `k + 1`, where they hold scan `k`, which has the shape `before`. The rows that are kept become those of
-    /// its pass.
+    /// Fills the rows with scan `k + 1`. They must hold scan `k`, whose shape is `before`. If the scan belongs to a
+    /// pass, `kept` has the rows of that pass afterwards.
     pub fn fill_next(
         &self,
         k: u64,

@@ -1,4 +1,4 @@
-// The walk over the cells of a pass, which sets in rows what they have beside what all passes have.
+// The walk over the cells of a pass, which sets the bits that its rows do not share with those of all passes.
 ghost use Rattle.std.specs.Prelude.{◌≡◌, ◌<◌, ℕ, [], suc, true, length, map, slice_index_or};
 ghost use Rattle.board_defs.specs.declared.board.Ctl.{Ctl as ControlRecord};
 ghost use Rattle.board_defs.specs.Pins.{device_at, cell_count, data_bits};
@@ -16,7 +16,7 @@ use crate::questions::{code_at, readers_at};
 use board_defs::{Board, Items, Setting};
 use plan_tables::{DriverCell, PlanTables, ReaderCell, controlled, held_cell};
 
-/// Pass `x`, counted from 0.
+/// Returns pass `x`, counted from 0.
 pub fn pass_at(passes: &[Setting], x: usize) -> &Setting
     requires { x < length passes.now }
     ensures { result.now ≡ slice_index_or passes.now x [] }
@@ -24,7 +24,7 @@ pub fn pass_at(passes: &[Setting], x: usize) -> &Setting
     &passes[x]
 }
 
-// What a pass holds, each a control of a cell that its part of the board has, with the tables that find the cells.
+// The setting of a pass, each of whose controls is a cell of its part, with the tables by which the cells are found.
 #[derive(Drop)]
 struct PassControls<'a> {
     board: &'a Board,
@@ -35,7 +35,7 @@ struct PassControls<'a> {
     ghost cells: { (c : ControlRecord) → holds setting.now c ≡ true → c.cell < cell_count (device_at board.now c.part) },
 }
 
-// Expects a code at the cells that read its net, but for those at the driver's place, and marks where.
+// Writes a code at the cells that read its net, except those at the driver's place, and marks these cells.
 fn expect_net<E: CodeRows, M: CodeRows>(
     readers: &[ReaderCell],
     place: u32,
@@ -57,7 +57,7 @@ fn expect_net<E: CodeRows, M: CodeRows>(
     }
 }
 
-/// Shifts the codes of nets into the cells of their drivers, and expects them where the nets are read.
+/// Writes the codes of nets at the cells of their drivers, and as expected bits at the cells that read the nets.
 pub fn drive_nets<S: CodeRows, E: CodeRows, M: CodeRows>(
     drivers: &[DriverCell],
     readers: &[Items<ReaderCell>],
@@ -89,7 +89,7 @@ pub fn drive_nets<S: CodeRows, E: CodeRows, M: CodeRows>(
 }
 
 impl PassControls<'_> {
-    // Shifts what the pass holds into the cells of its controls.
+    // Writes the bits of the pass's controls at their cells.
     fn hold<S: CodeRows>(&self, rows: &mut S)
         ensures kind { S.kind rows.new ≡ S.kind rows.old }
         ensures bits { (j : ℕ) → S.shows (S.kind rows.old) j → S.bits rows.new j ≡ assigned (λ h. h.position) (λ h. h.bit) (S.bits rows.old j) (map (held_cell self.now.board.now self.now.tables.now.quiet.bits) self.now.setting.now) }
@@ -102,7 +102,9 @@ impl PassControls<'_> {
         }
     }
 
-    // Drives the nets of the drivers that the pass has beside the steady ones: those that are always on, and those of its controls.
+    // Writes the codes of the nets that the pass's own drivers drive: those drivers that are always on but not
+    // steady,
+    // and those of the pass's controls.
     fn drive<S: CodeRows, E: CodeRows, M: CodeRows>(
         &self,
         shifted: &mut S,
@@ -133,7 +135,9 @@ impl PassControls<'_> {
 }
 
 impl<'a> PassOfPlan<'a> {
-    /// Makes of what all passes have in their rows what the pass has in its own: what it shifts in, what is expected of it, and where.
+    /// Turns the rows that all passes share into the rows of this pass: the bits that are shifted in, the
+    /// expected bits,
+    /// and the mask.
     pub fn walk<S: CodeRows, E: CodeRows, M: CodeRows>(
         &self,
         shifted: &mut S,

@@ -1,4 +1,4 @@
-// The rows of one pass, made once and kept side by side, so that each scan of the pass is copied out of them.
+// The rows of one pass, made once and kept side by side, so that each scan of the pass is copied from them.
 ghost use Rattle.std.specs.Prelude.{◌≡◌, ◌<◌, ◌≤◌, ℕ, length, IfOk};
 ghost use Rattle.board_defs.specs.declared.board.RawBoard.{RawBoard};
 ghost use Rattle.board_defs.specs.Pins.{data_bits};
@@ -13,19 +13,19 @@ use bt_bits::{Row, RowStack};
 use plan_tables::PlanTables;
 use std::alloc::{AllocError, Global};
 
-/// What the scans of data of one pass shift in and compare, scan by scan side by side.
+/// The bits that the data scans of one pass shift in and compare, side by side.
 #[derive(Drop)]
 pub struct StackedRows {
-    /// What is shifted in.
+    /// The bits that are shifted in.
     pub shifted: RowStack,
-    /// What is expected of each row that was shifted in, by the scan after it.
+    /// The expected bits of each row, which the scan after it compares.
     pub expected: RowStack,
-    /// Where it is compared, which is the same for all rows.
+    /// The mask of the compared bits, which is the same for all rows.
     pub mask: Row,
 }
 
 impl StackedRows {
-    // No rows yet, with room for those of scans of so many bits.
+    // Returns no rows yet, with room for those of scans of `bits` bits.
     fn with_room(alloc: Global, bits: u32) -> Result<StackedRows, AllocError>
         ensures { IfOk result (HaveRoom bits) }
     {
@@ -36,7 +36,7 @@ impl StackedRows {
         })
     }
 
-    /// What all passes of a plan have in their rows, side by side.
+    /// Returns the rows that all passes of a plan share, side by side.
     pub(crate) fn common(alloc: Global, tables: &PlanTables) -> Result<StackedRows, AllocError>
         ensures { IfOk result (AreCommonStacks tables.now) }
     {
@@ -45,7 +45,7 @@ impl StackedRows {
         Ok(rows)
     }
 
-    // Makes the rows what all passes of a plan have in theirs, for which they have room.
+    // Makes the rows those that all passes of a plan share. There must be room for them.
     fn fill_common(&mut self, tables: &PlanTables)
         requires { HaveRoom (length tables.now.quiet.bits) self.old }
         ensures { AreCommonStacks tables.now self.new }
@@ -67,7 +67,7 @@ impl StackedRows {
         );
     }
 
-    // Makes the rows those of others, for which they have room.
+    // Copies other rows, for which there must be room.
     fn copy_from(&mut self, rows: &StackedRows)
         requires { HaveRoomFor rows.now self.old }
         ensures shifted { (j : ℕ) → j < 16 → stacked self.new.shifted j ≡ stacked rows.now.shifted j }
@@ -84,13 +84,13 @@ impl StackedRows {
 /// The rows of the pass that was filled last.
 #[derive(Drop)]
 pub struct PassRows {
-    // The pass, counted from 0, where there was one.
+    // The pass, counted from 0, if there was one.
     pass: Option<usize>,
     pub(crate) rows: StackedRows,
 }
 
 impl PassRows {
-    /// The rows of no pass yet, with room for those of a board whose scan of data has so many bits.
+    /// Returns the rows of no pass yet, with room for a board whose data scans have at most `bits` bits.
     pub fn with_room(alloc: Global, bits: u32) -> Result<PassRows, AllocError>
         ensures { IfOk result (λ kept. (board : RawBoard) (plan : PlanRecord) → data_bits board ≤ bits → AreKept board plan kept) }
     {
@@ -102,7 +102,7 @@ impl PassRows {
 }
 
 impl<'a> PassOfPlan<'a> {
-    // Makes the rows those of the pass, over what all passes have.
+    // Makes the rows those of the pass, from the rows that all passes share.
     fn fill_rows(&self, rows: &mut StackedRows)
         requires { HaveRoom (data_bits self.now.test.board) rows.old }
         ensures rows { ArePassRows self.now.test.board self.now.test.plan self.now.number rows.new }
@@ -117,7 +117,7 @@ impl<'a> PassOfPlan<'a> {
         self.walk(&mut rows.shifted, &mut rows.expected, &mut marks);
     }
 
-    /// Makes the rows that are kept those of the pass.
+    /// Makes the kept rows those of the pass.
     pub fn keep_rows(&self, kept: &mut PassRows)
         requires { AreKept self.now.test.board self.now.test.plan kept.old }
         ensures kept { AreKept self.now.test.board self.now.test.plan kept.new }

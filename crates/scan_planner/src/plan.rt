@@ -1,4 +1,4 @@
-// A plan, and its counts.
+// A plan, and the numbers of its scans and rows.
 ghost use Rattle.std.specs.Prelude.{◌≡◌, ◌+◌, ◌*◌, ◌<◌, ◌≤◌, ◌^◌, suc, length, IfOk};
 ghost use Rattle.board_defs.specs.Pins.{data_bits};
 ghost use Rattle.tap_defs.specs.board.BoardScans.{row_bits};
@@ -21,12 +21,12 @@ use std::alloc::{AllocError, Global};
 use std::marker::Model;
 use tap_defs::{ScanRows, Shape};
 
-/// The plan of a board's test: its passes, and what each scan is made of: what all passes have in each row, and the
-/// cells in which those of a pass differ.
+/// The plan of a board's test: its passes, and the tables from which each scan is made. These have the rows that
+/// all passes share, and the cells in which the rows of a pass differ.
 #[derive(Drop)]
 pub struct Plan {
     pub(crate) tables: PlanTables,
-    // What all passes have in their rows.
+    // The rows that all passes share.
     common: CommonRows,
 }
 
@@ -43,9 +43,11 @@ impl Model for Plan {
 }
 
 impl Plan {
-    /// The plan of these passes, each of which is safe and has only controls of drivers of the board. The nets that
-    /// some pass observes are numbered from 1, in net order; these numbers are their codes. It is `of` with the pins of the
-    /// board's nets made here, for callers that have none.
+    /// Makes the plan of these passes. Each pass must be safe and have only controls of drivers of the board.
+    /// The nets
+    /// that some pass observes are numbered from 1 in net order, and these numbers are their codes. Like `of`,
+    /// but collects
+    /// the pins of the board's nets itself.
     pub fn new(alloc: Global, board: &Board, passes: Vec<Setting>) -> Result<Plan, AllocError>
         requires few { length passes.items < 2 ^ 32 }
         requires plannable { ArePlannable board.now passes.items }
@@ -56,7 +58,7 @@ impl Plan {
         Plan::of(alloc, board, pins, passes)
     }
 
-    /// The same, by the pins of the board's nets, which the plan takes over.
+    /// Like `new`, but takes over the pins of the board's nets.
     pub fn of(
         alloc: Global,
         board: &Board,
@@ -74,7 +76,7 @@ impl Plan {
         Ok(Plan { tables, common })
     }
 
-    // The plan on its board.
+    // Returns the plan with its board.
     fn on<'a>(&'a self, board: &'a Board) -> BoardPlan<'a>
         requires { IsPlanOf board.now self.now }
         ensures { result ≡ planned_board board.now self.now }
@@ -82,23 +84,27 @@ impl Plan {
         BoardPlan::of(board, &self.tables, &self.common)
     }
 
-    /// The number of scans of the test.
+    /// Returns the number of scans of the test.
     pub fn scans(&self) -> u64
         ensures { result ≡ scan_count self.now }
     {
         3 + self.tables.passes.len() as u64 * (u64::from(self.tables.width) + 1)
     }
 
-    /// The number of rows of the test, one for each pass and each bit of the codes. A row of a pass that observes a net is compared
-    /// once; each pass of a board's own test observes one, so this is the number of rows of its log.
+    /// Returns the number of rows of the test: one for each pass and each bit of the codes. A row of a pass that
+    /// observes a net is compared once. Each pass of a board's own test observes one, so this is the number of
+    /// rows of its
+    /// log.
     pub fn rows(&self) -> u64
         ensures { result ≡ length self.now.passes * self.now.width }
     {
         self.tables.passes.len() as u64 * u64::from(self.tables.width)
     }
 
-    /// Fills the rows with scan `k` of the test, counted from 0, and tells its kind. The board is that of the plan,
-    /// `k` is below the number of scans, and each row has room for the longer register. No memory is taken.
+    /// Fills the rows with scan `k` of the test, counted from 0, and returns its shape. The board must be that of the
+    /// plan, `k` must be below the number of scans, and each row must have room for a scan of instructions and
+    /// for a scan
+    /// of data. Allocates nothing.
     pub fn fill(&self, board: &Board, k: u64, tdi: &mut Row, tdo: &mut Row, mask: &mut Row) -> Shape
         requires plan { IsPlanOf board.now self.now }
         requires scan { k < scan_count self.now }
@@ -113,11 +119,15 @@ impl Plan {
         self.on(board).fill(k, &mut ScanRows { tdi, tdo, mask })
     }
 
-    /// Fills the rows with scan `k + 1` of the test, where they hold scan `k`, which has the shape `before`, and tells its kind. The rows
-    /// of a pass are made once, side by side, and kept in `rows`, and what two scans have alike is left as it stands, so the scans of a
-    /// test, one after another, cost less than by `fill`. The board is that of the plan, `k + 1` is below the number of scans, and each
-    /// row has room for the longer register. What is kept has room for a scan of data, and is of no pass yet or was filled by this call for
-    /// this plan. No memory is taken.
+    /// Fills the rows with scan `k + 1` of the test, and returns its shape. The rows must hold scan `k`, whose shape
+    /// is `before`. This is faster than `fill` for the scans of a test in turn: the rows of a pass are made
+    /// once and kept
+    /// in `rows`, and what two successive scans share stays in place. The board must be that of the plan, `k +
+    /// 1` must be
+    /// below the number of scans, and each row must have room for a scan of instructions and for a scan of
+    /// data. `rows`
+    /// must have room for a scan of data, and must have no pass yet or come from this call for this plan. Allocates
+    /// nothing.
     pub fn fill_next(
         &self,
         board: &Board,
@@ -145,8 +155,8 @@ impl Plan {
             .fill_next(k, before, rows, &mut ScanRows { tdi, tdo, mask })
     }
 
-    /// Fills a row with what row `row` of a pass shifts in. The board is that of the plan, and the row has room for a scan of data. No
-    /// memory is taken.
+    /// Fills a row with the bits that row `row` of a pass shifts in. The board must be that of the plan, and the row
+    /// must have room for a scan of data. Allocates nothing.
     pub fn fill_shifted(&self, board: &Board, pass: u32, row: u32, tdi: &mut Row)
         requires plan { IsPlanOf board.now self.now }
         requires pass { pass < length self.now.passes }
@@ -158,8 +168,9 @@ impl Plan {
         self.on(board).pass(pass as usize).shift_row(row, tdi);
     }
 
-    /// Fills two rows with what the scan after row `row` of a pass compares: the expected bits, and where they are compared. The board
-    /// is that of the plan, and each row has room for a scan of data. No memory is taken.
+    /// Fills two rows with what the scan after row `row` of a pass compares: the expected bits and the mask.
+    /// The board
+    /// must be that of the plan, and each row must have room for a scan of data. Allocates nothing.
     pub fn fill_compared(&self, board: &Board, pass: u32, row: u32, tdo: &mut Row, mask: &mut Row)
         requires plan { IsPlanOf board.now self.now }
         requires pass { pass < length self.now.passes }

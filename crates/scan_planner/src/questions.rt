@@ -1,4 +1,4 @@
-// What a plan says of each net and of each position.
+// Queries about each net and each position of a plan.
 ghost use Rattle.std.specs.Prelude.{◌≡◌, ◌<◌, ◌≤◌, [], false, length, slice_index_or};
 ghost use Rattle.board_defs.specs.declared.board.RawBoard.{RawBoard};
 ghost use Rattle.tap_defs.specs.board.BoardScans.{first_row_scan, row_bits};
@@ -11,7 +11,7 @@ use board_defs::{Items, Setting};
 use bt_bits::Row;
 use plan_tables::{NetDriver, ReaderCell};
 
-/// The code of a net; 0 for a number that no net has.
+/// Returns the code of a net, or 0 if no net has this number.
 #[inline]
 pub fn code_at(codes: &[u32], net: u32) -> u32
     ensures { result ≡ slice_index_or codes.now net 0 }
@@ -22,7 +22,7 @@ pub fn code_at(codes: &[u32], net: u32) -> u32
     }
 }
 
-/// The cells that read a net; none for a number that no net has.
+/// Returns the cells that read a net. There are none if no net has this number.
 #[inline]
 pub fn readers_at(readers: &[Items<ReaderCell>], net: u32) -> &[ReaderCell]
     ensures { result.now ≡ slice_index_or readers.now net [] }
@@ -43,21 +43,21 @@ fn drivers_at(drivers: &[Items<NetDriver>], net: u32) -> &[NetDriver]
 }
 
 impl Plan {
-    /// The passes of the test.
+    /// Returns the passes of the test.
     pub fn passes(&self) -> &[Setting]
         ensures { result.now ≡ self.now.passes }
     {
         self.tables.passes.as_slice()
     }
 
-    /// The number of passes.
+    /// Returns the number of passes.
     pub fn pass_count(&self) -> u32
         ensures { result ≡ length self.now.passes }
     {
         self.tables.passes.len() as u32
     }
 
-    /// Pass `x`, counted from 0, which is below the number of passes.
+    /// Returns pass `x`, counted from 0, which must be below the number of passes.
     pub fn pass(&self, x: u32) -> &Setting
         requires { x < length self.now.passes }
         ensures { result.now ≡ slice_index_or self.now.passes x [] }
@@ -65,7 +65,7 @@ impl Plan {
         pass_at(self.tables.passes.as_slice(), x as usize)
     }
 
-    /// The number of rows of each pass, which is the number of bits of the codes.
+    /// Returns the number of rows of each pass, which is the number of bits of the codes.
     pub fn width(&self) -> u32
         ensures width { result ≡ self.now.width }
         ensures few { result ≤ 14 }
@@ -73,36 +73,38 @@ impl Plan {
         self.tables.width
     }
 
-    /// The code of a net: its number, from 1, among the nets that some pass observes, and 0 for every other net.
+    /// Returns the code of a net: its number, from 1, among the nets that some pass observes, and 0 for every
+    /// other net.
     pub fn code(&self, net: u32) -> u32
         ensures { result ≡ slice_index_or self.now.codes net 0 }
     {
         code_at(self.tables.codes.as_slice(), net)
     }
 
-    /// The drivers of a net that may be enabled, in pin order; none for a number that no net has.
+    /// Returns the drivers of a net that may be enabled, in pin order. There are none if no net has this number.
     pub fn drivers(&self, net: u32) -> &[NetDriver]
         ensures { result.now ≡ slice_index_or self.now.drivers net [] }
     {
         drivers_at(self.tables.drivers.as_slice(), net)
     }
 
-    /// The cells that read a net, in pin order; none for a number that no net has. While a pass observes the net, those at other
-    /// places than the driver's are compared.
+    /// Returns the cells that read a net, in pin order. There are none if no net has this number. While a pass
+    /// observes
+    /// the net, the cells on pins other than the driver's are compared.
     pub fn readers(&self, net: u32) -> &[ReaderCell]
         ensures { result.now ≡ slice_index_or self.now.readers net [] }
     {
         readers_at(self.tables.readers.as_slice(), net)
     }
 
-    /// The bit at a position of the quiet row, and 0 past its end.
+    /// Returns the bit at a position of the quiet row, or 0 past its end.
     pub fn quiet(&self, position: u32) -> bool
         ensures { result ≡ slice_index_or self.now.quiet.bits position false }
     {
         position < self.tables.quiet.len() && self.tables.quiet.get(position)
     }
 
-    /// The quiet row, which the second scan shifts in and each pass ends with.
+    /// Returns the quiet row, which the second scan and the last scan of each pass shift in.
     pub fn quiet_row(&self) -> &Row
         ensures row { result.now ≡ self.now.quiet }
         ensures shifted { (board : RawBoard) → IsPlanOf board self.now → result.now.bits ≡ tdi_bits (joined (row_bits board first_row_scan)) }

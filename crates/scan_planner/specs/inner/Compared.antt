@@ -1,20 +1,19 @@
--- The two rows of a scan that are compared, for the contracts of private functions: that they have room, what they hold, and that a call
--- leaves them the rows that they were.
+-- The two rows of a scan that concern what is compared: their room, their contents, and that a call leaves them the same two rows.
 use Rattle.std.specs.Prelude.{◌≡◌, ℕ, ◌≤◌, List}
 use Rattle.tap_defs.specs.chain.Scan.{ScanBit, mask_bits, tdo_bits}
 use Rattle.scan_planner.specs.declared.compared_rows.ComparedRows.{ComparedRows}
 
--- both have room for so many bits
+-- both rows have room for `bits` bits
 pub record BothHaveRoom (bits : ℕ) (rows : ComparedRows) : Type 0 where
   pub tdo : bits ≤ rows.tdo.now.room
   pub mask : bits ≤ rows.mask.now.room
 
--- they hold what a scan of these bits compares
+-- the rows have what a scan of these bits compares
 pub record HoldCompared (bits : List ScanBit) (rows : ComparedRows) : Type 0 where
   pub tdo : rows.tdo.now.bits ≡ tdo_bits bits
   pub mask : rows.mask.now.bits ≡ mask_bits bits
 
--- they are the two that they were, with the room that each had
+-- the rows are the same two rows, and each has the room that it had
 pub record AreBothKept (old new : ComparedRows) : Type 0 where
   pub tdo : new.tdo.ghost_name ≡ old.tdo.ghost_name
   pub mask : new.mask.ghost_name ≡ old.mask.ghost_name

@@ -1,4 +1,4 @@
--- What is known of a board with a plan of it, and of a pass of the plan.
+-- The facts about a board with a plan, and about a pass of the plan.
 use Rattle.std.specs.Prelude.{ℕ, ◌<◌, ◌≤◌, List, length}
 use Rattle.board_defs.specs.declared.board.RawBoard.{RawBoard}
 use Rattle.tap_defs.specs.declared.scan.ScanRows.{ScanRows}
@@ -12,13 +12,13 @@ use Rattle.scan_planner.specs.PassRows.{AreCommonRows}
 use Rattle.scan_planner.specs.Planned.{PlannedBoard, PlannedPass}
 use Rattle.scan_planner.specs.Plans.{FillsScan, scan_of_pass}
 
--- the plan is one of the board, with codes of at most 14 bits, and the rows are what all passes have in theirs
+-- the plan is a plan of the board, its codes have at most 14 bits, and the rows are those that all passes share
 pub record IsPlanned (board : RawBoard) (plan : PlanTables) (common : CommonRows) : Type 0 where
   pub of_board : IsPlanOf board plan
   pub few : plan.width ≤ 14
   pub rows : AreCommonRows plan common
 
--- and the plan has pass x
+-- this is so, and the plan has pass `x`
 pub record IsPass (board : RawBoard) (plan : PlanTables) (common : CommonRows) (x : ℕ) : Type 0 where
   pub planned : IsPlanned board plan common
   pub within : x < length plan.passes
@@ -27,6 +27,6 @@ pub record IsPass (board : RawBoard) (plan : PlanTables) (common : CommonRows) (
 abbrev pub FillsRows : PlannedBoard → ℕ → Shape → ScanRows → Type 0
 FillsRows test k shape rows = FillsScan test.board test.plan.passes test.plan.width k shape rows.tdi.now.bits rows.tdo.now.bits rows.mask.now.bits
 
--- the bits of scan j of a pass
+-- the bits of scan `j` of a pass
 abbrev pub bits_of : PlannedPass → ℕ → List ScanBit
 bits_of pass j = joined (row_bits pass.test.board (scan_of_pass pass.test.board pass.test.plan pass.number j))
