@@ -15,11 +15,11 @@ use Rattle.board_files.specs.Reading.{◌>>=◌, text_of}
 abbrev pub Read : Type 0
 Read = Result ChainStatement LineFault
 
--- `-` stands for the default
+-- the package; `-` stands for the default
 abbrev pub package_of : Word → Option Word
 package_of word = if bytes_eq word (codes "-") then None else Some (upper word)
 
--- the number that these digits spell, read behind the number n
+-- the number that is `n` followed by these digits
 abbrev pub decimal_from : ℕ → Word → Option ℕ
 decimal_from n [] = Some n
 decimal_from n (digit ∷ digits) = if is_ascii_digit digit then decimal_from (10 * n + (digit - 48)) digits else None
@@ -68,7 +68,7 @@ link_of n None = Err (Statement n)
 link_of n (Some (part, first, second)) =
     if is_part part && is_symbol first && is_symbol second then Ok (Link part (upper first) (upper second)) else Err (WordFault n)
 
--- what a statement of this name says with these words behind it
+-- the statement with this name and these words after it
 unfoldable pub statement_of : ℕ → Word → List Word → Read
 statement_of n name words =
     if bytes_eq name (codes "DEVICE") then device_of n (three_of words)
@@ -83,11 +83,11 @@ abbrev pub chain_line : ℕ → List Word → Result ChainLine LineFault
 chain_line n [] = Err (Statement n)
 chain_line n (name ∷ words) = statement_of n name words >>= (λ said. Ok (record { line = n; statement = said }))
 
--- the lines of a chain file, or its first faulty line
+-- the lines of a chain file, or the fault of its first faulty line
 abbrev pub chain_lines : List ℕ → Result (List ChainLine) LineFault
 chain_lines text = text_of chain_line text
 
--- the length of a BYPASS line is from 2 to 255
+-- the length in a BYPASS line is from 2 to 255
 abbrev pub HasLength : ChainStatement → Type 0
 HasLength (Bypass part bits) = IsInstructionLength bits
 HasLength (Device part entity pack) = Unit {0}

@@ -1,11 +1,12 @@
--- What the files of a board keep: the numbers of their lines and words are below 2^32, and the lengths of instruction registers are in their range.
+-- What the files of a board keep: the numbers of their lines and words are below 2^32, and the lengths of instruction registers are in
+-- their range.
 use Rattle.std.specs.Prelude.{◌<◌, ◌≤◌, ◌-◌, ◌^◌, List, length}
 use Rattle.std.specs.List.{AllByRecursion}
 use Rattle.board_files.specs.declared.chain_file.ChainLine.{ChainLine}
 use Rattle.board_files.specs.declared.net_file.NetLine.{NetLine}
 use Rattle.board_files.specs.ChainLines.{HasLength}
 
--- the words of a line are numbered below 2^32
+-- the numbers of the words of a line are below 2^32
 abbrev pub HasFewPins : NetLine → Type 0
 HasFewPins line = length line.pins ≤ 2 ^ 32 - 3
 

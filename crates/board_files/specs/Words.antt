@@ -1,4 +1,4 @@
--- The rules of the words of these files.
+-- The rules on words in the files of a board.
 use Rattle.std.specs.Prelude.{ℕ, ◌==◌, Bool, not, ◌&&◌, ◌||◌, List, [], ◌∷◌, Option, Some, None, map}
 use Rattle.std.specs.List.{list_all, list_any}
 use Rattle.std.specs.Char.{to_ascii_uppercase, is_ascii_alphanumeric}
@@ -21,7 +21,7 @@ is_symbol word = is_word word && list_all is_symbol_byte word
 abbrev pub upper : Word → Word
 upper word = map to_ascii_uppercase word
 
--- the words, where there are exactly so many
+-- the word, if there is exactly one; `two_of` and `three_of` are like `one_of`, for two and three words
 abbrev pub one_of : List Word → Option Word
 one_of (a ∷ []) = Some a
 one_of [] = None

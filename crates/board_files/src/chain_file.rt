@@ -16,18 +16,18 @@ use text_lines::{first_line, is_word, words};
 /// A statement of a chain file. Entity, package and pin names are in upper case.
 #[derive(Drop)]
 pub enum ChainStatement {
-    /// A part with a description; no package stands for the default of the description.
+    /// A part with a description. Without a package, the default of the description is used.
     Device {
         part: Name,
         entity: Name,
         package: Option<Name>,
     },
-    /// A part that is known by the length of its instruction register, 2 to 255 bits.
+    /// A part of which only the length of its instruction register is known, from 2 to 255 bits.
     Bypass {
         part: Name,
         length: u32,
     },
-    /// A part whose pins neither drive nor connect.
+    /// A part whose pins neither drive nor connect anything.
     Inert {
         part: Name,
     },
@@ -35,7 +35,7 @@ pub enum ChainStatement {
     Supply {
         net: Name,
     },
-    /// A net with a pull resistor to a value.
+    /// A net that a resistor pulls to a value.
     Pull {
         net: Name,
         value: bool,
@@ -55,7 +55,9 @@ pub struct ChainLine {
     pub statement: ChainStatement,
 }
 
-/// A chain file, seen as the list of its lines: fewer than 2^32, and the lengths of its BYPASS lines are in their range.
+/// A chain file. Contracts see it as the list of its lines. It has fewer than 2^32 lines, and the lengths in
+/// its BYPASS
+/// lines are in their range.
 #[derive(Drop)]
 pub struct ChainFile {
     lines: Vec<ChainLine>,
@@ -74,7 +76,7 @@ impl Model for ChainFile {
 }
 
 impl ChainFile {
-    /// The file of these lines.
+    /// Returns the file with these lines.
     pub fn of(lines: Vec<ChainLine>) -> ChainFile
         requires { IsChainFile lines.items }
         ensures { result ≡ lines.items }
@@ -82,7 +84,7 @@ impl ChainFile {
         ChainFile { lines }
     }
 
-    /// The lines in their order.
+    /// Returns the lines in order.
     pub fn lines(&self) -> &[ChainLine]
         ensures lines { result.now ≡ self.now }
         ensures file { IsChainFile result.now }
@@ -91,8 +93,8 @@ impl ChainFile {
     }
 }
 
-/// Reads a chain file: its lines with their numbers, or the first line that is no statement, with
-/// the first of the faults Statement, Word and Number that it has. Any bytes may stand in it.
+/// Reads a chain file. Returns its lines with their numbers, or the fault of the first line that is not a
+/// statement: the first of Statement, Word and Number that applies. The text may have any bytes.
 pub fn chain(alloc: Global, bytes: &[u8]) -> Result<ChainFile, LineFault>
     requires { length bytes.now < 2 ^ 32 }
     ensures read { Reads (λ file. file) result (chain_lines bytes.now) }
@@ -103,7 +105,7 @@ pub fn chain(alloc: Global, bytes: &[u8]) -> Result<ChainFile, LineFault>
     Ok(ChainFile::of(lines))
 }
 
-// The lines of a chain file, or its first faulty line.
+// Returns the lines of a chain file, or the fault of its first faulty line.
 fn read_lines(alloc: Global, bytes: &[u8]) -> Result<Vec<ChainLine>, LineFault>
     requires { length bytes.now < 2 ^ 32 }
     ensures read { Reads (λ lines. lines.items) result (chain_lines bytes.now) }
@@ -195,7 +197,7 @@ fn device(
     }
 }
 
-/// The number that at most three digits spell.
+/// Returns the number that at most three digits spell.
 fn decimal(word: &[u8]) -> Option<u32>
     requires { length word.now ≤ 3 }
     ensures { result ≡ decimal_from 0 word.now }

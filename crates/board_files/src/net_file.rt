@@ -20,7 +20,7 @@ pub struct PinWord {
     pub pin: Name,
 }
 
-/// A line of a net file, with its number from 1. Its first pin is word 3.
+/// A line of a net file with its number, from 1. Its first pin is word 3 of the line.
 #[derive(Drop)]
 pub struct NetLine {
     pub line: u32,
@@ -28,7 +28,8 @@ pub struct NetLine {
     pub pins: Items<PinWord>,
 }
 
-/// A net file, seen as the list of its lines: fewer than 2^32, and so are the words of each.
+/// A net file. Contracts see it as the list of its lines. It has fewer than 2^32 lines, and each line has fewer than
+/// 2^32 words.
 #[derive(Drop)]
 pub struct NetFile {
     lines: Vec<NetLine>,
@@ -47,7 +48,7 @@ impl Model for NetFile {
 }
 
 impl NetFile {
-    /// The file of these lines.
+    /// Returns the file with these lines.
     pub fn of(lines: Vec<NetLine>) -> NetFile
         requires { IsNetFile lines.items }
         ensures { result ≡ lines.items }
@@ -55,7 +56,7 @@ impl NetFile {
         NetFile { lines }
     }
 
-    /// The lines in their order.
+    /// Returns the lines in order.
     pub fn lines(&self) -> &[NetLine]
         ensures lines { result.now ≡ self.now }
         ensures file { IsNetFile result.now }
@@ -64,7 +65,7 @@ impl NetFile {
     }
 }
 
-/// The names on the lines, in order.
+/// Returns the names on the lines, in order.
 pub fn line_names<'a>(alloc: Global, lines: &'a [NetLine]) -> Result<Vec<&'a [u8]>, AllocError>
     ensures names { IfOk result (λ names. map (λ n. n.now) names.items ≡ line_names lines.now) }
     ensures count { IfOk result (λ names. vec_len names ≡ length lines.now) }
@@ -76,8 +77,8 @@ pub fn line_names<'a>(alloc: Global, lines: &'a [NetLine]) -> Result<Vec<&'a [u8
     Ok(names)
 }
 
-/// The lines of a net file, or its first faulty line. A text has no more lines with words than
-/// bytes, and no line has more words.
+/// Reads a net file. Returns its lines, or the fault of its first faulty line. A text has at most as many lines
+/// with words as bytes, and each line has at most as many words.
 pub fn nets(alloc: Global, bytes: &[u8]) -> Result<NetFile, LineFault>
     requires { length bytes.now < 2 ^ 32 }
     ensures read { Reads (λ file. file) result (net_lines bytes.now) }
@@ -88,7 +89,7 @@ pub fn nets(alloc: Global, bytes: &[u8]) -> Result<NetFile, LineFault>
     Ok(NetFile::of(lines))
 }
 
-// The lines of a net file, or its first faulty line.
+// Returns the lines of a net file, or the fault of its first faulty line.
 fn read_lines(alloc: Global, bytes: &[u8]) -> Result<Vec<NetLine>, LineFault>
     requires { length bytes.now < 2 ^ 32 }
     ensures { Reads (λ lines. lines.items) result (net_lines bytes.now) }
@@ -165,7 +166,7 @@ fn pin(alloc: Global, line: u32, word: &[u8]) -> Result<PinWord, LineFault>
     }
 }
 
-/// What stands before and behind the first `.`.
+/// Returns the bytes before and after the first `.`, or the whole word and no bytes if there is none.
 fn cut(word: &[u8]) -> (&[u8], &[u8])
     ensures before { result.0.now ≡ before_first is_dot word.now }
     ensures after { result.1.now ≡ after_first is_dot word.now }

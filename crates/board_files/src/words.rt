@@ -1,4 +1,4 @@
-// The rules of the words of these files.
+// The rules on words in the files of a board.
 ghost use Rattle.std.specs.Prelude.{◌≡◌, map, option_map, option_copied};
 ghost use Rattle.std.specs.List.{list_all, list_any};
 ghost use Rattle.board_files.specs.Words.{is_part, is_symbol, is_symbol_byte, is_dot, one_of, two_of, three_of};
@@ -11,7 +11,7 @@ fn has_dot(word: &[u8]) -> bool
     word.iter().any(|b| *b == b'.')
 }
 
-/// Whether this is a part's name: a word without `.`.
+/// Returns whether this is an allowed word without `.`, as the name of a part must be.
 pub fn is_part(word: &[u8]) -> bool
     ensures { result ≡ is_part word.now }
 {
@@ -30,7 +30,7 @@ fn has_symbol_bytes(word: &[u8]) -> bool
     word.iter().all(|b| is_symbol_byte(*b))
 }
 
-/// Whether the word has letters, digits and `_` alone.
+/// Returns whether this is an allowed word with only letters, digits and `_`.
 pub fn is_symbol(word: &[u8]) -> bool
     ensures { result ≡ is_symbol word.now }
 {
