@@ -18,7 +18,7 @@ place_by : {A : Type 0} (p : A → Bool) (n m : ℕ) (x : A) (xs : List A) (d : 
 place_by p n m x xs d true e ih h = let same : n ≡ m = cc h in (0, omega arith, record { within = omega arith; passes = e })
 place_by p n m x xs d false e ih h = let r = ih h in let at : m ≡ n + 1 + r.0 = r.1 in (suc r.0, omega arith, found_later p x xs d r.0 r.2)
 
--- a place that is found is that of an item that passes
+-- a place that is found has an item that passes
 pub place_found : {A : Type 0} (p : A → Bool) (n : ℕ) (xs : List A) (d : A) (m : ℕ) → position_from p n xs ≡ Some m → Place p n xs d m
 place_found p n [] d m h = cc h
 place_found p n (x ∷ xs) d m h = place_by p n m x xs d (p x) refl (place_found p (n + 1) xs d m) h
@@ -27,7 +27,7 @@ none_by : {A : Type 0} (p : A → Bool) (n : ℕ) (x : A) (xs : List A) → (t :
 none_by p n x xs true e h = cc h
 none_by p n x xs false e h = (e, h)
 
--- where no place is found no item passes
+-- if no place is found, no item passes
 pub place_none : {A : Type 0} (p : A → Bool) (n : ℕ) (xs : List A) (d : A) (k : ℕ) → position_from p n xs ≡ None → k < length xs → p (get_or xs k d) ≡ false
 place_none p n [] d k h lt = absurd (omega arith)
 place_none p n (x ∷ xs) d zero h lt = (none_by p n x xs (p x) refl h).0
@@ -44,7 +44,7 @@ some_place p xs d k lt passes (Some m) e =
     ap-lt : (a b n : ℕ) → a ≡ b → a < n → b < n
     ap-lt a b n e lt = omega arith
 
--- an item that passes is found, or one before it
+-- if an item passes, it or an earlier one is found
 pub place_of_item : {A : Type 0} (p : A → Bool) (xs : List A) (d : A) (k : ℕ) → k < length xs → p (get_or xs k d) ≡ true → (m : ℕ) × (position_from p 0 xs ≡ Some m) × Found p xs d m
 place_of_item p xs d k lt passes = some_place p xs d k lt passes (position_from p 0 xs) refl
 
@@ -75,7 +75,7 @@ find_by : {A B : Type 0} (f : A → B) (p : A → Bool) (x : A) (xs : List A) (d
 find_by f p x xs d true ih = refl
 find_by f p x xs d false ih = ih ∙ sym (map_twice (λ k. suc k) (λ i. get_or (f x ∷ map f xs) i d) (position_from p 0 xs)) ∙ ap (option_map (λ i. get_or (f x ∷ map f xs) i d)) (sym (shifted p 0 xs))
 
--- what is said of the first item that passes, by its place
+-- the first item that passes, given by its place
 pub find_place : {A B : Type 0} (f : A → B) (p : A → Bool) (xs : List A) (d : B) → option_map f (find p xs) ≡ option_map (λ i. get_or (map f xs) i d) (position_from p 0 xs)
 find_place f p [] d = refl
 find_place f p (x ∷ xs) d = find_by f p x xs d (p x) (find_place f p xs d)
@@ -84,6 +84,6 @@ none_map : {A B : Type 0} (f : A → B) (o : Option A) → is_none (option_map f
 none_map f None = refl
 none_map f (Some a) = refl
 
--- an item passes exactly where a place is found
+-- no item passes if and only if no place is found
 pub none_found : {A B : Type 0} (f : A → B) (p : A → Bool) (xs : List A) (d : B) → is_none (option_map f (find p xs)) ≡ is_none (position_from p 0 xs)
 none_found f p xs d = ap is_none (find_place f p xs d) ∙ none_map (λ i. get_or (map f xs) i d) (position_from p 0 xs)

@@ -69,7 +69,7 @@ joined_by chain nets (link ∷ some) are a b h = by_way chain nets link some a b
 pub leads_joined : (chain : List ChainLine) (nets : List NetLine) (a b : Word) → leads (links nets chain) a b ≡ true → AreJoined chain nets a b
 leads_joined chain nets a b h = joined_by chain nets (links nets chain) (λ p has. link_of_has chain nets p has) a b h
 
--- the first item that passes, where some item does
+-- the first item that passes, if some item does
 record Least {A : Type 0} (p : A → Bool) (xs : List A) (d : A) : Type 0 where
   place : ℕ
   within : place < length xs
@@ -97,7 +97,7 @@ le_by zero k f = omega arith
 le_by (suc m) zero f = absurd (f (omega arith))
 le_by (suc m) (suc k) f = let r : m ≤ k = le_by m k (λ lt. f (omega arith)) in omega arith
 
--- a net that is there has the joined name of the least-numbered net joined with it
+-- the joined name of a net on a line is that of the least-numbered net joined with it
 least_joined : (chain : List ChainLine) (nets : List NetLine) (name : Word) → Contains (line_names nets) name → IsLeastJoined chain nets name (joined_name (links nets chain) (line_names nets) name)
 unfolding joined_name
 least_joined chain nets name has =
@@ -123,7 +123,7 @@ kept_by : (chain : List ChainLine) (nets : List NetLine) (name : Word) → (Cont
 kept_by chain nets name none None e = kept_name nets chain name e
 kept_by chain nets name none (Some m) e = absurd (none (contains_found (line_names nets) name m e))
 
--- the function's name replaces the old one
+-- the name of the function replaces the old name
 pub replaced : (chain : List ChainLine) (nets : List NetLine) (name : Word) → IsReplaced chain nets name (renaming chain nets name)
 replaced chain nets name = record {
   there = λ has. least_joined chain nets name has;
@@ -183,14 +183,14 @@ line_once chain nets old new h = let said = statement_once chain nets old.statem
 net_once : (chain : List ChainLine) (nets : List NetLine) (old new : NetLine) → IsJoinedNet chain nets old new → new ≡ joined_net (renaming chain nets) old
 net_once chain nets old new h = let name = replaced_once chain nets old.name new.name h.name in λ i. record { line = h.line i; name = name i; pins = h.pins i }
 
--- the function's files are joined files
+-- the files of the function are joined files
 pub files_joined : (chain : List ChainLine) (nets : List NetLine) → AreJoinedFiles chain nets (joined_chain chain nets) (joined_nets chain nets)
 files_joined chain nets = record {
   chain_lines = each_map (IsJoinedLine chain nets) (joined_line (renaming chain nets)) (λ line. record { line = refl; statement = statement_joined chain nets line.statement }) chain;
   net_lines = each_map (IsJoinedNet chain nets) (joined_net (renaming chain nets)) (λ line. record { line = refl; pins = refl; name = replaced chain nets line.name }) nets;
 }
 
--- and no others are
+-- there are no other joined files
 pub files_once : (chain : List ChainLine) (nets : List NetLine) (new_chain : List ChainLine) (new_nets : List NetLine) → AreJoinedFiles chain nets new_chain new_nets → (new_chain ≡ joined_chain chain nets) × (new_nets ≡ joined_nets chain nets)
 files_once chain nets new_chain new_nets h = (
   each_once (IsJoinedLine chain nets) (joined_line (renaming chain nets)) (λ old new r. line_once chain nets old new r) chain new_chain h.chain_lines,

@@ -19,7 +19,7 @@ Pair = Word × Word
 abbrev pub pair_of : Option Word → Option Word → Option Pair
 pair_of a b = option_and_then (λ a. option_map (λ b. (a, b)) b) a
 
--- the nets of the two pins of a LINK line
+-- the nets of the two pins of a LINK line, if both are in a net
 abbrev pub link_on : List NetLine → ChainStatement → Option Pair
 link_on nets (Link part first second) = pair_of (net_of nets part first) (net_of nets part second)
 link_on nets (Device part entity pack) = None
@@ -31,12 +31,12 @@ link_on nets (Pull net value) = None
 abbrev pub links : List NetLine → List ChainLine → List Pair
 links nets chain = filter_map (λ line. link_on nets line.statement) chain
 
--- whether some of these links lead from one net to the other: without the first of them, or by way of it
+-- a path of these links, each taken in either direction, leads from one net to the other; it leaves out the first link or goes over it
 abbrev pub leads : List Pair → Word → Word → Bool
 leads [] a b = same_word a b
 leads (link ∷ links) a b = leads links a b || ((leads links a link.0 && leads links link.1 b) || (leads links a link.1 && leads links link.0 b))
 
--- the first net that is joined with this one, or itself where none is there
+-- the first net on the lines that is joined with this one, or this net if there is none
 unfoldable pub joined_name : List Pair → List Word → Word → Word
 joined_name links names name = unwrap_or (find (leads links name) names) name
 
@@ -64,16 +64,16 @@ joined_chain chain nets = map (joined_line (renaming chain nets)) chain
 abbrev pub joined_nets : List ChainLine → List NetLine → List NetLine
 joined_nets chain nets = map (joined_net (renaming chain nets)) nets
 
--- the value, where no pin is missing
+-- the value if no pin is missing, and otherwise the fault
 abbrev pub unless : {V : Type 0} → Option Spot → V → Result V LinkFault
 unless None value = Ok value
 unless (Some spot) value = Err (NoLinkPin spot)
 
--- the joined files, or the first pin of a LINK line that stands in no net
+-- the joined files, or the first pin of a LINK line that is in no net
 abbrev pub joined_files : List ChainLine → List NetLine → Result Joined LinkFault
 joined_files chain nets = unless (missing_link_pin nets chain) (record { chain = joined_chain chain nets; nets = joined_nets chain nets })
 
--- what a fault tells
+-- the fault, unless it is a refusal of memory
 abbrev pub link_told : LinkFault → Option LinkFault
 link_told (Memory e) = None
 link_told fault = Some fault

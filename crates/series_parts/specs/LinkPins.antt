@@ -1,4 +1,4 @@
--- The first pin of a LINK line that stands in no net.
+-- The first pin of a LINK line that is in no net.
 use Rattle.std.specs.Prelude.{ℕ, Bool, List, [], ◌∷◌, Option, Some, None, is_none, if◌then◌else◌}
 use Rattle.board_defs.specs.declared.spot.Spot.{Spot}
 use Rattle.board_files.specs.declared.chain_file.ChainLine.{ChainLine}
@@ -7,7 +7,7 @@ use Rattle.board_files.specs.declared.chain_file.ChainStatement.TheVariants.{Dev
 use Rattle.board_files.specs.declared.net_file.NetLine.{NetLine}
 use Rattle.series_parts.specs.Nets.{Word, net_of}
 
--- the first of two findings
+-- the first of the two if there is one, otherwise the second
 infixr 20 ◌then◌
 abbrev pub ◌then◌ : {A : Type 0} → Option A → Option A → Option A
 None then after = after
@@ -31,7 +31,7 @@ missing_on nets n (Inert part) = None
 missing_on nets n (Supply net) = None
 missing_on nets n (Pull net value) = None
 
--- the first line and word whose pin stands in no net
+-- the first line and word of a LINK pin that is in no net
 abbrev pub missing_link_pin : List NetLine → List ChainLine → Option Spot
 missing_link_pin nets [] = None
 missing_link_pin nets (line ∷ lines) = missing_on nets line.line line.statement then missing_link_pin nets lines

@@ -8,7 +8,7 @@ use crate::pins::Pins;
 use board_files::{ChainLine, ChainStatement};
 use std::alloc::{AllocError, Global};
 
-/// An edge, where both ends are there.
+/// Returns the edge between two ends, if both are there.
 fn edge_of(first: Option<u32>, second: Option<u32>) -> Option<(usize, usize)>
     ensures { result ≡ edge_of first second }
 {
@@ -18,7 +18,7 @@ fn edge_of(first: Option<u32>, second: Option<u32>) -> Option<(usize, usize)>
     }
 }
 
-/// The edge between the lines of two pins of a part.
+/// Returns the edge between the lines of two pins of a part, if both pins are on a line.
 #[tactic(auto, unfolding(crate::specs::inner::Edges::edge_between))]
 fn edge_between(pins: &Pins<'_>, part: &[u8], first: &[u8], second: &[u8]) -> Option<(usize, usize)>
     ensures { result ≡ edge_between pins.now part.now first.now second.now }
@@ -26,7 +26,7 @@ fn edge_between(pins: &Pins<'_>, part: &[u8], first: &[u8], second: &[u8]) -> Op
     edge_of(pins.place_of(part, first), pins.place_of(part, second))
 }
 
-/// The edge of a LINK line.
+/// Returns the edge of a LINK line.
 fn edge_on(pins: &Pins<'_>, statement: &ChainStatement) -> Option<(usize, usize)>
     ensures { result ≡ edge_on pins.now statement.now }
 {
@@ -40,7 +40,7 @@ fn edge_on(pins: &Pins<'_>, statement: &ChainStatement) -> Option<(usize, usize)
     }
 }
 
-/// Adds an edge for each LINK line.
+/// Appends an edge for each LINK line.
 fn push_link_edges(
     edges: &mut Vec<(usize, usize)>,
     pins: &Pins<'_>,
@@ -56,7 +56,7 @@ fn push_link_edges(
     Ok(())
 }
 
-/// The first line with the name of this line.
+/// Returns the first line with this name, or `place` if there is none.
 fn first_of(names: &Names<'_>, name: &[u8], place: usize) -> usize
     ensures { result ≡ unwrap_or (name_place names.now name.now) place }
 {
@@ -66,7 +66,7 @@ fn first_of(names: &Names<'_>, name: &[u8], place: usize) -> usize
     }
 }
 
-/// An edge from each line to the first line of its name.
+/// Returns an edge from each line to the first line with its name.
 fn name_edges(alloc: Global, names: &Names<'_>) -> Result<Vec<(usize, usize)>, AllocError>
     ensures { IfOk result (λ edges. edges.items ≡ name_edges names.now 0 names.now) }
 {
@@ -78,7 +78,7 @@ fn name_edges(alloc: Global, names: &Names<'_>) -> Result<Vec<(usize, usize)>, A
     Ok(edges)
 }
 
-/// The edges between lines of joined nets.
+/// Returns the edges between lines of joined nets.
 pub fn edges(
     alloc: Global,
     chain: &[ChainLine],

@@ -5,10 +5,10 @@ ghost use Rattle.series_parts.specs.declared.fault.LinkFault.TheVariants.{Memory
 use board_defs::Spot;
 use std::alloc::{AllocError, AllocFailed};
 
-/// The first pin of a LINK line that stands in no net, or want of memory.
+/// The first pin of a LINK line that is in no net, or a refusal of memory.
 #[derive(Debug, Drop, thiserror::Error)]
 pub enum LinkFault {
-    /// The line of the chain file, and the pin's word: 3 or 4.
+    /// The line of the chain file, and the number of the pin's word: 3 or 4.
     #[error("a pin of a LINK line is in no net")]
     NoLinkPin(Spot),
     #[error("out of memory")]

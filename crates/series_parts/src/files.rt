@@ -1,4 +1,4 @@
-// The lines of files under new names of nets.
+// The lines of the files with the new names of nets.
 ghost use Rattle.std.specs.Prelude.{◌≡◌, map, IfOk};
 ghost use Rattle.series_parts.specs.inner.Edges.{renamed};
 ghost use Rattle.series_parts.specs.Joining.{joined_line, joined_net, joined_statement};
@@ -42,7 +42,7 @@ fn copy_pins(alloc: Global, pins: &[PinWord]) -> Result<Vec<PinWord>, AllocError
     Ok(copies)
 }
 
-/// The new name of a net, where those of the lines are known.
+/// Returns the new name of a net, given the new names of the lines.
 #[tactic(auto, unfolding(crate::specs::inner::Edges::renamed))]
 fn renamed<'a>(names: &Names<'_>, least: &[&'a [u8]], name: &'a [u8]) -> &'a [u8]
     ensures { result.now ≡ renamed names.now (map (λ n. n.now) least.now) name.now }
@@ -83,7 +83,7 @@ fn joined_net(
     })
 }
 
-/// The lines of a net file under the new names of their nets.
+/// Returns the lines of a net file with the new names of their nets.
 pub fn joined_nets(
     alloc: Global,
     names: &Names<'_>,
@@ -151,7 +151,7 @@ fn joined_line(
     })
 }
 
-/// The lines of a chain file under the new names of their nets, and INERT lines for LINK lines.
+/// Returns the lines of a chain file with the new names of their nets, and INERT lines in place of LINK lines.
 pub fn joined_chain(
     alloc: Global,
     names: &Names<'_>,

@@ -1,5 +1,5 @@
-//! Laws of joined files: each function does nothing, and its contract is the law. A function
-//! calls one to have the law in its proof.
+//! Laws of joined files. Each function does nothing, and its contract is the law. A function whose proof needs a law
+//! calls the law's function.
 ghost use Rattle.std.specs.Prelude.{◌≡◌, false, List, length, map, Ok};
 ghost use Rattle.std.specs.List.{AllByRecursion};
 ghost use Rattle.board_files.specs.ChainLines.{HasLength};
@@ -9,7 +9,7 @@ ghost use Rattle.series_parts.specs.JoinedFiles.{AreJoinedFiles};
 ghost use Rattle.series_parts.specs.Joining.{joined_chain, joined_files, joined_nets};
 ghost use Rattle.series_parts.specs.Lines.{chain_part_lines, has_link};
 
-/// The files of the function `joined_files` are the joined files, and there are no others.
+/// The files that `joined_chain` and `joined_nets` define are the joined files, and there are no others.
 pub fn joined_once()
     ensures joined { (chain : List ChainLine) (nets : List NetLine) → AreJoinedFiles chain nets (joined_chain chain nets) (joined_nets chain nets) }
     ensures once { (chain : List ChainLine) (nets : List NetLine) (new_chain : List ChainLine) (new_nets : List NetLine) → AreJoinedFiles chain nets new_chain new_nets → (new_chain ≡ joined_chain chain nets) × (new_nets ≡ joined_nets chain nets) }
@@ -20,8 +20,8 @@ pub fn unlinked_files()
     ensures { (chain : List ChainLine) (nets : List NetLine) → has_link chain ≡ false → joined_files chain nets ≡ Ok (record { chain = chain; nets = nets }) }
 {}
 
-/// A joined chain file has no LINK line. It has the DEVICE and BYPASS lines of the chain file, and
-/// the numbers of its lines. A joined net file has the pins of the net file, line by line.
+/// A joined chain file has no LINK line. It has the DEVICE and BYPASS lines of the chain file, and its line
+/// numbers. A joined net file has the line numbers and the pins of the net file, line by line.
 pub fn kept_lines()
     ensures links { (chain : List ChainLine) (nets : List NetLine) → has_link (joined_chain chain nets) ≡ false }
     ensures parts { (chain : List ChainLine) (nets : List NetLine) → chain_part_lines (joined_chain chain nets) ≡ chain_part_lines chain }

@@ -11,7 +11,7 @@ use crate::pins::Pins;
 use board_files::ChainLine;
 use std::alloc::{AllocError, Global};
 
-/// The names on these lines.
+/// Returns the names on these lines.
 fn names_at<'a>(
     alloc: Global,
     names: &Names<'a>,
@@ -27,7 +27,7 @@ fn names_at<'a>(
     Ok(found)
 }
 
-/// For each line the name of the least-numbered net that is joined with its net.
+/// Returns, for each line, the name of the least-numbered net that is joined with the line's net.
 pub fn least_names<'a>(
     alloc: Global,
     chain: &[ChainLine],

@@ -1,4 +1,4 @@
-//! Series parts: the nets that they join, and the files of the board with these nets joined.
+//! Series parts: the nets that they join, and the files of the board after these nets are joined.
 #![tactic(auto)]
 
 mod classes;

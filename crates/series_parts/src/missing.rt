@@ -1,4 +1,4 @@
-// The first pin of a LINK line that stands in no net.
+// The first pin of a LINK line that is in no net.
 ghost use Rattle.std.specs.Prelude.{◌≡◌, is_none};
 ghost use Rattle.series_parts.specs.LinkPins.{is_missing, missing_link_pin, missing_of, missing_on};
 
@@ -6,7 +6,7 @@ use crate::pins::Pins;
 use board_defs::Spot;
 use board_files::{ChainLine, ChainStatement};
 
-/// Whether the pin stands in no net.
+/// Returns whether the pin is in no net.
 fn is_missing(pins: &Pins<'_>, part: &[u8], pin: &[u8]) -> bool
     ensures { result ≡ is_missing pins.now part.now pin.now }
 {
@@ -44,7 +44,7 @@ fn missing_on(pins: &Pins<'_>, line: u32, statement: &ChainStatement) -> Option<
     }
 }
 
-/// The first line and word whose pin stands in no net.
+/// Returns the first line and word of a LINK pin that is in no net.
 pub fn missing_link_pin(pins: &Pins<'_>, lines: &[ChainLine]) -> Option<Spot>
     ensures { result ≡ missing_link_pin pins.now lines.now }
 {

@@ -12,7 +12,7 @@ use indexmap::IndexMap;
 use std::alloc::{AllocError, Global};
 use std::marker::Model;
 
-/// The first line of each name.
+/// Returns the first line with each name.
 fn name_places<'a>(alloc: Global, names: &[&'a [u8]]) -> Result<IndexMap<&'a [u8], u32>, AllocError>
     requires { length names.now < 2 ^ 32 }
     ensures { IfOk result (λ places. (q : Bor (List ℕ)) → get_by (λ n. same_word q.now n.now) places ≡ name_place (map (λ n. n.now) names.now) q.now) }
@@ -20,7 +20,7 @@ fn name_places<'a>(alloc: Global, names: &[&'a [u8]]) -> Result<IndexMap<&'a [u8
     first_places(alloc, names)
 }
 
-/// The names on the lines of a net file, seen as their list.
+/// The names on the lines of a net file. Contracts see them as a list.
 #[derive(Drop)]
 pub struct Names<'a> {
     names: Vec<&'a [u8]>,
@@ -42,7 +42,7 @@ impl<'a> Model for Names<'a> {
 }
 
 impl<'a> Names<'a> {
-    /// The names of these lines.
+    /// Collects the names of these lines.
     pub fn of(alloc: Global, lines: &'a [NetLine]) -> Result<Names<'a>, AllocError>
         requires { length lines.now < 2 ^ 32 }
         ensures { IfOk result (λ names. names ≡ line_names lines.now) }
@@ -52,21 +52,21 @@ impl<'a> Names<'a> {
         Ok(Names { names, places })
     }
 
-    /// The first line with this name.
+    /// Returns the first line with this name.
     pub fn place_of(&self, name: &[u8]) -> Option<u32>
         ensures { result ≡ name_place self.now name.now }
     {
         self.places.get(&name).copied()
     }
 
-    /// How many lines there are.
+    /// Returns the number of lines.
     pub fn len(&self) -> usize
         ensures { result ≡ length self.now }
     {
         self.names.len()
     }
 
-    /// The name on a line.
+    /// Returns the name on a line.
     pub fn at(&self, place: usize) -> &'a [u8]
         requires { place < length self.now }
         ensures { slice_get self.now place ≡ Some result.now }

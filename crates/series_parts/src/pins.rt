@@ -1,4 +1,4 @@
-// The lines on which the pins of the nets stand first.
+// The first line of each pin of the nets.
 ghost use Rattle.std.specs.Prelude.{◌≡◌, ◌<◌, ◌^◌, ◌&&◌, if◌then◌else◌, length, IfOk, OnOk, List, ℕ, Some};
 ghost use Rattle.std.proofs.Common.{Bor};
 ghost use Rattle.indexmap.specs.IndexMap.{get_by};
@@ -11,10 +11,10 @@ use indexmap::IndexMap;
 use std::alloc::{AllocError, Global};
 use std::marker::Model;
 
-/// A pin by its part and its name.
+/// A pin, given by its part and its name.
 type PinKey<'a> = (&'a [u8], &'a [u8]);
 
-/// Puts the pins of a line at its place.
+/// Records `place` as the line of these pins.
 fn put_pins<'a>(
     places: &mut IndexMap<PinKey<'a>, u32>,
     words: &'a [PinWord],
@@ -28,7 +28,7 @@ fn put_pins<'a>(
     Ok(())
 }
 
-/// The first line of each pin.
+/// Returns the first line of each pin.
 fn pin_places<'a>(
     alloc: Global,
     lines: &'a [NetLine],
@@ -45,7 +45,7 @@ fn pin_places<'a>(
     Ok(places)
 }
 
-/// The pins of the lines of a net file, seen as the list of the lines.
+/// The pins on the lines of a net file. Contracts see them as the list of the lines.
 #[derive(Drop)]
 pub struct Pins<'a> {
     lines: &'a [NetLine],
@@ -68,7 +68,7 @@ impl<'a> Model for Pins<'a> {
 }
 
 impl<'a> Pins<'a> {
-    /// The pins of these lines.
+    /// Collects the pins of these lines.
     pub fn of(alloc: Global, lines: &'a [NetLine]) -> Result<Pins<'a>, AllocError>
         requires { length lines.now < 2 ^ 32 }
         ensures { IfOk result (λ pins. pins ≡ lines.now) }
@@ -77,7 +77,7 @@ impl<'a> Pins<'a> {
         Ok(Pins { lines, places })
     }
 
-    /// The first line with this pin.
+    /// Returns the first line with this pin.
     pub fn place_of(&self, part: &[u8], pin: &[u8]) -> Option<u32>
         ensures { result ≡ pin_place self.now part.now pin.now }
     {

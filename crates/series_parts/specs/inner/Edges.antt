@@ -10,7 +10,7 @@ use Rattle.board_files.specs.Names.{same_word, line_names}
 use Rattle.series_parts.specs.Nets.{Word, has_pin}
 use Rattle.series_parts.specs.inner.Labels.{Edges}
 
--- the first line of a name
+-- the first line with a name
 abbrev pub name_place : List Word → Word → Option ℕ
 name_place names name = first_place same_word names name
 
@@ -21,7 +21,7 @@ pin_place nets part pin = position_from (has_pin part pin) 0 nets
 abbrev pub edge_of : Option ℕ → Option ℕ → Option (ℕ × ℕ)
 edge_of a b = option_and_then (λ a. option_map (λ b. (a, b)) b) a
 
--- an edge between the lines of two pins of a part
+-- the edge between the lines of two pins of a part, if both pins are on a line
 unfoldable pub edge_between : List NetLine → Word → Word → Word → Option (ℕ × ℕ)
 edge_between nets part first second = edge_of (pin_place nets part first) (pin_place nets part second)
 
@@ -37,7 +37,7 @@ edge_on nets (Pull net value) = None
 abbrev pub link_edges : List NetLine → List ChainLine → Edges
 link_edges nets chain = filter_map (λ line. edge_on nets line.statement) chain
 
--- from each line, the first of which has this number, to the first line of its name
+-- an edge from each line to the first line with its name; the first of `names` is on line `n`
 abbrev pub name_edges : List Word → ℕ → List Word → Edges
 name_edges all n [] = []
 name_edges all n (name ∷ names) = (n, unwrap_or (name_place all name) n) ∷ name_edges all (n + 1) names
@@ -49,6 +49,6 @@ abbrev pub at_place : List Word → Word → Option ℕ → Word
 at_place least name None = name
 at_place least name (Some place) = get_or least place name
 
--- the new name of a net, where those of the lines are known
+-- the new name of a net, given the new names of the lines
 unfoldable pub renamed : List Word → List Word → Word → Word
 renamed names least name = at_place least name (name_place names name)

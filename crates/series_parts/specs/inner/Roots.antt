@@ -1,23 +1,24 @@
--- Parents: a point's class is found by going from parent to parent.
+-- Classes of points as trees. Following the parents of a point leads to the root of its class.
 use Rattle.std.specs.Prelude.{◌≡◌, ℕ, ◌<◌, ◌≤◌, ◌==◌, ◌||◌, min, List, length, Some, slice_get, slice_index, if◌then◌else◌}
 use Rattle.series_parts.specs.inner.Labels.{Edges, Joined}
 
--- a label for each point: that of its parent, not above the point, and the point itself where it is its own parent
+-- A label for each point. It is the label of the point's parent, it is not above the point, and it is the point itself if that is its own
+-- parent.
 pub record IsLabelling (parents : List ℕ) (label : ℕ → ℕ) : Type 0 where
   pub low : (x : ℕ) → x < length parents → slice_index parents x ≤ x
   pub least : (x : ℕ) → label x ≤ x
   pub parent : (x : ℕ) → x < length parents → label (slice_index parents x) ≡ label x
   pub root : (x : ℕ) → x < length parents → slice_index parents x ≡ x → label x ≡ x
 
--- the lower of two labels takes the place of both
+-- the lower of two labels replaces both
 abbrev pub lowered : ℕ → ℕ → ℕ → ℕ
 lowered a b v = if (v == a) || (v == b) then min a b else v
 
--- the labels after an edge between a and b
+-- the labels after an edge between `a` and `b` is added
 abbrev pub merged : (ℕ → ℕ) → ℕ → ℕ → ℕ → ℕ
 merged label a b x = lowered (label a) (label b) (label x)
 
--- the labels say which points the first n edges join
+-- the labels say which points the first `n` edges join
 pub record Reflects (edges : Edges) (n : ℕ) (parents : List ℕ) (label : ℕ → ℕ) : Type 0 where
   pub labelling : IsLabelling parents label
   pub joined : (x : ℕ) → Joined edges x (label x)
