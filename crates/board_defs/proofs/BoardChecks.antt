@@ -27,7 +27,7 @@ part_of : (kind : PartKind) → part_passes kind ≡ true → IsPart kind
 part_of (Described device) h = device_of device h
 part_of (Bypass n) h = let parts = and_parts (nat_le 2 n) (nat_le n 255) h in (leb-true 2 n parts.0, leb-true n 255 parts.1)
 
--- no pin stands twice
+-- no pin is in the nets twice
 abbrev same_name : NetPin → NetPin → Bool
 same_name p q = same_text p.part q.part && same_text p.pin q.pin
 

@@ -19,7 +19,7 @@ use Rattle.board_defs.proofs.Covered.{net_same, tested_can, tested_driver_of, pa
 use Rattle.board_defs.proofs.PassSettings.{driver_pass_enables, safe_setting}
 use Rattle.board_defs.proofs.PassesKept.{Good, good_passes, reason_at, fold_keeps, fold_makes, all_drivers, on_board_driver, has_tested, tested_drives, in_nets, enabled_observes, shows_observes, Compatible, pair_shows}
 
--- a pass that enables the driver stays, and so does one that shows two nets
+-- a pass that enables the driver stays among the passes, and so does one that shows two nets
 abbrev pub Enabled : Drive → List (List Ctl) → Type 0
 Enabled d passes = list_any (λ pass. is_enabled pass d) passes ≡ true
 

@@ -74,7 +74,7 @@ five_inputs rules = neither 5 (λ e. omega (arith, e)) (λ e. omega (arith, e)) 
 vector_tap : HasTap (record tap_in { index = Some 1 } ∷ []) → ⊥
 vector_tap rules = let index : Some 1 ≡ None = (rules.plain 0 tap_in (omega arith) refl).0 in cc index
 
--- a port has one mode, and pins for all bits or for none; no pin stands twice
+-- a port has one mode, and pins for all bits or for none; no pin is at two port bits
 abbrev of_port : ℕ → Mode → Option (List ℕ) → PortBit
 of_port index mode pin = port_bit 4 (Some index) mode pin false
 
@@ -87,7 +87,7 @@ half_mapped rules = let whole : true ≡ false = rules.mapped_whole 0 1 (of_port
 pin_twice : PortPinsDiffer (device (codes "Q" ∷ []) (of_port 1 Inward (Some (codes "1")) ∷ of_port 2 Inward (Some (codes "1")) ∷ []) [] 1) → ⊥
 pin_twice rules = let same = rules 4 5 _ _ _ refl refl refl refl in omega (arith, same)
 
--- an entry has a place exactly where its function is on a port, and the port bit is there
+-- an entry is on a port bit if and only if its function is on a port, and that bit exists
 input_without_place : HasPlace 6 Input None → ⊥
 input_without_place inner = let z : false ≡ true = inner in cc z
 
@@ -175,7 +175,7 @@ short_part rules = let least = rules.0 in omega (arith, least)
 long_part : IsPart (Bypass 256) → ⊥
 long_part rules = let most = rules.1 in omega (arith, most)
 
--- a board has a part, and no two of one name; no pin stands twice, in two nets or in one
+-- a board has a part, and no two parts with the same name; no pin is in the nets twice, in two nets or in one
 no_chain : IsBoard (board [] []) → ⊥
 no_chain rules = let some = rules.chain_some in omega (arith, some)
 

@@ -27,7 +27,7 @@ meeting supply more = board (ts ∷ rcv ∷ mixed ∷ []) (record (net 0 None (p
 abbrev reason : Bool → List NetPin → List (Option Reason)
 reason supply more = reasons (meeting supply more)
 
--- the control of the driver may be on exactly where the net is not guarded
+-- whether the control of the driver may be enabled, which is so if and only if the net is not guarded
 abbrev usable : Bool → List NetPin → Bool
 usable supply more = is_safe_alone (meeting supply more) (c 0 1)
 
@@ -38,7 +38,7 @@ open_net = refl
 open_usable : usable false (leg 2 3 ∷ leg 2 4 ∷ inert ∷ []) ≡ true
 open_usable = refl
 
--- a supply net guards its driver, also where nothing else does
+-- a supply net guards its driver, even if nothing else does
 supply_net : reason true [] ≡ Some Supply ∷ []
 supply_net = refl
 
@@ -195,7 +195,7 @@ more_fours = board (four ∷ rcv ∷ rcv ∷ rcv ∷ ts ∷ []) (fours.nets ++ n
 more_fours_passes : passes_of more_fours ≡ (c 0 8 ∷ c 0 9 ∷ c 4 1 ∷ []) ∷ (c 0 10 ∷ c 0 11 ∷ c 4 1 ∷ []) ∷ (c 0 9 ∷ c 0 10 ∷ c 4 1 ∷ []) ∷ []
 more_fours_passes = refl
 
--- a driver is tested where another pin receives, a receiver where another pin drives
+-- a driver is tested if another pin receives, and a receiver if another pin drives
 abbrev duo : Net
 duo = net 0 None (pin 0 0 ∷ pin 1 0 ∷ [])
 

@@ -93,7 +93,7 @@ buf2 = device (codes "OE_N" ∷ codes "A" ∷ codes "Y" ∷ codes "GND" ∷ code
     ∷ port_bit 7 None Linkage (Some (codes "6")) false ∷ port_bit 8 None Linkage (Some (codes "7")) false ∷ [])
     (entry 4 Input 4 None ∷ control 4 ∷ entry 3 Input 5 None ∷ entry 2 Input 6 None ∷ entry 1 Output3 7 (by 4) ∷ entry 0 Output3 8 (by 4) ∷ []) 5
 
--- part k is named U and its number from 1, and its pins from 1 stand after those of the test access port
+-- part `k` is named U and its number from 1, and its pins from 1 come after those of the test access port
 abbrev pub part_name : ℕ → List ℕ
 part_name k = 85 ∷ (49 + k) ∷ []
 

@@ -37,7 +37,7 @@ pub struct PinAt {
 pub struct NetPin {
     pub part: Name,
     pub pin: Name,
-    /// Where the pin is in the chain, for a pin of a described part.
+    /// The place of the pin in the chain, if its part is described.
     pub at: Option<PinAt>,
     /// Whether the pin's part is inert: it neither drives nor connects anything.
     pub inert: bool,
@@ -115,7 +115,7 @@ impl Model for Board {
 }
 
 impl Board {
-    /// Returns the board with this record.
+    /// Returns the board with this record, which must keep the rules of a board.
     pub fn new(raw: RawBoard) -> Board
         requires { IsBoard raw }
         ensures { result ≡ raw }
@@ -123,7 +123,7 @@ impl Board {
         Board { raw }
     }
 
-    /// Returns the record.
+    /// Returns the record, which keeps the rules of a board.
     pub fn raw(&self) -> &RawBoard
         ensures value { result.now ≡ self.now }
         ensures rules { IsBoard self.now }

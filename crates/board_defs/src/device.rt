@@ -33,7 +33,7 @@ impl Model for Code {
 }
 
 impl Code {
-    /// Returns the code with these symbols, which it copies.
+    /// Returns the code with these symbols, which it copies. There must be fewer than 2^32 of them.
     pub fn of(alloc: Global, symbols: &[Symbol]) -> Result<Code, AllocError>
         requires { length symbols.now < 2 ^ 32 }
         ensures { IfOk result (λ code. code ≡ symbols.now) }
@@ -43,7 +43,7 @@ impl Code {
         })
     }
 
-    /// Returns the code with these symbols, which it takes over.
+    /// Returns the code with these symbols, which it takes over. There must be fewer than 2^32 of them.
     pub fn from_vec(symbols: Vec<Symbol>) -> Code
         requires { length symbols.items < 2 ^ 32 }
         ensures { result ≡ symbols.items }
@@ -191,7 +191,7 @@ impl Model for Device {
 }
 
 impl Device {
-    /// Returns the device with this record.
+    /// Returns the device with this record, which must keep the rules of a device.
     pub fn new(raw: RawDevice) -> Device
         requires { IsDevice raw }
         ensures { result ≡ raw }
@@ -199,7 +199,7 @@ impl Device {
         Device { raw }
     }
 
-    /// Returns the record.
+    /// Returns the record, which keeps the rules of a device.
     pub fn raw(&self) -> &RawDevice
         ensures value { result.now ≡ self.now }
         ensures rules { IsDevice self.now }

@@ -9,7 +9,7 @@ use Rattle.bsdl_lexer.specs.inner.Lengths.{gap_len}
 abbrev pub stays : ℕ → Bool
 stays byte = not (byte == line_feed)
 
--- the rest of a comment, and the gap behind it
+-- the rest of a comment, and the gap after it
 record CommentRest (more rest : List ℕ) : Type 0 where
   words : List ℕ
   tail : List ℕ

@@ -9,7 +9,7 @@ use Rattle.bsdl_lexer.specs.Forms.{begins_gap, is_text_byte, line_feed, carriage
 use Rattle.bsdl_lexer.specs.Answer.{BeginsOpenText, EndsOpen}
 use Rattle.bsdl_lexer.specs.inner.Lengths.{token_at, closed_len}
 
--- the byte behind the longest front that may stand in a text
+-- the byte after the longest front of bytes that a string may have
 byte_behind : List ℕ → Option ℕ
 byte_behind others = slice_get others (prefix_len is_text_byte others)
 
@@ -46,7 +46,7 @@ line_end x h n = go (nat_eq x line_feed) refl
     go true e = inl (grind (arith, nat_tests))
     go false e = inr (grind (arith, nat_tests))
 
--- the bytes behind a quote, up to where the text ends open
+-- the bytes after a quote, up to the place where the string ends without a closing quote
 record Open (others : List ℕ) : Type 0 where
   inner : List ℕ
   more : List ℕ
@@ -82,13 +82,13 @@ unfolding byte_behind
 quote_at [] = refl
 quote_at (x ∷ xs) = refl
 
--- where no token begins at a quote
+-- if no token begins at a quote, an open string does
 pub begins_open : (others : List ℕ) → token_at (quote ∷ others) ≡ None → BeginsOpenText (quote ∷ others)
 begins_open others e =
     let k : Open others = open_front others (closed (byte_behind others) (prefix_len is_text_byte others) (sym (quote_at others) ∙ e)) in
     record { inner = k.inner; more = k.more; parts = ap (λ xs. quote ∷ xs) k.parts; allowed = k.allowed; is_open = k.is_open }
 
--- an open text begins no token and no gap
+-- no token and no gap begins at an open string
 pub open_no_token : (rest : List ℕ) → BeginsOpenText rest → token_at rest ≡ None
 open_no_token rest h = rw h.parts (quote_at (h.inner ++ h.more) ∙ not_closed (byte_behind (h.inner ++ h.more)) (prefix_len is_text_byte (h.inner ++ h.more)) (never_closed h.inner h.more h.allowed h.is_open))
 

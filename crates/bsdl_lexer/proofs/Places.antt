@@ -20,14 +20,14 @@ use Rattle.bsdl_lexer.proofs.Gaps.{gap_front, only_gap, gap_len-le}
 pub drop-sum : (a b : ℕ) (xs : List ℕ) → drop (a + b) xs ≡ drop b (drop a xs)
 drop-sum a b xs = sym (drop-drop b a xs)
 
--- the range of so many bytes from a place on
+-- the `n` bytes of the text from a place on
 pub range_from : (text : List ℕ) (from n : ℕ) → slice_range text from (from + n) ≡ take n (drop from text)
 range_from text from n = let e : from + n - from ≡ n = omega arith in ap (λ m. take m (drop from text)) e
 
 pub length-range : (text : List ℕ) (from to : ℕ) → to ≤ length text → length (slice_range text from to) ≡ to - from
 length-range text from to le = length-take-le (to - from) (drop from text) (omega (arith, length-drop from text))
 
--- the gap that is found behind a place
+-- the gap that is found at a place
 pub separates_found : (text : List ℕ) (from : ℕ) → from ≤ length text → Separates text from (from + gap_len false (drop from text))
 separates_found text from le =
     let left : List ℕ = drop from text in
@@ -38,7 +38,7 @@ separates_found text from le =
       gap = subst (λ xs. IsGap (drop (from + n) text) xs) (sym (range_from text from n)) (subst (λ xs. IsGap xs (take n left)) (sym (drop-sum from n text)) (gap_front left));
     }
 
--- a gap behind which none begins is the one that is found
+-- a gap after which no gap begins is the one that is found
 pub separates_to : (text : List ℕ) (from to : ℕ) → Separates text from to → begins_gap (drop to text) ≡ false → from + gap_len false (drop from text) ≡ to
 separates_to text from to h none =
     let split : drop from text ≡ slice_range text from to ++ drop to text = drop_split text from to h.order in
@@ -63,7 +63,7 @@ first_no_blank Text first others h = let same : first ≡ quote = cc h.quoted in
 first_no_blank Mark first [] h = mark_no_blank first h
 first_no_blank Mark first (second ∷ others) h = absurd h
 
--- where a token begins no gap does
+-- no gap begins at the beginning of a token
 pub no_gap : (kind : TokenKind) (n : ℕ) (rest : List ℕ) → HasForm kind (take n rest) → begins_comment rest ≡ false → begins_gap rest ≡ false
 no_gap kind n [] h c = refl
 no_gap kind zero (first ∷ others) h c = absurd (no_empty kind h)

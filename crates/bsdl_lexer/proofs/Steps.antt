@@ -1,4 +1,4 @@
--- What a step finds stands in the text, and what stands there is found by a step.
+-- What a step finds is in the text, and what is in the text is found by a step.
 use Rattle.std.proofs.Common.{◌≡◌, ℕ, ◌+◌, ◌-◌, ◌<◌, ◌≤◌, List, [], ◌∷◌, ◌++◌, length, take, drop, Bool, true, false, cond, Option, Some, None, Result, Ok, Err, refl, sym, ◌∙◌, ap, subst, arith, length-drop, nat_eq}
 use Rattle.std.proofs.Math.Seq.{take-add, drop-length}
 use Rattle.std.proofs.lemmas.Bool.Decides.{nat_tests}
@@ -57,7 +57,7 @@ none_found : (rest : List ℕ) → (BeginsToken rest → ⊥) → (o : Option (T
 none_found rest n None e = e
 none_found rest n (Some t) e = absurd (n (found_begins rest t.0 t.1 e))
 
--- the bytes behind the gap that is found
+-- the bytes after the gap that is found
 abbrev rest_at : List ℕ → ℕ → List ℕ
 rest_at text place = drop (place + gap_len false (drop place text)) text
 
@@ -109,7 +109,7 @@ step_finds text place line le l = by_rest (rest_at text place) refl
     by_rest [] e = at_end (subst (Separates text place) (end_reached text at s.within e) s)
     by_rest (first ∷ others) e = by_token first others e (token_at (first ∷ others)) refl
 
--- A step finds what stands behind a gap.
+-- A step finds what comes after a gap.
 step_from : (text : List ℕ) (place at line : ℕ) (rest : List ℕ) → Separates text place at → begins_gap (drop at text) ≡ false → line ≡ line_of text place → drop at text ≡ rest → step text place line ≡ step_at at (line_of text at) rest
 step_from text place at line rest s none l e =
     let same : place + gap_len false (drop place text) ≡ at = separates_to text place at s none in

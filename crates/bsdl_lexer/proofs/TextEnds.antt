@@ -1,4 +1,4 @@
--- Where the bytes of a text end.
+-- The ends of strings.
 use Rattle.std.proofs.Common.{◌≡◌, ℕ, ◌||◌, ◌∙◌, Bool, true, false, List, length, refl, ap, arith, not, get_or}
 use Rattle.std.specs.Prelude.{◌==◌}
 use Rattle.std.specs.List.{prefix_len}

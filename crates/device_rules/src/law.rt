@@ -21,7 +21,8 @@ pub fn all_rules_hold()
     ensures { (draft : Draft) → first_rule draft ≡ None → KeepsRules draft }
 {}
 
-/// If a rule finds nothing, it holds; otherwise it finds the first item that breaks it, or the least number.
+/// If a rule finds nothing, no item and no cell breaks it. Otherwise it finds the first item, or the least
+/// cell, that does.
 pub fn finds_the_first()
     ensures v2 { (ports : List Port) → IsFound breaks_port ports (v2 ports) }
     ensures v4 { (ports : List Port) (entries : List MapEntry) → IsFound (breaks_map ports) entries (v4 ports entries) }

@@ -103,7 +103,7 @@ pub struct Near {
 }
 
 impl Near {
-    /// Creates the numbers for before the first look-up.
+    /// Returns the numbers to begin with, before any look-up.
     pub fn new() -> Near {
         Near { last: 0, before: 0 }
     }

@@ -1,4 +1,4 @@
--- The rules on instruction codes and patterns. A code begins with the bit nearest TDO. Where a single code is needed, X counts as 0.
+-- The rules on instruction codes and patterns. A code begins with the bit nearest TDO. If a single code is needed, X counts as 0.
 use Rattle.std.specs.Prelude.{ℕ, ◌==◌, zip, List, [], ◌∷◌, length, map, replicate, Bool, true, false, ◌&&◌, ◌||◌, not, if◌then◌else◌, Option, Some, None, codes, find, option_and_then}
 use Rattle.std.specs.List.{list_any, list_all}
 use Rattle.std.specs.Str.{bytes_eq}

@@ -1,4 +1,4 @@
-//! The rules about instruction codes and patterns.
+//! The rules on instruction codes and patterns.
 ghost use Rattle.std.specs.Prelude.{◌≡◌, ◌<◌, ◌^◌, length, zip, codes, map, replicate, IfOk};
 ghost use Rattle.std.specs.Option.{option_copied};
 ghost use Rattle.std.specs.List.{list_all, list_any};

@@ -56,7 +56,7 @@ pub record AreCommonRows (plan : PlanTables) (rows : CommonRows) : Type 0 where
   pub count : length rows.expected ≡ plan.width
   pub expected : (j : ℕ) (row : BitRow) → slice_get rows.expected j ≡ Some row → row.bits ≡ steady_compared plan (driver_bit plan.codes j)
 
--- these are the rows of pass `x`: row `j` has what scan `j` of the pass shifts in, and what scan `j + 1` expects and where it compares
+-- the rows are those of pass `x`: row `j` has the bits that scan `j` shifts in, and the expected bits and the mask of scan `j + 1`
 pub record ArePassRows (board : RawBoard) (plan : PlanTables) (x : ℕ) (rows : StackedRows) : Type 0 where
   pub within : x < length plan.passes
   pub shifted : (j : ℕ) → j < plan.width → stacked rows.shifted j ≡ tdi_bits (joined (row_bits board (scan_of_pass board plan x j)))

@@ -58,7 +58,7 @@ closes_beside board set others n = nat_lt 0 (length (drivers_at board n)) && lis
 abbrev pub closed_beside : KnownBoard → ControlSet → ControlSet → Ctl → List ℕ
 closed_beside known set others c = filter (closes_beside known.board set others) (driven_in known c)
 
--- `others` has those controls with a driver on one of the nets that are not in `set`
+-- `others` has only controls with a driver on one of the nets, and among these all that are not in `set`
 pub record AreOthers (board : RawBoard) (set : ControlSet) (nets : List ℕ) (others : ControlSet) : Type 0 where
   pub passes : Ctl → Bool
   pub are_set : IsSet board passes others

@@ -14,7 +14,7 @@ use Rattle.board_defs.specs.Decided.{is_always_on}
 use Rattle.net_facts.specs.declared.facts.PinFacts.{PinFacts}
 use Rattle.net_facts.specs.declared.facts.NetFacts.{NetFacts}
 
--- the drive of a bit, by its cell
+-- how a driver with this entry and this control is enabled, on a net that is guarded or not and has this pull
 abbrev pub drive_from : Bool → Option Bool → ℕ → Cell → Option Control → Drive
 drive_from guarded pull part cell None = AlwaysOn
 drive_from guarded pull part cell (Some control) =
@@ -29,11 +29,11 @@ drive_where_in board guarded pull (Some at) = option_map (λ cell. drive_from gu
 abbrev pub pin_facts_in : RawBoard → Bool → Option Bool → NetPin → PinFacts
 pin_facts_in board guarded pull pin = record { at = pin.at; drive = drive_where_in board guarded pull pin.at; receives = receives board pin }
 
--- the pins of a net that is guarded or not
+-- the facts about the pins of a net; `guarded` is whether the net is guarded
 abbrev pub pins_in : RawBoard → Bool → Net → List PinFacts
 pins_in board guarded net = map (pin_facts_in board guarded net.pull) net.pins
 
--- what is known of a net that is guarded or not
+-- the facts about a net; `guarded` is whether the net is guarded
 abbrev pub net_facts_in : RawBoard → Bool → Net → NetFacts
 net_facts_in board guarded net = record {
   supply = net.supply;

@@ -53,7 +53,7 @@ abbrev pub note_nets : List NetFacts → ℕ → List (List ControlClass) → Li
 note_nets nets zero rows = rows
 note_nets nets (suc k) rows = note_net k (slice_get nets k) (note_nets nets k rows)
 
--- a control that drives nothing
+-- a control without drivers
 abbrev pub fresh : ControlClass
 fresh = record { nets = []; safe = true; useful = false }
 
