@@ -111,7 +111,7 @@ share_net board a b = list_any (λ net. drives_net board a net && drives_net boa
 abbrev pub are_together : RawBoard → Ctl → Ctl → Bool
 are_together board a b = is_safe_alone board a && is_safe_alone board b && (same_ctl a b || not (share_net board a b))
 
--- some safe setting enables a driver that is enabled in this way
+-- there is a driver, and some safe setting enables it
 abbrev pub can_enable : RawBoard → Option Drive → Bool
 can_enable board None = false
 can_enable board (Some AlwaysOn) = true

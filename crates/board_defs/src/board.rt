@@ -138,7 +138,7 @@ impl Board {
         instruction_bits(self.raw().chain.as_slice())
     }
 
-    /// Returns the length of a data scan of the whole chain, in bits. A described part takes part with its boundary
+    /// Returns the length of a data scan of the whole chain, in bits. A described part counts with its boundary
     /// register, any other part with its bypass register.
     pub fn dr_bits(&self) -> u32
         ensures { result ≡ data_bits self.now }

@@ -55,9 +55,8 @@ pub struct ChainLine {
     pub statement: ChainStatement,
 }
 
-/// A chain file. Contracts see it as the list of its lines. It has fewer than 2^32 lines, and the lengths in
-/// its BYPASS
-/// lines are in their range.
+/// A chain file. Contracts see it as the list of its lines. It has fewer than 2^32 lines, and the lengths in its
+/// BYPASS lines are in their range.
 #[derive(Drop)]
 pub struct ChainFile {
     lines: Vec<ChainLine>,

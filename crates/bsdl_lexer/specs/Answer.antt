@@ -43,7 +43,7 @@ pub record StopsAt (text : List ℕ) (tokens : List Token) (place line : ℕ) : 
   pub limit : length tokens ≤ token_limit
   pub line_is : line ≡ line_of text place
 
--- the first bad place comes after the tokens and the gap that follows them, and `fault` says what is wrong there
+-- the first bad place comes after the tokens and the gap that follows them, and the fault says what is wrong there
 abbrev pub IsFault : List ℕ → List Token → LexFault → Type 0
 IsFault text tokens (Byte line) = (place : ℕ) × StopsAt text tokens place line × BeginsNothing (drop place text)
 IsFault text tokens (OpenString line) = (place : ℕ) × StopsAt text tokens place line × BeginsOpenText (drop place text)

@@ -136,7 +136,7 @@ impl<'a> Cursor<'a> {
         }
     }
 
-    /// Skips one token, and returns whether another follows before the `;`.
+    /// Skips one token, and returns whether it is not the final `;`.
     #[tactic(auto, unfolding(crate::specs::Bsdl::skipped_token))]
     fn skipped_token(&mut self) -> Result<bool, Stop>
         ensures { ReadsTokens (reader_of (skipped_token tt)) self.old self.new result (λ more. turn_of more tt) }

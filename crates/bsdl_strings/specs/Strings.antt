@@ -164,7 +164,7 @@ IsNoListOf entry text number = GoesWrongAt entry comma_or_end number (pieces tex
 abbrev pub IsPinMap : List ℕ → List MapEntry → Type 0
 IsPinMap text = IsListOf map_entry text
 
--- the string is not a pin map: it goes wrong at entry `number`, from 1
+-- the string is not a pin map: it goes wrong at the entry with this number, from 1
 abbrev pub IsNoPinMap : List ℕ → ℕ → Type 0
 IsNoPinMap text = IsNoListOf map_entry text
 
@@ -172,7 +172,7 @@ IsNoPinMap text = IsNoListOf map_entry text
 abbrev pub AreOpcodes : List ℕ → List Opcode → Type 0
 AreOpcodes text = IsListOf opcode text
 
--- the string is not an opcode string: it goes wrong at entry `number`, from 1
+-- the string is not an opcode string: it goes wrong at the entry with this number, from 1
 abbrev pub AreNoOpcodes : List ℕ → ℕ → Type 0
 AreNoOpcodes text = IsNoListOf opcode text
 
@@ -180,7 +180,7 @@ AreNoOpcodes text = IsNoListOf opcode text
 abbrev pub IsBoundary : List ℕ → List Entry → Type 0
 IsBoundary text = IsListOf entry text
 
--- the string is not a boundary register: it goes wrong at entry `number`, from 1
+-- the string is not a boundary register: it goes wrong at the entry with this number, from 1
 abbrev pub IsNoBoundary : List ℕ → ℕ → Type 0
 IsNoBoundary text = IsNoListOf entry text
 

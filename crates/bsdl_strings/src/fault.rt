@@ -10,8 +10,7 @@ use thiserror::Error;
 pub enum StringFault {
     /// One more than the number of whole entries, each followed by its comma, at the front of the string. For a
     /// pattern it is the place, from 1, of the first character that is not 0, 1 or X, or 1 if the pattern is
-    /// empty. For
-    /// a compliance string it is 1 for the first parenthesis and 2 for the rest.
+    /// empty. For a compliance string it is 1 for the first parenthesis and 2 for the rest.
     #[error("entry {0}: not in the grammar")]
     At(u32),
     #[error("out of memory")]

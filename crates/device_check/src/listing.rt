@@ -105,7 +105,7 @@ fn print_instructions<K: Sink>(
     }
 }
 
-// Prints the pattern of the identification code, or `-`.
+// Prints the pattern of the identification code, or `-` if there is none.
 fn print_pattern<K: Sink>(device: &RawDevice, line: &mut Line, out: &mut K) -> Result<(), PutFault>
     ensures { Prints (K.shown out.old) (K.shown out.new) line.old line.new (pattern_text device.now.idcode) result }
 {
@@ -543,9 +543,8 @@ fn put_listing<K: Sink>(device: &RawDevice, line: &mut Line, out: &mut K) -> Res
 
 /// Writes the listing of a device: its names, its instructions, its ports with their pins, and the entries of its
 /// boundary register in the order of the cell numbers. Each line is written in one put. A line of more than
-/// `MAX_LINE`
-/// bytes is written in pieces of `MAX_LINE` bytes and the rest. Allocates nothing; `line` is a buffer whose contents
-/// afterwards are unspecified. Fails only if the sink fails, after a prefix of the listing.
+/// `MAX_LINE` bytes is written in pieces of `MAX_LINE` bytes and the rest. Allocates nothing; `line` is a buffer
+/// whose contents afterwards are unspecified. Fails only if the sink fails, after a prefix of the listing.
 pub fn write_device<K: Sink>(device: &Device, line: &mut Line, out: &mut K) -> Result<(), PutFault>
     ensures { Puts (K.shown out.old) (K.shown out.new) (device_text device.now) result }
 {

@@ -67,7 +67,8 @@ fn first_wrong(entity: &Entity, constants: usize, numbers: &[u32]) -> Option<u32
     None
 }
 
-/// Checks rule V1: returns the least number of an attribute that is missing, repeated or has a wrong value.
+/// Checks rule V1: returns the least number of an attribute that is missing, repeated or has a wrong value. Number 15
+/// stands for the pin map.
 #[tactic(auto, unfolding(crate::specs::Needed::v1))]
 pub(crate) fn wrong_attribute(entity: &Entity, package: Option<&[u8]>) -> Option<u32>
     ensures { result ≡ v1 entity.now (option_copied «package».entry) }

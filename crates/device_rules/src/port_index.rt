@@ -156,8 +156,7 @@ impl<'a> PortIndex<'a> {
     }
 
     /// Returns whether the port at `place` has this name. Port names differ, so no other port has it then. The
-    /// contract
-    /// says nothing about `false`: a wrong `false` would only cost time.
+    /// contract says nothing about `false`: a wrong `false` would only cost time.
     fn has_name(&self, place: u32, name: &[u8]) -> bool
         ensures { result ≡ true → port_number self.now name.now ≡ Some place }
     {

@@ -1,5 +1,4 @@
--- Definitions for proofs and for the contracts of private functions. Public contracts, here and in the crates above, cite Kept and Pairs
--- alone.
+-- Definitions for proofs and for the contracts of private functions. Of these, public contracts cite only Kept and Pairs.
 pub mod Kept
 pub mod Pairs
 pub mod Known

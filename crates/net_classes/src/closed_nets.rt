@@ -1,4 +1,5 @@
-// The nets whose tested drivers all have a control with a driver on one of some nets.
+// Closed nets. Some nets close a net if it is covered and each of its tested drivers has a control with a driver on
+// one of them.
 ghost use Rattle.std.specs.Prelude.{◌≡◌, ◌<◌, ◌&&◌, ◌||◌, ◌++◌, ◌∷◌, [], Bool, Contains, filter, length, not, IfOk, OnOk};
 ghost use Rattle.std.specs.List.{flat_map, list_all, list_any};
 ghost use Rattle.board_defs.specs.declared.board.Ctl.{Ctl};

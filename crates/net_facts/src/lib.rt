@@ -2,10 +2,9 @@
 //!
 //! [`board_facts`] collects them for a board: which nets are covered, and why the others are not; how the tested
 //! drivers of each net are enabled; which pins are tested drivers and tested receivers; which nets each control
-//! drives,
-//! whether its setting alone is safe, and whether it is useful; and which nets it drives together with another
-//! control.
-//! Only on these can two controls conflict. The crate above answers what two nets or two controls do in one setting.
+//! drives, whether its setting alone is safe, and whether it is useful; and which nets it drives together with
+//! another control. Only on these can two controls conflict. The crate above answers what two nets or two
+//! controls do in one setting.
 #![tactic(auto)]
 
 mod cells;

@@ -2,8 +2,7 @@
 //!
 //! [`PinTables`] has the entries on each port bit, the position of each part in scans of data, and which nets are
 //! guarded. [`BoardPins`] is a board with these tables, and answers queries about it. [`NetPins`] adds, net by
-//! net, the
-//! drivers that may be enabled and the compared cells.
+//! net, the drivers that may be enabled and the compared cells.
 #![tactic(auto)]
 
 mod board_pins;

@@ -16,8 +16,7 @@ pub struct PinTables {
     /// The entries of each port bit of each part.
     pub entries: Items<Items<BitEntries>>,
     /// Whether each net is guarded: no controlled and no one-sided driver of it may be enabled. No setting
-    /// observes such
-    /// a net, so no driver of it is kept, not even one that is always on.
+    /// observes such a net, so no driver of it is kept, not even one that is always on.
     pub guarded: Items<bool>,
 }
 

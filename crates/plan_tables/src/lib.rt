@@ -2,9 +2,8 @@
 //!
 //! `tables_of` makes them for a board and passes. Each pass must be safe and have only controls of drivers of the
 //! board. The tables have the scans of instructions and the quiet row, the positions of the cells in which the
-//! rows of
-//! data differ from the quiet row, and for each net its code, its drivers and the cells that read it. The other calls
-//! find the cells of a pass in these tables; `scan_planner` fills the scans with them.
+//! rows of data differ from the quiet row, and for each net its code, its drivers and the cells that read it. The
+//! other calls find the cells of a pass in these tables; `scan_planner` fills the scans with them.
 #![tactic(auto)]
 
 mod build;

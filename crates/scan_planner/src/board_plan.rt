@@ -105,9 +105,8 @@ impl<'a> PassOfPlan<'a> {
         self.common
     }
 
-    /// Does nothing. Its contract has the facts about a pass: the board keeps the rules, the plan is a plan of
-    /// it and has
-    /// the pass, and the rows of the pass fit in one stack.
+    /// Does nothing. Its contract has the facts about a pass: the board keeps the rules, the plan is a plan of it
+    /// and has the pass, and the rows of the pass fit in one stack.
     pub fn laws(&self)
         ensures rules { IsBoard self.now.test.board }
         ensures plan { IsPlanOf self.now.test.board self.now.test.plan }

@@ -42,7 +42,7 @@ impl<'a> BoardPlan<'a> {
         tdi.copy_row(&self.tables.quiet);
     }
 
-    /// Fills the rows with a comparison of nothing, as in a scan after the quiet row.
+    /// Fills the rows with zeros, which compare nothing, as in a scan after the quiet row.
     pub fn compare_nothing(&self, rows: &mut ComparedRows)
         requires { BothHaveRoom (data_bits self.now.board) rows.old }
         ensures bits { (scan : RowScan) → scan.before ≡ quiet_row → HoldCompared (joined (row_bits self.now.board scan)) rows.new }
@@ -72,9 +72,8 @@ impl<'a> BoardPlan<'a> {
         }
     }
 
-    // Fills the rows with one of the first three scans, which shift in the preload codes, the quiet row, and
-    // the EXTEST
-    // codes.
+    // Fills the rows with one of the first three scans, which shift in the preload codes, the quiet row, and the
+    // EXTEST codes.
     fn fill_early(&self, k: u64, rows: &mut ScanRows) -> Shape
         requires early { k < 3 }
         requires room { EachHasRoom (IsRoom self.now.board) rows.old }
@@ -125,7 +124,7 @@ impl<'a> PassOfPlan<'a> {
         self.walk(&mut shifted, &mut NoRows, &mut NoRows);
     }
 
-    /// Fills the rows with what is compared of row `j`.
+    /// Fills the rows with the expected bits and the mask of row `j`.
     pub fn compare_row(&self, j: u32, rows: &mut ComparedRows)
         requires row { j < self.now.test.plan.width }
         requires room { BothHaveRoom (data_bits self.now.test.board) rows.old }
@@ -160,9 +159,8 @@ impl<'a> PassOfPlan<'a> {
         }
     }
 
-    // Fills the rows with what is compared of the row before row `j`, which is nothing for the first row.
-    // Returns whether
-    // any bit is compared.
+    // Fills the rows with the expected bits and the mask of the row before row `j`, or with zeros for the first
+    // row. Returns whether any bit is compared.
     fn compare_before(&self, j: u32, rows: &mut ComparedRows) -> bool
         requires row { j ≤ self.now.test.plan.width }
         requires room { BothHaveRoom (data_bits self.now.test.board) rows.old }

@@ -70,10 +70,9 @@ impl<'a, 'k> PassWithRows<'a, 'k> {
         mask.copy_row(&self.rows.mask);
     }
 
-    // Fills the rows with what is compared of the row before row `j`, which is nothing for the first row. Returns
-    // whether any bit is compared. The mask is the same for all rows of a pass. So from the second row on the
-    // mask stays,
-    // and so does the answer, `told`.
+    // Fills the rows with the expected bits and the mask of the row before row `j`, or with zeros for the first
+    // row. Returns whether any bit is compared. The mask is the same for all rows of a pass. So from the second
+    // row on the mask stays, and so does the answer, `told`.
     fn compare_before(&self, j: u32, told: bool, rows: &mut ComparedRows) -> bool
         requires row { j ≤ self.now.test.plan.width }
         requires stands { 1 < j → (rows.old.mask.now.bits ≡ mask_bits (bits_of self.now j)) × (told ≡ list_any (λ bit. bit) rows.old.mask.now.bits) }

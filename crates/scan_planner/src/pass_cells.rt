@@ -103,8 +103,7 @@ impl PassControls<'_> {
     }
 
     // Writes the codes of the nets that the pass's own drivers drive: those drivers that are always on but not
-    // steady,
-    // and those of the pass's controls.
+    // steady, and those of the pass's controls.
     fn drive<S: CodeRows, E: CodeRows, M: CodeRows>(
         &self,
         shifted: &mut S,
@@ -136,8 +135,7 @@ impl PassControls<'_> {
 
 impl<'a> PassOfPlan<'a> {
     /// Turns the rows that all passes share into the rows of this pass: the bits that are shifted in, the
-    /// expected bits,
-    /// and the mask.
+    /// expected bits, and the mask.
     pub fn walk<S: CodeRows, E: CodeRows, M: CodeRows>(
         &self,
         shifted: &mut S,

@@ -25,7 +25,7 @@ pub struct StackedRows {
 }
 
 impl StackedRows {
-    // Returns no rows yet, with room for those of scans of `bits` bits.
+    // Creates empty rows, with room for those of scans of `bits` bits.
     fn with_room(alloc: Global, bits: u32) -> Result<StackedRows, AllocError>
         ensures { IfOk result (HaveRoom bits) }
     {
@@ -45,7 +45,7 @@ impl StackedRows {
         Ok(rows)
     }
 
-    // Makes the rows those that all passes of a plan share. There must be room for them.
+    // Fills the rows with those that all passes of a plan share. There must be room for them.
     fn fill_common(&mut self, tables: &PlanTables)
         requires { HaveRoom (length tables.now.quiet.bits) self.old }
         ensures { AreCommonStacks tables.now self.new }
@@ -90,7 +90,7 @@ pub struct PassRows {
 }
 
 impl PassRows {
-    /// Returns the rows of no pass yet, with room for a board whose data scans have at most `bits` bits.
+    /// Creates the rows of no pass, with room for a board whose data scans have at most `bits` bits.
     pub fn with_room(alloc: Global, bits: u32) -> Result<PassRows, AllocError>
         ensures { IfOk result (λ kept. (board : RawBoard) (plan : PlanRecord) → data_bits board ≤ bits → AreKept board plan kept) }
     {
@@ -102,7 +102,7 @@ impl PassRows {
 }
 
 impl<'a> PassOfPlan<'a> {
-    // Makes the rows those of the pass, from the rows that all passes share.
+    // Fills the rows with those of the pass, made from the rows that all passes share.
     fn fill_rows(&self, rows: &mut StackedRows)
         requires { HaveRoom (data_bits self.now.test.board) rows.old }
         ensures rows { ArePassRows self.now.test.board self.now.test.plan self.now.number rows.new }
@@ -117,7 +117,7 @@ impl<'a> PassOfPlan<'a> {
         self.walk(&mut rows.shifted, &mut rows.expected, &mut marks);
     }
 
-    /// Makes the kept rows those of the pass.
+    /// Fills the kept rows with those of the pass, unless they have them already.
     pub fn keep_rows(&self, kept: &mut PassRows)
         requires { AreKept self.now.test.board self.now.test.plan kept.old }
         ensures kept { AreKept self.now.test.board self.now.test.plan kept.new }

@@ -43,11 +43,9 @@ impl Model for Plan {
 }
 
 impl Plan {
-    /// Makes the plan of these passes. Each pass must be safe and have only controls of drivers of the board.
-    /// The nets
-    /// that some pass observes are numbered from 1 in net order, and these numbers are their codes. Like `of`,
-    /// but collects
-    /// the pins of the board's nets itself.
+    /// Makes the plan of these passes. Each pass must be safe and have only controls of drivers of the board. The
+    /// nets that some pass observes are numbered from 1 in net order, and these numbers are their codes. Like
+    /// `of`, but collects the pins of the board's nets itself.
     pub fn new(alloc: Global, board: &Board, passes: Vec<Setting>) -> Result<Plan, AllocError>
         requires few { length passes.items < 2 ^ 32 }
         requires plannable { ArePlannable board.now passes.items }
@@ -93,18 +91,16 @@ impl Plan {
 
     /// Returns the number of rows of the test: one for each pass and each bit of the codes. A row of a pass that
     /// observes a net is compared once. Each pass of a board's own test observes one, so this is the number of
-    /// rows of its
-    /// log.
+    /// rows of its log.
     pub fn rows(&self) -> u64
         ensures { result ≡ length self.now.passes * self.now.width }
     {
         self.tables.passes.len() as u64 * u64::from(self.tables.width)
     }
 
-    /// Fills the rows with scan `k` of the test, counted from 0, and returns its shape. The board must be that of the
-    /// plan, `k` must be below the number of scans, and each row must have room for a scan of instructions and
-    /// for a scan
-    /// of data. Allocates nothing.
+    /// Fills the rows with scan `k` of the test, counted from 0, and returns its shape. The board must be that of
+    /// the plan, `k` must be below the number of scans, and each row must have room for a scan of instructions
+    /// and for a scan of data. Allocates nothing.
     pub fn fill(&self, board: &Board, k: u64, tdi: &mut Row, tdo: &mut Row, mask: &mut Row) -> Shape
         requires plan { IsPlanOf board.now self.now }
         requires scan { k < scan_count self.now }
@@ -119,15 +115,12 @@ impl Plan {
         self.on(board).fill(k, &mut ScanRows { tdi, tdo, mask })
     }
 
-    /// Fills the rows with scan `k + 1` of the test, and returns its shape. The rows must hold scan `k`, whose shape
-    /// is `before`. This is faster than `fill` for the scans of a test in turn: the rows of a pass are made
-    /// once and kept
-    /// in `rows`, and what two successive scans share stays in place. The board must be that of the plan, `k +
-    /// 1` must be
-    /// below the number of scans, and each row must have room for a scan of instructions and for a scan of
-    /// data. `rows`
-    /// must have room for a scan of data, and must have no pass yet or come from this call for this plan. Allocates
-    /// nothing.
+    /// Fills the rows with scan `k + 1` of the test, and returns its shape. The rows must hold scan `k`, whose
+    /// shape is `before`. This is faster than `fill` for the scans of a test in turn: the rows of a pass are made
+    /// once and kept in `rows`, and what two successive scans share stays in place. The board must be that of the
+    /// plan, `k + 1` must be below the number of scans, and each row must have room for a scan of instructions
+    /// and for a scan of data. `rows` must have room for a scan of data, and must have no pass yet or come from
+    /// this call for this plan. Allocates nothing.
     pub fn fill_next(
         &self,
         board: &Board,
@@ -168,9 +161,8 @@ impl Plan {
         self.on(board).pass(pass as usize).shift_row(row, tdi);
     }
 
-    /// Fills two rows with what the scan after row `row` of a pass compares: the expected bits and the mask.
-    /// The board
-    /// must be that of the plan, and each row must have room for a scan of data. Allocates nothing.
+    /// Fills two rows with what the scan after row `row` of a pass compares: the expected bits and the mask. The
+    /// board must be that of the plan, and each row must have room for a scan of data. Allocates nothing.
     pub fn fill_compared(&self, board: &Board, pass: u32, row: u32, tdo: &mut Row, mask: &mut Row)
         requires plan { IsPlanOf board.now self.now }
         requires pass { pass < length self.now.passes }

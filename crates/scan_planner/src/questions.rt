@@ -89,8 +89,7 @@ impl Plan {
     }
 
     /// Returns the cells that read a net, in pin order. There are none if no net has this number. While a pass
-    /// observes
-    /// the net, the cells on pins other than the driver's are compared.
+    /// observes the net, the cells on pins other than the driver's are compared.
     pub fn readers(&self, net: u32) -> &[ReaderCell]
         ensures { result.now ≡ slice_index_or self.now.readers net [] }
     {

@@ -1,4 +1,4 @@
--- The two rows of a scan that concern what is compared: their room, their contents, and that a call leaves them the same two rows.
+-- The expected bits and the mask of a scan: their room, their contents, and that a call leaves them the same two rows.
 use Rattle.std.specs.Prelude.{◌≡◌, ℕ, ◌≤◌, List}
 use Rattle.tap_defs.specs.chain.Scan.{ScanBit, mask_bits, tdo_bits}
 use Rattle.scan_planner.specs.declared.compared_rows.ComparedRows.{ComparedRows}
