@@ -184,8 +184,8 @@ split_pairs = refl
 split_rules : IsBoard split
 split_rules = board_of split refl
 
--- the first walk of the first pass adds the lower of the bus drivers; that of the second pass adds none, and its second walk adds the driver
--- that is tested already
+-- the first walk of the first pass adds the lower of the bus drivers; that of the second pass adds none, and its second walk adds the
+-- driver that is tested already
 split_passes : passes_of split ≡ (c 0 1 ∷ c 1 1 ∷ []) ∷ (c 0 1 ∷ c 2 1 ∷ []) ∷ []
 split_passes = refl
 
