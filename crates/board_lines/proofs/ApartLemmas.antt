@@ -10,7 +10,7 @@ use Rattle.std.proofs.lemmas.List.Kept.{AllPairs-cons}
 use Rattle.first_places.specs.Places.{once_from, once, first_repeated}
 use Rattle.first_places.proofs.OnceLemmas.{unrepeated}
 
--- R of each item and each later one
+-- R holds of each item and each later one
 abbrev pub Apart : {X : Type 0} → (X → X → Type 0) → List X → Type 0
 Apart R [] = Unit {0}
 Apart R (x ∷ xs) = AllByRecursion (R x) xs × Apart R xs
@@ -25,7 +25,7 @@ pairs_at {X} R xs h i j x y less ei ej =
     let Q : X → Type 0 = λ v. R x v in
     subst Q (get_or_from_slice_get xs j y x ej) (subst P (get_or_from_slice_get xs i x x ei) (h i j x less (slice_get_within xs j y ej)))
 
--- two items of which neither order is apart stand at one place
+-- two items of which R holds in neither order are at the same place
 pub one_place : {X : Type 0} (R : X → X → Type 0) (xs : List X) → AllPairs R xs → (i j : ℕ) (x y : X) → slice_get xs i ≡ Some x → slice_get xs j ≡ Some y → (R x y → ⊥) → (R y x → ⊥) → i ≡ j
 one_place R xs h i j x y ei ej wrong back = by_order (cases_order i j)
   where
@@ -50,7 +50,7 @@ pub apart_map : {X Y : Type 0} (f : X → Y) (R : Y → Y → Type 0) (xs : List
 apart_map f R [] h = h
 apart_map f R (x ∷ xs) h = (each_map f (R (f x)) xs h.0, apart_map f R xs h.1)
 
--- what holds of the items that pass holds of each item, where it passes
+-- if P holds of each item that passes the filter, it holds of each item of the list that passes
 each_passing : {X : Type 0} (p : X → Bool) (P : X → Type 0) (xs : List X) → AllByRecursion P (filter p xs) → AllByRecursion (λ x. p x ≡ true → P x) xs
 each_passing p P [] h = h
 each_passing {X} p P (x ∷ xs) h = by_test (each_passing p P xs) (p x) refl h
@@ -89,7 +89,7 @@ any_first p xs y e = first_false (list_any p xs) (list_any p (y ∷ [])) (sym (l
 any_last : {X : Type 0} (p : X → Bool) (xs : List X) (y : X) → list_any p (xs ++ y ∷ []) ≡ false → p y ≡ false
 any_last p xs y e = last_false (list_any p xs) (p y) (sym (list_any-append p xs (y ∷ [])) ∙ e)
 
--- what is kept equals nothing that was seen before
+-- no item that is kept equals one that was seen before
 once_fresh : {X : Type 0} (eq : X → X → Bool) (seen items : List X) → AllByRecursion (λ i. list_any (λ s. eq s i) seen ≡ false) (once_from eq seen items)
 once_fresh eq seen [] = tt
 once_fresh {X} eq seen (x ∷ items) =

@@ -1,4 +1,4 @@
--- A fault that a definition gives is one that is told.
+-- A fault that a definition gives is not a refusal of memory.
 use Rattle.std.proofs.Common.{◌≡◌, ℕ, ◌≤◌, Bool, true, false, cond, Option, Some, None, Result, Err, refl, arith, nat_lt}
 use Rattle.std.specs.Prelude.{IfSome}
 use Rattle.board_lines.specs.declared.fault.BoardFault.{BoardFault}

@@ -1,4 +1,4 @@
--- What is found in a list, and what is found in the list of what each item is seen as.
+-- Looking up an item in a list, and in the list of what each item maps to.
 use Rattle.std.proofs.Common.{◌≡◌, Bool, true, false, cond, List, [], ◌∷◌, ◌++◌, map, Some, refl, sym, ap, ◌∙◌}
 use Rattle.std.specs.Prelude.{find, filter, option_map}
 use Rattle.std.specs.List.{list_any}
@@ -54,8 +54,6 @@ repeated_from-map {A} {B} {C} f eq h seen (x ∷ xs) =
 pub repeated-map : {A B C : Type 0} (f : A → B) (eq : B → B → Bool) (h : B → C) (xs : List A) → option_map h (first_repeated eq (map f xs)) ≡ option_map (λ x. h (f x)) (first_repeated (λ a b. eq (f a) (f b)) xs)
 repeated-map f eq h xs = repeated_from-map f eq h [] xs
 
--- how a driver drives is known of its entry alone, as far as it is always on
-
--- the value of a lent key
+-- the value of a borrowed key
 pub value_lent : {A K V : Type 0} (view : A → K) (eq : K → K → Bool) (items : List (A × V)) (q : A) → first_value (λ a b. eq (view a) (view b)) items q ≡ first_value eq (map (λ (i : A × V). (view i.0, i.1)) items) (view q)
 value_lent {A} {K} {V} view eq items q = sym (find-map (λ (i : A × V). let p : K × V = (view i.0, i.1) in p) (λ (p : K × V). eq p.0 (view q)) (λ (p : K × V). p.1) items)

@@ -22,7 +22,7 @@ pub record IsChain (lines : List ChainLine) : Type 0 where
   pub most : length (named PartName lines) ≤ most_parts
   pub differ : AllPairs (λ a b. a ≢ b) (names_of (named PartName lines))
 
--- the part of a line, if it is one of the chain: a DEVICE line takes the next device
+-- the part of a DEVICE or BYPASS line; a DEVICE line takes the next device
 abbrev pub part_of_line : ChainStatement → List RawDevice → Option Part
 part_of_line (Device part entity pack) devices = option_map (λ device. record { name = part; kind = Described device }) (slice_get devices 0)
 part_of_line (BypassLine part bits) devices = Some (record { name = part; kind = Bypass bits })
@@ -31,7 +31,7 @@ part_of_line (SupplyLine net) devices = None
 part_of_line (PullLine net value) devices = None
 part_of_line (Link part first second) devices = None
 
--- the devices that are left for the lines after this one
+-- the devices that are left after this line
 abbrev pub devices_after : ChainStatement → List RawDevice → List RawDevice
 devices_after (Device part entity pack) devices = drop 1 devices
 devices_after (BypassLine part bits) devices = devices
@@ -40,7 +40,7 @@ devices_after (SupplyLine net) devices = devices
 devices_after (PullLine net value) devices = devices
 devices_after (Link part first second) devices = devices
 
--- the parts of the DEVICE and BYPASS lines in their order, with a device for each DEVICE line in order
+-- the parts of the DEVICE and BYPASS lines, in order; each DEVICE line takes the next device
 abbrev pub chain_parts : List ChainLine → List RawDevice → List Part
 chain_parts [] devices = []
 chain_parts (line ∷ lines) devices = cons_option (part_of_line line.statement devices) (chain_parts lines (devices_after line.statement devices))
@@ -49,12 +49,12 @@ chain_parts (line ∷ lines) devices = cons_option (part_of_line line.statement 
 abbrev pub PinPlace : Type 0
 PinPlace = Pin × PinAt
 
--- the pin of a port bit, where the pin map has one
+-- the places, with that of the pin of this port bit before them, if the pin map has one
 abbrev pub with_place : ℕ → List ℕ → ℕ → Option (List ℕ) → List PinPlace → List PinPlace
 with_place part name n None places = places
 with_place part name n (Some pin) places = ((name, pin), record { part = part; bit = n }) ∷ places
 
--- the pins of the port bits from number n on
+-- the places of the pins of these port bits, which are numbered from n
 abbrev pub bit_places : ℕ → List ℕ → ℕ → List PortBit → List PinPlace
 bit_places part name n [] = []
 bit_places part name n (bit ∷ bits) = with_place part name n bit.pin (bit_places part name (n + 1) bits)
@@ -63,20 +63,20 @@ abbrev pub part_places : ℕ → List ℕ → PartKind → List PinPlace
 part_places part name (Described device) = bit_places part name 0 device.bits
 part_places part name (Bypass bits) = []
 
--- the pins of the parts from number n on
+-- the places of the pins of these parts, which are numbered from n
 abbrev pub places_from : ℕ → List Part → List PinPlace
 places_from n [] = []
 places_from n (part ∷ parts) = part_places n part.name part.kind ++ places_from (n + 1) parts
 
--- the pins of the described parts, each with its place
+-- the places of the pins of the described parts
 abbrev pub pin_places : List Part → List PinPlace
 pin_places parts = places_from 0 parts
 
--- where a pin is in the chain
+-- the place of a pin in the chain
 abbrev pub place_of_pin : List PinPlace → Pin → Option PinAt
 place_of_pin places pin = first_value same_pin places pin
 
--- the name of a described part
+-- the name, if the part is described
 abbrev pub name_in : List ℕ → PartKind → Option (List ℕ)
 name_in name (Described device) = Some name
 name_in name (Bypass bits) = None

@@ -1,20 +1,20 @@
--- Answers with faults, the first of which counts.
+-- Answers with faults. The first fault counts.
 use Rattle.std.specs.Prelude.{Option, Some, None, Result, Ok, Err}
 use Rattle.board_lines.specs.declared.fault.BoardFault.{BoardFault}
 use Rattle.board_lines.specs.declared.fault.BoardFault.TheVariants.{Memory}
 
--- the first of two findings
+-- the first finding, if there is one, else the second
 infixr 20 ◌then◌
 abbrev pub ◌then◌ : {F : Type 0} → Option F → Option F → Option F
 None then after = after
 (Some fault) then after = Some fault
 
--- the value, where nothing was found
+-- the value if there is no fault, else the fault
 abbrev pub unless : {V F : Type 0} → Option F → V → Result V F
 unless None value = Ok value
 unless (Some fault) value = Err fault
 
--- what a fault tells
+-- the fault, or nothing if it is a refusal of memory, since no definition speaks of memory
 abbrev pub board_told : BoardFault → Option BoardFault
 board_told (Memory e) = None
 board_told fault = Some fault

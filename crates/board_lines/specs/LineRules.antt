@@ -1,4 +1,4 @@
--- The rules of the INERT, SUPPLY and PULL lines of a chain file.
+-- The rules on the INERT, SUPPLY and PULL lines of a chain file.
 use Rattle.std.specs.Prelude.{ℕ, Bool, List, [], ◌∷◌, map, Option, Some, None, option_map, option_and_then, is_none, is_some, position}
 use Rattle.std.specs.List.{cons_option}
 use Rattle.first_places.specs.Places.{first_place, first_repeat, first_value}
@@ -13,23 +13,23 @@ use Rattle.board_lines.specs.Faults.{◌then◌}
 use Rattle.board_lines.specs.Names.{Named, named, names_of}
 use Rattle.board_lines.specs.Selection.{spot_at}
 
--- where each of these names stands among the others
+-- the first place of each of these names among the others
 abbrev pub places_of : List Named → List (List ℕ) → List (Option ℕ)
 places_of list others = map (first_place same_word others) (names_of list)
 
--- the first INERT line whose part is in the chain
+-- the fault of the first INERT line whose part is in the chain
 unfoldable pub inert_in_chain : List Named → List (List ℕ) → Option BoardFault
 inert_in_chain inerts parts = option_map InertInChain (option_and_then (spot_at inerts) (position is_some (places_of inerts parts)))
 
--- the first SUPPLY line whose net is not there
+-- the fault of the first SUPPLY line whose net does not exist
 unfoldable pub no_supply_net : List Named → List (List ℕ) → Option BoardFault
 no_supply_net supplies nets = option_map NoSupplyNet (option_and_then (spot_at supplies) (position is_none (places_of supplies nets)))
 
--- the first PULL line whose net is not there
+-- the fault of the first PULL line whose net does not exist
 unfoldable pub no_pull_net : List Named → List (List ℕ) → Option BoardFault
 no_pull_net pulls nets = option_map NoPullNet (option_and_then (spot_at pulls) (position is_none (places_of pulls nets)))
 
--- the first PULL line whose net an earlier PULL line names
+-- the fault of the first PULL line whose net an earlier PULL line names
 unfoldable pub pull_twice : List Named → Option BoardFault
 pull_twice pulls = option_map PullTwice (option_and_then (spot_at pulls) (first_repeat same_word (names_of pulls)))
 
@@ -45,16 +45,16 @@ pull_of_line (Inert part) = None
 pull_of_line (Supply net) = None
 pull_of_line (Link part first second) = None
 
--- the PULL lines
+-- the nets of the PULL lines, each with the value that it is pulled to
 abbrev pub pulls_of : List ChainLine → List Pulled
 pulls_of [] = []
 pulls_of (line ∷ lines) = cons_option (pull_of_line line.statement) (pulls_of lines)
 
--- the value of the PULL line that names the net, and none where no line does
+-- the value of the first PULL line that names the net, if one does
 abbrev pub pull_of_net : List Pulled → List ℕ → Option Bool
 pull_of_net pulls name = first_value same_word pulls name
 
--- the rules on INERT, SUPPLY and PULL lines
+-- the first fault of the INERT, SUPPLY and PULL lines, by the rules in their order
 unfoldable pub line_fault : List ChainLine → List (List ℕ) → Option BoardFault
 line_fault chain names =
     inert_in_chain (named InertName chain) (names_of (named PartName chain)) then no_supply_net (named SupplyName chain) names then no_pull_net (named PullName chain) names then pull_twice (named PullName chain)

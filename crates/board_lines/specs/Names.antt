@@ -6,7 +6,7 @@ use Rattle.board_files.specs.declared.chain_file.ChainStatement.TheVariants.{Dev
 use Rattle.board_lines.specs.declared.names.Naming.{Naming}
 use Rattle.board_lines.specs.declared.names.Naming.TheVariants.{Part, Entity, Inert, Supply, Pull}
 
--- a name and the line on which it stands
+-- a name and the number of its line
 abbrev pub Named : Type 0
 Named = ℕ × List ℕ
 
@@ -64,7 +64,7 @@ abbrev pub with_name : ℕ → Option (List ℕ) → List Named → List Named
 with_name line None named = named
 with_name line (Some name) named = (line, name) ∷ named
 
--- the names that the lines have in this role, each with its line
+-- the names that the lines have in this role, each with the number of its line
 abbrev pub named : Naming → List ChainLine → List Named
 named naming [] = []
 named naming (line ∷ lines) = with_name line.line (name_of naming line.statement) (named naming lines)

@@ -7,14 +7,14 @@ use Rattle.board_files.specs.declared.net_file.PinWord.{PinWord}
 use Rattle.board_defs.specs.declared.spot.Spot.{Spot}
 use Rattle.board_files.specs.Names.{same_word, line_names}
 
--- a pin by its part and its name
+-- a pin: the name of its part, and its own name
 abbrev pub Pin : Type 0
 Pin = List ℕ × List ℕ
 
 abbrev pub same_pin : Pin → Pin → Bool
 same_pin a b = same_word a.0 b.0 && same_word a.1 b.1
 
--- a word that names a pin: the number of the net, the pin, and where the word stands
+-- a word that names a pin: the number of the net, the pin, and the place of the word
 abbrev pub NetWord : Type 0
 NetWord = (ℕ × Pin) × Spot
 
@@ -27,14 +27,14 @@ pin_of word = word.0.1
 abbrev pub spot_of : NetWord → Spot
 spot_of word = word.1
 
--- a pin and a word as the code lends them
+-- a pin and a word as the code borrows them
 abbrev pub lent_pin : Bor (List ℕ) × Bor (List ℕ) → Pin
 lent_pin p = (p.0.now, p.1.now)
 
 abbrev pub lent_word : (ℕ × (Bor (List ℕ) × Bor (List ℕ))) × Spot → NetWord
 lent_word w = ((w.0.0, lent_pin w.0.1), w.1)
 
--- the same pin in the same net
+-- both words name the same pin of the same net
 abbrev pub same_place : NetWord → NetWord → Bool
 same_place a b = (net_of a == net_of b) && same_pin (pin_of a) (pin_of b)
 
@@ -42,19 +42,19 @@ same_place a b = (net_of a == net_of b) && same_pin (pin_of a) (pin_of b)
 abbrev pub is_among : List (List ℕ) → List ℕ → Bool
 is_among names name = is_some (first_place same_word names name)
 
--- the names of the nets in the order of their first lines: a net's number is its place here
+-- the names of the nets in the order of their first lines; a net's number is its place in this list
 abbrev pub net_names : List NetLine → List (List ℕ)
 net_names lines = once same_word (line_names lines)
 
 abbrev pub net_number : List (List ℕ) → List ℕ → ℕ
 net_number names name = unwrap_or (first_place same_word names name) 0
 
--- the pins of a line, from word n on
+-- the words of these pins of a line, from word n on
 abbrev pub line_words : ℕ → ℕ → ℕ → List PinWord → List NetWord
 line_words net line n [] = []
 line_words net line n (p ∷ pins) = ((net, (p.part, p.pin)), record { line = line; word = n }) ∷ line_words net line (n + 1) pins
 
--- the pins of all lines; the first pin of a line is its word 3
+-- the words that name pins, of all lines; the first pin of a line is its word 3
 abbrev pub words_of : List (List ℕ) → List NetLine → List NetWord
 words_of names [] = []
 words_of names (line ∷ lines) = line_words (net_number names line.name) line.line 3 line.pins ++ words_of names lines
@@ -62,14 +62,14 @@ words_of names (line ∷ lines) = line_words (net_number names line.name) line.l
 abbrev pub net_words : List NetLine → List NetWord
 net_words lines = words_of (net_names lines) lines
 
--- a pin that is repeated in the same net counts once, at its first place
+-- the words that name pins, each pin once in a net, at its first place
 abbrev pub standing_words : List NetLine → List NetWord
 standing_words lines = once same_place (net_words lines)
 
--- the pins of the net of this number
+-- the pins of net n
 abbrev pub pins_of_net : List NetWord → ℕ → List Pin
 pins_of_net words n = map pin_of (filter (λ word. net_of word == n) words)
 
--- the pins of two words are the same
+-- both words name the same pin
 abbrev pub have_same_pin : NetWord → NetWord → Bool
 have_same_pin a b = same_pin (pin_of a) (pin_of b)

@@ -11,25 +11,25 @@ use Rattle.board_defs.specs.declared.board.Part.{Part}
 use Rattle.board_defs.specs.declared.board.PinAt.{PinAt}
 use Rattle.board_files.specs.Names.{same_word}
 
--- a port bit has the pin of this name
+-- the port bit has a pin, and the pin has this name
 abbrev pub is_pin : List ℕ → Option (List ℕ) → Bool
 is_pin name None = false
 is_pin name (Some pin) = same_word pin name
 
--- the first port bit with a pin of this name, of the pins of the port bits in order
+-- the first port bit whose pin has this name; `pins` has the pin of each port bit, in order
 abbrev pub bit_of_pin : List (Option (List ℕ)) → List ℕ → Option ℕ
 bit_of_pin pins name = position_from (is_pin name) 0 pins
 
--- the pin of each port bit, where the pin map has one
+-- the pin of each port bit, if the pin map has one
 abbrev pub pins_of_bits : List PortBit → List (Option (List ℕ))
 pins_of_bits bits = map (λ bit. bit.pin) bits
 
--- the same of a part; one in BYPASS has no port bit
+-- the pins of a part's port bits; a part in BYPASS has no port bit
 abbrev pub pins_of : PartKind → List (Option (List ℕ))
 pins_of (Described device) = pins_of_bits device.bits
 pins_of (Bypass bits) = []
 
--- the row of a part, by the number of the part's row
+-- the row of a part; `numbers` has the number of each part's row
 abbrev pub row_at : List (List (Option (List ℕ))) → List ℕ → ℕ → Option (List (Option (List ℕ)))
 row_at rows numbers part = option_and_then (λ number. slice_get rows number) (slice_get numbers part)
 
@@ -37,12 +37,12 @@ row_at rows numbers part = option_and_then (λ number. slice_get rows number) (s
 abbrev pub AreRows : List (List (Option (List ℕ))) → List ℕ → List Part → Type 0
 AreRows rows numbers parts = map (λ number. slice_get rows number) numbers ≡ map (λ part. Some (pins_of part.kind)) parts
 
--- the place of a pin of the part of this number, if there is one
+-- the place of a pin of the part with this number, if there is one
 abbrev pub place_by_part : List (List (Option (List ℕ))) → List ℕ → Option ℕ → List ℕ → Option PinAt
 place_by_part rows numbers None pin = None
 place_by_part rows numbers (Some part) pin = option_map (λ bit. record { part = part; bit = bit }) (option_and_then (λ row. bit_of_pin row pin) (row_at rows numbers part))
 
--- the parts have different names, the map has the number of each name's part, and each part's row has its pins
+-- the parts have different names, the map has the number of each name's part, and each part's row has the part's pins
 pub record ArePlaces {S : Type 0} (by_name : IndexMap (Bor (List ℕ)) ℕ S) (rows : List (List (Option (List ℕ)))) (numbers : List ℕ) (parts : List Part) : Type 0 where
   pub named : (q : Bor (List ℕ)) → get_by (λ n. same_word q.now n.now) by_name ≡ first_place same_word (map (λ part. part.name) parts) q.now
   pub pinned : AreRows rows numbers parts

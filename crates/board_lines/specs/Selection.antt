@@ -1,4 +1,4 @@
--- The parts of a chain, and the entity of each described one.
+-- The parts of a chain, and the entity of each described part.
 use Rattle.std.specs.Prelude.{ℕ, List, length, map, nat_eq, nat_lt, slice_get, Option, Some, None, Result, option_map, option_and_then, is_none, unwrap_or, position, if◌then◌else◌}
 use Rattle.board_defs.specs.Limits.{most_parts}
 use Rattle.first_places.specs.Places.{first_place, first_repeat}
@@ -12,46 +12,46 @@ use Rattle.board_files.specs.Names.{same_word}
 use Rattle.board_lines.specs.Names.{Named, named, names_of}
 use Rattle.board_lines.specs.Faults.{◌then◌, unless}
 
--- the line on which the name at the place stands. A chain line is named whole, as its word 1
+-- the line of the name at this place of the list, as word 1: a refusal names a chain line as a whole
 abbrev pub spot_at : List Named → ℕ → Option Spot
 spot_at list place = option_map (λ n. record { line = n.0; word = 1 }) (slice_get list place)
 
--- neither a DEVICE nor a BYPASS line
+-- there is no DEVICE and no BYPASS line
 unfoldable pub no_chain : List Named → Option BoardFault
 no_chain parts = if nat_eq (length parts) 0 then Some NoChain else None
 
--- the first part that stands a second time
+-- the first part whose name an earlier part has
 unfoldable pub part_twice : List Named → Option BoardFault
 part_twice parts = option_map PartTwice (option_and_then (spot_at parts) (first_repeat same_word (names_of parts)))
 
--- where the entity of each described part stands among the texts
+-- the place of each described part's entity among the texts' entities
 abbrev pub entity_places : List Named → List (List ℕ) → List (Option ℕ)
 entity_places devices entities = map (first_place same_word entities) (names_of devices)
 
--- the first entity that no text has
+-- the first described part whose entity no text describes
 unfoldable pub no_entity : List Named → List (Option ℕ) → Option BoardFault
 no_entity devices places = option_map NoEntity (option_and_then (spot_at devices) (position is_none places))
 
--- the first text whose entity an earlier text has
+-- the first text that describes the entity of an earlier text
 unfoldable pub entity_twice : List (List ℕ) → Option BoardFault
 entity_twice entities = option_map EntityTwice (first_repeat same_word entities)
 
--- at most 255 parts
+-- there are more than 255 parts
 unfoldable pub chain_limit : List Named → Option BoardFault
 chain_limit parts = if nat_lt most_parts (length parts) then Some (Limit 1) else None
 
--- the rules in their order
+-- the first fault, by the rules in their order
 unfoldable pub first_fault : List Named → List Named → List (Option ℕ) → List (List ℕ) → Option BoardFault
 first_fault parts devices places entities = no_chain parts then part_twice parts then no_entity devices places then entity_twice entities then chain_limit parts
 
 abbrev pub entity_names : List Entity → List (List ℕ)
 entity_names entities = map (λ e. e.name) entities
 
--- the text of each described part's entity, or the first fault
+-- the number of each described part's text, or the first fault
 unfoldable pub answer : List Named → List Named → List (Option ℕ) → List (List ℕ) → Result (List ℕ) BoardFault
 answer parts devices places entities = unless (first_fault parts devices places entities) (map (λ place. unwrap_or place 0) places)
 
--- what a chain file and the texts' entities select
+-- what a chain file selects among the entities of the texts: the number of the text of each DEVICE line, or the first fault
 abbrev pub selection : List ChainLine → List Entity → Result (List ℕ) BoardFault
 selection lines entities =
     answer (named Part lines) (named EntityName lines) (entity_places (named EntityName lines) (entity_names entities)) (entity_names entities)

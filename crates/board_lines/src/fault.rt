@@ -5,7 +5,7 @@ ghost use Rattle.board_lines.specs.declared.fault.BoardFault.TheVariants.{Memory
 use board_defs::Spot;
 use std::alloc::{AllocError, AllocFailed};
 
-/// The first fault of a board's files, or want of memory.
+/// The first fault of a board's files, or a refusal of memory.
 #[derive(Debug, Drop, thiserror::Error)]
 pub enum BoardFault {
     #[error("no part in the chain")]

@@ -1,5 +1,5 @@
-//! What the lines of a board's files say: the parts of the chain and the entity of each, the names of the nets and the
-//! words that stand in them, and which nets are pulled; with the rules on names, which need no more than the lines.
+//! What the lines of a board's files say: the parts of the chain and the entity of each, the names of the nets, the words
+//! that name pins, and which nets are pulled. It also has the rules on names that need nothing but the lines.
 #![tactic(auto)]
 
 mod fault;

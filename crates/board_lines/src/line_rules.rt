@@ -1,4 +1,4 @@
-// The rules of the INERT, SUPPLY and PULL lines of a board.
+// The rules on the INERT, SUPPLY and PULL lines of a board.
 ghost use Rattle.std.specs.Prelude.{◌≡◌, ◌<◌, ◌≤◌, ◌^◌, map, length, vec_len, IfOk, position, is_some, option_map, Option, List, ℕ};
 ghost use Rattle.std.proofs.Common.{Bor};
 ghost use Rattle.indexmap.specs.IndexMap.{get_by};
@@ -15,7 +15,7 @@ use first_places::first_values;
 use indexmap::IndexMap;
 use std::alloc::{AllocError, Global};
 
-/// Where each of these names stands among the others.
+/// Returns for each of these names its first place among `others`.
 fn places_of(
     alloc: Global,
     named: &[(u32, &[u8])],
@@ -34,7 +34,7 @@ fn found(places: &[Option<u32>]) -> Option<usize>
     places.iter().position(|place| place.is_some())
 }
 
-/// The first INERT line whose part is in the chain.
+/// Returns the fault of the first INERT line whose part is in the chain.
 #[tactic(auto, unfolding(crate::specs::LineRules::inert_in_chain))]
 pub fn inert_in_chain(
     alloc: Global,
@@ -51,7 +51,7 @@ pub fn inert_in_chain(
     }
 }
 
-/// The first SUPPLY line whose net is not there.
+/// Returns the fault of the first SUPPLY line whose net does not exist.
 #[tactic(auto, unfolding(crate::specs::LineRules::no_supply_net))]
 pub fn no_supply_net(
     alloc: Global,
@@ -68,7 +68,7 @@ pub fn no_supply_net(
     }
 }
 
-/// The first PULL line whose net is not there.
+/// Returns the fault of the first PULL line whose net does not exist.
 #[tactic(auto, unfolding(crate::specs::LineRules::no_pull_net))]
 pub fn no_pull_net(
     alloc: Global,
@@ -85,7 +85,7 @@ pub fn no_pull_net(
     }
 }
 
-/// The first PULL line whose net an earlier PULL line names.
+/// Returns the fault of the first PULL line whose net an earlier PULL line names.
 #[tactic(auto, unfolding(crate::specs::LineRules::pull_twice))]
 pub fn pull_twice(alloc: Global, pulls: &[(u32, &[u8])]) -> Result<Option<BoardFault>, AllocError>
     requires { length pulls.now < 2 ^ 32 }
@@ -107,7 +107,7 @@ fn pull_of_line(statement: &ChainStatement) -> Option<(&[u8], bool)>
     }
 }
 
-/// The PULL lines: each net with the value that it is pulled to.
+/// Returns the nets of the PULL lines, each with the value that it is pulled to.
 pub fn pulls_of<'a>(
     alloc: Global,
     lines: &'a [ChainLine],
@@ -123,7 +123,7 @@ pub fn pulls_of<'a>(
     Ok(pulls)
 }
 
-/// The value of the first PULL line of each net.
+/// Returns a map from each net to the value of its first PULL line.
 pub fn pulls_by_net<'a>(
     alloc: Global,
     pulls: &[(&'a [u8], bool)],
@@ -133,18 +133,18 @@ pub fn pulls_by_net<'a>(
     first_values(alloc, pulls)
 }
 
-/// The value that a net is pulled to.
+/// Returns the value that a net is pulled to.
 pub fn pull_of_net(pulls: &IndexMap<&[u8], bool>, net: &[u8]) -> Option<bool>
     ensures { result ≡ get_by (λ n. same_word net.now n.now) pulls.now }
 {
-    // A look-up hashes the name, even where nothing can be found.
+    // A look-up hashes the name even if the map is empty.
     if pulls.is_empty() {
         return None;
     }
     pulls.get(&net).copied()
 }
 
-/// The rules on INERT, SUPPLY and PULL lines, in their order.
+/// Returns the first fault of the INERT, SUPPLY and PULL lines, by the rules in their order.
 #[tactic(auto, unfolding(crate::specs::LineRules::line_fault))]
 pub fn line_fault(
     alloc: Global,
@@ -171,7 +171,7 @@ pub fn line_fault(
     pull_twice(alloc, &pulls)
 }
 
-/// The names that the lines have in this role.
+/// Returns the names that have the role `naming` on the lines.
 pub fn names_in<'a>(
     alloc: Global,
     lines: &'a [ChainLine],

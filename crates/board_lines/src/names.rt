@@ -12,7 +12,7 @@ use first_places::{first_places, first_repeat, numbered};
 use indexmap::IndexMap;
 use std::alloc::{AllocError, Global};
 
-/// The role in which a name stands on a line.
+/// The role of a name on a line of a chain file.
 #[derive(Clone, Copy)]
 pub enum Naming {
     Part,
@@ -36,7 +36,7 @@ pub fn name_of(statement: &ChainStatement, naming: Naming) -> Option<&Name>
     }
 }
 
-/// The names that the lines have in this role, each with its line.
+/// Returns the names that have the role `naming` on the lines, each with the number of its line.
 pub fn named<'a>(
     alloc: Global,
     lines: &'a [ChainLine],
@@ -54,7 +54,7 @@ pub fn named<'a>(
     Ok(list)
 }
 
-/// The names without their lines.
+/// Returns the names without their lines.
 pub fn names_of<'a>(alloc: Global, named: &[(u32, &'a [u8])]) -> Result<Vec<&'a [u8]>, AllocError>
     ensures names { IfOk result (λ names. map (λ n. n.now) names.items ≡ names_of (map (λ n. (n.0, n.1.now)) named.now)) }
     ensures count { IfOk result (λ names. vec_len names ≡ length named.now) }
@@ -66,7 +66,7 @@ pub fn names_of<'a>(alloc: Global, named: &[(u32, &'a [u8])]) -> Result<Vec<&'a 
     Ok(names)
 }
 
-/// The first name that stands a second time.
+/// Returns the place of the first name that also occurs earlier in the list.
 pub fn first_repeat_of(alloc: Global, names: &[&[u8]]) -> Result<Option<u32>, AllocError>
     requires { length names.now < 2 ^ 32 }
     ensures { IfOk result (λ place. place ≡ first_repeat same_word (map (λ n. n.now) names.now)) }
@@ -74,7 +74,7 @@ pub fn first_repeat_of(alloc: Global, names: &[&[u8]]) -> Result<Option<u32>, Al
     first_repeat(alloc, names)
 }
 
-/// The first place of each name.
+/// Returns a map from each name to its first place in the list.
 pub fn first_places_of<'a>(
     alloc: Global,
     names: &[&'a [u8]],
@@ -85,11 +85,11 @@ pub fn first_places_of<'a>(
     first_places(alloc, names)
 }
 
-/// Where this name stands.
+/// Returns the place that the map has for this name.
 pub fn place_of(places: &IndexMap<&[u8], u32>, name: &[u8]) -> Option<u32>
     ensures { result ≡ get_by (λ n. same_word name.now n.now) places.now }
 {
-    // A look-up hashes the name, even where nothing can be found.
+    // A look-up hashes the name even if the map is empty.
     if places.is_empty() {
         return None;
     }
@@ -109,7 +109,7 @@ fn places_by(
         .collect(alloc)
 }
 
-/// The first place of each of these names among the others.
+/// Returns for each of `names` its first place among `others`.
 pub fn places_among(
     alloc: Global,
     names: &[&[u8]],
@@ -118,7 +118,7 @@ pub fn places_among(
     requires { length others.now < 2 ^ 32 }
     ensures { IfOk result (λ places. places.items ≡ map (first_place same_word (map (λ n. n.now) others.now)) (map (λ n. n.now) names.now)) }
 {
-    // Where no name is asked for, the others need no map.
+    // Without names to look up, `others` needs no map.
     if names.is_empty() {
         return Ok(Vec::new(alloc));
     }
@@ -126,7 +126,7 @@ pub fn places_among(
     places_by(alloc, names, &known)
 }
 
-/// The different names, each at its first place, and the number of each name among these.
+/// Returns the different names, in the order of their first places, and for each of `names` its number among these.
 pub fn numbered_names<'a>(
     alloc: Global,
     names: &[&'a [u8]],

@@ -35,7 +35,7 @@ fn bypass(alloc: Global, name: &Name, length: u32) -> Result<Part, AllocError>
     })
 }
 
-/// The part of a line, if it is one of the chain: a DEVICE line takes the next device.
+/// Returns the part of a DEVICE or BYPASS line, and nothing for another line. A DEVICE line takes the next device.
 fn part_of_line(
     alloc: Global,
     statement: &ChainStatement,
@@ -65,7 +65,7 @@ fn push_some(parts: &mut Vec<Part>, part: Option<Part>) -> Result<(), AllocError
     Ok(())
 }
 
-/// The parts of the DEVICE and BYPASS lines in their order.
+/// Returns the parts of the DEVICE and BYPASS lines, in order. Each DEVICE line takes the next device.
 pub fn chain_parts(
     alloc: Global,
     lines: &[ChainLine],
@@ -93,7 +93,7 @@ fn described_name(part: &Part) -> Option<&[u8]>
     }
 }
 
-/// The names of the described parts.
+/// Returns the names of the described parts.
 pub fn described_names<'a>(alloc: Global, parts: &'a [Part]) -> Result<Vec<&'a [u8]>, AllocError>
     ensures names { IfOk result (λ names. map (λ n. n.now) names.items ≡ described_names parts.now) }
     ensures few { IfOk result (λ names. vec_len names ≤ length parts.now) }

@@ -1,4 +1,4 @@
-// The pins of a device, each with its port bit: one row serves all parts with the same pins.
+// The pins of a device, each with its port bit. Parts with the same pins share a row.
 ghost use Rattle.std.specs.Prelude.{◌≡◌, ◌<◌, ◌≤◌, ◌^◌, if◌then◌else◌, length, slice_get, true, IfOk, IfSome, List, OnOk, Option, Some, ℕ};
 ghost use Rattle.board_defs.specs.Limits.{most_bits};
 ghost use Rattle.std.proofs.Common.{Bor};
@@ -11,11 +11,11 @@ use indexmap::IndexMap;
 use std::alloc::{AllocError, Global};
 use std::marker::Model;
 
-/// The number of rows that are looked through for one with the same pins: a board of many
-/// different devices has few rows to share, and is not to pay for each pair of them.
+/// The number of rows that are searched for one with the same pins. A board of many different
+/// devices has few rows to share, and must not pay for each pair of them.
 const ROWS_COMPARED: usize = 16;
 
-/// The port bits of a part; a part in BYPASS has none.
+/// Returns the port bits of a part, and none for a part in BYPASS.
 pub fn bits_of(kind: &PartKind) -> &[PortBit]
     ensures pins { pins_of_bits result.now ≡ pins_of kind.now }
     ensures few { length result.now ≤ most_bits }
@@ -26,7 +26,7 @@ pub fn bits_of(kind: &PartKind) -> &[PortBit]
     }
 }
 
-/// Puts the bit at the pin's name, where it has a pin.
+/// Maps the pin to this port bit, if there is a pin.
 fn put_pin<'a>(
     bits: &mut IndexMap<&'a [u8], u32>,
     pin: &'a Option<Name>,
@@ -40,7 +40,7 @@ fn put_pin<'a>(
     Ok(())
 }
 
-/// The first port bit of each pin.
+/// Returns a map from each pin to its first port bit.
 fn bits_by_pin<'a>(
     alloc: Global,
     bits: &'a [PortBit],
@@ -57,7 +57,7 @@ fn bits_by_pin<'a>(
     Ok(by_pin)
 }
 
-/// True only where the names are equal, or where there is none on either side.
+/// Returns true only if the names are equal or both are missing.
 fn is_same_name(a: &Option<Name>, b: &Option<Name>) -> bool
     ensures { result ≡ true → a.now ≡ b.now }
 {
@@ -68,7 +68,7 @@ fn is_same_name(a: &Option<Name>, b: &Option<Name>) -> bool
     }
 }
 
-/// True only where the port bits have the same pins in the same order.
+/// Returns true only if the port bits have the same pins in the same order.
 fn have_same_pins(a: &[PortBit], b: &[PortBit]) -> bool
     ensures { result ≡ true → pins_of_bits a.now ≡ pins_of_bits b.now }
 {
@@ -83,7 +83,7 @@ fn have_same_pins(a: &[PortBit], b: &[PortBit]) -> bool
     true
 }
 
-/// The pins of the port bits of a part, seen as their list.
+/// The pins of the port bits of a part. The model is the list of the pins.
 #[derive(Drop)]
 pub struct PinRow<'a> {
     bits: &'a [PortBit],
@@ -113,14 +113,14 @@ impl<'a> PinRow<'a> {
         Ok(PinRow { bits, by_pin })
     }
 
-    /// The first port bit with this pin.
+    /// Returns the first port bit with this pin.
     pub fn bit_of(&self, pin: &[u8]) -> Option<u32>
         ensures { result ≡ bit_of_pin self.now pin.now }
     {
         self.by_pin.get(&pin).copied()
     }
 
-    /// True only where the port bits have the pins of this row.
+    /// Returns true only if the port bits have the pins of this row.
     fn has_pins(&self, bits: &[PortBit]) -> bool
         ensures { result ≡ true → self.now ≡ pins_of_bits bits.now }
     {
@@ -128,7 +128,7 @@ impl<'a> PinRow<'a> {
     }
 }
 
-/// The number of a row with these pins, if it is among the first rows.
+/// Returns the number of a row with these pins, if one of the first `ROWS_COMPARED` rows has them.
 fn row_among(rows: &[PinRow<'_>], bits: &[PortBit]) -> Option<usize>
     ensures { IfSome result (λ number. slice_get rows.now number ≡ Some (pins_of_bits bits.now)) }
 {
@@ -143,7 +143,7 @@ fn row_among(rows: &[PinRow<'_>], bits: &[PortBit]) -> Option<usize>
     None
 }
 
-/// The number of a row with these pins, which is added where there is none among the first.
+/// Returns the number of a row with these pins. Adds one if none of the first `ROWS_COMPARED` rows has them.
 pub fn row_of<'a>(
     alloc: Global,
     rows: &mut Vec<PinRow<'a>>,

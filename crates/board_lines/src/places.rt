@@ -1,4 +1,4 @@
-// Where the pins of a chain's parts are, by the part and then by the pin.
+// The place of each pin in the chain, found by the part and then by the pin.
 ghost use Rattle.std.specs.Prelude.{◌≡◌, ◌≢◌, ◌<◌, ◌^◌, AllPairs, length, map, option_and_then, slice_get, IfOk, List, Option, Some, ℕ};
 ghost use Rattle.std.proofs.Common.{Bor};
 ghost use Rattle.indexmap.specs.IndexMap.{get_by};
@@ -26,7 +26,7 @@ fn part_names<'a>(alloc: Global, parts: &'a [Part]) -> Result<Vec<&'a [u8]>, All
     Ok(names)
 }
 
-/// The number of each part by its name.
+/// Returns a map from the name of each part to its number.
 fn parts_by_name<'a>(
     alloc: Global,
     parts: &'a [Part],
@@ -38,11 +38,11 @@ fn parts_by_name<'a>(
     first_places_of(alloc, &names)
 }
 
-/// The rows of the parts; parts with the same pins share one.
+/// The rows of the parts. Parts with the same pins can share a row.
 #[derive(Drop)]
 struct PartRows<'a> {
     rows: Vec<PinRow<'a>>,
-    /// For each part the number of its row.
+    /// The number of each part's row.
     numbers: Vec<usize>,
 }
 
@@ -58,7 +58,7 @@ fn rows_of<'a>(alloc: Global, parts: &'a [Part]) -> Result<PartRows<'a>, AllocEr
     Ok(PartRows { rows, numbers })
 }
 
-/// The port bit of this number's part that has the pin.
+/// Returns the first port bit of part `part` that has the pin.
 fn bit_in(rows: &[PinRow<'_>], numbers: &[usize], part: u32, pin: &[u8]) -> Option<u32>
     ensures { result ≡ option_and_then (λ row. bit_of_pin row pin.now) (row_at rows.now numbers.now part) }
 {
@@ -71,7 +71,7 @@ fn bit_in(rows: &[PinRow<'_>], numbers: &[usize], part: u32, pin: &[u8]) -> Opti
     }
 }
 
-/// The place of a pin by the number of its part and the row of that part.
+/// Returns the place of a pin, which is found by the number of its part and that part's row.
 fn place_in(
     by_name: &IndexMap<&[u8], u32>,
     rows: &[PinRow<'_>],
@@ -89,10 +89,10 @@ fn place_in(
     }
 }
 
-/// Where the pins of the parts of a chain are, seen as the list of the parts.
+/// The places of the pins of a chain's parts. The model is the list of the parts.
 ///
-/// Most boards have many equal devices, so that a row of pins for each different device stays
-/// in the processor's cache where one table of all pins does not.
+/// Most boards have many equal devices. One row of pins for each different device stays
+/// in the processor's cache, and one table of all pins does not.
 #[derive(Drop)]
 pub struct PinPlaces<'a> {
     parts: &'a [Part],
@@ -113,7 +113,7 @@ impl<'a> Model for PinPlaces<'a> {
 }
 
 impl<'a> PinPlaces<'a> {
-    /// The places of the pins of these parts.
+    /// Returns the places of the pins of these parts.
     pub fn of(alloc: Global, parts: &'a [Part]) -> Result<PinPlaces<'a>, AllocError>
         requires few { length parts.now < 2 ^ 32 }
         requires differ { AllPairs (λ a b. a ≢ b) (map (λ part. part.name) parts.now) }
@@ -128,7 +128,7 @@ impl<'a> PinPlaces<'a> {
         })
     }
 
-    /// Where the pin is in the chain.
+    /// Returns the place of the pin in the chain.
     pub fn place_of_pin(&self, pin: &PinName<'_>) -> Option<PinAt>
         ensures { result ≡ place_of_pin (pin_places self.now) (lent_pin pin.now) }
     {

@@ -1,4 +1,4 @@
-// Which entity each described part of a chain is of.
+// The entity of each described part of a chain.
 ghost use Rattle.std.specs.Prelude.{◌≡◌, ◌<◌, ◌^◌, All, map, length, vec_len, IfOk, unwrap_or, Option, position, is_none};
 ghost use Rattle.answers.specs.Gives.{Gives};
 ghost use Rattle.board_lines.specs.Faults.{board_told};
@@ -14,7 +14,7 @@ use board_files::ChainFile;
 use bsdl_parser::Entity;
 use std::alloc::{AllocError, Global};
 
-/// The number of each DEVICE line's entity, or the first fault of the chain.
+/// Returns the number of each DEVICE line's entity, or the first fault of the chain.
 pub fn select(alloc: Global, chain: &ChainFile, entities: &[Entity]) -> Result<Vec<u32>, BoardFault>
     requires { length entities.now < 2 ^ 32 }
     ensures numbers { Gives board_told (λ numbers. numbers.items) (λ said. selection chain.now entities.now ≡ said) result }
@@ -37,7 +37,7 @@ fn entity_numbers(
     numbers_among(alloc, chain, &names)
 }
 
-/// The number of each DEVICE line's entity among these names, or the first fault of the chain.
+/// Returns the number of each DEVICE line's entity among these names, or the first fault of the chain.
 fn numbers_among(
     alloc: Global,
     chain: &ChainFile,
@@ -52,7 +52,7 @@ fn numbers_among(
     answer(alloc, &parts, &devices, &places, entities)
 }
 
-/// The number of each described part's entity, or the first fault.
+/// Returns the number of each described part's entity, or the first fault.
 #[tactic(auto, unfolding(crate::specs::Selection::answer))]
 fn answer(
     alloc: Global,
@@ -71,7 +71,7 @@ fn answer(
     }
 }
 
-/// Where the entity of each described part stands among the texts.
+/// Returns for each described part the place of its entity among the texts' entities.
 fn entity_places(
     alloc: Global,
     devices: &[(u32, &[u8])],
@@ -150,7 +150,7 @@ fn chain_limit(parts: &[(u32, &[u8])]) -> Option<BoardFault>
     }
 }
 
-/// The line on which the name at the place stands. A chain line is named whole, as its word 1.
+/// Returns the line of the name at this place of the list, as word 1: a refusal names a chain line as a whole.
 pub fn spot_at(named: &[(u32, &[u8])], place: usize) -> Option<Spot>
     ensures { result ≡ spot_at (map (λ n. (n.0, n.1.now)) named.now) place }
 {

@@ -10,13 +10,13 @@ use board_files::{NetLine, PinWord, line_names};
 use first_places::once_by;
 use std::alloc::{AllocError, Global};
 
-/// A pin by its part and its name.
+/// A pin: the name of its part, and its own name.
 pub type PinName<'a> = (&'a [u8], &'a [u8]);
 
-/// A pin in the net of a number, and where the word stands that says so.
+/// The number of a net and a pin in it, and the place of the word that says so.
 pub type NetWord<'a> = ((u32, PinName<'a>), Spot);
 
-/// The nets of a net file by their names.
+/// The names of the nets in a net file.
 #[derive(Drop)]
 pub struct NetNames<'a> {
     /// The names in the order of their first lines. A net's number is its place here.
@@ -25,7 +25,7 @@ pub struct NetNames<'a> {
     pub numbers: Vec<u32>,
 }
 
-/// The nets that the lines name, and which of them each line names.
+/// Returns the names of the nets, and the number of each line's net.
 pub fn net_names<'a>(alloc: Global, lines: &'a [NetLine]) -> Result<NetNames<'a>, AllocError>
     requires { length lines.now < 2 ^ 32 }
     ensures names { IfOk result (λ net. map (λ n. n.now) net.names.items ≡ net_names lines.now) }
@@ -49,7 +49,7 @@ fn number_at(numbers: &[u32], place: usize) -> u32
     }
 }
 
-/// Adds the words of a line. Its first pin is word 3.
+/// Adds the words of a line. The first pin of a line is its word 3.
 fn push_line<'a>(
     words: &mut Vec<NetWord<'a>>,
     net: u32,
@@ -71,7 +71,7 @@ fn push_line<'a>(
     Ok(())
 }
 
-/// The pins of all lines.
+/// Returns the words that name pins, of all lines. `numbers` has the number of each line's net.
 pub fn net_words<'a>(
     alloc: Global,
     numbers: &[u32],
@@ -90,7 +90,7 @@ pub fn net_words<'a>(
     Ok(words)
 }
 
-/// The words without those that repeat a pin in the same net.
+/// Returns the words without those that repeat a pin of the same net.
 pub fn once_words<'a>(alloc: Global, words: &[NetWord<'a>]) -> Result<Vec<NetWord<'a>>, AllocError>
     ensures { IfOk result (λ kept. map lent_word kept.items ≡ once same_place (map lent_word words.now)) }
 {
