@@ -1,4 +1,4 @@
--- What is known where a rule finds no fault.
+-- What holds if a rule finds no fault.
 use Rattle.std.proofs.Common.{◌≡◌, ◌≢◌, ℕ, ◌+◌, ◌<◌, ◌≤◌, ◌==◌, Bool, true, false, cond, List, [], ◌∷◌, length, get_or, Option, Some, None, refl, sym, ap, subst, ◌∙◌, ◌⊎◌, inl, inr}
 use Rattle.std.specs.Prelude.{slice_get, find, sum_by, is_some, position, option_map, option_and_then}
 use Rattle.std.specs.List.{AllByRecursion, position_from}

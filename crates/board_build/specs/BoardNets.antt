@@ -28,7 +28,7 @@ marks_of lines parts = record {
   pulls = pulls_of lines;
 }
 
--- a pin of a net: its place, where its part is described, and whether an INERT line names its part
+-- a pin of a net: its place if its part is described, and whether an INERT line names its part
 abbrev pub net_pin : Marks → Pin → NetPin
 net_pin marks pin = record {
   part = pin.0;
@@ -37,7 +37,7 @@ net_pin marks pin = record {
   inert = is_among marks.inerts pin.0;
 }
 
--- the net of this number and name
+-- net n, which has this name
 abbrev pub board_net : Marks → List NetWord → ℕ → List ℕ → Net
 board_net marks words n name = record {
   name = name;
@@ -46,7 +46,7 @@ board_net marks words n name = record {
   pins = map (net_pin marks) (pins_of_net words n);
 }
 
--- the nets from number n on
+-- the nets of these names, which are numbered from n
 abbrev pub nets_from : Marks → List NetWord → ℕ → List (List ℕ) → List Net
 nets_from marks words n [] = []
 nets_from marks words n (name ∷ names) = board_net marks words n name ∷ nets_from marks words (n + 1) names
@@ -58,6 +58,6 @@ board_nets marks words names = nets_from marks words 0 names
 abbrev pub board_with : List ChainLine → List NetLine → List Part → RawBoard
 board_with chain nets parts = record { chain = parts; nets = board_nets (marks_of chain parts) (standing_words nets) (net_names nets) }
 
--- the board that the files and the devices denote, if they keep the rules
+-- the board that the files and the devices denote if they keep the rules
 abbrev pub raw_board : List ChainLine → List NetLine → List RawDevice → RawBoard
 raw_board chain nets devices = board_with chain nets (chain_parts chain devices)

@@ -1,4 +1,4 @@
--- The rules that a board's files keep, and the order in which they are tried.
+-- The rules on a board's files, in the order in which they are tried.
 use Rattle.std.specs.Prelude.{ℕ, ◌==◌, Bool, false, ◌&&◌, ◌||◌, List, filter, find, length, nat_lt, slice_get, sum_by, Option, Some, None, Result, option_map, is_none, if◌then◌else◌}
 use Rattle.std.specs.List.{list_any}
 use Rattle.board_defs.specs.Limits.{most_bits, most_nets, most_pins}
@@ -19,27 +19,27 @@ use Rattle.board_lines.specs.ChainParts.{PinPlace, chain_parts, pin_places, plac
 use Rattle.board_lines.specs.LineRules.{line_fault}
 use Rattle.board_build.specs.BoardNets.{Marks, marks_of, net_pin, board_with}
 
--- at most 65,535 bits in a data scan: the boundary cells of the described parts, and one for each other part
+-- a data scan has more than 65,535 bits: one for each boundary cell of a described part, and one for each other part
 unfoldable pub data_limit : List Part → Option BoardFault
 data_limit parts = if nat_lt most_bits (sum_by (λ part. data_length part.kind) parts) then Some (Limit 2) else None
 
--- at most 16,382 nets
+-- there are more than 16,382 nets
 unfoldable pub net_limit : List (List ℕ) → Option BoardFault
 net_limit names = if nat_lt most_nets (length names) then Some (Limit 3) else None
 
--- at most 65,535 different pins in nets
+-- the nets have more than 65,535 different pins
 unfoldable pub pin_limit : List NetWord → Option BoardFault
 pin_limit words = if nat_lt most_pins (length (once have_same_pin words)) then Some (Limit 4) else None
 
--- the pin's part is described, and the chosen pin map has no such pin
+-- the pin's part is described, and the chosen pin map does not have the pin
 abbrev pub is_unknown : List (List ℕ) → List PinPlace → Pin → Bool
 is_unknown described places pin = is_among described pin.0 && is_none (place_of_pin places pin)
 
--- the first pin of a described part that its pin map has not
+-- the first pin of a described part that is not in the chosen pin map
 unfoldable pub no_pin : List (List ℕ) → List PinPlace → List NetWord → Option BoardFault
 no_pin described places words = option_map (λ word. NoPin (spot_of word)) (find (λ word. is_unknown described places (pin_of word)) words)
 
--- the first pin that stands earlier in another net: each counts once in a net
+-- the first pin that an earlier word names; the words have each pin once in a net, so that word is in another net
 unfoldable pub pin_twice : List NetWord → Option BoardFault
 pin_twice words = option_map (λ word. PinTwice (spot_of word)) (first_repeated have_same_pin words)
 
@@ -48,11 +48,11 @@ abbrev pub drives_always : RawBoard → Marks → Pin → Option Net → Bool
 drives_always board marks pin None = false
 drives_always board marks pin (Some net) = is_always_on (drive board net (net_pin marks pin))
 
--- the words of always-on drivers
+-- the words whose pins are always-on drivers
 abbrev pub always_on : RawBoard → Marks → List NetWord → List NetWord
 always_on board marks words = filter (λ word. drives_always board marks (pin_of word) (slice_get board.nets (net_of word))) words
 
--- a supply net, or one with a TAP or compliance pin
+-- the net is a supply, or has a TAP or compliance pin
 abbrev pub is_kept : RawBoard → Option Net → Bool
 is_kept board None = false
 is_kept board (Some net) = net.supply || list_any (is_test_pin board) net.pins
@@ -65,19 +65,19 @@ guarded_driver board drivers = option_map (λ word. GuardedDriver (spot_of word)
 unfoldable pub two_always_on : List NetWord → Option BoardFault
 two_always_on drivers = option_map (λ word. TwoAlwaysOn (spot_of word)) (first_repeated (λ a b. net_of a == net_of b) drivers)
 
--- the limits
+-- the first limit that is exceeded
 unfoldable pub limit_fault : List Part → List (List ℕ) → List NetWord → Option BoardFault
 limit_fault parts names words = data_limit parts then net_limit names then pin_limit words
 
--- the rules on the pins of the net file
+-- the first fault of the pins of the net file
 unfoldable pub pin_fault : List Part → List NetWord → Option BoardFault
 pin_fault parts words = no_pin (described_names parts) (pin_places parts) words then pin_twice words
 
--- the rules on always-on drivers
+-- the first fault of the always-on drivers
 unfoldable pub driver_fault : RawBoard → List NetWord → Option BoardFault
 driver_fault board drivers = guarded_driver board drivers then two_always_on drivers
 
--- the rules in their order
+-- the first fault, by the rules in their order
 unfoldable pub board_fault : List ChainLine → List NetLine → List Part → Option BoardFault
 board_fault chain nets parts =
     limit_fault parts (net_names nets) (standing_words nets) then pin_fault parts (standing_words nets) then line_fault chain (net_names nets)

@@ -19,11 +19,11 @@ use board_files::{ChainFile, NetFile, NetLine};
 use board_lines::{BoardFault, chain_parts, net_names};
 use std::alloc::{AllocError, Global};
 
-/// The board that the files and the devices denote, with a device for each DEVICE line, in order.
-/// Otherwise the first rule that fails, of these in their order: Limit 2 to 4, NoPin, PinTwice,
-/// InertInChain, NoSupplyNet, NoPullNet, PullTwice, GuardedDriver and TwoAlwaysOn.
+/// Returns the board that the files and the devices denote, or the first rule that fails, in this
+/// order: Limit 2 to 4, NoPin, PinTwice, InertInChain, NoSupplyNet, NoPullNet, PullTwice,
+/// GuardedDriver and TwoAlwaysOn. `devices` has a device for each DEVICE line, in order.
 ///
-/// The chain was selected. LINK lines are not looked at:
+/// `select` must have accepted the chain. LINK lines are ignored:
 /// a board with series parts is built from its joined files.
 pub fn board(
     alloc: Global,
@@ -40,7 +40,7 @@ pub fn board(
     board_of(alloc, SelectedChain::of(lines, parts), nets.lines())
 }
 
-/// The parts of a chain that was selected, in their order, with a device for each DEVICE line, in order.
+/// Returns the parts of a selected chain, in order. `devices` has a device for each DEVICE line, in order.
 pub fn parts_of_chain(
     alloc: Global,
     chain: &ChainFile,
@@ -56,7 +56,7 @@ pub fn parts_of_chain(
     Ok(parts)
 }
 
-/// The board of the chain and these lines, or the first rule that fails.
+/// Returns the board of the chain and these lines, or the first rule that fails.
 fn board_of(alloc: Global, chain: SelectedChain<'_>, nets: &[NetLine]) -> Result<Board, BoardFault>
     requires { IsNetFile nets.now }
     ensures { Gives board_told (λ board. board) (λ said. board_answer chain.entry.lines nets.now chain.entry.parts ≡ said) result }

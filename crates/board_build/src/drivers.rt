@@ -1,4 +1,4 @@
-// The port bits that have an always-on driver, in one table for each part, so that no pin goes through the cells.
+// The port bits that have an always-on driver. Each part has one table of them, so no pin needs a search of the cells.
 ghost use Rattle.std.specs.Prelude.{◌≡◌, ◌∷◌, ℕ, List, length, slice_index_or, false, IfOk};
 ghost use Rattle.board_defs.specs.declared.device.Cell.{Cell};
 ghost use Rattle.board_defs.specs.DeviceRules.{driving_entry};
@@ -9,7 +9,7 @@ use board_defs::{Cell, Device, Part, PartKind, PinAt};
 use std::alloc::{AllocError, Global};
 use std::marker::Model;
 
-/// A driving entry says of its port bit whether the driver is always on.
+/// Sets the flag of a driving entry's port bit to whether the driver is always on.
 fn flag_entry(flags: &mut [bool], cell: Cell)
     ensures { (cells : List Cell) (bits : ℕ) → AreFlags cells bits flags.old → AreFlags (cell ∷ cells) bits flags.new }
 {
@@ -22,8 +22,8 @@ fn flag_entry(flags: &mut [bool], cell: Cell)
     }
 }
 
-/// For each port bit, whether it has an always-on driver. The first driving entry of a bit
-/// counts, so the entries come last to first.
+/// Returns for each port bit whether it has an always-on driver. The first driving entry of a bit
+/// counts, so the loop goes from the last entry to the first.
 fn flags_of(alloc: Global, bits: usize, cells: &[Cell]) -> Result<Vec<bool>, AllocError>
     ensures { IfOk result (λ flags. AreFlags cells.now bits flags.items) }
 {
@@ -50,7 +50,7 @@ fn part_flags(alloc: Global, kind: &PartKind) -> Result<Vec<bool>, AllocError>
     }
 }
 
-/// A part whose always-on drivers are known, seen as the part.
+/// A part with the port bits of its always-on drivers. The model is the part.
 #[derive(Drop)]
 pub struct PartDrivers<'a> {
     part: &'a Part,
@@ -79,7 +79,7 @@ impl<'a> PartDrivers<'a> {
         Ok(PartDrivers { part, always_on })
     }
 
-    /// Whether the port bit has an always-on driver.
+    /// Returns whether the port bit has an always-on driver.
     fn is_free(&self, bit: u32) -> bool
         ensures { result ≡ is_free_bit (described self.now.kind) bit }
     {
@@ -90,7 +90,7 @@ impl<'a> PartDrivers<'a> {
     }
 }
 
-/// The parts, each with its always-on drivers.
+/// Returns the parts, each with the port bits of its always-on drivers.
 pub fn drivers_of<'a>(alloc: Global, parts: &'a [Part]) -> Result<Vec<PartDrivers<'a>>, AllocError>
     ensures { IfOk result (λ drivers. drivers.items ≡ parts.now) }
 {
@@ -101,7 +101,7 @@ pub fn drivers_of<'a>(alloc: Global, parts: &'a [Part]) -> Result<Vec<PartDriver
     Ok(drivers)
 }
 
-/// Whether an always-on driver stands at this place of the chain.
+/// Returns whether an always-on driver is at this place of the chain.
 pub fn is_free_at(parts: &[PartDrivers<'_>], at: Option<PinAt>) -> bool
     ensures { result ≡ is_free_at parts.now at }
 {

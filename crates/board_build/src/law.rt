@@ -1,4 +1,4 @@
-//! Laws of the definitions, each the contract of a function that does nothing.
+//! Laws of the definitions. Each is the contract of a function that does nothing.
 ghost use Rattle.std.specs.Prelude.{◌≡◌, ◌<◌, ℕ, List, length, All};
 ghost use Rattle.std.specs.List.{AllByRecursion};
 ghost use Rattle.board_defs.specs.declared.board.RawBoard.{RawBoard};
@@ -15,12 +15,12 @@ ghost use Rattle.board_lines.specs.ChainParts.{IsChain};
 ghost use Rattle.board_lines.specs.Names.{named};
 ghost use Rattle.board_lines.specs.Selection.{selection};
 
-/// What DEVICE lines select among entities are numbers of these entities.
+/// Each number that DEVICE lines select among entities is the number of one of them.
 pub fn selected_are_entities()
     ensures { (lines : List ChainLine) (entities : List Entity) (numbers : List ℕ) → selection lines entities ≡ Ok numbers → All (λ number. number < length entities) numbers }
 {}
 
-/// A chain of which something was selected has 1 to 255 parts with different names, and an entity was
+/// If the selection succeeds, the chain has 1 to 255 parts with different names, and an entity is
 /// selected for each DEVICE line.
 pub fn selected_are_chains()
     ensures chain { (lines : List ChainLine) (entities : List Entity) (numbers : List ℕ) → selection lines entities ≡ Ok numbers → IsChain lines }

@@ -1,4 +1,4 @@
-// Look-ups of the names that chain lines and parts have.
+// Look-ups by the names of chain lines and parts.
 ghost use Rattle.std.specs.Prelude.{◌≡◌, ◌<◌, ◌^◌, ℕ, List, length, IfOk};
 ghost use Rattle.std.specs.Borrow.{Bor};
 ghost use Rattle.indexmap.specs.IndexMap.{get_by};
@@ -14,7 +14,7 @@ use board_lines::{Naming, described_names, first_places_of, names_in, pulls_by_n
 use indexmap::IndexMap;
 use std::alloc::{AllocError, Global};
 
-/// The places of the names in the lines of one kind.
+/// Returns a map from each name that has the role `naming` on the lines to its first place among these names.
 pub fn names_by_place<'a>(
     alloc: Global,
     lines: &'a [ChainLine],
@@ -27,7 +27,7 @@ pub fn names_by_place<'a>(
     first_places_of(alloc, &names)
 }
 
-/// The places of the names of the described parts.
+/// Returns a map from the name of each described part to its first place among these names.
 pub fn described_by_place<'a>(
     alloc: Global,
     parts: &'a [Part],
@@ -39,7 +39,7 @@ pub fn described_by_place<'a>(
     first_places_of(alloc, &names)
 }
 
-/// The value of the first PULL line of each net.
+/// Returns a map from each net to the value of its first PULL line.
 pub fn pulls_in<'a>(
     alloc: Global,
     lines: &'a [ChainLine],

@@ -1,4 +1,4 @@
-// Net words with what is known of their pins.
+// Net words, each with facts about its pin.
 ghost use Rattle.std.specs.Prelude.{◌≡◌, map, IfOk, OnOk, is_none, is_some, option_copied, slice_get};
 ghost use Rattle.indexmap.specs.IndexMap.{get_by};
 ghost use Rattle.board_files.specs.Names.{same_word};
@@ -16,7 +16,7 @@ use board_lines::{Naming, NetWord, PinPlaces, place_of};
 use indexmap::IndexMap;
 use std::alloc::{AllocError, Global};
 
-/// A word of a net file that names a pin, and what is known of the pin.
+/// A word of a net file that names a pin, with facts about the pin.
 #[derive(Clone, Copy)]
 pub struct MarkedWord<'a> {
     /// The number of the net.
@@ -26,7 +26,7 @@ pub struct MarkedWord<'a> {
     pub spot: Spot,
     /// Whether the pin's part is described.
     pub described: bool,
-    /// Where the pin is in the chain.
+    /// The place of the pin in the chain.
     pub at: Option<PinAt>,
     /// Whether the pin's part is inert.
     pub inert: bool,
@@ -34,7 +34,7 @@ pub struct MarkedWord<'a> {
     pub always_on: bool,
 }
 
-/// Whether the name is one of these.
+/// Returns whether the name is one of these.
 pub fn is_known(names: &IndexMap<&[u8], u32>, name: &[u8]) -> bool
     ensures { result ≡ is_some (get_by (λ n. same_word name.now n.now) names.now) }
 {
@@ -56,7 +56,7 @@ fn mark<'a>(
         part: word.0.1.0,
         pin: word.0.1.1,
         spot: word.1,
-        // A pin that has a place is of a described part, whose name need not be looked up.
+        // A pin with a place belongs to a described part, so the part's name need not be looked up.
         described: at.is_some() || is_known(described, word.0.1.0),
         at,
         inert: is_known(inerts, word.0.1.0),
@@ -115,7 +115,7 @@ fn mark_all<'a>(
     mark_each(alloc, words, &drivers, places, described, inerts)
 }
 
-/// The words, each with what is known of its pin, where the places of the pins are known.
+/// Returns the words, each with the facts about its pin. `places` has the places of the pins.
 fn mark_known<'a>(
     alloc: Global,
     chain: &SelectedChain<'_>,
@@ -132,7 +132,7 @@ fn mark_known<'a>(
     mark_all(alloc, words, parts, places, &described, &inerts)
 }
 
-/// The words, each with what is known of its pin.
+/// Returns the words, each with the facts about its pin.
 pub fn marked_words<'a>(
     alloc: Global,
     chain: &SelectedChain<'_>,

@@ -81,7 +81,7 @@ fn count_pin(counts: &mut [usize], net: usize)
     }
 }
 
-/// How many words each net has. Room is taken by these counts, and nothing else rests on them.
+/// Returns the number of words of each net. These counts decide how much room is reserved, and nothing else.
 fn pin_counts(
     alloc: Global,
     count: usize,
@@ -96,7 +96,7 @@ fn pin_counts(
     Ok(counts)
 }
 
-/// A group without pins for each net, with room for so many.
+/// Returns an empty group for each net, with room for its count of pins.
 fn empty_groups(alloc: Global, counts: &[usize]) -> Result<Vec<Vec<NetPin>>, AllocError>
     ensures count { IfOk result (λ groups. vec_len groups ≡ length counts.now) }
     ensures empty { IfOk result (λ groups. (n : ℕ) → slice_index_or (map (λ g. g.items) groups.items) n [] ≡ []) }
@@ -108,7 +108,7 @@ fn empty_groups(alloc: Global, counts: &[usize]) -> Result<Vec<Vec<NetPin>>, All
     Ok(groups)
 }
 
-/// The pins of each net.
+/// Returns the pins of each net.
 fn groups(
     alloc: Global,
     count: usize,
@@ -149,7 +149,7 @@ fn next_group(groups: &mut IntoIter<Vec<NetPin>>) -> Option<Vec<NetPin>>
     groups.next()
 }
 
-/// Adds the net of the next group.
+/// Adds the net with this name and this group of pins, if there is a group.
 fn push_net(
     alloc: Global,
     nets: &mut Vec<Net>,
@@ -201,8 +201,8 @@ fn nets_by(
     Ok(nets)
 }
 
-/// The nets of these names, each with the pins of its words. What the two maps know is what a list
-/// of supplies and one of pulls know.
+/// Returns the nets of these names, each with the pins of its words. The clause covers every list of supplies
+/// and every list of pulls that agree with the two maps.
 fn nets_of(
     alloc: Global,
     names: &[&[u8]],
@@ -230,7 +230,7 @@ fn board_nets(
     nets_of(alloc, names, words, &supplies, &pulls)
 }
 
-/// The board of the chain's parts and these words.
+/// Returns the board of the chain's parts and these words.
 pub fn board_by(
     alloc: Global,
     chain: SelectedChain<'_>,

@@ -1,4 +1,4 @@
-// The rules that a board's files keep, in their order.
+// The rules on a board's files, in their order.
 ghost use Rattle.std.specs.Prelude.{◌≡◌, ◌<◌, ◌≤◌, ◌^◌, ◌==◌, ◌&&◌, length, vec_len, map, filter, find, nat_lt, sum_by, slice_index_or, IfOk, Option, Some, None, option_map, is_none, true, false, if◌then◌else◌};
 ghost use Rattle.std.specs.List.{list_any};
 ghost use Rattle.board_defs.specs.Limits.{most_parts, most_pins};
@@ -18,7 +18,7 @@ use first_places::{first_repeated, once_by};
 use lists::is_set;
 use std::alloc::{AllocError, Global};
 
-/// The bits of a data scan of the whole chain.
+/// Returns the number of bits of a data scan of the whole chain.
 fn data_bits(parts: &[Part]) -> u64
     requires { length parts.now ≤ most_parts }
     ensures { result ≡ sum_by (λ part. data_length part.kind) parts.now }
@@ -53,7 +53,7 @@ fn net_limit(names: &[&[u8]]) -> Option<BoardFault>
     }
 }
 
-/// The words by their pins.
+/// Returns the pin and the place of each word.
 fn by_pin<'a>(
     alloc: Global,
     words: &[MarkedWord<'a>],
@@ -107,7 +107,7 @@ fn unknown_pin(words: &[MarkedWord<'_>]) -> Option<BoardFault>
 fn marked_limit(alloc: Global, words: &[MarkedWord<'_>]) -> Result<Option<BoardFault>, AllocError>
     ensures { IfOk result (λ fault. fault ≡ marked_limit (map seen words.now)) }
 {
-    // So few words name no more pins than a board may have, and need not be told apart.
+    // So few words cannot name more pins than a board may have, so they need not be compared.
     if words.len() <= MOST_PINS {
         return Ok(None);
     }
@@ -131,7 +131,7 @@ fn marked_twice(alloc: Global, words: &StandingWords<'_>) -> Result<Option<Board
     pin_twice(alloc, &pins)
 }
 
-/// The rules on pins, in their order.
+/// Returns the first fault of the pins, by the rules in their order.
 #[tactic(auto, unfolding(crate::specs::inner::Marked::marked_pins))]
 fn pin_fault(alloc: Global, words: &StandingWords<'_>) -> Result<Option<BoardFault>, AllocError>
     ensures { IfOk result (λ fault. fault ≡ marked_pins words.now) }
@@ -145,7 +145,7 @@ fn pin_fault(alloc: Global, words: &StandingWords<'_>) -> Result<Option<BoardFau
     marked_twice(alloc, words)
 }
 
-/// The rules on the files, in their order.
+/// Returns the first fault that the rules before those on always-on drivers find, in their order.
 #[tactic(auto, unfolding(crate::specs::inner::Marked::file_fault))]
 pub fn file_fault(
     alloc: Global,
@@ -174,7 +174,7 @@ fn any_test_pin(board: &RawBoard, pins: &[NetPin]) -> bool
     pins.iter().any(|pin| board.is_test_pin(pin))
 }
 
-/// Whether no always-on driver may stand on the net.
+/// Returns whether the net must not have an always-on driver.
 fn is_kept(board: &RawBoard, net: &Net) -> bool
     ensures { result ≡ is_kept board.now (Some net.now) }
 {
@@ -265,7 +265,7 @@ fn marked_two(alloc: Global, drivers: &[MarkedWord<'_>]) -> Result<Option<BoardF
     two_always_on(alloc, &nets)
 }
 
-/// The rules on always-on drivers, in their order.
+/// Returns the first fault of the always-on drivers, by the rules in their order.
 #[tactic(auto, unfolding(crate::specs::inner::Marked::marked_drivers))]
 pub fn driver_fault(
     alloc: Global,

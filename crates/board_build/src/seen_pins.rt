@@ -1,4 +1,4 @@
-// Whether the words of a net file name different pins. Most pins have a place in the chain, so a flag for each port bit tells.
+// Whether the words of a net file name different pins. A flag for each port bit decides it for pins with a place in the chain.
 ghost use Rattle.std.specs.Prelude.{◌≡◌, ℕ, true, false, [], replicate, length, map, slice_index_or, None, IfOk, OnOk};
 ghost use Rattle.first_places.specs.Places.{first_repeated};
 ghost use Rattle.board_lines.specs.PinRows.{pins_of};
@@ -13,7 +13,7 @@ use indexmap::IndexSet;
 use std::alloc::{AllocError, Global};
 use std::marker::Model;
 
-/// A flag for each port bit of a part, seen as their list.
+/// A flag for each port bit of a part. The model is the list of the flags.
 #[derive(Drop)]
 struct BitFlags {
     flags: Vec<bool>,
@@ -28,7 +28,7 @@ impl Model for BitFlags {
 }
 
 impl BitFlags {
-    /// So many flags, of which none is set.
+    /// Returns `count` flags, none of them set.
     fn unset(alloc: Global, count: usize) -> Result<BitFlags, AllocError>
         ensures { IfOk result (λ flags. flags ≡ replicate count false) }
     {
@@ -36,7 +36,7 @@ impl BitFlags {
         Ok(BitFlags { flags })
     }
 
-    /// Sets a flag. Told only where there is such a flag and it was not set.
+    /// Sets flag `bit`. Returns true only if the flag exists and was not set before.
     fn set_first(&mut self, bit: usize) -> bool
         ensures free { result ≡ true → slice_index_or self.old bit false ≡ false }
         ensures set { result ≡ true → slice_index_or self.new bit false ≡ true }
@@ -53,7 +53,7 @@ impl BitFlags {
     }
 }
 
-/// The flags of each part.
+/// Returns the flags of each part, none of them set.
 fn unset_rows(alloc: Global, parts: &[Part]) -> Result<Vec<BitFlags>, AllocError>
     ensures { IfOk result (λ rows. rows.items ≡ map (λ part. replicate (length (pins_of part.kind)) false) parts.now) }
 {
@@ -64,7 +64,7 @@ fn unset_rows(alloc: Global, parts: &[Part]) -> Result<Vec<BitFlags>, AllocError
     Ok(rows)
 }
 
-/// Sets the flag of a place. Told only where there is such a flag and it was not set.
+/// Sets the flag of a place. Returns true only if the flag exists and was not set before.
 fn set_first_at(rows: &mut [BitFlags], at: PinAt) -> bool
     ensures free { result ≡ true → is_flagged rows.old at ≡ false }
     ensures set { result ≡ true → is_flagged rows.new at ≡ true }
@@ -77,17 +77,17 @@ fn set_first_at(rows: &mut [BitFlags], at: PinAt) -> bool
     false
 }
 
-/// The pins that words have named so far.
+/// The pins that the words so far name.
 #[derive(Drop)]
 struct SeenPins<'a> {
-    /// For each part, which of its port bits have such a pin.
+    /// For each part, a flag for each port bit whose pin is among them.
     rows: Vec<BitFlags>,
     /// The pins without a place in the chain.
     unplaced: IndexSet<PinName<'a>>,
 }
 
 impl<'a> SeenPins<'a> {
-    /// Adds the pin of a word. Told only of one that was not there.
+    /// Adds the pin of a word. Returns true only if the pin was not there before.
     fn is_new(&mut self, word: &MarkedWord<'a>) -> Result<bool, AllocError>
         ensures fresh { IfOk result (λ new. new ≡ true → is_known_pin self.old.rows.items self.old.unplaced word.now ≡ false) }
         ensures added { IfOk result (λ new. new ≡ true → (m : MarkedWord) → are_one (seen word.now) (seen m) ≡ true → is_known_pin self.new.rows.items self.new.unplaced m ≡ true) }
@@ -100,7 +100,7 @@ impl<'a> SeenPins<'a> {
     }
 }
 
-/// Told only where no two words name one pin.
+/// Returns true only if no two words name the same pin.
 pub fn pins_differ(
     alloc: Global,
     parts: &[Part],

@@ -1,4 +1,4 @@
-// A chain that was selected, with its parts.
+// A selected chain, with its parts.
 ghost use Rattle.std.specs.Prelude.{◌≡◌, ◌≢◌, ◌<◌, ◌≤◌, ◌^◌, All, AllPairs, length, map};
 ghost use Rattle.board_defs.specs.Limits.{most_parts};
 ghost use Rattle.board_defs.specs.BoardRules.{IsPart};
@@ -11,7 +11,7 @@ use board_defs::Part;
 use board_files::ChainLine;
 use std::marker::Model;
 
-/// The lines of a chain that was selected, and its parts.
+/// The lines of a selected chain, and its parts.
 #[derive(Drop)]
 pub struct SelectedChain<'a> {
     lines: &'a [ChainLine],
@@ -29,7 +29,7 @@ impl<'a> Model for SelectedChain<'a> {
 }
 
 impl<'a> SelectedChain<'a> {
-    /// The chain of these lines, and its parts in their order.
+    /// Returns the chain of these lines and these parts, which are in chain order.
     pub fn of(lines: &'a [ChainLine], parts: Vec<Part>) -> SelectedChain<'a>
         requires few { length lines.now < 2 ^ 32 }
         requires selected { IsChain lines.now }
@@ -47,7 +47,7 @@ impl<'a> SelectedChain<'a> {
         self.lines
     }
 
-    /// The parts, at most 255 and with different names.
+    /// Returns the parts. There are at most 255, and their names differ.
     pub fn parts(&self) -> &[Part]
         ensures parts { result.now ≡ self.now.parts }
         ensures few { length result.now ≤ most_parts }

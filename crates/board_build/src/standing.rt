@@ -1,4 +1,4 @@
-// The words of a net file that count, with what is known of their pins.
+// The words of a net file that count, with facts about their pins.
 ghost use Rattle.std.specs.Prelude.{◌≡◌, All, map, true, None, IfOk};
 ghost use Rattle.board_lines.specs.Names.{named, names_of};
 ghost use Rattle.board_lines.specs.declared.names.Naming.TheVariants.{Inert};
@@ -15,11 +15,11 @@ use board_lines::{net_words, once_words};
 use std::alloc::{AllocError, Global};
 use std::marker::Model;
 
-/// The words of a net file that count, in their order.
+/// The words of a net file that count, in order: each pin counts once in a net.
 #[derive(Drop)]
 pub struct StandingWords<'a> {
     words: Vec<MarkedWord<'a>>,
-    /// Told only where no pin stands twice.
+    /// True only if no two words name the same pin.
     differ: bool,
 }
 
@@ -41,7 +41,7 @@ impl<'a> StandingWords<'a> {
         &self.words
     }
 
-    /// Told only where no pin stands twice: then no word need be compared with another.
+    /// Returns true only if no two words name the same pin. Then no words need be compared.
     pub fn differ(&self) -> bool
         ensures { result ≡ true → marked_twice self.now ≡ None }
     {
@@ -49,9 +49,9 @@ impl<'a> StandingWords<'a> {
     }
 }
 
-/// Each word whose pin does not stand earlier in the same net.
+/// Returns each word whose pin no earlier word of the same net names.
 ///
-/// Where no pin stands twice, as on most boards, each word stands, and no word is compared with another.
+/// If no two words name the same pin, as on most boards, every word counts, and no words are compared.
 pub fn standing_words<'a>(
     alloc: Global,
     chain: &SelectedChain<'_>,

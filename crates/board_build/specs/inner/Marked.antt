@@ -1,4 +1,4 @@
--- Net words with what is known of their pins, as the code keeps them.
+-- Net words with the facts about their pins, as the code keeps them.
 use Rattle.std.specs.Prelude.{◌≡◌, ℕ, ◌+◌, ◌<◌, ◌==◌, Bool, false, ◌&&◌, ◌||◌, List, [], ◌∷◌, ◌++◌, length, map, filter, find, nat_lt, slice_get, slice_index_or, slice_set, Option, Some, None, Result, option_and_then, option_map, is_none, is_some, if◌then◌else◌}
 use Rattle.std.proofs.Common.{Bor}
 use Rattle.std.specs.Option.{option_to_list}
@@ -26,17 +26,17 @@ use Rattle.board_build.specs.declared.marked.MarkedWord.{MarkedWord}
 use Rattle.board_lines.specs.NetWords.{Pin, NetWord, same_pin, net_of, pin_of, spot_of, is_among}
 use Rattle.board_lines.specs.ChainParts.{PinPlace, place_of_pin, described_names}
 
--- the driving entry is there and has no control
+-- there is a driving entry, and it has no control
 abbrev pub is_free : Option Cell → Bool
 is_free None = false
 is_free (Some cell) = is_none cell.ctl
 
--- the same of a port bit of a device
+-- this port bit of a device has an always-on driver
 abbrev pub is_free_bit : Option RawDevice → ℕ → Bool
 is_free_bit None bit = false
 is_free_bit (Some device) bit = is_free (driving_entry device bit)
 
--- of so many port bits each flag says whether the driver that these entries give the bit is always on
+-- there are `bits` flags; the flag of a port bit says whether the driver that these entries give the bit is always on
 pub record AreFlags (cells : List Cell) (bits : ℕ) (flags : List Bool) : Type 0 where
   pub size : length flags ≡ bits
   pub each : (bit : ℕ) → bit < bits → slice_index_or flags bit false ≡ is_free (find (drives_bit bit) cells)
@@ -44,12 +44,12 @@ pub record AreFlags (cells : List Cell) (bits : ℕ) (flags : List Bool) : Type 
 abbrev pub device_of : List Part → ℕ → Option RawDevice
 device_of parts n = option_and_then (λ part. described part.kind) (slice_get parts n)
 
--- an always-on driver stands at this place of the chain
+-- an always-on driver is at this place of the chain
 abbrev pub is_free_at : List Part → Option PinAt → Bool
 is_free_at parts None = false
 is_free_at parts (Some at) = is_free_bit (device_of parts at.part) at.bit
 
--- a word, and of its pin: whether its part is described, where it is, whether its part is inert, and whether it is an always-on driver
+-- a word, and facts about its pin: whether its part is described, its place, whether its part is inert, whether it is an always-on driver
 pub record Marked : Type 0 where
   pub word : NetWord
   pub described : Bool
@@ -66,7 +66,7 @@ mark parts places inerts word = record {
   always_on = is_free_at parts (place_of_pin places (pin_of word));
 }
 
--- a marked word as the code has it
+-- a marked word of the code, as the definitions have it
 abbrev pub seen : MarkedWord → Marked
 seen m = record {
   word = ((m.net, (m.part.now, m.pin.now)), m.spot);
@@ -76,7 +76,7 @@ seen m = record {
   always_on = m.always_on;
 }
 
--- the marking of a lent word, by what is asked of its pin: one that has a place is of a described part
+-- the marked word of a borrowed word, by functions that give the facts about its pin; a pin with a place belongs to a described part
 abbrev pub mark_by : List Part → (Bor (List ℕ) → Bool) → (Bor (List ℕ) × Bor (List ℕ) → Option PinAt) → (Bor (List ℕ) → Bool) → (ℕ × (Bor (List ℕ) × Bor (List ℕ))) × Spot → MarkedWord
 mark_by parts described place inert w = record {
   net = w.0.0;
@@ -89,7 +89,7 @@ mark_by parts described place inert w = record {
   always_on = is_free_at parts (place w.0.1);
 }
 
--- a net by its lent name and its pins
+-- a net with this borrowed name and these pins
 abbrev pub net_by : (Bor (List ℕ) → Bool) → (Bor (List ℕ) → Option Bool) → Bor (List ℕ) × List NetPin → Net
 net_by supply pull p = record { name = p.0.now; supply = supply p.0; pull = pull p.0; pins = p.1 }
 
@@ -99,25 +99,25 @@ number_of m = net_of m.word
 abbrev pub place_of : Marked → Spot
 place_of m = spot_of m.word
 
--- the pin of a net
+-- the pin of a marked word
 abbrev pub pin_with : Marked → NetPin
 pin_with m = record { part = (pin_of m.word).0; pin = (pin_of m.word).1; at = m.at; inert = m.inert }
 
--- the pins of the net of this number
+-- the pins of the net with this number
 abbrev pub group_of : List Marked → ℕ → List NetPin
 group_of words n = map pin_with (filter (λ m. number_of m == n) words)
 
--- the groups after a word, if there is one
+-- the groups after this word, if there is one
 abbrev pub groups_after : Option MarkedWord → ℕ → List (List NetPin) → List (List NetPin)
 groups_after None count groups = groups
 groups_after (Some word) count groups = if nat_lt word.net count then slice_set groups word.net (slice_index_or groups word.net [] ++ pin_with (seen word) ∷ []) else groups
 
--- the nets after a name and a group, if there are both
+-- the nets after this name and this group, if there are both
 abbrev pub nets_after : {A G N : Type 0} → (A × G → N) → Option A → Option G → List N → List N
 nets_after f None group nets = nets
 nets_after f (Some name) group nets = nets ++ option_to_list (option_map (λ g. f (name, g)) group)
 
--- the marks after a word, if there is one
+-- the marks after this word, if there is one
 abbrev pub marks_after : {A N : Type 0} → (A → N) → Option A → List N → List N
 marks_after f None marks = marks
 marks_after f (Some word) marks = marks ++ f word ∷ []
@@ -125,7 +125,7 @@ marks_after f (Some word) marks = marks ++ f word ∷ []
 abbrev pub net_with : List (List ℕ) → List Pulled → List Marked → ℕ → List ℕ → Net
 net_with supplies pulls words n name = record { name = name; supply = is_among supplies name; pull = pull_of_net pulls name; pins = group_of words n }
 
--- the nets from number n on
+-- the nets of these names, which are numbered from n
 abbrev pub nets_with : List (List ℕ) → List Pulled → List Marked → ℕ → List (List ℕ) → List Net
 nets_with supplies pulls words n [] = []
 nets_with supplies pulls words n (name ∷ names) = net_with supplies pulls words n name ∷ nets_with supplies pulls words (n + 1) names
@@ -165,7 +165,7 @@ marked_pins words = marked_limit words then marked_unknown words then marked_twi
 unfoldable pub file_fault : List ChainLine → List Part → List (List ℕ) → List Marked → Option BoardFault
 file_fault chain parts names words = data_limit parts then net_limit names then marked_pins words then line_fault chain names
 
--- the words of always-on drivers that stand on a net
+-- the words of always-on drivers whose net has a number below `nets`
 abbrev pub always_on : ℕ → List Marked → List Marked
 always_on nets words = filter (λ m. nat_lt (number_of m) nets && m.always_on) words
 

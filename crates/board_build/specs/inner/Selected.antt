@@ -1,4 +1,4 @@
--- A chain that was selected, with its parts.
+-- A selected chain, with its parts.
 use Rattle.std.specs.Prelude.{◌≡◌, ◌^◌, ◌<◌, List, length, map, All}
 use Rattle.board_defs.specs.declared.board.Part.{Part}
 use Rattle.board_defs.specs.BoardRules.{IsPart}
@@ -11,7 +11,7 @@ pub record ChainWithParts : Type 0 where
   pub lines : List ChainLine
   pub parts : List Part
 
--- the parts have the names that the lines of the chain give them
+-- the lines are those of a selected chain; the parts have the names that the lines give them, and keep the rules of a part
 pub record IsSelected (chain : ChainWithParts) : Type 0 where
   pub few : length chain.lines < 2 ^ 32
   pub selected : IsChain chain.lines
