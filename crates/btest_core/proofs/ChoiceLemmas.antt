@@ -1,4 +1,4 @@
--- The choices that are left.
+-- The choices that a loop has yet to make, and the devices found so far.
 use Rattle.std.proofs.Common.{inl, inr, ◌⊎◌, ◌≡◌, ℕ, ◌+◌, ◌<◌, ◌≤◌, List, [], ◌∷◌, ◌++◌, map, drop, length, zip, slice_index_or, slice_get, option_map, unwrap_or, zero, suc, Some, None, Ok, Err, ap, sym, refl, ◌∙◌, subst, append_assoc, arith, Option, option_copied}
 use Rattle.std.specs.List.{AllByRecursion, filter_map}
 use Rattle.std.proofs.lemmas.Slice.Zip.{length-zip}

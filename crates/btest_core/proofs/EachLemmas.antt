@@ -1,4 +1,4 @@
--- Values of items that are found one after another.
+-- The values of items, found in turn.
 use Rattle.std.proofs.Common.{◌≡◌, List, [], ◌∷◌, ◌++◌, Result, Ok, Err, ap, sym, refl, subst, inl, inr, append_assoc, append-nil}
 use Rattle.btest_core.specs.declared.fault.InputFault.{InputFault}
 use Rattle.btest_core.specs.Answers.{EachOf}

@@ -1,4 +1,4 @@
--- What joined files keep of the files.
+-- What joining keeps of the files.
 use Rattle.std.proofs.Common.{◌≡◌, ℕ, List, [], ◌∷◌, map, Option, Some, None, Ok, refl, ap, subst}
 use Rattle.board_defs.specs.declared.spot.Spot.{Spot}
 use Rattle.board_files.specs.declared.chain_file.ChainLine.{ChainLine}

@@ -1,4 +1,4 @@
--- The texts that are left to read.
+-- The texts that a loop has yet to read, and the entities found so far.
 use Rattle.std.proofs.Common.{◌≡◌, ℕ, ◌+◌, ◌<◌, ◌≤◌, List, [], ◌∷◌, map, drop, length, slice_index_or, ap, sym, ◌∙◌, subst, Vec, Global}
 use Rattle.std.specs.List.{enumerate_from}
 use Rattle.std.proofs.lemmas.List.{drop_all, at_drop_more}

@@ -1,23 +1,23 @@
--- Answers that are found step by step, the first fault of which counts.
+-- Answers that are found step by step. The first fault is the answer.
 use Rattle.std.specs.Prelude.{◌≡◌, ◌⊎◌, List, [], ◌∷◌, Option, Some, None, Result, Ok, Err}
 use Rattle.btest_core.specs.declared.fault.InputFault.{InputFault}
 use Rattle.btest_core.specs.declared.fault.InputFault.TheVariants.{Memory}
 
--- the first step gives a value, for which the next gives the answer, or a fault, which is the answer
+-- if the first step gives a value, the answer is that of the next step for this value; if it gives a fault, the answer is this fault
 abbrev pub Follows : {A B : Type 0} → (Result A InputFault → Type 0) → (A → Result B InputFault → Type 0) → Result B InputFault → Type 0
 Follows {A} first next answer =
     ((value : A) × first (Ok value) × next value answer) ⊎ ((fault : InputFault) × first (Err fault) × (answer ≡ Err fault))
 
--- a step of which the answer is this one
+-- the answer of a step is `this`
 abbrev pub Is : {A : Type 0} → Result A InputFault → Result A InputFault → Type 0
 Is this answer = answer ≡ this
 
--- each item gives a value, in order, or the answer is the fault of the first that gives one
+-- each item gives a value, and the answer is these values in order; or the answer is the first item's fault
 abbrev pub EachOf : {A B : Type 0} → (A → Result B InputFault → Type 0) → List A → Result (List B) InputFault → Type 0
 EachOf IsOf [] answer = Is (Ok []) answer
 EachOf IsOf (item ∷ items) answer = Follows (IsOf item) (λ value. Follows (EachOf IsOf items) (λ values. Is (Ok (value ∷ values)))) answer
 
--- what a fault tells
+-- the fault, or nothing if it is a refusal of memory, since no definition speaks of memory
 abbrev pub input_told : InputFault → Option InputFault
 input_told (Memory error) = None
 input_told fault = Some fault

@@ -1,4 +1,4 @@
--- What the texts of a board say.
+-- What the texts of a board denote.
 use Rattle.std.specs.Prelude.{ℕ, ◌≤◌, List, length, map, Result, Ok}
 use Rattle.std.specs.List.{All}
 use Rattle.board_defs.specs.Limits.{most_parts, IsInstructionLength}
@@ -18,15 +18,15 @@ use Rattle.btest_core.specs.Answers.{Follows, Is}
 use Rattle.btest_core.specs.InputFaults.{in_file, in_link, in_board}
 use Rattle.btest_core.specs.DevicesRead.{AreDevices}
 
--- the instruction lengths of the lines of a chain file, in chain order, or the first fault
+-- the instruction lengths of the parts in these lines of a chain file, in chain order, or the first fault
 abbrev pub AreFileLengths : List ChainLine → List (List ℕ) → Result (List ℕ) InputFault → Type 0
 AreFileLengths lines texts = Follows (AreDevices lines texts) (λ devices. Is (Ok (map (λ part. instruction_length part.kind) (chain_parts lines devices))))
 
--- the same of a chain file
+-- the instruction lengths of a chain file, given as a text, or the first fault
 abbrev pub AreChainLengths : List ℕ → List (List ℕ) → Result (List ℕ) InputFault → Type 0
 AreChainLengths chain texts = Follows (Is (in_file Chain (chain_lines chain))) (λ lines. AreFileLengths lines texts)
 
--- the board of these lines and devices, by their joined files, or the first fault
+-- the board of these lines and devices, made from the joined files, or the first fault
 abbrev pub IsJoinedBoard : List ChainLine → List NetLine → List RawDevice → Result RawBoard InputFault → Type 0
 IsJoinedBoard lines nets devices = Follows (Is (in_link (joined_files lines nets))) (λ joined. Is (in_board (board_of joined.chain joined.nets devices)))
 
@@ -39,11 +39,11 @@ abbrev pub IsBoardRead : List ℕ → List ℕ → List (List ℕ) → Result Ra
 IsBoardRead chain nets texts =
     Follows (Is (in_file Chain (chain_lines chain))) (λ lines. Follows (Is (in_file Nets (net_lines nets))) (λ net_lines. IsFilesBoard lines net_lines texts))
 
--- the inputs denote this board
+-- the inputs denote `board`
 abbrev pub Denotes : List ℕ → List ℕ → List (List ℕ) → RawBoard → Type 0
 Denotes chain nets texts board = IsBoardRead chain nets texts (Ok board)
 
--- 1 to 255 instruction lengths of 2 to 255
+-- 1 to 255 instruction lengths of 2 to 255 bits
 pub record AreLengths (lengths : List ℕ) : Type 0 where
   pub some : 1 ≤ length lengths
   pub most : length lengths ≤ most_parts

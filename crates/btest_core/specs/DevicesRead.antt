@@ -14,7 +14,7 @@ use Rattle.btest_core.specs.Answers.{Follows, Is, EachOf}
 use Rattle.btest_core.specs.InputFaults.{in_board}
 use Rattle.btest_core.specs.TextsRead.{IsEntityOf, AreEntities}
 
--- the package of a DEVICE line, where it gives one
+-- the package of a DEVICE line, which gives one or none
 abbrev pub package_in : ChainStatement → Option (Option (List ℕ))
 package_in (DeviceLine part entity given) = Some given
 package_in (Bypass part bits) = None
@@ -23,15 +23,15 @@ package_in (Supply net) = None
 package_in (Pull net value) = None
 package_in (LinkLine part first second) = None
 
--- the number of a device's text, and the package, where one is given
+-- the number of a device's text, and the package if the line gives one
 abbrev pub Chosen : Type 0
 Chosen = ℕ × Option (List ℕ)
 
--- what the DEVICE lines choose, in their order, where their texts have these numbers
+-- what the DEVICE lines choose, in order; `numbers` has the number of each line's text
 abbrev pub chosen : List ChainLine → List ℕ → List Chosen
 chosen lines numbers = zip numbers (filter_map (λ line. package_in line.statement) lines)
 
--- what the entity of the text with this number is in a package: its sound device, or the first rule or string that fails
+-- what an entity is in a package: its device, if that keeps every rule, or the first rule or string that fails, with the text's number
 abbrev pub IsDeviceIn : Entity → Chosen → Result RawDevice InputFault → Type 0
 IsDeviceIn entity choice (Ok device) = IsSound entity choice.1 device
 IsDeviceIn entity choice (Err (Device text fault)) = (text ≡ choice.0) × IsFirst entity choice.1 fault
@@ -44,18 +44,18 @@ IsDeviceIn entity choice (Err (Link fault)) = ⊥
 IsDeviceIn entity choice (Err (NoIdent line)) = ⊥
 IsDeviceIn entity choice (Err (Memory error)) = ⊥
 
--- the same for a choice among entities
+-- the same for the entity whose number the choice gives
 abbrev pub IsDeviceOf : List Entity → Chosen → Result RawDevice InputFault → Type 0
 IsDeviceOf entities choice answer = (entity : Entity) × (slice_get entities choice.0 ≡ Some entity) × IsDeviceIn entity choice answer
 
--- the devices of the DEVICE lines in their order: the lines select among the entities, and each chosen entity is a sound device
+-- the devices of the DEVICE lines, in order, or the first fault; the lines select among the entities, and each choice must be sound
 abbrev pub AreSelected : List ChainLine → List Entity → Result (List RawDevice) InputFault → Type 0
 AreSelected lines entities = Follows (Is (in_board (selection lines entities))) (λ numbers. EachOf (IsDeviceOf entities) (chosen lines numbers))
 
--- the same, where each text describes an entity
+-- the same, for the entities that the texts describe
 abbrev pub AreDevices : List ChainLine → List (List ℕ) → Result (List RawDevice) InputFault → Type 0
 AreDevices lines texts = Follows (AreEntities texts) (AreSelected lines)
 
--- what one text says of a device, in the default package
+-- the device that a text describes in its default package, or the text's first fault
 abbrev pub IsDeviceText : List ℕ → Result RawDevice InputFault → Type 0
 IsDeviceText text = Follows (IsEntityOf text 0) (λ entity. IsDeviceIn entity (0, None))

@@ -24,7 +24,7 @@ use series_parts::law::unlinked_files;
 use series_parts::{Joined, LinkFault, join};
 use std::alloc::Global;
 
-// The net file of a text.
+// Returns the net file that a text contains.
 fn net_file(alloc: Global, text: &[u8]) -> Result<NetFile, InputFault>
     requires { length text.now < 2 ^ 32 }
     ensures { Gives input_told (λ file. file) (Is (in_file Nets (net_lines text.now))) result }
@@ -42,14 +42,14 @@ fn is_link(statement: &ChainStatement) -> bool
     matches!(statement, ChainStatement::Link { .. })
 }
 
-// Whether a LINK line stands in the chain file.
+// Returns whether the chain file has a LINK line.
 fn has_link(chain: &ChainFile) -> bool
     ensures { result ≡ has_link chain.now }
 {
     chain.lines().iter().any(|line| is_link(&line.statement))
 }
 
-// The joined files. The net file is given back before a board is made, since each holds a copy of all names.
+// Returns the joined files. The net file is freed before a board is made, since each holds a copy of all names.
 fn joined_files(alloc: Global, chain: &ChainFile, nets: NetFile) -> Result<Joined, InputFault>
     ensures joined { Gives input_told (λ joined. joined) (Is (in_link (joined_files chain.now nets))) result }
     ensures kept { IfOk result (Kept chain.now nets) }
@@ -61,7 +61,7 @@ fn joined_files(alloc: Global, chain: &ChainFile, nets: NetFile) -> Result<Joine
     }
 }
 
-// The board of joined files.
+// Returns the board of joined files.
 fn board_of(
     alloc: Global,
     chain: &ChainFile,
@@ -79,7 +79,7 @@ fn board_of(
     }
 }
 
-// The board of files without LINK lines and devices. Such files are joined already, and aren't copied.
+// Returns the board of files without LINK lines, and devices. Such files are joined already, so they aren't copied.
 fn unlinked_board(
     alloc: Global,
     chain: &ChainFile,
@@ -95,7 +95,7 @@ fn unlinked_board(
     board_of(alloc, chain, nets, devices)
 }
 
-// The board of files and devices, by their joined files.
+// Returns the board of files and devices. The files are joined first.
 fn joined_board(
     alloc: Global,
     chain: &ChainFile,
@@ -115,7 +115,7 @@ fn joined_board(
     }
 }
 
-// The board of files and BSDL texts.
+// Returns the board of files and BSDL texts.
 fn files_board(
     alloc: Global,
     chain: &ChainFile,
@@ -132,10 +132,10 @@ fn files_board(
     }
 }
 
-/// The board that a chain file, a net file and BSDL texts denote. Otherwise the first fault of, in
-/// this order: the chain file, the net file, the BSDL texts, the board rules that a chain keeps, the
-/// devices of its DEVICE lines, the pins of its LINK lines, and the other board rules, which are
-/// tried on the joined files.
+/// Returns the board that a chain file, a net file and BSDL texts denote, or the first fault of, in this
+/// order: the chain file, the net file, the BSDL texts, the board rules on the chain, the devices of
+/// its DEVICE lines, the pins of its LINK lines, and the other board rules, which are tried on the
+/// joined files.
 pub fn read_board(
     alloc: Global,
     chain: &[u8],

@@ -18,7 +18,7 @@ use board_defs::{Device, Part, PartKind};
 use board_files::{ChainFile, LineFault, chain};
 use std::alloc::{AllocError, Global};
 
-/// The chain file of a text.
+/// Returns the chain file that a text contains.
 pub(crate) fn chain_file(alloc: Global, text: &[u8]) -> Result<ChainFile, InputFault>
     requires { length text.now < 2 ^ 32 }
     ensures { Gives input_told (λ file. file) (Is (in_file Chain (chain_lines text.now))) result }
@@ -30,7 +30,7 @@ pub(crate) fn chain_file(alloc: Global, text: &[u8]) -> Result<ChainFile, InputF
     }
 }
 
-// How many bits the instruction register of a part has.
+// Returns the number of bits in a part's instruction register.
 fn instruction_length(part: &Part) -> u32
     ensures { result ≡ instruction_length part.now.kind }
 {
@@ -40,7 +40,7 @@ fn instruction_length(part: &Part) -> u32
     }
 }
 
-// The instruction lengths of these parts.
+// Returns the instruction lengths of these parts.
 fn instruction_lengths(alloc: Global, parts: &[Part]) -> Result<Vec<u32>, AllocError>
     ensures { IfOk result (λ lengths. lengths.items ≡ map (λ part. instruction_length part.kind) parts.now) }
 {
@@ -51,7 +51,7 @@ fn instruction_lengths(alloc: Global, parts: &[Part]) -> Result<Vec<u32>, AllocE
     Ok(lengths)
 }
 
-// The instruction lengths of the parts of a chain.
+// Returns the instruction lengths of the parts of a chain.
 fn lengths_of(alloc: Global, file: &ChainFile, devices: Vec<Device>) -> Result<Vec<u32>, AllocError>
     requires chain { IsChain file.now }
     requires devices { vec_len devices ≡ length (named EntityName file.now) }
@@ -63,7 +63,7 @@ fn lengths_of(alloc: Global, file: &ChainFile, devices: Vec<Device>) -> Result<V
     Ok(lengths)
 }
 
-// The instruction lengths of a chain file.
+// Returns the instruction lengths of a chain file, or the first fault of the BSDL texts, the chain and its devices.
 fn file_lengths(alloc: Global, file: &ChainFile, bsdl: &[Vec<u8>]) -> Result<Vec<u32>, InputFault>
     requires each { All (λ text. length text.items < 2 ^ 32) bsdl.now }
     requires count { length bsdl.now < 2 ^ 32 }
@@ -79,9 +79,9 @@ fn file_lengths(alloc: Global, file: &ChainFile, bsdl: &[Vec<u8>]) -> Result<Vec
     }
 }
 
-/// The instruction lengths of a chain, in bits, in the order from TDI to TDO: 1 to 255 lengths of 2
-/// to 255. Otherwise the first fault of the chain file, of the BSDL texts, of the board rules that a
-/// chain keeps, or of the devices of its DEVICE lines.
+/// Returns the instruction lengths of a chain, in bits, in the order from TDI to TDO: 1 to 255 lengths
+/// of 2 to 255 bits. Otherwise returns the first fault of, in this order: the chain file, the BSDL
+/// texts, the board rules on the chain, and the devices of its DEVICE lines.
 pub fn read_chain(alloc: Global, chain: &[u8], bsdl: &[Vec<u8>]) -> Result<Vec<u32>, InputFault>
     requires size { length chain.now < 2 ^ 32 }
     requires each { All (λ text. length text.items < 2 ^ 32) bsdl.now }

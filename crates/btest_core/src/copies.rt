@@ -1,4 +1,4 @@
-// Copies of devices, so that the entity and the package of several parts are judged once.
+// Copies of devices. Parts with the same entity and package share one check of it.
 ghost use Rattle.std.specs.Prelude.{◌≡◌, IfOk};
 
 use board_defs::{Code, Device, Items, Name, PortBit, RawDevice};
@@ -85,7 +85,7 @@ fn raw_copy(alloc: Global, raw: &RawDevice) -> Result<RawDevice, AllocError>
     })
 }
 
-/// A device with the record of another one.
+/// Returns a copy of a device.
 pub fn device_copy(alloc: Global, device: &Device) -> Result<Device, AllocError>
     ensures { IfOk result (λ copy. copy ≡ device.now) }
 {

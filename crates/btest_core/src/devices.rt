@@ -22,8 +22,8 @@ use bsdl_parser::Entity;
 use device_check::{DeviceFault, device};
 use std::alloc::{AllocError, Global};
 
-/// The device that a BSDL text describes in its default package, or the text's first fault, which
-/// gives the text the number 0.
+/// Returns the device that a BSDL text describes in its default package, or the text's first fault, in
+/// which the text has the number 0.
 pub fn read_device(alloc: Global, bytes: &[u8]) -> Result<Device, InputFault>
     requires { length bytes.now < 2 ^ 32 }
     ensures { Gives input_told (λ device. device) (IsDeviceText bytes.now) result }
@@ -34,7 +34,7 @@ pub fn read_device(alloc: Global, bytes: &[u8]) -> Result<Device, InputFault>
     }
 }
 
-// The device of an entity in a package.
+// Returns the device of an entity in a package, or the first rule or string that fails.
 fn device_in(
     alloc: Global,
     entity: &Entity,
@@ -51,7 +51,7 @@ fn device_in(
     }
 }
 
-// The device of one of the entities in a package.
+// Returns the device of the entity with number `text` in a package, or the first rule or string that fails.
 fn device_of(
     alloc: Global,
     entities: &[Entity],
@@ -75,7 +75,7 @@ fn is_same_package(a: Option<&[u8]>, b: Option<&[u8]>) -> bool
     }
 }
 
-// The place of the first of these choices that is the one at place `i`, where that is an earlier place.
+// Returns the first earlier place that has the same choice as place `i`, if there is one.
 fn earlier(chosen: &[(u32, Option<&[u8]>)], i: usize) -> Option<usize>
     requires { i < length chosen.now }
     ensures before { IfSome result (λ j. j < i) }
@@ -89,8 +89,8 @@ fn earlier(chosen: &[(u32, Option<&[u8]>)], i: usize) -> Option<usize>
     None
 }
 
-// The device of the choice at place `i`, given the devices of the choices before it: a copy of one of these, where the choice is the
-// same.
+// Returns the device of the choice at place `i`. `devices` has the devices of the choices before it. If one of them is the same choice,
+// its device is copied.
 fn next_device(
     alloc: Global,
     entities: &[Entity],
@@ -111,7 +111,7 @@ fn next_device(
     }
 }
 
-// The devices that are chosen among the entities.
+// Returns the device of each choice among the entities, or the first fault.
 fn chosen_devices(
     alloc: Global,
     entities: &[Entity],
@@ -133,7 +133,7 @@ fn chosen_devices(
     Ok(devices)
 }
 
-// The package of a DEVICE line, where it gives one.
+// Returns the package of a DEVICE line, which gives one or none, and `None` for another line.
 fn package_in(statement: &ChainStatement) -> Option<Option<&[u8]>>
     ensures { option_map option_copied result ≡ package_in statement.now }
 {
@@ -143,7 +143,7 @@ fn package_in(statement: &ChainStatement) -> Option<Option<&[u8]>>
     }
 }
 
-// The packages of the DEVICE lines.
+// Returns the packages of the DEVICE lines, in order.
 fn packages<'a>(alloc: Global, lines: &'a [ChainLine]) -> Result<Vec<Option<&'a [u8]>>, AllocError>
     ensures { IfOk result (λ list. map option_copied list.items ≡ filter_map (λ line. package_in line.statement) lines.now) }
 {
@@ -156,7 +156,7 @@ fn packages<'a>(alloc: Global, lines: &'a [ChainLine]) -> Result<Vec<Option<&'a 
     Ok(list)
 }
 
-// What the DEVICE lines choose among texts, in their order.
+// Returns what the DEVICE lines choose, in order: the number of a text, and a package or none.
 fn chosen<'a>(
     alloc: Global,
     lines: &'a [ChainLine],
@@ -184,7 +184,7 @@ fn zipped<'a>(
     Ok(list)
 }
 
-// The numbers of the texts that the DEVICE lines select, in their order.
+// Returns the numbers of the texts that the DEVICE lines select, in order.
 fn numbers(alloc: Global, file: &ChainFile, entities: &[Entity]) -> Result<Vec<u32>, InputFault>
     requires { length entities.now < 2 ^ 32 }
     ensures numbers { Gives input_told (λ numbers. numbers.items) (Is (in_board (selection file.now entities.now))) result }
@@ -199,7 +199,7 @@ fn numbers(alloc: Global, file: &ChainFile, entities: &[Entity]) -> Result<Vec<u
     }
 }
 
-// The devices that the DEVICE lines choose by these numbers of texts, in their order.
+// Returns the devices of the DEVICE lines, in order. `numbers` has the number of each line's text.
 fn devices_by(
     alloc: Global,
     lines: &[ChainLine],
@@ -215,7 +215,7 @@ fn devices_by(
     chosen_devices(alloc, entities, &chosen)
 }
 
-// The devices that the DEVICE lines select among the entities, in their order.
+// Returns the devices that the DEVICE lines select among the entities, in order.
 fn selected_devices(
     alloc: Global,
     file: &ChainFile,
@@ -233,8 +233,8 @@ fn selected_devices(
     }
 }
 
-/// The devices of the DEVICE lines of a chain, in their order, or the first fault of the texts, of the
-/// rules that the chain's lines keep, and of the devices.
+/// Returns the devices of the DEVICE lines of a chain, in order, or the first fault of, in this order: the texts,
+/// the board rules on the chain, and the devices.
 pub(crate) fn devices(
     alloc: Global,
     file: &ChainFile,

@@ -11,7 +11,7 @@ use series_parts::LinkFault;
 use std::alloc::{AllocError, AllocFailed};
 use thiserror::Error;
 
-/// The first fault of the texts, or want of memory. A fault of memory of any kind is `Memory`.
+/// The first fault of the texts, or a refusal of memory. A refusal of memory of any kind is `Memory`.
 #[derive(Debug, Drop, Error)]
 pub enum InputFault {
     /// The chain file's first faulty line.
@@ -32,10 +32,10 @@ pub enum InputFault {
     /// The first rule or string of a device that fails, with the number of its text.
     #[error("text {text}: {fault}")]
     Device { text: u32, fault: DeviceFault },
-    /// The first pin of a LINK line that stands in no net.
+    /// The first pin of a LINK line that is in no net.
     #[error("chain file: {0}")]
     Link(LinkFault),
-    /// The line of the chain file's first part without a description: what such a part selects after a
+    /// The line of the chain file's first part without a description. What such a part selects after a
     /// reset isn't known.
     #[error("chain file: line {0}: part without a description")]
     NoIdent(u32),

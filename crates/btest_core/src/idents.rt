@@ -15,7 +15,7 @@ use board_defs::{Code, Device};
 use board_files::{ChainFile, ChainLine, ChainStatement};
 use std::alloc::{AllocError, Global};
 
-// The pattern of a device's identification code, where it has one.
+// Returns the pattern of a device's identification code, if the device has one.
 fn ident_of(alloc: Global, device: &Device) -> Result<Option<Code>, AllocError>
     ensures ident { IfOk result (λ ident. ident ≡ device.now.idcode) }
     ensures symbols { IfOk result (λ ident. IfSome ident (λ code. length code ≡ 32)) }
@@ -26,7 +26,7 @@ fn ident_of(alloc: Global, device: &Device) -> Result<Option<Code>, AllocError>
     }
 }
 
-// The patterns of these devices.
+// Returns the patterns of these devices.
 fn idents_of(alloc: Global, devices: &[Device]) -> Result<Vec<Option<Code>>, AllocError>
     ensures idents { IfOk result (λ idents. idents.items ≡ map (λ device. device.idcode) devices.now) }
     ensures symbols { IfOk result (λ idents. All (λ ident. IfSome ident (λ code. length code ≡ 32)) idents.items) }
@@ -38,14 +38,14 @@ fn idents_of(alloc: Global, devices: &[Device]) -> Result<Vec<Option<Code>>, All
     Ok(idents)
 }
 
-// Whether a line has a part without a description.
+// Returns whether the line is a BYPASS line, whose part has no description.
 fn is_bypass(statement: &ChainStatement) -> bool
     ensures { result ≡ is_bypass statement.now }
 {
     matches!(statement, ChainStatement::Bypass { .. })
 }
 
-// The number of the first line with a part without a description.
+// Returns the line number of the first part without a description.
 fn first_bypass(lines: &[ChainLine]) -> Option<u32>
     ensures { result ≡ first_bypass lines.now }
 {
@@ -57,7 +57,7 @@ fn first_bypass(lines: &[ChainLine]) -> Option<u32>
     None
 }
 
-// The patterns of the devices of a chain, unless one of its parts has no description.
+// Returns the patterns of the devices of a chain, or the fault of its first part without a description.
 fn idents_unless_bypass(
     alloc: Global,
     file: &ChainFile,
@@ -75,7 +75,7 @@ fn idents_unless_bypass(
     }
 }
 
-// The patterns of a chain file.
+// Returns the patterns of a chain file, or its first fault.
 fn file_idents(
     alloc: Global,
     file: &ChainFile,
@@ -93,11 +93,11 @@ fn file_idents(
     }
 }
 
-/// The patterns of the identification codes of a chain's parts, in the order from TDI to TDO: 1 to
-/// 255 entries, `None` for a device without such a code, else 32 symbols. Otherwise the first fault
-/// of the chain file, of the BSDL texts, of the board rules that a chain keeps, or of the devices of
-/// its DEVICE lines, and after all these `NoIdent` with the line of the first BYPASS line, since what
-/// such a part selects after a reset isn't known.
+/// Returns the patterns of the identification codes of a chain's parts, in the order from TDI to TDO: 1 to
+/// 255 entries, each `None` for a device without such a code, or 32 symbols. Otherwise returns the
+/// first fault of, in this order: the chain file, the BSDL texts, the board rules on the chain, and
+/// the devices of its DEVICE lines. After these the fault is `NoIdent` with the line of the first
+/// BYPASS line, since what such a part selects after a reset isn't known.
 pub fn read_idents(
     alloc: Global,
     chain: &[u8],

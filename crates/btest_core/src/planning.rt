@@ -14,8 +14,8 @@ use scan_planner::Plan;
 use scan_planner::law::useful_planned;
 use std::alloc::{AllocError, Global};
 
-/// The plan of the test that the board's passes make. The classes are those of the board. It is `plan_by` with the pins of the board's
-/// nets made here, for callers that have none.
+/// Returns the plan of the test that the board's passes make. The classes are those of the board. It calls `plan_by`
+/// with the pins of the board's nets, for callers that have not made them.
 pub fn plan(alloc: Global, board: &Board, classes: &Classes) -> Result<Plan, AllocError>
     requires { AreClasses board.now classes.now }
     ensures plan { IfOk result (λ plan. IsPlanOf board.now plan) }
@@ -25,7 +25,7 @@ pub fn plan(alloc: Global, board: &Board, classes: &Classes) -> Result<Plan, All
     plan_by(alloc, board, pins, classes)
 }
 
-/// The same, by the pins of the board's nets, which the plan takes over.
+/// Like `plan`, but takes ownership of `pins`, the pins of the board's nets.
 pub fn plan_by(
     alloc: Global,
     board: &Board,

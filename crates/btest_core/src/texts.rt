@@ -11,8 +11,8 @@ use bsdl_lexer::{LexFault, Token, lex};
 use bsdl_parser::{Entity, ParseFault, parse};
 use std::alloc::Global;
 
-/// The entity that a BSDL text describes, or the text's first fault. `text` is the number that a fault gives
-/// to the text.
+/// Returns the entity that a BSDL text describes, or the text's first fault. `text` is the number of the text
+/// in that fault.
 pub fn read_entity(alloc: Global, bytes: &[u8], text: u32) -> Result<Entity, InputFault>
     requires { length bytes.now < 2 ^ 32 }
     ensures read { Gives input_told (λ entity. entity) (IsEntityOf bytes.now text) result }
@@ -27,7 +27,7 @@ pub fn read_entity(alloc: Global, bytes: &[u8], text: u32) -> Result<Entity, Inp
     }
 }
 
-// The tokens of a BSDL text.
+// Returns the tokens of a BSDL text, or the text's first fault.
 fn tokens_of(alloc: Global, bytes: &[u8], text: u32) -> Result<Vec<Token>, InputFault>
     requires { length bytes.now < 2 ^ 32 }
     ensures tokens { IfOk result (λ tokens. AreTokens bytes.now tokens.items) }
@@ -41,7 +41,7 @@ fn tokens_of(alloc: Global, bytes: &[u8], text: u32) -> Result<Vec<Token>, Input
     }
 }
 
-/// The entities that BSDL texts describe, or the first fault of the first text that has one.
+/// Returns the entities that BSDL texts describe, or the first fault of the first text that has one.
 pub(crate) fn entities(alloc: Global, texts: &[Vec<u8>]) -> Result<Vec<Entity>, InputFault>
     requires each { All (λ text. length text.items < 2 ^ 32) texts.now }
     requires count { length texts.now < 2 ^ 32 }

@@ -1,17 +1,17 @@
--- What the DEVICE lines choose, with their packages in memory, and the devices of some of the choices.
+-- What the DEVICE lines choose, with borrowed packages, and the devices of the first choices.
 use Rattle.std.specs.Prelude.{◌≡◌, ℕ, List, Option, Some, Ok, map, option_copied, slice_get}
 use Rattle.std.specs.Borrow.{Bor}
 use Rattle.board_defs.specs.declared.device.RawDevice.{RawDevice}
 use Rattle.bsdl_parser.specs.declared.entity.Entity.{Entity}
 use Rattle.btest_core.specs.DevicesRead.{Chosen, IsDeviceOf}
 
--- a choice with its package in memory
+-- a choice with a borrowed package
 abbrev pub Lent : Type 0
 Lent = ℕ × Option (Bor (List ℕ))
 
 abbrev pub choices_of : List Lent → List Chosen
 choices_of chosen = map (λ choice. (choice.0, option_copied choice.1)) chosen
 
--- these are the devices of the first choices
+-- each device is that of the choice at its place
 abbrev pub AreOfChoices : List Entity → List Chosen → List RawDevice → Type 0
 AreOfChoices entities choices devices = (i : ℕ) (choice : Chosen) (device : RawDevice) → slice_get choices i ≡ Some choice → slice_get devices i ≡ Some device → IsDeviceOf entities choice (Ok device)

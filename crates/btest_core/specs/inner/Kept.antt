@@ -1,4 +1,4 @@
--- What joined files keep of the files.
+-- What joining keeps of the files.
 use Rattle.std.specs.Prelude.{◌≡◌, List}
 use Rattle.std.specs.List.{AllByRecursion}
 use Rattle.board_files.specs.declared.chain_file.ChainLine.{ChainLine}
@@ -9,7 +9,7 @@ use Rattle.board_lines.specs.Names.{named}
 use Rattle.board_lines.specs.declared.names.Naming.TheVariants.{Entity as EntityName}
 use Rattle.series_parts.specs.declared.joining.Joined.{Joined}
 
--- what the joined files keep
+-- joining keeps these properties of a chain file
 pub record Kept (chain : List ChainLine) (nets : List NetLine) (joined : Joined) : Type 0 where
   pub is_chain : IsChain chain → IsChain joined.chain
   pub lengths : AllByRecursion (λ line. HasLength line.statement) chain → AllByRecursion (λ line. HasLength line.statement) joined.chain
