@@ -1,4 +1,4 @@
--- Which nets differ in a log, and where they stand among the covered nets.
+-- The nets that differ in a log, and their places among the covered nets.
 use Rattle.std.proofs.Common.{◌≡◌, ◌⊎◌, inl, inr, ℕ, zero, suc, ◌+◌, ◌*◌, ◌<◌, ◌==◌, Bool, true, false, cond, not, ◌||◌, List, [], ◌∷◌, ◌++◌, length, map, Option, Some, None, is_some, Decides, refl, sym, ap, ◌∙◌, subst, arith}
 use Rattle.std.specs.Prelude.{slice_get, filter, take, count_by, nat_lt, Contains}
 use Rattle.std.specs.List.{enumerate_from}

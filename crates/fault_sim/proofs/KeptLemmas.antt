@@ -1,4 +1,4 @@
--- What is kept of the passes of a test, and what is found in it.
+-- What is kept of the passes of a test, and what a look-up finds in it.
 use Rattle.std.proofs.Common.{◌≡◌, ℕ, ◌<◌, Bool, true, false, ◌&&◌, cond, List, [], length, get_or, Option, Some, None, refl, subst}
 use Rattle.std.specs.Prelude.{option_map, slice_get}
 use Rattle.std.proofs.lemmas.Bool.{both_ways}

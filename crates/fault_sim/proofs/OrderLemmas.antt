@@ -1,4 +1,4 @@
--- What rising places that leave out nothing give of a list of places.
+-- If places rise and leave out no fault that passes a test, the faults at them that pass it are all that pass it.
 use Rattle.std.proofs.Common.{◌≡◌, ◌⊎◌, inl, inr, ℕ, zero, suc, ◌+◌, ◌-◌, ◌<◌, ◌≤◌, Bool, true, false, cond, List, [], ◌∷◌, ◌++◌, length, Option, Some, None, refl, sym, ap, ◌∙◌, subst, arith, length-append}
 use Rattle.std.specs.Prelude.{slice_get, filter, filter_map, option_and_then}
 use Rattle.std.specs.List.{flat_map, cons_option}

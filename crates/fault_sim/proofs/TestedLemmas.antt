@@ -1,4 +1,4 @@
--- What the passes of a plan test is what some safe setting tests.
+-- The passes of a plan test exactly what some safe setting tests.
 use Rattle.std.proofs.Common.{◌≡◌, ◌≢◌, ◌⊎◌, inl, inr, ℕ, zero, suc, ◌+◌, ◌<◌, ◌≤◌, Bool, true, false, cond, ◌&&◌, List, [], ◌∷◌, ◌++◌, length, map, get_or, set, replicate, Option, Some, None, refl, sym, ap, ◌∙◌, subst, arith, length-append}
 use Rattle.std.specs.Prelude.{slice_get, sum_by, filter, fold, nat_lt}
 use Rattle.std.specs.List.{list_all, list_any, flat_map, enumerate_from, range_with_len}

@@ -1,4 +1,4 @@
--- The bits of words that are made of others, and of what two shorted nets get.
+-- The bits of combined words, and of what two shorted nets get.
 use Rattle.std.proofs.Common.{◌≡◌, ℕ, zero, suc, ◌-◌, ◌<◌, ◌^◌, ◌==◌, Bool, true, false, cond, not, ◌&&◌, ◌||◌, Some, None, refl, ap, ◌∙◌, arith, min, max, w32}
 use Rattle.std.specs.Prelude.{bit_and, bit_or}
 use Rattle.std.specs.Int.{bit_at}

@@ -1,4 +1,4 @@
--- The diagnosis of a log: whether the test passes by it, and which single faults of the board explain it.
+-- The diagnosis of a log: whether the test passes with it, and which single faults of the board explain it.
 use Rattle.std.specs.Prelude.{◌≡◌, ◌⊎◌, Bool, List, [], ◌∷◌, Decides}
 use Rattle.board_defs.specs.declared.board.RawBoard.{RawBoard}
 use Rattle.board_defs.specs.declared.fault.Single.{Single}
@@ -11,7 +11,7 @@ abbrev pub Picks : {A : Type 0} → (A → Type 0) → List A → List A → Typ
 Picks P [] picked = picked ≡ []
 Picks {A} P (x ∷ xs) picked = ((rest : List A) × P x × (picked ≡ x ∷ rest) × Picks P xs rest) ⊎ ((P x → ⊥) × Picks P xs picked)
 
--- the test passes exactly where the log is the expected one, and the faults are the single faults of the board that explain it, in order
+-- `pass` says whether the log is the expected one, and the faults are the single faults of the board that explain it, in order
 pub record IsDiagnosis (board : RawBoard) (log : List (List Bool)) (pass : Bool) (faults : List Single) : Type 0 where
   pub passes : Decides pass (IsExpected board (svf_row_scans board) log)
   pub list : Picks (λ single. Explains board single log) (singles board) faults

@@ -1,4 +1,4 @@
--- What a single fault makes of the compared cells of a net in the rows of a pass.
+-- The effect of a single fault on the compared cells of a net in the rows of a pass.
 use Rattle.std.specs.Prelude.{ℕ, ◌==◌, Bool, false, not, cond, ◌||◌, List, [], Option, Some, None, option_map, unwrap_or, slice_get, slice_index_or}
 use Rattle.board_defs.specs.declared.board.Ctl.{Ctl}
 use Rattle.board_defs.specs.declared.board.RawBoard.{RawBoard}
@@ -38,12 +38,12 @@ abbrev pub source_bit : Source → ℕ → Bool
 source_bit (Code code) j = code_bit code j
 source_bit (Fixed bit) j = bit
 
--- the bit, unless it is the one at which the driver is off
+-- the bit, unless the driver is off at it
 abbrev pub unless_off : Option Bool → Bool → Option Bool
 unless_off None bit = Some bit
 unless_off (Some off) bit = cond (is_same bit off) None (Some bit)
 
--- the bit that a net is driven to in row j, where it is
+-- the bit that a net is driven to in row j, if it is driven
 abbrev pub feed_bit : Option Feed → ℕ → Option Bool
 feed_bit None j = None
 feed_bit (Some feed) j = unless_off feed.off (source_bit feed.source j)
@@ -64,7 +64,7 @@ readers_in plan n = slice_index_or plan.readers n []
 abbrev pub code_in : PlanTables → ℕ → ℕ
 code_in plan n = slice_index_or plan.codes n 0
 
--- the driver of a net that a pass enables
+-- the driver that a pass enables on a net
 abbrev pub driver_in : PlanTables → List Ctl → ℕ → Option NetDriver
 driver_in plan pass n = enabled_in (holds pass) (drivers_in plan n)
 
@@ -72,19 +72,19 @@ driver_in plan pass n = enabled_in (holds pass) (drivers_in plan n)
 abbrev pub place_of_driver : Option NetDriver → Option ℕ
 place_of_driver driver = option_map (λ d. d.place) driver
 
--- the bit of a cell that carries no net's bit: that of the quiet row, and the other one where the pass holds the cell as a control
+-- the bit of a cell that carries no net's bit: that of the quiet row, inverted if the pass holds the cell as a control
 abbrev pub steady_in : PlanTables → List Ctl → NetDriver → Bool
 steady_in plan pass d = cond (holds pass d.own) (not (slice_index_or plan.quiet.bits d.position false)) (slice_index_or plan.quiet.bits d.position false)
 
--- the bits of the cell of an enabled driver: those of the net's code where another pin of the net is read, and so the pass observes the net
+-- the bits of an enabled driver's cell: those of the net's code if a cell reads another pin of the net, as then the pass observes the net
 abbrev pub source_in : PlanTables → List Ctl → ℕ → NetDriver → Source
 source_in plan pass n d = cond (is_read_beside (readers_in plan n) d) (Code (code_in plan n)) (Fixed (steady_in plan pass d))
 
--- what an enabled driver gives its net: a driver that its own cell controls is off at the net's pull
+-- what an enabled driver gives its net; a driver that its own cell controls is off at the net's pull
 abbrev pub feed_by : PlanTables → List Ctl → ℕ → Option Bool → NetDriver → Feed
 feed_by plan pass n pull d = record { source = source_in plan pass n d; off = cond (is_own d.own d.ctl) pull None }
 
--- how a pass drives a net
+-- what a pass drives a net with this pull to
 abbrev pub feed_in : PlanTables → List Ctl → ℕ → Option Bool → Option Feed
 feed_in plan pass n pull = option_map (feed_by plan pass n pull) (driver_in plan pass n)
 
@@ -92,24 +92,24 @@ feed_in plan pass n pull = option_map (feed_by plan pass n pull) (driver_in plan
 abbrev pub pull_in : RawBoard → ℕ → Option Bool
 pull_in board n = pulled_to (slice_get board.nets n)
 
--- how a pass drives a net of the board
+-- what a pass drives a net of the board to
 abbrev pub net_feed : RawBoard → PlanTables → List Ctl → ℕ → Option Feed
 net_feed board plan pass n = feed_in plan pass n (pull_in board n)
 
--- what the net gets from a pass of the board: what drives it and what it is pulled to
+-- what a net gets in a pass of the board: what drives it, and its pull
 abbrev pub fed_net : RawBoard → PlanTables → List Ctl → ℕ → FedNet
 fed_net board plan pass n = record { feed = net_feed board plan pass n; pull = pull_in board n }
 
--- the effect on the net of an open pin: on all its cells where the pin is that of the enabled driver, else on those of the pin
+-- the effect of an open pin on its net: it is on all cells if the pin is the enabled driver's, and else on the cells of the pin
 abbrev pub open_effect : Option ℕ → ℕ → Bool → Option Bool → Effect
 open_effect None place value pull = AtPin place value
 open_effect (Some driver) place value pull = cond (driver == place) (Constant (unwrap_or pull value)) (AtPin place value)
 
--- the effect on two shorted nets of what both get
+-- the effect of a short, from what both nets get
 abbrev pub shorted_effect : Kind → FedNet → FedNet → Effect
 shorted_effect kind first second = Shorted kind first.feed second.feed (shorted kind first.pull second.pull)
 
--- the effect on the nets of a short
+-- the effect of a short on its nets
 abbrev pub effect_of_short : RawBoard → PlanTables → List Ctl → ℕ → ℕ → Kind → Effect
 effect_of_short board plan pass a b kind = shorted_effect kind (fed_net board plan pass a) (fed_net board plan pass b)
 
@@ -119,12 +119,12 @@ effect_of board plan pass (StuckNet net value) n = cond (n == net) (Constant val
 effect_of board plan pass (OpenPin pin value) n = cond (n == pin.net) (open_effect (place_of_driver (driver_in plan pass n)) pin.place value (pull_in board n)) Plain
 effect_of board plan pass (Short a b kind) n = cond ((n == a) || (n == b)) (effect_of_short board plan pass a b kind) Plain
 
--- the same where there is a fault
+-- the same, or no effect if there is no fault
 abbrev pub effect_in : RawBoard → PlanTables → List Ctl → Option Single → ℕ → Effect
 effect_in board plan pass None n = Plain
 effect_in board plan pass (Some single) n = effect_of board plan pass single n
 
--- the bit of a compared cell in row j, at the pin at this place
+-- the bit of the compared cell of the pin at this place in row j
 abbrev pub effect_bit : Effect → ℕ → ℕ → Bool → Bool
 effect_bit Plain j place expected = expected
 effect_bit (Constant bit) j place expected = bit

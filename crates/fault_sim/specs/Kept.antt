@@ -27,14 +27,14 @@ pub record IsRow (board : RawBoard) (plan : PlanTables) (x j : ℕ) (row : Compa
   pub tdo : row.tdo.bits ≡ expected_in board plan x j
   pub mask : row.mask.bits ≡ compared_in board plan x j
 
--- the driver that a pass enables on a net: where its pin stands, the bits of its cell, and whether this cell controls it
+-- the driver that a pass enables on a net: the place of its pin, the bits of its cell, and whether this cell controls it
 abbrev pub enabled_by : PlanTables → List Ctl → ℕ → NetDriver → EnabledDriver
 enabled_by plan pass n d = record { place = d.place; source = source_in plan pass n d; own = is_own d.own d.ctl }
 
 abbrev pub enabled_driver : PlanTables → List Ctl → ℕ → Option EnabledDriver
 enabled_driver plan pass n = option_map (enabled_by plan pass n) (driver_in plan pass n)
 
--- the rows that are kept of pass x are its first rows, and the drivers of a pass those that it enables on the first nets
+-- the kept rows of pass x are its first rows; the kept drivers of a pass are those that it enables on the first nets
 abbrev pub AreRows : RawBoard → PlanTables → ℕ → List ComparedRow → Type 0
 AreRows board plan x rows = (j : ℕ) (row : ComparedRow) → slice_get rows j ≡ Some row → IsRow board plan x j row
 
@@ -54,13 +54,13 @@ pub record IsBoardTest (board : RawBoard) (plan : PlanTables) (kept : List KeptP
   pub rows : KeepRows board plan kept
   pub drivers : KeepDrivers plan kept
 
--- pass x of a plan of the board, its drivers and what is kept of its rows
+-- pass x of a plan of the board, with its drivers and its kept rows
 pub record IsTestPass (board : RawBoard) (plan : PlanTables) (x : ℕ) (drivers : PlanPass) (rows : List ComparedRow) : Type 0 where
   pub within : x < length plan.passes
   pub plan_is : IsPlanOf board plan
   pub drivers_are : drivers ≡ plan_pass plan (slice_index_or plan.passes x [])
   pub rows_are : AreRows board plan x rows
 
--- a log with the rows of a test, each as long as a scan of data
+-- a log with the rows of a test, each as long as a data scan
 abbrev pub IsLogOf : PlannedBoard → List (List Bool) → Type 0
 IsLogOf test log = HasSize (length test.plan.passes * test.plan.width) (data_bits test.board) log

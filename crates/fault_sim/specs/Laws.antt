@@ -14,11 +14,11 @@ use Rattle.fault_sim.specs.Suspects.{AreSuspects}
 abbrev pub PlacesAre : Type 0
 PlacesAre = (board : RawBoard) → filter_map (λ place. place) (places_of board) ≡ singles board
 
--- so many places has a board
+-- a board has this many places
 abbrev pub PlacesCounted : Type 0
 PlacesCounted = (board : RawBoard) (lists : FaultLists) → IsUniverse board lists → length (places_of board) ≡ place_count lists
 
--- the single faults that pass a test which only faults that explain the log pass are those at the suspects' places that pass it
+-- if a test passes only faults that explain the log, the single faults that pass it are those at the suspects' places that pass it
 abbrev pub SuspectsSuffice : Type 0
 SuspectsSuffice =
     (board : RawBoard) (plan : PlanTables) (lists : FaultLists) (log : List (List Bool)) (suspects : List ℕ) → IsBoard board → AreSuspects board plan lists log suspects →
@@ -31,6 +31,6 @@ SuspectsArePlaces =
     (board : RawBoard) (plan : PlanTables) (lists : FaultLists) (log : List (List Bool)) (suspects : List ℕ) → IsUniverse board lists → AreSuspects board plan lists log suspects →
     All (λ i. i < length (places_of board)) suspects
 
--- of two single faults at most one stands before the other, so a list of faults in their order is the only one with these faults
+-- no two single faults each come before the other, so only one list of the same faults is in their order
 abbrev pub OneOrder : Type 0
 OneOrder = (one other : Single) → SinglePrecedes one other → SinglePrecedes other one → ⊥

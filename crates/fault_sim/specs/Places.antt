@@ -1,4 +1,4 @@
--- The places of a board: each has a single fault, or none where two covered nets are not paired.
+-- The places of a board. Each has a single fault, or none if it is one of two covered nets that are not paired.
 use Rattle.std.specs.Prelude.{◌≡◌, ℕ, ◌+◌, ◌*◌, Bool, true, List, [], ◌∷◌, ◌++◌, map, cond, length, slice_get, Option, Some, None, option_and_then}
 use Rattle.std.specs.List.{flat_map}
 use Rattle.board_defs.specs.declared.board.RawBoard.{RawBoard}
@@ -34,11 +34,11 @@ short_places board = flat_map (pair_places board) (pairs_within (covered_nets bo
 abbrev pub places_of : RawBoard → List (Option Single)
 places_of board = stuck_places board ++ (open_places board ++ short_places board)
 
--- the fault at one of some places, where it has one
+-- the fault at one of some places, if there is one
 abbrev pub listed_at : List (Option Single) → ℕ → Option Single
 listed_at places i = option_and_then (λ place. place) (slice_get places i)
 
--- and at a place of a board
+-- the fault at a place of a board, if there is one
 abbrev pub fault_at : RawBoard → ℕ → Option Single
 fault_at board i = listed_at (places_of board) i
 
@@ -47,26 +47,26 @@ pub record IsUniverse (board : RawBoard) (lists : FaultLists) : Type 0 where
   pub nets : lists.nets ≡ map (λ net. net.0) (covered_nets board)
   pub pins : lists.pins ≡ tested_pins board
 
--- the places of two nets by their numbers, by what the passes of a plan observe
+-- the places of two nets, by what the passes of a plan observe
 abbrev pub number_places : PlanTables → ℕ × ℕ → List (Option Single)
 number_places plan pair = cond (paired_in plan pair.0 pair.1) (placed (short_faults pair.0 pair.1)) (None ∷ None ∷ None ∷ None ∷ [])
 
--- the places by the lists of covered nets and tested pins
+-- the places that the lists of covered nets and tested pins give
 abbrev pub listed_places : PlanTables → FaultLists → List (Option Single)
 listed_places plan lists =
     placed (flat_map stuck_faults lists.nets) ++ (placed (flat_map open_faults lists.pins) ++ flat_map (number_places plan) (pairs_within lists.nets))
 
--- some pass observes all nets of a fault that is at a place: both of a short; the net of a stuck net or of an open pin always is
+-- some pass observes all nets of a fault at a place: both of a short; the one net of another fault at a place is always observed
 abbrev pub observes_fault : PlanTables → Single → Bool
 observes_fault plan (StuckNet net value) = true
 observes_fault plan (OpenPin pin value) = true
 observes_fault plan (Short a b kind) = paired_in plan a b
 
--- the fault of a place, where it has one that is observed
+-- the fault of a place, if it has one and some pass observes all its nets
 abbrev pub where_observed : PlanTables → Option Single → Option Single
 where_observed plan None = None
 where_observed plan (Some fault) = cond (observes_fault plan fault) (Some fault) None
 
--- two places for each covered net, two for each tested pin and four for each pair of covered nets
+-- the number of places: two for each covered net, two for each tested pin and four for each pair of covered nets
 abbrev pub place_count : FaultLists → ℕ
 place_count lists = 2 * length lists.nets + (2 * length lists.pins + 4 * pairs_before (length lists.nets) (length lists.nets))

@@ -1,8 +1,8 @@
--- What a board's test, a log of it and the passes of both are seen as.
+-- The models of a board's test, of a log of it, and of the passes of both.
 use Rattle.std.specs.Prelude.{ℕ, Bool, List, [], slice_index_or}
 use Rattle.board_defs.specs.declared.board.Ctl.{Ctl}
 use Rattle.plan_tables.specs.declared.tables.PlanTables.{PlanTables}
--- a board with a plan, and a pass by its number
+-- a board with a plan, and a pass with its number
 pub use Rattle.scan_planner.specs.Planned.{PlannedBoard, planned_board, PlannedPass, planned_pass}
 
 -- a plan with the controls that one of its passes holds
@@ -33,7 +33,7 @@ pub record PassOfLog : Type 0 where
 abbrev pub pass_of_log : LoggedBoard → ℕ → PassOfLog
 pass_of_log logged number = record { logged = logged; number = number }
 
--- the controls that it holds
+-- the controls that the pass holds
 abbrev pub controls_in : PassOfLog → List Ctl
 controls_in pass = slice_index_or pass.logged.test.plan.passes pass.number []
 

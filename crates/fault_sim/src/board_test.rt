@@ -1,4 +1,4 @@
-// A board's test with what is kept of it, and a log of the test.
+// A board's test with its kept passes, and a log of the test.
 ghost use Rattle.std.specs.Prelude.{◌≡◌, ◌<◌, length};
 ghost use Rattle.scan_planner.specs.Plans.{IsPlanOf};
 ghost use Rattle.fault_sim.specs.Kept.{IsLogOf, KeepDrivers, KeepRows};
@@ -11,7 +11,7 @@ use response_log::Log;
 use scan_planner::Plan;
 use std::marker::Model;
 
-/// A board and a plan of it, with what is kept of the passes of the test. Seen as the board and the plan.
+/// A board, a plan of it, and the kept passes of the test. The model is the board and the plan.
 #[derive(Drop)]
 pub struct BoardTest<'a> {
     pub(crate) board: &'a Board,
@@ -30,7 +30,7 @@ impl<'a> Model for BoardTest<'a> {
     ghost invariant = { λ a. IsBoardTest a.board.now a.plan.now a.kept.now };
 }
 
-/// A test and a log of it. Seen as both.
+/// A test and a log of it. The model is both.
 #[derive(Drop)]
 pub struct LoggedTest<'a> {
     pub(crate) test: BoardTest<'a>,
@@ -49,7 +49,7 @@ impl<'a> Model for LoggedTest<'a> {
 }
 
 impl<'a> BoardTest<'a> {
-    /// The test of a board that its plan makes, by what is kept of its passes.
+    /// Returns the test of a board that this plan makes. `kept` has what is kept of its passes.
     pub fn of(board: &'a Board, plan: &'a Plan, kept: &'a [KeptPass]) -> BoardTest<'a>
         requires plan { IsPlanOf board.now plan.now }
         requires rows { KeepRows board.now plan.now kept.now }
@@ -59,14 +59,14 @@ impl<'a> BoardTest<'a> {
         BoardTest { board, plan, kept }
     }
 
-    /// The board.
+    /// Returns the board.
     pub fn board(&self) -> &'a Board
         ensures { result.now ≡ self.now.board }
     {
         self.board
     }
 
-    /// The plan.
+    /// Returns the plan.
     pub fn plan(&self) -> &'a Plan
         ensures value { result.now ≡ self.now.plan }
         ensures plan { IsPlanOf self.now.board self.now.plan }
@@ -74,7 +74,7 @@ impl<'a> BoardTest<'a> {
         self.plan
     }
 
-    /// A log of the test, which has its rows, each as long as a scan of data.
+    /// Returns a log of the test. It must have the test's rows, each as long as a data scan.
     pub fn with_log(&self, log: &'a Log) -> LoggedTest<'a>
         requires { IsLogOf self.now log.now }
         ensures { result ≡ logged_board self.now log.now }
@@ -87,7 +87,7 @@ impl<'a> BoardTest<'a> {
         LoggedTest { test, log }
     }
 
-    /// Pass `x`, which is below the number of passes.
+    /// Returns pass `x`, which must be below the number of passes.
     pub(crate) fn pass(&self, x: u32) -> TestPass<'a>
         requires { x < length self.now.plan.passes }
         ensures { result ≡ planned_pass self.now x }
@@ -103,7 +103,7 @@ impl<'a> BoardTest<'a> {
 }
 
 impl<'a> LoggedTest<'a> {
-    /// The log of a board's test that this plan makes.
+    /// Returns a log of the board's test that this plan makes. None of its passes is kept.
     pub(crate) fn of(board: &'a Board, plan: &'a Plan, log: &'a Log) -> LoggedTest<'a>
         requires plan { IsPlanOf board.now plan.now }
         requires log { IsLogOf (planned_board board.now plan.now) log.now }
@@ -112,21 +112,21 @@ impl<'a> LoggedTest<'a> {
         BoardTest::of(board, plan, &[]).with_log(log)
     }
 
-    /// The test.
+    /// Returns the test.
     pub fn test(&self) -> &BoardTest<'a>
         ensures { result.now ≡ self.now.test }
     {
         &self.test
     }
 
-    /// The board.
+    /// Returns the board.
     pub fn board(&self) -> &'a Board
         ensures { result.now ≡ self.now.test.board }
     {
         self.test.board()
     }
 
-    /// The plan.
+    /// Returns the plan.
     pub fn plan(&self) -> &'a Plan
         ensures value { result.now ≡ self.now.test.plan }
         ensures plan { IsPlanOf self.now.test.board self.now.test.plan }
@@ -134,14 +134,14 @@ impl<'a> LoggedTest<'a> {
         self.test.plan()
     }
 
-    /// The number of passes.
+    /// Returns the number of passes.
     pub(crate) fn pass_count(&self) -> u32
         ensures { result ≡ length self.now.test.plan.passes }
     {
         self.test.plan().pass_count()
     }
 
-    /// The log.
+    /// Returns the log.
     pub fn log(&self) -> &'a Log
         ensures value { result.now ≡ self.now.log }
         ensures rows { IsLogOf self.now.test self.now.log }
@@ -149,7 +149,7 @@ impl<'a> LoggedTest<'a> {
         self.log
     }
 
-    /// Pass `x`, which is below the number of passes.
+    /// Returns pass `x`, which must be below the number of passes.
     pub(crate) fn pass(&self, x: u32) -> LoggedPass<'a>
         requires { x < length self.now.test.plan.passes }
         ensures { result ≡ pass_of_log self.now x }

@@ -20,7 +20,7 @@ use std::alloc::{AllocError, Global};
 use tap_defs::board_law;
 
 impl<'a> LoggedTest<'a> {
-    // Whether a net shows the expected bits in each pass. Where none of the digits of its cells has a mark, its cells need not be looked at.
+    // Returns whether a net shows the expected bits in each pass. If no digit of its cells has a mark, the cells need not be checked.
     fn shows_expected(&self, marks: &[u8], n: u32) -> bool
         requires { AreMarks self.now.test.board self.now.test.plan self.now.log (length self.now.test.plan.passes) marks.now }
         ensures { IsTrue result ↔ ShowsOn self.now.test.board self.now.test.plan None self.now.log n }
@@ -32,7 +32,7 @@ impl<'a> LoggedTest<'a> {
         self.shows_on(None, n)
     }
 
-    /// The nets that differ in the log, as `differing_nets` finds them.
+    /// Returns the nets that differ in the log, as `differing_nets` does.
     pub fn differing(&self, alloc: Global) -> Result<Vec<u32>, AllocError>
         ensures { IfOk result (λ nets. AreDiffering self.now.test.board self.now.test.plan self.now.log nets.items) }
     {
@@ -45,8 +45,9 @@ impl<'a> LoggedTest<'a> {
     }
 }
 
-/// The nets that differ in a log, in net order: some compared cell of them has a bit that is not the expected one. The log has the
-/// plan's rows, each as long as a scan of data. Its rows are gone through once, and then the cells of few nets beside those that differ.
+/// Returns the nets that differ in a log, in net order. A net differs if one of its compared cells has a bit other than the expected
+/// one. The log must have the plan's rows, each as long as a data scan. The rows are read once. After that only the cells of the
+/// nets that differ and of few others are read.
 pub fn differing_nets(
     alloc: Global,
     board: &Board,
@@ -61,8 +62,8 @@ pub fn differing_nets(
     LoggedTest::of(board, plan, log).differing(alloc)
 }
 
-/// Whether every compared bit of a log is the expected one, where these are the nets that differ in it. The plan is made of the
-/// board's passes, and the log has its rows, each as long as a scan of data.
+/// Returns whether every compared bit of a log is the expected one. `nets` must be the nets that differ in it. The plan must be made of
+/// the board's passes, and the log must have its rows, each as long as a data scan.
 pub fn none_differs(board: &Board, plan: &Plan, log: &Log, nets: &[u32]) -> bool
     requires plan { IsPlanOf board.now plan.now }
     requires passes { plan.now.passes ≡ passes_of board.now }

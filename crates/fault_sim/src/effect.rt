@@ -1,4 +1,4 @@
-// What a single fault makes of the compared cells of a net in the rows of a pass.
+// The effect of a single fault on the compared cells of a net in the rows of a pass.
 ghost use Rattle.std.specs.Prelude.{◌≡◌, ◌==◌, ◌||◌, unwrap_or};
 ghost use Rattle.tap_defs.specs.board.NetBits.{or_else};
 ghost use Rattle.tap_defs.specs.board.SingleBits.{shorted};
@@ -9,7 +9,7 @@ use crate::feed::{FedNet, Feed, feed_bit};
 use crate::passes::TestPass;
 use board_defs::{Kind, Single};
 
-/// What is to be seen at the compared cells of a net.
+/// The bits that the compared cells of a net show.
 #[derive(Clone, Copy)]
 pub enum Effect {
     /// The expected bits.
@@ -21,7 +21,7 @@ pub enum Effect {
         place: u32,
         bit: bool,
     },
-    /// The one bit of two shorted nets: what they are driven to, else what they are pulled to.
+    /// The common bit of two shorted nets: the one that they are driven to, else the one that they are pulled to, else the expected one.
     Shorted {
         kind: Kind,
         first: Option<Feed>,
@@ -30,7 +30,7 @@ pub enum Effect {
     },
 }
 
-/// The first net of a fault; a stuck net or an open pin has only one.
+/// Returns the first net of a fault. A stuck net or an open pin has only one.
 pub fn first_net(fault: Single) -> u32
     ensures { result ≡ first_net fault }
 {
@@ -41,7 +41,7 @@ pub fn first_net(fault: Single) -> u32
     }
 }
 
-/// The second net of a short, or the only net of any other fault.
+/// Returns the second net of a short, or the only net of any other fault.
 pub fn second_net(fault: Single) -> u32
     ensures { result ≡ second_net fault }
 {
@@ -63,7 +63,7 @@ fn combined(kind: Kind, first: bool, second: bool) -> bool
     }
 }
 
-/// The bits of two shorted nets as one, where both have one; else that of the net that has one.
+/// Returns the common bit of two shorted nets. If only one of them has a bit, it is that bit.
 pub fn shorted(kind: Kind, first: Option<bool>, second: Option<bool>) -> Option<bool>
     ensures { result ≡ shorted kind first second }
 {
@@ -91,7 +91,7 @@ fn open_effect(driver: Option<u32>, place: u32, value: bool, pull: Option<bool>)
     }
 }
 
-// The effect on two shorted nets of what both get.
+// Returns the effect of a short, from what both nets get.
 fn shorted_effect(kind: Kind, first: FedNet, second: FedNet) -> Effect
     ensures { result ≡ shorted_effect kind first second }
 {
@@ -139,7 +139,7 @@ impl<'a> TestPass<'a> {
         }
     }
 
-    /// The effect of a fault on net `n` in the rows of the pass.
+    /// Returns the effect of a fault on net `n` in the rows of the pass.
     pub fn effect(&self, fault: Option<Single>, n: u32) -> Effect
         ensures { result ≡ effect_in self.now.test.board self.now.test.plan (controls_of self.now) fault n }
     {
@@ -150,7 +150,7 @@ impl<'a> TestPass<'a> {
     }
 }
 
-// The bit of two shorted nets.
+// Returns the common bit of two shorted nets.
 fn short_bit(
     kind: Kind,
     first: Option<bool>,
@@ -166,7 +166,7 @@ fn short_bit(
     }
 }
 
-/// The bit of a compared cell in row `j` of a pass, at the pin at this place of the net.
+/// Returns the bit that the compared cell of the pin at this place of the net has in row `j` of a pass.
 #[inline]
 pub fn effect_bit(effect: Effect, j: u32, place: u32, expected: bool) -> bool
     ensures { result ≡ effect_bit effect j place expected }

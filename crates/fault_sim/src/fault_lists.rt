@@ -1,12 +1,12 @@
-// The lists by which the places of a board are found.
+// The lists from which the places of a board are found.
 ghost use Rattle.std.specs.Prelude.{◌≤◌, length};
 ghost use Rattle.board_defs.specs.Limits.{most_nets, most_pins};
 ghost use Rattle.fault_sim.specs.Starts.{AreStarts};
 
 use board_defs::{Items, PinRef};
 
-/// The covered nets and the tested pins of a board, and how many pairs of covered nets come before those of each net
-/// with later ones.
+/// The covered nets and the tested pins of a board, and for each covered net the number of pairs of covered nets before its pairs
+/// with later nets.
 #[derive(Drop)]
 pub struct FaultLists {
     pub nets: Items<u32>,

@@ -16,7 +16,7 @@ use scan_planner::{NetDriver, Plan, ReaderCell};
 /// The bits of a driver's cell in the rows of a pass.
 #[derive(Clone, Copy)]
 pub enum Source {
-    /// Those of the code of its net.
+    /// The bits of its net's code.
     Code(u32),
     /// One bit in all rows.
     Fixed(bool),
@@ -36,18 +36,18 @@ pub struct EnabledDriver {
 #[derive(Clone, Copy)]
 pub struct Feed {
     pub source: Source,
-    /// The bit at which the driver is off, for one that its own cell switches.
+    /// The bit of the cell at which the driver is off, if its own cell controls it.
     pub off: Option<bool>,
 }
 
-/// What a net gets from a pass: what drives it, and what it is pulled to.
+/// What a net gets in a pass: the feed of its enabled driver, and its pull.
 #[derive(Clone, Copy)]
 pub struct FedNet {
     pub feed: Option<Feed>,
     pub pull: Option<bool>,
 }
 
-/// Whether the two bits are equal.
+/// Returns whether the two bits are equal.
 #[inline]
 pub fn is_same(a: bool, b: bool) -> bool
     ensures { result ≡ is_same a b }
@@ -55,7 +55,7 @@ pub fn is_same(a: bool, b: bool) -> bool
     if a { b } else { !b }
 }
 
-/// Bit `j` of a code, bit 0 the least.
+/// Returns bit `j` of a code. Bit 0 is the least significant.
 #[inline]
 pub fn code_bit(code: u32, j: u32) -> bool
     ensures { result ≡ code_bit code j }
@@ -81,7 +81,7 @@ fn unless_off(off: Option<bool>, bit: bool) -> Option<bool>
     }
 }
 
-/// The bit that a net is driven to in row `j`, where it is.
+/// Returns the bit that a net is driven to in row `j`, if it is driven.
 pub fn feed_bit(feed: Option<Feed>, j: u32) -> Option<bool>
     ensures { result ≡ feed_bit feed j }
 {
@@ -111,14 +111,14 @@ fn enabled(drivers: &[NetDriver], pass: &Setting) -> Option<NetDriver>
     None
 }
 
-/// The driver of a net that a pass enables.
+/// Returns the driver that a pass enables on a net.
 pub fn driver_in(plan: &Plan, pass: &Setting, net: u32) -> Option<NetDriver>
     ensures { result ≡ driver_in plan.now pass.now net }
 {
     enabled(plan.drivers(net), pass)
 }
 
-/// Whether some of these cells reads another pin than the one at this place.
+/// Returns whether some of these cells reads a pin other than the one at this place.
 pub fn is_read_beside(readers: &[ReaderCell], place: u32) -> bool
     ensures { result ≡ list_any (λ r. not (r.place == place)) readers.now }
 {
@@ -161,7 +161,7 @@ fn enabled_by(plan: &Plan, pass: &Setting, net: u32, driver: NetDriver) -> Enabl
     }
 }
 
-/// The driver that a pass enables on a net, with what its cell has in the rows of the pass.
+/// Returns the driver that a pass enables on a net, with its cell's bits in the rows of the pass.
 pub fn enabled_driver(plan: &Plan, pass: &Setting, net: u32) -> Option<EnabledDriver>
     ensures { result ≡ enabled_driver plan.now pass.now net }
 {
@@ -171,7 +171,7 @@ pub fn enabled_driver(plan: &Plan, pass: &Setting, net: u32) -> Option<EnabledDr
     }
 }
 
-// What an enabled driver gives its net, which has this pull.
+// Returns what an enabled driver gives its net, which has this pull.
 fn feed_of(driver: EnabledDriver, pull: Option<bool>) -> Feed
     ensures { result ≡ feed_of pull driver }
 {
@@ -181,7 +181,7 @@ fn feed_of(driver: EnabledDriver, pull: Option<bool>) -> Feed
     }
 }
 
-/// What a net gets whose enabled driver and whose pull are these.
+/// Returns what a net with this enabled driver and this pull gets.
 pub fn net_fed_by(driver: Option<EnabledDriver>, pull: Option<bool>) -> FedNet
     ensures { result ≡ net_fed_by driver pull }
 {
@@ -194,7 +194,7 @@ pub fn net_fed_by(driver: Option<EnabledDriver>, pull: Option<bool>) -> FedNet
     }
 }
 
-/// Whether a pass observes the net on which it enables this driver: its cell then has the code of the net.
+/// Returns whether the pass observes the net on which it enables this driver. It does exactly if the driver's cell has the net's code.
 pub fn observes(driver: Option<EnabledDriver>) -> bool
     ensures { result ≡ observes_coded driver }
 {
@@ -207,7 +207,7 @@ pub fn observes(driver: Option<EnabledDriver>) -> bool
     }
 }
 
-/// The value that a net is pulled to.
+/// Returns the value that a net is pulled to.
 pub fn pull_in(board: &Board, net: u32) -> Option<bool>
     ensures { result ≡ pull_in board.now net }
 {

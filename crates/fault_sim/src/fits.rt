@@ -1,4 +1,4 @@
-// Whether a log shows what a fault makes of the compared cells.
+// Whether a log shows the effect of a fault on the compared cells.
 ghost use Rattle.std.specs.Prelude.{◌≡◌, ◌↔◌, ◌<◌, [], length, slice_index_or, All, IsTrue};
 ghost use Rattle.std.specs.List.{list_all};
 ghost use Rattle.tap_defs.specs.board.TestRows.{code_bit};
@@ -13,7 +13,7 @@ use board_defs::{Board, Single};
 use response_log::Log;
 use scan_planner::ReaderCell;
 
-// The bit of a log at a position of a row.
+// Returns the bit of a log at a position of a row.
 #[inline]
 fn bit_in(log: &Log, row: u64, at: u32) -> bool
     requires row { row < length log.now }
@@ -23,7 +23,7 @@ fn bit_in(log: &Log, row: u64, at: u32) -> bool
     log.bit(row, at)
 }
 
-// Whether a cell that reads a net has the bit of the effect in row `j` of a pass, or reads the driver's own pin.
+// Returns whether a cell of a net has the bit of the effect in row `j` of a pass, or reads the driver's own pin.
 #[inline]
 fn cell_shows(
     log: &Log,
@@ -68,7 +68,7 @@ fn cells_show(
 }
 
 impl<'a> NetRows<'a> {
-    // Whether the cells have the bits of an effect in each row, or read the pin at the driver's place.
+    // Returns whether each cell has the bits of an effect in all rows, or reads the pin at the driver's place.
     fn show(&self, code: u32, effect: Effect, driver: u32) -> bool
         ensures { IsTrue result ↔ ShowRows self.now.log self.now.first self.now.width code self.now.readers effect driver }
     {
@@ -82,7 +82,7 @@ impl<'a> NetRows<'a> {
         true
     }
 
-    // The same where a pass enables a driver, the pin of which stands at this place.
+    // Like `show`, for the place of the driver that a pass enables. Returns true if it enables none.
     fn show_by(&self, code: u32, effect: Effect, driver: Option<u32>) -> bool
         ensures { IsTrue result ↔ ShowBy self.now.log self.now.first self.now.width code self.now.readers effect driver }
     {
@@ -93,7 +93,7 @@ impl<'a> NetRows<'a> {
     }
 }
 
-/// The number of nets of a board.
+/// Returns the number of nets of a board.
 pub fn net_count(board: &Board) -> u32
     ensures { result ≡ length board.now.nets }
 {
@@ -101,14 +101,14 @@ pub fn net_count(board: &Board) -> u32
 }
 
 impl<'a> LoggedPass<'a> {
-    // Whether the log shows an effect on a net, the pin of whose driver, where the pass enables one, stands at this place.
+    // Returns whether the log shows an effect on a net. `driver` is the place of the pin of the driver that the pass enables on it.
     fn shows_effect(&self, effect: Effect, driver: Option<u32>, net: u32) -> bool
         ensures { IsTrue result ↔ ShowsEffect self.now.logged.test.plan self.now.logged.log self.now.number net effect driver }
     {
         self.net_rows(net).show_by(self.code(net), effect, driver)
     }
 
-    /// Whether the log shows the effect of a fault on a net.
+    /// Returns whether the log shows the effect of a fault on a net.
     pub fn shows(&self, fault: Option<Single>, net: u32) -> bool
         ensures { IsTrue result ↔ Shows self.now.logged.test.board self.now.logged.test.plan fault self.now.logged.log self.now.number net }
     {
@@ -116,14 +116,14 @@ impl<'a> LoggedPass<'a> {
         self.shows_effect(effect, self.pass.driver_place(net), net)
     }
 
-    // The same on the fault's own nets.
+    // Returns whether the log shows the effect of a fault on the fault's own nets.
     fn shows_own(&self, fault: Single) -> bool
         ensures { IsTrue result ↔ ShowsOwnIn self.now.logged.test.board self.now.logged.test.plan fault self.now.logged.log self.now.number }
     {
         self.shows(Some(fault), first_net(fault)) && self.shows(Some(fault), second_net(fault))
     }
 
-    // The same on each net.
+    // Returns whether the log shows the effect of a fault on each net.
     fn shows_all(&self, fault: Option<Single>) -> bool
         ensures { IsTrue result ↔ ShowsIn self.now.logged.test.board self.now.logged.test.plan fault self.now.logged.log self.now.number }
     {
@@ -137,8 +137,8 @@ impl<'a> LoggedPass<'a> {
 }
 
 impl<'a> LoggedTest<'a> {
-    /// Whether the log shows the effect of a fault on its own nets. Both are looked at pass by pass, since the first pass in which either
-    /// tells is mostly an early one.
+    /// Returns whether the log shows the effect of a fault on its own nets. Both nets are checked pass by pass, since a fault that does not
+    /// fit mostly fails in an early pass.
     pub(crate) fn shows_own(&self, fault: Single) -> bool
         ensures { IsTrue result ↔ ShowsOwn self.now.test.board self.now.test.plan fault self.now.log }
     {
@@ -151,7 +151,7 @@ impl<'a> LoggedTest<'a> {
         true
     }
 
-    /// Whether the log shows the effect of a fault on a net.
+    /// Returns whether the log shows the effect of a fault on a net.
     pub(crate) fn shows_on(&self, fault: Option<Single>, net: u32) -> bool
         ensures { IsTrue result ↔ ShowsOn self.now.test.board self.now.test.plan fault self.now.log net }
     {
@@ -164,7 +164,7 @@ impl<'a> LoggedTest<'a> {
         true
     }
 
-    /// Whether the log shows the effect of a fault, or the expected bits where there is none.
+    /// Returns whether the log shows the effect of a fault, or the expected bits if there is none.
     pub(crate) fn shows_all(&self, fault: Option<Single>) -> bool
         ensures { IsTrue result ↔ ShowsAll self.now.test.board self.now.test.plan fault self.now.log }
     {

@@ -1,4 +1,4 @@
-// What is kept of a test, so that many logs of it share it.
+// What is kept of a test, so that many logs of it can share it.
 ghost use Rattle.std.specs.Prelude.{◌≡◌, ◌<◌, ◌≤◌, length, slice_get, IfOk};
 ghost use Rattle.scan_planner.specs.Plans.{IsPlanOf};
 ghost use Rattle.fault_sim.specs.Kept.{IsRow, AreRows, AreDrivers, KeepRows, KeepDrivers};
@@ -15,10 +15,10 @@ use bt_bits::Row;
 use scan_planner::Plan;
 use std::alloc::{AllocError, Global};
 
-// The most that is kept, in bytes.
+// The most bytes to keep, roughly.
 const MOST: u64 = 64 << 20;
 
-/// The expected bits of a row of a log, and where they are compared.
+/// The expected bits of a row of a log, and the positions at which they are compared.
 #[derive(Drop)]
 pub struct ComparedRow {
     pub tdo: Row,
@@ -32,7 +32,7 @@ pub struct KeptPass {
     pub drivers: Items<Option<EnabledDriver>>,
 }
 
-/// A row with room for a scan of data.
+/// Returns an empty row with room for a data scan.
 pub fn empty_row(alloc: Global, board: &Board) -> Result<ComparedRow, AllocError>
     ensures { IfOk result (HaveRoom board.now) }
 {
@@ -44,7 +44,7 @@ pub fn empty_row(alloc: Global, board: &Board) -> Result<ComparedRow, AllocError
 }
 
 impl<'a> TestPass<'a> {
-    // Row `j` of the pass, made anew.
+    // Makes row `j` of the pass, in memory of its own.
     fn new_row(&self, alloc: Global, j: u32) -> Result<ComparedRow, AllocError>
         requires { j < self.now.test.plan.width }
         ensures { IfOk result (IsRow self.now.test.board self.now.test.plan self.now.number j) }
@@ -54,7 +54,7 @@ impl<'a> TestPass<'a> {
         Ok(row)
     }
 
-    // The rows of the pass.
+    // Returns the rows of the pass.
     fn new_rows(&self, alloc: Global) -> Result<Vec<ComparedRow>, AllocError>
         ensures { IfOk result (λ rows. AreRows self.now.test.board self.now.test.plan self.now.number rows.items) }
     {
@@ -65,7 +65,7 @@ impl<'a> TestPass<'a> {
         Ok(rows)
     }
 
-    // The drivers that the pass enables on so many nets.
+    // Returns the driver that the pass enables on each of the first `nets` nets.
     fn drivers_of(&self, alloc: Global, nets: u32) -> Result<Vec<Option<EnabledDriver>>, AllocError>
         ensures { IfOk result (λ drivers. AreDrivers self.now.test.plan (controls_of self.now) drivers.items) }
     {
@@ -76,7 +76,7 @@ impl<'a> TestPass<'a> {
         Ok(drivers)
     }
 
-    // What is kept of the pass.
+    // Returns what to keep of the pass: all rows, and the driver of each net.
     fn keep(&self, alloc: Global) -> Result<KeptPass, AllocError>
         ensures rows { IfOk result (λ pass. AreRows self.now.test.board self.now.test.plan self.now.number pass.rows) }
         ensures drivers { IfOk result (λ pass. AreDrivers self.now.test.plan (controls_of self.now) pass.drivers) }
@@ -90,7 +90,7 @@ impl<'a> TestPass<'a> {
     }
 }
 
-// About how many bytes are kept of a pass, with what each list and each row takes besides.
+// Returns roughly how many bytes a kept pass takes, including the overhead of its lists and rows.
 fn pass_bytes(board: &Board, plan: &Plan) -> u64
     ensures { 0 < result }
 {
@@ -98,7 +98,7 @@ fn pass_bytes(board: &Board, plan: &Plan) -> u64
     128 + u64::from(plan.width()) * row + 24 * u64::from(net_count(board))
 }
 
-// How many passes are kept for so many logs: none for a single one, which would use them once.
+// Returns the number of passes to keep for `logs` logs. A single log would use each pass once, so none is kept for it.
 fn kept_count(board: &Board, plan: &Plan, logs: usize) -> u32
     ensures { result ≤ length plan.now.passes }
 {
@@ -109,7 +109,7 @@ fn kept_count(board: &Board, plan: &Plan, logs: usize) -> u32
     plan.pass_count().min(most as u32)
 }
 
-/// What is kept of the first passes of a test for so many logs, in at most about 64 MiB.
+/// Returns what is kept of the first passes of a test for `logs` logs, which takes at most about 64 MiB.
 pub fn kept_passes(
     alloc: Global,
     board: &Board,
@@ -129,7 +129,7 @@ pub fn kept_passes(
     Ok(kept)
 }
 
-/// The rows that are kept of pass `x`.
+/// Returns the kept rows of pass `x`, or none.
 pub fn kept_rows(kept: &[KeptPass], x: u32) -> &[ComparedRow]
     ensures { result.now ≡ kept_rows kept.now x }
 {
@@ -139,7 +139,7 @@ pub fn kept_rows(kept: &[KeptPass], x: u32) -> &[ComparedRow]
     }
 }
 
-/// The drivers that are kept of pass `x`, net by net.
+/// Returns the kept drivers of pass `x`, net by net, or none.
 pub fn kept_drivers(kept: &[KeptPass], x: u32) -> &[Option<EnabledDriver>]
     ensures { result.now ≡ kept_drivers kept.now x }
 {
@@ -149,7 +149,7 @@ pub fn kept_drivers(kept: &[KeptPass], x: u32) -> &[Option<EnabledDriver>]
     }
 }
 
-/// The driver that is kept of a net, where there is one: that of the pass, if it enables any.
+/// Returns the kept entry of a net, if there is one: the driver that the pass enables on it, if it enables any.
 pub fn kept_driver(kept: &[Option<EnabledDriver>], net: u32) -> Option<Option<EnabledDriver>>
     ensures { result ≡ slice_get kept.now net }
 {

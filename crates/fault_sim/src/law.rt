@@ -1,4 +1,4 @@
-//! Laws of the places of a board and of diagnoses, each the contract of a function that does nothing.
+//! Laws of a board's places and of diagnoses. Each is the contract of a function that does nothing.
 ghost use Rattle.std.specs.Prelude.{◌≡◌, ◌↔◌, Bool, List, filter, IsTrue};
 ghost use Rattle.board_defs.specs.declared.board.RawBoard.{RawBoard};
 ghost use Rattle.board_defs.specs.declared.fault.Single.{Single};
@@ -18,7 +18,7 @@ pub fn places_counted()
     ensures { PlacesCounted }
 {}
 
-/// The single faults of a board that explain a log are those at the suspects' places that do, in the same order.
+/// The single faults of a board that explain a log are those at the suspects' places that explain it, in the same order.
 pub fn suspects_suffice()
     ensures { SuspectsSuffice }
 {}
@@ -28,18 +28,18 @@ pub fn suspects_are_places()
     ensures { SuspectsArePlaces }
 {}
 
-/// Of two single faults at most one stands before the other.
+/// No two single faults each come before the other.
 pub fn singles_have_one_order()
     ensures { OneOrder }
 {}
 
-/// Each log of a board has a diagnosis, and no second one.
+/// Each log of a board has exactly one diagnosis.
 pub fn logs_have_one_diagnosis()
     ensures some { (board : RawBoard) (log : List (List Bool)) → IsBoard board → (pass : Bool) × (faults : List Single) × IsDiagnosis board log pass faults }
     ensures one { (board : RawBoard) (log : List (List Bool)) (pass other_pass : Bool) (faults others : List Single) → IsDiagnosis board log pass faults → IsDiagnosis board log other_pass others → (pass ≡ other_pass) × (faults ≡ others) }
 {}
 
-/// Where a test decides of each single fault of a board whether it explains a log, those that pass it are those of the diagnosis, in order.
+/// If a test decides for each single fault of a board whether it explains a log, the faults that pass it are the diagnosis, in order.
 pub fn filters_pick()
     ensures { (board : RawBoard) (log : List (List Bool)) (test : Single → Bool) → IsBoard board → ((single : Single) → IsSingle board single → (IsTrue (test single) ↔ Explains board single log)) → Picks (λ single. Explains board single log) (singles board) (filter test (singles board)) }
 {}

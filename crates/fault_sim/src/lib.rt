@@ -1,7 +1,7 @@
 //! Which single faults of a board explain a log of its test.
 //!
-//! No run is simulated: the bit that a compared cell has under a single fault is known from the row in the latches, and it
-//! differs from the expected one at the cells of the faulty nets alone.
+//! No run is simulated. The bit that a compared cell has under a single fault follows from the row in the latches, and only
+//! cells of the faulty nets can differ from the expected bits.
 #![tactic(auto)]
 
 mod board_test;

@@ -25,7 +25,7 @@ fn mark_digits(marks: &mut [u8], log: &[u8], expected: &[u8], compared: &[u8])
 }
 
 impl<'a> LoggedPass<'a> {
-    // The same for row `j` of the pass, of which the test expects and compares this.
+    // Does the same for row `j` of the pass. `row` has the bits that the test expects and compares there.
     fn mark_by(&self, marks: &mut [u8], j: u32, row: &ComparedRow)
         requires row { j < self.now.logged.test.plan.width }
         requires count { length marks.old ≡ digit_count (data_bits self.now.logged.test.board) }
@@ -41,7 +41,7 @@ impl<'a> LoggedPass<'a> {
         );
     }
 
-    // The same where the row is filled in if it is not kept.
+    // Does the same for row `j` of the pass, which is made in `spare` if it is not kept.
     fn mark_row(&self, marks: &mut [u8], spare: &mut ComparedRow, j: u32)
         requires row { j < self.now.logged.test.plan.width }
         requires count { length marks.old ≡ digit_count (data_bits self.now.logged.test.board) }
@@ -58,7 +58,7 @@ impl<'a> LoggedPass<'a> {
         }
     }
 
-    // The same for each row of the pass.
+    // Does the same for each row of the pass.
     fn mark(&self, marks: &mut [u8], spare: &mut ComparedRow)
         requires count { length marks.old ≡ digit_count (data_bits self.now.logged.test.board) }
         requires room { HaveRoom self.now.logged.test.board spare.old }
@@ -78,8 +78,8 @@ impl<'a> LoggedPass<'a> {
 }
 
 impl<'a> LoggedTest<'a> {
-    /// Marks of the digits of the log's rows, which are gone through once: a digit that is 0 here has in each row the expected bits wherever
-    /// the row is compared.
+    /// Returns the marks of the digits of the log's rows, which are read once. If a digit's mark is 0, the digit has the expected
+    /// bits in each row, wherever the row is compared.
     pub(crate) fn marks(&self, alloc: Global) -> Result<Vec<u8>, AllocError>
         ensures { IfOk result (λ marks. AreMarks self.now.test.board self.now.test.plan self.now.log (length self.now.test.plan.passes) marks.items) }
     {
@@ -104,7 +104,7 @@ fn mark_at(marks: &[u8], place: u32) -> u8
     }
 }
 
-/// Whether the digit of some of these cells has a mark.
+/// Returns whether the digit of some of these cells has a mark.
 pub fn are_marked(marks: &[u8], readers: &[ReaderCell]) -> bool
     ensures { result ≡ are_marked marks.now readers.now }
 {

@@ -16,8 +16,8 @@ use response_log::Log;
 use scan_planner::Plan;
 use tap_defs::board_law;
 
-/// Whether every compared bit of a log is the expected one. The plan is made of the board's passes, and the log has its
-/// rows, each as long as a scan of data.
+/// Returns whether every compared bit of a log is the expected one. The plan must be made of the board's passes, and the log must
+/// have the plan's rows, each as long as a data scan.
 pub fn is_pass(board: &Board, plan: &Plan, log: &Log) -> bool
     requires plan { IsPlanOf board.now plan.now }
     requires passes { plan.now.passes ≡ passes_of board.now }
@@ -32,9 +32,9 @@ pub fn is_pass(board: &Board, plan: &Plan, log: &Log) -> bool
     LoggedTest::of(board, plan, log).shows_all(None)
 }
 
-/// Whether a single fault of the board explains a log: in every run of the test with this fault alone each compared bit is
-/// the log's. The plan is made of the board's passes, and the log has its rows, each as long as a scan of data. The cells of
-/// the fault's own nets are looked at first, so that a fault that explains nothing is mostly known by them.
+/// Returns whether a single fault of the board explains a log: in every run of the test with this fault alone, each compared bit is
+/// the log's. The plan must be made of the board's passes, and the log must have its rows, each as long as a data scan. The cells
+/// of the fault's own nets are checked first, since they rule out most faults that explain nothing.
 pub fn matches(board: &Board, plan: &Plan, fault: Single, log: &Log) -> bool
     requires plan { IsPlanOf board.now plan.now }
     requires passes { plan.now.passes ≡ passes_of board.now }
@@ -54,14 +54,14 @@ pub fn matches(board: &Board, plan: &Plan, fault: Single, log: &Log) -> bool
     logged.shows_all(Some(fault))
 }
 
-// Whether each of these nets is one of two.
+// Returns whether each of these nets is net `a` or net `b`.
 fn are_of(nets: &[u32], a: u32, b: u32) -> bool
     ensures { result ≡ list_all (λ n. (n == a) || (n == b)) nets.now }
 {
     nets.iter().all(|n| *n == a || *n == b)
 }
 
-/// The same where these are the nets that differ in the log: then no cell of any net but the fault's own is looked at.
+/// Like `matches`, but takes the nets that differ in the log, and so checks only the cells of the fault's own nets.
 pub fn matches_by(board: &Board, plan: &Plan, fault: Single, log: &Log, nets: &[u32]) -> bool
     requires plan { IsPlanOf board.now plan.now }
     requires passes { plan.now.passes ≡ passes_of board.now }
@@ -75,7 +75,7 @@ pub fn matches_by(board: &Board, plan: &Plan, fault: Single, log: &Log, nets: &[
 }
 
 impl<'a> LoggedTest<'a> {
-    /// Whether a single fault of the board explains the log, as `matches_by` tells it.
+    /// Like the function `matches_by`, for this test and log.
     pub fn matches_by(&self, fault: Single, nets: &[u32]) -> bool
         requires passes { self.now.test.plan.passes ≡ passes_of self.now.test.board }
         requires fault { IsSingle self.now.test.board fault }

@@ -7,7 +7,7 @@ use response_log::Log;
 use scan_planner::ReaderCell;
 use std::marker::Model;
 
-/// The rows of a log in a pass, from row `first` of the log on, and the compared cells of a net, each of which has a bit in each row.
+/// The rows of a pass of a log, which begin at row `first`, and the compared cells of a net. Each cell has a bit in each row.
 #[derive(Drop)]
 pub struct NetRows<'a> {
     pub(crate) log: &'a Log,
@@ -27,7 +27,7 @@ impl<'a> Model for NetRows<'a> {
 }
 
 impl<'a> LoggedPass<'a> {
-    /// The rows of the log in the pass, with the compared cells of a net.
+    /// Returns the rows of the log in the pass, with the compared cells of a net.
     pub fn net_rows(&self, net: u32) -> NetRows<'a>
         ensures { result ≡ net_rows_in self.now net }
     {

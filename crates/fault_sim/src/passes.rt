@@ -16,7 +16,7 @@ use response_log::Log;
 use scan_planner::Plan;
 use std::marker::Model;
 
-/// A pass of a plan, with what is kept of the drivers that it enables. Seen as the plan and the controls that the pass holds.
+/// A pass of a plan, with its kept drivers. The model is the plan and the controls that the pass holds.
 #[derive(Drop)]
 pub struct PassDrivers<'a> {
     plan: &'a Plan,
@@ -36,7 +36,7 @@ impl<'a> Model for PassDrivers<'a> {
 }
 
 impl<'a> PassDrivers<'a> {
-    /// Pass `x` of a plan, by what is kept of its passes.
+    /// Returns pass `x` of a plan. `kept` has what is kept of the plan's passes.
     pub fn of(plan: &'a Plan, kept: &'a [KeptPass], x: u32) -> PassDrivers<'a>
         requires kept { KeepDrivers plan.now kept.now }
         requires pass { x < length plan.now.passes }
@@ -49,7 +49,7 @@ impl<'a> PassDrivers<'a> {
         }
     }
 
-    /// The driver that the pass enables on a net.
+    /// Returns the driver that the pass enables on a net.
     fn on(&self, net: u32) -> Option<EnabledDriver>
         ensures { result ≡ enabled_driver self.now.plan self.now.pass net }
     {
@@ -59,14 +59,14 @@ impl<'a> PassDrivers<'a> {
         }
     }
 
-    // Whether the pass observes a net.
+    // Returns whether the pass observes a net.
     fn observes(&self, net: u32) -> bool
         ensures { result ≡ observes_in self.now.plan self.now.pass net }
     {
         observes(self.on(net))
     }
 
-    /// Whether the pass observes both nets.
+    /// Returns whether the pass observes both nets.
     pub fn observes_both(&self, a: u32, b: u32) -> bool
         ensures { result ≡ (observes_in self.now.plan self.now.pass a && observes_in self.now.plan self.now.pass b) }
     {
@@ -74,7 +74,7 @@ impl<'a> PassDrivers<'a> {
     }
 }
 
-/// A pass of a board's test, by what is kept of it or else by the plan. Seen as the test and the number of the pass.
+/// A pass of a board's test, with what is kept of it. The model is the test and the number of the pass.
 #[derive(Drop)]
 pub struct TestPass<'a> {
     pub(crate) board: &'a Board,
@@ -96,14 +96,14 @@ impl<'a> Model for TestPass<'a> {
 }
 
 impl<'a> TestPass<'a> {
-    /// The board.
+    /// Returns the board.
     pub fn board(&self) -> &'a Board
         ensures { result.now ≡ self.now.test.board }
     {
         self.board
     }
 
-    /// The plan.
+    /// Returns the plan.
     pub fn plan(&self) -> &'a Plan
         ensures value { result.now ≡ self.now.test.plan }
         ensures plan { IsPlanOf self.now.test.board self.now.test.plan }
@@ -111,7 +111,7 @@ impl<'a> TestPass<'a> {
         self.plan
     }
 
-    /// The number of the first row of the pass in a log of the test.
+    /// Returns the number of the first row of the pass in a log of the test.
     pub fn first_row(&self) -> u64
         ensures value { result ≡ self.now.number * self.now.test.plan.width }
         ensures pass { self.now.number < length self.now.test.plan.passes }
@@ -120,14 +120,14 @@ impl<'a> TestPass<'a> {
         u64::from(self.number) * u64::from(self.plan.width())
     }
 
-    /// The driver that the pass enables on a net.
+    /// Returns the driver that the pass enables on a net.
     pub fn driver(&self, net: u32) -> Option<EnabledDriver>
         ensures { result ≡ enabled_driver self.now.test.plan (controls_of self.now) net }
     {
         self.drivers.on(net)
     }
 
-    /// The place of the pin of that driver.
+    /// Returns the place of this driver's pin.
     pub fn driver_place(&self, net: u32) -> Option<u32>
         ensures { result ≡ place_of_driver (driver_in self.now.test.plan (controls_of self.now) net) }
     {
@@ -137,28 +137,28 @@ impl<'a> TestPass<'a> {
         }
     }
 
-    /// The value that a net is pulled to.
+    /// Returns the value that a net is pulled to.
     pub fn pull(&self, net: u32) -> Option<bool>
         ensures { result ≡ pull_in self.now.test.board net }
     {
         pull_in(self.board, net)
     }
 
-    /// What a net gets from the pass.
+    /// Returns what a net gets in the pass.
     pub fn fed(&self, net: u32) -> FedNet
         ensures { result ≡ fed_net self.now.test.board self.now.test.plan (controls_of self.now) net }
     {
         net_fed_by(self.driver(net), self.pull(net))
     }
 
-    /// The rows of the pass that are kept, which are its first ones.
+    /// Returns the kept rows of the pass, which are its first ones.
     pub fn kept_rows(&self) -> &'a [ComparedRow]
         ensures { AreRows self.now.test.board self.now.test.plan self.now.number result.now }
     {
         self.rows
     }
 
-    /// Fills a row with what the test expects and compares of row `j` of the pass.
+    /// Fills `row` with the bits that the test expects in row `j` of the pass, and with those that it compares.
     pub fn fill_row(&self, j: u32, row: &mut ComparedRow)
         requires row { j < self.now.test.plan.width }
         requires room { HaveRoom self.now.test.board row.old }
@@ -170,7 +170,7 @@ impl<'a> TestPass<'a> {
     }
 }
 
-/// A pass of a log with its test. Seen as both and the number of the pass.
+/// A pass of a log with its test. The model is both, and the number of the pass.
 #[derive(Drop)]
 pub struct LoggedPass<'a> {
     pub(crate) pass: TestPass<'a>,
@@ -189,7 +189,7 @@ impl<'a> Model for LoggedPass<'a> {
 }
 
 impl<'a> LoggedPass<'a> {
-    /// What is known of the pass: it is one of the plan, which is one of the board, and the log has the rows of the test.
+    /// Gives the facts about the pass: the plan has it, the plan is one of the board, and the log has the rows of the test.
     pub fn laws(&self)
         ensures pass { self.now.number < length self.now.logged.test.plan.passes }
         ensures plan { IsPlanOf self.now.logged.test.board self.now.logged.test.plan }
@@ -199,21 +199,21 @@ impl<'a> LoggedPass<'a> {
         let _row = self.pass.first_row();
     }
 
-    /// The board.
+    /// Returns the board.
     pub fn board(&self) -> &'a Board
         ensures { result.now ≡ self.now.logged.test.board }
     {
         self.pass.board()
     }
 
-    /// The code of a net.
+    /// Returns the code of a net.
     pub fn code(&self, net: u32) -> u32
         ensures { result ≡ code_in self.now.logged.test.plan net }
     {
         self.pass.plan().code(net)
     }
 
-    /// What a net gets from the pass, as words.
+    /// Returns what a net gets in the pass, as words.
     pub fn fed_words(&self, net: u32) -> FedWords
         ensures { AreWordsIn self.now net result }
     {

@@ -1,4 +1,4 @@
-// What the compared cells of a net show in the rows of a pass of a log, as words of 32 bits: bit j of a word stands for row j.
+// What the compared cells of a net show in the rows of a pass of a log, as words of 32 bits. Bit `j` of a word is for row `j`.
 ghost use Rattle.std.specs.Prelude.{◌≡◌, ◌↔◌, ℕ, ◌+◌, ◌<◌, ◌==◌, ◌&&◌, ◌||◌, nat_lt, Some, [], ◌∷◌, length, All, IsTrue};
 ghost use Rattle.fault_sim.specs.Fits.{bit_in};
 ghost use Rattle.fault_sim.specs.Planned.{net_in_pass};
@@ -10,7 +10,7 @@ use crate::net_rows::NetRows;
 use crate::passes::LoggedPass;
 use scan_planner::ReaderCell;
 
-/// The rows in which some compared cell of a net shows 1, and those in which one shows 0. No cell of the driver's own pin is looked at.
+/// The rows in which some compared cell of a net shows 1, and those in which one shows 0. Cells of the driver's own pin do not count.
 #[derive(Clone, Copy)]
 pub struct ShownWords {
     pub ones: u32,
@@ -18,7 +18,7 @@ pub struct ShownWords {
 }
 
 impl ShownWords {
-    /// Whether no other bit is shown than that of this word.
+    /// Returns whether the cells show no other bits than those of this word.
     #[inline]
     pub fn agree_with(&self, word: u32) -> bool
         ensures { IsTrue result ↔ AgreesWith self.now word }
@@ -27,7 +27,7 @@ impl ShownWords {
     }
 }
 
-// The rows of a pass, of which there are so many.
+// Returns the word of all rows of a pass, bits `0..width`.
 fn first_rows(width: u32) -> u32
     requires { width < 32 }
     ensures { (j : ℕ) → word_bit result j ≡ nat_lt j width }
@@ -35,7 +35,7 @@ fn first_rows(width: u32) -> u32
     (1 << width) - 1
 }
 
-// A word with this row as well, where the bit is on.
+// Returns the word, with bit `j` set too if `bit` is 1.
 #[inline]
 fn with_row(word: u32, j: u32, bit: bool) -> u32
     requires { j < 32 }
@@ -44,7 +44,7 @@ fn with_row(word: u32, j: u32, bit: bool) -> u32
     if bit { word | 1 << j } else { word }
 }
 
-// What some cells show, and others.
+// Returns what the cells of both show.
 fn joined(one: ShownWords, other: ShownWords) -> ShownWords
     ensures ones { (j : ℕ) → word_bit result.ones j ≡ (word_bit one.ones j || word_bit other.ones j) }
     ensures zeros { (j : ℕ) → word_bit result.zeros j ≡ (word_bit one.zeros j || word_bit other.zeros j) }
@@ -56,7 +56,7 @@ fn joined(one: ShownWords, other: ShownWords) -> ShownWords
 }
 
 impl<'a> NetRows<'a> {
-    // The bits of a cell in the rows.
+    // Returns the bits of the cell at position `at` in the rows of the pass.
     fn cell_word(&self, at: u32) -> u32
         requires { All (λ row. at < length row) self.now.log }
         ensures { (j : ℕ) → j < 32 → word_bit result j ≡ (nat_lt j self.now.width && bit_in self.now.log (self.now.first + j) at) }
@@ -68,7 +68,7 @@ impl<'a> NetRows<'a> {
         word
     }
 
-    // What one cell shows: nothing, where it reads the pin of the net's driver.
+    // Returns what one cell shows, which is nothing if it reads the driver's pin.
     fn cell_words(&self, reader: ReaderCell, driver: u32) -> ShownWords
         requires { All (λ row. reader.position < length row) self.now.log }
         ensures { AreShown (rows_of_net self.now.log self.now.first self.now.width (reader ∷ [])) (Some driver) result }
@@ -83,7 +83,7 @@ impl<'a> NetRows<'a> {
         }
     }
 
-    // What the cells at other pins than that of the driver show.
+    // Returns what the cells show, without those that read the driver's pin.
     fn shown_beside(&self, driver: u32) -> ShownWords
         ensures { AreShown self.now (Some driver) result }
     {
@@ -94,7 +94,7 @@ impl<'a> NetRows<'a> {
         shown
     }
 
-    // What the cells show, given the place of the pin of the driver that the pass enables on the net: nothing, where it enables none.
+    // Returns what the cells show. `driver` is the place of the enabled driver's pin. Without a driver they show nothing.
     fn shown(&self, driver: Option<u32>) -> ShownWords
         ensures { AreShown self.now driver result }
     {
@@ -106,7 +106,7 @@ impl<'a> NetRows<'a> {
 }
 
 impl<'a> LoggedPass<'a> {
-    /// What the compared cells of a net show in the rows of the pass, where it enables a driver on the net.
+    /// Returns what the compared cells of a net show in the rows of the pass. Without an enabled driver they show nothing.
     pub fn shown(&self, net: u32) -> ShownWords
         ensures { IsShownIn (net_in_pass self.now net) result }
     {

@@ -19,8 +19,8 @@ use std::marker::Model;
 use tap_defs::board_law;
 use tap_defs::board_law::{codes_number_covered, singles_observable};
 
-/// The places of a universe whose faults may explain a log, seen as the list of them. A single fault changes compared
-/// cells of its own net or of its two nets alone, so they are those of the faults on all nets that differ in the log.
+/// The places of a universe whose faults may explain a log. The model is their list. A single fault changes only compared cells of
+/// its own net or nets, so every suspect is a fault that involves all nets that differ in the log.
 #[derive(Drop)]
 pub struct Suspects {
     places: Vec<u64>,
@@ -54,7 +54,7 @@ fn push_four(places: &mut Vec<u64>, place: u64) -> Result<(), AllocError>
     Ok(())
 }
 
-// The number of the pair of covered nets `a` and `b`, by their places in the list.
+// Returns the number of the pair of covered nets at places `a` and `b`.
 fn pair_number(lists: &FaultLists, a: u32, b: u32) -> u64
     ensures number { result ≡ pair_number lists.now a b }
     ensures few { result < 2 ^ 34 }
@@ -98,7 +98,7 @@ fn push_pins(places: &mut Vec<u64>, lists: &FaultLists, n: u32) -> Result<(), Al
     Ok(())
 }
 
-// The shorts of net `k` with earlier covered nets.
+// Adds the places of the shorts of the covered net at place `k` with earlier ones.
 fn push_earlier(places: &mut Vec<u64>, lists: &FaultLists, k: u32) -> Result<(), AllocError>
     ensures { OnOk result (places.new.items ≡ places.old.items ++ flat_map (λ a. pair_suspects lists.now a k) (range_with_len 0 k)) }
 {
@@ -108,7 +108,7 @@ fn push_earlier(places: &mut Vec<u64>, lists: &FaultLists, k: u32) -> Result<(),
     Ok(())
 }
 
-// Those with later ones.
+// Adds the places of the shorts of the covered net at place `k` with later ones.
 fn push_later(places: &mut Vec<u64>, lists: &FaultLists, k: u32) -> Result<(), AllocError>
     ensures { OnOk result (places.new.items ≡ places.old.items ++ flat_map (λ b. pair_suspects lists.now k b) (range_with_len (suc k) (length lists.now.nets - suc k))) }
 {
@@ -118,14 +118,14 @@ fn push_later(places: &mut Vec<u64>, lists: &FaultLists, k: u32) -> Result<(), A
     Ok(())
 }
 
-// The place of a net that has a code among the covered nets, which the codes number from 1.
+// Returns the place among the covered nets of a net with a code. The codes number the covered nets from 1.
 fn covered_place(plan: &Plan, n: u32) -> u32
     ensures { result ≡ covered_place plan.now n }
 {
     plan.code(n).saturating_sub(1)
 }
 
-// The places of all faults of net `n`.
+// Returns the places of all faults of net `n`.
 fn net_suspects(
     alloc: Global,
     plan: &Plan,
@@ -143,7 +143,7 @@ fn net_suspects(
     Ok(places)
 }
 
-// The places of the shorts of nets `m` and `n`.
+// Returns the places of the shorts of nets `m` and `n`.
 fn pair_suspects(
     alloc: Global,
     plan: &Plan,
@@ -163,7 +163,7 @@ fn pair_suspects(
     Ok(places)
 }
 
-// The suspects where these nets differ.
+// Returns the suspects of a log in which `nets` are the nets that differ.
 fn suspects_of(
     alloc: Global,
     plan: &Plan,
@@ -180,9 +180,9 @@ fn suspects_of(
 }
 
 impl Suspects {
-    /// The places of a universe whose faults may explain a log: none where no net or more than two nets differ in it, those of the shorts
-    /// of two nets where two do, and those of all faults of a net where that net alone does. The plan is made of the
-    /// board's passes, the universe is that of the board, and the log has the plan's rows, each as long as a scan of data.
+    /// Returns the places of a universe whose faults may explain a log. If one net differs in the log, they are those of all faults of
+    /// this net. If two nets differ, they are those of their shorts. Otherwise there are none. The plan must be made of the board's passes,
+    /// the universe must be that of the board, and the log must have the plan's rows, each as long as a data scan.
     pub fn new(
         alloc: Global,
         board: &Board,
@@ -201,7 +201,7 @@ impl Suspects {
         Suspects::of_nets(alloc, board, plan, universe, log, &nets)
     }
 
-    /// The same where these are the nets that differ in the log.
+    /// Like `new`, but takes the nets that differ in the log.
     pub fn of_nets(
         alloc: Global,
         board: &Board,
@@ -230,14 +230,14 @@ impl Suspects {
         Ok(Suspects { places })
     }
 
-    /// How many suspects there are.
+    /// Returns the number of suspects.
     pub fn count(&self) -> u64
         ensures { result ≡ length self.now }
     {
         self.places.len() as u64
     }
 
-    /// Suspect `i` as a place of the universe, where `i` is below their number. The places rise with `i`.
+    /// Returns suspect `i` as a place of the universe; `i` must be below their number. The places rise with `i`.
     pub fn place(&self, i: u64) -> u64
         requires { i < length self.now }
         ensures { slice_get self.now i ≡ Some result }

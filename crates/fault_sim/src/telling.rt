@@ -1,4 +1,4 @@
-// A net that differs in a log, in a pass that tells of it.
+// A net that differs in a log, in the first pass that exposes it.
 ghost use Rattle.std.specs.Prelude.{◌≡◌, IfSome, true};
 ghost use Rattle.board_defs.specs.Faults.{IsSingle};
 ghost use Rattle.board_defs.specs.Passes.{passes_of};
@@ -14,8 +14,8 @@ use board_defs::{Single, law};
 use std::marker::Model;
 use tap_defs::board_law;
 
-/// A net in a pass of a log, with what the net gets from the pass and what its cells show, which is asked once for all faults that are
-/// tried. Seen as the pass and the net.
+/// A net in a pass of a log, with what the net gets in the pass and what its cells show. Both are computed once for all faults that are
+/// tried. The model is the pass and the net.
 #[derive(Drop)]
 pub struct TellingNet<'a> {
     pass: LoggedPass<'a>,
@@ -37,7 +37,7 @@ impl<'a> Model for TellingNet<'a> {
 }
 
 impl<'a> TellingNet<'a> {
-    // The net in a pass of a log.
+    // Returns the net in a pass of a log.
     fn of(pass: LoggedPass<'a>, net: u32) -> TellingNet<'a>
         ensures { result ≡ net_in_pass pass.entry net }
     {
@@ -53,7 +53,7 @@ impl<'a> TellingNet<'a> {
         }
     }
 
-    // The bits of the net under a fault, where it is a short of it with another net.
+    // Returns the bits that the net has under a short of it with another net, and nothing for another fault.
     fn short_word(&self, fault: Single) -> Option<u32>
         ensures { IfSome result (IsWordOn self.now fault) }
     {
@@ -72,8 +72,8 @@ impl<'a> TellingNet<'a> {
         }
     }
 
-    /// Whether the pass shows that a single fault of the board does not explain the log. It speaks of shorts of the net with another one
-    /// alone: of any other fault nothing is claimed. The plan is made of the board's passes.
+    /// Returns true only if the pass shows that a single fault of the board does not explain the log. It rules out only shorts of this
+    /// net with another one. The plan must be made of the board's passes.
     pub fn rules_out(&self, fault: Single) -> bool
         requires { self.now.pass.logged.test.plan.passes ≡ passes_of self.now.pass.logged.test.board }
         ensures { result ≡ true → IsSingle self.now.pass.logged.test.board fault → Explains self.now.pass.logged.test.board fault self.now.pass.logged.log → ⊥ }
@@ -91,8 +91,8 @@ impl<'a> TellingNet<'a> {
 }
 
 impl<'a> LoggedTest<'a> {
-    /// The first of the nets that differ, in the first pass in which it does not show the expected bits: nearly every short of it that does
-    /// not explain the log is ruled out there.
+    /// Returns the first of `nets` in the first pass in which it does not show the expected bits. The pass rules out nearly every short
+    /// of this net that does not explain the log.
     pub fn telling_net(&self, nets: &[u32]) -> Option<TellingNet<'a>>
         ensures { IfSome result (λ telling. telling.pass.logged ≡ self.now) }
     {

@@ -1,4 +1,4 @@
-// The single faults of a board by their places.
+// The single faults of a board, by their places.
 ghost use Rattle.std.specs.Prelude.{◌≡◌, ◌+◌, ◌-◌, ◌<◌, ◌≤◌, true, length, slice_get, slice_index_or, IfOk, Some};
 ghost use Rattle.std.specs.List.{flat_map};
 ghost use Rattle.board_defs.specs.declared.board.RawBoard.{RawBoard};
@@ -36,7 +36,7 @@ impl Model for Universe {
     ghost view = { λ a. a.lists };
 }
 
-// Where the pairs of each of so many nets with later ones begin, and where all end.
+// Returns for each of `nets` nets the number of its first pair with a later net, and after these the number of all pairs.
 fn pair_starts(alloc: Global, nets: u32) -> Result<Vec<u64>, AllocError>
     requires { nets ≤ most_nets }
     ensures { IfOk result (λ starts. AreStarts nets starts.items) }
@@ -51,7 +51,7 @@ fn pair_starts(alloc: Global, nets: u32) -> Result<Vec<u64>, AllocError>
     Ok(starts)
 }
 
-// Whether the pairs of net `row` with later ones hold pair `k`.
+// Returns true only if pair `k` is one of the pairs of the net at place `row` with later nets.
 fn holds_pair(starts: &[u64], row: usize, k: u64) -> bool
     ensures within { result ≡ true → row + 1 < length starts.now }
     ensures low { result ≡ true → slice_index_or starts.now row 0 ≤ k }
@@ -63,7 +63,7 @@ fn holds_pair(starts: &[u64], row: usize, k: u64) -> bool
     k < start_at(starts, row.saturating_add(1))
 }
 
-// The net whose pairs with later ones hold pair `k`, by halving.
+// Returns the place of the net that has pair `k` among its pairs with later nets. This is a binary search.
 fn halved_row(starts: &[u64], k: u64) -> usize
     requires some { 0 < length starts.now }
     requires first { slice_index_or starts.now 0 0 ≤ k }
@@ -85,7 +85,7 @@ fn halved_row(starts: &[u64], k: u64) -> usize
     low
 }
 
-// The same where the last look-up ended at place `near` of the covered nets: of pairs that rise it is mostly that place or the next one.
+// Like `halved_row`, but first tries `near`, the place of the last look-up, and the next one: the pairs that are asked for mostly rise.
 fn row_of(starts: &[u64], k: u64, near: usize) -> usize
     requires some { 0 < length starts.now }
     requires first { slice_index_or starts.now 0 0 ≤ k }
@@ -104,14 +104,14 @@ fn row_of(starts: &[u64], k: u64, near: usize) -> usize
     }
 }
 
-// How many pairs of covered nets there are.
+// Returns the number of pairs of covered nets.
 fn pair_count(lists: &FaultLists) -> u64
     ensures { result ≡ pairs_before (length lists.now.nets) (length lists.now.nets) }
 {
     start_at(lists.starts.as_slice(), lists.nets.len())
 }
 
-/// Where the pairs of net `a` with later ones begin; 0 past the last place.
+/// Returns the number of the first pair of net `a` with a later net, and 0 past the last place.
 pub fn start_at(starts: &[u64], a: usize) -> u64
     ensures { result ≡ slice_index_or starts.now a 0 }
 {
@@ -139,7 +139,7 @@ fn pin_at(pins: &[PinRef], k: usize) -> Option<PinRef>
     }
 }
 
-// Fault `i` of those of stuck nets.
+// Returns fault `i` among the faults of these nets when they are stuck.
 fn stuck_at(nets: &[u32], i: u64) -> Option<Single>
     ensures { result ≡ slice_get (flat_map stuck_faults nets.now) i }
 {
@@ -152,7 +152,7 @@ fn stuck_at(nets: &[u32], i: u64) -> Option<Single>
     }
 }
 
-// Fault `i` of those of open pins.
+// Returns fault `i` among the faults of these pins when they are open.
 fn open_at(pins: &[PinRef], i: u64) -> Option<Single>
     ensures { result ≡ slice_get (flat_map open_faults pins.now) i }
 {
@@ -165,8 +165,8 @@ fn open_at(pins: &[PinRef], i: u64) -> Option<Single>
     }
 }
 
-// Pair `k` of covered nets, the lower net first. The last look-up of a pair ended at place `near` of these nets, and this one at what it
-// becomes.
+// Returns pair `k` of the covered nets, the lower net first. `near` is the place among these nets at which the last look-up ended, and
+// becomes the place at which this one ends.
 fn pair_at(lists: &FaultLists, k: u64, near: &mut usize) -> Option<(u32, u32)>
     ensures { result ≡ slice_get (pairs_within lists.now.nets) k }
 {
@@ -196,7 +196,7 @@ fn kind_at(k: u64) -> Kind
     }
 }
 
-// The fault at place `k` among those of the pairs of covered nets, whether or not some pass observes both.
+// Returns fault `k` of the shorts of all pairs of covered nets, even if no pass observes both nets.
 fn short_at(lists: &FaultLists, k: u64, near: &mut usize) -> Option<Single>
     ensures { (plan : PlanTables) → listed_at (flat_map (number_places plan) (pairs_within lists.now.nets)) k ≡ where_observed plan result }
 {
@@ -206,7 +206,7 @@ fn short_at(lists: &FaultLists, k: u64, near: &mut usize) -> Option<Single>
     Some(Single::Short { a, b, kind })
 }
 
-// The fault at place `i`, whether or not some pass observes both nets of a short.
+// Returns the fault at place `i`. If it is a short, it is returned even if no pass observes both nets.
 fn place_at(lists: &FaultLists, i: u64, near: &mut usize) -> Option<Single>
     ensures { (plan : PlanTables) → listed_at (listed_places plan lists.now) i ≡ where_observed plan result }
 {
@@ -221,7 +221,7 @@ fn place_at(lists: &FaultLists, i: u64, near: &mut usize) -> Option<Single>
     }
 }
 
-// A fault, where some pass observes all its nets.
+// Returns the fault, if there is one and some pass observes all its nets.
 fn where_observed(plan: &Plan, fault: Option<Single>) -> Option<Single>
     ensures { result ≡ where_observed plan.now fault }
 {
@@ -238,7 +238,7 @@ fn where_observed(plan: &Plan, fault: Option<Single>) -> Option<Single>
 }
 
 impl Universe {
-    /// The places of a board. The plan is made of the board's passes.
+    /// Returns the places of a board. The plan must be made of the board's passes.
     pub fn new(alloc: Global, board: &Board, plan: &Plan) -> Result<Universe, AllocError>
         requires plan { IsPlanOf board.now plan.now }
         requires passes { plan.now.passes ≡ passes_of board.now }
@@ -257,14 +257,14 @@ impl Universe {
         })
     }
 
-    /// The covered nets and the tested pins.
+    /// Returns the covered nets and the tested pins.
     pub(crate) fn lists(&self) -> &FaultLists
         ensures { result.now ≡ self.now }
     {
         &self.lists
     }
 
-    /// The number of places: two for each covered net, two for each tested pin and four for each pair of covered nets.
+    /// Returns the number of places: two for each covered net, two for each tested pin and four for each pair of covered nets.
     pub fn places(&self) -> u64
         ensures { result ≡ place_count self.now }
     {
@@ -273,8 +273,8 @@ impl Universe {
         2 * nets + (2 * pins + 4 * pair_count(&self.lists))
     }
 
-    /// The single fault at place `i`, which is below the number of places; None exactly where the place is one of two
-    /// covered nets that are not paired. The plan is that of the universe. No memory is taken.
+    /// Returns the single fault at place `i`, which must be below the number of places. Returns `None` exactly if the place is one of two
+    /// covered nets that are not paired. The plan must be that of the universe. Allocates nothing.
     pub fn at(&self, plan: &Plan, i: u64) -> Option<Single>
         requires { i < place_count self.now }
         ensures { (board : RawBoard) → IsBoard board → IsPlanOf board plan.now → plan.now.passes ≡ passes_of board → IsUniverse board self.now → slice_get (places_of board) i ≡ Some result }
@@ -284,9 +284,9 @@ impl Universe {
         where_observed(plan, self.candidate(i, &mut near))
     }
 
-    /// The fault that place `i` has if it has one: where the place is one of two covered nets, their short, whether or not they are
-    /// paired. `near` only makes the look-up of a pair quicker: it is the place among the covered nets at which the last one ended, at first 0,
-    /// and becomes that at which this one does, so that of places that rise nearly each is found at once. No memory is taken.
+    /// Returns the fault at place `i`. For a place of two covered nets, this is their short even if they are not paired. `near` only speeds
+    /// up the look-up of a pair: it is the place among the covered nets at which the last look-up ended, and 0 at first. This look-up
+    /// sets it anew. If the places rise, nearly each of them is found at once. Allocates nothing.
     pub fn candidate(&self, i: u64, near: &mut usize) -> Option<Single>
         ensures { (plan : PlanTables) → listed_at (listed_places plan self.now) i ≡ where_observed plan result }
     {
@@ -295,8 +295,8 @@ impl Universe {
 }
 
 impl<'a> BoardTest<'a> {
-    /// Whether some pass observes all nets of a fault at a place: both nets of a short. The one net of any other fault at a place is
-    /// always observed.
+    /// Returns whether some pass observes all nets of a fault at a place. A short needs a pass that observes both nets. The one net of any
+    /// other fault at a place is always observed.
     pub fn observes(&self, fault: Single) -> bool
         ensures { result ≡ observes_fault self.now.plan fault }
     {

@@ -1,4 +1,4 @@
--- What serves the proofs alone. What is found in the kept passes of a test.
+-- Terms for the proofs alone. Looking up the kept passes of a test.
 use Rattle.std.specs.Prelude.{ℕ, Bool, true, false, cond, List, [], Option, Some, None, option_map, slice_get}
 use Rattle.fault_sim.specs.declared.feed.EnabledDriver.{EnabledDriver}
 use Rattle.fault_sim.specs.declared.feed.FedNet.{FedNet}
@@ -8,7 +8,7 @@ use Rattle.fault_sim.specs.declared.feed.Source.TheVariants.{Code, Fixed}
 use Rattle.fault_sim.specs.declared.kept.ComparedRow.{ComparedRow}
 use Rattle.fault_sim.specs.declared.kept.KeptPass.{KeptPass}
 
--- the rows that are kept of pass x, and its drivers
+-- the kept rows of pass x, and its kept drivers
 abbrev pub rows_of : Option KeptPass → List ComparedRow
 rows_of None = []
 rows_of (Some pass) = pass.rows
@@ -27,16 +27,16 @@ kept_drivers kept x = drivers_of (slice_get kept x)
 abbrev pub feed_of : Option Bool → EnabledDriver → Feed
 feed_of pull d = record { source = d.source; off = cond d.own pull None }
 
--- what a net gets whose enabled driver and whose pull are these
+-- what a net with this enabled driver and this pull gets
 abbrev pub net_fed_by : Option EnabledDriver → Option Bool → FedNet
 net_fed_by driver pull = record { feed = option_map (feed_of pull) driver; pull = pull }
 
--- the cell has the code of its net
+-- the bits are those of the net's code
 abbrev pub is_code : Source → Bool
 is_code (Code code) = true
 is_code (Fixed bit) = false
 
--- and so the pass observes the net by its driver
+-- the pass observes the net on which it enables this driver: its cell has the net's code
 abbrev pub observes_coded : Option EnabledDriver → Bool
 observes_coded None = false
 observes_coded (Some d) = is_code d.source

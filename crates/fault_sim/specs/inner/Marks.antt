@@ -1,4 +1,4 @@
--- What serves the proofs alone. Marks of the digits of a log's rows in which some compared bit is not the expected one.
+-- Terms for the proofs alone. Marks of the digits of a log's rows in which some compared bit is not the expected one.
 use Rattle.std.specs.Prelude.{◌≡◌, ℕ, ◌+◌, ◌*◌, ◌/◌, ◌<◌, ◌≤◌, ◌==◌, Bool, true, false, not, List, slice_index_or}
 use Rattle.std.specs.List.{list_any}
 use Rattle.board_defs.specs.declared.board.RawBoard.{RawBoard}
@@ -9,7 +9,7 @@ use Rattle.fault_sim.specs.declared.kept.ComparedRow.{ComparedRow}
 use Rattle.fault_sim.specs.Fits.{bit_in}
 use Rattle.fault_sim.specs.Kept.{compared_in, expected_in}
 
--- the row has room for a scan of data
+-- the row has room for a data scan
 pub record HaveRoom (board : RawBoard) (row : ComparedRow) : Type 0 where
   pub tdo : data_bits board ≤ row.tdo.room
   pub mask : data_bits board ≤ row.mask.room
@@ -22,7 +22,8 @@ HasExpected board plan log x j at = slice_index_or (compared_in board plan x j) 
 abbrev pub IsUnmarked : List ℕ → ℕ → Type 0
 IsUnmarked marks at = slice_index_or marks (at / 4) 0 ≡ 0
 
--- a position whose digit is left unmarked by row j of pass x, by the first so many rows of the pass, and by the first so many passes
+-- if the digit of a position is unmarked after row j of pass x, it was unmarked before and has the expected bit there; the same for the
+-- first rows of the pass, and for the first passes
 abbrev pub MarkRow : RawBoard → PlanTables → List (List Bool) → ℕ → ℕ → List ℕ → List ℕ → Type 0
 MarkRow board plan log x j old new = (at : ℕ) → at < data_bits board → IsUnmarked new at → IsUnmarked old at × HasExpected board plan log x j at
 

@@ -1,4 +1,4 @@
--- What serves the proofs alone. The places whose faults may explain a log.
+-- Terms for the proofs alone. The places whose faults may explain a log.
 use Rattle.std.specs.Prelude.{ℕ, suc, ◌+◌, ◌-◌, ◌*◌, ◌==◌, Bool, false, cond, List, [], ◌∷◌, ◌++◌, length, slice_index_or, slice_get, Option, Some, None}
 use Rattle.std.specs.List.{flat_map, range_with_len}
 use Rattle.board_defs.specs.declared.board.PinRef.{PinRef}
@@ -6,25 +6,25 @@ use Rattle.plan_tables.specs.declared.tables.PlanTables.{PlanTables}
 use Rattle.fault_sim.specs.declared.fault_lists.FaultLists.{FaultLists}
 use Rattle.fault_sim.specs.Effects.{code_in}
 
--- the places of a stuck net, an open pin or a short that begin at this one
+-- the places of a stuck net or an open pin, and those of a short, which begin at this place
 abbrev pub two_from : ℕ → List ℕ
 two_from place = place ∷ (place + 1) ∷ []
 
 abbrev pub four_from : ℕ → List ℕ
 four_from place = place ∷ (place + 1) ∷ (place + 2) ∷ (place + 3) ∷ []
 
--- where the places of open pins begin, and those of shorts
+-- the first place of an open pin, and the first place of a short
 abbrev pub first_open : FaultLists → ℕ
 first_open lists = 2 * length lists.nets
 
 abbrev pub first_short : FaultLists → ℕ
 first_short lists = 2 * length lists.nets + 2 * length lists.pins
 
--- the number of the pair of covered nets a and b, by their places in the list
+-- the number of the pair of covered nets at places a and b
 abbrev pub pair_number : FaultLists → ℕ → ℕ → ℕ
 pair_number lists a b = slice_index_or lists.starts a 0 + (b - suc a)
 
--- the places of the shorts of covered nets a and b
+-- the places of the shorts of the covered nets at places a and b
 abbrev pub pair_suspects : FaultLists → ℕ → ℕ → List ℕ
 pair_suspects lists a b = four_from (first_short lists + 4 * pair_number lists a b)
 
@@ -37,11 +37,11 @@ abbrev pub is_net : ℕ → Option ℕ → Bool
 is_net n None = false
 is_net n (Some net) = net == n
 
--- the places of a pin, where it is one of net n
+-- the places of pin i, if it is a pin of net n
 abbrev pub pin_suspects : FaultLists → ℕ → ℕ → List ℕ
 pin_suspects lists n i = cond (is_net n (pin_net (slice_get lists.pins i))) (two_from (first_open lists + 2 * i)) []
 
--- the places of the faults of net n, which stands at place k among the covered nets
+-- the places of the faults of net n, which is at place k among the covered nets
 abbrev pub net_suspects : FaultLists → ℕ → ℕ → List ℕ
 net_suspects lists n k =
     two_from (2 * k)
@@ -49,11 +49,11 @@ net_suspects lists n k =
     ++ (flat_map (λ a. pair_suspects lists a k) (range_with_len 0 k)
     ++ flat_map (λ b. pair_suspects lists k b) (range_with_len (suc k) (length lists.nets - suc k))))
 
--- the place of a net among the covered nets: their codes number them from 1
+-- the place of a net among the covered nets, which the codes number from 1
 abbrev pub covered_place : PlanTables → ℕ → ℕ
 covered_place plan n = code_in plan n - 1
 
--- the suspects where these nets differ
+-- the suspects of a log in which these nets differ
 abbrev pub suspects_of : PlanTables → FaultLists → List ℕ → List ℕ
 suspects_of plan lists [] = []
 suspects_of plan lists (n ∷ []) = net_suspects lists n (covered_place plan n)

@@ -1,4 +1,4 @@
--- What the passes of a plan say of its nets and pins.
+-- What the passes of a plan say about its nets and pins.
 use Rattle.std.specs.Prelude.{ℕ, nat_lt, Bool, false, true, ◌&&◌, cond, List, [], ◌∷◌, length, map, filter, fold, replicate, slice_index_or, slice_get, slice_set, Option, Some, None}
 use Rattle.std.specs.List.{list_any, flat_map, range_with_len}
 use Rattle.board_defs.specs.declared.board.Ctl.{Ctl}
@@ -12,11 +12,11 @@ use Rattle.plan_tables.specs.Assigned.{assigned}
 use Rattle.plan_tables.specs.Building.{is_read_beside}
 use Rattle.fault_sim.specs.Effects.{driver_in, readers_in, code_in}
 
--- the nets that have a code, among so many
+-- the nets below `count` that have a code
 abbrev pub coded_nets : PlanTables → ℕ → List ℕ
 coded_nets plan count = filter (λ n. nat_lt 0 (code_in plan n)) (range_with_len 0 count)
 
--- a pass observes the net, where it enables this driver
+-- a pass that enables this driver, if any, observes the net
 abbrev pub observes_by : Option NetDriver → List ReaderCell → Bool
 observes_by None readers = false
 observes_by (Some d) readers = is_read_beside readers d
@@ -28,11 +28,11 @@ observes_in plan pass n = observes_by (driver_in plan pass n) (readers_in plan n
 abbrev pub paired_in : PlanTables → ℕ → ℕ → Bool
 paired_in plan a b = list_any (λ pass. observes_in plan pass a && observes_in plan pass b) plan.passes
 
--- the flags of the pins that are read set
+-- the flags, with those of the pins that are read set
 abbrev pub marked_readers : List Bool → List ReaderCell → List Bool
 marked_readers flags readers = assigned (λ r. r.place) (λ r. true) flags readers
 
--- the flags of the pins of a net that a pass tests set: that of the driver by which it observes the net, and those that are read
+-- the flags, with those of the pins that a pass tests set: the pin of the driver by which it observes the net, and those that are read
 abbrev pub marked_by : Option NetDriver → List ReaderCell → List Bool → List Bool
 marked_by None readers flags = flags
 marked_by (Some d) readers flags = cond (is_read_beside readers d) (marked_readers (slice_set flags d.place true) readers) flags
@@ -40,11 +40,11 @@ marked_by (Some d) readers flags = cond (is_read_beside readers d) (marked_reade
 abbrev pub marked_in : PlanTables → ℕ → List Bool → List Ctl → List Bool
 marked_in plan n flags pass = marked_by (driver_in plan pass n) (readers_in plan n) flags
 
--- the flags of so many pins of a net that some pass tests
+-- the flags of the first `count` pins of a net: whether some pass tests them
 abbrev pub tested_flags : PlanTables → ℕ → ℕ → List Bool
 tested_flags plan count n = fold (marked_in plan n) (replicate count false) plan.passes
 
--- the pin, where it is tested
+-- the pin, if it is tested
 abbrev pub pin_where : Bool → ℕ → ℕ → List PinRef
 pin_where is_tested n place = cond is_tested (record { net = n; place = place } ∷ []) []
 
@@ -67,6 +67,6 @@ pin_count board n = pins_of_net (slice_get board.nets n)
 abbrev pub net_pins : RawBoard → PlanTables → ℕ → List PinRef
 net_pins board plan n = flagged_pins n (tested_flags plan (pin_count board n) n)
 
--- the same of the first so many nets
+-- the same for the first `count` nets
 abbrev pub all_pins : RawBoard → PlanTables → ℕ → List PinRef
 all_pins board plan count = flat_map (net_pins board plan) (range_with_len 0 count)

@@ -1,4 +1,4 @@
--- What serves the proofs alone. Words of 32 bits, bit j of which stands for row j of a pass.
+-- Terms for the proofs alone. Words of 32 bits. Bit j of a word is for row j of a pass.
 use Rattle.std.specs.Prelude.{◌≡◌, ℕ, ◌+◌, ◌<◌, ◌==◌, nat_lt, Bool, true, false, if◌then◌else◌, not, ◌&&◌, List, Option, Some, None, unwrap_or}
 use Rattle.std.specs.Int.{bit_at}
 use Rattle.std.specs.List.{list_any}
@@ -19,11 +19,11 @@ use Rattle.fault_sim.specs.inner.NetRows.{RowsOfNet}
 abbrev pub word_bit : ℕ → ℕ → Bool
 word_bit word j = bit_at word j == 1
 
--- the bit that a net is driven to in row j, where it is
+-- the bit that a net is driven to in row j, if it is driven
 abbrev pub driven_bit : FeedWords → ℕ → Option Bool
 driven_bit words j = if word_bit words.driven j then Some (word_bit words.value j) else None
 
--- the bit of two shorted nets in row j, in which that of the code is expected
+-- the bit of two shorted nets in row j; `code` has the expected bit
 abbrev pub short_word_bit : Kind → FedWords → FedWords → ℕ → ℕ → Bool
 short_word_bit kind first second code j =
     unwrap_or (or_else (shorted kind (driven_bit first.feed j) (driven_bit second.feed j)) (shorted kind first.pull second.pull)) (word_bit code j)
@@ -33,16 +33,16 @@ pub record AreWordsOf (fed : FedNet) (words : FedWords) : Type 0 where
   pub feed_is : (j : ℕ) → j < 32 → driven_bit words.feed j ≡ feed_bit fed.feed j
   pub pull_is : words.pull ≡ fed.pull
 
--- a cell has this bit in a row of a log, and does not read the pin of the driver at this place
+-- a cell has this bit in a row of a log, and does not read the driver's pin
 abbrev pub shows_beside : List (List Bool) → ℕ → Bool → ℕ → ReaderCell → Bool
 shows_beside log row bit driver r = not (r.place == driver) && is_same (bit_in log row r.position) bit
 
--- some cell of a net does, where there is a driver
+-- there is a driver, and some cell of the net does so
 abbrev pub some_shows : List (List Bool) → ℕ → Bool → List ReaderCell → Option ℕ → Bool
 some_shows log row bit readers None = false
 some_shows log row bit readers (Some driver) = list_any (shows_beside log row bit driver) readers
 
--- these are the rows of a pass in which some cell of a net, not at the pin of the driver, has this bit; none where there is no driver
+-- the word has the rows of a pass in which some cell of the net has this bit and does not read the driver's pin; none without a driver
 abbrev pub AreRowsOf : RowsOfNet → Bool → Option ℕ → ℕ → Type 0
 AreRowsOf rows bit driver word = (j : ℕ) → j < 32 → word_bit word j ≡ (nat_lt j rows.width && some_shows rows.log (rows.first + j) bit rows.readers driver)
 
@@ -51,6 +51,6 @@ pub record AreShown (rows : RowsOfNet) (driver : Option ℕ) (shown : ShownWords
   pub ones : AreRowsOf rows true driver shown.ones
   pub zeros : AreRowsOf rows false driver shown.zeros
 
--- no other bit is shown than that of a word
+-- the cells show no other bits than those of the word
 abbrev pub AgreesWith : ShownWords → ℕ → Type 0
 AgreesWith shown word = (j : ℕ) → j < 32 → (word_bit shown.ones j ≡ true → word_bit word j ≡ true) × (word_bit shown.zeros j ≡ true → word_bit word j ≡ false)
